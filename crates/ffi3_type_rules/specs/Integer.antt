@@ -1,0 +1,63 @@
+-- The number that the bytes of an integer make, and back: little-endian, two's complement. (psABI AMD64 3.1.2, AAPCS64 5.1, RISC-V ELF psABI "C type details")
+use Rattle.std.specs.Prelude.{ℕ, suc, ◌-◌, ◌%◌, ◌^◌, Bool, true, false, if◌then◌else◌, ℤ, pos, negsuc, List}
+use Rattle.std.specs.Int.{Width, w8, w16, w32, w64, to_le_bytes, from_le_bytes, cast_signed, cast_unsigned}
+use Rattle.ffi3_type_rules.specs.Tree.{Scalar, u8, s8, u16, s16, u32, s32, u64, s64, float, double, pointer}
+
+-- the eight integer types
+abbrev pub is_integer : Scalar → Bool
+is_integer float = false
+is_integer double = false
+is_integer pointer = false
+is_integer _ = true
+
+abbrev pub is_signed : Scalar → Bool
+is_signed s8 = true
+is_signed s16 = true
+is_signed s32 = true
+is_signed s64 = true
+is_signed _ = false
+
+abbrev pub width_of : Scalar → Width
+width_of u8 = w8
+width_of s8 = w8
+width_of u16 = w16
+width_of s16 = w16
+width_of u32 = w32
+width_of s32 = w32
+width_of u64 = w64
+width_of s64 = w64
+width_of float = w32
+width_of double = w64
+width_of pointer = w64
+
+abbrev pub bit_count : Width → ℕ
+bit_count w8 = 8
+bit_count w16 = 16
+bit_count w32 = 32
+bit_count w64 = 64
+bit_count _ = 128
+
+-- the number of an integer or a pointer, read by its sign
+abbrev pub number_of : Scalar → List ℕ → ℤ
+number_of s bytes =
+    if is_signed s
+    then cast_signed (width_of s) (from_le_bytes (width_of s) bytes)
+    else pos (from_le_bytes (width_of s) bytes)
+
+-- a number modulo two to the number of bits
+abbrev pub modulo : ℕ → ℤ → ℕ
+modulo bits (pos n) = n % 2 ^ bits
+modulo bits (negsuc n) = 2 ^ bits - suc (n % 2 ^ bits)
+
+-- the bytes of a number, modulo two to the type's number of bits
+abbrev pub bytes_of_number : Scalar → ℤ → List ℕ
+bytes_of_number s z = to_le_bytes (width_of s) (modulo (bit_count (width_of s)) z)
+
+-- an integer or a pointer, extended by its sign to the 64 bits of a register
+abbrev pub widened : Scalar → List ℕ → ℕ
+widened s bytes = cast_unsigned w64 (number_of s bytes)
+
+-- an integer, extended by its sign to 32 bits where it is narrower, and from there by the upper bit (RISC-V ELF psABI, "Integer Calling Convention")
+abbrev pub widened_from_32 : Scalar → List ℕ → ℕ
+widened_from_32 s bytes =
+    cast_unsigned w64 (cast_signed w32 (modulo 32 (number_of s bytes)))

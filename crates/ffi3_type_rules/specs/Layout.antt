@@ -1,0 +1,107 @@
+-- Size, alignment and leaves of a type. (libffi manual, "Size and Alignment")
+use Rattle.std.specs.Prelude.{◌≡◌, ℕ, zero, suc, ◌+◌, ◌≤◌, ◌%◌, max, List, [], ◌∷◌, ◌++◌, map, length, slice_index_or}
+use Rattle.std.specs.Int.{next_multiple_of}
+use Rattle.ffi3_type_rules.specs.Tree.{Scalar, u8, s8, u16, s16, u32, s32, u64, s64, float, double, pointer, Tree, void, scalar, left_out, structure, Trees, no_trees, tree}
+
+-- m is the least multiple of a that is not below n
+pub record IsLeastMultiple (a n m : ℕ) : Type 0 where
+  pub multiple : m % a ≡ 0
+  pub not_below : n ≤ m
+  pub least : (k : ℕ) → k % a ≡ 0 → n ≤ k → m ≤ k
+
+-- the least multiple of a that is not below n, for an a that is not 0
+unfoldable pub least_multiple : ℕ → ℕ → ℕ
+least_multiple a n = next_multiple_of n a
+
+-- a scalar that stands at an offset
+pub record Leaf : Type 0 where
+  pub at : ℕ
+  pub kind : Scalar
+
+pub record Layout : Type 0 where
+  pub size : ℕ
+  pub align : ℕ
+  pub leaves : List Leaf
+
+abbrev pub scalar_size : Scalar → ℕ
+scalar_size u8 = 1
+scalar_size s8 = 1
+scalar_size u16 = 2
+scalar_size s16 = 2
+scalar_size u32 = 4
+scalar_size s32 = 4
+scalar_size u64 = 8
+scalar_size s64 = 8
+scalar_size float = 4
+scalar_size double = 8
+scalar_size pointer = 8
+
+-- no bytes
+abbrev pub nothing : Layout
+nothing = record { size = 0; align = 1; leaves = [] }
+
+abbrev pub scalar_layout : Scalar → Layout
+scalar_layout s =
+    record { size = scalar_size s; align = scalar_size s; leaves = record { at = 0; kind = s } ∷ [] }
+
+-- element i
+abbrev pub element : List Layout → ℕ → Layout
+element es i = slice_index_or es i nothing
+
+-- where the elements before number i end: each starts at the least multiple of its alignment that is not below the end of the one before
+abbrev pub end_before : List Layout → ℕ → ℕ
+end_before es zero = 0
+end_before es (suc i) =
+    least_multiple (element es i).align (end_before es i) + (element es i).size
+
+-- where element i starts
+abbrev pub start_of : List Layout → ℕ → ℕ
+start_of es i = least_multiple (element es i).align (end_before es i)
+
+-- the greatest alignment of the elements before number i
+abbrev pub align_before : List Layout → ℕ → ℕ
+align_before es zero = 1
+align_before es (suc i) = max (align_before es i) (element es i).align
+
+abbrev pub moved : ℕ → Leaf → Leaf
+moved by leaf = record { at = by + leaf.at; kind = leaf.kind }
+
+-- the leaves of the first elements
+abbrev pub leaves_before : List Layout → ℕ → List Leaf
+leaves_before es zero = []
+leaves_before es (suc i) =
+    leaves_before es i ++ map (moved (start_of es i)) (element es i).leaves
+
+-- a struct with these elements
+abbrev pub struct_layout : List Layout → Layout
+struct_layout es =
+    record { size = least_multiple (align_before es (length es)) (end_before es (length es)); align = align_before es (length es); leaves = leaves_before es (length es) }
+
+abbrev mutual
+  pub layout : Tree → Layout
+  layout void = nothing
+  layout (scalar s) = scalar_layout s
+  layout (left_out k) = nothing
+  layout (structure ts) = struct_layout (layouts ts)
+
+  pub layouts : Trees → List Layout
+  layouts no_trees = []
+  layouts (tree t ts) = layout t ∷ layouts ts
+
+abbrev pub size_of : Tree → ℕ
+size_of t = (layout t).size
+
+abbrev pub align_of : Tree → ℕ
+align_of t = (layout t).align
+
+abbrev pub leaves_of : Tree → List Leaf
+leaves_of t = (layout t).leaves
+
+-- where element i of a struct starts
+abbrev pub offset_of : Tree → ℕ → ℕ
+offset_of (structure ts) i = start_of (layouts ts) i
+offset_of _ i = 0
+
+-- leaf i of a type
+abbrev pub leaf_at : Tree → ℕ → Leaf
+leaf_at t i = slice_index_or (leaves_of t) i (record { at = 0; kind = u8 })

@@ -1,0 +1,72 @@
+-- A signature, and its first fault. (libffi manual, "The Basics" and "Variadic functions")
+use Rattle.std.specs.Prelude.{◌≡◌, ℕ, ◌<◌, ◌≤◌, ◌⊎◌, Bool, true, false, List, length, Option, Some, refl}
+use Rattle.std.specs.Coded.{Coded, code_by, coded×, coded_option, coded_ℕ}
+use Rattle.ffi3_type_rules.specs.Tree.{Tree, scalar, tree_at, tree_code, tree_list_code, Scalar, u8, s8, u16, s16, float}
+use Rattle.ffi3_type_rules.specs.Fault.{Fault, IsFirstFault}
+
+pub record Signature : Type 0 where
+  pub result_type : Tree
+  pub arguments : List Tree
+  pub fixed : Option ℕ
+
+abbrev pub signature_code : Coded Signature
+signature_code =
+    code_by (Tree × (List Tree × Option ℕ)) (coded× tree_code (coded× tree_list_code (coded_option coded_ℕ))) (λ s. (s.result_type, (s.arguments, s.fixed))) (λ p. record { result_type = p.0; arguments = p.1.0; fixed = p.1.1 }) (λ _. refl)
+
+abbrev pub most_arguments : ℕ
+most_arguments = 64
+
+-- which type of a signature
+pub data Position : Type 0 where
+  at_result : Position
+  at_argument : ℕ → Position
+
+pub data SignatureFault : Type 0 where
+  too_many : ℕ → SignatureFault
+  bad_type : Position → List ℕ → Fault → SignatureFault
+  bad_fixed : ℕ → ℕ → SignatureFault
+  bad_argument_type : ℕ → SignatureFault
+
+-- C promotes these where they are variadic arguments
+abbrev pub is_promoted_scalar : Scalar → Bool
+is_promoted_scalar u8 = true
+is_promoted_scalar s8 = true
+is_promoted_scalar u16 = true
+is_promoted_scalar s16 = true
+is_promoted_scalar float = true
+is_promoted_scalar _ = false
+
+abbrev pub is_promoted : Tree → Bool
+is_promoted (scalar s) = is_promoted_scalar s
+is_promoted _ = false
+
+pub data IsSignatureFault (s : Signature) : SignatureFault → Type 0 where
+  over_most : most_arguments < length s.arguments → IsSignatureFault s (too_many (length s.arguments))
+  in_result : {path : List ℕ} {fault : Fault} → IsFirstFault 0 true s.result_type path fault → IsSignatureFault s (bad_type at_result path fault)
+  in_argument : {i : ℕ} {path : List ℕ} {fault : Fault} → i < length s.arguments → IsFirstFault 0 false (tree_at s.arguments i) path fault → IsSignatureFault s (bad_type (at_argument i) path fault)
+  fixed_outside : {n : ℕ} → s.fixed ≡ Some n → (n ≡ 0) ⊎ (length s.arguments < n) → IsSignatureFault s (bad_fixed n (length s.arguments))
+  promoted : {n i : ℕ} → s.fixed ≡ Some n → n ≤ i → i < length s.arguments → is_promoted (tree_at s.arguments i) ≡ true → IsSignatureFault s (bad_argument_type i)
+
+-- the order of the faults: by kind, and then by the number of the argument
+abbrev pub kind_rank : SignatureFault → ℕ
+kind_rank (too_many n) = 0
+kind_rank (bad_type at_result path fault) = 1
+kind_rank (bad_type (at_argument i) path fault) = 2
+kind_rank (bad_fixed n count) = 3
+kind_rank (bad_argument_type i) = 4
+
+abbrev pub argument_number : SignatureFault → ℕ
+argument_number (bad_type (at_argument i) path fault) = i
+argument_number (bad_argument_type i) = i
+argument_number _ = 0
+
+abbrev pub SignatureFaultBefore : SignatureFault → SignatureFault → Type 0
+SignatureFaultBefore f g =
+    (kind_rank f < kind_rank g) ⊎ ((kind_rank f ≡ kind_rank g) × (argument_number f < argument_number g))
+
+abbrev pub SignatureHasNoFault : Signature → Type 0
+SignatureHasNoFault s = (f : SignatureFault) → ¬ IsSignatureFault s f
+
+pub record IsFirstSignatureFault (s : Signature) (f : SignatureFault) : Type 0 where
+  pub is_there : IsSignatureFault s f
+  pub none_before : (g : SignatureFault) → IsSignatureFault s g → ¬ SignatureFaultBefore g f

@@ -1,0 +1,24 @@
+// The definitions that the contracts of the crates above cite, and the rounding that they share.
+#![tactic(auto)]
+
+ghost use Rattle.std.specs.Prelude.{◌≡◌, ◌+◌, ◌<◌, ◌≤◌, ◌^◌};
+ghost use Rattle.ffi3_type_rules.specs.Layout.{IsLeastMultiple, least_multiple};
+
+/// The least multiple of `align` that is not below `n`.
+pub fn round_up(n: u64, align: u64) -> u64
+    requires nonzero { 0 < align }
+    requires fits { n + align < 2 ^ 64 }
+    ensures value { result ≡ least_multiple align n }
+    ensures least { IsLeastMultiple align n result }
+    ensures close { result < n + align }
+{
+    n.next_multiple_of(align)
+}
+
+/// The standard that a call follows: System V AMD64, Arm AAPCS64, or RISC-V with LP64D.
+#[derive(Clone, Copy, Debug, PartialEq, Eq)]
+pub enum Target {
+    Amd64,
+    Aapcs64,
+    Riscv,
+}

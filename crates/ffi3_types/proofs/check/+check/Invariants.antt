@@ -1,0 +1,14 @@
+use Rattle.std.proofs.Common.{◌+◌, ◌*◌}
+use Rattle.ffi3_type_rules.specs.Tree.{nodes, all_nodes, trees_of}
+use Rattle.ffi3_types.specs.TreeOf.{tree_of}
+use Rattle.ffi3_types.specs.FirstElement.{NoElementHasFault}
+use Rattle.ffi3_types.proofs.check.+check.Given as goal
+
+abbrev pub decreases-check_node : goal.decreases-check_node
+decreases-check_node l = 2 * nodes (tree_of l.ty.now)
+
+abbrev pub decreases-check_elements : goal.decreases-check_elements
+decreases-check_elements l = 2 * all_nodes (trees_of l.fields.now) + 1
+
+abbrev pub invariant-check_elements-loop-i : goal.invariant-check_elements-loop-i
+invariant-check_elements-loop-i l = NoElementHasFault l.outer l.fields l.i

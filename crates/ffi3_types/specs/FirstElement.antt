@@ -1,0 +1,17 @@
+-- The first fault among the elements of a struct.
+use Rattle.std.specs.Prelude.{◌≡◌, ℕ, ◌<◌, List, ◌∷◌, length, false}
+use Rattle.ffi3_type_rules.specs.Tree.{Tree, tree_at}
+use Rattle.ffi3_type_rules.specs.Fault.{Fault, HasNoFault, IsFirstFault}
+
+-- none of the first n types has a fault
+abbrev pub NoElementHasFault : ℕ → List Tree → ℕ → Type 0
+NoElementHasFault outer ts n = (j : ℕ) → j < n → HasNoFault outer false (tree_at ts j)
+
+-- the path leads through the first type that has a fault
+pub record IsFirstInElements (outer : ℕ) (ts : List Tree) (path : List ℕ) (fault : Fault) : Type 0 where
+  pub number : ℕ
+  pub rest : List ℕ
+  pub path_is : path ≡ number ∷ rest
+  pub in_range : number < length ts
+  pub none_before : NoElementHasFault outer ts number
+  pub first : IsFirstFault outer false (tree_at ts number) rest fault

@@ -1,0 +1,22 @@
+-- Which tree a type of the code is.
+use Rattle.ffi3_type_rules.specs.Tree.{Tree, void, scalar, left_out, struct_of, u8, s8, u16, s16, u32, s32, u64, s64, float, double, pointer, long_double, complex, vector}
+use Rattle.ffi3_types.specs.declared.FfiType.{FfiType}
+use Rattle.ffi3_types.specs.declared.FfiType.TheVariants.{Void, U8, S8, U16, S16, U32, S32, U64, S64, Float, Double, Pointer, Struct, LongDouble, Complex, Vector}
+
+abbrev pub tree_of : FfiType → Tree
+tree_of Void = void
+tree_of U8 = scalar u8
+tree_of S8 = scalar s8
+tree_of U16 = scalar u16
+tree_of S16 = scalar s16
+tree_of U32 = scalar u32
+tree_of S32 = scalar s32
+tree_of U64 = scalar u64
+tree_of S64 = scalar s64
+tree_of Float = scalar float
+tree_of Double = scalar double
+tree_of Pointer = scalar pointer
+tree_of (Struct fields) = struct_of fields
+tree_of LongDouble = left_out long_double
+tree_of Complex = left_out complex
+tree_of Vector = left_out vector

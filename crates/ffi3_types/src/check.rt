@@ -1,0 +1,87 @@
+// The first fault of a type.
+ghost use Rattle.std.specs.Prelude.{◌≡◌, ◌<◌, ◌≤◌, ◌+◌, ℕ, length, OnOk, IfErr, Bool, false};
+ghost use Rattle.ffi3_type_rules.specs.Tree.{struct_of, tree_at};
+ghost use Rattle.ffi3_type_rules.specs.Fault.{HasNoFault, IsFirstFault};
+ghost use Rattle.ffi3_types.specs.TreeOf.{tree_of};
+ghost use Rattle.ffi3_types.specs.FaultOf.{path_of, fault_of};
+ghost use Rattle.ffi3_types.specs.FirstElement.{NoElementHasFault, IsFirstInElements};
+
+use crate::{FfiType, Fields, Path, TypeFault};
+
+/// Whether the type can be passed, or, `as_result`, be a result.
+pub fn check_type(ty: &FfiType, as_result: bool) -> Result<(), TypeFault>
+    ensures ok { OnOk result (HasNoFault 0 as_result (tree_of ty.now)) }
+    ensures err { IfErr result
+        (λ e. IsFirstFault 0 as_result (tree_of ty.now) (path_of e) (fault_of e)) }
+{
+    check_node(ty, 0, as_result)
+}
+
+#[cycle(check)]
+fn check_node(ty: &FfiType, outer: u32, as_result: bool) -> Result<(), TypeFault>
+    requires { outer ≤ 16 }
+    ensures ok { OnOk result (HasNoFault outer as_result (tree_of ty.now)) }
+    ensures err { IfErr result
+        (λ e. IsFirstFault outer as_result (tree_of ty.now) (path_of e) (fault_of e)) }
+    ensures room { IfErr result (λ e. outer + length (path_of e) ≤ 16) }
+{
+    match ty {
+        FfiType::Void => {
+            if as_result {
+                Ok(())
+            } else {
+                Err(TypeFault::BadTypedef { path: Path::new() })
+            }
+        }
+        FfiType::LongDouble => Err(TypeFault::LeftOut {
+            path: Path::new(),
+            kind: FfiType::LongDouble,
+        }),
+        FfiType::Complex => Err(TypeFault::LeftOut {
+            path: Path::new(),
+            kind: FfiType::Complex,
+        }),
+        FfiType::Vector => Err(TypeFault::LeftOut {
+            path: Path::new(),
+            kind: FfiType::Vector,
+        }),
+        FfiType::Struct(fields) => {
+            if outer >= 16 {
+                return Err(TypeFault::TooDeep { path: Path::new() });
+            }
+            if fields.len() == 0 {
+                return Err(TypeFault::BadTypedef { path: Path::new() });
+            }
+            if let Err(fault) = check_elements(fields, outer + 1) {
+                return Err(fault);
+            }
+            let size = fields.extent().size;
+            if size > 1024 {
+                Err(TypeFault::TooLarge {
+                    path: Path::new(),
+                    size,
+                })
+            } else {
+                Ok(())
+            }
+        }
+        _ => Ok(()),
+    }
+}
+
+#[cycle(check)]
+fn check_elements(fields: &Fields, outer: u32) -> Result<(), TypeFault>
+    requires inside { 0 < outer }
+    requires shallow { outer ≤ 16 }
+    ensures ok { OnOk result (NoElementHasFault outer fields.now (length fields.now)) }
+    ensures err { IfErr result
+        (λ e. IsFirstInElements outer fields.now (path_of e) (fault_of e)) }
+    ensures room { IfErr result (λ e. outer + length (path_of e) ≤ 17) }
+{
+    for i in 0..fields.len() {
+        if let Err(fault) = check_node(fields.get(i), outer, false) {
+            return Err(fault.inside(i as u32));
+        }
+    }
+    Ok(())
+}
