@@ -1,7 +1,6 @@
 -- Bytes that a source gives, one piece after another.
-use Rattle.std.proofs.Common.{◌≡◌, ◌≤◌, ◌<◌, ◌+◌, ◌-◌, ℕ, List, [], ◌++◌, take, drop, length, min, Option, Some, sym, ◌∙◌, ap, arith, append_assoc, append-nil, refl}
-use Rattle.std.proofs.lemmas.Grind.{common_steps}
-use Rattle.std.proofs.lemmas.List.{take-append-drop, take-append-le, length-take, take_at, drop_at, take_all, drop_all, drop-drop}
+use Rattle.std.proofs.Common.{◌≡◌, ◌≤◌, ◌+◌, ◌-◌, ℕ, List, [], ◌++◌, take, drop, length, Option, Some, sym, ◌∙◌, ap, arith, append_assoc, append-nil, refl}
+use Rattle.std.proofs.lemmas.List.{take-append-drop, length-take-le, take_at, drop_at, take_all, drop_all, drop-drop}
 use Rattle.ffi3_io.specs.Source.{Gives, GivesFirst, LosesSome}
 
 pub Gives-none : (a : Option (List ℕ)) → Gives a [] a
@@ -29,11 +28,19 @@ GivesFirst-all n a b x le h ends = λ all is.
 
 -- some bytes given, and then some lost
 pub LosesSome-then : (n k : ℕ) (a b c : Option (List ℕ)) (x : List ℕ) → length x ≤ n → k ≤ n - length x → Gives a x b → LosesSome k b c → LosesSome n a c
-LosesSome-then n k a b c x le fits h lost =
-    (length x + lost.0, omega (arith, lost.1), λ all is.
-        let f = h all is in
-        lost.2 f.0 f.1 ∙ ap Some (sym (ap (drop (length x + lost.0)) f.2 ∙ (sym (drop-drop lost.0 (length x) (x ++ f.0)) ∙ ap (drop lost.0) (drop_at x f.0 (length x) refl)))))
+LosesSome-then n k a b c x le fits h lost = (
+  length x + lost.0,
+  omega (arith, lost.1),
+  λ all is.
+      let f = h all is in
+      lost.2 f.0 f.1 ∙ ap Some (sym (ap (drop (length x + lost.0)) f.2 ∙ (sym (drop-drop lost.0 (length x) (x ++ f.0)) ∙ ap (drop lost.0) (drop_at x f.0 (length x) refl)))),
+)
 
--- the first part of what is left is given, and the others are left
-pub Gives-front : (n : ℕ) (xs buf : List ℕ) → length (take n xs) ≡ n → Gives (Some xs) (take n (take n xs ++ drop n buf)) (Some (drop n xs))
-Gives-front n xs buf e = λ all is. (drop n xs, refl, sym (ap (λ (l : List ℕ). l ++ drop n xs) (take_at (take n xs) (drop n buf) n e) ∙ take-append-drop n xs) ∙ refl)
+-- the first bytes of what is left stand at the start of the buffer, and the others are left
+pub Gives-front : (n : ℕ) (xs rest new old : List ℕ) → n ≤ length xs → rest ≡ drop n xs → new ≡ take n xs ++ drop n old → Gives (Some xs) (take n new) (Some rest)
+Gives-front n xs rest new old le left is = λ all whole.
+    let e : length (take n xs) ≡ n = length-take-le n xs le in
+    let front : take n new ≡ take n xs = ap (take n) is ∙ take_at (take n xs) (drop n old) n e in
+    let split : xs ≡ take n new ++ rest = sym (ap (λ (l : List ℕ). l ++ rest) front ∙ ap (λ (l : List ℕ). take n xs ++ l) left ∙ take-append-drop n xs) in
+    let same : all ≡ xs = cc in
+    (rest, refl, same ∙ split)
