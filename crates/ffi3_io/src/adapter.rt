@@ -37,7 +37,14 @@ impl<R: Read> Source for ReadSource<R> {
 
     ghost faults = { λ s. s };
 
-    fn read(&mut self, buf: &mut [u8]) -> Result<usize, Failed> {
+    /// One read of the reader. Each of its errors is a fault.
+    fn read(&mut self, buf: &mut [u8]) -> Result<usize, Failed>
+        ensures within { IfOk result (λ n. n ≤ length buf.old) }
+        ensures same { OnOk result (self.new ≡ self.old) }
+        ensures failed { OnErr result (Rose self.old self.new) }
+        ensures never_falls { self.old ≤ self.new }
+        ensures counted { OnErr result (self.new ≡ next_count self.old) }
+    {
         match self.inner.read(buf) {
             Ok(n) => Ok(n),
             Err(_) => {
@@ -77,8 +84,16 @@ impl<W: Write> Sink for WriteSink<W> {
 
     ghost faults = { λ s. s };
 
-    /// A writer that takes nothing of a piece that is not empty has failed.
-    fn write(&mut self, bytes: &[u8]) -> Result<usize, Failed> {
+    /// One write of the writer. Each of its errors is a fault, and so is that it takes nothing of a
+    /// piece that is not empty.
+    fn write(&mut self, bytes: &[u8]) -> Result<usize, Failed>
+        ensures some { IfOk result (λ n. 0 < length bytes.now → 0 < n) }
+        ensures within { IfOk result (λ n. n ≤ length bytes.now) }
+        ensures same { OnOk result (self.new ≡ self.old) }
+        ensures failed { OnErr result (Rose self.old self.new) }
+        ensures never_falls { self.old ≤ self.new }
+        ensures counted { OnErr result (self.new ≡ next_count self.old) }
+    {
         match self.inner.write(bytes) {
             Ok(n) if n > 0 || bytes.is_empty() => Ok(n),
             _ => {
