@@ -1,0 +1,94 @@
+-- The bytes of an integer that is extended by its sign are the bytes that it was read from.
+use Rattle.std.specs.Prelude.{◌*◌, ◌/◌, ◌%◌, ◌^◌, ℤ, pos, negsuc}
+use Rattle.std.proofs.Common.{◌≡◌, ℕ, zero, suc, ◌+◌, ◌<◌, ◌≤◌, ◌-◌, inl, inr, List, [], ◌∷◌, length, get_or, take, refl, ap, sym, ◌∙◌, subst, arith}
+use Rattle.std.proofs.lemmas.Int.{ints, to_z_pos}
+use Rattle.std.proofs.lemmas.Bool.{cases_lt}
+use Rattle.std.proofs.lemmas.Nat.{le_bytes_2, le_bytes_4, le_bytes_8}
+use Rattle.std.proofs.lemmas.List.{get_or-take}
+use Rattle.std.specs.Int.{Width, w8, w16, w32, w64, to_le_bytes, from_le_bytes, cast_signed, cast_unsigned}
+use mir.Val.{hbits, bits}
+use Rattle.std.proofs.lemmas.Bool.Decides.{nat_tests}
+use Rattle.ffi3_type_rules.specs.Tree.{Scalar, u8, s8, u16, s16, u32, s32, u64, s64, float, double, pointer}
+use Rattle.ffi3_type_rules.specs.Layout.{scalar_size}
+use Rattle.ffi3_type_rules.specs.Integer.{is_integer, is_signed, width_of, bit_count, number_of, modulo, bytes_of_number, widened, widened_from_32}
+
+-- the lower bytes of two numbers that are congruent
+low_bytes_8 : (m n : ℕ) → m % 2 ^ 8 ≡ n → take 1 (to_le_bytes w64 m) ≡ to_le_bytes w8 n
+low_bytes_8 m n e =
+    let at_0 : m % 256 ≡ n % 256 = omega arith in
+    λ i. at_0 i ∷ []
+
+low_bytes_16 : (m n : ℕ) → m % 2 ^ 16 ≡ n → take 2 (to_le_bytes w64 m) ≡ to_le_bytes w16 n
+low_bytes_16 m n e =
+    let at_0 : m % 256 ≡ n % 256 = omega arith in
+    let at_1 : m / 256 % 256 ≡ n / 256 % 256 = omega arith in
+    λ i. at_0 i ∷ at_1 i ∷ []
+
+low_bytes_32 : (m n : ℕ) → m % 2 ^ 32 ≡ n → take 4 (to_le_bytes w64 m) ≡ to_le_bytes w32 n
+low_bytes_32 m n e =
+    let at_0 : m % 256 ≡ n % 256 = omega arith in
+    let at_1 : m / 256 % 256 ≡ n / 256 % 256 = omega arith in
+    let at_2 : m / 65536 % 256 ≡ n / 65536 % 256 = omega arith in
+    let at_3 : m / 16777216 % 256 ≡ n / 16777216 % 256 = omega arith in
+    λ i. at_0 i ∷ at_1 i ∷ at_2 i ∷ at_3 i ∷ []
+
+-- a number read by its sign, in the two cases
+read_negative : (w : Width) (n : ℕ) → 2 ^ hbits w ≤ n → cast_signed w n ≡ negsuc (2 ^ bits w - suc n)
+read_negative w n h = grind (arith, nat_tests)
+
+-- a list of bytes is what its number is written as
+module _ (bs : List ℕ) (small : (k : ℕ) → get_or bs k 0 < 256) where
+  from_bytes_below_8 : from_le_bytes w8 bs < 2 ^ 8
+  from_bytes_below_8 = omega (arith, small 0)
+
+  from_bytes_below_16 : from_le_bytes w16 bs < 2 ^ 16
+  from_bytes_below_16 = omega (arith, small 0, small 1)
+
+  from_bytes_below_32 : from_le_bytes w32 bs < 2 ^ 32
+  from_bytes_below_32 = omega (arith, small 0, small 1, small 2, small 3)
+
+  from_bytes_below_64 : from_le_bytes w64 bs < 2 ^ 64
+  from_bytes_below_64 = omega (arith, small 0, small 1, small 2, small 3, small 4, small 5, small 6, small 7)
+
+written_1 : (bs : List ℕ) → length bs ≡ 1 → get_or bs 0 0 ∷ [] ≡ bs
+written_1 [] l = absurd (omega arith)
+written_1 (a ∷ []) l = refl
+written_1 (a ∷ b ∷ bs) l = absurd (omega arith)
+
+le_bytes_1 : (bs : List ℕ) (n : ℕ) → length bs ≡ 1 → ((k : ℕ) → get_or bs k 0 < 256) → n ≡ from_le_bytes w8 bs → to_le_bytes w8 n ≡ bs
+le_bytes_1 bs n l small is =
+    let at_0 : n % 256 ≡ get_or bs 0 0 = omega (arith, small 0) in
+    (λ i. at_0 i ∷ []) ∙ written_1 bs l
+
+-- a number that is extended by its sign keeps its lower bits
+extended_8 : (n : ℕ) → n < 2 ^ 8 → (cast_unsigned w64 (cast_signed w8 n) % 2 ^ 8 ≡ n) × (cast_unsigned w64 (cast_signed w8 n) < 2 ^ 64)
+extended_8 n h =
+    elim (cases_lt n (2 ^ 7)) [
+      | inl low ↦ rw (to_z_pos w8 n low) (omega arith, omega arith)
+      | inr high ↦ rw (read_negative w8 n high) (omega arith, omega arith)
+    ]
+
+extended_16 : (n : ℕ) → n < 2 ^ 16 → (cast_unsigned w64 (cast_signed w16 n) % 2 ^ 16 ≡ n) × (cast_unsigned w64 (cast_signed w16 n) < 2 ^ 64)
+extended_16 n h =
+    elim (cases_lt n (2 ^ 15)) [
+      | inl low ↦ rw (to_z_pos w16 n low) (omega arith, omega arith)
+      | inr high ↦ rw (read_negative w16 n high) (omega arith, omega arith)
+    ]
+
+extended_32 : (n : ℕ) → n < 2 ^ 32 → (cast_unsigned w64 (cast_signed w32 n) % 2 ^ 32 ≡ n) × (cast_unsigned w64 (cast_signed w32 n) < 2 ^ 64)
+extended_32 n h =
+    elim (cases_lt n (2 ^ 31)) [
+      | inl low ↦ rw (to_z_pos w32 n low) (omega arith, omega arith)
+      | inr high ↦ rw (read_negative w32 n high) (omega arith, omega arith)
+    ]
+
+extended_64 : (n : ℕ) → n < 2 ^ 64 → (cast_unsigned w64 (cast_signed w64 n) % 2 ^ 64 ≡ n) × (cast_unsigned w64 (cast_signed w64 n) < 2 ^ 64)
+extended_64 n h =
+    elim (cases_lt n (2 ^ 63)) [
+      | inl low ↦ rw (to_z_pos w64 n low) (omega arith, omega arith)
+      | inr high ↦ rw (read_negative w64 n high) (omega arith, omega arith)
+    ]
+
+take-widened_s32 : (bs : List ℕ) → length bs ≡ 4 → ((k : ℕ) → get_or bs k 0 < 256) → take 4 (to_le_bytes w64 (widened s32 bs)) ≡ bs
+take-widened_s32 bs l small =
+    low_bytes_32 (widened s32 bs) (from_le_bytes w32 bs) (extended_32 (from_le_bytes w32 bs) (from_bytes_below_32 bs small)).0 ∙ le_bytes_4 bs (from_le_bytes w32 bs) l small refl
