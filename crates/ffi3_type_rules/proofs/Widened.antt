@@ -89,6 +89,49 @@ extended_64 n h =
       | inr high ↦ rw (read_negative w64 n high) (omega arith, omega arith)
     ]
 
-take-widened_s32 : (bs : List ℕ) → length bs ≡ 4 → ((k : ℕ) → get_or bs k 0 < 256) → take 4 (to_le_bytes w64 (widened s32 bs)) ≡ bs
-take-widened_s32 bs l small =
-    low_bytes_32 (widened s32 bs) (from_le_bytes w32 bs) (extended_32 (from_le_bytes w32 bs) (from_bytes_below_32 bs small)).0 ∙ le_bytes_4 bs (from_le_bytes w32 bs) l small refl
+-- the same, from 32 bits
+extended_8_from_32 : (n : ℕ) → n < 2 ^ 8 → (cast_unsigned w64 (cast_signed w32 (modulo 32 (cast_signed w8 n))) % 2 ^ 8 ≡ n) × (cast_unsigned w64 (cast_signed w32 (modulo 32 (cast_signed w8 n))) < 2 ^ 64)
+extended_8_from_32 n h =
+    elim (cases_lt n (2 ^ 7)) [
+      | inl low ↦ rw (to_z_pos w8 n low) (let e = extended_32 (n % 2 ^ 32) (omega arith) in (omega arith, omega arith))
+      | inr high ↦ rw (read_negative w8 n high) (let e = extended_32 (2 ^ 32 - suc ((2 ^ 8 - suc n) % 2 ^ 32)) (omega arith) in (omega arith, omega arith))
+    ]
+
+extended_16_from_32 : (n : ℕ) → n < 2 ^ 16 → (cast_unsigned w64 (cast_signed w32 (modulo 32 (cast_signed w16 n))) % 2 ^ 16 ≡ n) × (cast_unsigned w64 (cast_signed w32 (modulo 32 (cast_signed w16 n))) < 2 ^ 64)
+extended_16_from_32 n h =
+    elim (cases_lt n (2 ^ 15)) [
+      | inl low ↦ rw (to_z_pos w16 n low) (let e = extended_32 (n % 2 ^ 32) (omega arith) in (omega arith, omega arith))
+      | inr high ↦ rw (read_negative w16 n high) (let e = extended_32 (2 ^ 32 - suc ((2 ^ 16 - suc n) % 2 ^ 32)) (omega arith) in (omega arith, omega arith))
+    ]
+
+extended_32_from_32 : (n : ℕ) → n < 2 ^ 32 → (cast_unsigned w64 (cast_signed w32 (modulo 32 (cast_signed w32 n))) % 2 ^ 32 ≡ n) × (cast_unsigned w64 (cast_signed w32 (modulo 32 (cast_signed w32 n))) < 2 ^ 64)
+extended_32_from_32 n h =
+    elim (cases_lt n (2 ^ 31)) [
+      | inl low ↦ rw (to_z_pos w32 n low) (let e = extended_32 (n % 2 ^ 32) (omega arith) in (omega arith, omega arith))
+      | inr high ↦ rw (read_negative w32 n high) (let e = extended_32 (2 ^ 32 - suc ((2 ^ 32 - suc n) % 2 ^ 32)) (omega arith) in (omega arith, omega arith))
+    ]
+
+unsigned_from_32 : (n : ℕ) → n < 2 ^ 32 → (cast_unsigned w64 (cast_signed w32 (n % 2 ^ 32)) % 2 ^ 32 ≡ n) × (cast_unsigned w64 (cast_signed w32 (n % 2 ^ 32)) < 2 ^ 64)
+unsigned_from_32 n h =
+    let e = extended_32 (n % 2 ^ 32) (omega arith) in (omega arith, omega arith)
+
+module _ (bs : List ℕ) (small : (k : ℕ) → get_or bs k 0 < 256) where
+  -- the lower bytes of a number that is congruent to the one that the bytes make
+  low_bytes_of_8 : (m : ℕ) → m % 2 ^ 8 ≡ from_le_bytes w8 bs → length bs ≡ 1 → take 1 (to_le_bytes w64 m) ≡ bs
+  low_bytes_of_8 m e l =
+      low_bytes_8 m (from_le_bytes w8 bs) e ∙ le_bytes_1 bs (from_le_bytes w8 bs) l small refl
+
+  low_bytes_of_16 : (m : ℕ) → m % 2 ^ 16 ≡ from_le_bytes w16 bs → length bs ≡ 2 → take 2 (to_le_bytes w64 m) ≡ bs
+  low_bytes_of_16 m e l =
+      low_bytes_16 m (from_le_bytes w16 bs) e ∙ le_bytes_2 bs (from_le_bytes w16 bs) l small refl
+
+  low_bytes_of_32 : (m : ℕ) → m % 2 ^ 32 ≡ from_le_bytes w32 bs → length bs ≡ 4 → take 4 (to_le_bytes w64 m) ≡ bs
+  low_bytes_of_32 m e l =
+      low_bytes_32 m (from_le_bytes w32 bs) e ∙ le_bytes_4 bs (from_le_bytes w32 bs) l small refl
+
+  low_bytes_of_64 : (m : ℕ) → m < 2 ^ 64 → m % 2 ^ 64 ≡ from_le_bytes w64 bs → length bs ≡ 8 → take 8 (to_le_bytes w64 m) ≡ bs
+  low_bytes_of_64 m h e l = le_bytes_8 bs m l small (omega arith)
+
+  unsigned_of_8 : from_le_bytes w8 bs % 2 ^ 8 ≡ from_le_bytes w8 bs
+  unsigned_of_8 = omega (arith, from_bytes_below_8 bs small)
+
