@@ -115,6 +115,7 @@ unsigned_from_32 : (n : ℕ) → n < 2 ^ 32 → (cast_unsigned w64 (cast_signed 
 unsigned_from_32 n h =
     let e = extended_32 (n % 2 ^ 32) (omega arith) in (omega arith, omega arith)
 
+-- what the register holds, and its lower bytes
 module _ (bs : List ℕ) (small : (k : ℕ) → get_or bs k 0 < 256) where
   -- the lower bytes of a number that is congruent to the one that the bytes make
   low_bytes_of_8 : (m : ℕ) → m % 2 ^ 8 ≡ from_le_bytes w8 bs → length bs ≡ 1 → take 1 (to_le_bytes w64 m) ≡ bs
@@ -132,6 +133,90 @@ module _ (bs : List ℕ) (small : (k : ℕ) → get_or bs k 0 < 256) where
   low_bytes_of_64 : (m : ℕ) → m < 2 ^ 64 → m % 2 ^ 64 ≡ from_le_bytes w64 bs → length bs ≡ 8 → take 8 (to_le_bytes w64 m) ≡ bs
   low_bytes_of_64 m h e l = le_bytes_8 bs m l small (omega arith)
 
-  unsigned_of_8 : from_le_bytes w8 bs % 2 ^ 8 ≡ from_le_bytes w8 bs
-  unsigned_of_8 = omega (arith, from_bytes_below_8 bs small)
+  -- an unsigned number is its own extension
+  whole_8 : (from_le_bytes w8 bs % 2 ^ 8 ≡ from_le_bytes w8 bs) × (from_le_bytes w8 bs < 2 ^ 64)
+  whole_8 = let h = from_bytes_below_8 bs small in (omega arith, omega arith)
 
+  whole_16 : (from_le_bytes w16 bs % 2 ^ 16 ≡ from_le_bytes w16 bs) × (from_le_bytes w16 bs < 2 ^ 64)
+  whole_16 = let h = from_bytes_below_16 bs small in (omega arith, omega arith)
+
+  whole_32 : (from_le_bytes w32 bs % 2 ^ 32 ≡ from_le_bytes w32 bs) × (from_le_bytes w32 bs < 2 ^ 64)
+  whole_32 = let h = from_bytes_below_32 bs small in (omega arith, omega arith)
+
+  whole_64 : (from_le_bytes w64 bs % 2 ^ 64 ≡ from_le_bytes w64 bs) × (from_le_bytes w64 bs < 2 ^ 64)
+  whole_64 = let h = from_bytes_below_64 bs small in (omega arith, omega arith)
+
+  -- extended by its sign, a number keeps its lower bits
+  extended : (s : Scalar) → (widened s bs % 2 ^ bit_count (width_of s) ≡ from_le_bytes (width_of s) bs) × (widened s bs < 2 ^ 64)
+  extended u8 = whole_8
+  extended s8 = extended_8 (from_le_bytes w8 bs) (from_bytes_below_8 bs small)
+  extended u16 = whole_16
+  extended s16 = extended_16 (from_le_bytes w16 bs) (from_bytes_below_16 bs small)
+  extended u32 = whole_32
+  extended s32 = extended_32 (from_le_bytes w32 bs) (from_bytes_below_32 bs small)
+  extended u64 = whole_64
+  extended s64 = extended_64 (from_le_bytes w64 bs) (from_bytes_below_64 bs small)
+  extended float = whole_32
+  extended double = whole_64
+  extended pointer = whole_64
+
+  unsigned_8_from_32 : (widened_from_32 u8 bs % 2 ^ 8 ≡ from_le_bytes w8 bs) × (widened_from_32 u8 bs < 2 ^ 64)
+  unsigned_8_from_32 =
+      let h = from_bytes_below_8 bs small in
+      let e = unsigned_from_32 (from_le_bytes w8 bs) (omega arith) in
+      (omega arith, e.1)
+
+  unsigned_16_from_32 : (widened_from_32 u16 bs % 2 ^ 16 ≡ from_le_bytes w16 bs) × (widened_from_32 u16 bs < 2 ^ 64)
+  unsigned_16_from_32 =
+      let h = from_bytes_below_16 bs small in
+      let e = unsigned_from_32 (from_le_bytes w16 bs) (omega arith) in
+      (omega arith, e.1)
+
+  -- the same, where it is extended to 32 bits first
+  extended_from_32 : (s : Scalar) → scalar_size s ≤ 4 → (widened_from_32 s bs % 2 ^ bit_count (width_of s) ≡ from_le_bytes (width_of s) bs) × (widened_from_32 s bs < 2 ^ 64)
+  extended_from_32 u8 h = unsigned_8_from_32
+  extended_from_32 s8 h = extended_8_from_32 (from_le_bytes w8 bs) (from_bytes_below_8 bs small)
+  extended_from_32 u16 h = unsigned_16_from_32
+  extended_from_32 s16 h = extended_16_from_32 (from_le_bytes w16 bs) (from_bytes_below_16 bs small)
+  extended_from_32 u32 h = unsigned_from_32 (from_le_bytes w32 bs) (from_bytes_below_32 bs small)
+  extended_from_32 s32 h = extended_32_from_32 (from_le_bytes w32 bs) (from_bytes_below_32 bs small)
+  extended_from_32 u64 h = absurd (omega arith)
+  extended_from_32 s64 h = absurd (omega arith)
+  extended_from_32 float h = unsigned_from_32 (from_le_bytes w32 bs) (from_bytes_below_32 bs small)
+  extended_from_32 double h = absurd (omega arith)
+  extended_from_32 pointer h = absurd (omega arith)
+
+  -- the lower bytes of what is congruent to the number
+  low_bytes : (s : Scalar) (m : ℕ) → (m % 2 ^ bit_count (width_of s) ≡ from_le_bytes (width_of s) bs) × (m < 2 ^ 64) → length bs ≡ scalar_size s → take (scalar_size s) (to_le_bytes w64 m) ≡ bs
+  low_bytes u8 m e l = low_bytes_of_8 m e.0 l
+  low_bytes s8 m e l = low_bytes_of_8 m e.0 l
+  low_bytes u16 m e l = low_bytes_of_16 m e.0 l
+  low_bytes s16 m e l = low_bytes_of_16 m e.0 l
+  low_bytes u32 m e l = low_bytes_of_32 m e.0 l
+  low_bytes s32 m e l = low_bytes_of_32 m e.0 l
+  low_bytes u64 m e l = low_bytes_of_64 m e.1 e.0 l
+  low_bytes s64 m e l = low_bytes_of_64 m e.1 e.0 l
+  low_bytes float m e l = low_bytes_of_32 m e.0 l
+  low_bytes double m e l = low_bytes_of_64 m e.1 e.0 l
+  low_bytes pointer m e l = low_bytes_of_64 m e.1 e.0 l
+
+  pub widened-below : (s : Scalar) → widened s bs < 2 ^ 64
+  widened-below s = (extended s).1
+
+  pub take-widened : (s : Scalar) → length bs ≡ scalar_size s → take (scalar_size s) (to_le_bytes w64 (widened s bs)) ≡ bs
+  take-widened s l = low_bytes s (widened s bs) (extended s) l
+
+  pub byte-widened : (s : Scalar) (k : ℕ) → length bs ≡ scalar_size s → k < scalar_size s → get_or (to_le_bytes w64 (widened s bs)) k 0 ≡ get_or bs k 0
+  byte-widened s k l h =
+      sym (get_or-take (scalar_size s) (to_le_bytes w64 (widened s bs)) k 0 h) ∙ ap (λ xs. get_or xs k 0) (take-widened s l)
+
+  pub widened_from_32-below : (s : Scalar) → scalar_size s ≤ 4 → widened_from_32 s bs < 2 ^ 64
+  widened_from_32-below s narrow = (extended_from_32 s narrow).1
+
+  pub take-widened_from_32 : (s : Scalar) → scalar_size s ≤ 4 → length bs ≡ scalar_size s → take (scalar_size s) (to_le_bytes w64 (widened_from_32 s bs)) ≡ bs
+  take-widened_from_32 s narrow l =
+      low_bytes s (widened_from_32 s bs) (extended_from_32 s narrow) l
+
+  pub byte-widened_from_32 : (s : Scalar) (k : ℕ) → scalar_size s ≤ 4 → length bs ≡ scalar_size s → k < scalar_size s → get_or (to_le_bytes w64 (widened_from_32 s bs)) k 0 ≡ get_or bs k 0
+  byte-widened_from_32 s k narrow l h =
+      sym (get_or-take (scalar_size s) (to_le_bytes w64 (widened_from_32 s bs)) k 0 h) ∙ ap (λ xs. get_or xs k 0) (take-widened_from_32 s narrow l)
