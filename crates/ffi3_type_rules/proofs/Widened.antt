@@ -1,11 +1,14 @@
 -- The bytes of an integer that is extended by its sign are the bytes that it was read from.
-use Rattle.std.specs.Prelude.{◌*◌, ◌/◌, ◌%◌, ◌^◌, ℤ, pos, negsuc}
+use Rattle.std.specs.Prelude.{◌*◌, ◌/◌, ◌%◌, ◌^◌, ℤ, pos, negsuc, true, false}
 use Rattle.std.proofs.Common.{◌≡◌, ℕ, zero, suc, ◌+◌, ◌<◌, ◌≤◌, ◌-◌, inl, inr, List, [], ◌∷◌, length, get_or, take, refl, ap, sym, ◌∙◌, subst, arith}
 use Rattle.std.proofs.lemmas.Int.{ints, to_z_pos}
 use Rattle.std.proofs.lemmas.Bool.{cases_lt}
-use Rattle.std.proofs.lemmas.Nat.{le_bytes_2, le_bytes_4, le_bytes_8}
+use Rattle.std.proofs.lemmas.Nat.{le_bytes_2, le_bytes_4, le_bytes_8, from_le_bytes-to_le_bytes_2, from_le_bytes-to_le_bytes_4, from_le_bytes-to_le_bytes_8}
 use Rattle.std.proofs.lemmas.List.{get_or-take}
-use Rattle.std.specs.Int.{Width, w8, w16, w32, w64, to_le_bytes, from_le_bytes, cast_signed, cast_unsigned}
+use Rattle.std.specs.Int.{Width, w8, w16, w32, w64, to_le_bytes, from_le_bytes, cast_signed, cast_unsigned, byte_at, bytes_low_first, byte_len}
+use Rattle.std.specs.Int.RustNames.{FitsSigned}
+use Rattle.std.specs.List.{All}
+use Rattle.std.proofs.lemmas.List.Elements.{All-tail}
 use mir.Val.{hbits, bits}
 use Rattle.std.proofs.lemmas.Bool.Decides.{nat_tests}
 use Rattle.ffi3_type_rules.specs.Tree.{Scalar, u8, s8, u16, s16, u32, s32, u64, s64, float, double, pointer}
@@ -220,3 +223,164 @@ module _ (bs : List ℕ) (small : (k : ℕ) → get_or bs k 0 < 256) where
   pub byte-widened_from_32 : (s : Scalar) (k : ℕ) → scalar_size s ≤ 4 → length bs ≡ scalar_size s → k < scalar_size s → get_or (to_le_bytes w64 (widened_from_32 s bs)) k 0 ≡ get_or bs k 0
   byte-widened_from_32 s k narrow l h =
       sym (get_or-take (scalar_size s) (to_le_bytes w64 (widened_from_32 s bs)) k 0 h) ∙ ap (λ xs. get_or xs k 0) (take-widened_from_32 s narrow l)
+
+-- ---- the bytes of a number
+
+byte_below : (i n : ℕ) → byte_at i n < 256
+byte_below zero n = omega arith
+byte_below (suc i) n = omega arith
+
+low_first_below : (i count n k : ℕ) → get_or (bytes_low_first i count n) k 0 < 256
+low_first_below i zero n k = omega arith
+low_first_below i (suc count) n zero = byte_below i n
+low_first_below i (suc count) n (suc k) = low_first_below (suc i) count n k
+
+pub to_le_bytes-below : (w : Width) (n k : ℕ) → get_or (to_le_bytes w n) k 0 < 256
+to_le_bytes-below w n k = low_first_below 0 (byte_len w) n k
+
+pub bytes_of_number-below : (s : Scalar) (z : ℤ) (k : ℕ) → get_or (bytes_of_number s z) k 0 < 256
+bytes_of_number-below s z k =
+    to_le_bytes-below (width_of s) (modulo (bit_count (width_of s)) z) k
+
+pub length-bytes_of_number : (s : Scalar) (z : ℤ) → length (bytes_of_number s z) ≡ scalar_size s
+length-bytes_of_number u8 z = refl
+length-bytes_of_number s8 z = refl
+length-bytes_of_number u16 z = refl
+length-bytes_of_number s16 z = refl
+length-bytes_of_number u32 z = refl
+length-bytes_of_number s32 z = refl
+length-bytes_of_number u64 z = refl
+length-bytes_of_number s64 z = refl
+length-bytes_of_number float z = refl
+length-bytes_of_number double z = refl
+length-bytes_of_number pointer z = refl
+
+-- a list of bytes, as contracts state it
+pub bytes_below : (bs : List ℕ) → All (λ b. b < 256) bs → (k : ℕ) → get_or bs k 0 < 256
+bytes_below [] h k = omega arith
+bytes_below (b ∷ bs) h zero = h 0 0 (omega arith)
+bytes_below (b ∷ bs) h (suc k) = bytes_below bs (All-tail (λ x. x < 256) b bs h) k
+
+-- ---- read back
+
+from_le_bytes-to_le_bytes_1 : (n : ℕ) → n < 2 ^ 8 → from_le_bytes w8 (to_le_bytes w8 n) ≡ n
+from_le_bytes-to_le_bytes_1 n fits = omega arith
+
+unsigned_back_8 : (n : ℕ) → n < 2 ^ 8 → pos (from_le_bytes w8 (to_le_bytes w8 (n % 2 ^ 8))) ≡ pos n
+unsigned_back_8 n h =
+    let same : n % 2 ^ 8 ≡ n = omega arith in
+    ap pos (ap (λ m. from_le_bytes w8 (to_le_bytes w8 m)) same ∙ from_le_bytes-to_le_bytes_1 n h)
+
+signed_of_modulo_8 : (z : ℤ) → FitsSigned w8 z → cast_signed w8 (modulo 8 z) ≡ z
+signed_of_modulo_8 (pos n) h =
+    let fits : n < 2 ^ 7 = h.sfits in
+    let same : n % 2 ^ 8 ≡ n = omega arith in
+    ap (cast_signed w8) same ∙ to_z_pos w8 n fits
+signed_of_modulo_8 (negsuc n) h =
+    let fits : n < 2 ^ 7 = h.sfits in
+    let same : 2 ^ 8 - suc (2 ^ 8 - suc (n % 2 ^ 8)) ≡ n = omega arith in
+    read_negative w8 (2 ^ 8 - suc (n % 2 ^ 8)) (omega arith) ∙ ap negsuc same
+
+modulo_8-below : (z : ℤ) → modulo 8 z < 2 ^ 8
+modulo_8-below (pos n) = omega arith
+modulo_8-below (negsuc n) = omega arith
+
+signed_back_8 : (z : ℤ) → FitsSigned w8 z → cast_signed w8 (from_le_bytes w8 (to_le_bytes w8 (modulo 8 z))) ≡ z
+signed_back_8 z h =
+    ap (cast_signed w8) (from_le_bytes-to_le_bytes_1 (modulo 8 z) (modulo_8-below z)) ∙ signed_of_modulo_8 z h
+
+unsigned_back_16 : (n : ℕ) → n < 2 ^ 16 → pos (from_le_bytes w16 (to_le_bytes w16 (n % 2 ^ 16))) ≡ pos n
+unsigned_back_16 n h =
+    let same : n % 2 ^ 16 ≡ n = omega arith in
+    ap pos (ap (λ m. from_le_bytes w16 (to_le_bytes w16 m)) same ∙ from_le_bytes-to_le_bytes_2 n h)
+
+signed_of_modulo_16 : (z : ℤ) → FitsSigned w16 z → cast_signed w16 (modulo 16 z) ≡ z
+signed_of_modulo_16 (pos n) h =
+    let fits : n < 2 ^ 15 = h.sfits in
+    let same : n % 2 ^ 16 ≡ n = omega arith in
+    ap (cast_signed w16) same ∙ to_z_pos w16 n fits
+signed_of_modulo_16 (negsuc n) h =
+    let fits : n < 2 ^ 15 = h.sfits in
+    let same : 2 ^ 16 - suc (2 ^ 16 - suc (n % 2 ^ 16)) ≡ n = omega arith in
+    read_negative w16 (2 ^ 16 - suc (n % 2 ^ 16)) (omega arith) ∙ ap negsuc same
+
+modulo_16-below : (z : ℤ) → modulo 16 z < 2 ^ 16
+modulo_16-below (pos n) = omega arith
+modulo_16-below (negsuc n) = omega arith
+
+signed_back_16 : (z : ℤ) → FitsSigned w16 z → cast_signed w16 (from_le_bytes w16 (to_le_bytes w16 (modulo 16 z))) ≡ z
+signed_back_16 z h =
+    ap (cast_signed w16) (from_le_bytes-to_le_bytes_2 (modulo 16 z) (modulo_16-below z)) ∙ signed_of_modulo_16 z h
+
+unsigned_back_32 : (n : ℕ) → n < 2 ^ 32 → pos (from_le_bytes w32 (to_le_bytes w32 (n % 2 ^ 32))) ≡ pos n
+unsigned_back_32 n h =
+    let same : n % 2 ^ 32 ≡ n = omega arith in
+    ap pos (ap (λ m. from_le_bytes w32 (to_le_bytes w32 m)) same ∙ from_le_bytes-to_le_bytes_4 n h)
+
+signed_of_modulo_32 : (z : ℤ) → FitsSigned w32 z → cast_signed w32 (modulo 32 z) ≡ z
+signed_of_modulo_32 (pos n) h =
+    let fits : n < 2 ^ 31 = h.sfits in
+    let same : n % 2 ^ 32 ≡ n = omega arith in
+    ap (cast_signed w32) same ∙ to_z_pos w32 n fits
+signed_of_modulo_32 (negsuc n) h =
+    let fits : n < 2 ^ 31 = h.sfits in
+    let same : 2 ^ 32 - suc (2 ^ 32 - suc (n % 2 ^ 32)) ≡ n = omega arith in
+    read_negative w32 (2 ^ 32 - suc (n % 2 ^ 32)) (omega arith) ∙ ap negsuc same
+
+modulo_32-below : (z : ℤ) → modulo 32 z < 2 ^ 32
+modulo_32-below (pos n) = omega arith
+modulo_32-below (negsuc n) = omega arith
+
+signed_back_32 : (z : ℤ) → FitsSigned w32 z → cast_signed w32 (from_le_bytes w32 (to_le_bytes w32 (modulo 32 z))) ≡ z
+signed_back_32 z h =
+    ap (cast_signed w32) (from_le_bytes-to_le_bytes_4 (modulo 32 z) (modulo_32-below z)) ∙ signed_of_modulo_32 z h
+
+unsigned_back_64 : (n : ℕ) → n < 2 ^ 64 → pos (from_le_bytes w64 (to_le_bytes w64 (n % 2 ^ 64))) ≡ pos n
+unsigned_back_64 n h =
+    let same : n % 2 ^ 64 ≡ n = omega arith in
+    ap pos (ap (λ m. from_le_bytes w64 (to_le_bytes w64 m)) same ∙ from_le_bytes-to_le_bytes_8 n h)
+
+signed_of_modulo_64 : (z : ℤ) → FitsSigned w64 z → cast_signed w64 (modulo 64 z) ≡ z
+signed_of_modulo_64 (pos n) h =
+    let fits : n < 2 ^ 63 = h.sfits in
+    let same : n % 2 ^ 64 ≡ n = omega arith in
+    ap (cast_signed w64) same ∙ to_z_pos w64 n fits
+signed_of_modulo_64 (negsuc n) h =
+    let fits : n < 2 ^ 63 = h.sfits in
+    let same : 2 ^ 64 - suc (2 ^ 64 - suc (n % 2 ^ 64)) ≡ n = omega arith in
+    read_negative w64 (2 ^ 64 - suc (n % 2 ^ 64)) (omega arith) ∙ ap negsuc same
+
+modulo_64-below : (z : ℤ) → modulo 64 z < 2 ^ 64
+modulo_64-below (pos n) = omega arith
+modulo_64-below (negsuc n) = omega arith
+
+signed_back_64 : (z : ℤ) → FitsSigned w64 z → cast_signed w64 (from_le_bytes w64 (to_le_bytes w64 (modulo 64 z))) ≡ z
+signed_back_64 z h =
+    ap (cast_signed w64) (from_le_bytes-to_le_bytes_8 (modulo 64 z) (modulo_64-below z)) ∙ signed_of_modulo_64 z h
+
+-- a number in the type's range is read back as it was written
+pub number_of-bytes_of_number_signed : (s : Scalar) (z : ℤ) → is_signed s ≡ true → FitsSigned (width_of s) z → number_of s (bytes_of_number s z) ≡ z
+number_of-bytes_of_number_signed u8 z e h = cc
+number_of-bytes_of_number_signed s8 z e h = signed_back_8 z h
+number_of-bytes_of_number_signed u16 z e h = cc
+number_of-bytes_of_number_signed s16 z e h = signed_back_16 z h
+number_of-bytes_of_number_signed u32 z e h = cc
+number_of-bytes_of_number_signed s32 z e h = signed_back_32 z h
+number_of-bytes_of_number_signed u64 z e h = cc
+number_of-bytes_of_number_signed s64 z e h = signed_back_64 z h
+number_of-bytes_of_number_signed float z e h = cc
+number_of-bytes_of_number_signed double z e h = cc
+number_of-bytes_of_number_signed pointer z e h = cc
+
+pub number_of-bytes_of_number_unsigned : (s : Scalar) (n : ℕ) → is_signed s ≡ false → n < 2 ^ bit_count (width_of s) → number_of s (bytes_of_number s (pos n)) ≡ pos n
+number_of-bytes_of_number_unsigned u8 n e h = unsigned_back_8 n h
+number_of-bytes_of_number_unsigned s8 n e h = cc
+number_of-bytes_of_number_unsigned u16 n e h = unsigned_back_16 n h
+number_of-bytes_of_number_unsigned s16 n e h = cc
+number_of-bytes_of_number_unsigned u32 n e h = unsigned_back_32 n h
+number_of-bytes_of_number_unsigned s32 n e h = cc
+number_of-bytes_of_number_unsigned u64 n e h = unsigned_back_64 n h
+number_of-bytes_of_number_unsigned s64 n e h = cc
+number_of-bytes_of_number_unsigned float n e h = unsigned_back_32 n h
+number_of-bytes_of_number_unsigned double n e h = unsigned_back_64 n h
+number_of-bytes_of_number_unsigned pointer n e h = unsigned_back_64 n h
