@@ -384,3 +384,84 @@ number_of-bytes_of_number_unsigned s64 n e h = cc
 number_of-bytes_of_number_unsigned float n e h = unsigned_back_32 n h
 number_of-bytes_of_number_unsigned double n e h = unsigned_back_64 n h
 number_of-bytes_of_number_unsigned pointer n e h = unsigned_back_64 n h
+
+-- ---- written back
+
+modulo_of_signed_8 : (n : ℕ) → n < 2 ^ 8 → modulo 8 (cast_signed w8 n) ≡ n
+modulo_of_signed_8 n h =
+    elim (cases_lt n (2 ^ 7)) [
+      | inl low ↦ rw (to_z_pos w8 n low) (omega arith)
+      | inr high ↦ rw (read_negative w8 n high) (omega arith)
+    ]
+
+modulo_of_signed_16 : (n : ℕ) → n < 2 ^ 16 → modulo 16 (cast_signed w16 n) ≡ n
+modulo_of_signed_16 n h =
+    elim (cases_lt n (2 ^ 15)) [
+      | inl low ↦ rw (to_z_pos w16 n low) (omega arith)
+      | inr high ↦ rw (read_negative w16 n high) (omega arith)
+    ]
+
+modulo_of_signed_32 : (n : ℕ) → n < 2 ^ 32 → modulo 32 (cast_signed w32 n) ≡ n
+modulo_of_signed_32 n h =
+    elim (cases_lt n (2 ^ 31)) [
+      | inl low ↦ rw (to_z_pos w32 n low) (omega arith)
+      | inr high ↦ rw (read_negative w32 n high) (omega arith)
+    ]
+
+modulo_of_signed_64 : (n : ℕ) → n < 2 ^ 64 → modulo 64 (cast_signed w64 n) ≡ n
+modulo_of_signed_64 n h =
+    elim (cases_lt n (2 ^ 63)) [
+      | inl low ↦ rw (to_z_pos w64 n low) (omega arith)
+      | inr high ↦ rw (read_negative w64 n high) (omega arith)
+    ]
+
+module _ (bs : List ℕ) (small : (k : ℕ) → get_or bs k 0 < 256) where
+  signed_written_8 : length bs ≡ 1 → to_le_bytes w8 (modulo 8 (cast_signed w8 (from_le_bytes w8 bs))) ≡ bs
+  signed_written_8 l =
+      le_bytes_1 bs _ l small (modulo_of_signed_8 (from_le_bytes w8 bs) (from_bytes_below_8 bs small))
+
+  unsigned_written_8 : length bs ≡ 1 → to_le_bytes w8 (from_le_bytes w8 bs % 2 ^ 8) ≡ bs
+  unsigned_written_8 l =
+      let h = from_bytes_below_8 bs small in
+      le_bytes_1 bs _ l small (omega arith)
+
+  signed_written_16 : length bs ≡ 2 → to_le_bytes w16 (modulo 16 (cast_signed w16 (from_le_bytes w16 bs))) ≡ bs
+  signed_written_16 l =
+      le_bytes_2 bs _ l small (modulo_of_signed_16 (from_le_bytes w16 bs) (from_bytes_below_16 bs small))
+
+  unsigned_written_16 : length bs ≡ 2 → to_le_bytes w16 (from_le_bytes w16 bs % 2 ^ 16) ≡ bs
+  unsigned_written_16 l =
+      let h = from_bytes_below_16 bs small in
+      le_bytes_2 bs _ l small (omega arith)
+
+  signed_written_32 : length bs ≡ 4 → to_le_bytes w32 (modulo 32 (cast_signed w32 (from_le_bytes w32 bs))) ≡ bs
+  signed_written_32 l =
+      le_bytes_4 bs _ l small (modulo_of_signed_32 (from_le_bytes w32 bs) (from_bytes_below_32 bs small))
+
+  unsigned_written_32 : length bs ≡ 4 → to_le_bytes w32 (from_le_bytes w32 bs % 2 ^ 32) ≡ bs
+  unsigned_written_32 l =
+      let h = from_bytes_below_32 bs small in
+      le_bytes_4 bs _ l small (omega arith)
+
+  signed_written_64 : length bs ≡ 8 → to_le_bytes w64 (modulo 64 (cast_signed w64 (from_le_bytes w64 bs))) ≡ bs
+  signed_written_64 l =
+      le_bytes_8 bs _ l small (modulo_of_signed_64 (from_le_bytes w64 bs) (from_bytes_below_64 bs small))
+
+  unsigned_written_64 : length bs ≡ 8 → to_le_bytes w64 (from_le_bytes w64 bs % 2 ^ 64) ≡ bs
+  unsigned_written_64 l =
+      let h = from_bytes_below_64 bs small in
+      le_bytes_8 bs _ l small (omega arith)
+
+  -- the number of the bytes has these bytes
+  pub bytes_of_number-number_of : (s : Scalar) → length bs ≡ scalar_size s → bytes_of_number s (number_of s bs) ≡ bs
+  bytes_of_number-number_of u8 l = unsigned_written_8 l
+  bytes_of_number-number_of s8 l = signed_written_8 l
+  bytes_of_number-number_of u16 l = unsigned_written_16 l
+  bytes_of_number-number_of s16 l = signed_written_16 l
+  bytes_of_number-number_of u32 l = unsigned_written_32 l
+  bytes_of_number-number_of s32 l = signed_written_32 l
+  bytes_of_number-number_of u64 l = unsigned_written_64 l
+  bytes_of_number-number_of s64 l = signed_written_64 l
+  bytes_of_number-number_of float l = unsigned_written_32 l
+  bytes_of_number-number_of double l = unsigned_written_64 l
+  bytes_of_number-number_of pointer l = unsigned_written_64 l
