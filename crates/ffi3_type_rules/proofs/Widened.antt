@@ -1,7 +1,7 @@
 -- The bytes of an integer that is extended by its sign are the bytes that it was read from.
-use Rattle.std.specs.Prelude.{◌*◌, ◌/◌, ◌%◌, ◌^◌, ℤ, pos, negsuc, true, false}
-use Rattle.std.proofs.Common.{◌≡◌, ℕ, zero, suc, ◌+◌, ◌<◌, ◌≤◌, ◌-◌, inl, inr, List, [], ◌∷◌, length, get_or, take, refl, ap, sym, ◌∙◌, subst, arith}
-use Rattle.std.proofs.lemmas.Int.{ints, to_z_pos}
+use Rattle.std.specs.Prelude.{◌/◌, ◌%◌, ◌^◌, ℤ, pos, negsuc, true, false}
+use Rattle.std.proofs.Common.{◌≡◌, ℕ, zero, suc, ◌<◌, ◌≤◌, ◌-◌, inl, inr, List, [], ◌∷◌, length, get_or, take, refl, ap, sym, ◌∙◌, arith}
+use Rattle.std.proofs.lemmas.Int.{to_z_pos}
 use Rattle.std.proofs.lemmas.Bool.{cases_lt}
 use Rattle.std.proofs.lemmas.Nat.{le_bytes_2, le_bytes_4, le_bytes_8, from_le_bytes-to_le_bytes_2, from_le_bytes-to_le_bytes_4, from_le_bytes-to_le_bytes_8}
 use Rattle.std.proofs.lemmas.List.{get_or-take}
@@ -10,10 +10,11 @@ use Rattle.std.specs.Int.RustNames.{FitsSigned}
 use Rattle.std.specs.List.{All}
 use Rattle.std.proofs.lemmas.List.Elements.{All-tail}
 use mir.Val.{hbits, bits}
+use borrow.Author.Gap.{read_sfits}
 use Rattle.std.proofs.lemmas.Bool.Decides.{nat_tests}
 use Rattle.ffi3_type_rules.specs.Tree.{Scalar, u8, s8, u16, s16, u32, s32, u64, s64, float, double, pointer}
 use Rattle.ffi3_type_rules.specs.Layout.{scalar_size}
-use Rattle.ffi3_type_rules.specs.Integer.{is_integer, is_signed, width_of, bit_count, number_of, modulo, bytes_of_number, widened, widened_from_32}
+use Rattle.ffi3_type_rules.specs.Integer.{is_signed, width_of, bit_count, number_of, modulo, bytes_of_number, widened, widened_from_32}
 
 -- the lower bytes of two numbers that are congruent
 low_bytes_8 : (m n : ℕ) → m % 2 ^ 8 ≡ n → take 1 (to_le_bytes w64 m) ≡ to_le_bytes w8 n
@@ -465,3 +466,30 @@ module _ (bs : List ℕ) (small : (k : ℕ) → get_or bs k 0 < 256) where
   bytes_of_number-number_of float l = unsigned_written_32 l
   bytes_of_number-number_of double l = unsigned_written_64 l
   bytes_of_number-number_of pointer l = unsigned_written_64 l
+
+-- what is read is in the type's range
+pub number_of-fits : (s : Scalar) (bs : List ℕ) → is_signed s ≡ true → FitsSigned (width_of s) (number_of s bs)
+number_of-fits u8 bs e = cc
+number_of-fits s8 bs e = read_sfits w8 (from_le_bytes w8 bs)
+number_of-fits u16 bs e = cc
+number_of-fits s16 bs e = read_sfits w16 (from_le_bytes w16 bs)
+number_of-fits u32 bs e = cc
+number_of-fits s32 bs e = read_sfits w32 (from_le_bytes w32 bs)
+number_of-fits u64 bs e = cc
+number_of-fits s64 bs e = read_sfits w64 (from_le_bytes w64 bs)
+number_of-fits float bs e = cc
+number_of-fits double bs e = cc
+number_of-fits pointer bs e = cc
+
+pub from_le_bytes-below : (s : Scalar) (bs : List ℕ) → ((k : ℕ) → get_or bs k 0 < 256) → from_le_bytes (width_of s) bs < 2 ^ bit_count (width_of s)
+from_le_bytes-below u8 bs small = from_bytes_below_8 bs small
+from_le_bytes-below s8 bs small = from_bytes_below_8 bs small
+from_le_bytes-below u16 bs small = from_bytes_below_16 bs small
+from_le_bytes-below s16 bs small = from_bytes_below_16 bs small
+from_le_bytes-below u32 bs small = from_bytes_below_32 bs small
+from_le_bytes-below s32 bs small = from_bytes_below_32 bs small
+from_le_bytes-below u64 bs small = from_bytes_below_64 bs small
+from_le_bytes-below s64 bs small = from_bytes_below_64 bs small
+from_le_bytes-below float bs small = from_bytes_below_32 bs small
+from_le_bytes-below double bs small = from_bytes_below_64 bs small
+from_le_bytes-below pointer bs small = from_bytes_below_64 bs small
