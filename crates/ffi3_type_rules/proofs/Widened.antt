@@ -8,7 +8,7 @@ use Rattle.std.proofs.lemmas.List.{get_or-take}
 use Rattle.std.specs.Int.{Width, w8, w16, w32, w64, to_le_bytes, from_le_bytes, cast_signed, cast_unsigned, byte_at, bytes_low_first, byte_len}
 use Rattle.std.specs.Int.RustNames.{FitsSigned}
 use Rattle.std.specs.List.{All}
-use Rattle.std.proofs.lemmas.List.Elements.{All-tail}
+use Rattle.std.proofs.lemmas.List.Elements.{All-tail, All-from_get_or}
 use mir.Val.{hbits, bits}
 use borrow.Author.Gap.{read_sfits}
 use Rattle.std.proofs.lemmas.Bool.Decides.{nat_tests}
@@ -17,18 +17,18 @@ use Rattle.ffi3_type_rules.specs.Layout.{scalar_size}
 use Rattle.ffi3_type_rules.specs.Integer.{is_signed, width_of, bit_count, number_of, modulo, bytes_of_number, widened, widened_from_32}
 
 -- the lower bytes of two numbers that are congruent
-low_bytes_8 : (m n : ℕ) → m % 2 ^ 8 ≡ n → take 1 (to_le_bytes w64 m) ≡ to_le_bytes w8 n
+pub low_bytes_8 : (m n : ℕ) → m % 2 ^ 8 ≡ n → take 1 (to_le_bytes w64 m) ≡ to_le_bytes w8 n
 low_bytes_8 m n e =
     let at_0 : m % 256 ≡ n % 256 = omega arith in
     λ i. at_0 i ∷ []
 
-low_bytes_16 : (m n : ℕ) → m % 2 ^ 16 ≡ n → take 2 (to_le_bytes w64 m) ≡ to_le_bytes w16 n
+pub low_bytes_16 : (m n : ℕ) → m % 2 ^ 16 ≡ n → take 2 (to_le_bytes w64 m) ≡ to_le_bytes w16 n
 low_bytes_16 m n e =
     let at_0 : m % 256 ≡ n % 256 = omega arith in
     let at_1 : m / 256 % 256 ≡ n / 256 % 256 = omega arith in
     λ i. at_0 i ∷ at_1 i ∷ []
 
-low_bytes_32 : (m n : ℕ) → m % 2 ^ 32 ≡ n → take 4 (to_le_bytes w64 m) ≡ to_le_bytes w32 n
+pub low_bytes_32 : (m n : ℕ) → m % 2 ^ 32 ≡ n → take 4 (to_le_bytes w64 m) ≡ to_le_bytes w32 n
 low_bytes_32 m n e =
     let at_0 : m % 256 ≡ n % 256 = omega arith in
     let at_1 : m / 256 % 256 ≡ n / 256 % 256 = omega arith in
@@ -151,7 +151,7 @@ module _ (bs : List ℕ) (small : (k : ℕ) → get_or bs k 0 < 256) where
   whole_64 = let h = from_bytes_below_64 bs small in (omega arith, omega arith)
 
   -- extended by its sign, a number keeps its lower bits
-  extended : (s : Scalar) → (widened s bs % 2 ^ bit_count (width_of s) ≡ from_le_bytes (width_of s) bs) × (widened s bs < 2 ^ 64)
+  pub extended : (s : Scalar) → (widened s bs % 2 ^ bit_count (width_of s) ≡ from_le_bytes (width_of s) bs) × (widened s bs < 2 ^ 64)
   extended u8 = whole_8
   extended s8 = extended_8 (from_le_bytes w8 bs) (from_bytes_below_8 bs small)
   extended u16 = whole_16
@@ -177,7 +177,7 @@ module _ (bs : List ℕ) (small : (k : ℕ) → get_or bs k 0 < 256) where
       (omega arith, e.1)
 
   -- the same, where it is extended to 32 bits first
-  extended_from_32 : (s : Scalar) → scalar_size s ≤ 4 → (widened_from_32 s bs % 2 ^ bit_count (width_of s) ≡ from_le_bytes (width_of s) bs) × (widened_from_32 s bs < 2 ^ 64)
+  pub extended_from_32 : (s : Scalar) → scalar_size s ≤ 4 → (widened_from_32 s bs % 2 ^ bit_count (width_of s) ≡ from_le_bytes (width_of s) bs) × (widened_from_32 s bs < 2 ^ 64)
   extended_from_32 u8 h = unsigned_8_from_32
   extended_from_32 s8 h = extended_8_from_32 (from_le_bytes w8 bs) (from_bytes_below_8 bs small)
   extended_from_32 u16 h = unsigned_16_from_32
@@ -191,7 +191,7 @@ module _ (bs : List ℕ) (small : (k : ℕ) → get_or bs k 0 < 256) where
   extended_from_32 pointer h = absurd (omega arith)
 
   -- the lower bytes of what is congruent to the number
-  low_bytes : (s : Scalar) (m : ℕ) → (m % 2 ^ bit_count (width_of s) ≡ from_le_bytes (width_of s) bs) × (m < 2 ^ 64) → length bs ≡ scalar_size s → take (scalar_size s) (to_le_bytes w64 m) ≡ bs
+  pub low_bytes : (s : Scalar) (m : ℕ) → (m % 2 ^ bit_count (width_of s) ≡ from_le_bytes (width_of s) bs) × (m < 2 ^ 64) → length bs ≡ scalar_size s → take (scalar_size s) (to_le_bytes w64 m) ≡ bs
   low_bytes u8 m e l = low_bytes_of_8 m e.0 l
   low_bytes s8 m e l = low_bytes_of_8 m e.0 l
   low_bytes u16 m e l = low_bytes_of_16 m e.0 l
@@ -242,6 +242,14 @@ to_le_bytes-below w n k = low_first_below 0 (byte_len w) n k
 pub bytes_of_number-below : (s : Scalar) (z : ℤ) (k : ℕ) → get_or (bytes_of_number s z) k 0 < 256
 bytes_of_number-below s z k =
     to_le_bytes-below (width_of s) (modulo (bit_count (width_of s)) z) k
+
+pub All-to_le_bytes : (w : Width) (n : ℕ) → All (λ b. b < 256) (to_le_bytes w n)
+All-to_le_bytes w n =
+    All-from_get_or (λ b. b < 256) (to_le_bytes w n) 0 (λ k h. to_le_bytes-below w n k)
+
+pub All-bytes_of_number : (s : Scalar) (z : ℤ) → All (λ b. b < 256) (bytes_of_number s z)
+All-bytes_of_number s z =
+    All-to_le_bytes (width_of s) (modulo (bit_count (width_of s)) z)
 
 pub length-bytes_of_number : (s : Scalar) (z : ℤ) → length (bytes_of_number s z) ≡ scalar_size s
 length-bytes_of_number u8 z = refl
