@@ -13,6 +13,7 @@ mod check;
 mod copy;
 mod fault;
 mod leaves;
+mod names;
 mod path;
 mod same;
 mod sig;
