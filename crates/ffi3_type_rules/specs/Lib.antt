@@ -5,3 +5,4 @@ pub mod Signature
 pub mod Integer
 pub mod Value
 pub mod Text
+pub mod ValueText
