@@ -1,12 +1,12 @@
 -- Bytes that have the same value differ in padding alone.
-use Rattle.std.proofs.Common.{◌≡◌, ℕ, zero, suc, ◌+◌, ◌-◌, ◌<◌, ◌≤◌, inl, inr, List, [], ◌∷◌, ◌++◌, length, refl, ap, sym, ◌∙◌, subst, arith, All, map}
+use Rattle.std.proofs.Common.{◌≡◌, ℕ, zero, suc, ◌+◌, ◌-◌, ◌<◌, ◌≤◌, inl, inr, List, [], length, ap, sym, ◌∙◌, subst, arith, All, map}
 use Rattle.std.specs.Prelude.{slice_index, slice_index_or}
 use Rattle.std.proofs.lemmas.Bool.{cases_lt}
 use Rattle.std.proofs.lemmas.List.{length-map}
 use Rattle.std.proofs.lemmas.List.Elements.{All-nil, All-cons, All-append, All-map, All-weaker}
-use Rattle.ffi3_type_rules.specs.Tree.{Tree, void, scalar, left_out, structure, Trees, no_trees, tree, list_of, trees_of, tree_at, struct_of}
+use Rattle.ffi3_type_rules.specs.Tree.{Tree, void, scalar, left_out, structure, Trees, no_trees, tree, list_of}
 use Rattle.ffi3_type_rules.specs.Layout.{Layout, Leaf, layout, layouts, element, size_of, start_of, end_before, leaves_of, leaves_before, moved, scalar_size, align_before}
-use Rattle.ffi3_type_rules.specs.Value.{ValueTree, ValueTrees, leaf_value, struct_value, value, value_in, values_in, part, IsPadding, DifferInPaddingAlone}
+use Rattle.ffi3_type_rules.specs.Value.{ValueTree, ValueTrees, leaf_value, struct_value, value, value_in, values_in, part, DifferInPaddingAlone}
 use Rattle.ffi3_type_rules.proofs.Layouts.{layouts_is_map, end_before-le, least_multiple-above}
 use Rattle.ffi3_type_rules.proofs.Parts.{index_part, length_part}
 

@@ -1,9 +1,9 @@
 -- Worked values: their texts, and what they widen to.
-use Rattle.std.proofs.Common.{◌≡◌, List, [], ◌∷◌, refl}
+use Rattle.std.proofs.Common.{◌≡◌, [], ◌∷◌, refl}
 use Rattle.std.specs.Prelude.{codes, negsuc, pos}
 use Rattle.std.specs.Fmt.{digits}
 use Rattle.ffi3_type_rules.specs.Layout.{least_multiple}
-use Rattle.ffi3_type_rules.specs.Tree.{u8, s8, u16, s16, u32, s32, u64, s64, float, double, pointer, void, scalar, structure, no_trees, tree}
+use Rattle.ffi3_type_rules.specs.Tree.{u8, s8, u16, s16, u32, s32, u64, s64, float, pointer, void, scalar, structure, no_trees, tree}
 use Rattle.ffi3_type_rules.specs.Integer.{widened, widened_from_32, number_of, bytes_of_number, sum_of}
 use Rattle.ffi3_type_rules.specs.Value.{void_value, leaf_value, struct_value, no_values, value, value_in}
 use Rattle.ffi3_type_rules.specs.ValueText.{value_text_of}

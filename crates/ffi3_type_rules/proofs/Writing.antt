@@ -1,14 +1,15 @@
 -- The bytes of a struct's values, written one after another.
-use Rattle.std.proofs.Common.{◌≡◌, ℕ, suc, ◌+◌, ◌-◌, ◌<◌, ◌≤◌, inl, inr, List, ◌++◌, length, take, drop, refl, ap, sym, ◌∙◌, subst, arith, add-one}
+use Rattle.std.proofs.Common.{◌≡◌, ℕ, suc, ◌+◌, ◌-◌, ◌<◌, ◌≤◌, inl, inr, List, ◌++◌, length, take, drop, refl, ap, sym, ◌∙◌, subst, arith, true, length-append, length-take, length-drop}
 use Rattle.std.specs.Prelude.{slice_index, slice_index_or}
 use Rattle.std.proofs.lemmas.Bool.{cases_lt}
 use Rattle.std.proofs.lemmas.List.{get_or_default, ext_get_or}
-use Rattle.ffi3_type_rules.specs.Tree.{Tree, tree_at, trees_of, struct_of, u8}
-use Rattle.ffi3_type_rules.specs.Layout.{Layout, Leaf, layouts, element, size_of, start_of, end_before, leaves_of, leaves_before, leaf_at, moved, scalar_size}
-use Rattle.ffi3_type_rules.specs.Value.{ValueTree, struct_value, values_of, value_in, part, IsPadding, IsWritten}
-use Rattle.ffi3_type_rules.proofs.Layouts.{length-layouts, layout_here, end_before-le, element-layouts, least_multiple-above}
+use Rattle.ffi3_type_rules.specs.Tree.{Tree, void, scalar, left_out, structure, tree_at, trees_of, struct_of, u8}
+use Rattle.ffi3_type_rules.specs.Layout.{Leaf, layouts, element, size_of, start_of, end_before, leaves_of, leaves_before, leaf_at, moved, scalar_size}
+use Rattle.ffi3_type_rules.specs.Value.{ValueTree, leaf_value, struct_value, fits, values_of, value_in, part, IsPadding, IsWritten}
+use Rattle.ffi3_type_rules.proofs.Layouts.{length-layouts, end_before-le, element-layouts, least_multiple-above}
 use Rattle.ffi3_type_rules.proofs.Leaves.{leaf_of_struct, leaves_before-step, leaves_before-le}
 use Rattle.ffi3_type_rules.proofs.Values.{value_at, element_value, element_within, struct_by_elements}
+use Rattle.ffi3_type_rules.proofs.ElementPlaces.{Lies}
 use Rattle.ffi3_type_rules.proofs.Parts.{index_part, length_part, same_part, below_part, inside_part, above_part}
 
 -- padding of a struct within an element is padding of the element
@@ -45,10 +46,12 @@ one_more_written ts vs old now new mid i start size below sized kept kept_too s 
   where
     within : start + size ≤ length now
     within = omega (arith, element_within ts i below)
+
     written_part : part new start size ≡ mid
     written_part =
         let sized_part = length_part new start size (omega (arith, within)) in
         ext_get_or 0 (part new start size) mid (sized_part ∙ sym n) (λ k inside. index_part new start size k (omega arith) ∙ inside_part now new mid start size is n within k (omega arith))
+
     -- an element before stays where it was
     stays : (k : ℕ) → k < i → element_value ts now k ≡ element_value ts new k
     stays k earlier =
@@ -60,6 +63,7 @@ one_more_written ts vs old now new mid i start size below sized kept kept_too s 
         let above = least_multiple-above (element es i).align (end_before es i) in
         let room : from + count ≤ start = omega arith in
         ap (value_in (tree_at ts k)) (same_part now new from count (omega (arith, within)) (omega (arith, within)) (λ j low high. sym (below_part now new mid start size is n within j (omega arith))))
+
     each : (k : ℕ) → k < i + 1 → value_at vs k ≡ element_value ts new k
     each k earlier =
         elim (cases_lt k i) [
@@ -68,23 +72,46 @@ one_more_written ts vs old now new mid i start size below sized kept kept_too s 
               let here : value_at vs i ≡ element_value ts new i = sym written.reads_back ∙ ap (value_in (tree_at ts i)) (sym written_part) ∙ ap (λ j. value_in (tree_at ts i) (part new j size)) s ∙ ap (λ j. value_in (tree_at ts i) (part new (start_of (layouts (trees_of ts)) i) j)) z in
               ap (value_at vs) same ∙ here ∙ ap (element_value ts new) (sym same)
         ]
+
     -- a byte of the part, if it is padding
     pads : (j : ℕ) → j < size → IsPadding (struct_of ts) (start + j) → slice_index new (start + j) ≡ slice_index now (start + j)
     pads j inside pad =
         let sized_part = length_part now start size within in
         let own : IsPadding (tree_at ts i) j = padding_inside ts i j below (subst (λ k. IsPadding (struct_of ts) (k + j)) s pad) in
         inside_part now new mid start size is n within j inside ∙ written.padding_stays j (omega arith) own ∙ index_part now start size j inside
+
     padding : (j : ℕ) → j < length old → IsPadding (struct_of ts) j → slice_index new j ≡ slice_index old j
     padding j inside pad =
         elim (cases_lt j start) [
           | inl first ↦ below_part now new mid start size is n within j first ∙ before.padding j inside pad
           | inr from ↦ elim (cases_lt j (start + size)) [
-              | inl within_part ↦ let back : j ≡ start + (j - start) = omega arith in
-                  let here = pads (j - start) (omega arith) (subst (IsPadding (struct_of ts)) back pad) in
-                  ap (slice_index new) back ∙ here ∙ ap (slice_index now) (sym back) ∙ before.padding j inside pad
-              | inr above ↦ above_part now new mid start size is n within j above ∙ before.padding j inside pad
-            ]
+            | inl within_part ↦ let back : j ≡ start + (j - start) = omega arith in
+                let here = pads (j - start) (omega arith) (subst (IsPadding (struct_of ts)) back pad) in
+                ap (slice_index new) back ∙ here ∙ ap (slice_index now) (sym back) ∙ before.padding j inside pad
+            | inr above ↦ above_part now new mid start size is n within j above ∙ before.padding j inside pad
+          ]
         ]
+
+-- the same, of bytes whose part was lent
+pub turn_written : (ts : List Tree) (vs : List ValueTree) (old now mid : List ℕ) (i start size k : ℕ) (t : Tree) (v : ValueTree) → i < length ts → length old ≡ size_of (struct_of ts) → length now ≡ length old → Lies ts i start size → k ≡ size → length mid ≡ k → t ≡ tree_at ts i → v ≡ value_at vs i → IsWrittenBefore ts vs old now i → IsWritten t v (take k (drop start now)) mid → IsWrittenBefore ts vs old (take start now ++ (mid ++ drop k (drop start now))) (i + 1)
+turn_written ts vs old now mid i start size k t v below sized kept here same n is is_value before written =
+    let new : List ℕ = take start now ++ (mid ++ drop k (drop start now)) in
+    let count : length new ≡ length old = simp (length-append, length-take, length-drop) (omega (arith, here.within)) in
+    let own = subst (λ u. IsWritten u v (take k (drop start now)) mid) is written in
+    let value_own = subst (λ w. IsWritten (tree_at ts i) w (take k (drop start now)) mid) is_value own in
+    let part_own = subst (λ j. IsWritten (tree_at ts i) (value_at vs i) (take j (drop start now)) mid) same value_own in
+    one_more_written ts vs old now new mid i start size below sized kept count here.start_is here.size_is (ap (λ j. take start now ++ (mid ++ drop j (drop start now))) same) (n ∙ same) before part_own
+
+-- a scalar has no padding
+pub leaf_written : (t : Tree) (bytes old new : List ℕ) → fits t (leaf_value bytes) ≡ true → length old ≡ size_of t → new ≡ bytes → IsWritten t (leaf_value bytes) old new
+leaf_written void bytes old new fit n e = cc
+leaf_written (scalar s) bytes old new fit n e =
+    record {
+      reads_back = ap leaf_value e;
+      padding_stays = λ i below pad. absurd (omega (arith, pad 0 (record { at = 0; kind = s }) (omega arith) (omega arith)));
+    }
+leaf_written (left_out k) bytes old new fit n e = cc
+leaf_written (structure ts) bytes old new fit n e = cc
 
 -- all elements are written
 pub all_written : (ts : List Tree) (vs : List ValueTree) (old new : List ℕ) (i : ℕ) → length vs ≡ length ts → i ≡ length ts → IsWrittenBefore ts vs old new i → IsWritten (struct_of ts) (struct_value (values_of vs)) old new

@@ -86,13 +86,19 @@ fn from_bits(alloc: Global, ty: &FfiType, n: u64) -> Result<Value, NoMemory>
     requires { is_number_type (tree_of ty.now) ≡ true }
     ensures value { IfOk result
         (λ v. let w = width_of (scalar_of (tree_of ty.now)) in
-    value_of v ≡ leaf_value (to_le_bytes w (n % 2 ^ bit_count w))) }
+        value_of v ≡ leaf_value (to_le_bytes w (n % 2 ^ bit_count w))) }
     ensures fits { IfOk result (λ v. fits (tree_of ty.now) (value_of v) ≡ true) }
 {
     Ok(Value::Leaf(match ty {
         FfiType::U8 | FfiType::S8 => Bytes::from_slice(alloc, &((n % 0x100) as u8).to_le_bytes())?,
-        FfiType::U16 | FfiType::S16 => Bytes::from_slice(alloc, &((n % 0x1_0000) as u16).to_le_bytes())?,
-        FfiType::U32 | FfiType::S32 => Bytes::from_slice(alloc, &((n % 0x1_0000_0000) as u32).to_le_bytes())?,
+        FfiType::U16 | FfiType::S16 => Bytes::from_slice(
+            alloc,
+            &((n % 0x1_0000) as u16).to_le_bytes(),
+        )?,
+        FfiType::U32 | FfiType::S32 => Bytes::from_slice(
+            alloc,
+            &((n % 0x1_0000_0000) as u32).to_le_bytes(),
+        )?,
         _ => Bytes::from_slice(alloc, &n.to_le_bytes())?,
     }))
 }

@@ -23,12 +23,7 @@ pub fn value_text(alloc: Global, ty: &FfiType, value: &Value) -> Result<Bytes, N
 }
 
 #[cycle(write_text)]
-fn write_text(
-    alloc: Global,
-    ty: &FfiType,
-    value: &Value,
-    text: &mut Bytes,
-) -> Result<(), NoMemory>
+fn write_text(alloc: Global, ty: &FfiType, value: &Value, text: &mut Bytes) -> Result<(), NoMemory>
     requires { fits (tree_of ty.now) (value_of value.now) ≡ true }
     ensures { OnOk result (text.new ≡ text.old ++ value_text_of (tree_of ty.now) (value_of value.now)) }
 {

@@ -1,15 +1,24 @@
-use Rattle.std.proofs.Common.{◌≡◌, ◌+◌, ap, ◌∙◌, arith, length, length-take, length-drop, length-append}
-use Rattle.ffi3_type_rules.specs.Tree.{left_out, long_double, complex, vector}
-use Rattle.ffi3_type_rules.specs.Fault.{left_out_kind, left_out_type}
+use Rattle.std.proofs.Common.{◌≡◌, inl, inr, [], Some, true, ap, ◌∙◌, arith, length, length-take, length-drop, length-append}
+use Rattle.ffi3_type_rules.specs.Tree.{Tree, LeftOutKind, left_out, long_double, complex, vector}
+use Rattle.ffi3_type_rules.specs.Fault.{HasNoFault, left_out_kind, left_out_type}
 use Rattle.ffi3_type_rules.proofs.Layouts.{align_positive, end_before-turn}
 use Rattle.ffi3_type_rules.proofs.Values.{struct_by_elements, push_value}
 use Rattle.ffi3_type_rules.proofs.ValueElements.{fit_by_elements, push_fitting}
-use Rattle.ffi3_type_rules.proofs.ElementPlaces.{Lies, lies, part_is, right_here, room_before, room_here}
+use Rattle.ffi3_type_rules.proofs.ElementPlaces.{lies, part_is, right_here, room_before, room_here}
 use Rattle.ffi3_types.specs.TreeOf.{tree_of}
 use Rattle.ffi3_values.proofs.from_bytes.+from_bytes.Goals as goal
 
+-- what is left out has a fault
+never_left_out : (t : Tree) (k : LeftOutKind) → HasNoFault 0 true t → t ≡ left_out k → ⊥
+never_left_out t k right is = right [] (left_out_type (left_out k)) (left_out_kind (ap Some is))
+
 pub value_from_bytes-unreachable-requires : goal.value_from_bytes-unreachable-requires
-value_from_bytes-unreachable-requires t c = ?
+value_from_bytes-unreachable-requires t c =
+    let right = c.requires.right in
+    elim c.in-LongDouble.is [
+      | inl is ↦ never_left_out _ long_double right (ap tree_of is)
+      | inr other ↦ elim other [ inl is ↦ never_left_out _ complex right (ap tree_of is) | inr is ↦ never_left_out _ vector right (ap tree_of is) ]
+    ]
 
 pub values_from_bytes-align-requires : goal.values_from_bytes-align-requires
 values_from_bytes-align-requires t c =

@@ -1,11 +1,9 @@
-use Rattle.std.proofs.Common.{◌≡◌, ◌++◌, ap, sym, ◌∙◌, arith, append-nil, length, [], ◌∷◌, rules}
+use Rattle.std.proofs.Common.{◌≡◌, ◌++◌, ap, sym, ◌∙◌, arith, append-nil, [], ◌∷◌}
 use Rattle.std.specs.Prelude.{slice_index_or}
-use Rattle.ffi3_type_rules.specs.Tree.{Tree, tree_at}
-use Rattle.ffi3_type_rules.specs.Value.{ValueTree, fits}
+use Rattle.ffi3_type_rules.specs.Tree.{tree_at}
 use Rattle.ffi3_type_rules.specs.ValueText.{value_text_of}
-use Rattle.ffi3_type_rules.proofs.Values.{value_at}
 use Rattle.ffi3_type_rules.proofs.ValueElements.{fitting_lengths, fitting_element}
-use Rattle.ffi3_type_rules.proofs.ValueTexts.{element_texts, length-element_texts, element_text, joined, joined-none, joined-all, joined-turn-first, joined-turn-next}
+use Rattle.ffi3_type_rules.proofs.ValueTexts.{element_texts, length-element_texts, element_text, joined-none, joined-all, joined-turn-first, joined-turn-next}
 use Rattle.ffi3_types.specs.TreeOf.{tree_of}
 use Rattle.ffi3_values.specs.ValueOf.{value_of}
 use Rattle.ffi3_values.proofs.text.+write_text.Goals as goal

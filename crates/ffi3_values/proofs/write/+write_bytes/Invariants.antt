@@ -1,4 +1,4 @@
-use Rattle.std.proofs.Common.{◌≡◌, ◌+◌, ◌*◌, length}
+use Rattle.std.proofs.Common.{◌≡◌, ◌+◌, ◌*◌}
 use Rattle.ffi3_type_rules.specs.Tree.{nodes, all_nodes, trees_of}
 use Rattle.ffi3_type_rules.specs.Layout.{layouts, end_before}
 use Rattle.ffi3_type_rules.proofs.Writing.{IsWrittenBefore}
