@@ -2,7 +2,7 @@ use Rattle.std.proofs.Common.{◌≡◌, ◌+◌, ◌*◌, drop}
 use Rattle.ffi3_type_rules.specs.Tree.{nodes, all_nodes, trees_of}
 use Rattle.ffi3_type_rules.specs.Value.{all_fit, values_of}
 use Rattle.ffi3_types.specs.TreeOf.{tree_of}
-use Rattle.ffi3_values.proofs.+fits.Given as goal
+use Rattle.ffi3_values.proofs.shape.+fits.Given as goal
 
 abbrev pub decreases-fits : goal.decreases-fits
 decreases-fits l = 2 * nodes (tree_of l.ty.now)

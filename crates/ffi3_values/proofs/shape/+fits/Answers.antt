@@ -1,6 +1,6 @@
 use Rattle.std.proofs.Common.{inl, inr, sym, ◌∙◌}
 use Rattle.ffi3_type_rules.proofs.Values.{all_fit-lengths}
-use Rattle.ffi3_values.proofs.+fits.Goals as goal
+use Rattle.ffi3_values.proofs.shape.+fits.Goals as goal
 
 pub all_fit-returns-then-len : goal.all_fit-returns-then-len
 all_fit-returns-then-len t c =
