@@ -11,6 +11,8 @@ mod names;
 mod parse;
 mod place;
 mod script;
+#[cfg(test)]
+mod tests;
 
 pub use fault::{Reason, ScriptFault};
 /// A want of memory: the one answer that no clause ties to a cause.
@@ -25,7 +27,7 @@ pub const MAX_LENGTH: usize = 1_048_576;
 
 /// Reads a script of one closure and one call (`OneCall` of the rules). A longer text is `TooLong`, what is no JSON in
 /// UTF-8 (RFC 8259) is `BadJson`, and every other JSON value is `BadScript` at the root, as not yet read.
-pub fn read_script(alloc: Global, bytes: &[u8], _natives: &Names) -> Result<Script, ScriptFault>
+pub fn read_script(alloc: Global, bytes: &[u8], natives: &Names) -> Result<Script, ScriptFault>
     ensures ok { IfOk result (λ s. IsTheReading bytes.now (script_reading s)) }
     ensures err { IfErr result (IsCauseOf bytes.now) }
 {
