@@ -1,3 +1,4 @@
 pub mod State
+pub mod Scribbled
 pub mod Recorded
 pub mod Entries

@@ -159,11 +159,7 @@ pushed_bytes _ = 0
 
 -- RETURN is the return address: at sp on AMD64, in x30 or ra on the others
 abbrev pub linked : Target → State → State
-linked Amd64 s = record s {
-  sp = s.sp - 8;
-  stack = replace_range s.stack (s.sp - 8 - STACK) (s.sp - STACK) (to_le_bytes w64 RETURN);
-  mark = min s.mark (s.sp - 8);
-}
+linked Amd64 s = stored (s.sp - 8) (to_le_bytes w64 RETURN) (with_sp (s.sp - 8) s)
 linked Aapcs64 s = record s { general = slice_set s.general 30 RETURN }
 linked Riscv s = record s { general = slice_set s.general 1 RETURN }
 

@@ -2,10 +2,10 @@
 #![tactic(auto)]
 
 ghost use Rattle.std.specs.Prelude.{◌≡◌, ℕ, ◌<◌, ◌≤◌, ◌+◌, ◌-◌, ◌*◌, ◌%◌, ◌^◌, length, IfOk, IsTrue, OnOk, OnErr, slice_index, ◌↔◌};
-ghost use Rattle.std.specs.Prelude.{◌++◌, drop, true, false};
-ghost use Rattle.ffi3_memory.specs.Memory.{Memory};
+ghost use Rattle.std.specs.Prelude.{true, replicate};
+ghost use Rattle.ffi3_memory.specs.Memory.{low_bytes};
 ghost use Rattle.ffi3_machine.specs.State.{
-    State, IsMachine, IsSlot, IsReturn, begun, begun_code, called, closure_register, code_at, entered, filled, is_left, is_zero_register, left, pushed_bytes, scribbled,
+    State, IsMachine, IsSlot, IsReturn, begun, begun_code, begun_stack, called, closure_register, code_at, entered, filled, free_word, is_left, is_zero_register, left, pushed_bytes, scribbled,
     scribbled_floating, scribbled_general, scribble_floating, scribble_general, stack_at, stored, with_code, with_floating, with_general, with_room, with_sp,
 };
 
@@ -114,7 +114,7 @@ impl Machine {
         self.sp = STACK_TOP;
         self.pc = RETURN;
         self.mark = STACK_TOP;
-        self.stack.fill(STACK, STACK_TOP - STACK, 0xA5);
+        begin_stack(&mut self.stack);
         free_slots(target, &mut self.code);
         self.journal.clear();
     }
@@ -408,12 +408,32 @@ fn number(from: u64, n: u64, k: u64) -> u64
 }
 
 // The word that a free slot is filled with.
-fn free_word(target: Target) -> u64 {
+fn free_word(target: Target) -> u64
+    ensures { low_bytes 4 result ≡ free_word target }
+{
     match target {
         Target::Amd64 => 0xCCCC_CCCC,
         Target::Aapcs64 => 0xD420_0000,
         Target::Riscv => 0x0010_0073,
     }
+}
+
+// Fills the stack.
+fn begin_stack(stack: &mut Region)
+    requires base { stack.old.base ≡ 0x7FFE0000 }
+    requires length { length stack.old.bytes ≡ 65536 }
+    ensures { stack.new ≡ record stack.old { bytes = begun_stack } }
+{
+    fill_all(stack, STACK, STACK_TOP - STACK, 0xA5);
+}
+
+// Fills a region from its base to its end.
+fn fill_all(region: &mut Region, base: u64, len: u64, byte: u8)
+    requires base { region.old.base ≡ base }
+    requires length { length region.old.bytes ≡ len }
+    ensures { region.new ≡ record region.old { bytes = replicate len byte } }
+{
+    region.fill(base, len, byte);
 }
 
 // Frees every slot.
