@@ -2,3 +2,4 @@ pub mod State
 pub mod Scribbled
 pub mod Recorded
 pub mod Entries
+pub mod Fields

@@ -25,7 +25,7 @@ pub struct Event {
 }
 
 // An event, and the range of its stack's bytes.
-#[derive(Clone, Copy, Debug)]
+#[derive(Clone, Copy)]
 pub struct Entry {
     event: Event,
     from: usize,

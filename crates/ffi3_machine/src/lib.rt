@@ -47,39 +47,18 @@ pub struct Machine {
 
 impl Model for Machine {
     ghost use Rattle.std.specs.Prelude.{◌≡◌};
+    ghost use Rattle.ffi3_machine.specs.declared.TheConstants.{STACK, CODE};
     ghost use Rattle.ffi3_machine.specs.State.{State, IsMachine};
 
     ghost Value = { State };
 
-    ghost view = { λ m. record {
-        target = m.target;
-        general = m.general;
-        floating = m.floating;
-        sp = m.sp;
-        pc = m.pc;
-        mark = m.mark;
-        stack = m.stack.bytes;
-        code = m.code.bytes;
-        events = m.journal.events;
-        spare_events = m.journal.spare_events;
-        spare_bytes = m.journal.spare_bytes;
-    } };
+    ghost use Rattle.ffi3_machine.specs.Fields.{state_of};
 
-    ghost invariant = { λ m. (m.stack.base ≡ 0x7FFE0000)
-        × (m.code.base ≡ 0x10000)
-        × IsMachine (record {
-            target = m.target;
-            general = m.general;
-            floating = m.floating;
-            sp = m.sp;
-            pc = m.pc;
-            mark = m.mark;
-            stack = m.stack.bytes;
-            code = m.code.bytes;
-            events = m.journal.events;
-            spare_events = m.journal.spare_events;
-            spare_bytes = m.journal.spare_bytes;
-        }) };
+    ghost view = { state_of };
+
+    ghost invariant = { λ m. (m.stack.base ≡ STACK)
+        × (m.code.base ≡ CODE)
+        × IsMachine (state_of m) };
 }
 
 impl Machine {
@@ -420,7 +399,7 @@ fn free_word(target: Target) -> u64
 
 // Fills the stack.
 fn begin_stack(stack: &mut Region)
-    requires base { stack.old.base ≡ 0x7FFE0000 }
+    requires base { stack.old.base ≡ STACK }
     requires length { length stack.old.bytes ≡ 65536 }
     ensures { stack.new ≡ record stack.old { bytes = begun_stack } }
 {
@@ -438,7 +417,7 @@ fn fill_all(region: &mut Region, base: u64, len: u64, byte: u8)
 
 // Frees every slot.
 fn free_slots(target: Target, code: &mut Region)
-    requires base { code.old.base ≡ 0x10000 }
+    requires base { code.old.base ≡ CODE }
     requires length { length code.old.bytes ≡ 16384 }
     ensures { code.new ≡ record code.old { bytes = begun_code target } }
 {

@@ -55,7 +55,8 @@ impl Region {
     pub fn lend(&self, addr: u64, len: u64) -> &[u8]
         requires low { self.now.base ≤ addr }
         requires high { addr + len ≤ self.now.base + length self.now.bytes }
-        ensures { result.now ≡ range_of self.now addr len }
+        ensures value { result.now ≡ range_of self.now addr len }
+        ensures len { length result.now ≡ len }
     {
         let at = (addr - self.base) as usize;
         &self.bytes[at..at + len as usize]
