@@ -10,6 +10,8 @@ ghost use Rattle.ffi3_machine.specs.State.{
 };
 
 mod journal;
+#[cfg(test)]
+mod tests;
 
 pub use ffi3_memory::NoMemory;
 use ffi3_memory::Region;
@@ -253,7 +255,8 @@ impl Machine {
     pub fn call(&mut self, addr: u64)
         requires slot { IsSlot addr }
         requires room { STACK + pushed_bytes self.old.target ≤ self.old.sp }
-        ensures { self.new ≡ called addr self.old }
+        ensures whole { self.new ≡ called addr self.old }
+        ensures return_address { IsReturn self.old.target self.new }
     {
         match self.target {
             Target::Amd64 => {

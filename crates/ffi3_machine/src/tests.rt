@@ -1,0 +1,82 @@
+// Each target once, from `begin` to a return.
+use crate::{CODE, ENTRY, EventKind, Machine, NoMemory, RETURN, STACK_TOP, Target};
+
+// What a call of slot 1 meets on one target. Registers go by their numbers.
+#[derive(Clone, Copy)]
+struct Row {
+    target: Target,
+    reserved: u8,
+    at_begin: u64,
+    closure: u8,
+    pushed: u64,
+    free: [u8; 4],
+    entered: [u8; 8],
+}
+
+#[test]
+fn calls_on_each_target(rt: HostRuntime) -> Result<(), NoMemory> {
+    let rows = [
+        Row {
+            target: Target::Amd64,
+            reserved: 4,
+            at_begin: 0xA5A5_0000_0000_0004,
+            closure: 10,
+            pushed: 8,
+            free: [0xCC, 0xCC, 0xCC, 0xCC],
+            entered: [0x00, 0x20, 0, 0, 0, 0, 0, 0],
+        },
+        Row {
+            target: Target::Aapcs64,
+            reserved: 18,
+            at_begin: 0,
+            closure: 17,
+            pushed: 0,
+            free: [0x00, 0x00, 0x20, 0xD4],
+            entered: [1, 2, 0xA5, 0xA5, 0xA5, 0xA5, 0xA5, 0xA5],
+        },
+        Row {
+            target: Target::Riscv,
+            reserved: 3,
+            at_begin: 0,
+            closure: 6,
+            pushed: 0,
+            free: [0x73, 0x00, 0x10, 0x00],
+            entered: [1, 2, 0xA5, 0xA5, 0xA5, 0xA5, 0xA5, 0xA5],
+        },
+    ];
+    let mut m = Machine::new(rt.alloc())?;
+    for row in rows {
+        m.begin(row.target);
+        assert_eq!(rt; m.g(row.reserved), row.at_begin);
+        assert_eq!(rt; m.lend_code(0x13FFC, 4), row.free.as_slice());
+        m.fill_stack(STACK_TOP - 32, 0, 1);
+        assert_eq!(rt; m.sp(), STACK_TOP);
+        assert_eq!(rt; m.pc(), RETURN);
+        assert_eq!(rt; m.mark(), STACK_TOP);
+        m.scribble(2);
+        assert_eq!(rt; m.g(5), 0xA5A5_0000_0000_0085);
+        assert_eq!(rt; m.f(31), 0x5A5A_0000_0000_009F);
+        m.set_sp(STACK_TOP - 16);
+        m.store_stack(STACK_TOP - 16, &[1, 2]);
+        m.journal_room(8)?;
+        m.call(CODE + 64);
+        assert_eq!(rt; m.g(row.closure), CODE + 64);
+        assert_eq!(rt; m.pc(), ENTRY);
+        assert_eq!(rt; m.mark(), STACK_TOP - 16 - row.pushed);
+        m.enter(8);
+        m.leave(2);
+        assert_eq!(rt; m.pc(), RETURN);
+        let journal = m.events();
+        let (enter, leave) = (journal.get(0), journal.get(1));
+        assert_eq!(rt; journal.len(), 2);
+        assert_eq!(rt; enter.kind, EventKind::Enter);
+        assert_eq!(rt; enter.closure, CODE + 64);
+        assert_eq!(rt; enter.sp, STACK_TOP - 16 - row.pushed);
+        assert_eq!(rt; journal.stack(0), row.entered.as_slice());
+        assert_eq!(rt; leave.kind, EventKind::Leave);
+        assert_eq!(rt; leave.closure, 0);
+        assert_eq!(rt; leave.sp, STACK_TOP - 16);
+        assert_eq!(rt; journal.stack(1), [1, 2].as_slice());
+    }
+    Ok(())
+}
