@@ -256,7 +256,7 @@ impl Machine {
         requires slot { IsSlot addr }
         requires room { STACK + pushed_bytes self.old.target ≤ self.old.sp }
         ensures whole { self.new ≡ called addr self.old }
-        ensures return_address { IsReturn self.old.target self.new }
+        ensures return_address { IsReturn self.new }
     {
         match self.target {
             Target::Amd64 => {
@@ -299,7 +299,7 @@ impl Machine {
 
     /// Returns to RETURN, and records it with `bytes` bytes of stack from the sp after it on.
     pub fn leave(&mut self, bytes: u64)
-        requires address { IsReturn self.old.target self.old }
+        requires address { IsReturn self.old }
         requires stack { self.old.sp + pushed_bytes self.old.target + bytes ≤ STACK_TOP }
         requires events { 1 ≤ self.old.spare_events }
         requires bytes { bytes ≤ self.old.spare_bytes }

@@ -1,5 +1,7 @@
 // Each target once, from `begin` to a return.
-use crate::{CODE, ENTRY, EventKind, Machine, NoMemory, RETURN, STACK_TOP, Target};
+ghost use Rattle.std.specs.Prelude.{◌≡◌, ◌<◌, ◌≤◌, ◌+◌};
+
+use crate::{CODE, ENTRY, EventKind, Journal, Machine, NoMemory, RETURN, STACK_TOP, Target};
 
 // What a call of slot 1 meets on one target. Registers go by their numbers.
 #[derive(Clone, Copy)]
@@ -47,36 +49,54 @@ fn calls_on_each_target(rt: HostRuntime) -> Result<(), NoMemory> {
     let mut m = Machine::new(rt.alloc())?;
     for row in rows {
         m.begin(row.target);
-        assert_eq!(rt; m.g(row.reserved), row.at_begin);
-        assert_eq!(rt; m.lend_code(0x13FFC, 4), row.free.as_slice());
-        m.fill_stack(STACK_TOP - 32, 0, 1);
-        assert_eq!(rt; m.sp(), STACK_TOP);
-        assert_eq!(rt; m.pc(), RETURN);
-        assert_eq!(rt; m.mark(), STACK_TOP);
-        m.scribble(2);
-        assert_eq!(rt; m.g(5), 0xA5A5_0000_0000_0085);
-        assert_eq!(rt; m.f(31), 0x5A5A_0000_0000_009F);
+        begins(&rt, &mut m, row);
         m.set_sp(STACK_TOP - 16);
         m.store_stack(STACK_TOP - 16, &[1, 2]);
         m.journal_room(8)?;
-        m.call(CODE + 64);
-        assert_eq!(rt; m.g(row.closure), CODE + 64);
-        assert_eq!(rt; m.pc(), ENTRY);
-        assert_eq!(rt; m.mark(), STACK_TOP - 16 - row.pushed);
-        m.enter(8);
-        m.leave(2);
-        assert_eq!(rt; m.pc(), RETURN);
-        let journal = m.events();
-        let (enter, leave) = (journal.get(0), journal.get(1));
-        assert_eq!(rt; journal.len(), 2);
-        assert_eq!(rt; enter.kind, EventKind::Enter);
-        assert_eq!(rt; enter.closure, CODE + 64);
-        assert_eq!(rt; enter.sp, STACK_TOP - 16 - row.pushed);
-        assert_eq!(rt; journal.stack(0), row.entered.as_slice());
-        assert_eq!(rt; leave.kind, EventKind::Leave);
-        assert_eq!(rt; leave.closure, 0);
-        assert_eq!(rt; leave.sp, STACK_TOP - 16);
-        assert_eq!(rt; journal.stack(1), [1, 2].as_slice());
+        calls(&rt, &mut m, row);
     }
     Ok(())
+}
+
+fn begins(rt: &HostRuntime, m: &mut Machine, row: Row)
+    requires { row.reserved < 32 }
+{
+    assert_eq!(rt; m.g(row.reserved), row.at_begin);
+    assert_eq!(rt; m.lend_code(0x13FFC, 4), row.free.as_slice());
+    m.fill_stack(STACK_TOP - 32, 0, 1);
+    assert_eq!(rt; m.sp(), STACK_TOP);
+    assert_eq!(rt; m.pc(), RETURN);
+    assert_eq!(rt; m.mark(), STACK_TOP);
+    m.scribble(2);
+    assert_eq!(rt; m.g(5), 0xA5A5_0000_0000_0085);
+    assert_eq!(rt; m.f(31), 0x5A5A_0000_0000_009F);
+}
+
+fn calls(rt: &HostRuntime, m: &mut Machine, row: Row)
+    requires closure { row.closure < 32 }
+    requires sp { m.old.sp + 16 ≡ STACK_TOP }
+    requires events { 2 ≤ m.old.spare_events }
+    requires bytes { 16 ≤ m.old.spare_bytes }
+{
+    m.call(CODE + 64);
+    assert_eq!(rt; m.g(row.closure), CODE + 64);
+    assert_eq!(rt; m.pc(), ENTRY);
+    assert_eq!(rt; m.mark(), STACK_TOP - 16 - row.pushed);
+    m.enter(8);
+    m.leave(2);
+    assert_eq!(rt; m.pc(), RETURN);
+    reads(rt, m.events(), row);
+}
+
+fn reads(rt: &HostRuntime, journal: &Journal, row: Row) {
+    assert_eq!(rt; journal.len(), 2);
+    let (enter, leave) = (journal.get(0), journal.get(1));
+    assert_eq!(rt; enter.kind, EventKind::Enter);
+    assert_eq!(rt; enter.closure, CODE + 64);
+    assert_eq!(rt; enter.sp, STACK_TOP - 16 - row.pushed);
+    assert_eq!(rt; journal.stack(0), row.entered.as_slice());
+    assert_eq!(rt; leave.kind, EventKind::Leave);
+    assert_eq!(rt; leave.closure, 0);
+    assert_eq!(rt; leave.sp, STACK_TOP - 16);
+    assert_eq!(rt; journal.stack(1), [1, 2].as_slice());
 }
