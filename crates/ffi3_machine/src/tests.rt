@@ -1,7 +1,8 @@
 // Each target once, from `begin` to a return.
-ghost use Rattle.std.specs.Prelude.{◌≡◌, ◌<◌, ◌≤◌, ◌+◌};
+ghost use Rattle.std.specs.Prelude.{◌≡◌, ◌≤◌, ◌+◌};
 
 use crate::{CODE, ENTRY, EventKind, Journal, Machine, NoMemory, RETURN, STACK_TOP, Target};
+use std::process::Abort;
 
 // What a call of slot 1 meets on one target. Registers go by their numbers.
 #[derive(Clone, Copy)]
@@ -10,7 +11,7 @@ struct Row {
     reserved: u8,
     at_begin: u64,
     closure: u8,
-    pushed: u64,
+    entry_sp: u64,
     free: [u8; 4],
     entered: [u8; 8],
 }
@@ -23,7 +24,7 @@ fn calls_on_each_target(rt: HostRuntime) -> Result<(), NoMemory> {
             reserved: 4,
             at_begin: 0xA5A5_0000_0000_0004,
             closure: 10,
-            pushed: 8,
+            entry_sp: 0x7FFE_FFE8,
             free: [0xCC, 0xCC, 0xCC, 0xCC],
             entered: [0x00, 0x20, 0, 0, 0, 0, 0, 0],
         },
@@ -32,7 +33,7 @@ fn calls_on_each_target(rt: HostRuntime) -> Result<(), NoMemory> {
             reserved: 18,
             at_begin: 0,
             closure: 17,
-            pushed: 0,
+            entry_sp: 0x7FFE_FFF0,
             free: [0x00, 0x00, 0x20, 0xD4],
             entered: [1, 2, 0xA5, 0xA5, 0xA5, 0xA5, 0xA5, 0xA5],
         },
@@ -41,7 +42,7 @@ fn calls_on_each_target(rt: HostRuntime) -> Result<(), NoMemory> {
             reserved: 3,
             at_begin: 0,
             closure: 6,
-            pushed: 0,
+            entry_sp: 0x7FFE_FFF0,
             free: [0x73, 0x00, 0x10, 0x00],
             entered: [1, 2, 0xA5, 0xA5, 0xA5, 0xA5, 0xA5, 0xA5],
         },
@@ -58,10 +59,8 @@ fn calls_on_each_target(rt: HostRuntime) -> Result<(), NoMemory> {
     Ok(())
 }
 
-fn begins(rt: &HostRuntime, m: &mut Machine, row: Row)
-    requires { row.reserved < 32 }
-{
-    assert_eq!(rt; m.g(row.reserved), row.at_begin);
+fn begins(rt: &impl Abort, m: &mut Machine, row: Row) {
+    assert_eq!(rt; m.g(row.reserved % 32), row.at_begin);
     assert_eq!(rt; m.lend_code(0x13FFC, 4), row.free.as_slice());
     m.fill_stack(STACK_TOP - 32, 0, 1);
     assert_eq!(rt; m.sp(), STACK_TOP);
@@ -72,28 +71,27 @@ fn begins(rt: &HostRuntime, m: &mut Machine, row: Row)
     assert_eq!(rt; m.f(31), 0x5A5A_0000_0000_009F);
 }
 
-fn calls(rt: &HostRuntime, m: &mut Machine, row: Row)
-    requires closure { row.closure < 32 }
+fn calls(rt: &impl Abort, m: &mut Machine, row: Row)
     requires sp { m.old.sp + 16 ≡ STACK_TOP }
     requires events { 2 ≤ m.old.spare_events }
     requires bytes { 16 ≤ m.old.spare_bytes }
 {
     m.call(CODE + 64);
-    assert_eq!(rt; m.g(row.closure), CODE + 64);
+    assert_eq!(rt; m.g(row.closure % 32), CODE + 64);
     assert_eq!(rt; m.pc(), ENTRY);
-    assert_eq!(rt; m.mark(), STACK_TOP - 16 - row.pushed);
+    assert_eq!(rt; m.mark(), row.entry_sp);
     m.enter(8);
     m.leave(2);
     assert_eq!(rt; m.pc(), RETURN);
     reads(rt, m.events(), row);
 }
 
-fn reads(rt: &HostRuntime, journal: &Journal, row: Row) {
+fn reads(rt: &impl Abort, journal: &Journal, row: Row) {
     assert_eq!(rt; journal.len(), 2);
     let (enter, leave) = (journal.get(0), journal.get(1));
     assert_eq!(rt; enter.kind, EventKind::Enter);
     assert_eq!(rt; enter.closure, CODE + 64);
-    assert_eq!(rt; enter.sp, STACK_TOP - 16 - row.pushed);
+    assert_eq!(rt; enter.sp, row.entry_sp);
     assert_eq!(rt; journal.stack(0), row.entered.as_slice());
     assert_eq!(rt; leave.kind, EventKind::Leave);
     assert_eq!(rt; leave.closure, 0);

@@ -137,8 +137,16 @@ mod tests {
         let rows: [(u8, u64, &[u8]); 4] = [
             (1, 0x88, &[0x88, 0, 0, 0, 0, 0, 0, 0x88]),
             (2, 0x7788, &[0x88, 0x77, 0, 0, 0, 0, 0x88, 0x77]),
-            (4, 0x5566_7788, &[0x88, 0x77, 0x66, 0x55, 0x88, 0x77, 0x66, 0x55]),
-            (8, 0x1122_3344_5566_7788, &[0x88, 0x77, 0x66, 0x55, 0x44, 0x33, 0x22, 0x11]),
+            (
+                4,
+                0x5566_7788,
+                &[0x88, 0x77, 0x66, 0x55, 0x88, 0x77, 0x66, 0x55],
+            ),
+            (
+                8,
+                0x1122_3344_5566_7788,
+                &[0x88, 0x77, 0x66, 0x55, 0x44, 0x33, 0x22, 0x11],
+            ),
         ];
         for (width, number, want) in rows {
             let mut region = Region::new(rt.alloc(), 0x1000, 8)?;
@@ -161,7 +169,9 @@ mod tests {
         region.copy_in(0x1002, &[1]);
         assert_eq!(rt; region.lend(0x1000, 4), [0, 0xA5, 1, 0xA5].as_slice());
         assert!(rt; region.has(0x1000, 4) && region.has(0x1004, 0));
-        assert!(rt; !region.has(0xFFF, 1) && !region.has(0x1001, 4) && !region.has(0x1000, u64::MAX));
+        assert!(rt;
+            !region.has(0xFFF, 1) && !region.has(0x1001, 4) && !region.has(0x1000, u64::MAX)
+        );
         Ok(())
     }
 }
