@@ -31,7 +31,7 @@ added_in d =
 abbrev given_in : Data → Option Num
 given_in d = option_and_then as_number (in_item 0 (in_member (codes "args") (in_item 1 (in_member (codes "main") (Some d)))))
 
-some_same : {A : Type 0} (a b : A) → Some a ≡ Some b → a ≡ b
+pub some_same : {A : Type 0} (a b : A) → Some a ≡ Some b → a ≡ b
 some_same a b e = cc
 
 whole_same : (z w : ℤ) → of_integer z ≡ of_integer w → z ≡ w
@@ -40,7 +40,7 @@ whole_same (pos n) (negsuc m) e = cc
 whole_same (negsuc n) (pos m) e = cc
 whole_same (negsuc n) (negsuc m) e = cc
 
-same_parts : (f g : OneCall) → f.function_name ≡ g.function_name → f.closure_name ≡ g.closure_name → f.result_name ≡ g.result_name → f.added ≡ g.added → f.given ≡ g.given → f ≡ g
+pub same_parts : (f g : OneCall) → f.function_name ≡ g.function_name → f.closure_name ≡ g.closure_name → f.result_name ≡ g.result_name → f.added ≡ g.added → f.given ≡ g.given → f ≡ g
 same_parts f g a b c d e = λ i. record { function_name = a i; closure_name = b i; result_name = c i; added = d i; given = e i }
 
 pub same_script : (f g : OneCall) → form_data f ≡ form_data g → f ≡ g

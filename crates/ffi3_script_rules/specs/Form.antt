@@ -61,11 +61,13 @@ print_data f = members ((codes "print", result_data f.result_name) ∷ [])
 abbrev pub return_data : Data
 return_data = members ((codes "return", null) ∷ [])
 
+abbrev pub main_data : OneCall → Data
+main_data f = list (make_data f ∷ call_data f ∷ print_data f ∷ return_data ∷ [])
+
 abbrev pub form_data : OneCall → Data
 form_data f =
     members
-    ((codes "version", whole (pos 1)) ∷ (codes "signatures", list (signature_data ∷ [])) ∷ (codes "functions", list (function_data f ∷ [])) ∷
-    (codes "main", list (make_data f ∷ call_data f ∷ print_data f ∷ return_data ∷ [])) ∷ [])
+    ((codes "version", whole (pos 1)) ∷ (codes "signatures", list (signature_data ∷ [])) ∷ (codes "functions", list (function_data f ∷ [])) ∷ (codes "main", main_data f) ∷ [])
 
 -- ---- its names and numbers
 

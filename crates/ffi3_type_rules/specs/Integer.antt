@@ -80,3 +80,8 @@ widened s bytes = cast_unsigned w64 (number_of s bytes)
 abbrev pub widened_from_32 : Scalar → List ℕ → ℕ
 widened_from_32 s bytes =
     cast_unsigned w64 (cast_signed w32 (modulo 32 (number_of s bytes)))
+
+abbrev pub is_floating : Scalar → Bool
+is_floating float = true
+is_floating double = true
+is_floating _ = false

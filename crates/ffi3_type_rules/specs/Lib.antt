@@ -7,3 +7,4 @@ pub mod Same
 pub mod Value
 pub mod Text
 pub mod ValueText
+pub mod Names
