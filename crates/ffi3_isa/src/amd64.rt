@@ -42,18 +42,20 @@ pub fn decode_amd64(bytes: &[u8]) -> Option<(Instr, u8)>
     ensures unlisted { result ≡ None → (i : Instr) (n : ℕ) → ¬ IsAmd64 bytes.now i n }
     ensures only { (i : Instr) (n : ℕ) → IsAmd64 bytes.now i n → result ≡ Some (i, n) }
 {
-    match bytes {
-        [0xF3, 0x0F, 0x1E, 0xFA, ..] => Some((Instr::Endbr, 4)),
-        [0xFF, 0x25, a, b, c, d, ..] => {
-            let d = displacement(*a, *b, *c, *d);
-            Some((Instr::JmpMem { d }, 6))
-        }
-        [0x0F, 0x1F, 0x80, _, _, _, _, ..] => Some((Instr::Nop, 7)),
-        [prefix, 0x8D, mod_rm, a, b, c, d, ..] => {
-            let reg = lea_register(*prefix, *mod_rm)?;
-            let d = displacement(*a, *b, *c, *d);
-            Some((Instr::Lea { reg, d }, 7))
-        }
-        _ => None,
+    if let [0xF3, 0x0F, 0x1E, 0xFA, ..] = bytes {
+        return Some((Instr::Endbr, 4));
     }
+    if let [0xFF, 0x25, a, b, c, d, ..] = bytes {
+        let d = displacement(*a, *b, *c, *d);
+        return Some((Instr::JmpMem { d }, 6));
+    }
+    if let [0x0F, 0x1F, 0x80, _, _, _, _, ..] = bytes {
+        return Some((Instr::Nop, 7));
+    }
+    if let [prefix, 0x8D, mod_rm, a, b, c, d, ..] = bytes {
+        let reg = lea_register(*prefix, *mod_rm)?;
+        let d = displacement(*a, *b, *c, *d);
+        return Some((Instr::Lea { reg, d }, 7));
+    }
+    None
 }

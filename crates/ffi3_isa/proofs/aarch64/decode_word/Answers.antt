@@ -1,0 +1,19 @@
+use Rattle.std.proofs.Common.{◌≡◌, ℕ, ◌+◌, ◌*◌, ◌%◌, ◌^◌, arith, ◌∙◌, w64, sym, rules, FitsSigned}
+use Rattle.std.proofs.lemmas.Int.{to_z-of_z}
+use Rattle.ffi3_isa.proofs.Words.{is_literal, is_adr, is_br}
+use Rattle.ffi3_isa.proofs.aarch64.decode_word.Goals as goal
+
+pub returns-then-field-eq88-clause-listed : goal.returns-then-field-eq88-clause-listed
+returns-then-field-eq88-clause-listed c =
+    let fits : FitsSigned w64 c.sign_extend.result = search rules in
+    is_literal _ _ _ _ _ _ (omega arith) c.field-imm19.ensures c.field-register.ensures c.field.ensures c.if-field-eq88.true (omega arith) (to_z-of_z w64 _ fits ∙ c.sign_extend.ensures)
+
+pub returns-then-field-eq16-clause-listed : goal.returns-then-field-eq16-clause-listed
+returns-then-field-eq16-clause-listed c = ?
+
+pub returns-then-field-eq16-clause-only : goal.returns-then-field-eq16-clause-only
+returns-then-field-eq16-clause-only c = ?
+
+pub returns-then-register-eq0-clause-listed : goal.returns-then-register-eq0-clause-listed
+returns-then-register-eq0-clause-listed c =
+    is_br _ _ _ _ (omega arith) c.field-then-register-eq0.ensures c.field-register.ensures c.if-register-eq0.true c.field-3.ensures c.if-field-eq3508160.true
