@@ -55,3 +55,15 @@ is_br word n low opcode h a b x c k =
     let small : n < 32 = omega arith in
     let whole : word ≡ 0b1101011000011111000000 * 2 ^ 10 + n * 2 ^ 5 = omega arith in
     br small whole
+
+-- a word with the fields of ADR is no other instruction
+pub only_adr : (word : ℕ) (i : Instr) (immlo immhi rd top opcode offset : ℕ) (d : ℤ) → word < 2 ^ 32 → immlo ≡ word / 2 ^ 29 % 2 ^ 2 → immhi ≡ word / 2 ^ 5 % 2 ^ 19 → rd ≡ word / 2 ^ 0 % 2 ^ 5 → top ≡ word / 2 ^ 31 % 2 ^ 1 → top ≡ 0 → opcode ≡ word / 2 ^ 24 % 2 ^ 5 → opcode ≡ 0b10000 → offset ≡ immhi * 4 + immlo → d ≡ sign_extend 21 offset → IsAarch64Word word i → i ≡ Adr rd d
+only_adr word i immlo immhi rd top opcode offset d h a b c x y z k o e (ldr_literal {imm19 = imm19} {t = t} low small is) =
+    absurd (omega arith)
+only_adr word i immlo immhi rd top opcode offset d h a b c x y z k o e (adr {immlo = lo} {immhi = hi} {rd = r} two low small is) =
+    let same_low : lo ≡ immlo = omega arith in
+    let same_high : hi ≡ immhi = omega arith in
+    let same_register : r ≡ rd = omega arith in
+    rw (e, o, same_low, same_high, same_register)
+only_adr word i immlo immhi rd top opcode offset d h a b c x y z k o e (br {n = n} small is) =
+    absurd (omega arith)

@@ -1,20 +1,32 @@
-use Rattle.std.proofs.Common.{◌≡◌, ℕ, ◌+◌, ◌*◌, ◌%◌, ◌^◌, arith, ◌∙◌, w64, sym, rules, FitsSigned}
+use Rattle.std.proofs.Common.{◌≡◌, ℕ, ◌+◌, ◌*◌, ◌%◌, ◌^◌, arith, ◌∙◌, w64, sym, rules, FitsSigned, get_or}
+use Rattle.std.proofs.lemmas.Int.{to_z-of_z}
+use Rattle.ffi3_isa.specs.Amd64.{IsAmd64, IsLeaOf}
+use Rattle.ffi3_isa.proofs.Bytes.{is_endbr64, is_jmp, is_nop, is_lea, none_named}
 use Rattle.ffi3_isa.proofs.amd64.decode_amd64.Goals as goal
 
 pub returns-in-243-clause-listed : goal.returns-in-243-clause-listed
-returns-in-243-clause-listed c = ?
+returns-in-243-clause-listed c =
+    is_endbr64 _ c.in-243.len_at_least (omega arith) (omega arith) (omega arith) (omega arith)
 
 pub returns-in-255-clause-listed : goal.returns-in-255-clause-listed
-returns-in-255-clause-listed c = ?
+returns-in-255-clause-listed c =
+    let fits : FitsSigned w64 c.displacement-d.result = search rules in
+    is_jmp _ _ c.in-255.len_at_least (omega arith) (omega arith) (to_z-of_z w64 _ fits ∙ c.displacement-d.ensures)
 
 pub returns-in-15-clause-listed : goal.returns-in-15-clause-listed
-returns-in-15-clause-listed c = ?
+returns-in-15-clause-listed c =
+    is_nop _ c.in-15.len_at_least (omega arith) (omega arith) (omega arith)
 
 pub returns-in_err-reg-clause-unlisted : goal.returns-in_err-reg-clause-unlisted
-returns-in_err-reg-clause-unlisted c = ?
+returns-in_err-reg-clause-unlisted c e i n =
+    none_named _ i n (omega arith) (λ register is. ?)
 
 pub returns-in_err-reg-clause-only : goal.returns-in_err-reg-clause-only
-returns-in_err-reg-clause-only c = ?
+returns-in_err-reg-clause-only c i n is =
+    absurd (none_named _ i n (omega arith) (λ register is. ?) is)
 
 pub returns-in-141-clause-listed : goal.returns-in-141-clause-listed
-returns-in-141-clause-listed c = ?
+returns-in-141-clause-listed c =
+    let fits : FitsSigned w64 c.displacement-d-in-141.result = search rules in
+    let names : IsLeaOf (get_or c.args.bytes.now 0 0) (get_or c.args.bytes.now 2 0) c.in_ok-reg.reg = ? in
+    is_lea _ _ _ c.in-141.len_at_least (omega arith) names (to_z-of_z w64 _ fits ∙ c.displacement-d-in-141.ensures)
