@@ -41,7 +41,7 @@ is_lea (x ∷ y ∷ z ∷ i ∷ []) register d h p m e = absurd (omega arith)
 is_lea (x ∷ y ∷ z ∷ i ∷ j ∷ []) register d h p m e = absurd (omega arith)
 is_lea (x ∷ y ∷ z ∷ i ∷ j ∷ k ∷ []) register d h p m e = absurd (omega arith)
 is_lea (x ∷ y ∷ z ∷ i ∷ j ∷ k ∷ l ∷ rest) register d h p m e =
-    rw e (lea {prefix = x} {mod_reg_rm = z} {register = register} {a = i} {b = j} {c = k} {d = l} {rest = rest} cc m)
+    rw e (lea {prefix = x} {mod_reg_rm = z} {register = register} {a = i} {b = j} {c = k} {d = l} {rest = rest} (cc) m)
 
 -- where the second byte is that of LEA and no register is named, there is no instruction
 pub none_named : (bs : List ℕ) (i : Instr) (n : ℕ) → get_or bs 1 0 ≡ 0x8D → ((register : ℕ) → ¬ IsLeaOf (get_or bs 0 0) (get_or bs 2 0) register) → ¬ IsAmd64 bs i n

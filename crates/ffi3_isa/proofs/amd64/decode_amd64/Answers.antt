@@ -19,14 +19,13 @@ returns-in-15-clause-listed c =
 
 pub returns-in_err-reg-clause-unlisted : goal.returns-in_err-reg-clause-unlisted
 returns-in_err-reg-clause-unlisted c e i n =
-    none_named _ i n (omega arith) (λ register is. ?)
+    none_named c.args.bytes.now i n (omega arith) (λ register names. let no = c.in_err-reg.ensures.only register names in cc)
 
 pub returns-in_err-reg-clause-only : goal.returns-in_err-reg-clause-only
 returns-in_err-reg-clause-only c i n is =
-    absurd (none_named _ i n (omega arith) (λ register is. ?) is)
+    absurd (none_named c.args.bytes.now i n (omega arith) (λ register names. let no = c.in_err-reg.ensures.only register names in cc) is)
 
 pub returns-in-141-clause-listed : goal.returns-in-141-clause-listed
 returns-in-141-clause-listed c =
     let fits : FitsSigned w64 c.displacement-d-in-141.result = search rules in
-    let names : IsLeaOf (get_or c.args.bytes.now 0 0) (get_or c.args.bytes.now 2 0) c.in_ok-reg.reg = ? in
-    is_lea _ _ _ c.in-141.len_at_least (omega arith) names (to_z-of_z w64 _ fits ∙ c.displacement-d-in-141.ensures)
+    is_lea _ _ _ c.in-141.len_at_least (omega arith) c.in_ok-reg.ensures.listed (to_z-of_z w64 _ fits ∙ c.displacement-d-in-141.ensures)
