@@ -1,6 +1,7 @@
 // Instructions of aarch64.
 ghost use Rattle.std.specs.Prelude.{◌≡◌, ℕ, IfSome, Some, None};
 ghost use Rattle.ffi3_isa.specs.declared.Instr.{Instr};
+ghost use Rattle.ffi3_isa.specs.Registers.{HasRegistersBelow};
 ghost use Rattle.ffi3_isa.specs.Aarch64.{IsAarch64, IsAarch64Word};
 
 use crate::Instr;
@@ -10,6 +11,7 @@ use crate::fields::{field, first_word, sign_extend};
 fn decode_word(word: u32) -> Option<Instr>
     ensures listed { IfSome result (λ i. IsAarch64Word word i) }
     ensures only { (i : Instr) → IsAarch64Word word i → result ≡ Some i }
+    ensures registers { IfSome result (λ i. HasRegistersBelow 32 i) }
 {
     let register = field(word, 0, 5) as u8;
     let imm19 = field(word, 5, 19);
@@ -40,6 +42,7 @@ pub fn decode_aarch64(bytes: &[u8]) -> Option<(Instr, u8)>
     ensures listed { IfSome result (λ p. IsAarch64 bytes.now p.0 p.1) }
     ensures unlisted { result ≡ None → (i : Instr) (n : ℕ) → ¬ IsAarch64 bytes.now i n }
     ensures only { (i : Instr) (n : ℕ) → IsAarch64 bytes.now i n → result ≡ Some (i, n) }
+    ensures registers { IfSome result (λ p. HasRegistersBelow 32 p.0) }
 {
     let word = first_word(bytes)?;
     let instr = decode_word(word)?;

@@ -1,6 +1,7 @@
 // Instructions of amd64.
 ghost use Rattle.std.specs.Prelude.{◌≡◌, ℕ, IfSome, Some, None};
 ghost use Rattle.ffi3_isa.specs.declared.Instr.{Instr};
+ghost use Rattle.ffi3_isa.specs.Registers.{HasRegistersBelow};
 ghost use Rattle.ffi3_isa.specs.Amd64.{IsAmd64, IsLeaOf, disp32};
 
 use crate::Instr;
@@ -41,6 +42,7 @@ pub fn decode_amd64(bytes: &[u8]) -> Option<(Instr, u8)>
     ensures listed { IfSome result (λ p. IsAmd64 bytes.now p.0 p.1) }
     ensures unlisted { result ≡ None → (i : Instr) (n : ℕ) → ¬ IsAmd64 bytes.now i n }
     ensures only { (i : Instr) (n : ℕ) → IsAmd64 bytes.now i n → result ≡ Some (i, n) }
+    ensures registers { IfSome result (λ p. HasRegistersBelow 16 p.0) }
 {
     if let [0xF3, 0x0F, 0x1E, 0xFA, ..] = bytes {
         return Some((Instr::Endbr, 4));

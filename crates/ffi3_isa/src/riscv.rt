@@ -1,6 +1,7 @@
 // Instructions of RISC-V.
 ghost use Rattle.std.specs.Prelude.{◌≡◌, ℕ, IfSome, Some, None};
 ghost use Rattle.ffi3_isa.specs.declared.Instr.{Instr};
+ghost use Rattle.ffi3_isa.specs.Registers.{HasRegistersBelow};
 ghost use Rattle.ffi3_isa.specs.Riscv.{IsRiscv, IsRiscvWord};
 
 use crate::Instr;
@@ -10,6 +11,7 @@ use crate::fields::{field, first_word, sign_extend};
 fn decode_word(word: u32) -> Option<Instr>
     ensures listed { IfSome result (λ i. IsRiscvWord word i) }
     ensures only { (i : Instr) → IsRiscvWord word i → result ≡ Some i }
+    ensures registers { IfSome result (λ i. HasRegistersBelow 32 i) }
 {
     let rd = field(word, 7, 5) as u8;
     let rs = field(word, 15, 5) as u8;
@@ -36,6 +38,7 @@ pub fn decode_riscv(bytes: &[u8]) -> Option<(Instr, u8)>
     ensures listed { IfSome result (λ p. IsRiscv bytes.now p.0 p.1) }
     ensures unlisted { result ≡ None → (i : Instr) (n : ℕ) → ¬ IsRiscv bytes.now i n }
     ensures only { (i : Instr) (n : ℕ) → IsRiscv bytes.now i n → result ≡ Some (i, n) }
+    ensures registers { IfSome result (λ p. HasRegistersBelow 32 p.0) }
 {
     let word = first_word(bytes)?;
     let instr = decode_word(word)?;
