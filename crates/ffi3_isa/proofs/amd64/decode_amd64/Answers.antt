@@ -6,16 +6,16 @@ use Rattle.ffi3_isa.proofs.amd64.decode_amd64.Goals as goal
 
 pub returns-in-243-clause-listed : goal.returns-in-243-clause-listed
 returns-in-243-clause-listed c =
-    is_endbr64 _ c.in-243.len_at_least (omega arith) (omega arith) (omega arith) (omega arith)
+    is_endbr64 c.args.bytes.now (omega arith) (omega arith) (omega arith) (omega arith) (omega arith)
 
 pub returns-in-255-clause-listed : goal.returns-in-255-clause-listed
 returns-in-255-clause-listed c =
     let fits : FitsSigned w64 c.displacement-d.result = search rules in
-    is_jmp _ _ c.in-255.len_at_least (omega arith) (omega arith) (to_z-of_z w64 _ fits ∙ c.displacement-d.ensures)
+    is_jmp c.args.bytes.now _ (omega arith) (omega arith) (omega arith) (to_z-of_z w64 _ fits ∙ c.displacement-d.ensures)
 
 pub returns-in-15-clause-listed : goal.returns-in-15-clause-listed
 returns-in-15-clause-listed c =
-    is_nop _ c.in-15.len_at_least (omega arith) (omega arith) (omega arith)
+    is_nop c.args.bytes.now (omega arith) (omega arith) (omega arith) (omega arith)
 
 pub returns-in_err-reg-clause-unlisted : goal.returns-in_err-reg-clause-unlisted
 returns-in_err-reg-clause-unlisted c e i n =
@@ -28,4 +28,4 @@ returns-in_err-reg-clause-only c i n is =
 pub returns-in-141-clause-listed : goal.returns-in-141-clause-listed
 returns-in-141-clause-listed c =
     let fits : FitsSigned w64 c.displacement-d-in-141.result = search rules in
-    is_lea _ _ _ c.in-141.len_at_least (omega arith) c.in_ok-reg.ensures.listed (to_z-of_z w64 _ fits ∙ c.displacement-d-in-141.ensures)
+    is_lea c.args.bytes.now _ _ (omega arith) (omega arith) c.in_ok-reg.ensures.listed (to_z-of_z w64 _ fits ∙ c.displacement-d-in-141.ensures)
