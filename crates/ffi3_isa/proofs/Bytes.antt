@@ -1,5 +1,5 @@
 -- Bytes that begin with an instruction of amd64.
-use Rattle.std.proofs.Common.{◌≡◌, ℕ, ◌≤◌, List, [], ◌∷◌, length, get_or, drop, refl, arith, ap, sym, ◌∙◌, ℤ}
+use Rattle.std.proofs.Common.{◌≡◌, ℕ, ◌≤◌, List, [], ◌∷◌, length, get_or, arith, ap, ℤ}
 use Rattle.ffi3_isa.specs.declared.Instr.{Instr}
 use Rattle.ffi3_isa.specs.declared.Instr.TheVariants.{Endbr, Nop, Lea, JmpMem}
 use Rattle.ffi3_isa.specs.Amd64.{IsAmd64, IsLeaOf, disp32, endbr64, lea, jmp, nop}

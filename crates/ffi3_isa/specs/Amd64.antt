@@ -17,7 +17,7 @@ mod_rm «mod» reg rm = 64 * «mod» + 8 * reg + rm
 abbrev pub disp32 : ℕ → ℕ → ℕ → ℕ → ℤ
 disp32 a b c d = sign_extend 32 (from_le_bytes w32 (a ∷ b ∷ c ∷ d ∷ []))
 
--- The prefix and the ModR/M byte of LEA r64, [RIP + disp32], and the register that they name: REX.W, mod 00, r/m 101; REX.R is the register's upper bit (2.2.1.6). The stack pointer, register 4, is not listed
+-- The prefix and the ModR/M byte of LEA r64, [RIP + disp32], and the register that they name: REX.W; mod 00, r/m 101 for RIP-relative addressing (2.2.1.6); REX.R is the upper bit of the register. The stack pointer, register 4, is not listed
 pub record IsLeaOf (prefix mod_reg_rm register : ℕ) : Type 0 where
   pub r : ℕ
   pub reg : ℕ

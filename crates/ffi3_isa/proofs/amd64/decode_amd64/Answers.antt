@@ -1,6 +1,5 @@
-use Rattle.std.proofs.Common.{◌≡◌, ℕ, ◌+◌, ◌*◌, ◌%◌, ◌^◌, arith, ◌∙◌, w64, sym, rules, FitsSigned, get_or}
+use Rattle.std.proofs.Common.{arith, ◌∙◌, w64, rules, FitsSigned}
 use Rattle.std.proofs.lemmas.Int.{to_z-of_z}
-use Rattle.ffi3_isa.specs.Amd64.{IsAmd64, IsLeaOf}
 use Rattle.ffi3_isa.proofs.Bytes.{is_endbr64, is_jmp, is_nop, is_lea, none_named}
 use Rattle.ffi3_isa.proofs.amd64.decode_amd64.Goals as goal
 
