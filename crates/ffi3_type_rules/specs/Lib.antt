@@ -6,3 +6,4 @@ pub mod Integer
 pub mod Value
 pub mod Text
 pub mod Names
+pub mod LayoutLaws
