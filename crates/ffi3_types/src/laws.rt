@@ -9,5 +9,4 @@ use crate::FfiType;
 /// the offsets on their paths; the size is a multiple of the alignment.
 pub fn layout_laws(_ty: &FfiType)
     ensures { IsWellLaidOut (tree_of _ty.now) }
-{
-}
+{}

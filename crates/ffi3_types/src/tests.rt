@@ -45,7 +45,9 @@ fn nested(alloc: Global, depth: u32) -> Result<FfiType, NoMemory> {
 /// `struct{sint8,struct{sint16,double},float}`.
 fn mixed(alloc: Global) -> Result<FfiType, NoMemory> {
     let inner = FfiType::Struct(pair(alloc, FfiType::S16, FfiType::Double)?);
-    let mut fields = pair(alloc, FfiType::S8, inner)?;
+    let mut fields = Fields::new(alloc);
+    fields.push(FfiType::S8)?;
+    fields.push(inner)?;
     fields.push(FfiType::Float)?;
     Ok(FfiType::Struct(fields))
 }
@@ -103,69 +105,128 @@ fn answer(alloc: Global, sig: &Sig) -> Result<String, NoMemory> {
     String::from_utf8_lossy(alloc, text.as_slice())
 }
 
-#[test]
-fn names_and_layouts(rt: HostRuntime) -> Result<(), Fail> {
-    let alloc = rt.alloc();
-    let words =
-        "void uint8 sint8 uint16 sint16 uint32 sint32 uint64 sint64 float double pointer uchar schar ushort sshort uint sint ulong slong longdouble complex_float complex_double complex_longdouble vector int Void struct";
-    let want =
-        "void 0 1,uint8 1 1 0:U8,sint8 1 1 0:S8,uint16 2 2 0:U16,sint16 2 2 0:S16,uint32 4 4 0:U32,sint32 4 4 0:S32,uint64 8 8 0:U64,sint64 8 8 0:S64,float 4 4 0:Float,double 8 8 0:Double,pointer 8 8 0:Pointer,uint8 1 1 0:U8,sint8 1 1 0:S8,uint16 2 2 0:U16,sint16 2 2 0:S16,uint32 4 4 0:U32,sint32 4 4 0:S32,uint64 8 8 0:U64,sint64 8 8 0:S64,left out LongDouble,left out Complex,left out Complex,left out Complex,left out Vector,none,none,none,";
+/// What is said of `sint32(pointer,T)` with so many fixed arguments.
+fn variadic(alloc: Global, second: FfiType, fixed: u32) -> Result<String, NoMemory> {
+    let args = pair(alloc, FfiType::Pointer, second)?;
+    answer(alloc, &Sig::new(FfiType::S32, args, Some(fixed)))
+}
+
+/// What is said of a function without arguments and with this result.
+fn returning(alloc: Global, ret: FfiType) -> Result<String, NoMemory> {
+    answer(alloc, &Sig::new(ret, Fields::new(alloc), None))
+}
+
+/// The texts of the types that the words name, each with a space after it.
+fn texts(alloc: Global, words: &str) -> Result<String, Fail> {
     let mut text = String::new(alloc);
     for word in words.split(' ') {
-        text.push_str(named(alloc, word)?.as_str())?;
-        text.push(',')?;
+        let ty = FfiType::from_name(word).ok_or("no such name")?;
+        if check_type(&ty, true).is_err() {
+            write!(text, "{ty:?} ")?;
+        } else {
+            let name = type_text(alloc, &ty)?;
+            text.push_str(String::from_utf8_lossy(alloc, name.as_slice())?.as_str())?;
+            text.push(' ')?;
+        }
     }
-    assert_eq!(rt; text.as_str(), want);
+    Ok(text)
+}
+
+#[test]
+fn sized_names(rt: HostRuntime) -> Result<(), Fail> {
+    let alloc = rt.alloc();
+    let integers = "uint8 sint8 uint16 sint16 uint32 sint32 uint64 sint64 ";
+    let c_names = texts(alloc, "uchar schar ushort sshort uint sint ulong slong")?;
+    assert_eq!(rt; c_names.as_str(), integers);
+    let names = texts(
+        alloc,
+        "uint8 sint8 uint16 sint16 uint32 sint32 uint64 sint64",
+    )?;
+    assert_eq!(rt; names.as_str(), integers);
+    let others = texts(alloc, "void float double pointer")?;
+    assert_eq!(rt; others.as_str(), "void float double pointer ");
+    Ok(())
+}
+
+#[test]
+fn names_left_out(rt: HostRuntime) -> Result<(), Fail> {
+    let alloc = rt.alloc();
+    let text = texts(
+        alloc,
+        "longdouble complex_float complex_double complex_longdouble vector",
+    )?;
+    assert_eq!(rt; text.as_str(), "LongDouble Complex Complex Complex Vector ");
+    assert!(rt; FfiType::from_name("int").is_none());
+    assert!(rt; FfiType::from_name("Void").is_none());
+    Ok(())
+}
+
+#[test]
+fn layout_of_a_nested_struct(rt: HostRuntime) -> Result<(), Fail> {
+    let alloc = rt.alloc();
     let ty = mixed(alloc)?;
     if check_type(&ty, true).is_err() {
         return Err("a fault".into());
     }
-    let rows = "struct{sint8,struct{sint16,double},float} 32 8 0:S8 8:S16 16:Double 24:Float";
-    assert_eq!(rt; layout(alloc, &ty)?.as_str(), rows);
+    let want = "struct{sint8,struct{sint16,double},float} 32 8 0:S8 8:S16 16:Double 24:Float";
+    assert_eq!(rt; layout(alloc, &ty)?.as_str(), want);
     Ok(())
 }
 
 #[test]
-fn limits(rt: HostRuntime) -> Result<(), Fail> {
+fn limits_of_types(rt: HostRuntime) -> Result<(), Fail> {
     let alloc = rt.alloc();
-    let u64s = FfiType::Struct(many(alloc, 128, &FfiType::U64)?);
-    assert!(rt; check_type(&u64s, false).is_ok());
+    let fits = FfiType::Struct(many(alloc, 128, &FfiType::U64)?);
+    assert!(rt; check_type(&fits, false).is_ok());
+    let large = FfiType::Struct(many(alloc, 129, &FfiType::U64)?);
+    assert_eq!(rt; returning(alloc, large)?.as_str(), "ret too large: 1032 at");
     assert!(rt; check_type(&nested(alloc, 16)?, false).is_ok());
+    let deep = "ret too deep at 0 0 0 0 0 0 0 0 0 0 0 0 0 0 0 0";
+    assert_eq!(rt; returning(alloc, nested(alloc, 17)?)?.as_str(), deep);
+    Ok(())
+}
+
+#[test]
+fn limits_of_arguments(rt: HostRuntime) -> Result<(), Fail> {
+    let alloc = rt.alloc();
     let most = Sig::new(FfiType::Void, many(alloc, 64, &FfiType::Pointer)?, None);
     assert!(rt; check_sig(&most).is_ok());
-
-    let u64s = FfiType::Struct(many(alloc, 129, &FfiType::U64)?);
-    let sig = Sig::new(FfiType::Void, pair(alloc, FfiType::S8, u64s)?, None);
-    assert_eq!(rt; answer(alloc, &sig)?.as_str(), "arg 1 too large: 1032 at");
-    let sig = Sig::new(nested(alloc, 17)?, Fields::new(alloc), None);
-    let deep = "ret too deep at 0 0 0 0 0 0 0 0 0 0 0 0 0 0 0 0";
-    assert_eq!(rt; answer(alloc, &sig)?.as_str(), deep);
-    let sig = Sig::new(FfiType::Void, many(alloc, 65, &FfiType::Pointer)?, None);
-    assert_eq!(rt; answer(alloc, &sig)?.as_str(), "too many arguments: 65");
+    let more = Sig::new(FfiType::Void, many(alloc, 65, &FfiType::Pointer)?, None);
+    assert_eq!(rt; answer(alloc, &more)?.as_str(), "too many arguments: 65");
     Ok(())
 }
 
 #[test]
-fn variadic_signatures(rt: HostRuntime) -> Result<(), Fail> {
+fn variadic_arguments(rt: HostRuntime) -> Result<(), Fail> {
     let alloc = rt.alloc();
-    let rows = [
-        ("double", 0, "bad fixed: 0 of 2"),
-        ("double", 1, "sint32(pointer;double)"),
-        ("double", 2, "sint32(pointer,double;)"),
-        ("double", 3, "bad fixed: 3 of 2"),
-        ("float", 1, "bad variadic argument 1"),
-        ("float", 2, "sint32(pointer,float;)"),
-        ("sint8", 1, "bad variadic argument 1"),
-        ("void", 0, "arg 1 bad typedef at"),
-    ];
-    for (name, fixed, want) in rows {
-        let second = FfiType::from_name(name).ok_or("no such name")?;
-        let args = pair(alloc, FfiType::Pointer, second)?;
-        let sig = Sig::new(FfiType::S32, args, Some(fixed));
-        assert_eq!(rt; answer(alloc, &sig)?.as_str(), want);
-    }
-    let sig = Sig::new(FfiType::S32, alone(alloc, FfiType::Pointer)?, Some(1));
-    assert_eq!(rt; answer(alloc, &sig)?.as_str(), "sint32(pointer;)");
+    assert_eq!(rt;
+        variadic(alloc, FfiType::Double, 0)?.as_str(),
+        "bad fixed: 0 of 2"
+    );
+    assert_eq!(rt;
+        variadic(alloc, FfiType::Double, 1)?.as_str(),
+        "sint32(pointer;double)"
+    );
+    assert_eq!(rt;
+        variadic(alloc, FfiType::Float, 2)?.as_str(),
+        "sint32(pointer,float;)"
+    );
+    assert_eq!(rt;
+        variadic(alloc, FfiType::Double, 3)?.as_str(),
+        "bad fixed: 3 of 2"
+    );
+    assert_eq!(rt;
+        variadic(alloc, FfiType::Float, 1)?.as_str(),
+        "bad variadic argument 1"
+    );
+    assert_eq!(rt;
+        variadic(alloc, FfiType::S8, 1)?.as_str(),
+        "bad variadic argument 1"
+    );
+    assert_eq!(rt;
+        variadic(alloc, FfiType::Void, 0)?.as_str(),
+        "arg 1 bad typedef at"
+    );
     Ok(())
 }
 
@@ -174,23 +235,25 @@ fn structs_in_signatures(rt: HostRuntime) -> Result<(), Fail> {
     let alloc = rt.alloc();
     let inner = FfiType::Struct(alone(alloc, FfiType::LongDouble)?);
     let left_out = FfiType::Struct(pair(alloc, FfiType::S8, inner)?);
-    let sig = Sig::new(FfiType::Void, pair(alloc, FfiType::U8, left_out)?, None);
-    assert_eq!(rt; answer(alloc, &sig)?.as_str(), "arg 1 left out at 1 0");
-    let bad = Sig::new(
-        FfiType::Struct(Fields::new(alloc)),
-        Fields::new(alloc),
-        None,
-    );
-    assert_eq!(rt; answer(alloc, &bad)?.as_str(), "ret bad typedef at");
-    let floats = FfiType::Struct(many(alloc, 4, &FfiType::Float)?);
-    let good = Sig::new(floats, alone(alloc, mixed(alloc)?)?, None);
-    let text = "struct{float,float,float,float}(struct{sint8,struct{sint16,double},float})";
-    assert_eq!(rt; answer(alloc, &good)?.as_str(), text);
+    let args = variadic(alloc, left_out, 2)?;
+    assert_eq!(rt; args.as_str(), "arg 1 left out at 1 0");
+    let empty = FfiType::Struct(Fields::new(alloc));
+    assert_eq!(rt; returning(alloc, empty)?.as_str(), "ret bad typedef at");
+    let floats = FfiType::Struct(many(alloc, 2, &FfiType::Float)?);
+    assert_eq!(rt; returning(alloc, floats)?.as_str(), "struct{float,float}()");
+    Ok(())
+}
 
+#[test]
+fn lists_and_copies_of_signatures(rt: HostRuntime) -> Result<(), Fail> {
+    let alloc = rt.alloc();
+    let args = alone(alloc, mixed(alloc)?)?;
+    let sig = Sig::new(FfiType::Double, args, None);
+    let fixed = Sig::new(FfiType::Double, alone(alloc, mixed(alloc)?)?, Some(1));
     let mut sigs = Sigs::new(alloc);
-    sigs.push(bad)?;
-    sigs.push(good.copy(alloc)?)?;
-    assert!(rt; !same_sig(sigs.get(0), &good));
-    assert!(rt; same_sig(sigs.get(1), &good));
+    sigs.push(sig.copy(alloc)?)?;
+    sigs.push(fixed)?;
+    assert!(rt; same_sig(sigs.get(0), &sig));
+    assert!(rt; !same_sig(sigs.get(1), &sig));
     Ok(())
 }
