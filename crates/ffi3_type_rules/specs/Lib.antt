@@ -3,7 +3,9 @@ pub mod Layout
 pub mod Fault
 pub mod Signature
 pub mod Integer
+pub mod Same
 pub mod Value
 pub mod Text
+pub mod ValueText
 pub mod Names
 pub mod LayoutLaws

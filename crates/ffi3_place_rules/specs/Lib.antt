@@ -1,0 +1,4 @@
+pub mod Standard
+pub mod Image
+pub mod Event
+pub mod Holds
