@@ -1,6 +1,6 @@
 -- Every layout keeps its laws.
 use Prim.Native.Nat.{◌∣◌}
-use Rattle.std.proofs.Common.{◌≡◌, ℕ, zero, suc, ◌+◌, ◌-◌, ◌*◌, ◌/◌, ◌%◌, ◌<◌, ◌≤◌, ◌⊎◌, inl, inr, max, List, [], ◌∷◌, ◌++◌, map, length, Some, refl, ap, sym, ◌∙◌, subst, arith}
+use Rattle.std.proofs.Common.{◌≡◌, ℕ, zero, suc, ◌+◌, ◌-◌, ◌*◌, ◌/◌, ◌%◌, ◌<◌, ◌≤◌, inl, inr, max, List, [], ◌∷◌, ◌++◌, map, length, refl, ap, ◌∙◌, subst, arith}
 use Rattle.std.specs.Prelude.{slice_index_or}
 use Rattle.std.proofs.Math.Nat.{dvd-add, mod-lt, mod-eq_of_lt, mul-mod_left, mod_self}
 use Rattle.std.proofs.lemmas.Nat.{div-add-mod'}
@@ -8,7 +8,7 @@ use Rattle.std.proofs.lemmas.Nat.Gcd.{dvd_refl, dvd-zero, dvd_trans, dvd_of_mod-
 use Rattle.std.proofs.lemmas.Bool.{cases_lt}
 use Rattle.ffi3_type_rules.specs.Tree.{Tree, void, scalar, left_out, structure, Trees, no_trees, tree, tree_at, list_of, Scalar, u8, s8, u16, s16, u32, s32, u64, s64, float, double, pointer}
 use Rattle.ffi3_type_rules.specs.Layout.{Layout, Leaf, layout, layouts, nothing, element, end_before, start_of, align_before, leaves_before, moved, least_multiple, struct_layout, scalar_size, scalar_layout, leaves_of, leaf_at, size_of, align_of}
-use Rattle.ffi3_type_rules.specs.LayoutLaws.{leaf_end, offset_on, StandsOnPath, IsWellLaidOut}
+use Rattle.ffi3_type_rules.specs.LayoutLaws.{leaf_end, StandsOnPath, IsWellLaidOut}
 use Rattle.ffi3_type_rules.proofs.Layouts.{least_multiple-above}
 use Rattle.ffi3_type_rules.proofs.Faults.{node_outside}
 
