@@ -1,0 +1,3 @@
+pub mod MoveOf
+pub mod Activation
+pub mod Follow
