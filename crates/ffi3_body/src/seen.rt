@@ -1,14 +1,17 @@
 // What an activation has seen.
-ghost use Rattle.std.specs.Prelude.{◌≡◌, ◌<◌, IfOk, length, true, slice_index_or};
+ghost use Rattle.std.specs.Prelude.{◌≡◌, ◌+◌, ◌<◌, ◌≤◌, ◌^◌, IfOk, length, true, slice_index_or};
 ghost use Rattle.ffi3_type_rules.specs.Tree.{tree_at};
 ghost use Rattle.ffi3_type_rules.specs.Value.{void_value, fits};
+ghost use Rattle.ffi3_type_rules.specs.Layout.{size_of};
+ghost use Rattle.ffi3_type_rules.specs.Fault.{HasNoFault};
 ghost use Rattle.ffi3_type_rules.specs.Signature.{SignatureHasNoFault};
-ghost use Rattle.ffi3_place_rules.specs.Standard.{block_bytes};
+ghost use Rattle.ffi3_place_rules.specs.Standard.{block_bytes, round8};
+ghost use Rattle.ffi3_types.specs.TreeOf.{tree_of};
 ghost use Rattle.ffi3_values.specs.ValueOf.{value_of};
-ghost use Rattle.ffi3_body.specs.Activation.{argument_bytes, arguments_of};
+ghost use Rattle.ffi3_body.specs.Activation.{argument_bytes, arguments_of, block_offset};
 
 use ffi3_type_rules::round_up;
-use ffi3_types::{NoMemory, Sig};
+use ffi3_types::{FfiType, NoMemory, Sig};
 use ffi3_values::{Value, Values, value_from_bytes};
 use std::alloc::Global;
 use std::marker::Model;
@@ -61,16 +64,29 @@ impl<'a> Seen<'a> {
         self.sig.count()
     }
 
+    /// The type of argument `i`, which has no fault.
+    fn arg_type(&self, i: u32) -> &'a FfiType
+        requires { i < length self.now.signature.arguments }
+        ensures is { tree_of result.now ≡ tree_at self.now.signature.arguments i }
+        ensures right { HasNoFault 0 true (tree_of result.now) }
+        ensures small { size_of (tree_of result.now) ≤ 1024 }
+        ensures within { block_offset self.now.signature.arguments i + round8 (size_of (tree_of result.now)) ≤ length self.now.block }
+        ensures bound { length self.now.block < 2 ^ 32 }
+    {
+        self.sig.arg(i)
+    }
+
     /// The bytes of argument `i`, padding included.
     pub fn arg_bytes(&self, i: u32) -> &'a [u8]
         requires { i < length self.now.signature.arguments }
-        ensures { result.now ≡ argument_bytes self.now i }
+        ensures are { result.now ≡ argument_bytes self.now i }
+        ensures count { length result.now ≡ size_of (tree_at self.now.signature.arguments i) }
     {
         let mut offset: u64 = 0;
         for k in 0..i {
-            offset += round_up(self.sig.arg(k).size(), 8);
+            offset += round_up(self.arg_type(k).size(), 8);
         }
-        let size = self.sig.arg(i).size();
+        let size = self.arg_type(i).size();
         &self.block[offset as usize..(offset + size) as usize]
     }
 
@@ -80,7 +96,7 @@ impl<'a> Seen<'a> {
         ensures is { IfOk result (λ v. value_of v ≡ slice_index_or (arguments_of self.now) i void_value) }
         ensures fits { IfOk result (λ v. fits (tree_at self.now.signature.arguments i) (value_of v) ≡ true) }
     {
-        value_from_bytes(alloc, self.sig.arg(i), self.arg_bytes(i))
+        value_from_bytes(alloc, self.arg_type(i), self.arg_bytes(i))
     }
 
     /// The user data of the closure.
