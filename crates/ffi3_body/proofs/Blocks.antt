@@ -7,7 +7,7 @@ use Rattle.std.proofs.lemmas.List.Sums.{sum_by_more_le, sum_by-cons, sum_by_push
 use Rattle.ffi3_type_rules.specs.Tree.{Tree, void, tree_at}
 use Rattle.ffi3_type_rules.specs.Layout.{size_of, least_multiple}
 use Rattle.ffi3_type_rules.specs.Signature.{Signature, SignatureHasNoFault}
-use Rattle.ffi3_type_rules.specs.Value.{value_in, part}
+use Rattle.ffi3_type_rules.specs.Value.{ValueTree, value_in, part}
 use Rattle.ffi3_type_rules.proofs.Layouts.{least_multiple-above, least_multiple-below}
 use Rattle.ffi3_type_rules.proofs.Faults.{right_is_small}
 use Rattle.ffi3_type_rules.proofs.Right.{argument_is_right, few_arguments}
@@ -45,14 +45,29 @@ block_small s right =
     rw same (omega (arith, size_small s right i below, least_multiple-below 8 (size_of (tree_at ts i)) (omega arith))) in
     omega (arith, few_arguments s right, sum_by-le whole_size 1032 ts each, least_multiple-below 16 (sum_by whole_size ts) (omega arith))
 
+-- what stands behind the first argument
+moved : (t : Tree) (ts : List Tree) (i : ℕ) (block : List ℕ) → drop (block_offset ts i) (drop (whole_size t) block) ≡ drop (block_offset (t ∷ ts) (suc i)) block
+moved t ts i block =
+    let sums : block_offset (t ∷ ts) (suc i) ≡ whole_size t + block_offset ts i = sum_by-cons whole_size t (take i ts) in
+    drop-drop (block_offset ts i) (whole_size t) block ∙ ap (λ n. drop n block) (sym sums)
+
 -- argument i has the value of its bytes
 pub argument_here : (ts : List Tree) (block : List ℕ) (i : ℕ) → i < length ts → value_at (arguments_in ts block) i ≡ value_in (tree_at ts i) (part block (block_offset ts i) (size_of (tree_at ts i)))
 argument_here [] block i below = absurd (omega arith)
 argument_here (t ∷ ts) block zero below = refl
 argument_here (t ∷ ts) block (suc i) below =
-    let r = whole_size t in
     let u = tree_at ts i in
-    let rest = argument_here ts (drop r block) i (omega arith) in
-    let sums : block_offset (t ∷ ts) (suc i) ≡ r + block_offset ts i = sum_by-cons whole_size t (take i ts) in
-    let moved : drop (block_offset ts i) (drop r block) ≡ drop (block_offset (t ∷ ts) (suc i)) block = drop-drop (block_offset ts i) r block ∙ ap (λ n. drop n block) (sym sums) in
-    rest ∙ ap (λ bytes. value_in u (take (size_of u) bytes)) moved
+    let rest = argument_here ts (drop (whole_size t) block) i (omega arith) in
+    rest ∙ ap (λ bytes. value_in u (take (size_of u) bytes)) (moved t ts i block)
+
+-- for callers: the values are those that each argument's bytes have
+pub arguments_by_each : (ts : List Tree) (block : List ℕ) (vs : List ValueTree) → length vs ≡ length ts → ((i : ℕ) → i < length ts → value_at vs i ≡ value_in (tree_at ts i) (part block (block_offset ts i) (size_of (tree_at ts i)))) → arguments_in ts block ≡ vs
+arguments_by_each [] block [] n each = refl
+arguments_by_each [] block (v ∷ vs) n each = absurd (omega arith)
+arguments_by_each (t ∷ ts) block [] n each = absurd (omega arith)
+arguments_by_each (t ∷ ts) block (v ∷ vs) n each =
+    let r = whole_size t in
+    let first : value_in t (take (size_of t) block) ≡ v = sym (each 0 (omega arith)) in
+    let later : (i : ℕ) → i < length ts → value_at vs i ≡ value_in (tree_at ts i) (part (drop r block) (block_offset ts i) (size_of (tree_at ts i))) = λ i below. each (suc i) (omega arith) ∙ ap (λ bytes. value_in (tree_at ts i) (take (size_of (tree_at ts i)) bytes)) (sym (moved t ts i block)) in
+    let rest : arguments_in ts (drop r block) ≡ vs = arguments_by_each ts (drop r block) vs (omega arith) later in
+    ap (λ w. w ∷ arguments_in ts (drop r block)) first ∙ ap (λ ws. v ∷ ws) rest
