@@ -11,6 +11,7 @@ use Rattle.ffi3_place_rules.specs.declared.Loc.TheVariants.{G, F, S}
 use Rattle.ffi3_place_rules.specs.declared.Ext.{Ext}
 use Rattle.ffi3_place_rules.specs.declared.Ext.TheVariants.{Free, Widen}
 use Rattle.ffi3_place_rules.specs.declared.Piece.{Piece}
+use Rattle.ffi3_place_rules.specs.declared.Taken.{Taken}
 use Rattle.ffi3_place_rules.specs.Standard.{Standard, Placing, Spot, in_pieces, ResultSpot, no_result, in_result_pieces, in_buffer, doubleword, round8}
 use Rattle.ffi3_amd64_rules.specs.declared.Class.{Class}
 use Rattle.ffi3_amd64_rules.specs.declared.Class.TheVariants.{Integer, Sse}
@@ -106,12 +107,6 @@ stack_pieces start t j (suc count) = doubleword (S (start + 8 * j)) j (size_of t
 
 -- ---- arguments
 
--- the registers and the bytes of stack that earlier arguments take
-pub record Taken : Type 0 where
-  pub general : ℕ
-  pub vector : ℕ
-  pub stack : ℕ
-
 -- the registers that are left suffice for all eightbytes of the argument
 abbrev pub in_registers : Taken → Tree → Bool
 in_registers before t = not (in_memory t) && (nat_le (before.general + integers t) 6 && nat_le (before.vector + sses t) 8)
@@ -158,15 +153,18 @@ placing_of s = record {
   vector_registers = (taken_after (taken_at_first s.result_type) s.arguments).vector;
 }
 
--- Preserved: rbx, rbp, r12 to r15. r10 holds the closure's address. rax tells the number of vector registers, and returns the address of a result in memory.
+-- The stack pointer is rsp. Preserved: rbx, rbp, r12 to r15. r10 holds the closure's address. rax tells the number of vector registers, and returns the address of a result in memory.
 abbrev pub amd64 : Standard
 amd64 = record {
   target = target.Amd64;
   link = 8;
   save = 56;
+  stack_pointer = G 4;
   preserved = G 3 ∷ G 5 ∷ G 12 ∷ G 13 ∷ G 14 ∷ G 15 ∷ [];
   reserved = [];
+  link_register = None;
   closure_register = 10;
+  trampoline_registers = G 10 ∷ [];
   vector_count = Some (G 0);
   returned_address = Some (G 0);
   placing = placing_of;

@@ -1,0 +1,4 @@
+pub mod Tests
+pub mod Chain
+pub mod Covered
+pub mod Determines
