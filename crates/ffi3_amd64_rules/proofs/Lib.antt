@@ -1,1 +1,4 @@
+pub mod Covered
+pub mod Registers
+pub mod Sound
 mod Rows

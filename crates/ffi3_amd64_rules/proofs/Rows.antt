@@ -1,6 +1,6 @@
 -- Worked rows, computed.
 use Rattle.std.specs.Prelude.{◌≡◌, ℕ, List, [], ◌∷◌, refl, None, Some, replicate}
-use Rattle.ffi3_type_rules.specs.Tree.{Tree, void, scalar, struct_of, u8, s8, u16, s16, u32, s32, u64, s64, float, double, pointer}
+use Rattle.ffi3_type_rules.specs.Tree.{Tree, void, scalar, struct_of, u8, s8, u16, s32, u64, s64, float, double, pointer}
 use Rattle.ffi3_type_rules.specs.Layout.{least_multiple}
 use Rattle.ffi3_type_rules.specs.Signature.{Signature}
 use Rattle.ffi3_place_rules.specs.declared.Loc.{Loc}
@@ -8,7 +8,7 @@ use Rattle.ffi3_place_rules.specs.declared.Loc.TheVariants.{G, F, S}
 use Rattle.ffi3_place_rules.specs.declared.Ext.TheVariants.{Free, Widen}
 use Rattle.ffi3_place_rules.specs.declared.Piece.{Piece}
 use Rattle.ffi3_place_rules.specs.declared.Place.{Place}
-use Rattle.ffi3_place_rules.specs.declared.Place.TheVariants.{Direct, ByRef}
+use Rattle.ffi3_place_rules.specs.declared.Place.TheVariants.{Direct}
 use Rattle.ffi3_place_rules.specs.declared.Res.TheVariants.{Nothing, Direct as DirectRes, Hidden}
 use Rattle.ffi3_place_rules.specs.Standard.{plan_of, need_of, frame_of, block_bytes}
 use Rattle.ffi3_amd64_rules.specs.Amd64.{amd64}

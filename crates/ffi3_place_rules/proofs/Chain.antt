@@ -1,10 +1,10 @@
 -- A list of places, each taken from what the ones before it left, has no two that share a register or a byte of stack.
-use Rattle.std.proofs.Common.{◌≡◌, ◌≢◌, ℕ, ◌+◌, ◌<◌, ◌≤◌, List, [], ◌∷◌, ◌++◌, subst, sym, ◌∙◌, arith, inl}
+use Rattle.std.proofs.Common.{◌≡◌, ◌≢◌, ℕ, zero, suc, ◌*◌, ◌+◌, ◌<◌, ◌≤◌, List, [], ◌∷◌, ◌++◌, subst, sym, ◌∙◌, arith, inl}
 use Rattle.std.specs.List.{AllByRecursion}
 use Rattle.ffi3_place_rules.specs.declared.Loc.{Loc}
 use Rattle.ffi3_place_rules.specs.declared.Loc.TheVariants.{G, F, S}
 use Rattle.ffi3_place_rules.specs.declared.Taken.{Taken}
-use Rattle.ffi3_place_rules.specs.Sound.{Apart, AreApart, IsNoneOf, LiesIn}
+use Rattle.ffi3_place_rules.specs.Sound.{Apart, AreApart, IsNoneOf, LiesIn, slots}
 
 pub record AtMost (a b : Taken) : Type 0 where
   pub general : a.general ≤ b.general
@@ -109,3 +109,15 @@ module _ (general floating : ℕ → ℕ) (generals floatings : ℕ) where
       one (G r) f u = subst (λ q. q < 32) (sym f.1) (gs f.0 f.3)
       one (F r) f u = subst (λ q. q < 32) (sym f.1) (fs f.0 f.3)
       one (S n) f u = omega (arith, u, rest.stack, room)
+
+-- copies and buffers, which take stack alone
+pub slots_chain : (general floating : ℕ → ℕ) (generals floatings : ℕ) (a : Taken) (at n : ℕ) (b : Taken) → a.stack ≤ at → at + 8 * n ≤ b.stack → a.general ≤ b.general → a.vector ≤ b.vector → Chain general floating generals floatings a (slots at n) b
+slots_chain general floating generals floatings a at zero b low high g f =
+    record { general = g; vector = f; stack = omega arith }
+slots_chain general floating generals floatings a at (suc n) b low high g f = (
+  record { general = a.general; vector = a.vector; stack = at + 8 },
+  low,
+  omega arith,
+  record { general = omega arith; vector = omega arith; stack = omega arith },
+  slots_chain general floating generals floatings (record { general = a.general; vector = a.vector; stack = at + 8 }) (at + 8) n b (omega arith) (omega arith) g f,
+)

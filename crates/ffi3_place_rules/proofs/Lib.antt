@@ -2,3 +2,4 @@ pub mod Tests
 pub mod Chain
 pub mod Covered
 pub mod Determines
+pub mod Forbidden
