@@ -1,4 +1,5 @@
 pub mod Covered
 pub mod Registers
 pub mod Sound
+pub mod Sums
 mod Rows
