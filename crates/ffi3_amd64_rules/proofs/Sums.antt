@@ -1,13 +1,13 @@
 -- What the arguments before a number have taken are the sums over the whole list.
-use Rattle.std.proofs.Common.{◌≡◌, ℕ, zero, suc, ◌+◌, ◌<◌, ◌≤◌, Bool, true, false, not, cond, List, [], ◌∷◌, take, length, ap, sym, ◌∙◌, refl, arith, add_assoc}
+use Rattle.std.proofs.Common.{◌≡◌, ℕ, zero, suc, ◌+◌, ◌<◌, ◌≤◌, Bool, true, false, not, cond, List, [], ◌∷◌, take, length, ap, sym, ◌∙◌, refl, arith}
 use Rattle.std.specs.Prelude.{Some, slice_get}
 use Rattle.ffi3_type_rules.specs.Tree.{Tree, tree_at}
 use Rattle.ffi3_type_rules.specs.Layout.{size_of}
 use Rattle.ffi3_type_rules.specs.Signature.{Signature}
 use Rattle.ffi3_place_rules.specs.declared.Taken.{Taken}
 use Rattle.ffi3_place_rules.specs.Standard.{in_pieces, round8}
-use Rattle.ffi3_amd64_rules.specs.Amd64.{integers, sses, in_registers, taken_with, taken_after, taken_at_first, pieces_after, spots_after, placing_of}
-use Rattle.ffi3_amd64_rules.specs.Sums.{sum_where, sums_before, ArePlacedBySums}
+use Rattle.ffi3_amd64_rules.specs.Amd64.{integers, sses, in_registers, taken_with, taken_after, taken_at_first, pieces_after, spots_after}
+use Rattle.ffi3_amd64_rules.specs.Sums.{sums_before, ArePlacedBySums}
 
 -- what the arguments before number i take
 abbrev pub taken_before : Signature → ℕ → Taken
@@ -60,9 +60,9 @@ module _ (s : Signature) where
       let b = is_in_registers s i in
       let next = taken_next (taken_at_first s.result_type) s.arguments i (omega arith) ∙ taken_if (taken_before s i) t b in
       let after = same_taken (more_if (taken_before s i) t b) (sums_before s (is_in_registers s) (suc i))
-          (general_more _ _ (cond b (integers t) 0) (taken_before s i) (ap (λ a. a.general) before))
-          (ap (λ a. a.vector + cond b (sses t) 0) before)
-          (ap (λ a. a.stack + cond (not b) (round8 (size_of t)) 0) before) in
+      (general_more _ _ (cond b (integers t) 0) (taken_before s i) (ap (λ a. a.general) before))
+      (ap (λ a. a.vector + cond b (sses t) 0) before)
+      (ap (λ a. a.stack + cond (not b) (round8 (size_of t)) 0) before) in
       next ∙ after
 
   -- the statement by sums holds of the places

@@ -1,6 +1,6 @@
 -- The places of the arguments by sums over the whole list, with no count that goes from one argument to the next. (System V psABI AMD64 3.2.3)
-use Rattle.std.specs.Prelude.{◌≡◌, ℕ, zero, suc, ◌+◌, ◌<◌, Bool, not, cond, List, length, Some, slice_get}
-use Rattle.ffi3_type_rules.specs.Tree.{Tree, tree_at}
+use Rattle.std.specs.Prelude.{◌≡◌, ℕ, zero, suc, ◌+◌, ◌<◌, Bool, not, cond, length, Some, slice_get}
+use Rattle.ffi3_type_rules.specs.Tree.{tree_at}
 use Rattle.ffi3_type_rules.specs.Layout.{size_of}
 use Rattle.ffi3_type_rules.specs.Signature.{Signature}
 use Rattle.ffi3_place_rules.specs.declared.Taken.{Taken}

@@ -3,7 +3,7 @@ use Rattle.std.specs.List.{count_by}
 use Rattle.ffi3_types.specs.TreeOf.{tree_of}
 use Rattle.ffi3_amd64_rules.specs.declared.Class.TheVariants.{Integer, Sse}
 use Rattle.ffi3_place_rules.specs.declared.Loc.TheVariants.{G, F}
-use Rattle.ffi3_amd64_rules.specs.Amd64.{is_integer_class, is_sse_class, class_of, register_of, vector_register, classes_from}
+use Rattle.ffi3_amd64_rules.specs.Amd64.{is_integer_class, is_sse_class, class_of, register_of, classes_from}
 use Rattle.ffi3_amd64_rules.proofs.Steps.{register_turn, count_more, count_next, one_if}
 use Rattle.ffi3_amd64.proofs.pieces_in_registers.Goals.{in-Integer, in-Sse}
 use Rattle.ffi3_amd64.proofs.pieces_in_registers.Goals as goal
