@@ -3,3 +3,4 @@ pub mod Chain
 pub mod Covered
 pub mod Determines
 pub mod Forbidden
+pub mod EachPlace
