@@ -1,5 +1,6 @@
 -- Where a signature is right, and where a fault of it is the first.
 use Rattle.std.proofs.Common.{◌≡◌, ℕ, ◌<◌, ◌≤◌, ◌⊎◌, inl, inr, true, false, List, length, Some, None, sym, ◌∙◌, arith}
+use Rattle.std.proofs.lemmas.Bool.{cases_lt}
 use Rattle.ffi3_type_rules.specs.Tree.{tree_at}
 use Rattle.ffi3_type_rules.specs.Fault.{Fault, IsFirstFault, HasNoFault}
 use Rattle.ffi3_type_rules.specs.Signature.{Signature, at_result, at_argument, SignatureFault, too_many, bad_type, bad_fixed, bad_argument_type, is_promoted, IsSignatureFault, over_most, in_result, in_argument, fixed_outside, promoted, SignatureFaultBefore, SignatureHasNoFault, IsFirstSignatureFault}
@@ -76,3 +77,11 @@ module _ (s : Signature) where
               let same : m ≡ n = cc in
               let e : true ≡ false = sym bad ∙ none j (omega arith) inside in
               cc
+
+-- no more arguments are fixed than there are
+pub fixed_within : (s : Signature) (n : ℕ) → SignatureHasNoFault s → s.fixed ≡ Some n → n ≤ length s.arguments
+fixed_within s n right is =
+    elim (cases_lt (length s.arguments) n) [
+      | inl over ↦ absurd (right (bad_fixed n (length s.arguments)) (fixed_outside is (inr over)))
+      | inr within ↦ within
+    ]

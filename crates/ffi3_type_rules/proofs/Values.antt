@@ -64,7 +64,7 @@ end_within ts i below =
     omega arith
 
 -- the element after a list
-get_or-append_at : (vs : List ValueTree) (v : ValueTree) (k : ℕ) (d : ValueTree) → length vs ≡ k → slice_index_or (vs ++ v ∷ []) k d ≡ v
+pub get_or-append_at : (vs : List ValueTree) (v : ValueTree) (k : ℕ) (d : ValueTree) → length vs ≡ k → slice_index_or (vs ++ v ∷ []) k d ≡ v
 get_or-append_at [] v zero d n = refl
 get_or-append_at [] v (suc k) d n = absurd (omega arith)
 get_or-append_at (u ∷ vs) v zero d n = absurd (omega arith)

@@ -1,7 +1,7 @@
 -- The number that the bytes of an integer make, and back: little-endian, two's complement. (psABI AMD64 3.1.2, AAPCS64 5.1, RISC-V ELF psABI "C type details")
-use Rattle.std.specs.Prelude.{ℕ, suc, ◌-◌, ◌%◌, ◌^◌, Bool, true, false, if◌then◌else◌, ℤ, pos, negsuc, List}
+use Rattle.std.specs.Prelude.{ℕ, suc, ◌-◌, ◌%◌, ◌^◌, Bool, true, false, if◌then◌else◌, ℤ, pos, negsuc, ◌+ℤ◌, List}
 use Rattle.std.specs.Int.{Width, w8, w16, w32, w64, to_le_bytes, from_le_bytes, cast_signed, cast_unsigned}
-use Rattle.ffi3_type_rules.specs.Tree.{Scalar, u8, s8, u16, s16, u32, s32, u64, s64, float, double, pointer}
+use Rattle.ffi3_type_rules.specs.Tree.{Scalar, u8, s8, u16, s16, u32, s32, u64, s64, float, double, pointer, Tree, scalar}
 
 -- the eight integer types
 abbrev pub is_integer : Scalar → Bool
@@ -9,6 +9,21 @@ is_integer float = false
 is_integer double = false
 is_integer pointer = false
 is_integer _ = true
+
+-- the types whose bytes are a number: the integers and the pointer
+abbrev pub is_number : Scalar → Bool
+is_number float = false
+is_number double = false
+is_number _ = true
+
+abbrev pub is_number_type : Tree → Bool
+is_number_type (scalar s) = is_number s
+is_number_type _ = false
+
+-- the scalar that a type is
+abbrev pub scalar_of : Tree → Scalar
+scalar_of (scalar s) = s
+scalar_of _ = u8
 
 abbrev pub is_signed : Scalar → Bool
 is_signed s8 = true
@@ -52,6 +67,10 @@ modulo bits (negsuc n) = 2 ^ bits - suc (n % 2 ^ bits)
 -- the bytes of a number, modulo two to the type's number of bits
 abbrev pub bytes_of_number : Scalar → ℤ → List ℕ
 bytes_of_number s z = to_le_bytes (width_of s) (modulo (bit_count (width_of s)) z)
+
+-- the bytes of the sum of two numbers, modulo two to the type's number of bits
+abbrev pub sum_of : Scalar → List ℕ → List ℕ → List ℕ
+sum_of s a b = bytes_of_number s (number_of s a +ℤ number_of s b)
 
 -- an integer or a pointer, extended by its sign to the 64 bits of a register
 abbrev pub widened : Scalar → List ℕ → ℕ

@@ -3,5 +3,8 @@ pub mod Layout
 pub mod Fault
 pub mod Signature
 pub mod Integer
+pub mod Same
 pub mod Value
 pub mod Text
+pub mod ValueText
+pub mod Names

@@ -1,7 +1,7 @@
 -- A signature, and its first fault. (libffi manual, "The Basics" and "Variadic functions")
-use Rattle.std.specs.Prelude.{◌≡◌, ℕ, ◌<◌, ◌≤◌, ◌⊎◌, Bool, true, false, List, length, Option, Some, refl}
-use Rattle.std.specs.Coded.{Coded, code_by, coded×, coded_option, coded_ℕ}
-use Rattle.ffi3_type_rules.specs.Tree.{Tree, scalar, tree_at, tree_code, tree_list_code, Scalar, u8, s8, u16, s16, float}
+use Rattle.std.specs.Prelude.{◌≡◌, ℕ, ◌<◌, ◌≤◌, ◌⊎◌, Bool, true, false, List, [], length, Option, Some, None, refl, slice_index_or}
+use Rattle.std.specs.Coded.{Coded, code_by, coded×, coded_list, coded_option, coded_ℕ}
+use Rattle.ffi3_type_rules.specs.Tree.{Tree, void, scalar, tree_at, tree_code, tree_list_code, Scalar, u8, s8, u16, s16, float}
 use Rattle.ffi3_type_rules.specs.Fault.{Fault, IsFirstFault}
 
 pub record Signature : Type 0 where
@@ -12,6 +12,14 @@ pub record Signature : Type 0 where
 abbrev pub signature_code : Coded Signature
 signature_code =
     code_by (Tree × (List Tree × Option ℕ)) (coded× tree_code (coded× tree_list_code (coded_option coded_ℕ))) (λ s. (s.result_type, (s.arguments, s.fixed))) (λ p. record { result_type = p.0; arguments = p.1.0; fixed = p.1.1 }) (λ _. refl)
+
+abbrev pub signature_list_code : Coded (List Signature)
+signature_list_code = coded_list signature_code
+
+-- signature i of a list
+abbrev pub signature_at : List Signature → ℕ → Signature
+signature_at ss i =
+    slice_index_or ss i (record { result_type = void; arguments = []; fixed = None })
 
 abbrev pub most_arguments : ℕ
 most_arguments = 64

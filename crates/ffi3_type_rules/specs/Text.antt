@@ -1,7 +1,8 @@
--- Types as text.
-use Rattle.std.specs.Prelude.{ℕ, List, [], ◌∷◌, ◌++◌, codes}
+-- Types and signatures as text, in the words of `type_names`.
+use Rattle.std.specs.Prelude.{ℕ, List, [], ◌∷◌, ◌++◌, take, drop, Option, Some, None, codes}
 use Rattle.std.specs.List.{join_with_byte}
-use Rattle.ffi3_type_rules.specs.Tree.{Scalar, u8, s8, u16, s16, u32, s32, u64, s64, float, double, pointer, Tree, void, scalar, left_out, structure, Trees, no_trees, tree}
+use Rattle.ffi3_type_rules.specs.Tree.{Scalar, u8, s8, u16, s16, u32, s32, u64, s64, float, double, pointer, Tree, void, scalar, left_out, structure, Trees, no_trees, tree, trees_of}
+use Rattle.ffi3_type_rules.specs.Signature.{Signature}
 
 abbrev pub scalar_name : Scalar → List ℕ
 scalar_name u8 = codes "uint8"
@@ -27,3 +28,16 @@ abbrev mutual
   pub texts_of : Trees → List (List ℕ)
   texts_of no_trees = []
   texts_of (tree t ts) = text_of t ∷ texts_of ts
+
+-- the texts of types, between commas
+abbrev pub list_text : List Tree → List ℕ
+list_text ts = join_with_byte 44 (texts_of (trees_of ts))
+
+-- where more arguments may follow, a semicolon stands after the last fixed one
+abbrev pub arguments_text : List Tree → Option ℕ → List ℕ
+arguments_text ts None = list_text ts
+arguments_text ts (Some n) = list_text (take n ts) ++ codes ";" ++ list_text (drop n ts)
+
+abbrev pub signature_text : Signature → List ℕ
+signature_text s =
+    text_of s.result_type ++ codes "(" ++ arguments_text s.arguments s.fixed ++ codes ")"

@@ -1,5 +1,5 @@
 -- What a value is, and which value the bytes of a type have. (libffi manual, "The Basics": a value lies in memory as C lays it out)
-use Rattle.std.specs.Prelude.{◌≡◌, ℕ, ◌+◌, ◌<◌, ◌≤◌, Bool, true, false, ◌&&◌, ◌==◌, List, [], ◌∷◌, length, take, drop, All, slice_index, refl}
+use Rattle.std.specs.Prelude.{◌≡◌, ℕ, ◌+◌, ◌<◌, ◌≤◌, Bool, true, false, ◌&&◌, ◌==◌, List, [], ◌∷◌, length, take, drop, replicate, All, slice_index, ◌≢◌, refl}
 use Rattle.std.proofs.Common.{ap, ◌∙◌}
 use Rattle.std.specs.Coded.{Coded, code_by, coded_list}
 use denote.Struct.Codes.{itself}
@@ -24,6 +24,16 @@ list_of_values (value v vs) = v ∷ list_of_values vs
 abbrev pub values_of : List ValueTree → ValueTrees
 values_of [] = no_values
 values_of (v ∷ vs) = value v (values_of vs)
+
+-- the bytes of a leaf
+abbrev pub bytes_of : ValueTree → List ℕ
+bytes_of (leaf_value bytes) = bytes
+bytes_of _ = []
+
+-- the values of a struct's elements
+abbrev pub elements_of : ValueTree → ValueTrees
+elements_of (struct_value vs) = vs
+elements_of _ = no_values
 
 -- how many nodes a value has
 abbrev mutual
@@ -53,6 +63,10 @@ abbrev mutual
   values_in no_trees es i bytes = no_values
   values_in (tree t ts) es i bytes =
       value (value_in t (part bytes (start_of es i) (size_of t))) (values_in ts es (i + 1) bytes)
+
+-- the value whose bytes are all zero
+abbrev pub zero_value : Tree → ValueTree
+zero_value t = value_in t (replicate (size_of t) 0)
 
 -- the value is a leaf of n bytes
 abbrev pub is_leaf_of : ℕ → ValueTree → Bool
@@ -87,6 +101,11 @@ IsPadding t i =
 pub record IsWritten (t : Tree) (v : ValueTree) (old new : List ℕ) : Type 0 where
   pub reads_back : value_in t new ≡ v
   pub padding_stays : (i : ℕ) → i < length old → IsPadding t i → slice_index new i ≡ slice_index old i
+
+-- each byte in which the two differ is padding
+abbrev pub DifferInPaddingAlone : Tree → List ℕ → List ℕ → Type 0
+DifferInPaddingAlone t a b =
+    (i : ℕ) → i < length a → slice_index a i ≢ slice_index b i → IsPadding t i
 
 -- how a value is stored where a ghost value holds one, and back
 abbrev bytes_code : List ℕ → Gv

@@ -69,9 +69,10 @@ impl Bytes {
         Ok(())
     }
 
-    /// More bytes at the end.
+    /// More bytes at the end. Refused, it leaves the list as it was.
     pub fn extend(&mut self, bytes: &[u8]) -> Result<(), NoMemory>
-        ensures { OnOk result (self.new ≡ self.old ++ bytes.now) }
+        ensures ok { OnOk result (self.new ≡ self.old ++ bytes.now) }
+        ensures err { OnErr result (self.new ≡ self.old) }
     {
         self.bytes.extend_from_slice(bytes)
     }

@@ -8,7 +8,9 @@ ghost use Rattle.ffi3_types.specs.FirstElement.{NoElementHasFault, IsFirstInElem
 
 use crate::{FfiType, Fields, Path, TypeFault};
 
-/// Whether the type can be passed, or, `as_result`, be a result.
+/// Whether the type can be an argument or, `as_result`, a result; otherwise its first fault,
+/// going through the tree from the front: a node's own fault comes before those of its
+/// elements, but a struct's size is looked at after all that is inside it.
 pub fn check_type(ty: &FfiType, as_result: bool) -> Result<(), TypeFault>
     ensures ok { OnOk result (HasNoFault 0 as_result (tree_of ty.now)) }
     ensures err { IfErr result

@@ -1,4 +1,4 @@
-// Type trees of the foreign function interface.
+// Types, signatures, their layout, their faults and their texts.
 #![tactic(auto)]
 
 ghost use Rattle.std.specs.Prelude.{◌≡◌, ◌+◌, ◌<◌, ◌^◌, ◌++◌, ◌∷◌, [], length, OnErr, OnOk, slice_get, Some};
@@ -12,31 +12,39 @@ mod bytes;
 mod check;
 mod copy;
 mod fault;
+mod layout;
 mod leaves;
+mod names;
 mod path;
 mod same;
 mod sig;
+mod sigs;
+#[cfg(test)]
+mod tests;
 mod text;
 
 pub use bytes::Bytes;
 pub use check::check_type;
 pub use fault::TypeFault;
 pub use ffi3_type_rules::Target;
-use ffi3_type_rules::round_up;
 pub use leaves::Leaf;
 pub use path::Path;
-pub use same::same_type;
-pub use sig::{At, Sig, SigFault, check_sig};
+pub use same::{same_fields, same_type};
+pub use sig::{At, Sig, SigFault, check_sig, same_sig};
+pub use sigs::Sigs;
 /// A want of memory: the one answer that no clause ties to a cause.
 pub use std::alloc::AllocError as NoMemory;
-use std::alloc::{AllocError, Global};
+use std::alloc::Global;
 use std::marker::Model;
-pub use text::type_text;
+pub use text::{sig_text, type_text};
 
+/// The type of an argument or a result (libffi's `ffi_type`).
 #[cycle(types)]
 #[derive(Debug, Drop)]
 pub enum FfiType {
+    /// No value: only as a result.
     Void,
+    /// An unsigned integer of 8 bits. `S8` and so on are signed.
     U8,
     S8,
     U16,
@@ -45,10 +53,15 @@ pub enum FfiType {
     S32,
     U64,
     S64,
+    /// A floating-point number of 32 bits.
     Float,
+    /// A floating-point number of 64 bits.
     Double,
+    /// An address of 64 bits.
     Pointer,
+    /// A struct of these elements.
     Struct(Fields),
+    /// Left out, as are the next two: a type with one of them has a fault.
     LongDouble,
     Complex,
     Vector,
@@ -87,6 +100,7 @@ impl Model for Fields {
 }
 
 impl Fields {
+    /// No types.
     pub fn new(alloc: Global) -> Fields
         ensures { result ≡ [] }
     {
@@ -95,6 +109,7 @@ impl Fields {
         }
     }
 
+    /// How many types there are.
     pub fn len(&self) -> usize
         ensures count { result ≡ length self.now }
         ensures bound { length self.now < 2 ^ 32 }
@@ -102,7 +117,8 @@ impl Fields {
         self.types.len()
     }
 
-    pub fn push(&mut self, item: FfiType) -> Result<(), AllocError>
+    /// One more type. Refused, it drops the type and leaves the list as it was.
+    pub fn push(&mut self, item: FfiType) -> Result<(), NoMemory>
         requires { length self.old + 1 < 2 ^ 32 }
         ensures ok { OnOk result (self.new ≡ self.old ++ tree_of item ∷ []) }
         ensures err { OnErr result (self.new ≡ self.old) }
@@ -111,6 +127,7 @@ impl Fields {
         Ok(())
     }
 
+    /// Type `i`.
     pub fn get(&self, i: usize) -> &FfiType
         requires { i < length self.now }
         ensures element { tree_of result.now ≡ tree_at self.now i }
@@ -118,71 +135,5 @@ impl Fields {
         ensures fewer_nodes { nodes (tree_of result.now) ≤ all_nodes (trees_of self.now) }
     {
         &self.types[i]
-    }
-}
-
-/// Size and alignment.
-#[derive(Clone, Copy)]
-pub(crate) struct Extent {
-    pub(crate) size: u64,
-    pub(crate) align: u64,
-}
-
-impl FfiType {
-    pub fn size(&self) -> u64
-        requires { HasNoFault 0 true (tree_of self.now) }
-        ensures { result ≡ size_of (tree_of self.now) }
-    {
-        self.extent().size
-    }
-
-    pub fn align(&self) -> u64
-        requires { HasNoFault 0 true (tree_of self.now) }
-        ensures { result ≡ align_of (tree_of self.now) }
-    {
-        self.extent().align
-    }
-
-    #[cycle(extent)]
-    pub(crate) fn extent(&self) -> Extent
-        requires { size_of (tree_of self.now) ≤ 1024 }
-        ensures size { result.size ≡ size_of (tree_of self.now) }
-        ensures align { result.align ≡ align_of (tree_of self.now) }
-    {
-        match self {
-            FfiType::Void | FfiType::LongDouble | FfiType::Complex | FfiType::Vector => {
-                Extent { size: 0, align: 1 }
-            }
-            FfiType::U8 | FfiType::S8 => Extent { size: 1, align: 1 },
-            FfiType::U16 | FfiType::S16 => Extent { size: 2, align: 2 },
-            FfiType::U32 | FfiType::S32 | FfiType::Float => Extent { size: 4, align: 4 },
-            FfiType::U64 | FfiType::S64 | FfiType::Double | FfiType::Pointer => {
-                Extent { size: 8, align: 8 }
-            }
-            FfiType::Struct(fields) => fields.extent(),
-        }
-    }
-}
-
-impl Fields {
-    #[cycle(extent)]
-    pub(crate) fn extent(&self) -> Extent
-        requires { All (λ t. size_of t ≤ 1024) self.now }
-        ensures size { result.size ≡ size_of (struct_of self.now) }
-        ensures align { result.align ≡ align_of (struct_of self.now) }
-    {
-        let mut end = 0;
-        let mut align = 1;
-        for i in 0..self.len() {
-            let item = self.get(i).extent();
-            end = round_up(end, item.align) + item.size;
-            if item.align > align {
-                align = item.align;
-            }
-        }
-        Extent {
-            size: round_up(end, align),
-            align,
-        }
     }
 }

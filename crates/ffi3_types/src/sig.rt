@@ -1,15 +1,17 @@
 // Signatures and their first fault.
-ghost use Rattle.std.specs.Prelude.{◌≡◌, ◌<◌, ◌≤◌, length, OnOk, IfErr, Some};
+ghost use Rattle.std.specs.Prelude.{◌≡◌, ◌<◌, ◌≤◌, ◌^◌, ◌↔◌, length, IsTrue, IfOk, OnOk, IfErr, Some};
 ghost use Rattle.ffi3_type_rules.specs.Tree.{tree_at};
 ghost use Rattle.ffi3_type_rules.specs.Signature.{SignatureHasNoFault, IsFirstSignatureFault, is_promoted};
 ghost use Rattle.ffi3_types.specs.TreeOf.{tree_of};
 ghost use Rattle.ffi3_types.specs.SignatureFaultOf.{signature_fault_of};
 
-use crate::{FfiType, Fields, TypeFault, check_type};
+use crate::{FfiType, Fields, NoMemory, TypeFault, check_type, same_fields, same_type};
+use std::alloc::Global;
 use std::marker::Model;
 use thiserror::Error;
 
-/// A result, arguments, and how many of these are fixed, where more may follow.
+/// A function's type: its result, its arguments, and of a variadic function how many of the
+/// arguments are fixed.
 #[derive(Debug, Drop)]
 pub struct Sig {
     ret: FfiType,
@@ -30,24 +32,36 @@ impl Model for Sig {
 }
 
 impl Sig {
+    /// The signature with this result, these arguments and, where it is variadic, so many fixed
+    /// ones.
     pub fn new(ret: FfiType, args: Fields, fixed: Option<u32>) -> Sig
         ensures { result ≡ record { result_type = tree_of ret; arguments = args; fixed = fixed } }
     {
         Sig { ret, args, fixed }
     }
 
+    /// The result's type.
     pub fn ret(&self) -> &FfiType
         ensures { tree_of result.now ≡ self.now.result_type }
     {
         &self.ret
     }
 
+    /// The arguments' types.
+    pub fn args(&self) -> &Fields
+        ensures { result.now ≡ self.now.arguments }
+    {
+        &self.args
+    }
+
+    /// How many arguments there are.
     pub fn count(&self) -> u32
         ensures { result ≡ length self.now.arguments }
     {
         self.args.len() as u32
     }
 
+    /// The type of argument `i`.
     pub fn arg(&self, i: u32) -> &FfiType
         requires { i < length self.now.arguments }
         ensures { tree_of result.now ≡ tree_at self.now.arguments i }
@@ -55,28 +69,60 @@ impl Sig {
         self.args.get(i as usize)
     }
 
+    /// How many arguments are fixed, or None where the function is not variadic.
     pub fn fixed(&self) -> Option<u32>
         ensures { result ≡ self.now.fixed }
     {
         self.fixed
     }
+
+    /// An equal signature.
+    pub fn copy(&self, alloc: Global) -> Result<Sig, NoMemory>
+        ensures { IfOk result (λ s. s ≡ self.now) }
+    {
+        Ok(Sig {
+            ret: self.ret.copy(alloc)?,
+            args: self.args.copy(alloc)?,
+            fixed: self.fixed,
+        })
+    }
+}
+
+/// Whether result, arguments and number of fixed arguments are equal.
+pub fn same_sig(a: &Sig, b: &Sig) -> bool
+    ensures { IsTrue result ↔ (a.now ≡ b.now) }
+{
+    if !same_type(a.ret(), b.ret()) {
+        return false;
+    }
+    if !same_fields(a.args(), b.args()) {
+        return false;
+    }
+    a.fixed() == b.fixed()
 }
 
 /// Where in a signature a type stands.
 #[derive(Clone, Copy, Debug)]
 pub enum At {
+    /// The result.
     Ret,
+    /// The argument of this number.
     Arg(u32),
 }
 
+/// What is wrong with a signature.
 #[derive(Debug, Drop, Error)]
 pub enum SigFault {
+    /// More than 64 arguments: `n`.
     #[error("too many arguments: {n}")]
     TooMany { n: u32 },
+    /// A type has this fault.
     #[error("{fault}")]
     BadType { at: At, fault: TypeFault },
+    /// The number of fixed arguments is 0, or more than the `n` arguments that there are.
     #[error("bad fixed: {fixed} of {n}")]
     BadFixed { fixed: u32, n: u32 },
+    /// Argument `i` is variadic, and C would promote its type (libffi's FFI_BAD_ARGTYPE).
     #[error("bad variadic argument")]
     BadArgType { i: u32 },
 }
@@ -93,6 +139,9 @@ impl FfiType {
     }
 }
 
+/// Whether a call interface can be prepared for the signature, or its first fault: too many
+/// arguments, the result's type, the arguments' types from the left, the number of fixed
+/// arguments, the first variadic argument that C would promote.
 pub fn check_sig(sig: &Sig) -> Result<(), SigFault>
     ensures ok { OnOk result (SignatureHasNoFault sig.now) }
     ensures err { IfErr result (λ e. IsFirstSignatureFault sig.now (signature_fault_of e)) }

@@ -1,28 +1,61 @@
-// Types as text.
-ghost use Rattle.std.specs.Prelude.{◌≡◌, ◌++◌, OnOk, IfOk, true, false};
-ghost use Rattle.ffi3_type_rules.specs.Tree.{struct_of, trees_of};
-ghost use Rattle.ffi3_type_rules.specs.Text.{text_of, texts_of};
+// Types and signatures as text.
+ghost use Rattle.std.specs.Prelude.{◌≡◌, ◌++◌, ◌≤◌, OnOk, IfOk, length, slice_range, true, false};
+ghost use Rattle.ffi3_type_rules.specs.Text.{text_of, list_text, arguments_text, signature_text};
 ghost use Rattle.ffi3_type_rules.specs.Fault.{HasNoFault};
+ghost use Rattle.ffi3_type_rules.specs.Signature.{SignatureHasNoFault};
 ghost use Rattle.ffi3_types.specs.TreeOf.{tree_of};
-ghost use Rattle.std.specs.List.{join_with_byte};
 
-use crate::{FfiType, Fields};
-use std::alloc::{AllocError, Global};
+use crate::{Bytes, FfiType, Fields, NoMemory, Sig};
+use std::alloc::Global;
 
-/// The type's text, as `struct{sint8,double}`.
-pub fn type_text(alloc: Global, ty: &FfiType) -> Result<Vec<u8>, AllocError>
+/// The type's text, as `struct{sint8,double}`: the name of a scalar with its size, a struct's
+/// elements between commas, without spaces.
+pub fn type_text(alloc: Global, ty: &FfiType) -> Result<Bytes, NoMemory>
     requires { HasNoFault 0 true (tree_of ty.now) }
-    ensures { IfOk result (λ text. text.items ≡ text_of (tree_of ty.now)) }
+    ensures { IfOk result (λ text. text ≡ text_of (tree_of ty.now)) }
 {
-    let mut text = Vec::new(alloc);
+    let mut text = Bytes::new(alloc);
     ty.write_text(&mut text)?;
     Ok(text)
 }
 
+/// The signature's text, as `sint32(pointer,double)`. Where more arguments may follow, a
+/// semicolon stands after the last fixed one, as in `sint32(pointer;double)` and, with none
+/// after it, `sint32(pointer;)`.
+pub fn sig_text(alloc: Global, sig: &Sig) -> Result<Bytes, NoMemory>
+    requires { SignatureHasNoFault sig.now }
+    ensures { IfOk result (λ text. text ≡ signature_text sig.now) }
+{
+    let mut text = Bytes::new(alloc);
+    sig.ret().write_text(&mut text)?;
+    text.push(b'(')?;
+    write_arguments(sig, &mut text)?;
+    text.push(b')')?;
+    Ok(text)
+}
+
+/// The arguments' texts at the end of a text.
+fn write_arguments(sig: &Sig, text: &mut Bytes) -> Result<(), NoMemory>
+    requires { SignatureHasNoFault sig.now }
+    ensures { OnOk result
+        (text.new ≡ text.old ++ arguments_text sig.now.arguments sig.now.fixed) }
+{
+    let args = sig.args();
+    match sig.fixed() {
+        None => args.write_all(text),
+        Some(fixed) => {
+            args.write_range(0, fixed as usize, text)?;
+            text.push(b';')?;
+            args.write_range(fixed as usize, args.len(), text)
+        }
+    }
+}
+
 impl FfiType {
+    /// The type's text at the end of a text.
     #[cycle(write_text)]
-    fn write_text(&self, text: &mut Vec<u8>) -> Result<(), AllocError>
-        ensures { OnOk result (text.new.items ≡ text.old.items ++ text_of (tree_of self.now)) }
+    fn write_text(&self, text: &mut Bytes) -> Result<(), NoMemory>
+        ensures { OnOk result (text.new ≡ text.old ++ text_of (tree_of self.now)) }
     {
         let name = match self {
             FfiType::Void => "void",
@@ -39,23 +72,34 @@ impl FfiType {
             FfiType::Pointer => "pointer",
             FfiType::LongDouble | FfiType::Complex | FfiType::Vector => "",
             FfiType::Struct(fields) => {
-                text.extend_from_slice("struct{".as_bytes())?;
-                fields.write_texts(text)?;
+                text.extend("struct{".as_bytes())?;
+                fields.write_all(text)?;
                 "}"
             }
         };
-        text.extend_from_slice(name.as_bytes())
+        text.extend(name.as_bytes())
     }
 }
 
 impl Fields {
+    /// The texts of all elements at the end of a text.
     #[cycle(write_text)]
-    fn write_texts(&self, text: &mut Vec<u8>) -> Result<(), AllocError>
-        ensures { OnOk result
-            (text.new.items ≡ text.old.items ++ join_with_byte 44 (texts_of (trees_of self.now))) }
+    fn write_all(&self, text: &mut Bytes) -> Result<(), NoMemory>
+        ensures { OnOk result (text.new ≡ text.old ++ list_text self.now) }
     {
-        for i in 0..self.len() {
-            if i > 0 {
+        self.write_range(0, self.len(), text)
+    }
+
+    /// The texts of the elements from number `from` up to `to` at the end of a text.
+    #[cycle(write_text)]
+    fn write_range(&self, from: usize, to: usize, text: &mut Bytes) -> Result<(), NoMemory>
+        requires in_order { from ≤ to }
+        requires in_range { to ≤ length self.now }
+        ensures { OnOk result
+            (text.new ≡ text.old ++ list_text (slice_range self.now from to)) }
+    {
+        for i in from..to {
+            if i > from {
                 text.push(b',')?;
             }
             self.get(i).write_text(text)?;

@@ -1,10 +1,11 @@
 use Rattle.std.proofs.Common.{◌<◌, ap, arith, length}
+use Rattle.std.proofs.lemmas.List.{length-map}
 use Rattle.ffi3_type_rules.specs.Tree.{nodes, trees_of}
 use Rattle.ffi3_type_rules.specs.Layout.{size_of, layouts}
 use Rattle.ffi3_type_rules.proofs.Layouts.{sizes_within, everywhere, align_positive, align_bounded, end_before-bounded, align_before-positive, align_before-bounded, aligns_bounded, nodes-element, end_before-turn, align_before-turn, size_at_end, align_at_end}
 use Rattle.ffi3_types.specs.TreeOf.{tree_of}
 use Rattle.ffi3_types.proofs.+extent.Goals as goal
-use Rattle.ffi3_types.proofs.+extent.Goals.{Fields::extent-then-item-align, Fields::extent-else-item-align}
+use Rattle.ffi3_types.proofs.+extent.Goals.{Fields::front-then-item-align, Fields::front-else-item-align}
 
 pub FfiType::extent-extent-requires : goal.FfiType::extent-extent-requires
 FfiType::extent-extent-requires t c =
@@ -13,36 +14,36 @@ FfiType::extent-extent-requires t c =
     let sized = ap (λ x. size_of (tree_of x)) is in
     (omega (arith, fewer), sizes_within 1024 c.in-Struct.fields (omega (arith, sized)))
 
-pub Fields::extent-extent-item-requires : goal.Fields::extent-extent-item-requires
-Fields::extent-extent-item-requires t c =
+pub Fields::front-extent-item-requires : goal.Fields::front-extent-item-requires
+Fields::front-extent-item-requires t c =
     let ts = c.args.self.now in
     let i = c.loop-i.i in
     let below : i < length ts = omega arith in
     let fewer = nodes-element ts i below in
-    let sized = everywhere 1024 ts c.requires i in
+    let sized = everywhere 1024 ts c.requires.small i in
     let here = ap nodes c.get.ensures.element in
     let size_here = ap size_of c.get.ensures.element in
     (omega arith, omega arith)
 
 -- the element's alignment is from 1 to 8, and the end so far is small
-pub Fields::extent-round_up-requires-clause-nonzero : goal.Fields::extent-round_up-requires-clause-nonzero
-Fields::extent-round_up-requires-clause-nonzero t c =
+pub Fields::front-round_up-requires-clause-nonzero : goal.Fields::front-round_up-requires-clause-nonzero
+Fields::front-round_up-requires-clause-nonzero t c =
     omega (arith, align_positive (tree_of c.get.result.now), c.extent-item.ensures.align)
 
-pub Fields::extent-round_up-requires-clause-fits : goal.Fields::extent-round_up-requires-clause-fits
-Fields::extent-round_up-requires-clause-fits t c =
+pub Fields::front-round_up-requires-clause-fits : goal.Fields::front-round_up-requires-clause-fits
+Fields::front-round_up-requires-clause-fits t c =
     let ts = c.args.self.now in
-    omega (arith, align_bounded (tree_of c.get.result.now), c.extent-item.ensures.align, end_before-bounded ts c.loop-i.i (everywhere 1024 ts c.requires), c.len-i-end.ensures.bound)
+    omega (arith, align_bounded (tree_of c.get.result.now), c.extent-item.ensures.align, end_before-bounded ts c.loop-i.i (everywhere 1024 ts c.requires.small), length-map c.self.inside.types.items tree_of, ap length c.self.view_is, c.self.invariant)
 
-pub Fields::extent-overflow_add-end : goal.Fields::extent-overflow_add-end
-Fields::extent-overflow_add-end t c =
+pub Fields::front-overflow_add-end : goal.Fields::front-overflow_add-end
+Fields::front-overflow_add-end t c =
     let ts = c.args.self.now in
-    let sized = everywhere 1024 ts c.requires c.loop-i.i in
+    let sized = everywhere 1024 ts c.requires.small c.loop-i.i in
     let size_here = ap size_of c.get.ensures.element in
-    omega (arith, align_bounded (tree_of c.get.result.now), c.extent-item.ensures, end_before-bounded ts c.loop-i.i (everywhere 1024 ts c.requires), c.len-i-end.ensures.bound)
+    omega (arith, align_bounded (tree_of c.get.result.now), c.extent-item.ensures, end_before-bounded ts c.loop-i.i (everywhere 1024 ts c.requires.small), length-map c.self.inside.types.items tree_of, ap length c.self.view_is, c.self.invariant)
 
-pub Fields::extent-loop-i-preserved : goal.Fields::extent-loop-i-preserved
-Fields::extent-loop-i-preserved t c =
+pub Fields::front-loop-i-preserved : goal.Fields::front-loop-i-preserved
+Fields::front-loop-i-preserved t c =
     let ts = c.args.self.now in
     let here = c.get.ensures.element in
     let sized = c.extent-item.ensures in
@@ -50,22 +51,22 @@ Fields::extent-loop-i-preserved t c =
     let aligned = align_before-turn ts c.loop-i.i _ here _ _ c.loop-i.invariant.align sized.align in
     record {
       end = rw c.round_up.ensures.value ends;
-      align = elim c.if-item-align.branch [ Fields::extent-then-item-align w ↦ omega (arith, aligned) | Fields::extent-else-item-align w ↦ omega (arith, aligned) ];
+      align = elim c.if-item-align.branch [ Fields::front-then-item-align w ↦ omega (arith, aligned) | Fields::front-else-item-align w ↦ omega (arith, aligned) ];
     }
 
-pub Fields::extent-round_up-requires-2-clause-nonzero : goal.Fields::extent-round_up-requires-2-clause-nonzero
-Fields::extent-round_up-requires-2-clause-nonzero t c =
-    omega (arith, align_before-positive (layouts (trees_of c.args.self.now)) c.loop-i.i)
+pub Fields::extent-round_up-requires-clause-nonzero : goal.Fields::extent-round_up-requires-clause-nonzero
+Fields::extent-round_up-requires-clause-nonzero t c =
+    omega (arith, align_before-positive (layouts (trees_of c.args.self.now)) c.len.result, c.front-front.ensures.align)
 
-pub Fields::extent-round_up-requires-2-clause-fits : goal.Fields::extent-round_up-requires-2-clause-fits
-Fields::extent-round_up-requires-2-clause-fits t c =
+pub Fields::extent-round_up-requires-clause-fits : goal.Fields::extent-round_up-requires-clause-fits
+Fields::extent-round_up-requires-clause-fits t c =
     let ts = c.args.self.now in
-    omega (arith, align_before-bounded (layouts (trees_of ts)) c.loop-i.i (aligns_bounded (trees_of ts)), end_before-bounded ts c.loop-i.i (everywhere 1024 ts c.requires), c.len-i-end.ensures.bound)
+    omega (arith, align_before-bounded (layouts (trees_of ts)) c.len.result (aligns_bounded (trees_of ts)), end_before-bounded ts c.len.result (everywhere 1024 ts c.requires), c.front-front.ensures, c.len.ensures)
 
 pub Fields::extent-returns-clause-size : goal.Fields::extent-returns-clause-size
 Fields::extent-returns-clause-size t c =
-    rw c.round_up-2.ensures.value (size_at_end c.args.self.now c.loop-i.i (omega arith) _ _ c.loop-i.invariant.end c.loop-i.invariant.align)
+    rw c.round_up.ensures.value (size_at_end c.args.self.now c.len.result c.len.ensures.count _ _ c.front-front.ensures.end c.front-front.ensures.align)
 
 pub Fields::extent-returns-clause-align : goal.Fields::extent-returns-clause-align
 Fields::extent-returns-clause-align t c =
-    align_at_end c.args.self.now c.loop-i.i (omega arith) _ c.loop-i.invariant.align
+    align_at_end c.args.self.now c.len.result c.len.ensures.count _ c.front-front.ensures.align

@@ -5,13 +5,16 @@ use Rattle.ffi3_types.specs.TreeOf.{tree_of}
 use Rattle.ffi3_types.proofs.+extent.Given as goal
 
 abbrev pub decreases-FfiType::extent : goal.decreases-FfiType::extent
-decreases-FfiType::extent l = 2 * nodes (tree_of l.self.now)
+decreases-FfiType::extent l = 3 * nodes (tree_of l.self.now)
 
 abbrev pub decreases-Fields::extent : goal.decreases-Fields::extent
-decreases-Fields::extent l = 2 * all_nodes (trees_of l.self.now) + 1
+decreases-Fields::extent l = 3 * all_nodes (trees_of l.self.now) + 2
 
-abbrev pub invariant-Fields::extent-loop-i : goal.invariant-Fields::extent-loop-i
-invariant-Fields::extent-loop-i l = record {
+abbrev pub decreases-Fields::front : goal.decreases-Fields::front
+decreases-Fields::front l = 3 * all_nodes (trees_of l.self.now) + 1
+
+abbrev pub invariant-Fields::front-loop-i : goal.invariant-Fields::front-loop-i
+invariant-Fields::front-loop-i l = record {
   end : l.end ≡ end_before (layouts (trees_of l.self)) l.i;
   align : l.align ≡ align_before (layouts (trees_of l.self)) l.i;
 }

@@ -1,0 +1,13 @@
+use Rattle.std.proofs.Common.{length, ◌-◌, ◌≡◌, ◌≤◌, take}
+use Rattle.ffi3_io.specs.Sink.{Adds}
+use Rattle.ffi3_io.proofs.sink.write_all.Given as goal
+
+abbrev pub invariant-loop-done : goal.invariant-loop-done
+invariant-loop-done g l = record {
+  within : l.done ≤ length l.bytes;
+  adds : Adds (g.O.Sink.taken l.fn.output) (take l.done l.bytes) (g.O.Sink.taken l.output);
+  same : g.O.Sink.faults l.output ≡ g.O.Sink.faults l.fn.output;
+}
+
+abbrev pub decreases-loop-done : goal.decreases-loop-done
+decreases-loop-done g l = length l.bytes - l.done

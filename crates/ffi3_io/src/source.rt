@@ -1,0 +1,93 @@
+//! Where bytes come from.
+ghost use Rattle.std.specs.Prelude.{◌≡◌, ◌<◌, ◌≤◌, ◌+◌, ◌-◌, List, ℕ, Option, take, length, vec_len, IfOk, IfErr, OnOk, OnErr};
+ghost use Rattle.ffi3_io.specs.Source.{Gives, GivesAfter, GivesFirst, IsEndAtZero, LosesSome, Rose};
+
+use crate::Failed;
+use std::alloc::Global;
+
+/// Gives bytes, and counts the reads that failed.
+pub trait Source {
+    /// The bytes left, where the source tells them.
+    ghost left: { Self → Option (List ℕ) };
+
+    /// How many reads failed. The count never falls.
+    ghost faults: { Self → ℕ };
+
+    /// Puts bytes at the start of a buffer, and says how many. For a buffer that is not empty 0 is
+    /// the end.
+    ///
+    /// Fails only where the count of faults rose in this call, or stands at 2^64 - 1; the bytes left
+    /// are then as they were.
+    fn read(&mut self, buf: &mut [u8]) -> Result<usize, Failed>
+        ensures within { IfOk result (λ n. n ≤ length buf.old) }
+        ensures gives { IfOk result (λ n. Gives (left self.old) (take n buf.new) (left self.new)) }
+        ensures end { IfOk result (λ n. 0 < length buf.old → IsEndAtZero (left self.old) n) }
+        ensures same { OnOk result (faults self.new ≡ faults self.old) }
+        ensures failed { OnErr result (Rose (faults self.old) (faults self.new)) }
+        ensures never_falls { faults self.old ≤ faults self.new }
+        ensures kept { OnErr result (left self.new ≡ left self.old) };
+}
+
+/// Why reading ended before its end.
+#[derive(Clone, Copy, Debug, PartialEq, Eq, Drop)]
+pub enum ReadEnd {
+    /// A read failed.
+    Failed,
+    /// Memory was refused.
+    NoMemory,
+}
+
+/// Reads until the end, or until this many bytes were taken. Every read before that takes at least
+/// one byte.
+///
+/// At `Failed` the count of faults rose, or stands at 2^64 - 1; at `NoMemory` it is as it was. The
+/// bytes taken until then are lost.
+pub fn read_all<I: Source>(alloc: Global, input: &mut I, limit: usize) -> Result<Vec<u8>, ReadEnd>
+    ensures within { IfOk result (λ v. length v.items ≤ limit) }
+    ensures first { IfOk result (λ v. GivesFirst limit (I.left input.old) v.items (I.left input.new)) }
+    ensures same { OnOk result (I.faults input.new ≡ I.faults input.old) }
+    ensures failed { IfErr result (λ e. e ≡ ReadEnd.Failed → Rose (I.faults input.old) (I.faults input.new)) }
+    ensures no_memory { IfErr result (λ e. e ≡ ReadEnd.NoMemory → I.faults input.new ≡ I.faults input.old) }
+    ensures never_falls { I.faults input.old ≤ I.faults input.new }
+    ensures lost { OnErr result (LosesSome limit (I.left input.old) (I.left input.new)) }
+{
+    let mut bytes = Vec::new(alloc);
+    let mut buf = [0u8; 4096];
+    while bytes.len() < limit {
+        match read_on(input, &mut buf, &mut bytes, limit) {
+            Ok(0) => break,
+            Ok(_) => {}
+            Err(end) => return Err(end),
+        }
+    }
+    Ok(bytes)
+}
+
+/// One read, of at most as many bytes as are still wanted, put after those read before. Says how
+/// many it gave.
+fn read_on<I: Source>(
+    input: &mut I,
+    buf: &mut [u8],
+    bytes: &mut Vec<u8>,
+    limit: usize,
+) -> Result<usize, ReadEnd>
+    requires room { 0 < length buf.old }
+    requires wanted { vec_len bytes.old < limit }
+    ensures within { IfOk result (λ n. vec_len bytes.old + n ≤ limit) }
+    ensures gives { IfOk result (λ n. GivesAfter n (I.left input.old) bytes.old.items bytes.new.items (I.left input.new)) }
+    ensures end { IfOk result (λ n. IsEndAtZero (I.left input.old) n) }
+    ensures same { OnOk result (I.faults input.new ≡ I.faults input.old) }
+    ensures failed { IfErr result (λ e. e ≡ ReadEnd.Failed → Rose (I.faults input.old) (I.faults input.new)) }
+    ensures no_memory { IfErr result (λ e. e ≡ ReadEnd.NoMemory → I.faults input.new ≡ I.faults input.old) }
+    ensures never_falls { I.faults input.old ≤ I.faults input.new }
+    ensures lost { OnErr result (LosesSome (limit - vec_len bytes.old) (I.left input.old) (I.left input.new)) }
+{
+    let most = buf.len().min(limit - bytes.len());
+    let Ok(n) = input.read(&mut buf[..most]) else {
+        return Err(ReadEnd::Failed);
+    };
+    if bytes.extend_from_slice(&buf[..n]).is_err() {
+        return Err(ReadEnd::NoMemory);
+    }
+    Ok(n)
+}

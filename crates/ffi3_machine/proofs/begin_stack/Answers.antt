@@ -1,0 +1,6 @@
+use Rattle.ffi3_machine.specs.State.{begun_stack}
+use Rattle.ffi3_machine.proofs.begin_stack.Goals as goal
+
+pub returns : goal.returns
+unfolding begun_stack
+returns c = c.fill_all.ensures

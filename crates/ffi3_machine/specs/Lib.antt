@@ -1,0 +1,5 @@
+pub mod State
+pub mod Scribbled
+pub mod Recorded
+pub mod Entries
+pub mod Fields

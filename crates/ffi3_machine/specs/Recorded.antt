@@ -1,0 +1,14 @@
+-- What contracts see of a journal and of one of its events.
+use Rattle.std.specs.Prelude.{ℕ, ◌-◌, List, [], map, take, drop, slice_index_or}
+use Rattle.ffi3_place_rules.specs.Image.{Image}
+use Rattle.ffi3_place_rules.specs.Event.{EventKind, enters, leaves, Event}
+
+pub record Recorded : Type 0 where
+  pub events : List Event
+  pub spare_events : ℕ
+  pub spare_bytes : ℕ
+
+-- event i, and an empty one past the last
+abbrev pub event_at : List Event → ℕ → Event
+event_at events i =
+    slice_index_or events i (record { kind = enters; closure = 0; image = record { general = []; floating = []; sp = 0; stack = [] } })

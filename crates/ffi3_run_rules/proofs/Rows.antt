@@ -1,0 +1,52 @@
+-- The script that makes a closure of an increment, calls it with 41 and prints the result, computed.
+use Rattle.std.specs.Prelude.{◌≡◌, ℕ, ℤ, pos, ◌+◌, ◌+ℤ◌, List, [], ◌∷◌, refl, None, codes, ◌++◌}
+use Rattle.std.specs.Int.{w64, from_le_bytes}
+use Rattle.ffi3_type_rules.specs.Tree.{scalar, s32}
+use Rattle.ffi3_type_rules.specs.Layout.{least_multiple}
+use Rattle.ffi3_type_rules.specs.Signature.{Signature}
+use Rattle.ffi3_type_rules.specs.Integer.{number_of, bytes_of_number}
+use Rattle.ffi3_type_rules.specs.Value.{ValueTree, void_value, leaf_value, bytes_of}
+use Rattle.ffi3_run_rules.specs.Move.{Move, call, make, print, return, Behaviour}
+use Rattle.ffi3_run_rules.specs.Meaning.{Program, meaning_of, act, act_within, Outcome, End, returned, stopped}
+use Rattle.ffi3_run_rules.specs.Happenings.{happenings_of}
+use Rattle.ffi3_run_rules.specs.Journal.{events_in}
+use Rattle.ffi3_run_rules.specs.Lines.{text}
+use Rattle.std.specs.Fmt.{digits}
+
+abbrev number_32 : ℤ → ValueTree
+number_32 z = leaf_value (bytes_of_number s32 z)
+
+abbrev increment : ℤ → Behaviour
+increment z [] user results = return void_value
+increment z (v ∷ vs) user results =
+    return (number_32 (number_of s32 (bytes_of v) +ℤ z))
+
+abbrev main_of : ℤ → Behaviour
+main_of z args user [] = make 0 0
+main_of z args user (p ∷ []) = call (from_le_bytes w64 (bytes_of p)) 0 (number_32 z ∷ [])
+main_of z args user (p ∷ r ∷ []) = print (scalar s32) r
+main_of z args user (p ∷ r ∷ v ∷ vs) = return void_value
+
+abbrev program : Program
+program = record {
+  signatures = record { result_type = scalar s32; arguments = scalar s32 ∷ []; fixed = None } ∷ [];
+  functions = record { behaviour = increment (pos 1); signature = 0 } ∷ [];
+  main = main_of (pos 41);
+  need = λ s. 80;
+}
+
+pub ended : (meaning_of program).end ≡ returned void_value
+unfolding act act_within
+ended = refl
+
+pub text_is : text program.signatures (happenings_of program) ≡ codes "42" ++ 10 ∷ []
+unfolding act act_within digits
+text_is = refl
+
+pub two_events : events_in (happenings_of program) ≡ 2
+unfolding act act_within
+two_events = refl
+
+pub moves_left : (meaning_of program).moves ≡ 9995
+unfolding act act_within
+moves_left = refl

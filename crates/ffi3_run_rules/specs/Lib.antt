@@ -1,0 +1,6 @@
+pub mod Move
+pub mod Closures
+pub mod Meaning
+pub mod Happenings
+pub mod Lines
+pub mod Journal

@@ -1,0 +1,195 @@
+-- The direct meaning of a program: a recursion on values, without registers, frames or addresses of the stack. Its one number of the machine is the bytes of stack that are left.
+use Rattle.std.specs.Prelude.{ℕ, zero, suc, ◌+◌, ◌-◌, max, List, [], ◌∷◌, ◌++◌, length, slice_index_or, Option, Some, None, if◌then◌else◌, nat_lt}
+use Rattle.ffi3_type_rules.specs.Tree.{Tree, scalar, pointer}
+use Rattle.ffi3_type_rules.specs.Signature.{Signature}
+use Rattle.ffi3_type_rules.specs.Same.{same_signature}
+use Rattle.ffi3_type_rules.specs.Value.{ValueTree, void_value, leaf_value}
+use Rattle.std.specs.Int.{w64, to_le_bytes}
+use Rattle.ffi3_run_rules.specs.declared.Closure.{Closure}
+use Rattle.ffi3_run_rules.specs.declared.Stop.{Stop}
+use Rattle.ffi3_run_rules.specs.declared.Stop.TheVariants.{NoClosure, WrongSig, TableFull, StackFull, MoveLimit}
+use Rattle.ffi3_run_rules.specs.Move.{Move, call, make, free, print, return, Behaviour, signature_at}
+use Rattle.ffi3_run_rules.specs.Closures.{Closures, no_closures, slots, slot_address, closure_at, first_free, with_closure, freed}
+
+-- a function: what it does, and the number of its signature
+pub record Function : Type 0 where
+  pub behaviour : Behaviour
+  pub signature : ℕ
+
+-- the signatures and functions by number, main, and the bytes of stack that a call of a signature needs
+pub record Program : Type 0 where
+  pub signatures : List Signature
+  pub functions : List Function
+  pub main : Behaviour
+  pub need : Signature → ℕ
+
+abbrev pub stack_size : ℕ
+stack_size = 65536
+
+abbrev pub most_moves : ℕ
+most_moves = 10000
+
+-- a function that returns at once
+abbrev pub idle : Function
+idle = record { behaviour = λ args user results. return void_value; signature = 0 }
+
+abbrev pub function_at : Program → ℕ → Function
+function_at p k = slice_index_or p.functions k idle
+
+abbrev pub need_at : Program → ℕ → ℕ
+need_at p sig = p.need (signature_at p.signatures sig)
+
+-- whose body an activation runs
+pub data Who : Type 0 where
+  main : Who
+  function : ℕ → Who
+
+abbrev pub behaviour_of : Program → Who → Behaviour
+behaviour_of p main = p.main
+behaviour_of p (function k) = (function_at p k).behaviour
+
+-- an activation: whose, with which arguments and user data, the bytes of stack left below it, and the results of its moves so far
+pub record Acting : Type 0 where
+  pub who : Who
+  pub arguments : List ValueTree
+  pub user : ℕ
+  pub left : ℕ
+  pub results : List ValueTree
+
+abbrev pub with_result : Acting → ValueTree → Acting
+with_result a r = record a { results = a.results ++ r ∷ [] }
+
+abbrev pub next_move : Program → Acting → Move
+next_move p a = behaviour_of p a.who a.arguments a.user a.results
+
+-- a pointer as a value
+abbrev pub pointer_value : ℕ → ValueTree
+pointer_value address = leaf_value (to_le_bytes w64 address)
+
+-- The deeds of an activation, in order: its lines and its calls, and last the line of a stop. A call has the deeds of its function inside it, and its result, or none where the run stopped in it.
+mutual
+  pub data Deed : Type 0 where
+    line : Tree → ValueTree → Deed
+    called : (pointer signature : ℕ) → (arguments : List ValueTree) → (inside : Deeds) → (result : Option ValueTree) → Deed
+    stop_line : Stop → Deed
+
+  pub data Deeds : Type 0 where
+    no_deeds : Deeds
+    deed : Deed → Deeds → Deeds
+
+-- what a move does at once: it ends the activation, or stops the run, or goes on with a result, or enters a function
+pub data Doing : Type 0 where
+  ends : ValueTree → Doing
+  stops : Stop → Doing
+  prints : Tree → ValueTree → Doing
+  goes_on : (result : ValueTree) → Closures → Doing
+  enters : (pointer signature : ℕ) → Acting → Doing
+
+abbrev at_closure : Option Closure → ℕ → (Closure → Doing) → Doing
+at_closure None ptr go = stops (NoClosure ptr)
+at_closure (Some closure) ptr go = go closure
+
+-- the activation that a call of a closure starts
+abbrev pub callee_of : Program → Acting → ℕ → List ValueTree → Closure → Acting
+callee_of p a sig args closure = record {
+  who = function closure.func;
+  arguments = args;
+  user = closure.user;
+  left = a.left - need_at p sig;
+  results = [];
+}
+
+-- a call enters a live closure of its own signature, where the stack suffices
+abbrev call_of : Program → Acting → ℕ → ℕ → List ValueTree → Closure → Doing
+call_of p a ptr sig args closure =
+    if same_signature (signature_at p.signatures sig) (signature_at p.signatures closure.sig)
+    then (if nat_lt a.left (need_at p sig)
+    then stops (StackFull (need_at p sig) a.left)
+    else enters ptr sig (callee_of p a sig args closure))
+    else stops (WrongSig ptr sig closure.sig)
+
+abbrev pub doing : Program → Acting → Closures → Move → Doing
+doing p a closures (return v) = ends v
+doing p a closures (print t v) = prints t v
+doing p a closures (make func user) =
+    if nat_lt (first_free closures) slots
+    then goes_on (pointer_value (slot_address (first_free closures))) (with_closure closures (first_free closures) (Some (record { func = func; sig = (function_at p func).signature; user = user })))
+    else stops TableFull
+doing p a closures (free ptr) =
+    at_closure (closure_at closures ptr) ptr (λ closure. goes_on void_value (freed closures ptr))
+doing p a closures (call ptr sig args) =
+    at_closure (closure_at closures ptr) ptr (call_of p a ptr sig args)
+
+pub data End : Type 0 where
+  returned : ValueTree → End
+  stopped : Stop → End
+
+-- how an activation ended, the closures and moves that are left, and its deeds
+pub record Outcome : Type 0 where
+  pub end : End
+  pub closures : Closures
+  pub moves : ℕ
+  pub deeds : Deeds
+
+abbrev pub after : Deed → Outcome → Outcome
+after d o = record o { deeds = deed d o.deeds }
+
+abbrev stops_with : Stop → Closures → ℕ → Outcome
+stops_with stop closures moves =
+    record { end = stopped stop; closures = closures; moves = moves; deeds = deed (stop_line stop) no_deeds }
+
+-- what follows where closures and moves left are given
+abbrev Acts : Type 0
+Acts = Acting → Closures → ℕ → Outcome
+
+-- an activation goes on once the function that it called has ended; where the run stopped in that, it has no more deeds
+abbrev resumed : Acts → Acting → ℕ → ℕ → List ValueTree → Outcome → End → Outcome
+resumed acts a ptr sig args o (stopped stop) =
+    record o { deeds = deed (called ptr sig args o.deeds None) no_deeds }
+resumed acts a ptr sig args o (returned r) =
+    after (called ptr sig args o.deeds (Some r)) (acts (with_result a r) o.closures o.moves)
+
+abbrev resumed_after : Acts → Acting → ℕ → ℕ → List ValueTree → Outcome → Outcome
+resumed_after acts a ptr sig args o = resumed acts a ptr sig args o o.end
+
+-- one move and all that follows it; `moves` are left after it
+abbrev follows : Acts → Acting → Closures → ℕ → Doing → Outcome
+follows acts a closures moves (ends v) =
+    record { end = returned v; closures = closures; moves = moves; deeds = no_deeds }
+follows acts a closures moves (stops stop) = stops_with stop closures moves
+follows acts a closures moves (prints t v) =
+    after (line t v) (acts (with_result a void_value) closures moves)
+follows acts a closures moves (goes_on r closures') = acts (with_result a r) closures' moves
+follows acts a closures moves (enters ptr sig callee) =
+    resumed_after acts a ptr sig callee.arguments (acts callee closures moves)
+
+-- as far as a depth of `fuel` moves
+unfoldable pub act_within : Program → ℕ → Acting → Closures → ℕ → Outcome
+act_within p zero a closures moves = stops_with MoveLimit closures 0
+act_within p (suc fuel) a closures zero = stops_with MoveLimit closures 0
+act_within p (suc fuel) a closures (suc moves) =
+    follows (act_within p fuel) a closures moves (doing p a closures (next_move p a))
+
+-- How an activation acts. A move is counted before it is done, and none is asked for where none is left; so no depth is greater than the moves left, which are fuel enough.
+unfoldable pub act : Program → Acting → Closures → ℕ → Outcome
+act p a closures moves = act_within p moves a closures moves
+
+abbrev pub main_call : Acting
+main_call = record { who = main; arguments = []; user = 0; left = stack_size; results = [] }
+
+-- THE DIRECT MEANING OF A PROGRAM: main acts, with the whole stack, no closures and all moves left.
+abbrev pub meaning_of : Program → Outcome
+meaning_of p = act p main_call no_closures most_moves
+
+-- ---- the stack that calls take
+
+-- the peak of a call is its need and the peak of the calls inside it; that of several calls is the greatest
+abbrev mutual
+  pub peak_of : Program → Deeds → ℕ
+  peak_of p no_deeds = 0
+  peak_of p (deed d ds) = max (peak_in p d) (peak_of p ds)
+
+  peak_in : Program → Deed → ℕ
+  peak_in p (line t v) = 0
+  peak_in p (stop_line stop) = 0
+  peak_in p (called ptr sig args inside r) = need_at p sig + peak_of p inside

@@ -1,0 +1,25 @@
+// What a run of functions is: their moves, the direct meaning, its text and its journal. The definitions are in `specs/`; these are the words that they share with the code.
+#![tactic(auto)]
+
+/// What a closure stands for: a function and its signature, by their numbers in the run, and 64 bits of user data.
+#[derive(Clone, Copy, Debug, PartialEq, Eq)]
+pub struct Closure {
+    pub func: u32,
+    pub sig: u32,
+    pub user: u64,
+}
+
+/// Why a run stops.
+#[derive(Clone, Copy, Debug, PartialEq, Eq)]
+pub enum Stop {
+    /// No live slot starts at the pointer.
+    NoClosure { ptr: u64 },
+    /// The call's signature, `site`, is not that of the closure, `found`; both are numbers of the run.
+    WrongSig { ptr: u64, site: u32, found: u32 },
+    /// 256 closures are live.
+    TableFull,
+    /// The call needs more bytes of stack than are left.
+    StackFull { need: u64, left: u64 },
+    /// All moves of the run are used up.
+    MoveLimit,
+}

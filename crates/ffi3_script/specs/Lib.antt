@@ -1,0 +1,3 @@
+pub mod Told
+pub mod StepOf
+pub mod Parts

@@ -1,0 +1,122 @@
+-- Bytes that have the same value differ in padding alone.
+use Rattle.std.proofs.Common.{◌≡◌, ℕ, zero, suc, ◌+◌, ◌-◌, ◌<◌, ◌≤◌, inl, inr, List, [], length, ap, sym, ◌∙◌, subst, arith, All, map}
+use Rattle.std.specs.Prelude.{slice_index, slice_index_or}
+use Rattle.std.proofs.lemmas.Bool.{cases_lt}
+use Rattle.std.proofs.lemmas.List.{length-map}
+use Rattle.std.proofs.lemmas.List.Elements.{All-nil, All-cons, All-append, All-map, All-weaker}
+use Rattle.ffi3_type_rules.specs.Tree.{Tree, void, scalar, left_out, structure, Trees, no_trees, tree, list_of}
+use Rattle.ffi3_type_rules.specs.Layout.{Layout, Leaf, layout, layouts, element, size_of, start_of, end_before, leaves_of, leaves_before, moved, scalar_size, align_before}
+use Rattle.ffi3_type_rules.specs.Value.{ValueTree, ValueTrees, leaf_value, struct_value, value, value_in, values_in, part, DifferInPaddingAlone}
+use Rattle.ffi3_type_rules.proofs.Layouts.{layouts_is_map, end_before-le, least_multiple-above}
+use Rattle.ffi3_type_rules.proofs.Parts.{index_part, length_part}
+
+-- the leaf ends within n bytes
+abbrev EndsWithin : ℕ → Leaf → Type 0
+EndsWithin n leaf = leaf.at + scalar_size leaf.kind ≤ n
+
+ends_before : (es : List Layout) → ((k : ℕ) → All (EndsWithin (element es k).size) (element es k).leaves) → (n : ℕ) → All (EndsWithin (end_before es n)) (leaves_before es n)
+ends_before es h zero = All-nil (EndsWithin 0)
+ends_before es h (suc n) =
+    let last = end_before es (suc n) in
+    let start = start_of es n in
+    let size = (element es n).size in
+    let above = end_before-le es n (suc n) (omega arith) in
+    All-append (EndsWithin last) (leaves_before es n) (map (moved start) (element es n).leaves) (All-weaker (EndsWithin (end_before es n)) (EndsWithin last) (λ leaf ends. omega arith) (leaves_before es n) (ends_before es h n)) (All-map (EndsWithin last) (moved start) (element es n).leaves (All-weaker (EndsWithin size) (λ leaf. EndsWithin last (moved start leaf)) (λ leaf ends. omega arith) (element es n).leaves (h n)))
+
+-- each leaf lies within its type
+mutual
+  pub leaves_end_within : (t : Tree) → All (EndsWithin (size_of t)) (leaves_of t)
+  leaves_end_within void = All-nil (EndsWithin 0)
+  leaves_end_within (scalar s) =
+      All-cons (EndsWithin (scalar_size s)) (record { at = 0; kind = s }) [] (omega arith) (All-nil (EndsWithin (scalar_size s)))
+  leaves_end_within (left_out k) = All-nil (EndsWithin 0)
+  leaves_end_within (structure ts) =
+      let es = layouts ts in
+      let last = end_before es (length es) in
+      let above = least_multiple-above (align_before es (length es)) last in
+      All-weaker (EndsWithin last) (EndsWithin (size_of (structure ts))) (λ leaf ends. omega arith) (leaves_before es (length es)) (ends_before es (all_end_within ts) (length es))
+
+  all_end_within : (ts : Trees) (k : ℕ) → All (EndsWithin (element (layouts ts) k).size) (element (layouts ts) k).leaves
+  all_end_within no_trees k = All-nil (EndsWithin 0)
+  all_end_within (tree t ts) zero = leaves_end_within t
+  all_end_within (tree t ts) (suc k) = all_end_within ts k
+
+-- the two have the same bytes at the leaf
+abbrev SameAt : List ℕ → List ℕ → Leaf → Type 0
+SameAt a b leaf =
+    (i : ℕ) → leaf.at ≤ i → i < leaf.at + scalar_size leaf.kind → slice_index a i ≡ slice_index b i
+
+same_before : (es : List Layout) (a b : List ℕ) → ((k : ℕ) → All (λ leaf. SameAt a b (moved (start_of es k) leaf)) (element es k).leaves) → (n : ℕ) → All (SameAt a b) (leaves_before es n)
+same_before es a b h zero = All-nil (SameAt a b)
+same_before es a b h (suc n) =
+    All-append (SameAt a b) (leaves_before es n) (map (moved (start_of es n)) (element es n).leaves) (same_before es a b h n) (All-map (SameAt a b) (moved (start_of es n)) (element es n).leaves (h n))
+
+-- what parts have at a leaf, the whole has
+same_in_whole : (a b : List ℕ) (start size : ℕ) (leaf : Leaf) → EndsWithin size leaf → SameAt (part a start size) (part b start size) leaf → SameAt a b (moved start leaf)
+same_in_whole a b start size leaf ends same i from to =
+    let back : start + (i - start) ≡ i = omega arith in
+    let here = same (i - start) (omega arith) (omega arith) in
+    ap (slice_index a) (sym back) ∙ sym (index_part a start size (i - start) (omega arith)) ∙ here ∙ index_part b start size (i - start) (omega arith) ∙ ap (slice_index b) back
+
+-- equal bytes are the same everywhere
+same_everywhere : (a b : List ℕ) (leaves : List Leaf) → a ≡ b → All (SameAt a b) leaves
+same_everywhere a b leaves e k d below i from to = ap (λ xs. slice_index xs i) e
+
+leaf_bytes : (a b : List ℕ) → leaf_value a ≡ leaf_value b → a ≡ b
+leaf_bytes a b e = cc
+
+struct_values : (vs ws : ValueTrees) → struct_value vs ≡ struct_value ws → vs ≡ ws
+struct_values vs ws e = cc
+
+first_value : (v w : ValueTree) (vs ws : ValueTrees) → value v vs ≡ value w ws → v ≡ w
+first_value v w vs ws e = cc
+
+other_values : (v w : ValueTree) (vs ws : ValueTrees) → value v vs ≡ value w ws → vs ≡ ws
+other_values v w vs ws e = cc
+
+size_of_element : (ts : Trees) (k : ℕ) → k < length (list_of ts) → start_of (layouts ts) k + (element (layouts ts) k).size ≤ size_of (structure ts)
+size_of_element ts k below =
+    let es = layouts ts in
+    let count : length es ≡ length (list_of ts) = ap length (layouts_is_map ts) ∙ length-map (list_of ts) layout in
+    let last = end_before-le es (suc k) (length es) (omega arith) in
+    let above = least_multiple-above (align_before es (length es)) (end_before es (length es)) in
+    omega arith
+
+mutual
+  pub same_in_leaves : (t : Tree) (a b : List ℕ) → length a ≡ size_of t → length b ≡ size_of t → value_in t a ≡ value_in t b → All (SameAt a b) (leaves_of t)
+  same_in_leaves void a b n m e = All-nil (SameAt a b)
+  same_in_leaves (scalar s) a b n m e =
+      same_everywhere a b (leaves_of (scalar s)) (leaf_bytes a b e)
+  same_in_leaves (left_out k) a b n m e = All-nil (SameAt a b)
+  same_in_leaves (structure ts) a b n m e =
+      let es = layouts ts in
+      let values = struct_values (values_in ts es 0 a) (values_in ts es 0 b) e in
+      let within : (k : ℕ) → k < length (list_of ts) → start_of es (0 + k) + (element es k).size ≤ length a = λ k below. let from_zero : 0 + k ≡ k = omega arith in rw from_zero (omega (arith, size_of_element ts k below)) in
+      same_before es a b (λ k. let from_zero : 0 + k ≡ k = omega arith in
+      subst (λ j. All (λ leaf. SameAt a b (moved (start_of es j) leaf)) (element es k).leaves) from_zero (all_same ts es 0 a b (omega arith) within values k)) (length es)
+
+  all_same : (us : Trees) (es : List Layout) (i : ℕ) (a b : List ℕ) → length a ≡ length b → ((k : ℕ) → k < length (list_of us) → start_of es (i + k) + (element (layouts us) k).size ≤ length a) → values_in us es i a ≡ values_in us es i b → (k : ℕ) → All (λ leaf. SameAt a b (moved (start_of es (i + k)) leaf)) (element (layouts us) k).leaves
+  all_same no_trees es i a b n within e k = All-nil (λ leaf. SameAt a b (moved (start_of es (i + k)) leaf))
+  all_same (tree t us) es i a b n within e zero =
+      let start = start_of es i in
+      let size = size_of t in
+      let at_zero : i ≡ i + 0 = omega arith in
+      let room : start + size ≤ length a = subst (λ j. start_of es j + size ≤ length a) (sym at_zero) (within 0 (omega arith)) in
+      let first = first_value (value_in t (part a start size)) (value_in t (part b start size)) (values_in us es (i + 1) a) (values_in us es (i + 1) b) e in
+      let inner = same_in_leaves t (part a start size) (part b start size) (length_part a start size room) (length_part b start size (omega arith)) first in
+      let whole : All (λ leaf. SameAt a b (moved start leaf)) (leaves_of t) = λ k d below. same_in_whole a b start size _ (leaves_end_within t k d below) (inner k d below) in
+      subst (λ j. All (λ leaf. SameAt a b (moved (start_of es j) leaf)) (leaves_of t)) at_zero whole
+  all_same (tree t us) es i a b n within e (suc k) =
+      let along : i + 1 + k ≡ i + suc k = omega arith in
+      let others = other_values (value_in t (part a (start_of es i) (size_of t))) (value_in t (part b (start_of es i) (size_of t))) (values_in us es (i + 1) a) (values_in us es (i + 1) b) e in
+      let rest = all_same us es (i + 1) a b n (λ j below. let later : i + 1 + j ≡ i + suc j = omega arith in
+      subst (λ m. start_of es m + (element (layouts us) j).size ≤ length a) (sym later) (within (suc j) (omega arith))) others k in
+      subst (λ j. All (λ leaf. SameAt a b (moved (start_of es j) leaf)) (element (layouts us) k).leaves) along rest
+
+-- where they differ there is padding
+pub differ_in_padding_alone : (t : Tree) (a b : List ℕ) → length a ≡ size_of t → length b ≡ size_of t → value_in t a ≡ value_in t b → DifferInPaddingAlone t a b
+differ_in_padding_alone t a b n m e i inside differ k d below from =
+    elim (cases_lt i ((slice_index_or (leaves_of t) k d).at + scalar_size (slice_index_or (leaves_of t) k d).kind)) [
+      | inl within ↦ absurd (differ (same_in_leaves t a b n m e k d below i from within))
+      | inr beyond ↦ beyond
+    ]

@@ -1,0 +1,35 @@
+-- Values as text.
+use Rattle.std.specs.Prelude.{ℕ, ◌/◌, ◌%◌, false, List, [], ◌∷◌, ◌++◌, codes}
+use Rattle.std.specs.Fmt.{digit_glyph, digits, signed_decimal}
+use Rattle.std.specs.Int.{w64, from_le_bytes}
+use Rattle.std.specs.List.{join_with_byte}
+use Rattle.ffi3_type_rules.specs.Tree.{Scalar, float, double, pointer, Tree, void, scalar, left_out, structure, Trees, no_trees, tree}
+use Rattle.ffi3_type_rules.specs.Integer.{number_of}
+use Rattle.ffi3_type_rules.specs.Value.{ValueTree, ValueTrees, no_values, value, bytes_of, elements_of}
+
+-- bytes in memory order, two lower-case hexadecimal digits each
+abbrev pub hexadecimal : List ℕ → List ℕ
+hexadecimal [] = []
+hexadecimal (b ∷ bytes) =
+    digit_glyph false (b / 16) ∷ digit_glyph false (b % 16) ∷ hexadecimal bytes
+
+-- an integer in decimal by its sign, a pointer in hexadecimal without leading zeros, and the bytes of what is floating
+abbrev pub scalar_text : Scalar → List ℕ → List ℕ
+scalar_text float bytes = hexadecimal bytes
+scalar_text double bytes = hexadecimal bytes
+scalar_text pointer bytes = codes "0x" ++ digits 16 false (from_le_bytes w64 bytes)
+scalar_text s bytes = signed_decimal (number_of s bytes)
+
+-- a struct's is that of its elements, between commas; what is left out has no text
+abbrev mutual
+  pub value_text_of : Tree → ValueTree → List ℕ
+  value_text_of void v = codes "void"
+  value_text_of (scalar s) v = scalar_text s (bytes_of v)
+  value_text_of (left_out k) v = []
+  value_text_of (structure ts) v =
+      codes "{" ++ join_with_byte 44 (value_texts_of ts (elements_of v)) ++ codes "}"
+
+  pub value_texts_of : Trees → ValueTrees → List (List ℕ)
+  value_texts_of no_trees vs = []
+  value_texts_of (tree t ts) no_values = []
+  value_texts_of (tree t ts) (value v vs) = value_text_of t v ∷ value_texts_of ts vs

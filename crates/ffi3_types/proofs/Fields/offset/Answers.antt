@@ -1,0 +1,34 @@
+use Rattle.std.proofs.Common.{◌≡◌, ◌≤◌, ap, sym, ◌∙◌, arith, All, true}
+use Rattle.ffi3_type_rules.specs.Tree.{struct_of, tree_at}
+use Rattle.ffi3_type_rules.specs.Layout.{size_of, offset_of}
+use Rattle.ffi3_type_rules.proofs.Layouts.{sizes_within, size_le-struct, align_positive, align_bounded, start-turn}
+use Rattle.ffi3_type_rules.proofs.Faults.{right_is_small}
+use Rattle.ffi3_type_rules.proofs.Values.{element_within, end_within}
+use Rattle.ffi3_types.specs.TreeOf.{tree_of}
+use Rattle.ffi3_types.proofs.Fields.offset.Goals as goal
+
+pub front-requires-clause-small : goal.front-requires-clause-small
+front-requires-clause-small c =
+    sizes_within 1024 c.args.self.now (right_is_small 0 true (struct_of c.args.self.now) c.requires.right)
+
+pub extent-requires : goal.extent-requires
+extent-requires c =
+    let small = right_is_small 0 true (struct_of c.args.self.now) c.requires.right in
+    omega (arith, small, size_le-struct c.args.self.now c.args.i c.requires.in_range, ap size_of c.get.ensures.element)
+
+pub round_up-requires-clause-nonzero : goal.round_up-requires-clause-nonzero
+round_up-requires-clause-nonzero c = omega (arith, align_positive (tree_of c.get.result.now), c.extent.ensures.align)
+
+pub round_up-requires-clause-fits : goal.round_up-requires-clause-fits
+round_up-requires-clause-fits c =
+    let small = right_is_small 0 true (struct_of c.args.self.now) c.requires.right in
+    omega (arith, small, end_within c.args.self.now c.args.i (omega arith), align_bounded (tree_of c.get.result.now), c.extent.ensures.align, c.front.ensures.end)
+
+pub returns-clause-start : goal.returns-clause-start
+returns-clause-start c =
+    c.round_up.ensures.value ∙ start-turn c.args.self.now c.args.i (tree_of c.get.result.now) c.get.ensures.element _ _ c.front.ensures.end c.extent.ensures.align
+
+pub returns-clause-within : goal.returns-clause-within
+returns-clause-within c =
+    let start : c.round_up.result ≡ offset_of (struct_of c.args.self.now) c.args.i = returns-clause-start c in
+    omega (arith, start, element_within c.args.self.now c.args.i c.requires.in_range)

@@ -1,0 +1,11 @@
+use Rattle.std.proofs.Common.{◌≡◌, Some, ap, sym, ◌∙◌, arith, length}
+use Rattle.ffi3_type_rules.proofs.Signatures.{fixed_within}
+use Rattle.ffi3_types.proofs.text.write_arguments.Goals as goal
+
+pub write_range-requires-clause-in_range : goal.write_range-requires-clause-in_range
+write_range-requires-clause-in_range c =
+    omega (arith, fixed_within c.args.sig.now c.in-Some.fixed c.requires (sym c.fixed.ensures ∙ c.in-Some.is), ap length c.args-args.ensures)
+
+pub write_range-requires-in-Some-clause-in_order : goal.write_range-requires-in-Some-clause-in_order
+write_range-requires-in-Some-clause-in_order c =
+    omega (arith, fixed_within c.args.sig.now c.in-Some.fixed c.requires (sym c.fixed.ensures ∙ c.in-Some.is), ap length c.args-args.ensures, c.len.ensures.count)

@@ -1,0 +1,114 @@
+// Size, alignment and the elements' offsets.
+ghost use Rattle.std.specs.Prelude.{◌≡◌, ◌+◌, ◌<◌, ◌≤◌, All, length, true};
+ghost use Rattle.ffi3_type_rules.specs.Tree.{struct_of, tree_at, trees_of, elements_of};
+ghost use Rattle.ffi3_type_rules.specs.Layout.{size_of, align_of, offset_of, layouts, end_before, align_before};
+ghost use Rattle.ffi3_type_rules.specs.Fault.{HasNoFault};
+ghost use Rattle.ffi3_types.specs.TreeOf.{tree_of};
+
+use crate::{FfiType, Fields};
+use ffi3_type_rules::round_up;
+
+/// Size and alignment.
+#[derive(Clone, Copy)]
+pub(crate) struct Extent {
+    pub(crate) size: u64,
+    pub(crate) align: u64,
+}
+
+impl FfiType {
+    /// Size in bytes, a multiple of the alignment.
+    pub fn size(&self) -> u64
+        requires { HasNoFault 0 true (tree_of self.now) }
+        ensures { result ≡ size_of (tree_of self.now) }
+    {
+        self.extent().size
+    }
+
+    /// Alignment in bytes: 1, 2, 4 or 8.
+    pub fn align(&self) -> u64
+        requires { HasNoFault 0 true (tree_of self.now) }
+        ensures { result ≡ align_of (tree_of self.now) }
+    {
+        self.extent().align
+    }
+
+    /// Where element `i` of a struct starts, in bytes from the struct's start.
+    pub fn offset(&self, i: u32) -> u64
+        requires right { HasNoFault 0 true (tree_of self.now) }
+        requires in_range { i < length (elements_of (tree_of self.now)) }
+        ensures start { result ≡ offset_of (tree_of self.now) i }
+        ensures within { result + size_of (tree_at (elements_of (tree_of self.now)) i) ≤ size_of (tree_of self.now) }
+    {
+        match self {
+            FfiType::Struct(fields) => fields.offset(i as usize),
+            _ => unreachable!(),
+        }
+    }
+
+    #[cycle(extent)]
+    pub(crate) fn extent(&self) -> Extent
+        requires { size_of (tree_of self.now) ≤ 1024 }
+        ensures size { result.size ≡ size_of (tree_of self.now) }
+        ensures align { result.align ≡ align_of (tree_of self.now) }
+    {
+        match self {
+            FfiType::Void | FfiType::LongDouble | FfiType::Complex | FfiType::Vector => {
+                Extent { size: 0, align: 1 }
+            }
+            FfiType::U8 | FfiType::S8 => Extent { size: 1, align: 1 },
+            FfiType::U16 | FfiType::S16 => Extent { size: 2, align: 2 },
+            FfiType::U32 | FfiType::S32 | FfiType::Float => Extent { size: 4, align: 4 },
+            FfiType::U64 | FfiType::S64 | FfiType::Double | FfiType::Pointer => {
+                Extent { size: 8, align: 8 }
+            }
+            FfiType::Struct(fields) => fields.extent(),
+        }
+    }
+}
+
+impl Fields {
+    /// Where element `i` of the struct with these elements starts, in bytes from its start.
+    pub fn offset(&self, i: usize) -> u64
+        requires right { HasNoFault 0 true (struct_of self.now) }
+        requires in_range { i < length self.now }
+        ensures start { result ≡ offset_of (struct_of self.now) i }
+        ensures within { result + size_of (tree_at self.now i) ≤ size_of (struct_of self.now) }
+    {
+        round_up(self.front(i).size, self.get(i).extent().align)
+    }
+
+    #[cycle(extent)]
+    pub(crate) fn extent(&self) -> Extent
+        requires { All (λ t. size_of t ≤ 1024) self.now }
+        ensures size { result.size ≡ size_of (struct_of self.now) }
+        ensures align { result.align ≡ align_of (struct_of self.now) }
+    {
+        let front = self.front(self.len());
+        Extent {
+            size: round_up(front.size, front.align),
+            align: front.align,
+        }
+    }
+
+    /// Where the first `n` elements end, without padding after them, and their alignment.
+    #[cycle(extent)]
+    fn front(&self, n: usize) -> Extent
+        requires small { All (λ t. size_of t ≤ 1024) self.now }
+        requires in_range { n ≤ length self.now }
+        ensures end { result.size ≡ end_before (layouts (trees_of self.now)) n }
+        ensures align { result.align ≡ align_before (layouts (trees_of self.now)) n }
+    {
+        // fewer than 2^32 elements, so that the end is in range
+        let _ = &self.types;
+        let mut end = 0;
+        let mut align = 1;
+        for i in 0..n {
+            let item = self.get(i).extent();
+            end = round_up(end, item.align) + item.size;
+            if item.align > align {
+                align = item.align;
+            }
+        }
+        Extent { size: end, align }
+    }
+}

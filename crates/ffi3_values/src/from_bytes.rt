@@ -1,0 +1,59 @@
+// Values of bytes.
+ghost use Rattle.std.specs.Prelude.{◌≡◌, IfOk, length, true};
+ghost use Rattle.ffi3_type_rules.specs.Tree.{trees_of, struct_of};
+ghost use Rattle.ffi3_type_rules.specs.Layout.{layouts, size_of};
+ghost use Rattle.ffi3_type_rules.specs.Fault.{HasNoFault};
+ghost use Rattle.ffi3_type_rules.specs.Value.{value_in, values_in, values_of, zero_value, fits, all_fit};
+ghost use Rattle.ffi3_types.specs.TreeOf.{tree_of};
+ghost use Rattle.ffi3_values.specs.ValueOf.{value_of};
+
+use crate::{Bytes, NoMemory, Value, Values};
+use ffi3_type_rules::round_up;
+use ffi3_types::{FfiType, Fields};
+use std::alloc::Global;
+
+/// The value that these bytes of a type have: padding has no part in it.
+#[cycle(from_bytes)]
+pub fn value_from_bytes(alloc: Global, ty: &FfiType, bytes: &[u8]) -> Result<Value, NoMemory>
+    requires right { HasNoFault 0 true (tree_of ty.now) }
+    requires sized { length bytes.now ≡ size_of (tree_of ty.now) }
+    ensures value { IfOk result (λ v. value_of v ≡ value_in (tree_of ty.now) bytes.now) }
+    ensures fits { IfOk result (λ v. fits (tree_of ty.now) (value_of v) ≡ true) }
+{
+    match ty {
+        FfiType::Void => Ok(Value::Void),
+        FfiType::LongDouble | FfiType::Complex | FfiType::Vector => unreachable!(),
+        FfiType::Struct(fields) => Ok(Value::List(values_from_bytes(alloc, fields, bytes)?)),
+        _ => Ok(Value::Leaf(Bytes::from_slice(alloc, bytes)?)),
+    }
+}
+
+#[cycle(from_bytes)]
+fn values_from_bytes(alloc: Global, fields: &Fields, bytes: &[u8]) -> Result<Values, NoMemory>
+    requires right { HasNoFault 0 true (struct_of fields.now) }
+    requires sized { length bytes.now ≡ size_of (struct_of fields.now) }
+    ensures value { IfOk result
+        (λ vs. values_of vs ≡ values_in (trees_of fields.now) (layouts (trees_of fields.now)) 0 bytes.now) }
+    ensures fits { IfOk result (λ vs. all_fit (trees_of fields.now) (values_of vs) ≡ true) }
+{
+    let mut values = Values::new(alloc);
+    let mut end: u64 = 0;
+    for i in 0..fields.len() {
+        let ty = fields.get(i);
+        let start = round_up(end, ty.align());
+        end = start + ty.size();
+        let part = &bytes[start as usize..end as usize];
+        values.push(value_from_bytes(alloc, ty, part)?)?;
+    }
+    Ok(values)
+}
+
+/// The value whose bytes are all zero.
+pub fn zero(alloc: Global, ty: &FfiType) -> Result<Value, NoMemory>
+    requires { HasNoFault 0 true (tree_of ty.now) }
+    ensures value { IfOk result (λ v. value_of v ≡ zero_value (tree_of ty.now)) }
+    ensures fits { IfOk result (λ v. fits (tree_of ty.now) (value_of v) ≡ true) }
+{
+    let zeros = vec![in alloc; 0u8; ty.size() as usize]?;
+    value_from_bytes(alloc, ty, zeros.as_slice())
+}

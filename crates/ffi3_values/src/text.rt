@@ -1,0 +1,91 @@
+// Values as text.
+ghost use Rattle.std.specs.Prelude.{◌≡◌, ◌++◌, ◌∷◌, ◌<◌, [], OnOk, IfOk, true, false};
+ghost use Rattle.std.specs.List.{join_with_byte};
+ghost use Rattle.std.specs.Fmt.{digit_glyph};
+ghost use Rattle.ffi3_type_rules.specs.Tree.{trees_of};
+ghost use Rattle.ffi3_type_rules.specs.Value.{fits, all_fit, values_of};
+ghost use Rattle.ffi3_type_rules.specs.ValueText.{value_text_of, value_texts_of, hexadecimal};
+ghost use Rattle.ffi3_types.specs.TreeOf.{tree_of};
+ghost use Rattle.ffi3_values.specs.ValueOf.{value_of};
+
+use crate::{Bytes, NoMemory, Value, Values, number, widen};
+use ffi3_types::{FfiType, Fields};
+use std::alloc::Global;
+
+/// The value's text: integers in decimal, pointers as `0xbef`, the bytes of floats in hexadecimal, structs as `{1,-2}`, and `void`.
+pub fn value_text(alloc: Global, ty: &FfiType, value: &Value) -> Result<Bytes, NoMemory>
+    requires { fits (tree_of ty.now) (value_of value.now) ≡ true }
+    ensures { IfOk result (λ text. text ≡ value_text_of (tree_of ty.now) (value_of value.now)) }
+{
+    let mut text = Bytes::new(alloc);
+    write_text(alloc, ty, value, &mut text)?;
+    Ok(text)
+}
+
+#[cycle(write_text)]
+fn write_text(alloc: Global, ty: &FfiType, value: &Value, text: &mut Bytes) -> Result<(), NoMemory>
+    requires { fits (tree_of ty.now) (value_of value.now) ≡ true }
+    ensures { OnOk result (text.new ≡ text.old ++ value_text_of (tree_of ty.now) (value_of value.now)) }
+{
+    match value {
+        Value::Void => text.extend("void".as_bytes()),
+        Value::Leaf(bytes) => match ty {
+            FfiType::Float | FfiType::Double => write_hexadecimal(bytes.as_slice(), text),
+            FfiType::Pointer => {
+                text.extend("0x".as_bytes())?;
+                let address = widen(ty, value);
+                text.extend(format!(in alloc; "{address:x}")?.as_bytes())
+            }
+            _ => {
+                let number = number(ty, value);
+                text.extend(format!(in alloc; "{number}")?.as_bytes())
+            }
+        },
+        Value::List(values) => {
+            if let FfiType::Struct(fields) = ty {
+                text.push(b'{')?;
+                write_texts(alloc, fields, values, text)?;
+                text.push(b'}')?;
+            }
+            Ok(())
+        }
+    }
+}
+
+#[cycle(write_text)]
+fn write_texts(
+    alloc: Global,
+    fields: &Fields,
+    values: &Values,
+    text: &mut Bytes,
+) -> Result<(), NoMemory>
+    requires { all_fit (trees_of fields.now) (values_of values.now) ≡ true }
+    ensures { OnOk result (text.new ≡ text.old ++ join_with_byte 44 (value_texts_of (trees_of fields.now) (values_of values.now))) }
+{
+    for i in 0..fields.len() {
+        if i > 0 {
+            text.push(b',')?;
+        }
+        write_text(alloc, fields.get(i), values.get(i), text)?;
+    }
+    Ok(())
+}
+
+/// Two lower-case hexadecimal digits for each byte.
+fn write_hexadecimal(bytes: &[u8], text: &mut Bytes) -> Result<(), NoMemory>
+    ensures { OnOk result (text.new ≡ text.old ++ hexadecimal bytes.now) }
+{
+    for b in bytes {
+        text.push(digit(*b / 16))?;
+        text.push(digit(*b % 16))?;
+    }
+    Ok(())
+}
+
+/// A hexadecimal digit.
+fn digit(n: u8) -> u8
+    requires { n < 16 }
+    ensures { result ≡ digit_glyph false n }
+{
+    if n < 10 { b'0' + n } else { b'a' + (n - 10) }
+}
