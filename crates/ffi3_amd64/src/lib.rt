@@ -12,6 +12,9 @@ ghost use Rattle.ffi3_types.specs.TreeOf.{tree_of};
 ghost use Rattle.ffi3_place_rules.specs.Standard.{doubleword, places_from, result_at, buffer_bytes, round8};
 ghost use Rattle.ffi3_amd64_rules.specs.Amd64.{is_integer_leaf_in, class_of, in_memory, integers, sses, extension, vector_register, register_pieces, classes, stack_pieces, eightbytes, in_registers, pieces_after, taken_with, taken_after, taken_at_first, spots_after, result_spot_of};
 
+#[cfg(test)]
+mod tests;
+
 pub use ffi3_amd64_rules::Class;
 use ffi3_place::{Abi, Ext, Loc, Piece, Pieces, Place, Places, Plan, Res};
 use ffi3_place_rules::Taken;

@@ -61,7 +61,7 @@ integers t = count_by is_integer_class (classes t)
 abbrev pub sses : Tree → ℕ
 sses t = count_by is_sse_class (classes t)
 
--- a lone integer narrower than eight bytes is extended by its sign
+-- A lone integer narrower than eight bytes is extended by its sign. (This library's rule: the standard leaves the bits above it open.)
 abbrev pub extension_of_scalar : Scalar → Ext
 extension_of_scalar u8 = Widen
 extension_of_scalar s8 = Widen
