@@ -1,15 +1,16 @@
 -- Worked rows, computed.
-use Rattle.std.specs.Prelude.{◌≡◌, ℕ, List, [], ◌∷◌, refl, None, Some}
-use Rattle.ffi3_type_rules.specs.Tree.{Tree, void, scalar, struct_of, u8, s8, u16, s16, u32, s32, u64, s64, float, double, pointer}
+use Rattle.std.specs.Prelude.{◌≡◌, ℕ, List, [], ◌∷◌, refl, None, Some, replicate}
+use Rattle.ffi3_type_rules.specs.Tree.{Tree, void, scalar, struct_of, u8, s8, u16, s32, u64, s64, float, double, pointer}
 use Rattle.ffi3_type_rules.specs.Layout.{least_multiple}
 use Rattle.ffi3_type_rules.specs.Signature.{Signature}
 use Rattle.ffi3_place_rules.specs.declared.Loc.{Loc}
 use Rattle.ffi3_place_rules.specs.declared.Loc.TheVariants.{G, F, S}
 use Rattle.ffi3_place_rules.specs.declared.Ext.TheVariants.{Free, Widen}
 use Rattle.ffi3_place_rules.specs.declared.Piece.{Piece}
-use Rattle.ffi3_place_rules.specs.declared.Place.TheVariants.{Direct, ByRef}
+use Rattle.ffi3_place_rules.specs.declared.Place.{Place}
+use Rattle.ffi3_place_rules.specs.declared.Place.TheVariants.{Direct}
 use Rattle.ffi3_place_rules.specs.declared.Res.TheVariants.{Nothing, Direct as DirectRes, Hidden}
-use Rattle.ffi3_place_rules.specs.Standard.{plan_of}
+use Rattle.ffi3_place_rules.specs.Standard.{plan_of, need_of, frame_of, block_bytes}
 use Rattle.ffi3_amd64_rules.specs.Amd64.{amd64}
 
 abbrev sig_of : Tree → List Tree → Signature
@@ -20,6 +21,13 @@ at l o n = record { loc = l; off = o; len = n; ext = Free }
 
 abbrev widened : Loc → ℕ → Piece
 widened l n = record { loc = l; off = 0; len = n; ext = Widen }
+
+-- a whole doubleword in one place
+abbrev alone : Loc → Place
+alone l = Direct (at l 0 8 ∷ [])
+
+abbrev integer : Tree
+integer = scalar s64
 
 abbrev pair : Tree
 pair = struct_of (scalar s64 ∷ scalar s64 ∷ [])
@@ -38,3 +46,149 @@ pub one_integer : plan_of amd64 (sig_of (scalar s32) (scalar s32 ∷ [])) ≡ re
 }
 unfolding least_multiple
 one_integer = refl
+
+-- void(struct{sint32,float}): one INTEGER eightbyte
+pub integer_and_float : plan_of amd64 (sig_of void (struct_of (scalar s32 ∷ scalar float ∷ []) ∷ [])) ≡ record {
+  places = alone (G 7) ∷ [];
+  res = Nothing;
+  need = 80;
+  frame = 0;
+  block = 16;
+  vectors = 0;
+}
+unfolding least_multiple
+integer_and_float = refl
+
+-- struct{double,sint8} as argument and as result: an SSE eightbyte, then an INTEGER one
+pub double_and_byte : plan_of amd64 (sig_of (struct_of (scalar double ∷ scalar s8 ∷ [])) (struct_of (scalar double ∷ scalar s8 ∷ []) ∷ [])) ≡ record {
+  places = Direct (at (F 0) 0 8 ∷ at (G 7) 8 8 ∷ []) ∷ [];
+  res = DirectRes (at (F 0) 0 8 ∷ at (G 0) 8 8 ∷ []);
+  need = 80;
+  frame = 0;
+  block = 16;
+  vectors = 1;
+}
+unfolding least_multiple
+double_and_byte = refl
+
+-- five sint64, a pair and a sint64: the pair goes whole to the stack, and the last still finds r9
+pub pair_to_stack : plan_of amd64 (sig_of void (integer ∷ integer ∷ integer ∷ integer ∷ integer ∷ pair ∷ integer ∷ [])) ≡ record {
+  places = alone (G 7) ∷ alone (G 6) ∷ alone (G 2) ∷ alone (G 1) ∷ alone (G 8) ∷ Direct (at (S 0) 0 8 ∷ at (S 8) 8 8 ∷ []) ∷ alone (G 9) ∷ [];
+  res = Nothing;
+  need = 144;
+  frame = 16;
+  block = 64;
+  vectors = 0;
+}
+unfolding least_multiple
+pair_to_stack = refl
+
+-- six sint64 and a pair
+pub pair_after_six : plan_of amd64 (sig_of void (integer ∷ integer ∷ integer ∷ integer ∷ integer ∷ integer ∷ pair ∷ [])) ≡ record {
+  places = alone (G 7) ∷ alone (G 6) ∷ alone (G 2) ∷ alone (G 1) ∷ alone (G 8) ∷ alone (G 9) ∷ Direct (at (S 0) 0 8 ∷ at (S 8) 8 8 ∷ []) ∷ [];
+  res = Nothing;
+  need = 144;
+  frame = 16;
+  block = 64;
+  vectors = 0;
+}
+unfolding least_multiple
+pair_after_six = refl
+
+-- seven sint64, a pair and a sint64
+pub all_later_to_stack : plan_of amd64 (sig_of void (integer ∷ integer ∷ integer ∷ integer ∷ integer ∷ integer ∷ integer ∷ pair ∷ integer ∷ [])) ≡ record {
+  places = alone (G 7) ∷ alone (G 6) ∷ alone (G 2) ∷ alone (G 1) ∷ alone (G 8) ∷ alone (G 9) ∷ alone (S 0) ∷ Direct (at (S 8) 0 8 ∷ at (S 16) 8 8 ∷ []) ∷ alone (S 24) ∷ [];
+  res = Nothing;
+  need = 176;
+  frame = 32;
+  block = 80;
+  vectors = 0;
+}
+unfolding least_multiple
+all_later_to_stack = refl
+
+-- a struct of four floats: two SSE eightbytes
+pub four_floats : plan_of amd64 (sig_of void (struct_of (scalar float ∷ scalar float ∷ scalar float ∷ scalar float ∷ []) ∷ [])) ≡ record {
+  places = Direct (at (F 0) 0 8 ∷ at (F 1) 8 8 ∷ []) ∷ [];
+  res = Nothing;
+  need = 80;
+  frame = 0;
+  block = 16;
+  vectors = 2;
+}
+unfolding least_multiple
+four_floats = refl
+
+-- sint32(pointer;double): variadic arguments are placed as fixed ones
+pub variadic : plan_of amd64 (record { result_type = scalar s32; arguments = scalar pointer ∷ scalar double ∷ []; fixed = Some 1 }) ≡ record {
+  places = alone (G 7) ∷ alone (F 0) ∷ [];
+  res = DirectRes (widened (G 0) 4 ∷ []);
+  need = 80;
+  frame = 0;
+  block = 16;
+  vectors = 1;
+}
+unfolding least_multiple
+variadic = refl
+
+-- a result of three uint64, and one of four doubles: the address of the buffer is in rdi
+pub hidden_result : plan_of amd64 (sig_of triple []) ≡ record { places = []; res = Hidden (G 7) 0; need = 96; frame = 32; block = 0; vectors = 0 }
+unfolding least_multiple
+hidden_result = refl
+
+pub hidden_doubles : plan_of amd64 (sig_of (struct_of (scalar double ∷ scalar double ∷ scalar double ∷ scalar double ∷ [])) []) ≡ record { places = []; res = Hidden (G 7) 0; need = 96; frame = 32; block = 0; vectors = 0 }
+unfolding least_multiple
+hidden_doubles = refl
+
+-- a struct over two eightbytes goes to the stack, and a sint8 is extended
+pub memory_argument : plan_of amd64 (sig_of void (triple ∷ scalar s8 ∷ [])) ≡ record {
+  places = Direct (at (S 0) 0 8 ∷ at (S 8) 8 8 ∷ at (S 16) 16 8 ∷ []) ∷ Direct (widened (G 7) 1 ∷ []) ∷ [];
+  res = Nothing;
+  need = 128;
+  frame = 32;
+  block = 32;
+  vectors = 0;
+}
+unfolding least_multiple
+memory_argument = refl
+
+-- a struct of 16 bytes takes two registers; one of 17 goes to the stack, and its last piece has one byte
+pub sixteen_and_seventeen : plan_of amd64 (sig_of void (struct_of (replicate 16 (scalar u8)) ∷ struct_of (replicate 17 (scalar u8)) ∷ scalar u16 ∷ [])) ≡ record {
+  places = Direct (at (G 7) 0 8 ∷ at (G 6) 8 8 ∷ []) ∷ Direct (at (S 0) 0 8 ∷ at (S 8) 8 8 ∷ at (S 16) 16 1 ∷ []) ∷ Direct (widened (G 2) 2 ∷ []) ∷ [];
+  res = Nothing;
+  need = 144;
+  frame = 32;
+  block = 48;
+  vectors = 0;
+}
+unfolding least_multiple
+sixteen_and_seventeen = refl
+
+-- A hidden result, four sint64 and mixed structs: the first takes r9 and xmm0. The second finds no general register, and takes no vector register either.
+pub mixed_after_hidden : plan_of amd64 (sig_of triple (integer ∷ integer ∷ integer ∷ integer ∷ struct_of (scalar s64 ∷ scalar double ∷ []) ∷ struct_of (scalar double ∷ scalar s64 ∷ []) ∷ scalar float ∷ [])) ≡ record {
+  places = alone (G 6) ∷ alone (G 2) ∷ alone (G 1) ∷ alone (G 8) ∷ Direct (at (G 9) 0 8 ∷ at (F 0) 8 8 ∷ []) ∷ Direct (at (S 0) 0 8 ∷ at (S 8) 8 8 ∷ []) ∷ Direct (at (F 1) 0 4 ∷ []) ∷ [];
+  res = Hidden (G 7) 16;
+  need = 192;
+  frame = 48;
+  block = 80;
+  vectors = 2;
+}
+unfolding least_multiple
+mixed_after_hidden = refl
+
+-- nine doubles: xmm7 is the last vector register
+pub nine_doubles : plan_of amd64 (sig_of (scalar double) (replicate 9 (scalar double))) ≡ record {
+  places = alone (F 0) ∷ alone (F 1) ∷ alone (F 2) ∷ alone (F 3) ∷ alone (F 4) ∷ alone (F 5) ∷ alone (F 6) ∷ alone (F 7) ∷ alone (S 0) ∷ [];
+  res = DirectRes (at (F 0) 0 8 ∷ []);
+  need = 160;
+  frame = 16;
+  block = 80;
+  vectors = 8;
+}
+unfolding least_multiple
+nine_doubles = refl
+
+-- 64 arguments
+pub numbers_of_64 : (need_of amd64 (sig_of void (replicate 64 integer)) ≡ 1040) × (frame_of amd64 (sig_of void (replicate 64 integer)) ≡ 464) × (block_bytes (sig_of void (replicate 64 integer)) ≡ 512)
+unfolding least_multiple
+numbers_of_64 = (refl, refl, refl)

@@ -1,6 +1,6 @@
 -- Where the arguments and the result of a call stand on AMD64. (System V psABI AMD64 3.2.3)
-use Rattle.std.specs.Prelude.{ℕ, zero, suc, ◌+◌, ◌-◌, ◌*◌, ◌/◌, ◌≤◌, Bool, true, false, not, ◌&&◌, ◌||◌, cond, nat_le, nat_lt, List, [], ◌∷◌, ◌++◌, get_or, reverse, length, Option, Some, None}
-use Rattle.std.specs.List.{list_any, count_by, sum_by}
+use Rattle.std.specs.Prelude.{ℕ, zero, suc, ◌+◌, ◌*◌, ◌/◌, Bool, true, false, not, ◌&&◌, cond, nat_le, nat_lt, List, [], ◌∷◌, ◌++◌, get_or, length, Some, None}
+use Rattle.std.specs.List.{list_any, count_by}
 use Rattle.ffi3_type_rules.specs.declared.Target.TheVariants as target
 use Rattle.ffi3_type_rules.specs.Tree.{Tree, void, scalar, structure, Scalar, u8, s8, u16, s16, u32, s32}
 use Rattle.ffi3_type_rules.specs.Layout.{Leaf, leaves_of, size_of, scalar_size}
@@ -11,6 +11,7 @@ use Rattle.ffi3_place_rules.specs.declared.Loc.TheVariants.{G, F, S}
 use Rattle.ffi3_place_rules.specs.declared.Ext.{Ext}
 use Rattle.ffi3_place_rules.specs.declared.Ext.TheVariants.{Free, Widen}
 use Rattle.ffi3_place_rules.specs.declared.Piece.{Piece}
+use Rattle.ffi3_place_rules.specs.declared.Taken.{Taken}
 use Rattle.ffi3_place_rules.specs.Standard.{Standard, Placing, Spot, in_pieces, ResultSpot, no_result, in_result_pieces, in_buffer, doubleword, round8}
 use Rattle.ffi3_amd64_rules.specs.declared.Class.{Class}
 use Rattle.ffi3_amd64_rules.specs.declared.Class.TheVariants.{Integer, Sse}
@@ -60,7 +61,7 @@ integers t = count_by is_integer_class (classes t)
 abbrev pub sses : Tree → ℕ
 sses t = count_by is_sse_class (classes t)
 
--- a lone integer narrower than eight bytes is extended by its sign
+-- A lone integer narrower than eight bytes is extended by its sign. (This library's rule: the standard leaves the bits above it open.)
 abbrev pub extension_of_scalar : Scalar → Ext
 extension_of_scalar u8 = Widen
 extension_of_scalar s8 = Widen
@@ -105,12 +106,6 @@ stack_pieces start t j zero = []
 stack_pieces start t j (suc count) = doubleword (S (start + 8 * j)) j (size_of t) (extension t) ∷ stack_pieces start t (j + 1) count
 
 -- ---- arguments
-
--- the registers and the bytes of stack that earlier arguments take
-pub record Taken : Type 0 where
-  pub general : ℕ
-  pub vector : ℕ
-  pub stack : ℕ
 
 -- the registers that are left suffice for all eightbytes of the argument
 abbrev pub in_registers : Taken → Tree → Bool
@@ -158,15 +153,18 @@ placing_of s = record {
   vector_registers = (taken_after (taken_at_first s.result_type) s.arguments).vector;
 }
 
--- Preserved: rbx, rbp, r12 to r15. r10 holds the closure's address. rax tells the number of vector registers, and returns the address of a result in memory.
+-- The stack pointer is rsp. Preserved: rbx, rbp, r12 to r15. r10 holds the closure's address. rax tells the number of vector registers, and returns the address of a result in memory.
 abbrev pub amd64 : Standard
 amd64 = record {
   target = target.Amd64;
   link = 8;
   save = 56;
+  stack_pointer = G 4;
   preserved = G 3 ∷ G 5 ∷ G 12 ∷ G 13 ∷ G 14 ∷ G 15 ∷ [];
   reserved = [];
+  link_register = None;
   closure_register = 10;
+  trampoline_registers = G 10 ∷ [];
   vector_count = Some (G 0);
   returned_address = Some (G 0);
   placing = placing_of;

@@ -1,1 +1,2 @@
 pub mod Amd64
+pub mod Sums

@@ -1,5 +1,5 @@
 -- What a machine's journal records: an entry or a return, with the machine's image at that moment.
-use Rattle.std.specs.Prelude.{ℕ, List}
+use Rattle.std.specs.Prelude.{ℕ}
 use Rattle.ffi3_place_rules.specs.Image.{Image}
 
 pub data EventKind : Type 0 where

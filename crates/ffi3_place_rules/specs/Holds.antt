@@ -1,7 +1,7 @@
 -- What it means that an image holds the arguments of a call, or its result, and that registers are preserved.
-use Rattle.std.specs.Prelude.{◌≡◌, ℕ, ◌+◌, ◌-◌, ◌/◌, ◌^◌, ◌<◌, ◌≤◌, ⊤, true, List, [], ◌∷◌, ◌++◌, take, drop, get_or, length, Option, Some, None}
+use Rattle.std.specs.Prelude.{◌≡◌, ℕ, ◌+◌, ◌-◌, ◌/◌, ◌^◌, ◌<◌, ◌≤◌, ⊤, true, List, [], ◌∷◌, ◌++◌, take, drop, get_or, Option, Some, None}
 use Rattle.std.specs.List.{AllByRecursion}
-use Rattle.ffi3_type_rules.specs.Tree.{Tree, scalar, Scalar}
+use Rattle.ffi3_type_rules.specs.Tree.{Tree, scalar}
 use Rattle.ffi3_type_rules.specs.Layout.{Leaf, leaves_of, size_of, scalar_size}
 use Rattle.ffi3_type_rules.specs.Signature.{Signature}
 use Rattle.ffi3_type_rules.specs.Value.{ValueTree, void_value, leaf_value, struct_value, ValueTrees, no_values, value, value_in, fits}

@@ -2,3 +2,4 @@ pub mod Standard
 pub mod Image
 pub mod Event
 pub mod Holds
+pub mod Sound

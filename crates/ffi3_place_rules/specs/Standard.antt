@@ -6,7 +6,6 @@ use Rattle.ffi3_type_rules.specs.Tree.{Tree}
 use Rattle.ffi3_type_rules.specs.Layout.{size_of, least_multiple}
 use Rattle.ffi3_type_rules.specs.Signature.{Signature}
 use Rattle.ffi3_place_rules.specs.declared.Loc.{Loc}
-use Rattle.ffi3_place_rules.specs.declared.Loc.TheVariants.{S}
 use Rattle.ffi3_place_rules.specs.declared.Ext.{Ext}
 use Rattle.ffi3_place_rules.specs.declared.Piece.{Piece}
 use Rattle.ffi3_place_rules.specs.declared.Place.{Place}
@@ -38,10 +37,14 @@ pub record Standard : Type 0 where
   -- bytes of the return address on the stack at entry, and of the callee's save area
   pub link : ℕ
   pub save : ℕ
-  -- the registers that a callee preserves, in the order of its save area; those that nothing writes; the one that holds the closure's address at entry
+  pub stack_pointer : Loc
+  -- the registers that a callee preserves, in the order of its save area; those that nothing writes; the one that holds the return address
   pub preserved : List Loc
   pub reserved : List Loc
+  pub link_register : Option Loc
+  -- the register that holds the closure's address at entry, and all that a trampoline writes
   pub closure_register : ℕ
+  pub trampoline_registers : List Loc
   -- the register that tells at a call how many vector registers the arguments use, and the one in which a hidden result's address is returned
   pub vector_count : Option Loc
   pub returned_address : Option Loc

@@ -162,3 +162,11 @@ pub struct Plan {
     pub block: u64,
     pub vectors: u8,
 }
+
+/// The general registers, the floating registers and the bytes of stack that earlier arguments take.
+#[derive(Clone, Copy, Debug)]
+pub struct Taken {
+    pub general: u64,
+    pub vector: u64,
+    pub stack: u64,
+}

@@ -1,0 +1,417 @@
+// The System V AMD64 calling standard.
+#![tactic(auto)]
+
+ghost use Rattle.std.specs.Prelude.{◌≡◌, ◌<◌, ◌≤◌, ◌+◌, ◌*◌, ◌^◌, length, slice_index, IfOk, [], true, false};
+ghost use Rattle.std.specs.List.{sum_by};
+ghost use Rattle.ffi3_type_rules.specs.Tree.{Scalar, scalar, tree_at};
+ghost use Rattle.ffi3_type_rules.specs.Layout.{size_of, leaves_of, leaf_at};
+ghost use Rattle.ffi3_type_rules.specs.Integer.{is_floating};
+ghost use Rattle.ffi3_type_rules.specs.Fault.{HasNoFault};
+ghost use Rattle.ffi3_type_rules.specs.Signature.{SignatureHasNoFault};
+ghost use Rattle.ffi3_types.specs.TreeOf.{tree_of};
+ghost use Rattle.ffi3_place_rules.specs.Standard.{doubleword, places_from, result_at, buffer_bytes, round8};
+ghost use Rattle.ffi3_amd64_rules.specs.Amd64.{is_integer_leaf_in, class_of, in_memory, integers, sses, extension, vector_register, register_pieces, classes, stack_pieces, eightbytes, in_registers, pieces_after, taken_with, taken_after, taken_at_first, spots_after, result_spot_of};
+
+#[cfg(test)]
+mod tests;
+
+pub use ffi3_amd64_rules::Class;
+use ffi3_place::{Abi, Ext, Loc, Piece, Pieces, Place, Places, Plan, Res};
+use ffi3_place_rules::Taken;
+use ffi3_type_rules::round_up;
+use ffi3_types::{FfiType, NoMemory, Sig, Target};
+use std::alloc::Global;
+
+/// Whether a scalar is a float or a double.
+fn floating(kind: &FfiType) -> bool
+    ensures { (s : Scalar) → tree_of kind.now ≡ scalar s → result ≡ is_floating s }
+{
+    matches!(kind, FfiType::Float | FfiType::Double)
+}
+
+/// Whether leaf `i` is an integer or a pointer with a byte in the eightbyte.
+fn is_integer_in(ty: &FfiType, i: u32, eightbyte: u32) -> bool
+    requires right { HasNoFault 0 true (tree_of ty.now) }
+    requires in_range { i < length (leaves_of (tree_of ty.now)) }
+    ensures { result ≡ is_integer_leaf_in eightbyte (leaf_at (tree_of ty.now) i) }
+{
+    let leaf = ty.leaf(i);
+    let size = leaf.kind.size();
+    let start = 8 * eightbyte as u64;
+    leaf.at < start + 8 && start < leaf.at + size && !floating(&leaf.kind)
+}
+
+/// The class of an eightbyte of a value that is passed in registers: INTEGER where an integer or a pointer lies in it, otherwise SSE. (psABI AMD64 3.2.3)
+pub fn class_of(ty: &FfiType, eightbyte: u32) -> Class
+    requires { HasNoFault 0 true (tree_of ty.now) }
+    ensures { result ≡ class_of (tree_of ty.now) eightbyte }
+{
+    for i in 0..ty.leaf_count() {
+        if is_integer_in(ty, i, eightbyte) {
+            return Class::Integer;
+        }
+    }
+    Class::Sse
+}
+
+/// The size of a type without fault.
+fn size_of(ty: &FfiType) -> u64
+    requires { HasNoFault 0 true (tree_of ty.now) }
+    ensures value { result ≡ size_of (tree_of ty.now) }
+    ensures small { result ≤ 1024 }
+{
+    ty.size()
+}
+
+/// Whether a value has the class MEMORY: a struct over two eightbytes. (psABI AMD64 3.2.3)
+pub fn in_memory(ty: &FfiType) -> bool
+    requires { HasNoFault 0 true (tree_of ty.now) }
+    ensures { result ≡ in_memory (tree_of ty.now) }
+{
+    match ty {
+        FfiType::Struct(_) => size_of(ty) > 16,
+        _ => false,
+    }
+}
+
+/// What fills the rest of a value's places.
+fn extended(ty: &FfiType) -> Ext
+    ensures { result ≡ extension (tree_of ty.now) }
+{
+    match ty {
+        FfiType::U8 | FfiType::S8 | FfiType::U16 | FfiType::S16 | FfiType::U32 | FfiType::S32 =>
+            Ext::Widen,
+        _ => Ext::Free,
+    }
+}
+
+/// How many eightbytes of each class a value has, none where it is in memory.
+#[derive(Clone, Copy)]
+struct Classes {
+    integers: u64,
+    sses: u64,
+}
+
+fn count_classes(ty: &FfiType) -> Classes
+    requires { HasNoFault 0 true (tree_of ty.now) }
+    ensures general { result.integers ≡ integers (tree_of ty.now) }
+    ensures vector { result.sses ≡ sses (tree_of ty.now) }
+    ensures few_general { result.integers ≤ 128 }
+    ensures few_vector { result.sses ≤ 128 }
+{
+    let mut integers = 0;
+    let mut sses = 0;
+    if !in_memory(ty) {
+        let count = (size_of(ty) + 7) / 8;
+        for j in 0..count {
+            match class_of(ty, j as u32) {
+                Class::Integer => integers += 1,
+                Class::Sse => sses += 1,
+            }
+        }
+    }
+    Classes { integers, sses }
+}
+
+/// rdi, rsi, rdx, rcx, r8, r9
+const ARGUMENT_REGISTERS: [u8; 6] = [7, 6, 2, 1, 8, 9];
+
+/// rax, rdx
+const RESULT_REGISTERS: [u8; 2] = [0, 2];
+
+/// Eightbyte `j` of a value, in its place.
+fn eightbyte(ty: &FfiType, j: u64, loc: Loc) -> Piece
+    requires right { HasNoFault 0 true (tree_of ty.now) }
+    requires within { 8 * j < size_of (tree_of ty.now) }
+    ensures { result ≡ doubleword loc j (size_of (tree_of ty.now)) (extension (tree_of ty.now)) }
+{
+    let left = size_of(ty) - 8 * j;
+    Piece {
+        loc,
+        off: (8 * j) as u32,
+        len: if left < 8 { left as u8 } else { 8 },
+        ext: extended(ty),
+    }
+}
+
+/// A value's eightbytes in registers, from numbers `general` and `vector` on.
+fn pieces_in_registers(
+    alloc: Global,
+    ty: &FfiType,
+    general: u64,
+    vector: u64,
+    registers: &[u8],
+) -> Result<Pieces, NoMemory>
+    requires right { HasNoFault 0 true (tree_of ty.now) }
+    requires direct { in_memory (tree_of ty.now) ≡ false }
+    requires enough_general { general + integers (tree_of ty.now) ≤ length registers.now }
+    requires enough_vector { vector + sses (tree_of ty.now) ≤ 8 }
+    requires few { length registers.now ≤ 8 }
+    ensures { IfOk result (λ p. p ≡ register_pieces (slice_index registers.now) general vector (tree_of ty.now) [] (classes (tree_of ty.now))) }
+{
+    let count = (size_of(ty) + 7) / 8;
+    let mut pieces = Pieces::new(alloc);
+    let mut next_general = general;
+    let mut next_vector = vector;
+    for j in 0..count {
+        let loc = match class_of(ty, j as u32) {
+            Class::Integer => {
+                next_general += 1;
+                Loc::G(registers[next_general as usize - 1])
+            }
+            Class::Sse => {
+                next_vector += 1;
+                Loc::F(next_vector as u8 - 1)
+            }
+        };
+        pieces.push(eightbyte(ty, j, loc))?;
+    }
+    Ok(pieces)
+}
+
+/// A value's eightbytes on the stack, from offset `start` on.
+fn pieces_on_stack(alloc: Global, ty: &FfiType, start: u64) -> Result<Pieces, NoMemory>
+    requires right { HasNoFault 0 true (tree_of ty.now) }
+    requires low { start ≤ 65536 }
+    ensures { IfOk result (λ p. p ≡ stack_pieces start (tree_of ty.now) 0 (eightbytes (tree_of ty.now))) }
+{
+    let count = (size_of(ty) + 7) / 8;
+    let mut pieces = Pieces::new(alloc);
+    for j in 0..count {
+        pieces.push(eightbyte(ty, j, Loc::S((start + 8 * j) as u32)))?;
+    }
+    Ok(pieces)
+}
+
+/// Whether the registers that are left suffice for the whole argument.
+fn fits_registers(before: Taken, ty: &FfiType) -> bool
+    requires right { HasNoFault 0 true (tree_of ty.now) }
+    requires few_general { before.general ≤ 6 }
+    requires few_vector { before.vector ≤ 8 }
+    ensures { result ≡ in_registers before (tree_of ty.now) }
+{
+    let count = count_classes(ty);
+    !in_memory(ty) && before.general + count.integers <= 6 && before.vector + count.sses <= 8
+}
+
+fn argument_pieces(alloc: Global, before: Taken, ty: &FfiType) -> Result<Pieces, NoMemory>
+    requires right { HasNoFault 0 true (tree_of ty.now) }
+    requires few_general { before.general ≤ 6 }
+    requires few_vector { before.vector ≤ 8 }
+    requires low { before.stack ≤ 65536 }
+    ensures { IfOk result (λ p. p ≡ pieces_after before (tree_of ty.now)) }
+{
+    if fits_registers(before, ty) {
+        pieces_in_registers(
+            alloc,
+            ty,
+            before.general,
+            before.vector,
+            &ARGUMENT_REGISTERS,
+        )
+    } else {
+        pieces_on_stack(alloc, ty, before.stack)
+    }
+}
+
+fn with_argument(before: Taken, ty: &FfiType) -> Taken
+    requires right { HasNoFault 0 true (tree_of ty.now) }
+    requires few_general { before.general ≤ 6 }
+    requires few_vector { before.vector ≤ 8 }
+    requires low { before.stack ≤ 65536 }
+    ensures value { result ≡ taken_with before (tree_of ty.now) }
+    ensures few_general { result.general ≤ 6 }
+    ensures few_vector { result.vector ≤ 8 }
+    ensures low { result.stack ≤ before.stack + 1031 }
+{
+    if fits_registers(before, ty) {
+        let count = count_classes(ty);
+        Taken {
+            general: before.general + count.integers,
+            vector: before.vector + count.sses,
+            stack: before.stack,
+        }
+    } else {
+        Taken {
+            general: before.general,
+            vector: before.vector,
+            stack: before.stack + round_up(size_of(ty), 8),
+        }
+    }
+}
+
+/// How many arguments a signature without fault has.
+fn count_of(sig: &Sig) -> u32
+    requires { SignatureHasNoFault sig.now }
+    ensures value { result ≡ length sig.now.arguments }
+    ensures few { result ≤ 64 }
+{
+    sig.count()
+}
+
+/// An argument's type, which has no fault.
+fn argument(sig: &Sig, i: u32) -> &FfiType
+    requires right { SignatureHasNoFault sig.now }
+    requires within { i < length sig.now.arguments }
+    ensures element { tree_of result.now ≡ tree_at sig.now.arguments i }
+    ensures right { HasNoFault 0 true (tree_of result.now) }
+{
+    sig.arg(i)
+}
+
+/// The result's type, which has no fault.
+fn result_type(sig: &Sig) -> &FfiType
+    requires { SignatureHasNoFault sig.now }
+    ensures element { tree_of result.now ≡ sig.now.result_type }
+    ensures right { HasNoFault 0 true (tree_of result.now) }
+{
+    sig.ret()
+}
+
+/// The sizes of all arguments, each a multiple of 8.
+fn sizes_of(sig: &Sig) -> u64
+    requires { SignatureHasNoFault sig.now }
+    ensures value { result ≡ sum_by (λ t. round8 (size_of t)) sig.now.arguments }
+    ensures bound { result ≤ 66048 }
+{
+    let mut all = 0;
+    for i in 0..count_of(sig) {
+        all += round_up(size_of(argument(sig, i)), 8);
+    }
+    all
+}
+
+/// The places of all arguments, and what they take.
+#[derive(Drop)]
+struct Placed {
+    places: Places,
+    taken: Taken,
+}
+
+/// The address of a result in memory takes the first general register.
+fn at_first(result_type: &FfiType) -> Taken
+    requires { HasNoFault 0 true (tree_of result_type.now) }
+    ensures value { result ≡ taken_at_first (tree_of result_type.now) }
+    ensures few { result.general ≤ 1 }
+{
+    Taken {
+        general: if in_memory(result_type) { 1 } else { 0 },
+        vector: 0,
+        stack: 0,
+    }
+}
+
+fn place_all(alloc: Global, sig: &Sig) -> Result<Placed, NoMemory>
+    requires { SignatureHasNoFault sig.now }
+    ensures places { IfOk result (λ p. p.places ≡ places_from 0 sig.now.arguments (spots_after (taken_at_first sig.now.result_type) sig.now.arguments)) }
+    ensures taken { IfOk result (λ p. p.taken ≡ taken_after (taken_at_first sig.now.result_type) sig.now.arguments) }
+    ensures low { IfOk result (λ p. p.taken.stack ≤ 66048) }
+    ensures few_vector { IfOk result (λ p. p.taken.vector ≤ 8) }
+{
+    let mut before = at_first(result_type(sig));
+    let mut places = Places::new(alloc);
+    for i in 0..count_of(sig) {
+        let ty = argument(sig, i);
+        places.push(Place::Direct(argument_pieces(alloc, before, ty)?))?;
+        before = with_argument(before, ty);
+    }
+    Ok(Placed {
+        places,
+        taken: before,
+    })
+}
+
+fn place_result(alloc: Global, ty: &FfiType, buffer: u64) -> Result<Res, NoMemory>
+    requires right { HasNoFault 0 true (tree_of ty.now) }
+    requires low { buffer ≤ 131072 }
+    ensures { IfOk result (λ r. r ≡ result_at buffer (result_spot_of (tree_of ty.now))) }
+{
+    if let FfiType::Void = ty {
+        return Ok(Res::Nothing);
+    }
+    if in_memory(ty) {
+        return Ok(Res::Hidden {
+            at: Loc::G(ARGUMENT_REGISTERS[0]),
+            buffer: buffer as u32,
+        });
+    }
+    Ok(Res::Direct(pieces_in_registers(alloc, ty, 0, 0, &RESULT_REGISTERS)?))
+}
+
+/// The bytes of a hidden result's buffer.
+fn buffer_of(ty: &FfiType) -> u64
+    requires { HasNoFault 0 true (tree_of ty.now) }
+    ensures value { result ≡ buffer_bytes (tree_of ty.now) (result_spot_of (tree_of ty.now)) }
+    ensures small { result ≤ 1032 }
+{
+    if in_memory(ty) {
+        round_up(size_of(ty), 8)
+    } else {
+        0
+    }
+}
+
+/// The System V AMD64 calling standard. (psABI AMD64 3.2)
+pub struct Amd64;
+
+impl Abi for Amd64 {
+    ghost use Rattle.ffi3_type_rules.specs.declared.Target.TheVariants as target;
+    ghost use Rattle.ffi3_amd64_rules.specs.Amd64.{amd64};
+
+    ghost standard = { amd64 };
+
+    ghost SAVE = { 56 };
+
+    ghost LINK = { 8 };
+
+    ghost TARGET = { target.Amd64 };
+
+    ghost KEPT = { 6 };
+
+    const SAVE: u64 = 56;
+
+    const LINK: u64 = 8;
+
+    const TARGET: Target = Target::Amd64;
+
+    const KEPT: u8 = 6;
+
+    fn kept_register(k: u8) -> Loc {
+        // rbx, rbp, r12 to r15
+        const REGISTERS: [u8; 6] = [3, 5, 12, 13, 14, 15];
+        Loc::G(REGISTERS[k as usize])
+    }
+
+    fn plan(alloc: Global, sig: &Sig) -> Result<Plan, NoMemory> {
+        let all = place_all(alloc, sig)?;
+        let ret = result_type(sig);
+        let buffer = round_up(all.taken.stack, 16);
+        let frame = round_up(buffer + buffer_of(ret), 16);
+        let block = round_up(sizes_of(sig), 16);
+        let res = place_result(alloc, ret, buffer)?;
+        let vectors = all.taken.vector as u8;
+        Ok(Plan {
+            places: all.places,
+            res,
+            need: frame + 8 + 56 + block,
+            frame,
+            block,
+            vectors,
+        })
+    }
+
+    ghost use Rattle.std.specs.Prelude.{refl};
+    ghost use Rattle.ffi3_amd64_rules.proofs.Sound.{sound as every_law, determines};
+
+    ghost save_is = { refl };
+
+    ghost link_is = { refl };
+
+    ghost target_is = { refl };
+
+    ghost kept_all = { refl };
+
+    ghost sound = { λ s _. every_law s };
+
+    ghost determined = { λ s _. determines s };
+}

@@ -1,0 +1,86 @@
+-- The lists of registers: no register stands twice in one, and none is forbidden.
+use Rattle.std.proofs.Common.{◌≡◌, ℕ, zero, suc, ◌<◌, true, [], ◌∷◌, get_or, sym, ◌∙◌, ap, refl, arith}
+use Rattle.ffi3_place_rules.specs.declared.Loc.TheVariants.{G, F, S}
+use Rattle.ffi3_place_rules.specs.Sound.{IsNoneOf, no_argument, no_result}
+use Rattle.ffi3_place_rules.proofs.Chain.{Registers}
+use Rattle.ffi3_place_rules.proofs.Forbidden.{is_none_of, none_of}
+use Rattle.ffi3_amd64_rules.specs.Amd64.{amd64, argument_register, result_register, vector_register}
+
+-- what holds at the first numbers
+each_of_six : (P : ℕ → Type 0) → P 0 → P 1 → P 2 → P 3 → P 4 → P 5 → (k : ℕ) → k < 6 → P k
+each_of_six P a b c d e f zero h = a
+each_of_six P a b c d e f (suc zero) h = b
+each_of_six P a b c d e f (suc (suc zero)) h = c
+each_of_six P a b c d e f (suc (suc (suc zero))) h = d
+each_of_six P a b c d e f (suc (suc (suc (suc zero)))) h = e
+each_of_six P a b c d e f (suc (suc (suc (suc (suc zero))))) h = f
+each_of_six P a b c d e f (suc (suc (suc (suc (suc (suc k)))))) h = absurd (omega arith)
+
+each_of_two : (P : ℕ → Type 0) → P 0 → P 1 → (k : ℕ) → k < 2 → P k
+each_of_two P a b zero h = a
+each_of_two P a b (suc zero) h = b
+each_of_two P a b (suc (suc k)) h = absurd (omega arith)
+
+-- ---- arguments
+
+abbrev number_of : ℕ → ℕ
+number_of r = get_or (9 ∷ 3 ∷ 2 ∷ 9 ∷ 9 ∷ 9 ∷ 1 ∷ 0 ∷ 4 ∷ 5 ∷ []) r 9
+
+argument_number : (k : ℕ) → k < 6 → number_of (argument_register k) ≡ k
+argument_number = each_of_six (λ k. number_of (argument_register k) ≡ k) refl refl refl refl refl refl
+
+pub argument_registers : Registers argument_register vector_register 6 8
+argument_registers = record {
+  general_apart = λ j k h l e. absurd (apart j k h l e);
+  floating_apart = λ j k h l e. absurd (omega (arith, e));
+}
+  where
+    apart : (j k : ℕ) → j < k → k < 6 → argument_register j ≡ argument_register k → ⊥
+    apart j k h l e =
+        let same : j ≡ k = sym (argument_number j (omega arith)) ∙ ap number_of e ∙ argument_number k l in
+        omega (arith, same)
+
+pub argument_small : (k : ℕ) → k < 6 → argument_register k < 32
+argument_small = each_of_six (λ k. argument_register k < 32) (omega arith) (omega arith) (omega arith) (omega arith) (omega arith) (omega arith)
+
+pub argument_allowed : (k : ℕ) → k < 6 → IsNoneOf (no_argument amd64) (G (argument_register k))
+argument_allowed k h =
+    none_of (no_argument amd64) (G (argument_register k)) (each_of_six (λ j. is_none_of (no_argument amd64) (G (argument_register j)) ≡ true) refl refl refl refl refl refl k h)
+
+pub vector_allowed : (k : ℕ) → k < 8 → IsNoneOf (no_argument amd64) (F (vector_register k))
+vector_allowed k h = none_of (no_argument amd64) (F (vector_register k)) refl
+
+pub stack_allowed : (n : ℕ) → IsNoneOf (no_argument amd64) (S n)
+stack_allowed n = none_of (no_argument amd64) (S n) refl
+
+-- ---- results
+
+abbrev number_of_result : ℕ → ℕ
+number_of_result r = get_or (0 ∷ 9 ∷ 1 ∷ []) r 9
+
+result_number : (k : ℕ) → k < 2 → number_of_result (result_register k) ≡ k
+result_number = each_of_two (λ k. number_of_result (result_register k) ≡ k) refl refl
+
+pub result_registers : Registers result_register vector_register 2 2
+result_registers = record {
+  general_apart = λ j k h l e. absurd (apart j k h l e);
+  floating_apart = λ j k h l e. absurd (omega (arith, e));
+}
+  where
+    apart : (j k : ℕ) → j < k → k < 2 → result_register j ≡ result_register k → ⊥
+    apart j k h l e =
+        let same : j ≡ k = sym (result_number j (omega arith)) ∙ ap number_of_result e ∙ result_number k l in
+        omega (arith, same)
+
+pub result_small : (k : ℕ) → k < 2 → result_register k < 32
+result_small = each_of_two (λ k. result_register k < 32) (omega arith) (omega arith)
+
+pub result_allowed_general : (k : ℕ) → k < 2 → IsNoneOf (no_result amd64) (G (result_register k))
+result_allowed_general k h =
+    none_of (no_result amd64) (G (result_register k)) (each_of_two (λ j. is_none_of (no_result amd64) (G (result_register j)) ≡ true) refl refl k h)
+
+pub result_allowed_vector : (k : ℕ) → k < 2 → IsNoneOf (no_result amd64) (F (vector_register k))
+result_allowed_vector k h = none_of (no_result amd64) (F (vector_register k)) refl
+
+pub result_allowed_stack : (n : ℕ) → IsNoneOf (no_result amd64) (S n)
+result_allowed_stack n = none_of (no_result amd64) (S n) refl

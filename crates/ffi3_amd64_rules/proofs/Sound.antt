@@ -1,0 +1,233 @@
+-- The places of a signature are a chain, so no two share a register or a byte of stack; and they have all of the values, which they therefore determine.
+use Rattle.std.proofs.Common.{◌≡◌, ℕ, zero, suc, ◌+◌, ◌*◌, ◌/◌, ◌≤◌, Bool, true, false, cond, List, [], ◌∷◌, ◌++◌, subst, sym, refl, arith, append-nil, append_assoc}
+use Rattle.std.specs.List.{AllByRecursion, count_by, flat_map}
+use Rattle.std.proofs.lemmas.List.Sums.{sum_by-cons, sum_by_push}
+use Rattle.ffi3_type_rules.specs.Tree.{Tree, void, scalar, left_out, structure}
+use Rattle.ffi3_type_rules.specs.Layout.{size_of, least_multiple}
+use Rattle.ffi3_type_rules.specs.Signature.{Signature}
+use Rattle.ffi3_type_rules.proofs.Layouts.{least_multiple-above}
+use Rattle.ffi3_place_rules.specs.declared.Loc.{Loc}
+use Rattle.ffi3_place_rules.specs.declared.Loc.TheVariants.{G}
+use Rattle.ffi3_place_rules.specs.declared.Taken.{Taken}
+use Rattle.ffi3_place_rules.specs.Standard.{in_result_pieces, in_buffer, plan_of, places_from, result_at, copies_start, buffer_start, buffer_bytes, frame_of, round8}
+use Rattle.ffi3_place_rules.specs.Sound.{AreApart, piece_locs, place_locs, hidden_locs, result_locs, argument_locs, IsNoneOf, LiesIn, copy_locs, buffer_locs, call_locs, no_argument, no_result as not_for_results, ResultHasAll, IsSound, IsDetermined}
+use Rattle.ffi3_place_rules.proofs.Chain.{AtMost, at_most_self, Chain, chain_append, chain_less, chain_more, chain_apart, chain_allowed, chain_lies_in, slots_chain}
+use Rattle.ffi3_place_rules.proofs.Determines.{determined}
+use Rattle.ffi3_amd64_rules.specs.declared.Class.{Class}
+use Rattle.ffi3_amd64_rules.specs.declared.Class.TheVariants.{Integer, Sse}
+use Rattle.ffi3_amd64_rules.specs.Amd64.{amd64, is_integer_class, is_sse_class, classes, eightbytes, integers, sses, in_memory, argument_register, vector_register, result_register, register_pieces, stack_pieces, in_registers, taken_with, taken_after, taken_at_first, pieces_after, spots_after, result_spot_of, placing_of}
+use Rattle.ffi3_amd64_rules.proofs.Covered.{fits_registers, integers_few, sses_few, classes_when, registers_have_all, arguments_have_all}
+use Rattle.ffi3_amd64_rules.proofs.Registers.{argument_registers, argument_small, argument_allowed, vector_allowed, stack_allowed, result_registers, result_small, result_allowed_general, result_allowed_vector, result_allowed_stack}
+
+abbrev at_eightbyte : Taken → List Class → Taken
+at_eightbyte a earlier =
+    record { general = a.general + count_by is_integer_class earlier; vector = a.vector + count_by is_sse_class earlier; stack = a.stack }
+
+abbrev at_doubleword : Taken → ℕ → Taken
+at_doubleword a j = record { general = a.general; vector = a.vector; stack = a.stack + 8 * j }
+
+abbrev one_if : (Class → Bool) → Class → ℕ
+one_if p x = cond (p x) 1 0
+
+module _ (general : ℕ → ℕ) (generals vectors : ℕ) where
+  register_chain : (a : Taken) (t : Tree) (earlier cs : List Class) → a.general + (count_by is_integer_class earlier + count_by is_integer_class cs) ≤ generals → a.vector + (count_by is_sse_class earlier + count_by is_sse_class cs) ≤ vectors → Chain general vector_register generals vectors (at_eightbyte a earlier) (piece_locs (register_pieces general a.general a.vector t earlier cs)) (at_eightbyte a (earlier ++ cs))
+  register_chain a t earlier [] hg hf =
+      subst (λ l. AtMost (at_eightbyte a earlier) (at_eightbyte a l)) (sym (append-nil earlier)) (at_most_self (at_eightbyte a earlier))
+  register_chain a t earlier (Integer ∷ cs) hg hf =
+      let more_g : count_by is_integer_class (earlier ++ Integer ∷ []) ≡ count_by is_integer_class earlier + 1 = sum_by_push (one_if is_integer_class) earlier Integer in
+      let more_f : count_by is_sse_class (earlier ++ Integer ∷ []) ≡ count_by is_sse_class earlier + 0 = sum_by_push (one_if is_sse_class) earlier Integer in
+      let head_g : count_by is_integer_class (Integer ∷ cs) ≡ 1 + count_by is_integer_class cs = sum_by-cons (one_if is_integer_class) Integer cs in
+      let head_f : count_by is_sse_class (Integer ∷ cs) ≡ 0 + count_by is_sse_class cs = sum_by-cons (one_if is_sse_class) Integer cs in
+      let rest = register_chain a t (earlier ++ Integer ∷ []) cs (omega (arith, hg, more_g, head_g)) (omega (arith, hf, more_f, head_f)) in
+      let ends = append_assoc earlier (Integer ∷ []) cs in (
+        at_eightbyte a (earlier ++ Integer ∷ []),
+        (a.general + count_by is_integer_class earlier, refl, omega arith, omega (arith, hg, head_g)),
+        (a.general + count_by is_integer_class earlier, refl, omega (arith, more_g)),
+        record { general = omega (arith, more_g); vector = omega (arith, more_f); stack = omega arith },
+        subst (λ l. Chain general vector_register generals vectors (at_eightbyte a (earlier ++ Integer ∷ [])) (piece_locs (register_pieces general a.general a.vector t (earlier ++ Integer ∷ []) cs)) (at_eightbyte a l)) ends rest,
+      )
+  register_chain a t earlier (Sse ∷ cs) hg hf =
+      let more_g : count_by is_integer_class (earlier ++ Sse ∷ []) ≡ count_by is_integer_class earlier + 0 = sum_by_push (one_if is_integer_class) earlier Sse in
+      let more_f : count_by is_sse_class (earlier ++ Sse ∷ []) ≡ count_by is_sse_class earlier + 1 = sum_by_push (one_if is_sse_class) earlier Sse in
+      let head_g : count_by is_integer_class (Sse ∷ cs) ≡ 0 + count_by is_integer_class cs = sum_by-cons (one_if is_integer_class) Sse cs in
+      let head_f : count_by is_sse_class (Sse ∷ cs) ≡ 1 + count_by is_sse_class cs = sum_by-cons (one_if is_sse_class) Sse cs in
+      let rest = register_chain a t (earlier ++ Sse ∷ []) cs (omega (arith, hg, more_g, head_g)) (omega (arith, hf, more_f, head_f)) in
+      let ends = append_assoc earlier (Sse ∷ []) cs in (
+        at_eightbyte a (earlier ++ Sse ∷ []),
+        (a.vector + count_by is_sse_class earlier, refl, omega arith, omega (arith, hf, head_f)),
+        (a.vector + count_by is_sse_class earlier, refl, omega (arith, more_f)),
+        record { general = omega (arith, more_g); vector = omega (arith, more_f); stack = omega arith },
+        subst (λ l. Chain general vector_register generals vectors (at_eightbyte a (earlier ++ Sse ∷ [])) (piece_locs (register_pieces general a.general a.vector t (earlier ++ Sse ∷ []) cs)) (at_eightbyte a l)) ends rest,
+      )
+
+  stack_chain : (a : Taken) (t : Tree) (j count : ℕ) → Chain general vector_register generals vectors (at_doubleword a j) (piece_locs (stack_pieces a.stack t j count)) (at_doubleword a (j + count))
+  stack_chain a t j zero = record { general = omega arith; vector = omega arith; stack = omega arith }
+  stack_chain a t j (suc count) =
+      let same : j + 1 + count ≡ j + suc count = omega arith in (
+        at_doubleword a (j + 1),
+        omega arith,
+        omega arith,
+        record { general = omega arith; vector = omega arith; stack = omega arith },
+        subst (λ k. Chain general vector_register generals vectors (at_doubleword a (j + 1)) (piece_locs (stack_pieces a.stack t (j + 1) count)) (at_doubleword a k)) same (stack_chain a t (j + 1) count),
+      )
+
+abbrev ArgumentsChain : Taken → List Loc → Taken → Type 0
+ArgumentsChain = Chain argument_register vector_register 6 8
+
+abbrev ChainIf : Taken → Tree → Bool → Type 0
+ChainIf a t b = ArgumentsChain a
+    (piece_locs (cond b
+    (register_pieces argument_register a.general a.vector t [] (classes t))
+    (stack_pieces a.stack t 0 (eightbytes t))))
+    (cond {A = Taken} b
+    (record { general = a.general + integers t; vector = a.vector + sses t; stack = a.stack })
+    (record { general = a.general; vector = a.vector; stack = a.stack + round8 (size_of t) }))
+
+eightbytes_in : (n : ℕ) → 8 * ((n + 7) / 8) ≤ round8 n
+unfolding least_multiple
+eightbytes_in n = omega arith
+
+chain_if : (a : Taken) (t : Tree) (b : Bool) → in_registers a t ≡ b → ChainIf a t b
+chain_if a t true e =
+    let fits = fits_registers a t e in
+    let start : AtMost a (at_eightbyte a []) = record { general = omega arith; vector = omega arith; stack = omega arith } in
+    chain_less argument_register vector_register 6 8 a (at_eightbyte a []) _ _ start
+    (register_chain argument_register 6 8 a t [] (classes t) (omega (arith, fits.0)) (omega (arith, fits.1)))
+chain_if a t false e =
+    let start : AtMost a (at_doubleword a 0) = record { general = omega arith; vector = omega arith; stack = omega arith } in
+    let finish : AtMost (at_doubleword a (0 + eightbytes t)) (record { general = a.general; vector = a.vector; stack = a.stack + round8 (size_of t) }) = record { general = omega arith; vector = omega arith; stack = omega (arith, eightbytes_in (size_of t)) } in
+    chain_more argument_register vector_register 6 8 a _ _ _
+    (chain_less argument_register vector_register 6 8 a (at_doubleword a 0) _ _ start (stack_chain argument_register 6 8 a t 0 (eightbytes t))) finish
+
+argument_chain : (a : Taken) (t : Tree) → ArgumentsChain a (piece_locs (pieces_after a t)) (taken_with a t)
+argument_chain a t = chain_if a t (in_registers a t) refl
+
+places_chain : (copy : ℕ) (a : Taken) (ts : List Tree) → ArgumentsChain a (flat_map place_locs (places_from copy ts (spots_after a ts))) (taken_after a ts)
+places_chain copy a [] = at_most_self a
+places_chain copy a (t ∷ ts) =
+    chain_append argument_register vector_register 6 8 a (piece_locs (pieces_after a t)) (taken_with a t) _ _
+    (argument_chain a t) (places_chain (copy + 0) (taken_with a t) ts)
+
+-- ---- the whole signature
+
+abbrev untouched : Taken
+untouched = record { general = 0; vector = 0; stack = 0 }
+
+abbrev taken_by_all : Signature → Taken
+taken_by_all s = taken_after (taken_at_first s.result_type) s.arguments
+
+hidden_chain : (t : Tree) (buffer : ℕ) → ArgumentsChain untouched (hidden_locs (result_at buffer (result_spot_of t))) (taken_at_first t)
+hidden_chain void buffer = at_most_self untouched
+hidden_chain (scalar s) buffer = at_most_self untouched
+hidden_chain (left_out k) buffer = at_most_self untouched
+hidden_chain (structure ts) buffer = cases (in_memory (structure ts))
+  where
+    cases : (b : Bool) → ArgumentsChain untouched (hidden_locs (result_at buffer (cond b (in_buffer (G (argument_register 0))) (in_result_pieces (register_pieces result_register 0 0 (structure ts) [] (classes (structure ts))))))) (record { general = cond b 1 0; vector = 0; stack = 0 })
+    cases true =
+        let one : AtMost untouched (record { general = 1; vector = 0; stack = 0 }) = record { general = omega arith; vector = omega arith; stack = omega arith } in
+        (record { general = 1; vector = 0; stack = 0 }, (0, refl, omega arith, omega arith), (0, refl, omega arith), one, at_most_self (record { general = 1; vector = 0; stack = 0 }))
+    cases false = at_most_self untouched
+
+plan_chain : (s : Signature) → ArgumentsChain untouched (argument_locs (plan_of amd64 s)) (taken_by_all s)
+plan_chain s =
+    chain_append argument_register vector_register 6 8 untouched (hidden_locs (plan_of amd64 s).res) (taken_at_first s.result_type) _ _
+    (hidden_chain s.result_type (buffer_start s (placing_of s))) (places_chain (copies_start (placing_of s)) (taken_at_first s.result_type) s.arguments)
+
+plan_allowed : (s : Signature) → AllByRecursion (IsNoneOf (no_argument amd64)) (argument_locs (plan_of amd64 s))
+plan_allowed s =
+    chain_allowed argument_register vector_register 6 8 (no_argument amd64) argument_allowed vector_allowed stack_allowed untouched _ _ (plan_chain s)
+
+plan_lies_in : (s : Signature) → AllByRecursion (LiesIn (placing_of s).stack_bytes) (argument_locs (plan_of amd64 s))
+plan_lies_in s =
+    chain_lies_in argument_register vector_register 6 8 argument_small (λ k h. omega arith) untouched _ _ (placing_of s).stack_bytes (omega arith) (plan_chain s)
+
+-- ---- the frame
+
+-- no argument goes by reference
+no_copies : (copy : ℕ) (a : Taken) (ts : List Tree) → copy_locs ts (places_from copy ts (spots_after a ts)) ≡ []
+no_copies copy a [] = refl
+no_copies copy a (t ∷ ts) = no_copies (copy + 0) (taken_with a t) ts
+
+abbrev framed : Signature → Taken
+framed s = record { general = (taken_by_all s).general; vector = (taken_by_all s).vector; stack = frame_of amd64 s }
+
+abbrev after_buffer : Taken → ℕ → ℕ → Taken
+after_buffer a at n = record { general = a.general; vector = a.vector; stack = least_multiple 16 (at + n) }
+
+no_buffer : (a : Taken) (at : ℕ) → a.stack ≤ at → AtMost a (after_buffer a at 0)
+no_buffer a at low =
+    record { general = omega arith; vector = omega arith; stack = omega (arith, low, least_multiple-above 16 (at + 0)) }
+
+buffer_chain_of : (a : Taken) (t : Tree) (at : ℕ) → a.stack ≤ at → ArgumentsChain a (buffer_locs t (result_at at (result_spot_of t))) (after_buffer a at (buffer_bytes t (result_spot_of t)))
+buffer_chain_of a void at low = no_buffer a at low
+buffer_chain_of a (scalar s) at low = no_buffer a at low
+buffer_chain_of a (left_out k) at low = no_buffer a at low
+buffer_chain_of a (structure ts) at low = cases (in_memory (structure ts))
+  where
+    cases : (b : Bool) → ArgumentsChain a (buffer_locs (structure ts) (result_at at (cond b (in_buffer (G (argument_register 0))) (in_result_pieces (register_pieces result_register 0 0 (structure ts) [] (classes (structure ts))))))) (after_buffer a at (buffer_bytes (structure ts) (cond b (in_buffer (G (argument_register 0))) (in_result_pieces (register_pieces result_register 0 0 (structure ts) [] (classes (structure ts)))))))
+    cases true =
+        slots_chain argument_register vector_register 6 8 a at (eightbytes (structure ts)) _ low (omega (arith, least_multiple-above 16 (at + round8 (size_of (structure ts))), eightbytes_in (size_of (structure ts)))) (omega arith) (omega arith)
+    cases false = no_buffer a at low
+
+buffer_chain : (s : Signature) → ArgumentsChain (taken_by_all s) (buffer_locs s.result_type (plan_of amd64 s).res) (framed s)
+buffer_chain s =
+    buffer_chain_of (taken_by_all s) s.result_type (buffer_start s (placing_of s)) (omega (arith, least_multiple-above 16 (placing_of s).stack_bytes))
+
+call_chain : (s : Signature) → ArgumentsChain untouched (call_locs s (plan_of amd64 s)) (framed s)
+call_chain s =
+    let none = no_copies (copies_start (placing_of s)) (taken_at_first s.result_type) s.arguments in
+    chain_append argument_register vector_register 6 8 untouched (argument_locs (plan_of amd64 s)) (taken_by_all s) _ (framed s) (plan_chain s)
+    (subst (λ copies. ArgumentsChain (taken_by_all s) (copies ++ buffer_locs s.result_type (plan_of amd64 s).res) (framed s)) (sym none) (buffer_chain s))
+
+plan_apart : (s : Signature) → AreApart (call_locs s (plan_of amd64 s))
+plan_apart s = chain_apart argument_register vector_register 6 8 argument_registers untouched _ _ (call_chain s)
+
+plan_in_frame : (s : Signature) → AllByRecursion (LiesIn (frame_of amd64 s)) (call_locs s (plan_of amd64 s))
+plan_in_frame s =
+    chain_lies_in argument_register vector_register 6 8 argument_small (λ k h. omega arith) untouched _ (framed s) (frame_of amd64 s) (omega arith) (call_chain s)
+
+-- ---- the result
+
+-- the places of a result that isn't in memory
+result_chain : (t : Tree) → Chain result_register vector_register 2 2 (at_eightbyte untouched []) (piece_locs (register_pieces result_register 0 0 t [] (classes t))) (at_eightbyte untouched ([] ++ classes t))
+result_chain t =
+    register_chain result_register 2 2 untouched t [] (classes t) (omega (arith, integers_few t)) (omega (arith, sses_few t))
+
+result_cases : (P : List Loc → Type 0) → P [] → (t : Tree) → P (piece_locs (register_pieces result_register 0 0 t [] (classes t))) → (buffer : ℕ) → P (result_locs (result_at buffer (result_spot_of t)))
+result_cases P none void direct buffer = none
+result_cases P none (scalar s) direct buffer = direct
+result_cases P none (left_out k) direct buffer = direct
+result_cases P none (structure ts) direct buffer = cases (in_memory (structure ts))
+  where
+    cases : (b : Bool) → P (result_locs (result_at buffer (cond b (in_buffer (G (argument_register 0))) (in_result_pieces (register_pieces result_register 0 0 (structure ts) [] (classes (structure ts)))))))
+    cases true = none
+    cases false = direct
+
+result_has_all : (t : Tree) (buffer : ℕ) → ResultHasAll t (result_at buffer (result_spot_of t))
+result_has_all void buffer = refl
+result_has_all (scalar s) buffer = registers_have_all result_register 0 0 (scalar s) (classes (scalar s)) (classes_when (scalar s) refl)
+result_has_all (left_out k) buffer = registers_have_all result_register 0 0 (left_out k) (classes (left_out k)) (classes_when (left_out k) refl)
+result_has_all (structure ts) buffer = cases (in_memory (structure ts)) refl
+  where
+    cases : (b : Bool) → in_memory (structure ts) ≡ b → ResultHasAll (structure ts) (result_at buffer (cond b (in_buffer (G (argument_register 0))) (in_result_pieces (register_pieces result_register 0 0 (structure ts) [] (classes (structure ts))))))
+    cases true e = tt
+    cases false e = registers_have_all result_register 0 0 (structure ts) (classes (structure ts)) (classes_when (structure ts) e)
+
+-- every law of the places
+pub sound : (s : Signature) → IsSound amd64 s
+sound s =
+    let buffer = buffer_start s (placing_of s) in
+    record {
+      apart = plan_apart s;
+      in_frame = plan_in_frame s;
+      on_stack = plan_lies_in s;
+      allowed = plan_allowed s;
+      has_all = arguments_have_all (copies_start (placing_of s)) (taken_at_first s.result_type) s.arguments;
+      result_apart = result_cases AreApart tt s.result_type (chain_apart result_register vector_register 2 2 result_registers (at_eightbyte untouched []) _ _ (result_chain s.result_type)) buffer;
+      result_in_registers = result_cases (AllByRecursion (LiesIn 0)) tt s.result_type (chain_lies_in result_register vector_register 2 2 result_small (λ k h. omega arith) (at_eightbyte untouched []) _ _ 0 (omega arith) (result_chain s.result_type)) buffer;
+      result_allowed = result_cases (AllByRecursion (IsNoneOf (not_for_results amd64))) tt s.result_type (chain_allowed result_register vector_register 2 2 (not_for_results amd64) result_allowed_general result_allowed_vector result_allowed_stack (at_eightbyte untouched []) _ _ (result_chain s.result_type)) buffer;
+      result_has_all = result_has_all s.result_type buffer;
+    }
+
+pub determines : (s : Signature) → IsDetermined amd64 s
+determines s = determined amd64 s (sound s).has_all (sound s).result_has_all

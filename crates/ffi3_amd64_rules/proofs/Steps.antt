@@ -1,0 +1,161 @@
+-- What one more leaf, eightbyte or argument adds.
+use Rattle.std.proofs.Common.{◌≡◌, ℕ, zero, suc, ◌+◌, ◌-◌, ◌*◌, ◌<◌, ◌≤◌, Bool, true, false, cond, List, [], ◌∷◌, ◌++◌, get_or, drop, length, ap, sym, ◌∙◌, refl, arith, subst, add-zero, append_assoc}
+use Rattle.std.specs.List.{count_by, list_any}
+use Rattle.std.proofs.lemmas.List.Sums.{sum_by-cons, sum_by_push}
+use Rattle.std.proofs.lemmas.List.{drop_more}
+use Rattle.ffi3_type_rules.specs.Tree.{Tree, void, scalar, left_out, structure, tree_at}
+use Rattle.ffi3_type_rules.specs.Layout.{leaves_of, leaf_at, size_of, scalar_size}
+use Rattle.ffi3_place_rules.specs.declared.Loc.{Loc}
+use Rattle.ffi3_place_rules.specs.declared.Loc.TheVariants.{G, S}
+use Rattle.ffi3_place_rules.specs.declared.Piece.{Piece}
+use Rattle.ffi3_place_rules.specs.declared.Taken.{Taken}
+use Rattle.ffi3_place_rules.specs.declared.Place.{Place}
+use Rattle.ffi3_place_rules.specs.declared.Place.TheVariants.{Direct}
+use Rattle.ffi3_place_rules.specs.Standard.{doubleword, places_from, all_copy_bytes, buffer_bytes, round8, in_buffer, in_result_pieces}
+use Rattle.ffi3_place_rules.proofs.Covered.{EndsIn, leaves_end}
+use Rattle.ffi3_place_rules.proofs.Tests.{each_at}
+use Rattle.ffi3_amd64_rules.specs.declared.Class.{Class}
+use Rattle.ffi3_amd64_rules.specs.Amd64.{is_integer_leaf_in, class_of, classes_from, classes, in_memory, argument_register, result_register, register_of, register_pieces, extension, stack_pieces, taken_with, taken_after, pieces_after, spots_after, result_spot_of}
+use Rattle.ffi3_amd64_rules.proofs.Covered.{length-classes_from}
+
+-- the element that was read, and the rest
+pub drop_read : {X : Type 0} (xs : List X) (i : ℕ) (x : X) → i < length xs → x ≡ get_or xs i x → drop i xs ≡ x ∷ drop (i + 1) xs
+drop_read xs i x h read = drop_more xs i x h ∙ ap (λ y. y ∷ drop (i + 1) xs) (sym read)
+
+get_or_same : {X : Type 0} (xs : List X) (i : ℕ) (c d : X) → i < length xs → get_or xs i c ≡ get_or xs i d
+get_or_same [] i c d h = absurd (omega arith)
+get_or_same (x ∷ xs) zero c d h = refl
+get_or_same (x ∷ xs) (suc i) c d h = get_or_same xs i c d (omega arith)
+
+-- ---- leaves
+
+pub leaf_ends : (t : Tree) (i : ℕ) → i < length (leaves_of t) → (leaf_at t i).at + scalar_size (leaf_at t i).kind ≤ size_of t
+leaf_ends t i h =
+    each_at (EndsIn (size_of t)) (leaves_of t) i (leaf_at t i) h (get_or_same (leaves_of t) i (leaf_at t i) _ h) (leaves_end t)
+
+pub leaf_read : (t : Tree) (i : ℕ) → i < length (leaves_of t) → drop i (leaves_of t) ≡ leaf_at t i ∷ drop (i + 1) (leaves_of t)
+leaf_read t i h = drop_read (leaves_of t) i (leaf_at t i) h (get_or_same (leaves_of t) i _ (leaf_at t i) h)
+
+-- whether an integer leaf lies in the eightbyte, from one leaf on
+pub any_found : (t : Tree) (j i : ℕ) → i < length (leaves_of t) → is_integer_leaf_in j (leaf_at t i) ≡ true → list_any (is_integer_leaf_in j) (drop i (leaves_of t)) ≡ true
+any_found t j i h found = rw (leaf_read t i h, found) refl
+
+pub any_later : (t : Tree) (j i : ℕ) → i < length (leaves_of t) → is_integer_leaf_in j (leaf_at t i) ≡ false → list_any (is_integer_leaf_in j) (drop i (leaves_of t)) ≡ list_any (is_integer_leaf_in j) (drop (i + 1) (leaves_of t))
+any_later t j i h not = rw (leaf_read t i h, not) refl
+
+-- ---- classes
+
+pub classes_more : (t : Tree) (j n : ℕ) → classes_from t j (n + 1) ≡ classes_from t j n ++ class_of t (j + n) ∷ []
+classes_more t j zero = rw add-zero refl
+classes_more t j (suc n) =
+    let count : suc (n + 1) ≡ suc n + 1 = omega arith in
+    let index : (j + 1) + n ≡ j + suc n = omega arith in
+    subst (λ m. classes_from t j m ≡ class_of t j ∷ (classes_from t (j + 1) n ++ class_of t (j + suc n) ∷ [])) count
+    (ap (λ cs. class_of t j ∷ cs) (classes_more t (j + 1) n ∙ ap (λ k. classes_from t (j + 1) n ++ class_of t k ∷ []) index))
+
+pub classes_next : (t : Tree) (j n : ℕ) → j < n → classes_from t j (n - j) ≡ class_of t j ∷ classes_from t (j + 1) (n - (j + 1))
+classes_next t j n h =
+    let count : suc (n - (j + 1)) ≡ n - j = omega arith in
+    subst (λ m. classes_from t j m ≡ class_of t j ∷ classes_from t (j + 1) (n - (j + 1))) count refl
+
+abbrev pub one_if : (Class → Bool) → Class → ℕ
+one_if p c = cond (p c) 1 0
+
+pub count_more : (p : Class → Bool) (t : Tree) (j : ℕ) → count_by p (classes_from t 0 (j + 1)) ≡ count_by p (classes_from t 0 j) + one_if p (class_of t j)
+count_more p t j =
+    let index : 0 + j ≡ j = omega arith in
+    ap (count_by p) (classes_more t 0 j ∙ ap (λ k. classes_from t 0 j ++ class_of t k ∷ []) index) ∙ sum_by_push (one_if p) (classes_from t 0 j) (class_of t j)
+
+pub count_next : (p : Class → Bool) (t : Tree) (j n : ℕ) → j < n → count_by p (classes_from t j (n - j)) ≡ one_if p (class_of t j) + count_by p (classes_from t (j + 1) (n - (j + 1)))
+count_next p t j n h =
+    ap (count_by p) (classes_next t j n h) ∙ sum_by-cons (one_if p) (class_of t j) (classes_from t (j + 1) (n - (j + 1)))
+
+-- ---- pieces
+
+-- one more piece in a register
+pub register_step : (general : ℕ → ℕ) (g f : ℕ) (t : Tree) (j count : ℕ) (out whole : List Piece) → j < count →
+    out ++ register_pieces general g f t (classes_from t 0 j) (classes_from t j (count - j)) ≡ whole →
+    (out ++ doubleword (register_of general g f (classes_from t 0 j) (class_of t j)) j (size_of t) (extension t) ∷ []) ++ register_pieces general g f t (classes_from t 0 (j + 1)) (classes_from t (j + 1) (count - (j + 1))) ≡ whole
+register_step general g f t j count out whole h before =
+    let c = class_of t j in
+    let rest = classes_from t (j + 1) (count - (j + 1)) in
+    let opened = subst (λ cs. out ++ register_pieces general g f t (classes_from t 0 j) cs ≡ whole) (classes_next t j count h) before in
+    let at_j = subst (λ k. out ++ (doubleword (register_of general g f (classes_from t 0 j) c) k (size_of t) (extension t) ∷ register_pieces general g f t (classes_from t 0 j ++ c ∷ []) rest) ≡ whole) (length-classes_from t 0 j) opened in
+    let index : 0 + j ≡ j = omega arith in
+    let more : classes_from t 0 (j + 1) ≡ classes_from t 0 j ++ c ∷ [] = classes_more t 0 j ∙ ap (λ k. classes_from t 0 j ++ class_of t k ∷ []) index in
+    let grown = subst (λ cs. out ++ (doubleword (register_of general g f (classes_from t 0 j) c) j (size_of t) (extension t) ∷ register_pieces general g f t cs rest) ≡ whole) (sym more) at_j in
+    append_assoc out _ _ ∙ grown
+
+-- one more piece on the stack
+pub stack_step : (start : ℕ) (t : Tree) (j count : ℕ) (out whole : List Piece) → j < count →
+    out ++ stack_pieces start t j (count - j) ≡ whole →
+    (out ++ doubleword (S (start + 8 * j)) j (size_of t) (extension t) ∷ []) ++ stack_pieces start t (j + 1) (count - (j + 1)) ≡ whole
+stack_step start t j count out whole h before =
+    let next : suc (count - (j + 1)) ≡ count - j = omega arith in
+    let opened = subst (λ m. out ++ stack_pieces start t j m ≡ whole) (sym next) before in
+    append_assoc out _ _ ∙ opened
+
+-- ---- arguments
+
+pub argument_read : (ts : List Tree) (i : ℕ) (t : Tree) → i < length ts → t ≡ tree_at ts i → drop i ts ≡ t ∷ drop (i + 1) ts
+argument_read ts i t h read = drop_read ts i t h (read ∙ get_or_same ts i void t h)
+
+-- what one more argument takes
+pub taken_step : (ts : List Tree) (i : ℕ) (t : Tree) (before whole : Taken) → i < length ts → t ≡ tree_at ts i → taken_after before (drop i ts) ≡ whole → taken_after (taken_with before t) (drop (i + 1) ts) ≡ whole
+taken_step ts i t before whole h read e =
+    subst (λ us. taken_after before us ≡ whole) (argument_read ts i t h read) e
+
+-- the place of one more argument
+pub place_step : (ts : List Tree) (i : ℕ) (t : Tree) (before : Taken) (out whole : List Place) → i < length ts → t ≡ tree_at ts i →
+    out ++ places_from 0 (drop i ts) (spots_after before (drop i ts)) ≡ whole →
+    (out ++ Direct (pieces_after before t) ∷ []) ++ places_from 0 (drop (i + 1) ts) (spots_after (taken_with before t) (drop (i + 1) ts)) ≡ whole
+place_step ts i t before out whole h read e =
+    let opened = subst (λ us. out ++ places_from 0 us (spots_after before us) ≡ whole) (argument_read ts i t h read) e in
+    append_assoc out _ _ ∙ opened
+
+-- no argument has a copy
+pub places_without_copies : (c d : ℕ) (a : Taken) (ts : List Tree) → places_from c ts (spots_after a ts) ≡ places_from d ts (spots_after a ts)
+places_without_copies c d a [] = refl
+places_without_copies c d a (t ∷ ts) =
+    ap (λ ps. Direct (pieces_after a t) ∷ ps) (places_without_copies (c + 0) (d + 0) (taken_with a t) ts)
+
+pub no_copy_bytes : (a : Taken) (ts : List Tree) → all_copy_bytes ts (spots_after a ts) ≡ 0
+no_copy_bytes a [] = refl
+no_copy_bytes a (t ∷ ts) = omega (arith, no_copy_bytes (taken_with a t) ts)
+
+-- ---- results
+
+pub buffer_size : (t : Tree) → buffer_bytes t (result_spot_of t) ≡ cond (in_memory t) (round8 (size_of t)) 0
+buffer_size void = refl
+buffer_size (scalar s) = refl
+buffer_size (left_out k) = refl
+buffer_size (structure ts) = cases (in_memory (structure ts))
+  where
+    cases : (b : Bool) → buffer_bytes (structure ts) (cond b (in_buffer (G (argument_register 0))) (in_result_pieces (register_pieces result_register 0 0 (structure ts) [] (classes (structure ts))))) ≡ cond b (round8 (size_of (structure ts))) 0
+    cases true = refl
+    cases false = refl
+
+pub spot_of_memory : (t : Tree) → in_memory t ≡ true → result_spot_of t ≡ in_buffer (G (argument_register 0))
+spot_of_memory void e = cc
+spot_of_memory (scalar s) e = cc
+spot_of_memory (left_out k) e = cc
+spot_of_memory (structure ts) e = rw e refl
+
+pub spot_of_registers : (t : Tree) → ¬ (t ≡ void) → in_memory t ≡ false → result_spot_of t ≡ in_result_pieces (register_pieces result_register 0 0 t [] (classes t))
+spot_of_registers void some e = absurd (some refl)
+spot_of_registers (scalar s) some e = refl
+spot_of_registers (left_out k) some e = refl
+spot_of_registers (structure ts) some e =
+    ap (λ b. cond b (in_buffer (G (argument_register 0))) (in_result_pieces (register_pieces result_register 0 0 (structure ts) [] (classes (structure ts))))) e
+
+-- ---- the same, where the new list and its last piece are known by equations
+
+pub stack_turn : (start : ℕ) (t : Tree) (j count : ℕ) (out new whole : List Piece) (p : Piece) → j < count → p ≡ doubleword (S (start + 8 * j)) j (size_of t) (extension t) → new ≡ out ++ p ∷ [] → out ++ stack_pieces start t j (count - j) ≡ whole → new ++ stack_pieces start t (j + 1) (count - (j + 1)) ≡ whole
+stack_turn start t j count out new whole p h piece pushed before =
+    ap (λ ps. ps ++ stack_pieces start t (j + 1) (count - (j + 1))) (pushed ∙ ap (λ q. out ++ q ∷ []) piece) ∙ stack_step start t j count out whole h before
+
+pub register_turn : (general : ℕ → ℕ) (g f : ℕ) (t : Tree) (j count : ℕ) (out new whole : List Piece) (p : Piece) (l : Loc) → j < count → l ≡ register_of general g f (classes_from t 0 j) (class_of t j) → p ≡ doubleword l j (size_of t) (extension t) → new ≡ out ++ p ∷ [] →
+    out ++ register_pieces general g f t (classes_from t 0 j) (classes_from t j (count - j)) ≡ whole →
+    new ++ register_pieces general g f t (classes_from t 0 (j + 1)) (classes_from t (j + 1) (count - (j + 1))) ≡ whole
+register_turn general g f t j count out new whole p l h loc piece pushed before =
+    ap (λ ps. ps ++ register_pieces general g f t (classes_from t 0 (j + 1)) (classes_from t (j + 1) (count - (j + 1)))) (pushed ∙ ap (λ q. out ++ q ∷ []) (piece ∙ ap (λ m. doubleword m j (size_of t) (extension t)) loc)) ∙ register_step general g f t j count out whole h before

@@ -1,0 +1,77 @@
+-- What the arguments before a number have taken are the sums over the whole list.
+use Rattle.std.proofs.Common.{◌≡◌, ℕ, zero, suc, ◌+◌, ◌<◌, ◌≤◌, Bool, true, false, not, cond, List, [], ◌∷◌, take, length, ap, sym, ◌∙◌, refl, arith}
+use Rattle.std.specs.Prelude.{Some, slice_get}
+use Rattle.ffi3_type_rules.specs.Tree.{Tree, tree_at}
+use Rattle.ffi3_type_rules.specs.Layout.{size_of}
+use Rattle.ffi3_type_rules.specs.Signature.{Signature}
+use Rattle.ffi3_place_rules.specs.declared.Taken.{Taken}
+use Rattle.ffi3_place_rules.specs.Standard.{in_pieces, round8}
+use Rattle.ffi3_amd64_rules.specs.Amd64.{integers, sses, in_registers, taken_with, taken_after, taken_at_first, pieces_after, spots_after}
+use Rattle.ffi3_amd64_rules.specs.Sums.{sums_before, ArePlacedBySums}
+
+-- what the arguments before number i take
+abbrev pub taken_before : Signature → ℕ → Taken
+taken_before s i = taken_after (taken_at_first s.result_type) (take i s.arguments)
+
+abbrev pub is_in_registers : Signature → ℕ → Bool
+is_in_registers s i = in_registers (taken_before s i) (tree_at s.arguments i)
+
+taken_next : (a : Taken) (ts : List Tree) (i : ℕ) → i < length ts → taken_after a (take (suc i) ts) ≡ taken_with (taken_after a (take i ts)) (tree_at ts i)
+taken_next a [] i h = absurd (omega arith)
+taken_next a (t ∷ ts) zero h = refl
+taken_next a (t ∷ ts) (suc i) h = taken_next (taken_with a t) ts i (omega arith)
+
+taken_all : (a : Taken) (ts : List Tree) → taken_after a (take (length ts) ts) ≡ taken_after a ts
+taken_all a [] = refl
+taken_all a (t ∷ ts) = taken_all (taken_with a t) ts
+
+spot_at : (a : Taken) (ts : List Tree) (i : ℕ) → i < length ts → slice_get (spots_after a ts) i ≡ Some (in_pieces (pieces_after (taken_after a (take i ts)) (tree_at ts i)))
+spot_at a [] i h = absurd (omega arith)
+spot_at a (t ∷ ts) zero h = refl
+spot_at a (t ∷ ts) (suc i) h = spot_at (taken_with a t) ts i (omega arith)
+
+abbrev more_if : Taken → Tree → Bool → Taken
+more_if a t b =
+    record { general = a.general + cond b (integers t) 0; vector = a.vector + cond b (sses t) 0; stack = a.stack + cond (not b) (round8 (size_of t)) 0 }
+
+taken_if : (a : Taken) (t : Tree) (b : Bool) → cond {A = Taken} b (record { general = a.general + integers t; vector = a.vector + sses t; stack = a.stack }) (record { general = a.general; vector = a.vector; stack = a.stack + round8 (size_of t) }) ≡ more_if a t b
+taken_if a t true =
+    let same : a.stack ≡ a.stack + 0 = omega arith in
+    ap (λ n. record { general = a.general + integers t; vector = a.vector + sses t; stack = n }) same
+taken_if a t false =
+    let general : a.general ≡ a.general + 0 = omega arith in
+    let vector : a.vector ≡ a.vector + 0 = omega arith in
+    ap (λ n. record { general = n; vector = a.vector; stack = a.stack + round8 (size_of t) }) general ∙ ap (λ n. record { general = a.general + 0; vector = n; stack = a.stack + round8 (size_of t) }) vector
+
+general_more : (c g n : ℕ) (t : Taken) → t.general ≡ c + g → t.general + n ≡ c + (g + n)
+general_more c g n t e = omega arith
+
+same_taken : (a b : Taken) → a.general ≡ b.general → a.vector ≡ b.vector → a.stack ≡ b.stack → a ≡ b
+same_taken a b g f s =
+    ap (λ n. record { general = n; vector = a.vector; stack = a.stack }) g ∙ ap (λ n. record { general = b.general; vector = n; stack = a.stack }) f ∙ ap (λ n. record { general = b.general; vector = b.vector; stack = n }) s
+
+module _ (s : Signature) where
+  pub sums_are_taken : (i : ℕ) → i ≤ length s.arguments → taken_before s i ≡ sums_before s (is_in_registers s) i
+  sums_are_taken zero h =
+      same_taken (taken_before s 0) (sums_before s (is_in_registers s) 0) (omega arith) refl refl
+  sums_are_taken (suc i) h =
+      let before = sums_are_taken i (omega arith) in
+      let t = tree_at s.arguments i in
+      let b = is_in_registers s i in
+      let next = taken_next (taken_at_first s.result_type) s.arguments i (omega arith) ∙ taken_if (taken_before s i) t b in
+      let after = same_taken (more_if (taken_before s i) t b) (sums_before s (is_in_registers s) (suc i))
+      (general_more _ _ (cond b (integers t) 0) (taken_before s i) (ap (λ a. a.general) before))
+      (ap (λ a. a.vector + cond b (sses t) 0) before)
+      (ap (λ a. a.stack + cond (not b) (round8 (size_of t)) 0) before) in
+      next ∙ after
+
+  -- the statement by sums holds of the places
+  pub placed_by_sums : ArePlacedBySums s (is_in_registers s)
+  placed_by_sums =
+      let total = sym (taken_all (taken_at_first s.result_type) s.arguments) ∙ sums_are_taken (length s.arguments) (omega arith) in
+      record {
+        registers_suffice = λ i h. ap (λ a. in_registers a (tree_at s.arguments i)) (sums_are_taken i (omega arith));
+        placed = λ i h. spot_at (taken_at_first s.result_type) s.arguments i h ∙ ap (λ a. Some (in_pieces (pieces_after a (tree_at s.arguments i)))) (sums_are_taken i (omega arith));
+        stack_total = ap (λ a. a.stack) total;
+        vector_total = ap (λ a. a.vector) total;
+      }

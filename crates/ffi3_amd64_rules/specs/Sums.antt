@@ -1,0 +1,39 @@
+-- The places of the arguments by sums over the whole list, with no count that goes from one argument to the next. (System V psABI AMD64 3.2.3)
+use Rattle.std.specs.Prelude.{◌≡◌, ℕ, zero, suc, ◌+◌, ◌<◌, Bool, not, cond, length, Some, slice_get}
+use Rattle.ffi3_type_rules.specs.Tree.{tree_at}
+use Rattle.ffi3_type_rules.specs.Layout.{size_of}
+use Rattle.ffi3_type_rules.specs.Signature.{Signature}
+use Rattle.ffi3_place_rules.specs.declared.Taken.{Taken}
+use Rattle.ffi3_place_rules.specs.Standard.{in_pieces, round8}
+use Rattle.ffi3_amd64_rules.specs.Amd64.{integers, sses, in_memory, in_registers, pieces_after, placing_of}
+
+-- the sum of the terms below n that are chosen
+abbrev pub sum_where : (ℕ → Bool) → (ℕ → ℕ) → ℕ → ℕ
+sum_where chosen term zero = 0
+sum_where chosen term (suc n) = sum_where chosen term n + cond (chosen n) (term n) 0
+
+module _ (s : Signature) (chosen : ℕ → Bool) where
+  -- the INTEGER eightbytes of the arguments in registers before number i, and a hidden result's address
+  abbrev pub general_before : ℕ → ℕ
+  general_before i =
+      cond (in_memory s.result_type) 1 0 + sum_where chosen (λ j. integers (tree_at s.arguments j)) i
+
+  -- the SSE eightbytes of the arguments in registers before number i
+  abbrev pub vector_before : ℕ → ℕ
+  vector_before i = sum_where chosen (λ j. sses (tree_at s.arguments j)) i
+
+  -- the sizes of the arguments before number i that are not in registers, each a multiple of 8
+  abbrev pub stack_before : ℕ → ℕ
+  stack_before i =
+      sum_where (λ j. not (chosen j)) (λ j. round8 (size_of (tree_at s.arguments j))) i
+
+  abbrev pub sums_before : ℕ → Taken
+  sums_before i =
+      record { general = general_before i; vector = vector_before i; stack = stack_before i }
+
+  -- THE SUMS PLACE THE ARGUMENTS: an argument is in registers exactly where the sums leave enough for all its eightbytes, and stands where they say.
+  pub record ArePlacedBySums : Type 0 where
+    pub registers_suffice : (i : ℕ) → i < length s.arguments → chosen i ≡ in_registers (sums_before i) (tree_at s.arguments i)
+    pub placed : (i : ℕ) → i < length s.arguments → slice_get (placing_of s).arguments i ≡ Some (in_pieces (pieces_after (sums_before i) (tree_at s.arguments i)))
+    pub stack_total : (placing_of s).stack_bytes ≡ stack_before (length s.arguments)
+    pub vector_total : (placing_of s).vector_registers ≡ vector_before (length s.arguments)

@@ -1,0 +1,10 @@
+-- Why a call interface is not prepared.
+use Rattle.ffi3_type_rules.specs.Signature.{Signature, SignatureHasNoFault, IsFirstSignatureFault}
+use Rattle.ffi3_types.specs.SignatureFaultOf.{signature_fault_of}
+use Rattle.ffi3_cif.specs.declared.PrepFault.{PrepFault}
+use Rattle.ffi3_cif.specs.declared.PrepFault.TheVariants.{Sig, NoMemory}
+
+-- the signature's first fault; want of memory only where it has none
+abbrev pub IsRefusal : Signature → PrepFault → Type 0
+IsRefusal s (Sig fault) = IsFirstSignatureFault s (signature_fault_of fault)
+IsRefusal s NoMemory = SignatureHasNoFault s

@@ -1,0 +1,143 @@
+// Prepared call interfaces.
+#![tactic(auto)]
+
+ghost use Rattle.std.specs.Prelude.{◌≡◌, ◌<◌, length, IfOk, IfErr, None, Some, slice_get};
+ghost use Rattle.ffi3_type_rules.specs.Signature.{SignatureHasNoFault};
+ghost use Rattle.ffi3_types.specs.TreeOf.{tree_of};
+ghost use Rattle.ffi3_place_rules.specs.Standard.{plan_of};
+ghost use Rattle.ffi3_cif.specs.Prepared.{IsRefusal};
+
+use ffi3_place::{Abi, Place, Plan, Res};
+use ffi3_types::{FfiType, Fields, Sig, SigFault, check_sig};
+use std::alloc::Global;
+use std::marker::{Model, PhantomData};
+use thiserror::Error;
+
+/// Why a call interface is not prepared: the signature's first fault, or, where it has none, want of memory. (libffi's FFI_BAD_TYPEDEF and FFI_BAD_ARGTYPE are in the first)
+#[derive(Debug, Drop, Error)]
+pub enum PrepFault {
+    #[error("{0}")]
+    Sig(SigFault),
+    #[error("out of memory")]
+    NoMemory,
+}
+
+/// A signature without fault and its plan by the standard `A` (libffi's `ffi_cif`). Contracts see the signature.
+#[derive(Drop)]
+pub struct Cif<A: Abi> {
+    sig: Sig,
+    plan: Plan,
+    standard: PhantomData<A>,
+}
+
+impl<A: Abi> Model for Cif<A> {
+    ghost use Rattle.std.specs.Prelude.{◌≡◌};
+    ghost use Rattle.ffi3_type_rules.specs.Signature.{Signature, signature_code, SignatureHasNoFault};
+    ghost use Rattle.ffi3_place_rules.specs.Standard.{plan_of};
+
+    ghost Value = { Signature };
+
+    ghost coded = { signature_code };
+
+    ghost view = { λ c. c.sig };
+
+    ghost invariant = { λ c. record {
+      faultless : SignatureHasNoFault c.sig;
+      planned : c.plan ≡ plan_of A.standard c.sig;
+    } };
+}
+
+impl<A: Abi> Cif<A> {
+    /// The signature.
+    pub fn sig(&self) -> &Sig
+        ensures value { result.now ≡ self.now }
+        ensures faultless { SignatureHasNoFault self.now }
+    {
+        &self.sig
+    }
+
+    /// All the stack that a call takes, in bytes.
+    pub fn need(&self) -> u64
+        ensures { result ≡ (plan_of A.standard self.now).need }
+    {
+        self.plan.need
+    }
+
+    /// The bytes of stack arguments, copies and a hidden result's buffer.
+    pub fn frame(&self) -> u64
+        ensures { result ≡ (plan_of A.standard self.now).frame }
+    {
+        self.plan.frame
+    }
+
+    /// The bytes of the callee's copy of its arguments.
+    pub fn block(&self) -> u64
+        ensures { result ≡ (plan_of A.standard self.now).block }
+    {
+        self.plan.block
+    }
+
+    /// Where argument `i` stands.
+    pub fn place(&self, i: u32) -> &Place
+        requires { i < length self.now.arguments }
+        ensures { slice_get (plan_of A.standard self.now).places i ≡ Some result.now }
+    {
+        self.plan.places.get(i as usize)
+    }
+
+    /// Where the result stands.
+    pub fn result_place(&self) -> &Res
+        ensures { result.now ≡ (plan_of A.standard self.now).res }
+    {
+        &self.plan.res
+    }
+
+    /// How many vector registers the arguments use, where the standard tells it at a call; otherwise 0.
+    pub fn vectors(&self) -> u8
+        ensures { result ≡ (plan_of A.standard self.now).vectors }
+    {
+        self.plan.vectors
+    }
+}
+
+/// Memory is looked for only where the signature has no fault.
+fn prepare<A: Abi>(alloc: Global, sig: Sig) -> Result<Cif<A>, PrepFault>
+    ensures ok { IfOk result (λ c. c ≡ sig) }
+    ensures faultless { IfOk result (λ c. SignatureHasNoFault c) }
+    ensures err { IfErr result (λ f. IsRefusal sig f) }
+{
+    if let Err(fault) = check_sig(&sig) {
+        return Err(PrepFault::Sig(fault));
+    }
+    match A::plan(alloc, &sig) {
+        Ok(plan) => Ok(Cif {
+            sig,
+            plan,
+            standard: PhantomData,
+        }),
+        Err(_) => Err(PrepFault::NoMemory),
+    }
+}
+
+/// Prepares calls of a function of a fixed number of arguments. Refused, it drops both parts. (libffi's `ffi_prep_cif`)
+pub fn prep_cif<A: Abi>(alloc: Global, ret: FfiType, args: Fields) -> Result<Cif<A>, PrepFault>
+    ensures ok { IfOk result (λ c. c ≡ record { result_type = tree_of ret; arguments = args; fixed = None }) }
+    ensures faultless { IfOk result (λ c. SignatureHasNoFault c) }
+    ensures err { IfErr result (λ f. IsRefusal (record { result_type = tree_of ret; arguments = args; fixed = None }) f) }
+{
+    prepare::<A>(alloc, Sig::new(ret, args, None))
+}
+
+/// Prepares calls of a function whose first `fixed` arguments are fixed, and the others variadic. Refused, it drops both parts. (libffi's `ffi_prep_cif_var`)
+pub fn prep_cif_var<A: Abi>(
+    alloc: Global,
+    ret: FfiType,
+    args: Fields,
+    fixed: u32,
+) -> Result<Cif<A>, PrepFault>
+    ensures ok { IfOk result (λ c. c ≡ record { result_type = tree_of ret; arguments = args; fixed = Some fixed }) }
+    ensures faultless { IfOk result (λ c. SignatureHasNoFault c) }
+    ensures err { IfErr result (λ f. IsRefusal (record { result_type = tree_of ret; arguments = args; fixed = Some fixed }) f) }
+{
+    prepare::<A>(alloc, Sig::new(ret, args, Some(fixed)))
+}

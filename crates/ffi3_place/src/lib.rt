@@ -1,0 +1,62 @@
+// Places of arguments and results, and the trait of a calling standard.
+#![tactic(auto)]
+
+ghost use Rattle.std.specs.Prelude.{◌≡◌, ℕ, ◌<◌, IfOk, length, slice_index_or};
+ghost use Rattle.ffi3_type_rules.specs.declared.Target.{Target};
+ghost use Rattle.ffi3_type_rules.specs.Signature.{Signature, SignatureHasNoFault};
+ghost use Rattle.ffi3_place_rules.specs.Standard.{Standard, plan_of};
+ghost use Rattle.ffi3_place_rules.specs.Sound.{IsSound, IsDetermined};
+
+pub use ffi3_place_rules::{Ext, Loc, Piece, Pieces, Place, Places, Plan, Res};
+use ffi3_types::{NoMemory, Sig, Target};
+use std::alloc::Global;
+
+/// A calling standard: where the arguments and the result of a signature stand.
+pub trait Abi {
+    // The standard's own definition, which each member meets.
+    ghost standard: { Standard };
+
+    ghost SAVE: { ℕ };
+
+    ghost LINK: { ℕ };
+
+    ghost TARGET: { Target };
+
+    ghost KEPT: { ℕ };
+
+    /// Bytes of the area in which a callee saves the registers that it preserves.
+    const SAVE: u64;
+
+    /// Bytes of the return address on the stack.
+    const LINK: u64;
+
+    /// The standard's name.
+    const TARGET: Target;
+
+    /// How many registers a callee preserves, the stack pointer aside.
+    const KEPT: u8;
+
+    /// Preserved register `k`, in the order of the save area.
+    fn kept_register(k: u8) -> Loc
+        requires { k < KEPT }
+        ensures { result ≡ slice_index_or standard.preserved k result };
+
+    /// Where everything stands in a call of a signature that has no fault.
+    fn plan(alloc: Global, sig: &Sig) -> Result<Plan, NoMemory>
+        requires { SignatureHasNoFault sig.now }
+        ensures { IfOk result (λ p. p ≡ plan_of standard sig.now) };
+
+    ghost save_is: { standard.save ≡ SAVE };
+
+    ghost link_is: { standard.link ≡ LINK };
+
+    ghost target_is: { standard.target ≡ TARGET };
+
+    ghost kept_all: { length standard.preserved ≡ KEPT };
+
+    // No two places share anything, none is a forbidden register, and they have all of the values.
+    ghost sound: { (s : Signature) → SignatureHasNoFault s → IsSound standard s };
+
+    // An image that owns values of a signature determines them, and so with a result.
+    ghost determined: { (s : Signature) → SignatureHasNoFault s → IsDetermined standard s };
+}

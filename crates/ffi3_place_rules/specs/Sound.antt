@@ -1,0 +1,167 @@
+-- What the places of a signature keep, whatever the standard.
+use Rattle.std.specs.Prelude.{◌≡◌, ◌≢◌, ℕ, zero, suc, ◌+◌, ◌/◌, ◌<◌, ◌≤◌, ◌⊎◌, ⊤, Bool, true, false, ◌&&◌, nat_lt, List, [], ◌∷◌, ◌++◌, map, Option, Some, None}
+use Rattle.std.specs.List.{AllByRecursion, Any, flat_map}
+use Rattle.ffi3_type_rules.specs.Tree.{Tree, void, scalar}
+use Rattle.ffi3_type_rules.specs.Layout.{Leaf, leaves_of, size_of, scalar_size}
+use Rattle.ffi3_type_rules.specs.Integer.{is_integer}
+use Rattle.ffi3_type_rules.specs.Signature.{Signature}
+use Rattle.ffi3_type_rules.specs.Value.{ValueTree}
+use Rattle.ffi3_place_rules.specs.declared.Loc.{Loc}
+use Rattle.ffi3_place_rules.specs.declared.Loc.TheVariants.{G, F, S}
+use Rattle.ffi3_place_rules.specs.declared.Ext.{Ext}
+use Rattle.ffi3_place_rules.specs.declared.Ext.TheVariants.{Free, Widen, Riscv, Boxed}
+use Rattle.ffi3_place_rules.specs.declared.Piece.{Piece}
+use Rattle.ffi3_place_rules.specs.declared.Place.{Place}
+use Rattle.ffi3_place_rules.specs.declared.Place.TheVariants.{Direct, ByRef}
+use Rattle.ffi3_place_rules.specs.declared.Res.{Res}
+use Rattle.ffi3_place_rules.specs.declared.Res.TheVariants.{Nothing, Direct as DirectRes, Hidden}
+use Rattle.ffi3_place_rules.specs.declared.Plan.{Plan}
+use Rattle.ffi3_place_rules.specs.Standard.{Standard, plan_of}
+use Rattle.ffi3_place_rules.specs.Image.{Image}
+use Rattle.ffi3_place_rules.specs.Holds.{Carries, Own, OwnResult}
+
+-- ---- places that share nothing
+
+-- two places share no register and no byte of the stack
+abbrev pub Apart : Loc → Loc → Type 0
+Apart (G a) (G b) = a ≢ b
+Apart (F a) (F b) = a ≢ b
+Apart (S a) (S b) = (a + 8 ≤ b) ⊎ (b + 8 ≤ a)
+Apart _ _ = ⊤
+
+-- any two of the list are apart
+abbrev pub AreApart : List Loc → Type 0
+AreApart [] = ⊤
+AreApart (l ∷ ls) = AllByRecursion (Apart l) ls × AreApart ls
+
+-- the place is none of the list
+abbrev pub IsNoneOf : List Loc → Loc → Type 0
+IsNoneOf others l = AllByRecursion (Apart l) others
+
+-- the register is one of 32, the place on the stack lies in so many bytes
+abbrev pub LiesIn : ℕ → Loc → Type 0
+LiesIn stack (G r) = r < 32
+LiesIn stack (F r) = r < 32
+LiesIn stack (S n) = n + 8 ≤ stack
+
+-- ---- the places of a call
+
+abbrev pub piece_locs : List Piece → List Loc
+piece_locs pieces = map (λ p. p.loc) pieces
+
+abbrev pub place_locs : Place → List Loc
+place_locs (Direct pieces) = piece_locs pieces
+place_locs (ByRef at copy) = at ∷ []
+
+abbrev pub hidden_locs : Res → List Loc
+hidden_locs (Hidden at buffer) = at ∷ []
+hidden_locs _ = []
+
+abbrev pub result_locs : Res → List Loc
+result_locs (DirectRes pieces) = piece_locs pieces
+result_locs _ = []
+
+-- what carries the arguments: the hidden result's address, pieces and references
+abbrev pub argument_locs : Plan → List Loc
+argument_locs p = hidden_locs p.res ++ flat_map place_locs p.places
+
+-- so many stack places of eight bytes from an offset on
+abbrev pub slots : ℕ → ℕ → List Loc
+slots at zero = []
+slots at (suc n) = S at ∷ slots (at + 8) n
+
+abbrev pub slots_for : ℕ → Tree → List Loc
+slots_for at t = slots at ((size_of t + 7) / 8)
+
+-- the copies of arguments by reference
+abbrev pub copy_locs : List Tree → List Place → List Loc
+copy_locs (t ∷ ts) (ByRef at copy ∷ ps) = slots_for copy t ++ copy_locs ts ps
+copy_locs (t ∷ ts) (Direct pieces ∷ ps) = copy_locs ts ps
+copy_locs _ _ = []
+
+-- the buffer of a hidden result
+abbrev pub buffer_locs : Tree → Res → List Loc
+buffer_locs t (Hidden at buffer) = slots_for buffer t
+buffer_locs t _ = []
+
+-- all that a call's registers and frame carry: places, copies and buffer
+abbrev pub call_locs : Signature → Plan → List Loc
+call_locs s p = argument_locs p ++ (copy_locs s.arguments p.places ++ buffer_locs s.result_type p.res)
+
+-- ---- registers that carry nothing
+
+abbrev pub listed : Option Loc → List Loc
+listed (Some at) = at ∷ []
+listed None = []
+
+-- no result stands in these: the stack pointer, the preserved, the reserved and the link register
+abbrev pub no_result : Standard → List Loc
+no_result std = std.stack_pointer ∷ (std.preserved ++ (std.reserved ++ listed std.link_register))
+
+-- no argument stands in these or in those that a call itself needs
+abbrev pub no_argument : Standard → List Loc
+no_argument std = no_result std ++ (std.trampoline_registers ++ listed std.vector_count)
+
+-- ---- pieces that have the whole value
+
+-- each byte of the leaf stands in a piece
+abbrev pub CoversLeaf : List Piece → Leaf → Type 0
+CoversLeaf pieces l = (k : ℕ) → k < scalar_size l.kind → Any (Carries (l.at + k)) pieces
+
+-- a lone integer of fewer than eight bytes
+abbrev pub is_narrow_integer : Tree → Bool
+is_narrow_integer (scalar s) = is_integer s && nat_lt (scalar_size s) 8
+is_narrow_integer _ = false
+
+-- What fills the rest of a place suits its piece: an extended one is a whole narrow integer, a boxed one has four bytes.
+abbrev pub IsExtended : Tree → Piece → Ext → Type 0
+IsExtended t p Free = ⊤
+IsExtended t p Boxed = p.len ≡ 4
+IsExtended t p Widen = (is_narrow_integer t ≡ true) × (p.off ≡ 0) × (p.len ≡ size_of t)
+IsExtended t p Riscv = (is_narrow_integer t ≡ true) × (p.off ≡ 0) × (p.len ≡ size_of t)
+
+-- a piece has at most eight bytes, all of them of the value
+pub record IsPieceOf (t : Tree) (p : Piece) : Type 0 where
+  pub short : p.len ≤ 8
+  pub within : p.off + p.len ≤ size_of t
+  pub extended : IsExtended t p p.ext
+
+-- the pieces have every byte of every leaf
+pub record HaveAll (t : Tree) (pieces : List Piece) : Type 0 where
+  pub each : AllByRecursion (IsPieceOf t) pieces
+  pub covered : AllByRecursion (CoversLeaf pieces) (leaves_of t)
+
+abbrev pub PlaceHasAll : Tree → Place → Type 0
+PlaceHasAll t (Direct pieces) = HaveAll t pieces
+PlaceHasAll t (ByRef at copy) = ⊤
+
+-- one place for each argument, and it has all of it
+abbrev pub PlacesHaveAll : List Tree → List Place → Type 0
+PlacesHaveAll [] [] = ⊤
+PlacesHaveAll (t ∷ ts) (p ∷ ps) = PlaceHasAll t p × PlacesHaveAll ts ps
+PlacesHaveAll _ _ = ⊥
+
+-- a result without a place is Void
+abbrev pub ResultHasAll : Tree → Res → Type 0
+ResultHasAll t Nothing = t ≡ void
+ResultHasAll t (DirectRes pieces) = HaveAll t pieces
+ResultHasAll t (Hidden at buffer) = ⊤
+
+-- THE PLACES OF A SIGNATURE ARE SOUND
+pub record IsSound (std : Standard) (s : Signature) : Type 0 where
+  -- no two places, copies and buffer included, share a register or a byte of the stack
+  pub apart : AreApart (call_locs s (plan_of std s))
+  pub in_frame : AllByRecursion (LiesIn (plan_of std s).frame) (call_locs s (plan_of std s))
+  pub on_stack : AllByRecursion (LiesIn (std.placing s).stack_bytes) (argument_locs (plan_of std s))
+  pub allowed : AllByRecursion (IsNoneOf (no_argument std)) (argument_locs (plan_of std s))
+  pub has_all : PlacesHaveAll s.arguments (plan_of std s).places
+  -- the result's are registers
+  pub result_apart : AreApart (result_locs (plan_of std s).res)
+  pub result_in_registers : AllByRecursion (LiesIn 0) (result_locs (plan_of std s).res)
+  pub result_allowed : AllByRecursion (IsNoneOf (no_result std)) (result_locs (plan_of std s).res)
+  pub result_has_all : ResultHasAll s.result_type (plan_of std s).res
+
+-- AN IMAGE THAT OWNS VALUES DETERMINES THEM
+pub record IsDetermined (std : Standard) (s : Signature) : Type 0 where
+  pub arguments : (v w : List ValueTree) (m : Image) → Own std s v m → Own std s w m → v ≡ w
+  pub result_value : (v w : ValueTree) (m : Image) → OwnResult std s v m → OwnResult std s w m → v ≡ w
