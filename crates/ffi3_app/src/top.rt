@@ -1,5 +1,5 @@
 //! The top call.
-ghost use Rattle.std.specs.Prelude.{◌≡◌, ◌<◌, ◌⊎◌, List, ℕ, Some, map, string_bytes};
+ghost use Rattle.std.specs.Prelude.{◌≡◌, ◌<◌, ◌⊎◌, [], List, ℕ, Some, map, string_bytes};
 ghost use Rattle.ffi3_io.specs.Sink.{Rose};
 ghost use Rattle.ffi3_script_rules.specs.Form.{OneCall};
 ghost use Rattle.ffi3_script_rules.specs.Reading.{Reading, IsReading, script};
@@ -9,6 +9,7 @@ use crate::load::load;
 use crate::run::{RunEnd, run};
 use crate::tell::tell;
 use crate::words::asks_run;
+use ffi3_body::Native;
 use ffi3_io::{Sink, Source};
 use ffi3_machine::Machine;
 use std::alloc::Global;
@@ -16,7 +17,8 @@ use std::alloc::Global;
 /// Does what the words ask for, and answers the status of the program.
 ///
 /// The words hold the program's name first. For `run --target amd64` the input is read to its end, or until it is longer than a
-/// script may be; a script is run on the machine, and the output takes its text. The line of a fault goes to `faults`.
+/// script may be; a script is run on the machine, and the output takes its text. The line of a fault goes to `faults`. The list of
+/// natives is empty for now.
 ///
 /// | status | when |
 /// |---|---|
@@ -32,8 +34,11 @@ pub fn ffi3<I: Source, O: Sink, E: Sink>(
     input: &mut I,
     output: &mut O,
     faults: &mut E,
+    natives: &Vec<Box<dyn Native>>,
     machine: &mut Machine,
 ) -> u8
+    requires { natives.now.items ≡ [] }
+
     // What each status says: its cause, what was written, and what stayed as it was.
     ensures says { Says (map string_bytes words.items)
         (given (I.left input.old) (I.faults input.old)) (given (I.left input.new) (I.faults input.new))
@@ -58,6 +63,7 @@ pub fn ffi3<I: Source, O: Sink, E: Sink>(
     ensures write_counted { O.faults output.old < O.faults output.new → result ≡ 4 }
     ensures telling_counted { E.faults faults.old < E.faults faults.new → result ≡ 4 }
 {
+    let _natives = natives;
     work(alloc, words, input, output, faults, machine)
 }
 
