@@ -1,3 +1,4 @@
+pub mod Adapter
 pub mod Count
 pub mod Memory
 pub mod Sink

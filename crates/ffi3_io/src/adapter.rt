@@ -1,8 +1,8 @@
 //! Sources and sinks over std's readers and writers: the edge to the world outside.
 ghost use Rattle.std.specs.Prelude.{◌≡◌, ◌<◌, ◌≤◌, [], ℕ, List, Option, None, take, length, IfOk, OnOk, OnErr};
 ghost use Rattle.ffi3_io.specs.Count.{next_count};
-ghost use Rattle.ffi3_io.specs.Sink.{Adds};
-ghost use Rattle.ffi3_io.specs.Source.{Gives, IsEndAtZero, Rose};
+ghost use Rattle.std.specs.Io.KnownBytes.{Appends, Consumes, IsAtEnd, Keeps};
+ghost use Rattle.ffi3_io.specs.Source.{Rose};
 
 use crate::{Failed, Sink, Source};
 use std::io::{Read, Write};
@@ -16,17 +16,18 @@ pub struct ReadSource<R> {
 }
 
 impl<R> Model for ReadSource<R> {
-    ghost use Rattle.std.specs.Prelude.{ℕ};
+    ghost use Rattle.ffi3_io.specs.Adapter.{AdapterState};
 
-    ghost Value = { ℕ };
+    ghost Value = { AdapterState R };
 
-    ghost view = { λ s. s.count };
+    ghost view = { λ s. record { inner = s.inner; faults = s.count } };
 }
 
 impl<R> ReadSource<R> {
-    /// A source over this reader. A clause sees it as its count of faults.
+    /// A source over this reader.
     pub fn new(inner: R) -> ReadSource<R>
-        ensures { result ≡ 0 }
+        ensures inner { result.inner ≡ inner }
+        ensures faults { result.faults ≡ 0 }
     {
         ReadSource { inner, count: 0 }
     }
@@ -35,15 +36,18 @@ impl<R> ReadSource<R> {
 impl<R: Read> Source for ReadSource<R> {
     ghost left = { λ _. None };
 
-    ghost faults = { λ s. s };
+    ghost faults = { λ s. s.faults };
 
     /// One read of the reader. Each of its errors is a fault.
     fn read(&mut self, buf: &mut [u8]) -> Result<usize, Failed>
         ensures within { IfOk result (λ n. n ≤ length buf.old) }
-        ensures same { OnOk result (self.new ≡ self.old) }
-        ensures failed { OnErr result (Rose self.old self.new) }
-        ensures never_falls { self.old ≤ self.new }
-        ensures counted { OnErr result (self.new ≡ next_count self.old) }
+        ensures same { OnOk result (self.new.faults ≡ self.old.faults) }
+        ensures failed { OnErr result (Rose self.old.faults self.new.faults) }
+        ensures never_falls { self.old.faults ≤ self.new.faults }
+        ensures reads { IfOk result (λ n. Consumes (R.remaining self.old.inner) (R.remaining self.new.inner) (take n buf.new)) }
+        ensures ends { IfOk result (λ n. n ≡ 0 → 0 < length buf.old → IsAtEnd (R.remaining self.new.inner)) }
+        ensures kept { OnErr result (Keeps (R.remaining self.old.inner) (R.remaining self.new.inner)) }
+        ensures counted { OnErr result (self.new.faults ≡ next_count self.old.faults) }
     {
         match self.inner.read(buf) {
             Ok(n) => Ok(n),
@@ -63,17 +67,18 @@ pub struct WriteSink<W> {
 }
 
 impl<W> Model for WriteSink<W> {
-    ghost use Rattle.std.specs.Prelude.{ℕ};
+    ghost use Rattle.ffi3_io.specs.Adapter.{AdapterState};
 
-    ghost Value = { ℕ };
+    ghost Value = { AdapterState W };
 
-    ghost view = { λ s. s.count };
+    ghost view = { λ s. record { inner = s.inner; faults = s.count } };
 }
 
 impl<W> WriteSink<W> {
-    /// A sink over this writer. A clause sees it as its count of faults.
+    /// A sink over this writer.
     pub fn new(inner: W) -> WriteSink<W>
-        ensures { result ≡ 0 }
+        ensures inner { result.inner ≡ inner }
+        ensures faults { result.faults ≡ 0 }
     {
         WriteSink { inner, count: 0 }
     }
@@ -82,17 +87,19 @@ impl<W> WriteSink<W> {
 impl<W: Write> Sink for WriteSink<W> {
     ghost taken = { λ _. None };
 
-    ghost faults = { λ s. s };
+    ghost faults = { λ s. s.faults };
 
     /// One write of the writer. Each of its errors is a fault, and so is that it takes nothing of a
     /// piece that is not empty.
     fn write(&mut self, bytes: &[u8]) -> Result<usize, Failed>
         ensures some { IfOk result (λ n. 0 < length bytes.now → 0 < n) }
         ensures within { IfOk result (λ n. n ≤ length bytes.now) }
-        ensures same { OnOk result (self.new ≡ self.old) }
-        ensures failed { OnErr result (Rose self.old self.new) }
-        ensures never_falls { self.old ≤ self.new }
-        ensures counted { OnErr result (self.new ≡ next_count self.old) }
+        ensures same { OnOk result (self.new.faults ≡ self.old.faults) }
+        ensures failed { OnErr result (Rose self.old.faults self.new.faults) }
+        ensures never_falls { self.old.faults ≤ self.new.faults }
+        ensures writes { IfOk result (λ n. Appends (W.contents self.old.inner) (W.contents self.new.inner) (take n bytes.now)) }
+        ensures kept { OnErr result (Keeps (W.contents self.old.inner) (W.contents self.new.inner)) }
+        ensures counted { OnErr result (self.new.faults ≡ next_count self.old.faults) }
     {
         match self.inner.write(bytes) {
             Ok(n) if n > 0 || bytes.is_empty() => Ok(n),

@@ -1,7 +1,6 @@
 -- What contracts see of a journal and of one of its events.
-use Rattle.std.specs.Prelude.{ℕ, ◌-◌, List, [], map, take, drop, slice_index_or}
-use Rattle.ffi3_place_rules.specs.Image.{Image}
-use Rattle.ffi3_place_rules.specs.Event.{EventKind, enters, leaves, Event}
+use Rattle.std.specs.Prelude.{ℕ, List, [], slice_index_or}
+use Rattle.ffi3_place_rules.specs.Event.{enters, Event}
 
 pub record Recorded : Type 0 where
   pub events : List Event

@@ -1,5 +1,5 @@
 -- What contracts see of a machine, and what it is after each of its calls.
-use Rattle.std.specs.Prelude.{◌≡◌, ℕ, suc, ◌+◌, ◌-◌, ◌*◌, ◌%◌, ◌^◌, ◌<◌, ◌≤◌, Bool, true, false, ◌||◌, ◌==◌, if◌then◌else◌, min, List, [], ◌∷◌, ◌++◌, map, length, get_or, take, drop, replicate, slice_index, slice_set}
+use Rattle.std.specs.Prelude.{◌≡◌, ℕ, ◌+◌, ◌-◌, ◌*◌, ◌%◌, ◌^◌, ◌<◌, ◌≤◌, Bool, false, ◌||◌, ◌==◌, if◌then◌else◌, min, List, [], ◌∷◌, ◌++◌, map, length, get_or, take, drop, replicate, slice_index, slice_set}
 use Rattle.std.specs.List.{range_with_len, repeat, replace_range}
 use Rattle.std.specs.Int.{w64, to_le_bytes}
 use Rattle.ffi3_type_rules.specs.declared.Target.{Target}
@@ -152,31 +152,39 @@ code_at addr len s = take len (drop (addr - CODE) s.code)
 abbrev pub IsSlot : ℕ → Type 0
 IsSlot addr = (k : ℕ) × (k < 256) × (addr ≡ CODE + 64 * k)
 
--- the bytes that a call pushes: the return address on AMD64 (psABI 3.2.2); the others have it in a register
+-- how many bytes a call pushes: AMD64 has the return address on the stack (psABI 3.2.2), the others have it in a register
 abbrev pub pushed_bytes : Target → ℕ
 pushed_bytes Amd64 = 8
 pushed_bytes _ = 0
 
 -- RETURN is the return address: at sp on AMD64, in x30 or ra on the others
-abbrev pub linked : Target → State → State
-linked Amd64 s = stored (s.sp - 8) (to_le_bytes w64 RETURN) (with_sp (s.sp - 8) s)
-linked Aapcs64 s = record s { general = slice_set s.general 30 RETURN }
-linked Riscv s = record s { general = slice_set s.general 1 RETURN }
+abbrev pub HasReturn : Target → List ℕ → ℕ → List ℕ → Type 0
+HasReturn Amd64 general sp stack = take 8 (drop (sp - STACK) stack) ≡ to_le_bytes w64 RETURN
+HasReturn Aapcs64 general sp stack = get_or general 30 0 ≡ RETURN
+HasReturn Riscv general sp stack = get_or general 1 0 ≡ RETURN
 
-abbrev pub IsReturn : Target → State → Type 0
-IsReturn Amd64 s = stack_at s.sp 8 s ≡ to_le_bytes w64 RETURN
-IsReturn Aapcs64 s = get_or s.general 30 0 ≡ RETURN
-IsReturn Riscv s = get_or s.general 1 0 ≡ RETURN
+abbrev pub IsReturn : State → Type 0
+IsReturn s = HasReturn s.target s.general s.sp s.stack
 
--- the machine at ENTRY with a closure's address in the closure register
-abbrev pub at_entry : ℕ → State → State
-at_entry addr s = record s {
-  general = slice_set s.general (closure_register s.target) addr;
-  pc = ENTRY;
-}
+abbrev pub linked_general : Target → List ℕ → List ℕ
+linked_general Amd64 general = general
+linked_general Aapcs64 general = slice_set general 30 RETURN
+linked_general Riscv general = slice_set general 1 RETURN
 
+-- `sp` is that before the call
+abbrev pub linked_stack : Target → ℕ → List ℕ → List ℕ
+linked_stack Amd64 sp stack = replace_range stack (sp - 8 - STACK) (sp - STACK) (to_le_bytes w64 RETURN)
+linked_stack _ sp stack = stack
+
+-- RETURN is the return address, the closure register has the address of the closure that is called, and pc is ENTRY
 abbrev pub called : ℕ → State → State
-called addr s = at_entry addr (linked s.target s)
+called addr s = record s {
+  general = slice_set (linked_general s.target s.general) (closure_register s.target) addr;
+  sp = s.sp - pushed_bytes s.target;
+  pc = ENTRY;
+  mark = lowered s.mark (s.sp - pushed_bytes s.target) (pushed_bytes s.target);
+  stack = linked_stack s.target s.sp s.stack;
+}
 
 -- ---- the journal
 

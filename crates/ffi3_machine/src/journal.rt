@@ -51,9 +51,9 @@ impl Model for Journal {
     ghost use Rattle.ffi3_machine.specs.Entries.{entry_events, LiesWithin};
 
     ghost view = { λ j. record {
-        events = entry_events j.bytes.items j.entries.items;
-        spare_events = j.spare_events;
-        spare_bytes = j.spare_bytes;
+      events = entry_events j.bytes.items j.entries.items;
+      spare_events = j.spare_events;
+      spare_bytes = j.spare_bytes;
     } };
 
     ghost invariant = { λ j. AllByRecursion (LiesWithin (length j.bytes.items)) j.entries.items
@@ -109,8 +109,8 @@ impl Journal {
     // Room for two more events, each with this many bytes of stack. Refused, it changes nothing.
     pub(crate) fn make_room(&mut self, bytes: u64) -> Result<(), NoMemory>
         ensures ok { OnOk result (self.new ≡ record self.old {
-            spare_events = self.old.spare_events + 2;
-            spare_bytes = self.old.spare_bytes + 2 * bytes;
+          spare_events = self.old.spare_events + 2;
+          spare_bytes = self.old.spare_bytes + 2 * bytes;
         }) }
         ensures err { OnErr result (self.new ≡ self.old) }
     {
@@ -135,9 +135,9 @@ impl Journal {
         requires events { 1 ≤ self.old.spare_events }
         requires bytes { length stack.now ≤ self.old.spare_bytes }
         ensures { self.new ≡ record {
-            events = self.old.events ++ event_of event stack.now ∷ [];
-            spare_events = self.old.spare_events - 1;
-            spare_bytes = self.old.spare_bytes - length stack.now;
+          events = self.old.events ++ event_of event stack.now ∷ [];
+          spare_events = self.old.spare_events - 1;
+          spare_bytes = self.old.spare_bytes - length stack.now;
         } }
     {
         let from = self.bytes.len();

@@ -5,11 +5,40 @@ ghost use Rattle.std.specs.Prelude.{◌≡◌, ℕ, ◌<◌, ◌≤◌, ◌+◌,
 ghost use Rattle.std.specs.Prelude.{true, replicate};
 ghost use Rattle.ffi3_memory.specs.Memory.{low_bytes};
 ghost use Rattle.ffi3_machine.specs.State.{
-    State, IsMachine, IsSlot, IsReturn, begun, begun_code, begun_stack, called, closure_register, code_at, entered, filled, free_word, is_left, is_zero_register, left, pushed_bytes, scribbled,
-    scribbled_floating, scribbled_general, scribble_floating, scribble_general, stack_at, stored, with_code, with_floating, with_general, with_room, with_sp,
+  State,
+  IsMachine,
+  IsSlot,
+  IsReturn,
+  begun,
+  begun_code,
+  begun_stack,
+  called,
+  closure_register,
+  code_at,
+  entered,
+  filled,
+  free_word,
+  is_left,
+  is_zero_register,
+  left,
+  pushed_bytes,
+  scribbled,
+  scribbled_floating,
+  scribbled_general,
+  scribble_floating,
+  scribble_general,
+  stack_at,
+  stored,
+  with_code,
+  with_floating,
+  with_general,
+  with_room,
+  with_sp,
 };
 
 mod journal;
+#[cfg(test)]
+mod tests;
 
 pub use ffi3_memory::NoMemory;
 use ffi3_memory::Region;
@@ -253,7 +282,8 @@ impl Machine {
     pub fn call(&mut self, addr: u64)
         requires slot { IsSlot addr }
         requires room { STACK + pushed_bytes self.old.target ≤ self.old.sp }
-        ensures { self.new ≡ called addr self.old }
+        ensures whole { self.new ≡ called addr self.old }
+        ensures return_address { IsReturn self.new }
     {
         match self.target {
             Target::Amd64 => {
@@ -296,7 +326,7 @@ impl Machine {
 
     /// Returns to RETURN, and records it with `bytes` bytes of stack from the sp after it on.
     pub fn leave(&mut self, bytes: u64)
-        requires address { IsReturn self.old.target self.old }
+        requires address { IsReturn self.old }
         requires stack { self.old.sp + pushed_bytes self.old.target + bytes ≤ STACK_TOP }
         requires events { 1 ≤ self.old.spare_events }
         requires bytes { bytes ≤ self.old.spare_bytes }

@@ -126,3 +126,52 @@ fn lowest(bytes: &[u8; 8], width: u8) -> &[u8]
 {
     &bytes[..width as usize]
 }
+
+#[cfg(test)]
+mod tests {
+    use super::*;
+
+    // Every width at both ends of a region of eight bytes: what is stored, what is read, and the bytes that are then there.
+    #[test]
+    fn stores_at_both_ends(rt: HostRuntime) -> Result<(), NoMemory> {
+        let rows: [(u8, u64, &[u8]); 4] = [
+            (1, 0x88, &[0x88, 0, 0, 0, 0, 0, 0, 0x88]),
+            (2, 0x7788, &[0x88, 0x77, 0, 0, 0, 0, 0x88, 0x77]),
+            (
+                4,
+                0x5566_7788,
+                &[0x88, 0x77, 0x66, 0x55, 0x88, 0x77, 0x66, 0x55],
+            ),
+            (
+                8,
+                0x1122_3344_5566_7788,
+                &[0x88, 0x77, 0x66, 0x55, 0x44, 0x33, 0x22, 0x11],
+            ),
+        ];
+        for (width, number, want) in rows {
+            let mut region = Region::new(rt.alloc(), 0x1000, 8)?;
+            if width == 1 || width == 2 || width == 4 || width == 8 {
+                let last = 0x1008 - u64::from(width);
+                region.store(0x1000, width, 0x1122_3344_5566_7788);
+                region.store(last, width, 0x1122_3344_5566_7788);
+                assert_eq!(rt; region.lend(0x1000, 8), want, "at {width}");
+                assert_eq!(rt; region.load(0x1000, width), number, "at {width}");
+                assert_eq!(rt; region.load(last, width), number, "at {width}");
+            }
+        }
+        Ok(())
+    }
+
+    #[test]
+    fn fills_and_copies(rt: HostRuntime) -> Result<(), NoMemory> {
+        let mut region = Region::new(rt.alloc(), 0x1000, 4)?;
+        region.fill(0x1001, 3, 0xA5);
+        region.copy_in(0x1002, &[1]);
+        assert_eq!(rt; region.lend(0x1000, 4), [0, 0xA5, 1, 0xA5].as_slice());
+        assert!(rt; region.has(0x1000, 4) && region.has(0x1004, 0));
+        assert!(rt;
+            !region.has(0xFFF, 1) && !region.has(0x1001, 4) && !region.has(0x1000, u64::MAX)
+        );
+        Ok(())
+    }
+}

@@ -26,7 +26,8 @@ abbrev pub put_all : List (List ℕ × Data) → Members → Members
 put_all [] found = found
 put_all (m ∷ ms) found = put_all ms (put m.0 m.1 found)
 
--- An object's members (RFC 8259, 4). A value keeps them by their keys' bytes, and so forgets in which order the text has them.
+-- An object's members (RFC 8259, 4). A value keeps them in the order of their keys' bytes, with the last value of a key that stands twice, and so
+-- forgets in which order the text has them. It has integers as numbers apart from floats, and so 1.0 and 1e0 are no integers.
 abbrev pub members : List (List ℕ × Data) → Data
 members ms = object (put_all ms no_members)
 

@@ -8,3 +8,4 @@ pub mod Value
 pub mod Text
 pub mod ValueText
 pub mod Names
+pub mod LayoutLaws

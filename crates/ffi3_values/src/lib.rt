@@ -10,6 +10,8 @@ mod from_bytes;
 mod numbers;
 mod padding;
 mod shape;
+#[cfg(test)]
+mod tests;
 mod text;
 mod write;
 

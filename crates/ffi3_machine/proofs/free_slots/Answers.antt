@@ -1,5 +1,4 @@
-use Rattle.std.proofs.Common.{◌≡◌, ◌+◌, ◌-◌, ◌*◌, arith, ap, sym, ◌∙◌, refl, length}
-use Rattle.std.proofs.lemmas.Grind.{common_steps}
+use Rattle.std.proofs.Common.{◌≡◌, ◌+◌, ◌-◌, ◌*◌, arith, ap, ◌∙◌, refl, length}
 use Rattle.ffi3_memory.specs.Memory.{low_bytes, Memory}
 use Rattle.ffi3_machine.specs.State.{free_word}
 use Rattle.ffi3_machine.proofs.Slots.{freed-turn, begun_code-is, length-replaced}

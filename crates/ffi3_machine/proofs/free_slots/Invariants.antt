@@ -1,4 +1,4 @@
-use Rattle.std.proofs.Common.{◌≡◌, ℕ, ◌*◌, ◌++◌, drop, length}
+use Rattle.std.proofs.Common.{◌≡◌, ◌*◌, ◌++◌, drop, length}
 use Rattle.std.specs.List.{repeat}
 use Rattle.ffi3_machine.specs.State.{free_word}
 use Rattle.ffi3_machine.proofs.free_slots.Given as goal

@@ -1,28 +1,27 @@
 use Rattle.std.proofs.Common.{◌∙◌, ap, arith, length, refl}
 use Rattle.ffi3_memory.specs.Memory.{Memory}
-use Rattle.ffi3_machine.specs.State.{begun_general, begun}
+use Rattle.ffi3_machine.specs.State.{begun_general}
 use Rattle.ffi3_machine.specs.Scribbled.{length-scribbled_general, length-scribbled_floating, IsZeroHeld-begun}
 use Rattle.ffi3_machine.proofs.Slots.{length-begun_stack, length-begun_code}
 use Rattle.ffi3_machine.proofs.Machine.begin.Goals as goal
 
 pub invariant_of-self : goal.invariant_of-self
 unfolding begun_general
-invariant_of-self c =
-    (
-      ap (λ (m : Memory). m.base) c.begin_stack.ensures ∙ c.self.invariant.0,
-      ap (λ (m : Memory). m.base) c.free_slots.ensures ∙ c.self.invariant.1,
-      record {
-        general = rw c.scribble_general.ensures (length-scribbled_general _ _ _);
-        floating = rw c.scribble_floating.ensures (length-scribbled_floating _);
-        stack = ap (λ (m : Memory). length m.bytes) c.begin_stack.ensures ∙ length-begun_stack;
-        code = ap (λ (m : Memory). length m.bytes) c.free_slots.ensures ∙ length-begun_code c.args.target;
-        sp_low = omega arith;
-        sp_high = omega arith;
-        mark_low = omega arith;
-        mark_high = omega arith;
-        zero = rw c.scribble_general.ensures (IsZeroHeld-begun c.args.target);
-      },
-    )
+invariant_of-self c = (
+  ap (λ (m : Memory). m.base) c.begin_stack.ensures ∙ c.self.invariant.0,
+  ap (λ (m : Memory). m.base) c.free_slots.ensures ∙ c.self.invariant.1,
+  record {
+    general = rw c.scribble_general.ensures (length-scribbled_general _ _ _);
+    floating = rw c.scribble_floating.ensures (length-scribbled_floating _);
+    stack = ap (λ (m : Memory). length m.bytes) c.begin_stack.ensures ∙ length-begun_stack;
+    code = ap (λ (m : Memory). length m.bytes) c.free_slots.ensures ∙ length-begun_code c.args.target;
+    sp_low = omega arith;
+    sp_high = omega arith;
+    mark_low = omega arith;
+    mark_high = omega arith;
+    zero = rw c.scribble_general.ensures (IsZeroHeld-begun c.args.target);
+  },
+)
 
 pub returns : goal.returns
 unfolding begun_general

@@ -1,7 +1,6 @@
-use Rattle.std.proofs.Common.{rules, ◌≡◌, option_map, ap, sym, inl, inr}
+use Rattle.std.proofs.Common.{ap, sym, inl, inr}
 use Rattle.ffi3_type_rules.specs.Names.{type_named, type_names}
 use Rattle.ffi3_type_rules.proofs.Names.{beside-none}
-use Rattle.ffi3_types.specs.TreeOf.{tree_of}
 use Rattle.ffi3_types.proofs.FfiType.from_name.Goals as goal
 
 pub returns-in-void : goal.returns-in-void

@@ -1,5 +1,5 @@
-use Rattle.std.proofs.Common.{◌≡◌, ◌≤◌, ap, sym, ◌∙◌, arith, All, true}
-use Rattle.ffi3_type_rules.specs.Tree.{struct_of, tree_at}
+use Rattle.std.proofs.Common.{◌≡◌, ap, ◌∙◌, arith, true}
+use Rattle.ffi3_type_rules.specs.Tree.{struct_of}
 use Rattle.ffi3_type_rules.specs.Layout.{size_of, offset_of}
 use Rattle.ffi3_type_rules.proofs.Layouts.{sizes_within, size_le-struct, align_positive, align_bounded, start-turn}
 use Rattle.ffi3_type_rules.proofs.Faults.{right_is_small}

@@ -1,4 +1,4 @@
-use Rattle.std.proofs.Common.{◌≡◌, Some, ap, sym, ◌∙◌, arith, length}
+use Rattle.std.proofs.Common.{ap, sym, ◌∙◌, arith, length}
 use Rattle.ffi3_type_rules.proofs.Signatures.{fixed_within}
 use Rattle.ffi3_types.proofs.text.write_arguments.Goals as goal
 

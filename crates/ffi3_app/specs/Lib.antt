@@ -1,0 +1,3 @@
+pub mod Call
+pub mod Top
+pub mod Refusals

@@ -1,0 +1,4 @@
+pub mod MoveOf
+pub mod Activation
+pub mod Follow
+pub mod Sum

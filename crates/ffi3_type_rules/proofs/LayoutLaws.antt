@@ -1,0 +1,333 @@
+-- Every layout keeps its laws.
+use Prim.Native.Nat.{◌∣◌}
+use Rattle.std.proofs.Common.{◌≡◌, ℕ, zero, suc, ◌+◌, ◌-◌, ◌*◌, ◌/◌, ◌%◌, ◌<◌, ◌≤◌, inl, inr, max, List, [], ◌∷◌, ◌++◌, map, length, refl, ap, ◌∙◌, subst, arith}
+use Rattle.std.specs.Prelude.{slice_index_or}
+use Rattle.std.proofs.Math.Nat.{dvd-add, mod-lt, mod-eq_of_lt, mul-mod_left, mod_self}
+use Rattle.std.proofs.lemmas.Nat.{div-add-mod'}
+use Rattle.std.proofs.lemmas.Nat.Gcd.{dvd_refl, dvd-zero, dvd_trans, dvd_of_mod-eq-zero, mod-eq-zero_of_dvd}
+use Rattle.std.proofs.lemmas.Bool.{cases_lt}
+use Rattle.ffi3_type_rules.specs.Tree.{Tree, void, scalar, left_out, structure, Trees, no_trees, tree, tree_at, list_of, Scalar, u8, s8, u16, s16, u32, s32, u64, s64, float, double, pointer}
+use Rattle.ffi3_type_rules.specs.Layout.{Layout, Leaf, layout, layouts, nothing, element, end_before, start_of, align_before, leaves_before, moved, least_multiple, struct_layout, scalar_size, scalar_layout, leaves_of, leaf_at, size_of, align_of}
+use Rattle.ffi3_type_rules.specs.LayoutLaws.{leaf_end, StandsOnPath, IsWellLaidOut}
+use Rattle.ffi3_type_rules.proofs.Layouts.{least_multiple-above}
+use Rattle.ffi3_type_rules.proofs.Faults.{node_outside}
+
+-- the alignments
+data Power : Type 0 where
+  p1 : Power
+  p2 : Power
+  p4 : Power
+  p8 : Power
+
+abbrev bytes : Power → ℕ
+bytes p1 = 1
+bytes p2 = 2
+bytes p4 = 4
+bytes p8 = 8
+
+abbrev greater : Power → Power → Power
+greater p1 q = q
+greater p2 p1 = p2
+greater p2 q = q
+greater p4 p8 = p8
+greater p4 q = p4
+greater p8 q = p8
+
+greater-is : (p q : Power) → max (bytes p) (bytes q) ≡ bytes (greater p q)
+greater-is p1 p1 = refl
+greater-is p1 p2 = refl
+greater-is p1 p4 = refl
+greater-is p1 p8 = refl
+greater-is p2 p1 = refl
+greater-is p2 p2 = refl
+greater-is p2 p4 = refl
+greater-is p2 p8 = refl
+greater-is p4 p1 = refl
+greater-is p4 p2 = refl
+greater-is p4 p4 = refl
+greater-is p4 p8 = refl
+greater-is p8 p1 = refl
+greater-is p8 p2 = refl
+greater-is p8 p4 = refl
+greater-is p8 p8 = refl
+
+left_divides : (p q : Power) → bytes (greater p q) % bytes p ≡ 0
+left_divides p1 p1 = refl
+left_divides p1 p2 = refl
+left_divides p1 p4 = refl
+left_divides p1 p8 = refl
+left_divides p2 p1 = refl
+left_divides p2 p2 = refl
+left_divides p2 p4 = refl
+left_divides p2 p8 = refl
+left_divides p4 p1 = refl
+left_divides p4 p2 = refl
+left_divides p4 p4 = refl
+left_divides p4 p8 = refl
+left_divides p8 p1 = refl
+left_divides p8 p2 = refl
+left_divides p8 p4 = refl
+left_divides p8 p8 = refl
+
+right_divides : (p q : Power) → bytes (greater p q) % bytes q ≡ 0
+right_divides p1 p1 = refl
+right_divides p1 p2 = refl
+right_divides p1 p4 = refl
+right_divides p1 p8 = refl
+right_divides p2 p1 = refl
+right_divides p2 p2 = refl
+right_divides p2 p4 = refl
+right_divides p2 p8 = refl
+right_divides p4 p1 = refl
+right_divides p4 p2 = refl
+right_divides p4 p4 = refl
+right_divides p4 p8 = refl
+right_divides p8 p1 = refl
+right_divides p8 p2 = refl
+right_divides p8 p4 = refl
+right_divides p8 p8 = refl
+
+abbrev IsPower : ℕ → Type 0
+IsPower a = (p : Power) × (a ≡ bytes p)
+
+power_positive : (a : ℕ) → IsPower a → 0 < a
+power_positive a (p1, e) = omega arith
+power_positive a (p2, e) = omega arith
+power_positive a (p4, e) = omega arith
+power_positive a (p8, e) = omega arith
+
+max_power : (a b : ℕ) → IsPower a → IsPower b → IsPower (max a b)
+max_power a b (p, e) (q, f) = (greater p q, ap (λ n. max n b) e ∙ ap (max (bytes p)) f ∙ greater-is p q)
+
+max_left : (a b : ℕ) → IsPower a → IsPower b → a ∣ max a b
+unfolding max_power
+max_left a b (p, e) (q, f) =
+    let whole : max a b ≡ bytes (greater p q) = (max_power a b (p, e) (q, f)).1 in
+    dvd_of_mod-eq-zero a (ap (λ n. n % a) whole ∙ ap (λ n. bytes (greater p q) % n) e ∙ left_divides p q)
+
+max_right : (a b : ℕ) → IsPower a → IsPower b → b ∣ max a b
+unfolding max_power
+max_right a b (p, e) (q, f) =
+    let whole : max a b ≡ bytes (greater p q) = (max_power a b (p, e) (q, f)).1 in
+    dvd_of_mod-eq-zero b (ap (λ n. n % b) whole ∙ ap (λ n. bytes (greater p q) % n) f ∙ right_divides p q)
+
+scalar_power : (s : Scalar) → IsPower (scalar_size s)
+scalar_power u8 = (p1, refl)
+scalar_power s8 = (p1, refl)
+scalar_power u16 = (p2, refl)
+scalar_power s16 = (p2, refl)
+scalar_power u32 = (p4, refl)
+scalar_power s32 = (p4, refl)
+scalar_power u64 = (p8, refl)
+scalar_power s64 = (p8, refl)
+scalar_power float = (p4, refl)
+scalar_power double = (p8, refl)
+scalar_power pointer = (p8, refl)
+
+-- the least multiple is one
+multiple-zero : (a n : ℕ) → n % a ≡ 0 → (n + (a - n % a) % a) % a ≡ 0
+multiple-zero a n e =
+    let whole : a - n % a ≡ a = omega arith in
+    let none : (a - n % a) % a ≡ 0 = ap (λ k. k % a) whole ∙ mod_self a in
+    let same : n + (a - n % a) % a ≡ n = omega arith in
+    ap (λ k. k % a) same ∙ e
+
+multiple-more : (a n : ℕ) → 0 < a → 0 < n % a → (n + (a - n % a) % a) % a ≡ 0
+multiple-more a n p h =
+    let below : n % a < a = mod-lt n p in
+    let rest : (a - n % a) % a ≡ a - n % a = mod-eq_of_lt (omega arith) in
+    let next : n + (a - n % a) % a ≡ (n / a + 1) * a = omega (arith, div-add-mod' n a) in
+    ap (λ k. k % a) next ∙ mul-mod_left (n / a + 1) a
+
+least_multiple-divides : (a n : ℕ) → 0 < a → a ∣ least_multiple a n
+unfolding least_multiple
+least_multiple-divides a n p =
+    elim (cases_lt 0 (n % a)) [
+      | inl more ↦ dvd_of_mod-eq-zero a (multiple-more a n p more)
+      | inr none ↦ dvd_of_mod-eq-zero a (multiple-zero a n (omega arith))
+    ]
+
+-- leaves from one place up to another
+abbrev Rising : ℕ → List Leaf → ℕ → Type 0
+Rising from [] to = from ≤ to
+Rising from (l ∷ ls) to = (from ≤ l.at) × Rising (leaf_end l) ls to
+
+-- leaves aligned as their kinds are, in a type of this alignment
+abbrev AlignedIn : ℕ → List Leaf → Type 0
+AlignedIn align [] = Unit {0}
+AlignedIn align (l ∷ ls) =
+    (scalar_size l.kind ∣ l.at) × (scalar_size l.kind ∣ align) × AlignedIn align ls
+
+rising-further : (from : ℕ) (ls : List Leaf) (to further : ℕ) → to ≤ further → Rising from ls to → Rising from ls further
+rising-further from [] to further h r = omega arith
+rising-further from (l ∷ ls) to further h r = (r.0, rising-further (leaf_end l) ls to further h r.1)
+
+rising-earlier : (earlier from : ℕ) (ls : List Leaf) (to : ℕ) → earlier ≤ from → Rising from ls to → Rising earlier ls to
+rising-earlier earlier from [] to h r = omega arith
+rising-earlier earlier from (l ∷ ls) to h r = (omega (arith, r.0), r.1)
+
+rising-append : (from : ℕ) (xs : List Leaf) (middle : ℕ) (ys : List Leaf) (to : ℕ) → Rising from xs middle → Rising middle ys to → Rising from (xs ++ ys) to
+rising-append from [] middle ys to r s = rising-earlier from middle ys to r s
+rising-append from (x ∷ xs) middle ys to r s = (r.0, rising-append (leaf_end x) xs middle ys to r.1 s)
+
+rising-moved : (by from : ℕ) (ls : List Leaf) (to : ℕ) → Rising from ls to → Rising (by + from) (map (moved by) ls) (by + to)
+rising-moved by from [] to r = omega arith
+rising-moved by from (l ∷ ls) to r =
+    let same : by + leaf_end l ≡ by + l.at + scalar_size l.kind = omega arith in
+    (omega (arith, r.0), subst (λ n. Rising n (map (moved by) ls) (by + to)) same (rising-moved by (leaf_end l) ls to r.1))
+
+aligned-append : (align : ℕ) (xs ys : List Leaf) → AlignedIn align xs → AlignedIn align ys → AlignedIn align (xs ++ ys)
+aligned-append align [] ys a b = b
+aligned-append align (x ∷ xs) ys a b = (a.0, a.1, aligned-append align xs ys a.2 b)
+
+-- moved by a multiple of their type's alignment, in a type whose alignment is a multiple of it too
+aligned-moved : (inner outer by : ℕ) (ls : List Leaf) → inner ∣ by → inner ∣ outer → AlignedIn inner ls → AlignedIn outer (map (moved by) ls)
+aligned-moved inner outer by [] d e a = tt
+aligned-moved inner outer by (l ∷ ls) d e a =
+    let k = scalar_size l.kind in
+    (dvd-add k (dvd_trans k a.1 d) a.0, dvd_trans k a.1 e, aligned-moved inner outer by ls d e a.2)
+
+record IsWell (l : Layout) : Type 0 where
+  power : IsPower l.align
+  whole : l.align ∣ l.size
+  rising : Rising 0 l.leaves l.size
+  aligned : AlignedIn l.align l.leaves
+
+-- a struct of elements that keep the laws
+module _ (es : List Layout) (well : (k : ℕ) → IsWell (element es k)) where
+  align_power : (n : ℕ) → IsPower (align_before es n)
+  align_power zero = (p1, refl)
+  align_power (suc n) = max_power (align_before es n) (element es n).align (align_power n) (well n).power
+
+  align_divides : (k n : ℕ) → k < n → (element es k).align ∣ align_before es n
+  align_divides k zero h = absurd (omega arith)
+  align_divides k (suc n) h =
+      elim (cases_lt k n) [
+        | inl earlier ↦ dvd_trans (element es k).align (align_divides k n earlier) (max_left (align_before es n) (element es n).align (align_power n) (well n).power)
+        | inr here ↦ let same : n ≡ k = omega arith in
+            subst (λ j. (element es j).align ∣ align_before es (suc n)) same (max_right (align_before es n) (element es n).align (align_power n) (well n).power)
+      ]
+
+  rising_before : (n : ℕ) → Rising 0 (leaves_before es n) (end_before es n)
+  rising_before zero = omega arith
+  rising_before (suc n) =
+      let start = start_of es n in
+      let none : start + 0 ≡ start = omega arith in
+      let there = subst (λ j. Rising j (map (moved start) (element es n).leaves) (start + (element es n).size)) none (rising-moved start 0 (element es n).leaves (element es n).size (well n).rising) in
+      rising-append 0 (leaves_before es n) start (map (moved start) (element es n).leaves) (end_before es (suc n)) (rising-further 0 (leaves_before es n) (end_before es n) start (least_multiple-above (element es n).align (end_before es n)) (rising_before n)) there
+
+  aligned_before : (n align : ℕ) → ((k : ℕ) → k < n → (element es k).align ∣ align) → AlignedIn align (leaves_before es n)
+  aligned_before zero align h = tt
+  aligned_before (suc n) align h =
+      let start = start_of es n in
+      let a = (element es n).align in
+      aligned-append align (leaves_before es n) (map (moved start) (element es n).leaves) (aligned_before n align (λ k below. h k (omega arith))) (aligned-moved a align start (element es n).leaves (least_multiple-divides a (end_before es n) (power_positive a (well n).power)) (h n (omega arith)) (well n).aligned)
+
+  struct_well : IsWell (struct_layout es)
+  struct_well =
+      let n = length es in
+      let a = align_before es n in
+      record {
+        power = align_power n;
+        whole = least_multiple-divides a (end_before es n) (power_positive a (align_power n));
+        rising = rising-further 0 (leaves_before es n) (end_before es n) (least_multiple a (end_before es n)) (least_multiple-above a (end_before es n)) (rising_before n);
+        aligned = aligned_before n a (λ k below. align_divides k n below);
+      }
+
+nothing_well : IsWell nothing
+nothing_well = record { power = (p1, refl); whole = dvd-zero 1; rising = omega arith; aligned = tt }
+
+scalar_well : (s : Scalar) → IsWell (scalar_layout s)
+scalar_well s =
+    record { power = scalar_power s; whole = dvd_refl (scalar_size s); rising = (omega arith, omega arith); aligned = (dvd-zero (scalar_size s), dvd_refl (scalar_size s), tt) }
+
+mutual
+  tree_well : (t : Tree) → IsWell (layout t)
+  tree_well void = nothing_well
+  tree_well (scalar s) = scalar_well s
+  tree_well (left_out k) = nothing_well
+  tree_well (structure ts) = struct_well (layouts ts) (trees_well ts)
+
+  trees_well : (ts : Trees) (k : ℕ) → IsWell (element (layouts ts) k)
+  trees_well no_trees k = nothing_well
+  trees_well (tree t ts) zero = tree_well t
+  trees_well (tree t ts) (suc k) = trees_well ts k
+
+-- leaf by leaf
+rising-end : (from : ℕ) (ls : List Leaf) (to : ℕ) → Rising from ls to → from ≤ to
+rising-end from [] to r = r
+rising-end from (l ∷ ls) to r = omega (arith, r.0, rising-end (leaf_end l) ls to r.1)
+
+rising-inside : (from : ℕ) (ls : List Leaf) (to i : ℕ) (d : Leaf) → i < length ls → Rising from ls to → (from ≤ (slice_index_or ls i d).at) × (leaf_end (slice_index_or ls i d) ≤ to)
+rising-inside from [] to i d h r = absurd (omega arith)
+rising-inside from (l ∷ ls) to zero d h r = (r.0, rising-end (leaf_end l) ls to r.1)
+rising-inside from (l ∷ ls) to (suc i) d h r =
+    let inner = rising-inside (leaf_end l) ls to i d (omega arith) r.1 in
+    (omega (arith, inner.0, r.0), inner.1)
+
+rising-order : (from : ℕ) (ls : List Leaf) (to i j : ℕ) (d : Leaf) → i < j → j < length ls → Rising from ls to → leaf_end (slice_index_or ls i d) ≤ (slice_index_or ls j d).at
+rising-order from [] to i j d h k r = absurd (omega arith)
+rising-order from (l ∷ ls) to i zero d h k r = absurd (omega arith)
+rising-order from (l ∷ ls) to zero (suc j) d h k r = (rising-inside (leaf_end l) ls to j d (omega arith) r.1).0
+rising-order from (l ∷ ls) to (suc i) (suc j) d h k r = rising-order (leaf_end l) ls to i j d (omega arith) (omega arith) r.1
+
+aligned-at : (align : ℕ) (ls : List Leaf) (i : ℕ) (d : Leaf) → i < length ls → AlignedIn align ls → scalar_size (slice_index_or ls i d).kind ∣ (slice_index_or ls i d).at
+aligned-at align [] i d h a = absurd (omega arith)
+aligned-at align (l ∷ ls) zero d h a = a.0
+aligned-at align (l ∷ ls) (suc i) d h a = aligned-at align ls i d (omega arith) a.2
+
+-- the paths of leaves
+abbrev EachStands : Tree → List Leaf → Type 0
+EachStands t [] = Unit {0}
+EachStands t (l ∷ ls) = StandsOnPath t l × EachStands t ls
+
+stands-at : (t : Tree) (ls : List Leaf) (i : ℕ) (d : Leaf) → i < length ls → EachStands t ls → StandsOnPath t (slice_index_or ls i d)
+stands-at t [] i d h e = absurd (omega arith)
+stands-at t (l ∷ ls) zero d h e = e.0
+stands-at t (l ∷ ls) (suc i) d h e = stands-at t ls i d (omega arith) e.1
+
+stands-append : (t : Tree) (xs ys : List Leaf) → EachStands t xs → EachStands t ys → EachStands t (xs ++ ys)
+stands-append t [] ys a b = b
+stands-append t (x ∷ xs) ys a b = (a.0, stands-append t xs ys a.1 b)
+
+-- a leaf of element k is one of the struct
+stands-moved : (ts : Trees) (k : ℕ) (ls : List Leaf) → k < length (list_of ts) → EachStands (tree_at (list_of ts) k) ls → EachStands (structure ts) (map (moved (start_of (layouts ts) k)) ls)
+stands-moved ts k [] h e = tt
+stands-moved ts k (l ∷ ls) h e =
+    let first = e.0 in
+    (record { path = k ∷ first.path; leads = node_outside ts k first.path (scalar l.kind) h first.leads; starts = ap (λ n. start_of (layouts ts) k + n) first.starts }, stands-moved ts k ls h e.1)
+
+stands_before : (ts : Trees) → ((k : ℕ) → EachStands (tree_at (list_of ts) k) (element (layouts ts) k).leaves) → (n : ℕ) → n ≤ length (list_of ts) → EachStands (structure ts) (leaves_before (layouts ts) n)
+stands_before ts each zero h = tt
+stands_before ts each (suc n) h =
+    stands-append (structure ts) (leaves_before (layouts ts) n) (map (moved (start_of (layouts ts) n)) (element (layouts ts) n).leaves) (stands_before ts each n (omega arith)) (stands-moved ts n (element (layouts ts) n).leaves (omega arith) (each n))
+
+length-trees : (ts : Trees) → length (layouts ts) ≡ length (list_of ts)
+length-trees no_trees = refl
+length-trees (tree t ts) = ap suc (length-trees ts)
+
+mutual
+  tree_stands : (t : Tree) → EachStands t (leaves_of t)
+  tree_stands void = tt
+  tree_stands (scalar s) = (record { path = []; leads = refl; starts = refl }, tt)
+  tree_stands (left_out k) = tt
+  tree_stands (structure ts) =
+      stands_before ts (trees_stands ts) (length (layouts ts)) (omega (arith, length-trees ts))
+
+  trees_stands : (ts : Trees) (k : ℕ) → EachStands (tree_at (list_of ts) k) (element (layouts ts) k).leaves
+  trees_stands no_trees k = tt
+  trees_stands (tree t ts) zero = tree_stands t
+  trees_stands (tree t ts) (suc k) = trees_stands ts k
+
+pub well_laid_out : (t : Tree) → IsWellLaidOut t
+well_laid_out t =
+    let well = tree_well t in
+    let ls = leaves_of t in
+    let d : Leaf = record { at = 0; kind = u8 } in
+    record {
+      inside = λ i h. (rising-inside 0 ls (size_of t) i d h well.rising).1;
+      in_order = λ i j h k. rising-order 0 ls (size_of t) i j d h k well.rising;
+      aligned = λ i h. mod-eq-zero_of_dvd (scalar_size (leaf_at t i).kind) (aligned-at (align_of t) ls i d h well.aligned);
+      summed = λ i h. stands-at t ls i d h (tree_stands t);
+      whole = mod-eq-zero_of_dvd (align_of t) well.whole;
+    }

@@ -1,0 +1,31 @@
+-- What every layout keeps. (C, "Structure and union specifiers": elements lie in order, each at a multiple of its alignment)
+use Rattle.std.specs.Prelude.{◌≡◌, ℕ, ◌+◌, ◌%◌, ◌<◌, ◌≤◌, List, [], ◌∷◌, length, Some}
+use Rattle.ffi3_type_rules.specs.Tree.{Tree, scalar, tree_at, elements_of}
+use Rattle.ffi3_type_rules.specs.Layout.{Leaf, scalar_size, size_of, align_of, leaves_of, leaf_at, offset_of}
+use Rattle.ffi3_type_rules.specs.Fault.{node_at}
+
+-- where a leaf ends
+abbrev pub leaf_end : Leaf → ℕ
+leaf_end leaf = leaf.at + scalar_size leaf.kind
+
+-- where the node at a path starts: the sum of the offsets on the way
+abbrev pub offset_on : List ℕ → Tree → ℕ
+offset_on [] t = 0
+offset_on (i ∷ path) t = offset_of t i + offset_on path (tree_at (elements_of t) i)
+
+-- a scalar of the type that stands where its path says
+pub record StandsOnPath (t : Tree) (leaf : Leaf) : Type 0 where
+  pub path : List ℕ
+  pub leads : node_at path t ≡ Some (scalar leaf.kind)
+  pub starts : leaf.at ≡ offset_on path t
+
+pub record IsWellLaidOut (t : Tree) : Type 0 where
+  -- leaves lie in the type
+  pub inside : (i : ℕ) → i < length (leaves_of t) → leaf_end (leaf_at t i) ≤ size_of t
+  -- they rise from the left and do not overlap
+  pub in_order : (i j : ℕ) → i < j → j < length (leaves_of t) → leaf_end (leaf_at t i) ≤ (leaf_at t j).at
+  -- each is aligned
+  pub aligned : (i : ℕ) → i < length (leaves_of t) → (leaf_at t i).at % scalar_size (leaf_at t i).kind ≡ 0
+  -- its offset is the sum of those on its path
+  pub summed : (i : ℕ) → i < length (leaves_of t) → StandsOnPath t (leaf_at t i)
+  pub whole : size_of t % align_of t ≡ 0

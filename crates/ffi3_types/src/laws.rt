@@ -1,0 +1,12 @@
+// What every layout keeps, for callers to cite.
+ghost use Rattle.ffi3_type_rules.specs.LayoutLaws.{IsWellLaidOut};
+ghost use Rattle.ffi3_types.specs.TreeOf.{tree_of};
+
+use crate::FfiType;
+
+/// Does nothing. Its contract says what every layout keeps: leaves lie inside the type, rise
+/// from the left without overlapping, are aligned as their kinds are, and stand at the sum of
+/// the offsets on their paths; the size is a multiple of the alignment.
+pub fn layout_laws(_ty: &FfiType)
+    ensures { IsWellLaidOut (tree_of _ty.now) }
+{}
