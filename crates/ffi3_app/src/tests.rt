@@ -136,6 +136,13 @@ fn check_row(rt: &impl Abort, alloc: Global, row: &Row) -> Result<(), Fail> {
     Ok(())
 }
 
+/// Words that ask for nothing that is known.
+fn check_words(rt: &impl Abort, alloc: Global, words: &'static [&'static str]) -> Result<(), Fail> {
+    let mut row = plain(INCREMENT, 2, b"", b"ffi3: bad words\n");
+    row.words = words;
+    check_row(rt, alloc, &row)
+}
+
 #[test]
 fn answers_with_its_status(rt: HostRuntime) -> Result<(), Fail> {
     let alloc = rt.alloc();
@@ -149,16 +156,9 @@ fn answers_with_its_status(rt: HostRuntime) -> Result<(), Fail> {
     for row in &rows {
         check_row(&rt, alloc, row)?;
     }
-    let words: [&[&str]; 3] = [
-        &["ffi3"],
-        &["ffi3", "run"],
-        &["ffi3", "run", "--target", "i386"],
-    ];
-    for refused in words {
-        let mut row = plain(INCREMENT, 2, b"", b"ffi3: bad words\n");
-        row.words = refused;
-        check_row(&rt, alloc, &row)?;
-    }
+    check_words(&rt, alloc, &["ffi3"])?;
+    check_words(&rt, alloc, &["ffi3", "run"])?;
+    check_words(&rt, alloc, &["ffi3", "run", "--target", "i386"])?;
     Ok(())
 }
 
