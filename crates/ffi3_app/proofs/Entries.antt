@@ -15,7 +15,7 @@ use Rattle.ffi3_machine.specs.State.{State, begun, begun_general, begun_stack, s
 use Rattle.ffi3_app.specs.Call.{with_argument}
 use Rattle.ffi3_app.proofs.Stack.{range-written}
 use Rattle.std.proofs.lemmas.List.{length-replicate}
-use Rattle.ffi3_machine.specs.declared.TheConstants.{CODE, RETURN}
+use Rattle.ffi3_machine.specs.declared.TheConstants.{STACK_TOP, CODE, RETURN}
 
 -- the machine at the entry of the first call
 abbrev pub at_entry : ℕ → ℕ → ℕ → State
@@ -43,7 +43,7 @@ pub pushed : (word a b : ℕ) → stack_at 0x7FFEFFF8 8 (at_entry word a b) ≡ 
 pushed word a b =
     range-written begun_stack (to_le_bytes w64 RETURN) 65528 (omega (arith, length-begun_stack))
 
-pub is_entry : (z : ℤ) (word a b : ℕ) → word ≡ widened s32 (bytes_of_number s32 z) → IsEntry amd64 [] 0 CODE int_function (int_value z ∷ []) (entry_event word a b)
+pub is_entry : (z : ℤ) (word a b : ℕ) → word ≡ widened s32 (bytes_of_number s32 z) → IsEntry amd64 STACK_TOP (λ at. 0) [] 0 CODE int_function (int_value z ∷ []) (entry_event word a b)
 unfolding scribbled_general begun_general least_multiple
 is_entry z word a b is = record {
   kind = refl;

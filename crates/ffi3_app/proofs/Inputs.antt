@@ -6,7 +6,7 @@ use Rattle.std.proofs.Math.Nat.{le_trans}
 use Rattle.std.proofs.lemmas.List.{take_all}
 use Rattle.ffi3_io.specs.Source.{GivesFirst}
 use Rattle.ffi3_script_rules.specs.Reading.{Reading, too_long, not_json, not_yet, script, IsReading}
-use Rattle.ffi3_app.specs.Top.{ReadAs, IsAtEnd, given}
+use Rattle.ffi3_app.specs.Top.{ReadAs, IsRead, IsReadInPart, IsAtEnd, given}
 use Rattle.ffi3_script_rules.specs.Form.{OneCall}
 use Rattle.ffi3_app.specs.Refusals.{IsJudged, IsRefusal}
 use Rattle.ffi3_app.specs.declared.load.Refusal.{Refusal}
@@ -54,16 +54,24 @@ pub at_end_given : (left left' : Option (List ℕ)) (count count' : ℕ) (bytes 
 at_end_given left left' count count' bytes lent f gives same (d, json, form) =
     let P = λ (b : List ℕ). length b ≤ 1048576 in at_end left left' count count' bytes gives (subst P same json.short)
 
+-- all that may be read was read
+all_read : (left left' : Option (List ℕ)) (count count' : ℕ) (bytes : List ℕ) → GivesFirst 1048577 left bytes left' → IsRead (given left count) (given left' count')
+all_read left left' count count' bytes gives all is = (gives all is).1
+
+pub read_in_part : (left left' : Option (List ℕ)) (count count' : ℕ) (bytes : List ℕ) → GivesFirst 1048577 left bytes left' → IsReadInPart (given left count) (given left' count')
+read_in_part left left' count count' bytes gives =
+    let limit : 1048577 ≤ 1048577 = lit≤ tt in (1048577, limit, (λ all is. (gives all is).1))
+
 -- what was judged of the bytes refuses the input
 pub refusal_of : (r : Refusal) (left left' : Option (List ℕ)) (count count' : ℕ) (bytes lent : List ℕ) → GivesFirst 1048577 left bytes left' → lent ≡ bytes → count' ≡ count → IsJudged lent r → IsRefusal (given left count) (given left' count') r
 refusal_of ReadFault left left' count count' bytes lent gives same counted judged = absurd judged
-refusal_of NoMemory left left' count count' bytes lent gives same counted judged = counted
+refusal_of NoMemory left left' count count' bytes lent gives same counted judged = (counted, read_in_part left left' count count' bytes gives)
 refusal_of TooLong left left' count count' bytes lent gives same counted judged =
-    record { read_as = read_as_given left left' count bytes lent too_long gives same judged; count = counted }
+    record { read_as = read_as_given left left' count bytes lent too_long gives same judged; all_read = all_read left left' count count' bytes gives; count = counted }
 refusal_of BadJson left left' count count' bytes lent gives same counted judged =
-    record { read_as = read_as_given left left' count bytes lent not_json gives same judged; count = counted }
+    record { read_as = read_as_given left left' count bytes lent not_json gives same judged; all_read = all_read left left' count count' bytes gives; count = counted }
 refusal_of NotYet left left' count count' bytes lent gives same counted judged =
-    record { read_as = read_as_given left left' count bytes lent not_yet gives same judged; count = counted }
+    record { read_as = read_as_given left left' count bytes lent not_yet gives same judged; all_read = all_read left left' count count' bytes gives; count = counted }
 
 pub IfErr-weaker : {X Y : Type 0} (r : Result X Y) (P Q : Y → Type 0) → ((y : Y) → P y → Q y) → IfErr r P → IfErr r Q
 IfErr-weaker (Ok x) P Q weaker is = tt

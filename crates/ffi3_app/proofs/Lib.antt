@@ -7,3 +7,4 @@ pub mod Inputs
 pub mod Saying
 pub mod FourWords
 pub mod Returns
+mod Rows

@@ -94,6 +94,7 @@ made added given a b word outcome m6 m7 z sum at leaves word_is outcome_is =
       entry = entry_event word a b;
       return = return_event outcome word a b;
       events = refl;
+      target = refl;
       entered = is_entry given word a b word_is;
       returned = let Q = λ (v : ValueTree). journal.IsReturn amd64 (record { signature = int_function; event = entry_event word a b }) v (return_event outcome word a b) in subst Q sum (is_return z outcome word a b outcome_is);
       mark = lit≤ tt;

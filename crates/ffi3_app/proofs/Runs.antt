@@ -3,13 +3,13 @@ use Rattle.std.proofs.Common.{◌≡◌, ℕ, ◌+◌, ◌≤◌, List, [], ◌�
 use Rattle.std.specs.Prelude.{Some, Option, take, ℤ}
 use Rattle.std.proofs.Math.Seq.{take-length}
 use Rattle.ffi3_io.specs.Sink.{Adds, AddsSome}
-use Rattle.ffi3_type_rules.specs.Value.{ValueTree}
+use Rattle.ffi3_type_rules.specs.Value.{ValueTree, void_value}
 use Rattle.ffi3_type_rules.specs.Tree.{scalar, s32}
 use Rattle.ffi3_type_rules.specs.Layout.{least_multiple}
 use Rattle.ffi3_type_rules.specs.ValueText.{value_text_of}
 use Rattle.ffi3_place_rules.specs.Event.{Event}
 use Rattle.ffi3_amd64_rules.specs.Amd64.{amd64}
-use Rattle.ffi3_run_rules.specs.Meaning.{meaning_of, peak_of, act, act_within, deed, no_deeds, called, line}
+use Rattle.ffi3_run_rules.specs.Meaning.{meaning_of, peak_of, act, act_within, deed, no_deeds, called, line, returned}
 use Rattle.ffi3_run_rules.specs.Happenings.{happenings_of}
 use Rattle.ffi3_run_rules.specs.Lines.{a_line}
 use Rattle.ffi3_run_rules.specs.Journal.{JournalOf, IsWhole, stack_top}
@@ -22,6 +22,10 @@ use Rattle.ffi3_app.specs.Top.{text_of_run, Took, took, IsTold, WrotePart}
 pub deeds-is : (f : OneCall) → (meaning_of (program_of amd64 f)).deeds ≡ deed (called 0x10000 0 (int_value f.given ∷ []) no_deeds (Some (sum_with f.added (int_value f.given)))) (deed (line (scalar s32) (sum_with f.added (int_value f.given))) no_deeds)
 unfolding act act_within least_multiple
 deeds-is f = refl
+
+pub returns-is : (f : OneCall) → (meaning_of (program_of amd64 f)).end ≡ returned void_value
+unfolding act act_within least_multiple
+returns-is f = refl
 
 pub text-is : (f : OneCall) → text_of_run f ≡ a_line (value_text_of (scalar s32) (sum_with f.added (int_value f.given)))
 unfolding act act_within least_multiple
@@ -49,6 +53,8 @@ line_of_run f bytes v line_is v_is =
 
 pub told : (f : OneCall) (before after : Took) (s : State) (bytes : List ℕ) (v : ValueTree) → IsCallMade f.added f.given s → v ≡ sum_with f.added (int_value f.given) → bytes ≡ a_line (value_text_of (scalar s32) v) → Adds before.taken bytes after.taken → after.faults ≡ before.faults → IsTold f before after s
 told f before after s bytes v made v_is line_is adds count = record {
+  returns = returns-is f;
+  target = made.target;
   written = record {
     added = let P = λ (t : List ℕ). Adds before.taken t after.taken in subst P (line_of_run f bytes v line_is v_is) adds;
     count = count;

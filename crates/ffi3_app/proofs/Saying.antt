@@ -1,5 +1,5 @@
 -- What the top call says, from what its parts say.
-use Rattle.std.proofs.Common.{◌≡◌, ℕ, List, inl, inr, refl, ap, subst}
+use Rattle.std.proofs.Common.{◌≡◌, ℕ, ◌<◌, List, inl, inr, refl, subst, ap, arith}
 use Rattle.std.specs.Prelude.{◌⊎◌, ◌↔◌, Some, Bool, true, false, IsTrue}
 use Rattle.ffi3_io.specs.Sink.{Rose}
 use Rattle.ffi3_script_rules.specs.Form.{OneCall}
@@ -9,68 +9,85 @@ use Rattle.ffi3_machine.specs.State.{State}
 use Rattle.ffi3_app.specs.declared.load.Refusal.{Refusal}
 use Rattle.ffi3_app.specs.declared.load.Refusal.TheVariants.{ReadFault, NoMemory, TooLong, BadJson, NotYet}
 use Rattle.ffi3_app.specs.Refusals.{IsRefusal, refusal_line, refusal_status}
-use Rattle.ffi3_app.specs.Top.{AsksRun, IsFault, Given, Took, ReadAs, Tells, whole, cut, Says, done, refused, bad_words, read_failed, write_failed, telling_failed, no_memory, bad_words_line, no_memory_line, write_fault_line, WrotePart}
+use Rattle.ffi3_app.specs.Top.{AsksRun, IsFault, Given, Took, Tells, whole, cut, Fails, refused, bad_words, read_failed, write_failed, no_memory, Says, done, failed}
+
+module _ (words : List (List ℕ)) (input input' : Given) (output output' : Took) (machine machine' : State) where
+  -- a refusal of the input is what goes wrong
+  pub fails_by : (r : Refusal) → AsksRun words → IsRefusal input input' r → output' ≡ output → machine' ≡ machine → Fails words input input' output output' machine machine' (refusal_status r) (refusal_line r)
+  fails_by ReadFault asks is same_output same_machine = read_failed asks is.0 is.1 same_output same_machine
+  fails_by NoMemory asks is same_output same_machine =
+      let same : output'.faults ≡ output.faults = ap (λ t. t.faults) same_output in no_memory asks is.1 is.0 (inl (same_output, same_machine)) same
+  fails_by TooLong asks is same_output same_machine = refused asks too_long tt is.read_as is.all_read is.count same_output same_machine
+  fails_by BadJson asks is same_output same_machine = refused asks not_json tt is.read_as is.all_read is.count same_output same_machine
+  fails_by NotYet asks is same_output same_machine = refused asks not_yet tt is.read_as is.all_read is.count same_output same_machine
 
 module _ (words : List (List ℕ)) (input input' : Given) (output output' told told' : Took) (machine machine' : State) where
-  -- other words
-  pub says_bad_words : (status : ℕ) → (AsksRun words → ⊥) → input' ≡ input → output' ≡ output → machine' ≡ machine → Tells bad_words_line 2 told told' status → Says words input input' output output' told told' machine machine' status
-  says_bad_words _ other same_input same_output same_machine (whole line) = bad_words other same_input same_output same_machine line
-  says_bad_words _ other same_input same_output same_machine (cut part rose) = telling_failed (inl same_output) rose
-
-  -- no script
-  pub says_refused : (r : Refusal) (status : ℕ) → AsksRun words → IsRefusal input input' r → output' ≡ output → machine' ≡ machine → Tells (refusal_line r) (refusal_status r) told told' status → Says words input input' output output' told told' machine machine' status
-  says_refused ReadFault _ asks rose same_output same_machine (whole line) = read_failed asks rose same_output same_machine line
-  says_refused NoMemory _ asks count same_output same_machine (whole line) = no_memory asks count (inl same_output) (ap (λ t. t.faults) same_output) line
-  says_refused TooLong _ asks is same_output same_machine (whole line) = refused asks too_long tt is.read_as is.count same_output same_machine line
-  says_refused BadJson _ asks is same_output same_machine (whole line) = refused asks not_json tt is.read_as is.count same_output same_machine line
-  says_refused NotYet _ asks is same_output same_machine (whole line) = refused asks not_yet tt is.read_as is.count same_output same_machine line
-  says_refused r _ asks is same_output same_machine (cut part rose) = telling_failed (inl same_output) rose
-
-  -- want of memory in a run
-  pub says_no_memory : (f : OneCall) (status : ℕ) → AsksRun words → ReadAs input (script f) → input'.faults ≡ input.faults → WrotePart f output output' → output'.faults ≡ output.faults → Tells no_memory_line 5 told told' status → Says words input input' output output' told told' machine machine' status
-  says_no_memory f _ asks read count part faults (whole line) = no_memory asks count (inr (f, read, part)) faults line
-  says_no_memory f _ asks read count part faults (cut cut_off rose) = telling_failed (inr (f, read, part)) rose
-
-  -- a write that failed
-  pub says_write_failed : (f : OneCall) (status : ℕ) → AsksRun words → ReadAs input (script f) → input'.faults ≡ input.faults → WrotePart f output output' → Rose output.faults output'.faults → Tells write_fault_line 4 told told' status → Says words input input' output output' told told' machine machine' status
-  says_write_failed f _ asks read count part rose (whole line) = write_failed asks f read count part rose line
-  says_write_failed f _ asks read count part rose (cut cut_off rose_too) = telling_failed (inr (f, read, part)) rose_too
-
   -- ---- what follows from what a status says
+
+  other_reading : (r : Reading) (f : OneCall) → IsFault r → r ≡ script f → ⊥
+  other_reading too_long f fault same = cc
+  other_reading not_json f fault same = cc
+  other_reading not_yet f fault same = cc
+  other_reading (script g) f fault same = fault
 
   pub runs : (status : ℕ) → Says words input input' output output' told told' machine machine' status → AsksRun words → (all : List ℕ) → input.left ≡ Some all → (f : OneCall) → IsReading all (script f) → (Rose input.faults input'.faults → ⊥) → (Rose output.faults output'.faults → ⊥) → (Rose told.faults told'.faults → ⊥) → (status ≡ 0) ⊎ (status ≡ 5)
   runs _ (done _ f' read end count tells same) asks all is f reading no_read no_write no_tell = inl refl
-  runs _ (refused _ too_long fault read count same_output same_machine line) asks all is f reading no_read no_write no_tell =
-      let other : too_long ≡ script f = one_reading all too_long (script f) (read all is) reading in cc
-  runs _ (refused _ not_json fault read count same_output same_machine line) asks all is f reading no_read no_write no_tell =
-      let other : not_json ≡ script f = one_reading all not_json (script f) (read all is) reading in cc
-  runs _ (refused _ not_yet fault read count same_output same_machine line) asks all is f reading no_read no_write no_tell =
-      let other : not_yet ≡ script f = one_reading all not_yet (script f) (read all is) reading in cc
-  runs _ (refused _ (script f') fault read count same_output same_machine line) asks all is f reading no_read no_write no_tell = absurd fault
-  runs _ (bad_words other same_input same_output same_machine line) asks all is f reading no_read no_write no_tell = absurd (other asks)
-  runs _ (read_failed _ rose same_output same_machine line) asks all is f reading no_read no_write no_tell = absurd (no_read rose)
-  runs _ (write_failed _ f' read count part rose line) asks all is f reading no_read no_write no_tell = absurd (no_write rose)
-  runs _ (telling_failed part rose) asks all is f reading no_read no_write no_tell = absurd (no_tell rose)
-  runs _ (no_memory _ count part faults line) asks all is f reading no_read no_write no_tell = inr refl
+  runs _ (failed wrong (cut part rose)) asks all is f reading no_read no_write no_tell = absurd (no_tell rose)
+  runs _ (failed (refused _ r fault read all_read count same_output same_machine) (whole line)) asks all is f reading no_read no_write no_tell = absurd (other_reading r f fault (one_reading all r (script f) (read all is) reading))
+  runs _ (failed (bad_words other same_input same_output same_machine) (whole line)) asks all is f reading no_read no_write no_tell = absurd (other asks)
+  runs _ (failed (read_failed _ rose part same_output same_machine) (whole line)) asks all is f reading no_read no_write no_tell = absurd (no_read rose)
+  runs _ (failed (write_failed _ f' read end count part rose) (whole line)) asks all is f reading no_read no_write no_tell = absurd (no_write rose)
+  runs _ (failed (no_memory _ part count began faults) (whole line)) asks all is f reading no_read no_write no_tell = inr refl
 
   pub refuses : (status : ℕ) → Says words input input' output output' told told' machine machine' status → AsksRun words → (all : List ℕ) → input.left ≡ Some all → (r : Reading) → IsFault r → IsReading all r → (Rose input.faults input'.faults → ⊥) → (Rose output.faults output'.faults → ⊥) → (Rose told.faults told'.faults → ⊥) → (status ≡ 1) ⊎ (status ≡ 5)
-  refuses _ (done _ f read end count tells same) asks all is r fault reading no_read no_write no_tell =
-      let P : Reading → Type 0 = IsFault in absurd (subst P (one_reading all r (script f) reading (read all is)) fault)
-  refuses _ (refused _ r' fault' read count same_output same_machine line) asks all is r fault reading no_read no_write no_tell = inl refl
-  refuses _ (bad_words other same_input same_output same_machine line) asks all is r fault reading no_read no_write no_tell = absurd (other asks)
-  refuses _ (read_failed _ rose same_output same_machine line) asks all is r fault reading no_read no_write no_tell = absurd (no_read rose)
-  refuses _ (write_failed _ f' read count part rose line) asks all is r fault reading no_read no_write no_tell = absurd (no_write rose)
-  refuses _ (telling_failed part rose) asks all is r fault reading no_read no_write no_tell = absurd (no_tell rose)
-  refuses _ (no_memory _ count part faults line) asks all is r fault reading no_read no_write no_tell = inr refl
+  refuses _ (done _ f read end count tells same) asks all is r fault reading no_read no_write no_tell = absurd (other_reading r f fault (one_reading all r (script f) reading (read all is)))
+  refuses _ (failed wrong (cut part rose)) asks all is r fault reading no_read no_write no_tell = absurd (no_tell rose)
+  refuses _ (failed (refused _ r' fault' read all_read count same_output same_machine) (whole line)) asks all is r fault reading no_read no_write no_tell = inl refl
+  refuses _ (failed (bad_words other same_input same_output same_machine) (whole line)) asks all is r fault reading no_read no_write no_tell = absurd (other asks)
+  refuses _ (failed (read_failed _ rose part same_output same_machine) (whole line)) asks all is r fault reading no_read no_write no_tell = absurd (no_read rose)
+  refuses _ (failed (write_failed _ f' read end count part rose) (whole line)) asks all is r fault reading no_read no_write no_tell = absurd (no_write rose)
+  refuses _ (failed (no_memory _ part count began faults) (whole line)) asks all is r fault reading no_read no_write no_tell = inr refl
 
   pub knows_words : (status : ℕ) → Says words input input' output output' told told' machine machine' status → (AsksRun words → ⊥) → (Rose told.faults told'.faults → ⊥) → status ≡ 2
   knows_words _ (done asks f read end count tells same) other no_tell = absurd (other asks)
-  knows_words _ (refused asks r' fault' read count same_output same_machine line) other no_tell = absurd (other asks)
-  knows_words _ (bad_words _ same_input same_output same_machine line) other no_tell = refl
-  knows_words _ (read_failed asks rose same_output same_machine line) other no_tell = absurd (other asks)
-  knows_words _ (write_failed asks f' read count part rose line) other no_tell = absurd (other asks)
-  knows_words _ (telling_failed part rose) other no_tell = absurd (no_tell rose)
-  knows_words _ (no_memory asks count part faults line) other no_tell = absurd (other asks)
+  knows_words _ (failed wrong (cut part rose)) other no_tell = absurd (no_tell rose)
+  knows_words _ (failed (refused asks r' fault' read all_read count same_output same_machine) (whole line)) other no_tell = absurd (other asks)
+  knows_words _ (failed (bad_words _ same_input same_output same_machine) (whole line)) other no_tell = refl
+  knows_words _ (failed (read_failed asks rose part same_output same_machine) (whole line)) other no_tell = absurd (other asks)
+  knows_words _ (failed (write_failed asks f' read end count part rose) (whole line)) other no_tell = absurd (other asks)
+  knows_words _ (failed (no_memory asks part count began faults) (whole line)) other no_tell = absurd (other asks)
+
+  -- ---- counts that rose show in the status
+
+  pub read_count : (status : ℕ) → Says words input input' output output' told told' machine machine' status → input.faults < input'.faults → (status ≡ 3) ⊎ (status ≡ 4)
+  read_count _ (done asks f read end count tells same) higher = absurd (omega arith)
+  read_count _ (failed wrong (cut part rose)) higher = inr refl
+  read_count _ (failed (refused asks r fault read all_read count same_output same_machine) (whole line)) higher = absurd (omega arith)
+  read_count _ (failed (bad_words other same_input same_output same_machine) (whole line)) higher =
+      let same : input'.faults ≡ input.faults = ap (λ t. t.faults) same_input in absurd (omega (arith, same))
+  read_count _ (failed (read_failed asks rose part same_output same_machine) (whole line)) higher = inl refl
+  read_count _ (failed (write_failed asks f read end count part rose) (whole line)) higher = inr refl
+  read_count _ (failed (no_memory asks part count began faults) (whole line)) higher = absurd (omega arith)
+
+  pub write_count : (status : ℕ) → Says words input input' output output' told told' machine machine' status → output.faults < output'.faults → status ≡ 4
+  write_count _ (done asks f read end count tells same) higher =
+      let same_count : output'.faults ≡ output.faults = tells.written.count in absurd (omega (arith, same_count))
+  write_count _ (failed wrong (cut part rose)) higher = refl
+  write_count _ (failed (refused asks r fault read all_read count same_output same_machine) (whole line)) higher =
+      let same : output'.faults ≡ output.faults = ap (λ t. t.faults) same_output in absurd (omega (arith, same))
+  write_count _ (failed (bad_words other same_input same_output same_machine) (whole line)) higher =
+      let same : output'.faults ≡ output.faults = ap (λ t. t.faults) same_output in absurd (omega (arith, same))
+  write_count _ (failed (read_failed asks rose part same_output same_machine) (whole line)) higher =
+      let same : output'.faults ≡ output.faults = ap (λ t. t.faults) same_output in absurd (omega (arith, same))
+  write_count _ (failed (write_failed asks f read end count part rose) (whole line)) higher = refl
+  write_count _ (failed (no_memory asks part count began faults) (whole line)) higher = absurd (omega arith)
+
+  pub tell_count : (status : ℕ) → Says words input input' output output' told told' machine machine' status → told.faults < told'.faults → status ≡ 4
+  tell_count _ (done asks f read end count tells same) higher =
+      let same_count : told'.faults ≡ told.faults = ap (λ t. t.faults) same in absurd (omega (arith, same_count))
+  tell_count _ (failed wrong (cut part rose)) higher = refl
+  tell_count _ (failed wrong (whole line)) higher =
+      let same_count : told'.faults ≡ told.faults = line.count in absurd (omega (arith, same_count))
 
 pub is_so : (b : Bool) (A : Type 0) → b ≡ true → (IsTrue b ↔ A) → A
 is_so b A e iff = iff.0 e

@@ -3,6 +3,7 @@ use Rattle.std.specs.Prelude.{◌≡◌, ℕ, zero, suc, ◌+◌, ◌-◌, ◌*�
 use Rattle.std.specs.Int.{w64, to_le_bytes, from_le_bytes}
 use Rattle.std.specs.Prelude.{ℤ}
 use Rattle.ffi3_place_rules.specs.Event.{Event}
+use Rattle.ffi3_type_rules.specs.declared.Target.TheVariants.{Amd64}
 use Rattle.ffi3_place_rules.specs.Standard.{need_of}
 use Rattle.ffi3_amd64_rules.specs.Amd64.{amd64}
 use Rattle.ffi3_run_rules.specs.Journal.{IsEntry, IsReturn}
@@ -71,6 +72,7 @@ pub record IsCallMade (added given : ℤ) (s : State) : Type 0 where
   pub entry : Event
   pub return : Event
   pub events : s.events ≡ entry ∷ return ∷ []
-  pub entered : IsEntry amd64 [] 0 CODE int_function (int_value given ∷ []) entry
+  pub target : s.target ≡ Amd64
+  pub entered : IsEntry amd64 STACK_TOP (λ at. 0) [] 0 CODE int_function (int_value given ∷ []) entry
   pub returned : IsReturn amd64 (record { signature = int_function; event = entry }) (sum_with added (int_value given)) return
   pub mark : STACK_TOP ≤ s.mark + need_of amd64 int_function

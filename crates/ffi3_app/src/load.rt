@@ -1,7 +1,7 @@
 //! From the input to a script, or to why there is none.
 ghost use Rattle.std.specs.Prelude.{◌≡◌, ◌≤◌, IfOk, IfErr, OnOk, length};
 ghost use Rattle.ffi3_script_rules.specs.Reading.{IsReading, script};
-ghost use Rattle.ffi3_app.specs.Top.{ReadAs, IsAtEnd, given};
+ghost use Rattle.ffi3_app.specs.Top.{ReadAs, IsAtEnd, IsReadInPart, given};
 
 use ffi3_io::{ReadEnd, Source, read_all};
 use ffi3_script::{MAX_LENGTH, Names, Script, ScriptFault, read_script};
@@ -59,6 +59,7 @@ pub fn load<I: Source>(alloc: Global, input: &mut I) -> Result<Script, Refusal>
     ensures script { IfOk result (λ s. ReadAs (given (I.left input.old) (I.faults input.old)) (script s)) }
     ensures end { OnOk result (IsAtEnd (given (I.left input.old) (I.faults input.old)) (given (I.left input.new) (I.faults input.new))) }
     ensures same { OnOk result (I.faults input.new ≡ I.faults input.old) }
+    ensures part { IsReadInPart (given (I.left input.old) (I.faults input.old)) (given (I.left input.new) (I.faults input.new)) }
     ensures refused { IfErr result (IsRefusal (given (I.left input.old) (I.faults input.old)) (given (I.left input.new) (I.faults input.new))) }
     ensures never_falls { I.faults input.old ≤ I.faults input.new }
 {

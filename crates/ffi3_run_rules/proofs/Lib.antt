@@ -1,1 +1,4 @@
 mod Rows
+mod StopRows
+mod NativeRows
+pub mod Recursion

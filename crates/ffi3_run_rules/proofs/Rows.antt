@@ -1,13 +1,11 @@
 -- The script that makes a closure of an increment, calls it with 41 and prints the result, computed.
-use Rattle.std.specs.Prelude.{◌≡◌, ℕ, ℤ, pos, ◌+◌, ◌+ℤ◌, List, [], ◌∷◌, refl, None, codes, ◌++◌}
+use Rattle.std.specs.Prelude.{◌≡◌, ℤ, pos, ◌+ℤ◌, [], ◌∷◌, refl, None, codes, ◌++◌}
 use Rattle.std.specs.Int.{w64, from_le_bytes}
 use Rattle.ffi3_type_rules.specs.Tree.{scalar, s32}
-use Rattle.ffi3_type_rules.specs.Layout.{least_multiple}
-use Rattle.ffi3_type_rules.specs.Signature.{Signature}
 use Rattle.ffi3_type_rules.specs.Integer.{number_of, bytes_of_number}
 use Rattle.ffi3_type_rules.specs.Value.{ValueTree, void_value, leaf_value, bytes_of}
-use Rattle.ffi3_run_rules.specs.Move.{Move, call, make, print, return, Behaviour}
-use Rattle.ffi3_run_rules.specs.Meaning.{Program, meaning_of, act, act_within, Outcome, End, returned, stopped}
+use Rattle.ffi3_run_rules.specs.Move.{call, make, print, return, Behaviour}
+use Rattle.ffi3_run_rules.specs.Meaning.{Program, meaning_of, act, act_within, returned}
 use Rattle.ffi3_run_rules.specs.Happenings.{happenings_of}
 use Rattle.ffi3_run_rules.specs.Journal.{events_in}
 use Rattle.ffi3_run_rules.specs.Lines.{text}

@@ -1,15 +1,14 @@
 -- The journal of a machine against what happens in a run: each entry holds the caller's values, each return the callee's result, and what is to be preserved is preserved.
 use Rattle.std.specs.Prelude.{◌≡◌, ℕ, ◌+◌, ◌*◌, ◌%◌, ◌^◌, ⊤, List, [], ◌∷◌, length}
 use Rattle.std.specs.List.{AllByRecursion}
-use Rattle.ffi3_type_rules.specs.Signature.{Signature}
+use Rattle.ffi3_type_rules.specs.Signature.{Signature, signature_at}
 use Rattle.ffi3_type_rules.specs.Value.{ValueTree}
 use Rattle.ffi3_place_rules.specs.declared.Loc.{Loc}
 use Rattle.ffi3_place_rules.specs.declared.Loc.TheVariants.{G, F, S}
 use Rattle.ffi3_place_rules.specs.Standard.{Standard, need_of, frame_of}
 use Rattle.ffi3_place_rules.specs.Image.{register}
 use Rattle.ffi3_place_rules.specs.Holds.{Holds, HoldsResult, Kept}
-use Rattle.ffi3_place_rules.specs.Event.{Event, EventKind, enters, leaves}
-use Rattle.ffi3_run_rules.specs.Move.{signature_at}
+use Rattle.ffi3_place_rules.specs.Event.{Event, enters, leaves}
 use Rattle.ffi3_run_rules.specs.Happenings.{Happening, Enter, Line, Leave, StopLine}
 
 -- the first address above the stack
@@ -32,15 +31,15 @@ abbrev pub needs : Standard → List Entered → ℕ
 needs std [] = 0
 needs std (e ∷ outer) = need_of std e.signature + needs std outer
 
--- event number n is the entry of a call with these arguments, below the unfinished calls around it
-pub record IsEntry (std : Standard) (outer : List Entered) (n pointer : ℕ) (s : Signature) (arguments : List ValueTree) (e : Event) : Type 0 where
+-- Event number n is the entry of a call with these arguments, below the unfinished calls around it, the first of which stands below `top`; the reserved registers hold what they `held` there.
+pub record IsEntry (std : Standard) (top : ℕ) (held : Loc → ℕ) (outer : List Entered) (n pointer : ℕ) (s : Signature) (arguments : List ValueTree) (e : Event) : Type 0 where
   pub kind : e.kind ≡ enters
   pub closure : e.closure ≡ pointer
   pub holds : Holds std s arguments e.image
-  pub sp : e.image.sp + (std.link + frame_of std s + needs std outer) ≡ stack_top
+  pub sp : e.image.sp + (std.link + frame_of std s + needs std outer) ≡ top
   pub stack : length e.image.stack ≡ std.link + frame_of std s
   pub preserved : AllByRecursion (λ at. register e.image at ≡ scribble n at) std.preserved
-  pub reserved : AllByRecursion (λ at. register e.image at ≡ 0) std.reserved
+  pub reserved : AllByRecursion (λ at. register e.image at ≡ held at) std.reserved
 
 -- the event is the return of an unfinished call with this result
 pub record IsReturn (std : Standard) (entered : Entered) (result : ValueTree) (e : Event) : Type 0 where
@@ -51,16 +50,16 @@ pub record IsReturn (std : Standard) (entered : Entered) (result : ValueTree) (e
   pub stack : length e.image.stack ≡ frame_of std entered.signature
 
 -- Each event answers to the entry or return of its number; n events came before. `unfinished` are the calls that are open, the innermost first.
-abbrev pub Answers : Standard → List Signature → ℕ → List Entered → List Happening → List Event → Type 0
-Answers std signatures n unfinished happenings [] = ⊤
-Answers std signatures n unfinished [] (e ∷ events) = ⊥
-Answers std signatures n unfinished (Line t v ∷ rest) (e ∷ events) = Answers std signatures n unfinished rest (e ∷ events)
-Answers std signatures n unfinished (StopLine stop ∷ rest) (e ∷ events) = Answers std signatures n unfinished rest (e ∷ events)
-Answers std signatures n unfinished (Enter ptr sig args ∷ rest) (e ∷ events) =
-    IsEntry std unfinished n ptr (signature_at signatures sig) args e × Answers std signatures (n + 1) (record { signature = signature_at signatures sig; event = e } ∷ unfinished) rest events
-Answers std signatures n [] (Leave sig r ∷ rest) (e ∷ events) = ⊥
-Answers std signatures n (entered ∷ unfinished) (Leave sig r ∷ rest) (e ∷ events) =
-    IsReturn std entered r e × Answers std signatures (n + 1) unfinished rest events
+abbrev pub Answers : Standard → (top : ℕ) → (held : Loc → ℕ) → List Signature → ℕ → List Entered → List Happening → List Event → Type 0
+Answers std top held signatures n unfinished happenings [] = ⊤
+Answers std top held signatures n unfinished [] (e ∷ events) = ⊥
+Answers std top held signatures n unfinished (Line t v ∷ rest) (e ∷ events) = Answers std top held signatures n unfinished rest (e ∷ events)
+Answers std top held signatures n unfinished (StopLine stop ∷ rest) (e ∷ events) = Answers std top held signatures n unfinished rest (e ∷ events)
+Answers std top held signatures n unfinished (Enter ptr sig args ∷ rest) (e ∷ events) =
+    IsEntry std top held unfinished n ptr (signature_at signatures sig) args e × Answers std top held signatures (n + 1) (record { signature = signature_at signatures sig; event = e } ∷ unfinished) rest events
+Answers std top held signatures n [] (Leave sig r ∷ rest) (e ∷ events) = ⊥
+Answers std top held signatures n (entered ∷ unfinished) (Leave sig r ∷ rest) (e ∷ events) =
+    IsReturn std entered r e × Answers std top held signatures (n + 1) unfinished rest events
 
 -- how many entries and returns there are
 abbrev pub events_in : List Happening → ℕ
@@ -70,9 +69,10 @@ events_in (Leave sig r ∷ rest) = events_in rest + 1
 events_in (Line t v ∷ rest) = events_in rest
 events_in (StopLine stop ∷ rest) = events_in rest
 
--- THE JOURNAL IS THAT OF THESE HAPPENINGS, as far as it goes
+-- THE JOURNAL IS THAT OF THESE HAPPENINGS, as far as it goes, on a machine that began: from the top of the stack down, with reserved registers 0
 abbrev pub JournalOf : Standard → List Signature → List Happening → List Event → Type 0
-JournalOf std signatures happenings journal = Answers std signatures 0 [] happenings journal
+JournalOf std signatures happenings journal =
+    Answers std stack_top (λ at. 0) signatures 0 [] happenings journal
 
 -- and it is whole
 abbrev pub IsWhole : List Happening → List Event → Type 0

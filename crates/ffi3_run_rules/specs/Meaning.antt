@@ -1,14 +1,14 @@
 -- The direct meaning of a program: a recursion on values, without registers, frames or addresses of the stack. Its one number of the machine is the bytes of stack that are left.
 use Rattle.std.specs.Prelude.{ℕ, zero, suc, ◌+◌, ◌-◌, max, List, [], ◌∷◌, ◌++◌, length, slice_index_or, Option, Some, None, if◌then◌else◌, nat_lt}
-use Rattle.ffi3_type_rules.specs.Tree.{Tree, scalar, pointer}
-use Rattle.ffi3_type_rules.specs.Signature.{Signature}
+use Rattle.ffi3_type_rules.specs.Tree.{Tree}
+use Rattle.ffi3_type_rules.specs.Signature.{Signature, signature_at}
 use Rattle.ffi3_type_rules.specs.Same.{same_signature}
 use Rattle.ffi3_type_rules.specs.Value.{ValueTree, void_value, leaf_value}
 use Rattle.std.specs.Int.{w64, to_le_bytes}
 use Rattle.ffi3_run_rules.specs.declared.Closure.{Closure}
 use Rattle.ffi3_run_rules.specs.declared.Stop.{Stop}
 use Rattle.ffi3_run_rules.specs.declared.Stop.TheVariants.{NoClosure, WrongSig, TableFull, StackFull, MoveLimit}
-use Rattle.ffi3_run_rules.specs.Move.{Move, call, make, free, print, return, Behaviour, signature_at}
+use Rattle.ffi3_run_rules.specs.Move.{Move, call, make, free, print, return, Behaviour}
 use Rattle.ffi3_run_rules.specs.Closures.{Closures, no_closures, slots, slot_address, closure_at, first_free, with_closure, freed}
 
 -- a function: what it does, and the number of its signature
@@ -85,7 +85,7 @@ pub data Doing : Type 0 where
   goes_on : (result : ValueTree) → Closures → Doing
   enters : (pointer signature : ℕ) → Acting → Doing
 
-abbrev at_closure : Option Closure → ℕ → (Closure → Doing) → Doing
+abbrev pub at_closure : Option Closure → ℕ → (Closure → Doing) → Doing
 at_closure None ptr go = stops (NoClosure ptr)
 at_closure (Some closure) ptr go = go closure
 
@@ -100,7 +100,7 @@ callee_of p a sig args closure = record {
 }
 
 -- a call enters a live closure of its own signature, where the stack suffices
-abbrev call_of : Program → Acting → ℕ → ℕ → List ValueTree → Closure → Doing
+abbrev pub call_of : Program → Acting → ℕ → ℕ → List ValueTree → Closure → Doing
 call_of p a ptr sig args closure =
     if same_signature (signature_at p.signatures sig) (signature_at p.signatures closure.sig)
     then (if nat_lt a.left (need_at p sig)
@@ -134,26 +134,26 @@ pub record Outcome : Type 0 where
 abbrev pub after : Deed → Outcome → Outcome
 after d o = record o { deeds = deed d o.deeds }
 
-abbrev stops_with : Stop → Closures → ℕ → Outcome
+abbrev pub stops_with : Stop → Closures → ℕ → Outcome
 stops_with stop closures moves =
     record { end = stopped stop; closures = closures; moves = moves; deeds = deed (stop_line stop) no_deeds }
 
 -- what follows where closures and moves left are given
-abbrev Acts : Type 0
+abbrev pub Acts : Type 0
 Acts = Acting → Closures → ℕ → Outcome
 
 -- an activation goes on once the function that it called has ended; where the run stopped in that, it has no more deeds
-abbrev resumed : Acts → Acting → ℕ → ℕ → List ValueTree → Outcome → End → Outcome
+abbrev pub resumed : Acts → Acting → ℕ → ℕ → List ValueTree → Outcome → End → Outcome
 resumed acts a ptr sig args o (stopped stop) =
     record o { deeds = deed (called ptr sig args o.deeds None) no_deeds }
 resumed acts a ptr sig args o (returned r) =
     after (called ptr sig args o.deeds (Some r)) (acts (with_result a r) o.closures o.moves)
 
-abbrev resumed_after : Acts → Acting → ℕ → ℕ → List ValueTree → Outcome → Outcome
+abbrev pub resumed_after : Acts → Acting → ℕ → ℕ → List ValueTree → Outcome → Outcome
 resumed_after acts a ptr sig args o = resumed acts a ptr sig args o o.end
 
 -- one move and all that follows it; `moves` are left after it
-abbrev follows : Acts → Acting → Closures → ℕ → Doing → Outcome
+abbrev pub follows : Acts → Acting → Closures → ℕ → Doing → Outcome
 follows acts a closures moves (ends v) =
     record { end = returned v; closures = closures; moves = moves; deeds = no_deeds }
 follows acts a closures moves (stops stop) = stops_with stop closures moves
@@ -163,14 +163,14 @@ follows acts a closures moves (goes_on r closures') = acts (with_result a r) clo
 follows acts a closures moves (enters ptr sig callee) =
     resumed_after acts a ptr sig callee.arguments (acts callee closures moves)
 
--- as far as a depth of `fuel` moves
+-- ---- as far as a depth of `fuel` moves
 unfoldable pub act_within : Program → ℕ → Acting → Closures → ℕ → Outcome
 act_within p zero a closures moves = stops_with MoveLimit closures 0
 act_within p (suc fuel) a closures zero = stops_with MoveLimit closures 0
 act_within p (suc fuel) a closures (suc moves) =
     follows (act_within p fuel) a closures moves (doing p a closures (next_move p a))
 
--- How an activation acts. A move is counted before it is done, and none is asked for where none is left; so no depth is greater than the moves left, which are fuel enough.
+-- How an activation acts. A move is counted before it is done, and none is asked for where none is left; so no depth is greater than the moves left, which are fuel enough: `act-is` in proofs/ is this recursion without fuel.
 unfoldable pub act : Program → Acting → Closures → ℕ → Outcome
 act p a closures moves = act_within p moves a closures moves
 
@@ -180,6 +180,39 @@ main_call = record { who = main; arguments = []; user = 0; left = stack_size; re
 -- THE DIRECT MEANING OF A PROGRAM: main acts, with the whole stack, no closures and all moves left.
 abbrev pub meaning_of : Program → Outcome
 meaning_of p = act p main_call no_closures most_moves
+
+-- ---- natives
+
+-- A native: what it does, and the signatures that its calls' numbers count in; number 0 is its own. The one function that it makes is itself, number 0.
+pub record Native : Type 0 where
+  pub behaviour : Behaviour
+  pub signatures : List Signature
+
+-- a native's move by the numbers of the run, where its signatures begin at `first` and it is function `own`
+abbrev pub renumbered : (first own : ℕ) → Move → Move
+renumbered first own (call ptr sig args) = call ptr (first + sig) args
+renumbered first own (make func user) = make (own + func) user
+renumbered first own move = move
+
+abbrev pub function_of : (first own : ℕ) → Native → Function
+function_of first own n =
+    record { behaviour = λ args user results. renumbered first own (n.behaviour args user results); signature = first }
+
+abbrev pub functions_from : (first own : ℕ) → List Native → List Function
+functions_from first own [] = []
+functions_from first own (n ∷ ns) =
+    function_of first own n ∷ functions_from (first + length n.signatures) (own + 1) ns
+
+abbrev pub all_signatures : List Native → List Signature
+all_signatures [] = []
+all_signatures (n ∷ ns) = n.signatures ++ all_signatures ns
+
+-- A program together with natives: their functions are numbered after the program's own, and each one's signatures after those before it.
+abbrev pub with_natives : Program → List Native → Program
+with_natives p natives = record p {
+  signatures = p.signatures ++ all_signatures natives;
+  functions = p.functions ++ functions_from (length p.signatures) (length p.functions) natives;
+}
 
 -- ---- the stack that calls take
 

@@ -1,9 +1,9 @@
 -- What a function does: one move after another, each a function of what the activation has seen.
-use Rattle.std.specs.Prelude.{◌≡◌, ℕ, zero, suc, ◌+◌, ◌<◌, ⊤, true, List, [], ◌∷◌, length, slice_index_or, Option, Some, None}
+use Rattle.std.specs.Prelude.{◌≡◌, ℕ, ◌<◌, ⊤, true, List, [], length, Option, Some, None}
 use Rattle.ffi3_type_rules.specs.Tree.{Tree, void, scalar, pointer}
 use Rattle.ffi3_type_rules.specs.Fault.{HasNoFault}
-use Rattle.ffi3_type_rules.specs.Signature.{Signature}
-use Rattle.ffi3_type_rules.specs.Value.{ValueTree, void_value, leaf_value, fits, all_fit, values_of}
+use Rattle.ffi3_type_rules.specs.Signature.{Signature, signature_at}
+use Rattle.ffi3_type_rules.specs.Value.{ValueTree, fits, all_fit, values_of}
 use Rattle.ffi3_type_rules.specs.Tree.{trees_of}
 
 -- signatures and functions go by number
@@ -21,9 +21,6 @@ Behaviour = List ValueTree → ℕ → List ValueTree → Move
 -- a call without arguments and result
 abbrev pub no_signature : Signature
 no_signature = record { result_type = void; arguments = []; fixed = None }
-
-abbrev pub signature_at : List Signature → ℕ → Signature
-signature_at signatures k = slice_index_or signatures k no_signature
 
 -- the type of a move's result; after a return there is none
 abbrev pub result_type_of : List Signature → Move → Option Tree

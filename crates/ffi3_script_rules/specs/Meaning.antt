@@ -1,12 +1,12 @@
 -- What a script means, as a program: signatures, functions and main, by what each activation has seen.
-use Rattle.std.specs.Prelude.{ℕ, ℤ, List, [], ◌∷◌, None, slice_index_or}
+use Rattle.std.specs.Prelude.{ℤ, [], ◌∷◌, None, slice_index_or}
 use Rattle.std.specs.Int.{w64, from_le_bytes}
-use Rattle.ffi3_type_rules.specs.Tree.{Tree, scalar, s32}
+use Rattle.ffi3_type_rules.specs.Tree.{scalar, s32}
 use Rattle.ffi3_type_rules.specs.Signature.{Signature}
 use Rattle.ffi3_type_rules.specs.Integer.{bytes_of_number, sum_of}
 use Rattle.ffi3_type_rules.specs.Value.{ValueTree, void_value, leaf_value, bytes_of}
 use Rattle.ffi3_place_rules.specs.Standard.{Standard, need_of}
-use Rattle.ffi3_run_rules.specs.Move.{Move, call, make, print, return, Behaviour}
+use Rattle.ffi3_run_rules.specs.Move.{call, make, print, return, Behaviour}
 use Rattle.ffi3_run_rules.specs.Meaning.{Program}
 use Rattle.ffi3_script_rules.specs.Form.{OneCall}
 
