@@ -1,7 +1,11 @@
 // Plans of signatures, as gcc and clang place them; register numbers are those of instructions (rdi is g7).
-use crate::Amd64;
+ghost use Rattle.std.specs.Prelude.{true};
+ghost use Rattle.ffi3_type_rules.specs.Fault.{HasNoFault};
+ghost use Rattle.ffi3_types.specs.TreeOf.{tree_of};
+
+use crate::{Amd64, class_of, in_memory};
 use ffi3_place::{Abi, Loc, Pieces, Place, Plan, Res};
-use ffi3_types::{FfiType, Fields, Sig, check_sig};
+use ffi3_types::{FfiType, Fields, Sig, check_sig, check_type};
 use std::alloc::Global;
 use std::test::Fail;
 
@@ -75,6 +79,37 @@ fn answer(alloc: Global, ret: &str, args: &str, fixed: Option<u32>) -> Result<St
     let plan = Amd64::plan(alloc, &sig)?;
     told(alloc, &plan)
 }
+
+/// The classes of a type's eightbytes.
+fn classes_of(alloc: Global, ty: &FfiType) -> Result<String, Fail>
+    requires { HasNoFault 0 true (tree_of ty.now) }
+{
+    let mut text = String::new(alloc);
+    if in_memory(ty) {
+        text.push_str("memory")?;
+    } else {
+        for j in 0..(ty.size() / 8) as u32 {
+            write!(text, "{:?} ", class_of(ty, j))?;
+        }
+    }
+    Ok(text)
+}
+
+fn classes(alloc: Global, word: &str) -> Result<String, Fail> {
+    let ty = type_of(alloc, word)?;
+    if check_type(&ty, true).is_err() {
+        return Ok(String::new(alloc));
+    }
+    classes_of(alloc, &ty)
+}
+
+const CLASSES: [(&str, &str); 5] = [
+    ("sint32+float", "Integer "),
+    ("float+float+float+sint8", "Sse Integer "),
+    ("double+double", "Sse Sse "),
+    ("sint8+double", "Integer Sse "),
+    ("sint8+double+sint8", "memory"),
+];
 
 const ROWS: [(&str, &str, &str); 11] = [
     ("sint32", "sint32", "80 0 16 0; g7:0+4 ret g0:0+4"),

@@ -75,3 +75,30 @@ module _ (s : Signature) where
         stack_total = ap (λ a. a.stack) total;
         vector_total = ap (λ a. a.vector) total;
       }
+
+-- ---- the sums leave no choice
+
+-- the test that decides by the sums
+abbrev Decides : Signature → (ℕ → Bool) → Type 0
+Decides s chosen =
+    (i : ℕ) → i < length s.arguments → chosen i ≡ in_registers (sums_before s chosen i) (tree_at s.arguments i)
+
+module _ (s : Signature) (p q : ℕ → Bool) (by_p : Decides s p) (by_q : Decides s q) where
+  same_sums : (i : ℕ) → i ≤ length s.arguments → sums_before s p i ≡ sums_before s q i
+  same_sums zero h = refl
+  same_sums (suc i) h =
+      let before = same_sums i (omega arith) in
+      let t = tree_at s.arguments i in
+      let chosen : p i ≡ q i = by_p i (omega arith) ∙ ap (λ a. in_registers a t) before ∙ sym (by_q i (omega arith)) in
+      same_taken (sums_before s p (suc i)) (sums_before s q (suc i))
+      (next_general (sums_before s p i) (sums_before s q i) (cond (p i) (integers t) 0) (cond (q i) (integers t) 0) before (ap (λ b. cond b (integers t) 0) chosen) (sums_before s p (suc i)).general (sums_before s q (suc i)).general (omega arith) (omega arith))
+      (ap (λ a. a.vector + cond (p i) (sses t) 0) before ∙ ap (λ b. (sums_before s q i).vector + cond b (sses t) 0) chosen)
+      (ap (λ a. a.stack + cond (not (p i)) (round8 (size_of t)) 0) before ∙ ap (λ b. (sums_before s q i).stack + cond (not b) (round8 (size_of t)) 0) chosen)
+    where
+      next_general : (a b : Taken) (m n : ℕ) → a ≡ b → m ≡ n → (x y : ℕ) → x ≡ a.general + m → y ≡ b.general + n → x ≡ y
+      next_general a b m n e f x y g k = g ∙ ap (λ c. c.general + m) e ∙ ap (λ l. b.general + l) f ∙ sym k
+
+  -- the arguments in registers are the same
+  pub same_choice : (i : ℕ) → i < length s.arguments → p i ≡ q i
+  same_choice i h =
+      by_p i h ∙ ap (λ a. in_registers a (tree_at s.arguments i)) (same_sums i (omega arith)) ∙ sym (by_q i h)

@@ -5,6 +5,8 @@ mod call;
 mod load;
 mod run;
 mod tell;
+#[cfg(test)]
+mod tests;
 mod top;
 mod words;
 

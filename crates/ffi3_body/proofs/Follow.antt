@@ -1,11 +1,11 @@
 -- For callers: results follow as they come.
-use Rattle.std.proofs.Common.{◌≡◌, ℕ, ◌+◌, ◌<◌, List, [], ◌∷◌, ◌++◌, length, take, ap, sym, ◌∙◌, refl, inl, inr, arith, length-append}
+use Rattle.std.proofs.Common.{◌≡◌, ℕ, List, [], ◌∷◌, ◌++◌, length, refl, inl, inr, arith, length-append}
 use Rattle.std.proofs.lemmas.Bool.{cases_lt}
 use Rattle.std.proofs.lemmas.List.{get_or_append_left, take-append-le}
 use Rattle.std.proofs.Math.Seq.{take-append_seam}
 use Rattle.ffi3_type_rules.specs.Signature.{Signature}
 use Rattle.ffi3_type_rules.specs.Value.{ValueTree, void_value}
-use Rattle.ffi3_type_rules.proofs.Values.{value_at, get_or-append_at}
+use Rattle.ffi3_type_rules.proofs.Values.{get_or-append_at}
 use Rattle.ffi3_run_rules.specs.Move.{Behaviour, result_type_of}
 use Rattle.ffi3_body.specs.Follow.{IsOfType, ResultsFollow}
 

@@ -1,3 +1,4 @@
 pub mod Blocks
 pub mod Sum
 pub mod Follow
+pub mod Fitting

@@ -1,7 +1,7 @@
 // What an activation has seen.
 ghost use Rattle.std.specs.Prelude.{◌≡◌, ◌+◌, ◌<◌, ◌≤◌, ◌^◌, IfOk, length, true, slice_index_or};
-ghost use Rattle.ffi3_type_rules.specs.Tree.{tree_at};
-ghost use Rattle.ffi3_type_rules.specs.Value.{void_value, fits};
+ghost use Rattle.ffi3_type_rules.specs.Tree.{tree_at, trees_of};
+ghost use Rattle.ffi3_type_rules.specs.Value.{void_value, values_of, fits, all_fit};
 ghost use Rattle.ffi3_type_rules.specs.Layout.{size_of};
 ghost use Rattle.ffi3_type_rules.specs.Fault.{HasNoFault};
 ghost use Rattle.ffi3_type_rules.specs.Signature.{SignatureHasNoFault};
@@ -57,9 +57,10 @@ impl<'a> Seen<'a> {
         }
     }
 
-    /// How many arguments there are.
+    /// How many arguments there are. They fit their types.
     pub fn count(&self) -> u32
-        ensures { result ≡ length self.now.signature.arguments }
+        ensures is { result ≡ length self.now.signature.arguments }
+        ensures fit { all_fit (trees_of self.now.signature.arguments) (values_of (arguments_of self.now)) ≡ true }
     {
         self.sig.count()
     }

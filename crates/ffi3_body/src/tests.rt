@@ -117,14 +117,17 @@ fn asks_a_native_behind_a_box(rt: HostRuntime) {
     assert!(rt; same_sig(&sig, native_sigs(&native).get(0)));
     // 2^63 - 1, 1 and 5, and a doubleword that makes the number of them even
     let block = [
-        0xff, 0xff, 0xff, 0xff, 0xff, 0xff, 0xff, 0x7f, 1, 0, 0, 0, 0, 0, 0, 0, 5, 0, 0, 0, 0, 0, 0,
-        0, 0xee, 0xee, 0xee, 0xee, 0xee, 0xee, 0xee, 0xee,
+        0xff, 0xff, 0xff, 0xff, 0xff, 0xff, 0xff, 0x7f, 1, 0, 0, 0, 0, 0, 0, 0, 5, 0, 0, 0, 0, 0,
+        0, 0, 0xee, 0xee, 0xee, 0xee, 0xee, 0xee, 0xee, 0xee,
     ];
     let results = Values::new(alloc);
     let seen = Seen::new(&sig, &block, 0, &results);
     match ask_native(alloc, &native, &seen).expect(&rt, "memory") {
         Move::Return(Value::Leaf(bytes)) => {
-            assert_eq!(rt; bytes.as_slice(), b"\x05\x00\x00\x00\x00\x00\x00\x80".as_slice());
+            assert_eq!(rt;
+                bytes.as_slice(),
+                b"\x05\x00\x00\x00\x00\x00\x00\x80".as_slice()
+            );
         }
         _ => panic!(rt; "another move"),
     }

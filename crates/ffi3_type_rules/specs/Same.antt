@@ -1,6 +1,6 @@
 -- Tests of equality of types and signatures.
 use Rattle.std.specs.Prelude.{ℕ, Bool, true, false, ◌&&◌, ◌==◌, List, [], ◌∷◌, Option, Some, None}
-use Rattle.ffi3_type_rules.specs.Tree.{scalar_number, LeftOutKind, long_double, complex, vector, Tree, void, scalar, left_out, structure, Trees, no_trees, tree}
+use Rattle.ffi3_type_rules.specs.Tree.{Scalar, scalar_number, LeftOutKind, long_double, complex, vector, Tree, void, scalar, left_out, structure, Trees, no_trees, tree}
 use Rattle.ffi3_type_rules.specs.Signature.{Signature}
 
 abbrev same_kind : LeftOutKind → LeftOutKind → Bool

@@ -1,0 +1,79 @@
+-- The arguments in a block fit their types.
+use Rattle.std.proofs.Common.{◌≡◌, ℕ, suc, ◌+◌, ◌<◌, ◌≤◌, Bool, true, false, List, [], ◌∷◌, length, drop, refl, ap, subst, arith, length-take, length-drop}
+use Rattle.std.specs.Prelude.{◌==◌, ◌&&◌}
+use Rattle.ffi3_type_rules.specs.Tree.{Tree, void, scalar, left_out, structure, Trees, no_trees, tree, list_of, trees_of, tree_at, trees_of-list_of}
+use Rattle.ffi3_type_rules.specs.Layout.{Layout, layouts, size_of, start_of}
+use Rattle.ffi3_type_rules.specs.Fault.{HasNoFault, left_out_type, left_out_kind}
+use Rattle.ffi3_type_rules.specs.Signature.{Signature, SignatureHasNoFault}
+use Rattle.ffi3_type_rules.specs.Value.{value_in, values_in, values_of, part, fits, all_fit}
+use Rattle.ffi3_type_rules.proofs.Layouts.{least_multiple-above}
+use Rattle.ffi3_type_rules.proofs.Faults.{fault_outside, fault_deeper, argument_is_result}
+use Rattle.ffi3_type_rules.proofs.Right.{argument_as_result}
+use Rattle.ffi3_type_rules.proofs.Values.{value_at, element_within}
+use Rattle.ffi3_type_rules.proofs.ValueElements.{fit_by_elements}
+use Rattle.ffi3_place_rules.specs.Standard.{block_bytes, round8}
+use Rattle.ffi3_body.specs.Activation.{block_offset, arguments_in}
+use Rattle.ffi3_body.proofs.Blocks.{argument_here, whole_within}
+
+both : (a b : Bool) → a ≡ true → b ≡ true → (a && b) ≡ true
+both true b h k = k
+both false b h k = cc
+
+same_count : (n m : ℕ) → n ≡ m → (n == m) ≡ true
+same_count n m e = search (arith, e)
+
+-- n bytes that lie within
+length_part : (bytes : List ℕ) (from n : ℕ) → from + n ≤ length bytes → length (part bytes from n) ≡ n
+length_part bytes from n within = simp (length-take, length-drop) (omega (arith, within))
+
+-- the elements of a struct without fault have none
+element_right : (ts : Trees) → HasNoFault 0 true (structure ts) → (i : ℕ) → i < length (list_of ts) → HasNoFault 0 true (tree_at (list_of ts) i)
+element_right ts right i below =
+    argument_is_result 0 (tree_at (list_of ts) i) (λ path f fault. right (i ∷ path) f (fault_outside ts i path f below (fault_deeper 0 false _ path f fault)))
+
+-- each element lies within the struct
+room_in : (ts : Trees) (i : ℕ) → i < length (list_of ts) → start_of (layouts ts) i + size_of (tree_at (list_of ts) i) ≤ size_of (structure ts)
+room_in ts i below =
+    let Room : Trees → Type 0 = λ us. start_of (layouts us) i + size_of (tree_at (list_of ts) i) ≤ size_of (structure us) in
+    subst Room (trees_of-list_of ts) (element_within (list_of ts) i below)
+
+room_within : (ts : Trees) (bytes : List ℕ) → length bytes ≡ size_of (structure ts) → (i : ℕ) → i < length (list_of ts) → start_of (layouts ts) (0 + i) + size_of (tree_at (list_of ts) i) ≤ length bytes
+room_within ts bytes n i below =
+    let from_zero : i ≡ 0 + i = omega arith in
+    let room : start_of (layouts ts) i + size_of (tree_at (list_of ts) i) ≤ length bytes = omega (arith, n, room_in ts i below) in
+    subst (λ j. start_of (layouts ts) j + size_of (tree_at (list_of ts) i) ≤ length bytes) from_zero room
+
+mutual
+  -- the value of as many bytes as the type has
+  value_fits : (t : Tree) (bytes : List ℕ) → HasNoFault 0 true t → length bytes ≡ size_of t → fits t (value_in t bytes) ≡ true
+  value_fits void bytes right n = refl
+  value_fits (scalar s) bytes right n = same_count _ _ n
+  value_fits (left_out k) bytes right n = absurd (right [] (left_out_type (left_out k)) (left_out_kind refl))
+  value_fits (structure ts) bytes right n =
+      values_fit ts (layouts ts) 0 bytes (element_right ts right) (room_within ts bytes n)
+
+  values_fit : (ts : Trees) (es : List Layout) (i : ℕ) (bytes : List ℕ) → ((k : ℕ) → k < length (list_of ts) → HasNoFault 0 true (tree_at (list_of ts) k)) → ((k : ℕ) → k < length (list_of ts) → start_of es (i + k) + size_of (tree_at (list_of ts) k) ≤ length bytes) → all_fit ts (values_in ts es i bytes) ≡ true
+  values_fit no_trees es i bytes right room = refl
+  values_fit (tree t ts) es i bytes right room =
+      let at_zero : i + 0 ≡ i = omega arith in
+      let room_here : start_of es i + size_of t ≤ length bytes = subst (λ j. start_of es j + size_of t ≤ length bytes) at_zero (room 0 (omega arith)) in
+      let first = value_fits t (part bytes (start_of es i) (size_of t)) (right 0 (omega arith)) (length_part bytes (start_of es i) (size_of t) room_here) in
+      let room_later : (k : ℕ) → k < length (list_of ts) → start_of es (i + 1 + k) + size_of (tree_at (list_of ts) k) ≤ length bytes = λ k below. let next : i + suc k ≡ i + 1 + k = omega arith in
+      subst (λ j. start_of es j + size_of (tree_at (list_of ts) k) ≤ length bytes) next (room (suc k) (omega arith)) in
+      both _ _ first (values_fit ts es (i + 1) bytes (λ k below. right (suc k) (omega arith)) room_later)
+
+pub arguments_count : (ts : List Tree) (block : List ℕ) → length (arguments_in ts block) ≡ length ts
+arguments_count [] block = refl
+arguments_count (t ∷ ts) block =
+    ap suc (arguments_count ts (drop (round8 (size_of t)) block))
+
+pub arguments_fit : (s : Signature) (block : List ℕ) → SignatureHasNoFault s → length block ≡ block_bytes s → all_fit (trees_of s.arguments) (values_of (arguments_in s.arguments block)) ≡ true
+arguments_fit s block right sized =
+    let ts = s.arguments in
+    let each : (i : ℕ) → i < length (arguments_in ts block) → fits (tree_at ts i) (value_at (arguments_in ts block) i) ≡ true = λ i below'. let below : i < length ts = omega (arith, arguments_count ts block) in
+    let t = tree_at ts i in
+    let whole = whole_within s i below in
+    let rounded = least_multiple-above 8 (size_of t) in
+    let n = length_part block (block_offset ts i) (size_of t) (omega (arith, whole, rounded, sized)) in
+    rw (argument_here ts block i below) (value_fits t (part block (block_offset ts i) (size_of t)) (argument_as_result s right i below) n) in
+    fit_by_elements ts (arguments_in ts block) (arguments_count ts block) each
