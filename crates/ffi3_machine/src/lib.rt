@@ -288,24 +288,8 @@ impl Machine {
         ensures whole { self.new ≡ called addr self.old }
         ensures return_address { IsReturn self.new }
     {
-        match self.target {
-            Target::Amd64 => {
-                self.sp -= 8;
-                self.stack.store(self.sp, 8, RETURN);
-                if self.sp < self.mark {
-                    self.mark = self.sp;
-                }
-                self.general[10] = addr;
-            }
-            Target::Aapcs64 => {
-                self.general[30] = RETURN;
-                self.general[17] = addr;
-            }
-            Target::Riscv => {
-                self.general[1] = RETURN;
-                self.general[6] = addr;
-            }
-        }
+        self.call_slot(addr);
+        self.general[closure_register(self.target) as usize] = addr;
         self.pc = ENTRY;
     }
 
