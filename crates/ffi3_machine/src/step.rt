@@ -2,7 +2,7 @@
 ghost use Rattle.std.specs.Prelude.{◌≡◌, ℕ, ◌<◌, ◌≤◌, ◌+◌, ◌-◌, ◌%◌, ◌^◌, ℤ, drop, IfSome, IfErr, OnOk, OnErr, Ok, Some};
 ghost use Rattle.ffi3_isa.specs.declared.Instr.{Instr};
 ghost use Rattle.ffi3_isa.specs.Registers.{HasRegistersBelow};
-ghost use Rattle.ffi3_machine.specs.State.{State};
+ghost use Rattle.ffi3_machine.specs.State.{IsMachine, State};
 ghost use Rattle.ffi3_machine.specs.Step.{
   Stands,
   Steps,
@@ -37,14 +37,15 @@ pub struct Change {
 impl Machine {
     /// Does the instruction at pc. It traps exactly where no listed instruction stands wholly in the code region at
     /// pc, where its load does not lie wholly in one region, and on AAPCS64 and RISC-V where pc is no multiple of 4.
-    /// A trap changes nothing.
+    /// A trap changes nothing. The contract tells too what was true of the machine, as of every machine.
     pub fn step(&mut self) -> Result<(), Trap>
         ensures steps { OnOk result (Steps self.old self.new) }
         ensures only { (after : State) → Steps self.old after → (result ≡ Ok tt) × (self.new ≡ after) }
         ensures at_pc { IfErr result (λ trap. trap.pc ≡ self.old.pc) }
         ensures trapped { OnErr result (self.new ≡ self.old) }
+        ensures machine { IsMachine self.old }
     {
-        let pc = self.pc();
+        let pc = self.pc;
         let Some((instr, size)) = self.decoded() else {
             return Err(Trap { pc });
         };
