@@ -186,6 +186,16 @@ called addr s = record s {
   stack = linked_stack s.target s.sp s.stack;
 }
 
+-- RETURN is the return address, and pc is the address of the slot that is called
+abbrev pub called_slot : ℕ → State → State
+called_slot addr s = record s {
+  general = linked_general s.target s.general;
+  sp = s.sp - pushed_bytes s.target;
+  pc = addr;
+  mark = lowered s.mark (s.sp - pushed_bytes s.target) (pushed_bytes s.target);
+  stack = linked_stack s.target s.sp s.stack;
+}
+
 -- ---- the journal
 
 -- the image of the machine, with `len` bytes of stack from sp on

@@ -13,6 +13,7 @@ ghost use Rattle.ffi3_machine.specs.State.{
   begun_code,
   begun_stack,
   called,
+  called_slot,
   closure_register,
   code_at,
   entered,
@@ -37,6 +38,7 @@ ghost use Rattle.ffi3_machine.specs.State.{
 };
 
 mod journal;
+mod step;
 #[cfg(test)]
 mod tests;
 
@@ -46,6 +48,7 @@ pub use ffi3_type_rules::Target;
 pub use journal::{Event, EventKind, Journal};
 use std::alloc::Global;
 use std::marker::Model;
+pub use step::Trap;
 
 /// The lowest address of the stack.
 pub const STACK: u64 = 0x7FFE_0000;
@@ -285,6 +288,18 @@ impl Machine {
         ensures whole { self.new ≡ called addr self.old }
         ensures return_address { IsReturn self.new }
     {
+        self.call_slot(addr);
+        self.general[closure_register(self.target) as usize] = addr;
+        self.pc = ENTRY;
+    }
+
+    /// Calls the code at the slot `addr`: RETURN is the return address, and pc is `addr`.
+    pub fn call_slot(&mut self, addr: u64)
+        requires slot { IsSlot addr }
+        requires room { STACK + pushed_bytes self.old.target ≤ self.old.sp }
+        ensures whole { self.new ≡ called_slot addr self.old }
+        ensures return_address { IsReturn self.new }
+    {
         match self.target {
             Target::Amd64 => {
                 self.sp -= 8;
@@ -292,18 +307,11 @@ impl Machine {
                 if self.sp < self.mark {
                     self.mark = self.sp;
                 }
-                self.general[10] = addr;
             }
-            Target::Aapcs64 => {
-                self.general[30] = RETURN;
-                self.general[17] = addr;
-            }
-            Target::Riscv => {
-                self.general[1] = RETURN;
-                self.general[6] = addr;
-            }
+            Target::Aapcs64 => self.general[30] = RETURN,
+            Target::Riscv => self.general[1] = RETURN,
         }
-        self.pc = ENTRY;
+        self.pc = addr;
     }
 
     /// Records that a closure is entered, with `bytes` bytes of stack from sp on.

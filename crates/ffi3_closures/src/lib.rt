@@ -1,0 +1,200 @@
+//! The closures of a run: a map from slots of the machine's code region, whose bytes are trampolines.
+#![tactic(auto)]
+
+ghost use Rattle.std.specs.Prelude.{◌≡◌, ◌<◌, ◌≤◌, ◌+◌, length, slice_index_or, Option, Some, None, IfSome, IfOk, OnOk, OnErr, OnSome, IfNone, IsSome};
+ghost use Rattle.std.specs.List.{replace_range};
+ghost use Rattle.std.specs.Int.{w64, to_le_bytes};
+ghost use Rattle.ffi3_run_rules.specs.Closures.{
+  closure_at,
+  first_free,
+  freed,
+  no_closures,
+  slot_address,
+  slot_number,
+  slots,
+  with_closure,
+};
+ghost use Rattle.ffi3_type_rules.specs.declared.Target.{Target};
+ghost use Rattle.ffi3_machine.specs.State.{IsSlot, begun_code, free_slot, with_code};
+ghost use Rattle.ffi3_closures.specs.Reaching.{reached};
+ghost use Rattle.ffi3_closures.specs.Slots.{HoldsMap, live_slot, slot_head};
+
+use ffi3_machine::{CODE, Machine, Target};
+pub use ffi3_run_rules::Closure;
+use std::marker::Model;
+
+/// 256 closures are live.
+#[derive(Clone, Copy, Debug, PartialEq, Eq)]
+pub struct TableFull;
+
+/// The live closures, each at its slot.
+#[derive(Drop)]
+pub struct Table {
+    slots: [Option<Closure>; 256],
+}
+
+impl Model for Table {
+    ghost use Rattle.std.specs.Prelude.{◌≡◌, length};
+    ghost use Rattle.ffi3_run_rules.specs.Closures.{Closures};
+
+    ghost Value = { Closures };
+
+    ghost view = { λ t. t.slots };
+
+    ghost invariant = { λ t. length t.slots ≡ 256 };
+}
+
+impl Table {
+    /// No slot is live, as in a machine that begins.
+    pub fn new() -> Table
+        ensures value { result ≡ no_closures }
+        ensures begins { (target : Target) → HoldsMap target result (begun_code target) }
+    {
+        Table { slots: [None; 256] }
+    }
+
+    // The lowest slot that is free, or 256.
+    fn first_free(&self) -> usize
+        ensures value { result ≡ first_free self.now }
+        ensures high { result ≤ 256 }
+    {
+        for k in 0..256usize {
+            if self.slots[k].is_none() {
+                return k;
+            }
+        }
+        256
+    }
+
+    /// Makes a closure of a function and its signature, by their numbers, and user data. It takes the lowest free
+    /// slot, whose address it gives. TableFull comes exactly where 256 closures are live, and changes nothing.
+    pub fn make(
+        &mut self,
+        machine: &mut Machine,
+        func: u32,
+        sig: u32,
+        user: u64,
+    ) -> Result<u64, TableFull>
+        requires { HoldsMap machine.old.target self.old machine.old.code }
+        ensures room { OnOk result (first_free self.old < slots) }
+        ensures address { IfOk result (λ addr. addr ≡ slot_address (first_free self.old)) }
+        ensures made { OnOk result (self.new ≡ with_closure self.old (first_free self.old) (Some (record { func = func; sig = sig; user = user }))) }
+        ensures written { OnOk result (machine.new ≡ with_code (slot_address (first_free self.old)) (live_slot machine.old.target (record { func = func; sig = sig; user = user })) machine.old) }
+        ensures full { OnErr result (first_free self.old ≡ slots) }
+        ensures same_map { OnErr result (self.new ≡ self.old) }
+        ensures same_machine { OnErr result (machine.new ≡ machine.old) }
+        ensures holds { HoldsMap machine.new.target self.new machine.new.code }
+    {
+        let k = self.first_free();
+        if k == 256 {
+            return Err(TableFull);
+        }
+        let closure = Closure { func, sig, user };
+        let addr = CODE + 64 * k as u64;
+        machine.write_code(addr, &live_slot(machine.target(), closure));
+        self.slots[k] = Some(closure);
+        Ok(addr)
+    }
+
+    /// Frees the closure whose slot starts at `addr`, and gives it. It gives none exactly where no live slot starts
+    /// there, and then changes nothing.
+    pub fn free(&mut self, machine: &mut Machine, addr: u64) -> Option<Closure>
+        requires { HoldsMap machine.old.target self.old machine.old.code }
+        ensures value { result ≡ closure_at self.old addr }
+        ensures freed { OnSome result (self.new ≡ freed self.old addr) }
+        ensures written { OnSome result (machine.new ≡ with_code addr (free_slot machine.old.target) machine.old) }
+        ensures same_map { result ≡ None → self.new ≡ self.old }
+        ensures same_machine { result ≡ None → machine.new ≡ machine.old }
+        ensures holds { HoldsMap machine.new.target self.new machine.new.code }
+    {
+        let k = slot_number(addr)?;
+        let slots = &self.slots;
+        if slots.len() <= k {
+            return None;
+        }
+        let closure = slots[k]?;
+        machine.write_code(addr, &free_slot(machine.target()));
+        self.slots[k] = None;
+        Some(closure)
+    }
+
+    /// The closure whose slot starts at `addr`.
+    pub fn find(&self, addr: u64) -> Option<Closure>
+        ensures value { result ≡ closure_at self.now addr }
+        ensures slot { IfSome result (λ c. IsSlot addr) }
+    {
+        let k = slot_number(addr)?;
+        if k < 256 { self.slots[k] } else { None }
+    }
+}
+
+// The number of the slot that starts at an address, as if there were no end of them.
+fn slot_number(addr: u64) -> Option<usize>
+    ensures value { result ≡ slot_number addr }
+    ensures address { IfSome result (λ k. addr ≡ slot_address k) }
+{
+    if addr < CODE {
+        return None;
+    }
+    let at = (addr - CODE) as usize;
+    if at % 64 == 0 { Some(at / 64) } else { None }
+}
+
+// The first 32 bytes of a live slot.
+#[tactic(auto, unfolding(crate::specs::Slots::slot_head, crate::specs::Slots::trampoline))]
+fn slot_head(target: Target) -> [u8; 32]
+    ensures { result ≡ slot_head target }
+{
+    match target {
+        Target::Amd64 => [
+            0xF3, 0x0F, 0x1E, 0xFA, 0x4C, 0x8D, 0x15, 0xF5, 0xFF, 0xFF, 0xFF, 0xFF, 0x25, 0x07, 0,
+            0, 0, 0x0F, 0x1F, 0x80, 0, 0, 0, 0, 0, 0x10, 0, 0, 0, 0, 0, 0,
+        ],
+        Target::Aapcs64 => [
+            0x90, 0, 0, 0x58, 0xF1, 0xFF, 0xFF, 0x10, 0, 0x02, 0x1F, 0xD6, 0, 0, 0, 0, 0, 0x10, 0,
+            0, 0, 0, 0, 0, 0, 0, 0, 0, 0, 0, 0, 0,
+        ],
+        Target::Riscv => [
+            0x17, 0x03, 0, 0, 0x83, 0x33, 0x03, 0x01, 0x67, 0x80, 0x03, 0, 0x13, 0, 0, 0, 0, 0x10,
+            0, 0, 0, 0, 0, 0, 0, 0, 0, 0, 0, 0, 0, 0,
+        ],
+    }
+}
+
+// The bytes of a live slot.
+fn live_slot(target: Target, closure: Closure) -> [u8; 64]
+    ensures { result ≡ live_slot target closure }
+{
+    let mut bytes = [0u8; 64];
+    bytes[..32].copy_from_slice(&slot_head(target));
+    put_word(&mut bytes, 32, u64::from(closure.func));
+    put_word(&mut bytes, 40, u64::from(closure.sig));
+    put_word(&mut bytes, 48, closure.user);
+    bytes
+}
+
+// Writes a word into a slot's bytes, from place `at` on.
+fn put_word(bytes: &mut [u8; 64], at: usize, word: u64)
+    requires { at + 8 ≤ 64 }
+    ensures { bytes.new ≡ replace_range bytes.old at (at + 8) (to_le_bytes w64 word) }
+{
+    bytes[at..at + 8].copy_from_slice(&word.to_le_bytes());
+}
+
+// The bytes of a free slot.
+#[tactic(auto, unfolding(ffi3_machine::specs::State::free_slot))]
+fn free_slot(target: Target) -> [u8; 64]
+    ensures { result ≡ free_slot target }
+{
+    let word = match target {
+        Target::Amd64 => [0xCC, 0xCC, 0xCC, 0xCC],
+        Target::Aapcs64 => [0x00, 0x00, 0x20, 0xD4],
+        Target::Riscv => [0x73, 0x00, 0x10, 0x00],
+    };
+    let [a, b, c, d] = word;
+    [
+        a, b, c, d, a, b, c, d, a, b, c, d, a, b, c, d, a, b, c, d, a, b, c, d, a, b, c, d, a, b,
+        c, d, a, b, c, d, a, b, c, d, a, b, c, d, a, b, c, d, a, b, c, d, a, b, c, d, a, b, c, d,
+        a, b, c, d,
+    ]
+}

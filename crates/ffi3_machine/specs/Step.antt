@@ -1,0 +1,128 @@
+-- What one instruction does. (Intel 64 and IA-32 Architectures Software Developer's Manual, volume 2; Arm Architecture Reference Manual for A-profile, C6.2; RISC-V unprivileged ISA, 2.4 to 2.6)
+use Rattle.std.specs.Prelude.{◌≡◌, ℕ, ◌+◌, ◌-◌, ◌%◌, ◌^◌, ◌≤◌, Bool, false, ◌&&◌, ◌==◌, nat_le, if◌then◌else◌, ℤ, List, drop, slice_index, slice_set, Option, Some, None, option_map}
+use Rattle.std.specs.Int.{w64, cast_unsigned}
+use Rattle.ffi3_memory.specs.Memory.{number_of}
+use Rattle.ffi3_type_rules.specs.declared.Target.{Target}
+use Rattle.ffi3_type_rules.specs.declared.Target.TheVariants.{Amd64, Aapcs64, Riscv}
+use Rattle.ffi3_isa.specs.declared.Instr.{Instr}
+use Rattle.ffi3_isa.specs.declared.Instr.TheVariants.{Endbr, Nop, Lea, JmpMem, LdrLit, Adr, Br, Auipc, Ld, Jalr, Addi}
+use Rattle.ffi3_isa.specs.Amd64.{IsAmd64}
+use Rattle.ffi3_isa.specs.Aarch64.{IsAarch64}
+use Rattle.ffi3_isa.specs.Riscv.{IsRiscv}
+use Rattle.ffi3_machine.specs.declared.TheConstants.{STACK, STACK_TOP, CODE, CODE_END}
+use Rattle.ffi3_machine.specs.declared.step.Change.{Change}
+use Rattle.ffi3_machine.specs.State.{State, stack_at, code_at}
+
+-- ---- addresses
+
+-- the sum of an address or a register and a signed distance, modulo 2^64
+abbrev pub moved : ℕ → ℤ → ℕ
+moved from d = (from + cast_unsigned w64 d) % 2 ^ 64
+
+-- the address behind an instruction of so many bytes
+abbrev pub next : ℕ → State → ℕ
+next size s = (s.pc + size) % 2 ^ 64
+
+-- an address with its lowest bit cleared
+abbrev pub even : ℕ → ℕ
+even addr = addr - addr % 2
+
+-- ---- registers
+
+-- the number of the zero register: 31 on AAPCS64 (Arm ARM C1.2.5), 0 on RISC-V (2.1)
+abbrev pub reads_zero : Target → ℕ → Bool
+reads_zero Amd64 k = false
+reads_zero Aapcs64 k = k == 31
+reads_zero Riscv k = k == 0
+
+-- the number that names the stack pointer: 2 on RISC-V
+abbrev pub reads_sp : Target → ℕ → Bool
+reads_sp Riscv k = k == 2
+reads_sp _ k = false
+
+-- register k, as an instruction reads it
+abbrev pub register : ℕ → State → ℕ
+register k s =
+    if reads_zero s.target k
+    then 0
+    else (if reads_sp s.target k then s.sp else slice_index s.general k)
+
+-- ---- loads
+
+-- the eight bytes from an address on lie between two addresses
+abbrev pub has_eight : ℕ → ℕ → ℕ → Bool
+has_eight low high addr = nat_le low addr && nat_le (addr + 8) high
+
+-- the eight bytes at an address, which lie in one region
+abbrev pub loaded : ℕ → State → Option ℕ
+loaded addr s =
+    if has_eight STACK STACK_TOP addr
+    then Some (number_of 8 (stack_at addr 8 s))
+    else (if has_eight CODE CODE_END addr
+    then Some (number_of 8 (code_at addr 8 s))
+    else None)
+
+-- ---- one instruction
+
+-- an instruction that only sets pc
+abbrev pub goes_to : ℕ → Change
+goes_to pc = record { register = None; pc = pc }
+
+-- an instruction that sets register k and pc
+abbrev pub sets : ℕ → ℕ → ℕ → Change
+sets k pc value = record { register = Some (k, value); pc = pc }
+
+-- What the instruction, which has so many bytes, changes; none where its load does not lie in one region
+abbrev pub change_of : Instr → ℕ → State → Option Change
+change_of Endbr size s = Some (goes_to (next size s))
+change_of Nop size s = Some (goes_to (next size s))
+change_of (Lea reg d) size s = Some (sets reg (next size s) (moved (next size s) d))
+change_of (JmpMem d) size s = option_map goes_to (loaded (moved (next size s) d) s)
+change_of (LdrLit t d) size s = option_map (sets t (next size s)) (loaded (moved s.pc d) s)
+change_of (Adr rd d) size s = Some (sets rd (next size s) (moved s.pc d))
+change_of (Br n) size s = Some (goes_to (register n s))
+change_of (Auipc rd d) size s = Some (sets rd (next size s) (moved s.pc d))
+change_of (Ld rd rs d) size s = option_map (sets rd (next size s)) (loaded (moved (register rs s) d) s)
+change_of (Jalr rd rs d) size s = Some (sets rd (even (moved (register rs s) d)) (next size s))
+change_of (Addi rd rs d) size s = Some (sets rd (next size s) (moved (register rs s) d))
+
+-- the general registers after a write, which the zero register drops
+abbrev pub written : Target → Option (ℕ × ℕ) → List ℕ → List ℕ
+written target None general = general
+written target (Some (k, value)) general =
+    if reads_zero target k then general else slice_set general k value
+
+-- the machine after an instruction: all that is not named stays
+abbrev pub changed : Change → State → State
+changed change s = record s {
+  general = written s.target change.register s.general;
+  pc = change.pc;
+}
+
+-- ---- one step
+
+abbrev pub IsListed : Target → List ℕ → Instr → ℕ → Type 0
+IsListed Amd64 bytes instr size = IsAmd64 bytes instr size
+IsListed Aapcs64 bytes instr size = IsAarch64 bytes instr size
+IsListed Riscv bytes instr size = IsRiscv bytes instr size
+
+-- where an instruction may stand (Arm ARM D1.3.4, RISC-V unprivileged ISA 1.5)
+abbrev pub IsAligned : Target → ℕ → Type 0
+IsAligned Amd64 pc = Unit {0}
+IsAligned Aapcs64 pc = pc % 4 ≡ 0
+IsAligned Riscv pc = pc % 4 ≡ 0
+
+-- the instruction stands wholly in the code region at pc
+pub record Stands (s : State) (instr : Instr) (size : ℕ) : Type 0 where
+  pub low : CODE ≤ s.pc
+  pub aligned : IsAligned s.target s.pc
+  pub listed : IsListed s.target (drop (s.pc - CODE) s.code) instr size
+
+-- the instruction at pc takes the machine from one state to the other
+pub record Steps (before after : State) : Type 0 where
+  pub instr : Instr
+  pub size : ℕ
+  pub change : Change
+  pub stands : Stands before instr size
+  pub does : change_of instr size before ≡ Some change
+  pub is_after : after ≡ changed change before
