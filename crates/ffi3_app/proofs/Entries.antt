@@ -11,15 +11,17 @@ use Rattle.ffi3_place_rules.specs.Event.{Event, enters}
 use Rattle.ffi3_script_rules.specs.Meaning.{int_function, int_value}
 use Rattle.ffi3_amd64_rules.specs.Amd64.{amd64}
 use Rattle.ffi3_run_rules.specs.Journal.{IsEntry}
-use Rattle.ffi3_machine.specs.State.{State, begun, begun_general, begun_stack, scribbled_general, with_room, called, image_of, stack_at}
-use Rattle.ffi3_app.specs.Call.{with_argument}
+use Rattle.ffi3_machine.specs.State.{State, begun, begun_general, begun_stack, scribbled_general, with_code, with_room, called, image_of, stack_at}
+use Rattle.ffi3_closures.specs.Slots.{live_slot}
+use Rattle.ffi3_closures.specs.Reaching.{reached}
+use Rattle.ffi3_app.specs.Call.{with_argument, sum_closure}
 use Rattle.ffi3_app.proofs.Stack.{range-written}
 use Rattle.std.proofs.lemmas.List.{length-replicate}
 use Rattle.ffi3_machine.specs.declared.TheConstants.{STACK_TOP, CODE, RETURN}
 
 -- the machine at the entry of the first call
 abbrev pub at_entry : ℕ → ℕ → ℕ → State
-at_entry word a b = called CODE (with_argument word (with_room 8 (begun Amd64 a b)))
+at_entry word a b = reached (called CODE (with_argument word (with_room 8 (with_code CODE (live_slot Amd64 sum_closure) (begun Amd64 a b)))))
 
 abbrev pub entry_event : ℕ → ℕ → ℕ → Event
 entry_event word a b =

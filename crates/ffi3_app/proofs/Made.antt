@@ -11,10 +11,12 @@ use Rattle.ffi3_script_rules.specs.Meaning.{int_function, int_value, sum_with}
 use Rattle.ffi3_type_rules.specs.Value.{ValueTree, leaf_value, bytes_of}
 use Rattle.ffi3_amd64_rules.specs.Amd64.{amd64}
 use Rattle.ffi3_run_rules.specs.Journal as journal
-use Rattle.ffi3_machine.specs.State.{State, begun, begun_general, scribbled_general, with_room, called, entered, left, stack_at, IsReturn, pushed_bytes}
+use Rattle.ffi3_machine.specs.State.{State, begun, begun_general, scribbled_general, with_code, with_room, called, entered, left, stack_at, IsReturn, pushed_bytes}
+use Rattle.ffi3_closures.specs.Slots.{live_slot, HoldsMap}
+use Rattle.ffi3_closures.specs.Reaching.{reached}
 use Rattle.ffi3_machine.specs.declared.TheConstants.{CODE, STACK_TOP}
 use Rattle.ffi3_type_rules.specs.declared.Target.TheVariants.{Amd64}
-use Rattle.ffi3_app.specs.Call.{saved, restored, with_argument, received, given_back, IsCallMade}
+use Rattle.ffi3_app.specs.Call.{saved, restored, with_argument, received, given_back, IsCallMade, sum_closure, one_closure}
 use Rattle.ffi3_app.proofs.Entries.{at_entry, entry_event, is_entry}
 use Rattle.ffi3_app.proofs.Returns.{in_callee, at_return, return_event, is_return, argument_bytes, return_address}
 
@@ -37,8 +39,13 @@ low_bytes_of z word is =
     ap (λ w. take 4 (to_le_bytes w64 w)) is ∙ take-widened (bytes_of_number s32 z) (bytes_of_number-below s32 z) s32 refl
 
 -- up to the entry
-pub entry-is : (a b word : ℕ) (m0 m1 m2 m3 : State) → m0 ≡ begun Amd64 a b → m1 ≡ with_room 8 m0 → m2 ≡ with_argument word m1 → m3 ≡ called CODE m2 → m3 ≡ at_entry word a b
-entry-is a b word m0 m1 m2 m3 begins rooms stores calls =
+pub entry-is : (a b word : ℕ) (m0 m1 m2 m3 m4 : State) → m0 ≡ with_code CODE (live_slot Amd64 sum_closure) (begun Amd64 a b) → m1 ≡ with_room 8 m0 → m2 ≡ with_argument word m1 → m3 ≡ called CODE m2 → m4 ≡ reached m3 → m4 ≡ at_entry word a b
+entry-is a b word m0 m1 m2 m3 m4 begins rooms stores calls reaches =
+    reaches ∙ ap reached (calls ∙ ap (called CODE) (stores ∙ ap (with_argument word) (rooms ∙ ap (with_room 8) begins)))
+
+-- the closure stands in its slot at the call
+pub slot-is : (a b word : ℕ) (m0 m1 m2 m3 : State) → m0 ≡ with_code CODE (live_slot Amd64 sum_closure) (begun Amd64 a b) → m1 ≡ with_room 8 m0 → m2 ≡ with_argument word m1 → m3 ≡ called CODE m2 → m3 ≡ called CODE (with_argument word (with_room 8 (with_code CODE (live_slot Amd64 sum_closure) (begun Amd64 a b))))
+slot-is a b word m0 m1 m2 m3 begins rooms stores calls =
     calls ∙ ap (called CODE) (stores ∙ ap (with_argument word) (rooms ∙ ap (with_room 8) begins))
 
 -- up to the callee

@@ -9,7 +9,9 @@ use Rattle.ffi3_amd64_rules.specs.Amd64.{amd64}
 use Rattle.ffi3_run_rules.specs.Journal.{IsEntry, IsReturn}
 use Rattle.ffi3_script_rules.specs.Meaning.{int_function, int_value, sum_with}
 use Rattle.ffi3_machine.specs.declared.TheConstants.{CODE, STACK_TOP}
-use Rattle.ffi3_machine.specs.State.{State, scribbled, stored, with_general, with_sp, stack_at, called, entered, left, with_room}
+use Rattle.ffi3_machine.specs.State.{State, scribbled, stored, with_general, with_sp, stack_at}
+use Rattle.ffi3_run_rules.specs.declared.Closure.{Closure}
+use Rattle.ffi3_run_rules.specs.Closures.{Closures, no_closures, with_closure}
 
 -- rax, rdi (System V psABI AMD64 3.2.3)
 abbrev pub rax : ℕ
@@ -62,10 +64,12 @@ abbrev pub given_back : ℕ → State → State
 given_back word s =
     with_sp (s.sp + save_bytes + block_bytes) (restored 6 (s.sp + block_bytes) (with_general rax word s))
 
--- the whole call
-abbrev pub call_made : ℕ → ℕ → ℕ → State → State
-call_made closure argument outcome s =
-    left 0 (given_back outcome (received (entered 8 (called closure (with_argument argument (with_room 8 s))))))
+-- the closure of function 0, of signature 0 and without user data, and the map that has it alone
+abbrev pub sum_closure : Closure
+sum_closure = record { func = 0; sig = 0; user = 0 }
+
+abbrev pub one_closure : Closures
+one_closure = with_closure no_closures 0 (Some sum_closure)
 
 -- the one call of a run, with its entry and its return in the journal, and nothing written below what it needs
 pub record IsCallMade (added given : ℤ) (s : State) : Type 0 where

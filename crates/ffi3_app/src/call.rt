@@ -1,12 +1,14 @@
 //! One call of a closure of type sint32(sint32) by System V AMD64, the caller's side and the callee's.
 ghost use Rattle.std.specs.Prelude.{◌≡◌, ℕ, ℤ, ◌+◌, ◌-◌, ◌<◌, ◌≤◌, ◌++◌, [], ◌∷◌, IfOk, OnOk, length, slice_index, true};
-ghost use Rattle.ffi3_machine.specs.State.{State, begun, IsReturn};
+ghost use Rattle.ffi3_machine.specs.State.{State, begun, with_code, IsReturn};
+ghost use Rattle.ffi3_closures.specs.Slots.{HoldsMap, live_slot};
 ghost use Rattle.ffi3_script_rules.specs.Meaning.{int_value, sum_with};
 ghost use Rattle.ffi3_values.specs.ValueOf.{value_of};
 ghost use Rattle.ffi3_type_rules.specs.Value.{fits};
 ghost use Rattle.ffi3_type_rules.specs.Tree.{scalar, s32};
-ghost use Rattle.ffi3_app.specs.Call.{saved, restored, with_argument, received, given_back, word_from, IsCallMade};
+ghost use Rattle.ffi3_app.specs.Call.{saved, restored, with_argument, received, given_back, word_from, IsCallMade, sum_closure, one_closure};
 
+use ffi3_closures::Table;
 use ffi3_machine::{CODE, Machine, NoMemory, Target};
 use ffi3_types::FfiType;
 use ffi3_values::{Value, add, integer, value_from_bytes, widen};
@@ -25,7 +27,8 @@ const BLOCK: u64 = 16;
 /// The preserved registers, in the order of the save area: rbx, rbp, r12 to r15.
 const PRESERVED: [u8; 6] = [3, 5, 12, 13, 14, 15];
 
-/// Begins the machine for AMD64 and calls the closure at the first slot with an argument; its function adds a constant.
+/// Begins the machine for AMD64, makes a closure of a function that adds a constant, and calls it with an argument. The function
+/// has number 0, as its signature has.
 pub fn call_sum(
     alloc: Global,
     machine: &mut Machine,
@@ -35,13 +38,15 @@ pub fn call_sum(
     ensures value { IfOk result (λ v. value_of v ≡ sum_with added (int_value given)) }
     ensures fits { IfOk result (λ v. fits (scalar s32) (value_of v) ≡ true) }
     ensures made { OnOk result (IsCallMade added given machine.new) }
+    ensures holds { OnOk result (HoldsMap Target.Amd64 one_closure machine.new.code) }
 {
     let argument = int_value(alloc, given)?;
     let constant = int_value(alloc, added)?;
-    machine.begin(Target::Amd64);
+    let table = make_closure(machine);
     machine.journal_room(LINK)?;
     store_argument(machine, widen(&FfiType::S32, &argument));
     machine.call(CODE);
+    table.run_trampoline(machine);
     machine.enter(LINK);
     receive(machine);
     let received = value_from_bytes(alloc, &FfiType::S32, machine.lend_stack(machine.sp(), 4))?;
@@ -49,6 +54,18 @@ pub fn call_sum(
     give_back(machine, widen(&FfiType::S32, &sum));
     machine.leave(0);
     value_from_bytes(alloc, &FfiType::S32, &machine.g(RAX).to_le_bytes()[..4])
+}
+
+// Begins the machine for AMD64, and makes the closure of function 0 in the first slot.
+fn make_closure(machine: &mut Machine) -> Table
+    ensures map { result ≡ one_closure }
+    ensures made { machine.new ≡ with_code CODE (live_slot Target.Amd64 sum_closure) (begun Target.Amd64 machine.old.spare_events machine.old.spare_bytes) }
+    ensures holds { HoldsMap Target.Amd64 one_closure machine.new.code }
+{
+    machine.begin(Target::Amd64);
+    let mut table = Table::new();
+    let _address = table.make(machine, 0, 0, 0);
+    table
 }
 
 // A number as a value of type sint32.

@@ -176,19 +176,9 @@ abbrev pub linked_stack : Target → ℕ → List ℕ → List ℕ
 linked_stack Amd64 sp stack = replace_range stack (sp - 8 - STACK) (sp - STACK) (to_le_bytes w64 RETURN)
 linked_stack _ sp stack = stack
 
--- RETURN is the return address, the closure register has the address of the closure that is called, and pc is ENTRY
+-- RETURN is the return address, and pc is the address of the slot that is called
 abbrev pub called : ℕ → State → State
 called addr s = record s {
-  general = slice_set (linked_general s.target s.general) (closure_register s.target) addr;
-  sp = s.sp - pushed_bytes s.target;
-  pc = ENTRY;
-  mark = lowered s.mark (s.sp - pushed_bytes s.target) (pushed_bytes s.target);
-  stack = linked_stack s.target s.sp s.stack;
-}
-
--- RETURN is the return address, and pc is the address of the slot that is called
-abbrev pub called_slot : ℕ → State → State
-called_slot addr s = record s {
   general = linked_general s.target s.general;
   sp = s.sp - pushed_bytes s.target;
   pc = addr;

@@ -13,7 +13,6 @@ ghost use Rattle.ffi3_machine.specs.State.{
   begun_code,
   begun_stack,
   called,
-  called_slot,
   closure_register,
   code_at,
   entered,
@@ -281,23 +280,11 @@ impl Machine {
         scribble_floating(&mut self.floating, n);
     }
 
-    /// Calls the closure at the slot `addr`: RETURN is the return address, `addr` stands in the closure register, and pc is ENTRY.
+    /// Calls the code at the slot `addr`: RETURN is the return address, and pc is `addr`.
     pub fn call(&mut self, addr: u64)
         requires slot { IsSlot addr }
         requires room { STACK + pushed_bytes self.old.target ≤ self.old.sp }
         ensures whole { self.new ≡ called addr self.old }
-        ensures return_address { IsReturn self.new }
-    {
-        self.call_slot(addr);
-        self.general[closure_register(self.target) as usize] = addr;
-        self.pc = ENTRY;
-    }
-
-    /// Calls the code at the slot `addr`: RETURN is the return address, and pc is `addr`.
-    pub fn call_slot(&mut self, addr: u64)
-        requires slot { IsSlot addr }
-        requires room { STACK + pushed_bytes self.old.target ≤ self.old.sp }
-        ensures whole { self.new ≡ called_slot addr self.old }
         ensures return_address { IsReturn self.new }
     {
         match self.target {
