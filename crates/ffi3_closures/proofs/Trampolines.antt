@@ -1,10 +1,9 @@
 -- The three steps of each target's trampoline.
-use Rattle.std.proofs.Common.{◌≡◌, ◌≢◌, ℕ, ◌+◌, ◌-◌, ◌*◌, ◌%◌, ◌^◌, ◌<◌, ◌≤◌, Bool, true, false, if◌then◌else◌, List, ◌++◌, length, take, drop, get_or, set, refl, sym, ap, ◌∙◌, subst, arith, lit<, length-set, append_assoc, Option, Some, None}
+use Rattle.std.proofs.Common.{◌≡◌, ◌≢◌, ℕ, ◌+◌, ◌-◌, ◌*◌, ◌%◌, ◌^◌, ◌<◌, ◌≤◌, Bool, true, false, if◌then◌else◌, List, ◌++◌, length, take, drop, get_or, set, refl, sym, ap, ◌∙◌, arith, lit<, length-set, append_assoc, Option, Some}
 use Rattle.std.proofs.Math.Nat.{mod-eq_of_lt, add-mod_right}
 use Rattle.std.proofs.lemmas.Bool.Decides.{nat_tests}
 use Rattle.std.proofs.lemmas.List.{drop-drop, get_or-set_same, get_or-set_other, set_comm, take-append-drop}
 use Rattle.std.specs.Prelude.{option_map, slice_set}
-use Rattle.std.specs.Int.{w64, to_le_bytes}
 use Rattle.ffi3_isa.specs.declared.Instr.TheVariants.{Endbr, Lea, JmpMem, LdrLit, Adr, Br, Auipc, Ld, Jalr}
 use Rattle.ffi3_isa.specs.Fields.{sign_extend, first_word}
 use Rattle.ffi3_isa.specs.Amd64.{endbr64, lea, jmp, disp32}

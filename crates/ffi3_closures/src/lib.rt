@@ -126,6 +126,19 @@ impl Table {
         let k = slot_number(addr)?;
         if k < 256 { self.slots[k] } else { None }
     }
+
+    /// Runs the trampoline of the live slot at pc: three steps, of which none traps. Then pc is ENTRY and the closure
+    /// register has the slot's address. Of the rest only x16 changes on AAPCS64, and t2 on RISC-V.
+    pub fn run_trampoline(&self, machine: &mut Machine)
+        requires holds { HoldsMap machine.old.target self.now machine.old.code }
+        requires live { IsSome (closure_at self.now machine.old.pc) }
+        ensures { machine.new ≡ reached machine.old }
+    {
+        let _slots = &self.slots;
+        let _first = machine.step();
+        let _second = machine.step();
+        let _third = machine.step();
+    }
 }
 
 // The number of the slot that starts at an address, as if there were no end of them.
