@@ -1,6 +1,8 @@
 -- The one call of a run, from the machine as it begins.
 use Rattle.std.proofs.Common.{◌≡◌, ℕ, ◌+◌, ◌-◌, ◌≤◌, List, [], ◌∷◌, get_or, take, refl, sym, ap, ◌∙◌, subst, arith, lit≤, Bool}
-use Rattle.std.specs.Prelude.{ℤ, ◌+ℤ◌}
+use Rattle.std.specs.Prelude.{ℤ, ◌+ℤ◌, Option, Some, IsSome}
+use Rattle.ffi3_run_rules.specs.declared.Closure.{Closure}
+use Rattle.ffi3_run_rules.specs.Closures.{Closures, no_closures, slots, closure_at, first_free, with_closure}
 use Rattle.std.specs.Int.{w64, to_le_bytes}
 use Rattle.ffi3_type_rules.specs.Tree.{scalar, Scalar, s32}
 use Rattle.ffi3_type_rules.specs.Layout.{least_multiple}
@@ -15,6 +17,7 @@ use Rattle.ffi3_machine.specs.State.{State, begun, begun_general, scribbled_gene
 use Rattle.ffi3_closures.specs.Slots.{live_slot, HoldsMap}
 use Rattle.ffi3_closures.specs.Reaching.{reached}
 use Rattle.ffi3_machine.specs.declared.TheConstants.{CODE, STACK_TOP}
+use Rattle.ffi3_type_rules.specs.declared.Target.{Target}
 use Rattle.ffi3_type_rules.specs.declared.Target.TheVariants.{Amd64}
 use Rattle.ffi3_app.specs.Call.{saved, restored, with_argument, received, given_back, IsCallMade, sum_closure, one_closure}
 use Rattle.ffi3_app.proofs.Entries.{at_entry, entry_event, is_entry}
@@ -43,10 +46,22 @@ pub entry-is : (a b word : ℕ) (m0 m1 m2 m3 m4 : State) → m0 ≡ with_code CO
 entry-is a b word m0 m1 m2 m3 m4 begins rooms stores calls reaches =
     reaches ∙ ap reached (calls ∙ ap (called CODE) (stores ∙ ap (with_argument word) (rooms ∙ ap (with_room 8) begins)))
 
+-- a new table has a free slot
+pub has_free_slot : (t : Closures) → t ≡ no_closures → first_free t ≡ slots → ⊥
+has_free_slot t new full =
+    let none : first_free no_closures ≡ 256 = sym (ap first_free new) ∙ full in
+    let zero : first_free no_closures ≡ 0 = refl in omega (arith, none, zero)
+
+-- the first closure's map
+pub one-is : (t t' : Closures) → t ≡ no_closures → t' ≡ with_closure t (first_free t) (Some sum_closure) → t' ≡ one_closure
+one-is t t' new makes = makes ∙ ap (λ m. with_closure m (first_free m) (Some sum_closure)) new
+
 -- the closure stands in its slot at the call
-pub slot-is : (a b word : ℕ) (m0 m1 m2 m3 : State) → m0 ≡ with_code CODE (live_slot Amd64 sum_closure) (begun Amd64 a b) → m1 ≡ with_room 8 m0 → m2 ≡ with_argument word m1 → m3 ≡ called CODE m2 → m3 ≡ called CODE (with_argument word (with_room 8 (with_code CODE (live_slot Amd64 sum_closure) (begun Amd64 a b))))
-slot-is a b word m0 m1 m2 m3 begins rooms stores calls =
-    calls ∙ ap (called CODE) (stores ∙ ap (with_argument word) (rooms ∙ ap (with_room 8) begins))
+pub slot_is_live : (word : ℕ) (t : Closures) (m m' : State) → t ≡ one_closure → m' ≡ called CODE m → IsSome (closure_at t m'.pc)
+slot_is_live word t m m' one calls =
+    let here : closure_at one_closure CODE ≡ Some sum_closure = refl in
+    let at_pc : closure_at t m'.pc ≡ Some sum_closure = ap (λ x. closure_at x m'.pc) one ∙ ap (λ s. closure_at one_closure s.pc) calls ∙ here in
+    let P : Option Closure → Type 0 = IsSome in subst P (sym at_pc) (refl)
 
 -- up to the callee
 pub callee-is : (a b word : ℕ) (m3 m4 m5 : State) → m3 ≡ at_entry word a b → m4 ≡ entered 8 m3 → m5 ≡ received m4 → m5 ≡ in_callee word a b
@@ -118,3 +133,16 @@ outcome-is added given outcome bytes constant received_value sum is_read read co
     widens ∙ ap (λ v. widened s32 (bytes_of v)) sums
     ∙ ap (λ v. widened s32 (sum_of s32 (bytes_of v) (bytes_of constant))) (is_read ∙ ap leaf_value read)
     ∙ ap (λ v. widened s32 (sum_of s32 (bytes_of_number s32 given) (bytes_of v))) constant_is
+
+-- the code region stays as the table left it
+pub code_stays : (a b word outcome : ℕ) (m0 m6 m7 : State) → m0 ≡ with_code CODE (live_slot Amd64 sum_closure) (begun Amd64 a b) → m6 ≡ at_return outcome word a b → m7 ≡ left 0 m6 → HoldsMap Amd64 one_closure m0.code → HoldsMap Amd64 one_closure m7.code
+unfolding saved restored
+code_stays a b word outcome m0 m6 m7 begins at leaves holds =
+    let same : m0.code ≡ m7.code = ap (λ s. s.code) begins ∙ sym (ap (λ s. s.code) (leaves ∙ ap (left 0) at)) in
+    let P = λ (code : List ℕ). HoldsMap Amd64 one_closure code in subst P same holds
+
+pub holds_one : (m : State) (t : Closures) → m.target ≡ Amd64 → t ≡ one_closure → HoldsMap m.target t m.code → HoldsMap Amd64 one_closure m.code
+holds_one m t target one holds =
+    let P = λ (x : Target). HoldsMap x t m.code in
+    let Q = λ (x : Closures). HoldsMap Amd64 x m.code in
+    subst Q one (subst P target holds)

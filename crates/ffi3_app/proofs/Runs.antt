@@ -16,7 +16,9 @@ use Rattle.ffi3_run_rules.specs.Journal.{JournalOf, IsWhole, stack_top}
 use Rattle.ffi3_script_rules.specs.Form.{OneCall}
 use Rattle.ffi3_script_rules.specs.Meaning.{program_of, int_value, sum_with}
 use Rattle.ffi3_machine.specs.State.{State}
-use Rattle.ffi3_app.specs.Call.{IsCallMade}
+use Rattle.ffi3_app.specs.Call.{IsCallMade, one_closure}
+use Rattle.ffi3_closures.specs.Slots.{HoldsMap}
+use Rattle.ffi3_type_rules.specs.declared.Target.TheVariants.{Amd64}
 use Rattle.ffi3_app.specs.Top.{text_of_run, Took, took, IsTold, WrotePart}
 
 pub deeds-is : (f : OneCall) → (meaning_of (program_of amd64 f)).deeds ≡ deed (called 0x10000 0 (int_value f.given ∷ []) no_deeds (Some (sum_with f.added (int_value f.given)))) (deed (line (scalar s32) (sum_with f.added (int_value f.given))) no_deeds)
@@ -45,14 +47,18 @@ pub mark-is : (f : OneCall) (s : State) → IsCallMade f.added f.given s → sta
 unfolding act act_within least_multiple
 mark-is f s made = made.mark
 
+pub code-is : (f : OneCall) (s : State) → HoldsMap Amd64 one_closure s.code → HoldsMap amd64.target (meaning_of (program_of amd64 f)).closures s.code
+unfolding act act_within least_multiple
+code-is f s holds = holds
+
 -- ---- what a run says
 
 line_of_run : (f : OneCall) (bytes : List ℕ) (v : ValueTree) → bytes ≡ a_line (value_text_of (scalar s32) v) → v ≡ sum_with f.added (int_value f.given) → bytes ≡ text_of_run f
 line_of_run f bytes v line_is v_is =
     line_is ∙ ap (λ x. a_line (value_text_of (scalar s32) x)) v_is ∙ sym (text-is f)
 
-pub told : (f : OneCall) (before after : Took) (s : State) (bytes : List ℕ) (v : ValueTree) → IsCallMade f.added f.given s → v ≡ sum_with f.added (int_value f.given) → bytes ≡ a_line (value_text_of (scalar s32) v) → Adds before.taken bytes after.taken → after.faults ≡ before.faults → IsTold f before after s
-told f before after s bytes v made v_is line_is adds count = record {
+pub told : (f : OneCall) (before after : Took) (s : State) (bytes : List ℕ) (v : ValueTree) → IsCallMade f.added f.given s → HoldsMap Amd64 one_closure s.code → v ≡ sum_with f.added (int_value f.given) → bytes ≡ a_line (value_text_of (scalar s32) v) → Adds before.taken bytes after.taken → after.faults ≡ before.faults → IsTold f before after s
+told f before after s bytes v made holds v_is line_is adds count = record {
   returns = returns-is f;
   target = made.target;
   written = record {
@@ -61,6 +67,7 @@ told f before after s bytes v made v_is line_is adds count = record {
   };
   journal = journal-is f s made;
   whole = whole-is f s made;
+  code = code-is f s holds;
   mark = mark-is f s made;
 }
 

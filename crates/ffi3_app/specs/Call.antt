@@ -1,5 +1,5 @@
 -- What the machine is after each part of one call of sint32(sint32) by System V AMD64: the caller's side and the callee's.
-use Rattle.std.specs.Prelude.{◌≡◌, ℕ, zero, suc, ◌+◌, ◌-◌, ◌*◌, ◌≤◌, [], ◌∷◌, length, take, get_or}
+use Rattle.std.specs.Prelude.{◌≡◌, ℕ, zero, suc, ◌+◌, ◌-◌, ◌*◌, ◌≤◌, [], ◌∷◌, length, take, get_or, Some}
 use Rattle.std.specs.Int.{w64, to_le_bytes, from_le_bytes}
 use Rattle.std.specs.Prelude.{ℤ}
 use Rattle.ffi3_place_rules.specs.Event.{Event}

@@ -12,6 +12,7 @@ use Rattle.ffi3_run_rules.specs.Happenings.{happenings_of}
 use Rattle.ffi3_run_rules.specs.Lines.{text, a_line}
 use Rattle.ffi3_run_rules.specs.Journal.{JournalOf, IsWhole, stack_top}
 use Rattle.ffi3_machine.specs.State.{State}
+use Rattle.ffi3_closures.specs.Slots.{HoldsMap}
 
 -- ---- the words
 
@@ -80,13 +81,14 @@ abbrev pub text_of_run : OneCall → List ℕ
 text_of_run f =
     text (program_of amd64 f).signatures (happenings_of (program_of amd64 f))
 
--- THE RUN IS TOLD WHOLE: the output took exactly the text of the script's direct meaning, the journal is that meaning's call tree, and no byte was written beyond the stack that the tree's calls take.
+-- THE RUN IS TOLD WHOLE: the output took exactly the text of the script's direct meaning, the journal is that meaning's call tree, the code region holds the bytes of the closures that are live, and no byte was written beyond the stack that the tree's calls take.
 pub record IsTold (f : OneCall) (before after : Took) (machine : State) : Type 0 where
   pub written : TookLine (text_of_run f) before after
   pub returns : (meaning_of (program_of amd64 f)).end ≡ returned void_value
   pub target : machine.target ≡ amd64.target
   pub journal : JournalOf amd64 (program_of amd64 f).signatures (happenings_of (program_of amd64 f)) machine.events
   pub whole : IsWhole (happenings_of (program_of amd64 f)) machine.events
+  pub code : HoldsMap amd64.target (meaning_of (program_of amd64 f)).closures machine.code
   pub mark : stack_top ≤ machine.mark + peak_of (program_of amd64 f) (meaning_of (program_of amd64 f)).deeds
 
 -- a first part of the text of the script's direct meaning was written

@@ -64,7 +64,9 @@ fn make_closure(machine: &mut Machine) -> Table
 {
     machine.begin(Target::Amd64);
     let mut table = Table::new();
-    let _address = table.make(machine, 0, 0, 0);
+    let Ok(_) = table.make(machine, 0, 0, 0) else {
+        unreachable!()
+    };
     table
 }
 

@@ -13,6 +13,7 @@ returns-in-Ok-write_all-clause-done g c =
     let given : cast_signed w32 (cast_unsigned w32 c.given.result) ≡ c.args.script.now.given = to_z-of_z w32 c.given.result (search rules) ∙ c.given.ensures in
     λ done. told f _ _ c.call_sum.new.machine c.as_slice.result.now (value_of c.in-Ok.outcome)
     (same_made f _ _ c.call_sum.new.machine added given c.in-Ok.ensures.made)
+    c.in-Ok.ensures.holds
     (same_sum f _ _ (value_of c.in-Ok.outcome) added given c.in-Ok.ensures.value)
     (c.as_slice.ensures ∙ c.in-Ok-line_of.ensures)
     c.in-Ok-write_all.ensures.adds c.in-Ok-write_all.ensures.same
