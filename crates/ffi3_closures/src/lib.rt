@@ -19,6 +19,9 @@ ghost use Rattle.ffi3_machine.specs.State.{IsSlot, begun_code, free_slot, with_c
 ghost use Rattle.ffi3_closures.specs.Reaching.{reached};
 ghost use Rattle.ffi3_closures.specs.Slots.{HoldsMap, live_count, live_slot, slot_head};
 
+#[cfg(test)]
+mod tests;
+
 use ffi3_machine::{CODE, Machine, Target};
 pub use ffi3_run_rules::Closure;
 use std::marker::Model;

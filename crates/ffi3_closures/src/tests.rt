@@ -1,9 +1,9 @@
 // Each target: slots are made to the last, run, and freed.
-ghost use Rattle.std.specs.Prelude.{◌≡◌};
+ghost use Rattle.std.specs.Prelude.{◌≤◌, ◌+◌};
 ghost use Rattle.ffi3_closures.specs.Slots.{HoldsMap};
 
 use crate::{Closure, Table, TableFull};
-use ffi3_machine::{ENTRY, Machine, NoMemory, STACK_TOP, Target};
+use ffi3_machine::{CODE, CODE_END, ENTRY, Machine, NoMemory, STACK_TOP, Target};
 use std::process::Abort;
 
 // What a live slot holds before the closure's numbers, what a free one holds, and the closure register.
@@ -56,19 +56,63 @@ fn first_and_last_slot(rt: HostRuntime) -> Result<(), NoMemory> {
     ];
     let mut machine = Machine::new(rt.alloc())?;
     for row in rows {
-        let mut table = Table::new();
         machine.begin(row.target);
+        let mut table = Table::new();
         fills(&rt, &mut table, &mut machine);
-        for addr in [0x1_0000, 0x1_3FC0] {
-            holds(&rt, &table, &machine, row, addr);
-            if machine.sp() == STACK_TOP {
-                runs(&rt, &table, &mut machine, row, addr);
-            }
-            frees(&rt, &mut table, &mut machine, row, addr);
-            machine.begin(row.target);
-            table = Table::new();
-            fills(&rt, &mut table, &mut machine);
-        }
+        one_slot(&rt, &mut table, &mut machine, row, 0x1_0000);
+        one_slot(&rt, &mut table, &mut machine, row, 0x1_3FC0);
     }
     Ok(())
+}
+
+// Makes closures until the table is full, each at the next slot.
+fn fills(rt: &impl Abort, table: &mut Table, machine: &mut Machine)
+    requires { HoldsMap machine.old.target table.old machine.old.code }
+    ensures { HoldsMap machine.new.target table.new machine.new.code }
+{
+    for k in 0..256u64 {
+        assert_eq!(rt;
+            table.make(machine, 2, 1, 0x1122_3344_5566_7788),
+            Ok(0x1_0000 + 64 * k)
+        );
+    }
+    assert_eq!(rt; table.make(machine, 0, 0, 0), Err(TableFull));
+}
+
+// A live slot: its bytes, its run, and its bytes when it is freed.
+fn one_slot(rt: &impl Abort, table: &mut Table, machine: &mut Machine, row: Row, addr: u64)
+    requires holds { HoldsMap machine.old.target table.old machine.old.code }
+    requires low { CODE ≤ addr }
+    requires high { addr + 64 ≤ CODE_END }
+    ensures { HoldsMap machine.new.target table.new machine.new.code }
+{
+    let closure = Closure {
+        func: 2,
+        sig: 1,
+        user: 0x1122_3344_5566_7788,
+    };
+    assert_eq!(rt; machine.lend_code(addr, 32), row.head.as_slice());
+    assert_eq!(rt; machine.lend_code(addr + 32, 32), NUMBERS.as_slice());
+    assert_eq!(rt; table.find(addr), Some(closure));
+    assert_eq!(rt; table.find(addr + 4), None);
+    runs(table, machine, addr);
+    assert_eq!(rt; machine.pc(), ENTRY);
+    assert_eq!(rt; machine.g(row.register % 32), addr);
+    assert_eq!(rt; table.free(machine, addr + 4), None);
+    assert_eq!(rt; table.free(machine, addr), Some(closure));
+    assert_eq!(rt; table.find(addr), None);
+    assert_eq!(rt; machine.lend_code(addr, 4), row.free.as_slice());
+    assert_eq!(rt; machine.lend_code(addr + 60, 4), row.free.as_slice());
+}
+
+// Calls a live slot, and runs to the entry.
+fn runs(table: &Table, machine: &mut Machine, addr: u64)
+    requires { HoldsMap machine.old.target table.now machine.old.code }
+    ensures { HoldsMap machine.new.target table.now machine.new.code }
+{
+    if let Some(_closure) = table.find(addr) {
+        machine.set_sp(STACK_TOP);
+        machine.call_slot(addr);
+        table.run_trampoline(machine);
+    }
 }
