@@ -3,3 +3,4 @@ pub mod Written
 pub mod Holding
 pub mod Trampolines
 pub mod Live
+pub mod Counting

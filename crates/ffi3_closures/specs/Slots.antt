@@ -1,5 +1,5 @@
 -- The bytes of a slot, and the code region that holds those of a map of closures. (libffi manual, "The Closure API"; Intel 64 and IA-32 Architectures Software Developer's Manual, volume 2; Arm Architecture Reference Manual for A-profile, C6.2; RISC-V unprivileged ISA, 2)
-use Rattle.std.specs.Prelude.{◌≡◌, ℕ, ◌*◌, ◌<◌, List, [], ◌∷◌, ◌++◌, length, take, drop, replicate, slice_index_or, Option, Some, None}
+use Rattle.std.specs.Prelude.{◌≡◌, ℕ, ◌*◌, ◌<◌, List, [], ◌∷◌, ◌++◌, length, take, drop, replicate, slice_index_or, Option, Some, None, is_some, count_by}
 use Rattle.std.specs.Int.{w64, to_le_bytes}
 use Rattle.ffi3_type_rules.specs.declared.Target.{Target}
 use Rattle.ffi3_type_rules.specs.declared.Target.TheVariants.{Amd64, Aapcs64, Riscv}
@@ -34,6 +34,10 @@ live_slot target c = slot_head target ++ slot_tail c
 abbrev pub slot_content : Target → Option Closure → List ℕ
 slot_content target None = free_slot target
 slot_content target (Some c) = live_slot target c
+
+-- how many closures are live
+abbrev pub live_count : Closures → ℕ
+live_count closures = count_by is_some closures
 
 -- the code region holds the bytes of the map
 pub record HoldsMap (target : Target) (closures : Closures) (code : List ℕ) : Type 0 where

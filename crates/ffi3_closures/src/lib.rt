@@ -17,7 +17,10 @@ ghost use Rattle.ffi3_run_rules.specs.Closures.{
 ghost use Rattle.ffi3_type_rules.specs.declared.Target.{Target};
 ghost use Rattle.ffi3_machine.specs.State.{IsSlot, begun_code, free_slot, with_code};
 ghost use Rattle.ffi3_closures.specs.Reaching.{reached};
-ghost use Rattle.ffi3_closures.specs.Slots.{HoldsMap, live_slot, slot_head};
+ghost use Rattle.ffi3_closures.specs.Slots.{HoldsMap, live_count, live_slot, slot_head};
+
+#[cfg(test)]
+mod tests;
 
 use ffi3_machine::{CODE, Machine, Target};
 pub use ffi3_run_rules::Closure;
@@ -77,14 +80,17 @@ impl Table {
     ) -> Result<u64, TableFull>
         requires { HoldsMap machine.old.target self.old machine.old.code }
         ensures room { OnOk result (first_free self.old < slots) }
+        ensures not_all_live { OnOk result (live_count self.old < slots) }
         ensures address { IfOk result (λ addr. addr ≡ slot_address (first_free self.old)) }
         ensures made { OnOk result (self.new ≡ with_closure self.old (first_free self.old) (Some (record { func = func; sig = sig; user = user }))) }
         ensures written { OnOk result (machine.new ≡ with_code (slot_address (first_free self.old)) (live_slot machine.old.target (record { func = func; sig = sig; user = user })) machine.old) }
         ensures full { OnErr result (first_free self.old ≡ slots) }
+        ensures all_live { OnErr result (live_count self.old ≡ slots) }
         ensures same_map { OnErr result (self.new ≡ self.old) }
         ensures same_machine { OnErr result (machine.new ≡ machine.old) }
         ensures holds { HoldsMap machine.new.target self.new machine.new.code }
     {
+        let _slots = &self.slots;
         let k = self.first_free();
         if k == 256 {
             return Err(TableFull);
