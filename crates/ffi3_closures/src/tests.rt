@@ -112,7 +112,7 @@ fn runs(table: &Table, machine: &mut Machine, addr: u64)
 {
     if let Some(_closure) = table.find(addr) {
         machine.set_sp(STACK_TOP);
-        machine.call_slot(addr);
+        machine.call(addr);
         table.run_trampoline(machine);
     }
 }
