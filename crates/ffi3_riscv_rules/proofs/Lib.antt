@@ -1,0 +1,7 @@
+pub mod Copies
+pub mod Shapes
+pub mod Covered
+pub mod Registers
+pub mod Sound
+pub mod Sums
+mod Rows
