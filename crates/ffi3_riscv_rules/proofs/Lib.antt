@@ -4,4 +4,5 @@ pub mod Covered
 pub mod Registers
 pub mod Sound
 pub mod Sums
+pub mod Leaves
 mod Rows
