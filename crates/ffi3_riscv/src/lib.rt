@@ -172,7 +172,9 @@ fn passed_as(before: Used, fixed: bool, ty: &FfiType) -> Shape
     requires right { HasNoFault 0 true (tree_of ty.now) }
     requires few { before.floats ≤ 8 }
     requires low { before.words ≤ 1024 }
-    ensures { result ≡ passed_as before fixed (tree_of ty.now) }
+    ensures value { result ≡ passed_as before fixed (tree_of ty.now) }
+    ensures small { words_of result ≤ 2 }
+    ensures room { before.floats + floats_of result ≤ 8 }
 {
     let shape = shape_of(ty);
     if fixed && registers_suffice(before, shape) {
@@ -430,19 +432,6 @@ fn at_first(ty: &FfiType) -> Used
     }
 }
 
-/// How argument `i` is passed, and what it uses beside those before it.
-fn pass(before: Used, fixed: bool, ty: &FfiType) -> Used
-    requires right { HasNoFault 0 true (tree_of ty.now) }
-    requires few { before.floats ≤ 8 }
-    requires low { before.words ≤ 1000 }
-    ensures value { result ≡ used_with before (passed_as before fixed (tree_of ty.now)) }
-    ensures few { result.floats ≤ 8 }
-    ensures low { result.words ≤ before.words + 2 }
-{
-    let shape = passed_as(before, fixed, ty);
-    used_with(before, shape)
-}
-
 /// What all arguments use.
 fn used_by_all(sig: &Sig) -> Used
     requires { SignatureHasNoFault sig.now }
@@ -451,7 +440,8 @@ fn used_by_all(sig: &Sig) -> Used
 {
     let mut before = at_first(result_type(sig));
     for i in 0..count_of(sig) {
-        before = pass(before, is_fixed(sig, i), argument(sig, i));
+        let shape = passed_as(before, is_fixed(sig, i), argument(sig, i));
+        before = used_with(before, shape);
     }
     before
 }
@@ -488,11 +478,10 @@ fn place_all(alloc: Global, sig: &Sig, start: u64) -> Result<Placed, NoMemory>
     let mut places = Places::new(alloc);
     for i in 0..count_of(sig) {
         let ty = argument(sig, i);
-        let fixed = is_fixed(sig, i);
-        let shape = passed_as(before, fixed, ty);
+        let shape = passed_as(before, is_fixed(sig, i), ty);
         places.push(place_of(alloc, before, ty, shape, copy)?)?;
         copy += copy_of(ty, shape);
-        before = pass(before, fixed, ty);
+        before = used_with(before, shape);
     }
     Ok(Placed { places, end: copy })
 }
