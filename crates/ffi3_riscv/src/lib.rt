@@ -1,0 +1,607 @@
+// The RISC-V calling standard with LP64D.
+#![tactic(auto)]
+
+ghost use Rattle.std.specs.Prelude.{◌≡◌, ◌<◌, ◌≤◌, ◌+◌, ◌*◌, ◌/◌, ◌^◌, length, IfOk, [], ◌∷◌, true, false, cond};
+ghost use Rattle.std.specs.List.{sum_by};
+ghost use Rattle.ffi3_type_rules.specs.Tree.{Scalar, scalar, tree_at};
+ghost use Rattle.ffi3_type_rules.specs.Layout.{size_of, leaves_of, leaf_at};
+ghost use Rattle.ffi3_type_rules.specs.Integer.{is_floating, is_integer};
+ghost use Rattle.ffi3_type_rules.specs.Fault.{HasNoFault};
+ghost use Rattle.ffi3_type_rules.specs.Signature.{SignatureHasNoFault};
+ghost use Rattle.ffi3_types.specs.TreeOf.{tree_of};
+ghost use Rattle.ffi3_place_rules.specs.Standard.{doubleword, place_at, places_from, result_at, all_copy_bytes, buffer_bytes, round8};
+ghost use Rattle.ffi3_riscv_rules.specs.Riscv.{integer_shape, shape_of, words_of, floats_of, registers_suffice, passed_as, word, extension, boxing, floating_piece, integer_piece, word_pieces, spot_of, is_fixed, used_with, used_at_first, used_by_all, spots_after, result_shape, result_spot_of, is_by_reference, unused};
+ghost use Rattle.ffi3_riscv_rules.proofs.Shapes.{Suits, HasRoom};
+
+#[cfg(test)]
+mod tests;
+
+use ffi3_place::{Abi, Ext, Loc, Piece, Pieces, Place, Places, Plan, Res};
+pub use ffi3_riscv_rules::Shape;
+use ffi3_riscv_rules::Used;
+use ffi3_type_rules::round_up;
+use ffi3_types::{FfiType, NoMemory, Sig, Target};
+use std::alloc::Global;
+
+/// Whether a scalar is a float or a double.
+fn floating(kind: &FfiType) -> bool
+    ensures { (s : Scalar) → tree_of kind.now ≡ scalar s → result ≡ is_floating s }
+{
+    matches!(kind, FfiType::Float | FfiType::Double)
+}
+
+/// Whether a scalar is an integer. A pointer is none.
+fn integer(kind: &FfiType) -> bool
+    ensures { (s : Scalar) → tree_of kind.now ≡ scalar s → result ≡ is_integer s }
+{
+    !matches!(kind, FfiType::Float | FfiType::Double | FfiType::Pointer)
+}
+
+/// Whether leaf `i` is a float or a double.
+fn is_floating_leaf(ty: &FfiType, i: u32) -> bool
+    requires right { HasNoFault 0 true (tree_of ty.now) }
+    requires in_range { i < length (leaves_of (tree_of ty.now)) }
+    ensures { result ≡ is_floating (leaf_at (tree_of ty.now) i).kind }
+{
+    let leaf = ty.leaf(i);
+    floating(&leaf.kind)
+}
+
+/// Whether leaf `i` is an integer.
+fn is_integer_leaf(ty: &FfiType, i: u32) -> bool
+    requires right { HasNoFault 0 true (tree_of ty.now) }
+    requires in_range { i < length (leaves_of (tree_of ty.now)) }
+    ensures { result ≡ is_integer (leaf_at (tree_of ty.now) i).kind }
+{
+    let leaf = ty.leaf(i);
+    integer(&leaf.kind)
+}
+
+/// The size of a type without fault.
+fn size_of(ty: &FfiType) -> u64
+    requires { HasNoFault 0 true (tree_of ty.now) }
+    ensures value { result ≡ size_of (tree_of ty.now) }
+    ensures small { result ≤ 1024 }
+{
+    ty.size()
+}
+
+/// How a value is passed by the integer convention: in at most two words, or by reference.
+fn integer_shape(ty: &FfiType) -> Shape
+    requires { HasNoFault 0 true (tree_of ty.now) }
+    ensures { result ≡ integer_shape (tree_of ty.now) }
+{
+    let size = size_of(ty);
+    if size <= 16 {
+        Shape::Words((size + 7) / 8)
+    } else {
+        Shape::ByRef
+    }
+}
+
+fn shape_of_one(ty: &FfiType) -> Shape
+    requires right { HasNoFault 0 true (tree_of ty.now) }
+    requires one { length (leaves_of (tree_of ty.now)) ≡ 1 }
+    ensures { result ≡ shape_of (tree_of ty.now) }
+{
+    if is_floating_leaf(ty, 0) {
+        Shape::OneF
+    } else {
+        integer_shape(ty)
+    }
+}
+
+fn shape_of_two(ty: &FfiType) -> Shape
+    requires right { HasNoFault 0 true (tree_of ty.now) }
+    requires two { length (leaves_of (tree_of ty.now)) ≡ 2 }
+    ensures { result ≡ shape_of (tree_of ty.now) }
+{
+    if is_floating_leaf(ty, 0) && is_floating_leaf(ty, 1) {
+        Shape::TwoF
+    } else if is_floating_leaf(ty, 0) && is_integer_leaf(ty, 1) {
+        Shape::FI
+    } else if is_integer_leaf(ty, 0) && is_floating_leaf(ty, 1) {
+        Shape::IF
+    } else {
+        integer_shape(ty)
+    }
+}
+
+/// How a fixed argument or a result is passed where enough registers are free. (RISC-V ELF psABI, "Hardware Floating-point Calling Convention")
+pub fn shape_of(ty: &FfiType) -> Shape
+    requires { HasNoFault 0 true (tree_of ty.now) }
+    ensures { result ≡ shape_of (tree_of ty.now) }
+{
+    let count = ty.leaf_count();
+    if count == 1 {
+        shape_of_one(ty)
+    } else if count == 2 {
+        shape_of_two(ty)
+    } else {
+        integer_shape(ty)
+    }
+}
+
+/// How many integer words a value takes.
+fn words_of(shape: Shape) -> u64
+    ensures { result ≡ words_of shape }
+{
+    match shape {
+        Shape::OneF => 0,
+        Shape::TwoF => 0,
+        Shape::FI => 1,
+        Shape::IF => 1,
+        Shape::Words(n) => n,
+        Shape::ByRef => 1,
+    }
+}
+
+/// How many floating registers a value takes.
+fn floats_of(shape: Shape) -> u64
+    ensures value { result ≡ floats_of shape }
+    ensures few { result ≤ 2 }
+{
+    match shape {
+        Shape::OneF => 1,
+        Shape::TwoF => 2,
+        Shape::FI => 1,
+        Shape::IF => 1,
+        Shape::Words(_) => 0,
+        Shape::ByRef => 0,
+    }
+}
+
+/// Whether enough registers are free for a value of this shape.
+fn registers_suffice(before: Used, shape: Shape) -> bool
+    requires few { before.floats ≤ 8 }
+    requires low { before.words ≤ 1024 }
+    ensures { result ≡ registers_suffice before shape }
+{
+    match shape {
+        Shape::OneF => before.floats + 1 <= 8,
+        Shape::TwoF => before.floats + 2 <= 8,
+        Shape::FI => before.floats + 1 <= 8 && before.words + 1 <= 8,
+        Shape::IF => before.floats + 1 <= 8 && before.words + 1 <= 8,
+        Shape::Words(_) => true,
+        Shape::ByRef => true,
+    }
+}
+
+/// How an argument is passed behind others.
+fn passed_as(before: Used, fixed: bool, ty: &FfiType) -> Shape
+    requires right { HasNoFault 0 true (tree_of ty.now) }
+    requires few { before.floats ≤ 8 }
+    requires low { before.words ≤ 1024 }
+    ensures value { result ≡ passed_as before fixed (tree_of ty.now) }
+    ensures small { words_of result ≤ 2 }
+    ensures room { before.floats + floats_of result ≤ 8 }
+{
+    let shape = shape_of(ty);
+    if fixed && registers_suffice(before, shape) {
+        shape
+    } else {
+        integer_shape(ty)
+    }
+}
+
+fn used_with(before: Used, shape: Shape) -> Used
+    requires few { before.floats ≤ 8 }
+    requires low { before.words ≤ 1024 }
+    requires small { words_of shape ≤ 2 }
+    ensures { result ≡ used_with before shape }
+{
+    Used {
+        words: before.words + words_of(shape),
+        floats: before.floats + floats_of(shape),
+    }
+}
+
+/// Word `k` of the stream of integer words: a0 to a7, and then the stack.
+fn word(k: u64) -> Loc
+    requires { k ≤ 2048 }
+    ensures { result ≡ word k }
+{
+    if k < 8 {
+        Loc::G(10 + k as u8)
+    } else {
+        Loc::S((8 * (k - 8)) as u32)
+    }
+}
+
+/// What fills the rest of a value's words.
+fn extended(ty: &FfiType) -> Ext
+    ensures { result ≡ extension (tree_of ty.now) }
+{
+    match ty {
+        FfiType::U8 | FfiType::S8 | FfiType::U16 | FfiType::S16 | FfiType::U32 | FfiType::S32 =>
+            Ext::Riscv,
+        _ => Ext::Free,
+    }
+}
+
+/// What fills the rest of a floating register.
+fn boxed(kind: &FfiType) -> Ext
+    ensures { (s : Scalar) → tree_of kind.now ≡ scalar s → result ≡ boxing s }
+{
+    match kind {
+        FfiType::Float => Ext::Boxed,
+        _ => Ext::Free,
+    }
+}
+
+/// Doubleword `j` of a value, in its place.
+fn doubleword(ty: &FfiType, j: u64, loc: Loc) -> Piece
+    requires right { HasNoFault 0 true (tree_of ty.now) }
+    requires within { 8 * j < size_of (tree_of ty.now) }
+    ensures { result ≡ doubleword loc j (size_of (tree_of ty.now)) (extension (tree_of ty.now)) }
+{
+    let left = size_of(ty) - 8 * j;
+    Piece {
+        loc,
+        off: (8 * j) as u32,
+        len: if left < 8 { left as u8 } else { 8 },
+        ext: extended(ty),
+    }
+}
+
+/// A value's doublewords, in the stream of words from number `first` on.
+fn word_pieces(alloc: Global, ty: &FfiType, first: u64, count: u64) -> Result<Pieces, NoMemory>
+    requires right { HasNoFault 0 true (tree_of ty.now) }
+    requires low { first ≤ 1024 }
+    requires all { count ≡ (size_of (tree_of ty.now) + 7) / 8 }
+    requires few { count ≤ 2 }
+    ensures { IfOk result (λ p. p ≡ word_pieces first (tree_of ty.now) 0 count) }
+{
+    let mut pieces = Pieces::new(alloc);
+    for j in 0..count {
+        pieces.push(doubleword(ty, j, word(first + j)))?;
+    }
+    Ok(pieces)
+}
+
+/// Leaf `i` in floating register fa`number`.
+fn floating_piece(ty: &FfiType, i: u32, number: u64) -> Piece
+    requires right { HasNoFault 0 true (tree_of ty.now) }
+    requires in_range { i < length (leaves_of (tree_of ty.now)) }
+    requires few { number ≤ 7 }
+    ensures { result ≡ floating_piece number (leaf_at (tree_of ty.now) i) }
+{
+    let leaf = ty.leaf(i);
+    Piece {
+        loc: Loc::F(10 + number as u8),
+        off: leaf.at as u32,
+        len: leaf.kind.size() as u8,
+        ext: boxed(&leaf.kind),
+    }
+}
+
+/// Leaf `i` in integer register a`number`.
+fn integer_piece(ty: &FfiType, i: u32, number: u64) -> Piece
+    requires right { HasNoFault 0 true (tree_of ty.now) }
+    requires in_range { i < length (leaves_of (tree_of ty.now)) }
+    requires few { number ≤ 7 }
+    ensures { result ≡ integer_piece number (leaf_at (tree_of ty.now) i) }
+{
+    let leaf = ty.leaf(i);
+    Piece {
+        loc: Loc::G(10 + number as u8),
+        off: leaf.at as u32,
+        len: leaf.kind.size() as u8,
+        ext: Ext::Free,
+    }
+}
+
+fn one_piece(alloc: Global, piece: Piece) -> Result<Pieces, NoMemory>
+    ensures { IfOk result (λ p. p ≡ piece ∷ []) }
+{
+    let mut pieces = Pieces::new(alloc);
+    pieces.push(piece)?;
+    Ok(pieces)
+}
+
+fn two_pieces(alloc: Global, first: Piece, second: Piece) -> Result<Pieces, NoMemory>
+    ensures { IfOk result (λ p. p ≡ first ∷ second ∷ []) }
+{
+    let mut pieces = Pieces::new(alloc);
+    pieces.push(first)?;
+    pieces.push(second)?;
+    Ok(pieces)
+}
+
+/// Where a value of a shape stands, behind others. A copy stands `copy` bytes from the frame's start.
+fn place_of(
+    alloc: Global,
+    before: Used,
+    ty: &FfiType,
+    shape: Shape,
+    copy: u64,
+) -> Result<Place, NoMemory>
+    requires right { HasNoFault 0 true (tree_of ty.now) }
+    requires suits { Suits (size_of (tree_of ty.now)) (leaves_of (tree_of ty.now)) shape }
+    requires room { HasRoom before shape }
+    requires low { before.words ≤ 1024 }
+    requires near { copy ≤ 131072 }
+    ensures { IfOk result (λ p. p ≡ place_at copy (spot_of before (tree_of ty.now) shape)) }
+{
+    match shape {
+        Shape::OneF => {
+            let piece = floating_piece(ty, 0, before.floats);
+            Ok(Place::Direct(one_piece(alloc, piece)?))
+        }
+        Shape::TwoF => {
+            let first = floating_piece(ty, 0, before.floats);
+            let second = floating_piece(ty, 1, before.floats + 1);
+            Ok(Place::Direct(two_pieces(alloc, first, second)?))
+        }
+        Shape::FI => {
+            let first = floating_piece(ty, 0, before.floats);
+            let second = integer_piece(ty, 1, before.words);
+            Ok(Place::Direct(two_pieces(alloc, first, second)?))
+        }
+        Shape::IF => {
+            let first = integer_piece(ty, 0, before.words);
+            let second = floating_piece(ty, 1, before.floats);
+            Ok(Place::Direct(two_pieces(alloc, first, second)?))
+        }
+        Shape::Words(count) => { Ok(Place::Direct(word_pieces(alloc, ty, before.words, count)?)) }
+        Shape::ByRef => Ok(Place::ByRef {
+            at: word(before.words),
+            copy: copy as u32,
+        }),
+    }
+}
+
+/// How many arguments a signature without fault has.
+fn count_of(sig: &Sig) -> u32
+    requires { SignatureHasNoFault sig.now }
+    ensures value { result ≡ length sig.now.arguments }
+    ensures few { result ≤ 64 }
+{
+    sig.count()
+}
+
+/// An argument's type, which has no fault.
+fn argument(sig: &Sig, i: u32) -> &FfiType
+    requires right { SignatureHasNoFault sig.now }
+    requires within { i < length sig.now.arguments }
+    ensures element { tree_of result.now ≡ tree_at sig.now.arguments i }
+    ensures right { HasNoFault 0 true (tree_of result.now) }
+{
+    sig.arg(i)
+}
+
+/// The result's type, which has no fault.
+fn result_type(sig: &Sig) -> &FfiType
+    requires { SignatureHasNoFault sig.now }
+    ensures element { tree_of result.now ≡ sig.now.result_type }
+    ensures right { HasNoFault 0 true (tree_of result.now) }
+{
+    sig.ret()
+}
+
+/// Whether argument `i` is no variadic one.
+fn is_fixed(sig: &Sig, i: u32) -> bool
+    ensures { result ≡ is_fixed sig.now.fixed i }
+{
+    match sig.fixed() {
+        None => true,
+        Some(fixed) => i < fixed,
+    }
+}
+
+/// The sizes of all arguments, each a multiple of 8.
+fn sizes_of(sig: &Sig) -> u64
+    requires { SignatureHasNoFault sig.now }
+    ensures value { result ≡ sum_by (λ t. round8 (size_of t)) sig.now.arguments }
+    ensures bound { result ≤ 66048 }
+{
+    let mut all = 0;
+    for i in 0..count_of(sig) {
+        all += round_up(size_of(argument(sig, i)), 8);
+    }
+    all
+}
+
+const UNUSED: Used = Used {
+    words: 0,
+    floats: 0,
+};
+
+/// A result is passed as a first fixed argument would be.
+fn result_shape(ty: &FfiType) -> Shape
+    requires { HasNoFault 0 true (tree_of ty.now) }
+    ensures { result ≡ result_shape (tree_of ty.now) }
+{
+    passed_as(UNUSED, true, ty)
+}
+
+/// The address of a hidden result's buffer takes the first word.
+fn at_first(ty: &FfiType) -> Used
+    requires { HasNoFault 0 true (tree_of ty.now) }
+    ensures value { result ≡ used_at_first (tree_of ty.now) }
+    ensures one { result.words ≤ 1 }
+    ensures none { result.floats ≡ 0 }
+{
+    Used {
+        words: if let Shape::ByRef = result_shape(ty) {
+            1
+        } else {
+            0
+        },
+        floats: 0,
+    }
+}
+
+/// What all arguments use.
+fn used_by_all(sig: &Sig) -> Used
+    requires { SignatureHasNoFault sig.now }
+    ensures value { result ≡ used_by_all sig.now }
+    ensures low { result.words ≤ 129 }
+{
+    let mut before = at_first(result_type(sig));
+    for i in 0..count_of(sig) {
+        let shape = passed_as(before, is_fixed(sig, i), argument(sig, i));
+        before = used_with(before, shape);
+    }
+    before
+}
+
+/// The bytes of an argument's copy.
+fn copy_of(ty: &FfiType, shape: Shape) -> u64
+    requires { HasNoFault 0 true (tree_of ty.now) }
+    ensures value { result ≡ cond (is_by_reference shape) (round8 (size_of (tree_of ty.now))) 0 }
+    ensures small { result ≤ 1032 }
+{
+    if let Shape::ByRef = shape {
+        round_up(size_of(ty), 8)
+    } else {
+        0
+    }
+}
+
+/// The places of all arguments, and where their copies end.
+#[derive(Drop)]
+struct Placed {
+    places: Places,
+    end: u64,
+}
+
+fn place_all(alloc: Global, sig: &Sig, start: u64) -> Result<Placed, NoMemory>
+    requires right { SignatureHasNoFault sig.now }
+    requires near { start ≤ 2048 }
+    ensures places { IfOk result (λ p. p.places ≡ places_from start sig.now.arguments (spots_after sig.now.fixed (used_at_first sig.now.result_type) 0 sig.now.arguments)) }
+    ensures end { IfOk result (λ p. p.end ≡ start + all_copy_bytes sig.now.arguments (spots_after sig.now.fixed (used_at_first sig.now.result_type) 0 sig.now.arguments)) }
+    ensures near { IfOk result (λ p. p.end ≤ start + 66048) }
+{
+    let mut before = at_first(result_type(sig));
+    let mut copy = start;
+    let mut places = Places::new(alloc);
+    for i in 0..count_of(sig) {
+        let ty = argument(sig, i);
+        let shape = passed_as(before, is_fixed(sig, i), ty);
+        places.push(place_of(alloc, before, ty, shape, copy)?)?;
+        copy += copy_of(ty, shape);
+        before = used_with(before, shape);
+    }
+    Ok(Placed { places, end: copy })
+}
+
+/// A result's place is that of an argument, and its buffer takes the place of a copy.
+fn place_result(alloc: Global, ty: &FfiType, buffer: u64) -> Result<Res, NoMemory>
+    requires right { HasNoFault 0 true (tree_of ty.now) }
+    requires near { buffer ≤ 131072 }
+    ensures { IfOk result (λ r. r ≡ result_at buffer (result_spot_of (tree_of ty.now))) }
+{
+    if let FfiType::Void = ty {
+        return Ok(Res::Nothing);
+    }
+    let shape = result_shape(ty);
+    match place_of(alloc, UNUSED, ty, shape, buffer)? {
+        Place::Direct(pieces) => Ok(Res::Direct(pieces)),
+        Place::ByRef { at, copy } => Ok(Res::Hidden { at, buffer: copy }),
+    }
+}
+
+/// The bytes of a hidden result's buffer.
+fn buffer_of(ty: &FfiType) -> u64
+    requires { HasNoFault 0 true (tree_of ty.now) }
+    ensures value { result ≡ buffer_bytes (tree_of ty.now) (result_spot_of (tree_of ty.now)) }
+    ensures small { result ≤ 1032 }
+{
+    copy_of(ty, result_shape(ty))
+}
+
+/// The RISC-V calling standard with LP64D. (RISC-V ELF psABI)
+pub struct Riscv;
+
+impl Abi for Riscv {
+    ghost use Rattle.ffi3_type_rules.specs.declared.Target.TheVariants as target;
+    ghost use Rattle.ffi3_riscv_rules.specs.Riscv.{riscv};
+
+    ghost standard = { riscv };
+
+    ghost SAVE = { 208 };
+
+    ghost LINK = { 0 };
+
+    ghost TARGET = { target.Riscv };
+
+    ghost KEPT = { 24 };
+
+    const SAVE: u64 = 208;
+
+    const LINK: u64 = 0;
+
+    const TARGET: Target = Target::Riscv;
+
+    const KEPT: u8 = 24;
+
+    fn kept_register(k: u8) -> Loc {
+        // s0 to s11, and fs0 to fs11
+        const REGISTERS: [Loc; 24] = [
+            Loc::G(8),
+            Loc::G(9),
+            Loc::G(18),
+            Loc::G(19),
+            Loc::G(20),
+            Loc::G(21),
+            Loc::G(22),
+            Loc::G(23),
+            Loc::G(24),
+            Loc::G(25),
+            Loc::G(26),
+            Loc::G(27),
+            Loc::F(8),
+            Loc::F(9),
+            Loc::F(18),
+            Loc::F(19),
+            Loc::F(20),
+            Loc::F(21),
+            Loc::F(22),
+            Loc::F(23),
+            Loc::F(24),
+            Loc::F(25),
+            Loc::F(26),
+            Loc::F(27),
+        ];
+        REGISTERS[k as usize]
+    }
+
+    fn plan(alloc: Global, sig: &Sig) -> Result<Plan, NoMemory> {
+        let used = used_by_all(sig);
+        let stack = if used.words < 8 {
+            0
+        } else {
+            8 * (used.words - 8)
+        };
+        let start = round_up(stack, 16);
+        let all = place_all(alloc, sig, start)?;
+        let ret = result_type(sig);
+        let frame = round_up(all.end + buffer_of(ret), 16);
+        let block = round_up(sizes_of(sig), 16);
+        let res = place_result(alloc, ret, all.end)?;
+        Ok(Plan {
+            places: all.places,
+            res,
+            need: frame + 208 + block,
+            frame,
+            block,
+            vectors: 0,
+        })
+    }
+
+    ghost use Rattle.std.specs.Prelude.{refl};
+    ghost use Rattle.ffi3_riscv_rules.proofs.Sound.{sound as every_law, determines};
+
+    ghost save_is = { refl };
+
+    ghost link_is = { refl };
+
+    ghost target_is = { refl };
+
+    ghost kept_all = { refl };
+
+    ghost sound = { λ s _. every_law s };
+
+    ghost determined = { λ s _. determines s };
+}

@@ -1,0 +1,100 @@
+-- What a shape says of the value, and of the registers that are free.
+use Rattle.std.proofs.Common.{◌≡◌, ℕ, ◌+◌, ◌/◌, ◌≤◌, Bool, true, false, ◌&&◌, cond, leb, List, [], ◌∷◌, length, refl, arith}
+use Rattle.std.specs.Prelude.{⊤}
+use Rattle.std.proofs.lemmas.Bool.{leb-true}
+use Rattle.ffi3_type_rules.specs.Tree.{Tree}
+use Rattle.ffi3_type_rules.specs.Layout.{Leaf, leaves_of, size_of}
+use Rattle.ffi3_type_rules.specs.Integer.{is_floating, is_integer}
+use Rattle.ffi3_place_rules.proofs.Tests.{and_left, and_right}
+use Rattle.ffi3_riscv_rules.specs.declared.Shape.{Shape}
+use Rattle.ffi3_riscv_rules.specs.declared.Shape.TheVariants.{OneF, TwoF, FI, IF, Words, ByRef}
+use Rattle.ffi3_riscv_rules.specs.declared.Used.{Used}
+use Rattle.ffi3_riscv_rules.specs.Riscv.{integer_shape, shape_of_leaves, shape_of, registers_suffice, passed_as, words_of, floats_of}
+
+-- so many bytes and leaves are passed by the shape
+abbrev pub Suits : ℕ → List Leaf → Shape → Type 0
+Suits n ls OneF = length ls ≡ 1
+Suits n ls TwoF = length ls ≡ 2
+Suits n ls FI = length ls ≡ 2
+Suits n ls IF = length ls ≡ 2
+Suits n ls (Words count) = (count ≡ (n + 7) / 8) × (n ≤ 16)
+Suits n ls ByRef = ⊤
+
+integer_if : (n : ℕ) (ls : List Leaf) (b : Bool) → leb n 16 ≡ b → Suits n ls (cond {A = Shape} b (Words ((n + 7) / 8)) ByRef)
+integer_if n ls true e = (refl, leb-true n 16 e)
+integer_if n ls false e = tt
+
+pub integer_suits : (t : Tree) → Suits (size_of t) (leaves_of t) (integer_shape t)
+integer_suits t = integer_if (size_of t) (leaves_of t) (leb (size_of t) 16) refl
+
+choose : (P : Shape → Type 0) (b : Bool) (x y : Shape) → P x → P y → P (cond {A = Shape} b x y)
+choose P true x y h k = h
+choose P false x y h k = k
+
+leaves_suit : (n : ℕ) (otherwise : Shape) (ls : List Leaf) → Suits n ls otherwise → Suits n ls (shape_of_leaves otherwise ls)
+leaves_suit n otherwise [] h = h
+leaves_suit n otherwise (a ∷ []) h =
+    choose (Suits n (a ∷ [])) (is_floating a.kind) OneF otherwise refl h
+leaves_suit n otherwise (a ∷ b ∷ []) h =
+    choose (Suits n (a ∷ b ∷ [])) (is_floating a.kind && is_floating b.kind) TwoF _ refl
+    (choose (Suits n (a ∷ b ∷ [])) (is_floating a.kind && is_integer b.kind) FI _ refl
+    (choose (Suits n (a ∷ b ∷ [])) (is_integer a.kind && is_floating b.kind) IF otherwise refl h))
+leaves_suit n otherwise (a ∷ b ∷ c ∷ ls) h = h
+
+pub shape_suits : (t : Tree) → Suits (size_of t) (leaves_of t) (shape_of t)
+shape_suits t =
+    leaves_suit (size_of t) (integer_shape t) (leaves_of t) (integer_suits t)
+
+pub passed_suits : (before : Used) (fixed : Bool) (t : Tree) → Suits (size_of t) (leaves_of t) (passed_as before fixed t)
+passed_suits before fixed t =
+    choose (Suits (size_of t) (leaves_of t)) (fixed && registers_suffice before (shape_of t)) (shape_of t) (integer_shape t) (shape_suits t) (integer_suits t)
+
+-- registers are free for the shape
+abbrev pub HasRoom : Used → Shape → Type 0
+HasRoom before OneF = before.floats + 1 ≤ 8
+HasRoom before TwoF = before.floats + 2 ≤ 8
+HasRoom before FI = (before.floats + 1 ≤ 8) × (before.words + 1 ≤ 8)
+HasRoom before IF = (before.floats + 1 ≤ 8) × (before.words + 1 ≤ 8)
+HasRoom before (Words n) = ⊤
+HasRoom before ByRef = ⊤
+
+both_free : (f w : ℕ) → (leb f 8 && leb w 8) ≡ true → (f ≤ 8) × (w ≤ 8)
+both_free f w h = (leb-true f 8 (and_left (leb f 8) (leb w 8) h), leb-true w 8 (and_right (leb f 8) (leb w 8) h))
+
+room_of : (before : Used) (shape : Shape) → registers_suffice before shape ≡ true → HasRoom before shape
+room_of before OneF h = leb-true (before.floats + 1) 8 h
+room_of before TwoF h = leb-true (before.floats + 2) 8 h
+room_of before FI h = both_free (before.floats + 1) (before.words + 1) h
+room_of before IF h = both_free (before.floats + 1) (before.words + 1) h
+room_of before (Words n) h = tt
+room_of before ByRef h = tt
+
+integer_room : (before : Used) (t : Tree) → HasRoom before (integer_shape t)
+integer_room before t =
+    choose (HasRoom before) (leb (size_of t) 16) (Words ((size_of t + 7) / 8)) ByRef tt tt
+
+room_if : (before : Used) (fixed : Bool) (t : Tree) (b : Bool) → (fixed && registers_suffice before (shape_of t)) ≡ b → HasRoom before (cond {A = Shape} b (shape_of t) (integer_shape t))
+room_if before fixed t true e = room_of before (shape_of t) (and_right fixed (registers_suffice before (shape_of t)) e)
+room_if before fixed t false e = integer_room before t
+
+pub passed_has_room : (before : Used) (fixed : Bool) (t : Tree) → HasRoom before (passed_as before fixed t)
+passed_has_room before fixed t = room_if before fixed t (fixed && registers_suffice before (shape_of t)) refl
+
+few_words : (n : ℕ) (ls : List Leaf) (shape : Shape) → Suits n ls shape → words_of shape ≤ 2
+few_words n ls OneF h = omega arith
+few_words n ls TwoF h = omega arith
+few_words n ls FI h = omega arith
+few_words n ls IF h = omega arith
+few_words n ls (Words count) h = omega (arith, h.0, h.1)
+few_words n ls ByRef h = omega arith
+
+pub passed_few : (before : Used) (fixed : Bool) (t : Tree) → words_of (passed_as before fixed t) ≤ 2
+passed_few before fixed t = few_words (size_of t) (leaves_of t) (passed_as before fixed t) (passed_suits before fixed t)
+
+pub floats_room : (before : Used) (shape : Shape) → before.floats ≤ 8 → HasRoom before shape → before.floats + floats_of shape ≤ 8
+floats_room before OneF few h = h
+floats_room before TwoF few h = h
+floats_room before FI few h = h.0
+floats_room before IF few h = h.0
+floats_room before (Words n) few h = omega (arith, few)
+floats_room before ByRef few h = omega (arith, few)

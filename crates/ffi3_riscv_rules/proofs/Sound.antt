@@ -1,0 +1,245 @@
+-- The places of a signature are a chain, so no two share a register or a byte of stack; and they have all of the values, which they therefore determine.
+use Rattle.std.proofs.Common.{◌≡◌, ℕ, zero, suc, ◌+◌, ◌-◌, ◌*◌, ◌≤◌, Bool, true, false, cond, ltb, List, [], ◌∷◌, ◌++◌, subst, refl, arith}
+use Rattle.std.specs.Prelude.{Option}
+use Rattle.std.specs.List.{AllByRecursion, flat_map}
+use Rattle.std.proofs.lemmas.Bool.{ltb-true, ltb-false}
+use Rattle.ffi3_type_rules.specs.Tree.{Tree, void, scalar, left_out, structure}
+use Rattle.ffi3_type_rules.specs.Signature.{Signature}
+use Rattle.ffi3_type_rules.proofs.Layouts.{least_multiple-above}
+use Rattle.ffi3_place_rules.specs.declared.Loc.{Loc}
+use Rattle.ffi3_place_rules.specs.declared.Loc.TheVariants.{G, F, S}
+use Rattle.ffi3_place_rules.specs.declared.Taken.{Taken}
+use Rattle.ffi3_place_rules.specs.Standard.{plan_of, copy_bytes, place_at, places_from, result_at, copies_start, buffer_start, frame_of}
+use Rattle.ffi3_place_rules.specs.Sound.{AreApart, piece_locs, place_locs, hidden_locs, result_locs, argument_locs, IsNoneOf, LiesIn, copy_locs, buffer_locs, call_locs, no_argument, no_result as not_for_results, PlaceHasAll, ResultHasAll, IsSound, IsDetermined}
+use Rattle.ffi3_place_rules.proofs.Chain.{AtMost, at_most_self, From, Until, Chain, chain_append, chain_apart, chain_allowed, chain_lies_in}
+use Rattle.ffi3_place_rules.proofs.Determines.{determined}
+use Rattle.ffi3_riscv_rules.specs.declared.Shape.{Shape}
+use Rattle.ffi3_riscv_rules.specs.declared.Shape.TheVariants.{OneF, TwoF, FI, IF, Words, ByRef}
+use Rattle.ffi3_riscv_rules.specs.declared.Used.{Used}
+use Rattle.ffi3_riscv_rules.specs.Riscv.{riscv, argument_register, floating_register, word, words_of, word_pieces, spot_of, passed_as, is_fixed, used_with, used_after, used_at_first, used_by_all, unused, spots_after, result_shape, result_from, result_spot_of, is_by_reference, placing_of}
+use Rattle.ffi3_riscv_rules.proofs.Copies.{up_to, copies_chain, buffer_chain}
+use Rattle.ffi3_riscv_rules.proofs.Shapes.{HasRoom, passed_has_room, passed_few, passed_suits}
+use Rattle.ffi3_riscv_rules.proofs.Covered.{spot_has_all, arguments_have_all}
+use Rattle.ffi3_riscv_rules.proofs.Registers.{all_registers, argument_small, floating_small, argument_allowed, floating_allowed, stack_allowed, result_allowed_general, result_allowed_floating, result_allowed_stack}
+
+-- what so many words and floating registers take
+abbrev taken_of : ℕ → ℕ → Taken
+taken_of w f = record { general = w; vector = f; stack = 8 * (w - 8) }
+
+abbrev taken : Used → Taken
+taken used = taken_of used.words used.floats
+
+abbrev WordsChain : Taken → List Loc → Taken → Type 0
+WordsChain = Chain argument_register floating_register 8 8
+
+abbrev IsFrom : Taken → Loc → Type 0
+IsFrom = From argument_register floating_register 8 8
+
+abbrev IsUntil : Taken → Loc → Type 0
+IsUntil = Until argument_register floating_register 8 8
+
+more_words : (w v f g : ℕ) → w ≤ v → f ≤ g → AtMost (taken_of w f) (taken_of v g)
+more_words w v f g h k = record { general = h; vector = k; stack = omega (arith, h) }
+
+-- ---- the stream of words
+
+word_from_if : (w f : ℕ) (b : Bool) → ltb w 8 ≡ b → IsFrom (taken_of w f) (cond {A = Loc} b (G (argument_register w)) (S (8 * (w - 8))))
+word_from_if w f true e = (w, refl, omega arith, ltb-true w 8 e)
+word_from_if w f false e = omega arith
+
+word_from : (w f : ℕ) → IsFrom (taken_of w f) (word w)
+word_from w f = word_from_if w f (ltb w 8) refl
+
+word_until_if : (w f : ℕ) (b : Bool) → ltb w 8 ≡ b → IsUntil (taken_of (w + 1) f) (cond {A = Loc} b (G (argument_register w)) (S (8 * (w - 8))))
+word_until_if w f true e = (w, refl, omega arith)
+word_until_if w f false e = omega (arith, ltb-false w 8 e)
+
+word_until : (w f : ℕ) → IsUntil (taken_of (w + 1) f) (word w)
+word_until w f = word_until_if w f (ltb w 8) refl
+
+words_chain : (w f : ℕ) (t : Tree) (j count : ℕ) → WordsChain (taken_of (w + j) f) (piece_locs (word_pieces w t j count)) (taken_of (w + (j + count)) f)
+words_chain w f t j zero = more_words (w + j) (w + (j + 0)) f f (omega arith) (omega arith)
+words_chain w f t j (suc count) =
+    let next : w + j + 1 ≡ w + (j + 1) = omega arith in
+    let end : w + (j + 1 + count) ≡ w + (j + suc count) = omega arith in (
+      taken_of (w + (j + 1)) f,
+      word_from (w + j) f,
+      subst (λ n. IsUntil (taken_of n f) (word (w + j))) next (word_until (w + j) f),
+      more_words (w + j) (w + (j + 1)) f f (omega arith) (omega arith),
+      subst (λ n. WordsChain (taken_of (w + (j + 1)) f) (piece_locs (word_pieces w t (j + 1) count)) (taken_of n f)) end (words_chain w f t (j + 1) count),
+    )
+
+-- ---- one value
+
+floating_first : (w f : ℕ) (ls : List Loc) (b : Taken) → f + 1 ≤ 8 → WordsChain (taken_of w (f + 1)) ls b → WordsChain (taken_of w f) (F (floating_register f) ∷ ls) b
+floating_first w f ls b room rest = (
+  taken_of w (f + 1),
+  (f, refl, omega arith, omega (arith, room)),
+  (f, refl, omega arith),
+  more_words w w f (f + 1) (omega arith) (omega arith),
+  rest,
+)
+
+general_first : (w f : ℕ) (ls : List Loc) (b : Taken) → w + 1 ≤ 8 → WordsChain (taken_of (w + 1) f) ls b → WordsChain (taken_of w f) (G (argument_register w) ∷ ls) b
+general_first w f ls b room rest = (
+  taken_of (w + 1) f,
+  (w, refl, omega arith, omega (arith, room)),
+  (w, refl, omega arith),
+  more_words w (w + 1) f f (omega arith) (omega arith),
+  rest,
+)
+
+spot_chain : (copy : ℕ) (before : Used) (t : Tree) (shape : Shape) → HasRoom before shape → WordsChain (taken before) (place_locs (place_at copy (spot_of before t shape))) (taken (used_with before shape))
+spot_chain copy before t OneF room =
+    floating_first before.words before.floats [] _ room (more_words before.words (before.words + 0) (before.floats + 1) (before.floats + 1) (omega arith) (omega arith))
+spot_chain copy before t TwoF room =
+    floating_first before.words before.floats (F (floating_register (before.floats + 1)) ∷ []) (taken_of (before.words + 0) (before.floats + 2)) (omega (arith, room))
+    (floating_first before.words (before.floats + 1) [] _ (omega (arith, room))
+    (more_words before.words (before.words + 0) (before.floats + 1 + 1) (before.floats + 2) (omega arith) (omega arith)))
+spot_chain copy before t FI room =
+    floating_first before.words before.floats (G (argument_register before.words) ∷ []) (taken_of (before.words + 1) (before.floats + 1)) room.0
+    (general_first before.words (before.floats + 1) [] _ room.1
+    (more_words (before.words + 1) (before.words + 1) (before.floats + 1) (before.floats + 1) (omega arith) (omega arith)))
+spot_chain copy before t IF room =
+    general_first before.words before.floats (F (floating_register before.floats) ∷ []) (taken_of (before.words + 1) (before.floats + 1)) room.1
+    (floating_first (before.words + 1) before.floats [] _ room.0
+    (more_words (before.words + 1) (before.words + 1) (before.floats + 1) (before.floats + 1) (omega arith) (omega arith)))
+spot_chain copy before t (Words n) room =
+    let start : before.words + 0 ≡ before.words = omega arith in
+    let end : before.words + (0 + n) ≡ before.words + n = omega arith in
+    let floats : before.floats ≡ before.floats + 0 = omega arith in
+    let pieces = words_chain before.words before.floats t 0 n in
+    let from_start = subst (λ w. WordsChain (taken_of w before.floats) (piece_locs (word_pieces before.words t 0 n)) (taken_of (before.words + (0 + n)) before.floats)) start pieces in
+    let to_end = subst (λ w. WordsChain (taken before) (piece_locs (word_pieces before.words t 0 n)) (taken_of w before.floats)) end from_start in
+    subst (λ f. WordsChain (taken before) (piece_locs (word_pieces before.words t 0 n)) (taken_of (before.words + n) f)) floats to_end
+spot_chain copy before t ByRef room = (
+  taken_of (before.words + 1) before.floats,
+  word_from before.words before.floats,
+  word_until before.words before.floats,
+  more_words before.words (before.words + 1) before.floats before.floats (omega arith) (omega arith),
+  more_words (before.words + 1) (before.words + 1) before.floats (before.floats + 0) (omega arith) (omega arith),
+)
+
+places_chain : (copy : ℕ) (fixed : Option ℕ) (before : Used) (i : ℕ) (ts : List Tree) → WordsChain (taken before) (flat_map place_locs (places_from copy ts (spots_after fixed before i ts))) (taken (used_after fixed before i ts))
+places_chain copy fixed before i [] = at_most_self (taken before)
+places_chain copy fixed before i (t ∷ ts) =
+    let shape = passed_as before (is_fixed fixed i) t in
+    chain_append argument_register floating_register 8 8 (taken before) (place_locs (place_at copy (spot_of before t shape))) (taken (used_with before shape)) _ _
+    (spot_chain copy before t shape (passed_has_room before (is_fixed fixed i) t)) (places_chain (copy + copy_bytes t (spot_of before t shape)) fixed (used_with before shape) (i + 1) ts)
+
+-- ---- the whole signature
+
+abbrev first_used : Shape → Used
+first_used shape = record { words = cond (is_by_reference shape) 1 0; floats = 0 }
+
+hidden_of : (t : Tree) (buffer : ℕ) (shape : Shape) → WordsChain (taken unused) (hidden_locs (result_at buffer (result_from (spot_of unused t shape)))) (taken (first_used shape))
+hidden_of t buffer OneF = at_most_self (taken unused)
+hidden_of t buffer TwoF = at_most_self (taken unused)
+hidden_of t buffer FI = at_most_self (taken unused)
+hidden_of t buffer IF = at_most_self (taken unused)
+hidden_of t buffer (Words n) = at_most_self (taken unused)
+hidden_of t buffer ByRef = general_first 0 0 [] (taken_of 1 0) (omega arith) (at_most_self (taken_of 1 0))
+
+hidden_chain : (t : Tree) (buffer : ℕ) → WordsChain (taken unused) (hidden_locs (result_at buffer (result_spot_of t))) (taken (used_at_first t))
+hidden_chain void buffer = at_most_self (taken unused)
+hidden_chain (scalar s) buffer = hidden_of (scalar s) buffer (result_shape (scalar s))
+hidden_chain (left_out k) buffer = hidden_of (left_out k) buffer (result_shape (left_out k))
+hidden_chain (structure ts) buffer = hidden_of (structure ts) buffer (result_shape (structure ts))
+
+plan_chain : (s : Signature) → WordsChain (taken unused) (argument_locs (plan_of riscv s)) (taken (used_by_all s))
+plan_chain s =
+    chain_append argument_register floating_register 8 8 (taken unused) (hidden_locs (plan_of riscv s).res) (taken (used_at_first s.result_type)) _ _
+    (hidden_chain s.result_type (buffer_start s (placing_of s))) (places_chain (copies_start (placing_of s)) s.fixed (used_at_first s.result_type) 0 s.arguments)
+
+plan_allowed : (s : Signature) → AllByRecursion (IsNoneOf (no_argument riscv)) (argument_locs (plan_of riscv s))
+plan_allowed s =
+    chain_allowed argument_register floating_register 8 8 (no_argument riscv) argument_allowed floating_allowed stack_allowed (taken unused) _ _ (plan_chain s)
+
+plan_lies_in : (s : Signature) → AllByRecursion (LiesIn (placing_of s).stack_bytes) (argument_locs (plan_of riscv s))
+plan_lies_in s =
+    chain_lies_in argument_register floating_register 8 8 argument_small floating_small (taken unused) _ _ (placing_of s).stack_bytes (omega arith) (plan_chain s)
+
+-- ---- the frame
+
+abbrev framed : Signature → Taken
+framed s = up_to (taken (used_by_all s)) (frame_of riscv s)
+
+memory_chain : (s : Signature) → WordsChain (taken (used_by_all s)) (copy_locs s.arguments (plan_of riscv s).places ++ buffer_locs s.result_type (plan_of riscv s).res) (framed s)
+memory_chain s =
+    let all = taken (used_by_all s) in
+    let copied = up_to all (buffer_start s (placing_of s)) in
+    chain_append argument_register floating_register 8 8 all (copy_locs s.arguments (plan_of riscv s).places) copied _ (framed s)
+    (copies_chain argument_register floating_register 8 8 all (copies_start (placing_of s)) s.arguments (placing_of s).arguments (least_multiple-above 16 (placing_of s).stack_bytes))
+    (buffer_chain argument_register floating_register 8 8 copied s.result_type (buffer_start s (placing_of s)) (result_spot_of s.result_type) (omega arith))
+
+call_chain : (s : Signature) → WordsChain (taken unused) (call_locs s (plan_of riscv s)) (framed s)
+call_chain s =
+    chain_append argument_register floating_register 8 8 (taken unused) (argument_locs (plan_of riscv s)) (taken (used_by_all s)) _ (framed s) (plan_chain s) (memory_chain s)
+
+plan_apart : (s : Signature) → AreApart (call_locs s (plan_of riscv s))
+plan_apart s = chain_apart argument_register floating_register 8 8 all_registers (taken unused) _ _ (call_chain s)
+
+plan_in_frame : (s : Signature) → AllByRecursion (LiesIn (frame_of riscv s)) (call_locs s (plan_of riscv s))
+plan_in_frame s =
+    chain_lies_in argument_register floating_register 8 8 argument_small floating_small (taken unused) _ (framed s) (frame_of riscv s) (omega arith) (call_chain s)
+
+-- ---- the result
+
+-- what holds of the places that a first fixed argument would have, holds of the result's
+result_of : (P : List Loc → Type 0) → P [] → (t : Tree) (buffer : ℕ) (shape : Shape) → P (place_locs (place_at 0 (spot_of unused t shape))) → P (result_locs (result_at buffer (result_from (spot_of unused t shape))))
+result_of P none t buffer OneF h = h
+result_of P none t buffer TwoF h = h
+result_of P none t buffer FI h = h
+result_of P none t buffer IF h = h
+result_of P none t buffer (Words n) h = h
+result_of P none t buffer ByRef h = none
+
+result_cases : (P : List Loc → Type 0) → P [] → (t : Tree) (buffer : ℕ) → P (place_locs (place_at 0 (spot_of unused t (result_shape t)))) → P (result_locs (result_at buffer (result_spot_of t)))
+result_cases P none void buffer h = none
+result_cases P none (scalar s) buffer h = result_of P none (scalar s) buffer (result_shape (scalar s)) h
+result_cases P none (left_out k) buffer h = result_of P none (left_out k) buffer (result_shape (left_out k)) h
+result_cases P none (structure ts) buffer h =
+    result_of P none (structure ts) buffer (result_shape (structure ts)) h
+
+result_chain : (t : Tree) → WordsChain (taken unused) (place_locs (place_at 0 (spot_of unused t (result_shape t)))) (taken (used_with unused (result_shape t)))
+result_chain t = spot_chain 0 unused t (result_shape t) (passed_has_room unused true t)
+
+no_stack : (w : ℕ) → w ≤ 2 → 8 * (0 + w - 8) ≤ 0
+no_stack w h = omega (arith, h)
+
+all_of : (t : Tree) (buffer : ℕ) (shape : Shape) → PlaceHasAll t (place_at 0 (spot_of unused t shape)) → ResultHasAll t (result_at buffer (result_from (spot_of unused t shape)))
+all_of t buffer OneF h = h
+all_of t buffer TwoF h = h
+all_of t buffer FI h = h
+all_of t buffer IF h = h
+all_of t buffer (Words n) h = h
+all_of t buffer ByRef h = tt
+
+result_place : (t : Tree) → PlaceHasAll t (place_at 0 (spot_of unused t (result_shape t)))
+result_place t = spot_has_all 0 unused t (result_shape t) (passed_suits unused true t)
+
+result_has_all : (t : Tree) (buffer : ℕ) → ResultHasAll t (result_at buffer (result_spot_of t))
+result_has_all void buffer = refl
+result_has_all (scalar s) buffer = all_of (scalar s) buffer (result_shape (scalar s)) (result_place (scalar s))
+result_has_all (left_out k) buffer = all_of (left_out k) buffer (result_shape (left_out k)) (result_place (left_out k))
+result_has_all (structure ts) buffer =
+    all_of (structure ts) buffer (result_shape (structure ts)) (result_place (structure ts))
+
+-- every law of the places
+pub sound : (s : Signature) → IsSound riscv s
+sound s =
+    let buffer = buffer_start s (placing_of s) in
+    record {
+      apart = plan_apart s;
+      in_frame = plan_in_frame s;
+      on_stack = plan_lies_in s;
+      allowed = plan_allowed s;
+      has_all = arguments_have_all (copies_start (placing_of s)) s.fixed (used_at_first s.result_type) 0 s.arguments;
+      result_apart = result_cases AreApart tt s.result_type buffer (chain_apart argument_register floating_register 8 8 all_registers (taken unused) _ _ (result_chain s.result_type));
+      result_in_registers = result_cases (AllByRecursion (LiesIn 0)) tt s.result_type buffer (chain_lies_in argument_register floating_register 8 8 argument_small floating_small (taken unused) _ _ 0 (no_stack (words_of (result_shape s.result_type)) (passed_few unused true s.result_type)) (result_chain s.result_type));
+      result_allowed = result_cases (AllByRecursion (IsNoneOf (not_for_results riscv))) tt s.result_type buffer (chain_allowed argument_register floating_register 8 8 (not_for_results riscv) result_allowed_general result_allowed_floating result_allowed_stack (taken unused) _ _ (result_chain s.result_type));
+      result_has_all = result_has_all s.result_type buffer;
+    }
+
+pub determines : (s : Signature) → IsDetermined riscv s
+determines s = determined riscv s (sound s).has_all (sound s).result_has_all

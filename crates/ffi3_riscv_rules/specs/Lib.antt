@@ -1,0 +1,2 @@
+pub mod Riscv
+pub mod Sums
