@@ -114,16 +114,23 @@ fn write_pieces(
     ensures { OnOk result (text.new ≡ text.old ++ pieces_text target pieces.now) }
 {
     write_registers(alloc, target, pieces, text)?;
+    write_on_stack(alloc, target, pieces, text)
+}
+
+fn write_on_stack(
+    alloc: Global,
+    target: Target,
+    pieces: &Pieces,
+    text: &mut Bytes,
+) -> Result<(), NoMemory>
+    ensures { OnOk result (text.new ≡ text.old ++ stack_text target (first_on_stack pieces.now) (bytes_on_stack pieces.now)) }
+{
     match first_on_stack(pieces) {
         None => Ok(()),
-        Some(piece) => write_piece(
-            alloc,
-            target,
-            piece.loc,
-            piece.off,
-            bytes_on_stack(pieces),
-            text,
-        ),
+        Some(piece) => {
+            let len = bytes_on_stack(pieces);
+            write_piece(alloc, target, piece.loc, piece.off, len, text)
+        }
     }
 }
 
