@@ -1,0 +1,161 @@
+-- Worked lines, computed.
+use Rattle.std.specs.Prelude.{◌≡◌, ℕ, List, [], ◌∷◌, ◌++◌, refl, None, Some, codes}
+use Rattle.std.specs.Fmt.{digits}
+use Rattle.ffi3_type_rules.specs.declared.Target.TheVariants.{Aapcs64, Riscv}
+use Rattle.ffi3_type_rules.specs.Tree.{Tree, void, scalar, struct_of, u8, s8, u16, s16, u32, s32, u64, s64, float, double, pointer}
+use Rattle.ffi3_type_rules.specs.Layout.{least_multiple}
+use Rattle.ffi3_type_rules.specs.Signature.{Signature, at_result, at_argument}
+use Rattle.ffi3_place_rules.specs.declared.Loc.{Loc}
+use Rattle.ffi3_place_rules.specs.declared.Loc.TheVariants.{G, F, S}
+use Rattle.ffi3_place_rules.specs.declared.Ext.TheVariants.{Free}
+use Rattle.ffi3_place_rules.specs.declared.Piece.{Piece}
+use Rattle.ffi3_place_rules.specs.declared.Place.TheVariants.{Direct, ByRef}
+use Rattle.ffi3_place_rules.specs.declared.Res.TheVariants.{Hidden}
+use Rattle.ffi3_amd64_rules.specs.Amd64.{amd64}
+use Rattle.ffi3_text.specs.LayoutLines.{layout_text_of}
+use Rattle.ffi3_text.specs.PlaceLines.{argument_text, result_text, place_text_of, sig_text_of}
+
+abbrev sig_of : Tree → List Tree → Signature
+sig_of r a = record { result_type = r; arguments = a; fixed = None }
+
+abbrev a_line : List ℕ → List ℕ
+a_line text = text ++ 10 ∷ []
+
+abbrev piece : Loc → ℕ → ℕ → Piece
+piece at off len = record { loc = at; off = off; len = len; ext = Free }
+
+-- ---- layouts
+
+pub padded : layout_text_of 0 (sig_of void (struct_of (scalar u8 ∷ scalar u32 ∷ scalar u16 ∷ []) ∷ [])) (at_argument 0) ≡ a_line (codes "sig 0 arg 0 struct{uint8,uint32,uint16} size 12 align 4 leaves 0:uint8 4:uint32 8:uint16")
+unfolding least_multiple digits
+padded = refl
+
+pub nested : layout_text_of 0 (sig_of void (struct_of (scalar s8 ∷ struct_of (scalar s16 ∷ scalar double ∷ []) ∷ scalar float ∷ []) ∷ [])) (at_argument 0) ≡ a_line (codes "sig 0 arg 0 struct{sint8,struct{sint16,double},float} size 32 align 8 leaves 0:sint8 8:sint16 16:double 24:float")
+unfolding least_multiple digits
+nested = refl
+
+pub void_result : layout_text_of 12 (sig_of void []) at_result ≡ a_line (codes "sig 12 ret void")
+unfolding least_multiple digits
+void_result = refl
+
+-- a scalar has one leaf
+pub scalar_result : layout_text_of 0 (sig_of (scalar s32) []) at_result ≡ a_line (codes "sig 0 ret sint32 size 4 align 4 leaves 0:sint32")
+unfolding least_multiple digits
+scalar_result = refl
+
+-- ---- places on AMD64
+
+abbrev integer_and_float : Signature
+integer_and_float = sig_of void (struct_of (scalar s32 ∷ scalar float ∷ []) ∷ [])
+
+pub one_eightbyte-sig : sig_text_of 0 amd64 integer_and_float ≡ a_line (codes "sig 0 need 80 frame 0 block 16 rax 0")
+unfolding least_multiple digits
+one_eightbyte-sig = refl
+
+pub one_eightbyte-argument : place_text_of amd64 integer_and_float (at_argument 0) ≡ a_line (codes "arg 0 rdi:0+8")
+unfolding least_multiple digits
+one_eightbyte-argument = refl
+
+pub one_eightbyte-result : place_text_of amd64 integer_and_float at_result ≡ a_line (codes "ret void")
+unfolding least_multiple digits
+one_eightbyte-result = refl
+
+-- five sint64, a struct of two and a sint64: the struct goes whole to the stack
+abbrev integer : Tree
+integer = scalar s64
+
+abbrev pair : Tree
+pair = struct_of (integer ∷ integer ∷ [])
+
+abbrev pair_after_five : Signature
+pair_after_five =
+    sig_of void (integer ∷ integer ∷ integer ∷ integer ∷ integer ∷ pair ∷ integer ∷ [])
+
+pub pair_after_five-sig : sig_text_of 0 amd64 pair_after_five ≡ a_line (codes "sig 0 need 144 frame 16 block 64 rax 0")
+unfolding least_multiple digits
+pair_after_five-sig = refl
+
+pub pair_after_five-last : place_text_of amd64 pair_after_five (at_argument 4) ≡ a_line (codes "arg 4 r8:0+8")
+unfolding least_multiple digits
+pair_after_five-last = refl
+
+pub pair_after_five-pair : place_text_of amd64 pair_after_five (at_argument 5) ≡ a_line (codes "arg 5 stack0:0+16")
+unfolding least_multiple digits
+pair_after_five-pair = refl
+
+pub pair_after_five-next : place_text_of amd64 pair_after_five (at_argument 6) ≡ a_line (codes "arg 6 r9:0+8")
+unfolding least_multiple digits
+pair_after_five-next = refl
+
+-- a struct over two eightbytes: in the caller's buffer as a result, on the stack as an argument
+abbrev triple : Tree
+triple = struct_of (scalar u64 ∷ scalar u64 ∷ scalar u64 ∷ [])
+
+pub hidden-sig : sig_text_of 0 amd64 (sig_of triple []) ≡ a_line (codes "sig 0 need 96 frame 32 block 0 rax 0")
+unfolding least_multiple digits
+hidden-sig = refl
+
+pub hidden-result : place_text_of amd64 (sig_of triple []) at_result ≡ a_line (codes "ret hidden rdi buffer 0")
+unfolding least_multiple digits
+hidden-result = refl
+
+pub in_memory-sig : sig_text_of 0 amd64 (sig_of void (triple ∷ scalar s8 ∷ [])) ≡ a_line (codes "sig 0 need 128 frame 32 block 32 rax 0")
+unfolding least_multiple digits
+in_memory-sig = refl
+
+pub in_memory-first : place_text_of amd64 (sig_of void (triple ∷ scalar s8 ∷ [])) (at_argument 0) ≡ a_line (codes "arg 0 stack0:0+24")
+unfolding least_multiple digits
+in_memory-first = refl
+
+pub in_memory-second : place_text_of amd64 (sig_of void (triple ∷ scalar s8 ∷ [])) (at_argument 1) ≡ a_line (codes "arg 1 rdi:0+1")
+unfolding least_multiple digits
+in_memory-second = refl
+
+-- sint32(pointer;double)
+abbrev variadic : Signature
+variadic =
+    record { result_type = scalar s32; arguments = scalar pointer ∷ scalar double ∷ []; fixed = Some 1 }
+
+pub variadic-sig : sig_text_of 0 amd64 variadic ≡ a_line (codes "sig 0 need 80 frame 0 block 16 rax 1")
+unfolding least_multiple digits
+variadic-sig = refl
+
+pub variadic-second : place_text_of amd64 variadic (at_argument 1) ≡ a_line (codes "arg 1 xmm0:0+8")
+unfolding least_multiple digits
+variadic-second = refl
+
+pub variadic-result : place_text_of amd64 variadic at_result ≡ a_line (codes "ret rax:0+4")
+unfolding least_multiple digits
+variadic-result = refl
+
+-- ---- forms that the other standards have
+
+pub by_reference : argument_text Aapcs64 (ByRef (G 0) 32) ≡ codes " ref x0 copy 32"
+unfolding digits
+by_reference = refl
+
+pub by_reference_on_stack : argument_text Riscv (ByRef (S 8) 16) ≡ codes " ref stack8 copy 16"
+unfolding digits
+by_reference_on_stack = refl
+
+pub hidden_in_x8 : result_text Aapcs64 (Hidden (G 8) 0) ≡ codes " hidden x8 buffer 0"
+unfolding digits
+hidden_in_x8 = refl
+
+-- in a register and on the stack
+pub half_on_stack : argument_text Riscv (Direct (piece (G 17) 0 8 ∷ piece (S 0) 8 8 ∷ [])) ≡ codes " a7:0+8 stack0:8+8"
+unfolding digits
+half_on_stack = refl
+
+-- the end's padding is not told
+pub five_floats : argument_text Riscv (Direct (piece (S 0) 0 8 ∷ piece (S 8) 8 8 ∷ piece (S 16) 16 4 ∷ [])) ≡ codes " stack0:0+20"
+unfolding digits
+five_floats = refl
+
+pub integer_and_floating : argument_text Riscv (Direct (piece (G 10) 0 4 ∷ piece (F 10) 4 4 ∷ [])) ≡ codes " a0:0+4 fa0:4+4"
+unfolding digits
+integer_and_floating = refl
+
+pub four_floats : argument_text Aapcs64 (Direct (piece (F 0) 0 4 ∷ piece (F 1) 4 4 ∷ piece (F 2) 8 4 ∷ piece (F 3) 12 4 ∷ [])) ≡ codes " v0:0+4 v1:4+4 v2:8+4 v3:12+4"
+unfolding digits
+four_floats = refl

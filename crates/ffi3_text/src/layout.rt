@@ -1,0 +1,81 @@
+// Lines of layout.
+ghost use Rattle.std.specs.Prelude.{◌≡◌, ◌<◌, ◌++◌, IfOk, OnOk, length, true};
+ghost use Rattle.ffi3_type_rules.specs.Fault.{HasNoFault};
+ghost use Rattle.ffi3_type_rules.specs.Signature.{SignatureHasNoFault, at_result, at_argument};
+ghost use Rattle.ffi3_types.specs.TreeOf.{tree_of};
+ghost use Rattle.ffi3_types.specs.SignatureFaultOf.{position_of};
+ghost use Rattle.ffi3_text.specs.LayoutLines.{IsIn, at_text, sized_text, type_layout_text, layout_text_of};
+
+use ffi3_types::{At, Bytes, FfiType, Leaf, NoMemory, Sig, type_text};
+use std::alloc::Global;
+
+/// The layout of the result or an argument of signature number `sig_number`, as
+/// `sig 0 arg 0 struct{uint8,uint32} size 8 align 4 leaves 0:uint8 4:uint32` with a newline.
+pub fn layout_line(alloc: Global, sig_number: u32, sig: &Sig, at: At) -> Result<Bytes, NoMemory>
+    requires faultless { SignatureHasNoFault sig.now }
+    requires there { IsIn sig.now (position_of at) }
+    ensures { IfOk result (λ text. text ≡ layout_text_of sig_number sig.now (position_of at)) }
+{
+    match at {
+        At::Ret => result_line(alloc, sig_number, sig),
+        At::Arg(i) => argument_line(alloc, sig_number, sig, i),
+    }
+}
+
+fn result_line(alloc: Global, sig_number: u32, sig: &Sig) -> Result<Bytes, NoMemory>
+    requires { SignatureHasNoFault sig.now }
+    ensures { IfOk result (λ text. text ≡ layout_text_of sig_number sig.now at_result) }
+{
+    let start = format!(in alloc; "sig {sig_number} ret ")?;
+    let mut text = Bytes::from_slice(alloc, start.as_bytes())?;
+    write_type(alloc, sig.ret(), &mut text)?;
+    text.push(b'\n')?;
+    Ok(text)
+}
+
+fn argument_line(alloc: Global, sig_number: u32, sig: &Sig, i: u32) -> Result<Bytes, NoMemory>
+    requires faultless { SignatureHasNoFault sig.now }
+    requires there { i < length sig.now.arguments }
+    ensures { IfOk result (λ text. text ≡ layout_text_of sig_number sig.now (at_argument i)) }
+{
+    let start = format!(in alloc; "sig {sig_number} arg {i} ")?;
+    let mut text = Bytes::from_slice(alloc, start.as_bytes())?;
+    write_type(alloc, sig.arg(i), &mut text)?;
+    text.push(b'\n')?;
+    Ok(text)
+}
+
+/// The type and its layout at the end of a text.
+fn write_type(alloc: Global, ty: &FfiType, text: &mut Bytes) -> Result<(), NoMemory>
+    requires { HasNoFault 0 true (tree_of ty.now) }
+    ensures { OnOk result (text.new ≡ text.old ++ type_layout_text (tree_of ty.now)) }
+{
+    text.extend(type_text(alloc, ty)?.as_slice())?;
+    match ty {
+        FfiType::Void => Ok(()),
+        _ => write_layout(alloc, ty, text),
+    }
+}
+
+/// Size, alignment and leaves.
+fn write_layout(alloc: Global, ty: &FfiType, text: &mut Bytes) -> Result<(), NoMemory>
+    requires { HasNoFault 0 true (tree_of ty.now) }
+    ensures { OnOk result (text.new ≡ text.old ++ sized_text (tree_of ty.now)) }
+{
+    let size = ty.size();
+    let align = ty.align();
+    text.extend(format!(in alloc; " size {size} align {align} leaves")?.as_bytes())?;
+    for i in 0..ty.leaf_count() {
+        write_leaf(alloc, &ty.leaf(i), text)?;
+    }
+    Ok(())
+}
+
+fn write_leaf(alloc: Global, leaf: &Leaf, text: &mut Bytes) -> Result<(), NoMemory>
+    requires { HasNoFault 0 true (tree_of leaf.now.kind) }
+    ensures { OnOk result (text.new ≡ text.old ++ at_text leaf.now.at (tree_of leaf.now.kind)) }
+{
+    let at = leaf.at;
+    text.extend(format!(in alloc; " {at}:")?.as_bytes())?;
+    text.extend(type_text(alloc, &leaf.kind)?.as_slice())
+}

@@ -1,0 +1,215 @@
+// Lines of place.
+ghost use Rattle.std.specs.Prelude.{◌≡◌, ◌<◌, ◌++◌, IfOk, OnOk, length};
+ghost use Rattle.ffi3_type_rules.specs.Signature.{at_result, at_argument};
+ghost use Rattle.ffi3_types.specs.SignatureFaultOf.{position_of};
+ghost use Rattle.ffi3_text.specs.LayoutLines.{IsIn};
+ghost use Rattle.ffi3_text.specs.PlaceLines.{is_on_stack, piece_text, register_piece_text, register_texts, first_on_stack, stack_length, bytes_on_stack, stack_text, pieces_text, argument_text, result_text, place_text_of, vectors_text, sig_text_of};
+
+use crate::names::write_loc;
+use ffi3_cif::Cif;
+use ffi3_place::{Abi, Loc, Piece, Pieces, Place, Res};
+use ffi3_types::{At, Bytes, NoMemory, Target};
+use std::alloc::Global;
+
+/// The bytes of stack that a call takes, as `sig 0 need 80 frame 0 block 16` with a newline; on
+/// AMD64 followed by ` rax 1`, the number of vector registers that arguments use.
+pub fn sig_line<A: Abi>(alloc: Global, sig_number: u32, cif: &Cif<A>) -> Result<Bytes, NoMemory>
+    ensures { IfOk result (λ text. text ≡ sig_text_of sig_number A.standard cif.now) }
+{
+    let need = cif.need();
+    let frame = cif.frame();
+    let block = cif.block();
+    let start = format!(in alloc; "sig {sig_number} need {need} frame {frame} block {block}")?;
+    let mut text = Bytes::from_slice(alloc, start.as_bytes())?;
+    write_vectors(alloc, A::TARGET, cif.vectors(), &mut text)?;
+    text.push(b'\n')?;
+    Ok(text)
+}
+
+fn write_vectors(
+    alloc: Global,
+    target: Target,
+    vectors: u8,
+    text: &mut Bytes,
+) -> Result<(), NoMemory>
+    ensures { OnOk result (text.new ≡ text.old ++ vectors_text target vectors) }
+{
+    match target {
+        Target::Amd64 => text.extend(format!(in alloc; " rax {vectors}")?.as_bytes()),
+        Target::Aapcs64 | Target::Riscv => Ok(()),
+    }
+}
+
+/// Where the result or an argument stands, as `arg 1 xmm0:0+8 rdi:8+8`, `arg 0 ref x0 copy 0` or
+/// `ret hidden rdi buffer 0`, with a newline.
+pub fn place_line<A: Abi>(alloc: Global, cif: &Cif<A>, at: At) -> Result<Bytes, NoMemory>
+    requires { IsIn cif.now (position_of at) }
+    ensures { IfOk result (λ text. text ≡ place_text_of A.standard cif.now (position_of at)) }
+{
+    match at {
+        At::Ret => result_line(alloc, cif),
+        At::Arg(i) => argument_line(alloc, cif, i),
+    }
+}
+
+fn result_line<A: Abi>(alloc: Global, cif: &Cif<A>) -> Result<Bytes, NoMemory>
+    ensures { IfOk result (λ text. text ≡ place_text_of A.standard cif.now at_result) }
+{
+    let mut text = Bytes::from_slice(alloc, "ret".as_bytes())?;
+    write_result(alloc, A::TARGET, cif.result_place(), &mut text)?;
+    text.push(b'\n')?;
+    Ok(text)
+}
+
+fn argument_line<A: Abi>(alloc: Global, cif: &Cif<A>, i: u32) -> Result<Bytes, NoMemory>
+    requires { i < length cif.now.arguments }
+    ensures { IfOk result (λ text. text ≡ place_text_of A.standard cif.now (at_argument i)) }
+{
+    let start = format!(in alloc; "arg {i}")?;
+    let mut text = Bytes::from_slice(alloc, start.as_bytes())?;
+    write_argument(alloc, A::TARGET, cif.place(i), &mut text)?;
+    text.push(b'\n')?;
+    Ok(text)
+}
+
+fn write_result(alloc: Global, target: Target, res: &Res, text: &mut Bytes) -> Result<(), NoMemory>
+    ensures { OnOk result (text.new ≡ text.old ++ result_text target res.now) }
+{
+    match res {
+        Res::Nothing => text.extend(" void".as_bytes()),
+        Res::Direct(pieces) => write_pieces(alloc, target, pieces, text),
+        Res::Hidden { at, buffer } => {
+            text.extend(" hidden ".as_bytes())?;
+            write_loc(alloc, target, *at, text)?;
+            text.extend(format!(in alloc; " buffer {buffer}")?.as_bytes())
+        }
+    }
+}
+
+fn write_argument(
+    alloc: Global,
+    target: Target,
+    place: &Place,
+    text: &mut Bytes,
+) -> Result<(), NoMemory>
+    ensures { OnOk result (text.new ≡ text.old ++ argument_text target place.now) }
+{
+    match place {
+        Place::Direct(pieces) => write_pieces(alloc, target, pieces, text),
+        Place::ByRef { at, copy } => {
+            text.extend(" ref ".as_bytes())?;
+            write_loc(alloc, target, *at, text)?;
+            text.extend(format!(in alloc; " copy {copy}")?.as_bytes())
+        }
+    }
+}
+
+/// Pieces in registers, and then all that are on the stack as one.
+fn write_pieces(
+    alloc: Global,
+    target: Target,
+    pieces: &Pieces,
+    text: &mut Bytes,
+) -> Result<(), NoMemory>
+    ensures { OnOk result (text.new ≡ text.old ++ pieces_text target pieces.now) }
+{
+    write_registers(alloc, target, pieces, text)?;
+    write_on_stack(alloc, target, pieces, text)
+}
+
+fn write_on_stack(
+    alloc: Global,
+    target: Target,
+    pieces: &Pieces,
+    text: &mut Bytes,
+) -> Result<(), NoMemory>
+    ensures { OnOk result (text.new ≡ text.old ++ stack_text target (first_on_stack pieces.now) (bytes_on_stack pieces.now)) }
+{
+    match first_on_stack(pieces) {
+        None => Ok(()),
+        Some(piece) => {
+            let len = bytes_on_stack(pieces);
+            write_piece(alloc, target, piece.loc, piece.off, len, text)
+        }
+    }
+}
+
+fn write_registers(
+    alloc: Global,
+    target: Target,
+    pieces: &Pieces,
+    text: &mut Bytes,
+) -> Result<(), NoMemory>
+    ensures { OnOk result (text.new ≡ text.old ++ register_texts target pieces.now) }
+{
+    for k in 0..pieces.len() {
+        write_register(alloc, target, *pieces.get(k), text)?;
+    }
+    Ok(())
+}
+
+/// A piece in a register; of one on the stack nothing.
+fn write_register(
+    alloc: Global,
+    target: Target,
+    piece: Piece,
+    text: &mut Bytes,
+) -> Result<(), NoMemory>
+    ensures { OnOk result (text.new ≡ text.old ++ register_piece_text target piece) }
+{
+    if is_on_stack(piece.loc) {
+        return Ok(());
+    }
+    write_piece(alloc, target, piece.loc, piece.off, piece.len as u128, text)
+}
+
+fn write_piece(
+    alloc: Global,
+    target: Target,
+    at: Loc,
+    off: u32,
+    len: u128,
+    text: &mut Bytes,
+) -> Result<(), NoMemory>
+    ensures { OnOk result (text.new ≡ text.old ++ piece_text target at off len) }
+{
+    text.push(b' ')?;
+    write_loc(alloc, target, at, text)?;
+    text.extend(format!(in alloc; ":{off}+{len}")?.as_bytes())
+}
+
+fn is_on_stack(at: Loc) -> bool
+    ensures { result ≡ is_on_stack at }
+{
+    matches!(at, Loc::S(_))
+}
+
+fn first_on_stack(pieces: &Pieces) -> Option<Piece>
+    ensures { result ≡ first_on_stack pieces.now }
+{
+    for k in 0..pieces.len() {
+        let piece = *pieces.get(k);
+        if is_on_stack(piece.loc) {
+            return Some(piece);
+        }
+    }
+    None
+}
+
+/// The sum of any list's lengths has fewer than 128 bits.
+fn bytes_on_stack(pieces: &Pieces) -> u128
+    ensures { result ≡ bytes_on_stack pieces.now }
+{
+    let mut total = 0;
+    for k in 0..pieces.len() {
+        total += stack_length(*pieces.get(k)) as u128;
+    }
+    total
+}
+
+/// The length of a piece on the stack, otherwise 0.
+fn stack_length(piece: Piece) -> u8
+    ensures { result ≡ stack_length piece }
+{
+    if is_on_stack(piece.loc) { piece.len } else { 0 }
+}
