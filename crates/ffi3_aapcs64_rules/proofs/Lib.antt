@@ -1,0 +1,10 @@
+pub mod Doublewords
+pub mod Frame
+pub mod Elements
+pub mod Registers
+pub mod Covered
+pub mod Sound
+pub mod Sums
+pub mod Steps
+pub mod Planned
+mod Rows

@@ -1,0 +1,62 @@
+-- The lists of registers: no register stands twice in one, and none is forbidden.
+use Rattle.std.proofs.Common.{◌≡◌, ℕ, zero, suc, ◌<◌, true, [], ◌∷◌, refl, arith}
+use Rattle.ffi3_place_rules.specs.declared.Loc.TheVariants.{G, F, S}
+use Rattle.ffi3_place_rules.specs.Sound.{IsNoneOf, no_argument, no_result}
+use Rattle.ffi3_place_rules.proofs.Chain.{Registers}
+use Rattle.ffi3_place_rules.proofs.Forbidden.{is_none_of, none_of}
+use Rattle.ffi3_aapcs64_rules.specs.Aapcs64.{aapcs64}
+
+-- x0 and those that follow, and v0 and those that follow
+abbrev pub numbered : ℕ → ℕ
+numbered k = k
+
+-- what holds at the first numbers
+each_of_eight : (P : ℕ → Type 0) → P 0 → P 1 → P 2 → P 3 → P 4 → P 5 → P 6 → P 7 → (k : ℕ) → k < 8 → P k
+each_of_eight P a b c d e f g h zero l = a
+each_of_eight P a b c d e f g h (suc zero) l = b
+each_of_eight P a b c d e f g h (suc (suc zero)) l = c
+each_of_eight P a b c d e f g h (suc (suc (suc zero))) l = d
+each_of_eight P a b c d e f g h (suc (suc (suc (suc zero)))) l = e
+each_of_eight P a b c d e f g h (suc (suc (suc (suc (suc zero))))) l = f
+each_of_eight P a b c d e f g h (suc (suc (suc (suc (suc (suc zero)))))) l = g
+each_of_eight P a b c d e f g h (suc (suc (suc (suc (suc (suc (suc zero))))))) l = h
+each_of_eight P a b c d e f g h (suc (suc (suc (suc (suc (suc (suc (suc k)))))))) l = absurd (omega arith)
+
+pub all_registers : Registers numbered numbered 8 8
+all_registers = record {
+  general_apart = λ j k h l e. absurd (omega (arith, e));
+  floating_apart = λ j k h l e. absurd (omega (arith, e));
+}
+
+-- ---- arguments
+
+pub argument_allowed : (k : ℕ) → k < 8 → IsNoneOf (no_argument aapcs64) (G (numbered k))
+argument_allowed k h =
+    none_of (no_argument aapcs64) (G k) (each_of_eight (λ j. is_none_of (no_argument aapcs64) (G j) ≡ true) refl refl refl refl refl refl refl refl k h)
+
+pub vector_allowed : (k : ℕ) → k < 8 → IsNoneOf (no_argument aapcs64) (F (numbered k))
+vector_allowed k h =
+    none_of (no_argument aapcs64) (F k) (each_of_eight (λ j. is_none_of (no_argument aapcs64) (F j) ≡ true) refl refl refl refl refl refl refl refl k h)
+
+pub stack_allowed : (n : ℕ) → IsNoneOf (no_argument aapcs64) (S n)
+stack_allowed n = none_of (no_argument aapcs64) (S n) refl
+
+pub hidden_allowed : IsNoneOf (no_argument aapcs64) (G 8)
+hidden_allowed = none_of (no_argument aapcs64) (G 8) refl
+
+-- x8 is none of the argument registers
+pub argument_not_hidden : (k : ℕ) → k < 8 → IsNoneOf (G 8 ∷ []) (G (numbered k))
+argument_not_hidden k h = ((λ e. omega (arith, e, h)), tt)
+
+-- ---- results
+
+pub result_allowed_general : (k : ℕ) → k < 8 → IsNoneOf (no_result aapcs64) (G (numbered k))
+result_allowed_general k h =
+    none_of (no_result aapcs64) (G k) (each_of_eight (λ j. is_none_of (no_result aapcs64) (G j) ≡ true) refl refl refl refl refl refl refl refl k h)
+
+pub result_allowed_vector : (k : ℕ) → k < 8 → IsNoneOf (no_result aapcs64) (F (numbered k))
+result_allowed_vector k h =
+    none_of (no_result aapcs64) (F k) (each_of_eight (λ j. is_none_of (no_result aapcs64) (F j) ≡ true) refl refl refl refl refl refl refl refl k h)
+
+pub result_allowed_stack : (n : ℕ) → IsNoneOf (no_result aapcs64) (S n)
+result_allowed_stack n = none_of (no_result aapcs64) (S n) refl

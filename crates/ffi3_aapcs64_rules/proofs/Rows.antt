@@ -1,0 +1,220 @@
+-- Worked rows, computed.
+use Rattle.std.specs.Prelude.{◌≡◌, ℕ, List, [], ◌∷◌, refl, None, Some, replicate}
+use Rattle.ffi3_type_rules.specs.Tree.{Tree, void, scalar, struct_of, u8, s8, u16, s32, u64, s64, float, double, pointer}
+use Rattle.ffi3_type_rules.specs.Layout.{least_multiple}
+use Rattle.ffi3_type_rules.specs.Signature.{Signature}
+use Rattle.ffi3_place_rules.specs.declared.Loc.{Loc}
+use Rattle.ffi3_place_rules.specs.declared.Loc.TheVariants.{G, F, S}
+use Rattle.ffi3_place_rules.specs.declared.Ext.TheVariants.{Free, Widen}
+use Rattle.ffi3_place_rules.specs.declared.Piece.{Piece}
+use Rattle.ffi3_place_rules.specs.declared.Place.{Place}
+use Rattle.ffi3_place_rules.specs.declared.Place.TheVariants.{Direct, ByRef}
+use Rattle.ffi3_place_rules.specs.declared.Res.TheVariants.{Nothing, Direct as DirectRes, Hidden}
+use Rattle.ffi3_place_rules.specs.Standard.{plan_of}
+use Rattle.ffi3_aapcs64_rules.specs.Aapcs64.{aapcs64}
+
+abbrev sig_of : Tree → List Tree → Signature
+sig_of r a = record { result_type = r; arguments = a; fixed = None }
+
+abbrev at : Loc → ℕ → ℕ → Piece
+at l o n = record { loc = l; off = o; len = n; ext = Free }
+
+abbrev widened : Loc → ℕ → Piece
+widened l n = record { loc = l; off = 0; len = n; ext = Widen }
+
+-- a whole doubleword in one place
+abbrev alone : Loc → Place
+alone l = Direct (at l 0 8 ∷ [])
+
+abbrev integer : Tree
+integer = scalar s64
+
+abbrev pair : Tree
+pair = struct_of (scalar s64 ∷ scalar s64 ∷ [])
+
+abbrev triple : Tree
+triple = struct_of (scalar u64 ∷ scalar u64 ∷ scalar u64 ∷ [])
+
+abbrev floats : ℕ → Tree
+floats n = struct_of (replicate n (scalar float))
+
+abbrev doubles : ℕ → Tree
+doubles n = struct_of (replicate n (scalar double))
+
+-- sint32(sint32)
+pub one_integer : plan_of aapcs64 (sig_of (scalar s32) (scalar s32 ∷ [])) ≡ record {
+  places = Direct (widened (G 0) 4 ∷ []) ∷ [];
+  res = DirectRes (widened (G 0) 4 ∷ []);
+  need = 192;
+  frame = 0;
+  block = 16;
+  vectors = 0;
+}
+unfolding least_multiple
+one_integer = refl
+
+-- void(struct{sint32,float}): not homogeneous
+pub integer_and_float : plan_of aapcs64 (sig_of void (struct_of (scalar s32 ∷ scalar float ∷ []) ∷ [])) ≡ record {
+  places = alone (G 0) ∷ [];
+  res = Nothing;
+  need = 192;
+  frame = 0;
+  block = 16;
+  vectors = 0;
+}
+unfolding least_multiple
+integer_and_float = refl
+
+-- struct{float,double}: not homogeneous either
+pub float_and_double : plan_of aapcs64 (sig_of void (struct_of (scalar float ∷ scalar double ∷ []) ∷ [])) ≡ record {
+  places = Direct (at (G 0) 0 8 ∷ at (G 1) 8 8 ∷ []) ∷ [];
+  res = Nothing;
+  need = 192;
+  frame = 0;
+  block = 16;
+  vectors = 0;
+}
+unfolding least_multiple
+float_and_double = refl
+
+-- seven sint64, a pair and a sint64: the pair goes whole to the stack, and x7 stays unused
+pub pair_to_stack : plan_of aapcs64 (sig_of void (integer ∷ integer ∷ integer ∷ integer ∷ integer ∷ integer ∷ integer ∷ pair ∷ integer ∷ [])) ≡ record {
+  places = alone (G 0) ∷ alone (G 1) ∷ alone (G 2) ∷ alone (G 3) ∷ alone (G 4) ∷ alone (G 5) ∷ alone (G 6) ∷ Direct (at (S 0) 0 8 ∷ at (S 8) 8 8 ∷ []) ∷ alone (S 16) ∷ [];
+  res = Nothing;
+  need = 288;
+  frame = 32;
+  block = 80;
+  vectors = 0;
+}
+unfolding least_multiple
+pair_to_stack = refl
+
+-- six sint64, a pair and a uint16: x6 and x7 are the last
+pub pair_in_last : plan_of aapcs64 (sig_of void (integer ∷ integer ∷ integer ∷ integer ∷ integer ∷ integer ∷ pair ∷ scalar u16 ∷ [])) ≡ record {
+  places = alone (G 0) ∷ alone (G 1) ∷ alone (G 2) ∷ alone (G 3) ∷ alone (G 4) ∷ alone (G 5) ∷ Direct (at (G 6) 0 8 ∷ at (G 7) 8 8 ∷ []) ∷ Direct (widened (S 0) 2 ∷ []) ∷ [];
+  res = Nothing;
+  need = 272;
+  frame = 16;
+  block = 80;
+  vectors = 0;
+}
+unfolding least_multiple
+pair_in_last = refl
+
+-- a struct of four floats
+pub four_floats : plan_of aapcs64 (sig_of void (floats 4 ∷ [])) ≡ record {
+  places = Direct (at (F 0) 0 4 ∷ at (F 1) 4 4 ∷ at (F 2) 8 4 ∷ at (F 3) 12 4 ∷ []) ∷ [];
+  res = Nothing;
+  need = 192;
+  frame = 0;
+  block = 16;
+  vectors = 0;
+}
+unfolding least_multiple
+four_floats = refl
+
+-- a struct of five floats is not homogeneous: it is copied
+pub five_floats : plan_of aapcs64 (sig_of void (floats 5 ∷ [])) ≡ record { places = ByRef (G 0) 0 ∷ []; res = Nothing; need = 240; frame = 32; block = 32; vectors = 0 }
+unfolding least_multiple
+five_floats = refl
+
+-- nested structs are flattened: three floats as argument, and one double as result
+pub nested_members : plan_of aapcs64 (sig_of (struct_of (doubles 1 ∷ [])) (struct_of (floats 2 ∷ scalar float ∷ []) ∷ [])) ≡ record {
+  places = Direct (at (F 0) 0 4 ∷ at (F 1) 4 4 ∷ at (F 2) 8 4 ∷ []) ∷ [];
+  res = DirectRes (at (F 0) 0 8 ∷ []);
+  need = 192;
+  frame = 0;
+  block = 16;
+  vectors = 0;
+}
+unfolding least_multiple
+nested_members = refl
+
+-- six doubles, three doubles in a struct, and a double: v6 and v7 stay unused
+pub doubles_to_stack : plan_of aapcs64 (sig_of void (scalar double ∷ scalar double ∷ scalar double ∷ scalar double ∷ scalar double ∷ scalar double ∷ doubles 3 ∷ scalar double ∷ [])) ≡ record {
+  places = alone (F 0) ∷ alone (F 1) ∷ alone (F 2) ∷ alone (F 3) ∷ alone (F 4) ∷ alone (F 5) ∷ Direct (at (S 0) 0 8 ∷ at (S 8) 8 8 ∷ at (S 16) 16 8 ∷ []) ∷ alone (S 24) ∷ [];
+  res = Nothing;
+  need = 288;
+  frame = 32;
+  block = 80;
+  vectors = 0;
+}
+unfolding least_multiple
+doubles_to_stack = refl
+
+-- two structs that take all eight, then a float on the stack, and a sint64 that finds x0
+pub members_in_last : plan_of aapcs64 (sig_of void (floats 4 ∷ doubles 4 ∷ scalar float ∷ integer ∷ [])) ≡ record {
+  places = Direct (at (F 0) 0 4 ∷ at (F 1) 4 4 ∷ at (F 2) 8 4 ∷ at (F 3) 12 4 ∷ []) ∷ Direct (at (F 4) 0 8 ∷ at (F 5) 8 8 ∷ at (F 6) 16 8 ∷ at (F 7) 24 8 ∷ []) ∷ Direct (at (S 0) 0 4 ∷ []) ∷ alone (G 0) ∷ [];
+  res = Nothing;
+  need = 256;
+  frame = 16;
+  block = 64;
+  vectors = 0;
+}
+unfolding least_multiple
+members_in_last = refl
+
+-- sint32(pointer;double): variadic arguments are placed as fixed ones
+pub variadic : plan_of aapcs64 (record { result_type = scalar s32; arguments = scalar pointer ∷ scalar double ∷ []; fixed = Some 1 }) ≡ record {
+  places = alone (G 0) ∷ alone (F 0) ∷ [];
+  res = DirectRes (widened (G 0) 4 ∷ []);
+  need = 192;
+  frame = 0;
+  block = 16;
+  vectors = 0;
+}
+unfolding least_multiple
+variadic = refl
+
+-- a result of three uint64: the address of the buffer is in x8
+pub hidden_result : plan_of aapcs64 (sig_of triple []) ≡ record { places = []; res = Hidden (G 8) 0; need = 208; frame = 32; block = 0; vectors = 0 }
+unfolding least_multiple
+hidden_result = refl
+
+-- four doubles, as a result, are in registers
+pub direct_doubles : plan_of aapcs64 (sig_of (doubles 4) []) ≡ record {
+  places = [];
+  res = DirectRes (at (F 0) 0 8 ∷ at (F 1) 8 8 ∷ at (F 2) 16 8 ∷ at (F 3) 24 8 ∷ []);
+  need = 176;
+  frame = 0;
+  block = 0;
+  vectors = 0;
+}
+unfolding least_multiple
+direct_doubles = refl
+
+-- a struct over 16 bytes goes by reference
+pub copied_argument : plan_of aapcs64 (sig_of void (triple ∷ scalar s8 ∷ [])) ≡ record {
+  places = ByRef (G 0) 0 ∷ Direct (widened (G 1) 1 ∷ []) ∷ [];
+  res = Nothing;
+  need = 240;
+  frame = 32;
+  block = 32;
+  vectors = 0;
+}
+unfolding least_multiple
+copied_argument = refl
+
+-- structs of 16 and of 17 bytes: the copy takes 24, and the hidden result's buffer follows it
+pub sixteen_and_seventeen : plan_of aapcs64 (sig_of triple (struct_of (replicate 16 (scalar u8)) ∷ struct_of (replicate 17 (scalar u8)) ∷ [])) ≡ record {
+  places = Direct (at (G 0) 0 8 ∷ at (G 1) 8 8 ∷ []) ∷ ByRef (G 2) 0 ∷ [];
+  res = Hidden (G 8) 24;
+  need = 272;
+  frame = 48;
+  block = 48;
+  vectors = 0;
+}
+unfolding least_multiple
+sixteen_and_seventeen = refl
+
+-- seven sint64, two structs by reference and a sint64: the first reference is in x7, the second on the stack; the copies follow the stack arguments
+pub references_on_stack : plan_of aapcs64 (sig_of void (integer ∷ integer ∷ integer ∷ integer ∷ integer ∷ integer ∷ integer ∷ triple ∷ triple ∷ integer ∷ [])) ≡ record {
+  places = alone (G 0) ∷ alone (G 1) ∷ alone (G 2) ∷ alone (G 3) ∷ alone (G 4) ∷ alone (G 5) ∷ alone (G 6) ∷ ByRef (G 7) 16 ∷ ByRef (S 0) 40 ∷ alone (S 8) ∷ [];
+  res = Nothing;
+  need = 352;
+  frame = 64;
+  block = 112;
+  vectors = 0;
+}
+unfolding least_multiple
+references_on_stack = refl

@@ -1,0 +1,3 @@
+pub mod Doublewords
+pub mod Aapcs64
+pub mod Sums
