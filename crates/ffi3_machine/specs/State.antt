@@ -6,7 +6,7 @@ use Rattle.ffi3_type_rules.specs.declared.Target.{Target}
 use Rattle.ffi3_type_rules.specs.declared.Target.TheVariants.{Amd64, Aapcs64, Riscv}
 use Rattle.ffi3_place_rules.specs.Image.{Image}
 use Rattle.ffi3_place_rules.specs.Event.{EventKind, enters, leaves, Event}
-use Rattle.ffi3_machine.specs.declared.TheConstants.{STACK, STACK_TOP, CODE, ENTRY, RETURN}
+use Rattle.ffi3_machine.specs.declared.TheConstants.{STACK, STACK_TOP, CODE, RETURN}
 
 -- Byte i of `stack` stands at STACK + i, and byte i of `code` at CODE + i. `mark` is the lowest stack address written since the machine began.
 -- There is room in the journal for `spare_events` further events with `spare_bytes` bytes of stack in all.
