@@ -1,0 +1,6 @@
+mod Tellings
+mod Paths
+mod Objects
+mod Items
+mod Signatures
+mod Short

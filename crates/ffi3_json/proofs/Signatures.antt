@@ -1,0 +1,71 @@
+-- A signature's parts, one after another.
+use Rattle.std.proofs.Common.{◌≡◌, ℕ, List, Option, Some, None, codes, ap, ◌∙◌, subst}
+use Rattle.std.specs.Prelude.{unwrap_or}
+use Rattle.serde_json.specs.Data.{Data, null}
+use Rattle.serde_json.specs.Find.{get}
+use Rattle.ffi3_type_rules.specs.Tree.{Tree}
+use Rattle.ffi3_type_rules.specs.Signature.{Signature, SignatureFault, IsFirstSignatureFault}
+use Rattle.ffi3_language_rules.specs.Language.{Path, Reason, Read, read, fault, and_then, read_map, check_object, signature_keys, read_type, read_types, read_fixed, value_under, under, read_shapes, IsSignatureRead, bad_shape, faulty, place_of_fault, reason_of_fault}
+use Rattle.ffi3_json.specs.Told.{Tells}
+use Rattle.ffi3_json.specs.declared.fault.ScriptFault.{ScriptFault}
+use Rattle.ffi3_json.specs.declared.fault.ScriptFault.TheVariants.{TooLong, BadJson, BadScript, NoMemory}
+use Rattle.ffi3_json.proofs.Tellings.{same_fault}
+
+then_fault : {A B : Type 0} (f : A → Read B) (x : Read A) (p : Path) (r : Reason) → x ≡ fault p r → and_then f x ≡ fault p r
+then_fault f x p r e = ap (and_then f) e
+
+then_read : {A B : Type 0} (f : A → Read B) (x : Read A) (a : A) → x ≡ read a → and_then f x ≡ f a
+then_read f x a e = ap (and_then f) e
+
+pub under-is : (name : List ℕ) (d inside : Data) → get name d ≡ Some inside → value_under name d ≡ inside
+under-is name d inside e = ap (λ o. unwrap_or o null) e
+
+pub under-none : (name : List ℕ) (d : Data) → get name d ≡ None → value_under name d ≡ null
+under-none name d e = ap (λ o. unwrap_or o null) e
+
+abbrev pub ret_of : Data → Path → Read Tree
+ret_of d path = read_type (value_under (codes "ret") d) (under path (codes "ret"))
+
+abbrev pub args_of : Data → Path → Read (List Tree)
+args_of d path = read_types (value_under (codes "args") d) (under path (codes "args"))
+
+abbrev pub fixed_of : Data → Path → Read (Option ℕ)
+fixed_of d path = read_fixed (get (codes "fixed") d) (under path (codes "fixed"))
+
+pub shapes-object : (d : Data) (path : Path) (p : Path) (r : Reason) → check_object d signature_keys path ≡ fault p r → read_shapes d path ≡ fault p r
+shapes-object d path p r e = then_fault _ (check_object d signature_keys path) p r e
+
+pub shapes-ret : (d : Data) (path : Path) (p : Path) (r : Reason) → check_object d signature_keys path ≡ read tt → ret_of d path ≡ fault p r → read_shapes d path ≡ fault p r
+shapes-ret d path p r e0 e1 = then_read _ (check_object d signature_keys path) tt e0 ∙ then_fault _ (ret_of d path) p r e1
+
+pub shapes-args : (d : Data) (path : Path) (t : Tree) (p : Path) (r : Reason) → check_object d signature_keys path ≡ read tt → ret_of d path ≡ read t → args_of d path ≡ fault p r → read_shapes d path ≡ fault p r
+shapes-args d path t p r e0 e1 e2 =
+    then_read _ (check_object d signature_keys path) tt e0 ∙ then_read _ (ret_of d path) t e1 ∙ then_fault _ (args_of d path) p r e2
+
+shapes-most : (d : Data) (path : Path) (t : Tree) (ts : List Tree) → check_object d signature_keys path ≡ read tt → ret_of d path ≡ read t → args_of d path ≡ read ts
+    → read_shapes d path ≡ read_map (λ fixed. record { result_type = t; arguments = ts; fixed = fixed }) (fixed_of d path)
+shapes-most d path t ts e0 e1 e2 =
+    then_read _ (check_object d signature_keys path) tt e0 ∙ then_read _ (ret_of d path) t e1 ∙ then_read _ (args_of d path) ts e2
+
+pub shapes-fixed : (d : Data) (path : Path) (t : Tree) (ts : List Tree) (p : Path) (r : Reason) → check_object d signature_keys path ≡ read tt → ret_of d path ≡ read t → args_of d path ≡ read ts
+    → fixed_of d path ≡ fault p r → read_shapes d path ≡ fault p r
+shapes-fixed d path t ts p r e0 e1 e2 e3 = shapes-most d path t ts e0 e1 e2 ∙ ap (λ x. read_map (λ fixed. record { result_type = t; arguments = ts; fixed = fixed }) x) e3
+
+pub shapes-all : (d : Data) (path : Path) (t : Tree) (ts : List Tree) (n : Option ℕ) → check_object d signature_keys path ≡ read tt → ret_of d path ≡ read t → args_of d path ≡ read ts
+    → fixed_of d path ≡ read n → read_shapes d path ≡ read (record { result_type = t; arguments = ts; fixed = n })
+shapes-all d path t ts n e0 e1 e2 e3 = shapes-most d path t ts e0 e1 e2 ∙ ap (λ x. read_map (λ fixed. record { result_type = t; arguments = ts; fixed = fixed }) x) e3
+
+-- a fault of the shapes is the signature's
+pub tells_shape : (d : Data) (path : Path) (e : ScriptFault) → Tells (λ p r. read_shapes d path ≡ fault p r) e → Tells (λ p r. IsSignatureRead d path (fault p r)) e
+tells_shape d path TooLong t = t
+tells_shape d path BadJson t = t
+tells_shape d path (BadScript place why) t = bad_shape t
+tells_shape d path NoMemory t = tt
+
+-- so is the first fault of a signature whose shapes were read
+pub tells_own : (d : Data) (path : Path) (s : Signature) (f : SignatureFault) → read_shapes d path ≡ read s → IsFirstSignatureFault s f
+    → (e : ScriptFault) → Tells (λ p r. (p ≡ place_of_fault path f) × (r ≡ reason_of_fault f)) e → Tells (λ p r. IsSignatureRead d path (fault p r)) e
+tells_own d path s f shapes first TooLong t = t
+tells_own d path s f shapes first BadJson t = t
+tells_own d path s f shapes first (BadScript place why) t = subst (λ q. IsSignatureRead d path q) (same_fault t.0 t.1) (faulty shapes first)
+tells_own d path s f shapes first NoMemory t = tt

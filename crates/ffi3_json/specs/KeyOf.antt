@@ -1,0 +1,7 @@
+-- Which key a key of the code is.
+use Rattle.std.specs.Prelude.{string_bytes}
+use Rattle.ffi3_language_rules.specs.Language as language
+use Rattle.ffi3_json.specs.declared.keys.Key.{Key}
+
+abbrev pub key_of : Key → language.Key
+key_of k = record { name = string_bytes k.name; optional = k.optional }

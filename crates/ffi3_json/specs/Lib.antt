@@ -1,0 +1,4 @@
+pub mod StepOf
+pub mod KeyOf
+pub mod ReasonOf
+pub mod Told

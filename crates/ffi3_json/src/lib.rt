@@ -1,0 +1,30 @@
+// JSON objects, types and signatures of a script, with the place and reason of the first fault.
+#![tactic(auto)]
+
+mod document;
+mod fault;
+mod keys;
+mod object;
+mod place;
+mod reason;
+mod signature;
+#[cfg(test)]
+mod tests;
+mod types;
+
+pub use fault::ScriptFault;
+pub use ffi3_types::Bytes;
+/// A want of memory: the one answer that no clause ties to a cause.
+pub use document::parse;
+pub use ffi3_types::NoMemory;
+pub use keys::{Key, Keys};
+pub use object::check_object;
+pub use place::{Step, Where};
+pub use reason::{Reason, reason_text};
+/// A JSON value.
+pub use serde_json::Value as Json;
+pub use signature::read_signature;
+pub use types::read_type;
+
+/// The greatest length of a script in bytes.
+pub const MAX_LENGTH: usize = 1_048_576;

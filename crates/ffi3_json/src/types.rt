@@ -1,0 +1,79 @@
+// Types.
+ghost use Rattle.std.specs.Prelude.{◌≡◌, IfOk, IfErr, OnOk};
+ghost use Rattle.serde_json.specs.View.{view};
+ghost use Rattle.ffi3_language_rules.specs.Language as language;
+ghost use Rattle.ffi3_language_rules.specs.Language.{read, HasShortArrays};
+ghost use Rattle.ffi3_types.specs.TreeOf.{tree_of};
+ghost use Rattle.ffi3_json.specs.Told.{Tells};
+
+use crate::fault::bad;
+use crate::{Json, NoMemory, Reason, ScriptFault, Where};
+use ffi3_types::{FfiType, Fields};
+use std::alloc::Global;
+
+/// The type that the value at a place is: the name of one, or an object whose one key `struct` has an array of types.
+/// Whether it has a fault of its own, as a struct without elements has, is not looked at.
+pub fn read_type(alloc: Global, value: &Json, at: &Where) -> Result<FfiType, ScriptFault>
+    requires { HasShortArrays (view value.now) }
+    ensures ok { IfOk result (λ t. language.read_type (view value.now) at.now ≡ read (tree_of t)) }
+    ensures err { IfErr result (Tells (λ p r. language.read_type (view value.now) at.now ≡ language.fault p r)) }
+{
+    let mut place = at.copy(alloc)?;
+    read_node(alloc, value, &mut place)
+}
+
+// The same, at a place that it leaves as it was where it reads a type.
+#[cycle(types)]
+pub(crate) fn read_node(alloc: Global, value: &Json, at: &mut Where) -> Result<FfiType, ScriptFault>
+    requires { HasShortArrays (view value.now) }
+    ensures place { OnOk result (at.new ≡ at.old) }
+    ensures ok { IfOk result (λ t. language.read_type (view value.now) at.old ≡ read (tree_of t)) }
+    ensures err { IfErr result (Tells (λ p r. language.read_type (view value.now) at.old ≡ language.fault p r)) }
+{
+    if let Some(name) = value.as_str() {
+        return match FfiType::from_name(name) {
+            Some(ty) => Ok(ty),
+            None => Err(bad(alloc, at, Reason::UnknownType)),
+        };
+    }
+    let Some(members) = value.as_object() else {
+        return Err(bad(alloc, at, Reason::NotAType));
+    };
+    let Some(inside) = value.get("struct") else {
+        return Err(bad(alloc, at, Reason::NotAType));
+    };
+    if members.len() != 1 {
+        return Err(bad(alloc, at, Reason::NotAType));
+    }
+    at.push_key(alloc, "struct")?;
+    let types = match read_list(alloc, inside, at) {
+        Ok(types) => types,
+        Err(fault) => return Err(fault),
+    };
+    at.pop();
+    Ok(FfiType::Struct(types))
+}
+
+// The types that an array of them has.
+#[cycle(types)]
+pub(crate) fn read_list(alloc: Global, value: &Json, at: &mut Where) -> Result<Fields, ScriptFault>
+    requires { HasShortArrays (view value.now) }
+    ensures place { OnOk result (at.new ≡ at.old) }
+    ensures ok { IfOk result (λ ts. language.read_types (view value.now) at.old ≡ read ts) }
+    ensures err { IfErr result (Tells (λ p r. language.read_types (view value.now) at.old ≡ language.fault p r)) }
+{
+    let Some(items) = value.as_array() else {
+        return Err(bad(alloc, at, Reason::NotAnArray));
+    };
+    let mut types = Fields::new(alloc);
+    for i in 0..items.len() {
+        at.push_number(i as u32)?;
+        let ty = match read_node(alloc, &items[i], at) {
+            Ok(ty) => ty,
+            Err(fault) => return Err(fault),
+        };
+        at.pop();
+        types.push(ty)?;
+    }
+    Ok(types)
+}

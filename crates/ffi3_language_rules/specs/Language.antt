@@ -1,0 +1,238 @@
+-- THE SCRIPT LANGUAGE, by cases on the JSON value: what a value at a place is read as, or its first fault in the order of reading.
+use Rattle.std.specs.Prelude.{◌≡◌, ℕ, ◌+◌, ◌<◌, ◌^◌, ◌||◌, ◌&&◌, List, [], ◌∷◌, ◌++◌, Bool, true, false, cond, Option, Some, None, option_and_then, is_some, unwrap_or, nat_lt, bytes_eq, codes, ⊤}
+use Rattle.serde_json.specs.Data.{Data, null, boolean, number, string, array, object, Items, no_items, item, Members, no_members, member}
+use Rattle.serde_json.specs.Find.{get, as_number, as_u64}
+use Rattle.serde_json.specs.Events.{items_len}
+use Rattle.ffi3_type_rules.specs.Tree.{Tree, left_out, struct_of, long_double, complex}
+use Rattle.ffi3_type_rules.specs.Names.{type_named}
+use Rattle.ffi3_type_rules.specs.Fault as type_fault
+use Rattle.ffi3_type_rules.specs.Signature.{Signature, SignatureHasNoFault, SignatureFault, too_many, bad_type, bad_argument_type, Position, at_result, at_argument, IsFirstSignatureFault}
+use Rattle.ffi3_type_rules.specs.Signature as signature
+use Rattle.ffi3_script_rules.specs.Step.{PathStep, key}
+use Rattle.ffi3_script_rules.specs.Step as step
+
+-- ---- reasons and places
+
+-- why the value at a place is no part of a script
+pub data Reason : Type 0 where
+  not_an_object : Reason
+  not_an_array : Reason
+  unknown_key : Reason
+  missing_key : List ℕ → Reason
+  version_not_known : Reason
+  not_a_type : Reason
+  unknown_type : Reason
+  not_a_count : Reason
+  bad_typedef : Reason
+  left_out_long_double : Reason
+  left_out_complex : Reason
+  left_out_vector : Reason
+  too_large : ℕ → Reason
+  too_deep : Reason
+  too_many_arguments : ℕ → Reason
+  bad_fixed : ℕ → ℕ → Reason
+  bad_variadic_argument : Reason
+  bad_name : Reason
+  name_twice : Reason
+  no_such_signature : Reason
+  no_such_function : Reason
+  not_a_move : Reason
+  void_result : Reason
+  wrong_count : Reason
+  not_null : Reason
+  no_return_at_the_end : Reason
+  not_an_integer : Reason
+  out_of_range : Reason
+  bad_bytes : Reason
+  wrong_type : Reason
+  not_a_value : Reason
+  no_type_of_its_own : Reason
+  no_such_argument : Reason
+  no_such_result : Reason
+  no_such_field : Reason
+
+-- the keys and numbers from the root to a value
+abbrev pub Path : Type 0
+Path = List PathStep
+
+-- the member under a key
+abbrev pub under : Path → List ℕ → Path
+under path name = path ++ key name ∷ []
+
+-- the item of a number
+abbrev pub at_item : Path → ℕ → Path
+at_item path i = path ++ step.number i ∷ []
+
+-- what a value is read as, or the place and reason of its first fault
+pub data Read (A : Type 0) : Type 0 where
+  read : A → Read A
+  fault : Path → Reason → Read A
+
+-- first the one, and then the other, which may speak of what was read
+abbrev pub and_then : {A B : Type 0} → (A → Read B) → Read A → Read B
+and_then more (read a) = more a
+and_then more (fault path reason) = fault path reason
+
+abbrev pub read_map : {A B : Type 0} → (A → B) → Read A → Read B
+read_map f (read a) = read (f a)
+read_map f (fault path reason) = fault path reason
+
+-- ---- objects
+
+-- a key that an object may have
+pub record Key : Type 0 where
+  pub name : List ℕ
+  pub optional : Bool
+
+abbrev pub required : List ℕ → Key
+required name = record { name = name; optional = false }
+
+abbrev pub optional : List ℕ → Key
+optional name = record { name = name; optional = true }
+
+abbrev pub is_key_of : List Key → List ℕ → Bool
+is_key_of [] name = false
+is_key_of (k ∷ keys) name = bytes_eq k.name name || is_key_of keys name
+
+abbrev pub has_only : List Key → Members → Bool
+has_only keys no_members = true
+has_only keys (member name d ms) = is_key_of keys name && has_only keys ms
+
+-- the first required key that is not there, in the order of the keys
+abbrev pub first_missing : List Key → Data → Option (List ℕ)
+first_missing [] d = None
+first_missing (k ∷ keys) d = cond (k.optional || is_some (get k.name d)) (first_missing keys d) (Some k.name)
+
+abbrev pub unless_missing : Path → Option (List ℕ) → Read ⊤
+unless_missing path None = read tt
+unless_missing path (Some name) = fault path (missing_key name)
+
+-- an object; no key but these; each required key
+abbrev pub check_object : Data → List Key → Path → Read ⊤
+check_object (object ms) keys path = cond (has_only keys ms) (unless_missing path (first_missing keys (object ms))) (fault path unknown_key)
+check_object _ keys path = fault path not_an_object
+
+-- what stands under a key that is there
+abbrev pub value_under : List ℕ → Data → Data
+value_under name d = unwrap_or (get name d) null
+
+-- ---- types
+
+abbrev pub type_of_name : Path → Option Tree → Read Tree
+type_of_name path None = fault path unknown_type
+type_of_name path (Some t) = read t
+
+-- a text is a name; an object has the one key `struct`
+abbrev mutual
+  pub read_type : Data → Path → Read Tree
+  read_type null path = fault path not_a_type
+  read_type (boolean b) path = fault path not_a_type
+  read_type (number n) path = fault path not_a_type
+  read_type (array ds) path = fault path not_a_type
+  read_type (string name) path = type_of_name path (type_named name)
+  read_type (object ms) path = read_struct ms path
+
+  pub read_struct : Members → Path → Read Tree
+  read_struct no_members path = fault path not_a_type
+  read_struct (member name d no_members) path = cond (bytes_eq (codes "struct") name) (read_map struct_of (read_types d (under path (codes "struct")))) (fault path not_a_type)
+  read_struct (member name d (member other e ms)) path = fault path not_a_type
+
+  -- an array of types
+  pub read_types : Data → Path → Read (List Tree)
+  read_types null path = fault path not_an_array
+  read_types (boolean b) path = fault path not_an_array
+  read_types (number n) path = fault path not_an_array
+  read_types (string s) path = fault path not_an_array
+  read_types (object ms) path = fault path not_an_array
+  read_types (array ds) path = read_each ds path 0
+
+  -- each of the items from number i on, from the left
+  pub read_each : Items → Path → ℕ → Read (List Tree)
+  read_each no_items path i = read []
+  read_each (item d ds) path i = and_then (λ t. read_map (λ ts. t ∷ ts) (read_each ds path (i + 1))) (read_type d (at_item path i))
+
+-- ---- signatures
+
+abbrev pub signature_keys : List Key
+signature_keys = required (codes "ret") ∷ required (codes "args") ∷ optional (codes "fixed") ∷ []
+
+abbrev pub count_of : Path → Option ℕ → Read (Option ℕ)
+count_of path None = fault path not_a_count
+count_of path (Some n) = cond (nat_lt n (2 ^ 32)) (read (Some n)) (fault path not_a_count)
+
+-- an integer from 0 to 4294967295, where it is there
+abbrev pub read_fixed : Option Data → Path → Read (Option ℕ)
+read_fixed None path = read None
+read_fixed (Some d) path = count_of path (option_and_then as_u64 (as_number d))
+
+-- a signature's shapes: the object, ret, args, fixed
+abbrev pub read_shapes : Data → Path → Read Signature
+read_shapes d path =
+    and_then
+    (λ checked. and_then
+    (λ ret. and_then
+    (λ args. read_map
+    (λ fixed. record { result_type = ret; arguments = args; fixed = fixed })
+    (read_fixed (get (codes "fixed") d) (under path (codes "fixed"))))
+    (read_types (value_under (codes "args") d) (under path (codes "args"))))
+    (read_type (value_under (codes "ret") d) (under path (codes "ret"))))
+    (check_object d signature_keys path)
+
+-- the node that a way of element numbers leads to
+abbrev pub inside_type : Path → List ℕ → Path
+inside_type path [] = path
+inside_type path (i ∷ way) = inside_type (at_item (under path (codes "struct")) i) way
+
+abbrev pub place_of_type : Path → Position → Path
+place_of_type path at_result = under path (codes "ret")
+place_of_type path (at_argument i) = at_item (under path (codes "args")) i
+
+abbrev pub place_of_fault : Path → SignatureFault → Path
+place_of_fault path (too_many n) = under path (codes "args")
+place_of_fault path (bad_type position way f) = inside_type (place_of_type path position) way
+place_of_fault path (signature.bad_fixed n count) = under path (codes "fixed")
+place_of_fault path (bad_argument_type i) = place_of_type path (at_argument i)
+
+-- the kinds that are left out are the three that a fault tells of
+abbrev pub left_out_reason : Tree → Reason
+left_out_reason (left_out long_double) = left_out_long_double
+left_out_reason (left_out complex) = left_out_complex
+left_out_reason _ = left_out_vector
+
+abbrev pub reason_of_type_fault : type_fault.Fault → Reason
+reason_of_type_fault type_fault.bad_typedef = bad_typedef
+reason_of_type_fault (type_fault.left_out_type t) = left_out_reason t
+reason_of_type_fault (type_fault.too_large size) = too_large size
+reason_of_type_fault type_fault.too_deep = too_deep
+
+abbrev pub reason_of_fault : SignatureFault → Reason
+reason_of_fault (too_many n) = too_many_arguments n
+reason_of_fault (bad_type position way f) = reason_of_type_fault f
+reason_of_fault (signature.bad_fixed n count) = bad_fixed n count
+reason_of_fault (bad_argument_type i) = bad_variadic_argument
+
+-- A SIGNATURE: its shapes, and only then its own first fault.
+pub data IsSignatureRead (d : Data) (path : Path) : Read Signature → Type 0 where
+  bad_shape : {place : Path} {reason : Reason} → read_shapes d path ≡ fault place reason → IsSignatureRead d path (fault place reason)
+  faulty : {s : Signature} {f : SignatureFault} → read_shapes d path ≡ read s → IsFirstSignatureFault s f → IsSignatureRead d path (fault (place_of_fault path f) (reason_of_fault f))
+  faultless : {s : Signature} → read_shapes d path ≡ read s → SignatureHasNoFault s → IsSignatureRead d path (read s)
+
+-- ---- sizes
+
+-- each array has fewer than 2^32 items
+abbrev mutual
+  pub HasShortArrays : Data → Type 0
+  HasShortArrays null = Unit {0}
+  HasShortArrays (boolean b) = Unit {0}
+  HasShortArrays (number n) = Unit {0}
+  HasShortArrays (string s) = Unit {0}
+  HasShortArrays (array ds) = (items_len ds < 2 ^ 32) × HaveShortArrays ds
+  HasShortArrays (object ms) = HaveShortMembers ms
+
+  pub HaveShortArrays : Items → Type 0
+  HaveShortArrays no_items = Unit {0}
+  HaveShortArrays (item d ds) = HasShortArrays d × HaveShortArrays ds
+
+  pub HaveShortMembers : Members → Type 0
+  HaveShortMembers no_members = Unit {0}
+  HaveShortMembers (member name d ms) = HasShortArrays d × HaveShortMembers ms
