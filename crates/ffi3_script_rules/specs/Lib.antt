@@ -1,4 +1,11 @@
-pub mod Form
-pub mod Reading
 pub mod Step
+pub mod FirstFault
+pub mod Language
+pub mod ReasonText
+pub mod Script
+pub mod Values
+pub mod Bodies
 pub mod Meaning
+pub mod Typed
+pub mod Reading
+pub mod RunLimit

@@ -1,15 +1,19 @@
--- What the bytes of a script are read as.
+-- WHAT THE BYTES OF A SCRIPT ARE READ AS.
 use Rattle.std.specs.Prelude.{◌≡◌, ℕ, ◌<◌, ◌≤◌, List, length, Some, None, IsUtf8}
 use Rattle.serde_json.specs.Data.{Data}
 use Rattle.serde_json.specs.Read.{read}
-use Rattle.ffi3_script_rules.specs.Form.{OneCall, IsOfForm}
+use Rattle.ffi3_script_rules.specs.Language as language
+use Rattle.ffi3_script_rules.specs.Language.{Path, Reason}
+use Rattle.ffi3_script_rules.specs.Script.{Script}
+use Rattle.ffi3_script_rules.specs.Bodies.{read_script}
 
 pub data Reading : Type 0 where
   too_long : Reading
   not_json : Reading
-  not_yet : Reading
-  script : OneCall → Reading
+  bad_script : Path → Reason → Reading
+  script : Script → Reading
 
+-- in bytes
 abbrev pub max_length : ℕ
 max_length = 1048576
 
@@ -19,12 +23,17 @@ pub record IsJson (bytes : List ℕ) (d : Data) : Type 0 where
   pub text : IsUtf8 bytes
   pub value : read bytes ≡ Some d
 
-abbrev pub IsReading : List ℕ → Reading → Type 0
-IsReading bytes too_long = max_length < length bytes
-IsReading bytes not_json = (length bytes ≤ max_length) × (IsUtf8 bytes → read bytes ≡ None)
-IsReading bytes not_yet = (d : Data) × IsJson bytes d × ((f : OneCall) → IsOfForm d f → ⊥)
-IsReading bytes (script f) = (d : Data) × IsJson bytes d × IsOfForm d f
+-- beside natives of these names
+abbrev pub IsReading : List (List ℕ) → List ℕ → Reading → Type 0
+IsReading natives bytes too_long = max_length < length bytes
+IsReading natives bytes not_json =
+    (length bytes ≤ max_length) × (IsUtf8 bytes → read bytes ≡ None)
+IsReading natives bytes (bad_script path reason) =
+    (d : Data) × IsJson bytes d × (read_script natives d ≡ language.fault path reason)
+IsReading natives bytes (script s) =
+    (d : Data) × IsJson bytes d × (read_script natives d ≡ language.read s)
 
 -- The bytes are read in no other way.
-abbrev pub IsTheReading : List ℕ → Reading → Type 0
-IsTheReading bytes r = IsReading bytes r × ((other : Reading) → IsReading bytes other → other ≡ r)
+abbrev pub IsTheReading : List (List ℕ) → List ℕ → Reading → Type 0
+IsTheReading natives bytes r =
+    IsReading natives bytes r × ((other : Reading) → IsReading natives bytes other → other ≡ r)

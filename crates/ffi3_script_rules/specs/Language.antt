@@ -1,4 +1,4 @@
--- THE SCRIPT LANGUAGE, by cases on the JSON value: what a value at a place is read as, or its first fault in the order of reading.
+-- THE SCRIPT LANGUAGE, by cases on the JSON value: what a value at a place is read as, or its first fault in the order of reading. Here: reasons, places, objects, types and signatures. `Values` and `Bodies` go on.
 use Rattle.std.specs.Prelude.{◌≡◌, ℕ, ◌+◌, ◌<◌, ◌^◌, ◌||◌, ◌&&◌, List, [], ◌∷◌, ◌++◌, Bool, true, false, cond, Option, Some, None, option_and_then, is_some, unwrap_or, nat_lt, bytes_eq, codes, ⊤}
 use Rattle.serde_json.specs.Data.{Data, null, boolean, number, string, array, object, Items, no_items, item, Members, no_members, member}
 use Rattle.serde_json.specs.Find.{get, as_number, as_u64}
@@ -6,10 +6,11 @@ use Rattle.serde_json.specs.Events.{items_len}
 use Rattle.ffi3_type_rules.specs.Tree.{Tree, left_out, struct_of, long_double, complex}
 use Rattle.ffi3_type_rules.specs.Names.{type_named}
 use Rattle.ffi3_type_rules.specs.Fault as type_fault
-use Rattle.ffi3_type_rules.specs.Signature.{Signature, SignatureHasNoFault, SignatureFault, too_many, bad_type, bad_argument_type, Position, at_result, at_argument, IsFirstSignatureFault}
+use Rattle.ffi3_type_rules.specs.Signature.{Signature, SignatureFault, too_many, bad_type, bad_argument_type, Position, at_result, at_argument}
 use Rattle.ffi3_type_rules.specs.Signature as signature
 use Rattle.ffi3_script_rules.specs.Step.{PathStep, key}
 use Rattle.ffi3_script_rules.specs.Step as step
+use Rattle.ffi3_script_rules.specs.FirstFault.{first_signature_fault}
 
 -- ---- reasons and places
 
@@ -211,11 +212,14 @@ reason_of_fault (bad_type position way f) = reason_of_type_fault f
 reason_of_fault (signature.bad_fixed n count) = bad_fixed n count
 reason_of_fault (bad_argument_type i) = bad_variadic_argument
 
+abbrev pub unless_faulty : Path → Signature → Option SignatureFault → Read Signature
+unless_faulty path s None = read s
+unless_faulty path s (Some f) = fault (place_of_fault path f) (reason_of_fault f)
+
 -- A SIGNATURE: its shapes, and only then its own first fault.
-pub data IsSignatureRead (d : Data) (path : Path) : Read Signature → Type 0 where
-  bad_shape : {place : Path} {reason : Reason} → read_shapes d path ≡ fault place reason → IsSignatureRead d path (fault place reason)
-  faulty : {s : Signature} {f : SignatureFault} → read_shapes d path ≡ read s → IsFirstSignatureFault s f → IsSignatureRead d path (fault (place_of_fault path f) (reason_of_fault f))
-  faultless : {s : Signature} → read_shapes d path ≡ read s → SignatureHasNoFault s → IsSignatureRead d path (read s)
+abbrev pub read_signature : Data → Path → Read Signature
+read_signature d path =
+    and_then (λ s. unless_faulty path s (first_signature_fault s)) (read_shapes d path)
 
 -- ---- sizes
 

@@ -1,2 +1,0 @@
-// The definitions of the script language on objects, types and signatures, over the values of JSON.
-#![tactic(auto)]
