@@ -2,7 +2,7 @@
 use Rattle.std.specs.Prelude.{ℕ, ◌+◌, ◌==◌, ◌&&◌, ◌||◌, List, [], ◌∷◌, ◌++◌, length, map, Bool, true, false, not, Option, Some, None, if◌then◌else◌, nat_lt, nat_le, bytes_eq, codes, ⊤, option_and_then, is_some, is_none, position, pos}
 use Rattle.std.specs.Char.{is_ascii_alphanumeric}
 use Rattle.std.specs.List.{list_all, list_any}
-use Rattle.serde_json.specs.Data.{Data, null, boolean, number, string, array, object, Items, no_items, item, Members}
+use Rattle.serde_json.specs.Data.{Data, null, array, Items, no_items, item}
 use Rattle.serde_json.specs.Find.{get, as_number, as_u64, as_str}
 use Rattle.serde_json.specs.Events.{items_len}
 use Rattle.ffi3_type_rules.specs.Tree.{Tree, void, scalar, pointer}
@@ -10,7 +10,7 @@ use Rattle.ffi3_type_rules.specs.Integer.{is_number_type, bytes_of_number}
 use Rattle.ffi3_type_rules.specs.Signature.{Signature, signature_at}
 use Rattle.ffi3_run_rules.specs.Move.{no_signature}
 use Rattle.ffi3_script_rules.specs.Language.{Read, read, fault, and_then, read_map, Path, under, at_item, Key, required, optional, check_object, value_under, read_signature, not_an_array, version_not_known, bad_name, name_twice, no_such_signature, no_such_function, not_a_move, void_result, wrong_count, not_null, no_return_at_the_end, wrong_type}
-use Rattle.ffi3_script_rules.specs.Script.{Expression, constant, Expressions, no_expressions, Typed, Act, call, make, free, print, return, return_void, ScriptMove, ScriptFunction, Script}
+use Rattle.ffi3_script_rules.specs.Script.{Expression, constant, Expressions, Typed, Act, call, make, free, print, return, return_void, ScriptMove, ScriptFunction, Script}
 use Rattle.ffi3_script_rules.specs.Values.{Given, Scope, has_name, read_value, read_values, read_typed}
 
 -- ---- names and numbers

@@ -1,8 +1,8 @@
 -- What a script means: its values computed from what an activation has seen, its bodies as moves, the whole as a program.
-use Rattle.std.specs.Prelude.{ℕ, List, [], ◌∷◌, ◌++◌, map, Option, Some, None, Bool, true, false, not, if◌then◌else◌, ◌==◌, slice_index_or, ℤ, pos, ◌-ℤ◌, nat_abs}
+use Rattle.std.specs.Prelude.{ℕ, List, [], ◌∷◌, ◌++◌, map, Option, Some, None, Bool, true, false, not, ◌==◌, slice_index_or, ℤ, pos, ◌-ℤ◌}
 use Rattle.std.specs.Int.{w64, from_le_bytes}
-use Rattle.ffi3_type_rules.specs.Tree.{Tree, Scalar}
-use Rattle.ffi3_type_rules.specs.Signature.{Signature, signature_at}
+use Rattle.ffi3_type_rules.specs.Tree.{Scalar}
+use Rattle.ffi3_type_rules.specs.Signature.{Signature}
 use Rattle.ffi3_type_rules.specs.Integer.{bytes_of_number, number_of, scalar_of, sum_of}
 use Rattle.ffi3_type_rules.specs.Value.{ValueTree, ValueTrees, no_values, value, void_value, leaf_value, struct_value, bytes_of, elements_of, list_of_values, zero_value}
 use Rattle.ffi3_place_rules.specs.Standard.{Standard, need_of}

@@ -23,11 +23,13 @@ pub record IsJson (bytes : List ℕ) (d : Data) : Type 0 where
   pub text : IsUtf8 bytes
   pub value : read bytes ≡ Some d
 
+abbrev pub IsNotJson : List ℕ → Type 0
+IsNotJson bytes = (length bytes ≤ max_length) × (IsUtf8 bytes → read bytes ≡ None)
+
 -- beside natives of these names
 abbrev pub IsReading : List (List ℕ) → List ℕ → Reading → Type 0
 IsReading natives bytes too_long = max_length < length bytes
-IsReading natives bytes not_json =
-    (length bytes ≤ max_length) × (IsUtf8 bytes → read bytes ≡ None)
+IsReading natives bytes not_json = IsNotJson bytes
 IsReading natives bytes (bad_script path reason) =
     (d : Data) × IsJson bytes d × (read_script natives d ≡ language.fault path reason)
 IsReading natives bytes (script s) =

@@ -6,7 +6,7 @@ use Rattle.ffi3_type_rules.specs.Integer.{is_number}
 use Rattle.ffi3_type_rules.specs.Signature.{Signature}
 use Rattle.ffi3_script_rules.specs.FirstFault.{or_else}
 use Rattle.ffi3_script_rules.specs.Language.{Path, under, at_item}
-use Rattle.ffi3_script_rules.specs.Script.{Act, call, make, free, print, return, return_void, ScriptMove, ScriptFunction, Script}
+use Rattle.ffi3_script_rules.specs.Script.{Act, free, print, return, return_void, ScriptMove, ScriptFunction, Script}
 
 abbrev pub most_register_arguments : ℕ
 most_register_arguments = 6

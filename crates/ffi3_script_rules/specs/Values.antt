@@ -1,12 +1,12 @@
 -- VALUES of a script: what stands where a value is asked for, against a type or with a type of its own.
-use Rattle.std.specs.Prelude.{ℕ, ◌+◌, ◌-◌, ◌^◌, ◌==◌, ◌&&◌, List, [], ◌∷◌, length, Bool, true, false, cond, Option, Some, None, Result, Ok, Err, if◌then◌else◌, nat_lt, bytes_eq, ⊤, codes, option_and_then, option_map, ℤ, pos, negsuc, slice_get, position}
+use Rattle.std.specs.Prelude.{ℕ, ◌+◌, ◌-◌, ◌^◌, ◌==◌, ◌&&◌, List, [], ◌∷◌, length, Bool, true, false, cond, Option, Some, None, Result, Ok, Err, if◌then◌else◌, nat_lt, bytes_eq, ⊤, codes, option_and_then, ℤ, pos, negsuc, slice_get, position}
 use Rattle.hex.specs.Hex.{decode_sized}
 use Rattle.hex.specs.declared.error.FromHexError.{FromHexError}
 use Rattle.serde_json.specs.Data.{Data, null, boolean, number, string, array, object, Items, no_items, item, Members, no_members, member, Num}
 use Rattle.serde_json.specs.Find.{as_number, as_u64, as_str, as_integer}
 use Rattle.serde_json.specs.Events.{items_len}
-use Rattle.ffi3_type_rules.specs.Tree.{Tree, void, scalar, left_out, structure, list_of, elements_of, Scalar, float, double, pointer}
-use Rattle.ffi3_type_rules.specs.Integer.{is_integer, is_number, is_number_type, is_signed, scalar_of, width_of, bit_count, bytes_of_number}
+use Rattle.ffi3_type_rules.specs.Tree.{Tree, scalar, structure, list_of, elements_of, Scalar, float, double, pointer}
+use Rattle.ffi3_type_rules.specs.Integer.{is_integer, is_number_type, is_signed, scalar_of, width_of, bit_count, bytes_of_number}
 use Rattle.ffi3_type_rules.specs.Layout.{scalar_size}
 use Rattle.ffi3_type_rules.specs.Same.{same_tree}
 use Rattle.ffi3_script_rules.specs.FirstFault.{Found, first_fault}
