@@ -5,7 +5,7 @@ use Rattle.serde_json.specs.Data.{Data, null}
 use Rattle.serde_json.specs.Find.{get}
 use Rattle.ffi3_type_rules.specs.Tree.{Tree}
 use Rattle.ffi3_type_rules.specs.Signature.{Signature, SignatureFault, IsFirstSignatureFault}
-use Rattle.ffi3_language_rules.specs.Language.{Path, Reason, Read, read, fault, and_then, read_map, check_object, signature_keys, read_type, read_types, read_fixed, value_under, under, read_shapes, IsSignatureRead, bad_shape, faulty, place_of_fault, reason_of_fault}
+use Rattle.ffi3_script_rules.specs.Language.{Path, Reason, Read, read, fault, and_then, read_map, check_object, signature_keys, read_type, read_types, read_fixed, value_under, under, read_shapes, IsSignatureRead, bad_shape, faulty, place_of_fault, reason_of_fault}
 use Rattle.ffi3_json.specs.Told.{Tells}
 use Rattle.ffi3_json.specs.declared.fault.ScriptFault.{ScriptFault}
 use Rattle.ffi3_json.specs.declared.fault.ScriptFault.TheVariants.{TooLong, BadJson, BadScript, NoMemory}

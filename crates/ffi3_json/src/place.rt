@@ -1,6 +1,6 @@
 // A place in a script.
 ghost use Rattle.std.specs.Prelude.{◌≡◌, ◌<◌, ◌++◌, ◌∷◌, [], OnOk, OnErr, IfOk, length, slice_get, Some, take, ◌-◌};
-ghost use Rattle.ffi3_language_rules.specs.Language.{under, at_item};
+ghost use Rattle.ffi3_script_rules.specs.Language.{under, at_item};
 ghost use Rattle.ffi3_json.specs.StepOf.{step_of};
 
 use crate::NoMemory;

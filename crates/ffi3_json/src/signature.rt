@@ -2,8 +2,8 @@
 ghost use Rattle.std.specs.Prelude.{◌≡◌, IfOk, IfErr, OnOk, codes};
 ghost use Rattle.serde_json.specs.Find.{get};
 ghost use Rattle.serde_json.specs.View.{view};
-ghost use Rattle.ffi3_language_rules.specs.Language as language;
-ghost use Rattle.ffi3_language_rules.specs.Language.{read, read_shapes, read_fixed, HasShortArrays, IsSignatureRead, signature_keys, inside_type, place_of_type, place_of_fault, reason_of_type_fault, reason_of_fault, left_out_reason, read_type, read_types, value_under, under};
+ghost use Rattle.ffi3_script_rules.specs.Language as language;
+ghost use Rattle.ffi3_script_rules.specs.Language.{read, read_shapes, read_fixed, HasShortArrays, IsSignatureRead, signature_keys, inside_type, place_of_type, place_of_fault, reason_of_type_fault, reason_of_fault, left_out_reason, read_type, read_types, value_under, under};
 ghost use Rattle.ffi3_types.specs.TreeOf.{tree_of};
 ghost use Rattle.ffi3_types.specs.FaultOf.{fault_of};
 ghost use Rattle.ffi3_types.specs.SignatureFaultOf.{signature_fault_of, position_of};

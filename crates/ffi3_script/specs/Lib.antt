@@ -1,3 +1,1 @@
-pub mod Told
-pub mod StepOf
-pub mod Parts
+pub mod ExprOf

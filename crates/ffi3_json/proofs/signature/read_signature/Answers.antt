@@ -1,5 +1,5 @@
 use Rattle.serde_json.specs.View.{view}
-use Rattle.ffi3_language_rules.specs.Language.{faultless}
+use Rattle.ffi3_script_rules.specs.Language.{faultless}
 use Rattle.ffi3_types.specs.SignatureFaultOf.{signature_fault_of}
 use Rattle.ffi3_json.proofs.Signatures.{tells_shape, tells_own}
 use Rattle.ffi3_json.proofs.signature.read_signature.Goals as goal
