@@ -1,1 +1,2 @@
 pub mod ExprOf
+pub mod ScopeOf
