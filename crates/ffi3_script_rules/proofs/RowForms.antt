@@ -1,4 +1,4 @@
--- How rows of the script language are written: a script's text, and the line of its fault.
+-- How rows of the script language are written: a script's text, the line of its fault, and what it does.
 use Rattle.std.specs.Prelude.{ℕ, ◌==◌, List, [], ◌++◌, Option, Some, None, option_map, codes, cond, map, ⊤}
 use Rattle.std.specs.Fmt.{digits}
 use Rattle.hex.proofs.OnLiterals.{hex_on_literals}
@@ -6,10 +6,18 @@ use Rattle.serde_json.proofs.OnLiterals.{serde_json_on_literals}
 use Rattle.serde_json.specs.Read as json
 use Rattle.ffi3_type_rules.specs.Layout.{least_multiple}
 use Rattle.ffi3_type_rules.specs.Names.{type_named}
+use Rattle.ffi3_type_rules.specs.Value.{ValueTree}
+use Rattle.ffi3_type_rules.specs.ValueText.{value_text_of}
+use Rattle.ffi3_place_rules.specs.Standard.{Standard}
+use Rattle.ffi3_run_rules.specs.Move.{Move, print}
+use Rattle.ffi3_run_rules.specs.Meaning.{Program, function_at}
+use Rattle.ffi3_run_rules.specs.Happenings.{happenings_of}
+use Rattle.ffi3_run_rules.specs.Lines as lines
 use Rattle.ffi3_script_rules.specs.Language.{Read, read, fault}
 use Rattle.ffi3_script_rules.specs.ReasonText.{text_of_path, text_of_reason}
 use Rattle.ffi3_script_rules.specs.Script.{Script}
 use Rattle.ffi3_script_rules.specs.Bodies.{read_script}
+use Rattle.ffi3_script_rules.specs.Meaning.{program_of}
 
 -- what a row unfolds to compute the reading of a script
 unfoldable pub scripts_on_literals : ⊤
@@ -63,3 +71,49 @@ in_main moves =
 abbrev pub in_body : List ℕ → List ℕ
 in_body moves =
     of_functions (codes "{'name':'f','sig':0,'body':[" ++ moves ++ codes "]}")
+
+-- ---- what a script means
+
+abbrev pub no_script : Script
+no_script = record { signatures = []; functions = []; main = [] }
+
+abbrev pub script_in : Option (Read Script) → Script
+script_in (Some (read script)) = script
+script_in _ = no_script
+
+-- beside natives of these names, by a standard by which each call needs 80 bytes
+abbrev pub program_in : Standard → List (List ℕ) → List ℕ → Program
+program_in standard natives script =
+    record (program_of standard (script_in (option_map (read_script natives) (json.read (quoted script))))) { need = λ s. 80 }
+
+-- what main does next, after these results
+abbrev pub main_of : Standard → List ℕ → List ValueTree → Move
+main_of standard script results = (program_in standard [] script).main [] 0 results
+
+-- what function 0 does next, from these arguments and user data, after these results
+abbrev pub function_of : Standard → List ℕ → List ValueTree → ℕ → List ValueTree → Move
+function_of standard script arguments user results =
+    (function_at (program_in standard [] script) 0).behaviour arguments user results
+
+-- the text of a value that is printed
+abbrev pub shown : Move → List ℕ
+shown (print t v) = value_text_of t v
+shown _ = codes "no print"
+
+-- a script of these moves of main
+abbrev pub with_main : List ℕ → List ℕ
+with_main moves =
+    script_text two_signatures (codes "{'name':'f','sig':1,'body':[{'return':null}]}") moves
+
+-- the text of the first value that main prints
+abbrev pub prints : Standard → List ℕ → List ℕ
+prints standard moves =
+    shown (main_of standard (with_main (moves ++ codes ",{'return':null}")) [])
+
+-- that of a value of a type
+abbrev pub is_of : Standard → (type value : List ℕ) → List ℕ
+is_of standard type value =
+    prints standard (codes "{'print':{'of':[" ++ type ++ codes "," ++ value ++ codes "]}}")
+
+abbrev pub run_text : Program → List ℕ
+run_text p = lines.text p.signatures (happenings_of p)
