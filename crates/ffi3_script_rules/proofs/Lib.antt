@@ -1,0 +1,10 @@
+pub mod FirstFaults
+pub mod FirstSignatureFaults
+pub mod Readings
+mod RowForms
+mod LanguageRows
+mod MoveRows
+mod ValueRows
+mod MeaningRows
+mod ComputedValueRows
+mod RunLimitRows
