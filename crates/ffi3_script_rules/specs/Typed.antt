@@ -1,5 +1,5 @@
 -- When a value of a script has a type, and when a body is well typed: its numbers lie in their lists and its values have their types. `proofs/` has that every script that is read is well typed.
-use Rattle.std.specs.Prelude.{ℕ, ◌+◌, ◌==◌, ◌&&◌, List, [], ◌∷◌, ◌++◌, length, Bool, true, false, Option, Some, None, nat_lt, is_none}
+use Rattle.std.specs.Prelude.{◌≡◌, ℕ, ◌+◌, ◌==◌, ◌&&◌, List, [], ◌∷◌, ◌++◌, length, Bool, true, false, Option, Some, None, nat_lt, is_none}
 use Rattle.std.specs.List.{list_all}
 use Rattle.ffi3_type_rules.specs.Tree.{Tree, void, scalar, left_out, structure, Trees, no_trees, tree, tree_at, trees_of, Scalar, scalar_number, pointer}
 use Rattle.ffi3_type_rules.specs.Tree as types
@@ -7,6 +7,7 @@ use Rattle.ffi3_type_rules.specs.Integer.{is_number, is_number_type}
 use Rattle.ffi3_type_rules.specs.Layout.{scalar_size}
 use Rattle.ffi3_type_rules.specs.Same.{same_tree}
 use Rattle.ffi3_type_rules.specs.Signature.{Signature, signature_at}
+use Rattle.ffi3_type_rules.specs.Value.{ValueTree, fits}
 use Rattle.ffi3_run_rules.specs.Move.{no_signature}
 use Rattle.ffi3_script_rules.specs.FirstFault.{first_fault, first_signature_fault}
 use Rattle.ffi3_script_rules.specs.Script.{Expression, constant, composed, argument, outcome, user_data, element, typed_as, sum, difference, cast, Expressions, no_expressions, expression, Typed, Act, call, make, free, print, return, return_void, ScriptMove, ScriptFunction, Script}
@@ -117,6 +118,13 @@ moves_are_typed s k (m ∷ ms) =
 abbrev pub body_is_typed : List Signature → ℕ → Signature → List ScriptMove → Bool
 body_is_typed signatures functions own ms =
     ends ms && moves_are_typed (record { signatures = signatures; functions = functions; result_type = own.result_type }) (record { arguments = own.arguments; outcomes = [] }) ms
+
+-- ---- results
+
+-- where there is no type there is no value of it
+abbrev pub IsOfType : ValueTree → Option Tree → Type 0
+IsOfType v None = ⊥
+IsOfType v (Some t) = fits t v ≡ true
 
 -- ---- the whole
 
