@@ -1,3 +1,5 @@
 pub mod Tests
 pub mod RightTypes
 pub mod Fits
+pub mod ReadParts
+pub mod TypedValues
