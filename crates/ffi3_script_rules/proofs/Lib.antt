@@ -8,3 +8,8 @@ mod ValueRows
 mod MeaningRows
 mod ComputedValueRows
 mod RunLimitRows
+pub mod Tests
+pub mod RightTypes
+pub mod Fits
+pub mod ReadParts
+pub mod TypedValues
