@@ -1,1 +1,6 @@
 pub mod ExprOf
+pub mod Own
+pub mod KindOf
+pub mod BodyOf
+pub mod FunctionOf
+pub mod ScriptOf
