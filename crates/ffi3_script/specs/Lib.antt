@@ -1,2 +1,7 @@
 pub mod ExprOf
 pub mod ScopeOf
+pub mod Own
+pub mod KindOf
+pub mod BodyOf
+pub mod FunctionOf
+pub mod ScriptOf
