@@ -6,7 +6,7 @@ use Rattle.serde_json.specs.Data.{depth, items_depth}
 use Rattle.serde_json.specs.View.{view, items_view}
 use Rattle.serde_json.specs.declared.value.Value.{Value}
 use Rattle.ffi3_type_rules.specs.Tree.{Tree}
-use Rattle.ffi3_language_rules.specs.Language.{Path, Reason, Read, read, fault, read_map, and_then, at_item, read_type, read_each, HasShortArrays, HaveShortArrays}
+use Rattle.ffi3_script_rules.specs.Language.{Path, Reason, Read, read, fault, read_map, and_then, at_item, read_type, read_each, HasShortArrays, HaveShortArrays}
 
 pub short-item : (vs : List Value) (i : ℕ) (d : Value) → i < length vs → HaveShortArrays (items_view vs) → HasShortArrays (view (get_or vs i d))
 short-item [] i d below short = absurd (omega arith)

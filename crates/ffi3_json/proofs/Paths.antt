@@ -4,7 +4,7 @@ use Rattle.std.specs.Prelude.{slice_index}
 use Rattle.std.proofs.lemmas.List.{length-append, drop_more}
 use Rattle.std.proofs.Math.Seq.{take-append_seam}
 use Rattle.ffi3_script_rules.specs.Step.{PathStep}
-use Rattle.ffi3_language_rules.specs.Language.{Path, inside_type, at_item, under}
+use Rattle.ffi3_script_rules.specs.Language.{Path, inside_type, at_item, under}
 use Rattle.ffi3_json.proofs.Objects.{none_left}
 use Rattle.ffi3_json.specs.StepOf.{step_of}
 use Rattle.ffi3_json.specs.declared.place.Step.{Step}

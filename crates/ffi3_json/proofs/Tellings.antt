@@ -1,6 +1,6 @@
 -- What a refusal tells, told of another value.
 use Rattle.std.proofs.Common.{◌≡◌, sym, ◌∙◌}
-use Rattle.ffi3_language_rules.specs.Language.{Path, Reason, Read, fault}
+use Rattle.ffi3_script_rules.specs.Language.{Path, Reason, Read, fault}
 use Rattle.ffi3_json.specs.ReasonOf.{reason_of}
 use Rattle.ffi3_json.specs.Told.{Tells}
 use Rattle.ffi3_json.specs.declared.fault.ScriptFault.{ScriptFault}

@@ -1,6 +1,6 @@
 -- Which key a key of the code is.
 use Rattle.std.specs.Prelude.{string_bytes}
-use Rattle.ffi3_language_rules.specs.Language as language
+use Rattle.ffi3_script_rules.specs.Language as language
 use Rattle.ffi3_json.specs.declared.keys.Key.{Key}
 
 abbrev pub key_of : Key → language.Key

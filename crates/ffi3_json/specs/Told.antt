@@ -1,7 +1,7 @@
 -- What a refusal tells.
 use Rattle.std.specs.Prelude.{ℕ, ◌<◌, List, length}
-use Rattle.ffi3_language_rules.specs.Language.{Path, Reason}
-use Rattle.ffi3_script_rules.specs.Reading.{max_length, IsReading, not_json}
+use Rattle.ffi3_script_rules.specs.Language.{Path, Reason}
+use Rattle.ffi3_script_rules.specs.Reading.{max_length, IsNotJson}
 use Rattle.ffi3_json.specs.ReasonOf.{reason_of}
 use Rattle.ffi3_json.specs.declared.fault.ScriptFault.{ScriptFault}
 use Rattle.ffi3_json.specs.declared.fault.ScriptFault.TheVariants.{TooLong, BadJson, BadScript, NoMemory}
@@ -16,6 +16,6 @@ Tells says NoMemory = Unit {0}
 -- The fault is that of a text which is too long or no JSON. Memory alone is free.
 abbrev pub IsCauseOf : List ℕ → ScriptFault → Type 0
 IsCauseOf bytes TooLong = max_length < length bytes
-IsCauseOf bytes BadJson = IsReading bytes not_json
+IsCauseOf bytes BadJson = IsNotJson bytes
 IsCauseOf bytes (BadScript path why) = ⊥
 IsCauseOf bytes NoMemory = Unit {0}

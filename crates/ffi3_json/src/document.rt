@@ -1,7 +1,7 @@
 // From bytes to a JSON value.
 ghost use Rattle.std.specs.Prelude.{IfOk, IfErr};
 ghost use Rattle.serde_json.specs.View.{view};
-ghost use Rattle.ffi3_language_rules.specs.Language.{HasShortArrays};
+ghost use Rattle.ffi3_script_rules.specs.Language.{HasShortArrays};
 ghost use Rattle.ffi3_script_rules.specs.Reading.{IsJson};
 ghost use Rattle.ffi3_json.specs.Told.{IsCauseOf};
 

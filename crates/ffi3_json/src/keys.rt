@@ -1,7 +1,7 @@
 // The keys of an object.
 ghost use Rattle.std.specs.Prelude.{◌≡◌, ◌<◌, ◌++◌, ◌∷◌, [], OnOk, OnErr, length, slice_get, Some, option_map, string_bytes};
 ghost use Rattle.serde_json.specs.View.{view};
-ghost use Rattle.ffi3_language_rules.specs.Language.{is_key_of, first_missing};
+ghost use Rattle.ffi3_script_rules.specs.Language.{is_key_of, first_missing};
 ghost use Rattle.ffi3_json.specs.KeyOf.{key_of};
 
 use crate::{Json, NoMemory};
@@ -23,7 +23,7 @@ pub struct Keys {
 
 impl Model for Keys {
     ghost use Rattle.std.specs.Prelude.{List, map};
-    ghost use Rattle.ffi3_language_rules.specs.Language as language;
+    ghost use Rattle.ffi3_script_rules.specs.Language as language;
     ghost use Rattle.ffi3_json.specs.KeyOf.{key_of};
 
     ghost Value = { List language.Key };

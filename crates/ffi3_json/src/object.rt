@@ -1,8 +1,8 @@
 // The keys of an object.
 ghost use Rattle.std.specs.Prelude.{◌≡◌, IfErr, OnOk};
 ghost use Rattle.serde_json.specs.View.{view, members_view};
-ghost use Rattle.ffi3_language_rules.specs.Language as language;
-ghost use Rattle.ffi3_language_rules.specs.Language.{read, has_only};
+ghost use Rattle.ffi3_script_rules.specs.Language as language;
+ghost use Rattle.ffi3_script_rules.specs.Language.{read, has_only};
 ghost use Rattle.ffi3_json.specs.Told.{Tells};
 
 use crate::fault::bad;

@@ -1,6 +1,6 @@
 // A place in a script.
 ghost use Rattle.std.specs.Prelude.{◌≡◌, ◌<◌, ◌++◌, ◌∷◌, [], OnOk, OnErr, IfOk, length, slice_get, Some, take, ◌-◌};
-ghost use Rattle.ffi3_language_rules.specs.Language.{under, at_item};
+ghost use Rattle.ffi3_script_rules.specs.Language.{under, at_item};
 ghost use Rattle.ffi3_json.specs.StepOf.{step_of};
 
 use crate::NoMemory;
@@ -79,21 +79,21 @@ impl Where {
     }
 
     /// On to the member under a key.
-    pub(crate) fn push_key(&mut self, alloc: Global, name: &str) -> Result<(), NoMemory>
+    pub fn push_key(&mut self, alloc: Global, name: &str) -> Result<(), NoMemory>
         ensures { OnOk result (self.new ≡ under self.old name.now) }
     {
         self.push(Step::Key(String::from_str(alloc, name)?))
     }
 
     /// On to the item of a number.
-    pub(crate) fn push_number(&mut self, i: u32) -> Result<(), NoMemory>
+    pub fn push_number(&mut self, i: u32) -> Result<(), NoMemory>
         ensures { OnOk result (self.new ≡ at_item self.old i) }
     {
         self.push(Step::Number(i))
     }
 
     /// Back by the last step.
-    pub(crate) fn pop(&mut self)
+    pub fn pop(&mut self)
         requires { 0 < length self.old }
         ensures { self.new ≡ take (length self.old - 1) self.old }
     {

@@ -1,3 +1,2 @@
-pub mod Told
-pub mod StepOf
-pub mod Parts
+pub mod ExprOf
+pub mod ScopeOf

@@ -1,3 +1,13 @@
+pub mod FirstFaults
+pub mod FirstSignatureFaults
+pub mod Readings
+mod RowForms
+mod LanguageRows
+mod MoveRows
+mod ValueRows
+mod MeaningRows
+mod ComputedValueRows
+mod RunLimitRows
 pub mod Tests
 pub mod RightTypes
 pub mod Fits

@@ -1,6 +1,6 @@
 use Rattle.std.proofs.Common.{◌≡◌}
 use Rattle.serde_json.specs.View.{members_view}
-use Rattle.ffi3_language_rules.specs.Language.{has_only}
+use Rattle.ffi3_script_rules.specs.Language.{has_only}
 use Rattle.ffi3_json.proofs.object.has_only.Given as goal
 
 abbrev pub invariant-loop-name : goal.invariant-loop-name

@@ -1,5 +1,5 @@
 use Rattle.std.proofs.Common.{◌≡◌, drop}
-use Rattle.ffi3_language_rules.specs.Language.{inside_type}
+use Rattle.ffi3_script_rules.specs.Language.{inside_type}
 use Rattle.ffi3_json.proofs.signature.push_way.Given as goal
 
 abbrev pub invariant-loop-i : goal.invariant-loop-i

@@ -8,7 +8,7 @@ use Rattle.serde_json.proofs.Views.{items_len-items_view, members_len-members_vi
 use Rattle.ffi3_type_rules.specs.Tree.{struct_of}
 use Rattle.ffi3_types.specs.TreeOf.{tree_of}
 use Rattle.ffi3_script_rules.specs.Step.{number}
-use Rattle.ffi3_language_rules.specs.Language.{read_type, read_types, read_each, read_map, read, at_item, not_a_type, HasShortArrays}
+use Rattle.ffi3_script_rules.specs.Language.{read_type, read_types, read_each, read_map, read, at_item, not_a_type, HasShortArrays}
 use Rattle.ffi3_json.proofs.Tellings.{tells_more, tells_made, tells_part}
 use Rattle.ffi3_json.proofs.Paths.{there_and_back}
 use Rattle.ffi3_json.proofs.Objects.{object_is, array_is, struct-none, struct-many, struct-one, short-member, depth-member}

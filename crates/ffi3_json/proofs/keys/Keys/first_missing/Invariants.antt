@@ -1,6 +1,6 @@
 use Rattle.std.proofs.Common.{◌≡◌, map, drop}
 use Rattle.serde_json.specs.View.{view}
-use Rattle.ffi3_language_rules.specs.Language.{first_missing}
+use Rattle.ffi3_script_rules.specs.Language.{first_missing}
 use Rattle.ffi3_json.specs.KeyOf.{key_of}
 use Rattle.ffi3_json.proofs.keys.Keys.first_missing.Given as goal
 
