@@ -1,5 +1,5 @@
 -- How rows of the script language are written: a script's text, the line of its fault, and what it does.
-use Rattle.std.specs.Prelude.{ℕ, ◌==◌, List, [], ◌++◌, Option, Some, None, option_map, codes, cond, map, ⊤}
+use Rattle.std.specs.Prelude.{ℕ, ◌==◌, List, [], ◌∷◌, ◌++◌, Option, Some, None, option_map, codes, cond, map, ⊤}
 use Rattle.std.specs.Fmt.{digits}
 use Rattle.hex.proofs.OnLiterals.{hex_on_literals}
 use Rattle.serde_json.proofs.OnLiterals.{serde_json_on_literals}
@@ -15,7 +15,7 @@ use Rattle.ffi3_run_rules.specs.Happenings.{happenings_of}
 use Rattle.ffi3_run_rules.specs.Lines as lines
 use Rattle.ffi3_script_rules.specs.Language.{Read, read, fault}
 use Rattle.ffi3_script_rules.specs.ReasonText.{text_of_path, text_of_reason}
-use Rattle.ffi3_script_rules.specs.Script.{Script}
+use Rattle.ffi3_script_rules.specs.Script.{Script, free, constant}
 use Rattle.ffi3_script_rules.specs.Bodies.{read_script}
 use Rattle.ffi3_script_rules.specs.Meaning.{program_of}
 
@@ -74,8 +74,10 @@ in_body moves =
 
 -- ---- what a script means
 
+-- in place of a text that is no script: no row expects what it does
 abbrev pub no_script : Script
-no_script = record { signatures = []; functions = []; main = [] }
+no_script =
+    record { signatures = []; functions = []; main = record { condition = None; act = free (constant (1 ∷ [])); name = None } ∷ [] }
 
 abbrev pub script_in : Option (Read Script) → Script
 script_in (Some (read script)) = script
