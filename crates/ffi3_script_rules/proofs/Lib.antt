@@ -13,3 +13,4 @@ pub mod RightTypes
 pub mod Fits
 pub mod ReadParts
 pub mod TypedValues
+pub mod WellTyped

@@ -13,7 +13,7 @@ use Rattle.ffi3_type_rules.specs.Signature.{Signature, signature_at, at_result, 
 use Rattle.ffi3_type_rules.proofs.Values.{element_within}
 use Rattle.ffi3_type_rules.proofs.Parts.{length_part}
 use Rattle.ffi3_script_rules.specs.FirstFault.{Found, first_fault, first_inside, or_else, in_struct, inside_element, fault_of_size, first_signature_fault, first_in_arguments, first_in_fixed, at_position}
-use Rattle.ffi3_script_rules.specs.Typed.{is_right, signature_is_right}
+use Rattle.ffi3_script_rules.specs.Typed.{is_right, is_right_argument, signature_is_right}
 use Rattle.ffi3_script_rules.proofs.Tests.{and_left, and_right, both}
 
 -- ---- options
@@ -209,19 +209,18 @@ pub result_type_is_right : (s : Signature) → signature_is_right s ≡ true →
 result_type_is_right s h =
     none-is_none (first_fault 0 true s.result_type) (none_mapped (at_position at_result) (first_fault 0 true s.result_type) (none_first (option_map (at_position at_result) (first_fault 0 true s.result_type)) (or_else (first_in_arguments 0 s.arguments) (first_in_fixed s.fixed s.arguments)) (none_but_number s h)))
 
-each_argument : (i : ℕ) (ts : List Tree) (k : ℕ) → first_in_arguments i ts ≡ None → k < length ts → first_fault 0 false (tree_at ts k) ≡ None
-each_argument i [] k h below = absurd (omega arith)
-each_argument i (t ∷ ts) zero h below =
-    none_mapped (at_position (at_argument i)) (first_fault 0 false t) (none_first (option_map (at_position (at_argument i)) (first_fault 0 false t)) (first_in_arguments (i + 1) ts) h)
-each_argument i (t ∷ ts) (suc k) h below =
-    each_argument (i + 1) ts k (none_second (option_map (at_position (at_argument i)) (first_fault 0 false t)) (first_in_arguments (i + 1) ts) h) (omega arith)
+all_arguments : (i : ℕ) (ts : List Tree) → first_in_arguments i ts ≡ None → list_all is_right_argument ts ≡ true
+all_arguments i [] h = refl
+all_arguments i (t ∷ ts) h =
+    let first = option_map (at_position (at_argument i)) (first_fault 0 false t) in
+    both (is_right_argument t) _ (none-is_none (first_fault 0 false t) (none_mapped (at_position (at_argument i)) (first_fault 0 false t) (none_first first (first_in_arguments (i + 1) ts) h))) (all_arguments (i + 1) ts (none_second first (first_in_arguments (i + 1) ts) h))
 
--- an argument type of a right signature
-pub argument_type_is_right : (s : Signature) (k : ℕ) → signature_is_right s ≡ true → k < length s.arguments → first_fault 0 false (tree_at s.arguments k) ≡ None
-argument_type_is_right s k h below =
+-- the argument types of a right signature
+pub argument_types_are_right : (s : Signature) → signature_is_right s ≡ true → list_all is_right_argument s.arguments ≡ true
+argument_types_are_right s h =
     let first = option_map (at_position at_result) (first_fault 0 true s.result_type) in
     let rest = or_else (first_in_arguments 0 s.arguments) (first_in_fixed s.fixed s.arguments) in
-    each_argument 0 s.arguments k (none_first (first_in_arguments 0 s.arguments) (first_in_fixed s.fixed s.arguments) (none_second first rest (none_but_number s h))) below
+    all_arguments 0 s.arguments (none_first (first_in_arguments 0 s.arguments) (first_in_fixed s.fixed s.arguments) (none_second first rest (none_but_number s h)))
 
 -- each signature of a list of right ones
 pub signature_at-right : (ss : List Signature) (i : ℕ) → list_all signature_is_right ss ≡ true → i < length ss → signature_is_right (signature_at ss i) ≡ true

@@ -12,7 +12,7 @@ use Rattle.ffi3_run_rules.specs.Move.{no_signature}
 use Rattle.ffi3_script_rules.specs.FirstFault.{first_fault, first_signature_fault}
 use Rattle.ffi3_script_rules.specs.Script.{Expression, constant, composed, argument, outcome, user_data, element, typed_as, sum, difference, cast, Expressions, no_expressions, expression, Typed, Act, call, make, free, print, return, return_void, ScriptMove, ScriptFunction, Script}
 use Rattle.ffi3_script_rules.specs.Values.{Given, Scope}
-use Rattle.ffi3_script_rules.specs.Bodies.{type_of_act, ends}
+use Rattle.ffi3_script_rules.specs.Bodies.{Surroundings, type_of_act, ends}
 
 -- the types of what a value is computed from
 pub record Kinds : Type 0 where
@@ -138,6 +138,11 @@ kinds_of scope =
 abbrev pub scope_is_right : Scope → Bool
 scope_is_right scope =
     list_all is_right_argument scope.arguments && list_all is_right (types_of scope.given)
+
+-- the setting of the moves that are read in these surroundings
+abbrev pub setting_of : Surroundings → Setting
+setting_of s =
+    record { signatures = s.signatures; functions = length s.functions; result_type = s.own.result_type }
 
 -- ---- results
 
