@@ -1,0 +1,9 @@
+//! The words of the program.
+#![tactic(auto)]
+
+mod command;
+#[cfg(test)]
+mod tests;
+mod words;
+
+pub use words::{Request, WordsFault, read_words};
