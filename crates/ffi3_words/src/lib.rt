@@ -2,6 +2,7 @@
 #![tactic(auto)]
 
 mod command;
+mod help;
 #[cfg(test)]
 mod tests;
 mod words;
