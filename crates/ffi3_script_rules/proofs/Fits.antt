@@ -1,5 +1,5 @@
 -- WELL-TYPED VALUES FIT THEIR TYPES, and the moves of a well-typed body fit.
-use Rattle.std.proofs.Common.{◌≡◌, ℕ, suc, ◌<◌, Bool, true, false, Option, Some, None, List, [], ◌∷◌, ◌++◌, length, take, refl, ap, ◌∙◌, sym, subst, arith}
+use Rattle.std.proofs.Common.{◌≡◌, ℕ, zero, ◌+◌, ◌<◌, suc, Bool, true, false, Option, Some, None, List, [], ◌∷◌, ◌++◌, length, take, refl, ap, ◌∙◌, sym, subst, arith}
 use Rattle.std.specs.Prelude.{slice_index_or, nat_lt, ◌&&◌, is_none}
 use Rattle.std.specs.Int.{w64, to_le_bytes}
 use Rattle.std.specs.List.{list_all}
@@ -12,14 +12,15 @@ use Rattle.ffi3_type_rules.specs.Signature.{Signature, signature_at}
 use Rattle.ffi3_type_rules.specs.Value as values
 use Rattle.ffi3_type_rules.proofs.ValueElements.{fitting_element}
 use Rattle.ffi3_type_rules.proofs.Widened.{length-bytes_of_number}
-use Rattle.ffi3_script_rules.specs.Script.{Expression, constant, composed, argument, outcome, user_data, element, typed_as, sum, difference, cast, Expressions, no_expressions, expression, Act, call, make, free, print, return, return_void, ScriptMove, Typed}
-use Rattle.ffi3_run_rules.specs.Move.{Move, MoveFits, result_type_of}
+use Rattle.ffi3_script_rules.specs.Script.{Expression, constant, composed, argument, outcome, user_data, element, typed_as, sum, difference, cast, Expressions, no_expressions, expression, Act, call, make, free, print, return, return_void, ScriptMove, ScriptFunction, Script, Typed}
+use Rattle.ffi3_run_rules.specs.Move.{Move, MoveFits, result_type_of, no_signature}
 use Rattle.ffi3_script_rules.specs.FirstFault.{first_fault}
 use Rattle.ffi3_script_rules.specs.Bodies.{type_of_act, is_return, ends}
 use Rattle.ffi3_script_rules.specs.Meaning.{Known, value_of, values_of, element_value, difference_of, is_done, move_of, next_by, next_of, knows_too, behaviour_of, known}
-use Rattle.ffi3_script_rules.specs.Typed.{Kinds, is_at, own_type, is_scalar_of, is_number_of, is_struct, trees_in, has_type, have_types, same_scalar, Setting, is_right, signature_is_right, act_is_typed, gives_too, moves_are_typed, body_is_typed, IsOfType, is_condition}
+use Rattle.ffi3_script_rules.specs.Typed.{Kinds, is_at, own_type, is_scalar_of, is_number_of, is_struct, trees_in, has_type, have_types, same_scalar, Setting, is_right, signature_is_right, act_is_typed, gives_too, moves_are_typed, body_is_typed, function_is_typed, script_is_typed, IsOfType, is_condition}
 use Rattle.ffi3_script_rules.proofs.Tests.{and_left, and_right, both, types_are_same, scalars_are_same}
-use Rattle.ffi3_script_rules.proofs.RightTypes.{is_none-none, right_has_no_fault, zero_fits, any_result_type_is_right}
+use Rattle.ffi3_script_rules.proofs.FirstFaults.{right_by_none}
+use Rattle.ffi3_script_rules.proofs.RightTypes.{is_none-none, zero_fits, any_result_type_is_right}
 
 -- the list of values and back
 values_of-list_of_values : (vs : ValueTrees) → values.values_of (list_of_values vs) ≡ vs
@@ -173,7 +174,7 @@ module _ (s : Setting) (right : list_all signature_is_right s.signatures ≡ tru
         ltb-true function s.functions (and_left (nat_lt function s.functions) _ h)
     act_fits (free to) h = tt
     act_fits (print v) h =
-        (right_has_no_fault 0 true v.type (is_none-none (first_fault 0 true v.type) (and_left (is_right v.type) _ h)), value_fits kinds k arguments outcomes v.type v.value (and_right (is_right v.type) _ h))
+        (right_by_none 0 true v.type (is_none-none (first_fault 0 true v.type) (and_left (is_right v.type) _ h)), value_fits kinds k arguments outcomes v.type v.value (and_right (is_right v.type) _ h))
     act_fits (return e) h = value_fits kinds k arguments outcomes s.result_type e h
     act_fits return_void h = void_fits s.result_type (types_are_same void s.result_type h)
 
@@ -212,3 +213,36 @@ module _ (s : Setting) (right : list_all signature_is_right s.signatures ≡ tru
 pub body_fits : (signatures : List Signature) (functions : ℕ) (own : Signature) (ms : List ScriptMove) (arguments : List ValueTree) (user : ℕ) (results : List ValueTree) → list_all signature_is_right signatures ≡ true → body_is_typed signatures functions own ms ≡ true → all_fit (trees_of own.arguments) (values.values_of arguments) ≡ true → ((i : ℕ) → i < length results → IsOfType (slice_index_or results i void_value) (result_type_of signatures (behaviour_of signatures ms arguments user (take i results)))) → MoveFits signatures functions own.result_type (behaviour_of signatures ms arguments user results)
 body_fits signatures functions own ms arguments user results right typed fit follow =
     moves_fit (record { signatures = signatures; functions = functions; result_type = own.result_type }) right (record { arguments = own.arguments; outcomes = [] }) ms (known arguments user) results fit refl (and_left (ends ms) _ typed) (and_right (ends ms) _ typed) follow
+
+-- ---- a well-typed script
+
+-- one of a list whose items all pass a test
+item_passes : {A : Type 0} (p : A → Bool) (xs : List A) (i : ℕ) (d : A) → list_all p xs ≡ true → i < length xs → p (slice_index_or xs i d) ≡ true
+item_passes p [] i d each below = absurd (omega arith)
+item_passes p (x ∷ xs) zero d each below = and_left (p x) _ each
+item_passes p (x ∷ xs) (suc i) d each below =
+    item_passes p xs i d (and_right (p x) _ each) (omega arith)
+
+module _ (natives : ℕ) (script : Script) (typed : script_is_typed natives script ≡ true) where
+  pub signatures_are_right : list_all signature_is_right script.signatures ≡ true
+  signatures_are_right = and_left (list_all signature_is_right script.signatures) _ typed
+
+  pub function_is_right : (i : ℕ) (d : ScriptFunction) → i < length script.functions → function_is_typed script.signatures (length script.functions + natives) (slice_index_or script.functions i d) ≡ true
+  function_is_right i d below =
+      let each = function_is_typed script.signatures (length script.functions + natives) in
+      item_passes each script.functions i d (and_left (list_all each script.functions) _ (and_right (list_all signature_is_right script.signatures) _ typed)) below
+
+  pub main_is_right : body_is_typed script.signatures (length script.functions + natives) no_signature script.main ≡ true
+  main_is_right =
+      and_right (list_all (function_is_typed script.signatures (length script.functions + natives)) script.functions) _ (and_right (list_all signature_is_right script.signatures) _ typed)
+
+  -- WHAT A FUNCTION DOES NEXT FITS, from arguments that fit its signature and after results that follow
+  pub function_fits : (i : ℕ) (d : ScriptFunction) (arguments : List ValueTree) (user : ℕ) (results : List ValueTree) → i < length script.functions → all_fit (trees_of (signature_at script.signatures (slice_index_or script.functions i d).signature).arguments) (values.values_of arguments) ≡ true → Follow script.signatures (λ rs. behaviour_of script.signatures (slice_index_or script.functions i d).body arguments user rs) results → MoveFits script.signatures (length script.functions + natives) (signature_at script.signatures (slice_index_or script.functions i d).signature).result_type (behaviour_of script.signatures (slice_index_or script.functions i d).body arguments user results)
+  function_fits i d arguments user results below fit follow =
+      let f = slice_index_or script.functions i d in
+      body_fits script.signatures (length script.functions + natives) (signature_at script.signatures f.signature) f.body arguments user results signatures_are_right (and_right (nat_lt f.signature (length script.signatures)) _ (function_is_right i d below)) fit follow
+
+  -- so does main
+  pub main_fits : (user : ℕ) (results : List ValueTree) → Follow script.signatures (λ rs. behaviour_of script.signatures script.main [] user rs) results → MoveFits script.signatures (length script.functions + natives) void (behaviour_of script.signatures script.main [] user results)
+  main_fits user results follow =
+      body_fits script.signatures (length script.functions + natives) no_signature script.main [] user results signatures_are_right main_is_right refl follow

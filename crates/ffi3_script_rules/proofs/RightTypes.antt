@@ -2,18 +2,19 @@
 use Rattle.std.proofs.Common.{◌≡◌, ℕ, zero, suc, ◌+◌, ◌<◌, ◌≤◌, Bool, true, false, List, [], ◌∷◌, length, Option, Some, None, refl, ap, sym, subst, arith, replicate}
 use Rattle.std.specs.Prelude.{nat_lt, option_map, is_none, if◌then◌else◌}
 use Rattle.std.specs.List.{list_all}
-use Rattle.std.proofs.lemmas.Bool.{eq-eqb, ltb-true, lt-ltb, ltb-false}
+use Rattle.std.proofs.lemmas.Bool.{eq-eqb}
 use Rattle.std.proofs.lemmas.List.{length-replicate}
 use Rattle.ffi3_type_rules.specs.Tree.{Tree, void, scalar, left_out, structure, Trees, no_trees, tree, tree_at, list_of, trees_of-list_of}
 use Rattle.ffi3_type_rules.specs.Layout.{Layout, layouts, start_of, size_of}
 use Rattle.ffi3_type_rules.specs.Value.{part, value_in, values_in, zero_value, fits, all_fit}
-use Rattle.ffi3_type_rules.specs.Fault.{HasNoFault, largest_struct, deepest_nesting, too_deep, too_large}
-use Rattle.ffi3_type_rules.proofs.Faults.{scalar_faults, void_faults, struct_is_right}
+use Rattle.ffi3_type_rules.specs.Fault.{deepest_nesting, too_deep}
+use Rattle.ffi3_type_rules.proofs.Faults.{fault_deeper}
 use Rattle.ffi3_type_rules.specs.Signature.{Signature, signature_at, at_result, at_argument, most_arguments, SignatureFault, too_many}
 use Rattle.ffi3_type_rules.proofs.Values.{element_within}
 use Rattle.ffi3_type_rules.proofs.Parts.{length_part}
 use Rattle.ffi3_script_rules.specs.FirstFault.{Found, first_fault, first_inside, or_else, in_struct, inside_element, fault_of_size, first_signature_fault, first_in_arguments, first_in_fixed, at_position}
 use Rattle.ffi3_script_rules.specs.Typed.{is_right, is_right_argument, signature_is_right}
+use Rattle.ffi3_script_rules.proofs.FirstFaults.{right_by_none, none_found}
 use Rattle.ffi3_script_rules.proofs.Tests.{and_left, and_right, both}
 
 -- ---- options
@@ -33,41 +34,29 @@ none_second : {A : Type 0} (o p : Option A) → or_else o p ≡ None → p ≡ N
 none_second None p h = h
 none_second (Some a) p h = cc
 
-none_both : {A : Type 0} (o p : Option A) → o ≡ None → p ≡ None → or_else o p ≡ None
-none_both None p h k = k
-none_both (Some a) p h k = cc
-
 none_mapped : {A B : Type 0} (f : A → B) (o : Option A) → option_map f o ≡ None → o ≡ None
 none_mapped f None h = refl
 none_mapped f (Some a) h = cc
 
-none_then : {A : Type 0} (b : Bool) (o : Option A) (x : A) → (if b then o else Some x) ≡ None → (b ≡ true) × (o ≡ None)
-none_then true o x h = (refl, h)
-none_then false o x h = absurd (cc)
+none_then : {A : Type 0} (b : Bool) (o : Option A) (x : A) → (if b then o else Some x) ≡ None → o ≡ None
+none_then true o x h = h
+none_then false o x h = cc
 
 none_else : {A : Type 0} (b : Bool) (o : Option A) (x : A) → (if b then Some x else o) ≡ None → o ≡ None
 none_else true o x h = cc
 none_else false o x h = h
 
-then_none : {A : Type 0} (b : Bool) (o : Option A) (x : A) → b ≡ true → o ≡ None → (if b then o else Some x) ≡ None
-then_none true o x h k = k
-then_none false o x h k = cc
-
 -- ---- elements
 
--- a struct that has no first fault is not too deep, and none is inside it
+-- inside a struct that has no first fault there is none
 in_struct-none : (outer : ℕ) (ts : Trees) (f : Option Found) → in_struct outer ts f ≡ None → f ≡ None
 in_struct-none outer no_trees f h = cc
 in_struct-none outer (tree t ts) f h = none_first f (fault_of_size (size_of (structure (tree t ts)))) h
 
 module _ (outer : ℕ) (as_result : Bool) (ts : Trees) (h : first_fault outer as_result (structure ts) ≡ None) where
-  pub is_shallow : outer < 16
-  is_shallow =
-      ltb-true outer 16 (none_then (nat_lt outer deepest_nesting) (in_struct outer ts (first_inside (outer + 1) 0 ts)) ([], too_deep) h).0
-
   pub inside_is_right : first_inside (outer + 1) 0 ts ≡ None
   inside_is_right =
-      in_struct-none outer ts (first_inside (outer + 1) 0 ts) (none_then (nat_lt outer deepest_nesting) (in_struct outer ts (first_inside (outer + 1) 0 ts)) ([], too_deep) h).1
+      in_struct-none outer ts (first_inside (outer + 1) 0 ts) (none_then (nat_lt outer deepest_nesting) (in_struct outer ts (first_inside (outer + 1) 0 ts)) ([], too_deep) h)
 
 -- each element of a list without first fault has none
 pub each_is_right : (outer i : ℕ) (ts : Trees) (k : ℕ) → first_inside outer i ts ≡ None → k < length (list_of ts) → first_fault outer false (tree_at (list_of ts) k) ≡ None
@@ -76,33 +65,6 @@ each_is_right outer i (tree t ts) zero h below =
     none_mapped (inside_element i) (first_fault outer false t) (none_first (option_map (inside_element i) (first_fault outer false t)) (first_inside outer (i + 1) ts) h)
 each_is_right outer i (tree t ts) (suc k) h below =
     each_is_right outer (i + 1) ts k (none_second (option_map (inside_element i) (first_fault outer false t)) (first_inside outer (i + 1) ts) h) (omega arith)
-
--- a type may stand in fewer structs
-in_fewer : (outer : ℕ) (ts : Trees) (f g : Option Found) → (f ≡ None → g ≡ None) → in_struct (outer + 1) ts f ≡ None → in_struct outer ts g ≡ None
-in_fewer outer no_trees f g fewer h = cc
-in_fewer outer (tree t ts) f g fewer h =
-    let size = fault_of_size (size_of (structure (tree t ts))) in
-    none_both g size (fewer (none_first f size h)) (none_second f size h)
-
-mapped_none : {A B : Type 0} (f : A → B) (o : Option A) → o ≡ None → option_map f o ≡ None
-mapped_none f o h = ap (option_map f) h
-
-mutual
-  pub in_fewer_structs : (outer : ℕ) (as_result : Bool) (t : Tree) → first_fault (outer + 1) as_result t ≡ None → first_fault outer as_result t ≡ None
-  in_fewer_structs outer true void h = refl
-  in_fewer_structs outer false void h = cc
-  in_fewer_structs outer as_result (scalar s) h = refl
-  in_fewer_structs outer as_result (left_out k) h = cc
-  in_fewer_structs outer as_result (structure ts) h =
-      let shallow = is_shallow (outer + 1) as_result ts h in
-      let inner = in_struct (outer + 1) ts (first_inside (outer + 1 + 1) 0 ts) in
-      then_none (nat_lt outer deepest_nesting) (in_struct outer ts (first_inside (outer + 1) 0 ts)) ([], too_deep) (lt-ltb outer 16 (omega arith)) (in_fewer outer ts (first_inside (outer + 1 + 1) 0 ts) (first_inside (outer + 1) 0 ts) (inside_fewer (outer + 1) 0 ts) (none_then (nat_lt (outer + 1) deepest_nesting) inner ([], too_deep) h).1)
-
-  inside_fewer : (outer i : ℕ) (ts : Trees) → first_inside (outer + 1) i ts ≡ None → first_inside outer i ts ≡ None
-  inside_fewer outer i no_trees h = refl
-  inside_fewer outer i (tree t ts) h =
-      let there = option_map (inside_element i) (first_fault (outer + 1) false t) in
-      none_both (option_map (inside_element i) (first_fault outer false t)) (first_inside outer (i + 1) ts) (mapped_none (inside_element i) (first_fault outer false t) (in_fewer_structs outer false t (none_mapped (inside_element i) (first_fault (outer + 1) false t) (none_first there (first_inside (outer + 1) (i + 1) ts) h)))) (inside_fewer outer (i + 1) ts (none_second there (first_inside (outer + 1) (i + 1) ts) h))
 
 -- what may be an argument may be a result
 pub right_as_result : (outer : ℕ) (t : Tree) → first_fault outer false t ≡ None → first_fault outer true t ≡ None
@@ -114,48 +76,8 @@ right_as_result outer (structure ts) h = h
 -- an element of a right type is a right type, also as an argument
 pub element_as_argument : (as_result : Bool) (ts : Trees) (k : ℕ) → first_fault 0 as_result (structure ts) ≡ None → k < length (list_of ts) → first_fault 0 false (tree_at (list_of ts) k) ≡ None
 element_as_argument as_result ts k h below =
-    in_fewer_structs 0 false (tree_at (list_of ts) k) (each_is_right 1 0 ts k (inside_is_right 0 as_result ts h) below)
-
--- ---- faults
-
-not_then : {A : Type 0} (b : Bool) (x : A) → (if b then Some x else None) ≡ None → b ≡ false
-not_then true x h = cc
-not_then false x h = refl
-
-small : (size : ℕ) → fault_of_size size ≡ None → size ≤ 1024
-small size h = ltb-false 1024 size (not_then (nat_lt largest_struct size) ([], too_large size) h)
-
-void_is_right : (outer : ℕ) → HasNoFault outer true void
-void_is_right outer path f fault = let inside = (void_faults path f fault).2 in cc
-
-struct_has_no_fault : (outer : ℕ) (as_result : Bool) (ts : Trees) → first_fault outer as_result (structure ts) ≡ None → ((k : ℕ) → k < length (list_of ts) → HasNoFault (outer + 1) false (tree_at (list_of ts) k)) → HasNoFault outer as_result (structure ts)
-struct_has_no_fault outer as_result no_trees h each =
-    let inner = in_struct outer no_trees (first_inside (outer + 1) 0 no_trees) in
-    let none = (none_then (nat_lt outer deepest_nesting) inner ([], too_deep) h).1 in
-    cc
-struct_has_no_fault outer as_result (tree t ts) h each =
-    let inner = in_struct outer (tree t ts) (first_inside (outer + 1) 0 (tree t ts)) in
-    let none = (none_then (nat_lt outer deepest_nesting) inner ([], too_deep) h).1 in
-    let size = fault_of_size (size_of (structure (tree t ts))) in
-    let few : size_of (structure (tree t ts)) ≤ 1024 = small (size_of (structure (tree t ts))) (none_second (first_inside (outer + 1) 0 (tree t ts)) size none) in
-    subst (λ us. size_of (structure us) ≤ 1024 → HasNoFault outer as_result (structure us)) (trees_of-list_of (tree t ts)) (struct_is_right (list_of (tree t ts)) (is_shallow outer as_result (tree t ts) h) (omega arith) each) few
-
--- a type that has no first fault has none
-mutual
-  pub right_has_no_fault : (outer : ℕ) (as_result : Bool) (t : Tree) → first_fault outer as_result t ≡ None → HasNoFault outer as_result t
-  right_has_no_fault outer as_result (scalar s) h = scalar_faults s
-  right_has_no_fault outer true void h = void_is_right outer
-  right_has_no_fault outer false void h = cc
-  right_has_no_fault outer as_result (left_out k) h = cc
-  right_has_no_fault outer as_result (structure ts) h =
-      struct_has_no_fault outer as_result ts h (each_has_no_fault (outer + 1) 0 ts (inside_is_right outer as_result ts h))
-
-  each_has_no_fault : (outer i : ℕ) (ts : Trees) → first_inside outer i ts ≡ None → (k : ℕ) → k < length (list_of ts) → HasNoFault outer false (tree_at (list_of ts) k)
-  each_has_no_fault outer i no_trees h k below = absurd (omega arith)
-  each_has_no_fault outer i (tree t ts) h zero below =
-      right_has_no_fault outer false t (each_is_right outer i (tree t ts) 0 h below)
-  each_has_no_fault outer i (tree t ts) h (suc k) below =
-      each_has_no_fault outer (i + 1) ts (none_second (option_map (inside_element i) (first_fault outer false t)) (first_inside outer (i + 1) ts) h) k (omega arith)
+    let inside = right_by_none 1 false (tree_at (list_of ts) k) (each_is_right 1 0 ts k (inside_is_right 0 as_result ts h) below) in
+    none_found 0 false (tree_at (list_of ts) k) (λ path f fault. inside path f (fault_deeper 0 false (tree_at (list_of ts) k) path f fault))
 
 -- ---- zero
 
