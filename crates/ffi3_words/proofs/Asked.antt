@@ -1,6 +1,8 @@
 -- Where clap finds no fault in the words, they ask for something.
 use Rattle.std.proofs.Common.{◌≡◌, ◌∙◌, ◌||◌, ◌⊎◌, ◌++◌, ℕ, Bool, true, false, cond, not, List, [], ◌∷◌, codes, Option, Some, None, inl, inr, refl, sym, ap, subst, is_some, true≢false}
-use Rattle.std.specs.List.{fold, list_any}
+use Rattle.std.specs.List.{AllByRecursion, fold, list_any}
+use Rattle.std.specs.Borrow.{Bor}
+use Rattle.clap.specs.Values.{same_text}
 use Rattle.std.specs.Option.{option_map}
 use Rattle.std.specs.Str.{bytes_eq}
 use Rattle.std.proofs.lemmas.Slice.Eq.{bytes_eq-Decides}
@@ -15,7 +17,7 @@ use Rattle.ffi3_type_rules.specs.declared.Target.{Target}
 use Rattle.ffi3_type_rules.specs.declared.Target.TheVariants.{Amd64, Aapcs64, Riscv}
 use Rattle.ffi3_words.specs.declared.words.Request.{Request}
 use Rattle.ffi3_words.specs.declared.words.Request.TheVariants.{Layout, Place, Run}
-use Rattle.ffi3_words.specs.Commands.{Addresses, asked, one_of_words, place_targets, program_at, run_targets, target_of, with_target_of}
+use Rattle.ffi3_words.specs.Commands.{Addresses, after_first, lent, asked, one_of_words, place_targets, program_at, run_targets, target_of, with_target_of}
 use Rattle.clap.specs.Kinds.{Kinds, or_else}
 use Rattle.ffi3_words.proofs.Level.{has_target, never, or_both, or_none}
 
@@ -151,15 +153,21 @@ module _ (o : Both) where
   abbrev IsTarget : Text → Type 0
   IsTarget v = (t : Target) × (target_of v ≡ Some t)
 
-  is_place_target : (v : Text) (is_amd64 is_aapcs64 is_riscv : Bool) → bytes_eq (codes "amd64") v ≡ is_amd64 → bytes_eq (codes "aapcs64") v ≡ is_aapcs64 → bytes_eq (codes "riscv") v ≡ is_riscv → (is_amd64 || (is_aapcs64 || (is_riscv || false))) ≡ true → IsTarget v
-  is_place_target v true b2 b3 e1 e2 e3 one = subst IsTarget ((bytes_eq-Decides (codes "amd64") v).0 e1) (Amd64, refl)
-  is_place_target v false true b3 e1 e2 e3 one = subst IsTarget ((bytes_eq-Decides (codes "aapcs64") v).0 e2) (Aapcs64, refl)
-  is_place_target v false false true e1 e2 e3 one = subst IsTarget ((bytes_eq-Decides (codes "riscv") v).0 e3) (Riscv, refl)
-  is_place_target v false false false e1 e2 e3 one = absurd (true≢false (sym one))
+  one_more : (v t : Text) (is_first is_later : Bool) → bytes_eq t v ≡ is_first → IsTarget t → (is_later ≡ true → IsTarget v) → (is_first || is_later) ≡ true → IsTarget v
+  one_more v t true is_later e known more is_one = subst IsTarget ((bytes_eq-Decides t v).0 e) known
+  one_more v t false is_later e known more is_one = more is_one
 
-  is_run_target : (v : Text) (is_amd64 : Bool) → bytes_eq (codes "amd64") v ≡ is_amd64 → (is_amd64 || false) ≡ true → IsTarget v
-  is_run_target v true e one = subst IsTarget ((bytes_eq-Decides (codes "amd64") v).0 e) (Amd64, refl)
-  is_run_target v false e one = absurd (true≢false (sym one))
+  -- one of the words of targets is the word of a target
+  is_target : (v : Text) (at : Addresses) (ts : List Text) → AllByRecursion IsTarget ts → list_any (λ (t : Bor Text). same_text false t.now v) (lent at ts) ≡ true → IsTarget v
+  is_target v at [] known is_one = absurd (true≢false (sym is_one))
+  is_target v at (t ∷ ts) known is_one =
+      one_more v t (bytes_eq t v) (list_any (λ (x : Bor Text). same_text false x.now v) (lent (after_first at) ts)) refl known.0 (is_target v (after_first at) ts known.1) is_one
+
+  place_targets_known : AllByRecursion IsTarget place_targets
+  place_targets_known = ((Amd64, refl), ((Aapcs64, refl), ((Riscv, refl), tt)))
+
+  run_targets_known : AllByRecursion IsTarget run_targets
+  run_targets_known = ((Amd64, refl), tt)
 
   -- ---- the command that was met
 
@@ -174,13 +182,13 @@ module _ (o : Both) where
   asks_place : (rest : List Text) → entered_fault (app o) (Some (codes "place", rest)) ≡ [] → Asks (Some (codes "place", rest))
   asks_place rest fine =
       let got = has_target (codes "place") (λ (i : Both). one_of_words i.0 place_targets) o (λ v e i. e) rest fine in
-      let is = is_place_target got.0 _ _ _ refl refl refl (got.1 o) in
+      let is = is_target got.0 (after_first o.0) place_targets place_targets_known (got.1 o) in
       (Place is.0, λ i. ((got.2 i).0, refl, ap (λ p. with_target_of p (λ t. Place t)) (got.2 i).1 ∙ ap (option_map (λ t. Place t)) is.1))
 
   asks_run : (rest : List Text) → entered_fault (app o) (Some (codes "run", rest)) ≡ [] → Asks (Some (codes "run", rest))
   asks_run rest fine =
       let got = has_target (codes "run") (λ (i : Both). one_of_words i.1 run_targets) o (λ v e i. e) rest fine in
-      let is = is_run_target got.0 _ refl (got.1 o) in
+      let is = is_target got.0 (after_first o.1) run_targets run_targets_known (got.1 o) in
       (Run is.0, λ i. ((got.2 i).0, refl, ap (λ p. with_target_of p (λ t. Run t)) (got.2 i).1 ∙ ap (option_map (λ t. Run t)) is.1))
 
   wants : (wants_help : Bool) → cond wants_help (DisplayHelpOnMissingArgumentOrSubcommand ∷ []) (MissingSubcommand ∷ []) ≡ [] → ⊥

@@ -67,7 +67,7 @@ abbrev pub program_at : Addresses → Addresses → App
 program_at placing running =
     program_with (one_of_words placing place_targets) (one_of_words running run_targets)
 
--- no answer of clap depends on where the words of a target lie
+-- where the words of a target lie changes nothing in what clap takes (`something_asked` in proofs/Asked.antt)
 abbrev pub nowhere : Addresses
 nowhere n = (0, 0)
 

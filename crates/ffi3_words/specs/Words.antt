@@ -31,7 +31,7 @@ abbrev pub IsStated : List Text → Request → Type 0
 IsStated [] r = ⊥
 IsStated (name ∷ rest) r = StatesAfterName rest r
 
--- CLAP TAKES the words, which only want of memory can change, and reads them as this
+-- CLAP TAKES the words, unless memory is refused, and they ask for this
 pub record Takes (words : List Text) (r : Request) : Type 0 where
   pub passes : fault_of program words ≡ []
   pub means : asked (subcommand_of program words) ≡ Some r
