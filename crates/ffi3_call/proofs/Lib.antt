@@ -7,3 +7,4 @@ pub mod Entries
 pub mod Callees
 pub mod Returns
 pub mod Begun
+pub mod Stepping

@@ -1,8 +1,9 @@
 -- Integers and pointers: one word each, in a register or in a doubleword of the stack.
-use Rattle.std.proofs.Common.{◌≡◌, ℕ, zero, suc, ◌+◌, ◌*◌, ◌<◌, ◌≤◌, Bool, true, false, List, [], ◌∷◌, length, take, refl, ap, sym, ◌∙◌, subst, arith, add-one}
+use Rattle.std.proofs.Common.{◌≡◌, ℕ, zero, suc, ◌+◌, ◌*◌, ◌<◌, ◌≤◌, Bool, true, false, List, [], ◌∷◌, ◌++◌, length, get_or, take, refl, ap, sym, ◌∙◌, subst, arith, add-one}
 use Rattle.std.specs.List.{sum_by}
+use Rattle.std.proofs.lemmas.Bool.{eqb-true}
 use Rattle.std.proofs.Math.Seq.{take-suc}
-use Rattle.std.proofs.lemmas.List.Sums.{sum_by_push}
+use Rattle.std.proofs.lemmas.List.Sums.{sum_by-cons, sum_by_push}
 use Rattle.std.specs.Int.{w64, to_le_bytes}
 use Rattle.ffi3_type_rules.specs.Tree.{Tree, void, scalar, left_out, structure, tree_at, Scalar, u8, s8, u16, s16, u32, s32, u64, s64, float, double, pointer}
 use Rattle.ffi3_type_rules.specs.Layout.{size_of, scalar_size, least_multiple}
@@ -10,11 +11,12 @@ use Rattle.ffi3_type_rules.specs.Integer.{is_number, is_number_type}
 use Rattle.ffi3_type_rules.specs.Fault.{HasNoFault}
 use Rattle.ffi3_type_rules.specs.Signature.{Signature}
 use Rattle.ffi3_type_rules.specs.Value.{ValueTree, void_value, leaf_value, struct_value, bytes_of, value_in, fits}
-use Rattle.ffi3_type_rules.proofs.Faults.{scalar_faults}
+use Rattle.ffi3_type_rules.proofs.Faults.{scalar_faults, void_faults}
+use Rattle.ffi3_type_rules.proofs.Widened.{take-widened}
 use Rattle.ffi3_type_rules.proofs.Layouts.{scalar_size-bounds, least_multiple-above, least_multiple-below}
 use Rattle.ffi3_place_rules.specs.Standard.{round8, round16, block_bytes}
 use Rattle.ffi3_body.specs.Activation.{block_offset}
-use Rattle.ffi3_call.specs.Registers.{is_void, is_number_or_void, IsInRegisters}
+use Rattle.ffi3_call.specs.Registers.{is_void, is_number_or_void, IsInRegisters, IsLow}
 
 -- ---- types
 
@@ -38,7 +40,26 @@ result-number (scalar s) is some = is
 result-number (left_out k) is some = cc
 result-number (structure ts) is some = cc
 
+void_right : HasNoFault 0 true void
+void_right path f fault = let inside = (void_faults path f fault).2 in cc
+
+pub result-right : (t : Tree) → is_number_or_void t ≡ true → HasNoFault 0 true t
+result-right void is = void_right
+result-right (scalar s) is = scalar_faults s
+result-right (left_out k) is = cc
+result-right (structure ts) is = cc
+
 -- ---- values
+
+-- the low bytes of a value's word are the value's own
+pub low-bytes : (t : Tree) (v : ValueTree) (bytes : List ℕ) → is_number_type t ≡ true → fits t v ≡ true → v ≡ leaf_value bytes → ((k : ℕ) → get_or bytes k 0 < 256) → IsLow t v
+low-bytes void v bytes is fit leaf small = cc
+low-bytes (left_out k) v bytes is fit leaf small = cc
+low-bytes (structure ts) v bytes is fit leaf small = cc
+low-bytes (scalar s) v bytes is fit leaf small =
+    let count : length bytes ≡ scalar_size s = eqb-true (length bytes) (scalar_size s) (sym (ap (fits (scalar s)) leaf) ∙ fit) in
+    let P : ValueTree → Type 0 = λ x. IsLow (scalar s) x in
+    subst P (sym leaf) (take-widened bytes small s count)
 
 -- the bytes of a value are the value's own
 pub value-of-bytes : (t : Tree) (v : ValueTree) → is_number_type t ≡ true → fits t v ≡ true → value_in t (bytes_of v) ≡ v
@@ -82,7 +103,7 @@ offset-is ts numbers (suc i) within =
 sum-is : (ts : List Tree) → AreNumbers ts → sum_by (λ t. round8 (size_of t)) ts ≡ 8 * length ts
 sum-is [] numbers = refl
 sum-is (t ∷ ts) numbers =
-    omega (arith, whole t (numbers 0 (omega arith)), sum-is ts (λ i below. numbers (suc i) (omega arith)))
+    omega (arith, sum_by-cons (λ u. round8 (size_of u)) t ts, whole t (numbers 0 (omega arith)), sum-is ts (λ i below. numbers (suc i) (omega arith)))
 
 pub block-is : (s : Signature) → IsInRegisters s → least_multiple 16 (8 * length s.arguments) ≡ block_bytes s
 block-is s regs = sym (ap round16 (sum-is s.arguments regs.arguments))

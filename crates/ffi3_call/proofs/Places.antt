@@ -64,6 +64,9 @@ taken g = record { general = g; vector = 0; stack = 0 }
 abbrev pub piece : Tree → ℕ → Piece
 piece t r = doubleword (G r) 0 (size_of t) (extension t)
 
+none_before : (g : ℕ) → g + 0 ≡ g
+none_before g = omega arith
+
 module _ (t : Tree) (is : is_number_type t ≡ true) (g : ℕ) (left : g + 1 ≤ 6) where
   suffice : in_registers (taken g) t ≡ true
   suffice =
@@ -72,7 +75,7 @@ module _ (t : Tree) (is : is_number_type t ≡ true) (g : ℕ) (left : g + 1 ≤
 
   pieces-is : pieces_after (taken g) t ≡ piece t (argument_register g) ∷ []
   pieces-is =
-      ap (λ b. cond b (register_pieces argument_register g 0 t [] (classes t)) (stack_pieces 0 t 0 (eightbytes t))) suffice ∙ ap (register_pieces argument_register g 0 t []) (one_integer t is)
+      ap (λ b. cond b (register_pieces argument_register g 0 t [] (classes t)) (stack_pieces 0 t 0 (eightbytes t))) suffice ∙ ap (register_pieces argument_register g 0 t []) (one_integer t is) ∙ ap (λ k. piece t (argument_register k) ∷ []) (none_before g)
 
   taken-is : taken_with (taken g) t ≡ taken (g + 1)
   taken-is =
@@ -125,6 +128,10 @@ abbrev pub WordsStand : Image → ℕ → List Tree → List ValueTree → Type 
 WordsStand m g ts vs =
     (i : ℕ) → i < length ts → get_or m.general (argument_register (g + i)) 0 ≡ word_of (tree_at ts i) (value_at vs i)
 
+first_word : (m : Image) (g : ℕ) (t : Tree) (ts : List Tree) (v : ValueTree) (vs : List ValueTree) → WordsStand m g (t ∷ ts) (v ∷ vs) → get_or m.general (argument_register g) 0 ≡ word_of t v
+first_word m g t ts v vs words =
+    ap (λ k. get_or m.general (argument_register k) 0) (sym (none_before g)) ∙ words 0 (omega arith)
+
 later_words : (m : Image) (g : ℕ) (t : Tree) (ts : List Tree) (v : ValueTree) (vs : List ValueTree) → WordsStand m g (t ∷ ts) (v ∷ vs) → WordsStand m (g + 1) ts vs
 later_words m g t ts v vs words i below =
     let moved : g + 1 + i ≡ g + suc i = omega arith in
@@ -145,10 +152,10 @@ owns m base copy g (t ∷ ts) (v ∷ vs) few numbers fit words low =
     let is = numbers 0 (omega arith) in
     let left : g + 1 ≤ 6 = omega (arith, few) in
     let P : List Piece → Type 0 = λ ps. OwnsArgument m base t (Direct ps) v in
-    let Q : Taken → Type 0 = λ a. OwnsArguments m base ts (places_from copy ts (spots_after a ts)) vs in
+    let Q : Taken → Type 0 = λ a. OwnsArguments m base ts (places_from (copy + 0) ts (spots_after a ts)) vs in
     let here = first_fits t ts v vs fit in
-    let first : OwnsArgument m base t (Direct (piece t (argument_register g) ∷ [])) v = (here, stands m base (argument_register g) t v is here (words 0 (omega arith)) (low 0 (omega arith))) in
-    let rest = owns m base copy (g + 1) ts vs (omega (arith, few)) (λ i below. numbers (suc i) (omega arith)) (others_fit (fits t v) _ fit) (later_words m g t ts v vs words) (λ i below. low (suc i) (omega arith)) in
+    let first : OwnsArgument m base t (Direct (piece t (argument_register g) ∷ [])) v = (here, stands m base (argument_register g) t v is here (first_word m g t ts v vs words) (low 0 (omega arith))) in
+    let rest = owns m base (copy + 0) (g + 1) ts vs (omega (arith, few)) (λ i below. numbers (suc i) (omega arith)) (others_fit (fits t v) _ fit) (later_words m g t ts v vs words) (λ i below. low (suc i) (omega arith)) in
     (subst P (sym (pieces-is t is g left)) first, subst Q (sym (taken-is t is g left)) rest)
 
 fill : (m : Image) (base copy g : ℕ) (ts : List Tree) (vs : List ValueTree) → g + length ts ≤ 6 → AreNumbers ts → all_fit (trees_of ts) (values_of vs) ≡ true → WordsStand m g ts vs → FillArguments m base ts (places_from copy ts (spots_after (taken g) ts)) vs
@@ -159,13 +166,13 @@ fill m base copy g (t ∷ ts) (v ∷ vs) few numbers fit words =
     let is = numbers 0 (omega arith) in
     let left : g + 1 ≤ 6 = omega (arith, few) in
     let P : List Piece → Type 0 = λ ps. FillPieces m base t ps v in
-    let Q : Taken → Type 0 = λ a. FillArguments m base ts (places_from copy ts (spots_after a ts)) vs in
-    let first = fills m base (argument_register g) t v is (first_fits t ts v vs fit) (words 0 (omega arith)) in
-    let rest = fill m base copy (g + 1) ts vs (omega (arith, few)) (λ i below. numbers (suc i) (omega arith)) (others_fit (fits t v) _ fit) (later_words m g t ts v vs words) in
+    let Q : Taken → Type 0 = λ a. FillArguments m base ts (places_from (copy + 0) ts (spots_after a ts)) vs in
+    let first = fills m base (argument_register g) t v is (first_fits t ts v vs fit) (first_word m g t ts v vs words) in
+    let rest = fill m base (copy + 0) (g + 1) ts vs (omega (arith, few)) (λ i below. numbers (suc i) (omega arith)) (others_fit (fits t v) _ fit) (later_words m g t ts v vs words) in
     (subst P (sym (pieces-is t is g left)) first, subst Q (sym (taken-is t is g left)) rest)
 
 all_taken : (g : ℕ) (ts : List Tree) → g + length ts ≤ 6 → AreNumbers ts → taken_after (taken g) ts ≡ taken (g + length ts)
-all_taken g [] few numbers = refl
+all_taken g [] few numbers = ap taken (sym (none_before g))
 all_taken g (t ∷ ts) few numbers =
     let next : g + 1 + length ts ≡ g + length (t ∷ ts) = omega arith in
     ap (λ a. taken_after a ts) (taken-is t (numbers 0 (omega arith)) g (omega (arith, few))) ∙ all_taken (g + 1) ts (omega (arith, few)) (λ i below. numbers (suc i) (omega arith)) ∙ ap taken next

@@ -1,5 +1,5 @@
 -- The rows of registers: no register stands twice in one, and no two rows share one.
-use Rattle.std.proofs.Common.{◌≡◌, ◌≢◌, ℕ, zero, suc, ◌<◌, [], ◌∷◌, get_or, sym, ◌∙◌, ap, refl, arith}
+use Rattle.std.proofs.Common.{◌≡◌, ◌≢◌, ℕ, zero, suc, ◌+◌, ◌<◌, [], ◌∷◌, get_or, sym, ◌∙◌, ap, refl, arith}
 use Rattle.ffi3_amd64_rules.specs.Amd64.{argument_register}
 use Rattle.ffi3_call.specs.Registers.{preserved_register}
 

@@ -90,6 +90,9 @@ module _ (place : ℕ → ℕ) (bytes : ℕ → List ℕ) (xs : List ℕ) where
 
 -- ---- the same of a machine
 
+abbrev changed : List ℕ → ℕ → State → State
+changed stack mark m = record m { stack = stack; mark = mark }
+
 module _ (address : ℕ → ℕ) (bytes : ℕ → List ℕ) (s : State) where
   pub stack-pieces : (n : ℕ) → (pieces_stored address bytes n s).stack ≡ written (λ i. address i - STACK) bytes n s.stack
   stack-pieces zero = refl
@@ -100,7 +103,7 @@ module _ (address : ℕ → ℕ) (bytes : ℕ → List ℕ) (s : State) where
   pub others-pieces : (n : ℕ) → pieces_stored address bytes n s ≡ record s { stack = (pieces_stored address bytes n s).stack; mark = (pieces_stored address bytes n s).mark }
   others-pieces zero = refl
   others-pieces (suc n) =
-      ap (λ m. record m { stack = (pieces_stored address bytes (suc n) s).stack; mark = (pieces_stored address bytes (suc n) s).mark }) (others-pieces n)
+      ap (changed (pieces_stored address bytes (suc n) s).stack (pieces_stored address bytes (suc n) s).mark) (others-pieces n)
 
   -- the mark falls no lower than the lowest
   pub mark-pieces : (n low : ℕ) → low ≤ s.mark → ((i : ℕ) → i < n → low ≤ address i) → low ≤ (pieces_stored address bytes n s).mark

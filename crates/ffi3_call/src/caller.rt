@@ -1,5 +1,5 @@
 // The caller's side: the arguments to their registers, and the result from its own.
-ghost use Rattle.std.specs.Prelude.{◌≡◌, IfOk, length, slice_index, take, true};
+ghost use Rattle.std.specs.Prelude.{◌≡◌, ◌<◌, ℕ, IfOk, length, slice_index, take, true};
 ghost use Rattle.std.specs.Int.{w64, to_le_bytes};
 ghost use Rattle.ffi3_type_rules.specs.Tree.{trees_of};
 ghost use Rattle.ffi3_type_rules.specs.Integer.{is_number_type};
@@ -54,9 +54,14 @@ pub(crate) fn word(ty: &FfiType, value: &Value) -> u64
     ensures value { result ≡ word_of (tree_of ty.now) (value_of value.now) }
     ensures low { IsLow (tree_of ty.now) (value_of value.now) }
 {
-    if let Value::Leaf(bytes) = value {
-        // its bytes are in range
-        let _bytes = bytes.as_slice();
-    }
+    let Value::Leaf(leaf) = value else {
+        unreachable!()
+    };
+    are_bytes(leaf.as_slice());
     widen(ty, value)
 }
+
+/// Each of these bytes is below 256.
+fn are_bytes(bytes: &[u8])
+    ensures { (k : ℕ) → slice_index bytes.now k < 256 }
+{}

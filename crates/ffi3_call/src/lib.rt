@@ -2,7 +2,7 @@
 //! general registers: the caller's side and the callee's.
 #![tactic(auto)]
 
-ghost use Rattle.std.specs.Prelude.{◌≡◌, ◌+◌, ◌≤◌, IfOk, IsSome, OnErr, OnOk, length, true};
+ghost use Rattle.std.specs.Prelude.{◌≡◌, ◌+◌, ◌*◌, ◌≤◌, IfOk, IsSome, OnErr, OnOk, length, true};
 ghost use Rattle.ffi3_type_rules.specs.Tree.{trees_of};
 ghost use Rattle.ffi3_type_rules.specs.Value.{all_fit, fits, values_of};
 ghost use Rattle.ffi3_place_rules.specs.Standard.{block_bytes, need_of};
@@ -10,7 +10,7 @@ ghost use Rattle.ffi3_amd64_rules.specs.Amd64.{amd64};
 ghost use Rattle.ffi3_run_rules.specs.Closures.{closure_at};
 ghost use Rattle.ffi3_values.specs.ValueOf.{value_of};
 ghost use Rattle.ffi3_machine.specs.declared.TheConstants.{STACK};
-ghost use Rattle.ffi3_machine.specs.State.{stack_at};
+ghost use Rattle.ffi3_machine.specs.State.{IsSlot, stack_at};
 ghost use Rattle.ffi3_closures.specs.Slots.{HoldsMap};
 ghost use Rattle.ffi3_call.specs.Registers.{IsInRegisters};
 ghost use Rattle.ffi3_call.specs.Calls.{HasBegun, HasEnded, IsCalled};
@@ -68,10 +68,12 @@ pub fn begin_call(
     requires fit { all_fit (trees_of sig.now.arguments) (values_of args.now) ≡ true }
     requires room { STACK + need_of amd64 sig.now ≤ machine.old.sp }
     requires holds { HoldsMap machine.old.target table.now machine.old.code }
+    requires slot { IsSlot ptr }
     requires live { IsSome (closure_at table.now ptr) }
     ensures begun { OnOk result (HasBegun sig.now args.now ptr machine.old machine.new) }
     ensures refused { OnErr result (machine.new ≡ machine.old) }
 {
+    let _sp = machine.sp();
     machine.journal_room(LINK)?;
     store_args(machine, sig, args);
     machine.call(ptr);
@@ -95,6 +97,7 @@ pub fn end_call(
     ensures ended { HasEnded sig.now (value_of value.now) machine.old machine.new }
     ensures value { IfOk result (λ v. value_of v ≡ value_of value.now) }
 {
+    let _sp = machine.sp();
     give_back(machine, sig, value);
     machine.leave(0);
     load_result(alloc, machine, sig)

@@ -1,0 +1,14 @@
+use Rattle.std.proofs.Common.{◌∙◌}
+use Rattle.std.proofs.lemmas.Result.{IfOk-weaker}
+use Rattle.ffi3_values.specs.ValueOf.{value_of}
+use Rattle.ffi3_call.proofs.Returns.{ended, loaded_back, return_address_back, return_within, return_has_room}
+use Rattle.ffi3_call.proofs.end_call.Goals as goal
+
+pub returns-clause-ended : goal.returns-clause-ended
+returns-clause-ended c =
+    ended c.args.sig.now (value_of c.args.value.now) c.args.machine.now c.give_back.new.machine c.leave.new.self c.requires.registers c.requires.fits c.give_back.ensures.low c.requires.called.1.target c.sp-sp.ensures.machine.general c.give_back.ensures.given c.leave.ensures
+
+pub returns-clause-value : goal.returns-clause-value
+returns-clause-value c =
+    let back = loaded_back c.args.sig.now (value_of c.args.value.now) c.args.machine.now c.give_back.new.machine c.leave.new.self c.requires.registers c.requires.fits c.give_back.ensures.low c.requires.called.1.target c.sp-sp.ensures.machine.general c.give_back.ensures.given c.leave.ensures in
+    IfOk-weaker c.load_result.result _ _ (λ v is. is ∙ back) c.load_result.ensures
