@@ -139,6 +139,9 @@ begun s vs pointer m m3 m4 m5 m6 regs fit low machine room target address reache
 
 -- ---- what the first steps ask of the machine
 
+pub at_least : (s : Signature) (m : State) → IsInRegisters s → STACK + need_of amd64 s ≤ m.sp → 8 ≤ m.sp
+at_least s m regs room = let need = need-is s regs in omega (arith, need, room)
+
 pub call_has_room : (s : Signature) (vs : List ValueTree) (m m1 m2 : State) → IsInRegisters s → m.target ≡ Amd64 → m1 ≡ with_room 8 m → m2 ≡ with_arguments s vs m1 → STACK + need_of amd64 s ≤ m.sp → STACK + pushed_bytes m2.target ≤ m2.sp
 call_has_room s vs m m1 m2 regs target rooms stores room =
     let is : m2 ≡ with_arguments s vs (with_room 8 (on_amd64 m)) = stores ∙ ap (with_arguments s vs) (rooms ∙ ap (with_room 8) (is_on_amd64 m target)) in
