@@ -1,5 +1,5 @@
 -- A call has begun: from its caller's side to its callee's, step by step.
-use Rattle.std.proofs.Common.{◌≡◌, ℕ, ◌+◌, ◌-◌, ◌*◌, ◌^◌, ◌<◌, ◌≤◌, true, List, length, get_or, min, refl, ap, sym, ◌∙◌, subst, arith}
+use Rattle.std.proofs.Common.{◌≡◌, ℕ, ◌+◌, ◌-◌, ◌*◌, ◌^◌, ◌<◌, ◌≤◌, true, List, length, get_or, take, drop, min, refl, ap, sym, ◌∙◌, subst, arith}
 use Rattle.std.specs.Prelude.{Option, IsSome}
 use Rattle.std.specs.List.{replace_range}
 use Rattle.std.specs.Int.{w64, to_le_bytes}
@@ -19,7 +19,7 @@ use Rattle.ffi3_closures.specs.Slots.{HoldsMap}
 use Rattle.ffi3_call.specs.Registers.{IsInRegisters, AreLow, preserved_register}
 use Rattle.ffi3_call.specs.Steps.{with_arguments, received, block_address}
 use Rattle.ffi3_call.specs.Calls.{IsInCallee, HasBegun}
-use Rattle.ffi3_call.proofs.Stack.{length-written}
+use Rattle.ffi3_call.proofs.Stack.{length-written, above-written}
 use Rattle.ffi3_call.proofs.Places.{no_frame, need-is}
 use Rattle.ffi3_call.proofs.Entries.{on_amd64, at_entry, entry_event, is_entry, argument_there, preserved_there}
 use Rattle.ffi3_call.proofs.Callees.{target-received, sp-received, code-received, events-received, room-received, mark-received, above-received, preserved-received, arguments-received}
@@ -30,6 +30,12 @@ length-linked : (sp : ℕ) (stack : List ℕ) → length stack ≡ 65536 → STA
 length-linked sp stack long low high =
     let end : sp - STACK ≡ sp - 8 - STACK + 8 = omega (arith, low) in
     ap (λ j. length (replace_range stack (sp - 8 - STACK) j (to_le_bytes w64 RETURN))) end ∙ length-written stack (to_le_bytes w64 RETURN) (sp - 8 - STACK) (omega (arith, long, low, high)) ∙ long
+
+-- what lies above it stays
+above-linked : (sp : ℕ) (stack : List ℕ) (address count : ℕ) → length stack ≡ 65536 → STACK + 8 ≤ sp → sp ≤ STACK_TOP → sp ≤ address → take count (drop (address - STACK) (linked_stack Amd64 sp stack)) ≡ take count (drop (address - STACK) stack)
+above-linked sp stack address count long low high above =
+    let end : sp - STACK ≡ sp - 8 - STACK + 8 = omega (arith, low) in
+    ap (λ j. take count (drop (address - STACK) (replace_range stack (sp - 8 - STACK) j (to_le_bytes w64 RETURN)))) end ∙ above-written stack (to_le_bytes w64 RETURN) (sp - 8 - STACK) count (address - STACK) (omega (arith, long, low, high)) (omega (arith, low, above))
 
 module _ (s : Signature) (vs : List ValueTree) (pointer : ℕ) (m : State) (regs : IsInRegisters s) where
   -- the callee's side begins here
@@ -96,7 +102,7 @@ module _ (s : Signature) (vs : List ValueTree) (pointer : ℕ) (m : State) (regs
       sp = let sp = sp-received s regs entered_there in let below = below_sp in omega (arith, sp, below);
       top = high_enough;
       saved = λ i below. preserved-received s regs entered_there long low_enough high_enough i below (preserved_small i below);
-      return_address = above-received s regs entered_there long low_enough high_enough ∙ address;
+      return_address = above-received s regs entered_there long low_enough high_enough entered_there.sp 8 (omega arith) ∙ address;
       room = let spare = room-received s regs entered_there in omega (arith, spare);
     }
 
@@ -108,8 +114,11 @@ module _ (s : Signature) (vs : List ValueTree) (pointer : ℕ) (m : State) (regs
       in_callee = callee_runs;
       arguments_stand = arguments-received s regs entered_there long low_enough high_enough vs fit low (argument_there s vs pointer m regs);
       sp = let sp = sp-received s regs entered_there in let below = below_sp in let need = need-is s regs in omega (arith, sp, below, need);
+      above = λ place count over. let below = below_sp in let stack = machine.stack in let high = machine.sp_high in
+          above-received s regs entered_there long low_enough high_enough place count (omega (arith, over)) ∙ above-linked m.sp m.stack place count stack (omega (arith, below)) high over;
       mark = let sp = sp-received s regs entered_there in let below = below_sp in mark-received s regs entered_there (min m.mark callee_there.sp) (omega (arith, sp, below)) (omega (arith, sp));
       code = code-received s regs entered_there;
+      room = let spare = room-received s regs entered_there in omega (arith, spare);
     }
 
 -- the entry, by the steps to it

@@ -103,10 +103,10 @@ module _ (s : Signature) (regs : IsInRegisters s) (e : State) where
     above_block k place above =
         ap (λ xs. take k (drop place xs)) stack-received ∙ above-pieces block_place argument_at area_stack (length s.arguments) k place block_within (λ i below. omega (arith, argument_short i below, block-enough s regs, low, above))
 
-    -- what stood at sp stays
-    pub above-received : stack_at e.sp 8 (received s e) ≡ stack_at e.sp 8 e
-    above-received =
-        above_block 8 (e.sp - STACK) (omega arith) ∙ above-pieces area_place saved_word e.stack 6 8 (e.sp - STACK) area_within (λ i below. omega (arith, low))
+    -- what stood from sp on stays
+    pub above-received : (address count : ℕ) → e.sp ≤ address → stack_at address count (received s e) ≡ stack_at address count e
+    above-received address count above =
+        above_block count (address - STACK) (omega (arith, above)) ∙ above-pieces area_place saved_word e.stack 6 count (address - STACK) area_within (λ i below. omega (arith, low, above))
 
     -- each preserved register stands in the save area
     pub saved-received : (i : ℕ) → i < 6 → stack_at (word_address (e.sp - 56) i) 8 (received s e) ≡ to_le_bytes w64 (get_or e.general (preserved_register i) 0)

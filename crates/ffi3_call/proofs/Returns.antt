@@ -80,8 +80,8 @@ module _ (s : Signature) (v : ValueTree) (m : State) where
             stack = sym (no_frame s regs);
           }
 
-      ended_there : HasEnded s v (on_amd64 m) (left 0 back)
-      ended_there = record {
+      ended_there : 1 ≤ m.spare_events → HasEnded s v (on_amd64 m) (left 0 back)
+      ended_there room = record {
         return = return_event;
         events = refl;
         is_return = is_return;
@@ -90,16 +90,17 @@ module _ (s : Signature) (v : ValueTree) (m : State) where
         mark = refl;
         stack = refl;
         code = refl;
+        room = omega (arith, room);
       }
 
 -- THE CALL HAS ENDED
-pub ended : (s : Signature) (v : ValueTree) (m given after : State) → IsInRegisters s → fits s.result_type v ≡ true → IsLowResult s.result_type v → m.target ≡ Amd64 → length m.general ≡ 32 → given ≡ given_back s v m → after ≡ left 0 given → HasEnded s v m after
-ended s v m given after regs fit low target registers gives left_by =
+pub ended : (s : Signature) (v : ValueTree) (m given after : State) → IsInRegisters s → fits s.result_type v ≡ true → IsLowResult s.result_type v → m.target ≡ Amd64 → 1 ≤ m.spare_events → length m.general ≡ 32 → given ≡ given_back s v m → after ≡ left 0 given → HasEnded s v m after
+ended s v m given after regs fit low target room registers gives left_by =
     let same = is_on_amd64 m target in
     let is : after ≡ left 0 (back s v m) = left_by ∙ ap (left 0) (gives ∙ ap (given_back s v) same) in
     let P : State → Type 0 = λ x. HasEnded s v x after in
     let Q : State → Type 0 = λ x. HasEnded s v (on_amd64 m) x in
-    subst P (sym same) (subst Q (sym is) (ended_there s v m registers regs fit low))
+    subst P (sym same) (subst Q (sym is) (ended_there s v m registers regs fit low room))
 
 -- what the caller loads is the result
 pub loaded_back : (s : Signature) (v : ValueTree) (m given after : State) → IsInRegisters s → fits s.result_type v ≡ true → IsLowResult s.result_type v → m.target ≡ Amd64 → length m.general ≡ 32 → given ≡ given_back s v m → after ≡ left 0 given → value_in s.result_type (take (size_of s.result_type) (to_le_bytes w64 (get_or after.general 0 0))) ≡ v

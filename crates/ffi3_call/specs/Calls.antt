@@ -29,7 +29,7 @@ pub record IsInCallee (entered : Entered) (m : State) : Type 0 where
 abbrev pub IsCalled : Signature → State → Type 0
 IsCalled s m = (entry : Event) × IsInCallee (record { signature = s; event = entry }) m
 
--- A CALL HAS BEGUN: its entry is in the journal, and its callee has the arguments. It stands below the unfinished calls, and nothing below its own need of stack is written.
+-- A CALL HAS BEGUN: its entry is in the journal, and its callee has the arguments. It stands below the unfinished calls: of the stack it writes its own need, from sp down, and nothing else.
 pub record HasBegun (s : Signature) (arguments : List ValueTree) (pointer : ℕ) (before after : State) : Type 0 where
   pub entry : Event
   pub events : after.events ≡ before.events ++ entry ∷ []
@@ -37,8 +37,10 @@ pub record HasBegun (s : Signature) (arguments : List ValueTree) (pointer : ℕ)
   pub in_callee : IsInCallee (record { signature = s; event = entry }) after
   pub arguments_stand : arguments_in s.arguments (stack_at after.sp (block_bytes s) after) ≡ arguments
   pub sp : after.sp + need_of amd64 s ≡ before.sp
+  pub above : (address count : ℕ) → before.sp ≤ address → stack_at address count after ≡ stack_at address count before
   pub mark : min before.mark after.sp ≤ after.mark
   pub code : after.code ≡ before.code
+  pub room : after.spare_events ≡ before.spare_events + 1
 
 -- A CALL HAS ENDED: its return is in the journal, whatever open call by the signature it was, and all its stack is free again.
 pub record HasEnded (s : Signature) (outcome : ValueTree) (before after : State) : Type 0 where
@@ -50,3 +52,4 @@ pub record HasEnded (s : Signature) (outcome : ValueTree) (before after : State)
   pub mark : after.mark ≡ before.mark
   pub stack : after.stack ≡ before.stack
   pub code : after.code ≡ before.code
+  pub room : after.spare_events + 1 ≡ before.spare_events

@@ -2,8 +2,10 @@
 //! general registers: the caller's side and the callee's.
 #![tactic(auto)]
 
-ghost use Rattle.std.specs.Prelude.{◌≡◌, ◌+◌, ◌*◌, ◌≤◌, IfOk, IsSome, OnErr, OnOk, length, true};
+ghost use Rattle.std.specs.Prelude.{◌≡◌, ◌+◌, ◌*◌, ◌≤◌, ◌↔◌, IfOk, IsSome, IsTrue, OnErr, OnOk, length, true};
 ghost use Rattle.ffi3_type_rules.specs.Tree.{trees_of};
+ghost use Rattle.ffi3_type_rules.specs.Integer.{is_number_type};
+ghost use Rattle.ffi3_types.specs.TreeOf.{tree_of};
 ghost use Rattle.ffi3_type_rules.specs.Value.{all_fit, fits, values_of};
 ghost use Rattle.ffi3_place_rules.specs.Standard.{block_bytes, need_of};
 ghost use Rattle.ffi3_amd64_rules.specs.Amd64.{amd64};
@@ -23,7 +25,7 @@ pub use caller::{load_result, store_args};
 use ffi3_closures::Table;
 use ffi3_machine::{Machine, NoMemory, Target};
 use ffi3_type_rules::round_up;
-use ffi3_types::Sig;
+use ffi3_types::{FfiType, Sig};
 use ffi3_values::{Value, Values};
 use std::alloc::Global;
 
@@ -33,6 +35,33 @@ const LINK: u64 = 8;
 const SAVE: u64 = 56;
 /// rax, which has a result, and at a call the number of vector registers.
 const RAX: u8 = 0;
+
+/// Whether the arguments and the result are integers and pointers, and no more arguments than six:
+/// the signatures whose calls these are.
+pub fn is_in_registers(sig: &Sig) -> bool
+    ensures { IsTrue result ↔ IsInRegisters sig.now }
+{
+    if sig.count() > 6 {
+        return false;
+    }
+    for i in 0..sig.count() {
+        if !is_number(sig.arg(i)) {
+            return false;
+        }
+    }
+    matches!(sig.ret(), FfiType::Void) || is_number(sig.ret())
+}
+
+/// Whether a type is an integer or a pointer.
+fn is_number(ty: &FfiType) -> bool
+    ensures { result ≡ is_number_type (tree_of ty.now) }
+{
+    match ty {
+        FfiType::U8 | FfiType::S8 | FfiType::U16 | FfiType::S16 => true,
+        FfiType::U32 | FfiType::S32 | FfiType::U64 | FfiType::S64 | FfiType::Pointer => true,
+        _ => false,
+    }
+}
 
 /// The bytes of stack that a call takes: return address, save area and block.
 pub fn stack_need(sig: &Sig) -> u64

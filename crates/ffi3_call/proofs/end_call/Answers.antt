@@ -18,7 +18,7 @@ leave-requires-clause-events c =
 
 pub returns-clause-ended : goal.returns-clause-ended
 returns-clause-ended c =
-    ended c.args.sig.now (value_of c.args.value.now) c.args.machine.now c.give_back.new.machine c.leave.new.self c.requires.registers c.requires.fits c.give_back.ensures.low c.requires.called.1.target c.sp-sp.ensures.machine.general c.give_back.ensures.given c.leave.ensures
+    ended c.args.sig.now (value_of c.args.value.now) c.args.machine.now c.give_back.new.machine c.leave.new.self c.requires.registers c.requires.fits c.give_back.ensures.low c.requires.called.1.target c.requires.called.1.room c.sp-sp.ensures.machine.general c.give_back.ensures.given c.leave.ensures
 
 pub returns-clause-value : goal.returns-clause-value
 returns-clause-value c =
