@@ -1,10 +1,9 @@
 -- A call has begun: from its caller's side to its callee's, step by step.
-use Rattle.std.proofs.Common.{◌≡◌, ℕ, ◌+◌, ◌-◌, ◌*◌, ◌^◌, ◌<◌, ◌≤◌, true, List, length, get_or, take, drop, min, refl, ap, sym, ◌∙◌, subst, arith}
-use Rattle.std.specs.Prelude.{Option, IsSome}
+use Rattle.std.proofs.Common.{◌≡◌, ℕ, ◌+◌, ◌-◌, ◌*◌, ◌^◌, ◌<◌, ◌≤◌, true, List, length, get_or, take, drop, min, ap, sym, ◌∙◌, subst, arith}
+use Rattle.std.specs.Prelude.{IsSome}
 use Rattle.std.specs.List.{replace_range}
 use Rattle.std.specs.Int.{w64, to_le_bytes}
 use Rattle.std.proofs.lemmas.Nat.{mod_below}
-use Rattle.ffi3_type_rules.specs.declared.Target.{Target}
 use Rattle.ffi3_type_rules.specs.declared.Target.TheVariants.{Amd64}
 use Rattle.ffi3_type_rules.specs.Tree.{trees_of}
 use Rattle.ffi3_type_rules.specs.Signature.{Signature}
@@ -13,14 +12,14 @@ use Rattle.ffi3_place_rules.specs.Standard.{block_bytes, need_of}
 use Rattle.ffi3_amd64_rules.specs.Amd64.{amd64}
 use Rattle.ffi3_run_rules.specs.Closures.{Closures, closure_at}
 use Rattle.ffi3_machine.specs.declared.TheConstants.{STACK, STACK_TOP, ENTRY, RETURN}
-use Rattle.ffi3_machine.specs.State.{State, IsMachine, IsReturn, called, entered, linked_stack, pushed_bytes, stack_at, with_room}
+use Rattle.ffi3_machine.specs.State.{State, IsMachine, IsReturn, called, entered, linked_stack, pushed_bytes, with_room}
 use Rattle.ffi3_closures.specs.Reaching.{reached}
 use Rattle.ffi3_closures.specs.Slots.{HoldsMap}
 use Rattle.ffi3_call.specs.Registers.{IsInRegisters, AreLow, preserved_register}
-use Rattle.ffi3_call.specs.Steps.{with_arguments, received, block_address}
+use Rattle.ffi3_call.specs.Steps.{with_arguments, received}
 use Rattle.ffi3_call.specs.Calls.{IsInCallee, HasBegun}
 use Rattle.ffi3_call.proofs.Stack.{length-written, above-written}
-use Rattle.ffi3_call.proofs.Places.{no_frame, need-is}
+use Rattle.ffi3_call.proofs.Places.{need-is}
 use Rattle.ffi3_call.proofs.Entries.{on_amd64, at_entry, entry_event, is_entry, argument_there, preserved_there}
 use Rattle.ffi3_call.proofs.Callees.{target-received, sp-received, code-received, events-received, room-received, mark-received, above-received, preserved-received, arguments-received}
 use Rattle.ffi3_call.proofs.Returns.{is_on_amd64}

@@ -1,9 +1,9 @@
 -- The callee has its arguments: what stands in its stack.
-use Rattle.std.proofs.Common.{◌≡◌, ℕ, ◌+◌, ◌-◌, ◌*◌, ◌^◌, ◌<◌, ◌≤◌, true, List, length, get_or, take, drop, min, refl, ap, sym, ◌∙◌, subst, arith, length-take}
+use Rattle.std.proofs.Common.{◌≡◌, ℕ, ◌+◌, ◌-◌, ◌*◌, ◌^◌, ◌<◌, ◌≤◌, true, List, length, get_or, take, drop, min, ap, sym, ◌∙◌, arith, length-take}
 use Rattle.std.specs.Int.{w64, to_le_bytes, from_le_bytes}
 use Rattle.std.proofs.lemmas.Nat.{from_le_bytes-to_le_bytes_8}
 use Rattle.std.proofs.lemmas.List.{drop-drop}
-use Rattle.ffi3_type_rules.specs.Tree.{Tree, tree_at, trees_of}
+use Rattle.ffi3_type_rules.specs.Tree.{tree_at, trees_of}
 use Rattle.ffi3_type_rules.specs.Layout.{size_of}
 use Rattle.ffi3_type_rules.specs.Signature.{Signature}
 use Rattle.ffi3_type_rules.specs.Value.{ValueTree, values_of, value_in, all_fit, part, bytes_of}
@@ -15,7 +15,7 @@ use Rattle.ffi3_body.proofs.Blocks.{arguments_by_each}
 use Rattle.ffi3_machine.specs.declared.TheConstants.{STACK, STACK_TOP}
 use Rattle.ffi3_machine.specs.State.{State, stack_at, with_sp}
 use Rattle.ffi3_call.specs.Registers.{IsInRegisters, AreLow, preserved_register, value_at}
-use Rattle.ffi3_call.specs.Steps.{word_address, word_from, saved, argument_bytes, argument_word, copied, block_address, received, pieces_stored}
+use Rattle.ffi3_call.specs.Steps.{word_address, word_from, saved, argument_bytes, argument_word, copied, block_address, received}
 use Rattle.ffi3_call.proofs.Stack.{written, length-pieces, above-pieces, read-pieces, stack-pieces, others-pieces, mark-pieces, part-of-front}
 use Rattle.ffi3_call.proofs.Numbers.{number-sized, value-of-bytes, offset-is, block-enough}
 

@@ -1,14 +1,13 @@
 -- The entry of a call: the caller has stored the arguments, and the trampoline has run.
-use Rattle.std.proofs.Common.{◌≡◌, ◌≢◌, ℕ, ◌+◌, ◌-◌, ◌*◌, ◌<◌, ◌≤◌, true, List, [], ◌∷◌, length, get_or, refl, ap, sym, ◌∙◌, arith}
+use Rattle.std.proofs.Common.{◌≡◌, ◌≢◌, ℕ, ◌+◌, ◌-◌, ◌<◌, ◌≤◌, true, List, length, get_or, refl, ap, ◌∙◌, arith}
 use Rattle.std.specs.Prelude.{slice_set}
 use Rattle.std.specs.Int.{w64, to_le_bytes}
 use Rattle.std.proofs.lemmas.List.{get_or-set_same, get_or-set_other, length-set}
 use Rattle.ffi3_type_rules.specs.declared.Target.TheVariants.{Amd64}
-use Rattle.ffi3_type_rules.specs.Tree.{tree_at, trees_of}
+use Rattle.ffi3_type_rules.specs.Tree.{trees_of}
 use Rattle.ffi3_type_rules.specs.Signature.{Signature}
 use Rattle.ffi3_type_rules.specs.Value.{ValueTree, values_of, all_fit}
 use Rattle.ffi3_place_rules.specs.Event.{Event, enters}
-use Rattle.ffi3_place_rules.specs.Standard.{frame_of}
 use Rattle.ffi3_amd64_rules.specs.Amd64.{amd64, argument_register}
 use Rattle.ffi3_run_rules.specs.Journal.{Entered, needs, IsEntry}
 use Rattle.ffi3_machine.specs.declared.TheConstants.{RETURN}

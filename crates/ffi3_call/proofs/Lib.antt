@@ -8,3 +8,4 @@ pub mod Callees
 pub mod Returns
 pub mod Begun
 pub mod Stepping
+pub mod Made

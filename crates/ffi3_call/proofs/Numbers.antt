@@ -1,19 +1,19 @@
 -- Integers and pointers: one word each, in a register or in a doubleword of the stack.
-use Rattle.std.proofs.Common.{◌≡◌, ℕ, zero, suc, ◌+◌, ◌*◌, ◌<◌, ◌≤◌, Bool, true, false, List, [], ◌∷◌, ◌++◌, length, get_or, take, refl, ap, sym, ◌∙◌, subst, arith, add-one}
-use Rattle.std.specs.List.{sum_by}
+use Rattle.std.proofs.Common.{◌≡◌, ℕ, zero, suc, ◌+◌, ◌*◌, ◌<◌, ◌≤◌, Bool, true, false, List, [], ◌∷◌, ◌++◌, length, get_or, take, refl, ap, sym, ◌∙◌, subst, arith}
+use Rattle.std.specs.Prelude.{◌&&◌}
+use Rattle.std.specs.List.{sum_by, list_all}
 use Rattle.std.proofs.lemmas.Bool.{eqb-true}
 use Rattle.std.proofs.Math.Seq.{take-suc}
 use Rattle.std.proofs.lemmas.List.Sums.{sum_by-cons, sum_by_push}
-use Rattle.std.specs.Int.{w64, to_le_bytes}
-use Rattle.ffi3_type_rules.specs.Tree.{Tree, void, scalar, left_out, structure, tree_at, Scalar, u8, s8, u16, s16, u32, s32, u64, s64, float, double, pointer}
+use Rattle.ffi3_type_rules.specs.Tree.{Tree, void, scalar, left_out, structure, tree_at, u8, s8, u16, s16, u32, s32, u64, s64, float, double, pointer}
 use Rattle.ffi3_type_rules.specs.Layout.{size_of, scalar_size, least_multiple}
-use Rattle.ffi3_type_rules.specs.Integer.{is_number, is_number_type}
+use Rattle.ffi3_type_rules.specs.Integer.{is_number_type}
 use Rattle.ffi3_type_rules.specs.Fault.{HasNoFault}
 use Rattle.ffi3_type_rules.specs.Signature.{Signature}
 use Rattle.ffi3_type_rules.specs.Value.{ValueTree, void_value, leaf_value, struct_value, bytes_of, value_in, fits}
 use Rattle.ffi3_type_rules.proofs.Faults.{scalar_faults, void_faults}
 use Rattle.ffi3_type_rules.proofs.Widened.{take-widened}
-use Rattle.ffi3_type_rules.proofs.Layouts.{scalar_size-bounds, least_multiple-above, least_multiple-below}
+use Rattle.ffi3_type_rules.proofs.Layouts.{scalar_size-bounds, least_multiple-above}
 use Rattle.ffi3_place_rules.specs.Standard.{round8, round16, block_bytes}
 use Rattle.ffi3_body.specs.Activation.{block_offset}
 use Rattle.ffi3_call.specs.Registers.{is_void, is_number_or_void, IsInRegisters, IsLow}
@@ -92,6 +92,22 @@ whole (structure ts) is = cc
 -- the types are integers and pointers
 abbrev pub AreNumbers : List Tree → Type 0
 AreNumbers ts = (i : ℕ) → i < length ts → is_number_type (tree_at ts i) ≡ true
+
+-- for callers: a test that tells of each type
+pub numbers-by-test : (test : Tree → Bool) → ((t : Tree) → test t ≡ true → is_number_type t ≡ true) → (ts : List Tree) → list_all test ts ≡ true → AreNumbers ts
+numbers-by-test test tells [] all i below = absurd (omega arith)
+numbers-by-test test tells (t ∷ ts) all zero below =
+    tells t (first_passes (test t) (list_all test ts) all)
+  where
+    first_passes : (a b : Bool) → (a && b) ≡ true → a ≡ true
+    first_passes true b e = refl
+    first_passes false b e = e
+numbers-by-test test tells (t ∷ ts) all (suc i) below =
+    numbers-by-test test tells ts (others_pass (test t) (list_all test ts) all) i (omega arith)
+  where
+    others_pass : (a b : Bool) → (a && b) ≡ true → b ≡ true
+    others_pass true b e = e
+    others_pass false b e = cc
 
 pub offset-is : (ts : List Tree) → AreNumbers ts → (i : ℕ) → i ≤ length ts → block_offset ts i ≡ 8 * i
 offset-is ts numbers zero within = refl

@@ -1,5 +1,5 @@
 -- Where integers and pointers stand by System V AMD64: each in one general register.
-use Rattle.std.proofs.Common.{◌≡◌, ◌≢◌, ℕ, zero, suc, ◌+◌, ◌-◌, ◌*◌, ◌<◌, ◌≤◌, Bool, true, false, List, [], ◌∷◌, length, get_or, take, refl, ap, sym, ◌∙◌, subst, arith}
+use Rattle.std.proofs.Common.{◌≡◌, ℕ, suc, ◌+◌, ◌-◌, ◌<◌, ◌≤◌, Bool, true, false, List, [], ◌∷◌, length, get_or, take, refl, ap, sym, ◌∙◌, subst, arith}
 use Rattle.std.specs.Prelude.{◌&&◌, not, cond, nat_le}
 use Rattle.std.specs.List.{count_by}
 use Rattle.std.specs.Int.{w64, to_le_bytes}
@@ -7,10 +7,10 @@ use Rattle.std.proofs.lemmas.Bool.{le-leb}
 use Rattle.std.proofs.lemmas.List.{get_or-take}
 use Rattle.ffi3_type_rules.specs.Tree.{Tree, void, scalar, left_out, structure, tree_at, trees_of, Scalar, u8, s8, u16, s16, u32, s32, u64, s64, float, double, pointer}
 use Rattle.ffi3_type_rules.specs.Layout.{size_of, scalar_size, leaves_of, least_multiple}
-use Rattle.ffi3_type_rules.specs.Integer.{is_number, is_number_type, widened}
+use Rattle.ffi3_type_rules.specs.Integer.{is_number_type, widened}
 use Rattle.ffi3_type_rules.specs.Signature.{Signature}
 use Rattle.ffi3_type_rules.specs.Value.{ValueTree, void_value, leaf_value, struct_value, values_of, fits, all_fit}
-use Rattle.ffi3_type_rules.proofs.ValueElements.{fitting_lengths, fitting_element}
+use Rattle.ffi3_type_rules.proofs.ValueElements.{fitting_element}
 use Rattle.ffi3_place_rules.specs.declared.Loc.TheVariants.{G}
 use Rattle.ffi3_place_rules.specs.declared.Piece.{Piece}
 use Rattle.ffi3_place_rules.specs.declared.Place.TheVariants.{Direct}

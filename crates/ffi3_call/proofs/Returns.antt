@@ -1,5 +1,5 @@
 -- The return of a call: the callee has given back all that it is to give back.
-use Rattle.std.proofs.Common.{◌≡◌, ℕ, ◌+◌, ◌-◌, ◌<◌, ◌≤◌, Bool, true, false, List, length, get_or, take, drop, refl, ap, sym, ◌∙◌, subst, arith}
+use Rattle.std.proofs.Common.{◌≡◌, ℕ, ◌+◌, ◌<◌, ◌≤◌, Bool, true, false, List, length, get_or, take, refl, ap, sym, ◌∙◌, subst, arith}
 use Rattle.std.specs.Prelude.{if◌then◌else◌, slice_set}
 use Rattle.std.specs.Int.{w64, to_le_bytes}
 use Rattle.std.proofs.lemmas.List.{get_or-set_same, length-set}
@@ -12,12 +12,12 @@ use Rattle.ffi3_place_rules.specs.Event.{Event, leaves}
 use Rattle.ffi3_place_rules.specs.Standard.{block_bytes}
 use Rattle.ffi3_amd64_rules.specs.Amd64.{amd64}
 use Rattle.ffi3_run_rules.specs.Journal as journal
-use Rattle.ffi3_machine.specs.declared.TheConstants.{STACK, STACK_TOP, RETURN}
+use Rattle.ffi3_machine.specs.declared.TheConstants.{STACK_TOP}
 use Rattle.ffi3_machine.specs.State.{State, IsReturn, image_of, left, pushed_bytes, returned, stack_at}
 use Rattle.ffi3_call.specs.Registers.{IsInRegisters, IsLowResult, is_void, is_number_or_void, preserved_register, word_of}
-use Rattle.ffi3_call.specs.Steps.{given_back, with_result, word_address, word_from}
+use Rattle.ffi3_call.specs.Steps.{given_back, word_address, word_from}
 use Rattle.ffi3_call.specs.Calls.{IsInCallee, IsCalled, HasEnded}
-use Rattle.ffi3_call.proofs.Words.{length-words, other-words, read-words}
+use Rattle.ffi3_call.proofs.Words.{other-words, read-words}
 use Rattle.ffi3_call.proofs.Rows.{preserved_apart, preserved_not_rax, preserved_small}
 use Rattle.ffi3_call.proofs.Numbers.{value-of-bytes}
 use Rattle.ffi3_call.proofs.Places.{no_frame, need-is, holds_result}

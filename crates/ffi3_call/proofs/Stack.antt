@@ -1,5 +1,5 @@
 -- What stands in a stack after pieces of bytes were written to it.
-use Rattle.std.proofs.Common.{◌≡◌, ℕ, zero, suc, ◌+◌, ◌-◌, ◌*◌, ◌<◌, ◌≤◌, List, ◌++◌, Bool, true, false, length, take, drop, min, refl, ap, sym, ◌∙◌, subst, append_assoc, arith, length-drop, inl, inr, add-one}
+use Rattle.std.proofs.Common.{◌≡◌, ℕ, zero, suc, ◌+◌, ◌-◌, ◌<◌, ◌≤◌, List, ◌++◌, Bool, true, false, length, take, drop, min, refl, ap, sym, ◌∙◌, subst, append_assoc, arith, length-drop, inl, inr, add-one}
 use Rattle.std.specs.Prelude.{if◌then◌else◌, ◌==◌}
 use Rattle.std.proofs.lemmas.Bool.{cases_lt}
 use Rattle.std.specs.List.{replace_range}
@@ -8,7 +8,7 @@ use Rattle.std.proofs.lemmas.List.{drop-take, take-append-le, drop-append-le, le
 use Rattle.std.proofs.lemmas.Slice.{drop-append-drop}
 use Rattle.std.proofs.Math.Seq.{drop-append_seam, take-append_seam}
 use Rattle.ffi3_machine.specs.declared.TheConstants.{STACK}
-use Rattle.ffi3_machine.specs.State.{State, lowered, stored}
+use Rattle.ffi3_machine.specs.State.{State, stored}
 use Rattle.ffi3_call.specs.Steps.{pieces_stored}
 
 -- ---- one piece

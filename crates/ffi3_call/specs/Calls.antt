@@ -1,5 +1,5 @@
 -- A call from its caller's side to the return: the machine before, in the callee and after. (System V psABI AMD64 3.2)
-use Rattle.std.specs.Prelude.{◌≡◌, ℕ, ◌+◌, ◌*◌, ◌<◌, ◌≤◌, min, List, [], ◌∷◌, ◌++◌, length}
+use Rattle.std.specs.Prelude.{◌≡◌, ℕ, ◌+◌, ◌-◌, ◌<◌, ◌≤◌, min, List, [], ◌∷◌, ◌++◌, length}
 use Rattle.std.specs.Int.{w64, to_le_bytes}
 use Rattle.ffi3_type_rules.specs.declared.Target.TheVariants.{Amd64}
 use Rattle.ffi3_type_rules.specs.Signature.{Signature}
@@ -53,3 +53,17 @@ pub record HasEnded (s : Signature) (outcome : ValueTree) (before after : State)
   pub stack : after.stack ≡ before.stack
   pub code : after.code ≡ before.code
   pub room : after.spare_events + 1 ≡ before.spare_events
+
+-- THE WHOLE CALL: entry and return stand in the journal one behind the other, and the machine's stack, code and target are as before.
+pub record IsMade (s : Signature) (arguments : List ValueTree) (pointer : ℕ) (outcome : ValueTree) (before after : State) : Type 0 where
+  pub entry : Event
+  pub return : Event
+  pub events : after.events ≡ before.events ++ entry ∷ return ∷ []
+  pub is_entry : (top : ℕ) (outer : List Entered) → before.sp + needs amd64 outer ≡ top → IsEntry amd64 top (λ at. 0) outer (length before.events) pointer s arguments entry
+  pub is_return : IsReturn amd64 (record { signature = s; event = entry }) outcome return
+  pub target : after.target ≡ Amd64
+  pub sp : after.sp ≡ before.sp
+  pub above : (address count : ℕ) → before.sp ≤ address → stack_at address count after ≡ stack_at address count before
+  pub mark : min before.mark (before.sp - need_of amd64 s) ≤ after.mark
+  pub code : after.code ≡ before.code
+  pub room : after.spare_events ≡ before.spare_events

@@ -1,5 +1,4 @@
-use Rattle.std.proofs.Common.{◌≡◌, ◌+◌, ◌≤◌, arith}
-use Rattle.ffi3_machine.specs.declared.TheConstants.{STACK}
+use Rattle.std.proofs.Common.{◌≡◌}
 use Rattle.ffi3_call.proofs.Begun.{at_least, entry-is, begun, call_has_room, map_stays, slot_is_live, entry_reached, entry_within, entry_has_room, entry_has_bytes, callee_has_room}
 use Rattle.ffi3_call.proofs.Entries.{at_entry}
 use Rattle.ffi3_call.proofs.begin_call.Goals as goal

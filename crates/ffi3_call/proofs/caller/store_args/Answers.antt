@@ -1,4 +1,4 @@
-use Rattle.std.proofs.Common.{◌≡◌, ℕ, ◌+◌, ◌<◌, true, length, ap, sym, ◌∙◌, subst, arith}
+use Rattle.std.proofs.Common.{◌≡◌, ◌<◌, length, ap, ◌∙◌, arith}
 use Rattle.ffi3_type_rules.specs.Tree.{tree_at}
 use Rattle.ffi3_type_rules.specs.Value.{fits}
 use Rattle.ffi3_type_rules.proofs.ValueElements.{fitting_lengths, fitting_element}
