@@ -4,7 +4,7 @@ use Rattle.std.specs.Int.{w64, to_le_bytes, from_le_bytes}
 use Rattle.ffi3_type_rules.specs.Tree.{Tree, tree_at}
 use Rattle.ffi3_type_rules.specs.Layout.{size_of}
 use Rattle.ffi3_type_rules.specs.Signature.{Signature}
-use Rattle.ffi3_type_rules.specs.Value.{ValueTree}
+use Rattle.ffi3_type_rules.specs.Value.{ValueTree, value_in}
 use Rattle.ffi3_place_rules.specs.Standard.{block_bytes}
 use Rattle.ffi3_amd64_rules.specs.Amd64.{argument_register}
 use Rattle.ffi3_machine.specs.State.{State, scribbled, stored, with_general, with_sp, stack_at}
@@ -48,6 +48,11 @@ argument_word s vs i = word_of (tree_at s.arguments i) (value_at vs i)
 abbrev pub with_arguments : Signature → List ValueTree → State → State
 with_arguments s vs m =
     with_general rax 0 (with_words argument_register (argument_word s vs) (length s.arguments) (scribbled (length m.events) m))
+
+-- the value of a type in the result's register
+abbrev pub loaded_result : Tree → State → ValueTree
+loaded_result t m =
+    value_in t (take (size_of t) (to_le_bytes w64 (get_or m.general rax 0)))
 
 -- ---- the callee's side
 

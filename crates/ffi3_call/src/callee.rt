@@ -1,4 +1,5 @@
-// The callee's side: it saves what it is to preserve and copies its arguments, and gives its result and all the rest back.
+// The callee's side: it saves what it is to preserve and copies its arguments; then it gives its
+// result and all the rest back.
 ghost use Rattle.std.specs.Prelude.{◌≡◌, ◌+◌, ◌-◌, ◌*◌, ◌≤◌, length, true};
 ghost use Rattle.ffi3_type_rules.specs.Value.{fits};
 ghost use Rattle.ffi3_place_rules.specs.Standard.{block_bytes};
@@ -6,7 +7,8 @@ ghost use Rattle.ffi3_types.specs.TreeOf.{tree_of};
 ghost use Rattle.ffi3_values.specs.ValueOf.{value_of};
 ghost use Rattle.ffi3_machine.specs.declared.TheConstants.{STACK, STACK_TOP};
 ghost use Rattle.ffi3_call.specs.Registers.{IsInRegisters, IsLowResult, is_number_or_void};
-ghost use Rattle.ffi3_call.specs.Steps.{copied, given_back, received, restored, saved, save_bytes, with_result, word_from};
+ghost use Rattle.ffi3_call.specs.Steps.{copied, given_back, received, restored, saved, save_bytes};
+ghost use Rattle.ffi3_call.specs.Steps.{with_result, word_from};
 
 use crate::caller::{ARGUMENT_REGISTERS, word};
 use crate::{RAX, SAVE, block_size};

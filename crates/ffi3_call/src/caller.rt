@@ -1,14 +1,12 @@
 // The caller's side: the arguments to their registers, and the result from its own.
-ghost use Rattle.std.specs.Prelude.{◌≡◌, ◌<◌, ℕ, IfOk, length, slice_index, take, true};
-ghost use Rattle.std.specs.Int.{w64, to_le_bytes};
+ghost use Rattle.std.specs.Prelude.{◌≡◌, ◌<◌, ℕ, IfOk, length, slice_index, true};
 ghost use Rattle.ffi3_type_rules.specs.Tree.{trees_of};
 ghost use Rattle.ffi3_type_rules.specs.Integer.{is_number_type};
-ghost use Rattle.ffi3_type_rules.specs.Layout.{size_of};
-ghost use Rattle.ffi3_type_rules.specs.Value.{all_fit, fits, value_in, values_of};
+ghost use Rattle.ffi3_type_rules.specs.Value.{all_fit, fits, values_of};
 ghost use Rattle.ffi3_types.specs.TreeOf.{tree_of};
 ghost use Rattle.ffi3_values.specs.ValueOf.{value_of};
-ghost use Rattle.ffi3_call.specs.Registers.{AreLow, IsInRegisters, IsLow, rax, word_of};
-ghost use Rattle.ffi3_call.specs.Steps.{with_arguments};
+ghost use Rattle.ffi3_call.specs.Registers.{AreLow, IsInRegisters, IsLow, word_of};
+ghost use Rattle.ffi3_call.specs.Steps.{loaded_result, with_arguments};
 
 use crate::RAX;
 use ffi3_machine::{Machine, NoMemory, Target};
@@ -40,7 +38,8 @@ pub fn store_args(machine: &mut Machine, sig: &Sig, args: &Values)
 /// The result, from its register, or Void.
 pub fn load_result(alloc: Global, machine: &Machine, sig: &Sig) -> Result<Value, NoMemory>
     requires { IsInRegisters sig.now }
-    ensures { IfOk result (λ v. value_of v ≡ value_in sig.now.result_type (take (size_of sig.now.result_type) (to_le_bytes w64 (slice_index machine.now.general rax)))) }
+    ensures value { IfOk result (λ v. value_of v ≡ loaded_result sig.now.result_type machine.now) }
+    ensures fits { IfOk result (λ v. fits sig.now.result_type (value_of v) ≡ true) }
 {
     let ty = sig.ret();
     let word = machine.g(RAX).to_le_bytes();

@@ -2,7 +2,8 @@
 //! general registers: the caller's side and the callee's.
 #![tactic(auto)]
 
-ghost use Rattle.std.specs.Prelude.{◌≡◌, ◌+◌, ◌*◌, ◌≤◌, ◌↔◌, IfOk, IsSome, IsTrue, OnErr, OnOk, length, true};
+ghost use Rattle.std.specs.Prelude.{◌≡◌, ◌+◌, ◌*◌, ◌≤◌, ◌↔◌};
+ghost use Rattle.std.specs.Prelude.{IfOk, IsSome, IsTrue, OnErr, OnOk, length, true};
 ghost use Rattle.ffi3_type_rules.specs.Tree.{trees_of};
 ghost use Rattle.ffi3_type_rules.specs.Integer.{is_number_type};
 ghost use Rattle.ffi3_types.specs.TreeOf.{tree_of};
@@ -104,6 +105,7 @@ pub fn begin_call(
     ensures begun { OnOk result (HasBegun sig.now args.now ptr machine.old machine.new) }
     ensures refused { OnErr result (machine.new ≡ machine.old) }
 {
+    // its contract tells what is true of every machine
     let _sp = machine.sp();
     machine.journal_room(LINK)?;
     store_args(machine, sig, args);
@@ -128,6 +130,7 @@ pub fn end_call(
     ensures ended { HasEnded sig.now (value_of value.now) machine.old machine.new }
     ensures value { IfOk result (λ v. value_of v ≡ value_of value.now) }
 {
+    // its contract tells what is true of every machine
     let _sp = machine.sp();
     give_back(machine, sig, value);
     machine.leave(0);

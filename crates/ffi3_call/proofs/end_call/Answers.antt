@@ -23,4 +23,4 @@ returns-clause-ended c =
 pub returns-clause-value : goal.returns-clause-value
 returns-clause-value c =
     let back = loaded_back c.args.sig.now (value_of c.args.value.now) c.args.machine.now c.give_back.new.machine c.leave.new.self c.requires.registers c.requires.fits c.give_back.ensures.low c.requires.called.1.target c.sp-sp.ensures.machine.general c.give_back.ensures.given c.leave.ensures in
-    IfOk-weaker c.load_result.result _ _ (λ v is. is ∙ back) c.load_result.ensures
+    IfOk-weaker c.load_result.result _ _ (λ v is. is ∙ back) c.load_result.ensures.value
