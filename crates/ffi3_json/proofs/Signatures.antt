@@ -6,7 +6,7 @@ use Rattle.serde_json.specs.Find.{get}
 use Rattle.ffi3_type_rules.specs.Tree.{Tree}
 use Rattle.ffi3_type_rules.specs.Signature.{Signature, SignatureFault, IsFirstSignatureFault, SignatureHasNoFault}
 use Rattle.ffi3_script_rules.specs.Language.{Path, Reason, Read, read, fault, and_then, read_map, check_object, signature_keys, read_type, read_types, read_fixed, value_under, under, read_shapes, read_signature, unless_faulty, place_of_fault, reason_of_fault}
-use Rattle.ffi3_script_rules.proofs.FirstFaults.{signature_fault_found, no_signature_fault_found}
+use Rattle.ffi3_script_rules.proofs.FirstSignatureFaults.{signature_found_by_first, signature_none_found}
 use Rattle.ffi3_json.specs.Told.{Tells}
 use Rattle.ffi3_json.specs.declared.fault.ScriptFault.{ScriptFault}
 use Rattle.ffi3_json.proofs.Tellings.{tells_part, tells_made}
@@ -64,9 +64,9 @@ tells_shape d path e t =
 pub tells_own : (d : Data) (path : Path) (s : Signature) (f : SignatureFault) → read_shapes d path ≡ read s → IsFirstSignatureFault s f
     → (e : ScriptFault) → Tells (λ p r. (p ≡ place_of_fault path f) × (r ≡ reason_of_fault f)) e → Tells (λ p r. read_signature d path ≡ fault p r) e
 tells_own d path s f shapes first e t =
-    tells_made (read_signature d path) (place_of_fault path f) (reason_of_fault f) (then_read _ (read_shapes d path) s shapes ∙ ap (unless_faulty path s) (signature_fault_found s f first)) e t
+    tells_made (read_signature d path) (place_of_fault path f) (reason_of_fault f) (then_read _ (read_shapes d path) s shapes ∙ ap (unless_faulty path s) (signature_found_by_first s f first)) e t
 
 -- and one that has none is read
 pub read_right : (d : Data) (path : Path) (s : Signature) → read_shapes d path ≡ read s → SignatureHasNoFault s → read_signature d path ≡ read s
 read_right d path s shapes right =
-    then_read _ (read_shapes d path) s shapes ∙ ap (unless_faulty path s) (no_signature_fault_found s right)
+    then_read _ (read_shapes d path) s shapes ∙ ap (unless_faulty path s) (signature_none_found s right)
