@@ -1,2 +1,3 @@
 pub mod ExprOf
 pub mod ScopeOf
+pub mod Shapes

@@ -2,9 +2,11 @@
 #![tactic(auto)]
 
 mod expr;
+mod forms;
 mod moves;
 mod index;
 mod names;
+mod plain;
 mod scope;
 
 pub use expr::Expr;
