@@ -1,2 +1,2 @@
-
 mod Shapes
+pub mod Standing

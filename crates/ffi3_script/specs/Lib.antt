@@ -1,3 +1,8 @@
 pub mod ExprOf
 pub mod ScopeOf
 pub mod Shapes
+pub mod Own
+pub mod KindOf
+pub mod BodyOf
+pub mod FunctionOf
+pub mod ScriptOf

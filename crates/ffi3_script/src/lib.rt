@@ -1,6 +1,7 @@
 //! The script language: from bytes to a script, and its bodies.
 #![tactic(auto)]
 
+mod body;
 mod expr;
 mod forms;
 mod moves;
@@ -8,10 +9,13 @@ mod index;
 mod names;
 mod plain;
 mod scope;
+mod script;
 
+pub use body::{MoveKind, ScriptBody};
 pub use expr::Expr;
-pub use moves::{Act, ScriptMove, TypedExpr};
 /// A want of memory: the one answer that no clause ties to a cause.
 pub use ffi3_types::NoMemory;
+pub use moves::{Act, ScriptMove, TypedExpr};
 pub use names::Names;
 
+pub use script::{Script, ScriptFunction};

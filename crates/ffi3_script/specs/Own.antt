@@ -1,0 +1,9 @@
+-- The signature by which a body is called.
+use Rattle.std.specs.Prelude.{ℕ, List, Option, Some, None}
+use Rattle.ffi3_type_rules.specs.Signature.{Signature, signature_at}
+use Rattle.ffi3_run_rules.specs.Move.{no_signature}
+
+-- a function's is one of the script's, by its number; main has neither arguments nor result
+abbrev pub own_of : List Signature → Option ℕ → Signature
+own_of signatures None = no_signature
+own_of signatures (Some i) = signature_at signatures i

@@ -1,0 +1,114 @@
+// A body of a script: the moves of a function, or of main.
+ghost use Rattle.std.specs.Prelude.{◌≡◌, ◌<◌, ◌^◌, length, true};
+ghost use Rattle.std.specs.List.{list_all};
+ghost use Rattle.ffi3_script_rules.specs.Typed.{body_is_typed, signature_is_right};
+ghost use Rattle.ffi3_script.specs.ExprOf.{script_moves_of};
+ghost use Rattle.ffi3_script.specs.Own.{own_of};
+
+use crate::{Act, NoMemory, ScriptMove};
+use ffi3_body::{Body, Move, Seen};
+use ffi3_types::Sigs;
+use std::alloc::Global;
+use std::rc::Rc;
+
+/// What a move does.
+#[derive(Clone, Copy, Debug, PartialEq, Eq)]
+pub enum MoveKind {
+    /// It calls a closure.
+    Call,
+    /// It makes a closure.
+    Make,
+    /// It frees a closure.
+    Free,
+    /// It prints a value.
+    Print,
+    /// It ends the body.
+    Return,
+}
+
+/// The moves of a function of a script, or of main. They are well typed, and end with a return.
+#[derive(Drop)]
+pub struct ScriptBody {
+    sigs: Rc<Sigs>,
+    // those of the script and the natives
+    functions: u32,
+    // the number of its own signature; main has none
+    own: Option<u32>,
+    moves: Vec<ScriptMove>,
+    ghost typed: { body_is_typed sigs.value functions (own_of sigs.value own) (script_moves_of moves.items) ≡ true },
+    ghost right: { list_all signature_is_right sigs.value ≡ true },
+    ghost few: { length moves.items < 2 ^ 31 },
+}
+
+impl ScriptBody {
+    ghost use Rattle.std.specs.Prelude.{◌≡◌, ◌<◌, ◌^◌, length, true};
+    ghost use Rattle.std.specs.List.{list_all};
+    ghost use Rattle.ffi3_script_rules.specs.Typed.{body_is_typed, signature_is_right};
+    ghost use Rattle.ffi3_script.specs.ExprOf.{script_moves_of};
+    ghost use Rattle.ffi3_script.specs.Own.{own_of};
+    ghost use Rattle.ffi3_script.specs.KindOf.{kind_of_act, act_at};
+    ghost use Rattle.ffi3_script.specs.BodyOf.{moves_of, signatures_of, functions_of};
+
+    /// The body of these moves, among a script's signatures and so many functions, natives too.
+    /// Its own signature is the one of number `own`, or main's.
+    pub(crate) fn new(
+        sigs: Rc<Sigs>,
+        functions: u32,
+        own: Option<u32>,
+        moves: Vec<ScriptMove>,
+    ) -> ScriptBody
+        requires typed { body_is_typed sigs.value functions (own_of sigs.value own) (script_moves_of moves.items) ≡ true }
+        requires right { list_all signature_is_right sigs.value ≡ true }
+        requires few { length moves.items < 2 ^ 31 }
+        ensures moves_are { moves_of result ≡ script_moves_of moves.items }
+        ensures signatures_are { signatures_of result ≡ sigs.value }
+        ensures functions_are { functions_of result ≡ functions }
+        ensures own_is { result.own ≡ own }
+    {
+        ScriptBody {
+            sigs,
+            functions,
+            own,
+            moves,
+        }
+    }
+
+    /// How many moves there are: at least one.
+    pub fn moves(&self) -> u32
+        ensures are { result ≡ length (moves_of self.now) }
+        ensures bound { result < 2 ^ 31 }
+    {
+        self.moves.len() as u32
+    }
+
+    /// Of which kind move `j` is.
+    pub fn kind(&self, j: u32) -> MoveKind
+        requires { j < length (moves_of self.now) }
+        ensures { result ≡ kind_of_act (act_at (moves_of self.now) j) }
+    {
+        match &self.moves[j as usize].act {
+            Act::Call { .. } => MoveKind::Call,
+            Act::Make { .. } => MoveKind::Make,
+            Act::Free { .. } => MoveKind::Free,
+            Act::Print(_) => MoveKind::Print,
+            Act::Return(_) => MoveKind::Return,
+            Act::ReturnVoid => MoveKind::Return,
+        }
+    }
+}
+
+impl Body for ScriptBody {
+    ghost use Rattle.ffi3_script.specs.BodyOf.{meaning_of, signature_of, signatures_of, functions_of};
+
+    ghost meaning = { meaning_of };
+
+    ghost signature = { signature_of };
+
+    ghost signatures = { signatures_of };
+
+    ghost functions = { functions_of };
+
+    fn next(&self, alloc: Global, seen: &Seen) -> Result<Move, NoMemory> {
+        Err(NoMemory)
+    }
+}
