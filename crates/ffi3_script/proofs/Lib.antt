@@ -1,2 +1,4 @@
 mod Shapes
 pub mod Standing
+mod Plain
+mod Values

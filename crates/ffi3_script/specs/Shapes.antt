@@ -1,12 +1,12 @@
 -- Objects of one member, arrays of two items, and forms of values.
-use Rattle.std.specs.Prelude.{ℕ, List, Option, Some, None, IsSome}
+use Rattle.std.specs.Prelude.{ℕ, List, Option, Some, None, Bool, true, false, if◌then◌else◌}
 use Rattle.serde_json.specs.Data.{Data, null, boolean, number, string, array, object, Items, no_items, item, Members, no_members, member}
 use Rattle.ffi3_type_rules.specs.Tree.{Tree}
-use Rattle.ffi3_script_rules.specs.Language.{Read, Path, under}
+use Rattle.ffi3_script_rules.specs.Language.{Read, fault, Path, under, wrong_type}
 use Rattle.ffi3_script_rules.specs.Script.{Expression}
 use Rattle.ffi3_script_rules.specs.Script as script
 use Rattle.ffi3_script_rules.specs.Values as values
-use Rattle.ffi3_script_rules.specs.Values.{Scope, typed_by, value_by, own_by, read_field, read_of, read_two, read_typed}
+use Rattle.ffi3_script_rules.specs.Values.{Scope, Pair, is_integer_type, typed_by, value_by, read_field, read_of, read_two, read_typed}
 use Rattle.ffi3_script.specs.declared.forms.TypedForm.{TypedForm}
 use Rattle.ffi3_script.specs.declared.forms.TypedForm.TheVariants.{Arg, Res, User, Field, Of}
 use Rattle.ffi3_script.specs.declared.forms.Form.{Form}
@@ -41,6 +41,15 @@ two_items (string s) = None
 two_items (array ds) = two_in ds
 two_items (object ms) = None
 
+-- a number, a text or an array
+abbrev pub is_untyped : Data → Bool
+is_untyped null = false
+is_untyped (boolean b) = false
+is_untyped (number n) = true
+is_untyped (string s) = true
+is_untyped (array ds) = true
+is_untyped (object ms) = false
+
 -- which form a form of the code is
 abbrev pub typed_form_of : TypedForm → values.TypedForm
 typed_form_of Arg = values.arg_form
@@ -65,3 +74,8 @@ typed_under scope name d path form =
 abbrev pub value_under_form : Scope → Tree → List ℕ → Data → Path → values.Form → Read Expression
 value_under_form scope t name d path form =
     value_by t path (under path name) (typed_under scope name d path) (λ _. read_two scope t d (under path name)) (λ _. read_typed scope d (under path name)) form
+
+-- the two values of a sum or difference, after its type
+abbrev pub read_terms : Scope → Tree → List ℕ → Data → Path → Read Pair
+read_terms scope t name d path =
+    if is_integer_type t then read_two scope t d (under path name) else fault path wrong_type

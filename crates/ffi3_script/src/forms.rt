@@ -2,7 +2,7 @@
 ghost use Rattle.std.specs.Prelude.{◌≡◌, option_map};
 ghost use Rattle.serde_json.specs.View.{view};
 ghost use Rattle.ffi3_script_rules.specs.Values.{form_named};
-ghost use Rattle.ffi3_script.specs.Shapes.{only_member, two_items, form_of};
+ghost use Rattle.ffi3_script.specs.Shapes.{only_member, two_items, is_untyped, form_of};
 
 use ffi3_json::Json;
 
@@ -50,6 +50,13 @@ pub(crate) fn form_named(name: &str) -> Form
         "cast" => Form::Cast,
         _ => Form::Unknown,
     }
+}
+
+/// Whether the value is a number, a text or an array.
+pub(crate) fn is_untyped(value: &Json) -> bool
+    ensures { result ≡ is_untyped (view value.now) }
+{
+    value.is_number() || value.is_string() || value.is_array()
 }
 
 /// Key and value of an object's one member. None where the value is no object, or has another number of members.

@@ -10,6 +10,7 @@ mod names;
 mod plain;
 mod scope;
 mod script;
+mod values;
 
 pub use body::{MoveKind, ScriptBody};
 pub use expr::Expr;

@@ -1,15 +1,14 @@
 // Values of a script that hold no other values.
-ghost use Rattle.std.specs.Prelude.{◌≡◌, IfOk, IfErr, OnOk, option_and_then, length, true};
+ghost use Rattle.std.specs.Prelude.{◌≡◌, ◌++◌, ◌∷◌, [], IfOk, IfErr, OnOk, option_and_then, length, true};
 ghost use Rattle.serde_json.specs.Find.{as_number, as_u64, as_str};
 ghost use Rattle.serde_json.specs.View.{view, number_view};
-ghost use Rattle.ffi3_type_rules.specs.Tree.{elements_of};
 ghost use Rattle.ffi3_type_rules.specs.Integer.{is_number_type, scalar_of};
 ghost use Rattle.ffi3_types.specs.TreeOf.{tree_of};
-ghost use Rattle.ffi3_script_rules.specs.Language.{read, fault, HasShortArrays};
-ghost use Rattle.ffi3_script_rules.specs.Values as values;
-ghost use Rattle.ffi3_script_rules.specs.Values.{in_range, is_integer_type, read_number, read_text, argument_of, result_of, user_of, element_of, against, cast_of, read_right_type};
+ghost use Rattle.ffi3_script_rules.specs.Language.{read, fault, at_item, HasShortArrays};
+ghost use Rattle.ffi3_script_rules.specs.Script as script;
+ghost use Rattle.ffi3_script_rules.specs.Values.{typed, in_range, is_integer_type, read_number, read_text, argument_of, result_of, user_of, element_of, against, cast_of, read_right_type};
 ghost use Rattle.ffi3_json.specs.Told.{Tells};
-ghost use Rattle.ffi3_script.specs.ExprOf.{expression_of, typed_of};
+ghost use Rattle.ffi3_script.specs.ExprOf.{expression_of, expressions_in, typed_of};
 ghost use Rattle.ffi3_script.specs.ScopeOf.{scope_of};
 
 use crate::scope::Scope;
@@ -23,11 +22,49 @@ use hex::FromHex;
 use serde_json::Number;
 use std::alloc::Global;
 
-/// A value on the heap.
-pub(crate) fn boxed(alloc: Global, value: Expr) -> Result<Box<Expr>, NoMemory>
+// A value on the heap.
+fn boxed(alloc: Global, value: Expr) -> Result<Box<Expr>, NoMemory>
     ensures { IfOk result (λ b. b.value ≡ value) }
 {
     Ok(Box::new(alloc, value)?)
+}
+
+/// One more value at the end of a list.
+pub(crate) fn push(values: &mut Vec<Expr>, value: Expr) -> Result<(), NoMemory>
+    ensures { OnOk result (values.new.items ≡ values.old.items ++ value ∷ []) }
+{
+    Ok(values.push(value)?)
+}
+
+/// A struct of these values.
+pub(crate) fn composed(values: Vec<Expr>) -> Expr
+    ensures { expression_of result ≡ script.composed (expressions_in values.items) }
+{
+    Expr::Composed(values)
+}
+
+/// The sum of two integers of a type.
+pub(crate) fn sum(alloc: Global, ty: &FfiType, a: Expr, b: Expr) -> Result<Expr, NoMemory>
+    ensures { IfOk result (λ e. expression_of e ≡ script.sum (scalar_of (tree_of ty.now)) (expression_of a) (expression_of b)) }
+{
+    Ok(Expr::Sum(ty.copy(alloc)?, boxed(alloc, a)?, boxed(alloc, b)?))
+}
+
+/// The difference of two integers of a type.
+pub(crate) fn difference(alloc: Global, ty: &FfiType, a: Expr, b: Expr) -> Result<Expr, NoMemory>
+    ensures { IfOk result (λ e. expression_of e ≡ script.difference (scalar_of (tree_of ty.now)) (expression_of a) (expression_of b)) }
+{
+    Ok(Expr::Difference(ty.copy(alloc)?, boxed(alloc, a)?, boxed(alloc, b)?))
+}
+
+/// A value that is said to be of a type.
+pub(crate) fn typed_as(alloc: Global, ty: FfiType, value: Expr) -> Result<TypedExpr, NoMemory>
+    ensures { IfOk result (λ v. typed_of v ≡ typed (tree_of ty) (script.typed_as (tree_of ty) (expression_of value))) }
+{
+    Ok(TypedExpr {
+        ty: ty.copy(alloc)?,
+        value: Expr::TypedAs(ty, boxed(alloc, value)?),
+    })
 }
 
 /// Whether the type is one of the eight integer types.
@@ -204,8 +241,8 @@ pub(crate) fn cast_of(alloc: Global, to: &FfiType, value: TypedExpr, at: &Where)
     }
 }
 
-/// A type that may be an argument's. The place is left as it was where one is read.
-pub(crate) fn read_right_type(alloc: Global, value: &Json, at: &mut Where) -> Result<FfiType, ScriptFault>
+// A type that may be an argument's. The place is left as it was where one is read.
+fn read_right_type(alloc: Global, value: &Json, at: &mut Where) -> Result<FfiType, ScriptFault>
     requires { HasShortArrays (view value.now) }
     ensures place { OnOk result (at.new ≡ at.old) }
     ensures ok { IfOk result (λ t. read_right_type (view value.now) at.old ≡ read (tree_of t)) }
@@ -222,4 +259,20 @@ pub(crate) fn read_right_type(alloc: Global, value: &Json, at: &mut Where) -> Re
             Err(bad(alloc, at, reason_of_type(&fault)))
         }
     }
+}
+
+/// A type that may be an argument's, as the first item of an array. The place is left as it was where one is read.
+pub(crate) fn read_first_type(alloc: Global, item: &Json, at: &mut Where) -> Result<FfiType, ScriptFault>
+    requires { HasShortArrays (view item.now) }
+    ensures place { OnOk result (at.new ≡ at.old) }
+    ensures ok { IfOk result (λ t. read_right_type (view item.now) (at_item at.old 0) ≡ read (tree_of t)) }
+    ensures err { IfErr result (Tells (λ p r. read_right_type (view item.now) (at_item at.old 0) ≡ fault p r)) }
+{
+    at.push_number(0)?;
+    let ty = match read_right_type(alloc, item, at) {
+        Ok(ty) => ty,
+        Err(fault) => return Err(fault),
+    };
+    at.pop();
+    Ok(ty)
 }
