@@ -1,6 +1,6 @@
-mod Tellings
-mod Paths
-mod Objects
+pub mod Tellings
+pub mod Paths
+pub mod Objects
 mod Items
 mod Signatures
 mod Short

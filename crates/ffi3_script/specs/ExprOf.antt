@@ -1,5 +1,5 @@
 -- Which value and move of a script one of the code is.
-use Rattle.std.specs.Prelude.{List, [], ◌∷◌, map, option_map, string_bytes}
+use Rattle.std.specs.Prelude.{List, map, option_map, string_bytes}
 use Rattle.ffi3_type_rules.specs.Integer.{scalar_of}
 use Rattle.ffi3_types.specs.TreeOf.{tree_of}
 use Rattle.ffi3_script_rules.specs.Script as script

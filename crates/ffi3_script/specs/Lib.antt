@@ -1,2 +1,4 @@
 pub mod ExprOf
 pub mod ScopeOf
+pub mod Finds
+pub mod Texts

@@ -2,14 +2,15 @@
 #![tactic(auto)]
 
 mod expr;
-mod moves;
+mod functions;
 mod index;
+mod moves;
 mod names;
 mod scope;
+mod values;
 
 pub use expr::Expr;
-pub use moves::{Act, ScriptMove, TypedExpr};
 /// A want of memory: the one answer that no clause ties to a cause.
 pub use ffi3_types::NoMemory;
+pub use moves::{Act, ScriptMove, TypedExpr};
 pub use names::Names;
-

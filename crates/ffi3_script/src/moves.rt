@@ -20,9 +20,14 @@ pub enum Act {
         args: Vec<Expr>,
     },
     /// Make a closure of the function of a number, with user data.
-    Make { func: u32, user: Expr },
+    Make {
+        func: u32,
+        user: Expr,
+    },
     /// Free the closure at a pointer.
-    Free { ptr: Expr },
+    Free {
+        ptr: Expr,
+    },
     /// Print a value.
     Print(TypedExpr),
     /// End with a result.
