@@ -1,4 +1,5 @@
+mod Numbering
+mod Plain
 mod Shapes
 pub mod Standing
-mod Plain
 mod Values

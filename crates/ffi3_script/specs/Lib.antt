@@ -1,5 +1,7 @@
 pub mod ExprOf
 pub mod ScopeOf
+pub mod Finds
+pub mod Texts
 pub mod Shapes
 pub mod Own
 pub mod KindOf

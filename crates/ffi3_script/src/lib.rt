@@ -4,8 +4,9 @@
 mod body;
 mod expr;
 mod forms;
-mod moves;
+mod functions;
 mod index;
+mod moves;
 mod names;
 mod plain;
 mod scope;
@@ -18,5 +19,4 @@ pub use expr::Expr;
 pub use ffi3_types::NoMemory;
 pub use moves::{Act, ScriptMove, TypedExpr};
 pub use names::Names;
-
 pub use script::{Script, ScriptFunction};

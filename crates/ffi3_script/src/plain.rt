@@ -158,7 +158,7 @@ pub(crate) fn argument_of(alloc: Global, scope: &Scope, value: &Json, at: &Where
     let Some(i) = value.as_u64() else {
         return Err(bad(alloc, at, Reason::NoSuchArgument));
     };
-    if i >= scope.count() as u64 {
+    if i >= scope.own.count() as u64 {
         return Err(bad(alloc, at, Reason::NoSuchArgument));
     }
     let i = i as u32;
