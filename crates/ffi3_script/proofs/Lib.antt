@@ -1,5 +1,6 @@
 mod Numbering
-mod Plain
+mod Parts
+mod Results
 mod Shapes
 pub mod Standing
-mod Values
+mod Types

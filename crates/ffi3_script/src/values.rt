@@ -268,16 +268,16 @@ fn read_field(
         return Err(bad(alloc, at, Reason::WrongCount));
     };
     at.push_number(0)?;
-    let value = match read_typed(alloc, scope, first, at) {
+    let TypedExpr { ty, value } = match read_typed(alloc, scope, first, at) {
         Ok(value) => value,
         Err(fault) => return Err(fault),
     };
-    let FfiType::Struct(fields) = &value.ty else {
+    let FfiType::Struct(fields) = &ty else {
         return Err(bad(alloc, at, Reason::WrongType));
     };
     at.pop();
     at.pop();
-    element_of(alloc, value.value, fields, second, at)
+    element_of(alloc, value, fields, second, at)
 }
 
 // An array of a type, and a value against it.

@@ -5,7 +5,7 @@ use Rattle.ffi3_types.specs.FaultOf.{path_of, fault_of}
 use Rattle.ffi3_script_rules.specs.Language.{fault, inside_type, reason_of_type_fault}
 use Rattle.ffi3_script_rules.specs.Values.{read_right_type}
 use Rattle.ffi3_json.proofs.Tellings.{tells_made, same_fault}
-use Rattle.ffi3_script.proofs.Plain.{right_type-ok, right_type-fault}
+use Rattle.ffi3_script.proofs.Types.{right_type-ok, right_type-fault}
 use Rattle.ffi3_script.proofs.plain.read_right_type.Goals as goal
 
 pub returns-in-Ok-check_type-clause-ok : goal.returns-in-Ok-check_type-clause-ok
