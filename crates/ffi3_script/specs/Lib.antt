@@ -4,3 +4,5 @@ pub mod KindOf
 pub mod BodyOf
 pub mod FunctionOf
 pub mod ScriptOf
+pub mod KnownOf
+pub mod KnownAt

@@ -2,7 +2,9 @@
 #![tactic(auto)]
 
 mod body;
+mod eval;
 mod expr;
+mod known;
 mod moves;
 mod names;
 mod script;
