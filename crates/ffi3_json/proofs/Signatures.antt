@@ -1,15 +1,15 @@
 -- A signature's parts, one after another.
-use Rattle.std.proofs.Common.{◌≡◌, ℕ, List, Option, Some, None, codes, ap, ◌∙◌, subst}
+use Rattle.std.proofs.Common.{◌≡◌, ℕ, List, Option, Some, None, codes, ap, ◌∙◌}
 use Rattle.std.specs.Prelude.{unwrap_or}
 use Rattle.serde_json.specs.Data.{Data, null}
 use Rattle.serde_json.specs.Find.{get}
 use Rattle.ffi3_type_rules.specs.Tree.{Tree}
-use Rattle.ffi3_type_rules.specs.Signature.{Signature, SignatureFault, IsFirstSignatureFault}
-use Rattle.ffi3_script_rules.specs.Language.{Path, Reason, Read, read, fault, and_then, read_map, check_object, signature_keys, read_type, read_types, read_fixed, value_under, under, read_shapes, IsSignatureRead, bad_shape, faulty, place_of_fault, reason_of_fault}
+use Rattle.ffi3_type_rules.specs.Signature.{Signature, SignatureFault, IsFirstSignatureFault, SignatureHasNoFault}
+use Rattle.ffi3_script_rules.specs.Language.{Path, Reason, Read, read, fault, and_then, read_map, check_object, signature_keys, read_type, read_types, read_fixed, value_under, under, read_shapes, read_signature, unless_faulty, place_of_fault, reason_of_fault}
+use Rattle.ffi3_script_rules.proofs.FirstSignatureFaults.{signature_found_by_first, signature_none_found}
 use Rattle.ffi3_json.specs.Told.{Tells}
 use Rattle.ffi3_json.specs.declared.fault.ScriptFault.{ScriptFault}
-use Rattle.ffi3_json.specs.declared.fault.ScriptFault.TheVariants.{TooLong, BadJson, BadScript, NoMemory}
-use Rattle.ffi3_json.proofs.Tellings.{same_fault}
+use Rattle.ffi3_json.proofs.Tellings.{tells_part, tells_made}
 
 then_fault : {A B : Type 0} (f : A → Read B) (x : Read A) (p : Path) (r : Reason) → x ≡ fault p r → and_then f x ≡ fault p r
 then_fault f x p r e = ap (and_then f) e
@@ -56,16 +56,17 @@ pub shapes-all : (d : Data) (path : Path) (t : Tree) (ts : List Tree) (n : Optio
 shapes-all d path t ts n e0 e1 e2 e3 = shapes-most d path t ts e0 e1 e2 ∙ ap (λ x. read_map (λ fixed. record { result_type = t; arguments = ts; fixed = fixed }) x) e3
 
 -- a fault of the shapes is the signature's
-pub tells_shape : (d : Data) (path : Path) (e : ScriptFault) → Tells (λ p r. read_shapes d path ≡ fault p r) e → Tells (λ p r. IsSignatureRead d path (fault p r)) e
-tells_shape d path TooLong t = t
-tells_shape d path BadJson t = t
-tells_shape d path (BadScript place why) t = bad_shape t
-tells_shape d path NoMemory t = tt
+pub tells_shape : (d : Data) (path : Path) (e : ScriptFault) → Tells (λ p r. read_shapes d path ≡ fault p r) e → Tells (λ p r. read_signature d path ≡ fault p r) e
+tells_shape d path e t =
+    tells_part (read_signature d path) (read_shapes d path) (λ p r is. then_fault _ (read_shapes d path) p r is) e t
 
 -- so is the first fault of a signature whose shapes were read
 pub tells_own : (d : Data) (path : Path) (s : Signature) (f : SignatureFault) → read_shapes d path ≡ read s → IsFirstSignatureFault s f
-    → (e : ScriptFault) → Tells (λ p r. (p ≡ place_of_fault path f) × (r ≡ reason_of_fault f)) e → Tells (λ p r. IsSignatureRead d path (fault p r)) e
-tells_own d path s f shapes first TooLong t = t
-tells_own d path s f shapes first BadJson t = t
-tells_own d path s f shapes first (BadScript place why) t = subst (λ q. IsSignatureRead d path q) (same_fault t.0 t.1) (faulty shapes first)
-tells_own d path s f shapes first NoMemory t = tt
+    → (e : ScriptFault) → Tells (λ p r. (p ≡ place_of_fault path f) × (r ≡ reason_of_fault f)) e → Tells (λ p r. read_signature d path ≡ fault p r) e
+tells_own d path s f shapes first e t =
+    tells_made (read_signature d path) (place_of_fault path f) (reason_of_fault f) (then_read _ (read_shapes d path) s shapes ∙ ap (unless_faulty path s) (signature_found_by_first s f first)) e t
+
+-- and one that has none is read
+pub read_right : (d : Data) (path : Path) (s : Signature) → read_shapes d path ≡ read s → SignatureHasNoFault s → read_signature d path ≡ read s
+read_right d path s shapes right =
+    then_read _ (read_shapes d path) s shapes ∙ ap (unless_faulty path s) (signature_none_found s right)

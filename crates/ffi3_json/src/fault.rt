@@ -35,7 +35,7 @@ impl From<NoMemory> for ScriptFault {
 }
 
 /// The fault of the value at a place, or a want of memory.
-pub(crate) fn bad(alloc: Global, at: &Where, why: Reason) -> ScriptFault
+pub fn bad(alloc: Global, at: &Where, why: Reason) -> ScriptFault
     ensures { Tells (λ p r. (p ≡ at.now) × (r ≡ reason_of why)) result }
 {
     match at.copy(alloc) {

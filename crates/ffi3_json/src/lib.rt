@@ -12,7 +12,7 @@ mod signature;
 mod tests;
 mod types;
 
-pub use fault::ScriptFault;
+pub use fault::{ScriptFault, bad};
 pub use ffi3_types::Bytes;
 /// A want of memory: the one answer that no clause ties to a cause.
 pub use document::parse;
@@ -24,7 +24,7 @@ pub use reason::{Reason, reason_text};
 /// A JSON value.
 pub use serde_json::Value as Json;
 pub use signature::read_signature;
-pub use types::read_type;
+pub use types::{read_node, read_type};
 
 /// The greatest length of a script in bytes.
 pub const MAX_LENGTH: usize = 1_048_576;

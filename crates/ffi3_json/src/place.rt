@@ -79,21 +79,21 @@ impl Where {
     }
 
     /// On to the member under a key.
-    pub(crate) fn push_key(&mut self, alloc: Global, name: &str) -> Result<(), NoMemory>
+    pub fn push_key(&mut self, alloc: Global, name: &str) -> Result<(), NoMemory>
         ensures { OnOk result (self.new ≡ under self.old name.now) }
     {
         self.push(Step::Key(String::from_str(alloc, name)?))
     }
 
     /// On to the item of a number.
-    pub(crate) fn push_number(&mut self, i: u32) -> Result<(), NoMemory>
+    pub fn push_number(&mut self, i: u32) -> Result<(), NoMemory>
         ensures { OnOk result (self.new ≡ at_item self.old i) }
     {
         self.push(Step::Number(i))
     }
 
     /// Back by the last step.
-    pub(crate) fn pop(&mut self)
+    pub fn pop(&mut self)
         requires { 0 < length self.old }
         ensures { self.new ≡ take (length self.old - 1) self.old }
     {

@@ -3,7 +3,8 @@ ghost use Rattle.std.specs.Prelude.{◌≡◌, IfOk, IfErr, OnOk, codes};
 ghost use Rattle.serde_json.specs.Find.{get};
 ghost use Rattle.serde_json.specs.View.{view};
 ghost use Rattle.ffi3_script_rules.specs.Language as language;
-ghost use Rattle.ffi3_script_rules.specs.Language.{read, read_shapes, read_fixed, HasShortArrays, IsSignatureRead, signature_keys, inside_type, place_of_type, place_of_fault, reason_of_type_fault, reason_of_fault, left_out_reason, read_type, read_types, value_under, under};
+ghost use Rattle.ffi3_script_rules.specs.Language.{read, read_shapes, read_fixed, HasShortArrays, signature_keys, inside_type, place_of_type, place_of_fault, reason_of_type_fault, reason_of_fault, left_out_reason, read_type, read_types, value_under, under};
+ghost use Rattle.ffi3_type_rules.specs.Signature.{SignatureHasNoFault};
 ghost use Rattle.ffi3_types.specs.TreeOf.{tree_of};
 ghost use Rattle.ffi3_types.specs.FaultOf.{fault_of};
 ghost use Rattle.ffi3_types.specs.SignatureFaultOf.{signature_fault_of, position_of};
@@ -22,8 +23,9 @@ use std::alloc::Global;
 /// signature's own first fault.
 pub fn read_signature(alloc: Global, value: &Json, at: &Where) -> Result<Sig, ScriptFault>
     requires { HasShortArrays (view value.now) }
-    ensures ok { IfOk result (λ s. IsSignatureRead (view value.now) at.now (read s)) }
-    ensures err { IfErr result (Tells (λ p r. IsSignatureRead (view value.now) at.now (language.fault p r))) }
+    ensures ok { IfOk result (λ s. language.read_signature (view value.now) at.now ≡ read s) }
+    ensures right { IfOk result SignatureHasNoFault }
+    ensures err { IfErr result (Tells (λ p r. language.read_signature (view value.now) at.now ≡ language.fault p r)) }
 {
     let sig = match read_shapes(alloc, value, at) {
         Ok(sig) => sig,

@@ -22,9 +22,9 @@ pub fn read_type(alloc: Global, value: &Json, at: &Where) -> Result<FfiType, Scr
     read_node(alloc, value, &mut place)
 }
 
-// The same, at a place that it leaves as it was where it reads a type.
+/// The same, at a place that it leaves as it was where it reads a type.
 #[cycle(types)]
-pub(crate) fn read_node(alloc: Global, value: &Json, at: &mut Where) -> Result<FfiType, ScriptFault>
+pub fn read_node(alloc: Global, value: &Json, at: &mut Where) -> Result<FfiType, ScriptFault>
     requires { HasShortArrays (view value.now) }
     ensures place { OnOk result (at.new ≡ at.old) }
     ensures ok { IfOk result (λ t. language.read_type (view value.now) at.old ≡ read (tree_of t)) }

@@ -6,3 +6,4 @@ pub mod FunctionOf
 pub mod ScriptOf
 pub mod KnownOf
 pub mod KnownAt
+pub mod ScopeOf

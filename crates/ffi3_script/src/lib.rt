@@ -4,9 +4,11 @@
 mod body;
 mod eval;
 mod expr;
+mod index;
 mod known;
 mod moves;
 mod names;
+mod scope;
 mod script;
 
 pub use body::{MoveKind, ScriptBody};

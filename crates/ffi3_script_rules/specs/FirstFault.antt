@@ -1,4 +1,4 @@
--- The first fault of a type and of a signature, computed. `proofs/FirstFaults.antt` has that each is the first fault by the order of faults, and that it is there wherever one is.
+-- The first fault of a type and of a signature, computed. `proofs/FirstFaults.antt` and `proofs/FirstSignatureFaults.antt` have that each is the first fault by the order of faults, and that it is there wherever one is.
 use Rattle.std.specs.Prelude.{ℕ, ◌+◌, ◌==◌, ◌||◌, Bool, true, false, List, [], ◌∷◌, length, drop, Option, Some, None, option_map, if◌then◌else◌, nat_lt}
 use Rattle.ffi3_type_rules.specs.Tree.{Tree, void, scalar, left_out, structure, Trees, no_trees, tree}
 use Rattle.ffi3_type_rules.specs.Layout.{size_of}

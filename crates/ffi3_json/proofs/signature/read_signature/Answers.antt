@@ -1,14 +1,14 @@
 use Rattle.serde_json.specs.View.{view}
-use Rattle.ffi3_script_rules.specs.Language.{faultless}
 use Rattle.ffi3_types.specs.SignatureFaultOf.{signature_fault_of}
-use Rattle.ffi3_json.proofs.Signatures.{tells_shape, tells_own}
+use Rattle.ffi3_json.proofs.Signatures.{tells_shape, tells_own, read_right}
 use Rattle.ffi3_json.proofs.signature.read_signature.Goals as goal
 
 pub returns-in-Err-clause-err : goal.returns-in-Err-clause-err
 returns-in-Err-clause-err c = tells_shape (view c.args.value.now) c.args.at.now c.in-Err.fault c.in-Err.ensures.err
 
 pub returns-in-Ok-check_sig-clause-ok : goal.returns-in-Ok-check_sig-clause-ok
-returns-in-Ok-check_sig-clause-ok c = faultless c.in-Ok.ensures.ok c.in-Ok-check_sig.ensures.ok
+returns-in-Ok-check_sig-clause-ok c =
+    read_right (view c.args.value.now) c.args.at.now c.in-Ok.sig c.in-Ok.ensures.ok c.in-Ok-check_sig.ensures.ok
 
 pub returns-in-Err-check_sig-clause-err : goal.returns-in-Err-check_sig-clause-err
 returns-in-Err-check_sig-clause-err c =
