@@ -1,1 +1,4 @@
 pub mod Standing
+pub mod Rows
+pub mod Evaluated
+pub mod Parts
