@@ -9,6 +9,7 @@ use Rattle.ffi3_script_rules.specs.Bodies.{type_of_act}
 use Rattle.ffi3_script_rules.specs.Meaning as meaning
 use Rattle.ffi3_script_rules.specs.Typed.{Kinds}
 use Rattle.ffi3_script.specs.ExprOf.{act_of}
+use Rattle.ffi3_script.specs.Own.{is_below}
 use Rattle.ffi3_script.specs.declared.known.Outcome.{Outcome}
 
 -- the value of a move of a type: its result, or zero where it was not done
@@ -21,10 +22,6 @@ outcome_type signatures o = type_of_act signatures (act_of o.act.now)
 
 abbrev pub outcome_value : List Signature → List ValueTree → Outcome → ValueTree
 outcome_value signatures results o = value_by (outcome_type signatures o) results o.result
-
-abbrev pub is_below : ℕ → Option ℕ → Bool
-is_below count (Some r) = nat_lt r count
-is_below count None = true
 
 -- the signature of a call is one of so many
 abbrev pub calls_below : ℕ → Act → Bool

@@ -2,6 +2,7 @@
 #![tactic(auto)]
 
 mod body;
+mod doing;
 mod eval;
 mod expr;
 mod index;
