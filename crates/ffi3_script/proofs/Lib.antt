@@ -1,6 +1,9 @@
 mod Numbering
-mod Parts
-mod Results
-mod Shapes
+mod ReadResults
+mod ReadShapes
+mod ReadTypes
+mod ReadValues
 pub mod Standing
-mod Types
+pub mod Rows
+pub mod Evaluated
+pub mod Parts

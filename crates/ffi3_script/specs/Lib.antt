@@ -8,3 +8,5 @@ pub mod KindOf
 pub mod BodyOf
 pub mod FunctionOf
 pub mod ScriptOf
+pub mod KnownOf
+pub mod KnownAt

@@ -2,10 +2,13 @@
 #![tactic(auto)]
 
 mod body;
+mod doing;
+mod eval;
 mod expr;
 mod forms;
 mod functions;
 mod index;
+mod known;
 mod moves;
 mod names;
 mod plain;

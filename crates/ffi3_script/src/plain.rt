@@ -180,6 +180,8 @@ pub(crate) fn result_of(alloc: Global, scope: &Scope, value: &Json, at: &Where) 
     let Some(i) = scope.names.find(name) else {
         return Err(bad(alloc, at, Reason::NoSuchResult));
     };
+    // fewer than 2^32 results, so that the number is in range
+    let _count = scope.types.len();
     Ok(TypedExpr {
         ty: scope.types.get(i).copy(alloc)?,
         value: Expr::Outcome(i as u32),

@@ -1,7 +1,7 @@
 use Rattle.std.proofs.Common.{sym, ◌∙◌}
 use Rattle.serde_json.specs.View.{view, members_view}
 use Rattle.serde_json.proofs.Views.{members_len-members_view}
-use Rattle.ffi3_script.proofs.Shapes.{no_only_member}
+use Rattle.ffi3_script.proofs.ReadShapes.{no_only_member}
 use Rattle.ffi3_script.proofs.forms.only_member.Goals as goal
 
 pub returns-then-len-ne1 : goal.returns-then-len-ne1

@@ -1,7 +1,7 @@
 use Rattle.std.proofs.Common.{sym, arith}
 use Rattle.serde_json.specs.View.{view, items_view}
 use Rattle.serde_json.proofs.Views.{items_len-items_view}
-use Rattle.ffi3_script.proofs.Shapes.{no_two_items}
+use Rattle.ffi3_script.proofs.ReadShapes.{no_two_items}
 use Rattle.ffi3_script.proofs.forms.two_items.Goals as goal
 
 pub returns-then-len-ne2 : goal.returns-then-len-ne2

@@ -3,7 +3,7 @@ use Rattle.serde_json.specs.Data.{depth, items_depth}
 use Rattle.serde_json.specs.View.{view, items_view}
 use Rattle.ffi3_script.specs.ExprOf.{expression_of}
 use Rattle.ffi3_script.specs.ScopeOf.{scope_of}
-use Rattle.ffi3_script.proofs.Parts.{Done}
+use Rattle.ffi3_script.proofs.ReadValues.{Done}
 use Rattle.ffi3_script.proofs.values.+values.Given as goal
 
 abbrev pub decreases-read_value : goal.decreases-read_value
