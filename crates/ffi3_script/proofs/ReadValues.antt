@@ -1,5 +1,5 @@
 -- Values by their shapes, and the values of an array item by item.
-use Rattle.std.proofs.Common.{◌≡◌, ℕ, zero, suc, ◌+◌, ◌*◌, ◌<◌, ◌≤◌, ◌==◌, Bool, true, false, cond, List, [], ◌∷◌, ◌++◌, length, map, drop, Option, Some, None, option_and_then, max, refl, sym, ap, subst, ◌∙◌, arith}
+use Rattle.std.proofs.Common.{◌≡◌, ℕ, zero, suc, ◌+◌, ◌*◌, ◌<◌, ◌≤◌, ◌==◌, Bool, true, false, cond, List, [], ◌∷◌, ◌++◌, length, map, drop, Option, Some, None, Result, Ok, Err, IfOk, IfErr, option_and_then, max, refl, sym, ap, subst, ◌∙◌, arith}
 use Rattle.std.specs.Prelude.{slice_index_or, if◌then◌else◌}
 use Rattle.std.proofs.lemmas.Bool.{eqb-true, eq-eqb}
 use Rattle.std.proofs.lemmas.List.{drop_more}
@@ -148,8 +148,8 @@ module _ (scope : Scope) (ts : List Tree) (d : Data) (path : Path) (ds : Items) 
 
 -- only a struct has values in an array
 pub of_no_struct : (scope : Scope) (ty : FfiType) (d : Data) (path : Path) (ds : Items) → as_array d ≡ Some ds → ((ts : List Tree) → ty ≡ Struct ts → ⊥) → read_value scope (tree_of ty) d path ≡ fault path wrong_type
-of_no_struct scope ty d path ds h no =
-    of_array scope (tree_of ty) d path ds h ∙ other ty no (items_len ds) (read_values scope (elements_of (tree_of ty)) ds path 0) where
+of_no_struct scope ty d path ds h never =
+    of_array scope (tree_of ty) d path ds h ∙ other ty never (items_len ds) (read_values scope (elements_of (tree_of ty)) ds path 0) where
   other : (t : FfiType) → ((ts : List Tree) → t ≡ Struct ts → ⊥) → (n : ℕ) (r : Read Expressions) → composed_of (tree_of t) n path r ≡ fault path wrong_type
   other Void k n r = refl
   other U8 k n r = refl
@@ -313,7 +313,7 @@ module _ (scope : Scope) (d a b : Data) (place path : Path) (h : two_items d ≡
       field_then (typed (struct_of ts) e) is ∙ ap (λ us. element_of e us (option_and_then as_u64 (as_number b)) path) (list_of-trees_of ts)
 
   pub field_wrong : (ty : FfiType) (e : Expression) → ((ts : List Tree) → ty ≡ Struct ts → ⊥) → read_typed scope a (at_item place 0) ≡ read (typed (tree_of ty) e) → read_field scope d place path ≡ fault (at_item place 0) wrong_type
-  field_wrong ty e no is = field_then (typed (tree_of ty) e) is ∙ other ty no where
+  field_wrong ty e never is = field_then (typed (tree_of ty) e) is ∙ other ty never where
     other : (t : FfiType) → ((ts : List Tree) → t ≡ Struct ts → ⊥) → field_of path (at_item place 0) (option_and_then as_u64 (as_number b)) (typed (tree_of t) e) ≡ fault (at_item place 0) wrong_type
     other Void k = refl
     other U8 k = refl
@@ -371,3 +371,13 @@ typed_none scope (object (member name d (member other e ms))) path h m = refl
 pub typed_member : (scope : Scope) (d : Data) (path : Path) (name : List ℕ) (e : Data) (f : values.Form) → only_member d ≡ Some (name, e) → f ≡ form_named name → read_typed scope d path ≡ own_by path (typed_under scope name e path) f
 typed_member scope d path name e f h is =
     ap (λ x. read_typed scope x path) (member_is d name e h) ∙ ap (own_by path (typed_under scope name e path)) (sym is)
+
+-- ---- what is told of another value
+
+pub ok_by : {A E : Type 0} {P Q : A → Type 0} → ((a : A) → P a → Q a) → (r : Result A E) → IfOk r P → IfOk r Q
+ok_by f (Ok a) h = f a h
+ok_by f (Err e) h = tt
+
+pub err_by : {A E : Type 0} {P Q : E → Type 0} → ((e : E) → P e → Q e) → (r : Result A E) → IfErr r P → IfErr r Q
+err_by f (Ok a) h = tt
+err_by f (Err e) h = f e h
