@@ -150,23 +150,23 @@ module _ (scope : Scope) (ts : List Tree) (d : Data) (path : Path) (ds : Items) 
 pub of_no_struct : (scope : Scope) (ty : FfiType) (d : Data) (path : Path) (ds : Items) → as_array d ≡ Some ds → ((ts : List Tree) → ty ≡ Struct ts → ⊥) → read_value scope (tree_of ty) d path ≡ fault path wrong_type
 of_no_struct scope ty d path ds h never =
     of_array scope (tree_of ty) d path ds h ∙ other ty never (items_len ds) (read_values scope (elements_of (tree_of ty)) ds path 0) where
-  other : (t : FfiType) → ((ts : List Tree) → t ≡ Struct ts → ⊥) → (n : ℕ) (r : Read Expressions) → composed_of (tree_of t) n path r ≡ fault path wrong_type
-  other Void k n r = refl
-  other U8 k n r = refl
-  other S8 k n r = refl
-  other U16 k n r = refl
-  other S16 k n r = refl
-  other U32 k n r = refl
-  other S32 k n r = refl
-  other U64 k n r = refl
-  other S64 k n r = refl
-  other Float k n r = refl
-  other Double k n r = refl
-  other Pointer k n r = refl
-  other (Struct ts) k n r = absurd (k ts refl)
-  other LongDouble k n r = refl
-  other Complex k n r = refl
-  other Vector k n r = refl
+      other : (t : FfiType) → ((ts : List Tree) → t ≡ Struct ts → ⊥) → (n : ℕ) (r : Read Expressions) → composed_of (tree_of t) n path r ≡ fault path wrong_type
+      other Void k n r = refl
+      other U8 k n r = refl
+      other S8 k n r = refl
+      other U16 k n r = refl
+      other S16 k n r = refl
+      other U32 k n r = refl
+      other S32 k n r = refl
+      other U64 k n r = refl
+      other S64 k n r = refl
+      other Float k n r = refl
+      other Double k n r = refl
+      other Pointer k n r = refl
+      other (Struct ts) k n r = absurd (k ts refl)
+      other LongDouble k n r = refl
+      other Complex k n r = refl
+      other Vector k n r = refl
 
 -- ---- the values of an array, item by item
 

@@ -13,9 +13,7 @@ ghost use Rattle.ffi3_script.specs.ScopeOf.{scope_of};
 
 use crate::scope::Scope;
 use crate::{Expr, NoMemory, TypedExpr};
-use ffi3_json::{
-    Json, Reason, ScriptFault, Where, bad, push_way, read_node, reason_of_type,
-};
+use ffi3_json::{Json, Reason, ScriptFault, Where, bad, push_way, read_node, reason_of_type};
 use ffi3_types::{Bytes, FfiType, Fields, check_type, same_type};
 use ffi3_values::{Value, integer};
 use hex::FromHex;
@@ -113,7 +111,12 @@ fn in_range(ty: &FfiType, n: i128) -> bool
 }
 
 /// A number is that of an integer or a pointer.
-pub(crate) fn read_number(alloc: Global, ty: &FfiType, n: &Number, at: &Where) -> Result<Expr, ScriptFault>
+pub(crate) fn read_number(
+    alloc: Global,
+    ty: &FfiType,
+    n: &Number,
+    at: &Where,
+) -> Result<Expr, ScriptFault>
     ensures ok { IfOk result (λ e. read_number (tree_of ty.now) (number_view n.now) at.now ≡ read (expression_of e)) }
     ensures err { IfErr result (Tells (λ p r. read_number (tree_of ty.now) (number_view n.now) at.now ≡ fault p r)) }
 {
@@ -133,7 +136,12 @@ pub(crate) fn read_number(alloc: Global, ty: &FfiType, n: &Number, at: &Where) -
 }
 
 /// A text is the bytes of a float or double in memory order, two hexadecimal digits each.
-pub(crate) fn read_text(alloc: Global, ty: &FfiType, text: &str, at: &Where) -> Result<Expr, ScriptFault>
+pub(crate) fn read_text(
+    alloc: Global,
+    ty: &FfiType,
+    text: &str,
+    at: &Where,
+) -> Result<Expr, ScriptFault>
     ensures ok { IfOk result (λ e. read_text (tree_of ty.now) text.now at.now ≡ read (expression_of e)) }
     ensures err { IfErr result (Tells (λ p r. read_text (tree_of ty.now) text.now at.now ≡ fault p r)) }
 {
@@ -151,7 +159,12 @@ pub(crate) fn read_text(alloc: Global, ty: &FfiType, text: &str, at: &Where) -> 
 }
 
 /// An argument of the body, by its number.
-pub(crate) fn argument_of(alloc: Global, scope: &Scope, value: &Json, at: &Where) -> Result<TypedExpr, ScriptFault>
+pub(crate) fn argument_of(
+    alloc: Global,
+    scope: &Scope,
+    value: &Json,
+    at: &Where,
+) -> Result<TypedExpr, ScriptFault>
     ensures ok { IfOk result (λ v. argument_of (scope_of scope.now).arguments (option_and_then as_u64 (as_number (view value.now))) at.now ≡ read (typed_of v)) }
     ensures err { IfErr result (Tells (λ p r. argument_of (scope_of scope.now).arguments (option_and_then as_u64 (as_number (view value.now))) at.now ≡ fault p r)) }
 {
@@ -169,7 +182,12 @@ pub(crate) fn argument_of(alloc: Global, scope: &Scope, value: &Json, at: &Where
 }
 
 /// The result of an earlier move of the body, by its name.
-pub(crate) fn result_of(alloc: Global, scope: &Scope, value: &Json, at: &Where) -> Result<TypedExpr, ScriptFault>
+pub(crate) fn result_of(
+    alloc: Global,
+    scope: &Scope,
+    value: &Json,
+    at: &Where,
+) -> Result<TypedExpr, ScriptFault>
     requires { length scope.now.names.now ≡ length scope.now.types.now }
     ensures ok { IfOk result (λ v. result_of (scope_of scope.now).given (as_str (view value.now)) at.now ≡ read (typed_of v)) }
     ensures err { IfErr result (Tells (λ p r. result_of (scope_of scope.now).given (as_str (view value.now)) at.now ≡ fault p r)) }
@@ -203,7 +221,13 @@ pub(crate) fn user_of(alloc: Global, value: &Json, at: &Where) -> Result<TypedEx
 }
 
 /// An element, by its number, of a struct of these elements.
-pub(crate) fn element_of(alloc: Global, value: Expr, fields: &Fields, number: &Json, at: &Where) -> Result<TypedExpr, ScriptFault>
+pub(crate) fn element_of(
+    alloc: Global,
+    value: Expr,
+    fields: &Fields,
+    number: &Json,
+    at: &Where,
+) -> Result<TypedExpr, ScriptFault>
     ensures ok { IfOk result (λ v. element_of (expression_of value) fields.now (option_and_then as_u64 (as_number (view number.now))) at.now ≡ read (typed_of v)) }
     ensures err { IfErr result (Tells (λ p r. element_of (expression_of value) fields.now (option_and_then as_u64 (as_number (view number.now))) at.now ≡ fault p r)) }
 {
@@ -220,7 +244,12 @@ pub(crate) fn element_of(alloc: Global, value: Expr, fields: &Fields, number: &J
 }
 
 /// A typed value where a type is asked for, which must be its own.
-pub(crate) fn against(alloc: Global, ty: &FfiType, value: TypedExpr, at: &Where) -> Result<Expr, ScriptFault>
+pub(crate) fn against(
+    alloc: Global,
+    ty: &FfiType,
+    value: TypedExpr,
+    at: &Where,
+) -> Result<Expr, ScriptFault>
     ensures ok { IfOk result (λ e. against (tree_of ty.now) at.now (typed_of value) ≡ read (expression_of e)) }
     ensures err { IfErr result (Tells (λ p r. against (tree_of ty.now) at.now (typed_of value) ≡ fault p r)) }
 {
@@ -232,7 +261,12 @@ pub(crate) fn against(alloc: Global, ty: &FfiType, value: TypedExpr, at: &Where)
 }
 
 /// A typed value of an integer or pointer type, as one of another such type.
-pub(crate) fn cast_of(alloc: Global, to: &FfiType, value: TypedExpr, at: &Where) -> Result<Expr, ScriptFault>
+pub(crate) fn cast_of(
+    alloc: Global,
+    to: &FfiType,
+    value: TypedExpr,
+    at: &Where,
+) -> Result<Expr, ScriptFault>
     ensures ok { IfOk result (λ e. cast_of (scalar_of (tree_of to.now)) at.now (typed_of value) ≡ read (expression_of e)) }
     ensures err { IfErr result (Tells (λ p r. cast_of (scalar_of (tree_of to.now)) at.now (typed_of value) ≡ fault p r)) }
 {
@@ -264,7 +298,11 @@ fn read_right_type(alloc: Global, value: &Json, at: &mut Where) -> Result<FfiTyp
 }
 
 /// A type that may be an argument's, as the first item of an array. The place is left as it was where one is read.
-pub(crate) fn read_first_type(alloc: Global, item: &Json, at: &mut Where) -> Result<FfiType, ScriptFault>
+pub(crate) fn read_first_type(
+    alloc: Global,
+    item: &Json,
+    at: &mut Where,
+) -> Result<FfiType, ScriptFault>
     requires { HasShortArrays (view item.now) }
     ensures place { OnOk result (at.new ≡ at.old) }
     ensures ok { IfOk result (λ t. read_right_type (view item.now) (at_item at.old 0) ≡ read (tree_of t)) }
