@@ -1,4 +1,4 @@
-// Values of a script that hold no other values.
+// What reading a value does besides reading the values inside it.
 ghost use Rattle.std.specs.Prelude.{◌≡◌, ◌++◌, ◌∷◌, [], IfOk, IfErr, OnOk, option_and_then, length, true};
 ghost use Rattle.serde_json.specs.Find.{as_number, as_u64, as_str};
 ghost use Rattle.serde_json.specs.View.{view, number_view};
@@ -6,7 +6,9 @@ ghost use Rattle.ffi3_type_rules.specs.Integer.{is_number_type, scalar_of};
 ghost use Rattle.ffi3_types.specs.TreeOf.{tree_of};
 ghost use Rattle.ffi3_script_rules.specs.Language.{read, fault, at_item, HasShortArrays};
 ghost use Rattle.ffi3_script_rules.specs.Script as script;
-ghost use Rattle.ffi3_script_rules.specs.Values.{typed, in_range, is_integer_type, read_number, read_text, argument_of, result_of, user_of, element_of, against, cast_of, read_right_type};
+ghost use Rattle.ffi3_script_rules.specs.Values.{typed, in_range, is_integer_type, read_number, read_text};
+ghost use Rattle.ffi3_script_rules.specs.Values.{argument_of, result_of, user_of, element_of, against, cast_of};
+ghost use Rattle.ffi3_script_rules.specs.Values.{read_right_type};
 ghost use Rattle.ffi3_json.specs.Told.{Tells};
 ghost use Rattle.ffi3_script.specs.ExprOf.{expression_of, expressions_in, typed_of};
 ghost use Rattle.ffi3_script.specs.ScopeOf.{scope_of};
@@ -43,14 +45,16 @@ pub(crate) fn composed(values: Vec<Expr>) -> Expr
 
 /// The sum of two integers of a type.
 pub(crate) fn sum(alloc: Global, ty: &FfiType, a: Expr, b: Expr) -> Result<Expr, NoMemory>
-    ensures { IfOk result (λ e. expression_of e ≡ script.sum (scalar_of (tree_of ty.now)) (expression_of a) (expression_of b)) }
+    ensures { IfOk result
+        (λ e. expression_of e ≡ script.sum (scalar_of (tree_of ty.now)) (expression_of a) (expression_of b)) }
 {
     Ok(Expr::Sum(ty.copy(alloc)?, boxed(alloc, a)?, boxed(alloc, b)?))
 }
 
 /// The difference of two integers of a type.
 pub(crate) fn difference(alloc: Global, ty: &FfiType, a: Expr, b: Expr) -> Result<Expr, NoMemory>
-    ensures { IfOk result (λ e. expression_of e ≡ script.difference (scalar_of (tree_of ty.now)) (expression_of a) (expression_of b)) }
+    ensures { IfOk result
+        (λ e. expression_of e ≡ script.difference (scalar_of (tree_of ty.now)) (expression_of a) (expression_of b)) }
 {
     Ok(Expr::Difference(ty.copy(alloc)?, boxed(alloc, a)?, boxed(alloc, b)?))
 }
@@ -165,8 +169,12 @@ pub(crate) fn argument_of(
     value: &Json,
     at: &Where,
 ) -> Result<TypedExpr, ScriptFault>
-    ensures ok { IfOk result (λ v. argument_of (scope_of scope.now).arguments (option_and_then as_u64 (as_number (view value.now))) at.now ≡ read (typed_of v)) }
-    ensures err { IfErr result (Tells (λ p r. argument_of (scope_of scope.now).arguments (option_and_then as_u64 (as_number (view value.now))) at.now ≡ fault p r)) }
+    ensures ok { IfOk result
+        (λ v. argument_of (scope_of scope.now).arguments (option_and_then as_u64 (as_number (view value.now))) at.now
+        ≡ read (typed_of v)) }
+    ensures err { IfErr result
+        (Tells (λ p r. argument_of (scope_of scope.now).arguments (option_and_then as_u64 (as_number (view value.now)))
+        at.now ≡ fault p r)) }
 {
     let Some(i) = value.as_u64() else {
         return Err(bad(alloc, at, Reason::NoSuchArgument));
@@ -189,8 +197,10 @@ pub(crate) fn result_of(
     at: &Where,
 ) -> Result<TypedExpr, ScriptFault>
     requires { length scope.now.names.now ≡ length scope.now.types.now }
-    ensures ok { IfOk result (λ v. result_of (scope_of scope.now).given (as_str (view value.now)) at.now ≡ read (typed_of v)) }
-    ensures err { IfErr result (Tells (λ p r. result_of (scope_of scope.now).given (as_str (view value.now)) at.now ≡ fault p r)) }
+    ensures ok { IfOk result
+        (λ v. result_of (scope_of scope.now).given (as_str (view value.now)) at.now ≡ read (typed_of v)) }
+    ensures err { IfErr result
+        (Tells (λ p r. result_of (scope_of scope.now).given (as_str (view value.now)) at.now ≡ fault p r)) }
 {
     let Some(name) = value.as_str() else {
         return Err(bad(alloc, at, Reason::NoSuchResult));
@@ -228,8 +238,12 @@ pub(crate) fn element_of(
     number: &Json,
     at: &Where,
 ) -> Result<TypedExpr, ScriptFault>
-    ensures ok { IfOk result (λ v. element_of (expression_of value) fields.now (option_and_then as_u64 (as_number (view number.now))) at.now ≡ read (typed_of v)) }
-    ensures err { IfErr result (Tells (λ p r. element_of (expression_of value) fields.now (option_and_then as_u64 (as_number (view number.now))) at.now ≡ fault p r)) }
+    ensures ok { IfOk result
+        (λ v. element_of (expression_of value) fields.now (option_and_then as_u64 (as_number (view number.now))) at.now
+        ≡ read (typed_of v)) }
+    ensures err { IfErr result
+        (Tells (λ p r. element_of (expression_of value) fields.now
+        (option_and_then as_u64 (as_number (view number.now))) at.now ≡ fault p r)) }
 {
     let Some(i) = number.as_u64() else {
         return Err(bad(alloc, at, Reason::NoSuchField));
@@ -267,8 +281,10 @@ pub(crate) fn cast_of(
     value: TypedExpr,
     at: &Where,
 ) -> Result<Expr, ScriptFault>
-    ensures ok { IfOk result (λ e. cast_of (scalar_of (tree_of to.now)) at.now (typed_of value) ≡ read (expression_of e)) }
-    ensures err { IfErr result (Tells (λ p r. cast_of (scalar_of (tree_of to.now)) at.now (typed_of value) ≡ fault p r)) }
+    ensures ok { IfOk result
+        (λ e. cast_of (scalar_of (tree_of to.now)) at.now (typed_of value) ≡ read (expression_of e)) }
+    ensures err { IfErr result
+        (Tells (λ p r. cast_of (scalar_of (tree_of to.now)) at.now (typed_of value) ≡ fault p r)) }
 {
     if is_number(&value.ty) {
         Ok(Expr::Cast(value.ty, to.copy(alloc)?, boxed(alloc, value.value)?))

@@ -33,8 +33,10 @@ pub(crate) fn read_value(
     requires short { HasShortArrays (view value.now) }
     requires even { length scope.now.names.now ≡ length scope.now.types.now }
     ensures place { OnOk result (at.new ≡ at.old) }
-    ensures ok { IfOk result (λ e. read_value (scope_of scope.now) (tree_of ty.now) (view value.now) at.old ≡ read (expression_of e)) }
-    ensures err { IfErr result (Tells (λ p r. read_value (scope_of scope.now) (tree_of ty.now) (view value.now) at.old ≡ fault p r)) }
+    ensures ok { IfOk result
+        (λ e. read_value (scope_of scope.now) (tree_of ty.now) (view value.now) at.old ≡ read (expression_of e)) }
+    ensures err { IfErr result
+        (Tells (λ p r. read_value (scope_of scope.now) (tree_of ty.now) (view value.now) at.old ≡ fault p r)) }
 {
     if let Some(n) = value.as_number() {
         return read_number(alloc, ty, n, at);
@@ -73,8 +75,12 @@ fn read_item(
     requires short { HasShortArrays (view item.now) }
     requires even { length scope.now.names.now ≡ length scope.now.types.now }
     ensures place { OnOk result (at.new ≡ at.old) }
-    ensures ok { IfOk result (λ e. read_value (scope_of scope.now) (tree_of ty.now) (view item.now) (at_item at.old i) ≡ read (expression_of e)) }
-    ensures err { IfErr result (Tells (λ p r. read_value (scope_of scope.now) (tree_of ty.now) (view item.now) (at_item at.old i) ≡ fault p r)) }
+    ensures ok { IfOk result
+        (λ e. read_value (scope_of scope.now) (tree_of ty.now) (view item.now) (at_item at.old i)
+        ≡ read (expression_of e)) }
+    ensures err { IfErr result
+        (Tells (λ p r. read_value (scope_of scope.now) (tree_of ty.now) (view item.now) (at_item at.old i)
+        ≡ fault p r)) }
 {
     at.push_number(i)?;
     let value = match read_value(alloc, scope, ty, item, at) {
@@ -98,8 +104,11 @@ pub(crate) fn read_values(
     requires even { length scope.now.names.now ≡ length scope.now.types.now }
     requires count { length items.now.items ≡ length types.now }
     ensures place { OnOk result (at.new ≡ at.old) }
-    ensures ok { IfOk result (λ es. read_values (scope_of scope.now) types.now (items_view items.now.items) at.old 0 ≡ read (expressions_in es.items)) }
-    ensures err { IfErr result (Tells (λ p r. read_values (scope_of scope.now) types.now (items_view items.now.items) at.old 0 ≡ fault p r)) }
+    ensures ok { IfOk result
+        (λ es. read_values (scope_of scope.now) types.now (items_view items.now.items) at.old 0
+        ≡ read (expressions_in es.items)) }
+    ensures err { IfErr result
+        (Tells (λ p r. read_values (scope_of scope.now) types.now (items_view items.now.items) at.old 0 ≡ fault p r)) }
 {
     let mut values = Vec::new(alloc);
     for i in 0..types.len() {
@@ -124,8 +133,12 @@ fn read_form(
     requires short { HasShortArrays (view inside.now) }
     requires even { length scope.now.names.now ≡ length scope.now.types.now }
     ensures place { OnOk result (at.new ≡ at.old) }
-    ensures ok { IfOk result (λ e. value_under_form (scope_of scope.now) (tree_of ty.now) name.now (view inside.now) at.old (form_named name.now) ≡ read (expression_of e)) }
-    ensures err { IfErr result (Tells (λ p r. value_under_form (scope_of scope.now) (tree_of ty.now) name.now (view inside.now) at.old (form_named name.now) ≡ fault p r)) }
+    ensures ok { IfOk result
+        (λ e. value_under_form (scope_of scope.now) (tree_of ty.now) name.now (view inside.now) at.old
+        (form_named name.now) ≡ read (expression_of e)) }
+    ensures err { IfErr result
+        (Tells (λ p r. value_under_form (scope_of scope.now) (tree_of ty.now) name.now (view inside.now) at.old
+        (form_named name.now) ≡ fault p r)) }
 {
     match form_named(name) {
         Form::Unknown => Err(bad(alloc, at, Reason::NotAValue)),
@@ -174,8 +187,12 @@ fn read_terms(
     requires short { HasShortArrays (view inside.now) }
     requires even { length scope.now.names.now ≡ length scope.now.types.now }
     ensures place { OnOk result (at.new ≡ at.old) }
-    ensures ok { IfOk result (λ p. read_terms (scope_of scope.now) (tree_of ty.now) name.now (view inside.now) at.old ≡ read (expression_of p.0, expression_of p.1)) }
-    ensures err { IfErr result (Tells (λ p r. read_terms (scope_of scope.now) (tree_of ty.now) name.now (view inside.now) at.old ≡ fault p r)) }
+    ensures ok { IfOk result
+        (λ p. read_terms (scope_of scope.now) (tree_of ty.now) name.now (view inside.now) at.old
+        ≡ read (expression_of p.0, expression_of p.1)) }
+    ensures err { IfErr result
+        (Tells (λ p r. read_terms (scope_of scope.now) (tree_of ty.now) name.now (view inside.now) at.old
+        ≡ fault p r)) }
 {
     if !is_integer(ty) {
         return Err(bad(alloc, at, Reason::WrongType));
@@ -236,8 +253,12 @@ fn read_own(
     requires short { HasShortArrays (view inside.now) }
     requires even { length scope.now.names.now ≡ length scope.now.types.now }
     ensures place { OnOk result (at.new ≡ at.old) }
-    ensures ok { IfOk result (λ v. typed_under (scope_of scope.now) name.now (view inside.now) at.old (typed_form_of form) ≡ read (typed_of v)) }
-    ensures err { IfErr result (Tells (λ p r. typed_under (scope_of scope.now) name.now (view inside.now) at.old (typed_form_of form) ≡ fault p r)) }
+    ensures ok { IfOk result
+        (λ v. typed_under (scope_of scope.now) name.now (view inside.now) at.old (typed_form_of form)
+        ≡ read (typed_of v)) }
+    ensures err { IfErr result
+        (Tells (λ p r. typed_under (scope_of scope.now) name.now (view inside.now) at.old (typed_form_of form)
+        ≡ fault p r)) }
 {
     match form {
         TypedForm::Arg => argument_of(alloc, scope, inside, at),
@@ -260,15 +281,17 @@ fn read_field(
     requires short { HasShortArrays (view inside.now) }
     requires even { length scope.now.names.now ≡ length scope.now.types.now }
     ensures place { OnOk result (at.new ≡ at.old) }
-    ensures ok { IfOk result (λ v. read_field (scope_of scope.now) (view inside.now) (under at.old name.now) at.old ≡ read (typed_of v)) }
-    ensures err { IfErr result (Tells (λ p r. read_field (scope_of scope.now) (view inside.now) (under at.old name.now) at.old ≡ fault p r)) }
+    ensures ok { IfOk result
+        (λ v. read_field (scope_of scope.now) (view inside.now) (under at.old name.now) at.old ≡ read (typed_of v)) }
+    ensures err { IfErr result
+        (Tells (λ p r. read_field (scope_of scope.now) (view inside.now) (under at.old name.now) at.old ≡ fault p r)) }
 {
     at.push_key(alloc, name)?;
-    let Some((first, second)) = two_items(inside) else {
+    let Some((inner, number)) = two_items(inside) else {
         return Err(bad(alloc, at, Reason::WrongCount));
     };
     at.push_number(0)?;
-    let TypedExpr { ty, value } = match read_typed(alloc, scope, first, at) {
+    let TypedExpr { ty, value } = match read_typed(alloc, scope, inner, at) {
         Ok(value) => value,
         Err(fault) => return Err(fault),
     };
@@ -277,7 +300,7 @@ fn read_field(
     };
     at.pop();
     at.pop();
-    element_of(alloc, value, fields, second, at)
+    element_of(alloc, value, fields, number, at)
 }
 
 // An array of a type, and a value against it.
@@ -292,8 +315,10 @@ fn read_of(
     requires short { HasShortArrays (view inside.now) }
     requires even { length scope.now.names.now ≡ length scope.now.types.now }
     ensures place { OnOk result (at.new ≡ at.old) }
-    ensures ok { IfOk result (λ v. read_of (scope_of scope.now) (view inside.now) (under at.old name.now) ≡ read (typed_of v)) }
-    ensures err { IfErr result (Tells (λ p r. read_of (scope_of scope.now) (view inside.now) (under at.old name.now) ≡ fault p r)) }
+    ensures ok { IfOk result
+        (λ v. read_of (scope_of scope.now) (view inside.now) (under at.old name.now) ≡ read (typed_of v)) }
+    ensures err { IfErr result
+        (Tells (λ p r. read_of (scope_of scope.now) (view inside.now) (under at.old name.now) ≡ fault p r)) }
 {
     at.push_key(alloc, name)?;
     let Some((first, second)) = two_items(inside) else {

@@ -21,8 +21,8 @@ pub read_field-returns-in-Err-clause-err : goal.read_field-returns-in-Err-clause
 read_field-returns-in-Err-clause-err t c =
     let s = scope_of c.args.scope.now in
     let d = view c.args.inside.now in
-    let a = view c.in-Some.first.now in
-    let b = view c.in-Some.second.now in
+    let a = view c.in-Some.inner.now in
+    let b = view c.in-Some.number.now in
     let path = c.args.at.now in
     let place = under path c.args.name.now in
     let item : c.push_number.new.self ≡ at_item place 0 = c.in_ok-push_number.ensures ∙ ap (λ p. at_item p 0) c.in_ok-push_key.ensures in
@@ -32,8 +32,8 @@ pub read_field-returns-in_default-ty : goal.read_field-returns-in_default-ty
 read_field-returns-in_default-ty t c =
     let s = scope_of c.args.scope.now in
     let d = view c.args.inside.now in
-    let a = view c.in-Some.first.now in
-    let b = view c.in-Some.second.now in
+    let a = view c.in-Some.inner.now in
+    let b = view c.in-Some.number.now in
     let path = c.args.at.now in
     let place = under path c.args.name.now in
     let item : c.push_number.new.self ≡ at_item place 0 = c.in_ok-push_number.ensures ∙ ap (λ p. at_item p 0) c.in_ok-push_key.ensures in
@@ -53,12 +53,12 @@ field_back t c =
     let back : c.pop.new.self ≡ on = there_and_back on (number 0) c.read_typed.new.at c.pop.new.self (c.in-Ok.ensures.place ∙ c.in_ok-push_number.ensures) c.pop.ensures in
     there_and_back c.args.at.now (key c.args.name.now) c.pop.new.self c.pop-2.new.self (back ∙ c.in_ok-push_key.ensures) c.pop-2.ensures
 
-field_is : (t : _) (c : goal.read_field-Joined-ty-3 t) → read_field (scope_of c.args.scope.now) (view c.args.inside.now) (under c.args.at.now c.args.name.now) c.args.at.now ≡ element_of (expression_of c.in-Ok.value.value) c.in-Struct.fields (option_and_then as_u64 (as_number (view c.in-Some.second.now))) c.pop-2.new.self
+field_is : (t : _) (c : goal.read_field-Joined-ty-3 t) → read_field (scope_of c.args.scope.now) (view c.args.inside.now) (under c.args.at.now c.args.name.now) c.args.at.now ≡ element_of (expression_of c.in-Ok.value.value) c.in-Struct.fields (option_and_then as_u64 (as_number (view c.in-Some.number.now))) c.pop-2.new.self
 field_is t c =
     let s = scope_of c.args.scope.now in
     let d = view c.args.inside.now in
-    let a = view c.in-Some.first.now in
-    let b = view c.in-Some.second.now in
+    let a = view c.in-Some.inner.now in
+    let b = view c.in-Some.number.now in
     let path = c.args.at.now in
     let place = under path c.args.name.now in
     let e = expression_of c.in-Ok.value.value in
@@ -72,7 +72,7 @@ read_field-returns-clause-ok t c =
 
 pub read_field-returns-clause-err : goal.read_field-returns-clause-err
 read_field-returns-clause-err t c =
-    let b = view c.in-Some.second.now in
+    let b = view c.in-Some.number.now in
     err_by (λ f k. tells_part (read_field (scope_of c.args.scope.now) (view c.args.inside.now) (under c.args.at.now c.args.name.now) c.args.at.now) (element_of (expression_of c.in-Ok.value.value) c.in-Struct.fields (option_and_then as_u64 (as_number b)) c.pop-2.new.self) (λ p r is. field_is t c ∙ is) f k) c.element_of.result c.element_of.ensures.err
 
 pub read_of-returns-in-Err-read_item-clause-err : goal.read_of-returns-in-Err-read_item-clause-err
