@@ -1,6 +1,6 @@
-mod Tellings
-mod Paths
-mod Objects
-mod Items
+pub mod Tellings
+pub mod Paths
+pub mod Objects
+pub mod Items
 mod Signatures
 mod Short

@@ -1,1 +1,9 @@
+mod Numbering
+mod ReadResults
+mod ReadShapes
+mod ReadTypes
+mod ReadValues
 pub mod Standing
+pub mod Rows
+pub mod Evaluated
+pub mod Parts

@@ -1,7 +1,12 @@
 pub mod ExprOf
 pub mod ScopeOf
+pub mod Finds
+pub mod Texts
+pub mod Shapes
 pub mod Own
 pub mod KindOf
 pub mod BodyOf
 pub mod FunctionOf
 pub mod ScriptOf
+pub mod KnownOf
+pub mod KnownAt

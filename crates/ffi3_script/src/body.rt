@@ -3,8 +3,10 @@ ghost use Rattle.std.specs.Prelude.{◌≡◌, ◌<◌, ◌^◌, length, true};
 ghost use Rattle.std.specs.List.{list_all};
 ghost use Rattle.ffi3_script_rules.specs.Typed.{body_is_typed, signature_is_right};
 ghost use Rattle.ffi3_script.specs.ExprOf.{script_moves_of};
-ghost use Rattle.ffi3_script.specs.Own.{own_of};
+ghost use Rattle.ffi3_script.specs.Own.{own_of, is_below};
 
+use crate::doing::{is_done, move_of};
+use crate::known::{Known, Outcome};
 use crate::{Act, NoMemory, ScriptMove};
 use ffi3_body::{Body, Move, Seen};
 use ffi3_types::Sigs;
@@ -38,6 +40,7 @@ pub struct ScriptBody {
     ghost typed: { body_is_typed sigs.value functions (own_of sigs.value own) (script_moves_of moves.items) ≡ true },
     ghost right: { list_all signature_is_right sigs.value ≡ true },
     ghost few: { length moves.items < 2 ^ 31 },
+    ghost own_there: { is_below (length sigs.value) own ≡ true },
 }
 
 impl ScriptBody {
@@ -45,7 +48,7 @@ impl ScriptBody {
     ghost use Rattle.std.specs.List.{list_all};
     ghost use Rattle.ffi3_script_rules.specs.Typed.{body_is_typed, signature_is_right};
     ghost use Rattle.ffi3_script.specs.ExprOf.{script_moves_of};
-    ghost use Rattle.ffi3_script.specs.Own.{own_of};
+    ghost use Rattle.ffi3_script.specs.Own.{own_of, is_below};
     ghost use Rattle.ffi3_script.specs.KindOf.{kind_of_act, act_at};
     ghost use Rattle.ffi3_script.specs.BodyOf.{moves_of, signatures_of, functions_of};
 
@@ -60,6 +63,7 @@ impl ScriptBody {
         requires typed { body_is_typed sigs.value functions (own_of sigs.value own) (script_moves_of moves.items) ≡ true }
         requires right { list_all signature_is_right sigs.value ≡ true }
         requires few { length moves.items < 2 ^ 31 }
+        requires own_there { is_below (length sigs.value) own ≡ true }
         ensures moves_are { moves_of result ≡ script_moves_of moves.items }
         ensures signatures_are { signatures_of result ≡ sigs.value }
         ensures functions_are { functions_of result ≡ functions }
@@ -109,6 +113,26 @@ impl Body for ScriptBody {
     ghost functions = { functions_of };
 
     fn next(&self, alloc: Global, seen: &Seen) -> Result<Move, NoMemory> {
-        Err(NoMemory)
+        let mut outcomes = Vec::new(alloc);
+        // how many results the moves before take
+        let mut taken: u32 = 0;
+        for i in 0..self.moves.len() {
+            let m = &self.moves[i];
+            let known = Known::new(&self.sigs, seen, outcomes.as_slice());
+            let mut result = None;
+            if is_done(alloc, &known, &m.condition)? {
+                if taken == seen.results() {
+                    return move_of(alloc, &known, &self.sigs, self.own, &m.act);
+                }
+                result = Some(taken);
+                taken += 1;
+            }
+            outcomes.push(Outcome {
+                act: &m.act,
+                result,
+            })?;
+        }
+        // the last move is a return, which takes no result
+        unreachable!()
     }
 }

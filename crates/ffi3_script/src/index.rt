@@ -1,15 +1,20 @@
 // Names by number, and numbers by name.
-ghost use Rattle.std.specs.Prelude.{◌≡◌, ◌<◌, ◌^◌, ◌++◌, ◌∷◌, [], OnOk, length, position, string_bytes, option_map, Bool};
+ghost use Rattle.std.specs.Prelude.{◌≡◌, ℕ, ◌<◌, ◌++◌, ◌∷◌, [], List, OnOk, OnErr, Some, None, length, position, bytes_eq};
+ghost use Rattle.std.specs.BTreeMap.{get_by_text};
 ghost use Rattle.ffi3_script_rules.specs.Values.{is_name_of};
+ghost use Rattle.ffi3_script.specs.Finds.{first_or};
 
 use crate::NoMemory;
 use std::alloc::Global;
+use std::collections::BTreeMap;
 use std::marker::Model;
 
 /// Things by number, each with a name or without one.
 #[derive(Debug, Drop)]
 pub(crate) struct NameIndex {
     names: Vec<Option<String>>,
+    // the number of the first thing of each name
+    numbers: BTreeMap<String, usize>,
 }
 
 impl Model for NameIndex {
@@ -17,7 +22,11 @@ impl Model for NameIndex {
 
     ghost Value = { List (Option (List ℕ)) };
 
+    ghost use Rattle.ffi3_script.specs.Finds.{FindsFirst};
+
     ghost view = { λ n. map (option_map string_bytes) n.names.items };
+
+    ghost invariant = { λ n. FindsFirst n.numbers (map (option_map string_bytes) n.names.items) };
 }
 
 impl NameIndex {
@@ -27,6 +36,7 @@ impl NameIndex {
     {
         NameIndex {
             names: Vec::new(alloc),
+            numbers: BTreeMap::new(alloc),
         }
     }
 
@@ -37,11 +47,26 @@ impl NameIndex {
         self.names.len()
     }
 
-    /// One more thing.
-    pub(crate) fn push(&mut self, name: Option<String>) -> Result<(), NoMemory>
-        ensures { OnOk result (self.new ≡ self.old ++ option_map string_bytes name ∷ []) }
+    /// One more thing, without a name.
+    pub(crate) fn push_unnamed(&mut self) -> Result<(), NoMemory>
+        ensures { OnOk result (self.new ≡ self.old ++ None ∷ []) }
     {
-        self.names.push(name)?;
+        self.names.push(None)?;
+        Ok(())
+    }
+
+    /// One more thing, of this name. Refused, it leaves the list as it was.
+    pub(crate) fn push_named(&mut self, alloc: Global, name: &str) -> Result<(), NoMemory>
+        ensures ok { OnOk result (self.new ≡ self.old ++ Some name.now ∷ []) }
+        ensures err { OnErr result (self.new ≡ self.old) }
+    {
+        let number = self.names.len();
+        let copy = String::from_str(alloc, name)?;
+        self.names.push(Some(copy))?;
+        if let Err(refused) = number_name(&mut self.numbers, alloc, name, number) {
+            self.names.truncate(number);
+            return Err(refused);
+        }
         Ok(())
     }
 
@@ -49,13 +74,24 @@ impl NameIndex {
     pub(crate) fn find(&self, name: &str) -> Option<usize>
         ensures { result ≡ position (is_name_of name.now) self.now }
     {
-        for i in 0..self.names.len() {
-            if let Some(other) = &self.names[i] {
-                if name == other.as_str() {
-                    return Some(i);
-                }
-            }
-        }
-        None
+        self.numbers.get(name).copied()
     }
+}
+
+// Gives a name this number, where it has none yet.
+fn number_name(
+    numbers: &mut BTreeMap<String, usize>,
+    alloc: Global,
+    name: &str,
+    number: usize,
+) -> Result<(), NoMemory>
+    ensures ok { OnOk result ((q : List ℕ) → get_by_text numbers.new q ≡ first_or (get_by_text numbers.old q) (bytes_eq q name.now) number) }
+    ensures err { OnErr result ((q : List ℕ) → get_by_text numbers.new q ≡ get_by_text numbers.old q) }
+{
+    if numbers.contains_key(name) {
+        return Ok(());
+    }
+    let key = String::from_str(alloc, name)?;
+    numbers.insert(key, number)?;
+    Ok(())
 }

@@ -2,12 +2,19 @@
 #![tactic(auto)]
 
 mod body;
+mod doing;
+mod eval;
 mod expr;
-mod moves;
+mod forms;
+mod functions;
 mod index;
+mod known;
+mod moves;
 mod names;
+mod plain;
 mod scope;
 mod script;
+mod values;
 
 pub use body::{MoveKind, ScriptBody};
 pub use expr::Expr;
@@ -15,5 +22,4 @@ pub use expr::Expr;
 pub use ffi3_types::NoMemory;
 pub use moves::{Act, ScriptMove, TypedExpr};
 pub use names::Names;
-
 pub use script::{Script, ScriptFunction};

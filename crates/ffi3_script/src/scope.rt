@@ -1,7 +1,8 @@
 // What a value of a body may speak of.
 
+use crate::functions::FunctionNames;
 use crate::index::NameIndex;
-use ffi3_types::{Fields, Sig};
+use ffi3_types::{Fields, Sig, Sigs};
 
 /// Where a value stands: in a body of this signature, after moves whose results have these names and types.
 #[derive(Debug, Drop)]
@@ -11,14 +12,9 @@ pub(crate) struct Scope<'a> {
     pub(crate) types: &'a Fields,
 }
 
-ghost use Rattle.std.specs.Prelude.{◌≡◌, length};
-ghost use Rattle.ffi3_script.specs.ScopeOf.{scope_of};
-
-impl<'a> Scope<'a> {
-    /// How many arguments the body has.
-    pub(crate) fn count(&self) -> u32
-        ensures { result ≡ length (scope_of self.now).arguments }
-    {
-        self.own.count()
-    }
+/// What all bodies of a script speak of: its signatures, and its functions and then the natives.
+#[derive(Debug, Drop)]
+pub(crate) struct Globals<'a> {
+    pub(crate) sigs: &'a Sigs,
+    pub(crate) functions: &'a FunctionNames,
 }

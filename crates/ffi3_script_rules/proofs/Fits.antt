@@ -118,7 +118,7 @@ number_bytes s (structure ts) v n h = cc
 -- ---- moves
 
 -- the result types of moves, and one more
-one_more_fits : (ts : List Tree) (vs : List ValueTree) (t : Tree) (v : ValueTree) → all_fit (trees_of ts) (values.values_of vs) ≡ true → fits t v ≡ true → all_fit (trees_of (ts ++ t ∷ [])) (values.values_of (vs ++ v ∷ [])) ≡ true
+pub one_more_fits : (ts : List Tree) (vs : List ValueTree) (t : Tree) (v : ValueTree) → all_fit (trees_of ts) (values.values_of vs) ≡ true → fits t v ≡ true → all_fit (trees_of (ts ++ t ∷ [])) (values.values_of (vs ++ v ∷ [])) ≡ true
 one_more_fits [] [] t v h last = both (fits t v) true last refl
 one_more_fits [] (w ∷ vs) t v h last = cc
 one_more_fits (u ∷ ts) [] t v h last = cc
@@ -130,7 +130,7 @@ void_fits t same = subst (λ u. fits u void_value ≡ true) same refl
 
 -- a result is of the type of the move that it answers
 module _ (signatures : List Signature) (k : Known) where
-  result_fits : (a : Act) (r : ValueTree) → IsOfType r (result_type_of signatures (move_of k a)) → fits (type_of_act signatures a) r ≡ true
+  pub result_fits : (a : Act) (r : ValueTree) → IsOfType r (result_type_of signatures (move_of k a)) → fits (type_of_act signatures a) r ≡ true
   result_fits (call to sig arguments) r h = h
   result_fits (make function user) r h = h
   result_fits (free to) r h = h
@@ -138,7 +138,7 @@ module _ (signatures : List Signature) (k : Known) where
   result_fits (return e) r h = absurd h
   result_fits return_void r h = absurd h
 
-  none_after_return : (a : Act) (r : ValueTree) → is_return a ≡ true → ¬ IsOfType r (result_type_of signatures (move_of k a))
+  pub none_after_return : (a : Act) (r : ValueTree) → is_return a ≡ true → ¬ IsOfType r (result_type_of signatures (move_of k a))
   none_after_return (call to sig arguments) r h of_type = cc
   none_after_return (make function user) r h of_type = cc
   none_after_return (free to) r h of_type = cc
@@ -147,7 +147,7 @@ module _ (signatures : List Signature) (k : Known) where
   none_after_return return_void r h of_type = of_type
 
 -- a move that is not done has the zero of its type
-unfinished_fits : (signatures : List Signature) (a : Act) → list_all signature_is_right signatures ≡ true → fits (type_of_act signatures a) (zero_value (type_of_act signatures a)) ≡ true
+pub unfinished_fits : (signatures : List Signature) (a : Act) → list_all signature_is_right signatures ≡ true → fits (type_of_act signatures a) (zero_value (type_of_act signatures a)) ≡ true
 unfinished_fits signatures (call to sig arguments) right =
     zero_fits (signature_at signatures sig).result_type (any_result_type_is_right signatures sig right)
 unfinished_fits signatures (make function user) right = zero_fits (scalar pointer) refl

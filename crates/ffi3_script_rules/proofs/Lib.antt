@@ -14,3 +14,4 @@ pub mod Fits
 pub mod ReadParts
 pub mod TypedValues
 pub mod WellTyped
+pub mod BodyRules
