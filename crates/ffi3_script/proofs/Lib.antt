@@ -2,3 +2,4 @@ pub mod Standing
 pub mod Rows
 pub mod Evaluated
 pub mod Parts
+pub mod Walked
