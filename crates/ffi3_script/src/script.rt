@@ -36,7 +36,7 @@ pub struct Script {
 impl Script {
     ghost use Rattle.std.specs.Prelude.{◌≡◌, ◌<◌, ◌+◌, ◌^◌, length, true, All, Some, None};
     ghost use Rattle.std.specs.List.{list_all};
-    ghost use Rattle.ffi3_type_rules.specs.Signature.{signature_at};
+    ghost use Rattle.ffi3_type_rules.specs.Signature.{signature_at, SignatureHasNoFault};
     ghost use Rattle.ffi3_run_rules.specs.Move.{no_signature};
     ghost use Rattle.ffi3_script_rules.specs.Typed.{script_is_typed, signature_is_right};
     ghost use Rattle.ffi3_script.specs.BodyOf.{moves_of, signatures_of, functions_of, signature_of};
@@ -69,6 +69,7 @@ impl Script {
     pub fn sigs(&self) -> &Sigs
         ensures are { result.now ≡ (script_of self.now).signatures }
         ensures right { list_all signature_is_right result.now ≡ true }
+        ensures faultless { All SignatureHasNoFault result.now }
     {
         &self.sigs
     }
