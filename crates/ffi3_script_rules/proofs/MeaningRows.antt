@@ -17,6 +17,11 @@ abbrev replaced : List ℕ
 replaced =
     codes "{'version':1,'signatures':[{'ret':'sint32','args':[]},{'ret':'sint64','args':[]}],'functions':[{'name':'f','sig':0,'body':[{'free':65536},{'make':'g'},{'return':7}]},{'name':'g','sig':0,'body':[{'return':9}]}],'main':[{'make':'f','as':'p'},{'call':{'res':'p'},'sig':0,'args':[],'as':'a'},{'print':{'res':'a'}},{'call':{'res':'p'},'sig':0,'args':[],'as':'b'},{'print':{'res':'b'}},{'call':{'res':'p'},'sig':1,'args':[]},{'return':null}]}"
 
+-- a closure that calls itself, without end
+abbrev endless : List ℕ
+endless =
+    codes "{'version':1,'signatures':[{'ret':'void','args':[]}],'functions':[{'name':'f','sig':0,'body':[{'call':65536,'sig':0,'args':[]},{'return':null}]}],'main':[{'make':'f','as':'p'},{'call':{'res':'p'},'sig':0,'args':[]},{'return':null}]}"
+
 -- 1 where the argument is not 0
 abbrev is_not_zero : List ℕ
 is_not_zero =
@@ -54,6 +59,10 @@ module _ (standard : Standard) where
   run_of_replaced : run_text (program_in standard [] replaced) ≡ a_line (codes "7") ++ a_line (codes "9") ++ a_line (codes "stop: wrong signature at 0x10000: called as sint64(), is sint32()")
   unfolding scripts_on_literals act act_within
   run_of_replaced = refl
+
+  run_of_endless : run_text (program_in standard [] endless) ≡ a_line (codes "stop: stack full: need 80, left 16")
+  unfolding scripts_on_literals act act_within
+  run_of_endless = refl
 
   -- ---- moves that are not done
 
