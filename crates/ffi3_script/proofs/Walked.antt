@@ -1,19 +1,18 @@
 -- A walk along the moves of a body of the code, up to its next move.
 use Rattle.std.proofs.Common.{◌≡◌, ℕ, zero, suc, ◌+◌, ◌<◌, ◌≤◌, Bool, true, false, List, [], ◌∷◌, ◌++◌, length, take, drop, map, Some, None, refl, ap, sym, ◌∙◌, subst, arith, get_or}
-use Rattle.std.specs.Prelude.{◌&&◌, slice_index_or, nat_lt, Option}
+use Rattle.std.specs.Prelude.{slice_index_or, nat_lt}
 use Rattle.std.specs.List.{list_all}
 use Rattle.std.proofs.lemmas.Bool.{lt-ltb}
 use Rattle.std.proofs.lemmas.List.{map-append}
-use Rattle.ffi3_type_rules.specs.Tree.{Tree, trees_of}
+use Rattle.ffi3_type_rules.specs.Tree.{trees_of}
 use Rattle.ffi3_type_rules.specs.Signature.{Signature}
 use Rattle.ffi3_type_rules.specs.Value.{ValueTree, void_value, fits, all_fit, values_of, zero_value}
 use Rattle.ffi3_run_rules.specs.Move.{Move, result_type_of}
 use Rattle.ffi3_body.specs.Activation.{Activation, arguments_of}
-use Rattle.ffi3_body.specs.Follow as body
 use Rattle.ffi3_script_rules.specs.Script as script
 use Rattle.ffi3_script_rules.specs.Script.{Act, call, make, free, print, return, return_void}
 use Rattle.ffi3_script_rules.specs.Bodies.{type_of_act, ends}
-use Rattle.ffi3_script_rules.specs.Meaning.{Known, is_done, move_of, next_of, knows_too, behaviour_of}
+use Rattle.ffi3_script_rules.specs.Meaning.{Known, is_done, knows_too, behaviour_of}
 use Rattle.ffi3_script_rules.specs.Typed.{Kinds, Setting, IsOfType, act_is_typed, moves_are_typed, body_is_typed, signature_is_right, gives_too}
 use Rattle.ffi3_script_rules.proofs.Tests.{and_left, and_right, both}
 use Rattle.ffi3_script_rules.proofs.Fits.{one_more_fits, unfinished_fits}
@@ -41,10 +40,6 @@ pub none_left : (ms : List ScriptMove) (i : ℕ) → length ms ≡ i → drop i 
 none_left [] i n = search
 none_left (m ∷ ms) zero n = absurd (omega arith)
 none_left (m ∷ ms) (suc i) n = none_left ms i (omega arith)
-
-pub is_of_type : (v : ValueTree) (t : Option Tree) → body.IsOfType v t → IsOfType v t
-is_of_type v None h = h
-is_of_type v (Some t) h = h
 
 -- a test holds of one more
 all_more : {A : Type 0} (p : A → Bool) (xs : List A) (x : A) → list_all p xs ≡ true → p x ≡ true → list_all p (xs ++ x ∷ []) ≡ true

@@ -115,7 +115,7 @@ impl ScriptBody {
         })
     }
 
-    /// How many moves there are: at least one.
+    /// How many moves there are.
     pub fn moves(&self) -> u32
         ensures are { result ≡ length (moves_of self.now) }
         ensures bound { result < 2 ^ 31 }

@@ -37,12 +37,7 @@ fn scalar_type(ty: &FfiType) -> FfiType
 
 /// The value of an expression of this type.
 #[cycle(eval)]
-pub(crate) fn eval(
-    alloc: Global,
-    known: &Known,
-    ty: &FfiType,
-    e: &Expr,
-) -> Result<Value, NoMemory>
+pub(crate) fn eval(alloc: Global, known: &Known, ty: &FfiType, e: &Expr) -> Result<Value, NoMemory>
     requires { has_type (kinds_of known.now) (tree_of ty.now) (expression_of e.now) ≡ true }
     ensures is { IfOk result (λ v. value_of v ≡ meaning.value_of (known_of known.now) (expression_of e.now)) }
     ensures fits { IfOk result (λ v. fits (tree_of ty.now) (value_of v) ≡ true) }
@@ -85,7 +80,8 @@ fn eval_own(alloc: Global, known: &Known, e: &Expr) -> Result<Value, NoMemory>
         Expr::Argument(i) => known.argument(alloc, *i),
         Expr::Outcome(i) => known.outcome(alloc, *i),
         Expr::User => {
-            Ok(Value::Leaf(Bytes::from_slice(alloc, &known.user().to_le_bytes())?))
+            let user = known.user();
+            Ok(Value::Leaf(Bytes::from_slice(alloc, &user.to_le_bytes())?))
         }
         Expr::Element(whole, i) => {
             let Value::List(values) = eval_own(alloc, known, whole)? else {

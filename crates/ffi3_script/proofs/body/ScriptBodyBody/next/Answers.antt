@@ -5,7 +5,6 @@ use Rattle.ffi3_type_rules.specs.Tree.{trees_of}
 use Rattle.ffi3_type_rules.specs.Value.{all_fit, values_of}
 use Rattle.ffi3_run_rules.specs.Move.{MoveFits}
 use Rattle.ffi3_body.specs.Activation.{arguments_of}
-use Rattle.ffi3_body.specs.MoveOf.{move_of}
 use Rattle.ffi3_script_rules.specs.Meaning as meaning
 use Rattle.ffi3_script_rules.specs.Typed.{is_condition, act_is_typed}
 use Rattle.ffi3_script_rules.proofs.Fits.{body_fits}
@@ -14,7 +13,7 @@ use Rattle.ffi3_script.specs.ExprOf.{typed_of, act_of, script_move_of}
 use Rattle.ffi3_script.specs.BodyOf.{meaning_of, signature_of, setting_of, moves_of}
 use Rattle.ffi3_script.specs.KnownOf.{kinds_from, known_from}
 use Rattle.ffi3_script.specs.KnownAt.{kinds_of, known_of}
-use Rattle.ffi3_script.proofs.Walked.{Walked, moves_from, is_of_type, walked_done, walked_undone}
+use Rattle.ffi3_script.proofs.Walked.{Walked, moves_from, walked_done, walked_undone}
 use Rattle.ffi3_script.proofs.body.ScriptBodyBody.next.Goals.{then-branch+else-taken-results, else-branch}
 use Rattle.ffi3_script.proofs.body.ScriptBodyBody.next.Goals as goal
 
@@ -66,7 +65,7 @@ returns-then-taken-results-clause-fits c =
     let known_is = c.new-known.ensures.is ∙ ap (λ ss. known_from ss a c.as_slice.result.now) c.deref.ensures ∙ ap (known_from b.sigs.value a) c.as_slice.ensures.value in
     let types_are = ap (λ k. k.arguments) kinds_are ∙ ap (λ s. s.arguments) c.requires.own in
     let fit = subst (λ vs. all_fit (trees_of (signature_of b).arguments) (values_of vs) ≡ true) (ap (λ k. k.arguments) known_is) (subst (λ ts. all_fit (trees_of ts) (values_of (known_of c.new-known.result).arguments) ≡ true) types_are c.new-known.result.arguments_fit) in
-    let fits = body_fits b.sigs.value b.functions (signature_of b) (moves_of b) (arguments_of a) a.user a.results b.right b.typed fit (λ i below. is_of_type _ _ (c.requires.follow i below)) in
+    let fits = body_fits b.sigs.value b.functions (signature_of b) (moves_of b) (arguments_of a) a.user a.results b.right b.typed fit c.requires.follow in
     IfOk-weaker c.move_of.result _ _ (λ move is. subst (MoveFits b.sigs.value b.functions (signature_of b).result_type) (sym is) fits) (returns-then-taken-results-clause-is c)
 
 pub loop-i-preserved : goal.loop-i-preserved
@@ -84,7 +83,7 @@ loop-i-preserved c =
     elim c.if-branch.branch [
       | then-branch+else-taken-results w ↦
           let more : c.loop-i.taken < length a.results = omega (arith, w.results.ensures, walked.within) in
-          walked_done (setting_of b) a next os c.loop-i.taken (script_move_of m) rest walked b.right _ refl c.push.new.self.items c.if-branch.taken c.in_ok-push.ensures.items w.taken-is (is_of_type _ _ (c.requires.follow c.loop-i.taken more)) w.result-is (test ∙ w.if-branch.true) more
+          walked_done (setting_of b) a next os c.loop-i.taken (script_move_of m) rest walked b.right _ refl c.push.new.self.items c.if-branch.taken c.in_ok-push.ensures.items w.taken-is (c.requires.follow c.loop-i.taken more) w.result-is (test ∙ w.if-branch.true) more
       | else-branch w ↦
           walked_undone (setting_of b) a next os c.loop-i.taken (script_move_of m) rest walked b.right _ refl c.push.new.self.items c.if-branch.taken c.in_ok-push.ensures.items w.taken-is w.result-is (test ∙ w.if-branch.false)
     ]
