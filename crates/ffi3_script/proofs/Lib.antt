@@ -1,5 +1,5 @@
-pub mod Standing
-pub mod Rows
-pub mod Evaluated
-pub mod Parts
-pub mod Walked
+mod Standing
+mod Rows
+mod Evaluated
+mod Parts
+mod Walked
