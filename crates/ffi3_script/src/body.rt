@@ -68,7 +68,8 @@ impl ScriptBody {
         own: Option<u32>,
         moves: Vec<ScriptMove>,
     ) -> ScriptBody
-        requires typed { body_is_typed sigs.value functions (own_of sigs.value own) (script_moves_of moves.items) ≡ true }
+        requires typed { body_is_typed sigs.value functions (own_of sigs.value own)
+            (script_moves_of moves.items) ≡ true }
         requires right { list_all signature_is_right sigs.value ≡ true }
         requires few { length moves.items < 2 ^ 31 }
         requires own_there { is_below (length sigs.value) own ≡ true }

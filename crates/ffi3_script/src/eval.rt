@@ -72,7 +72,8 @@ pub(crate) fn eval(alloc: Global, known: &Known, ty: &FfiType, e: &Expr) -> Resu
 /// The value of an expression with a type of its own.
 #[cycle(eval)]
 fn eval_own(alloc: Global, known: &Known, e: &Expr) -> Result<Value, NoMemory>
-    requires { has_type (kinds_of known.now) (own_type (kinds_of known.now) (expression_of e.now)) (expression_of e.now) ≡ true }
+    requires { has_type (kinds_of known.now) (own_type (kinds_of known.now) (expression_of e.now))
+        (expression_of e.now) ≡ true }
     ensures is { IfOk result (λ v. value_of v ≡ meaning.value_of (known_of known.now) (expression_of e.now)) }
     ensures fits { IfOk result (λ v. fits (own_type (kinds_of known.now) (expression_of e.now)) (value_of v) ≡ true) }
 {
@@ -103,7 +104,8 @@ pub(crate) fn eval_all(
     es: &Vec<Expr>,
 ) -> Result<Values, NoMemory>
     requires { have_types (kinds_of known.now) (trees_of types.now) (expressions_in es.now.items) ≡ true }
-    ensures is { IfOk result (λ vs. vs ≡ list_of_values (meaning.values_of (known_of known.now) (expressions_in es.now.items))) }
+    ensures is { IfOk result
+        (λ vs. vs ≡ list_of_values (meaning.values_of (known_of known.now) (expressions_in es.now.items))) }
 {
     let mut values = Values::new(alloc);
     for i in 0..types.len() {

@@ -30,7 +30,8 @@ pub(crate) struct Known<'a, 'b, 'c> {
     ghost right: { list_all signature_is_right sigs.now ≡ true },
     ghost arguments_fit: { all_fit (trees_of seen.now.signature.arguments) (values_of (arguments_of seen.now)) ≡ true },
     ghost there: { list_all (is_there (length sigs.now) (length seen.now.results)) outcomes.now ≡ true },
-    ghost outcomes_fit: { all_fit (trees_of (map (outcome_type sigs.now) outcomes.now)) (values_of (map (outcome_value sigs.now seen.now.results) outcomes.now)) ≡ true },
+    ghost outcomes_fit: { all_fit (trees_of (map (outcome_type sigs.now) outcomes.now))
+        (values_of (map (outcome_value sigs.now seen.now.results) outcomes.now)) ≡ true },
 }
 
 impl<'a, 'b, 'c> Known<'a, 'b, 'c> {
@@ -51,7 +52,8 @@ impl<'a, 'b, 'c> Known<'a, 'b, 'c> {
     ) -> Known<'a, 'b, 'c>
         requires right { list_all signature_is_right sigs.now ≡ true }
         requires there { list_all (is_there (length sigs.now) (length seen.now.results)) outcomes.now ≡ true }
-        requires fit { all_fit (trees_of (map (outcome_type sigs.now) outcomes.now)) (values_of (map (outcome_value sigs.now seen.now.results) outcomes.now)) ≡ true }
+        requires fit { all_fit (trees_of (map (outcome_type sigs.now) outcomes.now))
+            (values_of (map (outcome_value sigs.now seen.now.results) outcomes.now)) ≡ true }
         ensures kinds { kinds_of result ≡ kinds_from sigs.now seen.now outcomes.now }
         ensures is { known_of result ≡ known_from sigs.now seen.now outcomes.now }
     {

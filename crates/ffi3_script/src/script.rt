@@ -29,7 +29,8 @@ pub struct Script {
     ghost right: { list_all signature_is_right sigs.value ≡ true },
     ghost few: { length functions.items + natives < 2 ^ 31 },
     ghost main_stands: { ∥ StandsIn sigs.value (length functions.items + natives) None main ∥₁ },
-    ghost bodies_stand: { ∥ All (λ f. StandsIn sigs.value (length functions.items + natives) (Some f.sig) f.body) functions.items ∥₁ },
+    ghost bodies_stand: { ∥ All (λ f. StandsIn sigs.value (length functions.items + natives) (Some f.sig) f.body)
+        functions.items ∥₁ },
     ghost typed: { script_is_typed natives (script_from sigs.value functions.items main) ≡ true },
 }
 
@@ -52,7 +53,8 @@ impl Script {
     ) -> Script
         requires few { length functions.items + natives < 2 ^ 31 }
         requires main_stands { StandsIn sigs.value (length functions.items + natives) None main }
-        requires bodies_stand { All (λ f. StandsIn sigs.value (length functions.items + natives) (Some f.sig) f.body) functions.items }
+        requires bodies_stand { All (λ f. StandsIn sigs.value (length functions.items + natives) (Some f.sig) f.body)
+            functions.items }
         requires typed { script_is_typed natives (script_from sigs.value functions.items main) ≡ true }
         ensures is { script_of result ≡ script_from sigs.value functions.items main }
         ensures natives_are { natives_of result ≡ natives }
@@ -111,7 +113,8 @@ impl Script {
         requires { i < length (script_of self.now).functions }
         ensures moves_are { moves_of result.now ≡ (function_at (script_of self.now) i).body }
         ensures signatures_are { signatures_of result.now ≡ (script_of self.now).signatures }
-        ensures own_is { signature_of result.now ≡ signature_at (script_of self.now).signatures (function_at (script_of self.now) i).signature }
+        ensures own_is { signature_of result.now ≡
+            signature_at (script_of self.now).signatures (function_at (script_of self.now) i).signature }
         ensures functions_are { functions_of result.now ≡ length (script_of self.now).functions + natives_of self.now }
     {
         &self.functions[i as usize].body
