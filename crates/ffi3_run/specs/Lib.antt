@@ -1,0 +1,5 @@
+pub mod Told
+pub mod Deeds
+pub mod Cuts
+pub mod Moment
+pub mod Leaf
