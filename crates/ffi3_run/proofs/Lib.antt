@@ -6,3 +6,4 @@ pub mod Answering
 pub mod Joining
 pub mod Lines
 pub mod Going
+pub mod Leaves

@@ -1,14 +1,14 @@
 -- A function that calls nothing: its moves print, and then it returns.
-use Rattle.std.specs.Prelude.{◌≡◌, ℕ, List, [], Result, Ok, Err}
+use Rattle.std.specs.Prelude.{◌≡◌, ℕ, true, List, [], Result, Ok, Err}
 use Rattle.ffi3_type_rules.specs.Signature.{Signature}
-use Rattle.ffi3_type_rules.specs.Value.{ValueTree}
+use Rattle.ffi3_type_rules.specs.Value.{ValueTree, fits}
 use Rattle.ffi3_values.specs.ValueOf.{value_of}
 use Rattle.ffi3_run_rules.specs.declared.Stop.TheVariants.{MoveLimit}
 use Rattle.ffi3_run_rules.specs.Closures.{Closures}
 use Rattle.ffi3_run_rules.specs.Journal.{events_in}
 use Rattle.ffi3_run_rules.specs.Happenings.{written_out}
 use Rattle.ffi3_run_rules.specs.Move.{Move, call, make, free, print, return, Behaviour}
-use Rattle.ffi3_run_rules.specs.Meaning.{Program, Acting, Deeds, End, returned, stopped, act, behaviour_of}
+use Rattle.ffi3_run_rules.specs.Meaning.{Program, Acting, Deeds, no_deeds, returned, Outcome, stops_with, act, behaviour_of}
 use Rattle.ffi3_body.specs.Activation.{arguments_in}
 use Rattle.ffi3_run.specs.declared.line.Cut.{Cut}
 use Rattle.ffi3_run.specs.declared.leaf.LeafEnd.{LeafEnd}
@@ -51,18 +51,28 @@ pub record LeafWent (p : Program) (a : Acting) (c : Closures) (moves : ℕ) (res
   pub follows : act p a c moves ≡ preceded deeds (act p (record a { results = results }) c left)
   pub lines : TookLine (text_of p deeds) before after
 
--- it came to this end: its lines are taken
-pub record LeafCame (p : Program) (a : Acting) (c : Closures) (moves : ℕ) (end : End) (left : ℕ) (before after : Took) : Type 0 where
+-- it did these deeds, and no more is done by it: its lines are taken
+pub record LeafCame (p : Program) (a : Acting) (c : Closures) (moves : ℕ) (rest : Outcome) (before after : Took) : Type 0 where
   pub deeds : Deeds
   pub quiet : events_in (written_out deeds) ≡ 0
-  pub is : act p a c moves ≡ record { end = end; closures = c; moves = left; deeds = deeds }
+  pub is : act p a c moves ≡ preceded deeds rest
   pub lines : TookLine (text_of p deeds) before after
+
+-- a return
+abbrev pub returning : ValueTree → Closures → ℕ → Outcome
+returning v c moves =
+    record { end = returned v; closures = c; moves = moves; deeds = no_deeds }
 
 -- what its run's answer says
 abbrev pub LeafRan : Program → Acting → Closures → (moves left : ℕ) → Took → Took → Result LeafEnd Cut → Type 0
 LeafRan p a c moves left before after (Ok (leaf.Returned v)) =
-    LeafCame p a c moves (returned (value_of v)) left before after
+    LeafCame p a c moves (returning (value_of v) c left) before after
 LeafRan p a c moves left before after (Ok leaf.MoveLimit) =
-    LeafCame p a c moves (stopped MoveLimit) 0 before after
+    LeafCame p a c moves (stops_with MoveLimit c 0) before after
 LeafRan p a c moves left before after (Err cut) =
     CutOff (text_of p (act p a c moves).deeds) before after cut
+
+-- what it returns fits its signature
+abbrev pub EndFits : Signature → LeafEnd → Type 0
+EndFits s (leaf.Returned v) = fits s.result_type (value_of v) ≡ true
+EndFits s leaf.MoveLimit = Unit {0}
