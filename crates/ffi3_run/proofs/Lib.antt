@@ -7,3 +7,7 @@ pub mod Joining
 pub mod Lines
 pub mod Going
 pub mod Leaves
+pub mod Limits
+pub mod Turns
+pub mod Makes
+pub mod Calls

@@ -1,11 +1,13 @@
 -- A run between two moves of main, and what a move does to it.
-use Rattle.std.specs.Prelude.{◌≡◌, ℕ, ◌+◌, ◌<◌, ◌≤◌, List, [], length, Option, Some, None, Result, Ok, Err, slice_index_or}
+use Rattle.std.specs.Prelude.{◌≡◌, ℕ, suc, ◌+◌, ◌<◌, ◌≤◌, List, [], ◌∷◌, ◌++◌, length, Option, Some, None, Result, Ok, Err, slice_index_or}
+use Rattle.ffi3_type_rules.specs.Signature.{Signature}
 use Rattle.ffi3_type_rules.specs.Value.{ValueTree, void_value}
 use Rattle.ffi3_amd64_rules.specs.Amd64.{amd64}
 use Rattle.ffi3_run_rules.specs.declared.Closure.{Closure}
 use Rattle.ffi3_run_rules.specs.declared.Stop.{Stop}
 use Rattle.ffi3_run_rules.specs.Closures.{Closures}
 use Rattle.ffi3_run_rules.specs.Meaning.{Program, Acting, Deeds, End, returned, stopped, Outcome, act, function_at, main_call, most_moves}
+use Rattle.ffi3_run_rules.specs.Lines.{a_line, stop_text}
 use Rattle.ffi3_run_rules.specs.Happenings.{written_out}
 use Rattle.ffi3_body.specs.Follow.{ResultsFollow}
 use Rattle.ffi3_machine.specs.State.{State}
@@ -18,7 +20,7 @@ use Rattle.ffi3_run.specs.declared.line.Cut.{Cut}
 use Rattle.ffi3_run.specs.declared.line.Cut.TheVariants as cut
 use Rattle.ffi3_run.specs.declared.run.RunEnd.{RunEnd}
 use Rattle.ffi3_run.specs.declared.run.RunEnd.TheVariants as run
-use Rattle.ffi3_run.specs.Told.{Took}
+use Rattle.ffi3_run.specs.Told.{Took, TookLine}
 use Rattle.ffi3_run.specs.Deeds.{preceded, text_of, Scene, Done, AnswersAfter, AnswersFirst}
 use Rattle.ffi3_run.specs.Cuts.{CutOff}
 
@@ -40,6 +42,10 @@ moment b machine output = record {
   moves = b.moves;
   scene = record { machine = machine; output = output };
 }
+
+-- before the move that was counted last
+abbrev pub asking : Moment → Moment
+asking x = record x { moves = suc x.moves }
 
 -- what follows in the direct meaning
 abbrev pub rest_of : Program → Moment → Outcome
@@ -90,6 +96,18 @@ Turned p old new (Ok turn.More) = Went p old new × IsBetween p new
 Turned p old new (Ok turn.Done) = Came p (returned void_value) old new
 Turned p old new (Ok (turn.Stopped stop)) = Came p (stopped stop) old new
 Turned p old new (Err cut) = CutIn p old new cut
+
+-- the result of a move is kept, or there is no memory for it
+abbrev pub GoneOn : ValueTree → Board → Board → Result Turn Cut → Type 0
+GoneOn r old new (Ok t) = (t ≡ turn.More) × (new ≡ record old { results = old.results ++ r ∷ [] })
+GoneOn r old new (Err why) = why ≡ cut.NoMemory
+
+-- the line of a stop is written, or cut off
+abbrev pub StoppedBy : List Signature → Stop → Took → Took → Result Turn Cut → Type 0
+StoppedBy signatures stop before after (Ok t) =
+    (t ≡ turn.Stopped stop) × TookLine (a_line (stop_text signatures stop)) before after
+StoppedBy signatures stop before after (Err why) =
+    CutOff (a_line (stop_text signatures stop)) before after why
 
 -- what a run's answer says
 abbrev pub Ran : Program → Moment → Moment → RunEnd → Type 0

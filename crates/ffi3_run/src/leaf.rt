@@ -11,7 +11,7 @@ ghost use Rattle.ffi3_body.specs.MoveOf.{move_of};
 ghost use Rattle.ffi3_run.specs.Told.{took};
 ghost use Rattle.ffi3_run.specs.Leaf.{Begins, EndFits, IsLeaf, LeafRan};
 
-use crate::line::{Cut, print};
+use crate::line::{Cut, write_print};
 use ffi3_body::{Body, Move, NoMemory, Seen};
 use ffi3_io::Sink;
 use ffi3_types::Sig;
@@ -60,7 +60,7 @@ pub fn run_leaf<B: Body, O: Sink>(
         *moves -= 1;
         match asked {
             Move::Print { ty, value } => {
-                if let Err(cut) = print(alloc, output, &ty, &value) {
+                if let Err(cut) = write_print(alloc, output, &ty, &value) {
                     return Err(cut);
                 }
                 let Ok(()) = results.push(Value::Void) else {

@@ -29,7 +29,7 @@ pub enum Cut {
 }
 
 /// Writes the line of a print.
-pub fn print<O: Sink>(
+pub fn write_print<O: Sink>(
     alloc: Global,
     output: &mut O,
     ty: &FfiType,
@@ -47,7 +47,7 @@ pub fn print<O: Sink>(
 }
 
 /// Writes the line of a stop.
-pub fn tell_stop<O: Sink>(
+pub fn write_stop<O: Sink>(
     alloc: Global,
     output: &mut O,
     sigs: &Sigs,

@@ -49,7 +49,7 @@ returns-in-Err-clause-ran g c =
 pub returns-in_default-push-clause-ran : goal.returns-in_default-push-clause-ran
 returns-in_default-push-clause-ran g c =
     let is = sym c.in-Ok.ensures.is ∙ ap move_of c.in-Print.is in
-    λ p a cs begins. let went = leaf_prints _ _ _ _ p a cs begins _ _ c.loop-moves.results c.loop-moves.moves (c.loop-moves.moves - 1) _ (c.loop-moves.invariant.went p a cs begins) (one_fewer c.loop-moves.moves c.if-moves-eq0.false) (tree_of c.in-Print.ty) (value_of c.in-Print.value) is _ c.in_default-print.ensures in
+    λ p a cs begins. let went = leaf_prints _ _ _ _ p a cs begins _ _ c.loop-moves.results c.loop-moves.moves (c.loop-moves.moves - 1) _ (c.loop-moves.invariant.went p a cs begins) (one_fewer c.loop-moves.moves c.if-moves-eq0.false) (tree_of c.in-Print.ty) (value_of c.in-Print.value) is _ c.in_default-write_print.ensures in
     leaf_cut_now _ _ _ _ p a cs begins _ _ (c.loop-moves.results ++ void_value ∷ []) (c.loop-moves.moves - 1) 0 _ went
 
 pub loop-moves-preserved-in-Ok-push : goal.loop-moves-preserved-in-Ok-push
@@ -57,8 +57,8 @@ loop-moves-preserved-in-Ok-push g c =
     let is = sym c.in-Ok.ensures.is ∙ ap move_of c.in-Print.is in
     let pushed = sym c.in-Ok-push.ensures.ok in
     record {
-      went = λ p a cs begins. let went = leaf_prints _ _ _ _ p a cs begins _ _ c.loop-moves.results c.loop-moves.moves (c.loop-moves.moves - 1) _ (c.loop-moves.invariant.went p a cs begins) (one_fewer c.loop-moves.moves c.if-moves-eq0.false) (tree_of c.in-Print.ty) (value_of c.in-Print.value) is _ c.in_default-print.ensures in
-          let P = λ (rs : List ValueTree). LeafWent p a cs c.args.moves.now rs (c.loop-moves.moves - 1) (took (g.O.Sink.taken c.args.output.now) (g.O.Sink.faults c.args.output.now)) (took (g.O.Sink.taken c.print.new.output) (g.O.Sink.faults c.print.new.output)) in
+      went = λ p a cs begins. let went = leaf_prints _ _ _ _ p a cs begins _ _ c.loop-moves.results c.loop-moves.moves (c.loop-moves.moves - 1) _ (c.loop-moves.invariant.went p a cs begins) (one_fewer c.loop-moves.moves c.if-moves-eq0.false) (tree_of c.in-Print.ty) (value_of c.in-Print.value) is _ c.in_default-write_print.ensures in
+          let P = λ (rs : List ValueTree). LeafWent p a cs c.args.moves.now rs (c.loop-moves.moves - 1) (took (g.O.Sink.taken c.args.output.now) (g.O.Sink.faults c.args.output.now)) (took (g.O.Sink.taken c.write_print.new.output) (g.O.Sink.faults c.write_print.new.output)) in
           subst P pushed went;
       follow =
           let P = λ (rs : List ValueTree). ResultsFollow (g.B.Body.signatures c.args.body.now) (g.B.Body.meaning c.args.body.now) (arguments_in c.args.sig.now.arguments c.args.block.now) c.args.user rs in
@@ -74,8 +74,8 @@ loop-moves-preserved g c =
     let is = sym c.in-Ok.ensures.is ∙ ap move_of c.in-Print.is in
     let pushed = sym c.in-Ok-push.ensures.ok in
     record {
-      went = λ p a cs begins. let went = leaf_prints _ _ _ _ p a cs begins _ _ c.loop-moves.results c.loop-moves.moves (c.loop-moves.moves - 1) _ (c.loop-moves.invariant.went p a cs begins) (one_fewer c.loop-moves.moves c.if-moves-eq0.false) (tree_of c.in-Print.ty) (value_of c.in-Print.value) is _ c.in_default-print.ensures in
-          let P = λ (rs : List ValueTree). LeafWent p a cs c.args.moves.now rs (c.loop-moves.moves - 1) (took (g.O.Sink.taken c.args.output.now) (g.O.Sink.faults c.args.output.now)) (took (g.O.Sink.taken c.print.new.output) (g.O.Sink.faults c.print.new.output)) in
+      went = λ p a cs begins. let went = leaf_prints _ _ _ _ p a cs begins _ _ c.loop-moves.results c.loop-moves.moves (c.loop-moves.moves - 1) _ (c.loop-moves.invariant.went p a cs begins) (one_fewer c.loop-moves.moves c.if-moves-eq0.false) (tree_of c.in-Print.ty) (value_of c.in-Print.value) is _ c.in_default-write_print.ensures in
+          let P = λ (rs : List ValueTree). LeafWent p a cs c.args.moves.now rs (c.loop-moves.moves - 1) (took (g.O.Sink.taken c.args.output.now) (g.O.Sink.faults c.args.output.now)) (took (g.O.Sink.taken c.write_print.new.output) (g.O.Sink.faults c.write_print.new.output)) in
           subst P pushed went;
       follow =
           let P = λ (rs : List ValueTree). ResultsFollow (g.B.Body.signatures c.args.body.now) (g.B.Body.meaning c.args.body.now) (arguments_in c.args.sig.now.arguments c.args.block.now) c.args.user rs in
