@@ -129,12 +129,6 @@ module _ (p : Program) (x : Moment) (between : IsBetween p (asking x)) (needs : 
           let e : events_in (written_out inside) ≡ events_in (written_out came.deeds) + 0 = events_in-joined came.deeds no_deeds in
           omega (arith, e, came.quiet)
 
-      -- cut off after it
-      pub cut_behind : CutOff (text_of p (rest_of p (asking x)).deeds) x.scene.output o cut.NoMemory
-      cut_behind =
-          let whole : text_of p (act p callee x.closures x.moves).deeds ≡ text_of p came.deeds ++ [] = ap (λ (z : Outcome). text_of p z.deeds) came.is ∙ ap (text_of p) (joined_none came.deeds) ∙ sym (append-nil (text_of p came.deeds)) in
-          cut_inside o cut.NoMemory (cut_between x.scene.output o (text_of p came.deeds) [] (text_of p (act p callee x.closures x.moves).deeds) whole came.lines)
-
       module _ (m' : State) (ended : HasEnded site r m m') where
         abbrev returned_to : Moment
         returned_to = record {

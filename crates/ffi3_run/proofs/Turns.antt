@@ -59,13 +59,12 @@ module _ (p : Program) (x : Moment) (between : IsBetween p (asking x)) (asked : 
 -- ---- the end of a move
 
 -- the run goes on from here, or there is no memory for the result
-pub goes : (p : Program) (old : Moment) (b b' : Board) (m : State) (o : Took) (r : ValueTree) (t : Result Turn Cut) → GoneOn r b b' t → Went p old (moment (record b { results = b.results ++ r ∷ [] }) m o) → IsBetween p (moment (record b { results = b.results ++ r ∷ [] }) m o) → Turned p old (moment b' m o) t
-goes p old b b' m o r (Ok t) gone went between =
-    let next = record b { results = b.results ++ r ∷ [] } in
-    let P = λ (c : Board). Went p old (moment c m o) × IsBetween p (moment c m o) in
+pub goes : (p : Program) (old : Moment) (b b' : Board) (m : State) (o : Took) (r : ValueTree) (t : Result Turn Cut) → GoneOn r b b' t → Went p old (moment (record b { results = b.results ++ r ∷ [] }) m o) → IsBetween p (moment (record b { results = b.results ++ r ∷ [] }) m o) → b.moves < old.moves → Turned p old (moment b' m o) t
+goes p old b b' m o r (Ok t) gone went between fewer =
+    let P = λ (c : Board). Went p old (moment c m o) × IsBetween p (moment c m o) × (c.moves < old.moves) in
     let Q = λ (u : Turn). Turned p old (moment b' m o) (Ok u) in
-    subst Q (sym gone.0) (subst P (sym gone.1) (went, between))
-goes p old b b' m o r (Err why) gone went between =
+    subst Q (sym gone.0) (subst P (sym gone.1) (went, between, fewer))
+goes p old b b' m o r (Err why) gone went between fewer =
     let rest = (rest_of p (moment (record b { results = b.results ++ r ∷ [] }) m o)).deeds in
     let P = λ (c : Cut). CutOff (text_of p (rest_of p old).deeds) old.scene.output o c in
     subst P (sym gone) (cut_between old.scene.output o (text_of p went.deeds) (text_of p rest) (text_of p (rest_of p old).deeds) (ap (λ (x : Outcome). text_of p x.deeds) went.follows ∙ text-joined p went.deeds rest) went.done.lines)

@@ -3,3 +3,4 @@ pub mod Deeds
 pub mod Cuts
 pub mod Moment
 pub mod Leaf
+pub mod Programs

@@ -92,7 +92,8 @@ CutIn p old new cut =
 
 -- what a move's answer says
 abbrev pub Turned : Program → Moment → Moment → Result Turn Cut → Type 0
-Turned p old new (Ok turn.More) = Went p old new × IsBetween p new
+Turned p old new (Ok turn.More) =
+    Went p old new × IsBetween p new × (new.moves < old.moves)
 Turned p old new (Ok turn.Done) = Came p (returned void_value) old new
 Turned p old new (Ok (turn.Stopped stop)) = Came p (stopped stop) old new
 Turned p old new (Err cut) = CutIn p old new cut
