@@ -19,7 +19,7 @@ use Rattle.ffi3_run.specs.declared.line.Cut.TheVariants.{NoMemory}
 use Rattle.ffi3_run.specs.Told.{Took, TookLine}
 use Rattle.ffi3_run.specs.Deeds.{joined, preceded, text_of}
 use Rattle.ffi3_run.specs.Cuts.{CutOff}
-use Rattle.ffi3_run.specs.Leaf.{IsLeafMove, Begins, LeafWent, LeafCame, returning}
+use Rattle.ffi3_run.specs.Leaf.{IsLeafMove, IsKept, Begins, LeafWent, LeafCame, returning}
 use Rattle.ffi3_run.proofs.Acts.{at_limit, act_returns, act_prints}
 use Rattle.ffi3_run.proofs.Joining.{text-joined, events_in-joined, preceded_twice}
 use Rattle.ffi3_run.proofs.Lines.{took_nothing, took_then, cut_after, cut_in, cut_between}
@@ -37,6 +37,10 @@ no_make m func user is leaf = subst IsLeafMove is leaf
 
 pub no_free : (m : Move) (ptr : ℕ) → m ≡ free ptr → IsLeafMove m → ⊥
 no_free m ptr is leaf = subst IsLeafMove is leaf
+
+-- nor is a free one that is kept
+pub no_free_kept : (m : Move) (ptr : ℕ) → m ≡ free ptr → IsKept m → ⊥
+no_free_kept m ptr is kept = subst IsKept is kept
 
 -- results follow after a print
 pub print_follows : (signatures : List Signature) (behaviour : Behaviour) (arguments : List ValueTree) (user : ℕ) (results : List ValueTree) (t : Tree) (v : ValueTree) → behaviour arguments user results ≡ print t v → ResultsFollow signatures behaviour arguments user results → ResultsFollow signatures behaviour arguments user (results ++ void_value ∷ [])

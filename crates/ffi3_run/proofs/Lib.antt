@@ -11,3 +11,4 @@ pub mod Limits
 pub mod Turns
 pub mod Makes
 pub mod Calls
+pub mod Scripts

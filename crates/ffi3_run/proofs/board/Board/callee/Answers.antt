@@ -14,12 +14,9 @@ use Rattle.ffi3_run.specs.Programs.{program}
 use Rattle.ffi3_run.proofs.Acts.{call_is_wrong, call_enters}
 use Rattle.ffi3_run.proofs.Limits.{signature_in_registers}
 use Rattle.ffi3_run.proofs.Makes.{known_at}
+use Rattle.ffi3_run.proofs.Rights.{at_list}
 use Rattle.ffi3_run.proofs.Tests.{same_signatures, other_signatures}
 use Rattle.ffi3_run.proofs.board.Board.callee.Goals as goal
-
--- signature i of the list that the script gives
-at_list : (ss given : List Signature) (i : ℕ) (s : Signature) → given ≡ ss → s ≡ signature_at given i → s ≡ signature_at ss i
-at_list ss given i s same is = is ∙ ap (λ (l : List Signature). signature_at l i) same
 
 differ : (a b s r : Signature) (test : Bool) → s ≡ a → r ≡ b → test ≡ false → (s ≡ r → test ≡ true) → a ≡ b → ⊥
 differ a b s r test s_is r_is is_false same e =
