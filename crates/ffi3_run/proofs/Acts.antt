@@ -1,16 +1,15 @@
 -- What each kind of move leads to in the direct meaning.
-use Rattle.std.proofs.Common.{◌≡◌, ℕ, suc, Bool, true, false, List, [], ◌∷◌, ◌++◌, Option, Some, None, refl, ap, ◌∙◌}
+use Rattle.std.proofs.Common.{◌≡◌, ℕ, suc, true, false, List, Some, None, refl, ap, ◌∙◌}
 use Rattle.std.specs.Prelude.{if◌then◌else◌, nat_lt}
 use Rattle.ffi3_type_rules.specs.Tree.{Tree}
 use Rattle.ffi3_type_rules.specs.Signature.{signature_at}
 use Rattle.ffi3_type_rules.specs.Same.{same_signature}
 use Rattle.ffi3_type_rules.specs.Value.{ValueTree, void_value}
 use Rattle.ffi3_run_rules.specs.declared.Closure.{Closure}
-use Rattle.ffi3_run_rules.specs.declared.Stop.{Stop}
 use Rattle.ffi3_run_rules.specs.declared.Stop.TheVariants.{NoClosure, WrongSig, TableFull, StackFull, MoveLimit}
 use Rattle.ffi3_run_rules.specs.Closures.{Closures, slots, slot_address, closure_at, first_free, with_closure}
 use Rattle.ffi3_run_rules.specs.Move.{Move, call, make, print, return}
-use Rattle.ffi3_run_rules.specs.Meaning.{Program, Acting, Doing, ends, stops, prints, goes_on, enters, at_closure, call_of, callee_of, End, returned, Outcome, Deeds, no_deeds, called, line, after, stops_with, follows, resumed, resumed_after, with_result, doing, next_move, need_at, function_at, pointer_value, act, act_within}
+use Rattle.ffi3_run_rules.specs.Meaning.{Program, Acting, Doing, ends, stops, prints, goes_on, enters, at_closure, call_of, callee_of, returned, Outcome, no_deeds, line, after, stops_with, follows, resumed_after, with_result, doing, next_move, need_at, function_at, pointer_value, act, act_within}
 use Rattle.ffi3_run_rules.proofs.Recursion.{act-is}
 use Rattle.ffi3_run.proofs.Tests.{chosen_true, chosen_false}
 

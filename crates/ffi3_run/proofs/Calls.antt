@@ -1,5 +1,5 @@
 -- A call: from its beginning, through the moves of its function, to its return or to a stop in it.
-use Rattle.std.proofs.Common.{◌≡◌, ℕ, suc, ◌+◌, ◌<◌, ◌≤◌, min, max, ◌⊎◌, inl, inr, true, List, [], ◌∷◌, ◌++◌, length, Option, Some, None, Result, Ok, Err, refl, sym, ap, ◌∙◌, subst, arith, append_assoc, append-nil, length-append}
+use Rattle.std.proofs.Common.{◌≡◌, ℕ, ◌+◌, ◌≤◌, min, ◌⊎◌, inl, inr, true, List, [], ◌∷◌, ◌++◌, length, Some, None, Result, Ok, Err, refl, sym, ap, ◌∙◌, subst, arith, append_assoc, append-nil}
 use Rattle.std.proofs.lemmas.Bool.{cases_lt}
 use Rattle.ffi3_type_rules.specs.Signature.{Signature, signature_at}
 use Rattle.ffi3_type_rules.specs.Value.{ValueTree, fits}
@@ -7,32 +7,28 @@ use Rattle.ffi3_place_rules.specs.Event.{Event}
 use Rattle.ffi3_place_rules.specs.Standard.{need_of}
 use Rattle.ffi3_amd64_rules.specs.Amd64.{amd64}
 use Rattle.ffi3_run_rules.specs.declared.Closure.{Closure}
-use Rattle.ffi3_run_rules.specs.declared.Stop.{Stop}
 use Rattle.ffi3_run_rules.specs.declared.Stop.TheVariants.{MoveLimit}
 use Rattle.ffi3_run_rules.specs.Closures.{Closures}
-use Rattle.ffi3_run_rules.specs.Happenings.{Happening, Enter, Leave, written_out}
+use Rattle.ffi3_run_rules.specs.Happenings.{Leave, written_out}
 use Rattle.ffi3_run_rules.specs.Journal.{events_in, stack_top, IsEntry}
 use Rattle.ffi3_run_rules.specs.Lines.{text, a_line, stop_text}
 use Rattle.ffi3_run_rules.specs.Move.{call}
-use Rattle.ffi3_run_rules.specs.Meaning.{Program, Acting, Doing, enters, Deeds, no_deeds, deed, called, stop_line, End, returned, stopped, Outcome, stops_with, act, doing, resumed, resumed_after, need_at, callee_of, peak_of}
+use Rattle.ffi3_run_rules.specs.Meaning.{Program, Acting, enters, Deeds, no_deeds, deed, called, stop_line, End, returned, stopped, Outcome, stops_with, act, doing, resumed, resumed_after, need_at, callee_of, peak_of}
 use Rattle.ffi3_machine.specs.State.{State}
-use Rattle.ffi3_machine.specs.declared.TheConstants.{STACK_TOP}
 use Rattle.ffi3_closures.specs.Slots.{HoldsMap}
 use Rattle.ffi3_call.specs.Calls.{HasBegun, HasEnded}
 use Rattle.ffi3_run.specs.declared.board.Board.{Board}
 use Rattle.ffi3_run.specs.declared.board.Turn.{Turn}
-use Rattle.ffi3_run.specs.declared.board.Turn.TheVariants as turn
 use Rattle.ffi3_run.specs.declared.line.Cut.{Cut}
-use Rattle.ffi3_run.specs.declared.line.Cut.TheVariants as cut
-use Rattle.ffi3_run.specs.Told.{Took, TookLine}
-use Rattle.ffi3_run.specs.Deeds.{joined, preceded, text_of, Scene, Done, AnswersAfter, AnswersFirst}
+use Rattle.ffi3_run.specs.Told.{Took}
+use Rattle.ffi3_run.specs.Deeds.{joined, preceded, text_of, Scene, Done, AnswersAfter}
 use Rattle.ffi3_run.specs.Cuts.{CutOff}
-use Rattle.ffi3_run.specs.Moment.{Moment, moment, main_after, rest_of, asking, IsBetween, Went, Came, CutIn, Turned, StoppedBy}
+use Rattle.ffi3_run.specs.Moment.{Moment, moment, main_after, rest_of, asking, IsBetween, Went, Turned, StoppedBy}
 use Rattle.ffi3_run.specs.Leaf.{LeafCame, returning}
 use Rattle.ffi3_run.proofs.Acts.{act_enters}
 use Rattle.ffi3_run.proofs.Answering.{called_answers, stopped_answers}
 use Rattle.ffi3_run.proofs.Joining.{text-joined, text-append, events_in-append, events_in-joined, joined_none}
-use Rattle.ffi3_run.proofs.Lines.{took_then, took_as, cut_after, cut_in, cut_between}
+use Rattle.ffi3_run.proofs.Lines.{took_then, took_as, cut_after, cut_in}
 use Rattle.ffi3_run.proofs.Turns.{more_follow, still_few}
 
 -- ---- what is written out of a call that is the only deed

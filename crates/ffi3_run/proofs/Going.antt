@@ -1,24 +1,15 @@
 -- A run goes on, and on, to its end.
-use Rattle.std.proofs.Common.{◌≡◌, ℕ, ◌+◌, ◌≤◌, max, ◌⊎◌, inl, inr, List, [], ◌∷◌, ◌++◌, length, Result, Ok, Err, refl, sym, ap, ◌∙◌, subst, arith, append_assoc, append-nil, length-append}
+use Rattle.std.proofs.Common.{◌≡◌, ℕ, ◌+◌, ◌≤◌, max, ◌⊎◌, inl, inr, List, [], ◌++◌, length, refl, sym, ap, ◌∙◌, subst, arith, append_assoc, append-nil, length-append}
 use Rattle.ffi3_place_rules.specs.Event.{Event}
 use Rattle.ffi3_amd64_rules.specs.Amd64.{amd64}
-use Rattle.ffi3_type_rules.specs.Value.{void_value}
-use Rattle.ffi3_run_rules.specs.declared.Stop.{Stop}
 use Rattle.ffi3_run_rules.specs.Closures.{Closures}
 use Rattle.ffi3_run_rules.specs.Happenings.{written_out}
 use Rattle.ffi3_run_rules.specs.Journal.{events_in, stack_top}
-use Rattle.ffi3_run_rules.specs.Meaning.{Program, Deeds, no_deeds, End, returned, stopped, Outcome, peak_of}
+use Rattle.ffi3_run_rules.specs.Meaning.{Program, Deeds, no_deeds, End, Outcome, peak_of}
 use Rattle.ffi3_closures.specs.Slots.{HoldsMap}
-use Rattle.ffi3_run.specs.declared.board.Turn.{Turn}
-use Rattle.ffi3_run.specs.declared.board.Turn.TheVariants as turn
 use Rattle.ffi3_run.specs.declared.line.Cut.{Cut}
-use Rattle.ffi3_run.specs.declared.line.Cut.TheVariants as cut
-use Rattle.ffi3_run.specs.declared.run.RunEnd.{RunEnd}
-use Rattle.ffi3_run.specs.declared.run.RunEnd.TheVariants as run
-use Rattle.ffi3_run.specs.Told.{TookLine}
 use Rattle.ffi3_run.specs.Deeds.{joined, preceded, text_of, Scene, Done, AnswersAfter, AnswersFirst}
-use Rattle.ffi3_run.specs.Cuts.{CutOff}
-use Rattle.ffi3_run.specs.Moment.{Moment, rest_of, IsBetween, Went, Came, CutIn, Turned, Ran}
+use Rattle.ffi3_run.specs.Moment.{Moment, rest_of, Went, Came, CutIn}
 use Rattle.ffi3_run.proofs.Joining.{text-joined, events_in-joined, peak_of-joined, preceded_twice, answers_then, answers_last}
 use Rattle.ffi3_run.proofs.Lines.{took_nothing, took_then, cut_after}
 

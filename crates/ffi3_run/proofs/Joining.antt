@@ -5,7 +5,7 @@ use Rattle.ffi3_place_rules.specs.Event.{Event}
 use Rattle.ffi3_run_rules.specs.Happenings.{Happening, Enter, Line, Leave, StopLine, written_out, written_out_one}
 use Rattle.ffi3_run_rules.specs.Journal.{events_in}
 use Rattle.ffi3_run_rules.specs.Lines.{text, text_of}
-use Rattle.ffi3_run_rules.specs.Meaning.{Program, Deed, Deeds, no_deeds, deed, Outcome, peak_of}
+use Rattle.ffi3_run_rules.specs.Meaning.{Program, Deeds, no_deeds, deed, Outcome, peak_of}
 use Rattle.ffi3_run.specs.Deeds as deeds
 use Rattle.ffi3_run.specs.Deeds.{joined, preceded, AnswersAfter, AnswersFirst}
 

@@ -1,5 +1,5 @@
 -- The moves of a function that calls nothing, one after another.
-use Rattle.std.proofs.Common.{◌≡◌, ℕ, suc, ◌+◌, List, [], ◌∷◌, ◌++◌, true, Option, Some, refl, sym, ap, ◌∙◌, subst, arith, append-nil}
+use Rattle.std.proofs.Common.{◌≡◌, ℕ, suc, ◌+◌, List, [], ◌∷◌, ◌++◌, refl, sym, ap, ◌∙◌, subst, arith, append-nil}
 use Rattle.ffi3_type_rules.specs.Tree.{Tree}
 use Rattle.ffi3_type_rules.specs.Signature.{Signature}
 use Rattle.ffi3_type_rules.specs.Value.{ValueTree, void_value}
@@ -10,7 +10,7 @@ use Rattle.ffi3_run_rules.specs.Happenings.{written_out}
 use Rattle.ffi3_run_rules.specs.Journal.{events_in}
 use Rattle.ffi3_run_rules.specs.Lines.{a_line}
 use Rattle.ffi3_run_rules.specs.Move.{Move, call, make, free, print, return, Behaviour, result_type_of}
-use Rattle.ffi3_run_rules.specs.Meaning.{Program, Acting, Deeds, no_deeds, deed, line, Outcome, stops_with, act, next_move, behaviour_of}
+use Rattle.ffi3_run_rules.specs.Meaning.{Program, Acting, Deeds, no_deeds, deed, line, Outcome, stops_with, act, next_move}
 use Rattle.ffi3_body.specs.Activation.{arguments_in}
 use Rattle.ffi3_body.specs.Follow.{IsOfType, ResultsFollow}
 use Rattle.ffi3_body.proofs.Follow.{one_more_follows}

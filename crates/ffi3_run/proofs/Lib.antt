@@ -12,3 +12,4 @@ pub mod Turns
 pub mod Makes
 pub mod Calls
 pub mod Scripts
+pub mod Ends

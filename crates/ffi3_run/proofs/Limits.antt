@@ -1,22 +1,18 @@
 -- What a script that is run has: signatures in registers, functions that print and return, a main that frees nothing.
-use Rattle.std.proofs.Common.{◌≡◌, ℕ, zero, suc, ◌+◌, ◌<◌, ◌≤◌, Bool, true, false, List, [], ◌∷◌, length, map, Option, Some, None, refl, sym, ap, ◌∙◌, subst, arith, get_or}
-use Rattle.std.specs.Prelude.{not, ◌&&◌, nat_lt, is_some, if◌then◌else◌, slice_index_or, codes}
+use Rattle.std.proofs.Common.{◌≡◌, ℕ, zero, suc, ◌+◌, ◌<◌, Bool, true, false, List, [], ◌∷◌, length, Option, Some, None, refl, arith}
+use Rattle.std.specs.Prelude.{not, nat_lt, if◌then◌else◌, slice_index_or, codes}
 use Rattle.std.specs.List.{list_all}
 use Rattle.std.proofs.lemmas.Bool.{ltb-false}
-use Rattle.std.proofs.lemmas.List.{get_or-map}
 use Rattle.ffi3_type_rules.specs.Tree.{Tree, void, scalar, left_out, structure, tree_at}
-use Rattle.ffi3_type_rules.specs.Integer.{is_number, is_number_type}
+use Rattle.ffi3_type_rules.specs.Integer.{is_number_type}
 use Rattle.ffi3_type_rules.specs.Signature.{Signature, signature_at}
 use Rattle.ffi3_type_rules.specs.Value.{ValueTree, void_value}
 use Rattle.ffi3_run_rules.specs.Move.{Move}
 use Rattle.ffi3_run_rules.specs.Move as run
-use Rattle.ffi3_run_rules.specs.Meaning.{Function, Program, idle}
-use Rattle.ffi3_run_rules.specs.Meaning as meaning
 use Rattle.ffi3_script_rules.specs.FirstFault.{or_else}
 use Rattle.ffi3_script_rules.specs.Language.{Path, under, at_item}
 use Rattle.ffi3_script_rules.specs.Script.{Act, call, make, free, print, return, return_void, ScriptMove, ScriptFunction, Script}
-use Rattle.ffi3_script_rules.specs.Meaning.{Known, known, move_of, next_by, next_of, knows_too, is_done, behaviour_of, function_of}
-use Rattle.ffi3_script_rules.specs.Values.{Given}
+use Rattle.ffi3_script_rules.specs.Meaning.{Known, known, move_of, next_by, next_of, knows_too, is_done, behaviour_of}
 use Rattle.ffi3_script_rules.specs.Bodies.{type_of_act}
 use Rattle.ffi3_type_rules.specs.Value.{zero_value}
 use Rattle.ffi3_script_rules.specs.RunLimit.{most_register_arguments, is_plain, is_plain_result, is_run, first_not, is_leaf_act, is_run_in_function, is_free, is_run_in_main, first_in_functions, first_not_run}

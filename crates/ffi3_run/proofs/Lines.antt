@@ -1,11 +1,11 @@
 -- Texts that a sink takes, one after another, and what is written of one that is cut off.
-use Rattle.std.proofs.Common.{◌≡◌, ℕ, ◌+◌, ◌<◌, ◌≤◌, List, [], ◌∷◌, ◌++◌, length, take, Option, refl, sym, ap, ◌∙◌, subst, arith, append_assoc, append-nil, length-append}
+use Rattle.std.proofs.Common.{◌≡◌, ℕ, ◌+◌, ◌≤◌, List, [], ◌++◌, length, take, Option, refl, sym, ap, ◌∙◌, subst, arith, length-append}
 use Rattle.std.proofs.lemmas.List.{take-append-le}
 use Rattle.std.proofs.Math.Seq.{take-append-add, take-length}
-use Rattle.ffi3_io.specs.Sink.{Adds, AddsSome, Rose}
+use Rattle.ffi3_io.specs.Sink.{Adds}
 use Rattle.ffi3_io.proofs.Adding.{Adds-then, Adds-along, Adds-none}
 use Rattle.ffi3_run.specs.declared.line.Cut.{Cut}
-use Rattle.ffi3_run.specs.declared.line.Cut.TheVariants.{NoMemory, Failed}
+use Rattle.ffi3_run.specs.declared.line.Cut.TheVariants.{NoMemory}
 use Rattle.ffi3_run.specs.Told.{Took, TookLine}
 use Rattle.ffi3_run.specs.Cuts.{IsCause, CutOff}
 

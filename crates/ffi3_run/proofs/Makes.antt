@@ -1,15 +1,14 @@
 -- A make, and what is known of the closures.
-use Rattle.std.proofs.Common.{◌≡◌, ℕ, zero, suc, ◌+◌, ◌<◌, ◌≤◌, ◌⊎◌, inl, inr, true, List, [], ◌∷◌, ◌++◌, length, replicate, Option, Some, None, refl, sym, ap, ◌∙◌, subst, arith, append-nil}
+use Rattle.std.proofs.Common.{◌≡◌, ℕ, zero, suc, ◌<◌, ◌⊎◌, inl, inr, true, [], ◌∷◌, ◌++◌, length, replicate, Option, Some, None, refl, sym, ap, ◌∙◌, subst, arith, append-nil}
 use Rattle.std.specs.Prelude.{nat_lt, slice_index_or, slice_set, option_and_then}
 use Rattle.ffi3_type_rules.specs.Value.{ValueTree}
 use Rattle.ffi3_amd64_rules.specs.Amd64.{amd64}
 use Rattle.ffi3_run_rules.specs.declared.Closure.{Closure}
 use Rattle.ffi3_run_rules.specs.Closures.{Closures, slots, slot_address, slot_number, closure_at, no_closures, first_free, with_closure}
 use Rattle.ffi3_run_rules.specs.Move.{make}
-use Rattle.ffi3_run_rules.specs.Meaning.{Program, no_deeds, pointer_value, function_at, goes_on, doing}
+use Rattle.ffi3_run_rules.specs.Meaning.{Program, no_deeds, pointer_value, function_at, goes_on}
 use Rattle.ffi3_machine.specs.State.{State}
 use Rattle.ffi3_closures.specs.Slots.{HoldsMap}
-use Rattle.ffi3_run.specs.Told.{Took}
 use Rattle.ffi3_run.specs.Moment.{Moment, main_after, rest_of, asking, IsKnown, AreKnown, IsBetween, Went}
 use Rattle.ffi3_run.proofs.Acts.{by_doing, make_goes_on}
 use Rattle.ffi3_run.proofs.Answering.{quiet_answers}

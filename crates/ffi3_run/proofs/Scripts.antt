@@ -1,13 +1,12 @@
 -- The program of a script: its functions by number.
-use Rattle.std.proofs.Common.{◌≡◌, ℕ, ◌<◌, List, [], length, map, refl, sym, ap, ◌∙◌, subst, arith, get_or}
+use Rattle.std.proofs.Common.{◌≡◌, ℕ, ◌<◌, List, [], length, sym, ap, ◌∙◌, subst}
 use Rattle.std.specs.Prelude.{None}
 use Rattle.std.proofs.lemmas.List.{get_or-map, length-map}
 use Rattle.ffi3_type_rules.specs.Signature.{Signature}
 use Rattle.ffi3_amd64_rules.specs.Amd64.{amd64}
-use Rattle.ffi3_run_rules.specs.Move.{Behaviour}
 use Rattle.ffi3_run_rules.specs.Meaning as meaning
 use Rattle.ffi3_run_rules.specs.Meaning.{Function}
-use Rattle.ffi3_script_rules.specs.Script.{ScriptFunction, ScriptMove, Script}
+use Rattle.ffi3_script_rules.specs.Script.{ScriptMove, Script}
 use Rattle.ffi3_script_rules.specs.Meaning.{program_of, function_of, behaviour_of}
 use Rattle.ffi3_script_rules.specs.RunLimit.{first_not_run}
 use Rattle.ffi3_script.specs.ScriptOf.{function_at}

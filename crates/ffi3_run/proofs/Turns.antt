@@ -1,42 +1,32 @@
 -- What each kind of main's moves does to a moment.
-use Rattle.std.proofs.Common.{◌≡◌, ℕ, suc, ◌+◌, ◌-◌, ◌<◌, ◌≤◌, min, ◌⊎◌, inl, inr, Bool, true, false, List, [], ◌∷◌, ◌++◌, length, Option, Some, None, Result, Ok, Err, refl, sym, ap, ◌∙◌, subst, arith, append_assoc, append-nil, length-append}
-use Rattle.std.specs.Prelude.{nat_lt, slice_index_or}
+use Rattle.std.proofs.Common.{◌≡◌, ℕ, ◌+◌, ◌<◌, ◌≤◌, inl, true, List, [], ◌∷◌, ◌++◌, length, Result, Ok, Err, refl, sym, ap, ◌∙◌, subst, arith, append-nil, length-append}
 use Rattle.ffi3_type_rules.specs.Tree.{Tree, void}
-use Rattle.ffi3_type_rules.specs.Signature.{Signature, signature_at}
 use Rattle.ffi3_type_rules.specs.Value.{ValueTree, void_value, leaf_value, struct_value, fits}
 use Rattle.ffi3_type_rules.specs.ValueText.{value_text_of}
-use Rattle.ffi3_place_rules.specs.Event.{Event}
-use Rattle.ffi3_place_rules.specs.Standard.{need_of}
 use Rattle.ffi3_amd64_rules.specs.Amd64.{amd64}
-use Rattle.ffi3_run_rules.specs.declared.Closure.{Closure}
 use Rattle.ffi3_run_rules.specs.declared.Stop.{Stop}
 use Rattle.ffi3_run_rules.specs.declared.Stop.TheVariants.{MoveLimit}
-use Rattle.ffi3_run_rules.specs.Closures.{Closures, first_free, with_closure, slot_address, closure_at}
-use Rattle.ffi3_run_rules.specs.Happenings.{Happening, Enter, written_out}
-use Rattle.ffi3_run_rules.specs.Journal.{events_in, stack_top, IsEntry}
+use Rattle.ffi3_run_rules.specs.Closures.{Closures}
+use Rattle.ffi3_run_rules.specs.Happenings.{written_out}
 use Rattle.ffi3_run_rules.specs.Lines.{a_line, stop_text}
-use Rattle.ffi3_run_rules.specs.Move.{Move, call, make, free, print, return, result_type_of}
-use Rattle.ffi3_run_rules.specs.Meaning.{Program, Acting, Doing, ends, stops, goes_on, enters, Deeds, no_deeds, deed, line, called, stop_line, End, returned, stopped, Outcome, stops_with, act, doing, next_move, with_result, pointer_value, need_at, callee_of, resumed_after, peak_of, most_moves, main_call}
+use Rattle.ffi3_run_rules.specs.Move.{Move, print, return, result_type_of}
+use Rattle.ffi3_run_rules.specs.Meaning.{Program, stops, Deeds, no_deeds, deed, line, stop_line, returned, Outcome, stops_with, act, doing, most_moves}
 use Rattle.ffi3_body.specs.Follow.{IsOfType, ResultsFollow}
 use Rattle.ffi3_body.proofs.Follow.{one_more_follows}
 use Rattle.ffi3_machine.specs.State.{State}
-use Rattle.ffi3_machine.specs.declared.TheConstants.{STACK_TOP}
 use Rattle.ffi3_closures.specs.Slots.{HoldsMap}
-use Rattle.ffi3_call.specs.Calls.{HasBegun, HasEnded}
 use Rattle.ffi3_run.specs.declared.board.Board.{Board}
 use Rattle.ffi3_run.specs.declared.board.Turn.{Turn}
-use Rattle.ffi3_run.specs.declared.board.Turn.TheVariants as turn
 use Rattle.ffi3_run.specs.declared.line.Cut.{Cut}
 use Rattle.ffi3_run.specs.declared.line.Cut.TheVariants as cut
 use Rattle.ffi3_run.specs.Told.{Took, TookLine}
-use Rattle.ffi3_run.specs.Deeds.{joined, preceded, text_of, Scene, Done, AnswersAfter, AnswersFirst}
+use Rattle.ffi3_run.specs.Deeds.{preceded, text_of, Scene, Done, AnswersAfter}
 use Rattle.ffi3_run.specs.Cuts.{CutOff}
-use Rattle.ffi3_run.specs.Moment.{Moment, moment, main_after, rest_of, asking, IsKnown, AreKnown, IsBetween, Went, Came, CutIn, Turned, GoneOn, StoppedBy}
-use Rattle.ffi3_run.specs.Leaf.{LeafCame, returning}
-use Rattle.ffi3_run.proofs.Acts.{by_doing, at_limit, act_returns, act_prints, act_enters}
-use Rattle.ffi3_run.proofs.Answering.{quiet_answers, called_answers, stopped_answers}
-use Rattle.ffi3_run.proofs.Joining.{text-joined, events_in-joined, text-append}
-use Rattle.ffi3_run.proofs.Lines.{took_nothing, took_then, took_as, cut_at_once, cut_after, cut_in, cut_between}
+use Rattle.ffi3_run.specs.Moment.{Moment, moment, main_after, rest_of, asking, IsBetween, Went, Came, CutIn, Turned, GoneOn, StoppedBy}
+use Rattle.ffi3_run.proofs.Acts.{by_doing, at_limit, act_returns, act_prints}
+use Rattle.ffi3_run.proofs.Answering.{quiet_answers}
+use Rattle.ffi3_run.proofs.Joining.{text-joined}
+use Rattle.ffi3_run.proofs.Lines.{took_nothing, took_as, cut_at_once, cut_in, cut_between}
 use Rattle.ffi3_run.proofs.Leaves.{one_line}
 
 void_is : (v : ValueTree) → fits void v ≡ true → v ≡ void_value

@@ -2,7 +2,7 @@
 use Rattle.std.specs.Prelude.{◌≡◌, ℕ, ◌+◌, ◌≤◌, ◌⊎◌, List, [], ◌++◌, length}
 use Rattle.ffi3_place_rules.specs.Event.{Event}
 use Rattle.ffi3_amd64_rules.specs.Amd64.{amd64}
-use Rattle.ffi3_run_rules.specs.Meaning.{Program, Deed, Deeds, no_deeds, deed, Outcome, peak_of}
+use Rattle.ffi3_run_rules.specs.Meaning.{Program, Deeds, no_deeds, deed, Outcome, peak_of}
 use Rattle.ffi3_run_rules.specs.Happenings.{Happening, written_out}
 use Rattle.ffi3_run_rules.specs.Lines.{text}
 use Rattle.ffi3_run_rules.specs.Journal.{Answers, events_in, stack_top}

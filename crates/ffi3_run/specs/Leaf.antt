@@ -7,7 +7,7 @@ use Rattle.ffi3_run_rules.specs.declared.Stop.TheVariants.{MoveLimit}
 use Rattle.ffi3_run_rules.specs.Closures.{Closures}
 use Rattle.ffi3_run_rules.specs.Journal.{events_in}
 use Rattle.ffi3_run_rules.specs.Happenings.{written_out}
-use Rattle.ffi3_run_rules.specs.Move.{Move, call, make, free, print, return, Behaviour}
+use Rattle.ffi3_run_rules.specs.Move.{Move, free, print, return, Behaviour}
 use Rattle.ffi3_run_rules.specs.Meaning.{Program, Acting, Deeds, no_deeds, returned, Outcome, stops_with, act, behaviour_of}
 use Rattle.ffi3_body.specs.Activation.{arguments_in}
 use Rattle.ffi3_run.specs.declared.line.Cut.{Cut}

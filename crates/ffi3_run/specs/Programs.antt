@@ -1,5 +1,5 @@
 -- The program of a script that is run by System V AMD64, and which of its closures a call enters.
-use Rattle.std.specs.Prelude.{◌≡◌, ℕ, ◌+◌, ◌≤◌, Some}
+use Rattle.std.specs.Prelude.{◌≡◌, ℕ, ◌≤◌, Some}
 use Rattle.ffi3_type_rules.specs.Signature.{signature_at}
 use Rattle.ffi3_place_rules.specs.Standard.{need_of}
 use Rattle.ffi3_amd64_rules.specs.Amd64.{amd64}

@@ -58,12 +58,7 @@ pub enum Turn {
 }
 
 /// Stops the run: writes the line of the stop.
-fn stop<O: Sink>(
-    alloc: Global,
-    output: &mut O,
-    sigs: &Sigs,
-    stop: Stop,
-) -> Result<Turn, Cut>
+fn stop<O: Sink>(alloc: Global, output: &mut O, sigs: &Sigs, stop: Stop) -> Result<Turn, Cut>
     requires right { list_all signature_is_right sigs.now ≡ true }
     requires numbers { IsOfSigs (length sigs.now) stop }
     ensures { StoppedBy sigs.now stop (took (O.taken output.old) (O.faults output.old)) (took (O.taken output.new) (O.faults output.new)) result }

@@ -7,4 +7,4 @@ mod line;
 mod run;
 
 pub use ffi3_run_rules::Stop;
-pub use run::RunEnd;
+pub use run::{RunEnd, run_main};

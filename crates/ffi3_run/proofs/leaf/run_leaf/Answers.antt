@@ -2,7 +2,6 @@ use Rattle.std.proofs.Common.{◌≡◌, ℕ, suc, ◌+◌, ◌-◌, ◌≤◌, 
 use Rattle.ffi3_type_rules.specs.Value.{ValueTree, void_value}
 use Rattle.ffi3_types.specs.TreeOf.{tree_of}
 use Rattle.ffi3_values.specs.ValueOf.{value_of}
-use Rattle.ffi3_run_rules.specs.Move.{print, return}
 use Rattle.ffi3_run_rules.specs.Meaning.{most_moves}
 use Rattle.ffi3_body.specs.Activation.{arguments_in}
 use Rattle.ffi3_body.specs.Follow.{ResultsFollow}

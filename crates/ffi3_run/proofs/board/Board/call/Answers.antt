@@ -1,8 +1,7 @@
-use Rattle.std.proofs.Common.{◌≡◌, ℕ, ◌<◌, ◌≤◌, List, length, true, Result, Ok, Err, refl, sym, ap, ◌∙◌, subst, arith}
-use Rattle.ffi3_type_rules.specs.Signature.{Signature, signature_at, SignatureHasNoFault}
-use Rattle.ffi3_type_rules.specs.Value.{ValueTree, fits}
+use Rattle.std.proofs.Common.{◌≡◌, ◌<◌, List, length, true, Ok, refl, sym, ap, ◌∙◌, subst, arith}
+use Rattle.ffi3_type_rules.specs.Signature.{Signature, SignatureHasNoFault}
+use Rattle.ffi3_type_rules.specs.Value.{fits}
 use Rattle.ffi3_values.specs.ValueOf.{value_of}
-use Rattle.ffi3_amd64_rules.specs.Amd64.{amd64}
 use Rattle.ffi3_run_rules.specs.declared.Stop.TheVariants.{MoveLimit}
 use Rattle.ffi3_run_rules.specs.Move.{call}
 use Rattle.ffi3_run_rules.specs.Meaning.{callee_of}

@@ -1,15 +1,12 @@
-use Rattle.std.proofs.Common.{◌≡◌, ℕ, ◌+◌, ◌-◌, ◌<◌, ◌≤◌, Bool, true, false, List, length, Option, Some, sym, ap, ◌∙◌, subst, arith}
-use Rattle.std.specs.Prelude.{nat_lt}
+use Rattle.std.proofs.Common.{◌≡◌, ℕ, ◌≤◌, Bool, true, false, length, sym, ap, ◌∙◌, subst, arith}
 use Rattle.std.proofs.lemmas.Bool.{le-ltb}
 use Rattle.ffi3_type_rules.specs.Signature.{Signature, signature_at}
 use Rattle.ffi3_place_rules.specs.Standard.{need_of}
 use Rattle.ffi3_amd64_rules.specs.Amd64.{amd64}
-use Rattle.ffi3_run_rules.specs.declared.Closure.{Closure}
-use Rattle.ffi3_run_rules.specs.Closures.{Closures, closure_at}
 use Rattle.ffi3_run_rules.specs.Meaning.{stack_size}
 use Rattle.ffi3_call.specs.Registers.{IsInRegisters}
 use Rattle.ffi3_script.specs.ScriptOf.{script_of}
-use Rattle.ffi3_run.specs.Moment.{IsKnown, main_after}
+use Rattle.ffi3_run.specs.Moment.{main_after}
 use Rattle.ffi3_run.specs.Programs.{program}
 use Rattle.ffi3_run.proofs.Acts.{call_is_wrong, call_enters}
 use Rattle.ffi3_run.proofs.Limits.{signature_in_registers}

@@ -1,10 +1,9 @@
-use Rattle.std.proofs.Common.{◌≡◌, ℕ, suc, ◌-◌, List, [], length, true, sym, ap, ◌∙◌, subst, arith}
+use Rattle.std.proofs.Common.{◌≡◌, ℕ, suc, ◌-◌, List, [], length, sym, ap, ◌∙◌, subst, arith}
 use Rattle.ffi3_type_rules.specs.Tree.{void}
 use Rattle.ffi3_type_rules.specs.Signature.{Signature}
-use Rattle.ffi3_types.specs.TreeOf.{tree_of}
 use Rattle.ffi3_values.specs.ValueOf.{value_of}
 use Rattle.ffi3_run_rules.specs.declared.Stop.TheVariants.{MoveLimit}
-use Rattle.ffi3_run_rules.specs.Move.{Move, MoveFits, return, free}
+use Rattle.ffi3_run_rules.specs.Move.{Move, MoveFits}
 use Rattle.ffi3_body.specs.MoveOf.{move_of}
 use Rattle.ffi3_script.specs.ScriptOf.{script_of}
 use Rattle.ffi3_run.specs.Told.{took}
