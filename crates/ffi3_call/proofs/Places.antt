@@ -19,7 +19,9 @@ use Rattle.ffi3_place_rules.specs.Image.{Image}
 use Rattle.ffi3_place_rules.specs.Standard.{doubleword, places_from, result_at, frame_of, need_of, block_bytes, plan_of, buffer_bytes, round8, all_copy_bytes, copies_start, buffer_start}
 use Rattle.ffi3_place_rules.specs.Holds.{leaf_bytes, LeavesStand, OwnsArgument, OwnsArguments, OwnsHidden, FillsAs, FillPieces, FillArguments, Holds, OwnsResult, FillsResult, HoldsResult}
 use Rattle.ffi3_amd64_rules.specs.declared.Class.TheVariants.{Integer}
-use Rattle.ffi3_amd64_rules.specs.Amd64.{amd64, is_integer_class, is_sse_class, classes, integers, sses, in_memory, extension, extension_of_scalar, argument_register, result_register, register_pieces, stack_pieces, eightbytes, in_registers, taken_with, pieces_after, spots_after, taken_after, taken_at_first, result_spot_of, placing_of}
+use Rattle.ffi3_place_rules.specs.Doublewords.{widening, filling_of_scalar, stack_pieces}
+use Rattle.ffi3_place_rules.specs.declared.Ext.TheVariants.{Widen}
+use Rattle.ffi3_amd64_rules.specs.Amd64.{amd64, is_integer_class, is_sse_class, classes, integers, sses, in_memory, argument_register, result_register, register_pieces, eightbytes, in_registers, taken_with, pieces_after, spots_after, taken_after, taken_at_first, result_spot_of, placing_of}
 use Rattle.ffi3_amd64_rules.proofs.Steps.{no_copy_bytes}
 use Rattle.ffi3_call.specs.Registers.{IsInRegisters, is_void, is_number_or_void, value_at, word_of, IsLow, AreLow, IsLowResult}
 use Rattle.ffi3_call.proofs.Numbers.{AreNumbers}
@@ -62,7 +64,7 @@ taken g = record { general = g; vector = 0; stack = 0 }
 
 -- the whole value in a register
 abbrev pub piece : Tree → ℕ → Piece
-piece t r = doubleword (G r) 0 (size_of t) (extension t)
+piece t r = doubleword (G r) 0 (size_of t) (widening t)
 
 none_before : (g : ℕ) → g + 0 ≡ g
 none_before g = omega arith
@@ -75,7 +77,7 @@ module _ (t : Tree) (is : is_number_type t ≡ true) (g : ℕ) (left : g + 1 ≤
 
   pieces-is : pieces_after (taken g) t ≡ piece t (argument_register g) ∷ []
   pieces-is =
-      ap (λ b. cond b (register_pieces argument_register g 0 t [] (classes t)) (stack_pieces 0 t 0 (eightbytes t))) suffice ∙ ap (register_pieces argument_register g 0 t []) (one_integer t is) ∙ ap (λ k. piece t (argument_register k) ∷ []) (none_before g)
+      ap (λ b. cond b (register_pieces argument_register g 0 t [] (classes t)) (stack_pieces 0 t)) suffice ∙ ap (register_pieces argument_register g 0 t []) (one_integer t is) ∙ ap (λ k. piece t (argument_register k) ∷ []) (none_before g)
 
   taken-is : taken_with (taken g) t ≡ taken (g + 1)
   taken-is =
@@ -100,7 +102,7 @@ module _ (m : Image) (base r : ℕ) where
       ((λ k below. ((λ carried. low_byte (widened s bytes) k (scalar_size s) bytes word low below), tt)), tt)
 
   -- and it is extended
-  filled_by : (s : Scalar) (bytes : List ℕ) → get_or m.general r 0 ≡ widened s bytes → FillsAs (extension_of_scalar s) (get_or m.general r 0) (scalar s) (leaf_value bytes)
+  filled_by : (s : Scalar) (bytes : List ℕ) → get_or m.general r 0 ≡ widened s bytes → FillsAs (filling_of_scalar Widen s) (get_or m.general r 0) (scalar s) (leaf_value bytes)
   filled_by u8 bytes word = word
   filled_by s8 bytes word = word
   filled_by u16 bytes word = word
