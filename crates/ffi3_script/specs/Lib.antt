@@ -5,3 +5,4 @@ pub mod KindOf
 pub mod BodyOf
 pub mod FunctionOf
 pub mod ScriptOf
+pub mod Causes

@@ -44,18 +44,4 @@ impl NameIndex {
         self.names.push(name)?;
         Ok(())
     }
-
-    /// The number of the first thing of a name.
-    pub(crate) fn find(&self, name: &str) -> Option<usize>
-        ensures { result ≡ position (is_name_of name.now) self.now }
-    {
-        for i in 0..self.names.len() {
-            if let Some(other) = &self.names[i] {
-                if name == other.as_str() {
-                    return Some(i);
-                }
-            }
-        }
-        None
-    }
 }

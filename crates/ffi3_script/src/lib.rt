@@ -6,6 +6,7 @@ mod expr;
 mod moves;
 mod index;
 mod names;
+mod read;
 mod scope;
 mod script;
 
@@ -15,5 +16,7 @@ pub use expr::Expr;
 pub use ffi3_types::NoMemory;
 pub use moves::{Act, ScriptMove, TypedExpr};
 pub use names::Names;
+pub use read::read_script;
+pub use ffi3_json::ScriptFault;
 
 pub use script::{Script, ScriptFunction};

@@ -1,0 +1,32 @@
+-- WHAT A RUN SHOWS: the output, the machine's journal, its code region and its lowest byte.
+use Rattle.std.specs.Prelude.{◌≡◌, ℕ, ◌+◌, ◌≤◌, List, Option}
+use Rattle.ffi3_io.specs.Sink.{Adds}
+use Rattle.ffi3_place_rules.specs.Standard.{Standard}
+use Rattle.ffi3_run_rules.specs.Meaning.{Program, meaning_of, peak_of}
+use Rattle.ffi3_run_rules.specs.Happenings.{happenings_of}
+use Rattle.ffi3_run_rules.specs.Lines.{text}
+use Rattle.ffi3_run_rules.specs.Journal.{JournalOf, IsWhole, stack_top}
+use Rattle.ffi3_machine.specs.State.{State}
+use Rattle.ffi3_closures.specs.Slots.{HoldsMap}
+
+-- a sink: the bytes that it took, where it tells, and its count of faults
+pub record Took : Type 0 where
+  pub taken : Option (List ℕ)
+  pub faults : ℕ
+
+abbrev pub took : Option (List ℕ) → ℕ → Took
+took taken faults = record { taken = taken; faults = faults }
+
+-- a line was taken whole, and no fault counted
+pub record TookLine (line : List ℕ) (before after : Took) : Type 0 where
+  pub added : Adds before.taken line after.taken
+  pub count : after.faults ≡ before.faults
+
+-- THE RUN IS TOLD WHOLE: the output took exactly the text of the program's direct meaning, the journal is that meaning's call tree, the code region holds the bytes of the closures that are live, and no byte was written beyond the stack that the tree's calls take.
+pub record IsTold (std : Standard) (p : Program) (before after : Took) (machine : State) : Type 0 where
+  pub written : TookLine (text p.signatures (happenings_of p)) before after
+  pub target : machine.target ≡ std.target
+  pub journal : JournalOf std p.signatures (happenings_of p) machine.events
+  pub whole : IsWhole (happenings_of p) machine.events
+  pub code : HoldsMap std.target (meaning_of p).closures machine.code
+  pub mark : stack_top ≤ machine.mark + peak_of p (meaning_of p).deeds
