@@ -1,10 +1,3 @@
-pub mod Stack
-pub mod Entries
-pub mod Calls
-pub mod Made
-pub mod Runs
-pub mod Inputs
-pub mod Saying
-pub mod FourWords
-pub mod Returns
-mod Rows
+pub mod Firsts
+pub mod Pieces
+pub mod Right

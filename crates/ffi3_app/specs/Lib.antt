@@ -1,3 +1,3 @@
-pub mod Call
-pub mod Top
-pub mod Refusals
+pub mod Commands
+pub mod Wrote
+pub mod Kinds

@@ -1,14 +1,9 @@
-//! The top call: words, a script, and its run on the modelled machine.
+//! The top call: words, a script, and what a command does with it.
 #![tactic(auto)]
 
-mod call;
-mod load;
-mod run;
-mod tell;
-#[cfg(test)]
-mod tests;
-mod top;
-mod words;
+mod layout;
+mod limit;
+mod place;
+mod write;
 
-pub use ffi3_machine::Machine;
-pub use top::ffi3;
+pub use limit::{NotYet, run_limit};
