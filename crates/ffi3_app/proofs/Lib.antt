@@ -1,3 +1,12 @@
+pub mod Answering
+pub mod Asked
+pub mod Asks
 pub mod Firsts
+pub mod Inputs
+pub mod Level
 pub mod Pieces
+pub mod Program
 pub mod Right
+pub mod Saying
+pub mod Stated
+pub mod Telling

@@ -1,3 +1,7 @@
 pub mod Commands
-pub mod Wrote
 pub mod Kinds
+pub mod Refusals
+pub mod Top
+pub mod WordCommands
+pub mod Words
+pub mod Wrote

@@ -1,0 +1,105 @@
+//! The top call.
+ghost use Rattle.std.specs.Prelude.{◌≡◌, ◌<◌, ◌⊎◌, [], List, ℕ, Some, None, map, string_bytes};
+ghost use Rattle.ffi3_io.specs.Sink.{Rose};
+ghost use Rattle.ffi3_script_rules.specs.Reading.{Reading, IsReading, script};
+ghost use Rattle.ffi3_script_rules.specs.Script.{Script as RulesScript};
+ghost use Rattle.ffi3_run.specs.Told.{took};
+ghost use Rattle.ffi3_app.specs.declared.words.Request.{Request};
+ghost use Rattle.ffi3_app.specs.Words.{IsStated};
+ghost use Rattle.ffi3_app.specs.Commands.{not_yet};
+ghost use Rattle.ffi3_app.specs.Top.{Says, given, refusal_of, status_when_done};
+
+use crate::load::load;
+use crate::tell::{tell, tell_refusal};
+use crate::words::{WordsFault, read_words};
+use crate::work::work;
+use crate::write::WriteEnd;
+use ffi3_body::Native;
+use ffi3_io::{Sink, Source};
+use ffi3_machine::Machine;
+use std::alloc::Global;
+
+/// Does what the words ask for, and answers the status of the program.
+///
+/// The words hold the program's name first. For `layout`, `place --target TARGET` and `run --target amd64` the input is read to its
+/// end, or until it is longer than a script may be, and the output takes the lines that the command writes of the script. The line
+/// of a fault goes to `faults`. The list of natives is empty for now.
+///
+/// | status | when |
+/// |---|---|
+/// | 0 | the text is written; after a run the machine's journal is its call tree |
+/// | 1 | the input is no script, or one that the command does not do yet |
+/// | 2 | the words are refused, or ask for help |
+/// | 3 | a read failed |
+/// | 4 | a write failed |
+/// | 5 | memory was refused |
+/// | 6 | the run stopped, and its text is written |
+pub fn ffi3<I: Source, O: Sink, E: Sink>(
+    alloc: Global,
+    words: Vec<String>,
+    input: &mut I,
+    output: &mut O,
+    faults: &mut E,
+    natives: &Vec<Box<dyn Native>>,
+    machine: &mut Machine,
+) -> u8
+    requires { natives.now.items ≡ [] }
+
+    // What each status says: its cause, what was written, and what stayed as it was.
+    ensures says { Says (map string_bytes words.items)
+        (given (I.left input.old) (I.faults input.old)) (given (I.left input.new) (I.faults input.new))
+        (took (O.taken output.old) (O.faults output.old)) (took (O.taken output.new) (O.faults output.new))
+        (took (E.taken faults.old) (E.faults faults.old)) (took (E.taken faults.new) (E.faults faults.new))
+        machine.old machine.new result }
+
+    // Where nothing fails, what stated words ask for is done with a script, and what is none is refused; want of memory alone is free.
+    ensures complete { (r : Request) → IsStated (map string_bytes words.items) r → (all : List ℕ) → I.left input.old ≡ Some all →
+        (s : RulesScript) → IsReading [] all (script s) → not_yet r s ≡ None →
+        (Rose (I.faults input.old) (I.faults input.new) → ⊥) → (Rose (O.faults output.old) (O.faults output.new) → ⊥) →
+        (Rose (E.faults faults.old) (E.faults faults.new) → ⊥) → (result ≡ status_when_done r s) ⊎ (result ≡ 5) }
+    ensures refuses { (r : Request) → IsStated (map string_bytes words.items) r → (all : List ℕ) → I.left input.old ≡ Some all →
+        (reading : Reading) → IsReading [] all reading → (line : List ℕ) → refusal_of r reading ≡ Some line →
+        (Rose (I.faults input.old) (I.faults input.new) → ⊥) → (Rose (O.faults output.old) (O.faults output.new) → ⊥) →
+        (Rose (E.faults faults.old) (E.faults faults.new) → ⊥) → (result ≡ 1) ⊎ (result ≡ 5) }
+    ensures knows_words { (r : Request) → IsStated (map string_bytes words.items) r → result ≡ 2 → ⊥ }
+
+    // A count that is higher than before shows in the status.
+    ensures read_counted { I.faults input.old < I.faults input.new → (result ≡ 3) ⊎ (result ≡ 4) }
+    ensures write_counted { O.faults output.old < O.faults output.new → result ≡ 4 }
+    ensures telling_counted { E.faults faults.old < E.faults faults.new → result ≡ 4 }
+{
+    let _natives = natives;
+    answer(alloc, words, input, output, faults, machine)
+}
+
+// The same, of which the clauses above but the first follow.
+fn answer<I: Source, O: Sink, E: Sink>(
+    alloc: Global,
+    words: Vec<String>,
+    input: &mut I,
+    output: &mut O,
+    faults: &mut E,
+    machine: &mut Machine,
+) -> u8
+    ensures says { Says (map string_bytes words.items)
+        (given (I.left input.old) (I.faults input.old)) (given (I.left input.new) (I.faults input.new))
+        (took (O.taken output.old) (O.faults output.old)) (took (O.taken output.new) (O.faults output.new))
+        (took (E.taken faults.old) (E.faults faults.old)) (took (E.taken faults.new) (E.faults faults.new))
+        machine.old machine.new result }
+    ensures knows_words { (r : Request) → IsStated (map string_bytes words.items) r → result ≡ 2 → ⊥ }
+{
+    let request = match read_words(alloc, words) {
+        Ok(request) => request,
+        Err(WordsFault::Refused(text)) => return tell(faults, text.as_str(), 2),
+        Err(WordsFault::NoMemory) => return tell(faults, "ffi3: out of memory\n", 5),
+    };
+    let script = match load(alloc, request, input) {
+        Ok(script) => script,
+        Err(refusal) => return tell_refusal(alloc, &refusal, faults),
+    };
+    match work(alloc, request, &script, machine, output) {
+        Ok(status) => status,
+        Err(WriteEnd::NoMemory) => tell(faults, "ffi3: out of memory\n", 5),
+        Err(WriteEnd::Failed) => tell(faults, "ffi3: write fault\n", 4),
+    }
+}
