@@ -1,16 +1,19 @@
 -- What is read of an input: its first bytes, one more than a script may have.
-use Rattle.std.proofs.Common.{◌≡◌, ℕ, ◌+◌, ◌≤◌, List, [], length, take, drop, ap, ◌∙◌, subst, arith, length-take, lit≤}
+use Rattle.std.proofs.Common.{◌≡◌, ℕ, ◌+◌, ◌≤◌, List, [], length, take, drop, refl, ap, ◌∙◌, subst, arith, length-take, lit≤}
 use Rattle.std.specs.Prelude.{Option, Some, Result, Ok, Err, IfErr}
 use Rattle.std.proofs.Math.ListN.{drop_of_length-le}
 use Rattle.std.proofs.Math.Nat.{le_trans}
 use Rattle.std.proofs.lemmas.List.{take_all}
 use Rattle.ffi3_io.specs.Source.{GivesFirst}
-use Rattle.ffi3_script_rules.specs.Reading.{Reading, too_long, not_json, not_yet, script, IsReading}
-use Rattle.ffi3_app.specs.Top.{ReadAs, IsRead, IsReadInPart, IsAtEnd, given}
-use Rattle.ffi3_script_rules.specs.Form.{OneCall}
-use Rattle.ffi3_app.specs.Refusals.{IsJudged, IsRefusal}
+use Rattle.ffi3_script_rules.specs.Reading.{Reading, too_long, not_json, bad_script, script, IsReading}
+use Rattle.ffi3_script_rules.specs.Script.{Script}
+use Rattle.ffi3_json.specs.ReasonOf.{reason_of}
+use Rattle.ffi3_app.specs.Top.{ReadAs, IsRead, IsReadInPart, IsAtEnd, Given, given, limit_line}
+use Rattle.ffi3_app.specs.Refusals.{IsJudged, IsLimit, IsRefusal}
+use Rattle.ffi3_app.specs.declared.words.Request.{Request}
+use Rattle.ffi3_app.specs.declared.words.Request.TheVariants.{Layout, Place, Run}
 use Rattle.ffi3_app.specs.declared.load.Refusal.{Refusal}
-use Rattle.ffi3_app.specs.declared.load.Refusal.TheVariants.{ReadFault, NoMemory, TooLong, BadJson, NotYet}
+use Rattle.ffi3_app.specs.declared.load.Refusal.TheVariants.{ReadFault, NoMemory, TooLong, BadJson, BadScript, NotYet}
 
 -- what is short was all there was
 taken_whole : (n : ℕ) (all : List ℕ) → length (take (n + 1) all) ≤ n → length all ≤ n
@@ -27,51 +30,58 @@ all_taken : (all : List ℕ) → length (take 1048577 all) ≤ 1048576 → take 
 all_taken all short = take_all 1048577 all (short_whole all short)
 
 -- the first bytes are read as all of them
-reading_of_all : (all : List ℕ) (r : Reading) → IsReading (take 1048577 all) r → IsReading all r
+reading_of_all : (all : List ℕ) (r : Reading) → IsReading [] (take 1048577 all) r → IsReading [] all r
 reading_of_all all too_long long = omega (arith, length-take 1048577 all)
 reading_of_all all not_json (short, rest) =
-    let P = λ (bytes : List ℕ). IsReading bytes not_json in subst P (all_taken all short) (short, rest)
-reading_of_all all not_yet (d, json, none) =
-    let P = λ (bytes : List ℕ). IsReading bytes not_yet in subst P (all_taken all json.short) (d, json, none)
-reading_of_all all (script f) (d, json, form) =
-    let P = λ (bytes : List ℕ). IsReading bytes (script f) in subst P (all_taken all json.short) (d, json, form)
+    let P = λ (bytes : List ℕ). IsReading [] bytes not_json in subst P (all_taken all short) (short, rest)
+reading_of_all all (bad_script path reason) (d, json, is) =
+    let P = λ (bytes : List ℕ). IsReading [] bytes (bad_script path reason) in subst P (all_taken all json.short) (d, json, is)
+reading_of_all all (script s) (d, json, is) =
+    let P = λ (bytes : List ℕ). IsReading [] bytes (script s) in subst P (all_taken all json.short) (d, json, is)
 
-pub read_as : (left left' : Option (List ℕ)) (count : ℕ) (bytes : List ℕ) (r : Reading) → GivesFirst 1048577 left bytes left' → IsReading bytes r → ReadAs (given left count) r
-read_as left left' count bytes r gives reading all is =
-    let P = λ (b : List ℕ). IsReading b r in
-    reading_of_all all r (subst P (gives all is).0 reading)
+module _ (left left' : Option (List ℕ)) (count count' : ℕ) (bytes lent : List ℕ) (gives : GivesFirst 1048577 left bytes left') (same : lent ≡ bytes) where
+  pub read_as : (r : Reading) → IsReading [] lent r → ReadAs (given left count) r
+  read_as r reading all is =
+      let P = λ (b : List ℕ). IsReading [] b r in
+      reading_of_all all r (subst P (same ∙ (gives all is).0) reading)
 
-pub at_end : (left left' : Option (List ℕ)) (count count' : ℕ) (bytes : List ℕ) → GivesFirst 1048577 left bytes left' → length bytes ≤ 1048576 → IsAtEnd (given left count) (given left' count')
-at_end left left' count count' bytes gives short all is =
-    let taken : length (take 1048577 all) ≤ 1048576 = let P = λ (b : List ℕ). length b ≤ 1048576 in subst P (gives all is).0 short in
-    (gives all is).1 ∙ ap Some (none_dropped all taken)
+  pub at_end : (s : Script) → IsReading [] lent (script s) → IsAtEnd (given left count) (given left' count')
+  at_end s (d, json, is) all known =
+      let P = λ (b : List ℕ). length b ≤ 1048576 in
+      let taken : length (take 1048577 all) ≤ 1048576 = subst P (same ∙ (gives all known).0) json.short in
+      (gives all known).1 ∙ ap Some (none_dropped all taken)
 
-pub read_as_given : (left left' : Option (List ℕ)) (count : ℕ) (bytes lent : List ℕ) (r : Reading) → GivesFirst 1048577 left bytes left' → lent ≡ bytes → IsReading lent r → ReadAs (given left count) r
-read_as_given left left' count bytes lent r gives same reading =
-    let P = λ (b : List ℕ). IsReading b r in read_as left left' count bytes r gives (subst P same reading)
+  -- all that may be read was read
+  pub all_read : IsRead (given left count) (given left' count')
+  all_read all is = (gives all is).1
 
-pub at_end_given : (left left' : Option (List ℕ)) (count count' : ℕ) (bytes lent : List ℕ) (f : OneCall) → GivesFirst 1048577 left bytes left' → lent ≡ bytes → IsReading lent (script f) → IsAtEnd (given left count) (given left' count')
-at_end_given left left' count count' bytes lent f gives same (d, json, form) =
-    let P = λ (b : List ℕ). length b ≤ 1048576 in at_end left left' count count' bytes gives (subst P same json.short)
+  pub read_in_part : IsReadInPart (given left count) (given left' count')
+  read_in_part =
+      let limit : 1048577 ≤ 1048577 = lit≤ tt in (1048577, limit, (λ all is. (gives all is).1))
 
--- all that may be read was read
-all_read : (left left' : Option (List ℕ)) (count count' : ℕ) (bytes : List ℕ) → GivesFirst 1048577 left bytes left' → IsRead (given left count) (given left' count')
-all_read left left' count count' bytes gives all is = (gives all is).1
+  -- what was judged of the bytes refuses the input
+  pub judged_refused : (request : Request) (r : Refusal) → count' ≡ count → IsJudged lent r → IsRefusal request (given left count) (given left' count') r
+  judged_refused request ReadFault counted judged = absurd judged
+  judged_refused request NoMemory counted judged = (counted, read_in_part)
+  judged_refused request TooLong counted judged =
+      record { reading = too_long; tells = refl; read_as = read_as too_long judged; all_read = all_read; count = counted }
+  judged_refused request BadJson counted judged =
+      record { reading = not_json; tells = refl; read_as = read_as not_json judged; all_read = all_read; count = counted }
+  judged_refused request (BadScript path why) counted judged =
+      record { reading = bad_script path (reason_of why); tells = refl; read_as = read_as (bad_script path (reason_of why)) judged; all_read = all_read; count = counted }
+  judged_refused request (NotYet path) counted judged = absurd judged
 
-pub read_in_part : (left left' : Option (List ℕ)) (count count' : ℕ) (bytes : List ℕ) → GivesFirst 1048577 left bytes left' → IsReadInPart (given left count) (given left' count')
-read_in_part left left' count count' bytes gives =
-    let limit : 1048577 ≤ 1048577 = lit≤ tt in (1048577, limit, (λ all is. (gives all is).1))
-
--- what was judged of the bytes refuses the input
-pub refusal_of : (r : Refusal) (left left' : Option (List ℕ)) (count count' : ℕ) (bytes lent : List ℕ) → GivesFirst 1048577 left bytes left' → lent ≡ bytes → count' ≡ count → IsJudged lent r → IsRefusal (given left count) (given left' count') r
-refusal_of ReadFault left left' count count' bytes lent gives same counted judged = absurd judged
-refusal_of NoMemory left left' count count' bytes lent gives same counted judged = (counted, read_in_part left left' count count' bytes gives)
-refusal_of TooLong left left' count count' bytes lent gives same counted judged =
-    record { read_as = read_as_given left left' count bytes lent too_long gives same judged; all_read = all_read left left' count count' bytes gives; count = counted }
-refusal_of BadJson left left' count count' bytes lent gives same counted judged =
-    record { read_as = read_as_given left left' count bytes lent not_json gives same judged; all_read = all_read left left' count count' bytes gives; count = counted }
-refusal_of NotYet left left' count count' bytes lent gives same counted judged =
-    record { read_as = read_as_given left left' count bytes lent not_yet gives same judged; all_read = all_read left left' count count' bytes gives; count = counted }
+-- a script of which a command does not do all refuses the input
+pub limit_refused : (request : Request) (input input' : Given) (s : Script) (r : Refusal) → ReadAs input (script s) → IsRead input input' → IsReadInPart input input' → input'.faults ≡ input.faults → IsLimit request s r → IsRefusal request input input' r
+limit_refused Layout input input' s r read all part counted limit = absurd limit
+limit_refused (Place t) input input' s r read all part counted limit = absurd limit
+limit_refused (Run t) input input' s NoMemory read all part counted limit = (counted, part)
+limit_refused (Run t) input input' s (NotYet path) read all part counted limit =
+    record { reading = script s; tells = ap limit_line limit; read_as = read; all_read = all; count = counted }
+limit_refused (Run t) input input' s ReadFault read all part counted limit = absurd limit
+limit_refused (Run t) input input' s TooLong read all part counted limit = absurd limit
+limit_refused (Run t) input input' s BadJson read all part counted limit = absurd limit
+limit_refused (Run t) input input' s (BadScript path why) read all part counted limit = absurd limit
 
 pub IfErr-weaker : {X Y : Type 0} (r : Result X Y) (P Q : Y → Type 0) → ((y : Y) → P y → Q y) → IfErr r P → IfErr r Q
 IfErr-weaker (Ok x) P Q weaker is = tt

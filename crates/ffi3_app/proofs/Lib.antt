@@ -1,10 +1,12 @@
-pub mod Stack
-pub mod Entries
-pub mod Calls
-pub mod Made
-pub mod Runs
+pub mod Answering
+pub mod Asked
+pub mod Asks
+pub mod Firsts
 pub mod Inputs
+pub mod Level
+pub mod Pieces
+pub mod Program
+pub mod Right
 pub mod Saying
-pub mod FourWords
-pub mod Returns
-mod Rows
+pub mod Stated
+pub mod Telling

@@ -1,103 +1,217 @@
 -- What the top call says, from what its parts say.
-use Rattle.std.proofs.Common.{◌≡◌, ℕ, ◌<◌, List, inl, inr, refl, subst, ap, arith}
-use Rattle.std.specs.Prelude.{◌⊎◌, ◌↔◌, Some, Bool, true, false, IsTrue}
+use Rattle.std.proofs.Common.{◌≡◌, ℕ, ◌+◌, ◌<◌, List, [], inl, inr, refl, sym, subst, ap, ap₂, ◌∙◌, arith}
+use Rattle.std.specs.Prelude.{◌⊎◌, Some, None}
 use Rattle.ffi3_io.specs.Sink.{Rose}
-use Rattle.ffi3_script_rules.specs.Form.{OneCall}
-use Rattle.ffi3_script_rules.specs.Reading.{Reading, too_long, not_json, not_yet, script, IsReading}
+use Rattle.ffi3_type_rules.specs.declared.Target.{Target}
+use Rattle.ffi3_type_rules.specs.declared.Target.TheVariants.{Amd64}
+use Rattle.ffi3_script_rules.specs.Script.{Script}
+use Rattle.ffi3_script_rules.specs.Reading.{Reading, script, IsReading, max_length}
 use Rattle.ffi3_script_rules.proofs.Readings.{one_reading}
 use Rattle.ffi3_machine.specs.State.{State}
+use Rattle.ffi3_run_rules.specs.Meaning.{End, returned, stopped}
+use Rattle.ffi3_run.specs.Told.{Took}
+use Rattle.ffi3_app.specs.declared.words.Request.{Request}
+use Rattle.ffi3_app.specs.declared.words.Request.TheVariants.{Layout, Place, Run}
 use Rattle.ffi3_app.specs.declared.load.Refusal.{Refusal}
-use Rattle.ffi3_app.specs.declared.load.Refusal.TheVariants.{ReadFault, NoMemory, TooLong, BadJson, NotYet}
-use Rattle.ffi3_app.specs.Refusals.{IsRefusal, refusal_line, refusal_status}
-use Rattle.ffi3_app.specs.Top.{AsksRun, IsFault, Given, Took, Tells, whole, cut, Fails, refused, bad_words, read_failed, write_failed, no_memory, Says, done, failed}
+use Rattle.ffi3_app.specs.declared.load.Refusal.TheVariants.{ReadFault, NoMemory, TooLong, BadJson, BadScript, NotYet}
+use Rattle.ffi3_app.specs.Words.{Takes, IsRefused, IsStated, CanDo, IsRefusal as WordsRefusal}
+use Rattle.ffi3_app.specs.Wrote.{Ended}
+use Rattle.ffi3_app.specs.declared.write.WriteEnd.{WriteEnd}
+use Rattle.ffi3_app.specs.declared.write.WriteEnd.TheVariants as end
+use Rattle.ffi3_app.specs.declared.words.WordsFault.{WordsFault}
+use Rattle.ffi3_app.specs.declared.words.WordsFault.TheVariants.{Refused}
+use Rattle.ffi3_app.specs.Commands.{not_yet}
+use Rattle.ffi3_app.specs.Refusals.{IsRefusal, IsRefusedWith, refusal_line, refusal_status, HasPlace, TellsRefusal}
+use Rattle.ffi3_app.specs.Top.{Given, IsReadInPart, Tells, whole, cut, IsDone, Fails, refused, bad_words, read_failed, write_failed, no_memory_for_words, no_memory, Says, done, failed, refusal_of, limit_line, status_of, status_when_done, no_memory_line}
+use Rattle.ffi3_app.proofs.Stated.{stated_is_read}
 
-module _ (words : List (List ℕ)) (input input' : Given) (output output' : Took) (machine machine' : State) where
+-- ---- words
+
+some_is : {X : Type 0} (x y : X) → Some x ≡ Some y → x ≡ y
+some_is x y e = cc
+
+none_is_some : {X : Type 0} (x : X) → None ≡ Some x → ⊥
+none_is_some x e = cc
+
+-- words are taken as what they state
+pub same_request : (words : List (List ℕ)) (q r : Request) → Takes words q → IsStated words r → q ≡ r
+same_request words q r takes stated =
+    some_is q r (sym takes.means ∙ (stated_is_read takes.placing takes.running words r stated).1)
+
+-- stated words are not refused
+pub not_refused : (words : List (List ℕ)) (r : Request) → IsRefused words → IsStated words r → ⊥
+not_refused words r refuses stated =
+    refuses.fails (stated_is_read refuses.placing refuses.running words r stated).0
+
+pub is_refused : (words : List (List ℕ)) (f : WordsFault) (text : _) → f ≡ Refused text → WordsRefusal words f → IsRefused words
+is_refused words f text is refusal = (subst (WordsRefusal words) is refusal).0
+
+-- what can be run is run on amd64
+pub on_amd64 : (P : Request → Type 0) (request : Request) (t : Target) → request ≡ Run t → CanDo request → P (Run Amd64) → P request
+on_amd64 P Layout t is can p = cc
+on_amd64 P (Place u) t is can p = cc
+on_amd64 P (Run u) t is can p = subst (λ (v : Target). P (Run v)) (sym can) p
+
+-- ---- work that is done
+
+module _ (output output' : Took) (machine machine' : State) where
+  done_status : (q : Request) (s : Script) (status : ℕ) → IsDone q s output output' machine machine' status → status ≡ status_when_done q s
+  done_status Layout s status is = is.2
+  done_status (Place t) s status is = is.2
+  done_status (Run t) s status is = is.1
+
+  done_count : (q : Request) (s : Script) (status : ℕ) → IsDone q s output output' machine machine' status → output'.faults ≡ output.faults
+  done_count Layout s status is = is.0.count
+  done_count (Place t) s status is = is.0.count
+  done_count (Run t) s status is = is.0.written.count
+
+pub no_fault_counted : (before after : Took) (e : WriteEnd) → e ≡ end.NoMemory → Ended before after e → after.faults ≡ before.faults
+no_fault_counted before after e is ended = subst (Ended before after) is ended
+
+pub fault_counted : (before after : Took) (e : WriteEnd) → e ≡ end.Failed → Ended before after e → Rose before.faults after.faults
+fault_counted before after e is ended = subst (Ended before after) is ended
+
+not_two : (e : End) → status_of e ≡ 2 → ⊥
+not_two (returned v) is = cc
+not_two (stopped stop) is = cc
+
+done_not_two : (q : Request) (s : Script) → status_when_done q s ≡ 2 → ⊥
+done_not_two Layout s is = cc
+done_not_two (Place t) s is = cc
+done_not_two (Run t) s is = not_two _ is
+
+pub work_not_two : (q : Request) (s : Script) (output output' : Took) (machine machine' : State) (status : ℕ) → IsDone q s output output' machine machine' status → status ≡ 2 → ⊥
+work_not_two q s output output' machine machine' status is two =
+    done_not_two q s (sym (done_status output output' machine machine' q s status is) ∙ two)
+
+-- a line was told with another status
+pub told_not_two : (line : List ℕ) (status answer : ℕ) (before after : Took) → (status ≡ 2 → ⊥) → Tells line status before after answer → answer ≡ 2 → ⊥
+told_not_two line status _ before after other (whole took) is = other is
+told_not_two line status _ before after other (cut part rose) is = cc
+
+refusal_not_two : (r : Refusal) → refusal_status r ≡ 2 → ⊥
+refusal_not_two ReadFault is = cc
+refusal_not_two NoMemory is = cc
+refusal_not_two TooLong is = cc
+refusal_not_two BadJson is = cc
+refusal_not_two (BadScript path why) is = cc
+refusal_not_two (NotYet path) is = cc
+
+pub five_not_two : ◌≡◌ {A = ℕ} 5 2 → ⊥
+five_not_two is = cc
+
+pub four_not_two : ◌≡◌ {A = ℕ} 4 2 → ⊥
+four_not_two is = cc
+
+pub refused_not_two : (r : Refusal) (answer : ℕ) (before after : Took) → TellsRefusal r before after answer → answer ≡ 2 → ⊥
+refused_not_two r answer before after (inl tells) = told_not_two _ _ answer before after (refusal_not_two r) tells
+refused_not_two r answer before after (inr told) = told_not_two _ _ answer before after five_not_two told.1
+
+-- ---- refusals
+
+module _ (words : List (List ℕ)) (input input' : Given) (output output' : Took) (machine machine' : State) (request : Request) (takes : Takes words request) (same_output : output' ≡ output) (same_machine : machine' ≡ machine) where
+  out_of_memory : input'.faults ≡ input.faults → IsReadInPart input input' → Fails words input input' output output' machine machine' 5 no_memory_line
+  out_of_memory count part =
+      let same : output'.faults ≡ output.faults = ap (λ t. t.faults) same_output in
+      no_memory takes part count (inl (same_output, same_machine)) same
+
+  fails_with : (line : List ℕ) → IsRefusedWith request input input' line → Fails words input input' output output' machine machine' 1 line
+  fails_with line is =
+      refused takes is.reading is.tells is.read_as is.all_read is.count same_output same_machine
+
   -- a refusal of the input is what goes wrong
-  pub fails_by : (r : Refusal) → AsksRun words → IsRefusal input input' r → output' ≡ output → machine' ≡ machine → Fails words input input' output output' machine machine' (refusal_status r) (refusal_line r)
-  fails_by ReadFault asks is same_output same_machine = read_failed asks is.0 is.1 same_output same_machine
-  fails_by NoMemory asks is same_output same_machine =
-      let same : output'.faults ≡ output.faults = ap (λ t. t.faults) same_output in no_memory asks is.1 is.0 (inl (same_output, same_machine)) same
-  fails_by TooLong asks is same_output same_machine = refused asks too_long tt is.read_as is.all_read is.count same_output same_machine
-  fails_by BadJson asks is same_output same_machine = refused asks not_json tt is.read_as is.all_read is.count same_output same_machine
-  fails_by NotYet asks is same_output same_machine = refused asks not_yet tt is.read_as is.all_read is.count same_output same_machine
+  fails_by : (r : Refusal) → IsRefusal request input input' r → Fails words input input' output output' machine machine' (refusal_status r) (refusal_line r)
+  fails_by ReadFault is = read_failed takes is.0 is.1 same_output same_machine
+  fails_by NoMemory is = out_of_memory is.0 is.1
+  fails_by TooLong is = fails_with _ is
+  fails_by BadJson is = fails_with _ is
+  fails_by (BadScript path why) is = fails_with _ is
+  fails_by (NotYet path) is = fails_with _ is
+
+  in_part : (line : List ℕ) → IsRefusedWith request input input' line → IsReadInPart input input'
+  in_part line is = (max_length + 1, omega arith, is.all_read)
+
+  -- or want of memory for its line
+  no_line : (r : Refusal) → HasPlace r → IsRefusal request input input' r → Fails words input input' output output' machine machine' 5 no_memory_line
+  no_line ReadFault place is = absurd place
+  no_line NoMemory place is = absurd place
+  no_line TooLong place is = absurd place
+  no_line BadJson place is = absurd place
+  no_line (BadScript path why) place is = out_of_memory is.count (in_part _ is)
+  no_line (NotYet path) place is = out_of_memory is.count (in_part _ is)
+
+  pub says_refusal : (told told' : Took) (answer : ℕ) (r : Refusal) → IsRefusal request input input' r → TellsRefusal r told told' answer → Says words input input' output output' told told' machine machine' answer
+  says_refusal told told' answer r is (inl tells) = failed (fails_by r is) tells
+  says_refusal told told' answer r is (inr (place, tells)) = failed (no_line r place is) tells
+
+-- ---- what follows from what a status says
+
+-- a script of which a command does all is not refused
+not_limited : (q r : Request) (s : Script) (line : List ℕ) → q ≡ r → not_yet r s ≡ None → refusal_of q (script s) ≡ Some line → ⊥
+not_limited q r s line same does tells =
+    none_is_some line (sym (ap limit_line (ap (λ p. not_yet p s) same ∙ does)) ∙ tells)
+
+same_script : (r s : Script) → script r ≡ script s → r ≡ s
+same_script r s e = cc
 
 module _ (words : List (List ℕ)) (input input' : Given) (output output' told told' : Took) (machine machine' : State) where
-  -- ---- what follows from what a status says
+  pub completes : (status : ℕ) → Says words input input' output output' told told' machine machine' status → (r : Request) → IsStated words r → (all : List ℕ) → input.left ≡ Some all → (s : Script) → IsReading [] all (script s) → not_yet r s ≡ None → (Rose input.faults input'.faults → ⊥) → (Rose output.faults output'.faults → ⊥) → (Rose told.faults told'.faults → ⊥) → (status ≡ status_when_done r s) ⊎ (status ≡ 5)
+  completes status (done {request = q} takes s' read does' end count is same) r stated all known s reading does no_read no_write no_tell =
+      inl (done_status output output' machine machine' q s' status is ∙ ap₂ status_when_done (same_request words q r takes stated) (same_script s' s (one_reading [] all (script s') (script s) (read all known) reading)))
+  completes _ (failed wrong (cut part rose)) r stated all known s reading does no_read no_write no_tell = absurd (no_tell rose)
+  completes _ (failed (refused {request = q} takes r' {line = line} tells read all_read count same_output same_machine) (whole told)) r stated all known s reading does no_read no_write no_tell =
+      let is : r' ≡ script s = one_reading [] all r' (script s) (read all known) reading in
+      absurd (not_limited q r s line (same_request words q r takes stated) does (ap (refusal_of q) (sym is) ∙ tells))
+  completes _ (failed (bad_words refuses same_input same_output same_machine) (whole told)) r stated all known s reading does no_read no_write no_tell = absurd (not_refused words r refuses stated)
+  completes _ (failed (read_failed takes rose part same_output same_machine) (whole told)) r stated all known s reading does no_read no_write no_tell = absurd (no_read rose)
+  completes _ (failed (write_failed takes s' read does' end count part rose) (whole told)) r stated all known s reading does no_read no_write no_tell = absurd (no_write rose)
+  completes _ (failed (no_memory_for_words same_input same_output same_machine) (whole told)) r stated all known s reading does no_read no_write no_tell = inr refl
+  completes _ (failed (no_memory takes part count began faults) (whole told)) r stated all known s reading does no_read no_write no_tell = inr refl
 
-  other_reading : (r : Reading) (f : OneCall) → IsFault r → r ≡ script f → ⊥
-  other_reading too_long f fault same = cc
-  other_reading not_json f fault same = cc
-  other_reading not_yet f fault same = cc
-  other_reading (script g) f fault same = fault
-
-  pub runs : (status : ℕ) → Says words input input' output output' told told' machine machine' status → AsksRun words → (all : List ℕ) → input.left ≡ Some all → (f : OneCall) → IsReading all (script f) → (Rose input.faults input'.faults → ⊥) → (Rose output.faults output'.faults → ⊥) → (Rose told.faults told'.faults → ⊥) → (status ≡ 0) ⊎ (status ≡ 5)
-  runs _ (done _ f' read end count tells same) asks all is f reading no_read no_write no_tell = inl refl
-  runs _ (failed wrong (cut part rose)) asks all is f reading no_read no_write no_tell = absurd (no_tell rose)
-  runs _ (failed (refused _ r fault read all_read count same_output same_machine) (whole line)) asks all is f reading no_read no_write no_tell = absurd (other_reading r f fault (one_reading all r (script f) (read all is) reading))
-  runs _ (failed (bad_words other same_input same_output same_machine) (whole line)) asks all is f reading no_read no_write no_tell = absurd (other asks)
-  runs _ (failed (read_failed _ rose part same_output same_machine) (whole line)) asks all is f reading no_read no_write no_tell = absurd (no_read rose)
-  runs _ (failed (write_failed _ f' read end count part rose) (whole line)) asks all is f reading no_read no_write no_tell = absurd (no_write rose)
-  runs _ (failed (no_memory _ part count began faults) (whole line)) asks all is f reading no_read no_write no_tell = inr refl
-
-  pub refuses : (status : ℕ) → Says words input input' output output' told told' machine machine' status → AsksRun words → (all : List ℕ) → input.left ≡ Some all → (r : Reading) → IsFault r → IsReading all r → (Rose input.faults input'.faults → ⊥) → (Rose output.faults output'.faults → ⊥) → (Rose told.faults told'.faults → ⊥) → (status ≡ 1) ⊎ (status ≡ 5)
-  refuses _ (done _ f read end count tells same) asks all is r fault reading no_read no_write no_tell = absurd (other_reading r f fault (one_reading all r (script f) reading (read all is)))
-  refuses _ (failed wrong (cut part rose)) asks all is r fault reading no_read no_write no_tell = absurd (no_tell rose)
-  refuses _ (failed (refused _ r' fault' read all_read count same_output same_machine) (whole line)) asks all is r fault reading no_read no_write no_tell = inl refl
-  refuses _ (failed (bad_words other same_input same_output same_machine) (whole line)) asks all is r fault reading no_read no_write no_tell = absurd (other asks)
-  refuses _ (failed (read_failed _ rose part same_output same_machine) (whole line)) asks all is r fault reading no_read no_write no_tell = absurd (no_read rose)
-  refuses _ (failed (write_failed _ f' read end count part rose) (whole line)) asks all is r fault reading no_read no_write no_tell = absurd (no_write rose)
-  refuses _ (failed (no_memory _ part count began faults) (whole line)) asks all is r fault reading no_read no_write no_tell = inr refl
-
-  pub knows_words : (status : ℕ) → Says words input input' output output' told told' machine machine' status → (AsksRun words → ⊥) → (Rose told.faults told'.faults → ⊥) → status ≡ 2
-  knows_words _ (done asks f read end count tells same) other no_tell = absurd (other asks)
-  knows_words _ (failed wrong (cut part rose)) other no_tell = absurd (no_tell rose)
-  knows_words _ (failed (refused asks r' fault' read all_read count same_output same_machine) (whole line)) other no_tell = absurd (other asks)
-  knows_words _ (failed (bad_words _ same_input same_output same_machine) (whole line)) other no_tell = refl
-  knows_words _ (failed (read_failed asks rose part same_output same_machine) (whole line)) other no_tell = absurd (other asks)
-  knows_words _ (failed (write_failed asks f' read end count part rose) (whole line)) other no_tell = absurd (other asks)
-  knows_words _ (failed (no_memory asks part count began faults) (whole line)) other no_tell = absurd (other asks)
+  pub refuses_all : (status : ℕ) → Says words input input' output output' told told' machine machine' status → (r : Request) → IsStated words r → (all : List ℕ) → input.left ≡ Some all → (reading : Reading) → IsReading [] all reading → (line : List ℕ) → refusal_of r reading ≡ Some line → (Rose input.faults input'.faults → ⊥) → (Rose output.faults output'.faults → ⊥) → (Rose told.faults told'.faults → ⊥) → (status ≡ 1) ⊎ (status ≡ 5)
+  refuses_all status (done {request = q} takes s' read does end count is same) r stated all known reading reads line tells no_read no_write no_tell =
+      let same_reading : reading ≡ script s' = one_reading [] all reading (script s') reads (read all known) in
+      absurd (not_limited r q s' line (sym (same_request words q r takes stated)) does (ap (refusal_of r) (sym same_reading) ∙ tells))
+  refuses_all _ (failed wrong (cut part rose)) r stated all known reading reads line tells no_read no_write no_tell = absurd (no_tell rose)
+  refuses_all _ (failed (refused takes r' tells' read all_read count same_output same_machine) (whole told)) r stated all known reading reads line tells no_read no_write no_tell = inl refl
+  refuses_all _ (failed (bad_words refuses same_input same_output same_machine) (whole told)) r stated all known reading reads line tells no_read no_write no_tell = absurd (not_refused words r refuses stated)
+  refuses_all _ (failed (read_failed takes rose part same_output same_machine) (whole told)) r stated all known reading reads line tells no_read no_write no_tell = absurd (no_read rose)
+  refuses_all _ (failed (write_failed takes s' read does' end count part rose) (whole told)) r stated all known reading reads line tells no_read no_write no_tell = absurd (no_write rose)
+  refuses_all _ (failed (no_memory_for_words same_input same_output same_machine) (whole told)) r stated all known reading reads line tells no_read no_write no_tell = inr refl
+  refuses_all _ (failed (no_memory takes part count began faults) (whole told)) r stated all known reading reads line tells no_read no_write no_tell = inr refl
 
   -- ---- counts that rose show in the status
 
   pub read_count : (status : ℕ) → Says words input input' output output' told told' machine machine' status → input.faults < input'.faults → (status ≡ 3) ⊎ (status ≡ 4)
-  read_count _ (done asks f read end count tells same) higher = absurd (omega arith)
+  read_count _ (done takes s read does end count is same) higher = absurd (omega arith)
   read_count _ (failed wrong (cut part rose)) higher = inr refl
-  read_count _ (failed (refused asks r fault read all_read count same_output same_machine) (whole line)) higher = absurd (omega arith)
-  read_count _ (failed (bad_words other same_input same_output same_machine) (whole line)) higher =
+  read_count _ (failed (refused takes r tells read all_read count same_output same_machine) (whole told)) higher = absurd (omega arith)
+  read_count _ (failed (bad_words refuses same_input same_output same_machine) (whole told)) higher =
       let same : input'.faults ≡ input.faults = ap (λ t. t.faults) same_input in absurd (omega (arith, same))
-  read_count _ (failed (read_failed asks rose part same_output same_machine) (whole line)) higher = inl refl
-  read_count _ (failed (write_failed asks f read end count part rose) (whole line)) higher = inr refl
-  read_count _ (failed (no_memory asks part count began faults) (whole line)) higher = absurd (omega arith)
+  read_count _ (failed (read_failed takes rose part same_output same_machine) (whole told)) higher = inl refl
+  read_count _ (failed (write_failed takes s read does end count part rose) (whole told)) higher = inr refl
+  read_count _ (failed (no_memory_for_words same_input same_output same_machine) (whole told)) higher =
+      let same : input'.faults ≡ input.faults = ap (λ t. t.faults) same_input in absurd (omega (arith, same))
+  read_count _ (failed (no_memory takes part count began faults) (whole told)) higher = absurd (omega arith)
 
   pub write_count : (status : ℕ) → Says words input input' output output' told told' machine machine' status → output.faults < output'.faults → status ≡ 4
-  write_count _ (done asks f read end count tells same) higher =
-      let same_count : output'.faults ≡ output.faults = tells.written.count in absurd (omega (arith, same_count))
+  write_count status (done {request = q} takes s read does end count is same) higher =
+      let same_count : output'.faults ≡ output.faults = done_count output output' machine machine' q s status is in absurd (omega (arith, same_count))
   write_count _ (failed wrong (cut part rose)) higher = refl
-  write_count _ (failed (refused asks r fault read all_read count same_output same_machine) (whole line)) higher =
+  write_count _ (failed (refused takes r tells read all_read count same_output same_machine) (whole told)) higher =
       let same : output'.faults ≡ output.faults = ap (λ t. t.faults) same_output in absurd (omega (arith, same))
-  write_count _ (failed (bad_words other same_input same_output same_machine) (whole line)) higher =
+  write_count _ (failed (bad_words refuses same_input same_output same_machine) (whole told)) higher =
       let same : output'.faults ≡ output.faults = ap (λ t. t.faults) same_output in absurd (omega (arith, same))
-  write_count _ (failed (read_failed asks rose part same_output same_machine) (whole line)) higher =
+  write_count _ (failed (read_failed takes rose part same_output same_machine) (whole told)) higher =
       let same : output'.faults ≡ output.faults = ap (λ t. t.faults) same_output in absurd (omega (arith, same))
-  write_count _ (failed (write_failed asks f read end count part rose) (whole line)) higher = refl
-  write_count _ (failed (no_memory asks part count began faults) (whole line)) higher = absurd (omega arith)
+  write_count _ (failed (write_failed takes s read does end count part rose) (whole told)) higher = refl
+  write_count _ (failed (no_memory_for_words same_input same_output same_machine) (whole told)) higher =
+      let same : output'.faults ≡ output.faults = ap (λ t. t.faults) same_output in absurd (omega (arith, same))
+  write_count _ (failed (no_memory takes part count began faults) (whole told)) higher = absurd (omega arith)
 
   pub tell_count : (status : ℕ) → Says words input input' output output' told told' machine machine' status → told.faults < told'.faults → status ≡ 4
-  tell_count _ (done asks f read end count tells same) higher =
+  tell_count _ (done takes s read does end count is same) higher =
       let same_count : told'.faults ≡ told.faults = ap (λ t. t.faults) same in absurd (omega (arith, same_count))
   tell_count _ (failed wrong (cut part rose)) higher = refl
   tell_count _ (failed wrong (whole line)) higher =
       let same_count : told'.faults ≡ told.faults = line.count in absurd (omega (arith, same_count))
-
-pub is_so : (b : Bool) (A : Type 0) → b ≡ true → (IsTrue b ↔ A) → A
-is_so b A e iff = iff.0 e
-
-pub is_not_so : (b : Bool) (A : Type 0) → b ≡ false → (IsTrue b ↔ A) → A → ⊥
-is_not_so b A e iff a = let set : b ≡ true = iff.1 a in cc
-
--- what was handed in, told by other names
-pub told_with : (line line' : List ℕ) (status status' : ℕ) (before after : Took) (answer : ℕ) → line ≡ line' → status ≡ status' → Tells line status before after answer → Tells line' status' before after answer
-told_with line line' status status' before after answer same_line same_status tells =
-    let P : List ℕ → Type 0 = λ l. Tells l status before after answer in
-    let Q : ℕ → Type 0 = λ s. Tells line' s before after answer in
-    subst Q same_status (subst P same_line tells)

@@ -1,6 +1,5 @@
 -- WHAT EACH COMMAND WRITES OF A SCRIPT.
-use Rattle.std.specs.Prelude.{ℕ, ◌+◌, List, [], ◌∷◌, ◌++◌, Option, Some, None}
-use Rattle.std.specs.List.{flat_map}
+use Rattle.std.specs.Prelude.{ℕ, ◌+◌, List, [], ◌∷◌, ◌++◌, map, Option, None}
 use Rattle.ffi3_type_rules.specs.declared.Target.{Target}
 use Rattle.ffi3_type_rules.specs.declared.Target.TheVariants.{Amd64, Aapcs64, Riscv}
 use Rattle.ffi3_type_rules.specs.Tree.{Tree}
@@ -9,13 +8,11 @@ use Rattle.ffi3_place_rules.specs.Standard.{Standard}
 use Rattle.ffi3_amd64_rules.specs.Amd64.{amd64}
 use Rattle.ffi3_aapcs64_rules.specs.Aapcs64.{aapcs64}
 use Rattle.ffi3_riscv_rules.specs.Riscv.{riscv}
-use Rattle.ffi3_run_rules.specs.Meaning.{Program}
-use Rattle.ffi3_run_rules.specs.Happenings.{happenings_of}
-use Rattle.ffi3_run_rules.specs.Lines.{text}
 use Rattle.ffi3_script_rules.specs.Language.{Path}
 use Rattle.ffi3_script_rules.specs.Script.{Script}
 use Rattle.ffi3_script_rules.specs.Meaning.{program_of}
 use Rattle.ffi3_script_rules.specs.RunLimit.{first_not_run}
+use Rattle.ffi3_run.specs.Told.{text_of_run}
 use Rattle.ffi3_text.specs.LayoutLines.{layout_text_of}
 use Rattle.ffi3_text.specs.PlaceLines.{sig_text_of, place_text_of}
 use Rattle.ffi3_app.specs.declared.words.Request.{Request}
@@ -59,16 +56,11 @@ layout_text script = joined (lines_from layout_lines 0 script.signatures)
 abbrev pub place_text : Standard → Script → List ℕ
 place_text std script = joined (lines_from (place_lines std) 0 script.signatures)
 
--- ---- run
-
-abbrev pub run_text : Program → List ℕ
-run_text p = text p.signatures (happenings_of p)
-
 -- THE TEXT OF A COMMAND
 abbrev pub text_of : Request → Script → List ℕ
 text_of Layout script = layout_text script
 text_of (Place t) script = place_text (standard_of t) script
-text_of (Run t) script = run_text (program_of (standard_of t) script)
+text_of (Run t) script = text_of_run (program_of (standard_of t) script)
 
 -- the place of a script, if there is one, that the command does not do yet
 abbrev pub not_yet : Request → Script → Option Path

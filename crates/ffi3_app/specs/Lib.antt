@@ -1,3 +1,7 @@
-pub mod Call
-pub mod Top
+pub mod Commands
+pub mod Kinds
 pub mod Refusals
+pub mod Top
+pub mod WordCommands
+pub mod Words
+pub mod Wrote

@@ -1,41 +1,86 @@
--- What a refusal says, its line and its status.
-use Rattle.std.specs.Prelude.{◌≡◌, ℕ, List}
+-- What a refusal of the input says: its line, its status and its cause.
+use Rattle.std.specs.Prelude.{◌≡◌, ◌⊎◌, ℕ, List, [], codes, Some}
 use Rattle.ffi3_io.specs.Sink.{Rose}
-use Rattle.ffi3_script_rules.specs.Reading.{Reading, too_long, not_json, not_yet, IsReading}
+use Rattle.ffi3_run_rules.specs.Lines.{a_line}
+use Rattle.ffi3_script_rules.specs.ReasonText.{text_of_reason}
+use Rattle.ffi3_script_rules.specs.Reading.{Reading, too_long, not_json, bad_script, IsReading}
+use Rattle.ffi3_script_rules.specs.Script.{Script}
+use Rattle.ffi3_script_rules.specs.RunLimit.{first_not_run}
+use Rattle.ffi3_run.specs.Told.{Took}
+use Rattle.ffi3_json.specs.ReasonOf.{reason_of}
+use Rattle.ffi3_app.specs.declared.words.Request.{Request}
+use Rattle.ffi3_app.specs.declared.words.Request.TheVariants.{Run}
 use Rattle.ffi3_app.specs.declared.load.Refusal.{Refusal}
-use Rattle.ffi3_app.specs.declared.load.Refusal.TheVariants.{ReadFault, NoMemory, TooLong, BadJson, NotYet}
-use Rattle.ffi3_app.specs.Top.{Given, ReadAs, IsRead, IsReadInPart, reading_line, read_fault_line, no_memory_line}
+use Rattle.ffi3_app.specs.declared.load.Refusal.TheVariants.{ReadFault, NoMemory, TooLong, BadJson, BadScript, NotYet}
+use Rattle.ffi3_app.specs.Top.{Tells, Given, ReadAs, IsRead, IsReadInPart, refusal_of, place_line, read_fault_line, no_memory_line}
 
 abbrev pub refusal_line : Refusal → List ℕ
 refusal_line ReadFault = read_fault_line
 refusal_line NoMemory = no_memory_line
-refusal_line TooLong = reading_line too_long
-refusal_line BadJson = reading_line not_json
-refusal_line NotYet = reading_line not_yet
+refusal_line TooLong = a_line (codes "ffi3: script too long")
+refusal_line BadJson = a_line (codes "ffi3: not JSON")
+refusal_line (BadScript path why) = place_line path (text_of_reason (reason_of why))
+refusal_line (NotYet path) = place_line path (codes "not yet")
 
 abbrev pub refusal_status : Refusal → ℕ
 refusal_status ReadFault = 3
 refusal_status NoMemory = 5
 refusal_status _ = 1
 
--- bytes that were read are refused
+-- bytes are no script
 abbrev pub IsJudged : List ℕ → Refusal → Type 0
-IsJudged bytes ReadFault = ⊥
+IsJudged bytes TooLong = IsReading [] bytes too_long
+IsJudged bytes BadJson = IsReading [] bytes not_json
+IsJudged bytes (BadScript path why) = IsReading [] bytes (bad_script path (reason_of why))
 IsJudged bytes NoMemory = Unit {0}
-IsJudged bytes TooLong = IsReading bytes too_long
-IsJudged bytes BadJson = IsReading bytes not_json
-IsJudged bytes NotYet = IsReading bytes not_yet
+IsJudged bytes _ = ⊥
 
--- what is read as a fault, with no read failed
-pub record IsRefusedAs (input input' : Given) (r : Reading) : Type 0 where
-  pub read_as : ReadAs input r
+-- a script asks for what a run does not do yet
+abbrev pub IsRunLimit : Script → Refusal → Type 0
+IsRunLimit s (NotYet path) = first_not_run s ≡ Some path
+IsRunLimit s NoMemory = Unit {0}
+IsRunLimit s _ = ⊥
+
+-- for what the command does not do yet
+abbrev pub IsLimit : Request → Script → Refusal → Type 0
+IsLimit (Run t) s refusal = IsRunLimit s refusal
+IsLimit _ s refusal = ⊥
+
+-- what the input is read as is refused with this line, and no read failed
+pub record IsRefusedWith (request : Request) (input input' : Given) (line : List ℕ) : Type 0 where
+  pub reading : Reading
+  pub tells : refusal_of request reading ≡ Some line
+  pub read_as : ReadAs input reading
   pub all_read : IsRead input input'
   pub count : input'.faults ≡ input.faults
 
 -- the input is refused
-abbrev pub IsRefusal : Given → Given → Refusal → Type 0
-IsRefusal input input' ReadFault = Rose input.faults input'.faults × IsReadInPart input input'
-IsRefusal input input' NoMemory = (input'.faults ≡ input.faults) × IsReadInPart input input'
-IsRefusal input input' TooLong = IsRefusedAs input input' too_long
-IsRefusal input input' BadJson = IsRefusedAs input input' not_json
-IsRefusal input input' NotYet = IsRefusedAs input input' not_yet
+abbrev pub IsRefusal : Request → Given → Given → Refusal → Type 0
+IsRefusal request input input' ReadFault =
+    Rose input.faults input'.faults × IsReadInPart input input'
+IsRefusal request input input' NoMemory =
+    (input'.faults ≡ input.faults) × IsReadInPart input input'
+IsRefusal request input input' TooLong =
+    IsRefusedWith request input input' (refusal_line TooLong)
+IsRefusal request input input' BadJson =
+    IsRefusedWith request input input' (refusal_line BadJson)
+IsRefusal request input input' (BadScript path why) =
+    IsRefusedWith request input input' (refusal_line (BadScript path why))
+IsRefusal request input input' (NotYet path) =
+    IsRefusedWith request input input' (refusal_line (NotYet path))
+
+-- the refusal has the place of a value
+abbrev pub HasPlace : Refusal → Type 0
+HasPlace (BadScript path why) = Unit {0}
+HasPlace (NotYet path) = Unit {0}
+HasPlace _ = ⊥
+
+-- a refusal was told, or want of memory for the line of its place
+abbrev pub TellsRefusal : Refusal → Took → Took → ℕ → Type 0
+TellsRefusal refusal before after answer =
+    Tells (refusal_line refusal) (refusal_status refusal) before after answer ⊎ (HasPlace refusal × Tells no_memory_line 5 before after answer)
+
+-- the line of a place was told, or want of memory for it
+abbrev pub TellsPlace : List ℕ → Took → Took → ℕ → Type 0
+TellsPlace line before after answer =
+    Tells line 1 before after answer ⊎ Tells no_memory_line 5 before after answer

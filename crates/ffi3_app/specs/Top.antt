@@ -1,9 +1,8 @@
 -- WHAT THE TOP CALL SAYS, by its status.
-use Rattle.std.specs.Prelude.{◌≡◌, ℕ, ◌+◌, ◌≤◌, ◌⊎◌, List, [], ◌∷◌, ◌++◌, take, drop, Option, Some, None, codes}
+use Rattle.std.specs.Prelude.{◌≡◌, ℕ, ◌+◌, ◌⊎◌, List, [], ◌++◌, take, drop, Option, Some, None, codes}
 use Rattle.ffi3_io.specs.Sink.{Adds, AddsSome, Rose}
 use Rattle.ffi3_io.specs.Source.{LosesSome}
-use Rattle.ffi3_place_rules.specs.Standard.{Standard}
-use Rattle.ffi3_run_rules.specs.Meaning.{Program, End, returned, stopped, meaning_of}
+use Rattle.ffi3_run_rules.specs.Meaning.{End, returned, stopped, meaning_of}
 use Rattle.ffi3_run_rules.specs.Lines.{a_line}
 use Rattle.ffi3_script_rules.specs.Language.{Path}
 use Rattle.ffi3_script_rules.specs.ReasonText.{text_of_path, text_of_reason}
@@ -77,6 +76,11 @@ IsReadInPart before after = LosesSome (max_length + 1) before.left after.left
 abbrev pub status_of : End → ℕ
 status_of (returned v) = 0
 status_of (stopped stop) = 6
+
+-- the status of work that is done
+abbrev pub status_when_done : Request → Script → ℕ
+status_when_done (Run t) s = status_of (meaning_of (program_of (standard_of t) s)).end
+status_when_done _ s = 0
 
 -- THE WORK IS DONE: the text is written whole; a run is told whole, and what stops it is status 6; the other commands leave the machine as it was
 abbrev pub IsDone : Request → Script → Took → Took → State → State → ℕ → Type 0

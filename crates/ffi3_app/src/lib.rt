@@ -1,14 +1,18 @@
-//! The top call: words, a script, and its run on the modelled machine.
+//! The top call: words, a script, and what a command does with it.
 #![tactic(auto)]
 
-mod call;
+mod command;
+mod help;
+mod layout;
+mod limit;
 mod load;
-mod run;
+mod place;
 mod tell;
-#[cfg(test)]
-mod tests;
 mod top;
 mod words;
+mod work;
+mod write;
 
 pub use ffi3_machine::Machine;
+pub use limit::{NotYet, run_limit};
 pub use top::ffi3;

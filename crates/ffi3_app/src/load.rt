@@ -1,14 +1,20 @@
-//! From the input to a script, or to why there is none.
-ghost use Rattle.std.specs.Prelude.{◌≡◌, ◌≤◌, IfOk, IfErr, OnOk, length};
+//! From the input to a script that a command does, or to why there is none.
+ghost use Rattle.std.specs.Prelude.{◌≡◌, [], IfOk, IfErr, OnOk, None};
 ghost use Rattle.ffi3_script_rules.specs.Reading.{IsReading, script};
-ghost use Rattle.ffi3_app.specs.Top.{ReadAs, IsAtEnd, IsReadInPart, given};
+ghost use Rattle.ffi3_script_rules.specs.RunLimit.{first_not_run};
+ghost use Rattle.ffi3_script.specs.ScriptOf.{script_of, natives_of};
+ghost use Rattle.ffi3_app.specs.Commands.{not_yet};
+ghost use Rattle.ffi3_app.specs.Top.{ReadAs, IsAtEnd, IsReadInPart, IsRead, given};
 
+use crate::limit::run_limit;
+use crate::words::Request;
 use ffi3_io::{ReadEnd, Source, read_all};
-use ffi3_script::{MAX_LENGTH, Names, Script, ScriptFault, read_script};
+use ffi3_json::{MAX_LENGTH, Reason, Where};
+use ffi3_script::{Names, Script, ScriptFault, read_script};
 use std::alloc::Global;
 
-/// Why there is no script to run.
-#[derive(Clone, Copy, Debug, PartialEq, Eq)]
+/// Why there is no script to work on.
+#[derive(Debug, Drop)]
 pub enum Refusal {
     /// A read failed.
     ReadFault,
@@ -18,50 +24,42 @@ pub enum Refusal {
     TooLong,
     /// The input is no JSON.
     BadJson,
-    /// The input is no script of the form that is taken.
-    NotYet,
+    /// The value at `path` is no part of a script.
+    BadScript { path: Where, why: Reason },
+    /// What stands at `path` is not done yet.
+    NotYet { path: Where },
 }
 
-impl Refusal {
-    ghost use Rattle.ffi3_app.specs.Refusals.{refusal_line, refusal_status};
-
-    /// The line of the refusal.
-    pub fn line(self) -> &'static str
-        ensures { result.now ≡ refusal_line self }
-    {
-        match self {
-            Refusal::ReadFault => "ffi3: read fault\n",
-            Refusal::NoMemory => "ffi3: out of memory\n",
-            Refusal::TooLong => "ffi3: script too long\n",
-            Refusal::BadJson => "ffi3: not JSON\n",
-            Refusal::NotYet => "ffi3: /: not yet\n",
-        }
-    }
-
-    /// The status of the refusal.
-    pub fn status(self) -> u8
-        ensures { result ≡ refusal_status self }
-    {
-        match self {
-            Refusal::ReadFault => 3,
-            Refusal::NoMemory => 5,
-            Refusal::TooLong => 1,
-            Refusal::BadJson => 1,
-            Refusal::NotYet => 1,
-        }
-    }
-}
-
-ghost use Rattle.ffi3_app.specs.Refusals.{IsRefusal, IsJudged};
+ghost use Rattle.ffi3_app.specs.Refusals.{IsRefusal, IsJudged, IsLimit, IsRunLimit};
 
 /// Reads the input to its end, or until it is too long, and judges what was read.
-pub fn load<I: Source>(alloc: Global, input: &mut I) -> Result<Script, Refusal>
-    ensures script { IfOk result (λ s. ReadAs (given (I.left input.old) (I.faults input.old)) (script s)) }
+pub fn load<I: Source>(alloc: Global, request: Request, input: &mut I) -> Result<Script, Refusal>
+    ensures script { IfOk result (λ s. ReadAs (given (I.left input.old) (I.faults input.old)) (script (script_of s))) }
+    ensures alone { IfOk result (λ s. natives_of s ≡ 0) }
+    ensures done { IfOk result (λ s. not_yet request (script_of s) ≡ None) }
     ensures end { OnOk result (IsAtEnd (given (I.left input.old) (I.faults input.old)) (given (I.left input.new) (I.faults input.new))) }
     ensures same { OnOk result (I.faults input.new ≡ I.faults input.old) }
     ensures part { IsReadInPart (given (I.left input.old) (I.faults input.old)) (given (I.left input.new) (I.faults input.new)) }
-    ensures refused { IfErr result (IsRefusal (given (I.left input.old) (I.faults input.old)) (given (I.left input.new) (I.faults input.new))) }
-    ensures never_falls { I.faults input.old ≤ I.faults input.new }
+    ensures refused { IfErr result (IsRefusal request (given (I.left input.old) (I.faults input.old)) (given (I.left input.new) (I.faults input.new))) }
+{
+    match read(alloc, input) {
+        Ok(script) => match limit(alloc, request, &script) {
+            Ok(()) => Ok(script),
+            Err(refusal) => Err(refusal),
+        },
+        Err(refusal) => Err(refusal),
+    }
+}
+
+// The same, whatever the command.
+fn read<I: Source>(alloc: Global, input: &mut I) -> Result<Script, Refusal>
+    ensures script { IfOk result (λ s. ReadAs (given (I.left input.old) (I.faults input.old)) (script (script_of s))) }
+    ensures alone { IfOk result (λ s. natives_of s ≡ 0) }
+    ensures end { OnOk result (IsAtEnd (given (I.left input.old) (I.faults input.old)) (given (I.left input.new) (I.faults input.new))) }
+    ensures all { OnOk result (IsRead (given (I.left input.old) (I.faults input.old)) (given (I.left input.new) (I.faults input.new))) }
+    ensures same { OnOk result (I.faults input.new ≡ I.faults input.old) }
+    ensures part { IsReadInPart (given (I.left input.old) (I.faults input.old)) (given (I.left input.new) (I.faults input.new)) }
+    ensures refused { (r : Request) → IfErr result (IsRefusal r (given (I.left input.old) (I.faults input.old)) (given (I.left input.new) (I.faults input.new))) }
 {
     match read_all(alloc, input, MAX_LENGTH + 1) {
         Ok(bytes) => judge(alloc, &bytes),
@@ -72,14 +70,38 @@ pub fn load<I: Source>(alloc: Global, input: &mut I) -> Result<Script, Refusal>
 
 // What the bytes are read as.
 fn judge(alloc: Global, bytes: &[u8]) -> Result<Script, Refusal>
-    ensures script { IfOk result (λ s. IsReading bytes.now (script s)) }
+    ensures script { IfOk result (λ s. IsReading [] bytes.now (script (script_of s))) }
+    ensures alone { IfOk result (λ s. natives_of s ≡ 0) }
     ensures refused { IfErr result (IsJudged bytes.now) }
 {
     match read_script(alloc, bytes, &Names::new(alloc)) {
         Ok(script) => Ok(script),
         Err(ScriptFault::TooLong) => Err(Refusal::TooLong),
         Err(ScriptFault::BadJson) => Err(Refusal::BadJson),
-        Err(ScriptFault::BadScript { .. }) => Err(Refusal::NotYet),
+        Err(ScriptFault::BadScript { path, why }) => Err(Refusal::BadScript { path, why }),
         Err(ScriptFault::NoMemory) => Err(Refusal::NoMemory),
+    }
+}
+
+// Whether the command does all that the script asks for.
+fn limit(alloc: Global, request: Request, script: &Script) -> Result<(), Refusal>
+    ensures done { OnOk result (not_yet request (script_of script.now) ≡ None) }
+    ensures refused { IfErr result (IsLimit request (script_of script.now)) }
+{
+    match request {
+        Request::Layout => Ok(()),
+        Request::Place { .. } => Ok(()),
+        Request::Run { .. } => run_is_done(alloc, script),
+    }
+}
+
+fn run_is_done(alloc: Global, script: &Script) -> Result<(), Refusal>
+    ensures done { OnOk result (first_not_run (script_of script.now) ≡ None) }
+    ensures refused { IfErr result (IsRunLimit (script_of script.now)) }
+{
+    match run_limit(alloc, script) {
+        Ok(None) => Ok(()),
+        Ok(Some(limit)) => Err(Refusal::NotYet { path: limit.path }),
+        Err(_) => Err(Refusal::NoMemory),
     }
 }

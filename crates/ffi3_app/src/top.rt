@@ -1,14 +1,19 @@
 //! The top call.
-ghost use Rattle.std.specs.Prelude.{◌≡◌, ◌<◌, ◌⊎◌, [], List, ℕ, Some, map, string_bytes};
+ghost use Rattle.std.specs.Prelude.{◌≡◌, ◌<◌, ◌⊎◌, [], List, ℕ, Some, None, map, string_bytes};
 ghost use Rattle.ffi3_io.specs.Sink.{Rose};
-ghost use Rattle.ffi3_script_rules.specs.Form.{OneCall};
 ghost use Rattle.ffi3_script_rules.specs.Reading.{Reading, IsReading, script};
-ghost use Rattle.ffi3_app.specs.Top.{AsksRun, IsFault, Says, given, took};
+ghost use Rattle.ffi3_script_rules.specs.Script.{Script as RulesScript};
+ghost use Rattle.ffi3_run.specs.Told.{took};
+ghost use Rattle.ffi3_app.specs.declared.words.Request.{Request};
+ghost use Rattle.ffi3_app.specs.Words.{IsStated};
+ghost use Rattle.ffi3_app.specs.Commands.{not_yet};
+ghost use Rattle.ffi3_app.specs.Top.{Says, given, refusal_of, status_when_done};
 
 use crate::load::load;
-use crate::run::{RunEnd, run};
-use crate::tell::tell;
-use crate::words::asks_run;
+use crate::tell::{tell, tell_refusal};
+use crate::words::{WordsFault, read_words};
+use crate::work::work;
+use crate::write::WriteEnd;
 use ffi3_body::Native;
 use ffi3_io::{Sink, Source};
 use ffi3_machine::Machine;
@@ -16,18 +21,19 @@ use std::alloc::Global;
 
 /// Does what the words ask for, and answers the status of the program.
 ///
-/// The words hold the program's name first. For `run --target amd64` the input is read to its end, or until it is longer than a
-/// script may be; a script is run on the machine, and the output takes its text. The line of a fault goes to `faults`. The list of
-/// natives is empty for now.
+/// The words hold the program's name first. For `layout`, `place --target TARGET` and `run --target amd64` the input is read to its
+/// end, or until it is longer than a script may be, and the output takes the lines that the command writes of the script. The line
+/// of a fault goes to `faults`. The list of natives is empty for now.
 ///
 /// | status | when |
 /// |---|---|
-/// | 0 | the run is done: its text is written, and the machine's journal is its call tree |
-/// | 1 | the input is no script that is taken |
-/// | 2 | the words ask for nothing that is known |
+/// | 0 | the text is written; after a run the machine's journal is its call tree |
+/// | 1 | the input is no script, or one that the command does not do yet |
+/// | 2 | the words are refused, or ask for help |
 /// | 3 | a read failed |
 /// | 4 | a write failed |
 /// | 5 | memory was refused |
+/// | 6 | the run stopped, and its text is written |
 pub fn ffi3<I: Source, O: Sink, E: Sink>(
     alloc: Global,
     words: Vec<String>,
@@ -46,17 +52,16 @@ pub fn ffi3<I: Source, O: Sink, E: Sink>(
         (took (E.taken faults.old) (E.faults faults.old)) (took (E.taken faults.new) (E.faults faults.new))
         machine.old machine.new result }
 
-    // Where nothing fails, a script is run, what is no script is refused, and so are other words; want of memory alone is free.
-    ensures complete { AsksRun (map string_bytes words.items) → (all : List ℕ) → I.left input.old ≡ Some all →
-        (f : OneCall) → IsReading all (script f) →
+    // Where nothing fails, what stated words ask for is done with a script, and what is none is refused; want of memory alone is free.
+    ensures complete { (r : Request) → IsStated (map string_bytes words.items) r → (all : List ℕ) → I.left input.old ≡ Some all →
+        (s : RulesScript) → IsReading [] all (script s) → not_yet r s ≡ None →
         (Rose (I.faults input.old) (I.faults input.new) → ⊥) → (Rose (O.faults output.old) (O.faults output.new) → ⊥) →
-        (Rose (E.faults faults.old) (E.faults faults.new) → ⊥) → (result ≡ 0) ⊎ (result ≡ 5) }
-    ensures refuses { AsksRun (map string_bytes words.items) → (all : List ℕ) → I.left input.old ≡ Some all →
-        (r : Reading) → IsFault r → IsReading all r →
+        (Rose (E.faults faults.old) (E.faults faults.new) → ⊥) → (result ≡ status_when_done r s) ⊎ (result ≡ 5) }
+    ensures refuses { (r : Request) → IsStated (map string_bytes words.items) r → (all : List ℕ) → I.left input.old ≡ Some all →
+        (reading : Reading) → IsReading [] all reading → (line : List ℕ) → refusal_of r reading ≡ Some line →
         (Rose (I.faults input.old) (I.faults input.new) → ⊥) → (Rose (O.faults output.old) (O.faults output.new) → ⊥) →
         (Rose (E.faults faults.old) (E.faults faults.new) → ⊥) → (result ≡ 1) ⊎ (result ≡ 5) }
-    ensures knows_words { (AsksRun (map string_bytes words.items) → ⊥) →
-        (Rose (E.faults faults.old) (E.faults faults.new) → ⊥) → result ≡ 2 }
+    ensures knows_words { (r : Request) → IsStated (map string_bytes words.items) r → result ≡ 2 → ⊥ }
 
     // A count that is higher than before shows in the status.
     ensures read_counted { I.faults input.old < I.faults input.new → (result ≡ 3) ⊎ (result ≡ 4) }
@@ -64,11 +69,11 @@ pub fn ffi3<I: Source, O: Sink, E: Sink>(
     ensures telling_counted { E.faults faults.old < E.faults faults.new → result ≡ 4 }
 {
     let _natives = natives;
-    work(alloc, words, input, output, faults, machine)
+    answer(alloc, words, input, output, faults, machine)
 }
 
 // The same, of which the clauses above but the first follow.
-fn work<I: Source, O: Sink, E: Sink>(
+fn answer<I: Source, O: Sink, E: Sink>(
     alloc: Global,
     words: Vec<String>,
     input: &mut I,
@@ -76,22 +81,25 @@ fn work<I: Source, O: Sink, E: Sink>(
     faults: &mut E,
     machine: &mut Machine,
 ) -> u8
-    ensures { Says (map string_bytes words.items)
+    ensures says { Says (map string_bytes words.items)
         (given (I.left input.old) (I.faults input.old)) (given (I.left input.new) (I.faults input.new))
         (took (O.taken output.old) (O.faults output.old)) (took (O.taken output.new) (O.faults output.new))
         (took (E.taken faults.old) (E.faults faults.old)) (took (E.taken faults.new) (E.faults faults.new))
         machine.old machine.new result }
+    ensures knows_words { (r : Request) → IsStated (map string_bytes words.items) r → result ≡ 2 → ⊥ }
 {
-    if !asks_run(&words) {
-        return tell(faults, "ffi3: bad words\n", 2);
-    }
-    let script = match load(alloc, input) {
-        Ok(script) => script,
-        Err(refusal) => return tell(faults, refusal.line(), refusal.status()),
+    let request = match read_words(alloc, words) {
+        Ok(request) => request,
+        Err(WordsFault::Refused(text)) => return tell(faults, text.as_str(), 2),
+        Err(WordsFault::NoMemory) => return tell(faults, "ffi3: out of memory\n", 5),
     };
-    match run(alloc, &script, machine, output) {
-        RunEnd::Done => 0,
-        RunEnd::NoMemory => tell(faults, "ffi3: out of memory\n", 5),
-        RunEnd::Failed => tell(faults, "ffi3: write fault\n", 4),
+    let script = match load(alloc, request, input) {
+        Ok(script) => script,
+        Err(refusal) => return tell_refusal(alloc, &refusal, faults),
+    };
+    match work(alloc, request, &script, machine, output) {
+        Ok(status) => status,
+        Err(WriteEnd::NoMemory) => tell(faults, "ffi3: out of memory\n", 5),
+        Err(WriteEnd::Failed) => tell(faults, "ffi3: write fault\n", 4),
     }
 }

@@ -1,0 +1,48 @@
+-- Stated words are taken, and read as what they state.
+use Rattle.std.proofs.Common.{◌≡◌, List, [], ◌∷◌, codes, Some, refl, sym, subst}
+use Rattle.clap.specs.Words.{Text, fault_of, subcommand_of}
+use Rattle.clap.proofs.OnLiterals.{clap_on_literals}
+use Rattle.ffi3_type_rules.specs.declared.Target.{Target}
+use Rattle.ffi3_type_rules.specs.declared.Target.TheVariants.{Amd64, Aapcs64, Riscv}
+use Rattle.ffi3_app.specs.declared.words.Request.{Request}
+use Rattle.ffi3_app.specs.declared.words.Request.TheVariants.{Layout, Place, Run}
+use Rattle.ffi3_app.specs.WordCommands.{Addresses, asked, program}
+use Rattle.ffi3_app.specs.Words.{IsStated, StatesAfterName, Takes, target_word}
+
+module _ (at at' : Addresses) (name : Text) where
+  -- clap takes the words after the name, and reads them as this
+  abbrev pub Reads : List Text → Request → Type 0
+  Reads rest r =
+      (fault_of (program at at') (name ∷ rest) ≡ []) × (asked (subcommand_of (program at at') (name ∷ rest)) ≡ Some r)
+
+  lays : Reads (codes "layout" ∷ []) Layout
+  unfolding clap_on_literals
+  lays = (refl, refl)
+
+  places : (t : Target) → Reads (codes "place" ∷ codes "--target" ∷ target_word t ∷ []) (Place t)
+  unfolding clap_on_literals
+  places Amd64 = (refl, refl)
+  places Aapcs64 = (refl, refl)
+  places Riscv = (refl, refl)
+
+  runs : Reads (codes "run" ∷ codes "--target" ∷ codes "amd64" ∷ []) (Run Amd64)
+  unfolding clap_on_literals
+  runs = (refl, refl)
+
+  states : (rest : List Text) (r : Request) → StatesAfterName rest r → Reads rest r
+  states rest Layout is = subst (λ ws. Reads ws Layout) (sym is) lays
+  states rest (Place t) is = subst (λ ws. Reads ws (Place t)) (sym is) (places t)
+  states rest (Run Amd64) is = subst (λ ws. Reads ws (Run Amd64)) (sym is.0) runs
+  states rest (Run Aapcs64) is = cc
+  states rest (Run Riscv) is = cc
+
+-- STATED WORDS ARE TAKEN, and read as what they state
+pub stated_is_read : (at at' : Addresses) (words : List Text) (r : Request) → IsStated words r → (fault_of (program at at') words ≡ []) × (asked (subcommand_of (program at at') words) ≡ Some r)
+stated_is_read at at' [] r stated = absurd stated
+stated_is_read at at' (name ∷ rest) r stated = states at at' name rest r stated
+
+pub stated_is_taken : (words : List Text) (r : Request) → IsStated words r → Takes words r
+stated_is_taken words r stated =
+    let nowhere : Addresses = λ n. (0, 0) in
+    let read = stated_is_read nowhere nowhere words r stated in
+    record { placing = nowhere; running = nowhere; passes = read.0; means = read.1 }

@@ -1,0 +1,16 @@
+use Rattle.ffi3_type_rules.specs.declared.Target.TheVariants.{Amd64, Aapcs64, Riscv}
+use Rattle.ffi3_script.specs.ScriptOf.{script_of}
+use Rattle.ffi3_app.proofs.Pieces.{placed_by}
+use Rattle.ffi3_app.proofs.place.place.Goals as goal
+
+pub returns-in-Amd64 : goal.returns-in-Amd64
+returns-in-Amd64 g c =
+    placed_by c.args.target Amd64 (script_of c.args.script.now) _ _ c.place_by.result c.in-Amd64.is c.place_by.ensures
+
+pub returns-in-Aapcs64 : goal.returns-in-Aapcs64
+returns-in-Aapcs64 g c =
+    placed_by c.args.target Aapcs64 (script_of c.args.script.now) _ _ c.place_by-in-Aapcs64.result c.in-Aapcs64.is c.place_by-in-Aapcs64.ensures
+
+pub returns-in-Riscv : goal.returns-in-Riscv
+returns-in-Riscv g c =
+    placed_by c.args.target Riscv (script_of c.args.script.now) _ _ c.place_by-in-Riscv.result c.in-Riscv.is c.place_by-in-Riscv.ensures

@@ -1,0 +1,9 @@
+use Rattle.ffi3_app.specs.Top.{whole, cut}
+use Rattle.ffi3_app.proofs.tell.tell_bytes.Goals as goal
+
+pub returns-in-Ok : goal.returns-in-Ok
+returns-in-Ok g c =
+    whole (record { added = c.in-Ok.ensures.adds; count = c.in-Ok.ensures.same })
+
+pub returns-in-Err : goal.returns-in-Err
+returns-in-Err g c = cut c.in-Err.ensures.part c.in-Err.ensures.failed

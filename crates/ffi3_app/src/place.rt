@@ -1,0 +1,97 @@
+//! The lines of place.
+ghost use Rattle.std.specs.Prelude.{◌≡◌, IfOk, IfErr};
+ghost use Rattle.ffi3_type_rules.specs.Signature.{SignatureHasNoFault};
+ghost use Rattle.ffi3_cif.specs.Prepared.{IsRefusal};
+ghost use Rattle.ffi3_script.specs.ScriptOf.{script_of};
+ghost use Rattle.ffi3_run.specs.Told.{took};
+ghost use Rattle.ffi3_app.specs.Commands.{joined, place_lines, place_text, standard_of};
+ghost use Rattle.ffi3_app.specs.Wrote.{Wrote};
+
+use crate::write::{WriteEnd, write_line};
+use ffi3_aapcs64::Aapcs64;
+use ffi3_amd64::Amd64;
+use ffi3_cif::{Cif, PrepFault, prep_cif, prep_cif_var};
+use ffi3_io::Sink;
+use ffi3_place::Abi;
+use ffi3_riscv::Riscv;
+use ffi3_script::Script;
+use ffi3_text::{place_line, sig_line};
+use ffi3_types::{At, NoMemory, Sig, Target};
+use std::alloc::Global;
+
+/// Writes the frame of each signature and the places of its arguments and result, by the target's
+/// calling standard.
+pub fn place<O: Sink>(
+    alloc: Global,
+    target: Target,
+    script: &Script,
+    output: &mut O,
+) -> Result<(), WriteEnd>
+    ensures { Wrote (place_text (standard_of target) (script_of script.now)) (took (O.taken output.old) (O.faults output.old))
+        (took (O.taken output.new) (O.faults output.new)) result }
+{
+    match target {
+        Target::Amd64 => place_by::<Amd64, O>(alloc, script, output),
+        Target::Aapcs64 => place_by::<Aapcs64, O>(alloc, script, output),
+        Target::Riscv => place_by::<Riscv, O>(alloc, script, output),
+    }
+}
+
+// The same by a calling standard.
+fn place_by<A: Abi, O: Sink>(alloc: Global, script: &Script, output: &mut O) -> Result<(), WriteEnd>
+    ensures { Wrote (place_text A.standard (script_of script.now)) (took (O.taken output.old) (O.faults output.old))
+        (took (O.taken output.new) (O.faults output.new)) result }
+{
+    let sigs = script.sigs();
+    for i in 0..sigs.len() {
+        let cif = cif_of::<A>(alloc, sigs.get(i))?;
+        place_of(alloc, i as u32, &cif, output)?;
+    }
+    Ok(())
+}
+
+// The lines of one signature: its frame, the arguments, then the result.
+fn place_of<A: Abi, O: Sink>(
+    alloc: Global,
+    number: u32,
+    cif: &Cif<A>,
+    output: &mut O,
+) -> Result<(), WriteEnd>
+    ensures { Wrote (joined (place_lines A.standard number cif.now)) (took (O.taken output.old) (O.faults output.old))
+        (took (O.taken output.new) (O.faults output.new)) result }
+{
+    write_line(output, sig_line(alloc, number, cif))?;
+    for j in 0..cif.sig().count() {
+        write_line(output, place_line(alloc, cif, At::Arg(j)))?;
+    }
+    write_line(output, place_line(alloc, cif, At::Ret))
+}
+
+// The signature prepared for calls.
+fn cif_of<A: Abi>(alloc: Global, sig: &Sig) -> Result<Cif<A>, NoMemory>
+    requires { SignatureHasNoFault sig.now }
+    ensures { IfOk result (λ c. c ≡ sig.now) }
+{
+    match prepared::<A>(alloc, sig) {
+        Ok(cif) => Ok(cif),
+        Err(PrepFault::NoMemory) => Err(NoMemory),
+        Err(PrepFault::Sig(_)) => unreachable!(),
+    }
+}
+
+fn prepared<A: Abi>(alloc: Global, sig: &Sig) -> Result<Cif<A>, PrepFault>
+    requires { SignatureHasNoFault sig.now }
+    ensures ok { IfOk result (λ c. c ≡ sig.now) }
+    ensures err { IfErr result (IsRefusal sig.now) }
+{
+    let Ok(ret) = sig.ret().copy(alloc) else {
+        return Err(PrepFault::NoMemory);
+    };
+    let Ok(args) = sig.args().copy(alloc) else {
+        return Err(PrepFault::NoMemory);
+    };
+    match sig.fixed() {
+        None => prep_cif::<A>(alloc, ret, args),
+        Some(fixed) => prep_cif_var::<A>(alloc, ret, args, fixed),
+    }
+}

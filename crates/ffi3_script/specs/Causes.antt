@@ -1,0 +1,13 @@
+-- Why bytes were not read as a script.
+use Rattle.std.specs.Prelude.{ℕ, List}
+use Rattle.ffi3_script_rules.specs.Reading.{IsTheReading, too_long, not_json, bad_script}
+use Rattle.ffi3_json.specs.ReasonOf.{reason_of}
+use Rattle.ffi3_json.specs.declared.fault.ScriptFault.{ScriptFault}
+use Rattle.ffi3_json.specs.declared.fault.ScriptFault.TheVariants.{TooLong, BadJson, BadScript, NoMemory}
+
+-- beside natives of these names the bytes are read as this fault; memory alone is free
+abbrev pub IsCauseOf : List (List ℕ) → List ℕ → ScriptFault → Type 0
+IsCauseOf natives bytes TooLong = IsTheReading natives bytes too_long
+IsCauseOf natives bytes BadJson = IsTheReading natives bytes not_json
+IsCauseOf natives bytes (BadScript path why) = IsTheReading natives bytes (bad_script path (reason_of why))
+IsCauseOf natives bytes NoMemory = Unit {0}
