@@ -69,7 +69,7 @@ pub fn size_of(ty: &FfiType) -> u64
     ty.size()
 }
 
-/// How many doublewords a value takes, the last of them cut short where its size is no multiple of 8.
+/// How many doublewords a value takes. The last has what is left where the size is no multiple of 8.
 pub fn doublewords(ty: &FfiType) -> u64
     requires { HasNoFault 0 true (tree_of ty.now) }
     ensures value { result ≡ doublewords (tree_of ty.now) }
@@ -105,7 +105,7 @@ pub fn widening(ty: &FfiType) -> Ext
 
 // ---- pieces
 
-/// Doubleword `j` of a value, in its place: 8 bytes, or what is left of the value.
+/// Doubleword `j` of a value, in its place: 8 bytes, or what is left of the value. `ext` fills the rest of the place.
 pub fn doubleword(ty: &FfiType, j: u64, loc: Loc, ext: Ext) -> Piece
     requires right { HasNoFault 0 true (tree_of ty.now) }
     requires within { 8 * j < size_of (tree_of ty.now) }
@@ -120,7 +120,7 @@ pub fn doubleword(ty: &FfiType, j: u64, loc: Loc, ext: Ext) -> Piece
     }
 }
 
-/// Leaf `i` of a value, in its place.
+/// Leaf `i` of a value, in its place, whose rest `ext` fills.
 pub fn leaf_piece(ty: &FfiType, i: u32, loc: Loc, ext: Ext) -> Piece
     requires right { HasNoFault 0 true (tree_of ty.now) }
     requires in_range { i < length (leaves_of (tree_of ty.now)) }
@@ -136,7 +136,7 @@ pub fn leaf_piece(ty: &FfiType, i: u32, loc: Loc, ext: Ext) -> Piece
     }
 }
 
-/// A value's doublewords on the stack, from offset `start` on. A narrow integer is extended by its sign.
+/// A value's doublewords on the stack, from byte `start` of the stack arguments on. A narrow integer is extended by its sign. 66048 bytes is what the arguments before it take at most.
 pub fn pieces_on_stack(alloc: Global, ty: &FfiType, start: u64) -> Result<Pieces, NoMemory>
     requires right { HasNoFault 0 true (tree_of ty.now) }
     requires low { start ≤ 66048 }

@@ -1,9 +1,9 @@
 -- What is evaluated has the type, and the parts of a value of a type have theirs.
-use Rattle.std.proofs.Common.{◌≡◌, ℕ, ◌<◌, Bool, true, false, List, length, refl, ap, sym, ◌∙◌, subst, arith}
-use Rattle.std.specs.Prelude.{◌&&◌, slice_index_or, nat_lt}
+use Rattle.std.proofs.Common.{◌≡◌, ℕ, ◌<◌, Bool, true, false, List, length, ap, sym, ◌∙◌, subst, arith}
+use Rattle.std.specs.Prelude.{slice_index_or, nat_lt}
 use Rattle.std.proofs.lemmas.Bool.{ltb-true}
-use Rattle.ffi3_type_rules.specs.Tree.{Tree, void, scalar, left_out, structure, Trees, tree_at, trees_of, list_of, elements_of, trees_of-list_of, pointer, Scalar}
-use Rattle.ffi3_type_rules.specs.Integer.{is_number, is_number_type, scalar_of}
+use Rattle.ffi3_type_rules.specs.Tree.{Tree, void, scalar, left_out, structure, tree_at, list_of, elements_of, trees_of-list_of, pointer, Scalar}
+use Rattle.ffi3_type_rules.specs.Integer.{is_number_type, scalar_of}
 use Rattle.ffi3_type_rules.specs.Value.{ValueTree, struct_value, void_value, fits, list_of_values}
 use Rattle.ffi3_type_rules.specs.Value as values
 use Rattle.ffi3_type_rules.proofs.ValueElements.{fitting_lengths}

@@ -7,3 +7,4 @@ pub mod Standing
 pub mod Rows
 pub mod Evaluated
 pub mod Parts
+mod Walked

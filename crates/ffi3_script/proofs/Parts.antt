@@ -10,7 +10,7 @@ use Rattle.ffi3_types.specs.declared.FfiType.{FfiType}
 use Rattle.ffi3_types.specs.TreeOf.{tree_of}
 use Rattle.ffi3_script_rules.specs.Script as script
 use Rattle.ffi3_script_rules.specs.Meaning.{Known, value_of, values_of}
-use Rattle.ffi3_script_rules.specs.Typed.{Kinds, has_type, have_types, own_type, is_at, is_number_of, is_struct, trees_in}
+use Rattle.ffi3_script_rules.specs.Typed.{Kinds, has_type, have_types, own_type, is_at, is_number_of, is_struct}
 use Rattle.ffi3_script_rules.proofs.Tests.{and_left, and_right}
 use Rattle.ffi3_script.specs.ExprOf.{expression_of, expressions_in}
 use Rattle.ffi3_script.specs.declared.expr.Expr.{Expr, Constant, Composed, Composed', Argument, Outcome, User, Element, Element', TypedAs, TypedAs', Sum, Sum', Difference, Difference', Cast, Cast', roll-Expr, roll-out-Expr}

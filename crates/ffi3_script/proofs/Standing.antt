@@ -4,10 +4,13 @@ use Rattle.std.specs.Prelude.{nat_lt}
 use Rattle.std.specs.List.{list_all}
 use Rattle.std.proofs.lemmas.Bool.{ltb-true}
 use Rattle.std.proofs.lemmas.List.{get_or-map, length-map}
-use Rattle.ffi3_type_rules.specs.Signature.{Signature}
+use Rattle.ffi3_type_rules.specs.Signature.{Signature, SignatureHasNoFault}
 use Rattle.ffi3_script_rules.specs.Script as script
-use Rattle.ffi3_script_rules.specs.Typed.{function_is_typed}
+use Rattle.ffi3_script_rules.specs.FirstFault.{first_signature_fault}
+use Rattle.ffi3_script_rules.specs.Typed.{function_is_typed, signature_is_right}
 use Rattle.ffi3_script_rules.proofs.Tests.{and_left, and_right}
+use Rattle.ffi3_script_rules.proofs.RightTypes.{is_none-none}
+use Rattle.ffi3_script_rules.proofs.FirstSignatureFaults.{signature_right_by_none}
 use Rattle.ffi3_script.specs.FunctionOf.{function_of, StandsIn}
 use Rattle.ffi3_script.specs.declared.script.ScriptFunction.{ScriptFunction}
 
@@ -31,3 +34,9 @@ pub signature_below : (ss : List Signature) (n : ℕ) (fs : List ScriptFunction)
 signature_below ss n fs i f below is typed =
     let here : function_is_typed ss n (function_of f) ≡ true = subst (λ g. function_is_typed ss n g ≡ true) (function_is fs i f (function_of f) below is) (all_at (function_is_typed ss n) (map function_of fs) i (function_of f) (omega (arith, below, length-map fs function_of)) typed) in
     ltb-true f.sig (length ss) (and_left (nat_lt f.sig (length ss)) _ here)
+
+-- none of right signatures has a fault
+pub faultless : (ss : List Signature) → list_all signature_is_right ss ≡ true → All SignatureHasNoFault ss
+faultless ss right i d below =
+    let s = get_or ss i d in
+    signature_right_by_none s (is_none-none (first_signature_fault s) (all_at signature_is_right ss i d below right))

@@ -4,6 +4,7 @@ use Rattle.ffi3_type_rules.specs.Signature.{Signature}
 use Rattle.ffi3_run_rules.specs.Move.{Behaviour}
 use Rattle.ffi3_script_rules.specs.Script.{ScriptMove}
 use Rattle.ffi3_script_rules.specs.Meaning.{behaviour_of}
+use Rattle.ffi3_script_rules.specs.Typed.{Setting}
 use Rattle.ffi3_script.specs.ExprOf.{script_moves_of}
 use Rattle.ffi3_script.specs.Own.{own_of}
 use Rattle.ffi3_script.specs.declared.body.ScriptBody.{ScriptBody}
@@ -22,6 +23,11 @@ functions_of b = b.functions
 -- its own signature
 abbrev pub signature_of : ScriptBody → Signature
 signature_of b = own_of b.sigs.value b.own
+
+-- what it is typed in
+abbrev pub setting_of : ScriptBody → Setting
+setting_of b =
+    record { signatures = b.sigs.value; functions = b.functions; result_type = (own_of b.sigs.value b.own).result_type }
 
 -- what it does
 abbrev pub meaning_of : ScriptBody → Behaviour

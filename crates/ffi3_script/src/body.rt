@@ -5,11 +5,13 @@ ghost use Rattle.ffi3_script_rules.specs.Typed.{body_is_typed, signature_is_righ
 ghost use Rattle.ffi3_script.specs.ExprOf.{script_moves_of};
 ghost use Rattle.ffi3_script.specs.Own.{own_of, is_below};
 
-use crate::doing::{is_done, move_of};
+use crate::doing::{address, is_done};
+use crate::eval::{eval, eval_all};
 use crate::known::{Known, Outcome};
 use crate::{Act, NoMemory, ScriptMove};
 use ffi3_body::{Body, Move, Seen};
-use ffi3_types::Sigs;
+use ffi3_types::{FfiType, Sigs};
+use ffi3_values::Value;
 use std::alloc::Global;
 use std::rc::Rc;
 
@@ -50,7 +52,13 @@ impl ScriptBody {
     ghost use Rattle.ffi3_script.specs.ExprOf.{script_moves_of};
     ghost use Rattle.ffi3_script.specs.Own.{own_of, is_below};
     ghost use Rattle.ffi3_script.specs.KindOf.{kind_of_act, act_at};
-    ghost use Rattle.ffi3_script.specs.BodyOf.{moves_of, signatures_of, functions_of};
+    ghost use Rattle.ffi3_script.specs.BodyOf.{moves_of, signatures_of, functions_of, setting_of};
+    ghost use Rattle.std.specs.Prelude.{IfOk};
+    ghost use Rattle.ffi3_body.specs.MoveOf as code;
+    ghost use Rattle.ffi3_script_rules.specs.Meaning as meaning;
+    ghost use Rattle.ffi3_script_rules.specs.Typed.{act_is_typed};
+    ghost use Rattle.ffi3_script.specs.ExprOf.{act_of};
+    ghost use Rattle.ffi3_script.specs.KnownAt.{kinds_of, known_of};
 
     /// The body of these moves, among a script's signatures and so many functions, natives too.
     /// Its own signature is the one of number `own`, or main's.
@@ -60,7 +68,8 @@ impl ScriptBody {
         own: Option<u32>,
         moves: Vec<ScriptMove>,
     ) -> ScriptBody
-        requires typed { body_is_typed sigs.value functions (own_of sigs.value own) (script_moves_of moves.items) ≡ true }
+        requires typed { body_is_typed sigs.value functions (own_of sigs.value own)
+            (script_moves_of moves.items) ≡ true }
         requires right { list_all signature_is_right sigs.value ≡ true }
         requires few { length moves.items < 2 ^ 31 }
         requires own_there { is_below (length sigs.value) own ≡ true }
@@ -77,7 +86,37 @@ impl ScriptBody {
         }
     }
 
-    /// How many moves there are: at least one.
+    /// The move that an act of this body is, where this is known.
+    fn move_of(&self, alloc: Global, known: &Known, act: &Act) -> Result<Move, NoMemory>
+        requires { act_is_typed (setting_of self.now) (kinds_of known.now) (act_of act.now) ≡ true }
+        ensures { IfOk result (λ m. code.move_of m ≡ meaning.move_of (known_of known.now) (act_of act.now)) }
+    {
+        Ok(match act {
+            Act::Call { ptr, sig, args } => Move::Call {
+                ptr: address(alloc, known, ptr)?,
+                sig: *sig,
+                args: eval_all(alloc, known, self.sigs.get(*sig as usize).args(), args)?,
+            },
+            Act::Make { func, user } => Move::Make {
+                func: *func,
+                user: address(alloc, known, user)?,
+            },
+            Act::Free { ptr } => Move::Free {
+                ptr: address(alloc, known, ptr)?,
+            },
+            Act::Print(v) => Move::Print {
+                ty: v.ty.copy(alloc)?,
+                value: eval(alloc, known, &v.ty, &v.value)?,
+            },
+            Act::Return(e) => Move::Return(match self.own {
+                Some(i) => eval(alloc, known, self.sigs.get(i as usize).ret(), e)?,
+                None => eval(alloc, known, &FfiType::Void, e)?,
+            }),
+            Act::ReturnVoid => Move::Return(Value::Void),
+        })
+    }
+
+    /// How many moves there are.
     pub fn moves(&self) -> u32
         ensures are { result ≡ length (moves_of self.now) }
         ensures bound { result < 2 ^ 31 }
@@ -118,11 +157,11 @@ impl Body for ScriptBody {
         let mut taken: u32 = 0;
         for i in 0..self.moves.len() {
             let m = &self.moves[i];
-            let known = Known::new(&self.sigs, seen, outcomes.as_slice());
+            let known = Known::new(&self.sigs, outcomes.as_slice(), seen);
             let mut result = None;
             if is_done(alloc, &known, &m.condition)? {
                 if taken == seen.results() {
-                    return move_of(alloc, &known, &self.sigs, self.own, &m.act);
+                    return self.move_of(alloc, &known, &m.act);
                 }
                 result = Some(taken);
                 taken += 1;

@@ -37,12 +37,7 @@ fn scalar_type(ty: &FfiType) -> FfiType
 
 /// The value of an expression of this type.
 #[cycle(eval)]
-pub(crate) fn eval(
-    alloc: Global,
-    known: &Known,
-    ty: &FfiType,
-    e: &Expr,
-) -> Result<Value, NoMemory>
+pub(crate) fn eval(alloc: Global, known: &Known, ty: &FfiType, e: &Expr) -> Result<Value, NoMemory>
     requires { has_type (kinds_of known.now) (tree_of ty.now) (expression_of e.now) ≡ true }
     ensures is { IfOk result (λ v. value_of v ≡ meaning.value_of (known_of known.now) (expression_of e.now)) }
     ensures fits { IfOk result (λ v. fits (tree_of ty.now) (value_of v) ≡ true) }
@@ -77,7 +72,8 @@ pub(crate) fn eval(
 /// The value of an expression with a type of its own.
 #[cycle(eval)]
 fn eval_own(alloc: Global, known: &Known, e: &Expr) -> Result<Value, NoMemory>
-    requires { has_type (kinds_of known.now) (own_type (kinds_of known.now) (expression_of e.now)) (expression_of e.now) ≡ true }
+    requires { has_type (kinds_of known.now) (own_type (kinds_of known.now) (expression_of e.now))
+        (expression_of e.now) ≡ true }
     ensures is { IfOk result (λ v. value_of v ≡ meaning.value_of (known_of known.now) (expression_of e.now)) }
     ensures fits { IfOk result (λ v. fits (own_type (kinds_of known.now) (expression_of e.now)) (value_of v) ≡ true) }
 {
@@ -85,7 +81,8 @@ fn eval_own(alloc: Global, known: &Known, e: &Expr) -> Result<Value, NoMemory>
         Expr::Argument(i) => known.argument(alloc, *i),
         Expr::Outcome(i) => known.outcome(alloc, *i),
         Expr::User => {
-            Ok(Value::Leaf(Bytes::from_slice(alloc, &known.user().to_le_bytes())?))
+            let user = known.user();
+            Ok(Value::Leaf(Bytes::from_slice(alloc, &user.to_le_bytes())?))
         }
         Expr::Element(whole, i) => {
             let Value::List(values) = eval_own(alloc, known, whole)? else {
@@ -107,7 +104,8 @@ pub(crate) fn eval_all(
     es: &Vec<Expr>,
 ) -> Result<Values, NoMemory>
     requires { have_types (kinds_of known.now) (trees_of types.now) (expressions_in es.now.items) ≡ true }
-    ensures is { IfOk result (λ vs. vs ≡ list_of_values (meaning.values_of (known_of known.now) (expressions_in es.now.items))) }
+    ensures is { IfOk result
+        (λ vs. vs ≡ list_of_values (meaning.values_of (known_of known.now) (expressions_in es.now.items))) }
 {
     let mut values = Values::new(alloc);
     for i in 0..types.len() {

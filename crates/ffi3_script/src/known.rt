@@ -23,17 +23,18 @@ pub(crate) struct Outcome<'a> {
 
 /// What an activation has seen, and the moves before the next one.
 #[derive(Clone, Copy)]
-pub(crate) struct Known<'a> {
+pub(crate) struct Known<'a, 'b, 'c> {
     sigs: &'a Sigs,
-    seen: &'a Seen<'a>,
     outcomes: &'a [Outcome<'a>],
+    seen: &'b Seen<'c>,
     ghost right: { list_all signature_is_right sigs.now ≡ true },
     ghost arguments_fit: { all_fit (trees_of seen.now.signature.arguments) (values_of (arguments_of seen.now)) ≡ true },
     ghost there: { list_all (is_there (length sigs.now) (length seen.now.results)) outcomes.now ≡ true },
-    ghost outcomes_fit: { all_fit (trees_of (map (outcome_type sigs.now) outcomes.now)) (values_of (map (outcome_value sigs.now seen.now.results) outcomes.now)) ≡ true },
+    ghost outcomes_fit: { all_fit (trees_of (map (outcome_type sigs.now) outcomes.now))
+        (values_of (map (outcome_value sigs.now seen.now.results) outcomes.now)) ≡ true },
 }
 
-impl<'a> Known<'a> {
+impl<'a, 'b, 'c> Known<'a, 'b, 'c> {
     ghost use Rattle.std.specs.Prelude.{◌≡◌, ◌<◌, length, true, map, IfOk, slice_index_or};
     ghost use Rattle.std.specs.List.{list_all};
     ghost use Rattle.ffi3_type_rules.specs.Tree.{trees_of};
@@ -44,10 +45,15 @@ impl<'a> Known<'a> {
     ghost use Rattle.ffi3_script.specs.KnownAt.{kinds_of, known_of};
 
     /// What is known after these moves.
-    pub(crate) fn new(sigs: &'a Sigs, seen: &'a Seen<'a>, outcomes: &'a [Outcome<'a>]) -> Known<'a>
+    pub(crate) fn new(
+        sigs: &'a Sigs,
+        outcomes: &'a [Outcome<'a>],
+        seen: &'b Seen<'c>,
+    ) -> Known<'a, 'b, 'c>
         requires right { list_all signature_is_right sigs.now ≡ true }
         requires there { list_all (is_there (length sigs.now) (length seen.now.results)) outcomes.now ≡ true }
-        requires fit { all_fit (trees_of (map (outcome_type sigs.now) outcomes.now)) (values_of (map (outcome_value sigs.now seen.now.results) outcomes.now)) ≡ true }
+        requires fit { all_fit (trees_of (map (outcome_type sigs.now) outcomes.now))
+            (values_of (map (outcome_value sigs.now seen.now.results) outcomes.now)) ≡ true }
         ensures kinds { kinds_of result ≡ kinds_from sigs.now seen.now outcomes.now }
         ensures is { known_of result ≡ known_from sigs.now seen.now outcomes.now }
     {
@@ -55,8 +61,8 @@ impl<'a> Known<'a> {
         seen.count();
         Known {
             sigs,
-            seen,
             outcomes,
+            seen,
         }
     }
 

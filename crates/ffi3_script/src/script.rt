@@ -29,14 +29,15 @@ pub struct Script {
     ghost right: { list_all signature_is_right sigs.value ≡ true },
     ghost few: { length functions.items + natives < 2 ^ 31 },
     ghost main_stands: { ∥ StandsIn sigs.value (length functions.items + natives) None main ∥₁ },
-    ghost bodies_stand: { ∥ All (λ f. StandsIn sigs.value (length functions.items + natives) (Some f.sig) f.body) functions.items ∥₁ },
+    ghost bodies_stand: { ∥ All (λ f. StandsIn sigs.value (length functions.items + natives) (Some f.sig) f.body)
+        functions.items ∥₁ },
     ghost typed: { script_is_typed natives (script_from sigs.value functions.items main) ≡ true },
 }
 
 impl Script {
     ghost use Rattle.std.specs.Prelude.{◌≡◌, ◌<◌, ◌+◌, ◌^◌, length, true, All, Some, None};
     ghost use Rattle.std.specs.List.{list_all};
-    ghost use Rattle.ffi3_type_rules.specs.Signature.{signature_at};
+    ghost use Rattle.ffi3_type_rules.specs.Signature.{signature_at, SignatureHasNoFault};
     ghost use Rattle.ffi3_run_rules.specs.Move.{no_signature};
     ghost use Rattle.ffi3_script_rules.specs.Typed.{script_is_typed, signature_is_right};
     ghost use Rattle.ffi3_script.specs.BodyOf.{moves_of, signatures_of, functions_of, signature_of};
@@ -52,7 +53,8 @@ impl Script {
     ) -> Script
         requires few { length functions.items + natives < 2 ^ 31 }
         requires main_stands { StandsIn sigs.value (length functions.items + natives) None main }
-        requires bodies_stand { All (λ f. StandsIn sigs.value (length functions.items + natives) (Some f.sig) f.body) functions.items }
+        requires bodies_stand { All (λ f. StandsIn sigs.value (length functions.items + natives) (Some f.sig) f.body)
+            functions.items }
         requires typed { script_is_typed natives (script_from sigs.value functions.items main) ≡ true }
         ensures is { script_of result ≡ script_from sigs.value functions.items main }
         ensures natives_are { natives_of result ≡ natives }
@@ -69,6 +71,7 @@ impl Script {
     pub fn sigs(&self) -> &Sigs
         ensures are { result.now ≡ (script_of self.now).signatures }
         ensures right { list_all signature_is_right result.now ≡ true }
+        ensures faultless { All SignatureHasNoFault result.now }
     {
         &self.sigs
     }
@@ -110,7 +113,8 @@ impl Script {
         requires { i < length (script_of self.now).functions }
         ensures moves_are { moves_of result.now ≡ (function_at (script_of self.now) i).body }
         ensures signatures_are { signatures_of result.now ≡ (script_of self.now).signatures }
-        ensures own_is { signature_of result.now ≡ signature_at (script_of self.now).signatures (function_at (script_of self.now) i).signature }
+        ensures own_is { signature_of result.now ≡
+            signature_at (script_of self.now).signatures (function_at (script_of self.now) i).signature }
         ensures functions_are { functions_of result.now ≡ length (script_of self.now).functions + natives_of self.now }
     {
         &self.functions[i as usize].body

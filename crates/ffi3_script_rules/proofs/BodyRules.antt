@@ -1,14 +1,12 @@
 -- A walk along the moves of a body: what the moves that are left do after those before them.
-use Rattle.std.proofs.Common.{◌≡◌, ℕ, zero, suc, ◌+◌, ◌<◌, ◌≤◌, Bool, true, false, List, [], ◌∷◌, ◌++◌, length, take, Some, None, refl, ap, sym, ◌∙◌, subst, arith}
-use Rattle.std.specs.Prelude.{◌&&◌, slice_index_or, is_none}
-use Rattle.ffi3_type_rules.specs.Tree.{scalar, pointer, trees_of}
-use Rattle.ffi3_type_rules.specs.Signature.{signature_at}
+use Rattle.std.proofs.Common.{◌≡◌, ℕ, zero, suc, ◌+◌, ◌<◌, true, false, List, [], ◌∷◌, ◌++◌, length, take, refl, ap, sym, ◌∙◌, subst, arith}
+use Rattle.std.specs.Prelude.{slice_index_or, is_none}
 use Rattle.ffi3_type_rules.specs.Value.{ValueTree, void_value, fits, zero_value}
 use Rattle.ffi3_run_rules.specs.Move.{Move, result_type_of}
-use Rattle.ffi3_script_rules.specs.Script.{Act, call, make, free, print, return, return_void, ScriptMove}
+use Rattle.ffi3_script_rules.specs.Script.{ScriptMove}
 use Rattle.ffi3_script_rules.specs.Bodies.{type_of_act, is_return, always_returns, ends}
 use Rattle.ffi3_script_rules.specs.Meaning.{Known, move_of, is_done, next_by, next_of, knows_too}
-use Rattle.ffi3_script_rules.specs.Typed.{Kinds, Setting, IsOfType, act_is_typed, has_type, have_types, moves_are_typed, is_condition, gives_too}
+use Rattle.ffi3_script_rules.specs.Typed.{Kinds, Setting, IsOfType, act_is_typed, moves_are_typed, is_condition, gives_too}
 use Rattle.ffi3_script_rules.proofs.Tests.{and_left, and_right}
 use Rattle.ffi3_script_rules.proofs.RightTypes.{is_none-none}
 use Rattle.ffi3_script_rules.proofs.Fits.{result_fits, none_after_return}

@@ -1,19 +1,16 @@
 -- What the reading of words answers, from what clap answers.
-use Rattle.std.proofs.Common.{◌≡◌, ◌∙◌, ◌⊎◌, List, [], Option, Some, None, inl, inr, refl, sym, ap, subst, true}
+use Rattle.std.proofs.Common.{◌≡◌, ◌∙◌, List, [], Some, None, inl, inr, refl, sym, ap, subst, true}
 use Rattle.clap.specs.Words.{App, HasKind, IsAmong, Text, fault_of, kind_of, is_simple, is_simple_and_free, subcommand_of, subcommand_rows_of}
 use Rattle.clap.specs.declared.error.Error.{Error}
 use Rattle.clap.specs.declared.parser.matches.ArgMatches.{ArgMatches}
 use Rattle.ffi3_words.specs.declared.words.Request.{Request}
 use Rattle.ffi3_words.specs.declared.words.WordsFault.{WordsFault}
 use Rattle.ffi3_words.specs.declared.words.WordsFault.TheVariants.{Refused, NoMemory}
-use Rattle.ffi3_words.specs.Commands.{IsProgram, asked, program}
-use Rattle.ffi3_words.specs.Words.{IsRefusal, IsStated, IsToldAs, Takes}
-use Rattle.ffi3_words.proofs.Asked.{something_asked}
+use Rattle.ffi3_words.specs.Commands.{IsProgram, asked, nowhere, program, program_at}
+use Rattle.ffi3_words.specs.Words.{IsRefusal, IsRefused, IsStated, IsToldAs, Takes}
+use Rattle.ffi3_words.proofs.Asked.{Both, something_asked}
 use Rattle.ffi3_words.proofs.Program.{is_free, is_plain}
-use Rattle.ffi3_words.proofs.Stated.{stated_is_read}
-
-some_is : {X : Type 0} (x y : X) → Some x ≡ Some y → x ≡ y
-some_is x y e = cc
+use Rattle.ffi3_words.proofs.Stated.{some_is, stated_not_refused}
 
 none_is_some : {X : Type 0} (x : X) → None ≡ Some x → ⊥
 none_is_some x e = cc
@@ -26,44 +23,39 @@ module _ (a : App) (is : IsProgram a) where
   simple = ap is_simple is.same ∙ is_plain is.placing is.running
 
   module _ (words : List Text) where
-    told : fault_of a words ≡ [] → fault_of (program is.placing is.running) words ≡ []
-    told fine = ap (λ (x : App). fault_of x words) (sym is.same) ∙ fine
+    -- where clap finds no fault, the words are taken, and read as the code reads them
+    pub read : fault_of a words ≡ [] → (r : Request) × Takes words r × (asked (subcommand_of a words) ≡ Some r)
+    read fine =
+        let here : Both = (is.placing, is.running) in
+        let fine' : fault_of (program_at is.placing is.running) words ≡ [] = ap (λ (x : App). fault_of x words) (sym is.same) ∙ fine in
+        let told = something_asked here words fine' in
+        let there = told.1 (nowhere, nowhere) in
+        (told.0, record { passes = there.0; means = there.1 }, ap (λ (x : App). asked (subcommand_of x words)) is.same ∙ (told.1 here).1)
+
+    -- what clap takes of the program, it takes wherever its words lie
+    pub fine_here : fault_of program words ≡ [] → fault_of a words ≡ []
+    fine_here fine =
+        let told = something_asked (nowhere, nowhere) words fine in
+        ap (λ (x : App). fault_of x words) is.same ∙ (told.1 (is.placing, is.running)).0
 
     module _ (m : ArgMatches) (fine : fault_of a words ≡ []) (met : subcommand_rows_of m ≡ subcommand_of a words) where
-      met_in : subcommand_rows_of m ≡ subcommand_of (program is.placing is.running) words
-      met_in = met ∙ ap (λ (x : App). subcommand_of x words) is.same
-
-      pub taken_as : (r : Request) → asked (subcommand_rows_of m) ≡ Some r → Takes words r
-      taken_as r asks =
-          record { placing = is.placing; running = is.running; passes = told fine; means = ap asked (sym met_in) ∙ asks }
-
-      pub stated_as : (q r : Request) → asked (subcommand_rows_of m) ≡ Some q → IsStated words r → q ≡ r
-      stated_as q r asks stated =
-          some_is q r (sym asks ∙ (ap asked met_in ∙ (stated_is_read is.placing is.running words r stated).1))
+      pub taken_as : (q : Request) → asked (subcommand_rows_of m) ≡ Some q → Takes words q
+      taken_as q asks =
+          let told = read fine in
+          subst (Takes words) (some_is told.0 q (sym told.2 ∙ (ap asked (sym met) ∙ asks))) told.1
 
       pub asks_something : asked (subcommand_rows_of m) ≡ None → ⊥
       asks_something none =
-          let read = something_asked is.placing is.running words (told fine) in
-          none_is_some read.0 (sym none ∙ (ap asked met_in ∙ read.1))
-
-    pub stated_fails : (e : Error) (f : WordsFault) (r : Request) → HasKind (fault_of a words) e → IsToldAs e f → IsStated words r → f ≡ NoMemory
-    stated_fails e NoMemory r has tells stated = refl
-    stated_fails e (Refused text) r (inl memory) tells stated = absurd (tells memory)
-    stated_fails e (Refused text) r (inr among) tells stated = absurd (fails among)
-      where
-        fails : IsAmong (kind_of e) (fault_of a words) → ⊥
-        fails among' =
-            let none : fault_of a words ≡ [] = ap (λ (x : App). fault_of x words) is.same ∙ (stated_is_read is.placing is.running words r stated).0 in
-            subst (IsAmong (kind_of e)) none among'
+          let told = read fine in none_is_some told.0 (sym none ∙ (ap asked met ∙ told.2))
 
     pub refused_as : (e : Error) (f : WordsFault) → HasKind (fault_of a words) e → IsToldAs e f → IsRefusal words f
     refused_as e NoMemory has tells = tt
-    refused_as e (Refused text) has tells =
-        let named = without_memory has in (
-          record { placing = is.placing; running = is.running; fails = λ none. subst (IsAmong (kind_of e)) (ap (λ (x : App). fault_of x words) is.same ∙ none) named },
-          λ r stated. subst (IsAmong (kind_of e)) (ap (λ (x : App). fault_of x words) is.same ∙ (stated_is_read is.placing is.running words r stated).0) named,
-        )
-      where
-        without_memory : HasKind (fault_of a words) e → IsAmong (kind_of e) (fault_of a words)
-        without_memory (inl memory) = absurd (tells memory)
-        without_memory (inr among) = among
+    refused_as e (Refused text) (inl memory) tells = absurd (tells memory)
+    refused_as e (Refused text) (inr among) tells =
+        let refused : IsRefused words = λ fine. subst (IsAmong (kind_of e)) (fine_here fine) among in
+        (refused, λ r stated. stated_not_refused words r stated refused)
+
+-- words that are stated are refused for want of memory alone
+pub stated_fails : (words : List Text) (f : WordsFault) (r : Request) → IsRefusal words f → IsStated words r → f ≡ NoMemory
+stated_fails words NoMemory r refusal stated = refl
+stated_fails words (Refused text) r refusal stated = absurd (refusal.1 r stated)

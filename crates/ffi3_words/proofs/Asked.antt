@@ -1,23 +1,25 @@
 -- Where clap finds no fault in the words, they ask for something.
 use Rattle.std.proofs.Common.{◌≡◌, ◌∙◌, ◌||◌, ◌⊎◌, ◌++◌, ℕ, Bool, true, false, cond, not, List, [], ◌∷◌, codes, Option, Some, None, inl, inr, refl, sym, ap, subst, is_some, true≢false}
-use Rattle.std.specs.List.{find, fold, list_any}
-use Rattle.std.specs.Option.{option_map, option_and_then}
+use Rattle.std.specs.List.{AllByRecursion, fold, list_any}
+use Rattle.std.specs.Borrow.{Bor}
+use Rattle.clap.specs.Values.{same_text}
+use Rattle.std.specs.Option.{option_map}
 use Rattle.std.specs.Str.{bytes_eq}
 use Rattle.std.proofs.lemmas.Slice.Eq.{bytes_eq-Decides}
 use Rattle.clap.specs.Facts.{explicit_source}
 use Rattle.clap.specs.Lexer.{long_of, short_of}
-use Rattle.clap.specs.Words.{App, Row, Rule, Shape, Text, first_of, fault_of, subcommand_of, built}
-use Rattle.clap.specs.ValueTests.{accepts}
-use Rattle.clap.specs.Walk.{Held, Names, Outcome, Step, Waiting, Walk, after_flag, after_step, arg_by_index, done, finished, idle, long_or_other, next, nothing_held, option, plain, plain_word, positional, refused, rows_after, settled, short_or_plain, stop_after, subcommand, subcommand_met, subcommand_or_other, to_positional, trailing, value, waits, walk, walk_from, walked, walked_from, word_met}
+use Rattle.clap.specs.Words.{App, Row, Rule, Shape, Text, fault_of, subcommand_of, built}
+use Rattle.clap.specs.Walk.{Held, Names, Outcome, Step, Waiting, Walk, after_flag, after_step, arg_by_index, done, finished, idle, long_or_other, next, nothing_held, option, plain, plain_word, positional, refused, settled, short_or_plain, subcommand, subcommand_or_other, to_positional, trailing, value, waits, walk, walked, walked_from}
 use Rattle.clap.specs.Simple.{argument_words, entered, names_of}
-use Rattle.clap.specs.Faults.{check_fault, defaults_fault, entered_fault, level_fault, other_fault, settle_fault, turn_fault, walk_fault}
+use Rattle.clap.specs.Faults.{check_fault, defaults_fault, entered_fault, other_fault, settle_fault, turn_fault, walk_fault}
 use Rattle.clap.specs.declared.error.kind.ErrorKind.TheVariants.{DisplayHelpOnMissingArgumentOrSubcommand, MissingSubcommand}
 use Rattle.ffi3_type_rules.specs.declared.Target.{Target}
 use Rattle.ffi3_type_rules.specs.declared.Target.TheVariants.{Amd64, Aapcs64, Riscv}
 use Rattle.ffi3_words.specs.declared.words.Request.{Request}
 use Rattle.ffi3_words.specs.declared.words.Request.TheVariants.{Layout, Place, Run}
-use Rattle.ffi3_words.specs.Commands.{Addresses, asked, one_of_words, place_targets, program, request_of, run_targets, target_of, with_target_of}
-use Rattle.ffi3_words.proofs.Level.{built_with, has_target, never, or_none}
+use Rattle.ffi3_words.specs.Commands.{Addresses, after_first, lent, asked, one_of_words, place_targets, program_at, run_targets, target_of, with_target_of}
+use Rattle.clap.specs.Kinds.{Kinds, or_else}
+use Rattle.ffi3_words.proofs.Level.{has_target, never, or_both, or_none}
 
 -- ---- a step at which no command is met
 
@@ -78,15 +80,19 @@ abbrev StopsKnown : Option (Text × List Text) → Type 0
 StopsKnown None = Unit {0}
 StopsKnown (Some p) = Known p.0
 
-module _ (at at' : Addresses) where
-  abbrev app : App
-  app = built (program at at')
+-- where the words of the two options lie
+abbrev pub Both : Type 0
+Both = Addresses × Addresses
 
+abbrev app : Both → App
+app i = built (program_at i.0 i.1)
+
+module _ (o : Both) where
   abbrev top : Shape
-  top = app.top
+  top = (app o).top
 
   abbrev names : Names
-  names = names_of app
+  names = names_of (app o)
 
   abbrev standing : Held → Waiting → ℕ → Bool → Walk
   standing h waiting position is_trailing =
@@ -147,58 +153,81 @@ module _ (at at' : Addresses) where
   abbrev IsTarget : Text → Type 0
   IsTarget v = (t : Target) × (target_of v ≡ Some t)
 
-  is_place_target : (v : Text) (is_amd64 is_aapcs64 is_riscv : Bool) → bytes_eq (codes "amd64") v ≡ is_amd64 → bytes_eq (codes "aapcs64") v ≡ is_aapcs64 → bytes_eq (codes "riscv") v ≡ is_riscv → (is_amd64 || (is_aapcs64 || (is_riscv || false))) ≡ true → IsTarget v
-  is_place_target v true b2 b3 e1 e2 e3 one = subst IsTarget ((bytes_eq-Decides (codes "amd64") v).0 e1) (Amd64, refl)
-  is_place_target v false true b3 e1 e2 e3 one = subst IsTarget ((bytes_eq-Decides (codes "aapcs64") v).0 e2) (Aapcs64, refl)
-  is_place_target v false false true e1 e2 e3 one = subst IsTarget ((bytes_eq-Decides (codes "riscv") v).0 e3) (Riscv, refl)
-  is_place_target v false false false e1 e2 e3 one = absurd (true≢false (sym one))
+  one_more : (v t : Text) (is_first is_later : Bool) → bytes_eq t v ≡ is_first → IsTarget t → (is_later ≡ true → IsTarget v) → (is_first || is_later) ≡ true → IsTarget v
+  one_more v t true is_later e known more is_one = subst IsTarget ((bytes_eq-Decides t v).0 e) known
+  one_more v t false is_later e known more is_one = more is_one
 
-  is_run_target : (v : Text) (is_amd64 : Bool) → bytes_eq (codes "amd64") v ≡ is_amd64 → (is_amd64 || false) ≡ true → IsTarget v
-  is_run_target v true e one = subst IsTarget ((bytes_eq-Decides (codes "amd64") v).0 e) (Amd64, refl)
-  is_run_target v false e one = absurd (true≢false (sym one))
+  -- one of the words of targets is the word of a target
+  is_target : (v : Text) (at : Addresses) (ts : List Text) → AllByRecursion IsTarget ts → list_any (λ (t : Bor Text). same_text false t.now v) (lent at ts) ≡ true → IsTarget v
+  is_target v at [] known is_one = absurd (true≢false (sym is_one))
+  is_target v at (t ∷ ts) known is_one =
+      one_more v t (bytes_eq t v) (list_any (λ (x : Bor Text). same_text false x.now v) (lent (after_first at) ts)) refl known.0 (is_target v (after_first at) ts known.1) is_one
+
+  place_targets_known : AllByRecursion IsTarget place_targets
+  place_targets_known = ((Amd64, refl), ((Aapcs64, refl), ((Riscv, refl), tt)))
+
+  run_targets_known : AllByRecursion IsTarget run_targets
+  run_targets_known = ((Amd64, refl), tt)
 
   -- ---- the command that was met
 
+  -- wherever the words lie, clap finds no fault in the command and reads it as this
   abbrev Asks : Option (Text × List Text) → Type 0
-  Asks stop = (r : Request) × (asked (entered app stop) ≡ Some r)
+  Asks stop =
+      (r : Request) × ((i : Both) → (entered_fault (app i) stop ≡ []) × (is_some (entered (app i) stop) ≡ true) × (asked (entered (app i) stop) ≡ Some r))
 
-  asks_place : (rest : List Text) → entered_fault app (Some (codes "place", rest)) ≡ [] → Asks (Some (codes "place", rest))
+  asks_layout : (rest : List Text) → entered_fault (app o) (Some (codes "layout", rest)) ≡ [] → Asks (Some (codes "layout", rest))
+  asks_layout rest fine = (Layout, λ i. (fine, refl, refl))
+
+  asks_place : (rest : List Text) → entered_fault (app o) (Some (codes "place", rest)) ≡ [] → Asks (Some (codes "place", rest))
   asks_place rest fine =
-      let got = has_target (codes "place") (one_of_words at place_targets) rest fine in
-      let is = is_place_target got.0 _ _ _ refl refl refl got.1 in
-      (Place is.0, ap (λ o. with_target_of o (λ t. Place t)) got.2 ∙ ap (option_map (λ t. Place t)) is.1)
+      let got = has_target (codes "place") (λ (i : Both). one_of_words i.0 place_targets) o (λ v e i. e) rest fine in
+      let is = is_target got.0 (after_first o.0) place_targets place_targets_known (got.1 o) in
+      (Place is.0, λ i. ((got.2 i).0, refl, ap (λ p. with_target_of p (λ t. Place t)) (got.2 i).1 ∙ ap (option_map (λ t. Place t)) is.1))
 
-  asks_run : (rest : List Text) → entered_fault app (Some (codes "run", rest)) ≡ [] → Asks (Some (codes "run", rest))
+  asks_run : (rest : List Text) → entered_fault (app o) (Some (codes "run", rest)) ≡ [] → Asks (Some (codes "run", rest))
   asks_run rest fine =
-      let got = has_target (codes "run") (one_of_words at' run_targets) rest fine in
-      let is = is_run_target got.0 _ refl got.1 in
-      (Run is.0, ap (λ o. with_target_of o (λ t. Run t)) got.2 ∙ ap (option_map (λ t. Run t)) is.1)
+      let got = has_target (codes "run") (λ (i : Both). one_of_words i.1 run_targets) o (λ v e i. e) rest fine in
+      let is = is_target got.0 (after_first o.1) run_targets run_targets_known (got.1 o) in
+      (Run is.0, λ i. ((got.2 i).0, refl, ap (λ p. with_target_of p (λ t. Run t)) (got.2 i).1 ∙ ap (option_map (λ t. Run t)) is.1))
 
   wants : (wants_help : Bool) → cond wants_help (DisplayHelpOnMissingArgumentOrSubcommand ∷ []) (MissingSubcommand ∷ []) ≡ [] → ⊥
   wants true fine = never fine
   wants false fine = never fine
 
-  asks : (rs : List Row) (stop : Option (Text × List Text)) → StopsKnown stop → entered_fault app stop ≡ [] → check_fault top rs (is_some (entered app stop)) ≡ [] → Asks stop
+  asks : (rs : List Row) (stop : Option (Text × List Text)) → StopsKnown stop → entered_fault (app o) stop ≡ [] → check_fault top rs (is_some (entered (app o) stop)) ≡ [] → Asks stop
   asks rs None known fine checked = absurd (wants (not (list_any (λ (r : Row). explicit_source r.source) rs)) checked)
-  asks rs (Some p) (inl is) fine checked =
-      let P : Text → Type 0 = λ name. Asks (Some (name, p.1)) in
-      subst P (sym is) (Layout, refl)
-  asks rs (Some p) (inr (inl is)) fine checked =
-      let P : Text → Type 0 = λ name. entered_fault app (Some (name, p.1)) ≡ [] → Asks (Some (name, p.1)) in
-      subst P (sym is) (asks_place p.1) fine
-  asks rs (Some p) (inr (inr is)) fine checked =
-      let P : Text → Type 0 = λ name. entered_fault app (Some (name, p.1)) ≡ [] → Asks (Some (name, p.1)) in
-      subst P (sym is) (asks_run p.1) fine
+  asks rs (Some p) known fine checked = asks_known p.0 known fine
+    where
+      asks_known : (name : Text) → Known name → entered_fault (app o) (Some (name, p.1)) ≡ [] → Asks (Some (name, p.1))
+      asks_known name (inl is) =
+          let P : Text → Type 0 = λ n. entered_fault (app o) (Some (n, p.1)) ≡ [] → Asks (Some (n, p.1)) in subst P (sym is) (asks_layout p.1)
+      asks_known name (inr (inl is)) =
+          let P : Text → Type 0 = λ n. entered_fault (app o) (Some (n, p.1)) ≡ [] → Asks (Some (n, p.1)) in subst P (sym is) (asks_place p.1)
+      asks_known name (inr (inr is)) =
+          let P : Text → Type 0 = λ n. entered_fault (app o) (Some (n, p.1)) ≡ [] → Asks (Some (n, p.1)) in subst P (sym is) (asks_run p.1)
 
   abbrev at_end : List Text → Walk
-  at_end words = walk top.rules names nothing_held (argument_words (program at at') words)
+  at_end words = walk top.rules names nothing_held (argument_words (program_at o.0 o.1) words)
 
-  pub something_asked : (words : List Text) → fault_of (program at at') words ≡ [] → (r : Request) × (asked (subcommand_of (program at at') words) ≡ Some r)
+  -- where clap finds no fault, it finds none wherever the words of the options lie, and reads the same
+  pub something_asked : (words : List Text) → fault_of (program_at o.0 o.1) words ≡ [] → (r : Request) × ((i : Both) → (fault_of (program_at i.0 i.1) words ≡ []) × (asked (subcommand_of (program_at i.0 i.1) words) ≡ Some r))
   something_asked words fine =
       let end = at_end words in
+      let settling = settle_fault top.rules top.args_override_self end.held in
+      let defaulting = defaults_fault (settled top.rules end.held).rows top.rules in
+      let rs = finished top.rules end.held in
+      let checking : Both → Kinds = λ i. check_fault top rs (is_some (entered (app i) end.stopped)) in
       let walked_well = or_none _ _ fine in
-      let entered_well = or_none (entered_fault app end.stopped) _ walked_well.1 in
-      let settled_well = or_none (settle_fault top.rules top.args_override_self end.held) _ entered_well.1 in
-      let checked = or_none (defaults_fault (settled top.rules end.held).rows top.rules) (check_fault top (finished top.rules end.held) (is_some (entered app end.stopped))) settled_well.1 in
-      let known = all_words (argument_words (program at at') words) nothing_held idle 1 false walked_well.0 in
-      asks (finished top.rules end.held) end.stopped known entered_well.0 checked.1
+      let entered_well = or_none (entered_fault (app o) end.stopped) _ walked_well.1 in
+      let settled_well = or_none settling _ entered_well.1 in
+      let checked = or_none defaulting (checking o) settled_well.1 in
+      let known = all_words (argument_words (program_at o.0 o.1) words) nothing_held idle 1 false walked_well.0 in
+      let is = asks rs end.stopped known entered_well.0 checked.1 in
+      let check : (i : Both) → checking i ≡ [] = λ i. subst (λ (met : Bool). check_fault top rs met ≡ []) ((is.1 o).1 ∙ sym (is.1 i).1) checked.1 in (
+        is.0,
+        λ i. (
+          or_both _ _ walked_well.0 (or_both (entered_fault (app i) end.stopped) (or_else settling (or_else defaulting (checking i))) (is.1 i).0 (or_both settling (or_else defaulting (checking i)) settled_well.0 (or_both defaulting (checking i) checked.0 (check i)))),
+          (is.1 i).2,
+        ),
+      )

@@ -1,12 +1,12 @@
 -- The program that the code builds is the one that is described.
-use Rattle.std.proofs.Common.{◌≡◌, ◌∙◌, ℕ, zero, suc, Bool, true, List, [], ◌∷◌, map, codes, refl, sym, ap, ap₂, IfOk}
+use Rattle.std.proofs.Common.{◌≡◌, ◌∙◌, ℕ, zero, suc, true, List, [], ◌∷◌, map, codes, refl, ap, ap₂}
 use Rattle.std.specs.Borrow.{Bor}
 use Rattle.clap.specs.Words.{App, Rule, Shape, Text, app_of, shape_of, is_simple, is_simple_and_free, new_app, with_rule, with_subcommand}
 use Rattle.clap.specs.declared.builder.command.Command.{Command}
 use Rattle.clap.specs.declared.builder.value_parser.ValueParser.{ValueParser}
 use Rattle.clap.specs.declared.builder.value_parser.ValueParser.TheVariants as vp
 use Rattle.clap.proofs.OnLiterals.{clap_on_literals}
-use Rattle.ffi3_words.specs.Commands.{Addresses, after_first, lent, one_of_words, place_targets, run_targets, target_rule, layout_shape, with_target, program_alone, program, IsProgram, IsTargetRule, HasTarget}
+use Rattle.ffi3_words.specs.Commands.{Addresses, lent, one_of_words, place_targets, run_targets, target_rule, layout_shape, program_alone, program_at, IsProgram, IsTargetRule, HasTarget}
 
 -- where texts lie
 abbrev addresses : List (Bor Text) → Addresses
@@ -39,10 +39,10 @@ is_program a b c d l p r alone lays places runs first second third =
       same = third ∙ ap₂ with_subcommand (second ∙ ap₂ with_subcommand (first ∙ ap₂ with_subcommand alone lays) places.same) runs.same;
     }
 
-pub is_free : (at at' : Addresses) → is_simple_and_free (program at at') ≡ true
+pub is_free : (at at' : Addresses) → is_simple_and_free (program_at at at') ≡ true
 unfolding clap_on_literals
 is_free at at' = refl
 
-pub is_plain : (at at' : Addresses) → is_simple (program at at') ≡ true
+pub is_plain : (at at' : Addresses) → is_simple (program_at at at') ≡ true
 unfolding clap_on_literals
 is_plain at at' = refl

@@ -1,5 +1,5 @@
 -- The program as clap reads it: its commands and their options, and what its matches ask for.
-use Rattle.std.specs.Prelude.{◌≡◌, ℕ, zero, suc, ◌+◌, Bool, true, cond, List, [], ◌∷◌, map, codes, Option, Some, None}
+use Rattle.std.specs.Prelude.{◌≡◌, ℕ, suc, true, cond, List, [], ◌∷◌, codes, Option, Some, None}
 use Rattle.std.specs.Option.{option_and_then, option_map}
 use Rattle.std.specs.Str.{bytes_eq}
 use Rattle.std.specs.Borrow.{Bor}
@@ -25,7 +25,7 @@ target_of word =
 
 -- ---- the commands and their options
 
--- where texts lie in memory, which no answer depends on
+-- where texts lie in memory
 abbrev pub Addresses : Type 0
 Addresses = ℕ → ℕ × ℕ
 
@@ -63,14 +63,17 @@ abbrev pub program_with : ValueParser → ValueParser → App
 program_with placing running =
     with_subcommand (with_subcommand (with_subcommand program_alone layout_shape) (with_target (codes "place") placing)) (with_target (codes "run") running)
 
--- THE PROGRAM, with its texts at these addresses
-abbrev pub program : Addresses → Addresses → App
-program at at' = program_with (one_of_words at place_targets) (one_of_words at' run_targets)
+abbrev pub program_at : Addresses → Addresses → App
+program_at placing running =
+    program_with (one_of_words placing place_targets) (one_of_words running run_targets)
 
-pub record IsProgram (a : App) : Type 0 where
-  pub placing : Addresses
-  pub running : Addresses
-  pub same : a ≡ program placing running
+-- where the words of a target lie changes nothing in what clap takes (`something_asked` in proofs/Asked.antt)
+abbrev pub nowhere : Addresses
+nowhere n = (0, 0)
+
+-- THE PROGRAM as clap reads it
+abbrev pub program : App
+program = program_at nowhere nowhere
 
 -- ---- what is asked for
 
@@ -87,6 +90,12 @@ abbrev pub asked : Option (Text × List Row) → Option Request
 asked = option_and_then (λ p. request_of p.0 (first_of (codes "target") p.1))
 
 -- ---- what the code states of its parts
+
+-- the program, with the words of its targets somewhere
+pub record IsProgram (a : App) : Type 0 where
+  pub placing : Addresses
+  pub running : Addresses
+  pub same : a ≡ program_at placing running
 
 pub record IsTargetRule (words : List (Bor Text)) (r : Rule) : Type 0 where
   pub list : ℕ × ℕ

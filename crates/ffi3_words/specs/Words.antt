@@ -1,5 +1,5 @@
 -- The words that ask for something, and those that clap takes and refuses.
-use Rattle.std.specs.Prelude.{◌≡◌, ℕ, List, [], ◌∷◌, drop, codes, Some}
+use Rattle.std.specs.Prelude.{◌≡◌, List, [], ◌∷◌, codes, Some}
 use Rattle.clap.specs.Words.{Text, fault_of, kind_of, subcommand_of}
 use Rattle.clap.specs.declared.error.Error.{Error}
 use Rattle.clap.specs.declared.error.kind.ErrorKind.TheVariants.{OutOfMemory}
@@ -9,7 +9,7 @@ use Rattle.ffi3_words.specs.declared.words.Request.{Request}
 use Rattle.ffi3_words.specs.declared.words.Request.TheVariants.{Layout, Place, Run}
 use Rattle.ffi3_words.specs.declared.words.WordsFault.{WordsFault}
 use Rattle.ffi3_words.specs.declared.words.WordsFault.TheVariants.{Refused, NoMemory}
-use Rattle.ffi3_words.specs.Commands.{Addresses, program, asked}
+use Rattle.ffi3_words.specs.Commands.{program, asked}
 
 abbrev pub target_word : Target → Text
 target_word Amd64 = codes "amd64"
@@ -31,18 +31,14 @@ abbrev pub IsStated : List Text → Request → Type 0
 IsStated [] r = ⊥
 IsStated (name ∷ rest) r = StatesAfterName rest r
 
--- CLAP TAKES the words, for want of memory at most refuses them, and reads them as this
+-- CLAP TAKES the words, unless memory is refused, and they ask for this
 pub record Takes (words : List Text) (r : Request) : Type 0 where
-  pub placing : Addresses
-  pub running : Addresses
-  pub passes : fault_of (program placing running) words ≡ []
-  pub means : asked (subcommand_of (program placing running) words) ≡ Some r
+  pub passes : fault_of program words ≡ []
+  pub means : asked (subcommand_of program words) ≡ Some r
 
 -- CLAP REFUSES the words for another cause than memory; a request for help or the version counts
-pub record IsRefused (words : List Text) : Type 0 where
-  pub placing : Addresses
-  pub running : Addresses
-  pub fails : fault_of (program placing running) words ≡ [] → ⊥
+abbrev pub IsRefused : List Text → Type 0
+IsRefused words = fault_of program words ≡ [] → ⊥
 
 abbrev pub IsRefusal : List Text → WordsFault → Type 0
 IsRefusal words (Refused text) = IsRefused words × ((r : Request) → IsStated words r → ⊥)

@@ -2,7 +2,8 @@
 ghost use Rattle.std.specs.Prelude.{◌≡◌, IfOk, false, codes};
 ghost use Rattle.clap.specs.Words.{app_of, rule_of, shape_of};
 ghost use Rattle.clap.specs.declared.builder.command.Command.TheViews.{out-Command};
-ghost use Rattle.ffi3_words.specs.Commands.{IsProgram, IsTargetRule, HasTarget, layout_shape, place_targets, run_targets};
+ghost use Rattle.ffi3_words.specs.Commands.{HasTarget, IsProgram, IsTargetRule};
+ghost use Rattle.ffi3_words.specs.Commands.{layout_shape, place_targets, run_targets};
 
 use crate::help;
 use clap::{Arg, Command};

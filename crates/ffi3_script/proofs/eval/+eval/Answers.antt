@@ -1,14 +1,12 @@
-use Rattle.std.proofs.Common.{rules, ◌≡◌, ◌<◌, [], ◌∷◌, ◌++◌, take, true, ap, ◌∙◌, subst, sym, arith, length}
+use Rattle.std.proofs.Common.{◌≡◌, ◌<◌, [], ◌∷◌, ◌++◌, take, true, ap, ◌∙◌, subst, sym, arith, length}
 use Rattle.std.proofs.lemmas.Result.{IfOk-weaker}
-use Rattle.ffi3_type_rules.specs.Tree.{struct_of, trees_of}
 use Rattle.ffi3_type_rules.specs.Integer.{scalar_of, number_of, bytes_of_number}
 use Rattle.ffi3_type_rules.specs.Value.{fits, leaf_value, struct_value, bytes_of, values_of}
 use Rattle.ffi3_types.specs.TreeOf.{tree_of}
 use Rattle.ffi3_values.specs.ValueOf.{value_of}
-use Rattle.ffi3_script_rules.specs.Script as script
 use Rattle.ffi3_script_rules.specs.Meaning as meaning
-use Rattle.ffi3_script_rules.specs.Typed.{has_type, have_types, own_type}
-use Rattle.ffi3_script.specs.ExprOf.{expression_of, expressions_in}
+use Rattle.ffi3_script_rules.specs.Typed.{has_type, own_type}
+use Rattle.ffi3_script.specs.ExprOf.{expression_of}
 use Rattle.ffi3_script.specs.KnownAt.{kinds_of, known_of}
 use Rattle.ffi3_script.proofs.Rows.{as_many, typed_at, evaluated, evaluated-is, evaluated-next, evaluated-all}
 use Rattle.ffi3_script.proofs.Evaluated.{evaluated_fits, own_typed, element_there, element_is}

@@ -1,6 +1,6 @@
-use Rattle.std.proofs.Common.{rules, ◌≡◌, List, [], ◌∷◌, map, codes}
+use Rattle.std.proofs.Common.{rules, ◌≡◌, map, codes}
 use Rattle.std.proofs.lemmas.Result.{IfOk-weaker}
-use Rattle.clap.specs.Words.{Text, app_of, new_app, rule_of}
+use Rattle.clap.specs.Words.{app_of, new_app, rule_of}
 use Rattle.ffi3_words.specs.Commands.{place_targets}
 use Rattle.ffi3_words.proofs.Program.{has_target}
 use Rattle.ffi3_words.proofs.command.place.Goals as goal

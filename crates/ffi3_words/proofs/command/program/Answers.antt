@@ -1,6 +1,6 @@
-use Rattle.std.proofs.Common.{rules, ◌≡◌, List, [], ◌∷◌, map, codes}
+use Rattle.std.proofs.Common.{rules, ◌≡◌}
 use Rattle.std.proofs.lemmas.Result.{IfOk-weaker}
-use Rattle.clap.specs.Words.{Text, app_of, shape_of}
+use Rattle.clap.specs.Words.{app_of, shape_of}
 use Rattle.ffi3_words.specs.Commands.{program_alone}
 use Rattle.ffi3_words.proofs.Program.{is_program}
 use Rattle.ffi3_words.proofs.command.program.Goals as goal

@@ -1,0 +1,124 @@
+-- The moves of a function that calls nothing, one after another.
+use Rattle.std.proofs.Common.{◌≡◌, ℕ, suc, ◌+◌, List, [], ◌∷◌, ◌++◌, refl, sym, ap, ◌∙◌, subst, arith, append-nil}
+use Rattle.ffi3_type_rules.specs.Tree.{Tree}
+use Rattle.ffi3_type_rules.specs.Signature.{Signature}
+use Rattle.ffi3_type_rules.specs.Value.{ValueTree, void_value}
+use Rattle.ffi3_type_rules.specs.ValueText.{value_text_of}
+use Rattle.ffi3_run_rules.specs.declared.Stop.TheVariants.{MoveLimit}
+use Rattle.ffi3_run_rules.specs.Closures.{Closures}
+use Rattle.ffi3_run_rules.specs.Happenings.{written_out}
+use Rattle.ffi3_run_rules.specs.Journal.{events_in}
+use Rattle.ffi3_run_rules.specs.Lines.{a_line}
+use Rattle.ffi3_run_rules.specs.Move.{Move, call, make, free, print, return, Behaviour, result_type_of}
+use Rattle.ffi3_run_rules.specs.Meaning.{Program, Acting, Deeds, no_deeds, deed, line, Outcome, stops_with, act, next_move}
+use Rattle.ffi3_body.specs.Activation.{arguments_in}
+use Rattle.ffi3_body.specs.Follow.{IsOfType, ResultsFollow}
+use Rattle.ffi3_body.proofs.Follow.{one_more_follows}
+use Rattle.ffi3_run.specs.declared.line.Cut.{Cut}
+use Rattle.ffi3_run.specs.declared.line.Cut.TheVariants.{NoMemory}
+use Rattle.ffi3_run.specs.Told.{Took, TookLine}
+use Rattle.ffi3_run.specs.Deeds.{joined, preceded, text_of}
+use Rattle.ffi3_run.specs.Cuts.{CutOff}
+use Rattle.ffi3_run.specs.Leaf.{IsLeafMove, IsKept, Begins, LeafWent, LeafCame, returning}
+use Rattle.ffi3_run.proofs.Acts.{at_limit, act_returns, act_prints}
+use Rattle.ffi3_run.proofs.Joining.{text-joined, events_in-joined, preceded_twice}
+use Rattle.ffi3_run.proofs.Lines.{took_nothing, took_then, cut_after, cut_in, cut_between}
+
+-- the text of one line
+pub one_line : (p : Program) (t : Tree) (v : ValueTree) → text_of p (deed (line t v) no_deeds) ≡ a_line (value_text_of t v)
+one_line p t v = append-nil (a_line (value_text_of t v))
+
+-- a move that is neither print nor return is none of a leaf's
+pub no_call : (m : Move) (ptr sig : ℕ) (args : List ValueTree) → m ≡ call ptr sig args → IsLeafMove m → ⊥
+no_call m ptr sig args is leaf = subst IsLeafMove is leaf
+
+pub no_make : (m : Move) (func user : ℕ) → m ≡ make func user → IsLeafMove m → ⊥
+no_make m func user is leaf = subst IsLeafMove is leaf
+
+pub no_free : (m : Move) (ptr : ℕ) → m ≡ free ptr → IsLeafMove m → ⊥
+no_free m ptr is leaf = subst IsLeafMove is leaf
+
+-- nor is a free one that is kept
+pub no_free_kept : (m : Move) (ptr : ℕ) → m ≡ free ptr → IsKept m → ⊥
+no_free_kept m ptr is kept = subst IsKept is kept
+
+-- results follow after a print
+pub print_follows : (signatures : List Signature) (behaviour : Behaviour) (arguments : List ValueTree) (user : ℕ) (results : List ValueTree) (t : Tree) (v : ValueTree) → behaviour arguments user results ≡ print t v → ResultsFollow signatures behaviour arguments user results → ResultsFollow signatures behaviour arguments user (results ++ void_value ∷ [])
+print_follows signatures behaviour arguments user results t v is before =
+    let P : Move → Type 0 = λ m. IsOfType void_value (result_type_of signatures m) in
+    let this : P (print t v) = refl in
+    one_more_follows signatures behaviour arguments user results void_value before (subst P (sym is) this)
+
+module _ (behaviour : Behaviour) (s : Signature) (block : List ℕ) (user : ℕ) (p : Program) (a : Acting) (c : Closures) (begins : Begins behaviour s block user p a) (first : ℕ) (before : Took) where
+  abbrev at : List ValueTree → Acting
+  at results = record a { results = results }
+
+  abbrev asked : List ValueTree → Move
+  asked results = behaviour (arguments_in s.arguments block) user results
+
+  asks : (results : List ValueTree) → next_move p (at results) ≡ asked results
+  asks results =
+      ap (λ (f : Behaviour). f a.arguments a.user results) begins.behaviour_is
+      ∙ ap (λ (l : List ValueTree). behaviour l a.user results) begins.arguments_are
+      ∙ ap (λ (u : ℕ). behaviour (arguments_in s.arguments block) u results) begins.user_is
+
+  pub leaf_begins : LeafWent p a c first [] first before before
+  leaf_begins =
+      let same : a ≡ at [] = λ i. record a { results = begins.no_results i } in
+      record {
+        deeds = no_deeds;
+        quiet = refl;
+        follows = ap (λ (x : Acting). act p x c first) same;
+        lines = took_nothing before;
+      }
+
+  module _ (results : List ValueTree) (moves left : ℕ) (now : Took) (went : LeafWent p a c first results moves before now) where
+    -- cut off between two moves
+    pub leaf_cut_now : CutOff (text_of p (act p a c first).deeds) before now NoMemory
+    leaf_cut_now =
+        let rest = (act p (at results) c moves).deeds in
+        cut_between before now (text_of p went.deeds) (text_of p rest) (text_of p (act p a c first).deeds) (ap (λ (o : Outcome). text_of p o.deeds) went.follows ∙ text-joined p went.deeds rest) went.lines
+
+    pub leaf_limit : moves ≡ 0 → LeafCame p a c first (stops_with MoveLimit c 0) before now
+    leaf_limit none = record {
+      deeds = went.deeds;
+      quiet = went.quiet;
+      is = went.follows ∙ ap (preceded went.deeds) (ap (act p (at results) c) none ∙ at_limit p (at results) c);
+      lines = went.lines;
+    }
+
+    module _ (counts : moves ≡ suc left) where
+      pub leaf_returns : (v : ValueTree) → asked results ≡ return v → LeafCame p a c first (returning v c left) before now
+      leaf_returns v is = record {
+        deeds = went.deeds;
+        quiet = went.quiet;
+        is = went.follows ∙ ap (preceded went.deeds) (ap (act p (at results) c) counts ∙ act_returns p (at results) c left v (asks results ∙ is));
+        lines = went.lines;
+      }
+
+      module _ (t : Tree) (v : ValueTree) (is : asked results ≡ print t v) where
+        abbrev this : Deeds
+        this = deed (line t v) no_deeds
+
+        then_prints : act p a c first ≡ preceded went.deeds (preceded this (act p (at (results ++ void_value ∷ [])) c left))
+        then_prints =
+            went.follows ∙ ap (preceded went.deeds) (ap (act p (at results) c) counts ∙ act_prints p (at results) c left t v (asks results ∙ is))
+
+        -- the line is taken
+        pub leaf_prints : (after : Took) → TookLine (a_line (value_text_of t v)) now after → LeafWent p a c first (results ++ void_value ∷ []) left before after
+        leaf_prints after took = record {
+          deeds = joined went.deeds this;
+          quiet =
+              let e : events_in (written_out (joined went.deeds this)) ≡ events_in (written_out went.deeds) + 0 = events_in-joined went.deeds this in
+              omega (arith, e, went.quiet);
+          follows = then_prints ∙ preceded_twice went.deeds this (act p (at (results ++ void_value ∷ [])) c left);
+          lines = took_then before now after (text_of p went.deeds) (a_line (value_text_of t v)) (text_of p (joined went.deeds this)) (text-joined p went.deeds this ∙ ap (λ (l : List ℕ). text_of p went.deeds ++ l) (one_line p t v)) went.lines took;
+        }
+
+        -- cut off in the line
+        pub leaf_cut_in_line : (after : Took) (cut : Cut) → CutOff (a_line (value_text_of t v)) now after cut → CutOff (text_of p (act p a c first).deeds) before after cut
+        leaf_cut_in_line after cut h =
+            let o = act p (at (results ++ void_value ∷ [])) c left in
+            let rest = joined this o.deeds in
+            cut_after before now after (text_of p went.deeds) (text_of p rest) (text_of p (act p a c first).deeds) cut (ap (λ (x : Outcome). text_of p x.deeds) then_prints ∙ text-joined p went.deeds rest) went.lines
+            (cut_in now after (a_line (value_text_of t v)) (text_of p o.deeds) (text_of p rest) cut refl h)

@@ -1,0 +1,15 @@
+pub mod Tests
+pub mod Rights
+pub mod Spelling
+pub mod Acts
+pub mod Answering
+pub mod Joining
+pub mod Lines
+pub mod Going
+pub mod Leaves
+pub mod Limits
+pub mod Turns
+pub mod Makes
+pub mod Calls
+pub mod Scripts
+pub mod Ends

@@ -1,0 +1,6 @@
+pub mod Told
+pub mod Deeds
+pub mod Cuts
+pub mod Moment
+pub mod Leaf
+pub mod Programs

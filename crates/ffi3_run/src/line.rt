@@ -1,0 +1,165 @@
+//! The lines of a run: prints, and the line of a stop.
+ghost use Rattle.std.specs.Prelude.{◌≡◌, ◌<◌, ◌++◌, IfOk, MatchResult, codes, length, true};
+ghost use Rattle.std.specs.Fmt.{decimal};
+ghost use Rattle.std.specs.List.{list_all};
+ghost use Rattle.ffi3_type_rules.specs.Value.{fits};
+ghost use Rattle.ffi3_type_rules.specs.ValueText.{value_text_of};
+ghost use Rattle.ffi3_type_rules.specs.Signature.{signature_at};
+ghost use Rattle.ffi3_type_rules.specs.Text.{signature_text};
+ghost use Rattle.ffi3_types.specs.TreeOf.{tree_of};
+ghost use Rattle.ffi3_values.specs.ValueOf.{value_of};
+ghost use Rattle.ffi3_script_rules.specs.Typed.{signature_is_right};
+ghost use Rattle.ffi3_run_rules.specs.Lines.{a_line, address_text, stop_text};
+ghost use Rattle.ffi3_run.specs.Told.{TookLine, took};
+ghost use Rattle.ffi3_run.specs.Cuts.{CutOff, IsOfSigs};
+
+use ffi3_io::{Sink, write_all};
+use ffi3_run_rules::Stop;
+use ffi3_types::{Bytes, FfiType, NoMemory, Sigs, sig_text};
+use ffi3_values::{Value, value_text};
+use std::alloc::Global;
+
+/// Why a run is cut off.
+#[derive(Clone, Copy, Debug, PartialEq, Eq)]
+pub enum Cut {
+    /// Memory was refused.
+    NoMemory,
+    /// A write failed.
+    Failed,
+}
+
+/// Writes the line of a print.
+pub fn write_print<O: Sink>(
+    alloc: Global,
+    output: &mut O,
+    ty: &FfiType,
+    value: &Value,
+) -> Result<(), Cut>
+    requires { fits (tree_of ty.now) (value_of value.now) ≡ true }
+    ensures { MatchResult result
+        (λ _. TookLine (a_line (value_text_of (tree_of ty.now) (value_of value.now))) (took (O.taken output.old) (O.faults output.old)) (took (O.taken output.new) (O.faults output.new)))
+        (λ cut. CutOff (a_line (value_text_of (tree_of ty.now) (value_of value.now))) (took (O.taken output.old) (O.faults output.old)) (took (O.taken output.new) (O.faults output.new)) cut) }
+{
+    let Ok(line) = print_line(alloc, ty, value) else {
+        return Err(Cut::NoMemory);
+    };
+    write_line(output, &line)
+}
+
+/// Writes the line of a stop.
+pub fn write_stop<O: Sink>(
+    alloc: Global,
+    output: &mut O,
+    sigs: &Sigs,
+    stop: Stop,
+) -> Result<(), Cut>
+    requires right { list_all signature_is_right sigs.now ≡ true }
+    requires numbers { IsOfSigs (length sigs.now) stop }
+    ensures { MatchResult result
+        (λ _. TookLine (a_line (stop_text sigs.now stop)) (took (O.taken output.old) (O.faults output.old)) (took (O.taken output.new) (O.faults output.new)))
+        (λ cut. CutOff (a_line (stop_text sigs.now stop)) (took (O.taken output.old) (O.faults output.old)) (took (O.taken output.new) (O.faults output.new)) cut) }
+{
+    let Ok(line) = stop_line(alloc, sigs, stop) else {
+        return Err(Cut::NoMemory);
+    };
+    write_line(output, &line)
+}
+
+fn write_line<O: Sink>(output: &mut O, line: &Bytes) -> Result<(), Cut>
+    ensures { MatchResult result
+        (λ _. TookLine line.now (took (O.taken output.old) (O.faults output.old)) (took (O.taken output.new) (O.faults output.new)))
+        (λ cut. CutOff line.now (took (O.taken output.old) (O.faults output.old)) (took (O.taken output.new) (O.faults output.new)) cut) }
+{
+    match write_all(output, line.as_slice()) {
+        Ok(()) => Ok(()),
+        Err(_) => Err(Cut::Failed),
+    }
+}
+
+/// The line of a print: the value's text, and a newline.
+fn print_line(alloc: Global, ty: &FfiType, value: &Value) -> Result<Bytes, NoMemory>
+    requires { fits (tree_of ty.now) (value_of value.now) ≡ true }
+    ensures { IfOk result
+        (λ line. line ≡ a_line (value_text_of (tree_of ty.now) (value_of value.now))) }
+{
+    let mut line = value_text(alloc, ty, value)?;
+    line.push(b'\n')?;
+    Ok(line)
+}
+
+/// The line of a stop.
+fn stop_line(alloc: Global, sigs: &Sigs, stop: Stop) -> Result<Bytes, NoMemory>
+    requires right { list_all signature_is_right sigs.now ≡ true }
+    requires numbers { IsOfSigs (length sigs.now) stop }
+    ensures { IfOk result (λ line. line ≡ a_line (stop_text sigs.now stop)) }
+{
+    let mut line = stop_words(alloc, sigs, stop)?;
+    line.push(b'\n')?;
+    Ok(line)
+}
+
+fn stop_words(alloc: Global, sigs: &Sigs, stop: Stop) -> Result<Bytes, NoMemory>
+    requires right { list_all signature_is_right sigs.now ≡ true }
+    requires numbers { IsOfSigs (length sigs.now) stop }
+    ensures { IfOk result (λ words. words ≡ stop_text sigs.now stop) }
+{
+    match stop {
+        Stop::NoClosure { ptr } => {
+            let words = format!(in alloc; "stop: no closure at 0x{ptr:x}")?;
+            Bytes::from_slice(alloc, words.as_bytes())
+        }
+        Stop::WrongSig { ptr, site, found } => wrong_sig_words(alloc, sigs, ptr, site, found),
+        Stop::TableFull => Bytes::from_slice(alloc, b"stop: closure table full"),
+        Stop::StackFull { need, left } => stack_full_words(alloc, need, left),
+        Stop::MoveLimit => Bytes::from_slice(alloc, b"stop: move limit"),
+    }
+}
+
+fn wrong_sig_words(
+    alloc: Global,
+    sigs: &Sigs,
+    ptr: u64,
+    site: u32,
+    found: u32,
+) -> Result<Bytes, NoMemory>
+    requires right { list_all signature_is_right sigs.now ≡ true }
+    requires site { site < length sigs.now }
+    requires found { found < length sigs.now }
+    ensures { IfOk result
+        (λ words. words ≡ stop_text sigs.now (Stop.WrongSig ptr site found)) }
+{
+    let mut words = wrong_sig_start(alloc, ptr)?;
+    words.extend(": called as ".as_bytes())?;
+    words.extend(right_sig_text(alloc, sigs, site)?.as_slice())?;
+    words.extend(", is ".as_bytes())?;
+    words.extend(right_sig_text(alloc, sigs, found)?.as_slice())?;
+    Ok(words)
+}
+
+fn wrong_sig_start(alloc: Global, ptr: u64) -> Result<Bytes, NoMemory>
+    ensures { IfOk result (λ words. words ≡ codes "stop: wrong signature at " ++ address_text ptr) }
+{
+    let words = format!(in alloc; "stop: wrong signature at 0x{ptr:x}")?;
+    Bytes::from_slice(alloc, words.as_bytes())
+}
+
+fn stack_full_words(alloc: Global, need: u64, left: u64) -> Result<Bytes, NoMemory>
+    ensures { IfOk result
+        (λ words. words ≡ codes "stop: stack full: need " ++ decimal need ++ codes ", left " ++ decimal left) }
+{
+    let mut words = Bytes::new(alloc);
+    words.extend("stop: stack full: need ".as_bytes())?;
+    words.extend(format!(in alloc; "{need}")?.as_bytes())?;
+    words.extend(", left ".as_bytes())?;
+    words.extend(format!(in alloc; "{left}")?.as_bytes())?;
+    Ok(words)
+}
+
+/// The text of a signature of the list, none of which has a fault.
+fn right_sig_text(alloc: Global, sigs: &Sigs, number: u32) -> Result<Bytes, NoMemory>
+    requires right { list_all signature_is_right sigs.now ≡ true }
+    requires below { number < length sigs.now }
+    ensures { IfOk result (λ text. text ≡ signature_text (signature_at sigs.now number)) }
+{
+    sig_text(alloc, sigs.get(number as usize))
+}

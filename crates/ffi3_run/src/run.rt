@@ -1,0 +1,100 @@
+//! The run of a script.
+ghost use Rattle.std.specs.Prelude.{◌≡◌, ◌≤◌, None};
+ghost use Rattle.ffi3_type_rules.specs.Value.{void_value};
+ghost use Rattle.ffi3_amd64_rules.specs.Amd64.{amd64};
+ghost use Rattle.ffi3_io.specs.Sink.{Rose};
+ghost use Rattle.ffi3_run_rules.specs.Meaning.{meaning_of, returned, stopped};
+ghost use Rattle.ffi3_script_rules.specs.Meaning.{program_of};
+ghost use Rattle.ffi3_script_rules.specs.RunLimit.{first_not_run};
+ghost use Rattle.ffi3_script.specs.ScriptOf.{natives_of, script_of};
+ghost use Rattle.ffi3_run.specs.Told.{IsTold, WrotePart, took};
+ghost use Rattle.ffi3_run.specs.Moment.{IsBetween, Ran, moment};
+ghost use Rattle.ffi3_run.specs.Programs.{program};
+
+use crate::board::{Board, Turn};
+use crate::line::Cut;
+use ffi3_closures::Table;
+use ffi3_io::Sink;
+use ffi3_machine::{Machine, Target};
+use ffi3_run_rules::Stop;
+use ffi3_script::Script;
+use ffi3_values::Values;
+use std::alloc::Global;
+
+/// How many moves a run may do.
+const MOST_MOVES: u32 = 10_000;
+
+/// How a run ended.
+#[derive(Clone, Copy, Debug, PartialEq, Eq)]
+pub enum RunEnd {
+    /// Main returned, and the whole text was written.
+    Done,
+    /// The run stopped, and the whole text was written, the stop's line last.
+    Stopped(Stop),
+    /// Memory was refused.
+    NoMemory,
+    /// A write failed.
+    Failed,
+}
+
+/// Begins the machine for System V AMD64, and runs the script on it: main's moves, one by one, and
+/// those of the functions that it calls. Each line is handed to the output before the next move.
+pub fn run_main<O: Sink>(
+    alloc: Global,
+    script: &Script,
+    machine: &mut Machine,
+    output: &mut O,
+) -> RunEnd
+    requires runs { first_not_run (script_of script.now) ≡ None }
+    requires no_natives { natives_of script.now ≡ 0 }
+    ensures done { result ≡ RunEnd.Done →
+        IsTold amd64 (program_of amd64 (script_of script.now))
+        (took (O.taken output.old) (O.faults output.old)) (took (O.taken output.new) (O.faults output.new)) machine.new }
+    ensures returns { result ≡ RunEnd.Done →
+        (meaning_of (program_of amd64 (script_of script.now))).end ≡ returned void_value }
+    ensures stopped { (stop : Stop) → result ≡ RunEnd.Stopped stop →
+        IsTold amd64 (program_of amd64 (script_of script.now))
+        (took (O.taken output.old) (O.faults output.old)) (took (O.taken output.new) (O.faults output.new)) machine.new }
+    ensures stops { (stop : Stop) → result ≡ RunEnd.Stopped stop →
+        (meaning_of (program_of amd64 (script_of script.now))).end ≡ stopped stop }
+    ensures no_memory { result ≡ RunEnd.NoMemory → O.faults output.new ≡ O.faults output.old }
+    ensures failed { result ≡ RunEnd.Failed → Rose (O.faults output.old) (O.faults output.new) }
+    ensures never_falls { O.faults output.old ≤ O.faults output.new }
+    ensures part { WrotePart (program_of amd64 (script_of script.now))
+        (took (O.taken output.old) (O.faults output.old)) (took (O.taken output.new) (O.faults output.new)) }
+{
+    machine.begin(Target::Amd64);
+    let mut board = Board {
+        table: Table::new(),
+        moves: MOST_MOVES,
+        results: Values::new(alloc),
+    };
+    run_on(alloc, &mut board, script, machine, output)
+}
+
+/// Does main's moves until the run ends.
+fn run_on<O: Sink>(
+    alloc: Global,
+    board: &mut Board,
+    script: &Script,
+    machine: &mut Machine,
+    output: &mut O,
+) -> RunEnd
+    requires runs { first_not_run (script_of script.now) ≡ None }
+    requires no_natives { natives_of script.now ≡ 0 }
+    requires between { IsBetween (program script.now)
+        (moment board.old machine.old (took (O.taken output.old) (O.faults output.old))) }
+    ensures { Ran (program script.now)
+        (moment board.old machine.old (took (O.taken output.old) (O.faults output.old)))
+        (moment board.new machine.new (took (O.taken output.new) (O.faults output.new))) result }
+{
+    loop {
+        match board.turn(alloc, script, machine, output) {
+            Ok(Turn::More) => {}
+            Ok(Turn::Done) => return RunEnd::Done,
+            Ok(Turn::Stopped(stop)) => return RunEnd::Stopped(stop),
+            Err(Cut::NoMemory) => return RunEnd::NoMemory,
+            Err(Cut::Failed) => return RunEnd::Failed,
+        }
+    }
+}
