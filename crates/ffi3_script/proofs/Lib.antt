@@ -1,1 +1,4 @@
 mod Numbering
+mod Steps
+mod Given
+mod Arguments

@@ -2,3 +2,5 @@ pub mod ExprOf
 pub mod ScopeOf
 pub mod Finds
 pub mod Texts
+pub mod Taken
+pub mod Kinds

@@ -1,8 +1,11 @@
 //! The script language: from bytes to a script, and its bodies.
 #![tactic(auto)]
 
+mod acts;
 mod expr;
+mod fields;
 mod functions;
+mod heads;
 mod index;
 mod moves;
 mod names;
