@@ -1,6 +1,6 @@
 pub mod Tellings
 pub mod Paths
 pub mod Objects
-mod Items
+pub mod Items
 mod Signatures
 mod Short

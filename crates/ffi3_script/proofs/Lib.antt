@@ -2,3 +2,5 @@ mod Numbering
 mod Steps
 mod Given
 mod Arguments
+mod Loops
+mod BodyParts

@@ -4,3 +4,4 @@ pub mod Finds
 pub mod Texts
 pub mod Taken
 pub mod Kinds
+pub mod Numbers

@@ -9,6 +9,7 @@ ghost use Rattle.ffi3_json.specs.Told.{Tells};
 ghost use Rattle.ffi3_script.specs.ExprOf.{typed_of, script_move_of};
 ghost use Rattle.ffi3_script.specs.ScopeOf.{scope_of, given_in, surroundings_of, IsEven};
 ghost use Rattle.ffi3_script.specs.Kinds.{kind_from};
+ghost use Rattle.ffi3_script.specs.Numbers.{CallsWithin};
 
 use crate::fields::{
     read_arguments, read_condition, read_name, read_pointer, read_printed, read_result, read_user,
@@ -127,6 +128,7 @@ fn read_call(
 ) -> Result<ScriptMove, ScriptFault>
     requires short { HasShortArrays (view value.now) }
     requires even { IsEven scope.now }
+    ensures within { IfOk result (λ m. CallsWithin (length globals.now.sigs.now) m.act) }
     ensures place { OnOk result (at.new ≡ at.old) }
     ensures ok { IfOk result (λ m. read_call (surroundings_of globals.now scope.now) (given_in scope.now) (scope_of scope.now) (option_map typed_of condition) (view value.now) at.old ≡ read (script_move_of m)) }
     ensures err { IfErr result (Tells (λ p r. read_call (surroundings_of globals.now scope.now) (given_in scope.now) (scope_of scope.now) (option_map typed_of condition) (view value.now) at.old ≡ language.fault p r)) }
@@ -167,6 +169,7 @@ fn read_make(
     requires short { HasShortArrays (view value.now) }
     requires even { IsEven scope.now }
     requires few { length globals.now.functions.now < 2 ^ 32 }
+    ensures within { IfOk result (λ m. CallsWithin (length globals.now.sigs.now) m.act) }
     ensures place { OnOk result (at.new ≡ at.old) }
     ensures ok { IfOk result (λ m. read_make (surroundings_of globals.now scope.now) (given_in scope.now) (scope_of scope.now) (option_map typed_of condition) (view value.now) at.old ≡ read (script_move_of m)) }
     ensures err { IfErr result (Tells (λ p r. read_make (surroundings_of globals.now scope.now) (given_in scope.now) (scope_of scope.now) (option_map typed_of condition) (view value.now) at.old ≡ language.fault p r)) }
@@ -214,6 +217,7 @@ fn read_act(
     requires short { HasShortArrays (view value.now) }
     requires even { IsEven scope.now }
     requires few { length globals.now.functions.now < 2 ^ 32 }
+    ensures within { IfOk result (λ m. CallsWithin (length globals.now.sigs.now) m.act) }
     ensures place { OnOk result (at.new ≡ at.old) }
     ensures ok { IfOk result (λ m. read_act (surroundings_of globals.now scope.now) (given_in scope.now) (scope_of scope.now) (kind_from kind) (view value.now) at.old (option_map typed_of condition) ≡ read (script_move_of m)) }
     ensures err { IfErr result (Tells (λ p r. read_act (surroundings_of globals.now scope.now) (given_in scope.now) (scope_of scope.now) (kind_from kind) (view value.now) at.old (option_map typed_of condition) ≡ language.fault p r)) }
@@ -247,6 +251,7 @@ pub(crate) fn read_move(
     requires short { HasShortArrays (view value.now) }
     requires even { IsEven scope.now }
     requires few { length globals.now.functions.now < 2 ^ 32 }
+    ensures within { IfOk result (λ m. CallsWithin (length globals.now.sigs.now) m.act) }
     ensures place { OnOk result (at.new ≡ at.old) }
     ensures ok { IfOk result (λ m. read_move (surroundings_of globals.now scope.now) (given_in scope.now) (view value.now) at.old ≡ read (script_move_of m)) }
     ensures err { IfErr result (Tells (λ p r. read_move (surroundings_of globals.now scope.now) (given_in scope.now) (view value.now) at.old ≡ language.fault p r)) }

@@ -1,5 +1,5 @@
 // The fields of moves.
-ghost use Rattle.std.specs.Prelude.{◌≡◌, IfOk, IfErr, OnOk, length, codes, string_bytes, option_map};
+ghost use Rattle.std.specs.Prelude.{◌≡◌, ℕ, IfOk, IfErr, OnOk, length, codes, string_bytes, option_map};
 ghost use Rattle.serde_json.specs.Find.{get};
 ghost use Rattle.serde_json.specs.View.{view};
 ghost use Rattle.ffi3_types.specs.TreeOf.{tree_of};
@@ -11,6 +11,7 @@ ghost use Rattle.ffi3_script_rules.specs.Values as values;
 ghost use Rattle.ffi3_script_rules.specs.Bodies.{read_name, read_condition, read_arguments, read_user, read_result};
 ghost use Rattle.ffi3_json.specs.Told.{Tells};
 ghost use Rattle.ffi3_script.specs.ExprOf.{expression_of, expressions_in, typed_of, act_of};
+ghost use Rattle.ffi3_script.specs.Numbers.{CallsWithin};
 ghost use Rattle.ffi3_script.specs.ScopeOf.{scope_of, given_in, IsEven};
 
 use crate::heads::new_name;
@@ -214,6 +215,7 @@ pub(crate) fn read_result(
 ) -> Result<Act, ScriptFault>
     requires short { HasShortArrays (view value.now) }
     requires even { IsEven scope.now }
+    ensures within { IfOk result (λ a. (count : ℕ) → CallsWithin count a) }
     ensures place { OnOk result (at.new ≡ at.old) }
     ensures ok { IfOk result (λ a. read_result (scope_of scope.now) (tree_of ty.now) (value_under (codes "return") (view value.now)) (under at.old (codes "return")) ≡ read (act_of a)) }
     ensures err { IfErr result (Tells (λ p r. read_result (scope_of scope.now) (tree_of ty.now) (value_under (codes "return") (view value.now)) (under at.old (codes "return")) ≡ language.fault p r)) }
@@ -237,6 +239,7 @@ fn read_returned(
 ) -> Result<Act, ScriptFault>
     requires short { HasShortArrays (view value.now) }
     requires even { IsEven scope.now }
+    ensures within { IfOk result (λ a. (count : ℕ) → CallsWithin count a) }
     ensures place { OnOk result (at.new ≡ at.old) }
     ensures ok { IfOk result (λ a. read_result (scope_of scope.now) (tree_of ty.now) (value_under (codes "return") (view value.now)) at.old ≡ read (act_of a)) }
     ensures err { IfErr result (Tells (λ p r. read_result (scope_of scope.now) (tree_of ty.now) (value_under (codes "return") (view value.now)) at.old ≡ language.fault p r)) }

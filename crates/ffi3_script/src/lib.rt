@@ -2,6 +2,7 @@
 #![tactic(auto)]
 
 mod acts;
+mod bodies;
 mod expr;
 mod fields;
 mod functions;
