@@ -4,3 +4,5 @@ mod Given
 mod Arguments
 mod Loops
 mod BodyParts
+mod FunctionParts
+mod RootParts

@@ -5,3 +5,4 @@ pub mod Texts
 pub mod Taken
 pub mod Kinds
 pub mod Numbers
+pub mod PartsOf

@@ -6,10 +6,13 @@ mod bodies;
 mod expr;
 mod fields;
 mod functions;
+mod headings;
 mod heads;
 mod index;
 mod moves;
 mod names;
+mod parts;
+mod root;
 mod scope;
 mod values;
 
