@@ -8,24 +8,24 @@ ghost use Rattle.ffi3_type_rules.specs.Layout.{size_of, leaves_of, leaf_at, scal
 ghost use Rattle.ffi3_type_rules.specs.Fault.{HasNoFault};
 ghost use Rattle.ffi3_type_rules.specs.Signature.{SignatureHasNoFault};
 ghost use Rattle.ffi3_types.specs.TreeOf.{tree_of};
-ghost use Rattle.ffi3_place_rules.specs.declared.Ext.TheVariants.{Free};
 ghost use Rattle.ffi3_place_rules.specs.declared.Loc.{Loc};
-ghost use Rattle.ffi3_place_rules.specs.declared.Loc.TheVariants.{G, F, S};
-ghost use Rattle.ffi3_place_rules.specs.declared.Piece.{Piece};
-ghost use Rattle.ffi3_place_rules.specs.Standard.{doubleword, places_from, place_at, all_copy_bytes, copy_bytes, result_at, buffer_bytes};
-ghost use Rattle.ffi3_aapcs64_rules.specs.Doublewords.{doublewords, widening};
-ghost use Rattle.ffi3_aapcs64_rules.specs.Aapcs64.{is_of, is_member, homogeneous, in_vectors, is_copied, need, generals, vectors, stack_size, member_pieces, general_pieces, stack_pieces, register_pieces, in_registers, taken_with, taken_after, untouched, spot_after, spots_after, result_spot_of};
+ghost use Rattle.ffi3_place_rules.specs.declared.Loc.TheVariants.{G, S};
+ghost use Rattle.ffi3_place_rules.specs.Standard.{places_from, place_at, all_copy_bytes, copy_bytes, result_at, buffer_bytes};
+ghost use Rattle.ffi3_place_rules.specs.Doublewords.{doublewords, stack_pieces};
+ghost use Rattle.ffi3_aapcs64_rules.specs.Aapcs64.{is_of, is_member, homogeneous, in_vectors, is_copied, need, generals, vectors, stack_size, member_pieces, general_pieces, register_pieces, in_registers, taken_with, taken_after, untouched, spot_after, spots_after, result_spot_of};
 
-mod parts;
 #[cfg(test)]
 mod tests;
 
 pub use ffi3_aapcs64_rules::Kind;
-use ffi3_place::{Abi, Ext, Loc, Piece, Pieces, Place, Places, Plan, Res};
+use ffi3_place::parts::{
+    argument, count_of, doubleword, doublewords, leaf_piece, pieces_on_stack, result_type, size_of,
+    sizes_of, widening,
+};
+use ffi3_place::{Abi, Ext, Loc, Pieces, Place, Places, Plan, Res};
 use ffi3_place_rules::Taken;
 use ffi3_type_rules::round_up;
 use ffi3_types::{FfiType, NoMemory, Sig, Target};
-use parts::{argument, count_of, result_type, size_of, sizes_of};
 use std::alloc::Global;
 
 // ---- homogeneous aggregates
@@ -115,7 +115,7 @@ fn doublewords_of(ty: &FfiType) -> u64
     ensures value { result ≡ doublewords (tree_of ty.now) }
     ensures few { in_vectors (tree_of ty.now) ≡ false → is_copied (tree_of ty.now) ≡ false → result ≤ 2 }
 {
-    (size_of(ty) + 7) / 8
+    doublewords(ty)
 }
 
 /// The registers that an argument needs: whether they are SIMD and floating-point registers, and how many. (AAPCS64, "Parameter passing")
@@ -170,75 +170,18 @@ fn fits_registers(before: Taken, ty: &FfiType) -> bool
 
 // ---- pieces
 
-/// What fills the rest of a value's places.
-fn extended(ty: &FfiType) -> Ext
-    ensures { result ≡ widening (tree_of ty.now) }
-{
-    match ty {
-        FfiType::U8 | FfiType::S8 | FfiType::U16 | FfiType::S16 | FfiType::U32 | FfiType::S32 =>
-            Ext::Widen,
-        _ => Ext::Free,
-    }
-}
-
-/// Doubleword `j` of a value, in its place.
-fn doubleword(ty: &FfiType, j: u64, loc: Loc) -> Piece
-    requires right { HasNoFault 0 true (tree_of ty.now) }
-    requires within { 8 * j < size_of (tree_of ty.now) }
-    ensures { result ≡ doubleword loc j (size_of (tree_of ty.now)) (widening (tree_of ty.now)) }
-{
-    let left = size_of(ty) - 8 * j;
-    Piece {
-        loc,
-        off: (8 * j) as u32,
-        len: if left < 8 { left as u8 } else { 8 },
-        ext: extended(ty),
-    }
-}
-
 /// A value's doublewords in general registers, from number `general` on.
 fn pieces_in_general(alloc: Global, ty: &FfiType, general: u64) -> Result<Pieces, NoMemory>
     requires right { HasNoFault 0 true (tree_of ty.now) }
     requires enough { general + doublewords (tree_of ty.now) ≤ 8 }
     ensures { IfOk result (λ p. p ≡ general_pieces general (tree_of ty.now)) }
 {
-    let count = (size_of(ty) + 7) / 8;
+    let ext = widening(ty);
     let mut pieces = Pieces::new(alloc);
-    for j in 0..count {
-        pieces.push(doubleword(ty, j, Loc::G((general + j) as u8)))?;
+    for j in 0..doublewords(ty) {
+        pieces.push(doubleword(ty, j, Loc::G((general + j) as u8), ext))?;
     }
     Ok(pieces)
-}
-
-/// A value's doublewords on the stack, from offset `start` on.
-fn pieces_on_stack(alloc: Global, ty: &FfiType, start: u64) -> Result<Pieces, NoMemory>
-    requires right { HasNoFault 0 true (tree_of ty.now) }
-    requires low { start ≤ 66048 }
-    ensures { IfOk result (λ p. p ≡ stack_pieces start (tree_of ty.now)) }
-{
-    let count = (size_of(ty) + 7) / 8;
-    let mut pieces = Pieces::new(alloc);
-    for j in 0..count {
-        pieces.push(doubleword(ty, j, Loc::S((start + 8 * j) as u32)))?;
-    }
-    Ok(pieces)
-}
-
-/// Leaf `i` of a value, in its vector register.
-fn member(ty: &FfiType, i: u32, register: u64) -> Piece
-    requires right { HasNoFault 0 true (tree_of ty.now) }
-    requires in_range { i < length (leaves_of (tree_of ty.now)) }
-    requires few { register < 8 }
-    ensures { result ≡ record { loc = F register; off = (leaf_at (tree_of ty.now) i).at; len = scalar_size (leaf_at (tree_of ty.now) i).kind; ext = Free } }
-{
-    let leaf = ty.leaf(i);
-    let size = leaf.kind.size();
-    Piece {
-        loc: Loc::F(register as u8),
-        off: leaf.at as u32,
-        len: size as u8,
-        ext: Ext::Free,
-    }
 }
 
 /// A value's leaves in vector registers, from number `vector` on.
@@ -249,7 +192,7 @@ fn pieces_in_vectors(alloc: Global, ty: &FfiType, vector: u64) -> Result<Pieces,
 {
     let mut pieces = Pieces::new(alloc);
     for i in 0..ty.leaf_count() {
-        pieces.push(member(ty, i, vector + i as u64))?;
+        pieces.push(leaf_piece(ty, i, Loc::F((vector + i as u64) as u8), Ext::Free))?;
     }
     Ok(pieces)
 }

@@ -1,29 +1,30 @@
 -- The pieces of a value have every byte of its leaves; and what a value needs.
-use Rattle.std.proofs.Common.{◌≡◌, ℕ, ◌+◌, ◌*◌, ◌≤◌, Bool, true, false, not, ◌&&◌, cond, ltb, leb, List, [], ◌∷◌, length, subst, refl, arith}
+use Rattle.std.proofs.Common.{◌≡◌, ℕ, ◌+◌, ◌≤◌, Bool, true, false, not, ◌&&◌, cond, ltb, leb, List, [], ◌∷◌, length, subst, refl, arith}
 use Rattle.std.specs.Prelude.{Option, None, is_some}
 use Rattle.std.specs.List.{AllByRecursion}
 use Rattle.std.proofs.lemmas.Bool.{ltb-false, leb-true}
 use Rattle.ffi3_type_rules.specs.Tree.{Tree, void, scalar, left_out, structure}
 use Rattle.ffi3_type_rules.specs.Layout.{Leaf, leaves_of, size_of}
 use Rattle.ffi3_type_rules.proofs.Layouts.{scalar_size-bounds}
-use Rattle.ffi3_place_rules.specs.declared.Loc.TheVariants.{G, S}
+use Rattle.ffi3_place_rules.specs.declared.Loc.TheVariants.{G, F, S}
+use Rattle.ffi3_place_rules.specs.declared.Ext.TheVariants.{Free}
 use Rattle.ffi3_place_rules.specs.declared.Taken.{Taken}
 use Rattle.ffi3_place_rules.specs.Standard.{in_pieces, by_reference, place_at, places_from, copy_bytes}
-use Rattle.ffi3_aapcs64_rules.specs.Doublewords.{doublewords, widening}
+use Rattle.ffi3_place_rules.specs.Doublewords.{doublewords, widening, stack_pieces}
 use Rattle.ffi3_place_rules.specs.Holds.{Carries}
 use Rattle.ffi3_place_rules.specs.Sound.{CoversLeaf, IsPieceOf, HaveAll, PlaceHasAll, PlacesHaveAll}
 use Rattle.ffi3_place_rules.proofs.Tests.{and_left, and_right, not_true, each_weaker}
 use Rattle.ffi3_place_rules.proofs.Covered.{EndsIn, leaves_end, any_later}
-use Rattle.ffi3_aapcs64_rules.proofs.Doublewords.{widening_suits, doublewords_have_all}
+use Rattle.ffi3_place_rules.proofs.Doublewords.{widening_suits, leaf_is_piece, doublewords_have_all, stack_has_all}
 use Rattle.ffi3_aapcs64_rules.specs.declared.Kind.{Kind}
-use Rattle.ffi3_aapcs64_rules.specs.Aapcs64.{is_struct, in_vectors, is_copied, need, member_pieces, general_pieces, stack_pieces, register_pieces, in_registers, spot_after, spots_after, taken_with}
+use Rattle.ffi3_aapcs64_rules.specs.Aapcs64.{is_struct, in_vectors, is_copied, need, member_pieces, general_pieces, register_pieces, in_registers, spot_after, spots_after, taken_with}
 
 -- ---- pieces
 
 members_are_pieces : (t : Tree) (v : ℕ) (ls : List Leaf) → AllByRecursion (EndsIn (size_of t)) ls → AllByRecursion (IsPieceOf t) (member_pieces v ls)
 members_are_pieces t v [] h = tt
 members_are_pieces t v (l ∷ ls) h =
-    (record { short = (scalar_size-bounds l.kind).1; within = h.0; extended = tt }, members_are_pieces t (v + 1) ls h.1)
+    (leaf_is_piece t (F v) Free l h.0 tt, members_are_pieces t (v + 1) ls h.1)
 
 members_cover : (v : ℕ) (ls : List Leaf) → AllByRecursion (CoversLeaf (member_pieces v ls)) ls
 members_cover v [] = tt
@@ -40,10 +41,6 @@ members_have_all v t = record {
 generals_have_all : (g : ℕ) (t : Tree) → HaveAll t (general_pieces g t)
 generals_have_all g t =
     doublewords_have_all (λ j. G (g + j)) t (widening t) (widening_suits t)
-
-stack_has_all : (start : ℕ) (t : Tree) → HaveAll t (stack_pieces start t)
-stack_has_all start t =
-    doublewords_have_all (λ j. S (start + 8 * j)) t (widening t) (widening_suits t)
 
 registers_have_all_if : (g v : ℕ) (t : Tree) (b : Bool) → HaveAll t (cond b (member_pieces v (leaves_of t)) (general_pieces g t))
 registers_have_all_if g v t true = members_have_all v t

@@ -1,6 +1,3 @@
-pub mod Doublewords
-pub mod Frame
-pub mod Elements
 pub mod Registers
 pub mod Covered
 pub mod Sound

@@ -1,7 +1,8 @@
 -- The lists of registers: no register stands twice in one, and none is forbidden.
-use Rattle.std.proofs.Common.{◌≡◌, ℕ, zero, suc, ◌<◌, true, [], ◌∷◌, refl, arith}
+use Rattle.std.proofs.Common.{◌≡◌, ℕ, ◌<◌, true, [], ◌∷◌, refl, arith}
 use Rattle.ffi3_place_rules.specs.declared.Loc.TheVariants.{G, F, S}
 use Rattle.ffi3_place_rules.specs.Sound.{IsNoneOf, no_argument, no_result}
+use Rattle.ffi3_place_rules.proofs.Tests.{each_of_eight}
 use Rattle.ffi3_place_rules.proofs.Chain.{Registers}
 use Rattle.ffi3_place_rules.proofs.Forbidden.{is_none_of, none_of}
 use Rattle.ffi3_aapcs64_rules.specs.Aapcs64.{aapcs64}
@@ -9,18 +10,6 @@ use Rattle.ffi3_aapcs64_rules.specs.Aapcs64.{aapcs64}
 -- x0 and those that follow, and v0 and those that follow
 abbrev pub numbered : ℕ → ℕ
 numbered k = k
-
--- what holds at the first numbers
-each_of_eight : (P : ℕ → Type 0) → P 0 → P 1 → P 2 → P 3 → P 4 → P 5 → P 6 → P 7 → (k : ℕ) → k < 8 → P k
-each_of_eight P a b c d e f g h zero l = a
-each_of_eight P a b c d e f g h (suc zero) l = b
-each_of_eight P a b c d e f g h (suc (suc zero)) l = c
-each_of_eight P a b c d e f g h (suc (suc (suc zero))) l = d
-each_of_eight P a b c d e f g h (suc (suc (suc (suc zero)))) l = e
-each_of_eight P a b c d e f g h (suc (suc (suc (suc (suc zero))))) l = f
-each_of_eight P a b c d e f g h (suc (suc (suc (suc (suc (suc zero)))))) l = g
-each_of_eight P a b c d e f g h (suc (suc (suc (suc (suc (suc (suc zero))))))) l = h
-each_of_eight P a b c d e f g h (suc (suc (suc (suc (suc (suc (suc (suc k)))))))) l = absurd (omega arith)
 
 pub all_registers : Registers numbered numbered 8 8
 all_registers = record {

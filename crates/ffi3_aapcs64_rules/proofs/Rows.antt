@@ -1,39 +1,13 @@
 -- Worked rows, computed.
-use Rattle.std.specs.Prelude.{◌≡◌, ℕ, List, [], ◌∷◌, refl, None, Some, replicate}
-use Rattle.ffi3_type_rules.specs.Tree.{Tree, void, scalar, struct_of, u8, s8, u16, s32, u64, s64, float, double, pointer}
+use Rattle.std.specs.Prelude.{◌≡◌, ℕ, [], ◌∷◌, refl, Some, replicate}
+use Rattle.ffi3_type_rules.specs.Tree.{Tree, void, scalar, struct_of, u8, s8, u16, s32, float, double, pointer}
 use Rattle.ffi3_type_rules.specs.Layout.{least_multiple}
-use Rattle.ffi3_type_rules.specs.Signature.{Signature}
-use Rattle.ffi3_place_rules.specs.declared.Loc.{Loc}
 use Rattle.ffi3_place_rules.specs.declared.Loc.TheVariants.{G, F, S}
-use Rattle.ffi3_place_rules.specs.declared.Ext.TheVariants.{Free, Widen}
-use Rattle.ffi3_place_rules.specs.declared.Piece.{Piece}
-use Rattle.ffi3_place_rules.specs.declared.Place.{Place}
 use Rattle.ffi3_place_rules.specs.declared.Place.TheVariants.{Direct, ByRef}
 use Rattle.ffi3_place_rules.specs.declared.Res.TheVariants.{Nothing, Direct as DirectRes, Hidden}
 use Rattle.ffi3_place_rules.specs.Standard.{plan_of}
+use Rattle.ffi3_place_rules.proofs.Worked.{sig_of, at, widened, alone, integer, pair, triple}
 use Rattle.ffi3_aapcs64_rules.specs.Aapcs64.{aapcs64}
-
-abbrev sig_of : Tree → List Tree → Signature
-sig_of r a = record { result_type = r; arguments = a; fixed = None }
-
-abbrev at : Loc → ℕ → ℕ → Piece
-at l o n = record { loc = l; off = o; len = n; ext = Free }
-
-abbrev widened : Loc → ℕ → Piece
-widened l n = record { loc = l; off = 0; len = n; ext = Widen }
-
--- a whole doubleword in one place
-abbrev alone : Loc → Place
-alone l = Direct (at l 0 8 ∷ [])
-
-abbrev integer : Tree
-integer = scalar s64
-
-abbrev pair : Tree
-pair = struct_of (scalar s64 ∷ scalar s64 ∷ [])
-
-abbrev triple : Tree
-triple = struct_of (scalar u64 ∷ scalar u64 ∷ scalar u64 ∷ [])
 
 abbrev floats : ℕ → Tree
 floats n = struct_of (replicate n (scalar float))

@@ -4,21 +4,19 @@ use Rattle.std.specs.List.{AllByRecursion, flat_map}
 use Rattle.ffi3_type_rules.specs.Tree.{Tree, void, scalar, left_out, structure}
 use Rattle.ffi3_type_rules.specs.Layout.{Leaf, leaves_of, size_of}
 use Rattle.ffi3_type_rules.specs.Signature.{Signature}
-use Rattle.ffi3_type_rules.proofs.Layouts.{least_multiple-above}
 use Rattle.std.specs.Prelude.{length}
 use Rattle.ffi3_place_rules.specs.declared.Loc.{Loc}
 use Rattle.ffi3_place_rules.specs.declared.Loc.TheVariants.{G, F, S}
 use Rattle.ffi3_place_rules.specs.declared.Ext.{Ext}
 use Rattle.ffi3_place_rules.specs.declared.Taken.{Taken}
-use Rattle.ffi3_place_rules.specs.Standard.{Spot, in_pieces, by_reference, in_result_pieces, in_buffer, place_at, places_from, copy_bytes, result_at, copies_start, buffer_start, buffer_bytes, frame_of, plan_of, round8}
-use Rattle.ffi3_aapcs64_rules.specs.Doublewords.{doublewords, doublewords_at, widening}
+use Rattle.ffi3_place_rules.specs.Standard.{Spot, in_pieces, by_reference, in_result_pieces, in_buffer, place_at, places_from, copy_bytes, result_at, copies_start, buffer_start, frame_of, plan_of, round8}
+use Rattle.ffi3_place_rules.specs.Doublewords.{doublewords, doublewords_at, widening, stack_pieces}
 use Rattle.ffi3_place_rules.specs.Sound.{Apart, AreApart, piece_locs, place_locs, hidden_locs, result_locs, argument_locs, IsNoneOf, LiesIn, copy_locs, buffer_locs, call_locs, no_argument, no_result as not_for_results, ResultHasAll, IsSound, IsDetermined}
 use Rattle.ffi3_place_rules.proofs.Chain.{at_most_self, Chain, chain_append, chain_apart, chain_allowed, chain_lies_in}
-use Rattle.ffi3_aapcs64_rules.proofs.Doublewords.{doublewords_in}
-use Rattle.ffi3_aapcs64_rules.proofs.Frame.{stack_chain, copies_chain, buffer_chain}
+use Rattle.ffi3_place_rules.proofs.Frame.{up_to, value_chain, frame_chain}
 use Rattle.ffi3_place_rules.proofs.Tests.{each_weaker}
 use Rattle.ffi3_place_rules.proofs.Determines.{determined}
-use Rattle.ffi3_aapcs64_rules.specs.Aapcs64.{aapcs64, in_vectors, is_copied, member_pieces, general_pieces, stack_pieces, register_pieces, in_registers, taken_with, taken_after, untouched, spot_after, spots_after, result_spot_of, placing_of}
+use Rattle.ffi3_aapcs64_rules.specs.Aapcs64.{aapcs64, in_vectors, is_copied, member_pieces, general_pieces, register_pieces, in_registers, taken_with, taken_after, untouched, spot_after, spots_after, result_spot_of, placing_of}
 use Rattle.ffi3_aapcs64_rules.proofs.Covered.{registers_have_all, arguments_have_all, copied_not_vectors, few_members, few_doublewords, members_fit, generals_fit}
 use Rattle.ffi3_aapcs64_rules.proofs.Registers.{numbered, all_registers, argument_allowed, vector_allowed, stack_allowed, hidden_allowed, argument_not_hidden, result_allowed_general, result_allowed_vector, result_allowed_stack}
 
@@ -73,7 +71,7 @@ argument_chain_by copy a t true false false ef ec ev =
 argument_chain_by copy a t false true vector ef ec ev =
     (TakenBy false true vector a t, omega arith, omega arith, record { general = omega arith; vector = omega arith; stack = omega arith }, at_most_self (TakenBy false true vector a t))
 argument_chain_by copy a t false false vector ef ec ev =
-    stack_chain numbered numbered 8 8 a a.stack (size_of t) (widening t) 0 (doublewords t) (TakenBy false false vector a t) (omega arith) (omega (arith, doublewords_in (size_of t))) (omega arith) (omega arith)
+    value_chain numbered numbered 8 8 a t (TakenBy false false vector a t) (omega arith) (omega arith) (omega arith)
 
 argument_chain : (copy : ℕ) (a : Taken) (t : Tree) → PlacesChain a (place_locs (place_at copy (spot_after a t))) (taken_with a t)
 argument_chain copy a t =
@@ -96,30 +94,16 @@ pieces_and_references s = flat_map place_locs (plan_of aapcs64 s).places
 pieces_chain : (s : Signature) → PlacesChain untouched (pieces_and_references s) (taken_by_all s)
 pieces_chain s = places_chain (copies_start (placing_of s)) untouched s.arguments
 
-abbrev copied : Signature → Taken
-copied s =
-    record { general = (taken_by_all s).general; vector = (taken_by_all s).vector; stack = buffer_start s (placing_of s) }
-
 abbrev framed : Signature → Taken
-framed s =
-    record { general = (taken_by_all s).general; vector = (taken_by_all s).vector; stack = frame_of aapcs64 s }
+framed s = up_to (taken_by_all s) (frame_of aapcs64 s)
 
 abbrev copies_and_buffer : Signature → List Loc
 copies_and_buffer s =
     copy_locs s.arguments (plan_of aapcs64 s).places ++ buffer_locs s.result_type (plan_of aapcs64 s).res
 
-frame_chain : (s : Signature) → PlacesChain (taken_by_all s) (copies_and_buffer s) (framed s)
-frame_chain s =
-    let p = placing_of s in
-    let starts = least_multiple-above 16 p.stack_bytes in
-    let ends = least_multiple-above 16 (buffer_start s p + buffer_bytes s.result_type p.result_spot) in
-    chain_append numbered numbered 8 8 (taken_by_all s) (copy_locs s.arguments (plan_of aapcs64 s).places) (copied s) _ (framed s)
-    (copies_chain numbered numbered 8 8 (taken_by_all s) (copies_start p) s.arguments p.arguments (copied s) starts (omega arith) (omega arith) (omega arith))
-    (buffer_chain numbered numbered 8 8 (copied s) (buffer_start s p) s.result_type p.result_spot (framed s) (omega arith) ends (omega arith) (omega arith))
-
 call_chain : (s : Signature) → PlacesChain untouched (pieces_and_references s ++ copies_and_buffer s) (framed s)
 call_chain s =
-    chain_append numbered numbered 8 8 untouched (pieces_and_references s) (taken_by_all s) _ (framed s) (pieces_chain s) (frame_chain s)
+    chain_append numbered numbered 8 8 untouched (pieces_and_references s) (taken_by_all s) _ (framed s) (pieces_chain s) (frame_chain numbered numbered 8 8 aapcs64 s (taken_by_all s) (omega arith))
 
 -- ---- the hidden result's address, in x8
 

@@ -1,7 +1,7 @@
 -- What one more member or argument adds.
 use Rattle.std.proofs.Common.{◌≡◌, ℕ, ◌+◌, ◌<◌, Bool, true, false, cond, List, [], ◌∷◌, ◌++◌, drop, length, ap, sym, ◌∙◌, refl, arith, subst, append_assoc}
 use Rattle.ffi3_type_rules.specs.Tree.{Tree, void, scalar, left_out, structure, tree_at}
-use Rattle.ffi3_type_rules.specs.Layout.{leaves_of, leaf_at, size_of, scalar_size}
+use Rattle.ffi3_type_rules.specs.Layout.{leaves_of, leaf_at, size_of}
 use Rattle.ffi3_place_rules.specs.declared.Loc.{Loc}
 use Rattle.ffi3_place_rules.specs.declared.Loc.TheVariants.{G, F, S}
 use Rattle.ffi3_place_rules.specs.declared.Ext.TheVariants.{Free}
@@ -10,13 +10,14 @@ use Rattle.ffi3_place_rules.specs.declared.Taken.{Taken}
 use Rattle.ffi3_place_rules.specs.declared.Place.{Place}
 use Rattle.ffi3_place_rules.specs.declared.Place.TheVariants.{Direct, ByRef}
 use Rattle.ffi3_place_rules.specs.Standard.{in_pieces, by_reference, places_from, place_at, copy_bytes, all_copy_bytes, buffer_bytes, round8, in_buffer, in_result_pieces}
-use Rattle.ffi3_aapcs64_rules.proofs.Elements.{leaf_read, argument_read}
-use Rattle.ffi3_aapcs64_rules.specs.Aapcs64.{is_copied, member_pieces, register_pieces, stack_pieces, in_registers, taken_with, taken_after, spot_after, spots_after, result_spot_of}
+use Rattle.ffi3_place_rules.specs.Doublewords.{stack_pieces, leaf_piece}
+use Rattle.ffi3_place_rules.proofs.Elements.{leaf_read, argument_read}
+use Rattle.ffi3_aapcs64_rules.specs.Aapcs64.{is_copied, member_pieces, register_pieces, in_registers, taken_with, taken_after, spot_after, spots_after, result_spot_of}
 
 -- one more member, where the new list and its last piece are known by equations
-pub member_turn : (t : Tree) (v i : ℕ) (out new whole : List Piece) (p : Piece) → i < length (leaves_of t) → p ≡ record { loc = F (v + i); off = (leaf_at t i).at; len = scalar_size (leaf_at t i).kind; ext = Free } → new ≡ out ++ p ∷ [] → out ++ member_pieces (v + i) (drop i (leaves_of t)) ≡ whole → new ++ member_pieces (v + (i + 1)) (drop (i + 1) (leaves_of t)) ≡ whole
+pub member_turn : (t : Tree) (v i : ℕ) (out new whole : List Piece) (p : Piece) → i < length (leaves_of t) → p ≡ leaf_piece (F (v + i)) Free (leaf_at t i) → new ≡ out ++ p ∷ [] → out ++ member_pieces (v + i) (drop i (leaves_of t)) ≡ whole → new ++ member_pieces (v + (i + 1)) (drop (i + 1) (leaves_of t)) ≡ whole
 member_turn t v i out new whole p h piece pushed before =
-    let here : Piece = record { loc = F (v + i); off = (leaf_at t i).at; len = scalar_size (leaf_at t i).kind; ext = Free } in
+    let here : Piece = leaf_piece (F (v + i)) Free (leaf_at t i) in
     let opened = subst (λ ls. out ++ member_pieces (v + i) ls ≡ whole) (leaf_read t i h) before in
     let index : v + i + 1 ≡ v + (i + 1) = omega arith in
     let next = subst (λ n. out ++ (here ∷ member_pieces n (drop (i + 1) (leaves_of t))) ≡ whole) index opened in

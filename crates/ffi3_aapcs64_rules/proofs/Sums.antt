@@ -7,7 +7,8 @@ use Rattle.ffi3_type_rules.specs.Tree.{Tree, tree_at}
 use Rattle.ffi3_type_rules.specs.Signature.{Signature}
 use Rattle.ffi3_place_rules.specs.declared.Taken.{Taken}
 use Rattle.ffi3_aapcs64_rules.specs.Aapcs64.{in_vectors, need, generals, vectors, in_registers, stack_size, taken_with, taken_after, untouched, spot_after, spots_after}
-use Rattle.ffi3_aapcs64_rules.specs.Sums.{sum_below, general_before, vector_before, is_in_registers, stack_before, sums_before, ArePlacedBySums}
+use Rattle.ffi3_place_rules.specs.Sums.{sum_below}
+use Rattle.ffi3_aapcs64_rules.specs.Sums.{general_before, vector_before, is_in_registers, stack_before, sums_before, ArePlacedBySums}
 
 -- what the arguments before number i take
 abbrev pub taken_before : Signature → ℕ → Taken

@@ -1,9 +1,9 @@
 -- Where the arguments and the result of a call stand on AArch64. (Arm AAPCS64, IHI 0055, "Parameter passing" and "Result return")
-use Rattle.std.specs.Prelude.{ℕ, ◌+◌, ◌*◌, Bool, true, false, not, ◌&&◌, cond, nat_le, nat_lt, List, [], ◌∷◌, length, Option, Some, None, is_some}
+use Rattle.std.specs.Prelude.{ℕ, ◌+◌, Bool, true, false, not, ◌&&◌, cond, nat_le, nat_lt, List, [], ◌∷◌, length, Option, Some, None, is_some}
 use Rattle.std.specs.List.{list_all}
 use Rattle.ffi3_type_rules.specs.declared.Target.TheVariants as target
 use Rattle.ffi3_type_rules.specs.Tree.{Tree, void, scalar, structure, Scalar, float, double}
-use Rattle.ffi3_type_rules.specs.Layout.{Leaf, leaves_of, size_of, scalar_size}
+use Rattle.ffi3_type_rules.specs.Layout.{Leaf, leaves_of, size_of}
 use Rattle.ffi3_type_rules.specs.Signature.{Signature}
 use Rattle.ffi3_type_rules.specs.Integer.{is_floating}
 use Rattle.ffi3_place_rules.specs.declared.Loc.TheVariants.{G, F, S}
@@ -11,7 +11,7 @@ use Rattle.ffi3_place_rules.specs.declared.Ext.TheVariants.{Free}
 use Rattle.ffi3_place_rules.specs.declared.Piece.{Piece}
 use Rattle.ffi3_place_rules.specs.declared.Taken.{Taken}
 use Rattle.ffi3_place_rules.specs.Standard.{Standard, Placing, Spot, in_pieces, by_reference, ResultSpot, no_result, in_result_pieces, in_buffer, round8}
-use Rattle.ffi3_aapcs64_rules.specs.Doublewords.{doublewords, doublewords_at, widening}
+use Rattle.ffi3_place_rules.specs.Doublewords.{doublewords, doublewords_at, widening, stack_pieces, leaf_piece}
 use Rattle.ffi3_aapcs64_rules.specs.declared.Kind.{Kind}
 use Rattle.ffi3_aapcs64_rules.specs.declared.Kind.TheVariants.{Float, Double}
 
@@ -73,16 +73,12 @@ stack_size t = cond (is_copied t) 8 (round8 (size_of t))
 abbrev pub member_pieces : ℕ → List Leaf → List Piece
 member_pieces v [] = []
 member_pieces v (l ∷ ls) =
-    record { loc = F v; off = l.at; len = scalar_size l.kind; ext = Free } ∷ member_pieces (v + 1) ls
+    leaf_piece (F v) Free l ∷ member_pieces (v + 1) ls
 
 -- one register for each doubleword, from number g on
 abbrev pub general_pieces : ℕ → Tree → List Piece
 general_pieces g t =
     doublewords_at (λ j. G (g + j)) (size_of t) (widening t) 0 (doublewords t)
-
-abbrev pub stack_pieces : ℕ → Tree → List Piece
-stack_pieces start t =
-    doublewords_at (λ j. S (start + 8 * j)) (size_of t) (widening t) 0 (doublewords t)
 
 abbrev pub register_pieces : ℕ → ℕ → Tree → List Piece
 register_pieces g v t =

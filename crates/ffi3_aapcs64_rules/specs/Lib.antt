@@ -1,3 +1,2 @@
-pub mod Doublewords
 pub mod Aapcs64
 pub mod Sums

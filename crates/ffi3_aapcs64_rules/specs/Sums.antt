@@ -1,14 +1,10 @@
 -- The places of the arguments by sums over the whole list, with no count that goes from one argument to the next. (Arm AAPCS64, IHI 0055, "Parameter passing")
-use Rattle.std.specs.Prelude.{◌≡◌, ℕ, zero, suc, ◌+◌, ◌<◌, ◌≤◌, Bool, false, cond, nat_le, length, Some, slice_get}
+use Rattle.std.specs.Prelude.{◌≡◌, ℕ, suc, ◌<◌, ◌≤◌, Bool, false, cond, nat_le, length, Some, slice_get}
 use Rattle.ffi3_type_rules.specs.Tree.{tree_at}
 use Rattle.ffi3_type_rules.specs.Signature.{Signature}
 use Rattle.ffi3_place_rules.specs.declared.Taken.{Taken}
+use Rattle.ffi3_place_rules.specs.Sums.{sum_below}
 use Rattle.ffi3_aapcs64_rules.specs.Aapcs64.{in_vectors, generals, vectors, in_registers, stack_size, spot_after, placing_of}
-
--- the sum of the terms below n
-abbrev pub sum_below : (ℕ → ℕ) → ℕ → ℕ
-sum_below term zero = 0
-sum_below term (suc n) = sum_below term n + term n
 
 module _ (s : Signature) where
   -- the general registers that the arguments before number i need

@@ -1,33 +1,27 @@
 // The System V AMD64 calling standard.
 #![tactic(auto)]
 
-ghost use Rattle.std.specs.Prelude.{◌≡◌, ◌<◌, ◌≤◌, ◌+◌, ◌*◌, ◌^◌, length, slice_index, IfOk, [], true, false};
-ghost use Rattle.std.specs.List.{sum_by};
-ghost use Rattle.ffi3_type_rules.specs.Tree.{Scalar, scalar, tree_at};
-ghost use Rattle.ffi3_type_rules.specs.Layout.{size_of, leaves_of, leaf_at};
-ghost use Rattle.ffi3_type_rules.specs.Integer.{is_floating};
+ghost use Rattle.std.specs.Prelude.{◌≡◌, ◌<◌, ◌≤◌, ◌+◌, length, slice_index, IfOk, [], true, false};
+ghost use Rattle.ffi3_type_rules.specs.Layout.{leaves_of, leaf_at};
 ghost use Rattle.ffi3_type_rules.specs.Fault.{HasNoFault};
 ghost use Rattle.ffi3_type_rules.specs.Signature.{SignatureHasNoFault};
 ghost use Rattle.ffi3_types.specs.TreeOf.{tree_of};
-ghost use Rattle.ffi3_place_rules.specs.Standard.{doubleword, places_from, result_at, buffer_bytes, round8};
-ghost use Rattle.ffi3_amd64_rules.specs.Amd64.{is_integer_leaf_in, class_of, in_memory, integers, sses, extension, vector_register, register_pieces, classes, stack_pieces, eightbytes, in_registers, pieces_after, taken_with, taken_after, taken_at_first, spots_after, result_spot_of};
+ghost use Rattle.ffi3_place_rules.specs.Standard.{places_from, result_at, buffer_bytes};
+ghost use Rattle.ffi3_amd64_rules.specs.Amd64.{is_integer_leaf_in, class_of, in_memory, integers, sses, register_pieces, classes, in_registers, pieces_after, taken_with, taken_after, taken_at_first, spots_after, result_spot_of};
 
 #[cfg(test)]
 mod tests;
 
 pub use ffi3_amd64_rules::Class;
-use ffi3_place::{Abi, Ext, Loc, Piece, Pieces, Place, Places, Plan, Res};
+use ffi3_place::parts::{
+    argument, count_of, doubleword, doublewords, is_floating, pieces_on_stack, result_type,
+    size_of, sizes_of, widening,
+};
+use ffi3_place::{Abi, Loc, Pieces, Place, Places, Plan, Res};
 use ffi3_place_rules::Taken;
 use ffi3_type_rules::round_up;
 use ffi3_types::{FfiType, NoMemory, Sig, Target};
 use std::alloc::Global;
-
-/// Whether a scalar is a float or a double.
-fn floating(kind: &FfiType) -> bool
-    ensures { (s : Scalar) → tree_of kind.now ≡ scalar s → result ≡ is_floating s }
-{
-    matches!(kind, FfiType::Float | FfiType::Double)
-}
 
 /// Whether leaf `i` is an integer or a pointer with a byte in the eightbyte.
 fn is_integer_in(ty: &FfiType, i: u32, eightbyte: u32) -> bool
@@ -38,7 +32,7 @@ fn is_integer_in(ty: &FfiType, i: u32, eightbyte: u32) -> bool
     let leaf = ty.leaf(i);
     let size = leaf.kind.size();
     let start = 8 * eightbyte as u64;
-    leaf.at < start + 8 && start < leaf.at + size && !floating(&leaf.kind)
+    leaf.at < start + 8 && start < leaf.at + size && !is_floating(&leaf.kind)
 }
 
 /// The class of an eightbyte of a value that is passed in registers: INTEGER where an integer or a pointer lies in it, otherwise SSE. (psABI AMD64 3.2.3)
@@ -54,15 +48,6 @@ pub fn class_of(ty: &FfiType, eightbyte: u32) -> Class
     Class::Sse
 }
 
-/// The size of a type without fault.
-fn size_of(ty: &FfiType) -> u64
-    requires { HasNoFault 0 true (tree_of ty.now) }
-    ensures value { result ≡ size_of (tree_of ty.now) }
-    ensures small { result ≤ 1024 }
-{
-    ty.size()
-}
-
 /// Whether a value has the class MEMORY: a struct over two eightbytes. (psABI AMD64 3.2.3)
 pub fn in_memory(ty: &FfiType) -> bool
     requires { HasNoFault 0 true (tree_of ty.now) }
@@ -71,17 +56,6 @@ pub fn in_memory(ty: &FfiType) -> bool
     match ty {
         FfiType::Struct(_) => size_of(ty) > 16,
         _ => false,
-    }
-}
-
-/// What fills the rest of a value's places.
-fn extended(ty: &FfiType) -> Ext
-    ensures { result ≡ extension (tree_of ty.now) }
-{
-    match ty {
-        FfiType::U8 | FfiType::S8 | FfiType::U16 | FfiType::S16 | FfiType::U32 | FfiType::S32 =>
-            Ext::Widen,
-        _ => Ext::Free,
     }
 }
 
@@ -102,8 +76,7 @@ fn count_classes(ty: &FfiType) -> Classes
     let mut integers = 0;
     let mut sses = 0;
     if !in_memory(ty) {
-        let count = (size_of(ty) + 7) / 8;
-        for j in 0..count {
+        for j in 0..doublewords(ty) {
             match class_of(ty, j as u32) {
                 Class::Integer => integers += 1,
                 Class::Sse => sses += 1,
@@ -118,21 +91,6 @@ const ARGUMENT_REGISTERS: [u8; 6] = [7, 6, 2, 1, 8, 9];
 
 /// rax, rdx
 const RESULT_REGISTERS: [u8; 2] = [0, 2];
-
-/// Eightbyte `j` of a value, in its place.
-fn eightbyte(ty: &FfiType, j: u64, loc: Loc) -> Piece
-    requires right { HasNoFault 0 true (tree_of ty.now) }
-    requires within { 8 * j < size_of (tree_of ty.now) }
-    ensures { result ≡ doubleword loc j (size_of (tree_of ty.now)) (extension (tree_of ty.now)) }
-{
-    let left = size_of(ty) - 8 * j;
-    Piece {
-        loc,
-        off: (8 * j) as u32,
-        len: if left < 8 { left as u8 } else { 8 },
-        ext: extended(ty),
-    }
-}
 
 /// A value's eightbytes in registers, from numbers `general` and `vector` on.
 fn pieces_in_registers(
@@ -149,11 +107,11 @@ fn pieces_in_registers(
     requires few { length registers.now ≤ 8 }
     ensures { IfOk result (λ p. p ≡ register_pieces (slice_index registers.now) general vector (tree_of ty.now) [] (classes (tree_of ty.now))) }
 {
-    let count = (size_of(ty) + 7) / 8;
+    let ext = widening(ty);
     let mut pieces = Pieces::new(alloc);
     let mut next_general = general;
     let mut next_vector = vector;
-    for j in 0..count {
+    for j in 0..doublewords(ty) {
         let loc = match class_of(ty, j as u32) {
             Class::Integer => {
                 next_general += 1;
@@ -164,21 +122,7 @@ fn pieces_in_registers(
                 Loc::F(next_vector as u8 - 1)
             }
         };
-        pieces.push(eightbyte(ty, j, loc))?;
-    }
-    Ok(pieces)
-}
-
-/// A value's eightbytes on the stack, from offset `start` on.
-fn pieces_on_stack(alloc: Global, ty: &FfiType, start: u64) -> Result<Pieces, NoMemory>
-    requires right { HasNoFault 0 true (tree_of ty.now) }
-    requires low { start ≤ 65536 }
-    ensures { IfOk result (λ p. p ≡ stack_pieces start (tree_of ty.now) 0 (eightbytes (tree_of ty.now))) }
-{
-    let count = (size_of(ty) + 7) / 8;
-    let mut pieces = Pieces::new(alloc);
-    for j in 0..count {
-        pieces.push(eightbyte(ty, j, Loc::S((start + 8 * j) as u32)))?;
+        pieces.push(doubleword(ty, j, loc, ext))?;
     }
     Ok(pieces)
 }
@@ -238,47 +182,6 @@ fn with_argument(before: Taken, ty: &FfiType) -> Taken
             stack: before.stack + round_up(size_of(ty), 8),
         }
     }
-}
-
-/// How many arguments a signature without fault has.
-fn count_of(sig: &Sig) -> u32
-    requires { SignatureHasNoFault sig.now }
-    ensures value { result ≡ length sig.now.arguments }
-    ensures few { result ≤ 64 }
-{
-    sig.count()
-}
-
-/// An argument's type, which has no fault.
-fn argument(sig: &Sig, i: u32) -> &FfiType
-    requires right { SignatureHasNoFault sig.now }
-    requires within { i < length sig.now.arguments }
-    ensures element { tree_of result.now ≡ tree_at sig.now.arguments i }
-    ensures right { HasNoFault 0 true (tree_of result.now) }
-{
-    sig.arg(i)
-}
-
-/// The result's type, which has no fault.
-fn result_type(sig: &Sig) -> &FfiType
-    requires { SignatureHasNoFault sig.now }
-    ensures element { tree_of result.now ≡ sig.now.result_type }
-    ensures right { HasNoFault 0 true (tree_of result.now) }
-{
-    sig.ret()
-}
-
-/// The sizes of all arguments, each a multiple of 8.
-fn sizes_of(sig: &Sig) -> u64
-    requires { SignatureHasNoFault sig.now }
-    ensures value { result ≡ sum_by (λ t. round8 (size_of t)) sig.now.arguments }
-    ensures bound { result ≤ 66048 }
-{
-    let mut all = 0;
-    for i in 0..count_of(sig) {
-        all += round_up(size_of(argument(sig, i)), 8);
-    }
-    all
 }
 
 /// The places of all arguments, and what they take.

@@ -4,37 +4,19 @@ use Rattle.std.specs.List.{AllByRecursion, Any, count_by}
 use Rattle.std.proofs.lemmas.List.{length_push}
 use Rattle.std.proofs.lemmas.List.Sums.{count_by-le-length}
 use Rattle.std.proofs.lemmas.Bool.{cases_lt, ltb-false, leb-true}
-use Rattle.ffi3_type_rules.specs.Tree.{Tree, void, scalar, left_out, structure, Scalar, u8, s8, u16, s16, u32, s32}
-use Rattle.ffi3_type_rules.specs.Layout.{size_of, scalar_size}
+use Rattle.ffi3_type_rules.specs.Tree.{Tree, void, scalar, left_out, structure}
+use Rattle.ffi3_type_rules.specs.Layout.{size_of}
 use Rattle.ffi3_type_rules.proofs.Layouts.{scalar_size-bounds}
-use Rattle.ffi3_place_rules.specs.declared.Loc.{Loc}
 use Rattle.ffi3_place_rules.specs.declared.Taken.{Taken}
-use Rattle.ffi3_place_rules.specs.Standard.{doubleword, places_from}
+use Rattle.ffi3_place_rules.specs.Standard.{places_from}
+use Rattle.ffi3_place_rules.specs.Doublewords.{widening, stack_pieces}
 use Rattle.ffi3_place_rules.specs.Holds.{Carries}
-use Rattle.ffi3_place_rules.specs.Sound.{IsPieceOf, IsExtended, HaveAll, PlacesHaveAll}
+use Rattle.ffi3_place_rules.specs.Sound.{IsPieceOf, HaveAll, PlacesHaveAll}
 use Rattle.ffi3_place_rules.proofs.Tests.{and_left, and_right, not_true}
 use Rattle.ffi3_place_rules.proofs.Covered.{covers_leaves, any_later}
+use Rattle.ffi3_place_rules.proofs.Doublewords.{widening_suits, doubleword_is_piece, stack_has_all}
 use Rattle.ffi3_amd64_rules.specs.declared.Class.{Class}
-use Rattle.ffi3_amd64_rules.specs.Amd64.{is_integer_class, is_sse_class, classes, classes_from, eightbytes, integers, sses, in_memory, argument_register, register_pieces, stack_pieces, extension, in_registers, taken_with, pieces_after, spots_after}
-
-extended_scalar : (s : Scalar) (l : Loc) (j : ℕ) → 8 * j < scalar_size s → IsExtended (scalar s) (doubleword l j (scalar_size s) (extension (scalar s))) (extension (scalar s))
-extended_scalar u8 l j h = (refl, omega arith, omega arith)
-extended_scalar s8 l j h = (refl, omega arith, omega arith)
-extended_scalar u16 l j h = (refl, omega arith, omega arith)
-extended_scalar s16 l j h = (refl, omega arith, omega arith)
-extended_scalar u32 l j h = (refl, omega arith, omega arith)
-extended_scalar s32 l j h = (refl, omega arith, omega arith)
-extended_scalar _ l j h = tt
-
-extended : (t : Tree) (l : Loc) (j : ℕ) → 8 * j < size_of t → IsExtended t (doubleword l j (size_of t) (extension t)) (extension t)
-extended void l j h = tt
-extended (scalar s) l j h = extended_scalar s l j h
-extended (left_out k) l j h = tt
-extended (structure ts) l j h = tt
-
--- a doubleword of a value is a piece of it
-doubleword_of : (t : Tree) (l : Loc) (j : ℕ) → 8 * j < size_of t → IsPieceOf t (doubleword l j (size_of t) (extension t))
-doubleword_of t l j h = record { short = omega arith; within = omega arith; extended = extended t l j h }
+use Rattle.ffi3_amd64_rules.specs.Amd64.{is_integer_class, is_sse_class, classes, classes_from, eightbytes, integers, sses, in_memory, argument_register, register_pieces, in_registers, taken_with, pieces_after, spots_after}
 
 module _ (general : ℕ → ℕ) (g f : ℕ) (t : Tree) where
   registers_carry : (o : ℕ) (earlier cs : List Class) → 8 * length earlier ≤ o → o < 8 * (length earlier + length cs) → o < size_of t → Any (Carries o) (register_pieces general g f t earlier cs)
@@ -47,31 +29,13 @@ module _ (general : ℕ → ℕ) (g f : ℕ) (t : Tree) where
   registers_are_pieces : (earlier cs : List Class) → length earlier + length cs ≤ eightbytes t → AllByRecursion (IsPieceOf t) (register_pieces general g f t earlier cs)
   registers_are_pieces earlier [] h = tt
   registers_are_pieces earlier (c ∷ cs) h =
-      (doubleword_of t _ (length earlier) (omega arith), registers_are_pieces (earlier ++ c ∷ []) cs (omega (arith, length_push earlier c)))
+      (doubleword_is_piece t (widening t) (widening_suits t) _ (length earlier) (omega arith), registers_are_pieces (earlier ++ c ∷ []) cs (omega (arith, length_push earlier c)))
 
   pub registers_have_all : (cs : List Class) → length cs ≡ eightbytes t → HaveAll t (register_pieces general g f t [] cs)
   registers_have_all cs e = record {
     each = registers_are_pieces [] cs (omega arith);
     covered = covers_leaves t (register_pieces general g f t [] cs) (λ o h. registers_carry o [] cs (omega arith) (omega (arith, e, h)) h);
   }
-
-stack_are_pieces : (start : ℕ) (t : Tree) (j count : ℕ) → j + count ≤ eightbytes t → AllByRecursion (IsPieceOf t) (stack_pieces start t j count)
-stack_are_pieces start t j zero h = tt
-stack_are_pieces start t j (suc count) h =
-    (doubleword_of t _ j (omega arith), stack_are_pieces start t (j + 1) count (omega arith))
-
-stack_carry : (start : ℕ) (t : Tree) (o j count : ℕ) → 8 * j ≤ o → o < 8 * (j + count) → o < size_of t → Any (Carries o) (stack_pieces start t j count)
-stack_carry start t o j zero low high fits = absurd (omega arith)
-stack_carry start t o j (suc count) low high fits =
-    ⊎_elim (λ h. (0, _, omega arith, refl, (low, omega arith)))
-    (λ h. any_later (Carries o) _ _ (stack_carry start t o (j + 1) count (omega arith) (omega arith) fits))
-    (cases_lt o (8 * j + 8))
-
-stack_has_all : (start : ℕ) (t : Tree) → HaveAll t (stack_pieces start t 0 (eightbytes t))
-stack_has_all start t = record {
-  each = stack_are_pieces start t 0 (eightbytes t) (omega arith);
-  covered = covers_leaves t (stack_pieces start t 0 (eightbytes t)) (λ o h. stack_carry start t o 0 (eightbytes t) (omega arith) (omega (arith, h)) h);
-}
 
 -- ---- the classes of a value
 
@@ -113,7 +77,7 @@ fits_registers a t e =
 
 -- ---- arguments
 
-has_all_if : (a : Taken) (t : Tree) (b : Bool) → in_registers a t ≡ b → HaveAll t (cond b (register_pieces argument_register a.general a.vector t [] (classes t)) (stack_pieces a.stack t 0 (eightbytes t)))
+has_all_if : (a : Taken) (t : Tree) (b : Bool) → in_registers a t ≡ b → HaveAll t (cond b (register_pieces argument_register a.general a.vector t [] (classes t)) (stack_pieces a.stack t))
 has_all_if a t true e = registers_have_all argument_register a.general a.vector t (classes t) (classes_when t (not_in_memory a t e))
 has_all_if a t false e = stack_has_all a.stack t
 

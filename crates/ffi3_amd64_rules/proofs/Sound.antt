@@ -1,30 +1,28 @@
 -- The places of a signature are a chain, so no two share a register or a byte of stack; and they have all of the values, which they therefore determine.
-use Rattle.std.proofs.Common.{◌≡◌, ℕ, zero, suc, ◌+◌, ◌*◌, ◌/◌, ◌≤◌, Bool, true, false, cond, List, [], ◌∷◌, ◌++◌, subst, sym, refl, arith, append-nil, append_assoc}
+use Rattle.std.proofs.Common.{◌≡◌, ℕ, ◌+◌, ◌≤◌, Bool, true, false, cond, List, [], ◌∷◌, ◌++◌, subst, sym, refl, arith, append-nil, append_assoc}
 use Rattle.std.specs.List.{AllByRecursion, count_by, flat_map}
 use Rattle.std.proofs.lemmas.List.Sums.{sum_by-cons, sum_by_push}
 use Rattle.ffi3_type_rules.specs.Tree.{Tree, void, scalar, left_out, structure}
-use Rattle.ffi3_type_rules.specs.Layout.{size_of, least_multiple}
+use Rattle.ffi3_type_rules.specs.Layout.{size_of}
 use Rattle.ffi3_type_rules.specs.Signature.{Signature}
-use Rattle.ffi3_type_rules.proofs.Layouts.{least_multiple-above}
 use Rattle.ffi3_place_rules.specs.declared.Loc.{Loc}
 use Rattle.ffi3_place_rules.specs.declared.Loc.TheVariants.{G}
 use Rattle.ffi3_place_rules.specs.declared.Taken.{Taken}
-use Rattle.ffi3_place_rules.specs.Standard.{in_result_pieces, in_buffer, plan_of, places_from, result_at, copies_start, buffer_start, buffer_bytes, frame_of, round8}
-use Rattle.ffi3_place_rules.specs.Sound.{AreApart, piece_locs, place_locs, hidden_locs, result_locs, argument_locs, IsNoneOf, LiesIn, copy_locs, buffer_locs, call_locs, no_argument, no_result as not_for_results, ResultHasAll, IsSound, IsDetermined}
-use Rattle.ffi3_place_rules.proofs.Chain.{AtMost, at_most_self, Chain, chain_append, chain_less, chain_more, chain_apart, chain_allowed, chain_lies_in, slots_chain}
+use Rattle.ffi3_place_rules.specs.Standard.{in_result_pieces, in_buffer, plan_of, places_from, result_at, copies_start, buffer_start, frame_of, round8}
+use Rattle.ffi3_place_rules.specs.Doublewords.{stack_pieces}
+use Rattle.ffi3_place_rules.specs.Sound.{AreApart, piece_locs, place_locs, hidden_locs, result_locs, argument_locs, IsNoneOf, LiesIn, call_locs, no_argument, no_result as not_for_results, ResultHasAll, IsSound, IsDetermined}
+use Rattle.ffi3_place_rules.proofs.Chain.{AtMost, at_most_self, Chain, chain_append, chain_less, chain_apart, chain_allowed, chain_lies_in}
+use Rattle.ffi3_place_rules.proofs.Frame.{up_to, value_chain, frame_chain}
 use Rattle.ffi3_place_rules.proofs.Determines.{determined}
 use Rattle.ffi3_amd64_rules.specs.declared.Class.{Class}
 use Rattle.ffi3_amd64_rules.specs.declared.Class.TheVariants.{Integer, Sse}
-use Rattle.ffi3_amd64_rules.specs.Amd64.{amd64, is_integer_class, is_sse_class, classes, eightbytes, integers, sses, in_memory, argument_register, vector_register, result_register, register_pieces, stack_pieces, in_registers, taken_with, taken_after, taken_at_first, pieces_after, spots_after, result_spot_of, placing_of}
+use Rattle.ffi3_amd64_rules.specs.Amd64.{amd64, is_integer_class, is_sse_class, classes, integers, sses, in_memory, argument_register, vector_register, result_register, register_pieces, in_registers, taken_with, taken_after, taken_at_first, pieces_after, spots_after, result_spot_of, placing_of}
 use Rattle.ffi3_amd64_rules.proofs.Covered.{fits_registers, integers_few, sses_few, classes_when, registers_have_all, arguments_have_all}
 use Rattle.ffi3_amd64_rules.proofs.Registers.{argument_registers, argument_small, argument_allowed, vector_allowed, stack_allowed, result_registers, result_small, result_allowed_general, result_allowed_vector, result_allowed_stack}
 
 abbrev at_eightbyte : Taken → List Class → Taken
 at_eightbyte a earlier =
     record { general = a.general + count_by is_integer_class earlier; vector = a.vector + count_by is_sse_class earlier; stack = a.stack }
-
-abbrev at_doubleword : Taken → ℕ → Taken
-at_doubleword a j = record { general = a.general; vector = a.vector; stack = a.stack + 8 * j }
 
 abbrev one_if : (Class → Bool) → Class → ℕ
 one_if p x = cond (p x) 1 0
@@ -60,17 +58,6 @@ module _ (general : ℕ → ℕ) (generals vectors : ℕ) where
         subst (λ l. Chain general vector_register generals vectors (at_eightbyte a (earlier ++ Sse ∷ [])) (piece_locs (register_pieces general a.general a.vector t (earlier ++ Sse ∷ []) cs)) (at_eightbyte a l)) ends rest,
       )
 
-  stack_chain : (a : Taken) (t : Tree) (j count : ℕ) → Chain general vector_register generals vectors (at_doubleword a j) (piece_locs (stack_pieces a.stack t j count)) (at_doubleword a (j + count))
-  stack_chain a t j zero = record { general = omega arith; vector = omega arith; stack = omega arith }
-  stack_chain a t j (suc count) =
-      let same : j + 1 + count ≡ j + suc count = omega arith in (
-        at_doubleword a (j + 1),
-        omega arith,
-        omega arith,
-        record { general = omega arith; vector = omega arith; stack = omega arith },
-        subst (λ k. Chain general vector_register generals vectors (at_doubleword a (j + 1)) (piece_locs (stack_pieces a.stack t (j + 1) count)) (at_doubleword a k)) same (stack_chain a t (j + 1) count),
-      )
-
 abbrev ArgumentsChain : Taken → List Loc → Taken → Type 0
 ArgumentsChain = Chain argument_register vector_register 6 8
 
@@ -78,14 +65,10 @@ abbrev ChainIf : Taken → Tree → Bool → Type 0
 ChainIf a t b = ArgumentsChain a
     (piece_locs (cond b
     (register_pieces argument_register a.general a.vector t [] (classes t))
-    (stack_pieces a.stack t 0 (eightbytes t))))
+    (stack_pieces a.stack t)))
     (cond {A = Taken} b
     (record { general = a.general + integers t; vector = a.vector + sses t; stack = a.stack })
     (record { general = a.general; vector = a.vector; stack = a.stack + round8 (size_of t) }))
-
-eightbytes_in : (n : ℕ) → 8 * ((n + 7) / 8) ≤ round8 n
-unfolding least_multiple
-eightbytes_in n = omega arith
 
 chain_if : (a : Taken) (t : Tree) (b : Bool) → in_registers a t ≡ b → ChainIf a t b
 chain_if a t true e =
@@ -94,10 +77,7 @@ chain_if a t true e =
     chain_less argument_register vector_register 6 8 a (at_eightbyte a []) _ _ start
     (register_chain argument_register 6 8 a t [] (classes t) (omega (arith, fits.0)) (omega (arith, fits.1)))
 chain_if a t false e =
-    let start : AtMost a (at_doubleword a 0) = record { general = omega arith; vector = omega arith; stack = omega arith } in
-    let finish : AtMost (at_doubleword a (0 + eightbytes t)) (record { general = a.general; vector = a.vector; stack = a.stack + round8 (size_of t) }) = record { general = omega arith; vector = omega arith; stack = omega (arith, eightbytes_in (size_of t)) } in
-    chain_more argument_register vector_register 6 8 a _ _ _
-    (chain_less argument_register vector_register 6 8 a (at_doubleword a 0) _ _ start (stack_chain argument_register 6 8 a t 0 (eightbytes t))) finish
+    value_chain argument_register vector_register 6 8 a t (record { general = a.general; vector = a.vector; stack = a.stack + round8 (size_of t) }) (omega arith) (omega arith) (omega arith)
 
 argument_chain : (a : Taken) (t : Tree) → ArgumentsChain a (piece_locs (pieces_after a t)) (taken_with a t)
 argument_chain a t = chain_if a t (in_registers a t) refl
@@ -143,41 +123,12 @@ plan_lies_in s =
 
 -- ---- the frame
 
--- no argument goes by reference
-no_copies : (copy : ℕ) (a : Taken) (ts : List Tree) → copy_locs ts (places_from copy ts (spots_after a ts)) ≡ []
-no_copies copy a [] = refl
-no_copies copy a (t ∷ ts) = no_copies (copy + 0) (taken_with a t) ts
-
 abbrev framed : Signature → Taken
-framed s = record { general = (taken_by_all s).general; vector = (taken_by_all s).vector; stack = frame_of amd64 s }
-
-abbrev after_buffer : Taken → ℕ → ℕ → Taken
-after_buffer a at n = record { general = a.general; vector = a.vector; stack = least_multiple 16 (at + n) }
-
-no_buffer : (a : Taken) (at : ℕ) → a.stack ≤ at → AtMost a (after_buffer a at 0)
-no_buffer a at low =
-    record { general = omega arith; vector = omega arith; stack = omega (arith, low, least_multiple-above 16 (at + 0)) }
-
-buffer_chain_of : (a : Taken) (t : Tree) (at : ℕ) → a.stack ≤ at → ArgumentsChain a (buffer_locs t (result_at at (result_spot_of t))) (after_buffer a at (buffer_bytes t (result_spot_of t)))
-buffer_chain_of a void at low = no_buffer a at low
-buffer_chain_of a (scalar s) at low = no_buffer a at low
-buffer_chain_of a (left_out k) at low = no_buffer a at low
-buffer_chain_of a (structure ts) at low = cases (in_memory (structure ts))
-  where
-    cases : (b : Bool) → ArgumentsChain a (buffer_locs (structure ts) (result_at at (cond b (in_buffer (G (argument_register 0))) (in_result_pieces (register_pieces result_register 0 0 (structure ts) [] (classes (structure ts))))))) (after_buffer a at (buffer_bytes (structure ts) (cond b (in_buffer (G (argument_register 0))) (in_result_pieces (register_pieces result_register 0 0 (structure ts) [] (classes (structure ts)))))))
-    cases true =
-        slots_chain argument_register vector_register 6 8 a at (eightbytes (structure ts)) _ low (omega (arith, least_multiple-above 16 (at + round8 (size_of (structure ts))), eightbytes_in (size_of (structure ts)))) (omega arith) (omega arith)
-    cases false = no_buffer a at low
-
-buffer_chain : (s : Signature) → ArgumentsChain (taken_by_all s) (buffer_locs s.result_type (plan_of amd64 s).res) (framed s)
-buffer_chain s =
-    buffer_chain_of (taken_by_all s) s.result_type (buffer_start s (placing_of s)) (omega (arith, least_multiple-above 16 (placing_of s).stack_bytes))
+framed s = up_to (taken_by_all s) (frame_of amd64 s)
 
 call_chain : (s : Signature) → ArgumentsChain untouched (call_locs s (plan_of amd64 s)) (framed s)
 call_chain s =
-    let none = no_copies (copies_start (placing_of s)) (taken_at_first s.result_type) s.arguments in
-    chain_append argument_register vector_register 6 8 untouched (argument_locs (plan_of amd64 s)) (taken_by_all s) _ (framed s) (plan_chain s)
-    (subst (λ copies. ArgumentsChain (taken_by_all s) (copies ++ buffer_locs s.result_type (plan_of amd64 s).res) (framed s)) (sym none) (buffer_chain s))
+    chain_append argument_register vector_register 6 8 untouched (argument_locs (plan_of amd64 s)) (taken_by_all s) _ (framed s) (plan_chain s) (frame_chain argument_register vector_register 6 8 amd64 s (taken_by_all s) (omega arith))
 
 plan_apart : (s : Signature) → AreApart (call_locs s (plan_of amd64 s))
 plan_apart s = chain_apart argument_register vector_register 6 8 argument_registers untouched _ _ (call_chain s)

@@ -1,40 +1,23 @@
 -- What one more leaf, eightbyte or argument adds.
-use Rattle.std.proofs.Common.{◌≡◌, ℕ, zero, suc, ◌+◌, ◌-◌, ◌*◌, ◌<◌, ◌≤◌, Bool, true, false, cond, List, [], ◌∷◌, ◌++◌, get_or, drop, length, ap, sym, ◌∙◌, refl, arith, subst, add-zero, append_assoc}
+use Rattle.std.proofs.Common.{◌≡◌, ℕ, zero, suc, ◌+◌, ◌-◌, ◌<◌, Bool, true, false, cond, List, [], ◌∷◌, ◌++◌, drop, length, ap, sym, ◌∙◌, refl, arith, subst, add-zero, append_assoc}
 use Rattle.std.specs.List.{count_by, list_any}
 use Rattle.std.proofs.lemmas.List.Sums.{sum_by-cons, sum_by_push}
-use Rattle.std.proofs.lemmas.List.{drop_more}
 use Rattle.ffi3_type_rules.specs.Tree.{Tree, void, scalar, left_out, structure, tree_at}
-use Rattle.ffi3_type_rules.specs.Layout.{leaves_of, leaf_at, size_of, scalar_size}
+use Rattle.ffi3_type_rules.specs.Layout.{leaves_of, leaf_at, size_of}
 use Rattle.ffi3_place_rules.specs.declared.Loc.{Loc}
-use Rattle.ffi3_place_rules.specs.declared.Loc.TheVariants.{G, S}
+use Rattle.ffi3_place_rules.specs.declared.Loc.TheVariants.{G}
 use Rattle.ffi3_place_rules.specs.declared.Piece.{Piece}
 use Rattle.ffi3_place_rules.specs.declared.Taken.{Taken}
 use Rattle.ffi3_place_rules.specs.declared.Place.{Place}
 use Rattle.ffi3_place_rules.specs.declared.Place.TheVariants.{Direct}
 use Rattle.ffi3_place_rules.specs.Standard.{doubleword, places_from, all_copy_bytes, buffer_bytes, round8, in_buffer, in_result_pieces}
-use Rattle.ffi3_place_rules.proofs.Covered.{EndsIn, leaves_end}
-use Rattle.ffi3_place_rules.proofs.Tests.{each_at}
+use Rattle.ffi3_place_rules.specs.Doublewords.{widening}
+use Rattle.ffi3_place_rules.proofs.Elements.{leaf_read, argument_read}
 use Rattle.ffi3_amd64_rules.specs.declared.Class.{Class}
-use Rattle.ffi3_amd64_rules.specs.Amd64.{is_integer_leaf_in, class_of, classes_from, classes, in_memory, argument_register, result_register, register_of, register_pieces, extension, stack_pieces, taken_with, taken_after, pieces_after, spots_after, result_spot_of}
+use Rattle.ffi3_amd64_rules.specs.Amd64.{is_integer_leaf_in, class_of, classes_from, classes, in_memory, argument_register, result_register, register_of, register_pieces, taken_with, taken_after, pieces_after, spots_after, result_spot_of}
 use Rattle.ffi3_amd64_rules.proofs.Covered.{length-classes_from}
 
--- the element that was read, and the rest
-pub drop_read : {X : Type 0} (xs : List X) (i : ℕ) (x : X) → i < length xs → x ≡ get_or xs i x → drop i xs ≡ x ∷ drop (i + 1) xs
-drop_read xs i x h read = drop_more xs i x h ∙ ap (λ y. y ∷ drop (i + 1) xs) (sym read)
-
-get_or_same : {X : Type 0} (xs : List X) (i : ℕ) (c d : X) → i < length xs → get_or xs i c ≡ get_or xs i d
-get_or_same [] i c d h = absurd (omega arith)
-get_or_same (x ∷ xs) zero c d h = refl
-get_or_same (x ∷ xs) (suc i) c d h = get_or_same xs i c d (omega arith)
-
 -- ---- leaves
-
-pub leaf_ends : (t : Tree) (i : ℕ) → i < length (leaves_of t) → (leaf_at t i).at + scalar_size (leaf_at t i).kind ≤ size_of t
-leaf_ends t i h =
-    each_at (EndsIn (size_of t)) (leaves_of t) i (leaf_at t i) h (get_or_same (leaves_of t) i (leaf_at t i) _ h) (leaves_end t)
-
-pub leaf_read : (t : Tree) (i : ℕ) → i < length (leaves_of t) → drop i (leaves_of t) ≡ leaf_at t i ∷ drop (i + 1) (leaves_of t)
-leaf_read t i h = drop_read (leaves_of t) i (leaf_at t i) h (get_or_same (leaves_of t) i _ (leaf_at t i) h)
 
 -- whether an integer leaf lies in the eightbyte, from one leaf on
 pub any_found : (t : Tree) (j i : ℕ) → i < length (leaves_of t) → is_integer_leaf_in j (leaf_at t i) ≡ true → list_any (is_integer_leaf_in j) (drop i (leaves_of t)) ≡ true
@@ -75,30 +58,18 @@ count_next p t j n h =
 -- one more piece in a register
 pub register_step : (general : ℕ → ℕ) (g f : ℕ) (t : Tree) (j count : ℕ) (out whole : List Piece) → j < count →
     out ++ register_pieces general g f t (classes_from t 0 j) (classes_from t j (count - j)) ≡ whole →
-    (out ++ doubleword (register_of general g f (classes_from t 0 j) (class_of t j)) j (size_of t) (extension t) ∷ []) ++ register_pieces general g f t (classes_from t 0 (j + 1)) (classes_from t (j + 1) (count - (j + 1))) ≡ whole
+    (out ++ doubleword (register_of general g f (classes_from t 0 j) (class_of t j)) j (size_of t) (widening t) ∷ []) ++ register_pieces general g f t (classes_from t 0 (j + 1)) (classes_from t (j + 1) (count - (j + 1))) ≡ whole
 register_step general g f t j count out whole h before =
     let c = class_of t j in
     let rest = classes_from t (j + 1) (count - (j + 1)) in
     let opened = subst (λ cs. out ++ register_pieces general g f t (classes_from t 0 j) cs ≡ whole) (classes_next t j count h) before in
-    let at_j = subst (λ k. out ++ (doubleword (register_of general g f (classes_from t 0 j) c) k (size_of t) (extension t) ∷ register_pieces general g f t (classes_from t 0 j ++ c ∷ []) rest) ≡ whole) (length-classes_from t 0 j) opened in
+    let at_j = subst (λ k. out ++ (doubleword (register_of general g f (classes_from t 0 j) c) k (size_of t) (widening t) ∷ register_pieces general g f t (classes_from t 0 j ++ c ∷ []) rest) ≡ whole) (length-classes_from t 0 j) opened in
     let index : 0 + j ≡ j = omega arith in
     let more : classes_from t 0 (j + 1) ≡ classes_from t 0 j ++ c ∷ [] = classes_more t 0 j ∙ ap (λ k. classes_from t 0 j ++ class_of t k ∷ []) index in
-    let grown = subst (λ cs. out ++ (doubleword (register_of general g f (classes_from t 0 j) c) j (size_of t) (extension t) ∷ register_pieces general g f t cs rest) ≡ whole) (sym more) at_j in
+    let grown = subst (λ cs. out ++ (doubleword (register_of general g f (classes_from t 0 j) c) j (size_of t) (widening t) ∷ register_pieces general g f t cs rest) ≡ whole) (sym more) at_j in
     append_assoc out _ _ ∙ grown
 
--- one more piece on the stack
-pub stack_step : (start : ℕ) (t : Tree) (j count : ℕ) (out whole : List Piece) → j < count →
-    out ++ stack_pieces start t j (count - j) ≡ whole →
-    (out ++ doubleword (S (start + 8 * j)) j (size_of t) (extension t) ∷ []) ++ stack_pieces start t (j + 1) (count - (j + 1)) ≡ whole
-stack_step start t j count out whole h before =
-    let next : suc (count - (j + 1)) ≡ count - j = omega arith in
-    let opened = subst (λ m. out ++ stack_pieces start t j m ≡ whole) (sym next) before in
-    append_assoc out _ _ ∙ opened
-
 -- ---- arguments
-
-pub argument_read : (ts : List Tree) (i : ℕ) (t : Tree) → i < length ts → t ≡ tree_at ts i → drop i ts ≡ t ∷ drop (i + 1) ts
-argument_read ts i t h read = drop_read ts i t h (read ∙ get_or_same ts i void t h)
 
 -- what one more argument takes
 pub taken_step : (ts : List Tree) (i : ℕ) (t : Tree) (before whole : Taken) → i < length ts → t ≡ tree_at ts i → taken_after before (drop i ts) ≡ whole → taken_after (taken_with before t) (drop (i + 1) ts) ≡ whole
@@ -148,14 +119,9 @@ spot_of_registers (left_out k) some e = refl
 spot_of_registers (structure ts) some e =
     ap (λ b. cond b (in_buffer (G (argument_register 0))) (in_result_pieces (register_pieces result_register 0 0 (structure ts) [] (classes (structure ts))))) e
 
--- ---- the same, where the new list and its last piece are known by equations
-
-pub stack_turn : (start : ℕ) (t : Tree) (j count : ℕ) (out new whole : List Piece) (p : Piece) → j < count → p ≡ doubleword (S (start + 8 * j)) j (size_of t) (extension t) → new ≡ out ++ p ∷ [] → out ++ stack_pieces start t j (count - j) ≡ whole → new ++ stack_pieces start t (j + 1) (count - (j + 1)) ≡ whole
-stack_turn start t j count out new whole p h piece pushed before =
-    ap (λ ps. ps ++ stack_pieces start t (j + 1) (count - (j + 1))) (pushed ∙ ap (λ q. out ++ q ∷ []) piece) ∙ stack_step start t j count out whole h before
-
-pub register_turn : (general : ℕ → ℕ) (g f : ℕ) (t : Tree) (j count : ℕ) (out new whole : List Piece) (p : Piece) (l : Loc) → j < count → l ≡ register_of general g f (classes_from t 0 j) (class_of t j) → p ≡ doubleword l j (size_of t) (extension t) → new ≡ out ++ p ∷ [] →
+-- one more piece in a register, where the new list and its last piece are known by equations
+pub register_turn : (general : ℕ → ℕ) (g f : ℕ) (t : Tree) (j count : ℕ) (out new whole : List Piece) (p : Piece) (l : Loc) → j < count → l ≡ register_of general g f (classes_from t 0 j) (class_of t j) → p ≡ doubleword l j (size_of t) (widening t) → new ≡ out ++ p ∷ [] →
     out ++ register_pieces general g f t (classes_from t 0 j) (classes_from t j (count - j)) ≡ whole →
     new ++ register_pieces general g f t (classes_from t 0 (j + 1)) (classes_from t (j + 1) (count - (j + 1))) ≡ whole
 register_turn general g f t j count out new whole p l h loc piece pushed before =
-    ap (λ ps. ps ++ register_pieces general g f t (classes_from t 0 (j + 1)) (classes_from t (j + 1) (count - (j + 1)))) (pushed ∙ ap (λ q. out ++ q ∷ []) (piece ∙ ap (λ m. doubleword m j (size_of t) (extension t)) loc)) ∙ register_step general g f t j count out whole h before
+    ap (λ ps. ps ++ register_pieces general g f t (classes_from t 0 (j + 1)) (classes_from t (j + 1) (count - (j + 1)))) (pushed ∙ ap (λ q. out ++ q ∷ []) (piece ∙ ap (λ m. doubleword m j (size_of t) (widening t)) loc)) ∙ register_step general g f t j count out whole h before

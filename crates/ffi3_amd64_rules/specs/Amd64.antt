@@ -1,18 +1,17 @@
 -- Where the arguments and the result of a call stand on AMD64. (System V psABI AMD64 3.2.3)
-use Rattle.std.specs.Prelude.{ℕ, zero, suc, ◌+◌, ◌*◌, ◌/◌, Bool, true, false, not, ◌&&◌, cond, nat_le, nat_lt, List, [], ◌∷◌, ◌++◌, get_or, length, Some, None}
+use Rattle.std.specs.Prelude.{ℕ, zero, suc, ◌+◌, ◌*◌, Bool, true, false, not, ◌&&◌, cond, nat_le, nat_lt, List, [], ◌∷◌, ◌++◌, get_or, length, Some, None}
 use Rattle.std.specs.List.{list_any, count_by}
 use Rattle.ffi3_type_rules.specs.declared.Target.TheVariants as target
-use Rattle.ffi3_type_rules.specs.Tree.{Tree, void, scalar, structure, Scalar, u8, s8, u16, s16, u32, s32}
+use Rattle.ffi3_type_rules.specs.Tree.{Tree, void, structure}
 use Rattle.ffi3_type_rules.specs.Layout.{Leaf, leaves_of, size_of, scalar_size}
 use Rattle.ffi3_type_rules.specs.Signature.{Signature}
 use Rattle.ffi3_type_rules.specs.Integer.{is_floating}
 use Rattle.ffi3_place_rules.specs.declared.Loc.{Loc}
-use Rattle.ffi3_place_rules.specs.declared.Loc.TheVariants.{G, F, S}
-use Rattle.ffi3_place_rules.specs.declared.Ext.{Ext}
-use Rattle.ffi3_place_rules.specs.declared.Ext.TheVariants.{Free, Widen}
+use Rattle.ffi3_place_rules.specs.declared.Loc.TheVariants.{G, F}
 use Rattle.ffi3_place_rules.specs.declared.Piece.{Piece}
 use Rattle.ffi3_place_rules.specs.declared.Taken.{Taken}
 use Rattle.ffi3_place_rules.specs.Standard.{Standard, Placing, Spot, in_pieces, ResultSpot, no_result, in_result_pieces, in_buffer, doubleword, round8}
+use Rattle.ffi3_place_rules.specs.Doublewords.{doublewords, widening, stack_pieces}
 use Rattle.ffi3_amd64_rules.specs.declared.Class.{Class}
 use Rattle.ffi3_amd64_rules.specs.declared.Class.TheVariants.{Integer, Sse}
 
@@ -43,9 +42,9 @@ is_struct _ = false
 abbrev pub in_memory : Tree → Bool
 in_memory t = is_struct t && nat_lt 16 (size_of t)
 
--- how many eightbytes a value takes
+-- how many eightbytes a value takes; the standard's name for doublewords
 abbrev pub eightbytes : Tree → ℕ
-eightbytes t = (size_of t + 7) / 8
+eightbytes t = doublewords t
 
 abbrev pub classes_from : Tree → ℕ → ℕ → List Class
 classes_from t j zero = []
@@ -60,20 +59,6 @@ integers t = count_by is_integer_class (classes t)
 
 abbrev pub sses : Tree → ℕ
 sses t = count_by is_sse_class (classes t)
-
--- A lone integer narrower than eight bytes is extended by its sign. (This library's rule: the standard leaves the bits above it open.)
-abbrev pub extension_of_scalar : Scalar → Ext
-extension_of_scalar u8 = Widen
-extension_of_scalar s8 = Widen
-extension_of_scalar u16 = Widen
-extension_of_scalar s16 = Widen
-extension_of_scalar u32 = Widen
-extension_of_scalar s32 = Widen
-extension_of_scalar _ = Free
-
-abbrev pub extension : Tree → Ext
-extension (scalar s) = extension_of_scalar s
-extension _ = Free
 
 -- ---- registers
 
@@ -98,12 +83,7 @@ register_of general g f earlier Sse = F (vector_register (f + count_by is_sse_cl
 abbrev pub register_pieces : (ℕ → ℕ) → ℕ → ℕ → Tree → List Class → List Class → List Piece
 register_pieces general g f t earlier [] = []
 register_pieces general g f t earlier (c ∷ cs) =
-    doubleword (register_of general g f earlier c) (length earlier) (size_of t) (extension t) ∷ register_pieces general g f t (earlier ++ c ∷ []) cs
-
--- one piece for each eightbyte, on the stack from an offset on
-abbrev pub stack_pieces : ℕ → Tree → ℕ → ℕ → List Piece
-stack_pieces start t j zero = []
-stack_pieces start t j (suc count) = doubleword (S (start + 8 * j)) j (size_of t) (extension t) ∷ stack_pieces start t (j + 1) count
+    doubleword (register_of general g f earlier c) (length earlier) (size_of t) (widening t) ∷ register_pieces general g f t (earlier ++ c ∷ []) cs
 
 -- ---- arguments
 
@@ -122,7 +102,7 @@ abbrev pub pieces_after : Taken → Tree → List Piece
 pieces_after before t =
     cond (in_registers before t)
     (register_pieces argument_register before.general before.vector t [] (classes t))
-    (stack_pieces before.stack t 0 (eightbytes t))
+    (stack_pieces before.stack t)
 
 abbrev pub spots_after : Taken → List Tree → List Spot
 spots_after before [] = []

@@ -1,16 +1,16 @@
 -- The places of the arguments by sums over the whole list, with no count that goes from one argument to the next. (System V psABI AMD64 3.2.3)
-use Rattle.std.specs.Prelude.{◌≡◌, ℕ, zero, suc, ◌+◌, ◌<◌, Bool, not, cond, length, Some, slice_get}
+use Rattle.std.specs.Prelude.{◌≡◌, ℕ, ◌+◌, ◌<◌, Bool, not, cond, length, Some, slice_get}
 use Rattle.ffi3_type_rules.specs.Tree.{tree_at}
 use Rattle.ffi3_type_rules.specs.Layout.{size_of}
 use Rattle.ffi3_type_rules.specs.Signature.{Signature}
 use Rattle.ffi3_place_rules.specs.declared.Taken.{Taken}
+use Rattle.ffi3_place_rules.specs.Sums.{sum_below}
 use Rattle.ffi3_place_rules.specs.Standard.{in_pieces, round8}
 use Rattle.ffi3_amd64_rules.specs.Amd64.{integers, sses, in_memory, in_registers, pieces_after, placing_of}
 
 -- the sum of the terms below n that are chosen
 abbrev pub sum_where : (ℕ → Bool) → (ℕ → ℕ) → ℕ → ℕ
-sum_where chosen term zero = 0
-sum_where chosen term (suc n) = sum_where chosen term n + cond (chosen n) (term n) 0
+sum_where chosen term n = sum_below (λ j. cond (chosen j) (term j) 0) n
 
 module _ (s : Signature) (chosen : ℕ → Bool) where
   -- the INTEGER eightbytes of the arguments in registers before number i, and a hidden result's address

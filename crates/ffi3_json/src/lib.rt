@@ -23,7 +23,7 @@ pub use place::{Step, Where};
 pub use reason::{Reason, reason_text};
 /// A JSON value.
 pub use serde_json::Value as Json;
-pub use signature::read_signature;
+pub use signature::{push_way, read_signature, reason_of_type};
 pub use types::{read_node, read_type};
 
 /// The greatest length of a script in bytes.

@@ -182,8 +182,8 @@ fn push_position(alloc: Global, place: &mut Where, position: &At) -> Result<(), 
     }
 }
 
-// On from a type to a node in it.
-fn push_way(alloc: Global, place: &mut Where, way: &Path) -> Result<(), NoMemory>
+/// On from a type to the node in it that the way leads to.
+pub fn push_way(alloc: Global, place: &mut Where, way: &Path) -> Result<(), NoMemory>
     ensures { OnOk result (place.new ≡ inside_type place.old way.now) }
 {
     for i in 0..way.len() {
@@ -208,8 +208,8 @@ fn reason_of(fault: &SigFault) -> Reason
     }
 }
 
-// Why a type with this fault is no part of a script.
-fn reason_of_type(fault: &TypeFault) -> Reason
+/// Why a type with this fault is no part of a script.
+pub fn reason_of_type(fault: &TypeFault) -> Reason
     ensures { reason_of result ≡ reason_of_type_fault (fault_of fault.now) }
 {
     match fault {

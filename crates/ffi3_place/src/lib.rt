@@ -1,4 +1,4 @@
-// Places of arguments and results, and the trait of a calling standard.
+// Places of arguments and results, the trait of a calling standard, and what the standards share.
 #![tactic(auto)]
 
 ghost use Rattle.std.specs.Prelude.{◌≡◌, ℕ, ◌<◌, IfOk, length, slice_index_or};
@@ -6,6 +6,8 @@ ghost use Rattle.ffi3_type_rules.specs.declared.Target.{Target};
 ghost use Rattle.ffi3_type_rules.specs.Signature.{Signature, SignatureHasNoFault};
 ghost use Rattle.ffi3_place_rules.specs.Standard.{Standard, plan_of};
 ghost use Rattle.ffi3_place_rules.specs.Sound.{IsSound, IsDetermined};
+
+pub mod parts;
 
 pub use ffi3_place_rules::{Ext, Loc, Piece, Pieces, Place, Places, Plan, Res};
 use ffi3_types::{NoMemory, Sig, Target};

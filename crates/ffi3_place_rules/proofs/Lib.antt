@@ -4,3 +4,7 @@ pub mod Covered
 pub mod Determines
 pub mod Forbidden
 pub mod EachPlace
+pub mod Doublewords
+pub mod Frame
+pub mod Elements
+pub mod Worked

@@ -1,5 +1,5 @@
--- The parts of a test, and of what holds for each of a list.
-use Rattle.std.proofs.Common.{◌≡◌, ℕ, ◌<◌, Bool, true, false, not, ◌&&◌, refl, List, [], ◌∷◌, get_or, length, subst}
+-- The parts of a test, and of what holds for each of a list or of the first numbers.
+use Rattle.std.proofs.Common.{◌≡◌, ℕ, zero, suc, ◌<◌, Bool, true, false, not, ◌&&◌, refl, List, [], ◌∷◌, get_or, length, subst, arith}
 use Rattle.std.specs.List.{AllByRecursion}
 use Rattle.std.proofs.lemmas.List.Elements.{All-from_recursion}
 
@@ -21,3 +21,15 @@ each_weaker P Q f (x ∷ xs) h = (f x h.0, each_weaker P Q f xs h.1)
 
 pub each_at : {X : Type 0} (P : X → Type 0) (xs : List X) (i : ℕ) (x : X) → i < length xs → get_or xs i x ≡ x → AllByRecursion P xs → P x
 each_at P xs i x h e all = subst P e (All-from_recursion P xs all i x h)
+
+-- what holds at the first numbers
+pub each_of_eight : (P : ℕ → Type 0) → P 0 → P 1 → P 2 → P 3 → P 4 → P 5 → P 6 → P 7 → (k : ℕ) → k < 8 → P k
+each_of_eight P a b c d e f g i zero h = a
+each_of_eight P a b c d e f g i (suc zero) h = b
+each_of_eight P a b c d e f g i (suc (suc zero)) h = c
+each_of_eight P a b c d e f g i (suc (suc (suc zero))) h = d
+each_of_eight P a b c d e f g i (suc (suc (suc (suc zero)))) h = e
+each_of_eight P a b c d e f g i (suc (suc (suc (suc (suc zero))))) h = f
+each_of_eight P a b c d e f g i (suc (suc (suc (suc (suc (suc zero)))))) h = g
+each_of_eight P a b c d e f g i (suc (suc (suc (suc (suc (suc (suc zero))))))) h = i
+each_of_eight P a b c d e f g i (suc (suc (suc (suc (suc (suc (suc (suc k)))))))) h = absurd (omega arith)

@@ -2,33 +2,30 @@
 #![tactic(auto)]
 
 ghost use Rattle.std.specs.Prelude.{◌≡◌, ◌<◌, ◌≤◌, ◌+◌, ◌*◌, ◌/◌, ◌^◌, length, IfOk, [], ◌∷◌, true, false, cond};
-ghost use Rattle.std.specs.List.{sum_by};
-ghost use Rattle.ffi3_type_rules.specs.Tree.{Scalar, scalar, tree_at};
+ghost use Rattle.ffi3_type_rules.specs.Tree.{Scalar, scalar};
 ghost use Rattle.ffi3_type_rules.specs.Layout.{size_of, leaves_of, leaf_at};
 ghost use Rattle.ffi3_type_rules.specs.Integer.{is_floating, is_integer};
 ghost use Rattle.ffi3_type_rules.specs.Fault.{HasNoFault};
 ghost use Rattle.ffi3_type_rules.specs.Signature.{SignatureHasNoFault};
 ghost use Rattle.ffi3_types.specs.TreeOf.{tree_of};
-ghost use Rattle.ffi3_place_rules.specs.Standard.{doubleword, place_at, places_from, result_at, all_copy_bytes, buffer_bytes, round8};
+ghost use Rattle.ffi3_place_rules.specs.Standard.{place_at, places_from, result_at, all_copy_bytes, buffer_bytes, round8};
+ghost use Rattle.ffi3_place_rules.specs.Doublewords.{doublewords};
 ghost use Rattle.ffi3_riscv_rules.specs.Riscv.{integer_shape, shape_of, words_of, floats_of, registers_suffice, passed_as, word, extension, boxing, floating_piece, integer_piece, word_pieces, spot_of, is_fixed, used_with, used_at_first, used_by_all, spots_after, result_shape, result_spot_of, is_by_reference, unused};
 ghost use Rattle.ffi3_riscv_rules.proofs.Shapes.{Suits, HasRoom};
 
 #[cfg(test)]
 mod tests;
 
+use ffi3_place::parts::{
+    argument, count_of, doubleword, doublewords, filling, is_floating, leaf_piece, result_type,
+    size_of, sizes_of,
+};
 use ffi3_place::{Abi, Ext, Loc, Piece, Pieces, Place, Places, Plan, Res};
 pub use ffi3_riscv_rules::Shape;
 use ffi3_riscv_rules::Used;
 use ffi3_type_rules::round_up;
 use ffi3_types::{FfiType, NoMemory, Sig, Target};
 use std::alloc::Global;
-
-/// Whether a scalar is a float or a double.
-fn floating(kind: &FfiType) -> bool
-    ensures { (s : Scalar) → tree_of kind.now ≡ scalar s → result ≡ is_floating s }
-{
-    matches!(kind, FfiType::Float | FfiType::Double)
-}
 
 /// Whether a scalar is an integer. A pointer is none.
 fn integer(kind: &FfiType) -> bool
@@ -44,7 +41,7 @@ fn is_floating_leaf(ty: &FfiType, i: u32) -> bool
     ensures { result ≡ is_floating (leaf_at (tree_of ty.now) i).kind }
 {
     let leaf = ty.leaf(i);
-    floating(&leaf.kind)
+    is_floating(&leaf.kind)
 }
 
 /// Whether leaf `i` is an integer.
@@ -57,23 +54,13 @@ fn is_integer_leaf(ty: &FfiType, i: u32) -> bool
     integer(&leaf.kind)
 }
 
-/// The size of a type without fault.
-fn size_of(ty: &FfiType) -> u64
-    requires { HasNoFault 0 true (tree_of ty.now) }
-    ensures value { result ≡ size_of (tree_of ty.now) }
-    ensures small { result ≤ 1024 }
-{
-    ty.size()
-}
-
 /// How a value is passed by the integer convention: in at most two words, or by reference.
 fn integer_shape(ty: &FfiType) -> Shape
     requires { HasNoFault 0 true (tree_of ty.now) }
     ensures { result ≡ integer_shape (tree_of ty.now) }
 {
-    let size = size_of(ty);
-    if size <= 16 {
-        Shape::Words((size + 7) / 8)
+    if size_of(ty) <= 16 {
+        Shape::Words(doublewords(ty))
     } else {
         Shape::ByRef
     }
@@ -212,11 +199,7 @@ fn word(k: u64) -> Loc
 fn extended(ty: &FfiType) -> Ext
     ensures { result ≡ extension (tree_of ty.now) }
 {
-    match ty {
-        FfiType::U8 | FfiType::S8 | FfiType::U16 | FfiType::S16 | FfiType::U32 | FfiType::S32 =>
-            Ext::Riscv,
-        _ => Ext::Free,
-    }
+    filling(ty, Ext::Riscv)
 }
 
 /// What fills the rest of a floating register.
@@ -229,32 +212,18 @@ fn boxed(kind: &FfiType) -> Ext
     }
 }
 
-/// Doubleword `j` of a value, in its place.
-fn doubleword(ty: &FfiType, j: u64, loc: Loc) -> Piece
-    requires right { HasNoFault 0 true (tree_of ty.now) }
-    requires within { 8 * j < size_of (tree_of ty.now) }
-    ensures { result ≡ doubleword loc j (size_of (tree_of ty.now)) (extension (tree_of ty.now)) }
-{
-    let left = size_of(ty) - 8 * j;
-    Piece {
-        loc,
-        off: (8 * j) as u32,
-        len: if left < 8 { left as u8 } else { 8 },
-        ext: extended(ty),
-    }
-}
-
 /// A value's doublewords, in the stream of words from number `first` on.
 fn word_pieces(alloc: Global, ty: &FfiType, first: u64, count: u64) -> Result<Pieces, NoMemory>
     requires right { HasNoFault 0 true (tree_of ty.now) }
     requires low { first ≤ 1024 }
-    requires all { count ≡ (size_of (tree_of ty.now) + 7) / 8 }
+    requires all { count ≡ doublewords (tree_of ty.now) }
     requires few { count ≤ 2 }
-    ensures { IfOk result (λ p. p ≡ word_pieces first (tree_of ty.now) 0 count) }
+    ensures { IfOk result (λ p. p ≡ word_pieces first (tree_of ty.now) count) }
 {
+    let ext = extended(ty);
     let mut pieces = Pieces::new(alloc);
     for j in 0..count {
-        pieces.push(doubleword(ty, j, word(first + j)))?;
+        pieces.push(doubleword(ty, j, word(first + j), ext))?;
     }
     Ok(pieces)
 }
@@ -267,12 +236,7 @@ fn floating_piece(ty: &FfiType, i: u32, number: u64) -> Piece
     ensures { result ≡ floating_piece number (leaf_at (tree_of ty.now) i) }
 {
     let leaf = ty.leaf(i);
-    Piece {
-        loc: Loc::F(10 + number as u8),
-        off: leaf.at as u32,
-        len: leaf.kind.size() as u8,
-        ext: boxed(&leaf.kind),
-    }
+    leaf_piece(ty, i, Loc::F(10 + number as u8), boxed(&leaf.kind))
 }
 
 /// Leaf `i` in integer register a`number`.
@@ -282,13 +246,7 @@ fn integer_piece(ty: &FfiType, i: u32, number: u64) -> Piece
     requires few { number ≤ 7 }
     ensures { result ≡ integer_piece number (leaf_at (tree_of ty.now) i) }
 {
-    let leaf = ty.leaf(i);
-    Piece {
-        loc: Loc::G(10 + number as u8),
-        off: leaf.at as u32,
-        len: leaf.kind.size() as u8,
-        ext: Ext::Free,
-    }
+    leaf_piece(ty, i, Loc::G(10 + number as u8), Ext::Free)
 }
 
 fn one_piece(alloc: Global, piece: Piece) -> Result<Pieces, NoMemory>
@@ -351,34 +309,6 @@ fn place_of(
     }
 }
 
-/// How many arguments a signature without fault has.
-fn count_of(sig: &Sig) -> u32
-    requires { SignatureHasNoFault sig.now }
-    ensures value { result ≡ length sig.now.arguments }
-    ensures few { result ≤ 64 }
-{
-    sig.count()
-}
-
-/// An argument's type, which has no fault.
-fn argument(sig: &Sig, i: u32) -> &FfiType
-    requires right { SignatureHasNoFault sig.now }
-    requires within { i < length sig.now.arguments }
-    ensures element { tree_of result.now ≡ tree_at sig.now.arguments i }
-    ensures right { HasNoFault 0 true (tree_of result.now) }
-{
-    sig.arg(i)
-}
-
-/// The result's type, which has no fault.
-fn result_type(sig: &Sig) -> &FfiType
-    requires { SignatureHasNoFault sig.now }
-    ensures element { tree_of result.now ≡ sig.now.result_type }
-    ensures right { HasNoFault 0 true (tree_of result.now) }
-{
-    sig.ret()
-}
-
 /// Whether argument `i` is no variadic one.
 fn is_fixed(sig: &Sig, i: u32) -> bool
     ensures { result ≡ is_fixed sig.now.fixed i }
@@ -387,19 +317,6 @@ fn is_fixed(sig: &Sig, i: u32) -> bool
         None => true,
         Some(fixed) => i < fixed,
     }
-}
-
-/// The sizes of all arguments, each a multiple of 8.
-fn sizes_of(sig: &Sig) -> u64
-    requires { SignatureHasNoFault sig.now }
-    ensures value { result ≡ sum_by (λ t. round8 (size_of t)) sig.now.arguments }
-    ensures bound { result ≤ 66048 }
-{
-    let mut all = 0;
-    for i in 0..count_of(sig) {
-        all += round_up(size_of(argument(sig, i)), 8);
-    }
-    all
 }
 
 const UNUSED: Used = Used {

@@ -1,77 +1,42 @@
 -- The pieces of a value have every byte of its leaves.
-use Rattle.std.proofs.Common.{◌≡◌, ℕ, zero, suc, ◌+◌, ◌*◌, ◌/◌, ◌<◌, ◌≤◌, List, [], ◌∷◌, length, refl, arith, ⊎_elim}
-use Rattle.std.specs.List.{AllByRecursion, Any}
+use Rattle.std.proofs.Common.{◌≡◌, ℕ, ◌+◌, List, [], ◌∷◌, length, subst, sym, refl, arith}
+use Rattle.std.specs.List.{AllByRecursion}
 use Rattle.std.specs.Prelude.{Option, slice_index_or}
-use Rattle.std.proofs.lemmas.Bool.{cases_lt}
-use Rattle.ffi3_type_rules.specs.Tree.{Tree, void, scalar, left_out, structure, Scalar, u8, s8, u16, s16, u32, s32, float}
+use Rattle.ffi3_type_rules.specs.Tree.{Tree, Scalar, u8, float}
 use Rattle.ffi3_type_rules.specs.Layout.{Leaf, leaves_of, size_of, scalar_size}
-use Rattle.ffi3_type_rules.proofs.Layouts.{scalar_size-bounds}
 use Rattle.ffi3_place_rules.specs.declared.Loc.{Loc}
-use Rattle.ffi3_place_rules.specs.declared.Loc.TheVariants.{F}
+use Rattle.ffi3_place_rules.specs.declared.Loc.TheVariants.{G, F}
+use Rattle.ffi3_place_rules.specs.declared.Ext.TheVariants.{Free, Riscv}
 use Rattle.ffi3_place_rules.specs.declared.Piece.{Piece}
-use Rattle.ffi3_place_rules.specs.Standard.{doubleword, copy_bytes, place_at, places_from}
-use Rattle.ffi3_place_rules.specs.Holds.{Carries}
+use Rattle.ffi3_place_rules.specs.Standard.{copy_bytes, place_at, places_from}
+use Rattle.ffi3_place_rules.specs.Doublewords.{doublewords, leaf_piece}
 use Rattle.ffi3_place_rules.specs.Sound.{IsPieceOf, IsExtended, CoversLeaf, HaveAll, PlaceHasAll, PlacesHaveAll}
-use Rattle.ffi3_place_rules.proofs.Covered.{EndsIn, leaves_end, covers_leaves, any_later}
+use Rattle.ffi3_place_rules.proofs.Covered.{EndsIn, leaves_end}
+use Rattle.ffi3_place_rules.proofs.Doublewords.{filling_suits, leaf_is_piece, doublewords_have_all}
 use Rattle.ffi3_riscv_rules.specs.declared.Shape.{Shape}
 use Rattle.ffi3_riscv_rules.specs.declared.Shape.TheVariants.{OneF, TwoF, FI, IF, Words, ByRef}
 use Rattle.ffi3_riscv_rules.specs.declared.Used.{Used}
-use Rattle.ffi3_riscv_rules.specs.Riscv.{extension, boxing, floating_register, floating_piece, integer_piece, word_pieces, spot_of, passed_as, is_fixed, used_with, spots_after}
+use Rattle.ffi3_riscv_rules.specs.Riscv.{word, extension, boxing, argument_register, floating_register, floating_piece, integer_piece, word_pieces, spot_of, passed_as, is_fixed, used_with, spots_after}
 use Rattle.ffi3_riscv_rules.proofs.Shapes.{Suits, passed_suits}
 
 -- ---- doublewords
 
-extended_scalar : (s : Scalar) (l : Loc) (j : ℕ) → 8 * j < scalar_size s → IsExtended (scalar s) (doubleword l j (scalar_size s) (extension (scalar s))) (extension (scalar s))
-extended_scalar u8 l j h = (refl, omega arith, omega arith)
-extended_scalar s8 l j h = (refl, omega arith, omega arith)
-extended_scalar u16 l j h = (refl, omega arith, omega arith)
-extended_scalar s16 l j h = (refl, omega arith, omega arith)
-extended_scalar u32 l j h = (refl, omega arith, omega arith)
-extended_scalar s32 l j h = (refl, omega arith, omega arith)
-extended_scalar _ l j h = tt
-
-extended : (t : Tree) (l : Loc) (j : ℕ) → 8 * j < size_of t → IsExtended t (doubleword l j (size_of t) (extension t)) (extension t)
-extended void l j h = tt
-extended (scalar s) l j h = extended_scalar s l j h
-extended (left_out k) l j h = tt
-extended (structure ts) l j h = tt
-
--- a doubleword of a value is a piece of it
-doubleword_of : (t : Tree) (l : Loc) (j : ℕ) → 8 * j < size_of t → IsPieceOf t (doubleword l j (size_of t) (extension t))
-doubleword_of t l j h = record { short = omega arith; within = omega arith; extended = extended t l j h }
-
-words_are_pieces : (w : ℕ) (t : Tree) (j count : ℕ) → j + count ≤ (size_of t + 7) / 8 → AllByRecursion (IsPieceOf t) (word_pieces w t j count)
-words_are_pieces w t j zero h = tt
-words_are_pieces w t j (suc count) h =
-    (doubleword_of t _ j (omega arith), words_are_pieces w t (j + 1) count (omega arith))
-
-words_carry : (w : ℕ) (t : Tree) (o j count : ℕ) → 8 * j ≤ o → o < 8 * (j + count) → o < size_of t → Any (Carries o) (word_pieces w t j count)
-words_carry w t o j zero low high fits = absurd (omega arith)
-words_carry w t o j (suc count) low high fits =
-    ⊎_elim (λ h. (0, _, omega arith, refl, (low, omega arith)))
-    (λ h. any_later (Carries o) _ _ (words_carry w t o (j + 1) count (omega arith) (omega arith) fits))
-    (cases_lt o (8 * j + 8))
-
-words_have_all : (w : ℕ) (t : Tree) (count : ℕ) → count ≡ (size_of t + 7) / 8 → HaveAll t (word_pieces w t 0 count)
-words_have_all w t count e = record {
-  each = words_are_pieces w t 0 count (omega (arith, e));
-  covered = covers_leaves t (word_pieces w t 0 count) (λ o h. words_carry w t o 0 count (omega arith) (omega (arith, e, h)) h);
-}
+words_have_all : (w : ℕ) (t : Tree) (count : ℕ) → count ≡ doublewords t → HaveAll t (word_pieces w t count)
+words_have_all w t count e =
+    subst (λ n. HaveAll t (word_pieces w t n)) (sym e) (doublewords_have_all (λ j. word (w + j)) t (extension t) (filling_suits Riscv (λ u p h. h) t))
 
 -- ---- leaves
 
-boxes : (t : Tree) (l : Loc) (o : ℕ) (s : Scalar) → IsExtended t (record { loc = l; off = o; len = scalar_size s; ext = boxing s }) (boxing s)
-boxes t l o float = refl
-boxes t l o _ = tt
+boxes : (t : Tree) (at : Loc) (o : ℕ) (s : Scalar) → IsExtended t (leaf_piece at (boxing s) (record { at = o; kind = s })) (boxing s)
+boxes t at o float = refl
+boxes t at o _ = tt
 
 floating_piece_of : (t : Tree) (f : ℕ) (l : Leaf) → EndsIn (size_of t) l → IsPieceOf t (floating_piece f l)
 floating_piece_of t f l h =
-    let size = scalar_size-bounds l.kind in
-    record { short = size.1; within = h; extended = boxes t (F (floating_register f)) l.at l.kind }
+    leaf_is_piece t (F (floating_register f)) (boxing l.kind) l h (boxes t (F (floating_register f)) l.at l.kind)
 
 integer_piece_of : (t : Tree) (w : ℕ) (l : Leaf) → EndsIn (size_of t) l → IsPieceOf t (integer_piece w l)
-integer_piece_of t w l h =
-    let size = scalar_size-bounds l.kind in record { short = size.1; within = h; extended = tt }
+integer_piece_of t w l h = leaf_is_piece t (G (argument_register w)) Free l h tt
 
 -- the piece has the bytes of the leaf
 abbrev HasLeaf : Leaf → Piece → Type 0

@@ -1,8 +1,6 @@
-pub mod Copies
 pub mod Shapes
 pub mod Covered
 pub mod Registers
 pub mod Sound
 pub mod Sums
-pub mod Leaves
 mod Rows

@@ -1,22 +1,11 @@
 -- The lists of registers: no register stands twice in one, and none is forbidden.
-use Rattle.std.proofs.Common.{◌≡◌, ℕ, zero, suc, ◌<◌, true, refl, arith}
+use Rattle.std.proofs.Common.{◌≡◌, ℕ, ◌<◌, true, refl, arith}
 use Rattle.ffi3_place_rules.specs.declared.Loc.TheVariants.{G, F, S}
 use Rattle.ffi3_place_rules.specs.Sound.{IsNoneOf, no_argument, no_result}
+use Rattle.ffi3_place_rules.proofs.Tests.{each_of_eight}
 use Rattle.ffi3_place_rules.proofs.Chain.{Registers}
 use Rattle.ffi3_place_rules.proofs.Forbidden.{is_none_of, none_of}
 use Rattle.ffi3_riscv_rules.specs.Riscv.{riscv, argument_register, floating_register}
-
--- what holds at the first numbers
-each_of_eight : (P : ℕ → Type 0) → P 0 → P 1 → P 2 → P 3 → P 4 → P 5 → P 6 → P 7 → (k : ℕ) → k < 8 → P k
-each_of_eight P a b c d e f g i zero h = a
-each_of_eight P a b c d e f g i (suc zero) h = b
-each_of_eight P a b c d e f g i (suc (suc zero)) h = c
-each_of_eight P a b c d e f g i (suc (suc (suc zero))) h = d
-each_of_eight P a b c d e f g i (suc (suc (suc (suc zero)))) h = e
-each_of_eight P a b c d e f g i (suc (suc (suc (suc (suc zero))))) h = f
-each_of_eight P a b c d e f g i (suc (suc (suc (suc (suc (suc zero)))))) h = g
-each_of_eight P a b c d e f g i (suc (suc (suc (suc (suc (suc (suc zero))))))) h = i
-each_of_eight P a b c d e f g i (suc (suc (suc (suc (suc (suc (suc (suc k)))))))) h = absurd (omega arith)
 
 pub all_registers : Registers argument_register floating_register 8 8
 all_registers = record {

@@ -1,42 +1,23 @@
 -- Worked rows, computed.
-use Rattle.std.specs.Prelude.{◌≡◌, ℕ, List, [], ◌∷◌, ◌++◌, refl, None, Some, replicate}
-use Rattle.ffi3_type_rules.specs.Tree.{Tree, void, scalar, struct_of, s8, s32, u64, s64, float, double, pointer}
+use Rattle.std.specs.Prelude.{◌≡◌, ℕ, List, [], ◌∷◌, ◌++◌, refl, Some, replicate}
+use Rattle.ffi3_type_rules.specs.Tree.{Tree, void, scalar, struct_of, s8, s32, float, double, pointer}
 use Rattle.ffi3_type_rules.specs.Layout.{least_multiple}
-use Rattle.ffi3_type_rules.specs.Signature.{Signature}
 use Rattle.ffi3_place_rules.specs.declared.Loc.{Loc}
 use Rattle.ffi3_place_rules.specs.declared.Loc.TheVariants.{G, F, S}
-use Rattle.ffi3_place_rules.specs.declared.Ext.TheVariants.{Free, Riscv, Boxed}
+use Rattle.ffi3_place_rules.specs.declared.Ext.TheVariants.{Riscv, Boxed}
 use Rattle.ffi3_place_rules.specs.declared.Piece.{Piece}
 use Rattle.ffi3_place_rules.specs.declared.Place.{Place}
 use Rattle.ffi3_place_rules.specs.declared.Place.TheVariants.{Direct, ByRef}
 use Rattle.ffi3_place_rules.specs.declared.Res.TheVariants.{Nothing, Direct as DirectRes, Hidden}
 use Rattle.ffi3_place_rules.specs.Standard.{plan_of}
+use Rattle.ffi3_place_rules.proofs.Worked.{sig_of, at, alone, integer, pair, triple}
 use Rattle.ffi3_riscv_rules.specs.Riscv.{riscv}
-
-abbrev sig_of : Tree → List Tree → Signature
-sig_of r a = record { result_type = r; arguments = a; fixed = None }
-
-abbrev at : Loc → ℕ → ℕ → Piece
-at l o n = record { loc = l; off = o; len = n; ext = Free }
 
 abbrev extended : Loc → ℕ → Piece
 extended l n = record { loc = l; off = 0; len = n; ext = Riscv }
 
 abbrev boxed : Loc → ℕ → Piece
 boxed l o = record { loc = l; off = o; len = 4; ext = Boxed }
-
--- a whole doubleword in one place
-abbrev alone : Loc → Place
-alone l = Direct (at l 0 8 ∷ [])
-
-abbrev integer : Tree
-integer = scalar s64
-
-abbrev pair : Tree
-pair = struct_of (scalar s64 ∷ scalar s64 ∷ [])
-
-abbrev triple : Tree
-triple = struct_of (scalar u64 ∷ scalar u64 ∷ scalar u64 ∷ [])
 
 abbrev doubles : Tree
 doubles = struct_of (scalar double ∷ scalar double ∷ [])

@@ -1,23 +1,24 @@
 -- The places of a signature are a chain, so no two share a register or a byte of stack; and they have all of the values, which they therefore determine.
-use Rattle.std.proofs.Common.{◌≡◌, ℕ, zero, suc, ◌+◌, ◌-◌, ◌*◌, ◌≤◌, Bool, true, false, cond, ltb, List, [], ◌∷◌, ◌++◌, subst, refl, arith}
+use Rattle.std.proofs.Common.{◌≡◌, ℕ, zero, suc, ◌+◌, ◌-◌, ◌*◌, ◌≤◌, Bool, true, false, cond, ltb, List, [], ◌∷◌, subst, refl, arith}
 use Rattle.std.specs.Prelude.{Option}
 use Rattle.std.specs.List.{AllByRecursion, flat_map}
 use Rattle.std.proofs.lemmas.Bool.{ltb-true, ltb-false}
 use Rattle.ffi3_type_rules.specs.Tree.{Tree, void, scalar, left_out, structure}
+use Rattle.ffi3_type_rules.specs.Layout.{size_of}
 use Rattle.ffi3_type_rules.specs.Signature.{Signature}
-use Rattle.ffi3_type_rules.proofs.Layouts.{least_multiple-above}
 use Rattle.ffi3_place_rules.specs.declared.Loc.{Loc}
 use Rattle.ffi3_place_rules.specs.declared.Loc.TheVariants.{G, F, S}
 use Rattle.ffi3_place_rules.specs.declared.Taken.{Taken}
 use Rattle.ffi3_place_rules.specs.Standard.{plan_of, copy_bytes, place_at, places_from, result_at, copies_start, buffer_start, frame_of}
-use Rattle.ffi3_place_rules.specs.Sound.{AreApart, piece_locs, place_locs, hidden_locs, result_locs, argument_locs, IsNoneOf, LiesIn, copy_locs, buffer_locs, call_locs, no_argument, no_result as not_for_results, PlaceHasAll, ResultHasAll, IsSound, IsDetermined}
+use Rattle.ffi3_place_rules.specs.Doublewords.{doublewords_at}
+use Rattle.ffi3_place_rules.specs.Sound.{AreApart, piece_locs, place_locs, hidden_locs, result_locs, argument_locs, IsNoneOf, LiesIn, call_locs, no_argument, no_result as not_for_results, PlaceHasAll, ResultHasAll, IsSound, IsDetermined}
 use Rattle.ffi3_place_rules.proofs.Chain.{AtMost, at_most_self, From, Until, Chain, chain_append, chain_apart, chain_allowed, chain_lies_in}
+use Rattle.ffi3_place_rules.proofs.Frame.{up_to, frame_chain}
 use Rattle.ffi3_place_rules.proofs.Determines.{determined}
 use Rattle.ffi3_riscv_rules.specs.declared.Shape.{Shape}
 use Rattle.ffi3_riscv_rules.specs.declared.Shape.TheVariants.{OneF, TwoF, FI, IF, Words, ByRef}
 use Rattle.ffi3_riscv_rules.specs.declared.Used.{Used}
-use Rattle.ffi3_riscv_rules.specs.Riscv.{riscv, argument_register, floating_register, word, words_of, word_pieces, spot_of, passed_as, is_fixed, used_with, used_after, used_at_first, used_by_all, unused, spots_after, result_shape, result_from, result_spot_of, is_by_reference, placing_of}
-use Rattle.ffi3_riscv_rules.proofs.Copies.{up_to, copies_chain, buffer_chain}
+use Rattle.ffi3_riscv_rules.specs.Riscv.{riscv, argument_register, floating_register, word, words_of, extension, word_pieces, spot_of, passed_as, is_fixed, used_with, used_after, used_at_first, used_by_all, unused, spots_after, result_shape, result_from, result_spot_of, is_by_reference, placing_of}
 use Rattle.ffi3_riscv_rules.proofs.Shapes.{HasRoom, passed_has_room, passed_few, passed_suits}
 use Rattle.ffi3_riscv_rules.proofs.Covered.{spot_has_all, arguments_have_all}
 use Rattle.ffi3_riscv_rules.proofs.Registers.{all_registers, argument_small, floating_small, argument_allowed, floating_allowed, stack_allowed, result_allowed_general, result_allowed_floating, result_allowed_stack}
@@ -57,7 +58,7 @@ word_until_if w f false e = omega (arith, ltb-false w 8 e)
 word_until : (w f : ℕ) → IsUntil (taken_of (w + 1) f) (word w)
 word_until w f = word_until_if w f (ltb w 8) refl
 
-words_chain : (w f : ℕ) (t : Tree) (j count : ℕ) → WordsChain (taken_of (w + j) f) (piece_locs (word_pieces w t j count)) (taken_of (w + (j + count)) f)
+words_chain : (w f : ℕ) (t : Tree) (j count : ℕ) → WordsChain (taken_of (w + j) f) (piece_locs (doublewords_at (λ k. word (w + k)) (size_of t) (extension t) j count)) (taken_of (w + (j + count)) f)
 words_chain w f t j zero = more_words (w + j) (w + (j + 0)) f f (omega arith) (omega arith)
 words_chain w f t j (suc count) =
     let next : w + j + 1 ≡ w + (j + 1) = omega arith in
@@ -66,7 +67,7 @@ words_chain w f t j (suc count) =
       word_from (w + j) f,
       subst (λ n. IsUntil (taken_of n f) (word (w + j))) next (word_until (w + j) f),
       more_words (w + j) (w + (j + 1)) f f (omega arith) (omega arith),
-      subst (λ n. WordsChain (taken_of (w + (j + 1)) f) (piece_locs (word_pieces w t (j + 1) count)) (taken_of n f)) end (words_chain w f t (j + 1) count),
+      subst (λ n. WordsChain (taken_of (w + (j + 1)) f) (piece_locs (doublewords_at (λ k. word (w + k)) (size_of t) (extension t) (j + 1) count)) (taken_of n f)) end (words_chain w f t (j + 1) count),
     )
 
 -- ---- one value
@@ -109,9 +110,9 @@ spot_chain copy before t (Words n) room =
     let end : before.words + (0 + n) ≡ before.words + n = omega arith in
     let floats : before.floats ≡ before.floats + 0 = omega arith in
     let pieces = words_chain before.words before.floats t 0 n in
-    let from_start = subst (λ w. WordsChain (taken_of w before.floats) (piece_locs (word_pieces before.words t 0 n)) (taken_of (before.words + (0 + n)) before.floats)) start pieces in
-    let to_end = subst (λ w. WordsChain (taken before) (piece_locs (word_pieces before.words t 0 n)) (taken_of w before.floats)) end from_start in
-    subst (λ f. WordsChain (taken before) (piece_locs (word_pieces before.words t 0 n)) (taken_of (before.words + n) f)) floats to_end
+    let from_start = subst (λ w. WordsChain (taken_of w before.floats) (piece_locs (word_pieces before.words t n)) (taken_of (before.words + (0 + n)) before.floats)) start pieces in
+    let to_end = subst (λ w. WordsChain (taken before) (piece_locs (word_pieces before.words t n)) (taken_of w before.floats)) end from_start in
+    subst (λ f. WordsChain (taken before) (piece_locs (word_pieces before.words t n)) (taken_of (before.words + n) f)) floats to_end
 spot_chain copy before t ByRef room = (
   taken_of (before.words + 1) before.floats,
   word_from before.words before.floats,
@@ -164,17 +165,9 @@ plan_lies_in s =
 abbrev framed : Signature → Taken
 framed s = up_to (taken (used_by_all s)) (frame_of riscv s)
 
-memory_chain : (s : Signature) → WordsChain (taken (used_by_all s)) (copy_locs s.arguments (plan_of riscv s).places ++ buffer_locs s.result_type (plan_of riscv s).res) (framed s)
-memory_chain s =
-    let all = taken (used_by_all s) in
-    let copied = up_to all (buffer_start s (placing_of s)) in
-    chain_append argument_register floating_register 8 8 all (copy_locs s.arguments (plan_of riscv s).places) copied _ (framed s)
-    (copies_chain argument_register floating_register 8 8 all (copies_start (placing_of s)) s.arguments (placing_of s).arguments (least_multiple-above 16 (placing_of s).stack_bytes))
-    (buffer_chain argument_register floating_register 8 8 copied s.result_type (buffer_start s (placing_of s)) (result_spot_of s.result_type) (omega arith))
-
 call_chain : (s : Signature) → WordsChain (taken unused) (call_locs s (plan_of riscv s)) (framed s)
 call_chain s =
-    chain_append argument_register floating_register 8 8 (taken unused) (argument_locs (plan_of riscv s)) (taken (used_by_all s)) _ (framed s) (plan_chain s) (memory_chain s)
+    chain_append argument_register floating_register 8 8 (taken unused) (argument_locs (plan_of riscv s)) (taken (used_by_all s)) _ (framed s) (plan_chain s) (frame_chain argument_register floating_register 8 8 riscv s (taken (used_by_all s)) (omega arith))
 
 plan_apart : (s : Signature) → AreApart (call_locs s (plan_of riscv s))
 plan_apart s = chain_apart argument_register floating_register 8 8 all_registers (taken unused) _ _ (call_chain s)

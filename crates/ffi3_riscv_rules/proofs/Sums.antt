@@ -6,7 +6,8 @@ use Rattle.ffi3_type_rules.specs.Signature.{Signature}
 use Rattle.ffi3_riscv_rules.specs.declared.Shape.{Shape}
 use Rattle.ffi3_riscv_rules.specs.declared.Used.{Used}
 use Rattle.ffi3_riscv_rules.specs.Riscv.{words_of, passed_as, is_fixed, spot_of, spots_after, used_with, used_after, used_at_first, is_by_reference, result_shape, stack_of}
-use Rattle.ffi3_riscv_rules.specs.Sums.{sum_below, sums_before, ArePlacedBySums}
+use Rattle.ffi3_place_rules.specs.Sums.{sum_below}
+use Rattle.ffi3_riscv_rules.specs.Sums.{sums_before, ArePlacedBySums}
 
 -- what the arguments before number i use
 abbrev pub used_before : Signature → ℕ → Used

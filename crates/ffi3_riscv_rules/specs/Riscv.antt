@@ -1,8 +1,8 @@
 -- Where the arguments and the result of a call stand on RISC-V. (RISC-V ELF psABI, "Integer Calling Convention" and "Hardware Floating-point Calling Convention", LP64D: XLEN and FLEN are 64)
-use Rattle.std.specs.Prelude.{ℕ, zero, suc, ◌+◌, ◌-◌, ◌*◌, ◌/◌, Bool, true, false, ◌&&◌, cond, nat_le, nat_lt, List, [], ◌∷◌, Option, Some, None}
+use Rattle.std.specs.Prelude.{ℕ, ◌+◌, ◌-◌, ◌*◌, Bool, true, false, ◌&&◌, cond, nat_le, nat_lt, List, [], ◌∷◌, Option, Some, None}
 use Rattle.ffi3_type_rules.specs.declared.Target.TheVariants as target
-use Rattle.ffi3_type_rules.specs.Tree.{Tree, void, scalar, Scalar, u8, s8, u16, s16, u32, s32, float}
-use Rattle.ffi3_type_rules.specs.Layout.{Leaf, leaves_of, leaf_at, size_of, scalar_size}
+use Rattle.ffi3_type_rules.specs.Tree.{Tree, void, Scalar, float}
+use Rattle.ffi3_type_rules.specs.Layout.{Leaf, leaves_of, leaf_at, size_of}
 use Rattle.ffi3_type_rules.specs.Signature.{Signature}
 use Rattle.ffi3_type_rules.specs.Integer.{is_floating, is_integer}
 use Rattle.ffi3_place_rules.specs.declared.Loc.{Loc}
@@ -10,7 +10,8 @@ use Rattle.ffi3_place_rules.specs.declared.Loc.TheVariants.{G, F, S}
 use Rattle.ffi3_place_rules.specs.declared.Ext.{Ext}
 use Rattle.ffi3_place_rules.specs.declared.Ext.TheVariants.{Free, Riscv, Boxed}
 use Rattle.ffi3_place_rules.specs.declared.Piece.{Piece}
-use Rattle.ffi3_place_rules.specs.Standard.{Standard, Placing, Spot, in_pieces, by_reference, ResultSpot, no_result, in_result_pieces, in_buffer, doubleword}
+use Rattle.ffi3_place_rules.specs.Standard.{Standard, Placing, Spot, in_pieces, by_reference, ResultSpot, no_result, in_result_pieces, in_buffer}
+use Rattle.ffi3_place_rules.specs.Doublewords.{doublewords, filling, doublewords_at, leaf_piece}
 use Rattle.ffi3_riscv_rules.specs.declared.Shape.{Shape}
 use Rattle.ffi3_riscv_rules.specs.declared.Shape.TheVariants.{OneF, TwoF, FI, IF, Words, ByRef}
 use Rattle.ffi3_riscv_rules.specs.declared.Used.{Used}
@@ -20,7 +21,7 @@ use Rattle.ffi3_riscv_rules.specs.declared.Used.{Used}
 -- The integer convention: a value of at most two XLEN is passed in its doublewords, a larger one by reference.
 abbrev pub integer_shape : Tree → Shape
 integer_shape t =
-    cond {A = Shape} (nat_le (size_of t) 16) (Words ((size_of t + 7) / 8)) ByRef
+    cond {A = Shape} (nat_le (size_of t) 16) (Words (doublewords t)) ByRef
 
 -- The floating-point convention of two leaves: two floating ones, or one and an integer. A pointer is no integer.
 abbrev pub shape_of_two : Shape → Scalar → Scalar → Shape
@@ -88,18 +89,8 @@ word k =
     cond {A = Loc} (nat_lt k 8) (G (argument_register k)) (S (8 * (k - 8)))
 
 -- A lone integer narrower than XLEN is extended by its sign to 32 bits, and from there by its upper bit.
-abbrev pub extension_of_scalar : Scalar → Ext
-extension_of_scalar u8 = Riscv
-extension_of_scalar s8 = Riscv
-extension_of_scalar u16 = Riscv
-extension_of_scalar s16 = Riscv
-extension_of_scalar u32 = Riscv
-extension_of_scalar s32 = Riscv
-extension_of_scalar _ = Free
-
 abbrev pub extension : Tree → Ext
-extension (scalar s) = extension_of_scalar s
-extension _ = Free
+extension t = filling Riscv t
 
 -- a float in a floating register has ones above it
 abbrev pub boxing : Scalar → Ext
@@ -107,19 +98,16 @@ boxing float = Boxed
 boxing _ = Free
 
 abbrev pub floating_piece : ℕ → Leaf → Piece
-floating_piece f l =
-    record { loc = F (floating_register f); off = l.at; len = scalar_size l.kind; ext = boxing l.kind }
+floating_piece f l = leaf_piece (F (floating_register f)) (boxing l.kind) l
 
 -- the integer of a mixed pair, whose upper bits are free
 abbrev pub integer_piece : ℕ → Leaf → Piece
-integer_piece w l =
-    record { loc = G (argument_register w); off = l.at; len = scalar_size l.kind; ext = Free }
+integer_piece w l = leaf_piece (G (argument_register w)) Free l
 
--- the doublewords of a value, in one word of the stream each, where w is the number of the first
-abbrev pub word_pieces : ℕ → Tree → ℕ → ℕ → List Piece
-word_pieces w t j zero = []
-word_pieces w t j (suc count) =
-    doubleword (word (w + j)) j (size_of t) (extension t) ∷ word_pieces w t (j + 1) count
+-- so many doublewords of a value, in one word of the stream each, where w is the number of the first
+abbrev pub word_pieces : ℕ → Tree → ℕ → List Piece
+word_pieces w t count =
+    doublewords_at (λ j. word (w + j)) (size_of t) (extension t) 0 count
 
 -- where a value stands, by how it is passed
 abbrev pub spot_of : Used → Tree → Shape → Spot
@@ -130,7 +118,7 @@ spot_of before t FI =
     in_pieces (floating_piece before.floats (leaf_at t 0) ∷ integer_piece before.words (leaf_at t 1) ∷ [])
 spot_of before t IF =
     in_pieces (integer_piece before.words (leaf_at t 0) ∷ floating_piece before.floats (leaf_at t 1) ∷ [])
-spot_of before t (Words n) = in_pieces (word_pieces before.words t 0 n)
+spot_of before t (Words n) = in_pieces (word_pieces before.words t n)
 spot_of before t ByRef = by_reference (word before.words)
 
 -- ---- arguments

@@ -1,15 +1,11 @@
 -- The places of the arguments by sums over the whole list, with no count that goes from one argument to the next. (RISC-V ELF psABI, "Integer Calling Convention" and "Hardware Floating-point Calling Convention")
-use Rattle.std.specs.Prelude.{◌≡◌, ℕ, zero, suc, ◌+◌, ◌<◌, cond, length, Some, slice_get}
+use Rattle.std.specs.Prelude.{◌≡◌, ℕ, ◌+◌, ◌<◌, cond, length, Some, slice_get}
 use Rattle.ffi3_type_rules.specs.Tree.{tree_at}
 use Rattle.ffi3_type_rules.specs.Signature.{Signature}
+use Rattle.ffi3_place_rules.specs.Sums.{sum_below}
 use Rattle.ffi3_riscv_rules.specs.declared.Shape.{Shape}
 use Rattle.ffi3_riscv_rules.specs.declared.Used.{Used}
 use Rattle.ffi3_riscv_rules.specs.Riscv.{words_of, floats_of, passed_as, is_fixed, spot_of, result_shape, is_by_reference, stack_of, placing_of}
-
--- the sum of the terms below n
-abbrev pub sum_below : (ℕ → ℕ) → ℕ → ℕ
-sum_below term zero = 0
-sum_below term (suc n) = sum_below term n + term n
 
 -- how each argument is passed, by its number
 module _ (s : Signature) (passed : ℕ → Shape) where

@@ -18,7 +18,7 @@ use Rattle.ffi3_script.specs.Taken.{is_taken}
 use Rattle.ffi3_script.specs.ExprOf.{script_moves_of}
 use Rattle.ffi3_script.specs.PartsOf.{heading_of, headings_of, part_of, IsHeaded}
 use Rattle.ffi3_script.specs.declared.headings.Heading.{Heading}
-use Rattle.ffi3_script.specs.declared.parts.FunctionPart.{FunctionPart}
+use Rattle.ffi3_script.specs.declared.function_parts.FunctionPart.{FunctionPart}
 use Rattle.ffi3_script.proofs.Loops.{before, first_and, one_more, one_fault, before-all, mapped-more}
 use Rattle.ffi3_script.proofs.Given.{any-position, new_name-same}
 use Rattle.ffi3_script.proofs.Steps.{under-is}

@@ -6,3 +6,11 @@ pub mod Taken
 pub mod Kinds
 pub mod Numbers
 pub mod PartsOf
+pub mod Shapes
+pub mod Own
+pub mod KindOf
+pub mod BodyOf
+pub mod FunctionOf
+pub mod ScriptOf
+pub mod KnownOf
+pub mod KnownAt

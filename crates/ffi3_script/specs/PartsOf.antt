@@ -10,7 +10,7 @@ use Rattle.ffi3_script_rules.specs.Bodies as bodies
 use Rattle.ffi3_script.specs.ExprOf.{script_moves_of}
 use Rattle.ffi3_script.specs.declared.moves.ScriptMove.{ScriptMove}
 use Rattle.ffi3_script.specs.declared.headings.Heading.{Heading}
-use Rattle.ffi3_script.specs.declared.parts.FunctionPart.{FunctionPart}
+use Rattle.ffi3_script.specs.declared.function_parts.FunctionPart.{FunctionPart}
 
 abbrev pub heading_of : Heading → bodies.Heading
 heading_of h = record { name = string_bytes h.name; signature = h.sig }

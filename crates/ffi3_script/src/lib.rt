@@ -3,21 +3,30 @@
 
 mod acts;
 mod bodies;
+mod body;
+mod doing;
+mod eval;
 mod expr;
 mod fields;
+mod forms;
+mod function_parts;
 mod functions;
 mod headings;
 mod heads;
 mod index;
+mod known;
 mod moves;
 mod names;
-mod parts;
+mod plain;
 mod root;
 mod scope;
+mod script;
 mod values;
 
+pub use body::{MoveKind, ScriptBody};
 pub use expr::Expr;
 /// A want of memory: the one answer that no clause ties to a cause.
 pub use ffi3_types::NoMemory;
 pub use moves::{Act, ScriptMove, TypedExpr};
 pub use names::Names;
+pub use script::{Script, ScriptFunction};

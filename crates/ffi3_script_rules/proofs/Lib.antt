@@ -1,3 +1,17 @@
 pub mod FirstFaults
 pub mod FirstSignatureFaults
 pub mod Readings
+mod RowForms
+mod LanguageRows
+mod MoveRows
+mod ValueRows
+mod MeaningRows
+mod ComputedValueRows
+mod RunLimitRows
+pub mod Tests
+pub mod RightTypes
+pub mod Fits
+pub mod ReadParts
+pub mod TypedValues
+pub mod WellTyped
+pub mod BodyRules

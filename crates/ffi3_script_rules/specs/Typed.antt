@@ -1,5 +1,5 @@
--- When a value of a script has a type, and when a body is well typed: its numbers lie in their lists and its values have their types. `proofs/` has that every script that is read is well typed.
-use Rattle.std.specs.Prelude.{ℕ, ◌+◌, ◌==◌, ◌&&◌, List, [], ◌∷◌, ◌++◌, length, Bool, true, false, Option, Some, None, nat_lt, is_none}
+-- When a value of a script has a type, and when a body is well typed: its numbers lie in their lists and its values have their types. Every script that is read is well typed (`proofs/WellTyped.antt`), and what is well typed fits (`proofs/Fits.antt`).
+use Rattle.std.specs.Prelude.{◌≡◌, ℕ, ◌+◌, ◌==◌, ◌&&◌, List, [], ◌∷◌, ◌++◌, length, map, Bool, true, false, Option, Some, None, nat_lt, is_none}
 use Rattle.std.specs.List.{list_all}
 use Rattle.ffi3_type_rules.specs.Tree.{Tree, void, scalar, left_out, structure, Trees, no_trees, tree, tree_at, trees_of, Scalar, scalar_number, pointer}
 use Rattle.ffi3_type_rules.specs.Tree as types
@@ -7,10 +7,12 @@ use Rattle.ffi3_type_rules.specs.Integer.{is_number, is_number_type}
 use Rattle.ffi3_type_rules.specs.Layout.{scalar_size}
 use Rattle.ffi3_type_rules.specs.Same.{same_tree}
 use Rattle.ffi3_type_rules.specs.Signature.{Signature, signature_at}
+use Rattle.ffi3_type_rules.specs.Value.{ValueTree, fits}
 use Rattle.ffi3_run_rules.specs.Move.{no_signature}
 use Rattle.ffi3_script_rules.specs.FirstFault.{first_fault, first_signature_fault}
 use Rattle.ffi3_script_rules.specs.Script.{Expression, constant, composed, argument, outcome, user_data, element, typed_as, sum, difference, cast, Expressions, no_expressions, expression, Typed, Act, call, make, free, print, return, return_void, ScriptMove, ScriptFunction, Script}
-use Rattle.ffi3_script_rules.specs.Bodies.{type_of_act, ends}
+use Rattle.ffi3_script_rules.specs.Values.{Given, Scope}
+use Rattle.ffi3_script_rules.specs.Bodies.{Surroundings, type_of_act, ends}
 
 -- the types of what a value is computed from
 pub record Kinds : Type 0 where
@@ -88,6 +90,10 @@ is_condition k (Some c) = is_number_type c.type && is_typed k c
 abbrev pub is_right : Tree → Bool
 is_right t = is_none (first_fault 0 true t)
 
+-- a type that may be an argument's
+abbrev pub is_right_argument : Tree → Bool
+is_right_argument t = is_none (first_fault 0 false t)
+
 -- what a body is typed in: the signatures, how many functions there are, and the type of its result
 pub record Setting : Type 0 where
   pub signatures : List Signature
@@ -117,6 +123,33 @@ moves_are_typed s k (m ∷ ms) =
 abbrev pub body_is_typed : List Signature → ℕ → Signature → List ScriptMove → Bool
 body_is_typed signatures functions own ms =
     ends ms && moves_are_typed (record { signatures = signatures; functions = functions; result_type = own.result_type }) (record { arguments = own.arguments; outcomes = [] }) ms
+
+-- ---- what a value stands in
+
+abbrev pub types_of : List Given → List Tree
+types_of given = map (λ g. g.type) given
+
+-- the types of what values of a scope are computed from
+abbrev pub kinds_of : Scope → Kinds
+kinds_of scope =
+    record { arguments = scope.arguments; outcomes = types_of scope.given }
+
+-- its types may be those of arguments and results
+abbrev pub scope_is_right : Scope → Bool
+scope_is_right scope =
+    list_all is_right_argument scope.arguments && list_all is_right (types_of scope.given)
+
+-- the setting of the moves that are read in these surroundings
+abbrev pub setting_of : Surroundings → Setting
+setting_of s =
+    record { signatures = s.signatures; functions = length s.functions; result_type = s.own.result_type }
+
+-- ---- results
+
+-- where there is no type there is no value of it
+abbrev pub IsOfType : ValueTree → Option Tree → Type 0
+IsOfType v None = ⊥
+IsOfType v (Some t) = fits t v ≡ true
 
 -- ---- the whole
 

@@ -1,9 +1,9 @@
-use Rattle.std.proofs.Common.{◌≡◌, ◌+◌, ◌-◌, ◌/◌, ap, arith, slice_index, sym, ◌∙◌}
+use Rattle.std.proofs.Common.{◌≡◌, ◌+◌, ◌-◌, ◌<◌, ap, arith, slice_index, sym, ◌∙◌}
 use Rattle.std.specs.List.{count_by}
 use Rattle.ffi3_types.specs.TreeOf.{tree_of}
 use Rattle.ffi3_amd64_rules.specs.declared.Class.TheVariants.{Integer, Sse}
 use Rattle.ffi3_place_rules.specs.declared.Loc.TheVariants.{G, F}
-use Rattle.ffi3_amd64_rules.specs.Amd64.{is_integer_class, is_sse_class, class_of, register_of, classes_from}
+use Rattle.ffi3_amd64_rules.specs.Amd64.{is_integer_class, is_sse_class, class_of, eightbytes, register_of, classes_from}
 use Rattle.ffi3_amd64_rules.proofs.Steps.{register_turn, count_more, count_next, one_if}
 use Rattle.ffi3_amd64.proofs.pieces_in_registers.Goals.{in-Integer, in-Sse}
 use Rattle.ffi3_amd64.proofs.pieces_in_registers.Goals as goal
@@ -12,11 +12,13 @@ pub loop-j-preserved : goal.loop-j-preserved
 loop-j-preserved c =
     let t = tree_of c.args.ty.now in
     let registers = slice_index c.args.registers.now in
-    let count = (c.size_of.result + 7) / 8 in
+    let count = eightbytes t in
+    let inside : c.loop-j.j < count = rw c.doublewords-j-end.ensures.value at c.loop-j-test.true in
+    let piece = rw c.widening-ext.ensures at c.doubleword.ensures in
     let more_general = count_more is_integer_class t c.loop-j.j in
     let more_vector = count_more is_sse_class t c.loop-j.j in
-    let rest_general = count_next is_integer_class t c.loop-j.j count c.loop-j-test.true in
-    let rest_vector = count_next is_sse_class t c.loop-j.j count c.loop-j-test.true in
+    let rest_general = count_next is_integer_class t c.loop-j.j count inside in
+    let rest_vector = count_next is_sse_class t c.loop-j.j count inside in
     elim c.match-class_of.branch [
       | in-Integer w ↦
           let is_class : Integer ≡ class_of t c.loop-j.j = w.in-Integer.ensures in
@@ -30,7 +32,7 @@ loop-j-preserved c =
             vector = omega (arith, w.next_vector-is, c.loop-j.invariant.vector, more_vector, vector_here);
             room_general = omega (arith, w.next_general-is, c.loop-j.invariant.room_general, rest_general, general_here);
             room_vector = omega (arith, w.next_vector-is, c.loop-j.invariant.room_vector, rest_vector, vector_here);
-            done = register_turn registers c.args.general c.args.vector t c.loop-j.j count c.loop-j.pieces _ _ _ _ c.loop-j-test.true loc c.eightbyte.ensures c.in_ok-push.ensures.ok c.loop-j.invariant.done;
+            done = register_turn registers c.args.general c.args.vector t c.loop-j.j count c.loop-j.pieces _ _ _ _ inside loc piece c.in_ok-push.ensures.ok c.loop-j.invariant.done;
           }
       | in-Sse w ↦
           let is_class : Sse ≡ class_of t c.loop-j.j = w.in-Sse.ensures in
@@ -44,6 +46,6 @@ loop-j-preserved c =
             vector = omega (arith, w.next_vector-is, c.loop-j.invariant.vector, more_vector, vector_here);
             room_general = omega (arith, w.next_general-is, c.loop-j.invariant.room_general, rest_general, general_here);
             room_vector = omega (arith, w.next_vector-is, c.loop-j.invariant.room_vector, rest_vector, vector_here);
-            done = register_turn registers c.args.general c.args.vector t c.loop-j.j count c.loop-j.pieces _ _ _ _ c.loop-j-test.true loc c.eightbyte.ensures c.in_ok-push.ensures.ok c.loop-j.invariant.done;
+            done = register_turn registers c.args.general c.args.vector t c.loop-j.j count c.loop-j.pieces _ _ _ _ inside loc piece c.in_ok-push.ensures.ok c.loop-j.invariant.done;
           }
     ]

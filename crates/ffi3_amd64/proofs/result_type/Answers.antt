@@ -1,5 +1,0 @@
-use Rattle.ffi3_type_rules.proofs.Right.{result_is_right}
-use Rattle.ffi3_amd64.proofs.result_type.Goals as goal
-
-pub returns-clause-right : goal.returns-clause-right
-returns-clause-right c = rw c.ret.ensures (result_is_right c.args.sig.now c.requires)

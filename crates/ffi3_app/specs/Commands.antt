@@ -1,0 +1,76 @@
+-- WHAT EACH COMMAND WRITES OF A SCRIPT.
+use Rattle.std.specs.Prelude.{ℕ, ◌+◌, List, [], ◌∷◌, ◌++◌, Option, Some, None}
+use Rattle.std.specs.List.{flat_map}
+use Rattle.ffi3_type_rules.specs.declared.Target.{Target}
+use Rattle.ffi3_type_rules.specs.declared.Target.TheVariants.{Amd64, Aapcs64, Riscv}
+use Rattle.ffi3_type_rules.specs.Tree.{Tree}
+use Rattle.ffi3_type_rules.specs.Signature.{Signature, Position, at_result, at_argument}
+use Rattle.ffi3_place_rules.specs.Standard.{Standard}
+use Rattle.ffi3_amd64_rules.specs.Amd64.{amd64}
+use Rattle.ffi3_aapcs64_rules.specs.Aapcs64.{aapcs64}
+use Rattle.ffi3_riscv_rules.specs.Riscv.{riscv}
+use Rattle.ffi3_run_rules.specs.Meaning.{Program}
+use Rattle.ffi3_run_rules.specs.Happenings.{happenings_of}
+use Rattle.ffi3_run_rules.specs.Lines.{text}
+use Rattle.ffi3_script_rules.specs.Language.{Path}
+use Rattle.ffi3_script_rules.specs.Script.{Script}
+use Rattle.ffi3_script_rules.specs.Meaning.{program_of}
+use Rattle.ffi3_script_rules.specs.RunLimit.{first_not_run}
+use Rattle.ffi3_text.specs.LayoutLines.{layout_text_of}
+use Rattle.ffi3_text.specs.PlaceLines.{sig_text_of, place_text_of}
+use Rattle.ffi3_app.specs.declared.words.Request.{Request}
+use Rattle.ffi3_app.specs.declared.words.Request.TheVariants.{Layout, Place, Run}
+
+abbrev pub standard_of : Target → Standard
+standard_of Amd64 = amd64
+standard_of Aapcs64 = aapcs64
+standard_of Riscv = riscv
+
+-- the arguments of a list of types, from number j on
+abbrev pub arguments_from : ℕ → List Tree → List Position
+arguments_from j [] = []
+arguments_from j (t ∷ ts) = at_argument j ∷ arguments_from (j + 1) ts
+
+-- ---- layout: of each signature the result, then the arguments
+
+abbrev pub layout_lines : ℕ → Signature → List (List ℕ)
+layout_lines i s =
+    layout_text_of i s at_result ∷ map (layout_text_of i s) (arguments_from 0 s.arguments)
+
+-- ---- place: of each signature its frame, the arguments, then the result
+
+abbrev pub place_lines : Standard → ℕ → Signature → List (List ℕ)
+place_lines std i s =
+    sig_text_of i std s ∷ map (place_text_of std s) (arguments_from 0 s.arguments) ++ place_text_of std s at_result ∷ []
+
+-- those of the signatures from number i on
+abbrev pub lines_from : (ℕ → Signature → List (List ℕ)) → ℕ → List Signature → List (List ℕ)
+lines_from lines i [] = []
+lines_from lines i (s ∷ ss) = lines i s ++ lines_from lines (i + 1) ss
+
+-- lines one after another
+abbrev pub joined : List (List ℕ) → List ℕ
+joined [] = []
+joined (line ∷ lines) = line ++ joined lines
+
+abbrev pub layout_text : Script → List ℕ
+layout_text script = joined (lines_from layout_lines 0 script.signatures)
+
+abbrev pub place_text : Standard → Script → List ℕ
+place_text std script = joined (lines_from (place_lines std) 0 script.signatures)
+
+-- ---- run
+
+abbrev pub run_text : Program → List ℕ
+run_text p = text p.signatures (happenings_of p)
+
+-- THE TEXT OF A COMMAND
+abbrev pub text_of : Request → Script → List ℕ
+text_of Layout script = layout_text script
+text_of (Place t) script = place_text (standard_of t) script
+text_of (Run t) script = run_text (program_of (standard_of t) script)
+
+-- the place of a script, if there is one, that the command does not do yet
+abbrev pub not_yet : Request → Script → Option Path
+not_yet (Run t) script = first_not_run script
+not_yet _ script = None

@@ -1,0 +1,11 @@
+pub mod Stack
+pub mod Words
+pub mod Numbers
+pub mod Places
+pub mod Rows
+pub mod Entries
+pub mod Callees
+pub mod Returns
+pub mod Begun
+pub mod Stepping
+pub mod Made

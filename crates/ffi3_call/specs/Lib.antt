@@ -1,0 +1,3 @@
+pub mod Registers
+pub mod Steps
+pub mod Calls

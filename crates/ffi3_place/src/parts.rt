@@ -1,0 +1,151 @@
+// The parts of a signature without fault, and the pieces of its values, as every standard needs them.
+ghost use Rattle.std.specs.Prelude.{◌≡◌, ◌<◌, ◌≤◌, ◌*◌, length, IfOk, true};
+ghost use Rattle.std.specs.List.{sum_by};
+ghost use Rattle.ffi3_type_rules.specs.Tree.{Scalar, scalar, tree_at};
+ghost use Rattle.ffi3_type_rules.specs.Layout.{size_of, leaves_of, leaf_at};
+ghost use Rattle.ffi3_type_rules.specs.Integer.{is_floating};
+ghost use Rattle.ffi3_type_rules.specs.Fault.{HasNoFault};
+ghost use Rattle.ffi3_type_rules.specs.Signature.{SignatureHasNoFault};
+ghost use Rattle.ffi3_types.specs.TreeOf.{tree_of};
+ghost use Rattle.ffi3_place_rules.specs.Standard.{doubleword, round8};
+ghost use Rattle.ffi3_place_rules.specs.Doublewords.{doublewords, filling, widening, stack_pieces, leaf_piece};
+
+use ffi3_place_rules::{Ext, Loc, Piece, Pieces};
+use ffi3_type_rules::round_up;
+use ffi3_types::{FfiType, NoMemory, Sig};
+use std::alloc::Global;
+
+// ---- signatures
+
+/// How many arguments a signature without fault has.
+pub fn count_of(sig: &Sig) -> u32
+    requires { SignatureHasNoFault sig.now }
+    ensures value { result ≡ length sig.now.arguments }
+    ensures few { result ≤ 64 }
+{
+    sig.count()
+}
+
+/// An argument's type, which has no fault.
+pub fn argument(sig: &Sig, i: u32) -> &FfiType
+    requires right { SignatureHasNoFault sig.now }
+    requires within { i < length sig.now.arguments }
+    ensures element { tree_of result.now ≡ tree_at sig.now.arguments i }
+    ensures right { HasNoFault 0 true (tree_of result.now) }
+{
+    sig.arg(i)
+}
+
+/// The result's type, which has no fault.
+pub fn result_type(sig: &Sig) -> &FfiType
+    requires { SignatureHasNoFault sig.now }
+    ensures element { tree_of result.now ≡ sig.now.result_type }
+    ensures right { HasNoFault 0 true (tree_of result.now) }
+{
+    sig.ret()
+}
+
+/// The sizes of all arguments in bytes, each a multiple of 8.
+pub fn sizes_of(sig: &Sig) -> u64
+    requires { SignatureHasNoFault sig.now }
+    ensures value { result ≡ sum_by (λ t. round8 (size_of t)) sig.now.arguments }
+    ensures bound { result ≤ 66048 }
+{
+    let mut all = 0;
+    for i in 0..count_of(sig) {
+        all += round_up(size_of(argument(sig, i)), 8);
+    }
+    all
+}
+
+// ---- types
+
+/// The size of a type without fault, in bytes.
+pub fn size_of(ty: &FfiType) -> u64
+    requires { HasNoFault 0 true (tree_of ty.now) }
+    ensures value { result ≡ size_of (tree_of ty.now) }
+    ensures small { result ≤ 1024 }
+{
+    ty.size()
+}
+
+/// How many doublewords a value takes. The last has what is left where the size is no multiple of 8.
+pub fn doublewords(ty: &FfiType) -> u64
+    requires { HasNoFault 0 true (tree_of ty.now) }
+    ensures value { result ≡ doublewords (tree_of ty.now) }
+    ensures few { result ≤ 128 }
+{
+    (size_of(ty) + 7) / 8
+}
+
+/// Whether a scalar is a float or a double.
+pub fn is_floating(kind: &FfiType) -> bool
+    ensures { (s : Scalar) → tree_of kind.now ≡ scalar s → result ≡ is_floating s }
+{
+    matches!(kind, FfiType::Float | FfiType::Double)
+}
+
+/// What fills the rest of a value's places: `narrow` above a lone integer of fewer than 8 bytes, and anything above all else.
+pub fn filling(ty: &FfiType, narrow: Ext) -> Ext
+    ensures { result ≡ filling narrow (tree_of ty.now) }
+{
+    match ty {
+        FfiType::U8 | FfiType::S8 | FfiType::U16 | FfiType::S16 | FfiType::U32 | FfiType::S32 =>
+            narrow,
+        _ => Ext::Free,
+    }
+}
+
+/// What fills the rest of a value's places where a narrow integer is extended by its sign.
+pub fn widening(ty: &FfiType) -> Ext
+    ensures { result ≡ widening (tree_of ty.now) }
+{
+    filling(ty, Ext::Widen)
+}
+
+// ---- pieces
+
+/// Doubleword `j` of a value, in its place: 8 bytes, or what is left of the value. `ext` fills the rest of the place.
+pub fn doubleword(ty: &FfiType, j: u64, loc: Loc, ext: Ext) -> Piece
+    requires right { HasNoFault 0 true (tree_of ty.now) }
+    requires within { 8 * j < size_of (tree_of ty.now) }
+    ensures { result ≡ doubleword loc j (size_of (tree_of ty.now)) ext }
+{
+    let left = size_of(ty) - 8 * j;
+    Piece {
+        loc,
+        off: (8 * j) as u32,
+        len: if left < 8 { left as u8 } else { 8 },
+        ext,
+    }
+}
+
+/// Leaf `i` of a value, in its place, whose rest `ext` fills.
+pub fn leaf_piece(ty: &FfiType, i: u32, loc: Loc, ext: Ext) -> Piece
+    requires right { HasNoFault 0 true (tree_of ty.now) }
+    requires in_range { i < length (leaves_of (tree_of ty.now)) }
+    ensures { result ≡ leaf_piece loc ext (leaf_at (tree_of ty.now) i) }
+{
+    let leaf = ty.leaf(i);
+    let size = leaf.kind.size();
+    Piece {
+        loc,
+        off: leaf.at as u32,
+        len: size as u8,
+        ext,
+    }
+}
+
+/// A value's doublewords on the stack, from byte `start` of the stack arguments on. A narrow integer is extended by its sign. 66048 bytes is what the arguments before it take at most.
+pub fn pieces_on_stack(alloc: Global, ty: &FfiType, start: u64) -> Result<Pieces, NoMemory>
+    requires right { HasNoFault 0 true (tree_of ty.now) }
+    requires low { start ≤ 66048 }
+    ensures { IfOk result (λ p. p ≡ stack_pieces start (tree_of ty.now)) }
+{
+    let ext = widening(ty);
+    let mut pieces = Pieces::new(alloc);
+    for j in 0..doublewords(ty) {
+        pieces.push(doubleword(ty, j, Loc::S((start + 8 * j) as u32), ext))?;
+    }
+    Ok(pieces)
+}

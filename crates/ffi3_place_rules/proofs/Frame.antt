@@ -1,0 +1,66 @@
+-- An argument on the stack, the copies of arguments by reference, and the buffer of a hidden result are chains of stack places.
+use Rattle.std.proofs.Common.{ℕ, zero, suc, ◌+◌, ◌*◌, ◌≤◌, List, [], ◌∷◌, ◌++◌, arith}
+use Rattle.ffi3_type_rules.specs.Tree.{Tree}
+use Rattle.ffi3_type_rules.specs.Layout.{size_of}
+use Rattle.ffi3_type_rules.specs.Signature.{Signature}
+use Rattle.ffi3_type_rules.proofs.Layouts.{least_multiple-above}
+use Rattle.ffi3_place_rules.specs.declared.Loc.TheVariants.{S}
+use Rattle.ffi3_place_rules.specs.declared.Ext.{Ext}
+use Rattle.ffi3_place_rules.specs.declared.Taken.{Taken}
+use Rattle.ffi3_place_rules.specs.Standard.{Standard, Spot, in_pieces, by_reference, ResultSpot, no_result, in_result_pieces, in_buffer, all_copy_bytes, buffer_bytes, places_from, result_at, copies_start, buffer_start, frame_of, plan_of, round8}
+use Rattle.ffi3_place_rules.specs.Doublewords.{doublewords, doublewords_at, widening, stack_pieces}
+use Rattle.ffi3_place_rules.specs.Sound.{piece_locs, copy_locs, buffer_locs, slots_for}
+use Rattle.ffi3_place_rules.proofs.Chain.{Chain, chain_append, slots_chain}
+use Rattle.ffi3_place_rules.proofs.Doublewords.{doublewords_in}
+
+-- the same registers, and the stack up to an offset
+abbrev pub up_to : Taken → ℕ → Taken
+up_to a n = record { general = a.general; vector = a.vector; stack = n }
+
+module _ (general floating : ℕ → ℕ) (generals floatings : ℕ) where
+  -- a value's doublewords on the stack, from number j on
+  stack_chain : (a : Taken) (start size : ℕ) (e : Ext) (j count : ℕ) (b : Taken) → a.stack ≤ start + 8 * j → start + 8 * (j + count) ≤ b.stack → a.general ≤ b.general → a.vector ≤ b.vector → Chain general floating generals floatings a (piece_locs (doublewords_at (λ k. S (start + 8 * k)) size e j count)) b
+  stack_chain a start size e j zero b low high g f =
+      record { general = g; vector = f; stack = omega arith }
+  stack_chain a start size e j (suc count) b low high g f =
+      let mid : Taken = record { general = a.general; vector = a.vector; stack = start + 8 * (j + 1) } in
+      (mid, low, omega arith, record { general = omega arith; vector = omega arith; stack = omega arith }, stack_chain mid start size e (j + 1) count b (omega arith) (omega arith) g f)
+
+  -- a value on the stack, behind all that was taken
+  pub value_chain : (a : Taken) (t : Tree) (b : Taken) → a.stack + round8 (size_of t) ≤ b.stack → a.general ≤ b.general → a.vector ≤ b.vector → Chain general floating generals floatings a (piece_locs (stack_pieces a.stack t)) b
+  value_chain a t b high g f =
+      stack_chain a a.stack (size_of t) (widening t) 0 (doublewords t) b (omega arith) (omega (arith, high, doublewords_in (size_of t))) g f
+
+  -- copies that start behind all that was taken
+  copies_chain : (a : Taken) (copy : ℕ) (ts : List Tree) (spots : List Spot) (b : Taken) → a.stack ≤ copy → copy + all_copy_bytes ts spots ≤ b.stack → a.general ≤ b.general → a.vector ≤ b.vector → Chain general floating generals floatings a (copy_locs ts (places_from copy ts spots)) b
+  copies_chain a copy [] spots b low high g f =
+      record { general = g; vector = f; stack = omega arith }
+  copies_chain a copy (t ∷ ts) [] b low high g f =
+      record { general = g; vector = f; stack = omega arith }
+  copies_chain a copy (t ∷ ts) (in_pieces pieces ∷ spots) b low high g f =
+      copies_chain a (copy + 0) ts spots b (omega arith) (omega arith) g f
+  copies_chain a copy (t ∷ ts) (by_reference at ∷ spots) b low high g f =
+      let mid : Taken = record { general = a.general; vector = a.vector; stack = copy + round8 (size_of t) } in
+      chain_append general floating generals floatings a (slots_for copy t) mid _ b
+      (slots_chain general floating generals floatings a copy (doublewords t) mid low (omega (arith, doublewords_in (size_of t))) (omega arith) (omega arith))
+      (copies_chain mid (copy + round8 (size_of t)) ts spots b (omega arith) (omega (arith, high)) g f)
+
+  -- a buffer that starts behind all that was taken
+  buffer_chain : (a : Taken) (at : ℕ) (t : Tree) (spot : ResultSpot) (b : Taken) → a.stack ≤ at → at + buffer_bytes t spot ≤ b.stack → a.general ≤ b.general → a.vector ≤ b.vector → Chain general floating generals floatings a (buffer_locs t (result_at at spot)) b
+  buffer_chain a at t no_result b low high g f =
+      record { general = g; vector = f; stack = omega arith }
+  buffer_chain a at t (in_result_pieces pieces) b low high g f =
+      record { general = g; vector = f; stack = omega arith }
+  buffer_chain a at t (in_buffer l) b low high g f =
+      slots_chain general floating generals floatings a at (doublewords t) b low (omega (arith, high, doublewords_in (size_of t))) g f
+
+  -- the copies and the buffer of a call, behind all that its arguments take
+  pub frame_chain : (std : Standard) (s : Signature) (a : Taken) → a.stack ≤ (std.placing s).stack_bytes → Chain general floating generals floatings a (copy_locs s.arguments (plan_of std s).places ++ buffer_locs s.result_type (plan_of std s).res) (up_to a (frame_of std s))
+  frame_chain std s a low =
+      let p = std.placing s in
+      let starts = least_multiple-above 16 p.stack_bytes in
+      let ends = least_multiple-above 16 (buffer_start s p + buffer_bytes s.result_type p.result_spot) in
+      let copied = up_to a (buffer_start s p) in
+      chain_append general floating generals floatings a (copy_locs s.arguments (plan_of std s).places) copied _ (up_to a (frame_of std s))
+      (copies_chain a (copies_start p) s.arguments p.arguments copied (omega (arith, low, starts)) (omega arith) (omega arith) (omega arith))
+      (buffer_chain copied (buffer_start s p) s.result_type p.result_spot (up_to a (frame_of std s)) (omega arith) ends (omega arith) (omega arith))

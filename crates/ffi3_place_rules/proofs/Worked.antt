@@ -1,0 +1,31 @@
+-- Words for the worked rows of the standards.
+use Rattle.std.specs.Prelude.{ℕ, List, [], ◌∷◌, None}
+use Rattle.ffi3_type_rules.specs.Tree.{Tree, scalar, struct_of, u64, s64}
+use Rattle.ffi3_type_rules.specs.Signature.{Signature}
+use Rattle.ffi3_place_rules.specs.declared.Loc.{Loc}
+use Rattle.ffi3_place_rules.specs.declared.Ext.TheVariants.{Free, Widen}
+use Rattle.ffi3_place_rules.specs.declared.Piece.{Piece}
+use Rattle.ffi3_place_rules.specs.declared.Place.{Place}
+use Rattle.ffi3_place_rules.specs.declared.Place.TheVariants.{Direct}
+
+abbrev pub sig_of : Tree → List Tree → Signature
+sig_of r a = record { result_type = r; arguments = a; fixed = None }
+
+abbrev pub at : Loc → ℕ → ℕ → Piece
+at l o n = record { loc = l; off = o; len = n; ext = Free }
+
+abbrev pub widened : Loc → ℕ → Piece
+widened l n = record { loc = l; off = 0; len = n; ext = Widen }
+
+-- a whole doubleword in one place
+abbrev pub alone : Loc → Place
+alone l = Direct (at l 0 8 ∷ [])
+
+abbrev pub integer : Tree
+integer = scalar s64
+
+abbrev pub pair : Tree
+pair = struct_of (scalar s64 ∷ scalar s64 ∷ [])
+
+abbrev pub triple : Tree
+triple = struct_of (scalar u64 ∷ scalar u64 ∷ scalar u64 ∷ [])

@@ -1,0 +1,128 @@
+-- A walk along the moves of a body of the code, up to its next move.
+use Rattle.std.proofs.Common.{◌≡◌, ℕ, zero, suc, ◌+◌, ◌<◌, ◌≤◌, Bool, true, false, List, [], ◌∷◌, ◌++◌, length, take, drop, map, Some, None, refl, ap, sym, ◌∙◌, subst, arith, get_or}
+use Rattle.std.specs.Prelude.{slice_index_or, nat_lt}
+use Rattle.std.specs.List.{list_all}
+use Rattle.std.proofs.lemmas.Bool.{lt-ltb}
+use Rattle.std.proofs.lemmas.List.{map-append}
+use Rattle.ffi3_type_rules.specs.Tree.{trees_of}
+use Rattle.ffi3_type_rules.specs.Signature.{Signature}
+use Rattle.ffi3_type_rules.specs.Value.{ValueTree, void_value, fits, all_fit, values_of, zero_value}
+use Rattle.ffi3_run_rules.specs.Move.{Move, result_type_of}
+use Rattle.ffi3_body.specs.Activation.{Activation, arguments_of}
+use Rattle.ffi3_script_rules.specs.Script as script
+use Rattle.ffi3_script_rules.specs.Script.{Act, call, make, free, print, return, return_void}
+use Rattle.ffi3_script_rules.specs.Bodies.{type_of_act, ends}
+use Rattle.ffi3_script_rules.specs.Meaning.{Known, is_done, knows_too, behaviour_of}
+use Rattle.ffi3_script_rules.specs.Typed.{Kinds, Setting, IsOfType, act_is_typed, moves_are_typed, body_is_typed, signature_is_right, gives_too}
+use Rattle.ffi3_script_rules.proofs.Tests.{and_left, and_right, both}
+use Rattle.ffi3_script_rules.proofs.Fits.{one_more_fits, unfinished_fits}
+use Rattle.ffi3_script_rules.proofs.BodyRules.{IsLeft, left_done, left_undone, taken_fits, ends_after_done, ends_after_undone, act_typed, later_typed}
+use Rattle.ffi3_script.specs.ExprOf.{act_of, script_move_of, script_moves_of}
+use Rattle.ffi3_script.specs.Own.{is_below}
+use Rattle.ffi3_script.specs.KnownOf.{value_by, outcome_type, outcome_value, calls_below, is_there, kinds_from, known_from}
+use Rattle.ffi3_script.specs.declared.known.Outcome.{Outcome}
+use Rattle.ffi3_script.specs.declared.moves.ScriptMove.{ScriptMove}
+
+-- the moves from number i on, of which the first is this
+pub moves_from : (ms : List ScriptMove) (i : ℕ) (m : ScriptMove) → i < length ms → m ≡ get_or ms i m → drop i (script_moves_of ms) ≡ script_move_of m ∷ drop (i + 1) (script_moves_of ms)
+moves_from ms i m below is =
+    let next : i + 1 ≡ suc i = omega arith in
+    moves_from_suc ms i m below is ∙ ap (λ n. script_move_of m ∷ drop n (script_moves_of ms)) (sym next)
+  where
+    moves_from_suc : (ns : List ScriptMove) (j : ℕ) (n : ScriptMove) → j < length ns → n ≡ get_or ns j n → drop j (script_moves_of ns) ≡ script_move_of n ∷ drop (suc j) (script_moves_of ns)
+    moves_from_suc [] j n below is = absurd (omega arith)
+    moves_from_suc (x ∷ ns) zero n below is =
+        ap (λ y. script_move_of y ∷ script_moves_of ns) (sym is)
+    moves_from_suc (x ∷ ns) (suc j) n below is = moves_from_suc ns j n (omega arith) is
+
+-- no moves are left behind the last
+pub none_left : (ms : List ScriptMove) (i : ℕ) → length ms ≡ i → drop i (script_moves_of ms) ≡ []
+none_left [] i n = search
+none_left (m ∷ ms) zero n = absurd (omega arith)
+none_left (m ∷ ms) (suc i) n = none_left ms i (omega arith)
+
+-- a test holds of one more
+all_more : {A : Type 0} (p : A → Bool) (xs : List A) (x : A) → list_all p xs ≡ true → p x ≡ true → list_all p (xs ++ x ∷ []) ≡ true
+all_more p [] x h last = both (p x) true last refl
+all_more p (y ∷ xs) x h last =
+    both (p y) _ (and_left (p y) _ h) (all_more p xs x (and_right (p y) _ h) last)
+
+calls_typed : (s : Setting) (k : Kinds) (a : Act) → act_is_typed s k a ≡ true → calls_below (length s.signatures) a ≡ true
+calls_typed s k (call to sig arguments) h = and_left (nat_lt sig (length s.signatures)) _ h
+calls_typed s k (make function user) h = refl
+calls_typed s k (free to) h = refl
+calls_typed s k (print v) h = refl
+calls_typed s k (return e) h = refl
+calls_typed s k return_void h = refl
+
+-- After these moves, which took so many results, these moves are left.
+pub record Walked (s : Setting) (a : Activation) (next : List ValueTree → Move) (outcomes : List Outcome) (taken : ℕ) (ms : List script.ScriptMove) : Type 0 where
+  pub typed : moves_are_typed s (kinds_from s.signatures a outcomes) ms ≡ true
+  pub ended : ends ms ≡ true
+  pub there : list_all (is_there (length s.signatures) (length a.results)) outcomes ≡ true
+  pub fit : all_fit (trees_of (map (outcome_type s.signatures) outcomes)) (values_of (map (outcome_value s.signatures a.results) outcomes)) ≡ true
+  pub within : taken ≤ length a.results
+  pub left : IsLeft s next a.results taken ms (known_from s.signatures a outcomes)
+
+abbrev pub setting : List Signature → ℕ → Signature → Setting
+setting signatures functions own =
+    record { signatures = signatures; functions = functions; result_type = own.result_type }
+
+pub walked_none : (signatures : List Signature) (functions : ℕ) (own : Signature) (a : Activation) (ms : List script.ScriptMove) → a.signature ≡ own → body_is_typed signatures functions own ms ≡ true → Walked (setting signatures functions own) a (behaviour_of signatures ms (arguments_of a) a.user) [] 0 ms
+walked_none signatures functions own a ms own_is h =
+    let s = setting signatures functions own in
+    record {
+      typed = subst (λ o. moves_are_typed s (record { arguments = o.arguments; outcomes = [] }) ms ≡ true) (sym own_is) (and_right (ends ms) _ h);
+      ended = and_left (ends ms) _ h;
+      there = refl;
+      fit = refl;
+      within = omega arith;
+      left = λ rest. refl;
+    }
+
+module _ (s : Setting) (a : Activation) (next : List ValueTree → Move) (outcomes : List Outcome) (taken : ℕ) (m : script.ScriptMove) (ms : List script.ScriptMove) (walked : Walked s a next outcomes taken (m ∷ ms)) (right : list_all signature_is_right s.signatures ≡ true) (o : Outcome) (act_is : act_of o.act.now ≡ m.act) where
+  abbrev before : Known
+  before = known_from s.signatures a outcomes
+
+  type_is : outcome_type s.signatures o ≡ type_of_act s.signatures m.act
+  type_is = ap (type_of_act s.signatures) act_is
+
+  types_more : map (outcome_type s.signatures) (outcomes ++ o ∷ []) ≡ map (outcome_type s.signatures) outcomes ++ type_of_act s.signatures m.act ∷ []
+  types_more =
+      map-append (outcome_type s.signatures) outcomes (o ∷ []) ∙ ap (λ t. map (outcome_type s.signatures) outcomes ++ t ∷ []) type_is
+
+  values_more : (v : ValueTree) → outcome_value s.signatures a.results o ≡ v → map (outcome_value s.signatures a.results) (outcomes ++ o ∷ []) ≡ map (outcome_value s.signatures a.results) outcomes ++ v ∷ []
+  values_more v is =
+      map-append (outcome_value s.signatures a.results) outcomes (o ∷ []) ∙ ap (λ w. map (outcome_value s.signatures a.results) outcomes ++ w ∷ []) is
+
+  -- one move more, whose value is this
+  walked_more : (v : ValueTree) (taken_then : ℕ) → outcome_value s.signatures a.results o ≡ v → fits (type_of_act s.signatures m.act) v ≡ true → is_below (length a.results) o.result ≡ true → ends ms ≡ true → taken_then ≤ length a.results → IsLeft s next a.results taken_then ms (knows_too before v) → Walked s a next (outcomes ++ o ∷ []) taken_then ms
+  walked_more v taken_then is v_fits below ended within left =
+      let kinds = kinds_from s.signatures a outcomes in
+      let kinds_more : gives_too kinds (type_of_act s.signatures m.act) ≡ kinds_from s.signatures a (outcomes ++ o ∷ []) = ap (λ ts. record { arguments = a.signature.arguments; outcomes = ts }) (sym types_more) in
+      let known_more : knows_too before v ≡ known_from s.signatures a (outcomes ++ o ∷ []) = ap (λ vs. record { arguments = arguments_of a; user = a.user; outcomes = vs }) (sym (values_more v is)) in
+      let calls : calls_below (length s.signatures) (act_of o.act.now) ≡ true = ap (calls_below (length s.signatures)) act_is ∙ calls_typed s kinds m.act (act_typed s kinds m ms walked.typed) in
+      let both_fit = one_more_fits (map (outcome_type s.signatures) outcomes) (map (outcome_value s.signatures a.results) outcomes) (type_of_act s.signatures m.act) v walked.fit v_fits in
+      record {
+        typed = subst (λ k. moves_are_typed s k ms ≡ true) kinds_more (later_typed s kinds m ms walked.typed);
+        ended = ended;
+        there = all_more (is_there (length s.signatures) (length a.results)) outcomes o walked.there (both (is_below (length a.results) o.result) _ below calls);
+        fit = subst (λ ts. all_fit (trees_of ts) (values_of (map (outcome_value s.signatures a.results) (outcomes ++ o ∷ []))) ≡ true) (sym types_more) (subst (λ vs. all_fit (trees_of (map (outcome_type s.signatures) outcomes ++ type_of_act s.signatures m.act ∷ [])) (values_of vs) ≡ true) (sym (values_more v is)) both_fit);
+        within = within;
+        left = subst (IsLeft s next a.results taken_then ms) known_more left;
+      }
+
+  grown : (os : List Outcome) (n taken_then : ℕ) → os ≡ outcomes ++ o ∷ [] → n ≡ taken_then → Walked s a next (outcomes ++ o ∷ []) taken_then ms → Walked s a next os n ms
+  grown os n taken_then os_are n_is after =
+      subst (λ xs. Walked s a next xs n ms) (sym os_are) (subst (λ i. Walked s a next (outcomes ++ o ∷ []) i ms) (sym n_is) after)
+
+  -- a move that is done takes a result
+  pub walked_done : (os : List Outcome) (n : ℕ) → os ≡ outcomes ++ o ∷ [] → n ≡ taken + 1 → (IsOfType (slice_index_or a.results taken void_value) (result_type_of s.signatures (next (take taken a.results)))) → o.result ≡ Some taken → is_done before m.condition ≡ true → taken < length a.results → Walked s a next os n ms
+  walked_done os n os_are n_is of_type result_is done below =
+      let r = slice_index_or a.results taken void_value in
+      grown os n (taken + 1) os_are n_is (walked_more r (taken + 1) (ap (value_by (outcome_type s.signatures o) a.results) result_is) (taken_fits s next a.results taken m ms before done walked.left r of_type) (ap (is_below (length a.results)) result_is ∙ lt-ltb taken (length a.results) below) (ends_after_done s next a.results taken m ms before done walked.left r of_type walked.ended) (omega arith) (left_done s next a.results taken m ms before below done walked.left))
+
+  -- a move that is not done takes none
+  pub walked_undone : (os : List Outcome) (n : ℕ) → os ≡ outcomes ++ o ∷ [] → n ≡ taken → o.result ≡ None → is_done before m.condition ≡ false → Walked s a next os n ms
+  walked_undone os n os_are n_is result_is undone =
+      grown os n taken os_are n_is (walked_more (zero_value (type_of_act s.signatures m.act)) taken (ap (value_by (outcome_type s.signatures o) a.results) result_is ∙ ap zero_value type_is) (unfinished_fits s.signatures m.act right) (ap (is_below (length a.results)) result_is) (ends_after_undone m ms before undone walked.ended) walked.within (left_undone s next a.results taken m ms before undone walked.left))

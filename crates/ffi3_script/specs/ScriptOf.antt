@@ -1,0 +1,17 @@
+-- Which script one of the code is.
+use Rattle.std.specs.Prelude.{ℕ, [], slice_index_or}
+use Rattle.ffi3_script_rules.specs.Script.{ScriptFunction, Script as RulesScript}
+use Rattle.ffi3_script.specs.FunctionOf.{script_from}
+use Rattle.ffi3_script.specs.declared.script.Script.{Script}
+
+abbrev pub script_of : Script → RulesScript
+script_of s = script_from s.sigs.value s.functions.items s.main
+
+-- beside how many natives it stands
+abbrev pub natives_of : Script → ℕ
+natives_of s = s.natives
+
+-- function i of a script
+abbrev pub function_at : RulesScript → ℕ → ScriptFunction
+function_at script i =
+    slice_index_or script.functions i (record { name = []; signature = 0; body = [] })

@@ -1,0 +1,334 @@
+// What reading a value does besides reading the values inside it.
+ghost use Rattle.std.specs.Prelude.{◌≡◌, ◌++◌, ◌∷◌, [], IfOk, IfErr, OnOk, option_and_then, length, true};
+ghost use Rattle.serde_json.specs.Find.{as_number, as_u64, as_str};
+ghost use Rattle.serde_json.specs.View.{view, number_view};
+ghost use Rattle.ffi3_type_rules.specs.Integer.{is_number_type, scalar_of};
+ghost use Rattle.ffi3_types.specs.TreeOf.{tree_of};
+ghost use Rattle.ffi3_script_rules.specs.Language.{read, fault, at_item, HasShortArrays};
+ghost use Rattle.ffi3_script_rules.specs.Script as script;
+ghost use Rattle.ffi3_script_rules.specs.Values.{typed, in_range, is_integer_type, read_number, read_text};
+ghost use Rattle.ffi3_script_rules.specs.Values.{argument_of, result_of, user_of, element_of, against, cast_of};
+ghost use Rattle.ffi3_script_rules.specs.Values.{read_right_type};
+ghost use Rattle.ffi3_json.specs.Told.{Tells};
+ghost use Rattle.ffi3_script.specs.ExprOf.{expression_of, expressions_in, typed_of};
+ghost use Rattle.ffi3_script.specs.ScopeOf.{scope_of};
+
+use crate::scope::Scope;
+use crate::{Expr, NoMemory, TypedExpr};
+use ffi3_json::{Json, Reason, ScriptFault, Where, bad, push_way, read_node, reason_of_type};
+use ffi3_types::{Bytes, FfiType, Fields, check_type, same_type};
+use ffi3_values::{Value, integer};
+use hex::FromHex;
+use serde_json::Number;
+use std::alloc::Global;
+
+// A value on the heap.
+fn boxed(alloc: Global, value: Expr) -> Result<Box<Expr>, NoMemory>
+    ensures { IfOk result (λ b. b.value ≡ value) }
+{
+    Ok(Box::new(alloc, value)?)
+}
+
+/// One more value at the end of a list.
+pub(crate) fn push(values: &mut Vec<Expr>, value: Expr) -> Result<(), NoMemory>
+    ensures { OnOk result (values.new.items ≡ values.old.items ++ value ∷ []) }
+{
+    Ok(values.push(value)?)
+}
+
+/// A struct of these values.
+pub(crate) fn composed(values: Vec<Expr>) -> Expr
+    ensures { expression_of result ≡ script.composed (expressions_in values.items) }
+{
+    Expr::Composed(values)
+}
+
+/// The sum of two integers of a type.
+pub(crate) fn sum(alloc: Global, ty: &FfiType, a: Expr, b: Expr) -> Result<Expr, NoMemory>
+    ensures { IfOk result
+        (λ e. expression_of e ≡ script.sum (scalar_of (tree_of ty.now)) (expression_of a) (expression_of b)) }
+{
+    Ok(Expr::Sum(ty.copy(alloc)?, boxed(alloc, a)?, boxed(alloc, b)?))
+}
+
+/// The difference of two integers of a type.
+pub(crate) fn difference(alloc: Global, ty: &FfiType, a: Expr, b: Expr) -> Result<Expr, NoMemory>
+    ensures { IfOk result
+        (λ e. expression_of e ≡ script.difference (scalar_of (tree_of ty.now)) (expression_of a) (expression_of b)) }
+{
+    Ok(Expr::Difference(ty.copy(alloc)?, boxed(alloc, a)?, boxed(alloc, b)?))
+}
+
+/// A value that is said to be of a type.
+pub(crate) fn typed_as(alloc: Global, ty: FfiType, value: Expr) -> Result<TypedExpr, NoMemory>
+    ensures { IfOk result (λ v. typed_of v ≡ typed (tree_of ty) (script.typed_as (tree_of ty) (expression_of value))) }
+{
+    Ok(TypedExpr {
+        ty: ty.copy(alloc)?,
+        value: Expr::TypedAs(ty, boxed(alloc, value)?),
+    })
+}
+
+/// Whether the type is one of the eight integer types.
+pub(crate) fn is_integer(ty: &FfiType) -> bool
+    ensures { result ≡ is_integer_type (tree_of ty.now) }
+{
+    matches!(
+        ty,
+        FfiType::U8
+            | FfiType::S8
+            | FfiType::U16
+            | FfiType::S16
+            | FfiType::U32
+            | FfiType::S32
+            | FfiType::U64
+            | FfiType::S64
+    )
+}
+
+/// Whether the type is an integer type or the pointer.
+pub(crate) fn is_number(ty: &FfiType) -> bool
+    ensures { result ≡ is_number_type (tree_of ty.now) }
+{
+    match ty {
+        FfiType::Pointer => true,
+        _ => is_integer(ty),
+    }
+}
+
+// Whether an integer or pointer of the type can be the number.
+fn in_range(ty: &FfiType, n: i128) -> bool
+    requires { is_number_type (tree_of ty.now) ≡ true }
+    ensures { result ≡ in_range (scalar_of (tree_of ty.now)) n }
+{
+    let (low, end) = match ty {
+        FfiType::U8 => (0, 0x100),
+        FfiType::S8 => (-0x80, 0x80),
+        FfiType::U16 => (0, 0x1_0000),
+        FfiType::S16 => (-0x8000, 0x8000),
+        FfiType::U32 => (0, 0x1_0000_0000),
+        FfiType::S32 => (-0x8000_0000, 0x8000_0000),
+        FfiType::S64 => (-0x8000_0000_0000_0000, 0x8000_0000_0000_0000),
+        _ => (0, 0x1_0000_0000_0000_0000),
+    };
+    low <= n && n < end
+}
+
+/// A number is that of an integer or a pointer.
+pub(crate) fn read_number(
+    alloc: Global,
+    ty: &FfiType,
+    n: &Number,
+    at: &Where,
+) -> Result<Expr, ScriptFault>
+    ensures ok { IfOk result (λ e. read_number (tree_of ty.now) (number_view n.now) at.now ≡ read (expression_of e)) }
+    ensures err { IfErr result (Tells (λ p r. read_number (tree_of ty.now) (number_view n.now) at.now ≡ fault p r)) }
+{
+    if !is_number(ty) {
+        return Err(bad(alloc, at, Reason::WrongType));
+    }
+    let Some(n) = n.as_i128() else {
+        return Err(bad(alloc, at, Reason::NotAnInteger));
+    };
+    if !in_range(ty, n) {
+        return Err(bad(alloc, at, Reason::OutOfRange));
+    }
+    match integer(alloc, ty, n)? {
+        Value::Leaf(bytes) => Ok(Expr::Constant(bytes)),
+        _ => unreachable!(),
+    }
+}
+
+/// A text is the bytes of a float or double in memory order, two hexadecimal digits each.
+pub(crate) fn read_text(
+    alloc: Global,
+    ty: &FfiType,
+    text: &str,
+    at: &Where,
+) -> Result<Expr, ScriptFault>
+    ensures ok { IfOk result (λ e. read_text (tree_of ty.now) text.now at.now ≡ read (expression_of e)) }
+    ensures err { IfErr result (Tells (λ p r. read_text (tree_of ty.now) text.now at.now ≡ fault p r)) }
+{
+    match ty {
+        FfiType::Float => match <[u8; 4] as FromHex>::from_hex(text) {
+            Ok(bytes) => Ok(Expr::Constant(Bytes::from_slice(alloc, &bytes)?)),
+            Err(_) => Err(bad(alloc, at, Reason::BadBytes)),
+        },
+        FfiType::Double => match <[u8; 8] as FromHex>::from_hex(text) {
+            Ok(bytes) => Ok(Expr::Constant(Bytes::from_slice(alloc, &bytes)?)),
+            Err(_) => Err(bad(alloc, at, Reason::BadBytes)),
+        },
+        _ => Err(bad(alloc, at, Reason::WrongType)),
+    }
+}
+
+/// An argument of the body, by its number.
+pub(crate) fn argument_of(
+    alloc: Global,
+    scope: &Scope,
+    value: &Json,
+    at: &Where,
+) -> Result<TypedExpr, ScriptFault>
+    ensures ok { IfOk result
+        (λ v. argument_of (scope_of scope.now).arguments (option_and_then as_u64 (as_number (view value.now))) at.now
+        ≡ read (typed_of v)) }
+    ensures err { IfErr result
+        (Tells (λ p r. argument_of (scope_of scope.now).arguments (option_and_then as_u64 (as_number (view value.now)))
+        at.now ≡ fault p r)) }
+{
+    let Some(i) = value.as_u64() else {
+        return Err(bad(alloc, at, Reason::NoSuchArgument));
+    };
+    if i >= scope.own.count() as u64 {
+        return Err(bad(alloc, at, Reason::NoSuchArgument));
+    }
+    let i = i as u32;
+    Ok(TypedExpr {
+        ty: scope.own.arg(i).copy(alloc)?,
+        value: Expr::Argument(i),
+    })
+}
+
+/// The result of an earlier move of the body, by its name.
+pub(crate) fn result_of(
+    alloc: Global,
+    scope: &Scope,
+    value: &Json,
+    at: &Where,
+) -> Result<TypedExpr, ScriptFault>
+    requires { length scope.now.names.now ≡ length scope.now.types.now }
+    ensures ok { IfOk result
+        (λ v. result_of (scope_of scope.now).given (as_str (view value.now)) at.now ≡ read (typed_of v)) }
+    ensures err { IfErr result
+        (Tells (λ p r. result_of (scope_of scope.now).given (as_str (view value.now)) at.now ≡ fault p r)) }
+{
+    let Some(name) = value.as_str() else {
+        return Err(bad(alloc, at, Reason::NoSuchResult));
+    };
+    let Some(i) = scope.names.find(name) else {
+        return Err(bad(alloc, at, Reason::NoSuchResult));
+    };
+    // fewer than 2^32 results, so that the number is in range
+    let _count = scope.types.len();
+    Ok(TypedExpr {
+        ty: scope.types.get(i).copy(alloc)?,
+        value: Expr::Outcome(i as u32),
+    })
+}
+
+/// The user data of the closure.
+pub(crate) fn user_of(alloc: Global, value: &Json, at: &Where) -> Result<TypedExpr, ScriptFault>
+    ensures ok { IfOk result (λ v. user_of (view value.now) at.now ≡ read (typed_of v)) }
+    ensures err { IfErr result (Tells (λ p r. user_of (view value.now) at.now ≡ fault p r)) }
+{
+    match value.as_bool() {
+        Some(true) => Ok(TypedExpr {
+            ty: FfiType::Pointer,
+            value: Expr::User,
+        }),
+        _ => Err(bad(alloc, at, Reason::NotAValue)),
+    }
+}
+
+/// An element, by its number, of a struct of these elements.
+pub(crate) fn element_of(
+    alloc: Global,
+    value: Expr,
+    fields: &Fields,
+    number: &Json,
+    at: &Where,
+) -> Result<TypedExpr, ScriptFault>
+    ensures ok { IfOk result
+        (λ v. element_of (expression_of value) fields.now (option_and_then as_u64 (as_number (view number.now))) at.now
+        ≡ read (typed_of v)) }
+    ensures err { IfErr result
+        (Tells (λ p r. element_of (expression_of value) fields.now
+        (option_and_then as_u64 (as_number (view number.now))) at.now ≡ fault p r)) }
+{
+    let Some(i) = number.as_u64() else {
+        return Err(bad(alloc, at, Reason::NoSuchField));
+    };
+    if i >= fields.len() as u64 {
+        return Err(bad(alloc, at, Reason::NoSuchField));
+    }
+    Ok(TypedExpr {
+        ty: fields.get(i as usize).copy(alloc)?,
+        value: Expr::Element(boxed(alloc, value)?, i as u32),
+    })
+}
+
+/// A typed value where a type is asked for, which must be its own.
+pub(crate) fn against(
+    alloc: Global,
+    ty: &FfiType,
+    value: TypedExpr,
+    at: &Where,
+) -> Result<Expr, ScriptFault>
+    ensures ok { IfOk result (λ e. against (tree_of ty.now) at.now (typed_of value) ≡ read (expression_of e)) }
+    ensures err { IfErr result (Tells (λ p r. against (tree_of ty.now) at.now (typed_of value) ≡ fault p r)) }
+{
+    if same_type(&value.ty, ty) {
+        Ok(value.value)
+    } else {
+        Err(bad(alloc, at, Reason::WrongType))
+    }
+}
+
+/// A typed value of an integer or pointer type, as one of another such type.
+pub(crate) fn cast_of(
+    alloc: Global,
+    to: &FfiType,
+    value: TypedExpr,
+    at: &Where,
+) -> Result<Expr, ScriptFault>
+    ensures ok { IfOk result
+        (λ e. cast_of (scalar_of (tree_of to.now)) at.now (typed_of value) ≡ read (expression_of e)) }
+    ensures err { IfErr result
+        (Tells (λ p r. cast_of (scalar_of (tree_of to.now)) at.now (typed_of value) ≡ fault p r)) }
+{
+    if is_number(&value.ty) {
+        Ok(Expr::Cast(value.ty, to.copy(alloc)?, boxed(alloc, value.value)?))
+    } else {
+        Err(bad(alloc, at, Reason::WrongType))
+    }
+}
+
+// A type that may be an argument's. The place is left as it was where one is read.
+fn read_right_type(alloc: Global, value: &Json, at: &mut Where) -> Result<FfiType, ScriptFault>
+    requires { HasShortArrays (view value.now) }
+    ensures place { OnOk result (at.new ≡ at.old) }
+    ensures ok { IfOk result (λ t. read_right_type (view value.now) at.old ≡ read (tree_of t)) }
+    ensures err { IfErr result (Tells (λ p r. read_right_type (view value.now) at.old ≡ fault p r)) }
+{
+    let ty = match read_node(alloc, value, at) {
+        Ok(ty) => ty,
+        Err(fault) => return Err(fault),
+    };
+    match check_type(&ty, false) {
+        Ok(()) => Ok(ty),
+        Err(fault) => {
+            push_way(alloc, at, fault.path())?;
+            Err(bad(alloc, at, reason_of_type(&fault)))
+        }
+    }
+}
+
+/// A type that may be an argument's, as the first item of an array. The place is left as it was where one is read.
+pub(crate) fn read_first_type(
+    alloc: Global,
+    item: &Json,
+    at: &mut Where,
+) -> Result<FfiType, ScriptFault>
+    requires { HasShortArrays (view item.now) }
+    ensures place { OnOk result (at.new ≡ at.old) }
+    ensures ok { IfOk result (λ t. read_right_type (view item.now) (at_item at.old 0) ≡ read (tree_of t)) }
+    ensures err { IfErr result (Tells (λ p r. read_right_type (view item.now) (at_item at.old 0) ≡ fault p r)) }
+{
+    at.push_number(0)?;
+    let ty = match read_right_type(alloc, item, at) {
+        Ok(ty) => ty,
+        Err(fault) => return Err(fault),
+    };
+    at.pop();
+    Ok(ty)
+}

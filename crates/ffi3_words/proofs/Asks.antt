@@ -1,0 +1,22 @@
+-- From the matches to what they ask for.
+use Rattle.std.proofs.Common.{◌≡◌, ◌∙◌, List, Option, Some, None, refl, ap, ap₂, codes}
+use Rattle.std.specs.Option.{option_map}
+use Rattle.clap.specs.Words.{Row, Text, first_of, subcommand_name_of, subcommand_rows_of}
+use Rattle.clap.specs.declared.parser.matches.ArgMatches.{ArgMatches}
+use Rattle.clap.specs.declared.parser.matches.ArgMatches.TheViews.{out-ArgMatches}
+use Rattle.ffi3_words.specs.Commands.{asked, request_of}
+
+two_maps : {X Y Z : Type 0} (f : Y → Z) (g : X → Y) (o : Option X) → option_map f (option_map g o) ≡ option_map (λ x. f (g x)) o
+two_maps f g None = refl
+two_maps f g (Some x) = refl
+
+-- the name of the command that was met
+pub name_met : (m : ArgMatches) → option_map (λ p. p.0) (subcommand_rows_of m) ≡ subcommand_name_of m
+name_met m = two_maps _ _ (out-ArgMatches m).subcommand
+
+pub asks : (o : Option (Text × List Row)) (name : Text) (rows : List Row) (target : Option Text) → Some name ≡ option_map (λ p. p.0) o → Some rows ≡ option_map (λ p. p.1) o → target ≡ first_of (codes "target") rows → request_of name target ≡ asked o
+asks None name rows target named with_rows is = cc
+asks (Some p) name rows target named with_rows is =
+    let same_name : name ≡ p.0 = cc in
+    let same_rows : rows ≡ p.1 = cc in
+    ap₂ request_of same_name (is ∙ ap (first_of (codes "target")) same_rows)

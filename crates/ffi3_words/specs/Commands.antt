@@ -1,0 +1,106 @@
+-- The program as clap reads it: its commands and their options, and what its matches ask for.
+use Rattle.std.specs.Prelude.{◌≡◌, ℕ, suc, true, cond, List, [], ◌∷◌, codes, Option, Some, None}
+use Rattle.std.specs.Option.{option_and_then, option_map}
+use Rattle.std.specs.Str.{bytes_eq}
+use Rattle.std.specs.Borrow.{Bor}
+use Rattle.clap.specs.Words.{App, Row, Rule, Shape, Text, first_of, new_app, new_rule, with_rule, with_subcommand}
+use Rattle.clap.specs.declared.builder.value_parser.ValueParser.{ValueParser}
+use Rattle.clap.specs.declared.builder.value_parser.ValueParser.TheVariants as vp
+use Rattle.ffi3_type_rules.specs.declared.Target.{Target}
+use Rattle.ffi3_type_rules.specs.declared.Target.TheVariants.{Amd64, Aapcs64, Riscv}
+use Rattle.ffi3_words.specs.declared.words.Request.{Request}
+use Rattle.ffi3_words.specs.declared.words.Request.TheVariants.{Layout, Place, Run}
+
+-- ---- the words of a target
+
+abbrev pub place_targets : List Text
+place_targets = codes "amd64" ∷ codes "aapcs64" ∷ codes "riscv" ∷ []
+
+abbrev pub run_targets : List Text
+run_targets = codes "amd64" ∷ []
+
+abbrev pub target_of : Text → Option Target
+target_of word =
+    cond (bytes_eq word (codes "amd64")) (Some Amd64) (cond (bytes_eq word (codes "aapcs64")) (Some Aapcs64) (cond (bytes_eq word (codes "riscv")) (Some Riscv) None))
+
+-- ---- the commands and their options
+
+-- where texts lie in memory
+abbrev pub Addresses : Type 0
+Addresses = ℕ → ℕ × ℕ
+
+abbrev pub after_first : Addresses → Addresses
+after_first at = λ n. at (suc n)
+
+abbrev pub lent : Addresses → List Text → List (Bor Text)
+lent at [] = []
+lent at (t ∷ ts) = record { ref_ptr = at 0; now = t } ∷ lent (after_first at) ts
+
+-- one of these words
+abbrev pub one_of_words : Addresses → List Text → ValueParser
+one_of_words at words = vp.Names (record { ref_ptr = at 0; now = lent (after_first at) words })
+
+-- `--target TARGET`, which is required
+abbrev pub target_rule : ValueParser → Rule
+target_rule parser =
+    record (new_rule (codes "target")) { long = Some (codes "target"); value_names = 1; required = true; parser = Some parser }
+
+abbrev pub layout_shape : Shape
+layout_shape = (new_app (codes "layout")).top
+
+-- a command with a target
+abbrev pub with_target : Text → ValueParser → Shape
+with_target name parser = (with_rule (new_app name) (target_rule parser)).top
+
+-- the program alone: one of its commands is required
+abbrev pub program_alone : App
+program_alone = record {
+  top = record (new_app (codes "ffi3")).top { has_version = true; subcommand_required = true; arg_required_else_help = true };
+  subs = [];
+}
+
+abbrev pub program_with : ValueParser → ValueParser → App
+program_with placing running =
+    with_subcommand (with_subcommand (with_subcommand program_alone layout_shape) (with_target (codes "place") placing)) (with_target (codes "run") running)
+
+abbrev pub program_at : Addresses → Addresses → App
+program_at placing running =
+    program_with (one_of_words placing place_targets) (one_of_words running run_targets)
+
+-- where the words of a target lie changes nothing in what clap takes (`something_asked` in proofs/Asked.antt)
+abbrev pub nowhere : Addresses
+nowhere n = (0, 0)
+
+-- THE PROGRAM as clap reads it
+abbrev pub program : App
+program = program_at nowhere nowhere
+
+-- ---- what is asked for
+
+abbrev pub with_target_of : Option Text → (Target → Request) → Option Request
+with_target_of target make = option_map make (option_and_then target_of target)
+
+-- a command's name and its target
+abbrev pub request_of : Text → Option Text → Option Request
+request_of name target =
+    cond (bytes_eq name (codes "layout")) (Some Layout) (cond (bytes_eq name (codes "place")) (with_target_of target (λ t. Place t)) (cond (bytes_eq name (codes "run")) (with_target_of target (λ t. Run t)) None))
+
+-- the command that was met, with its rows
+abbrev pub asked : Option (Text × List Row) → Option Request
+asked = option_and_then (λ p. request_of p.0 (first_of (codes "target") p.1))
+
+-- ---- what the code states of its parts
+
+-- the program, with the words of its targets somewhere
+pub record IsProgram (a : App) : Type 0 where
+  pub placing : Addresses
+  pub running : Addresses
+  pub same : a ≡ program_at placing running
+
+pub record IsTargetRule (words : List (Bor Text)) (r : Rule) : Type 0 where
+  pub list : ℕ × ℕ
+  pub same : r ≡ target_rule (vp.Names (record { ref_ptr = list; now = words }))
+
+pub record HasTarget (name : Text) (words : List Text) (s : Shape) : Type 0 where
+  pub at : Addresses
+  pub same : s ≡ with_target name (one_of_words at words)

@@ -1,0 +1,50 @@
+-- The words that ask for something, and those that clap takes and refuses.
+use Rattle.std.specs.Prelude.{◌≡◌, List, [], ◌∷◌, codes, Some}
+use Rattle.clap.specs.Words.{Text, fault_of, kind_of, subcommand_of}
+use Rattle.clap.specs.declared.error.Error.{Error}
+use Rattle.clap.specs.declared.error.kind.ErrorKind.TheVariants.{OutOfMemory}
+use Rattle.ffi3_type_rules.specs.declared.Target.{Target}
+use Rattle.ffi3_type_rules.specs.declared.Target.TheVariants.{Amd64, Aapcs64, Riscv}
+use Rattle.ffi3_words.specs.declared.words.Request.{Request}
+use Rattle.ffi3_words.specs.declared.words.Request.TheVariants.{Layout, Place, Run}
+use Rattle.ffi3_words.specs.declared.words.WordsFault.{WordsFault}
+use Rattle.ffi3_words.specs.declared.words.WordsFault.TheVariants.{Refused, NoMemory}
+use Rattle.ffi3_words.specs.Commands.{program, asked}
+
+abbrev pub target_word : Target → Text
+target_word Amd64 = codes "amd64"
+target_word Aapcs64 = codes "aapcs64"
+target_word Riscv = codes "riscv"
+
+-- the machine of a target is modelled
+abbrev pub CanRun : Target → Type 0
+CanRun t = t ≡ Amd64
+
+-- the words after the program's name ask for this
+abbrev pub StatesAfterName : List Text → Request → Type 0
+StatesAfterName rest Layout = rest ≡ codes "layout" ∷ []
+StatesAfterName rest (Place t) = rest ≡ codes "place" ∷ codes "--target" ∷ target_word t ∷ []
+StatesAfterName rest (Run t) = (rest ≡ codes "run" ∷ codes "--target" ∷ target_word t ∷ []) × CanRun t
+
+-- THE STATED WORDS of what is asked for: the program's name, and then `layout`, `place --target T` or `run --target T`
+abbrev pub IsStated : List Text → Request → Type 0
+IsStated [] r = ⊥
+IsStated (name ∷ rest) r = StatesAfterName rest r
+
+-- CLAP TAKES the words, unless memory is refused, and they ask for this
+pub record Takes (words : List Text) (r : Request) : Type 0 where
+  pub passes : fault_of program words ≡ []
+  pub means : asked (subcommand_of program words) ≡ Some r
+
+-- CLAP REFUSES the words for another cause than memory; a request for help or the version counts
+abbrev pub IsRefused : List Text → Type 0
+IsRefused words = fault_of program words ≡ [] → ⊥
+
+abbrev pub IsRefusal : List Text → WordsFault → Type 0
+IsRefusal words (Refused text) = IsRefused words × ((r : Request) → IsStated words r → ⊥)
+IsRefusal words NoMemory = Unit {0}
+
+-- an error of clap is told as this: its text, where it is not want of memory
+abbrev pub IsToldAs : Error → WordsFault → Type 0
+IsToldAs e (Refused text) = kind_of e ≡ OutOfMemory → ⊥
+IsToldAs e NoMemory = Unit {0}

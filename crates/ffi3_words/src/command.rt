@@ -1,0 +1,76 @@
+//! The program's commands and options.
+ghost use Rattle.std.specs.Prelude.{◌≡◌, IfOk, false, codes};
+ghost use Rattle.clap.specs.Words.{app_of, rule_of, shape_of};
+ghost use Rattle.clap.specs.declared.builder.command.Command.TheViews.{out-Command};
+ghost use Rattle.ffi3_words.specs.Commands.{HasTarget, IsProgram, IsTargetRule};
+ghost use Rattle.ffi3_words.specs.Commands.{layout_shape, place_targets, run_targets};
+
+use crate::help;
+use clap::{Arg, Command};
+use std::alloc::{AllocError, Global};
+
+/// The targets of `place`.
+static PLACE_TARGETS: [&str; 3] = ["amd64", "aapcs64", "riscv"];
+/// The targets of `run`.
+static RUN_TARGETS: [&str; 1] = ["amd64"];
+
+/// The program, its commands and their options.
+pub fn program<'a>(alloc: Global) -> Result<Command<'a>, AllocError>
+    ensures { IfOk result (λ c. IsProgram (app_of c)) }
+{
+    Command::new(alloc, "ffi3")
+        .version(help::VERSION)
+        .about(help::ABOUT)
+        .long_about(help::LONG_ABOUT)
+        .after_help(help::AFTER_HELP)
+        .subcommand_required(true)
+        .arg_required_else_help(true)
+        .subcommand(layout(alloc))?
+        .subcommand(place(alloc)?)?
+        .subcommand(run(alloc)?)
+}
+
+fn layout<'a>(alloc: Global) -> Command<'a>
+    ensures shape { shape_of result ≡ layout_shape }
+    ensures local { (out-Command result).has_globals ≡ false }
+{
+    Command::new(alloc, "layout")
+        .about(help::LAYOUT_ABOUT)
+        .long_about(help::LAYOUT_LONG_ABOUT)
+        .after_help(help::LAYOUT_AFTER_HELP)
+}
+
+fn place<'a>(alloc: Global) -> Result<Command<'a>, AllocError>
+    ensures shape { IfOk result (λ c. HasTarget (codes "place") place_targets (shape_of c)) }
+    ensures local { IfOk result (λ c. (out-Command c).has_globals ≡ false) }
+{
+    Command::new(alloc, "place")
+        .about(help::PLACE_ABOUT)
+        .long_about(help::PLACE_LONG_ABOUT)
+        .after_help(help::PLACE_AFTER_HELP)
+        .arg(target(alloc, PLACE_TARGETS.as_slice()))
+}
+
+fn run<'a>(alloc: Global) -> Result<Command<'a>, AllocError>
+    ensures shape { IfOk result (λ c. HasTarget (codes "run") run_targets (shape_of c)) }
+    ensures local { IfOk result (λ c. (out-Command c).has_globals ≡ false) }
+{
+    Command::new(alloc, "run")
+        .about(help::RUN_ABOUT)
+        .long_about(help::RUN_LONG_ABOUT)
+        .after_help(help::RUN_AFTER_HELP)
+        .arg(target(alloc, RUN_TARGETS.as_slice()))
+}
+
+// The option `--target`, which has to be one of these words.
+fn target<'a>(alloc: Global, words: &'a [&'a str]) -> Arg<'a>
+    ensures rule { IsTargetRule words.now (rule_of result) }
+    ensures local { result.global ≡ false }
+{
+    Arg::new(alloc, "target")
+        .long("target")
+        .value_name("TARGET")
+        .required(true)
+        .value_parser(words)
+        .help(help::TARGET_HELP)
+}

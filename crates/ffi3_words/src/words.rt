@@ -1,0 +1,104 @@
+//! What the words of the program ask for.
+ghost use Rattle.std.specs.Prelude.{◌≡◌, IfOk, IfErr, Some, map, option_map, string_bytes};
+ghost use Rattle.clap.specs.Words.{subcommand_rows_of};
+ghost use Rattle.ffi3_words.specs.Commands.{asked, request_of, target_of};
+ghost use Rattle.ffi3_words.specs.Words.{IsStated, IsRefusal, IsToldAs, Takes};
+
+use crate::command::program;
+use clap::error::ErrorKind;
+use clap::{ArgMatches, Error};
+use ffi3_types::Target;
+use std::alloc::Global;
+
+/// What the words ask for.
+#[derive(Clone, Copy, Debug, PartialEq, Eq)]
+pub enum Request {
+    /// The layout of every type.
+    Layout,
+    /// The frame and the places of every signature.
+    Place { target: Target },
+    /// A run on a modelled machine.
+    Run { target: Target },
+}
+
+/// Why the words ask for nothing that can be done.
+#[derive(Debug, Drop)]
+pub enum WordsFault {
+    /// `clap` refuses the words, or they ask for help or the version: its text for the user, with its last newline.
+    Refused(String),
+    /// Memory was refused.
+    NoMemory,
+}
+
+/// Reads the words, of which the first is the program's name.
+pub fn read_words(alloc: Global, words: Vec<String>) -> Result<Request, WordsFault>
+    ensures takes { IfOk result (Takes (map string_bytes words.items)) }
+    ensures refused { IfErr result (IsRefusal (map string_bytes words.items)) }
+    ensures stated { (r : Request) → IsStated (map string_bytes words.items) r →
+        IfOk result (λ q. q ≡ r) × IfErr result (λ e. e ≡ WordsFault.NoMemory) }
+{
+    let Ok(command) = program(alloc) else {
+        return Err(WordsFault::NoMemory);
+    };
+    match command.try_get_matches_from(words.as_slice()) {
+        Ok(matches) => match request_of(&matches) {
+            Some(request) => Ok(request),
+            None => unreachable!(),
+        },
+        Err(error) => Err(refusal(alloc, &error)),
+    }
+}
+
+// What the matches ask for.
+fn request_of(matches: &ArgMatches<'_>) -> Option<Request>
+    ensures { result ≡ asked (subcommand_rows_of matches.now) }
+{
+    let (name, options) = matches.subcommand()?;
+    named(name, options.get_str("target"))
+}
+
+// What a command asks for, with its target.
+fn named(name: &str, target: Option<&str>) -> Option<Request>
+    ensures { result ≡ request_of name.now (option_map (λ t. t.now) target.entry) }
+{
+    if name == "layout" {
+        return Some(Request::Layout);
+    }
+    let target = target_of(target?)?;
+    if name == "place" {
+        return Some(Request::Place { target });
+    }
+    if name == "run" {
+        return Some(Request::Run { target });
+    }
+    None
+}
+
+// The target of this name.
+fn target_of(word: &str) -> Option<Target>
+    ensures { result ≡ target_of word.now }
+{
+    if word == "amd64" {
+        return Some(Target::Amd64);
+    }
+    if word == "aapcs64" {
+        return Some(Target::Aapcs64);
+    }
+    if word == "riscv" {
+        return Some(Target::Riscv);
+    }
+    None
+}
+
+// An error of `clap` as a fault.
+fn refusal(alloc: Global, error: &Error) -> WordsFault
+    ensures { IsToldAs error.now result }
+{
+    if error.kind() == ErrorKind::OutOfMemory {
+        return WordsFault::NoMemory;
+    }
+    match format!(in alloc; "{error}") {
+        Ok(text) => WordsFault::Refused(text),
+        Err(_) => WordsFault::NoMemory,
+    }
+}
