@@ -1,9 +1,8 @@
 -- Objects of one member and arrays of two items.
-use Rattle.std.proofs.Common.{◌≡◌, ℕ, zero, suc, ◌+◌, ◌<◌, ◌≤◌, List, [], ◌∷◌, Option, Some, None, refl, sym, ap, ◌∙◌, subst, arith}
-use Rattle.serde_json.specs.Data.{Data, null, boolean, number, string, array, object, Items, no_items, item, Members, no_members, member, depth, items_depth, members_depth}
+use Rattle.std.proofs.Common.{◌≡◌, Some, None, refl, sym, ap, ◌∙◌}
+use Rattle.serde_json.specs.Data.{Data, Items, no_items, item, Members, no_members, member}
 use Rattle.serde_json.specs.Find.{as_object, as_array}
 use Rattle.serde_json.specs.Events.{members_len, items_len}
-use Rattle.ffi3_script_rules.specs.Language.{HasShortArrays}
 use Rattle.ffi3_json.proofs.Objects.{object_is, array_is}
 use Rattle.ffi3_script.specs.Shapes.{member_in, only_member, two_in, two_items}
 

@@ -1,5 +1,5 @@
 -- Types that are asked for, and types that are read.
-use Rattle.std.proofs.Common.{◌≡◌, ℕ, Bool, true, false, List, Option, Some, None, refl, sym, ap, ◌∙◌, ◌↔◌, IsTrue}
+use Rattle.std.proofs.Common.{◌≡◌, ℕ, Bool, true, false, List, refl, sym, ap, ◌∙◌, ◌↔◌, IsTrue}
 use Rattle.std.specs.Prelude.{if◌then◌else◌}
 use Rattle.std.proofs.lemmas.Bool.{false≢true}
 use Rattle.serde_json.specs.Data.{Data}
@@ -10,7 +10,7 @@ use Rattle.ffi3_type_rules.specs.Same.{same_tree}
 use Rattle.ffi3_types.specs.declared.FfiType.{FfiType}
 use Rattle.ffi3_types.specs.TreeOf.{tree_of}
 use Rattle.ffi3_types.proofs.Trees.{tree_of-inj}
-use Rattle.ffi3_script_rules.specs.Language.{Path, Reason, Read, read, fault, and_then, read_type, inside_type, reason_of_type_fault, wrong_type}
+use Rattle.ffi3_script_rules.specs.Language.{Path, Read, read, fault, and_then, read_type, inside_type, reason_of_type_fault, wrong_type}
 use Rattle.ffi3_script_rules.specs.Script.{Expression}
 use Rattle.ffi3_script_rules.specs.Values.{against, typed, read_right_type, right_type}
 use Rattle.ffi3_script_rules.proofs.FirstFaults.{found_by_first, none_found}
@@ -18,19 +18,16 @@ use Rattle.ffi3_script_rules.proofs.Tests.{types_are_same, type_is_itself}
 
 -- ---- one step after another
 
-pub then_read : {A B : Type 0} (f : A → Read B) (x : Read A) (a : A) → x ≡ read a → and_then f x ≡ f a
+then_read : {A B : Type 0} (f : A → Read B) (x : Read A) (a : A) → x ≡ read a → and_then f x ≡ f a
 then_read f x a e = ap (and_then f) e
-
-pub then_fault : {A B : Type 0} (f : A → Read B) (x : Read A) (p : Path) (r : Reason) → x ≡ fault p r → and_then f x ≡ fault p r
-then_fault f x p r e = ap (and_then f) e
 
 -- ---- the type that is asked for
 
-not_so : (b : Bool) → (b ≡ true → ⊥) → b ≡ false
+pub not_so : (b : Bool) → (b ≡ true → ⊥) → b ≡ false
 not_so true h = absurd (h refl)
 not_so false h = refl
 
-pub same_by : (own ty : FfiType) (b : Bool) → (IsTrue b ↔ (own ≡ ty)) → same_tree (tree_of own) (tree_of ty) ≡ b
+same_by : (own ty : FfiType) (b : Bool) → (IsTrue b ↔ (own ≡ ty)) → same_tree (tree_of own) (tree_of ty) ≡ b
 same_by own ty true iff =
     ap (λ t. same_tree (tree_of own) (tree_of t)) (sym (iff.0 refl)) ∙ type_is_itself (tree_of own)
 same_by own ty false iff =

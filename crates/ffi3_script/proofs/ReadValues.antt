@@ -1,32 +1,29 @@
 -- Values by their shapes, and the values of an array item by item.
-use Rattle.std.proofs.Common.{◌≡◌, ℕ, zero, suc, ◌+◌, ◌*◌, ◌<◌, ◌≤◌, ◌==◌, Bool, true, false, cond, List, [], ◌∷◌, ◌++◌, length, map, drop, Option, Some, None, Result, Ok, Err, IfOk, IfErr, option_and_then, max, refl, sym, ap, subst, ◌∙◌, arith}
+use Rattle.std.proofs.Common.{◌≡◌, ℕ, ◌+◌, ◌<◌, ◌≤◌, ◌==◌, true, cond, List, [], ◌∷◌, ◌++◌, length, drop, Some, None, Result, Ok, Err, IfOk, IfErr, option_and_then, refl, sym, ap, ◌∙◌}
 use Rattle.std.specs.Prelude.{slice_index_or, if◌then◌else◌}
 use Rattle.std.proofs.lemmas.Bool.{eqb-true, eq-eqb}
 use Rattle.std.proofs.lemmas.List.{drop_more}
-use Rattle.serde_json.specs.Data.{Num, Data, null, boolean, number, string, array, object, Items, no_items, item, Members, no_members, member, depth, items_depth, members_depth}
-use Rattle.serde_json.specs.Find.{as_number, as_str, as_array, as_u64}
+use Rattle.serde_json.specs.Data.{Num, Data, null, boolean, number, string, array, object, Items, no_items, item, no_members, member}
+use Rattle.serde_json.specs.Find.{as_number, as_array, as_u64}
 use Rattle.serde_json.specs.Events.{items_len}
 use Rattle.serde_json.specs.View.{view, items_view}
 use Rattle.serde_json.specs.declared.value.Value.{Value}
 use Rattle.ffi3_type_rules.specs.Tree.{Tree, void, struct_of, tree_at, elements_of, list_of-trees_of}
-use Rattle.ffi3_type_rules.specs.Integer.{is_number_type, scalar_of}
 use Rattle.ffi3_types.specs.declared.FfiType.{FfiType}
 use Rattle.ffi3_types.specs.declared.FfiType.TheVariants.{Void, U8, S8, U16, S16, U32, S32, U64, S64, Float, Double, Pointer, Struct, LongDouble, Complex, Vector}
 use Rattle.ffi3_types.specs.TreeOf.{tree_of}
-use Rattle.ffi3_script_rules.specs.Language.{Path, Reason, Read, read, fault, and_then, read_map, at_item, under, not_a_value, wrong_count, wrong_type, no_type_of_its_own, HasShortArrays, HaveShortArrays}
+use Rattle.ffi3_script_rules.specs.Language.{Path, Reason, Read, read, fault, and_then, read_map, at_item, under, wrong_count, wrong_type}
 use Rattle.ffi3_script_rules.specs.Script.{Expression, composed, typed_as, Expressions, no_expressions, expression, expressions_of, Typed}
 use Rattle.ffi3_script_rules.specs.Values as values
 use Rattle.ffi3_script_rules.specs.Values.{Scope, Pair, is_integer_type, if_integer, cast_form, composed_of, cast_of, element_of, form_named, own_by, read_number, read_text, read_value, read_values, read_typed, read_two, read_field, read_of, read_right_type, field_of, typed}
-use Rattle.ffi3_json.proofs.Objects.{next, none_left}
-use Rattle.ffi3_script.specs.Shapes.{only_member, two_items, is_untyped, typed_under, value_under_form, read_terms}
+use Rattle.ffi3_json.proofs.Objects.{array_is, next, none_left}
+use Rattle.ffi3_script.proofs.ReadTypes.{not_so}
+use Rattle.ffi3_script.specs.Shapes.{only_member, two_items, typed_under, value_under_form, read_terms}
 
 -- ---- shapes
 
 some_is : {A : Type 0} {x y : A} → Some x ≡ Some y → x ≡ y
 some_is e = cc
-
-some_not_none : {A : Type 0} {x : A} → Some x ≡ None → ⊥
-some_not_none e = cc
 
 none_not_some : {A : Type 0} {x : A} → None ≡ Some x → ⊥
 none_not_some e = cc
@@ -38,14 +35,6 @@ number_is (number m) n e = ap number (some_is e)
 number_is (string s) n e = absurd (none_not_some e)
 number_is (array ds) n e = absurd (none_not_some e)
 number_is (object ms) n e = absurd (none_not_some e)
-
-pub text_is : (d : Data) (s : List ℕ) → as_str d ≡ Some s → d ≡ string s
-text_is null s e = absurd (none_not_some e)
-text_is (boolean b) s e = absurd (none_not_some e)
-text_is (number m) s e = absurd (none_not_some e)
-text_is (string r) s e = ap string (some_is e)
-text_is (array ds) s e = absurd (none_not_some e)
-text_is (object ms) s e = absurd (none_not_some e)
 
 -- an object of one member
 abbrev pub alone : List ℕ → Data → Data
@@ -76,62 +65,19 @@ items_are (array (item d (item e no_items))) a b h = λ i. both_items (some_is h
 items_are (array (item d (item e (item f ds)))) a b h = absurd (none_not_some h)
 items_are (object ms) a b h = absurd (none_not_some h)
 
-pub short-member : (d : Data) (name : List ℕ) (e : Data) → only_member d ≡ Some (name, e) → HasShortArrays d → HasShortArrays e
-short-member d name e h short = (subst HasShortArrays (member_is d name e h) short).0
-
-pub depth-member : (d : Data) (name : List ℕ) (e : Data) → only_member d ≡ Some (name, e) → depth e < depth d
-depth-member d name e h = let same : depth d ≡ suc (max (depth e) 0) = ap depth (member_is d name e h) in omega arith
-
-pub short-first : (d a b : Data) → two_items d ≡ Some (a, b) → HasShortArrays d → HasShortArrays a
-short-first d a b h short = (subst HasShortArrays (items_are d a b h) short).1.0
-
-pub short-second : (d a b : Data) → two_items d ≡ Some (a, b) → HasShortArrays d → HasShortArrays b
-short-second d a b h short = (subst HasShortArrays (items_are d a b h) short).1.1.0
-
-pub depth-first : (d a b : Data) → two_items d ≡ Some (a, b) → depth a < depth d
-depth-first d a b h = let same : depth d ≡ suc (max (depth a) (max (depth b) 0)) = ap depth (items_are d a b h) in omega arith
-
-pub depth-second : (d a b : Data) → two_items d ≡ Some (a, b) → depth b < depth d
-depth-second d a b h = let same : depth d ≡ suc (max (depth a) (max (depth b) 0)) = ap depth (items_are d a b h) in omega arith
-
 -- ---- a value against a type
 
 module _ (scope : Scope) (t : Tree) (d : Data) (path : Path) where
   pub of_number : (n : Num) → as_number d ≡ Some n → read_value scope t d path ≡ read_number t n path
   of_number n h = ap (λ x. read_value scope t x path) (number_is d n h)
 
-  pub of_text : (s : List ℕ) → as_str d ≡ Some s → read_value scope t d path ≡ read_text t s path
-  of_text s h = ap (λ x. read_value scope t x path) (text_is d s h)
-
   pub of_member : (name : List ℕ) (e : Data) → only_member d ≡ Some (name, e) → read_value scope t d path ≡ value_under_form scope t name e path (form_named name)
   of_member name e h = ap (λ x. read_value scope t x path) (member_is d name e h)
 
-pub of_none : (scope : Scope) (t : Tree) (d : Data) (path : Path) → as_number d ≡ None → as_str d ≡ None → as_array d ≡ None → only_member d ≡ None → read_value scope t d path ≡ fault path not_a_value
-of_none scope t null path n s a m = refl
-of_none scope t (boolean b) path n s a m = refl
-of_none scope t (number x) path n s a m = absurd (some_not_none n)
-of_none scope t (string x) path n s a m = absurd (some_not_none s)
-of_none scope t (array ds) path n s a m = absurd (some_not_none a)
-of_none scope t (object no_members) path n s a m = refl
-of_none scope t (object (member name d no_members)) path n s a m = absurd (some_not_none m)
-of_none scope t (object (member name d (member other e ms))) path n s a m = refl
-
 -- ---- an array against a type
 
-pub list-is : (d : Data) (ds : Items) → as_array d ≡ Some ds → d ≡ array ds
-list-is null ds e = absurd (none_not_some e)
-list-is (boolean b) ds e = absurd (none_not_some e)
-list-is (number n) ds e = absurd (none_not_some e)
-list-is (string s) ds e = absurd (none_not_some e)
-list-is (array d) ds e = ap array (some_is e)
-list-is (object ms) ds e = absurd (none_not_some e)
-
 of_array : (scope : Scope) (t : Tree) (d : Data) (path : Path) (ds : Items) → as_array d ≡ Some ds → read_value scope t d path ≡ composed_of t (items_len ds) path (read_values scope (elements_of t) ds path 0)
-of_array scope t d path ds h = ap (λ x. read_value scope t x path) (list-is d ds h)
-
-not_so : (b : Bool) → (b ≡ true → ⊥) → b ≡ false
-not_so true h = absurd (h refl)
-not_so false h = refl
+of_array scope t d path ds h = ap (λ x. read_value scope t x path) (array_is d ds h)
 
 module _ (scope : Scope) (ts : List Tree) (d : Data) (path : Path) (ds : Items) (h : as_array d ≡ Some ds) where
   whole : read_value scope (struct_of ts) d path ≡ cond (items_len ds == length ts) (read_map composed (read_values scope ts ds path 0)) (fault path wrong_count)
@@ -145,28 +91,6 @@ module _ (scope : Scope) (ts : List Tree) (d : Data) (path : Path) (ds : Items) 
   pub of_values : (r : Read Expressions) → items_len ds ≡ length ts → read_values scope ts ds path 0 ≡ r → read_value scope (struct_of ts) d path ≡ read_map composed r
   of_values r same is =
       whole ∙ ap (λ b. cond b (read_map composed (read_values scope ts ds path 0)) (fault path wrong_count)) (eq-eqb (items_len ds) (length ts) same) ∙ ap (read_map composed) is
-
--- only a struct has values in an array
-pub of_no_struct : (scope : Scope) (ty : FfiType) (d : Data) (path : Path) (ds : Items) → as_array d ≡ Some ds → ((ts : List Tree) → ty ≡ Struct ts → ⊥) → read_value scope (tree_of ty) d path ≡ fault path wrong_type
-of_no_struct scope ty d path ds h never =
-    of_array scope (tree_of ty) d path ds h ∙ other ty never (items_len ds) (read_values scope (elements_of (tree_of ty)) ds path 0) where
-      other : (t : FfiType) → ((ts : List Tree) → t ≡ Struct ts → ⊥) → (n : ℕ) (r : Read Expressions) → composed_of (tree_of t) n path r ≡ fault path wrong_type
-      other Void k n r = refl
-      other U8 k n r = refl
-      other S8 k n r = refl
-      other U16 k n r = refl
-      other S16 k n r = refl
-      other U32 k n r = refl
-      other S32 k n r = refl
-      other U64 k n r = refl
-      other S64 k n r = refl
-      other Float k n r = refl
-      other Double k n r = refl
-      other Pointer k n r = refl
-      other (Struct ts) k n r = absurd (k ts refl)
-      other LongDouble k n r = refl
-      other Complex k n r = refl
-      other Vector k n r = refl
 
 -- ---- the values of an array, item by item
 
@@ -188,12 +112,6 @@ abbrev pub Done : Scope → List Tree → List Value → Path → ℕ → List E
 Done scope ts vs path i done =
     read_values scope ts (items_view vs) path 0 ≡ read_map (before done) (read_values scope (drop i ts) (items_view (drop i vs)) path i)
 
-pub done-none : (scope : Scope) (ts : List Tree) (vs : List Value) (path : Path) → Done scope ts vs path 0 []
-done-none scope ts vs path = none (read_values scope ts (items_view vs) path 0) where
-  none : (r : Read Expressions) → r ≡ read_map (before []) r
-  none (read es) = refl
-  none (fault place reason) = refl
-
 joined : (done : List Expression) (e : Expression) (r : Read Expressions) → read_map (before done) (read_map (λ es. expression e es) r) ≡ read_map (before (done ++ e ∷ [])) r
 joined done e (read es) = ap read (before-more done e es)
 joined done e (fault path reason) = refl
@@ -210,76 +128,18 @@ module _ (scope : Scope) (ts : List Tree) (vs : List Value) (path : Path) (i : �
         here ∙ ap (λ r. read_map (before done) (and_then (λ y. read_map (λ es. expression y es) (read_values scope (drop (i + 1) ts) (items_view (drop (i + 1) vs)) path (i + 1))) r)) was
         ∙ joined done e (read_values scope (drop (i + 1) ts) (items_view (drop (i + 1) vs)) path (i + 1))
 
-    pub done-fault : (p : Path) (r : Reason) → read_value scope t (view x) (at_item path i) ≡ fault p r → read_values scope ts (items_view vs) path 0 ≡ fault p r
-    done-fault p r was =
-        here ∙ ap (λ q. read_map (before done) (and_then (λ y. read_map (λ es. expression y es) (read_values scope (drop (i + 1) ts) (items_view (drop (i + 1) vs)) path (i + 1))) q)) was
-
   pub done-all : length vs ≤ i → Done scope ts vs path i done → read_values scope ts (items_view vs) path 0 ≡ read (expressions_of done)
   done-all end so_far =
       so_far ∙ ap (λ us. read_map (before done) (read_values scope (drop i ts) (items_view us) path i)) (none_left vs i end) ∙ ap read (before-none done)
 
--- ---- a sum, a difference, a cast
-
-terms_if : (b : Bool) (two : Read Pair) (f : Pair → Expression) (path : Path) → (if b then read_map f two else fault path wrong_type) ≡ read_map f (if b then two else fault path wrong_type)
-terms_if true two f path = refl
-terms_if false two f path = refl
-
--- what is made of the two values of a sum or difference
-pub of_terms : (scope : Scope) (t : Tree) (name : List ℕ) (d : Data) (path : Path) (f : Pair → Expression) (r : Read Pair) → read_terms scope t name d path ≡ r
-    → if_integer t path (λ _. read_map f (read_two scope t d (under path name))) ≡ read_map f r
-of_terms scope t name d path f r is =
-    terms_if (is_integer_type t) (read_two scope t d (under path name)) f path ∙ ap (read_map f) is
+-- ---- the two values of a sum or difference
 
 module _ (scope : Scope) (t : Tree) (name : List ℕ) (d : Data) (path : Path) where
-  pub terms_wrong : is_integer_type t ≡ false → read_terms scope t name d path ≡ fault path wrong_type
-  terms_wrong h = ap (λ b. if b then read_two scope t d (under path name) else fault path wrong_type) h
-
   pub terms_are : (r : Read Pair) → is_integer_type t ≡ true → read_two scope t d (under path name) ≡ r → read_terms scope t name d path ≡ r
   terms_are r h is =
       ap (λ b. if b then read_two scope t d (under path name) else fault path wrong_type) h ∙ is
 
-  pub cast_wrong : is_number_type t ≡ false → value_under_form scope t name d path cast_form ≡ fault path wrong_type
-  cast_wrong h =
-      ap (λ b. if b then and_then (cast_of (scalar_of t) (under path name)) (read_typed scope d (under path name)) else fault path wrong_type) h
-
-  pub cast_is : is_number_type t ≡ true → value_under_form scope t name d path cast_form ≡ and_then (cast_of (scalar_of t) (under path name)) (read_typed scope d (under path name))
-  cast_is h =
-      ap (λ b. if b then and_then (cast_of (scalar_of t) (under path name)) (read_typed scope d (under path name)) else fault path wrong_type) h
-
 -- ---- arrays of two
-
-pub no_two : (scope : Scope) (t : Tree) (d : Data) (place : Path) → two_items d ≡ None → read_two scope t d place ≡ fault place wrong_count
-no_two scope t null place h = refl
-no_two scope t (boolean b) place h = refl
-no_two scope t (number n) place h = refl
-no_two scope t (string s) place h = refl
-no_two scope t (array no_items) place h = refl
-no_two scope t (array (item d no_items)) place h = refl
-no_two scope t (array (item d (item e no_items))) place h = absurd (some_not_none h)
-no_two scope t (array (item d (item e (item f ds)))) place h = refl
-no_two scope t (object ms) place h = refl
-
-pub no_field : (scope : Scope) (d : Data) (place path : Path) → two_items d ≡ None → read_field scope d place path ≡ fault place wrong_count
-no_field scope null place path h = refl
-no_field scope (boolean b) place path h = refl
-no_field scope (number n) place path h = refl
-no_field scope (string s) place path h = refl
-no_field scope (array no_items) place path h = refl
-no_field scope (array (item d no_items)) place path h = refl
-no_field scope (array (item d (item e no_items))) place path h = absurd (some_not_none h)
-no_field scope (array (item d (item e (item f ds)))) place path h = refl
-no_field scope (object ms) place path h = refl
-
-pub no_of : (scope : Scope) (d : Data) (place : Path) → two_items d ≡ None → read_of scope d place ≡ fault place wrong_count
-no_of scope null place h = refl
-no_of scope (boolean b) place h = refl
-no_of scope (number n) place h = refl
-no_of scope (string s) place h = refl
-no_of scope (array no_items) place h = refl
-no_of scope (array (item d no_items)) place h = refl
-no_of scope (array (item d (item e no_items))) place h = absurd (some_not_none h)
-no_of scope (array (item d (item e (item f ds)))) place h = refl
-no_of scope (object ms) place h = refl
 
 module _ (scope : Scope) (t : Tree) (d a b : Data) (place : Path) (h : two_items d ≡ Some (a, b)) where
   two : read_two scope t d place ≡ and_then (λ x. read_map (λ y. (x, y)) (read_value scope t b (at_item place 1))) (read_value scope t a (at_item place 0))
@@ -336,9 +196,6 @@ module _ (scope : Scope) (d a b : Data) (place : Path) (h : two_items d ≡ Some
   of : read_of scope d place ≡ and_then (λ t. read_map (λ v. typed t (typed_as t v)) (read_value scope t b (at_item place 1))) (read_right_type a (at_item place 0))
   of = ap (λ z. read_of scope z place) (items_are d a b h)
 
-  pub of_first : (p : Path) (r : Reason) → read_right_type a (at_item place 0) ≡ fault p r → read_of scope d place ≡ fault p r
-  of_first p r is = of ∙ ap (λ q. and_then (λ t. read_map (λ v. typed t (typed_as t v)) (read_value scope t b (at_item place 1))) q) is
-
   of_then : (t : Tree) → read_right_type a (at_item place 0) ≡ read t → read_of scope d place ≡ read_map (λ v. typed t (typed_as t v)) (read_value scope t b (at_item place 1))
   of_then t is = of ∙ ap (λ q. and_then (λ u. read_map (λ v. typed u (typed_as u v)) (read_value scope u b (at_item place 1))) q) is
 
@@ -349,24 +206,6 @@ module _ (scope : Scope) (d a b : Data) (place : Path) (h : two_items d ≡ Some
   of_both t e is more = of_then t is ∙ ap (λ q. read_map (λ v. typed t (typed_as t v)) q) more
 
 -- ---- a value with a type of its own
-
-pub untyped : (scope : Scope) (d : Data) (path : Path) → is_untyped d ≡ true → read_typed scope d path ≡ fault path no_type_of_its_own
-untyped scope null path h = absurd (cc)
-untyped scope (boolean b) path h = absurd (cc)
-untyped scope (number n) path h = refl
-untyped scope (string s) path h = refl
-untyped scope (array ds) path h = refl
-untyped scope (object ms) path h = absurd (cc)
-
-pub typed_none : (scope : Scope) (d : Data) (path : Path) → is_untyped d ≡ false → only_member d ≡ None → read_typed scope d path ≡ fault path not_a_value
-typed_none scope null path h m = refl
-typed_none scope (boolean b) path h m = refl
-typed_none scope (number n) path h m = absurd (cc)
-typed_none scope (string s) path h m = absurd (cc)
-typed_none scope (array ds) path h m = absurd (cc)
-typed_none scope (object no_members) path h m = refl
-typed_none scope (object (member name d no_members)) path h m = absurd (some_not_none m)
-typed_none scope (object (member name d (member other e ms))) path h m = refl
 
 pub typed_member : (scope : Scope) (d : Data) (path : Path) (name : List ℕ) (e : Data) (f : values.Form) → only_member d ≡ Some (name, e) → f ≡ form_named name → read_typed scope d path ≡ own_by path (typed_under scope name e path) f
 typed_member scope d path name e f h is =

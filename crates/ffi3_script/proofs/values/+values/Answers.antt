@@ -6,14 +6,14 @@ use Rattle.serde_json.specs.View.{view, number_view, items_view}
 use Rattle.serde_json.proofs.Views.{items_len-items_view}
 use Rattle.ffi3_types.specs.TreeOf.{tree_of}
 use Rattle.ffi3_script_rules.specs.Step.{key, number}
-use Rattle.ffi3_script_rules.specs.Language.{read, fault, HasShortArrays, HaveShortArrays, at_item, under, wrong_type, wrong_count, not_a_value}
+use Rattle.ffi3_script_rules.specs.Language.{read, fault, at_item, under, wrong_type, wrong_count}
 use Rattle.ffi3_script_rules.specs.Values.{read_number, read_value, read_values, read_typed, read_field, read_of, read_right_type, element_of, typed, typed_form, form_named}
 use Rattle.ffi3_json.proofs.Items.{depth-at, short-at}
 use Rattle.ffi3_json.proofs.Paths.{there_and_back}
 use Rattle.ffi3_json.proofs.Tellings.{tells_part, tells_made}
-use Rattle.ffi3_script.specs.ExprOf.{expression_of, expressions_in, typed_of}
+use Rattle.ffi3_script.specs.ExprOf.{expression_of, expressions_in}
 use Rattle.ffi3_script.specs.ScopeOf.{scope_of}
-use Rattle.ffi3_script.specs.Shapes.{typed_form_of, typed_under, value_under_form, read_terms, two_items, only_member}
+use Rattle.ffi3_script.specs.Shapes.{typed_form_of, typed_under, value_under_form, read_terms}
 use Rattle.ffi3_script.proofs.ReadValues.{ok_by, err_by, field_first, field_struct, field_wrong, of_second, of_both, two_first, two_second, two_both, terms_are, typed_member, of_number, of_other_count, of_values, of_member, Done, done-more, done-all}
 use Rattle.ffi3_script.proofs.values.+values.Goals as goal
 
