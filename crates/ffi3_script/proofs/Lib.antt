@@ -15,3 +15,6 @@ pub mod Rows
 pub mod Evaluated
 pub mod Parts
 mod Walked
+mod Few
+mod Making
+mod Refusals

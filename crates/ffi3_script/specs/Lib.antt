@@ -14,3 +14,4 @@ pub mod FunctionOf
 pub mod ScriptOf
 pub mod KnownOf
 pub mod KnownAt
+pub mod Refusal

@@ -4,7 +4,6 @@ ghost use Rattle.serde_json.specs.Find.{get};
 ghost use Rattle.serde_json.specs.View.{view};
 ghost use Rattle.ffi3_types.specs.TreeOf.{tree_of};
 ghost use Rattle.ffi3_type_rules.specs.Tree.{scalar, pointer};
-ghost use Rattle.ffi3_type_rules.specs.Integer.{is_number_type};
 ghost use Rattle.ffi3_script_rules.specs.Language as language;
 ghost use Rattle.ffi3_script_rules.specs.Language.{read, under, value_under, HasShortArrays};
 ghost use Rattle.ffi3_script_rules.specs.Values as values;
@@ -15,6 +14,7 @@ ghost use Rattle.ffi3_script.specs.Numbers.{CallsWithin};
 ghost use Rattle.ffi3_script.specs.ScopeOf.{scope_of, given_in, IsEven};
 
 use crate::heads::new_name;
+use crate::plain::is_number;
 use crate::scope::Scope;
 use crate::values::{read_typed, read_value, read_values};
 use crate::{Act, Expr, TypedExpr};
@@ -50,24 +50,6 @@ pub(crate) fn read_name(
     Ok(Some(name))
 }
 
-// Whether a type is that of an integer or a pointer.
-fn is_number_type(ty: &FfiType) -> bool
-    ensures { result ≡ is_number_type (tree_of ty.now) }
-{
-    match ty {
-        FfiType::U8 => true,
-        FfiType::S8 => true,
-        FfiType::U16 => true,
-        FfiType::S16 => true,
-        FfiType::U32 => true,
-        FfiType::S32 => true,
-        FfiType::U64 => true,
-        FfiType::S64 => true,
-        FfiType::Pointer => true,
-        _ => false,
-    }
-}
-
 /// The condition of a move, where it has one.
 pub(crate) fn read_condition(
     alloc: Global,
@@ -89,7 +71,7 @@ pub(crate) fn read_condition(
         Ok(condition) => condition,
         Err(fault) => return Err(fault),
     };
-    if !is_number_type(&condition.ty) {
+    if !is_number(&condition.ty) {
         return Err(bad(alloc, at, Reason::WrongType));
     }
     at.pop();

@@ -18,6 +18,7 @@ mod known;
 mod moves;
 mod names;
 mod plain;
+mod read;
 mod root;
 mod scope;
 mod script;
@@ -25,8 +26,11 @@ mod values;
 
 pub use body::{MoveKind, ScriptBody};
 pub use expr::Expr;
+/// Why a script was refused, and where in it.
+pub use ffi3_json::{Reason, ScriptFault, Where};
 /// A want of memory: the one answer that no clause ties to a cause.
 pub use ffi3_types::NoMemory;
 pub use moves::{Act, ScriptMove, TypedExpr};
 pub use names::Names;
+pub use read::read_script;
 pub use script::{Script, ScriptFunction};

@@ -11,9 +11,9 @@ ghost use Rattle.ffi3_script.specs.PartsOf.{headings_of, part_of, script_in, bod
 
 use crate::acts::add_key;
 use crate::bodies::read_body;
+use crate::function_parts::{FunctionPart, read_parts};
 use crate::functions::FunctionNames;
 use crate::headings::{Heading, Headings, read_headings};
-use crate::function_parts::{FunctionPart, read_parts};
 use crate::scope::Globals;
 use crate::{Names, NoMemory, ScriptMove};
 use ffi3_json::{Json, Keys, Reason, ScriptFault, Where, bad, check_object, read_signature};
