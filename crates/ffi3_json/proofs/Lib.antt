@@ -3,4 +3,4 @@ pub mod Paths
 pub mod Objects
 pub mod Items
 mod Signatures
-mod Short
+pub mod Short

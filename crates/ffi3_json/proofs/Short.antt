@@ -7,10 +7,11 @@ use Rattle.json.specs.Lex.{Lexeme, token, comma, colon, Class, quote, backslash,
 use Rattle.json.specs.Json as json
 use Rattle.json.specs.Json.{Parse, parse_map, after_end_array, read_key, items_step, members_step, items, members, value_with, value}
 use Rattle.json.proofs.Grammar.{after_end_array-shorter, read_key-shorter}
-use Rattle.serde_json.specs.Data.{Data, number, array, object, Items, item, Members, no_members, member, put}
+use Rattle.serde_json.specs.Data.{Data, null, boolean, number, string, array, object, Items, no_items, item, Members, no_members, member, put}
 use Rattle.serde_json.specs.Events.{items_len}
 use Rattle.serde_json.specs.Read.{number_of, of_json, of_items, of_members, max_depth, read}
 use Rattle.ffi3_script_rules.specs.Language.{HasShortArrays, HaveShortArrays, HaveShortMembers}
+use Rattle.ffi3_json.specs.Within.{HasArraysWithin, HaveArraysWithin, HaveMembersWithin}
 
 -- ---- tokens
 
@@ -183,45 +184,63 @@ flat : {A : Type 0} (o : Option A) → AllOf (λ _. ⊤) o
 flat None = tt
 flat (Some a) = tt
 
-record Many (n : ℕ) (ds : Items) : Type 0 where
+record Many (n most : ℕ) (ds : Items) : Type 0 where
   same : items_len ds ≡ n
-  short : HaveShortArrays ds
+  within : HaveArraysWithin most ds
 
-short-match_ordering : (o : Ordering) (a b c : Members) → HaveShortMembers a → HaveShortMembers b → HaveShortMembers c → HaveShortMembers (match_ordering o a b c)
-short-match_ordering Less a b c p q r = p
-short-match_ordering Equal a b c p q r = q
-short-match_ordering Greater a b c p q r = r
+within-match_ordering : (n : ℕ) (o : Ordering) (a b c : Members) → HaveMembersWithin n a → HaveMembersWithin n b → HaveMembersWithin n c → HaveMembersWithin n (match_ordering o a b c)
+within-match_ordering n Less a b c p q r = p
+within-match_ordering n Equal a b c p q r = q
+within-match_ordering n Greater a b c p q r = r
 
-short-put : (k : List ℕ) (d : Data) (ms : Members) → HasShortArrays d → HaveShortMembers ms → HaveShortMembers (put k d ms)
-short-put k d no_members p q = (p, tt)
-short-put k d (member l e ms) p q =
-    short-match_ordering _ (member k d (member l e ms)) (member l d ms) (member l e (put k d ms)) (p, q) (p, q.1) (q.0, short-put k d ms p q.1)
+within-put : (n : ℕ) (k : List ℕ) (d : Data) (ms : Members) → HasArraysWithin n d → HaveMembersWithin n ms → HaveMembersWithin n (put k d ms)
+within-put n k d no_members p q = (p, tt)
+within-put n k d (member l e ms) p q =
+    within-match_ordering n _ (member k d (member l e ms)) (member l d ms) (member l e (put k d ms)) (p, q) (p, q.1) (q.0, within-put n k d ms p q.1)
 
 mutual
-  short-of_json : (n : ℕ) → n < 2 ^ 32 → (j : json.Json) → Short n j → AllOf HasShortArrays (of_json j)
-  short-of_json n small json.null h = tt
-  short-of_json n small (json.boolean b) h = tt
-  short-of_json n small (json.number s) h = AllOf-map (λ _. ⊤) HasShortArrays number (λ a x. tt) (number_of s) (flat _)
-  short-of_json n small (json.string s) h = tt
-  short-of_json n small (json.array js) h = AllOf-map (Many (count js)) HasShortArrays array (λ ds x. (omega (arith, x.same, h.0, small), x.short)) (of_items js) (short-of_items n small js h.1)
-  short-of_json n small (json.object ms) h = AllOf-map HaveShortMembers HasShortArrays object (λ a x. x) _ (short-of_members n small ms no_members h tt)
+  within-of_json : (n : ℕ) (j : json.Json) → Short n j → AllOf (HasArraysWithin n) (of_json j)
+  within-of_json n json.null h = tt
+  within-of_json n (json.boolean b) h = tt
+  within-of_json n (json.number s) h = AllOf-map (λ _. ⊤) (HasArraysWithin n) number (λ a x. tt) (number_of s) (flat _)
+  within-of_json n (json.string s) h = tt
+  within-of_json n (json.array js) h = AllOf-map (Many (count js) n) (HasArraysWithin n) array (λ ds x. (omega (arith, x.same, h.0), x.within)) (of_items js) (within-of_items n js h.1)
+  within-of_json n (json.object ms) h = AllOf-map (HaveMembersWithin n) (HasArraysWithin n) object (λ a x. x) _ (within-of_members n ms no_members h tt)
 
-  short-of_items : (n : ℕ) → n < 2 ^ 32 → (js : json.Items) → ShortItems n js → AllOf (Many (count js)) (of_items js)
-  short-of_items n small json.no_items h = record { same = refl; short = tt }
-  short-of_items n small (json.item j js) h =
-      AllOf-and_then HasShortArrays (Many (suc (count js))) _ (λ d x. AllOf-map (Many (count js)) (Many (suc (count js))) (item d) (λ ds y. record { same = ap suc y.same; short = (x, y.short) }) (of_items js) (short-of_items n small js h.1)) (of_json j) (short-of_json n small j h.0)
+  within-of_items : (n : ℕ) (js : json.Items) → ShortItems n js → AllOf (Many (count js) n) (of_items js)
+  within-of_items n json.no_items h = record { same = refl; within = tt }
+  within-of_items n (json.item j js) h =
+      AllOf-and_then (HasArraysWithin n) (Many (suc (count js)) n) _ (λ d x. AllOf-map (Many (count js) n) (Many (suc (count js)) n) (item d) (λ ds y. record { same = ap suc y.same; within = (x, y.within) }) (of_items js) (within-of_items n js h.1)) (of_json j) (within-of_json n j h.0)
 
-  short-of_members : (n : ℕ) → n < 2 ^ 32 → (ms : json.Members) (found : Members) → ShortMembers n ms → HaveShortMembers found → AllOf HaveShortMembers (of_members ms found)
-  short-of_members n small json.no_members found h k = k
-  short-of_members n small (json.member name j ms) found h k =
-      AllOf-and_then HasShortArrays HaveShortMembers _ (λ d x. short-of_members n small ms (put name d found) h.1 (short-put name d found x k)) (of_json j) (short-of_json n small j h.0)
+  within-of_members : (n : ℕ) (ms : json.Members) (found : Members) → ShortMembers n ms → HaveMembersWithin n found → AllOf (HaveMembersWithin n) (of_members ms found)
+  within-of_members n json.no_members found h k = k
+  within-of_members n (json.member name j ms) found h k =
+      AllOf-and_then (HasArraysWithin n) (HaveMembersWithin n) _ (λ d x. within-of_members n ms (put name d found) h.1 (within-put n name d found x k)) (of_json j) (within-of_json n j h.0)
 
 last_short : (n : ℕ) (o : Option (json.Json × List Token)) → Good (Short n) n o → AllOf (Short n) (option_and_then (λ q. json.if_last q.0 q.1) o)
 last_short n None x = tt
 last_short n (Some (j, [])) x = x.0
 last_short n (Some (j, t ∷ r)) x = tt
 
-pub short-read : (text : List ℕ) (d : Data) → length text < 4294967295 → read text ≡ Some d → HasShortArrays d
-short-read text d small e =
-    let n = length (tokens text) in
-    subst (AllOf HasShortArrays) e (AllOf-and_then (Short n) HasShortArrays of_json (λ j x. short-of_json n (omega (arith, length-tokens text, small)) j x) _ (last_short n _ (Within-value n max_depth (tokens text) (omega arith))))
+pub within-read : (n : ℕ) (text : List ℕ) (d : Data) → length text < n → read text ≡ Some d → HasArraysWithin n d
+within-read n text d fits e =
+    subst (AllOf (HasArraysWithin n)) e (AllOf-and_then (Short n) (HasArraysWithin n) of_json (λ j x. within-of_json n j x) _ (last_short n _ (Within-value n max_depth (tokens text) (omega (arith, length-tokens text, fits)))))
+
+-- ---- fewer than 2^32 items
+
+mutual
+  pub short-within : (n : ℕ) → n < 2 ^ 32 → (d : Data) → HasArraysWithin n d → HasShortArrays d
+  short-within n small null h = tt
+  short-within n small (boolean b) h = tt
+  short-within n small (number x) h = tt
+  short-within n small (string s) h = tt
+  short-within n small (array ds) h = (omega (arith, h.0, small), short-items-within n small ds h.1)
+  short-within n small (object ms) h = short-members-within n small ms h
+
+  short-items-within : (n : ℕ) → n < 2 ^ 32 → (ds : Items) → HaveArraysWithin n ds → HaveShortArrays ds
+  short-items-within n small no_items h = tt
+  short-items-within n small (item d ds) h = (short-within n small d h.0, short-items-within n small ds h.1)
+
+  short-members-within : (n : ℕ) → n < 2 ^ 32 → (ms : Members) → HaveMembersWithin n ms → HaveShortMembers ms
+  short-members-within n small no_members h = tt
+  short-members-within n small (member name d ms) h = (short-within n small d h.0, short-members-within n small ms h.1)

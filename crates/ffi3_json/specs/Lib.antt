@@ -2,3 +2,4 @@ pub mod StepOf
 pub mod KeyOf
 pub mod ReasonOf
 pub mod Told
+pub mod Within

@@ -4,15 +4,17 @@ ghost use Rattle.serde_json.specs.View.{view};
 ghost use Rattle.ffi3_script_rules.specs.Language.{HasShortArrays};
 ghost use Rattle.ffi3_script_rules.specs.Reading.{IsJson};
 ghost use Rattle.ffi3_json.specs.Told.{IsCauseOf};
+ghost use Rattle.ffi3_json.specs.Within.{HasArraysWithin};
 
 use crate::{Json, MAX_LENGTH, ScriptFault};
 use std::alloc::Global;
 
 /// The value that the bytes are a JSON text of. More than 1,048,576 bytes are `TooLong`; what is no JSON in UTF-8
-/// (RFC 8259) is `BadJson`.
+/// (RFC 8259) is `BadJson`. An array of the value has at most as many items as the text has bytes, and one.
 pub fn parse(alloc: Global, bytes: &[u8]) -> Result<Json, ScriptFault>
     ensures ok { IfOk result (λ v. IsJson bytes.now (view v)) }
     ensures short { IfOk result (λ v. HasShortArrays (view v)) }
+    ensures few { IfOk result (λ v. HasArraysWithin 1048577 (view v)) }
     ensures err { IfErr result (IsCauseOf bytes.now) }
 {
     if bytes.len() > MAX_LENGTH {

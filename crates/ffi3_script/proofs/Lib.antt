@@ -1,4 +1,11 @@
 mod Numbering
+mod Steps
+mod Given
+mod Arguments
+mod Loops
+mod BodyParts
+mod FunctionParts
+mod RootParts
 mod ReadResults
 mod ReadShapes
 mod ReadTypes
@@ -8,3 +15,6 @@ pub mod Rows
 pub mod Evaluated
 pub mod Parts
 mod Walked
+mod Few
+mod Making
+mod Refusals

@@ -2,6 +2,10 @@ pub mod ExprOf
 pub mod ScopeOf
 pub mod Finds
 pub mod Texts
+pub mod Taken
+pub mod Kinds
+pub mod Numbers
+pub mod PartsOf
 pub mod Shapes
 pub mod Own
 pub mod KindOf
@@ -10,3 +14,4 @@ pub mod FunctionOf
 pub mod ScriptOf
 pub mod KnownOf
 pub mod KnownAt
+pub mod Refusal

@@ -1,6 +1,7 @@
 -- Which scope and surroundings of a script those of the code are.
 use Rattle.std.specs.Prelude.{◌≡◌, ℕ, List, [], ◌∷◌, Option, length}
 use Rattle.ffi3_type_rules.specs.Tree.{Tree}
+use Rattle.ffi3_type_rules.specs.Signature.{Signature}
 use Rattle.ffi3_script_rules.specs.Values as values
 use Rattle.ffi3_script_rules.specs.Values.{Given}
 use Rattle.ffi3_script_rules.specs.Bodies.{Surroundings}
@@ -22,6 +23,11 @@ scope_of s = record { arguments = s.own.now.arguments; given = given_of s.names.
 abbrev pub surroundings_of : Globals → Scope → Surroundings
 surroundings_of g s =
     record { signatures = g.sigs.now; functions = g.functions.now; own = s.own.now }
+
+-- the same in a body of this signature
+abbrev pub surroundings_in : Globals → Signature → Surroundings
+surroundings_in g own =
+    record { signatures = g.sigs.now; functions = g.functions.now; own = own }
 
 -- as many names as types
 abbrev pub IsEven : Scope → Type 0

@@ -1,0 +1,15 @@
+use Rattle.std.proofs.Common.{◌≡◌, [], length, drop}
+use Rattle.serde_json.specs.View.{items_view}
+use Rattle.ffi3_script_rules.specs.Bodies.{read_moves}
+use Rattle.ffi3_script.specs.ExprOf.{script_moves_of}
+use Rattle.ffi3_script.specs.ScopeOf.{given_of, surroundings_in}
+use Rattle.ffi3_script.proofs.Loops.{before}
+use Rattle.ffi3_script.proofs.bodies.read_moves.Given as goal
+
+abbrev pub invariant-loop-i : goal.invariant-loop-i
+invariant-loop-i l = record {
+  place : l.at ≡ l.initial.at;
+  even : length l.names ≡ length l.types;
+  count : length l.types ≡ l.i;
+  so_far : read_moves (surroundings_in l.globals l.own) [] (items_view l.items.items) l.initial.at 0 ≡ before (script_moves_of l.moves.items) (read_moves (surroundings_in l.globals l.own) (given_of l.names l.types) (items_view (drop l.i l.items.items)) l.initial.at l.i);
+}

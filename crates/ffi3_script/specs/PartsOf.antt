@@ -1,0 +1,45 @@
+-- Which headings, functions and script those of the code are.
+use Rattle.std.specs.Prelude.{◌≡◌, ℕ, List, map, string_bytes, codes}
+use Rattle.serde_json.specs.Data.{Data, Items}
+use Rattle.ffi3_run_rules.specs.Move.{no_signature}
+use Rattle.ffi3_script_rules.specs.Language.{Read, Path, and_then, read_map, under, value_under}
+use Rattle.ffi3_script_rules.specs.Bodies.{read_body, read_bodies}
+use Rattle.ffi3_type_rules.specs.Signature.{Signature}
+use Rattle.ffi3_script_rules.specs.Script as script
+use Rattle.ffi3_script_rules.specs.Bodies as bodies
+use Rattle.ffi3_script.specs.ExprOf.{script_moves_of}
+use Rattle.ffi3_script.specs.declared.moves.ScriptMove.{ScriptMove}
+use Rattle.ffi3_script.specs.declared.headings.Heading.{Heading}
+use Rattle.ffi3_script.specs.declared.function_parts.FunctionPart.{FunctionPart}
+
+abbrev pub heading_of : Heading → bodies.Heading
+heading_of h = record { name = string_bytes h.name; signature = h.sig }
+
+abbrev pub headings_of : List Heading → List bodies.Heading
+headings_of hs = map heading_of hs
+
+abbrev pub part_of : FunctionPart → script.ScriptFunction
+part_of f =
+    record { name = string_bytes f.name; signature = f.sig; body = script_moves_of f.moves.items }
+
+-- the script of these signatures, functions and main
+abbrev pub script_in : List Signature → List FunctionPart → List ScriptMove → script.Script
+script_in signatures functions main = record {
+  signatures = signatures;
+  functions = map part_of functions;
+  main = script_moves_of main;
+}
+
+-- The bodies of functions of these headings, and then main. The language has it at the root, and the names are those of the functions and then of the natives.
+abbrev pub bodies_and_main : List Signature → List (List ℕ) → List bodies.Heading → Items → Data → Path → Read script.Script
+bodies_and_main signatures names hs fs d path =
+    and_then
+    (λ functions. read_map
+    (λ main. record { signatures = signatures; functions = functions; main = main })
+    (read_body (record { signatures = signatures; functions = names; own = no_signature }) (value_under (codes "main") d) (under path (codes "main"))))
+    (read_bodies signatures names hs fs (under path (codes "functions")) 0)
+
+-- the function has this name and this signature
+pub record IsHeaded (h : Heading) (f : FunctionPart) : Type 0 where
+  pub named : string_bytes f.name ≡ string_bytes h.name
+  pub signed : f.sig ≡ h.sig

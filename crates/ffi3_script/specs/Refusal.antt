@@ -1,0 +1,14 @@
+-- Why bytes are not read as a script.
+use Rattle.std.specs.Prelude.{ℕ, List, ⊤}
+use Rattle.ffi3_script_rules.specs.Reading.{IsTheReading, too_long, not_json, bad_script}
+use Rattle.ffi3_json.specs.ReasonOf.{reason_of}
+use Rattle.ffi3_json.specs.declared.fault.ScriptFault.{ScriptFault}
+use Rattle.ffi3_json.specs.declared.fault.ScriptFault.TheVariants.{TooLong, BadJson, BadScript, NoMemory}
+
+-- Beside natives of these names the bytes are read as what the fault tells. Memory alone is free.
+abbrev pub IsRefusal : List (List ℕ) → List ℕ → ScriptFault → Type 0
+IsRefusal natives bytes TooLong = IsTheReading natives bytes too_long
+IsRefusal natives bytes BadJson = IsTheReading natives bytes not_json
+IsRefusal natives bytes (BadScript path why) =
+    IsTheReading natives bytes (bad_script path (reason_of why))
+IsRefusal natives bytes NoMemory = ⊤

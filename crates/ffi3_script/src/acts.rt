@@ -1,0 +1,271 @@
+// Moves, by their kind.
+ghost use Rattle.std.specs.Prelude.{◌≡◌, ◌<◌, ◌^◌, ◌++◌, ◌∷◌, [], IfOk, IfErr, OnOk, None, true, false, length, codes, option_map};
+ghost use Rattle.serde_json.specs.Find.{get};
+ghost use Rattle.serde_json.specs.View.{view};
+ghost use Rattle.ffi3_script_rules.specs.Language as language;
+ghost use Rattle.ffi3_script_rules.specs.Language.{read, under, HasShortArrays};
+ghost use Rattle.ffi3_script_rules.specs.Bodies.{kind_of, keys_of, read_call, read_make, read_act, read_move};
+ghost use Rattle.ffi3_json.specs.Told.{Tells};
+ghost use Rattle.ffi3_script.specs.ExprOf.{typed_of, script_move_of};
+ghost use Rattle.ffi3_script.specs.ScopeOf.{scope_of, given_in, surroundings_of, IsEven};
+ghost use Rattle.ffi3_script.specs.Kinds.{kind_from};
+ghost use Rattle.ffi3_script.specs.Numbers.{CallsWithin};
+
+use crate::fields::{
+    read_arguments, read_condition, read_name, read_pointer, read_printed, read_result, read_user,
+};
+use crate::heads::{read_function, read_signature_number};
+use crate::scope::{Globals, Scope};
+use crate::{Act, NoMemory, ScriptMove, TypedExpr};
+use ffi3_json::{Json, Key, Keys, Reason, ScriptFault, Where, bad, check_object};
+use ffi3_types::FfiType;
+use std::alloc::Global;
+
+/// The kinds of moves, each named by its key.
+#[derive(Clone, Copy, Debug)]
+pub(crate) enum Kind {
+    Call,
+    Make,
+    Free,
+    Print,
+    Return,
+}
+
+// The kind of the move that a value is: where it has the keys of several, the first of them.
+fn kind_of(value: &Json) -> Option<Kind>
+    ensures { option_map kind_from result ≡ kind_of (view value.now) }
+{
+    if value.get("call").is_some() {
+        return Some(Kind::Call);
+    }
+    if value.get("make").is_some() {
+        return Some(Kind::Make);
+    }
+    if value.get("free").is_some() {
+        return Some(Kind::Free);
+    }
+    if value.get("print").is_some() {
+        return Some(Kind::Print);
+    }
+    if value.get("return").is_some() {
+        return Some(Kind::Return);
+    }
+    None
+}
+
+/// One more key.
+pub(crate) fn add_key(
+    alloc: Global,
+    keys: &mut Keys,
+    name: &str,
+    optional: bool,
+) -> Result<(), NoMemory>
+    ensures { OnOk result (keys.new ≡ keys.old ++ record { name = name.now; optional = optional } ∷ []) }
+{
+    keys.push(Key {
+        name: String::from_str(alloc, name)?,
+        optional,
+    })?;
+    Ok(())
+}
+
+// The keys of a call.
+fn call_keys(alloc: Global) -> Result<Keys, NoMemory>
+    ensures { IfOk result (λ keys. keys ≡ keys_of (kind_from Kind.Call)) }
+{
+    let mut keys = Keys::new(alloc);
+    add_key(alloc, &mut keys, "when", true)?;
+    add_key(alloc, &mut keys, "call", false)?;
+    add_key(alloc, &mut keys, "sig", false)?;
+    add_key(alloc, &mut keys, "args", false)?;
+    add_key(alloc, &mut keys, "as", true)?;
+    Ok(keys)
+}
+
+// The keys of a move that makes a closure.
+fn make_keys(alloc: Global) -> Result<Keys, NoMemory>
+    ensures { IfOk result (λ keys. keys ≡ keys_of (kind_from Kind.Make)) }
+{
+    let mut keys = Keys::new(alloc);
+    add_key(alloc, &mut keys, "when", true)?;
+    add_key(alloc, &mut keys, "make", false)?;
+    add_key(alloc, &mut keys, "user", true)?;
+    add_key(alloc, &mut keys, "as", true)?;
+    Ok(keys)
+}
+
+// The keys of a move that has but one beside `when`.
+fn lone_keys(alloc: Global, name: &str) -> Result<Keys, NoMemory>
+    ensures { IfOk result (λ keys. keys ≡ record { name = codes "when"; optional = true } ∷ record { name = name.now; optional = false } ∷ []) }
+{
+    let mut keys = Keys::new(alloc);
+    add_key(alloc, &mut keys, "when", true)?;
+    add_key(alloc, &mut keys, name, false)?;
+    Ok(keys)
+}
+
+// The keys of moves of a kind.
+fn keys_of(alloc: Global, kind: Kind) -> Result<Keys, NoMemory>
+    ensures { IfOk result (λ keys. keys ≡ keys_of (kind_from kind)) }
+{
+    match kind {
+        Kind::Call => call_keys(alloc),
+        Kind::Make => make_keys(alloc),
+        Kind::Free => lone_keys(alloc, "free"),
+        Kind::Print => lone_keys(alloc, "print"),
+        Kind::Return => lone_keys(alloc, "return"),
+    }
+}
+
+// A call: the pointer, the number of the signature, the arguments, the name.
+fn read_call(
+    alloc: Global,
+    globals: &Globals,
+    scope: &Scope,
+    condition: Option<TypedExpr>,
+    value: &Json,
+    at: &mut Where,
+) -> Result<ScriptMove, ScriptFault>
+    requires short { HasShortArrays (view value.now) }
+    requires even { IsEven scope.now }
+    ensures within { IfOk result (λ m. CallsWithin (length globals.now.sigs.now) m.act) }
+    ensures place { OnOk result (at.new ≡ at.old) }
+    ensures ok { IfOk result (λ m. read_call (surroundings_of globals.now scope.now) (given_in scope.now) (scope_of scope.now) (option_map typed_of condition) (view value.now) at.old ≡ read (script_move_of m)) }
+    ensures err { IfErr result (Tells (λ p r. read_call (surroundings_of globals.now scope.now) (given_in scope.now) (scope_of scope.now) (option_map typed_of condition) (view value.now) at.old ≡ language.fault p r)) }
+{
+    let ptr = match read_pointer(alloc, scope, "call", value, at) {
+        Ok(ptr) => ptr,
+        Err(fault) => return Err(fault),
+    };
+    let i = match read_signature_number(alloc, globals.sigs, value, at) {
+        Ok(i) => i,
+        Err(fault) => return Err(fault),
+    };
+    let sig = globals.sigs.get(i as usize);
+    let args = match read_arguments(alloc, scope, sig.args(), value, at) {
+        Ok(args) => args,
+        Err(fault) => return Err(fault),
+    };
+    let name = match read_name(alloc, scope, sig.ret(), value, at) {
+        Ok(name) => name,
+        Err(fault) => return Err(fault),
+    };
+    Ok(ScriptMove {
+        condition,
+        act: Act::Call { ptr, sig: i, args },
+        name,
+    })
+}
+
+// A move that makes a closure: the function, the user data, the name.
+fn read_make(
+    alloc: Global,
+    globals: &Globals,
+    scope: &Scope,
+    condition: Option<TypedExpr>,
+    value: &Json,
+    at: &mut Where,
+) -> Result<ScriptMove, ScriptFault>
+    requires short { HasShortArrays (view value.now) }
+    requires even { IsEven scope.now }
+    requires few { length globals.now.functions.now < 2 ^ 32 }
+    ensures within { IfOk result (λ m. CallsWithin (length globals.now.sigs.now) m.act) }
+    ensures place { OnOk result (at.new ≡ at.old) }
+    ensures ok { IfOk result (λ m. read_make (surroundings_of globals.now scope.now) (given_in scope.now) (scope_of scope.now) (option_map typed_of condition) (view value.now) at.old ≡ read (script_move_of m)) }
+    ensures err { IfErr result (Tells (λ p r. read_make (surroundings_of globals.now scope.now) (given_in scope.now) (scope_of scope.now) (option_map typed_of condition) (view value.now) at.old ≡ language.fault p r)) }
+{
+    let func = match read_function(alloc, globals.functions, value, at) {
+        Ok(func) => func,
+        Err(fault) => return Err(fault),
+    };
+    let user = match read_user(alloc, scope, value, at) {
+        Ok(user) => user,
+        Err(fault) => return Err(fault),
+    };
+    let name = match read_name(alloc, scope, &FfiType::Pointer, value, at) {
+        Ok(name) => name,
+        Err(fault) => return Err(fault),
+    };
+    Ok(ScriptMove {
+        condition,
+        act: Act::Make { func, user },
+        name,
+    })
+}
+
+// What a move of a kind without a name does.
+fn unnamed(condition: Option<TypedExpr>, act: Act) -> ScriptMove
+    ensures { result ≡ record { condition = condition; act = act; name = None } }
+{
+    ScriptMove {
+        condition,
+        act,
+        name: None,
+    }
+}
+
+// The fields of a move of a kind, after its condition.
+fn read_act(
+    alloc: Global,
+    globals: &Globals,
+    scope: &Scope,
+    kind: Kind,
+    condition: Option<TypedExpr>,
+    value: &Json,
+    at: &mut Where,
+) -> Result<ScriptMove, ScriptFault>
+    requires short { HasShortArrays (view value.now) }
+    requires even { IsEven scope.now }
+    requires few { length globals.now.functions.now < 2 ^ 32 }
+    ensures within { IfOk result (λ m. CallsWithin (length globals.now.sigs.now) m.act) }
+    ensures place { OnOk result (at.new ≡ at.old) }
+    ensures ok { IfOk result (λ m. read_act (surroundings_of globals.now scope.now) (given_in scope.now) (scope_of scope.now) (kind_from kind) (view value.now) at.old (option_map typed_of condition) ≡ read (script_move_of m)) }
+    ensures err { IfErr result (Tells (λ p r. read_act (surroundings_of globals.now scope.now) (given_in scope.now) (scope_of scope.now) (kind_from kind) (view value.now) at.old (option_map typed_of condition) ≡ language.fault p r)) }
+{
+    match kind {
+        Kind::Call => read_call(alloc, globals, scope, condition, value, at),
+        Kind::Make => read_make(alloc, globals, scope, condition, value, at),
+        Kind::Free => match read_pointer(alloc, scope, "free", value, at) {
+            Ok(ptr) => Ok(unnamed(condition, Act::Free { ptr })),
+            Err(fault) => Err(fault),
+        },
+        Kind::Print => match read_printed(alloc, scope, value, at) {
+            Ok(printed) => Ok(unnamed(condition, Act::Print(printed))),
+            Err(fault) => Err(fault),
+        },
+        Kind::Return => match read_result(alloc, scope, scope.own.ret(), value, at) {
+            Ok(act) => Ok(unnamed(condition, act)),
+            Err(fault) => Err(fault),
+        },
+    }
+}
+
+/// The move that the value at a place is: its kind, its keys, its condition, its fields.
+pub(crate) fn read_move(
+    alloc: Global,
+    globals: &Globals,
+    scope: &Scope,
+    value: &Json,
+    at: &mut Where,
+) -> Result<ScriptMove, ScriptFault>
+    requires short { HasShortArrays (view value.now) }
+    requires even { IsEven scope.now }
+    requires few { length globals.now.functions.now < 2 ^ 32 }
+    ensures within { IfOk result (λ m. CallsWithin (length globals.now.sigs.now) m.act) }
+    ensures place { OnOk result (at.new ≡ at.old) }
+    ensures ok { IfOk result (λ m. read_move (surroundings_of globals.now scope.now) (given_in scope.now) (view value.now) at.old ≡ read (script_move_of m)) }
+    ensures err { IfErr result (Tells (λ p r. read_move (surroundings_of globals.now scope.now) (given_in scope.now) (view value.now) at.old ≡ language.fault p r)) }
+{
+    let Some(kind) = kind_of(value) else {
+        return Err(bad(alloc, at, Reason::NotAMove));
+    };
+    let keys = keys_of(alloc, kind)?;
+    if let Err(fault) = check_object(alloc, value, &keys, at) {
+        return Err(fault);
+    }
+    let condition = match read_condition(alloc, scope, value, at) {
+        Ok(condition) => condition,
+        Err(fault) => return Err(fault),
+    };
+    read_act(alloc, globals, scope, kind, condition, value, at)
+}

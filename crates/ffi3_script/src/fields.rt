@@ -1,0 +1,245 @@
+// The fields of moves.
+ghost use Rattle.std.specs.Prelude.{◌≡◌, ℕ, IfOk, IfErr, OnOk, length, codes, string_bytes, option_map};
+ghost use Rattle.serde_json.specs.Find.{get};
+ghost use Rattle.serde_json.specs.View.{view};
+ghost use Rattle.ffi3_types.specs.TreeOf.{tree_of};
+ghost use Rattle.ffi3_type_rules.specs.Tree.{scalar, pointer};
+ghost use Rattle.ffi3_script_rules.specs.Language as language;
+ghost use Rattle.ffi3_script_rules.specs.Language.{read, under, value_under, HasShortArrays};
+ghost use Rattle.ffi3_script_rules.specs.Values as values;
+ghost use Rattle.ffi3_script_rules.specs.Bodies.{read_name, read_condition, read_arguments, read_user, read_result};
+ghost use Rattle.ffi3_json.specs.Told.{Tells};
+ghost use Rattle.ffi3_script.specs.ExprOf.{expression_of, expressions_in, typed_of, act_of};
+ghost use Rattle.ffi3_script.specs.Numbers.{CallsWithin};
+ghost use Rattle.ffi3_script.specs.ScopeOf.{scope_of, given_in, IsEven};
+
+use crate::heads::new_name;
+use crate::plain::is_number;
+use crate::scope::Scope;
+use crate::values::{read_typed, read_value, read_values};
+use crate::{Act, Expr, TypedExpr};
+use ffi3_json::{Bytes, Json, Reason, ScriptFault, Where, bad};
+use ffi3_types::{FfiType, Fields};
+use std::alloc::Global;
+
+/// The name of a move's result, which is of this type, where the move gives it one.
+pub(crate) fn read_name(
+    alloc: Global,
+    scope: &Scope,
+    ty: &FfiType,
+    value: &Json,
+    at: &mut Where,
+) -> Result<Option<String>, ScriptFault>
+    requires even { IsEven scope.now }
+    ensures place { OnOk result (at.new ≡ at.old) }
+    ensures ok { IfOk result (λ name. read_name (given_in scope.now) (tree_of ty.now) (get (codes "as") (view value.now)) (under at.old (codes "as")) ≡ read (option_map string_bytes name)) }
+    ensures err { IfErr result (Tells (λ p r. read_name (given_in scope.now) (tree_of ty.now) (get (codes "as") (view value.now)) (under at.old (codes "as")) ≡ language.fault p r)) }
+{
+    let Some(named) = value.get("as") else {
+        return Ok(None);
+    };
+    at.push_key(alloc, "as")?;
+    let name = match new_name(alloc, scope.names, named, at) {
+        Ok(name) => name,
+        Err(fault) => return Err(fault),
+    };
+    if let FfiType::Void = ty {
+        return Err(bad(alloc, at, Reason::VoidResult));
+    }
+    at.pop();
+    Ok(Some(name))
+}
+
+/// The condition of a move, where it has one.
+pub(crate) fn read_condition(
+    alloc: Global,
+    scope: &Scope,
+    value: &Json,
+    at: &mut Where,
+) -> Result<Option<TypedExpr>, ScriptFault>
+    requires short { HasShortArrays (view value.now) }
+    requires even { IsEven scope.now }
+    ensures place { OnOk result (at.new ≡ at.old) }
+    ensures ok { IfOk result (λ c. read_condition (scope_of scope.now) (get (codes "when") (view value.now)) (under at.old (codes "when")) ≡ read (option_map typed_of c)) }
+    ensures err { IfErr result (Tells (λ p r. read_condition (scope_of scope.now) (get (codes "when") (view value.now)) (under at.old (codes "when")) ≡ language.fault p r)) }
+{
+    let Some(when) = value.get("when") else {
+        return Ok(None);
+    };
+    at.push_key(alloc, "when")?;
+    let condition = match read_typed(alloc, scope, when, at) {
+        Ok(condition) => condition,
+        Err(fault) => return Err(fault),
+    };
+    if !is_number(&condition.ty) {
+        return Err(bad(alloc, at, Reason::WrongType));
+    }
+    at.pop();
+    Ok(Some(condition))
+}
+
+/// The values of a call's arguments, one for each of these types.
+pub(crate) fn read_arguments(
+    alloc: Global,
+    scope: &Scope,
+    types: &Fields,
+    value: &Json,
+    at: &mut Where,
+) -> Result<Vec<Expr>, ScriptFault>
+    requires short { HasShortArrays (view value.now) }
+    requires even { IsEven scope.now }
+    ensures place { OnOk result (at.new ≡ at.old) }
+    ensures ok { IfOk result (λ es. read_arguments (scope_of scope.now) types.now (value_under (codes "args") (view value.now)) (under at.old (codes "args")) ≡ read (expressions_in es.items)) }
+    ensures err { IfErr result (Tells (λ p r. read_arguments (scope_of scope.now) types.now (value_under (codes "args") (view value.now)) (under at.old (codes "args")) ≡ language.fault p r)) }
+{
+    at.push_key(alloc, "args")?;
+    let Some(args) = value.get("args") else {
+        return Err(bad(alloc, at, Reason::NotAnArray));
+    };
+    let Some(items) = args.as_array() else {
+        return Err(bad(alloc, at, Reason::NotAnArray));
+    };
+    if items.len() != types.len() {
+        return Err(bad(alloc, at, Reason::WrongCount));
+    }
+    let args = match read_values(alloc, scope, types, items, at) {
+        Ok(args) => args,
+        Err(fault) => return Err(fault),
+    };
+    at.pop();
+    Ok(args)
+}
+
+/// The pointer that a move has under a key.
+pub(crate) fn read_pointer(
+    alloc: Global,
+    scope: &Scope,
+    name: &str,
+    value: &Json,
+    at: &mut Where,
+) -> Result<Expr, ScriptFault>
+    requires short { HasShortArrays (view value.now) }
+    requires even { IsEven scope.now }
+    ensures place { OnOk result (at.new ≡ at.old) }
+    ensures ok { IfOk result (λ e. values.read_value (scope_of scope.now) (scalar pointer) (value_under name.now (view value.now)) (under at.old name.now) ≡ read (expression_of e)) }
+    ensures err { IfErr result (Tells (λ p r. values.read_value (scope_of scope.now) (scalar pointer) (value_under name.now (view value.now)) (under at.old name.now) ≡ language.fault p r)) }
+{
+    at.push_key(alloc, name)?;
+    let Some(inside) = value.get(name) else {
+        return Err(bad(alloc, at, Reason::NotAValue));
+    };
+    let ptr = match read_value(alloc, scope, &FfiType::Pointer, inside, at) {
+        Ok(ptr) => ptr,
+        Err(fault) => return Err(fault),
+    };
+    at.pop();
+    Ok(ptr)
+}
+
+/// The user data of a closure that a move makes: 0 where it gives none.
+pub(crate) fn read_user(
+    alloc: Global,
+    scope: &Scope,
+    value: &Json,
+    at: &mut Where,
+) -> Result<Expr, ScriptFault>
+    requires short { HasShortArrays (view value.now) }
+    requires even { IsEven scope.now }
+    ensures place { OnOk result (at.new ≡ at.old) }
+    ensures ok { IfOk result (λ e. read_user (scope_of scope.now) (get (codes "user") (view value.now)) (under at.old (codes "user")) ≡ read (expression_of e)) }
+    ensures err { IfErr result (Tells (λ p r. read_user (scope_of scope.now) (get (codes "user") (view value.now)) (under at.old (codes "user")) ≡ language.fault p r)) }
+{
+    let Some(user) = value.get("user") else {
+        let zero = [0; 8];
+        return Ok(Expr::Constant(Bytes::from_slice(alloc, &zero)?));
+    };
+    at.push_key(alloc, "user")?;
+    let data = match read_value(alloc, scope, &FfiType::Pointer, user, at) {
+        Ok(data) => data,
+        Err(fault) => return Err(fault),
+    };
+    at.pop();
+    Ok(data)
+}
+
+/// The value that a move prints.
+pub(crate) fn read_printed(
+    alloc: Global,
+    scope: &Scope,
+    value: &Json,
+    at: &mut Where,
+) -> Result<TypedExpr, ScriptFault>
+    requires short { HasShortArrays (view value.now) }
+    requires even { IsEven scope.now }
+    ensures place { OnOk result (at.new ≡ at.old) }
+    ensures ok { IfOk result (λ v. values.read_typed (scope_of scope.now) (value_under (codes "print") (view value.now)) (under at.old (codes "print")) ≡ read (typed_of v)) }
+    ensures err { IfErr result (Tells (λ p r. values.read_typed (scope_of scope.now) (value_under (codes "print") (view value.now)) (under at.old (codes "print")) ≡ language.fault p r)) }
+{
+    at.push_key(alloc, "print")?;
+    let Some(inside) = value.get("print") else {
+        return Err(bad(alloc, at, Reason::NotAValue));
+    };
+    let printed = match read_typed(alloc, scope, inside, at) {
+        Ok(printed) => printed,
+        Err(fault) => return Err(fault),
+    };
+    at.pop();
+    Ok(printed)
+}
+
+/// The return that a move is, from a body whose result is of this type.
+pub(crate) fn read_result(
+    alloc: Global,
+    scope: &Scope,
+    ty: &FfiType,
+    value: &Json,
+    at: &mut Where,
+) -> Result<Act, ScriptFault>
+    requires short { HasShortArrays (view value.now) }
+    requires even { IsEven scope.now }
+    ensures within { IfOk result (λ a. (count : ℕ) → CallsWithin count a) }
+    ensures place { OnOk result (at.new ≡ at.old) }
+    ensures ok { IfOk result (λ a. read_result (scope_of scope.now) (tree_of ty.now) (value_under (codes "return") (view value.now)) (under at.old (codes "return")) ≡ read (act_of a)) }
+    ensures err { IfErr result (Tells (λ p r. read_result (scope_of scope.now) (tree_of ty.now) (value_under (codes "return") (view value.now)) (under at.old (codes "return")) ≡ language.fault p r)) }
+{
+    at.push_key(alloc, "return")?;
+    let act = match read_returned(alloc, scope, ty, value, at) {
+        Ok(act) => act,
+        Err(fault) => return Err(fault),
+    };
+    at.pop();
+    Ok(act)
+}
+
+// The same, at the place under `return`. What is not there is read as null.
+fn read_returned(
+    alloc: Global,
+    scope: &Scope,
+    ty: &FfiType,
+    value: &Json,
+    at: &mut Where,
+) -> Result<Act, ScriptFault>
+    requires short { HasShortArrays (view value.now) }
+    requires even { IsEven scope.now }
+    ensures within { IfOk result (λ a. (count : ℕ) → CallsWithin count a) }
+    ensures place { OnOk result (at.new ≡ at.old) }
+    ensures ok { IfOk result (λ a. read_result (scope_of scope.now) (tree_of ty.now) (value_under (codes "return") (view value.now)) at.old ≡ read (act_of a)) }
+    ensures err { IfErr result (Tells (λ p r. read_result (scope_of scope.now) (tree_of ty.now) (value_under (codes "return") (view value.now)) at.old ≡ language.fault p r)) }
+{
+    if let FfiType::Void = ty {
+        let Some(inside) = value.get("return") else {
+            return Ok(Act::ReturnVoid);
+        };
+        if inside.is_null() {
+            return Ok(Act::ReturnVoid);
+        }
+        return Err(bad(alloc, at, Reason::NotNull));
+    }
+    let Some(inside) = value.get("return") else {
+        return Err(bad(alloc, at, Reason::NotAValue));
+    };
+    match read_value(alloc, scope, ty, inside, at) {
+        Ok(value) => Ok(Act::Return(value)),
+        Err(fault) => Err(fault),
+    }
+}

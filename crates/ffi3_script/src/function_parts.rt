@@ -1,0 +1,92 @@
+// The functions of a script, with their bodies.
+ghost use Rattle.std.specs.Prelude.{◌≡◌, ◌<◌, ◌^◌, ◌++◌, ◌∷◌, [], All, IfOk, IfErr, OnOk, length, map, codes};
+ghost use Rattle.serde_json.specs.View.{view, items_view};
+ghost use Rattle.ffi3_type_rules.specs.Signature.{signature_at};
+ghost use Rattle.ffi3_script_rules.specs.Language as language;
+ghost use Rattle.ffi3_script_rules.specs.Language.{read, under, value_under, HasShortArrays, HaveShortArrays};
+ghost use Rattle.ffi3_script_rules.specs.Bodies.{read_body, read_bodies};
+ghost use Rattle.ffi3_json.specs.Told.{Tells};
+ghost use Rattle.ffi3_script.specs.ExprOf.{script_moves_of};
+ghost use Rattle.ffi3_script.specs.ScopeOf.{surroundings_in};
+ghost use Rattle.ffi3_script.specs.PartsOf.{headings_of, part_of, IsHeaded};
+
+use crate::bodies::read_body;
+use crate::headings::Heading;
+use crate::scope::Globals;
+use crate::{NoMemory, ScriptMove};
+use ffi3_json::{Json, ScriptFault, Where};
+use std::alloc::Global;
+
+/// A function of a script: its name, the number of its signature, its moves.
+#[derive(Debug, Drop)]
+pub(crate) struct FunctionPart {
+    pub(crate) name: String,
+    pub(crate) sig: u32,
+    pub(crate) moves: Vec<ScriptMove>,
+}
+
+// The function of this heading that the value at a place is.
+fn read_part(
+    alloc: Global,
+    globals: &Globals,
+    heading: &Heading,
+    value: &Json,
+    at: &mut Where,
+) -> Result<FunctionPart, ScriptFault>
+    requires short { HasShortArrays (view value.now) }
+    requires few { length globals.now.functions.now < 2 ^ 32 }
+    requires within { heading.now.sig < length globals.now.sigs.now }
+    ensures headed { IfOk result (IsHeaded heading.now) }
+    ensures place { OnOk result (at.new ≡ at.old) }
+    ensures ok { IfOk result (λ f. read_body (surroundings_in globals.now (signature_at globals.now.sigs.now heading.now.sig)) (value_under (codes "body") (view value.now)) (under at.old (codes "body")) ≡ read (script_moves_of f.moves.items)) }
+    ensures err { IfErr result (Tells (λ p r. read_body (surroundings_in globals.now (signature_at globals.now.sigs.now heading.now.sig)) (value_under (codes "body") (view value.now)) (under at.old (codes "body")) ≡ language.fault p r)) }
+{
+    let own = globals.sigs.get(heading.sig as usize);
+    let moves = match read_body(alloc, globals, own, "body", value, at) {
+        Ok(moves) => moves,
+        Err(fault) => return Err(fault),
+    };
+    Ok(FunctionPart {
+        name: String::from_str(alloc, heading.name.as_str())?,
+        sig: heading.sig,
+        moves,
+    })
+}
+
+// One more function.
+fn push_part(parts: &mut Vec<FunctionPart>, part: FunctionPart) -> Result<(), NoMemory>
+    ensures { OnOk result (parts.new.items ≡ parts.old.items ++ part ∷ []) }
+{
+    parts.push(part)?;
+    Ok(())
+}
+
+/// The functions of these headings that the items of an array are.
+pub(crate) fn read_parts(
+    alloc: Global,
+    globals: &Globals,
+    headings: &Vec<Heading>,
+    items: &Vec<Json>,
+    at: &mut Where,
+) -> Result<Vec<FunctionPart>, ScriptFault>
+    requires short { HaveShortArrays (items_view items.now.items) }
+    requires count { length items.now.items < 2 ^ 32 }
+    requires few { length globals.now.functions.now < 2 ^ 32 }
+    requires within { All (λ h. h.sig < length globals.now.sigs.now) headings.now.items }
+    requires same { length headings.now.items ≡ length items.now.items }
+    ensures place { OnOk result (at.new ≡ at.old) }
+    ensures ok { IfOk result (λ fs. read_bodies globals.now.sigs.now globals.now.functions.now (headings_of headings.now.items) (items_view items.now.items) at.old 0 ≡ read (map part_of fs.items)) }
+    ensures err { IfErr result (Tells (λ p r. read_bodies globals.now.sigs.now globals.now.functions.now (headings_of headings.now.items) (items_view items.now.items) at.old 0 ≡ language.fault p r)) }
+{
+    let mut parts = Vec::new(alloc);
+    for i in 0..items.len() {
+        at.push_number(i as u32)?;
+        let part = match read_part(alloc, globals, &headings[i], &items[i], at) {
+            Ok(part) => part,
+            Err(fault) => return Err(fault),
+        };
+        at.pop();
+        push_part(&mut parts, part)?;
+    }
+    Ok(parts)
+}

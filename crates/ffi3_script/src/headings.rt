@@ -1,0 +1,137 @@
+// The names and signatures of functions.
+ghost use Rattle.std.specs.Prelude.{◌≡◌, ◌<◌, ◌^◌, ◌++◌, ◌∷◌, [], All, IfOk, IfErr, OnOk, length, codes, string_bytes};
+ghost use Rattle.serde_json.specs.Find.{as_str};
+ghost use Rattle.serde_json.specs.View.{view, items_view};
+ghost use Rattle.ffi3_script_rules.specs.Language as language;
+ghost use Rattle.ffi3_script_rules.specs.Language.{read, under, value_under};
+ghost use Rattle.ffi3_script_rules.specs.Bodies.{is_one_of, new_name, function_keys, read_heading, read_headings, names_of};
+ghost use Rattle.ffi3_json.specs.Told.{Tells};
+ghost use Rattle.ffi3_script.specs.PartsOf.{heading_of, headings_of};
+
+use crate::NoMemory;
+use crate::acts::add_key;
+use crate::functions::FunctionNames;
+use crate::heads::{new_name, read_signature_number};
+use ffi3_json::{Json, Keys, Reason, ScriptFault, Where, bad, check_object};
+use ffi3_types::Sigs;
+use std::alloc::Global;
+
+/// A function's name, and the number of its signature.
+#[derive(Debug, Drop)]
+pub(crate) struct Heading {
+    pub(crate) name: String,
+    pub(crate) sig: u32,
+}
+
+/// The headings of a script's functions, and their names once more.
+#[derive(Debug, Drop)]
+pub(crate) struct Headings {
+    pub(crate) names: FunctionNames,
+    pub(crate) list: Vec<Heading>,
+}
+
+// The keys of a function.
+fn function_keys(alloc: Global) -> Result<Keys, NoMemory>
+    ensures { IfOk result (λ keys. keys ≡ function_keys) }
+{
+    let mut keys = Keys::new(alloc);
+    add_key(alloc, &mut keys, "name", false)?;
+    add_key(alloc, &mut keys, "sig", false)?;
+    add_key(alloc, &mut keys, "body", false)?;
+    Ok(keys)
+}
+
+// The name of a function, which no earlier one has.
+fn read_function_name(
+    alloc: Global,
+    earlier: &FunctionNames,
+    value: &Json,
+    at: &mut Where,
+) -> Result<String, ScriptFault>
+    ensures place { OnOk result (at.new ≡ at.old) }
+    ensures ok { IfOk result (λ name. new_name (is_one_of earlier.now) (as_str (value_under (codes "name") (view value.now))) (under at.old (codes "name")) ≡ read (string_bytes name)) }
+    ensures err { IfErr result (Tells (λ p r. new_name (is_one_of earlier.now) (as_str (value_under (codes "name") (view value.now))) (under at.old (codes "name")) ≡ language.fault p r)) }
+{
+    at.push_key(alloc, "name")?;
+    let Some(named) = value.get("name") else {
+        return Err(bad(alloc, at, Reason::BadName));
+    };
+    let name = match new_name(alloc, earlier.index(), named, at) {
+        Ok(name) => name,
+        Err(fault) => return Err(fault),
+    };
+    at.pop();
+    Ok(name)
+}
+
+// The heading of the function that the value at a place is, after functions of these names.
+fn read_heading(
+    alloc: Global,
+    sigs: &Sigs,
+    earlier: &FunctionNames,
+    value: &Json,
+    at: &mut Where,
+) -> Result<Heading, ScriptFault>
+    ensures within { IfOk result (λ h. h.sig < length sigs.now) }
+    ensures place { OnOk result (at.new ≡ at.old) }
+    ensures ok { IfOk result (λ h. read_heading (length sigs.now) earlier.now (view value.now) at.old ≡ read (heading_of h)) }
+    ensures err { IfErr result (Tells (λ p r. read_heading (length sigs.now) earlier.now (view value.now) at.old ≡ language.fault p r)) }
+{
+    let keys = function_keys(alloc)?;
+    if let Err(fault) = check_object(alloc, value, &keys, at) {
+        return Err(fault);
+    }
+    let name = match read_function_name(alloc, earlier, value, at) {
+        Ok(name) => name,
+        Err(fault) => return Err(fault),
+    };
+    let sig = match read_signature_number(alloc, sigs, value, at) {
+        Ok(sig) => sig,
+        Err(fault) => return Err(fault),
+    };
+    Ok(Heading { name, sig })
+}
+
+// One more heading, with its name.
+fn push_heading(
+    alloc: Global,
+    heading: Heading,
+    names: &mut FunctionNames,
+    list: &mut Vec<Heading>,
+) -> Result<(), NoMemory>
+    ensures named { OnOk result (names.new ≡ names.old ++ string_bytes heading.name ∷ []) }
+    ensures pushed { OnOk result (list.new.items ≡ list.old.items ++ heading ∷ []) }
+{
+    names.push(alloc, heading.name.as_str())?;
+    list.push(heading)?;
+    Ok(())
+}
+
+/// The headings of the functions that the items of an array are.
+pub(crate) fn read_headings(
+    alloc: Global,
+    sigs: &Sigs,
+    items: &Vec<Json>,
+    at: &mut Where,
+) -> Result<Headings, ScriptFault>
+    requires { length items.now.items < 2 ^ 32 }
+    ensures within { IfOk result (λ h. All (λ x. x.sig < length sigs.now) h.list.items) }
+    ensures count { IfOk result (λ h. length h.list.items ≡ length items.now.items) }
+    ensures names { IfOk result (λ h. h.names ≡ names_of (headings_of h.list.items)) }
+    ensures place { OnOk result (at.new ≡ at.old) }
+    ensures ok { IfOk result (λ h. read_headings (length sigs.now) [] (items_view items.now.items) at.old 0 ≡ read (headings_of h.list.items)) }
+    ensures err { IfErr result (Tells (λ p r. read_headings (length sigs.now) [] (items_view items.now.items) at.old 0 ≡ language.fault p r)) }
+{
+    let mut names = FunctionNames::new(alloc);
+    let mut list = Vec::new(alloc);
+    for i in 0..items.len() {
+        at.push_number(i as u32)?;
+        let heading = match read_heading(alloc, sigs, &names, &items[i], at) {
+            Ok(heading) => heading,
+            Err(fault) => return Err(fault),
+        };
+        at.pop();
+        push_heading(alloc, heading, &mut names, &mut list)?;
+    }
+    Ok(Headings { names, list })
+}
