@@ -1,5 +1,5 @@
 -- The functions of a script, one after another: their headings, and then their bodies.
-use Rattle.std.proofs.Common.{◌≡◌, ℕ, ◌+◌, ◌<◌, ◌≤◌, ◌||◌, List, [], ◌∷◌, ◌++◌, length, map, drop, bytes_eq, codes, string_bytes, Option, Some, refl, sym, ap, ◌∙◌}
+use Rattle.std.proofs.Common.{◌≡◌, ℕ, ◌+◌, ◌<◌, ◌||◌, List, [], ◌∷◌, ◌++◌, length, map, drop, bytes_eq, codes, string_bytes, Option, Some, refl, sym, ap, ◌∙◌}
 use Rattle.std.specs.Prelude.{slice_index_or}
 use Rattle.std.specs.List.{list_any}
 use Rattle.std.proofs.lemmas.List.{map-append}
@@ -13,13 +13,13 @@ use Rattle.ffi3_script_rules.specs.Script as script
 use Rattle.ffi3_script_rules.specs.Values.{is_name_of}
 use Rattle.ffi3_script_rules.specs.Bodies as bodies
 use Rattle.ffi3_script_rules.specs.Bodies.{is_one_of, new_name, read_heading, read_headings, names_of, function_of, read_body, read_bodies}
-use Rattle.ffi3_json.proofs.Objects.{next, none_left}
+use Rattle.ffi3_json.proofs.Objects.{next}
 use Rattle.ffi3_script.specs.Taken.{is_taken}
 use Rattle.ffi3_script.specs.ExprOf.{script_moves_of}
 use Rattle.ffi3_script.specs.PartsOf.{heading_of, headings_of, part_of, IsHeaded}
 use Rattle.ffi3_script.specs.declared.headings.Heading.{Heading}
 use Rattle.ffi3_script.specs.declared.function_parts.FunctionPart.{FunctionPart}
-use Rattle.ffi3_script.proofs.Loops.{before, first_and, one_more, one_fault, before-all, mapped-more}
+use Rattle.ffi3_script.proofs.Loops.{before, first_and, one_more, one_fault, mapped-more}
 use Rattle.ffi3_script.proofs.Given.{any-position, new_name-same}
 use Rattle.ffi3_script.proofs.Steps.{under-is}
 
@@ -56,10 +56,6 @@ headings-fault count names vs path i x whole done p r below is so_far e =
     let here : whole ≡ before done (first_and more_of (read_heading count names (view x) (at_item path i))) = so_far ∙ ap (λ us. before done (read_headings count names (items_view us) path i)) (next vs i x below is) in
     one_fault whole done more_of (read_heading count names (view x) (at_item path i)) here p r e
 
-pub headings-all : (count : ℕ) (names : List (List ℕ)) (vs : List Value) (path : Path) (i : ℕ) (whole : Read (List bodies.Heading)) (done : List bodies.Heading) → length vs ≤ i
-    → whole ≡ before done (read_headings count names (items_view (drop i vs)) path i) → whole ≡ read done
-headings-all count names vs path i whole done end so_far = before-all whole done (so_far ∙ ap (λ us. before done (read_headings count names (items_view us) path i)) (none_left vs i end))
-
 -- ---- bodies
 
 regrouped : {A B : Type 0} (f : A → B) (rest : Read (List B)) (first : Read A) → and_then (λ a. read_map (λ bs. f a ∷ bs) rest) first ≡ first_and (λ b. rest) (read_map f first)
@@ -91,11 +87,6 @@ module _ (ss : List Signature) (names : List (List ℕ)) (hs : List Heading) (h 
       ∙ ap (λ f. before (done ++ f ∷ []) rest_here) same
       ∙ ap (λ d. before (d ++ part_of one ∷ []) rest_here) done_is
       ∙ ap (λ d. before d rest_here) (sym (mapped-more part_of parts one more pushed))
-
-pub parts-all : (ss : List Signature) (names : List (List ℕ)) (hs : List Heading) (vs : List Value) (path : Path) (i : ℕ) (whole : Read (List script.ScriptFunction)) (done : List script.ScriptFunction) → length vs ≤ i
-    → whole ≡ before done (read_bodies ss names (headings_of (drop i hs)) (items_view (drop i vs)) path i) → whole ≡ read done
-parts-all ss names hs vs path i whole done end so_far =
-    before-all whole done (so_far ∙ ap (λ us. before done (read_bodies ss names (headings_of (drop i hs)) (items_view us) path i)) (none_left vs i end))
 
 -- ---- the name of a function
 

@@ -1,5 +1,5 @@
 -- Arrays, item by item: after i items, what was read of them and what the rest is read as make the whole.
-use Rattle.std.proofs.Common.{◌≡◌, List, [], ◌∷◌, ◌++◌, map, refl, sym, ap, ◌∙◌, append_assoc, append-nil}
+use Rattle.std.proofs.Common.{◌≡◌, List, [], ◌∷◌, ◌++◌, map, refl, sym, ap, ◌∙◌, append_assoc}
 use Rattle.std.proofs.lemmas.List.{map-append}
 use Rattle.ffi3_script_rules.specs.Language.{Path, Reason, Read, read, fault, read_map, and_then}
 
@@ -25,9 +25,6 @@ module _ {X : Type 0} (whole : Read (List X)) (done : List X) (more : X → Read
 
   pub one_fault : (p : Path) (r : Reason) → first ≡ fault p r → whole ≡ fault p r
   one_fault p r e = so_far ∙ ap (λ s. before done (first_and more s)) e
-
-pub before-all : {X : Type 0} (whole : Read (List X)) (done : List X) → whole ≡ before done (read []) → whole ≡ read done
-before-all whole done e = e ∙ ap read (append-nil done)
 
 -- in the language's own words
 pub mapped-more : {X Y : Type 0} (f : X → Y) (old : List X) (x : X) (new : List X) → new ≡ old ++ x ∷ [] → map f new ≡ map f old ++ f x ∷ []

@@ -28,14 +28,8 @@ module _ (ss : List Signature) (natives : ℕ) (fs : List FunctionPart) (main : 
   same_count : all_functions ≡ count
   same_count = ap (λ n. n + natives) (length-map fs part_of) ∙ sym counted
 
-  pub signatures-right : list_all signature_is_right ss ≡ true
-  signatures-right = and_left (list_all signature_is_right ss) _ typed
-
   bodies : (list_all (function_is_typed ss all_functions) (map part_of fs) && body_is_typed ss all_functions no_signature (script_moves_of main)) ≡ true
   bodies = and_right (list_all signature_is_right ss) _ typed
-
-  pub main-typed : body_is_typed ss count no_signature (script_moves_of main) ≡ true
-  main-typed = subst (λ n. body_is_typed ss n no_signature (script_moves_of main) ≡ true) same_count (and_right (list_all (function_is_typed ss all_functions) (map part_of fs)) _ bodies)
 
   pub each-typed : All (λ f. function_is_typed ss count (part_of f) ≡ true) fs
   each-typed =

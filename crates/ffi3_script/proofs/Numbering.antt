@@ -1,6 +1,6 @@
 -- One more name, and the first number of each.
 use Rattle.std.proofs.Common.{◌≡◌, ℕ, ◌+◌, ◌≤◌, Bool, true, false, not, cond, List, [], ◌∷◌, ◌++◌, length, map, option_map, Option, Some, None, String, BTreeMap, position, bytes_eq, string_bytes, refl, sym, ap, ◌∙◌, arith, nat_lt, ◌==◌}
-use Rattle.std.specs.Prelude.{is_some, unwrap_or}
+use Rattle.std.specs.Prelude.{is_some}
 use Rattle.std.specs.List.{position_or_len, prefix_len}
 use Rattle.std.specs.BTreeMap.{get_by_text}
 use Rattle.std.specs.Map.{update}
@@ -11,7 +11,6 @@ use Rattle.std.proofs.lemmas.List.Folds.{position_or_len_push}
 use Rattle.std.proofs.lemmas.Bool.Decides.{nat_tests}
 use Rattle.ffi3_script_rules.specs.Values.{is_name_of}
 use Rattle.ffi3_script.specs.Finds.{FindsFirst, first_or}
-use Rattle.ffi3_script.specs.Texts.{texts_of}
 
 push_cases : (k n : ℕ) (b : Bool) → k ≤ n
     → cond (nat_lt (cond (k == n) (n + cond b 0 1) k) (n + 1)) (Some (cond (k == n) (n + cond b 0 1) k)) None ≡ first_or (cond (nat_lt k n) (Some k) None) b n
@@ -31,29 +30,12 @@ first_or-false : (o : Option ℕ) (n : ℕ) → first_or o false n ≡ o
 first_or-false None n = refl
 first_or-false (Some i) n = refl
 
-first_or-some : (o : Option ℕ) (b : Bool) (n : ℕ) → is_some o ≡ true → first_or o b n ≡ o
-first_or-some None b n h = absurd (cc)
-first_or-some (Some i) b n h = refl
-
 module _ {A : Type 0} (old new : BTreeMap (String A) ℕ) (names : List (Option (List ℕ))) (finds : FindsFirst old names) where
-  pub finds-unnamed : FindsFirst old (names ++ None ∷ [])
-  finds-unnamed q = finds q ∙ sym (position-push (is_name_of q) names None ∙ first_or-false (position (is_name_of q) names) (length names))
-
   pub finds-named : (name : List ℕ) → ((q : List ℕ) → get_by_text new q ≡ first_or (get_by_text old q) (bytes_eq q name) (length names)) → FindsFirst new (names ++ Some name ∷ [])
   finds-named name is q =
       is q ∙ ap (λ o. first_or o (bytes_eq q name) (length names)) (finds q) ∙ sym (position-push (is_name_of q) names (Some name))
 
-  pub finds-same : ((q : List ℕ) → get_by_text new q ≡ get_by_text old q) → FindsFirst new names
-  finds-same is q = is q ∙ finds q
-
 module _ (f : List ℕ → Option ℕ) (name : List ℕ) (n : ℕ) where
-  there : (q : List ℕ) (b : Bool) → bytes_eq q name ≡ b → is_some (f name) ≡ true → f q ≡ first_or (f q) b n
-  there q true same h = sym (first_or-some (f q) true n (ap (λ x. is_some (f x)) ((bytes_decides q name).0 same) ∙ h))
-  there q false other h = sym (first_or-false (f q) n)
-
-  pub number-there : is_some (f name) ≡ true → (q : List ℕ) → f q ≡ first_or (f q) (bytes_eq q name) n
-  number-there h q = there q (bytes_eq q name) refl h
-
   anew : (q : List ℕ) (b : Bool) → bytes_eq q name ≡ b → f name ≡ None → cond b (Some n) (f q) ≡ first_or (f q) b n
   anew q true same h = sym (ap (λ o. first_or o true n) (ap f ((bytes_decides q name).0 same) ∙ h))
   anew q false other h = sym (first_or-false (f q) n)
@@ -78,15 +60,6 @@ position-map f p q same xs =
 
 pub named-position : (name : List ℕ) (names : List (List ℕ)) → position (is_name_of name) (map (λ n. Some n) names) ≡ position (bytes_eq name) names
 named-position name names = position-map (λ n. Some n) (is_name_of name) (bytes_eq name) (λ n. refl) names
-
-pub all-named : (old : List (Option (List ℕ))) (name : List ℕ) (new : List (Option (List ℕ))) → old ≡ map (λ n. Some n) (texts_of old) → new ≡ old ++ Some name ∷ []
-    → new ≡ map (λ n. Some n) (texts_of new)
-all-named old name new named is =
-    let texts : texts_of new ≡ texts_of old ++ name ∷ [] = ap texts_of is ∙ map-append (λ o. unwrap_or o []) old (Some name ∷ []) in
-    is ∙ ap (λ o. o ++ Some name ∷ []) named ∙ sym (map-append (λ n. Some n) (texts_of old) (name ∷ [])) ∙ ap (map (λ n. Some n)) (sym texts)
-
-pub texts-more : (old : List (Option (List ℕ))) (name : List ℕ) (new : List (Option (List ℕ))) → new ≡ old ++ Some name ∷ [] → texts_of new ≡ texts_of old ++ name ∷ []
-texts-more old name new is = ap texts_of is ∙ map-append (λ o. unwrap_or o []) old (Some name ∷ [])
 
 -- the names of a list after one more
 pub pushed-name : {A : Type 0} (old : List (Option (String A))) (copy : String A) (new : List (Option (String A))) (name : List ℕ) → new ≡ old ++ Some copy ∷ [] → string_bytes copy ≡ name

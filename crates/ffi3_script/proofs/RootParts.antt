@@ -1,38 +1,18 @@
 -- The parts of a whole script, one after another.
-use Rattle.std.proofs.Common.{◌≡◌, ℕ, ◌+◌, ◌<◌, List, [], ◌∷◌, ◌++◌, length, take, drop, Some, codes, sym, ap, subst, ◌∙◌, append_assoc}
-use Rattle.std.specs.Prelude.{slice_index_or, slice_get, option_and_then, ⊤}
+use Rattle.std.proofs.Common.{◌≡◌, ℕ, ◌+◌, List, [], ◌∷◌, ◌++◌, length, take, Some, codes, sym, ap, subst, ◌∙◌, append_assoc}
+use Rattle.std.specs.Prelude.{slice_get, option_and_then, ⊤}
 use Rattle.std.proofs.lemmas.List.{take_more}
 use Rattle.std.proofs.lemmas.Option.{slice_get_within, get_or_from_slice_get}
 use Rattle.serde_json.specs.Data.{Data, null, boolean, number, string, array, object, Items, Members, no_members, member}
 use Rattle.serde_json.specs.Find.{get, get_member, as_array, as_number, as_u64}
-use Rattle.serde_json.specs.View.{view, items_view}
-use Rattle.serde_json.specs.declared.value.Value.{Value}
 use Rattle.std.specs.Ordering.{nat_cmp}
 use Rattle.std.specs.Cmp.Lexicographic.{slice_cmp}
 use Rattle.ffi3_type_rules.specs.Signature.{Signature}
-use Rattle.ffi3_script_rules.specs.Language.{Path, Reason, Read, read, fault, and_then, at_item, under, value_under, check_object, read_signature}
+use Rattle.ffi3_script_rules.specs.Language.{Path, Reason, Read, read, fault, and_then, under, value_under, check_object}
 use Rattle.ffi3_script_rules.specs.Bodies.{Heading, script_keys, version_of, items_at, read_signatures, read_headings, read_rest, read_script}
 use Rattle.ffi3_json.specs.Within.{HasArraysWithin, HaveMembersWithin}
-use Rattle.ffi3_json.proofs.Objects.{next, found, array_is}
-use Rattle.ffi3_script.proofs.Loops.{before, first_and, one_more, one_fault}
+use Rattle.ffi3_json.proofs.Objects.{found, array_is}
 use Rattle.ffi3_script.proofs.Steps.{then_fault, then_read}
-
--- ---- signatures
-
-pub signatures-turn : (vs : List Value) (path : Path) (i : ℕ) (x : Value) (whole : Read (List Signature)) (done more : List Signature) (one : Signature) → i < length vs → x ≡ slice_index_or vs i x
-    → whole ≡ before done (read_signatures (items_view (drop i vs)) path i) → read_signature (view x) (at_item path i) ≡ read one → more ≡ done ++ one ∷ []
-    → whole ≡ before more (read_signatures (items_view (drop (i + 1) vs)) path (i + 1))
-signatures-turn vs path i x whole done more one below is so_far e pushed =
-    let rest : Read (List Signature) = read_signatures (items_view (drop (i + 1) vs)) path (i + 1) in
-    let here : whole ≡ before done (first_and (λ s. rest) (read_signature (view x) (at_item path i))) = so_far ∙ ap (λ us. before done (read_signatures (items_view us) path i)) (next vs i x below is) in
-    one_more whole done (λ s. rest) (read_signature (view x) (at_item path i)) here one e ∙ ap (λ d. before d rest) (sym pushed)
-
-pub signatures-fault : (vs : List Value) (path : Path) (i : ℕ) (x : Value) (whole : Read (List Signature)) (done : List Signature) (p : Path) (r : Reason) → i < length vs → x ≡ slice_index_or vs i x
-    → whole ≡ before done (read_signatures (items_view (drop i vs)) path i) → read_signature (view x) (at_item path i) ≡ fault p r → whole ≡ fault p r
-signatures-fault vs path i x whole done p r below is so_far e =
-    let rest : Read (List Signature) = read_signatures (items_view (drop (i + 1) vs)) path (i + 1) in
-    let here : whole ≡ before done (first_and (λ s. rest) (read_signature (view x) (at_item path i))) = so_far ∙ ap (λ us. before done (read_signatures (items_view us) path i)) (next vs i x below is) in
-    one_fault whole done (λ s. rest) (read_signature (view x) (at_item path i)) here p r e
 
 -- ---- the natives' names
 
@@ -84,21 +64,9 @@ module _ (natives : List (List ℕ)) (d : Data) where
   abbrev pub headings_in : List Signature → Items → Read (List Heading)
   headings_in signatures fs = read_headings (length signatures) [] fs (under [] (codes "functions")) 0
 
-  pub root-object : (p : Path) (r : Reason) → object_in ≡ fault p r → read_script natives d ≡ fault p r
-  root-object p r e = then_fault _ object_in p r e
-
   module _ (e0 : object_in ≡ read tt) where
-    pub root-version : (p : Path) (r : Reason) → version_in ≡ fault p r → read_script natives d ≡ fault p r
-    root-version p r e = then_read _ object_in tt e0 ∙ then_fault _ version_in p r e
-
     module _ (e1 : version_in ≡ read tt) where
-      pub root-items : (p : Path) (r : Reason) → items_in (codes "signatures") ≡ fault p r → read_script natives d ≡ fault p r
-      root-items p r e = then_read _ object_in tt e0 ∙ then_read _ version_in tt e1 ∙ then_fault _ (items_in (codes "signatures")) p r e
-
       module _ (ss : Items) (e2 : items_in (codes "signatures") ≡ read ss) where
-        pub root-signatures : (p : Path) (r : Reason) → signatures_in ss ≡ fault p r → read_script natives d ≡ fault p r
-        root-signatures p r e = then_read _ object_in tt e0 ∙ then_read _ version_in tt e1 ∙ then_read _ (items_in (codes "signatures")) ss e2 ∙ then_fault _ (signatures_in ss) p r e
-
         module _ (signatures : List Signature) (e3 : signatures_in ss ≡ read signatures) where
           root-until : read_script natives d ≡ and_then (λ fs. and_then (read_rest natives d signatures fs) (headings_in signatures fs)) (items_in (codes "functions"))
           root-until = then_read _ object_in tt e0 ∙ then_read _ version_in tt e1 ∙ then_read _ (items_in (codes "signatures")) ss e2 ∙ then_read _ (signatures_in ss) signatures e3
@@ -107,8 +75,5 @@ module _ (natives : List (List ℕ)) (d : Data) where
           root-functions p r e = root-until ∙ then_fault _ (items_in (codes "functions")) p r e
 
           module _ (fs : Items) (e4 : items_in (codes "functions") ≡ read fs) where
-            pub root-headings : (p : Path) (r : Reason) → headings_in signatures fs ≡ fault p r → read_script natives d ≡ fault p r
-            root-headings p r e = root-until ∙ then_read _ (items_in (codes "functions")) fs e4 ∙ then_fault _ (headings_in signatures fs) p r e
-
             pub root-rest : (hs : List Heading) → headings_in signatures fs ≡ read hs → read_script natives d ≡ read_rest natives d signatures fs hs
             root-rest hs e = root-until ∙ then_read _ (items_in (codes "functions")) fs e4 ∙ then_read _ (headings_in signatures fs) hs e

@@ -1,10 +1,10 @@
 -- What is read one step after another, and places one key on and back.
-use Rattle.std.proofs.Common.{◌≡◌, ℕ, ◌-◌, List, length, take, Some, None, sym, ap, ◌∙◌}
+use Rattle.std.proofs.Common.{◌≡◌, ℕ, ◌-◌, List, length, take, Some, sym, ap, ◌∙◌}
 use Rattle.std.specs.Prelude.{unwrap_or}
 use Rattle.serde_json.specs.Data.{Data, null}
 use Rattle.serde_json.specs.Find.{get}
 use Rattle.ffi3_script_rules.specs.Step.{key, number}
-use Rattle.ffi3_script_rules.specs.Language.{Path, Reason, Read, read, fault, and_then, read_map, under, at_item, value_under}
+use Rattle.ffi3_script_rules.specs.Language.{Path, Reason, Read, read, fault, and_then, under, at_item, value_under}
 use Rattle.ffi3_json.specs.Told.{Tells}
 use Rattle.ffi3_json.specs.declared.fault.ScriptFault.{ScriptFault}
 use Rattle.ffi3_json.proofs.Tellings.{tells_made, tells_part}
@@ -15,12 +15,6 @@ then_fault f x p r e = ap (and_then f) e
 
 pub then_read : {A B : Type 0} (f : A → Read B) (x : Read A) (a : A) → x ≡ read a → and_then f x ≡ f a
 then_read f x a e = ap (and_then f) e
-
-pub map_fault : {A B : Type 0} (f : A → B) (x : Read A) (p : Path) (r : Reason) → x ≡ fault p r → read_map f x ≡ fault p r
-map_fault f x p r e = ap (read_map f) e
-
-pub map_read : {A B : Type 0} (f : A → B) (x : Read A) (a : A) → x ≡ read a → read_map f x ≡ read (f a)
-map_read f x a e = ap (read_map f) e
 
 -- a fault that was made at a place, which is this one
 pub tells_here : {A : Type 0} (x : Read A) (path on : Path) (why : Reason) → on ≡ path → x ≡ fault path why → (e : ScriptFault) → Tells (λ p r. (p ≡ on) × (r ≡ why)) e → Tells (λ p r. x ≡ fault p r) e
@@ -40,9 +34,6 @@ back_from_item path i on inner out first same last = there_and_back path (number
 
 pub under-is : (name : List ℕ) (d inside : Data) → Some inside ≡ get name d → value_under name d ≡ inside
 under-is name d inside e = ap (λ o. unwrap_or o null) (sym e)
-
-pub under-none : (name : List ℕ) (d : Data) → None ≡ get name d → value_under name d ≡ null
-under-none name d e = ap (λ o. unwrap_or o null) (sym e)
 
 -- what was read at a place, which is this one
 pub at_same : {A : Type 0} (y : Path → Read A) (path on : Path) → on ≡ path → (x : Read A) → y on ≡ x → y path ≡ x

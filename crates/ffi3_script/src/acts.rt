@@ -1,5 +1,6 @@
 // Moves, by their kind.
-ghost use Rattle.std.specs.Prelude.{◌≡◌, ◌<◌, ◌^◌, ◌++◌, ◌∷◌, [], IfOk, IfErr, OnOk, None, true, false, length, codes, option_map};
+ghost use Rattle.std.specs.Prelude.{◌≡◌, ◌<◌, ◌^◌, ◌++◌, ◌∷◌, [], IfOk, IfErr, OnOk, None};
+ghost use Rattle.std.specs.Prelude.{true, false, length, codes, option_map};
 ghost use Rattle.serde_json.specs.Find.{get};
 ghost use Rattle.serde_json.specs.View.{view};
 ghost use Rattle.ffi3_script_rules.specs.Language as language;
@@ -96,7 +97,9 @@ fn make_keys(alloc: Global) -> Result<Keys, NoMemory>
 
 // The keys of a move that has but one beside `when`.
 fn lone_keys(alloc: Global, name: &str) -> Result<Keys, NoMemory>
-    ensures { IfOk result (λ keys. keys ≡ record { name = codes "when"; optional = true } ∷ record { name = name.now; optional = false } ∷ []) }
+    ensures { IfOk result
+        (λ keys. keys
+        ≡ record { name = codes "when"; optional = true } ∷ record { name = name.now; optional = false } ∷ []) }
 {
     let mut keys = Keys::new(alloc);
     add_key(alloc, &mut keys, "when", true)?;
@@ -130,8 +133,12 @@ fn read_call(
     requires even { IsEven scope.now }
     ensures within { IfOk result (λ m. CallsWithin (length globals.now.sigs.now) m.act) }
     ensures place { OnOk result (at.new ≡ at.old) }
-    ensures ok { IfOk result (λ m. read_call (surroundings_of globals.now scope.now) (given_in scope.now) (scope_of scope.now) (option_map typed_of condition) (view value.now) at.old ≡ read (script_move_of m)) }
-    ensures err { IfErr result (Tells (λ p r. read_call (surroundings_of globals.now scope.now) (given_in scope.now) (scope_of scope.now) (option_map typed_of condition) (view value.now) at.old ≡ language.fault p r)) }
+    ensures ok { IfOk result
+        (λ m. read_call (surroundings_of globals.now scope.now) (given_in scope.now)
+        (scope_of scope.now) (option_map typed_of condition) (view value.now) at.old ≡ read (script_move_of m)) }
+    ensures err { IfErr result
+        (Tells (λ p r. read_call (surroundings_of globals.now scope.now) (given_in scope.now)
+        (scope_of scope.now) (option_map typed_of condition) (view value.now) at.old ≡ language.fault p r)) }
 {
     let ptr = match read_pointer(alloc, scope, "call", value, at) {
         Ok(ptr) => ptr,
@@ -171,8 +178,12 @@ fn read_make(
     requires few { length globals.now.functions.now < 2 ^ 32 }
     ensures within { IfOk result (λ m. CallsWithin (length globals.now.sigs.now) m.act) }
     ensures place { OnOk result (at.new ≡ at.old) }
-    ensures ok { IfOk result (λ m. read_make (surroundings_of globals.now scope.now) (given_in scope.now) (scope_of scope.now) (option_map typed_of condition) (view value.now) at.old ≡ read (script_move_of m)) }
-    ensures err { IfErr result (Tells (λ p r. read_make (surroundings_of globals.now scope.now) (given_in scope.now) (scope_of scope.now) (option_map typed_of condition) (view value.now) at.old ≡ language.fault p r)) }
+    ensures ok { IfOk result
+        (λ m. read_make (surroundings_of globals.now scope.now) (given_in scope.now)
+        (scope_of scope.now) (option_map typed_of condition) (view value.now) at.old ≡ read (script_move_of m)) }
+    ensures err { IfErr result
+        (Tells (λ p r. read_make (surroundings_of globals.now scope.now) (given_in scope.now)
+        (scope_of scope.now) (option_map typed_of condition) (view value.now) at.old ≡ language.fault p r)) }
 {
     let func = match read_function(alloc, globals.functions, value, at) {
         Ok(func) => func,
@@ -219,8 +230,12 @@ fn read_act(
     requires few { length globals.now.functions.now < 2 ^ 32 }
     ensures within { IfOk result (λ m. CallsWithin (length globals.now.sigs.now) m.act) }
     ensures place { OnOk result (at.new ≡ at.old) }
-    ensures ok { IfOk result (λ m. read_act (surroundings_of globals.now scope.now) (given_in scope.now) (scope_of scope.now) (kind_from kind) (view value.now) at.old (option_map typed_of condition) ≡ read (script_move_of m)) }
-    ensures err { IfErr result (Tells (λ p r. read_act (surroundings_of globals.now scope.now) (given_in scope.now) (scope_of scope.now) (kind_from kind) (view value.now) at.old (option_map typed_of condition) ≡ language.fault p r)) }
+    ensures ok { IfOk result
+        (λ m. read_act (surroundings_of globals.now scope.now) (given_in scope.now) (scope_of scope.now)
+        (kind_from kind) (view value.now) at.old (option_map typed_of condition) ≡ read (script_move_of m)) }
+    ensures err { IfErr result
+        (Tells (λ p r. read_act (surroundings_of globals.now scope.now) (given_in scope.now) (scope_of scope.now)
+        (kind_from kind) (view value.now) at.old (option_map typed_of condition) ≡ language.fault p r)) }
 {
     match kind {
         Kind::Call => read_call(alloc, globals, scope, condition, value, at),
@@ -253,8 +268,12 @@ pub(crate) fn read_move(
     requires few { length globals.now.functions.now < 2 ^ 32 }
     ensures within { IfOk result (λ m. CallsWithin (length globals.now.sigs.now) m.act) }
     ensures place { OnOk result (at.new ≡ at.old) }
-    ensures ok { IfOk result (λ m. read_move (surroundings_of globals.now scope.now) (given_in scope.now) (view value.now) at.old ≡ read (script_move_of m)) }
-    ensures err { IfErr result (Tells (λ p r. read_move (surroundings_of globals.now scope.now) (given_in scope.now) (view value.now) at.old ≡ language.fault p r)) }
+    ensures ok { IfOk result
+        (λ m. read_move (surroundings_of globals.now scope.now) (given_in scope.now) (view value.now) at.old
+        ≡ read (script_move_of m)) }
+    ensures err { IfErr result
+        (Tells (λ p r. read_move (surroundings_of globals.now scope.now) (given_in scope.now) (view value.now) at.old
+        ≡ language.fault p r)) }
 {
     let Some(kind) = kind_of(value) else {
         return Err(bad(alloc, at, Reason::NotAMove));

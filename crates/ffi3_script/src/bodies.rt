@@ -1,10 +1,12 @@
 // Bodies: arrays of moves.
-ghost use Rattle.std.specs.Prelude.{◌≡◌, ◌+◌, ◌<◌, ◌^◌, ◌++◌, ◌∷◌, [], IfOk, IfErr, OnOk, length, option_map, string_bytes};
+ghost use Rattle.std.specs.Prelude.{◌≡◌, ◌+◌, ◌<◌, ◌^◌, ◌++◌, ◌∷◌, [], IfOk};
+ghost use Rattle.std.specs.Prelude.{IfErr, OnOk, length, option_map, string_bytes};
 ghost use Rattle.serde_json.specs.View.{view, items_view};
 ghost use Rattle.ffi3_types.specs.TreeOf.{tree_of};
 ghost use Rattle.ffi3_script_rules.specs.Language as language;
 ghost use Rattle.ffi3_script_rules.specs.Language.{read, under, value_under, HasShortArrays, HaveShortArrays};
-ghost use Rattle.ffi3_script_rules.specs.Bodies.{type_of_act, is_return, always_returns, ends, read_move, read_moves, read_body};
+ghost use Rattle.ffi3_script_rules.specs.Bodies.{type_of_act, is_return, always_returns, ends};
+ghost use Rattle.ffi3_script_rules.specs.Bodies.{read_move, read_moves, read_body};
 ghost use Rattle.ffi3_json.specs.Told.{Tells};
 ghost use Rattle.ffi3_script.specs.ExprOf.{act_of, script_move_of, script_moves_of};
 ghost use Rattle.ffi3_script.specs.ScopeOf.{given_of, surroundings_in};
@@ -80,8 +82,12 @@ fn read_next(
     requires few { length globals.now.functions.now < 2 ^ 32 }
     ensures within { IfOk result (λ m. CallsWithin (length globals.now.sigs.now) m.act) }
     ensures place { OnOk result (at.new ≡ at.old) }
-    ensures ok { IfOk result (λ m. read_move (surroundings_in globals.now own.now) (given_of names.now types.now) (view value.now) at.old ≡ read (script_move_of m)) }
-    ensures err { IfErr result (Tells (λ p r. read_move (surroundings_in globals.now own.now) (given_of names.now types.now) (view value.now) at.old ≡ language.fault p r)) }
+    ensures ok { IfOk result
+        (λ m. read_move (surroundings_in globals.now own.now) (given_of names.now types.now) (view value.now) at.old
+        ≡ read (script_move_of m)) }
+    ensures err { IfErr result
+        (Tells (λ p r. read_move (surroundings_in globals.now own.now) (given_of names.now types.now)
+        (view value.now) at.old ≡ language.fault p r)) }
 {
     let scope = Scope { own, names, types };
     match read_move(alloc, globals, &scope, value, at) {
@@ -102,8 +108,12 @@ fn read_moves(
     requires count { length items.now.items < 2 ^ 32 }
     requires few { length globals.now.functions.now < 2 ^ 32 }
     ensures place { OnOk result (at.new ≡ at.old) }
-    ensures ok { IfOk result (λ ms. read_moves (surroundings_in globals.now own.now) [] (items_view items.now.items) at.old 0 ≡ read (script_moves_of ms.items)) }
-    ensures err { IfErr result (Tells (λ p r. read_moves (surroundings_in globals.now own.now) [] (items_view items.now.items) at.old 0 ≡ language.fault p r)) }
+    ensures ok { IfOk result
+        (λ ms. read_moves (surroundings_in globals.now own.now) [] (items_view items.now.items) at.old 0
+        ≡ read (script_moves_of ms.items)) }
+    ensures err { IfErr result
+        (Tells (λ p r. read_moves (surroundings_in globals.now own.now) [] (items_view items.now.items) at.old 0
+        ≡ language.fault p r)) }
 {
     let mut names = NameIndex::new(alloc);
     let mut types = Fields::new(alloc);
@@ -163,8 +173,12 @@ pub(crate) fn read_body(
     requires short { HasShortArrays (view value.now) }
     requires few { length globals.now.functions.now < 2 ^ 32 }
     ensures place { OnOk result (at.new ≡ at.old) }
-    ensures ok { IfOk result (λ ms. read_body (surroundings_in globals.now own.now) (value_under name.now (view value.now)) (under at.old name.now) ≡ read (script_moves_of ms.items)) }
-    ensures err { IfErr result (Tells (λ p r. read_body (surroundings_in globals.now own.now) (value_under name.now (view value.now)) (under at.old name.now) ≡ language.fault p r)) }
+    ensures ok { IfOk result
+        (λ ms. read_body (surroundings_in globals.now own.now) (value_under name.now (view value.now))
+        (under at.old name.now) ≡ read (script_moves_of ms.items)) }
+    ensures err { IfErr result
+        (Tells (λ p r. read_body (surroundings_in globals.now own.now) (value_under name.now (view value.now))
+        (under at.old name.now) ≡ language.fault p r)) }
 {
     at.push_key(alloc, name)?;
     let Some(body) = value.get(name) else {

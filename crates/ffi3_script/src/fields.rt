@@ -32,8 +32,12 @@ pub(crate) fn read_name(
 ) -> Result<Option<String>, ScriptFault>
     requires even { IsEven scope.now }
     ensures place { OnOk result (at.new ≡ at.old) }
-    ensures ok { IfOk result (λ name. read_name (given_in scope.now) (tree_of ty.now) (get (codes "as") (view value.now)) (under at.old (codes "as")) ≡ read (option_map string_bytes name)) }
-    ensures err { IfErr result (Tells (λ p r. read_name (given_in scope.now) (tree_of ty.now) (get (codes "as") (view value.now)) (under at.old (codes "as")) ≡ language.fault p r)) }
+    ensures ok { IfOk result
+        (λ name. read_name (given_in scope.now) (tree_of ty.now) (get (codes "as") (view value.now))
+        (under at.old (codes "as")) ≡ read (option_map string_bytes name)) }
+    ensures err { IfErr result
+        (Tells (λ p r. read_name (given_in scope.now) (tree_of ty.now) (get (codes "as") (view value.now))
+        (under at.old (codes "as")) ≡ language.fault p r)) }
 {
     let Some(named) = value.get("as") else {
         return Ok(None);
@@ -60,8 +64,12 @@ pub(crate) fn read_condition(
     requires short { HasShortArrays (view value.now) }
     requires even { IsEven scope.now }
     ensures place { OnOk result (at.new ≡ at.old) }
-    ensures ok { IfOk result (λ c. read_condition (scope_of scope.now) (get (codes "when") (view value.now)) (under at.old (codes "when")) ≡ read (option_map typed_of c)) }
-    ensures err { IfErr result (Tells (λ p r. read_condition (scope_of scope.now) (get (codes "when") (view value.now)) (under at.old (codes "when")) ≡ language.fault p r)) }
+    ensures ok { IfOk result
+        (λ c. read_condition (scope_of scope.now) (get (codes "when") (view value.now)) (under at.old (codes "when"))
+        ≡ read (option_map typed_of c)) }
+    ensures err { IfErr result
+        (Tells (λ p r. read_condition (scope_of scope.now) (get (codes "when") (view value.now))
+        (under at.old (codes "when")) ≡ language.fault p r)) }
 {
     let Some(when) = value.get("when") else {
         return Ok(None);
@@ -89,8 +97,12 @@ pub(crate) fn read_arguments(
     requires short { HasShortArrays (view value.now) }
     requires even { IsEven scope.now }
     ensures place { OnOk result (at.new ≡ at.old) }
-    ensures ok { IfOk result (λ es. read_arguments (scope_of scope.now) types.now (value_under (codes "args") (view value.now)) (under at.old (codes "args")) ≡ read (expressions_in es.items)) }
-    ensures err { IfErr result (Tells (λ p r. read_arguments (scope_of scope.now) types.now (value_under (codes "args") (view value.now)) (under at.old (codes "args")) ≡ language.fault p r)) }
+    ensures ok { IfOk result
+        (λ es. read_arguments (scope_of scope.now) types.now (value_under (codes "args") (view value.now))
+        (under at.old (codes "args")) ≡ read (expressions_in es.items)) }
+    ensures err { IfErr result
+        (Tells (λ p r. read_arguments (scope_of scope.now) types.now (value_under (codes "args") (view value.now))
+        (under at.old (codes "args")) ≡ language.fault p r)) }
 {
     at.push_key(alloc, "args")?;
     let Some(args) = value.get("args") else {
@@ -121,8 +133,12 @@ pub(crate) fn read_pointer(
     requires short { HasShortArrays (view value.now) }
     requires even { IsEven scope.now }
     ensures place { OnOk result (at.new ≡ at.old) }
-    ensures ok { IfOk result (λ e. values.read_value (scope_of scope.now) (scalar pointer) (value_under name.now (view value.now)) (under at.old name.now) ≡ read (expression_of e)) }
-    ensures err { IfErr result (Tells (λ p r. values.read_value (scope_of scope.now) (scalar pointer) (value_under name.now (view value.now)) (under at.old name.now) ≡ language.fault p r)) }
+    ensures ok { IfOk result
+        (λ e. values.read_value (scope_of scope.now) (scalar pointer) (value_under name.now (view value.now))
+        (under at.old name.now) ≡ read (expression_of e)) }
+    ensures err { IfErr result
+        (Tells (λ p r. values.read_value (scope_of scope.now) (scalar pointer) (value_under name.now (view value.now))
+        (under at.old name.now) ≡ language.fault p r)) }
 {
     at.push_key(alloc, name)?;
     let Some(inside) = value.get(name) else {
@@ -146,8 +162,12 @@ pub(crate) fn read_user(
     requires short { HasShortArrays (view value.now) }
     requires even { IsEven scope.now }
     ensures place { OnOk result (at.new ≡ at.old) }
-    ensures ok { IfOk result (λ e. read_user (scope_of scope.now) (get (codes "user") (view value.now)) (under at.old (codes "user")) ≡ read (expression_of e)) }
-    ensures err { IfErr result (Tells (λ p r. read_user (scope_of scope.now) (get (codes "user") (view value.now)) (under at.old (codes "user")) ≡ language.fault p r)) }
+    ensures ok { IfOk result
+        (λ e. read_user (scope_of scope.now) (get (codes "user") (view value.now)) (under at.old (codes "user"))
+        ≡ read (expression_of e)) }
+    ensures err { IfErr result
+        (Tells (λ p r. read_user (scope_of scope.now) (get (codes "user") (view value.now))
+        (under at.old (codes "user")) ≡ language.fault p r)) }
 {
     let Some(user) = value.get("user") else {
         let zero = [0; 8];
@@ -172,8 +192,12 @@ pub(crate) fn read_printed(
     requires short { HasShortArrays (view value.now) }
     requires even { IsEven scope.now }
     ensures place { OnOk result (at.new ≡ at.old) }
-    ensures ok { IfOk result (λ v. values.read_typed (scope_of scope.now) (value_under (codes "print") (view value.now)) (under at.old (codes "print")) ≡ read (typed_of v)) }
-    ensures err { IfErr result (Tells (λ p r. values.read_typed (scope_of scope.now) (value_under (codes "print") (view value.now)) (under at.old (codes "print")) ≡ language.fault p r)) }
+    ensures ok { IfOk result
+        (λ v. values.read_typed (scope_of scope.now) (value_under (codes "print") (view value.now))
+        (under at.old (codes "print")) ≡ read (typed_of v)) }
+    ensures err { IfErr result
+        (Tells (λ p r. values.read_typed (scope_of scope.now) (value_under (codes "print") (view value.now))
+        (under at.old (codes "print")) ≡ language.fault p r)) }
 {
     at.push_key(alloc, "print")?;
     let Some(inside) = value.get("print") else {
@@ -199,8 +223,12 @@ pub(crate) fn read_result(
     requires even { IsEven scope.now }
     ensures within { IfOk result (λ a. (count : ℕ) → CallsWithin count a) }
     ensures place { OnOk result (at.new ≡ at.old) }
-    ensures ok { IfOk result (λ a. read_result (scope_of scope.now) (tree_of ty.now) (value_under (codes "return") (view value.now)) (under at.old (codes "return")) ≡ read (act_of a)) }
-    ensures err { IfErr result (Tells (λ p r. read_result (scope_of scope.now) (tree_of ty.now) (value_under (codes "return") (view value.now)) (under at.old (codes "return")) ≡ language.fault p r)) }
+    ensures ok { IfOk result
+        (λ a. read_result (scope_of scope.now) (tree_of ty.now) (value_under (codes "return") (view value.now))
+        (under at.old (codes "return")) ≡ read (act_of a)) }
+    ensures err { IfErr result
+        (Tells (λ p r. read_result (scope_of scope.now) (tree_of ty.now) (value_under (codes "return") (view value.now))
+        (under at.old (codes "return")) ≡ language.fault p r)) }
 {
     at.push_key(alloc, "return")?;
     let act = match read_returned(alloc, scope, ty, value, at) {
@@ -223,8 +251,12 @@ fn read_returned(
     requires even { IsEven scope.now }
     ensures within { IfOk result (λ a. (count : ℕ) → CallsWithin count a) }
     ensures place { OnOk result (at.new ≡ at.old) }
-    ensures ok { IfOk result (λ a. read_result (scope_of scope.now) (tree_of ty.now) (value_under (codes "return") (view value.now)) at.old ≡ read (act_of a)) }
-    ensures err { IfErr result (Tells (λ p r. read_result (scope_of scope.now) (tree_of ty.now) (value_under (codes "return") (view value.now)) at.old ≡ language.fault p r)) }
+    ensures ok { IfOk result
+        (λ a. read_result (scope_of scope.now) (tree_of ty.now) (value_under (codes "return") (view value.now)) at.old
+        ≡ read (act_of a)) }
+    ensures err { IfErr result
+        (Tells (λ p r. read_result (scope_of scope.now) (tree_of ty.now) (value_under (codes "return")
+        (view value.now)) at.old ≡ language.fault p r)) }
 {
     if let FfiType::Void = ty {
         let Some(inside) = value.get("return") else {

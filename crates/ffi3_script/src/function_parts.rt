@@ -38,8 +38,13 @@ fn read_part(
     requires within { heading.now.sig < length globals.now.sigs.now }
     ensures headed { IfOk result (IsHeaded heading.now) }
     ensures place { OnOk result (at.new ≡ at.old) }
-    ensures ok { IfOk result (λ f. read_body (surroundings_in globals.now (signature_at globals.now.sigs.now heading.now.sig)) (value_under (codes "body") (view value.now)) (under at.old (codes "body")) ≡ read (script_moves_of f.moves.items)) }
-    ensures err { IfErr result (Tells (λ p r. read_body (surroundings_in globals.now (signature_at globals.now.sigs.now heading.now.sig)) (value_under (codes "body") (view value.now)) (under at.old (codes "body")) ≡ language.fault p r)) }
+    ensures ok { IfOk result
+        (λ f. read_body (surroundings_in globals.now (signature_at globals.now.sigs.now heading.now.sig))
+        (value_under (codes "body") (view value.now)) (under at.old (codes "body"))
+        ≡ read (script_moves_of f.moves.items)) }
+    ensures err { IfErr result
+        (Tells (λ p r. read_body (surroundings_in globals.now (signature_at globals.now.sigs.now heading.now.sig))
+        (value_under (codes "body") (view value.now)) (under at.old (codes "body")) ≡ language.fault p r)) }
 {
     let own = globals.sigs.get(heading.sig as usize);
     let moves = match read_body(alloc, globals, own, "body", value, at) {
@@ -75,8 +80,12 @@ pub(crate) fn read_parts(
     requires within { All (λ h. h.sig < length globals.now.sigs.now) headings.now.items }
     requires same { length headings.now.items ≡ length items.now.items }
     ensures place { OnOk result (at.new ≡ at.old) }
-    ensures ok { IfOk result (λ fs. read_bodies globals.now.sigs.now globals.now.functions.now (headings_of headings.now.items) (items_view items.now.items) at.old 0 ≡ read (map part_of fs.items)) }
-    ensures err { IfErr result (Tells (λ p r. read_bodies globals.now.sigs.now globals.now.functions.now (headings_of headings.now.items) (items_view items.now.items) at.old 0 ≡ language.fault p r)) }
+    ensures ok { IfOk result
+        (λ fs. read_bodies globals.now.sigs.now globals.now.functions.now (headings_of headings.now.items)
+        (items_view items.now.items) at.old 0 ≡ read (map part_of fs.items)) }
+    ensures err { IfErr result
+        (Tells (λ p r. read_bodies globals.now.sigs.now globals.now.functions.now (headings_of headings.now.items)
+        (items_view items.now.items) at.old 0 ≡ language.fault p r)) }
 {
     let mut parts = Vec::new(alloc);
     for i in 0..items.len() {

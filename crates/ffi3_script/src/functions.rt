@@ -33,13 +33,6 @@ impl FunctionNames {
         }
     }
 
-    /// How many names there are.
-    pub(crate) fn len(&self) -> usize
-        ensures { result ≡ length self.now }
-    {
-        self.index.len()
-    }
-
     /// One more name.
     pub(crate) fn push(&mut self, alloc: Global, name: &str) -> Result<(), NoMemory>
         ensures { OnOk result (self.new ≡ self.old ++ name.now ∷ []) }

@@ -4,7 +4,8 @@ ghost use Rattle.serde_json.specs.Find.{as_str};
 ghost use Rattle.serde_json.specs.View.{view, items_view};
 ghost use Rattle.ffi3_script_rules.specs.Language as language;
 ghost use Rattle.ffi3_script_rules.specs.Language.{read, under, value_under};
-ghost use Rattle.ffi3_script_rules.specs.Bodies.{is_one_of, new_name, function_keys, read_heading, read_headings, names_of};
+ghost use Rattle.ffi3_script_rules.specs.Bodies.{is_one_of, new_name, function_keys, read_heading};
+ghost use Rattle.ffi3_script_rules.specs.Bodies.{read_headings, names_of};
 ghost use Rattle.ffi3_json.specs.Told.{Tells};
 ghost use Rattle.ffi3_script.specs.PartsOf.{heading_of, headings_of};
 
@@ -49,8 +50,12 @@ fn read_function_name(
     at: &mut Where,
 ) -> Result<String, ScriptFault>
     ensures place { OnOk result (at.new ≡ at.old) }
-    ensures ok { IfOk result (λ name. new_name (is_one_of earlier.now) (as_str (value_under (codes "name") (view value.now))) (under at.old (codes "name")) ≡ read (string_bytes name)) }
-    ensures err { IfErr result (Tells (λ p r. new_name (is_one_of earlier.now) (as_str (value_under (codes "name") (view value.now))) (under at.old (codes "name")) ≡ language.fault p r)) }
+    ensures ok { IfOk result
+        (λ name. new_name (is_one_of earlier.now) (as_str (value_under (codes "name") (view value.now)))
+        (under at.old (codes "name")) ≡ read (string_bytes name)) }
+    ensures err { IfErr result
+        (Tells (λ p r. new_name (is_one_of earlier.now) (as_str (value_under (codes "name") (view value.now)))
+        (under at.old (codes "name")) ≡ language.fault p r)) }
 {
     at.push_key(alloc, "name")?;
     let Some(named) = value.get("name") else {
@@ -74,8 +79,10 @@ fn read_heading(
 ) -> Result<Heading, ScriptFault>
     ensures within { IfOk result (λ h. h.sig < length sigs.now) }
     ensures place { OnOk result (at.new ≡ at.old) }
-    ensures ok { IfOk result (λ h. read_heading (length sigs.now) earlier.now (view value.now) at.old ≡ read (heading_of h)) }
-    ensures err { IfErr result (Tells (λ p r. read_heading (length sigs.now) earlier.now (view value.now) at.old ≡ language.fault p r)) }
+    ensures ok { IfOk result
+        (λ h. read_heading (length sigs.now) earlier.now (view value.now) at.old ≡ read (heading_of h)) }
+    ensures err { IfErr result
+        (Tells (λ p r. read_heading (length sigs.now) earlier.now (view value.now) at.old ≡ language.fault p r)) }
 {
     let keys = function_keys(alloc)?;
     if let Err(fault) = check_object(alloc, value, &keys, at) {
@@ -119,8 +126,11 @@ pub(crate) fn read_headings(
     ensures count { IfOk result (λ h. length h.list.items ≡ length items.now.items) }
     ensures names { IfOk result (λ h. h.names ≡ names_of (headings_of h.list.items)) }
     ensures place { OnOk result (at.new ≡ at.old) }
-    ensures ok { IfOk result (λ h. read_headings (length sigs.now) [] (items_view items.now.items) at.old 0 ≡ read (headings_of h.list.items)) }
-    ensures err { IfErr result (Tells (λ p r. read_headings (length sigs.now) [] (items_view items.now.items) at.old 0 ≡ language.fault p r)) }
+    ensures ok { IfOk result
+        (λ h. read_headings (length sigs.now) [] (items_view items.now.items) at.old 0 ≡ read
+        (headings_of h.list.items)) }
+    ensures err { IfErr result
+        (Tells (λ p r. read_headings (length sigs.now) [] (items_view items.now.items) at.old 0 ≡ language.fault p r)) }
 {
     let mut names = FunctionNames::new(alloc);
     let mut list = Vec::new(alloc);

@@ -52,8 +52,10 @@ pub(crate) fn new_name(
     value: &Json,
     at: &Where,
 ) -> Result<String, ScriptFault>
-    ensures ok { IfOk result (λ name. new_name (is_taken names.now) (as_str (view value.now)) at.now ≡ read (string_bytes name)) }
-    ensures err { IfErr result (Tells (λ p r. new_name (is_taken names.now) (as_str (view value.now)) at.now ≡ language.fault p r)) }
+    ensures ok { IfOk result
+        (λ name. new_name (is_taken names.now) (as_str (view value.now)) at.now ≡ read (string_bytes name)) }
+    ensures err { IfErr result
+        (Tells (λ p r. new_name (is_taken names.now) (as_str (view value.now)) at.now ≡ language.fault p r)) }
 {
     let Some(name) = value.as_str() else {
         return Err(bad(alloc, at, Reason::BadName));
@@ -76,8 +78,12 @@ pub(crate) fn read_signature_number(
 ) -> Result<u32, ScriptFault>
     ensures place { OnOk result (at.new ≡ at.old) }
     ensures below { IfOk result (λ i. i < length sigs.now) }
-    ensures ok { IfOk result (λ i. read_signature_number (length sigs.now) (value_under (codes "sig") (view value.now)) (under at.old (codes "sig")) ≡ read i) }
-    ensures err { IfErr result (Tells (λ p r. read_signature_number (length sigs.now) (value_under (codes "sig") (view value.now)) (under at.old (codes "sig")) ≡ language.fault p r)) }
+    ensures ok { IfOk result
+        (λ i. read_signature_number (length sigs.now) (value_under (codes "sig") (view value.now))
+        (under at.old (codes "sig")) ≡ read i) }
+    ensures err { IfErr result
+        (Tells (λ p r. read_signature_number (length sigs.now) (value_under (codes "sig") (view value.now))
+        (under at.old (codes "sig")) ≡ language.fault p r)) }
 {
     at.push_key(alloc, "sig")?;
     let Some(sig) = value.get("sig") else {
@@ -102,8 +108,12 @@ pub(crate) fn read_function(
 ) -> Result<u32, ScriptFault>
     requires few { length functions.now < 2 ^ 32 }
     ensures place { OnOk result (at.new ≡ at.old) }
-    ensures ok { IfOk result (λ k. read_function functions.now (as_str (value_under (codes "make") (view value.now))) (under at.old (codes "make")) ≡ read k) }
-    ensures err { IfErr result (Tells (λ p r. read_function functions.now (as_str (value_under (codes "make") (view value.now))) (under at.old (codes "make")) ≡ language.fault p r)) }
+    ensures ok { IfOk result
+        (λ k. read_function functions.now (as_str (value_under (codes "make") (view value.now)))
+        (under at.old (codes "make")) ≡ read k) }
+    ensures err { IfErr result
+        (Tells (λ p r. read_function functions.now (as_str (value_under (codes "make") (view value.now)))
+        (under at.old (codes "make")) ≡ language.fault p r)) }
 {
     at.push_key(alloc, "make")?;
     let Some(make) = value.get("make") else {

@@ -1,5 +1,6 @@
 // Names by number, and numbers by name.
-ghost use Rattle.std.specs.Prelude.{◌≡◌, ℕ, ◌<◌, ◌++◌, ◌∷◌, [], List, OnOk, OnErr, Some, None, length, position, bytes_eq};
+ghost use Rattle.std.specs.Prelude.{◌≡◌, ℕ, ◌<◌, ◌++◌, ◌∷◌, [], List, OnOk, OnErr};
+ghost use Rattle.std.specs.Prelude.{Some, None, length, position, bytes_eq};
 ghost use Rattle.std.specs.BTreeMap.{get_by_text};
 ghost use Rattle.ffi3_script_rules.specs.Values.{is_name_of};
 ghost use Rattle.ffi3_script.specs.Finds.{first_or};
@@ -40,13 +41,6 @@ impl NameIndex {
         }
     }
 
-    /// How many things there are.
-    pub(crate) fn len(&self) -> usize
-        ensures { result ≡ length self.now }
-    {
-        self.names.len()
-    }
-
     /// One more thing, without a name.
     pub(crate) fn push_unnamed(&mut self) -> Result<(), NoMemory>
         ensures { OnOk result (self.new ≡ self.old ++ None ∷ []) }
@@ -85,7 +79,8 @@ fn number_name(
     name: &str,
     number: usize,
 ) -> Result<(), NoMemory>
-    ensures ok { OnOk result ((q : List ℕ) → get_by_text numbers.new q ≡ first_or (get_by_text numbers.old q) (bytes_eq q name.now) number) }
+    ensures ok { OnOk result
+        ((q : List ℕ) → get_by_text numbers.new q ≡ first_or (get_by_text numbers.old q) (bytes_eq q name.now) number) }
     ensures err { OnErr result ((q : List ℕ) → get_by_text numbers.new q ≡ get_by_text numbers.old q) }
 {
     if numbers.contains_key(name) {

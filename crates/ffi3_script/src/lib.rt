@@ -22,6 +22,8 @@ mod read;
 mod root;
 mod scope;
 mod script;
+#[cfg(test)]
+mod tests;
 mod values;
 
 pub use body::{MoveKind, ScriptBody};

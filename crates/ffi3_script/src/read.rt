@@ -1,5 +1,6 @@
 // From bytes to a script.
-ghost use Rattle.std.specs.Prelude.{◌≡◌, ◌+◌, ◌<◌, ◌≤◌, ◌^◌, ◌++◌, ◌∷◌, [], All, IfOk, IfErr, OnOk, Some, true, length, map};
+ghost use Rattle.std.specs.Prelude.{◌≡◌, ◌+◌, ◌<◌, ◌≤◌, ◌^◌, ◌++◌, ◌∷◌, [], All, IfOk};
+ghost use Rattle.std.specs.Prelude.{IfErr, OnOk, Some, true, length, map};
 ghost use Rattle.std.specs.List.{list_all};
 ghost use Rattle.serde_json.specs.View.{view};
 ghost use Rattle.ffi3_script_rules.specs.Reading.{IsTheReading, script};

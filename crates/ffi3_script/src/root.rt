@@ -1,10 +1,12 @@
 // The whole of a script.
-ghost use Rattle.std.specs.Prelude.{◌≡◌, ◌<◌, ◌≤◌, ◌^◌, ◌++◌, ◌∷◌, [], All, IfOk, IfErr, OnOk, length, map, codes, option_and_then};
+ghost use Rattle.std.specs.Prelude.{◌≡◌, ◌<◌, ◌≤◌, ◌^◌, ◌++◌, ◌∷◌, [], All, IfOk, IfErr};
+ghost use Rattle.std.specs.Prelude.{OnOk, length, map, codes, option_and_then};
 ghost use Rattle.serde_json.specs.Find.{as_number, as_u64};
 ghost use Rattle.serde_json.specs.View.{view, items_view};
 ghost use Rattle.ffi3_script_rules.specs.Language as language;
 ghost use Rattle.ffi3_script_rules.specs.Language.{read, under, value_under, HasShortArrays, HaveShortArrays};
-ghost use Rattle.ffi3_script_rules.specs.Bodies.{script_keys, version_of, items_at, read_signatures, read_headings, read_bodies, read_rest, read_script, names_of};
+ghost use Rattle.ffi3_script_rules.specs.Bodies.{script_keys, version_of, items_at, read_signatures, read_headings};
+ghost use Rattle.ffi3_script_rules.specs.Bodies.{read_bodies, read_rest, read_script, names_of};
 ghost use Rattle.ffi3_json.specs.Told.{Tells};
 ghost use Rattle.ffi3_json.specs.Within.{HasArraysWithin};
 ghost use Rattle.ffi3_script.specs.PartsOf.{headings_of, part_of, script_in, bodies_and_main};
@@ -50,8 +52,12 @@ fn script_keys(alloc: Global) -> Result<Keys, NoMemory>
 // The version, which is 1.
 fn read_version(alloc: Global, value: &Json, at: &mut Where) -> Result<(), ScriptFault>
     ensures place { OnOk result (at.new ≡ at.old) }
-    ensures ok { OnOk result (version_of (option_and_then as_u64 (as_number (value_under (codes "version") (view value.now)))) (under at.old (codes "version")) ≡ read tt) }
-    ensures err { IfErr result (Tells (λ p r. version_of (option_and_then as_u64 (as_number (value_under (codes "version") (view value.now)))) (under at.old (codes "version")) ≡ language.fault p r)) }
+    ensures ok { OnOk result
+        (version_of (option_and_then as_u64 (as_number (value_under (codes "version") (view value.now))))
+        (under at.old (codes "version")) ≡ read tt) }
+    ensures err { IfErr result
+        (Tells (λ p r. version_of (option_and_then as_u64 (as_number (value_under (codes "version") (view value.now))))
+        (under at.old (codes "version")) ≡ language.fault p r)) }
 {
     at.push_key(alloc, "version")?;
     let Some(version) = value.get("version") else {
@@ -79,8 +85,11 @@ fn items_under<'a>(
     ensures place { OnOk result (at.new ≡ at.old) }
     ensures short { IfOk result (λ items. HaveShortArrays (items_view items.now.items)) }
     ensures few { IfOk result (λ items. length items.now.items ≤ 1048577) }
-    ensures ok { IfOk result (λ items. items_at (value_under name.now (view value.now)) (under at.old name.now) ≡ read (items_view items.now.items)) }
-    ensures err { IfErr result (Tells (λ p r. items_at (value_under name.now (view value.now)) (under at.old name.now) ≡ language.fault p r)) }
+    ensures ok { IfOk result
+        (λ items. items_at (value_under name.now (view value.now)) (under at.old name.now) ≡ read
+        (items_view items.now.items)) }
+    ensures err { IfErr result
+        (Tells (λ p r. items_at (value_under name.now (view value.now)) (under at.old name.now) ≡ language.fault p r)) }
 {
     at.push_key(alloc, name)?;
     let Some(inside) = value.get(name) else {
@@ -103,7 +112,8 @@ fn read_each_signature(
     requires few { length items.now.items ≤ 1048577 }
     ensures place { OnOk result (at.new ≡ at.old) }
     ensures ok { IfOk result (λ ss. read_signatures (items_view items.now.items) at.old 0 ≡ read ss) }
-    ensures err { IfErr result (Tells (λ p r. read_signatures (items_view items.now.items) at.old 0 ≡ language.fault p r)) }
+    ensures err { IfErr result
+        (Tells (λ p r. read_signatures (items_view items.now.items) at.old 0 ≡ language.fault p r)) }
 {
     let mut sigs = Sigs::new(alloc);
     for i in 0..items.len() {
@@ -123,8 +133,11 @@ fn read_signatures(alloc: Global, items: &Vec<Json>, at: &mut Where) -> Result<S
     requires short { HaveShortArrays (items_view items.now.items) }
     requires few { length items.now.items ≤ 1048577 }
     ensures place { OnOk result (at.new ≡ at.old) }
-    ensures ok { IfOk result (λ ss. read_signatures (items_view items.now.items) (under at.old (codes "signatures")) 0 ≡ read ss) }
-    ensures err { IfErr result (Tells (λ p r. read_signatures (items_view items.now.items) (under at.old (codes "signatures")) 0 ≡ language.fault p r)) }
+    ensures ok { IfOk result
+        (λ ss. read_signatures (items_view items.now.items) (under at.old (codes "signatures")) 0 ≡ read ss) }
+    ensures err { IfErr result
+        (Tells (λ p r. read_signatures (items_view items.now.items) (under at.old (codes "signatures")) 0
+        ≡ language.fault p r)) }
 {
     at.push_key(alloc, "signatures")?;
     let sigs = match read_each_signature(alloc, items, at) {
@@ -147,8 +160,12 @@ fn read_functions(
     ensures count { IfOk result (λ h. length h.list.items ≡ length items.now.items) }
     ensures names { IfOk result (λ h. h.names ≡ names_of (headings_of h.list.items)) }
     ensures place { OnOk result (at.new ≡ at.old) }
-    ensures ok { IfOk result (λ h. read_headings (length sigs.now) [] (items_view items.now.items) (under at.old (codes "functions")) 0 ≡ read (headings_of h.list.items)) }
-    ensures err { IfErr result (Tells (λ p r. read_headings (length sigs.now) [] (items_view items.now.items) (under at.old (codes "functions")) 0 ≡ language.fault p r)) }
+    ensures ok { IfOk result
+        (λ h. read_headings (length sigs.now) [] (items_view items.now.items) (under at.old (codes "functions")) 0
+        ≡ read (headings_of h.list.items)) }
+    ensures err { IfErr result
+        (Tells (λ p r. read_headings (length sigs.now) [] (items_view items.now.items)
+        (under at.old (codes "functions")) 0 ≡ language.fault p r)) }
 {
     at.push_key(alloc, "functions")?;
     let headings = match read_headings(alloc, sigs, items, at) {
@@ -183,8 +200,12 @@ fn read_function_bodies(
     requires within { All (λ h. h.sig < length globals.now.sigs.now) headings.now.items }
     requires same { length headings.now.items ≡ length items.now.items }
     ensures place { OnOk result (at.new ≡ at.old) }
-    ensures ok { IfOk result (λ fs. read_bodies globals.now.sigs.now globals.now.functions.now (headings_of headings.now.items) (items_view items.now.items) (under at.old (codes "functions")) 0 ≡ read (map part_of fs.items)) }
-    ensures err { IfErr result (Tells (λ p r. read_bodies globals.now.sigs.now globals.now.functions.now (headings_of headings.now.items) (items_view items.now.items) (under at.old (codes "functions")) 0 ≡ language.fault p r)) }
+    ensures ok { IfOk result
+        (λ fs. read_bodies globals.now.sigs.now globals.now.functions.now (headings_of headings.now.items)
+        (items_view items.now.items) (under at.old (codes "functions")) 0 ≡ read (map part_of fs.items)) }
+    ensures err { IfErr result
+        (Tells (λ p r. read_bodies globals.now.sigs.now globals.now.functions.now (headings_of headings.now.items)
+        (items_view items.now.items) (under at.old (codes "functions")) 0 ≡ language.fault p r)) }
 {
     at.push_key(alloc, "functions")?;
     let functions = match read_parts(alloc, globals, headings, items, at) {
@@ -211,8 +232,13 @@ fn read_all_bodies(
     requires within { All (λ h. h.sig < length globals.now.sigs.now) headings.now.items }
     requires same { length headings.now.items ≡ length items.now.items }
     ensures place { OnOk result (at.new ≡ at.old) }
-    ensures ok { IfOk result (λ b. bodies_and_main globals.now.sigs.now globals.now.functions.now (headings_of headings.now.items) (items_view items.now.items) (view value.now) at.old ≡ read (script_in globals.now.sigs.now b.functions.items b.main.items)) }
-    ensures err { IfErr result (Tells (λ p r. bodies_and_main globals.now.sigs.now globals.now.functions.now (headings_of headings.now.items) (items_view items.now.items) (view value.now) at.old ≡ language.fault p r)) }
+    ensures ok { IfOk result
+        (λ b. bodies_and_main globals.now.sigs.now globals.now.functions.now (headings_of headings.now.items)
+        (items_view items.now.items) (view value.now) at.old
+        ≡ read (script_in globals.now.sigs.now b.functions.items b.main.items)) }
+    ensures err { IfErr result
+        (Tells (λ p r. bodies_and_main globals.now.sigs.now globals.now.functions.now (headings_of headings.now.items)
+        (items_view items.now.items) (view value.now) at.old ≡ language.fault p r)) }
 {
     let functions = match read_function_bodies(alloc, globals, headings, items, at) {
         Ok(functions) => functions,
@@ -244,8 +270,12 @@ fn read_rest(
     requires same { length headings.list.items ≡ length items.now.items }
     requires names { headings.names ≡ names_of (headings_of headings.list.items) }
     requires root { at.old ≡ [] }
-    ensures ok { IfOk result (λ b. read_rest natives.now (view value.now) sigs.now (items_view items.now.items) (headings_of headings.list.items) ≡ read (script_in sigs.now b.functions.items b.main.items)) }
-    ensures err { IfErr result (Tells (λ p r. read_rest natives.now (view value.now) sigs.now (items_view items.now.items) (headings_of headings.list.items) ≡ language.fault p r)) }
+    ensures ok { IfOk result
+        (λ b. read_rest natives.now (view value.now) sigs.now (items_view items.now.items)
+        (headings_of headings.list.items) ≡ read (script_in sigs.now b.functions.items b.main.items)) }
+    ensures err { IfErr result
+        (Tells (λ p r. read_rest natives.now (view value.now) sigs.now (items_view items.now.items)
+        (headings_of headings.list.items) ≡ language.fault p r)) }
 {
     let Headings { mut names, list } = headings;
     push_natives(alloc, &mut names, natives)?;
@@ -264,7 +294,8 @@ pub(crate) fn read_root(alloc: Global, value: &Json, natives: &Names) -> Result<
     requires short { HasShortArrays (view value.now) }
     requires within { HasArraysWithin 1048577 (view value.now) }
     requires few { length natives.now < 2 ^ 31 }
-    ensures ok { IfOk result (λ p. read_script natives.now (view value.now) ≡ read (script_in p.sigs p.functions.items p.main.items)) }
+    ensures ok { IfOk result
+        (λ p. read_script natives.now (view value.now) ≡ read (script_in p.sigs p.functions.items p.main.items)) }
     ensures err { IfErr result (Tells (λ p r. read_script natives.now (view value.now) ≡ language.fault p r)) }
 {
     let mut at = Where::new(alloc);
