@@ -9,8 +9,8 @@ ghost use Rattle.ffi3_app.specs.Top.{ReadAs, IsAtEnd, IsReadInPart, IsRead, give
 use crate::limit::run_limit;
 use crate::words::Request;
 use ffi3_io::{ReadEnd, Source, read_all};
-use ffi3_json::{MAX_LENGTH, Reason, Where};
-use ffi3_script::{Names, Script, ScriptFault, read_script};
+use ffi3_json::{MAX_LENGTH, Reason, ScriptFault, Where};
+use ffi3_script::{Names, Script, read_script};
 use std::alloc::Global;
 
 /// Why there is no script to work on.

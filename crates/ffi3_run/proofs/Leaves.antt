@@ -1,5 +1,5 @@
 -- The moves of a function that calls nothing, one after another.
-use Rattle.std.proofs.Common.{◌≡◌, ℕ, suc, ◌+◌, List, [], ◌∷◌, ◌++◌, refl, sym, ap, ◌∙◌, subst, arith, append-nil}
+use Rattle.std.proofs.Common.{◌≡◌, ℕ, suc, ◌+◌, ◌-◌, ◌≤◌, List, [], ◌∷◌, ◌++◌, refl, sym, ap, ◌∙◌, subst, arith, append-nil, length-append}
 use Rattle.ffi3_type_rules.specs.Tree.{Tree}
 use Rattle.ffi3_type_rules.specs.Signature.{Signature}
 use Rattle.ffi3_type_rules.specs.Value.{ValueTree, void_value}
@@ -9,17 +9,17 @@ use Rattle.ffi3_run_rules.specs.Closures.{Closures}
 use Rattle.ffi3_run_rules.specs.Happenings.{written_out}
 use Rattle.ffi3_run_rules.specs.Journal.{events_in}
 use Rattle.ffi3_run_rules.specs.Lines.{a_line}
-use Rattle.ffi3_run_rules.specs.Move.{Move, call, make, free, print, return, Behaviour, result_type_of}
-use Rattle.ffi3_run_rules.specs.Meaning.{Program, Acting, Deeds, no_deeds, deed, line, Outcome, stops_with, act, next_move}
+use Rattle.ffi3_run_rules.specs.Move.{Move, free, print, return, Behaviour, result_type_of}
+use Rattle.ffi3_run_rules.specs.Meaning.{Program, Acting, Deeds, no_deeds, deed, line, Outcome, stops_with, act, next_move, most_moves}
 use Rattle.ffi3_body.specs.Activation.{arguments_in}
 use Rattle.ffi3_body.specs.Follow.{IsOfType, ResultsFollow}
-use Rattle.ffi3_body.proofs.Follow.{one_more_follows}
+use Rattle.ffi3_body.proofs.Follow.{none_follow, one_more_follows}
 use Rattle.ffi3_run.specs.declared.line.Cut.{Cut}
 use Rattle.ffi3_run.specs.declared.line.Cut.TheVariants.{NoMemory}
 use Rattle.ffi3_run.specs.Told.{Took, TookLine}
 use Rattle.ffi3_run.specs.Deeds.{joined, preceded, text_of}
 use Rattle.ffi3_run.specs.Cuts.{CutOff}
-use Rattle.ffi3_run.specs.Leaf.{IsLeafMove, IsKept, Begins, LeafWent, LeafCame, returning}
+use Rattle.ffi3_run.specs.Leaf.{IsKept, Begins, LeafWent, LeafBetween, LeafCame, returning}
 use Rattle.ffi3_run.proofs.Acts.{at_limit, act_returns, act_prints}
 use Rattle.ffi3_run.proofs.Joining.{text-joined, events_in-joined, preceded_twice}
 use Rattle.ffi3_run.proofs.Lines.{took_nothing, took_then, cut_after, cut_in, cut_between}
@@ -28,19 +28,9 @@ use Rattle.ffi3_run.proofs.Lines.{took_nothing, took_then, cut_after, cut_in, cu
 pub one_line : (p : Program) (t : Tree) (v : ValueTree) → text_of p (deed (line t v) no_deeds) ≡ a_line (value_text_of t v)
 one_line p t v = append-nil (a_line (value_text_of t v))
 
--- a move that is neither print nor return is none of a leaf's
-pub no_call : (m : Move) (ptr sig : ℕ) (args : List ValueTree) → m ≡ call ptr sig args → IsLeafMove m → ⊥
-no_call m ptr sig args is leaf = subst IsLeafMove is leaf
-
-pub no_make : (m : Move) (func user : ℕ) → m ≡ make func user → IsLeafMove m → ⊥
-no_make m func user is leaf = subst IsLeafMove is leaf
-
-pub no_free : (m : Move) (ptr : ℕ) → m ≡ free ptr → IsLeafMove m → ⊥
-no_free m ptr is leaf = subst IsLeafMove is leaf
-
--- nor is a free one that is kept
-pub no_free_kept : (m : Move) (ptr : ℕ) → m ≡ free ptr → IsKept m → ⊥
-no_free_kept m ptr is kept = subst IsKept is kept
+-- a free is not kept
+pub no_free : (m : Move) (ptr : ℕ) → m ≡ free ptr → IsKept m → ⊥
+no_free m ptr is kept = subst IsKept is kept
 
 -- results follow after a print
 pub print_follows : (signatures : List Signature) (behaviour : Behaviour) (arguments : List ValueTree) (user : ℕ) (results : List ValueTree) (t : Tree) (v : ValueTree) → behaviour arguments user results ≡ print t v → ResultsFollow signatures behaviour arguments user results → ResultsFollow signatures behaviour arguments user (results ++ void_value ∷ [])
@@ -122,3 +112,49 @@ module _ (behaviour : Behaviour) (s : Signature) (block : List ℕ) (user : ℕ)
             let rest = joined this o.deeds in
             cut_after before now after (text_of p went.deeds) (text_of p rest) (text_of p (act p a c first).deeds) cut (ap (λ (x : Outcome). text_of p x.deeds) then_prints ∙ text-joined p went.deeds rest) went.lines
             (cut_in now after (a_line (value_text_of t v)) (text_of p o.deeds) (text_of p rest) cut refl h)
+
+-- ---- what holds between two moves
+
+one_fewer : (n : ℕ) → (n ≡ 0 → ⊥) → n ≡ suc (n - 1)
+one_fewer n some = omega arith
+
+module _ (signatures : List Signature) (behaviour : Behaviour) (s : Signature) (block : List ℕ) (user first : ℕ) (before : Took) where
+  pub leaf_starts : (results : List ValueTree) → results ≡ [] → first ≤ most_moves → LeafBetween signatures behaviour s block user first results first before before
+  leaf_starts results none few =
+      let P = λ (rs : List ValueTree). LeafBetween signatures behaviour s block user first rs first before before in
+      let start : P [] = record {
+        went = λ p a c begins. leaf_begins behaviour s block user p a c begins first before;
+        follow = none_follow signatures behaviour (arguments_in s.arguments block) user;
+        few = omega arith;
+        falls = omega arith;
+      } in
+      subst P (sym none) start
+
+  module _ (results : List ValueTree) (left : ℕ) (now : Took) (h : LeafBetween signatures behaviour s block user first results left before now) where
+    module _ (p : Program) (a : Acting) (c : Closures) (begins : Begins behaviour s block user p a) where
+      pub limit_there : left ≡ 0 → LeafCame p a c first (stops_with MoveLimit c 0) before now
+      limit_there none =
+          leaf_limit behaviour s block user p a c begins first before results left 0 now (h.went p a c begins) none
+
+      pub cut_there : CutOff (text_of p (act p a c first).deeds) before now NoMemory
+      cut_there =
+          leaf_cut_now behaviour s block user p a c begins first before results left 0 now (h.went p a c begins)
+
+      pub returns_there : (left ≡ 0 → ⊥) → (v : ValueTree) → behaviour (arguments_in s.arguments block) user results ≡ return v → LeafCame p a c first (returning v c (left - 1)) before now
+      returns_there some v is =
+          leaf_returns behaviour s block user p a c begins first before results left (left - 1) now (h.went p a c begins) (one_fewer left some) v is
+
+      pub cut_in_line_there : (left ≡ 0 → ⊥) → (t : Tree) (v : ValueTree) → behaviour (arguments_in s.arguments block) user results ≡ print t v → (after : Took) (cut : Cut) → CutOff (a_line (value_text_of t v)) now after cut → CutOff (text_of p (act p a c first).deeds) before after cut
+      cut_in_line_there some t v is after cut cut_line =
+          leaf_cut_in_line behaviour s block user p a c begins first before results left (left - 1) now (h.went p a c begins) (one_fewer left some) t v is after cut cut_line
+
+    pub leaf_keeps : (left ≡ 0 → ⊥) → (t : Tree) (v : ValueTree) → behaviour (arguments_in s.arguments block) user results ≡ print t v → (after : Took) → TookLine (a_line (value_text_of t v)) now after → (pushed : List ValueTree) → pushed ≡ results ++ void_value ∷ [] → LeafBetween signatures behaviour s block user first pushed (left - 1) before after
+    leaf_keeps some t v is after took pushed same =
+        let P = λ (rs : List ValueTree). LeafBetween signatures behaviour s block user first rs (left - 1) before after in
+        let next : P (results ++ void_value ∷ []) = record {
+          went = λ p a c begins. leaf_prints behaviour s block user p a c begins first before results left (left - 1) now (h.went p a c begins) (one_fewer left some) t v is after took;
+          follow = print_follows signatures behaviour (arguments_in s.arguments block) user results t v is h.follow;
+          few = omega (arith, length-append results (void_value ∷ []), h.few);
+          falls = omega (arith, h.falls);
+        } in
+        subst P (sym same) next

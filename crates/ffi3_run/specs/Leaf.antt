@@ -1,5 +1,5 @@
 -- A function that calls nothing: its moves print, and then it returns.
-use Rattle.std.specs.Prelude.{◌≡◌, ℕ, true, List, [], Result, Ok, Err}
+use Rattle.std.specs.Prelude.{◌≡◌, ℕ, ◌+◌, ◌≤◌, true, List, [], length, Result, Ok, Err}
 use Rattle.ffi3_type_rules.specs.Signature.{Signature}
 use Rattle.ffi3_type_rules.specs.Value.{ValueTree, fits}
 use Rattle.ffi3_values.specs.ValueOf.{value_of}
@@ -8,8 +8,9 @@ use Rattle.ffi3_run_rules.specs.Closures.{Closures}
 use Rattle.ffi3_run_rules.specs.Journal.{events_in}
 use Rattle.ffi3_run_rules.specs.Happenings.{written_out}
 use Rattle.ffi3_run_rules.specs.Move.{Move, free, print, return, Behaviour}
-use Rattle.ffi3_run_rules.specs.Meaning.{Program, Acting, Deeds, no_deeds, returned, Outcome, stops_with, act, behaviour_of}
+use Rattle.ffi3_run_rules.specs.Meaning.{Program, Acting, Deeds, no_deeds, returned, Outcome, stops_with, act, behaviour_of, most_moves}
 use Rattle.ffi3_body.specs.Activation.{arguments_in}
+use Rattle.ffi3_body.specs.Follow.{ResultsFollow}
 use Rattle.ffi3_run.specs.declared.line.Cut.{Cut}
 use Rattle.ffi3_run.specs.declared.leaf.LeafEnd.{LeafEnd}
 use Rattle.ffi3_run.specs.declared.leaf.LeafEnd.TheVariants as leaf
@@ -50,6 +51,13 @@ pub record LeafWent (p : Program) (a : Acting) (c : Closures) (moves : ℕ) (res
   pub quiet : events_in (written_out deeds) ≡ 0
   pub follows : act p a c moves ≡ preceded deeds (act p (record a { results = results }) c left)
   pub lines : TookLine (text_of p deeds) before after
+
+-- WHAT HOLDS BETWEEN TWO OF ITS MOVES
+pub record LeafBetween (signatures : List Signature) (behaviour : Behaviour) (s : Signature) (block : List ℕ) (user moves : ℕ) (results : List ValueTree) (left : ℕ) (before after : Took) : Type 0 where
+  pub went : (p : Program) (a : Acting) (c : Closures) → Begins behaviour s block user p a → LeafWent p a c moves results left before after
+  pub follow : ResultsFollow signatures behaviour (arguments_in s.arguments block) user results
+  pub few : length results + left ≤ most_moves
+  pub falls : left ≤ moves
 
 -- it did these deeds, and no more is done by it: its lines are taken
 pub record LeafCame (p : Program) (a : Acting) (c : Closures) (moves : ℕ) (rest : Outcome) (before after : Took) : Type 0 where

@@ -1,11 +1,14 @@
 -- The program of a script that is run by System V AMD64, and which of its closures a call enters.
-use Rattle.std.specs.Prelude.{◌≡◌, ℕ, ◌≤◌, Some}
+use Rattle.std.specs.Prelude.{◌≡◌, ℕ, ◌≤◌, List, Some, Result, Ok, Err}
 use Rattle.ffi3_type_rules.specs.Signature.{signature_at}
+use Rattle.ffi3_type_rules.specs.Value.{ValueTree}
 use Rattle.ffi3_place_rules.specs.Standard.{need_of}
 use Rattle.ffi3_amd64_rules.specs.Amd64.{amd64}
 use Rattle.ffi3_run_rules.specs.declared.Closure.{Closure}
+use Rattle.ffi3_run_rules.specs.declared.Stop.{Stop}
 use Rattle.ffi3_run_rules.specs.Closures.{Closures, closure_at}
-use Rattle.ffi3_run_rules.specs.Meaning.{Program, stack_size}
+use Rattle.ffi3_run_rules.specs.Meaning.{Program, Acting, enters, stops, doing, callee_of, stack_size}
+use Rattle.ffi3_run_rules.specs.Move.{call}
 use Rattle.ffi3_script_rules.specs.Meaning.{program_of}
 use Rattle.ffi3_machine.specs.State.{IsSlot}
 use Rattle.ffi3_script.specs.ScriptOf.{script_of}
@@ -22,3 +25,10 @@ pub record CanEnter (p : Program) (closures : Closures) (ptr sig : ℕ) (c : Clo
   pub known : IsKnown p c
   pub same : signature_at p.signatures sig ≡ signature_at p.signatures c.sig
   pub room : need_of amd64 (signature_at p.signatures sig) ≤ stack_size
+
+-- in the direct meaning a call enters this closure, or stops the run
+abbrev pub LeadsTo : Program → Acting → Closures → (ptr sig : ℕ) → List ValueTree → Result Closure Stop → Type 0
+LeadsTo p a closures ptr sig args (Ok closure) =
+    doing p a closures (call ptr sig args) ≡ enters ptr sig (callee_of p a sig args closure)
+LeadsTo p a closures ptr sig args (Err stop) =
+    doing p a closures (call ptr sig args) ≡ stops stop

@@ -21,7 +21,7 @@ ghost use Rattle.ffi3_call.specs.Registers.{IsInRegisters};
 ghost use Rattle.ffi3_run.specs.Told.{took};
 ghost use Rattle.ffi3_run.specs.Cuts.{IsOfSigs};
 ghost use Rattle.ffi3_run.specs.Moment.{AreKnown, GoneOn, IsBetween, StoppedBy, Turned, asking, main_after, moment};
-ghost use Rattle.ffi3_run.specs.Programs.{CanEnter, program};
+ghost use Rattle.ffi3_run.specs.Programs.{CanEnter, LeadsTo, program};
 
 use crate::leaf::{LeafEnd, next_move, run_leaf};
 use crate::line::{Cut, write_print, write_stop};
@@ -61,7 +61,8 @@ pub enum Turn {
 fn stop<O: Sink>(alloc: Global, output: &mut O, sigs: &Sigs, stop: Stop) -> Result<Turn, Cut>
     requires right { list_all signature_is_right sigs.now ≡ true }
     requires numbers { IsOfSigs (length sigs.now) stop }
-    ensures { StoppedBy sigs.now stop (took (O.taken output.old) (O.faults output.old)) (took (O.taken output.new) (O.faults output.new)) result }
+    ensures { StoppedBy sigs.now stop
+        (took (O.taken output.old) (O.faults output.old)) (took (O.taken output.new) (O.faults output.new)) result }
 {
     match write_stop(alloc, output, sigs, stop) {
         Ok(()) => Ok(Turn::Stopped(stop)),
@@ -90,7 +91,8 @@ impl Board {
 
     /// The move that main asks for.
     fn asked(&self, alloc: Global, script: &Script) -> Result<Move, NoMemory>
-        requires follow { ResultsFollow (program script.now).signatures (program script.now).main [] 0 self.now.results }
+        requires follow { ResultsFollow
+            (program script.now).signatures (program script.now).main [] 0 self.now.results }
         requires no_natives { natives_of script.now ≡ 0 }
         ensures is { IfOk result (λ m. (program script.now).main [] 0 self.now.results ≡ move_of m) }
         ensures fits { IfOk result
@@ -162,9 +164,8 @@ impl Board {
         requires known { AreKnown (program script.now) self.now.table }
         requires sp { machine.now.sp ≡ STACK_TOP }
         requires runs { first_not_run (script_of script.now) ≡ None }
-        ensures does { (args : List ValueTree) → MatchResult result
-            (λ closure. doing (program script.now) (main_after self.now.results) self.now.table (asks.call ptr sig args) ≡ enters ptr sig (callee_of (program script.now) (main_after self.now.results) sig args closure))
-            (λ stop. doing (program script.now) (main_after self.now.results) self.now.table (asks.call ptr sig args) ≡ stops stop) }
+        ensures does { (args : List ValueTree) →
+            LeadsTo (program script.now) (main_after self.now.results) self.now.table ptr sig args result }
         ensures entered { IfOk result (λ closure. CanEnter (program script.now) self.now.table ptr sig closure) }
         ensures numbers { IfErr result (λ stop. IsOfSigs (length (script_of script.now).signatures) stop) }
     {
@@ -203,7 +204,8 @@ impl Board {
         requires runs { first_not_run (script_of script.now) ≡ None }
         requires no_natives { natives_of script.now ≡ 0 }
         requires below { sig < length (script_of script.now).signatures }
-        requires fit { all_fit (trees_of (signature_at (script_of script.now).signatures sig).arguments) (values_of args.now) ≡ true }
+        requires fit { all_fit
+            (trees_of (signature_at (script_of script.now).signatures sig).arguments) (values_of args.now) ≡ true }
         requires between { IsBetween (program script.now)
             (asking (moment self.old machine.old (took (O.taken output.old) (O.faults output.old)))) }
         requires asked { (program script.now).main [] 0 self.old.results ≡ asks.call ptr sig args.now }

@@ -45,7 +45,8 @@ pub fn run_leaf<B: Body, O: Sink>(
     requires few { moves.old ≤ most_moves }
     ensures ran { (p : Program) (a : Acting) (c : Closures) →
         Begins (B.meaning body.now) sig.now block.now user p a →
-        LeafRan p a c moves.old moves.new (took (O.taken output.old) (O.faults output.old)) (took (O.taken output.new) (O.faults output.new)) result }
+        LeafRan p a c moves.old moves.new
+        (took (O.taken output.old) (O.faults output.old)) (took (O.taken output.new) (O.faults output.new)) result }
     ensures fits { IfOk result (λ end. EndFits sig.now end) }
     ensures falls { moves.new ≤ moves.old }
 {
@@ -87,7 +88,8 @@ pub fn next_move<B: Body>(
     requires right { SignatureHasNoFault sig.now }
     requires sized { length block.now ≡ block_bytes sig.now }
     requires own { sig.now ≡ B.signature body.now }
-    requires follow { ResultsFollow (B.signatures body.now) (B.meaning body.now) (arguments_in sig.now.arguments block.now) user results.now }
+    requires follow { ResultsFollow (B.signatures body.now) (B.meaning body.now)
+        (arguments_in sig.now.arguments block.now) user results.now }
     ensures is { IfOk result
         (λ m. move_of m ≡ B.meaning body.now (arguments_in sig.now.arguments block.now) user results.now) }
     ensures fits { IfOk result

@@ -1,5 +1,5 @@
 //! The lines of a run: prints, and the line of a stop.
-ghost use Rattle.std.specs.Prelude.{◌≡◌, ◌<◌, ◌++◌, IfOk, MatchResult, codes, length, true};
+ghost use Rattle.std.specs.Prelude.{◌≡◌, ◌<◌, ◌++◌, IfOk, codes, length, true};
 ghost use Rattle.std.specs.Fmt.{decimal};
 ghost use Rattle.std.specs.List.{list_all};
 ghost use Rattle.ffi3_type_rules.specs.Value.{fits};
@@ -10,8 +10,8 @@ ghost use Rattle.ffi3_types.specs.TreeOf.{tree_of};
 ghost use Rattle.ffi3_values.specs.ValueOf.{value_of};
 ghost use Rattle.ffi3_script_rules.specs.Typed.{signature_is_right};
 ghost use Rattle.ffi3_run_rules.specs.Lines.{a_line, address_text, stop_text};
-ghost use Rattle.ffi3_run.specs.Told.{TookLine, took};
-ghost use Rattle.ffi3_run.specs.Cuts.{CutOff, IsOfSigs};
+ghost use Rattle.ffi3_run.specs.Told.{took};
+ghost use Rattle.ffi3_run.specs.Cuts.{IsOfSigs, Wrote};
 
 use ffi3_io::{Sink, write_all};
 use ffi3_run_rules::Stop;
@@ -36,9 +36,8 @@ pub fn write_print<O: Sink>(
     value: &Value,
 ) -> Result<(), Cut>
     requires { fits (tree_of ty.now) (value_of value.now) ≡ true }
-    ensures { MatchResult result
-        (λ _. TookLine (a_line (value_text_of (tree_of ty.now) (value_of value.now))) (took (O.taken output.old) (O.faults output.old)) (took (O.taken output.new) (O.faults output.new)))
-        (λ cut. CutOff (a_line (value_text_of (tree_of ty.now) (value_of value.now))) (took (O.taken output.old) (O.faults output.old)) (took (O.taken output.new) (O.faults output.new)) cut) }
+    ensures { Wrote (a_line (value_text_of (tree_of ty.now) (value_of value.now)))
+        (took (O.taken output.old) (O.faults output.old)) (took (O.taken output.new) (O.faults output.new)) result }
 {
     let Ok(line) = print_line(alloc, ty, value) else {
         return Err(Cut::NoMemory);
@@ -55,9 +54,8 @@ pub fn write_stop<O: Sink>(
 ) -> Result<(), Cut>
     requires right { list_all signature_is_right sigs.now ≡ true }
     requires numbers { IsOfSigs (length sigs.now) stop }
-    ensures { MatchResult result
-        (λ _. TookLine (a_line (stop_text sigs.now stop)) (took (O.taken output.old) (O.faults output.old)) (took (O.taken output.new) (O.faults output.new)))
-        (λ cut. CutOff (a_line (stop_text sigs.now stop)) (took (O.taken output.old) (O.faults output.old)) (took (O.taken output.new) (O.faults output.new)) cut) }
+    ensures { Wrote (a_line (stop_text sigs.now stop))
+        (took (O.taken output.old) (O.faults output.old)) (took (O.taken output.new) (O.faults output.new)) result }
 {
     let Ok(line) = stop_line(alloc, sigs, stop) else {
         return Err(Cut::NoMemory);
@@ -66,9 +64,8 @@ pub fn write_stop<O: Sink>(
 }
 
 fn write_line<O: Sink>(output: &mut O, line: &Bytes) -> Result<(), Cut>
-    ensures { MatchResult result
-        (λ _. TookLine line.now (took (O.taken output.old) (O.faults output.old)) (took (O.taken output.new) (O.faults output.new)))
-        (λ cut. CutOff line.now (took (O.taken output.old) (O.faults output.old)) (took (O.taken output.new) (O.faults output.new)) cut) }
+    ensures { Wrote line.now
+        (took (O.taken output.old) (O.faults output.old)) (took (O.taken output.new) (O.faults output.new)) result }
 {
     match write_all(output, line.as_slice()) {
         Ok(()) => Ok(()),

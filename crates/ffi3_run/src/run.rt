@@ -49,12 +49,14 @@ pub fn run_main<O: Sink>(
     requires no_natives { natives_of script.now ≡ 0 }
     ensures done { result ≡ RunEnd.Done →
         IsTold amd64 (program_of amd64 (script_of script.now))
-        (took (O.taken output.old) (O.faults output.old)) (took (O.taken output.new) (O.faults output.new)) machine.new }
+        (took (O.taken output.old) (O.faults output.old)) (took (O.taken output.new) (O.faults output.new))
+        machine.new }
     ensures returns { result ≡ RunEnd.Done →
         (meaning_of (program_of amd64 (script_of script.now))).end ≡ returned void_value }
     ensures stopped { (stop : Stop) → result ≡ RunEnd.Stopped stop →
         IsTold amd64 (program_of amd64 (script_of script.now))
-        (took (O.taken output.old) (O.faults output.old)) (took (O.taken output.new) (O.faults output.new)) machine.new }
+        (took (O.taken output.old) (O.faults output.old)) (took (O.taken output.new) (O.faults output.new))
+        machine.new }
     ensures stops { (stop : Stop) → result ≡ RunEnd.Stopped stop →
         (meaning_of (program_of amd64 (script_of script.now))).end ≡ stopped stop }
     ensures no_memory { result ≡ RunEnd.NoMemory → O.faults output.new ≡ O.faults output.old }

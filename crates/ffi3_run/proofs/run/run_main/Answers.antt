@@ -19,8 +19,8 @@ run_on-requires-clause-between g c =
     let holds = subst (λ (cs : Closures). HoldsMap Amd64 cs (begun_code Amd64)) c.new.ensures.value (c.new.ensures.begins Amd64) in
     subst (λ (x : Moment). IsBetween p x) (sym is) (between_at_start p c.begin.new.self o _ _ c.begin.ensures holds)
 
-pub returns-clause-done : goal.returns-clause-done
-returns-clause-done g c =
+pub returns : goal.returns
+returns g c =
     let p = program c.args.script.now in
     let m = c.begin.new.self in
     let o = took (g.O.Sink.taken c.args.output.now) (g.O.Sink.faults c.args.output.now) in
@@ -29,88 +29,13 @@ returns-clause-done g c =
     let ran = subst (λ (x : Moment). Ran p x last c.run_on.result) is c.run_on.ensures in
     let none = ap (λ (z : State). z.events) c.begin.ensures in
     let mark = ap (λ (z : State). z.mark) c.begin.ensures in
-    ran_done p m o last none mark c.run_on.result ran
-
-pub returns-clause-returns : goal.returns-clause-returns
-returns-clause-returns g c =
-    let p = program c.args.script.now in
-    let m = c.begin.new.self in
-    let o = took (g.O.Sink.taken c.args.output.now) (g.O.Sink.faults c.args.output.now) in
-    let last = moment c.run_on.new.board c.run_on.new.machine (took (g.O.Sink.taken c.run_on.new.output) (g.O.Sink.faults c.run_on.new.output)) in
-    let is = starts (record { table = c.new.result; moves = 10000; results = c.new-2.result }) m o c.new.ensures.value refl c.new-2.ensures in
-    let ran = subst (λ (x : Moment). Ran p x last c.run_on.result) is c.run_on.ensures in
-    let none = ap (λ (z : State). z.events) c.begin.ensures in
-    let mark = ap (λ (z : State). z.mark) c.begin.ensures in
-    ran_returned p m o last none mark c.run_on.result ran
-
-pub returns-clause-stopped : goal.returns-clause-stopped
-returns-clause-stopped g c =
-    let p = program c.args.script.now in
-    let m = c.begin.new.self in
-    let o = took (g.O.Sink.taken c.args.output.now) (g.O.Sink.faults c.args.output.now) in
-    let last = moment c.run_on.new.board c.run_on.new.machine (took (g.O.Sink.taken c.run_on.new.output) (g.O.Sink.faults c.run_on.new.output)) in
-    let is = starts (record { table = c.new.result; moves = 10000; results = c.new-2.result }) m o c.new.ensures.value refl c.new-2.ensures in
-    let ran = subst (λ (x : Moment). Ran p x last c.run_on.result) is c.run_on.ensures in
-    let none = ap (λ (z : State). z.events) c.begin.ensures in
-    let mark = ap (λ (z : State). z.mark) c.begin.ensures in
-    ran_stopped p m o last none mark c.run_on.result ran
-
-pub returns-clause-stops : goal.returns-clause-stops
-returns-clause-stops g c =
-    let p = program c.args.script.now in
-    let m = c.begin.new.self in
-    let o = took (g.O.Sink.taken c.args.output.now) (g.O.Sink.faults c.args.output.now) in
-    let last = moment c.run_on.new.board c.run_on.new.machine (took (g.O.Sink.taken c.run_on.new.output) (g.O.Sink.faults c.run_on.new.output)) in
-    let is = starts (record { table = c.new.result; moves = 10000; results = c.new-2.result }) m o c.new.ensures.value refl c.new-2.ensures in
-    let ran = subst (λ (x : Moment). Ran p x last c.run_on.result) is c.run_on.ensures in
-    let none = ap (λ (z : State). z.events) c.begin.ensures in
-    let mark = ap (λ (z : State). z.mark) c.begin.ensures in
-    ran_stops p m o last none mark c.run_on.result ran
-
-pub returns-clause-no_memory : goal.returns-clause-no_memory
-returns-clause-no_memory g c =
-    let p = program c.args.script.now in
-    let m = c.begin.new.self in
-    let o = took (g.O.Sink.taken c.args.output.now) (g.O.Sink.faults c.args.output.now) in
-    let last = moment c.run_on.new.board c.run_on.new.machine (took (g.O.Sink.taken c.run_on.new.output) (g.O.Sink.faults c.run_on.new.output)) in
-    let is = starts (record { table = c.new.result; moves = 10000; results = c.new-2.result }) m o c.new.ensures.value refl c.new-2.ensures in
-    let ran = subst (λ (x : Moment). Ran p x last c.run_on.result) is c.run_on.ensures in
-    let none = ap (λ (z : State). z.events) c.begin.ensures in
-    let mark = ap (λ (z : State). z.mark) c.begin.ensures in
-    ran_no_memory p m o last none mark c.run_on.result ran
-
-pub returns-clause-failed : goal.returns-clause-failed
-returns-clause-failed g c =
-    let p = program c.args.script.now in
-    let m = c.begin.new.self in
-    let o = took (g.O.Sink.taken c.args.output.now) (g.O.Sink.faults c.args.output.now) in
-    let last = moment c.run_on.new.board c.run_on.new.machine (took (g.O.Sink.taken c.run_on.new.output) (g.O.Sink.faults c.run_on.new.output)) in
-    let is = starts (record { table = c.new.result; moves = 10000; results = c.new-2.result }) m o c.new.ensures.value refl c.new-2.ensures in
-    let ran = subst (λ (x : Moment). Ran p x last c.run_on.result) is c.run_on.ensures in
-    let none = ap (λ (z : State). z.events) c.begin.ensures in
-    let mark = ap (λ (z : State). z.mark) c.begin.ensures in
-    ran_failed p m o last none mark c.run_on.result ran
-
-pub returns-clause-never_falls : goal.returns-clause-never_falls
-returns-clause-never_falls g c =
-    let p = program c.args.script.now in
-    let m = c.begin.new.self in
-    let o = took (g.O.Sink.taken c.args.output.now) (g.O.Sink.faults c.args.output.now) in
-    let last = moment c.run_on.new.board c.run_on.new.machine (took (g.O.Sink.taken c.run_on.new.output) (g.O.Sink.faults c.run_on.new.output)) in
-    let is = starts (record { table = c.new.result; moves = 10000; results = c.new-2.result }) m o c.new.ensures.value refl c.new-2.ensures in
-    let ran = subst (λ (x : Moment). Ran p x last c.run_on.result) is c.run_on.ensures in
-    let none = ap (λ (z : State). z.events) c.begin.ensures in
-    let mark = ap (λ (z : State). z.mark) c.begin.ensures in
-    ran_never_falls p m o last none mark c.run_on.result ran
-
-pub returns-clause-part : goal.returns-clause-part
-returns-clause-part g c =
-    let p = program c.args.script.now in
-    let m = c.begin.new.self in
-    let o = took (g.O.Sink.taken c.args.output.now) (g.O.Sink.faults c.args.output.now) in
-    let last = moment c.run_on.new.board c.run_on.new.machine (took (g.O.Sink.taken c.run_on.new.output) (g.O.Sink.faults c.run_on.new.output)) in
-    let is = starts (record { table = c.new.result; moves = 10000; results = c.new-2.result }) m o c.new.ensures.value refl c.new-2.ensures in
-    let ran = subst (λ (x : Moment). Ran p x last c.run_on.result) is c.run_on.ensures in
-    let none = ap (λ (z : State). z.events) c.begin.ensures in
-    let mark = ap (λ (z : State). z.mark) c.begin.ensures in
-    ran_part p m o last none mark c.run_on.result ran
+    record {
+      done = ran_done p m o last none mark c.run_on.result ran;
+      returns = ran_returned p m o last none mark c.run_on.result ran;
+      stopped = ran_stopped p m o last none mark c.run_on.result ran;
+      stops = ran_stops p m o last none mark c.run_on.result ran;
+      no_memory = ran_no_memory p m o last none mark c.run_on.result ran;
+      failed = ran_failed p m o last none mark c.run_on.result ran;
+      never_falls = ran_never_falls p m o last none mark c.run_on.result ran;
+      part = ran_part p m o last none mark c.run_on.result ran;
+    }

@@ -11,7 +11,7 @@ use Rattle.ffi3_run.specs.Moment.{IsBetween, StoppedBy, Turned, Came, moment}
 use Rattle.ffi3_run.specs.Programs.{program}
 use Rattle.ffi3_run_rules.specs.Meaning.{returned}
 use Rattle.ffi3_type_rules.specs.Value.{void_value}
-use Rattle.ffi3_run.proofs.Leaves.{no_free_kept}
+use Rattle.ffi3_run.proofs.Leaves.{no_free}
 use Rattle.ffi3_run.proofs.Limits.{main_frees_none}
 use Rattle.ffi3_run.proofs.Turns.{limit_here, returns_here, stops_here}
 use Rattle.ffi3_run.proofs.board.Board.turn.Goals as goal
@@ -68,4 +68,4 @@ returns-in-Return g c =
 pub unreachable-requires : goal.unreachable-requires
 unreachable-requires g c =
     let s = script_of c.args.script.now in
-    no_free_kept _ c.in-Free.ptr (c.in-Ok.ensures.is ∙ ap move_of c.in-Free.is) (main_frees_none s c.requires.runs [] 0 c.args.self.now.results)
+    no_free _ c.in-Free.ptr (c.in-Ok.ensures.is ∙ ap move_of c.in-Free.is) (main_frees_none s c.requires.runs [] 0 c.args.self.now.results)
