@@ -42,10 +42,7 @@ fn assert_runs(
     for word in ["ffi3", "run", "--target", "amd64"] {
         words.push(String::from_str(alloc, word)?)?;
     }
-    let mut input = MemSource::new(
-        Vec::from_slice(alloc, text.as_bytes())?,
-        Vec::new(alloc),
-    );
+    let mut input = MemSource::new(Vec::from_slice(alloc, text.as_bytes())?, Vec::new(alloc));
     let mut written = MemSink::new(alloc, 65_536, Vec::new(alloc))?;
     let mut faults = MemSink::new(alloc, 1_024, Vec::new(alloc))?;
     let mut machine = Machine::new(alloc)?;
@@ -119,7 +116,14 @@ fn stops_at_limits(rt: HostRuntime) -> Result<(), Fail> {
     let more = print.repeat(alloc, 10_000)?;
     let lines = "1\n".repeat(alloc, 9_999)?;
     let stopped = format!(in alloc; "{lines}1\nstop: move limit\n")?;
-    assert_runs(&rt, alloc, script(alloc, full.as_str())?.as_str(), 0, "", "")?;
+    assert_runs(
+        &rt,
+        alloc,
+        script(alloc, full.as_str())?.as_str(),
+        0,
+        "",
+        "",
+    )?;
     assert_runs(
         &rt,
         alloc,
@@ -128,8 +132,22 @@ fn stops_at_limits(rt: HostRuntime) -> Result<(), Fail> {
         "stop: closure table full\n",
         "",
     )?;
-    assert_runs(&rt, alloc, script(alloc, most.as_str())?.as_str(), 0, lines.as_str(), "")?;
-    assert_runs(&rt, alloc, script(alloc, more.as_str())?.as_str(), 6, stopped.as_str(), "")
+    assert_runs(
+        &rt,
+        alloc,
+        script(alloc, most.as_str())?.as_str(),
+        0,
+        lines.as_str(),
+        "",
+    )?;
+    assert_runs(
+        &rt,
+        alloc,
+        script(alloc, more.as_str())?.as_str(),
+        6,
+        stopped.as_str(),
+        "",
+    )
 }
 
 #[test]
