@@ -5,14 +5,6 @@ use ffi3_types::Bytes;
 use std::alloc::Global;
 use std::test::Fail;
 
-// The names of two natives.
-fn natives(alloc: Global) -> Result<Names, NoMemory> {
-    let mut names = Names::new(alloc);
-    names.push(String::from_str(alloc, "first")?)?;
-    names.push(String::from_str(alloc, "second")?)?;
-    Ok(names)
-}
-
 // The place in words, then the reason's.
 fn line(alloc: Global, fault: &ScriptFault) -> Result<Bytes, NoMemory> {
     let mut text = Bytes::new(alloc);
@@ -40,7 +32,7 @@ fn told(alloc: Global, functions: &str, main: &str) -> Result<Bytes, NoMemory> {
     let head =
         "{\"version\":1,\"signatures\":[{\"ret\":\"void\",\"args\":[]},{\"ret\":\"sint32\",\"args\":[\"sint32\"]}]";
     let text = format!(in alloc; "{head},\"functions\":[{functions}],\"main\":[{main}]}}")?;
-    let names = natives(alloc)?;
+    let names = Names::new(alloc);
     match read_script(alloc, text.as_bytes(), &names) {
         Ok(script) => {
             let count = script.main().moves();
@@ -55,12 +47,12 @@ fn reads_a_script(rt: HostRuntime) -> Result<(), Fail> {
     let alloc = rt.alloc();
     let text =
         "{\"version\":1,\"signatures\":[{\"ret\":\"sint32\",\"args\":[\"sint32\"]}],\"functions\":[{\"name\":\"second\",\"sig\":0,\"body\":[{\"return\":{\"add\":[{\"arg\":0},1]}}]}],\"main\":[{\"make\":\"second\",\"as\":\"p\"},{\"call\":{\"res\":\"p\"},\"sig\":0,\"args\":[41],\"as\":\"n\"},{\"when\":{\"res\":\"n\"},\"print\":{\"res\":\"n\"}},{\"free\":{\"res\":\"p\"}},{\"return\":null}]}";
-    let names = natives(alloc)?;
+    let names = Names::new(alloc);
     let Ok(script) = read_script(alloc, text.as_bytes(), &names) else {
         return Err(Fail::from(NoMemory));
     };
     assert_eq!(rt; script.functions(), 1);
-    assert_eq!(rt; script.natives(), 2);
+    assert_eq!(rt; script.natives(), 0);
     assert_eq!(rt; script.sigs().len(), 1);
     assert_eq!(rt; script.body(0).moves(), 1);
     assert_eq!(rt; script.main().moves(), 5);
@@ -109,8 +101,8 @@ fn tells_the_first_fault(rt: HostRuntime) -> Result<(), Fail> {
             "/main/0/make: no such function",
         ),
         (
-            "",
-            "{\"make\":\"first\",\"as\":\"a\"},{\"make\":\"second\",\"as\":\"a\"}",
+            "{\"name\":\"f\",\"sig\":0,\"body\":[{\"return\":null}]}",
+            "{\"make\":\"f\",\"as\":\"a\"},{\"make\":\"f\",\"as\":\"a\"}",
             "/main/1/as: name twice",
         ),
         (
