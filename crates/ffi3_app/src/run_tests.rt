@@ -131,6 +131,37 @@ fn stops_at_a_full_table(rt: HostRuntime) -> Result<(), Fail> {
 }
 
 #[test]
+fn does_10000_moves(rt: HostRuntime) -> Result<(), Fail> {
+    let alloc = rt.alloc();
+    let prints = r#"{"print":{"of":["sint8",1]}},"#.repeat(alloc, 9_999)?;
+    let lines = "1\n".repeat(alloc, 9_999)?;
+    assert_runs(
+        &rt,
+        alloc,
+        script(alloc, prints.as_str())?.as_str(),
+        0,
+        lines.as_str(),
+        "",
+    )
+}
+
+#[test]
+fn stops_at_the_move_limit(rt: HostRuntime) -> Result<(), Fail> {
+    let alloc = rt.alloc();
+    let prints = r#"{"print":{"of":["sint8",1]}},"#.repeat(alloc, 10_000)?;
+    let mut lines = "1\n".repeat(alloc, 10_000)?;
+    lines.push_str("stop: move limit\n")?;
+    assert_runs(
+        &rt,
+        alloc,
+        script(alloc, prints.as_str())?.as_str(),
+        6,
+        lines.as_str(),
+        "",
+    )
+}
+
+#[test]
 fn tells_what_is_not_run_yet(rt: HostRuntime) -> Result<(), Fail> {
     let alloc = rt.alloc();
     let rows = [

@@ -7,7 +7,7 @@ use Rattle.serde_json.specs.Find.{get, as_number, as_u64}
 use Rattle.serde_json.specs.Events.{items_len}
 use Rattle.ffi3_type_rules.specs.Signature.{Signature, signature_at}
 use Rattle.ffi3_run_rules.specs.Move.{no_signature}
-use Rattle.ffi3_script_rules.specs.Language.{Path, read, at_item, under, value_under, check_object, no_return_at_the_end}
+use Rattle.ffi3_script_rules.specs.Language.{Path, read, read_signature, at_item, under, value_under, check_object, no_return_at_the_end}
 use Rattle.ffi3_script_rules.specs.Script.{ScriptMove, ScriptFunction, Script}
 use Rattle.ffi3_script_rules.specs.Values.{Given}
 use Rattle.ffi3_script_rules.specs.Bodies.{Surroundings, read_move, read_moves, given_by, read_body, if_ended, ends, Heading, read_bodies, names_of, read_rest, read_script, script_keys, version_of, items_at, read_signatures, read_headings}
@@ -66,13 +66,22 @@ module _ (n : ℕ) where
   items-within (string text) path ds within h = cc
   items-within (object os) path ds within h = cc
 
+  signatures-count : (ds : Items) (path : Path) (i : ℕ) (ss : List Signature) → read_signatures ds path i ≡ read ss → length ss ≡ items_len ds
+  signatures-count no_items path i ss h =
+      subst (λ (rs : List Signature). length rs ≡ 0) (same_read [] ss h) refl
+  signatures-count (item d ds) path i ss h =
+      let s = first_was_read _ (read_signature d (at_item path i)) ss h in
+      let rest = part_was_read _ (read_signatures ds path (i + 1)) ss s.2 in
+      subst (λ (rs : List Signature). length rs ≡ suc (items_len ds)) rest.2 (ap suc (signatures-count ds path (i + 1) rest.0 rest.1))
+
   pub record IsFew (s : Script) : Type 0 where
+    pub signatures : length s.signatures ≤ n
     pub functions : length s.functions ≤ n
     pub moves : All HasFewMoves s.functions
     pub main : length s.main ≤ n
 
-  rest-few : (natives : List (List ℕ)) (d : Data) (ss : List Signature) (fs : Items) (hs : List Heading) (s : Script) → HasArraysWithin n d → HasArraysWithin n (array fs) → read_rest natives d ss fs hs ≡ read s → IsFew s
-  rest-few natives d ss fs hs s within within_fs e =
+  rest-few : (natives : List (List ℕ)) (d : Data) (ss : List Signature) (fs : Items) (hs : List Heading) (s : Script) → HasArraysWithin n d → HasArraysWithin n (array fs) → length ss ≤ n → read_rest natives d ss fs hs ≡ read s → IsFew s
+  rest-few natives d ss fs hs s within within_fs few_ss e =
       let names = names_of hs ++ natives in
       let surroundings : Surroundings = record { signatures = ss; functions = names; own = no_signature } in
       let place = under [] (codes "main") in
@@ -80,7 +89,7 @@ module _ (n : ℕ) where
       let main = part_was_read _ (read_body surroundings (value_under (codes "main") d) place) s functions.2 in
       let each = bodies-few ss names hs fs (under [] (codes "functions")) 0 functions.0 within_fs.1 functions.1 in
       let few = body-few surroundings (value_under (codes "main") d) place main.0 (within-under n (codes "main") d within) main.1 in
-      subst IsFew main.2 (record { functions = omega (arith, each.0, within_fs.0); moves = each.1; main = few })
+      subst IsFew main.2 (record { signatures = few_ss; functions = omega (arith, each.0, within_fs.0); moves = each.1; main = few })
 
   pub script-few : (natives : List (List ℕ)) (d : Data) (s : Script) → HasArraysWithin n d → read_script natives d ≡ read s → IsFew s
   script-few natives d s within e =
@@ -90,4 +99,6 @@ module _ (n : ℕ) where
       let signatures = first_was_read _ (read_signatures ss.0 (under [] (codes "signatures")) 0) s ss.2 in
       let fs = first_was_read _ (items_at (value_under (codes "functions") d) (under [] (codes "functions"))) s signatures.2 in
       let hs = first_was_read (read_rest natives d signatures.0 fs.0) (read_headings (length signatures.0) [] fs.0 (under [] (codes "functions")) 0) s fs.2 in
-      rest-few natives d signatures.0 fs.0 hs.0 s within (items-within (value_under (codes "functions") d) (under [] (codes "functions")) fs.0 (within-under n (codes "functions") d within) fs.1) hs.2
+      let within_ss = items-within (value_under (codes "signatures") d) (under [] (codes "signatures")) ss.0 (within-under n (codes "signatures") d within) ss.1 in
+      let few_ss : length signatures.0 ≤ n = omega (arith, within_ss.0, signatures-count ss.0 (under [] (codes "signatures")) 0 signatures.0 signatures.1) in
+      rest-few natives d signatures.0 fs.0 hs.0 s within (items-within (value_under (codes "functions") d) (under [] (codes "functions")) fs.0 (within-under n (codes "functions") d within) fs.1) few_ss hs.2

@@ -15,6 +15,7 @@ pub mod Rows
 pub mod Evaluated
 pub mod Parts
 mod Walked
+mod Pasts
 mod Few
 mod Making
 mod Refusals

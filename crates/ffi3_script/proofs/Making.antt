@@ -47,8 +47,11 @@ index-map f (x ∷ xs) (suc k) d = index-map f xs k d
 All-unmap : {X Y : Type 0} (P : Y → Type 0) (f : X → Y) (xs : List X) → All P (map f xs) → All (λ x. P (f x)) xs
 All-unmap P f xs all = λ k d below. subst P (index-map f xs k d) (all k (f d) (omega (arith, length-map xs f)))
 
-module _ (n : ℕ) (small : n < 2 ^ 30) (natives : ℕ) (few_natives : natives < 2 ^ 30) (ss : List Signature) (fs : List FunctionPart) (main : List ScriptMove) (few : IsFew n (script_in ss fs main)) where
-  pub functions-few : length fs + natives < 2 ^ 31
+module _ (n : ℕ) (small : n < 2 ^ 31) (ss : List Signature) (fs : List FunctionPart) (main : List ScriptMove) (few : IsFew n (script_in ss fs main)) where
+  pub signatures-few : length ss < 2 ^ 31
+  signatures-few = omega (arith, few.signatures)
+
+  pub functions-few : length fs < 2 ^ 31
   functions-few = omega (arith, few.functions, length-map fs part_of)
 
   pub main-few : length main < 2 ^ 31

@@ -8,6 +8,7 @@ pub mod Numbers
 pub mod PartsOf
 pub mod Shapes
 pub mod Own
+pub mod Always
 pub mod KindOf
 pub mod BodyOf
 pub mod FunctionOf

@@ -1,9 +1,10 @@
 // A body of a script: the moves of a function, or of main.
-ghost use Rattle.std.specs.Prelude.{◌≡◌, ◌<◌, ◌^◌, length, true};
+ghost use Rattle.std.specs.Prelude.{◌≡◌, ◌<◌, ◌≤◌, ◌^◌, length, take, true};
 ghost use Rattle.std.specs.List.{list_all};
 ghost use Rattle.ffi3_script_rules.specs.Typed.{body_is_typed, signature_is_right};
 ghost use Rattle.ffi3_script.specs.ExprOf.{script_moves_of};
 ghost use Rattle.ffi3_script.specs.Own.{own_of, is_below};
+ghost use Rattle.ffi3_script.specs.Always.{is_unconditional};
 
 use crate::doing::{address, is_done};
 use crate::eval::{eval, eval_all};
@@ -39,10 +40,27 @@ pub struct ScriptBody {
     // the number of its own signature; main has none
     own: Option<u32>,
     moves: Vec<ScriptMove>,
+    // how many moves at the start have no condition, and so are always done
+    always: u32,
     ghost typed: { body_is_typed sigs.value functions (own_of sigs.value own) (script_moves_of moves.items) ≡ true },
     ghost right: { list_all signature_is_right sigs.value ≡ true },
     ghost few: { length moves.items < 2 ^ 31 },
     ghost own_there: { is_below (length sigs.value) own ≡ true },
+    ghost always_within: { always ≤ length moves.items },
+    ghost always_done: { list_all is_unconditional (take always moves.items) ≡ true },
+}
+
+// How many moves at the start have no condition.
+fn unconditional(moves: &[ScriptMove]) -> u32
+    requires { length moves.now < 2 ^ 31 }
+    ensures within { result ≤ length moves.now }
+    ensures are { list_all is_unconditional (take result moves.now) ≡ true }
+{
+    let mut count: usize = 0;
+    while count < moves.len() && moves[count].condition.is_none() {
+        count += 1;
+    }
+    count as u32
 }
 
 impl ScriptBody {
@@ -78,11 +96,13 @@ impl ScriptBody {
         ensures functions_are { functions_of result ≡ functions }
         ensures own_is { result.own ≡ own }
     {
+        let always = unconditional(moves.as_slice());
         ScriptBody {
             sigs,
             functions,
             own,
             moves,
+            always,
         }
     }
 
@@ -152,12 +172,15 @@ impl Body for ScriptBody {
     ghost functions = { functions_of };
 
     fn next(&self, alloc: Global, seen: &Seen) -> Result<Move, NoMemory> {
+        // each of the first moves has a result, and none of them a condition
+        let first = self.always.min(seen.results());
+        let done = &self.moves[..first as usize];
         let mut outcomes = Vec::new(alloc);
         // how many results the moves before take
-        let mut taken: u32 = 0;
-        for i in 0..self.moves.len() {
+        let mut taken = first;
+        for i in first as usize..self.moves.len() {
             let m = &self.moves[i];
-            let known = Known::new(&self.sigs, outcomes.as_slice(), seen);
+            let known = Known::new(&self.sigs, done, outcomes.as_slice(), seen);
             let mut result = None;
             if is_done(alloc, &known, &m.condition)? {
                 if taken == seen.results() {

@@ -22,7 +22,7 @@ use std::rc::Rc;
 /// the natives; of two that have one name, the first, and a function before a native. Of bytes that are no script the
 /// first fault is told, in the order of reading.
 pub fn read_script(alloc: Global, bytes: &[u8], natives: &Names) -> Result<Script, ScriptFault>
-    requires { length natives.now < 2 ^ 30 }
+    requires { length natives.now < 2 ^ 31 }
     ensures ok { IfOk result (λ s. IsTheReading natives.now bytes.now (script (script_of s))) }
     ensures natives { IfOk result (λ s. natives_of s ≡ length natives.now) }
     ensures err { IfErr result (IsRefusal natives.now bytes.now) }
@@ -40,7 +40,9 @@ pub fn read_script(alloc: Global, bytes: &[u8], natives: &Names) -> Result<Scrip
 
 // The script of these parts, beside so many natives.
 fn script_of(alloc: Global, parts: Parts, natives: u32) -> Result<Script, NoMemory>
-    requires few { length parts.functions.items + natives < 2 ^ 31 }
+    requires few_signatures { length parts.sigs < 2 ^ 31 }
+    requires few { length parts.functions.items < 2 ^ 31 }
+    requires few_natives { natives < 2 ^ 31 }
     requires functions_few { All (λ f. length f.moves.items < 2 ^ 31) parts.functions.items }
     requires main_few { length parts.main.items < 2 ^ 31 }
     requires typed { script_is_typed natives (script_in parts.sigs parts.functions.items parts.main.items) ≡ true }

@@ -27,7 +27,9 @@ pub struct Script {
     // how many natives there are
     natives: u32,
     ghost right: { list_all signature_is_right sigs.value ≡ true },
-    ghost few: { length functions.items + natives < 2 ^ 31 },
+    ghost few_signatures: { length sigs.value < 2 ^ 31 },
+    ghost few_functions: { length functions.items < 2 ^ 31 },
+    ghost few_natives: { natives < 2 ^ 31 },
     ghost main_stands: { ∥ StandsIn sigs.value (length functions.items + natives) None main ∥₁ },
     ghost bodies_stand: { ∥ All (λ f. StandsIn sigs.value (length functions.items + natives) (Some f.sig) f.body)
         functions.items ∥₁ },
@@ -51,7 +53,9 @@ impl Script {
         main: ScriptBody,
         natives: u32,
     ) -> Script
-        requires few { length functions.items + natives < 2 ^ 31 }
+        requires few_signatures { length sigs.value < 2 ^ 31 }
+        requires few_functions { length functions.items < 2 ^ 31 }
+        requires few_natives { natives < 2 ^ 31 }
         requires main_stands { StandsIn sigs.value (length functions.items + natives) None main }
         requires bodies_stand { All (λ f. StandsIn sigs.value (length functions.items + natives) (Some f.sig) f.body)
             functions.items }
@@ -72,6 +76,7 @@ impl Script {
         ensures are { result.now ≡ (script_of self.now).signatures }
         ensures right { list_all signature_is_right result.now ≡ true }
         ensures faultless { All SignatureHasNoFault result.now }
+        ensures bound { length result.now < 2 ^ 31 }
     {
         &self.sigs
     }
@@ -79,14 +84,15 @@ impl Script {
     /// How many functions there are.
     pub fn functions(&self) -> u32
         ensures are { result ≡ length (script_of self.now).functions }
-        ensures bound { result + natives_of self.now < 2 ^ 31 }
+        ensures bound { result < 2 ^ 31 }
     {
         self.functions.len() as u32
     }
 
     /// Beside how many natives the script was read.
     pub fn natives(&self) -> u32
-        ensures { result ≡ natives_of self.now }
+        ensures are { result ≡ natives_of self.now }
+        ensures bound { result < 2 ^ 31 }
     {
         self.natives
     }

@@ -1,11 +1,11 @@
-use Rattle.std.proofs.Common.{◌≡◌, ◌<◌, ◌^◌, true, length, sym, subst, arith}
+use Rattle.std.proofs.Common.{◌≡◌, true, length, sym, subst, arith}
 use Rattle.serde_json.specs.View.{view}
 use Rattle.ffi3_script_rules.specs.Reading.{IsTheReading, script}
 use Rattle.ffi3_script_rules.specs.Typed.{script_is_typed}
 use Rattle.ffi3_script_rules.proofs.WellTyped.{script_is_well_typed}
 use Rattle.ffi3_script.specs.PartsOf.{script_in}
 use Rattle.ffi3_script.proofs.Few.{IsFew, script-few}
-use Rattle.ffi3_script.proofs.Making.{functions-few, each-few, main-few}
+use Rattle.ffi3_script.proofs.Making.{signatures-few, functions-few, each-few, main-few}
 use Rattle.ffi3_script.proofs.Refusals.{refused-text, refused-value, accepted}
 use Rattle.ffi3_script.proofs.read.read_script.Goals as goal
 
@@ -23,11 +23,12 @@ script_of-requires c =
     let s = script_in p.sigs p.functions.items p.main.items in
     let few : IsFew 1048577 s = script-few 1048577 natives (view c.in-Ok.value) s c.in-Ok.ensures.few c.in-Ok-read_root.ensures.ok in
     let same : c.len.result ≡ length natives = c.len.ensures in
-    let small : c.len.result < 2 ^ 30 = omega (arith, same, c.requires) in
     record {
-      few = functions-few 1048577 (omega arith) c.len.result small p.sigs p.functions.items p.main.items few;
-      functions_few = each-few 1048577 (omega arith) c.len.result small p.sigs p.functions.items p.main.items few;
-      main_few = main-few 1048577 (omega arith) c.len.result small p.sigs p.functions.items p.main.items few;
+      few_signatures = signatures-few 1048577 (omega arith) p.sigs p.functions.items p.main.items few;
+      few_natives = omega (arith, same, c.requires);
+      few = functions-few 1048577 (omega arith) p.sigs p.functions.items p.main.items few;
+      functions_few = each-few 1048577 (omega arith) p.sigs p.functions.items p.main.items few;
+      main_few = main-few 1048577 (omega arith) p.sigs p.functions.items p.main.items few;
       typed = subst (λ n. script_is_typed n s ≡ true) (sym same) (script_is_well_typed natives (view c.in-Ok.value) s c.in-Ok-read_root.ensures.ok);
     }
 
