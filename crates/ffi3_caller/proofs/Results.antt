@@ -1,0 +1,76 @@
+-- A result that an image owns is what is loaded from it, in pieces or from the caller's buffer.
+use Rattle.std.proofs.Common.{◌≡◌, ℕ, ◌+◌, ◌-◌, ◌≤◌, List, [], ◌∷◌, take, drop, length, refl, ap, sym, ◌∙◌, subst, arith}
+use Rattle.std.specs.List.{AllByRecursion}
+use Rattle.std.proofs.lemmas.List.{drop-drop, drop-take, take-take}
+use Rattle.ffi3_type_rules.specs.Tree.{Tree}
+use Rattle.ffi3_type_rules.specs.Layout.{size_of, leaves_of}
+use Rattle.ffi3_type_rules.specs.Signature.{Signature}
+use Rattle.ffi3_type_rules.specs.Value.{ValueTree, value_in}
+use Rattle.ffi3_type_rules.proofs.Layouts.{least_multiple-above}
+use Rattle.ffi3_place_rules.specs.declared.Loc.{Loc}
+use Rattle.ffi3_place_rules.specs.declared.Piece.{Piece}
+use Rattle.ffi3_place_rules.specs.declared.Res.{Res}
+use Rattle.ffi3_place_rules.specs.declared.Res.TheVariants.{Direct as DirectRes, Hidden}
+use Rattle.ffi3_place_rules.specs.Standard.{Standard, ResultSpot, no_result, in_result_pieces, in_buffer, plan_of, frame_of, result_at, buffer_start, buffer_bytes, round8}
+use Rattle.ffi3_place_rules.specs.Holds.{leaf_bytes, OwnResult, OwnsResult}
+use Rattle.ffi3_place_rules.specs.Sound.{LiesIn, IsSound, HaveAll, IsPieceOf, ResultHasAll, piece_locs, result_locs}
+use Rattle.ffi3_place_rules.proofs.Tests.{each_weaker}
+use Rattle.ffi3_machine.specs.State.{State, image_of, stack_at}
+use Rattle.ffi3_machine.specs.declared.TheConstants.{STACK}
+use Rattle.ffi3_caller.specs.Loaded.{IsWithin, loaded}
+use Rattle.ffi3_caller.proofs.Reading.{reads}
+use Rattle.ffi3_caller.proofs.Loading.{leaves_loaded}
+
+each_loc : (P : Loc → Type 0) (pieces : List Piece) → AllByRecursion P (piece_locs pieces) → AllByRecursion (λ p. P p.loc) pieces
+each_loc P [] h = tt
+each_loc P (p ∷ ps) h = (h.0, each_loc P ps h.1)
+
+-- the pieces of a result stand in registers
+pub in_registers : (r : Res) (pieces : List Piece) → r ≡ DirectRes pieces → AllByRecursion (LiesIn 0) (result_locs r) → AllByRecursion (λ p. LiesIn 0 p.loc) pieces
+in_registers r pieces is h =
+    each_loc (LiesIn 0) pieces (subst (λ q. AllByRecursion (LiesIn 0) (result_locs q)) is h)
+
+pub has_all : (t : Tree) (r : Res) (pieces : List Piece) → r ≡ DirectRes pieces → ResultHasAll t r → HaveAll t pieces
+has_all t r pieces is h = subst (ResultHasAll t) is h
+
+pub direct_value : (m : State) (frame : ℕ) (std : Standard) (s : Signature) (pieces : List Piece) (old : List ℕ) (v : ValueTree) → IsSound std s → (plan_of std s).res ≡ DirectRes pieces → length old ≡ size_of s.result_type → length (loaded m pieces old) ≡ length old → OwnResult std s v (image_of frame m) → value_in s.result_type (loaded m pieces old) ≡ v
+direct_value m frame std s pieces old v sound is sized still own =
+    let t = s.result_type in
+    let all = has_all t (plan_of std s).res pieces is sound.result_has_all in
+    let within = each_weaker (IsPieceOf t) (IsWithin (size_of t)) (λ p h. (h.short, h.within)) pieces all.each in
+    let registers = in_registers (plan_of std s).res pieces is sound.result_in_registers in
+    let stand = subst (λ r. OwnsResult (image_of frame m) t r v) is own.stands in
+    reads t v (loaded m pieces old) own.fitting (still ∙ sized) (leaves_loaded m frame (size_of t) pieces old (leaves_of t) (leaf_bytes v) sized within registers all.covered stand)
+
+-- ---- a hidden result
+
+buffer_is : (t : Tree) (start : ℕ) (spot : ResultSpot) (at : Loc) (buffer : ℕ) → result_at start spot ≡ Hidden at buffer → (start ≡ buffer) × (buffer_bytes t spot ≡ round8 (size_of t))
+buffer_is t start no_result at buffer is = cc
+buffer_is t start (in_result_pieces pieces) at buffer is = cc
+buffer_is t start (in_buffer here) at buffer is = (cc, refl)
+
+-- its buffer lies in the frame
+pub buffer_within : (std : Standard) (s : Signature) (at : Loc) (buffer : ℕ) → (plan_of std s).res ≡ Hidden at buffer → buffer + size_of s.result_type ≤ frame_of std s
+buffer_within std s at buffer is =
+    let p = std.placing s in
+    let t = s.result_type in
+    let known = buffer_is t (buffer_start s p) p.result_spot at buffer is in
+    omega (arith, known.0, known.1, least_multiple-above 8 (size_of t), least_multiple-above 16 (buffer_start s p + buffer_bytes t p.result_spot))
+
+part_of_frame : (xs : List ℕ) (n buffer size : ℕ) → buffer + size ≤ n → take size (drop buffer (take n xs)) ≡ take size (drop buffer xs)
+part_of_frame xs n buffer size room =
+    let whole : n ≡ buffer + (n - buffer) = omega (arith, room) in
+    ap (λ k. take size (drop buffer (take k xs))) whole ∙ ap (take size) (drop-take buffer (n - buffer) xs) ∙ take_less (drop buffer xs) size (n - buffer) (omega (arith, room))
+  where
+    take_less : (ys : List ℕ) (i j : ℕ) → i ≤ j → take i (take j ys) ≡ take i ys
+    take_less ys i j h = take-take i j ys h
+
+pub hidden_value : (m : State) (std : Standard) (s : Signature) (at : Loc) (buffer start : ℕ) (v : ValueTree) → (plan_of std s).res ≡ Hidden at buffer → STACK ≤ m.sp → start ≡ m.sp + buffer → OwnResult std s v (image_of (frame_of std s) m) → value_in s.result_type (stack_at start (size_of s.result_type) m) ≡ v
+hidden_value m std s at buffer start v is low starts own =
+    let t = s.result_type in
+    let frame = frame_of std s in
+    let stand = subst (λ r. OwnsResult (image_of frame m) t r v) is own.stands in
+    let plain : 0 + buffer ≡ buffer = omega arith in
+    let there : (m.sp - STACK) + buffer ≡ start - STACK = omega (arith, starts, low) in
+    let same = part_of_frame (drop (m.sp - STACK) m.stack) frame buffer (size_of t) (buffer_within std s at buffer is) ∙ ap (take (size_of t)) (drop-drop buffer (m.sp - STACK) m.stack ∙ ap (λ n. drop n m.stack) there) in
+    ap (value_in t) (sym same ∙ ap (λ n. take (size_of t) (drop n (stack_at m.sp frame m))) (sym plain)) ∙ stand

@@ -1,0 +1,105 @@
+//! The caller's side of a call, by any calling standard: whether the stack has room for it, its
+//! result, and the end of its frame.
+#![tactic(auto)]
+
+ghost use Rattle.std.specs.Prelude.{◌≡◌, ◌+◌, ◌-◌, ◌<◌, ◌≤◌, IfErr, IfOk, length};
+ghost use Rattle.std.specs.List.{AllByRecursion};
+ghost use Rattle.ffi3_type_rules.specs.Layout.{size_of};
+ghost use Rattle.ffi3_type_rules.specs.Value.{ValueTree, value_in};
+ghost use Rattle.ffi3_place_rules.specs.Holds.{OwnResult};
+ghost use Rattle.ffi3_place_rules.specs.Sound.{LiesIn};
+ghost use Rattle.ffi3_place_rules.specs.Standard.{plan_of, need_of, frame_of};
+ghost use Rattle.ffi3_machine.specs.declared.TheConstants.{STACK, STACK_TOP};
+ghost use Rattle.ffi3_machine.specs.State.{image_of, with_sp};
+ghost use Rattle.ffi3_caller.specs.Loaded.{AreWithin, IsWithin, loaded, with_piece};
+
+#[cfg(test)]
+mod tests;
+
+use ffi3_cif::Cif;
+use ffi3_machine::{Machine, STACK};
+use ffi3_place::{Abi, Loc, Piece, Pieces, Res};
+use thiserror::Error;
+
+/// A call takes more bytes of stack than are left.
+#[derive(Clone, Copy, Debug, PartialEq, Eq, Error)]
+#[error("stack full: need {need}, left {left}")]
+pub struct StackFull {
+    /// The bytes that the call takes, with its callee's save area and block.
+    pub need: u64,
+    /// The bytes below the stack pointer.
+    pub left: u64,
+}
+
+/// Whether the stack has room for a call, the callee's save area and block included.
+pub fn room_for<A: Abi>(machine: &Machine, cif: &Cif<A>) -> Result<(), StackFull>
+    ensures ok { IfOk result (λ r. STACK + need_of A.standard cif.now ≤ machine.now.sp) }
+    ensures full { IfErr result (λ f. machine.now.sp < STACK + need_of A.standard cif.now) }
+    ensures numbers { IfErr result
+        (λ f. f ≡ record { need = need_of A.standard cif.now; left = machine.now.sp - STACK }) }
+{
+    let need = cif.need();
+    let left = machine.sp() - STACK;
+    if need > left {
+        return Err(StackFull { need, left });
+    }
+    Ok(())
+}
+
+/// The bytes of the result, at a return. Bytes of padding may be any.
+pub fn load_result<A: Abi>(machine: &Machine, cif: &Cif<A>, out: &mut [u8])
+    requires frame { machine.now.sp + frame_of A.standard cif.now ≤ STACK_TOP }
+    requires sized { length out.old ≡ size_of cif.now.result_type }
+    ensures sized { length out.new ≡ length out.old }
+    ensures value { (v : ValueTree) → OwnResult A.standard cif.now v (image_of (frame_of A.standard cif.now) machine.now) →
+        value_in cif.now.result_type out.new ≡ v }
+{
+    // their contracts tell what is true of every interface and of every machine
+    let _sig = cif.sig();
+    let base = machine.sp();
+    match cif.result_place() {
+        Res::Nothing => {}
+        Res::Direct(pieces) => load_pieces(machine, pieces, out),
+        Res::Hidden { buffer, .. } => {
+            let start = base + *buffer as u64;
+            out.copy_from_slice(machine.lend_stack(start, out.len() as u64));
+        }
+    }
+}
+
+// The bytes of pieces in registers.
+fn load_pieces(machine: &Machine, pieces: &Pieces, out: &mut [u8])
+    requires within { AreWithin (length out.old) pieces.now }
+    requires registers { AllByRecursion (λ p. LiesIn 0 p.loc) pieces.now }
+    ensures sized { length out.new ≡ length out.old }
+    ensures loaded { out.new ≡ loaded machine.now pieces.now out.old }
+{
+    for i in 0..pieces.len() {
+        load_piece(machine, pieces.get(i), out);
+    }
+}
+
+// The bytes of one piece in a register.
+fn load_piece(machine: &Machine, piece: &Piece, out: &mut [u8])
+    requires within { IsWithin (length out.old) piece.now }
+    requires register { LiesIn 0 piece.now.loc }
+    ensures sized { length out.new ≡ length out.old }
+    ensures loaded { out.new ≡ with_piece machine.now piece.now out.old }
+{
+    let word = match piece.loc {
+        Loc::G(k) => machine.g(k),
+        Loc::F(k) => machine.f(k),
+        Loc::S(_) => unreachable!(),
+    };
+    let start = piece.off as usize;
+    let end = start + piece.len as usize;
+    out[start..end].copy_from_slice(&word.to_le_bytes()[..piece.len as usize]);
+}
+
+/// Ends the frame of a call: the stack pointer is where it stood before the call.
+pub fn drop_frame<A: Abi>(machine: &mut Machine, cif: &Cif<A>)
+    requires frame { machine.old.sp + frame_of A.standard cif.now ≤ STACK_TOP }
+    ensures { machine.new ≡ with_sp (machine.old.sp + frame_of A.standard cif.now) machine.old }
+{
+    machine.set_sp(machine.sp() + cif.frame());
+}
