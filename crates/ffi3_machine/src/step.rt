@@ -18,8 +18,9 @@ ghost use Rattle.ffi3_machine.specs.Step.{
   register,
 };
 
-use crate::{CODE, CODE_END, Machine, STACK, STACK_TOP, Target};
+use crate::{CODE, CODE_END, Machine, STACK, STACK_TOP};
 use ffi3_isa::{Instr, decode_aarch64, decode_amd64, decode_riscv};
+use ffi3_type_rules::Isa;
 
 /// A step that cannot be done, with its pc.
 #[derive(Clone, Copy, Debug, PartialEq, Eq)]
@@ -67,15 +68,15 @@ impl Machine {
             return None;
         }
         let bytes = self.code_from(pc);
-        match self.target() {
-            Target::Amd64 => decode_amd64(bytes),
-            Target::Aapcs64 => {
+        match self.target().isa() {
+            Isa::Amd64 => decode_amd64(bytes),
+            Isa::Aarch64 => {
                 if pc % 4 != 0 {
                     return None;
                 }
                 decode_aarch64(bytes)
             }
-            Target::Riscv => {
+            Isa::Riscv => {
                 if pc % 4 != 0 {
                     return None;
                 }
@@ -138,10 +139,10 @@ impl Machine {
         requires { k < 32 }
         ensures { result ≡ register k self.now }
     {
-        let target = self.target();
-        if reads_zero(target, k) {
+        let isa = self.target().isa();
+        if reads_zero(isa, k) {
             0
-        } else if reads_sp(target, k) {
+        } else if reads_sp(isa, k) {
             self.sp()
         } else {
             self.g(k)
@@ -167,7 +168,7 @@ impl Machine {
         ensures { self.new ≡ changed change self.old }
     {
         if let Some((k, value)) = change.register {
-            if !reads_zero(self.target, k) {
+            if !reads_zero(self.target.isa(), k) {
                 self.general[k as usize] = value;
             }
         }
@@ -199,25 +200,25 @@ fn even(addr: u64) -> u64
     addr - addr % 2
 }
 
-// Whether the register is the zero register.
-fn reads_zero(target: Target, k: u8) -> bool
-    ensures { result ≡ reads_zero target k }
+// Whether the register reads as 0, and a write to it is dropped.
+fn reads_zero(isa: Isa, k: u8) -> bool
+    ensures { result ≡ reads_zero isa k }
 {
-    match target {
-        Target::Amd64 => false,
-        Target::Aapcs64 => k == 31,
-        Target::Riscv => k == 0,
+    match isa {
+        Isa::Amd64 => false,
+        Isa::Aarch64 => k == 31,
+        Isa::Riscv => k == 0,
     }
 }
 
 // Whether the register's number names the stack pointer.
-fn reads_sp(target: Target, k: u8) -> bool
-    ensures { result ≡ reads_sp target k }
+fn reads_sp(isa: Isa, k: u8) -> bool
+    ensures { result ≡ reads_sp isa k }
 {
-    match target {
-        Target::Amd64 => false,
-        Target::Aapcs64 => false,
-        Target::Riscv => k == 2,
+    match isa {
+        Isa::Amd64 => false,
+        Isa::Aarch64 => false,
+        Isa::Riscv => k == 2,
     }
 }
 
