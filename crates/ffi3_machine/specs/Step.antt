@@ -44,11 +44,11 @@ reads_sp Aarch64 k = false
 reads_sp Riscv k = k == stack_pointer Riscv
 
 -- register k, as an instruction reads it
-abbrev pub register : ℕ → State → ℕ
-register k s =
-    if reads_zero (isa_of s.target) k
+abbrev pub register : Isa → ℕ → State → ℕ
+register isa k s =
+    if reads_zero isa k
     then 0
-    else (if reads_sp (isa_of s.target) k then s.sp else slice_index s.general k)
+    else (if reads_sp isa k then s.sp else slice_index s.general k)
 
 -- ---- loads
 
@@ -76,18 +76,18 @@ abbrev pub sets : ℕ → ℕ → ℕ → Change
 sets k pc value = record { register = Some (k, value); pc = pc }
 
 -- What the instruction, which has so many bytes, changes; none where its load does not lie in one region
-abbrev pub change_of : Instr → ℕ → State → Option Change
-change_of Endbr size s = Some (goes_to (next size s))
-change_of Nop size s = Some (goes_to (next size s))
-change_of (Lea reg d) size s = Some (sets reg (next size s) (moved (next size s) d))
-change_of (JmpMem d) size s = option_map goes_to (loaded (moved (next size s) d) s)
-change_of (LdrLit t d) size s = option_map (sets t (next size s)) (loaded (moved s.pc d) s)
-change_of (Adr rd d) size s = Some (sets rd (next size s) (moved s.pc d))
-change_of (Br n) size s = Some (goes_to (register n s))
-change_of (Auipc rd d) size s = Some (sets rd (next size s) (moved s.pc d))
-change_of (Ld rd rs d) size s = option_map (sets rd (next size s)) (loaded (moved (register rs s) d) s)
-change_of (Jalr rd rs d) size s = Some (sets rd (even (moved (register rs s) d)) (next size s))
-change_of (Addi rd rs d) size s = Some (sets rd (next size s) (moved (register rs s) d))
+abbrev pub change_of : Isa → Instr → ℕ → State → Option Change
+change_of isa Endbr size s = Some (goes_to (next size s))
+change_of isa Nop size s = Some (goes_to (next size s))
+change_of isa (Lea reg d) size s = Some (sets reg (next size s) (moved (next size s) d))
+change_of isa (JmpMem d) size s = option_map goes_to (loaded (moved (next size s) d) s)
+change_of isa (LdrLit t d) size s = option_map (sets t (next size s)) (loaded (moved s.pc d) s)
+change_of isa (Adr rd d) size s = Some (sets rd (next size s) (moved s.pc d))
+change_of isa (Br n) size s = Some (goes_to (register isa n s))
+change_of isa (Auipc rd d) size s = Some (sets rd (next size s) (moved s.pc d))
+change_of isa (Ld rd rs d) size s = option_map (sets rd (next size s)) (loaded (moved (register isa rs s) d) s)
+change_of isa (Jalr rd rs d) size s = Some (sets rd (even (moved (register isa rs s) d)) (next size s))
+change_of isa (Addi rd rs d) size s = Some (sets rd (next size s) (moved (register isa rs s) d))
 
 -- the general registers after a write, which the zero register drops
 abbrev pub written : Isa → Option (ℕ × ℕ) → List ℕ → List ℕ
@@ -96,9 +96,9 @@ written isa (Some (k, value)) general =
     if reads_zero isa k then general else slice_set general k value
 
 -- the machine after an instruction: all that is not named stays
-abbrev pub changed : Change → State → State
-changed change s = record s {
-  general = written (isa_of s.target) change.register s.general;
+abbrev pub changed : Isa → Change → State → State
+changed isa change s = record s {
+  general = written isa change.register s.general;
   pc = change.pc;
 }
 
@@ -116,19 +116,23 @@ IsAligned Aarch64 pc = pc % 4 ≡ 0
 IsAligned Riscv pc = pc % 4 ≡ 0
 
 -- the instruction stands wholly in the code region at pc
-pub record Stands (s : State) (instr : Instr) (size : ℕ) : Type 0 where
+pub record Stands (isa : Isa) (s : State) (instr : Instr) (size : ℕ) : Type 0 where
   pub low : CODE ≤ s.pc
-  pub aligned : IsAligned (isa_of s.target) s.pc
-  pub listed : IsListed (isa_of s.target) (drop (s.pc - CODE) s.code) instr size
+  pub aligned : IsAligned isa s.pc
+  pub listed : IsListed isa (drop (s.pc - CODE) s.code) instr size
 
--- the instruction at pc takes the machine from one state to the other
-pub record Steps (before after : State) : Type 0 where
+-- the instruction of the set that stands at pc takes the machine from one state to the other
+pub record StepsBy (isa : Isa) (before after : State) : Type 0 where
   pub instr : Instr
   pub size : ℕ
   pub change : Change
-  pub stands : Stands before instr size
-  pub does : change_of instr size before ≡ Some change
-  pub is_after : after ≡ changed change before
+  pub stands : Stands isa before instr size
+  pub does : change_of isa instr size before ≡ Some change
+  pub is_after : after ≡ changed isa change before
+
+-- by the instruction set of the machine's target
+abbrev pub Steps : State → State → Type 0
+Steps before after = StepsBy (isa_of before.target) before after
 
 -- so many instructions, one after another, take the machine from one state to the other
 abbrev pub TakesSteps : ℕ → State → State → Type 0

@@ -2,6 +2,7 @@
 ghost use Rattle.std.specs.Prelude.{◌≡◌, ℕ, ◌<◌, ◌≤◌, ◌+◌, ◌-◌, ◌%◌, ◌^◌, ℤ, drop, IfSome, IfErr, OnOk, OnErr, Ok, Some};
 ghost use Rattle.ffi3_isa.specs.declared.Instr.{Instr};
 ghost use Rattle.ffi3_isa.specs.Registers.{HasRegistersBelow};
+ghost use Rattle.ffi3_type_rules.specs.Isa.{isa_of};
 ghost use Rattle.ffi3_machine.specs.State.{IsMachine, State};
 ghost use Rattle.ffi3_machine.specs.Step.{
   Stands,
@@ -59,8 +60,8 @@ impl Machine {
 
     // The instruction that stands wholly in the code region at pc, and how many bytes it has.
     fn decoded(&self) -> Option<(Instr, u8)>
-        ensures stands { IfSome result (λ p. Stands self.now p.0 p.1) }
-        ensures only { (i : Instr) (n : ℕ) → Stands self.now i n → result ≡ Some (i, n) }
+        ensures stands { IfSome result (λ p. Stands (isa_of self.now.target) self.now p.0 p.1) }
+        ensures only { (i : Instr) (n : ℕ) → Stands (isa_of self.now.target) self.now i n → result ≡ Some (i, n) }
         ensures registers { IfSome result (λ p. HasRegistersBelow 32 p.0) }
     {
         let pc = self.pc();
@@ -100,7 +101,7 @@ impl Machine {
     // What an instruction of `size` bytes changes.
     fn change_of(&self, instr: Instr, size: u8) -> Option<Change>
         requires { HasRegistersBelow 32 instr }
-        ensures value { result ≡ change_of instr size self.now }
+        ensures value { result ≡ change_of (isa_of self.now.target) instr size self.now }
         ensures in_range { IfSome result (λ c. IfSome c.register (λ p. p.0 < 32)) }
     {
         let pc = self.pc();
@@ -137,7 +138,7 @@ impl Machine {
     // A general register, as an instruction reads it.
     fn register(&self, k: u8) -> u64
         requires { k < 32 }
-        ensures { result ≡ register k self.now }
+        ensures { result ≡ register (isa_of self.now.target) k self.now }
     {
         let isa = self.target().isa();
         if reads_zero(isa, k) {
@@ -165,7 +166,7 @@ impl Machine {
     // Makes the change.
     fn apply(&mut self, change: Change)
         requires { IfSome change.register (λ p. p.0 < 32) }
-        ensures { self.new ≡ changed change self.old }
+        ensures { self.new ≡ changed (isa_of self.old.target) change self.old }
     {
         if let Some((k, value)) = change.register {
             if !reads_zero(self.target.isa(), k) {
