@@ -4,4 +4,6 @@ pub mod Agrees
 pub mod Sound
 pub mod Copies
 pub mod Sums
+pub mod Steps
+pub mod Planned
 mod Rows
