@@ -6,4 +6,5 @@ pub mod Agrees
 pub mod Sound
 mod Copies
 pub mod Sums
+pub mod Turns
 mod Rows

@@ -83,7 +83,7 @@ module _ (s : Signature) where
 
 -- ---- copies and buffer
 
-copied : (end : ℕ) (before : Used) (t : Tree) (shape : Shape) → copy_end at_once end t (spot_of before t shape) ≡ end + copy_bytes shape t
+pub copied : (end : ℕ) (before : Used) (t : Tree) (shape : Shape) → copy_end at_once end t (spot_of before t shape) ≡ end + copy_bytes shape t
 copied end before t OneF = omega arith
 copied end before t TwoF = omega arith
 copied end before t FI = omega arith
@@ -99,7 +99,7 @@ buffered_as end t IF = omega arith
 buffered_as end t (Words n) = omega arith
 buffered_as end t ByRef = refl
 
-buffered : (end : ℕ) (t : Tree) → buffer_end at_once end t (result_spot_of t) ≡ end + copy_bytes (result_shape t) t
+pub buffered : (end : ℕ) (t : Tree) → buffer_end at_once end t (result_spot_of t) ≡ end + copy_bytes (result_shape t) t
 buffered end void = omega arith
 buffered end (scalar k) = buffered_as end (scalar k) (result_shape (scalar k))
 buffered end (left_out k) = buffered_as end (left_out k) (result_shape (left_out k))
