@@ -33,7 +33,7 @@ stop_text signatures MoveLimit = codes "stop: move limit"
 
 -- ---- where a run stands
 
--- a call that is open: its signature, and how many entries and returns came before its own entry
+-- a call that is open: its signature, and the number of its entry among the run's entries and returns, from 0
 pub record OpenCall : Type 0 where
   pub signature : Signature
   pub entry : ℕ
@@ -82,7 +82,7 @@ abbrev pub word_text : ℕ → List ℕ
 word_text n =
     replicate (16 - length (digits 16 false n)) 48 ++ digits 16 false n
 
--- the preserved registers, as the caller left them before the entry that n others or returns came before
+-- the preserved registers, as the caller leaves them for the entry of number n
 abbrev pub keep_text : Standard → (n : ℕ) → List ℕ
 keep_text std n =
     codes "keep" ++ concat (map (λ at. codes " " ++ word_text (scribble n at)) std.preserved)
