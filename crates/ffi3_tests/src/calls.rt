@@ -5,8 +5,8 @@ ghost use Rattle.std.specs.Prelude.{◌≡◌, length};
 ghost use Rattle.ffi3_type_rules.specs.Signature.{SignatureHasNoFault};
 ghost use Rattle.ffi3_place_rules.specs.Standard.{block_bytes};
 
-use crate::{begin_call, block, end_call, is_in_registers, stack_need};
 use ffi3_body::Seen;
+use ffi3_call::{begin_call, block, end_call, is_in_registers, stack_need};
 use ffi3_closures::Table;
 use ffi3_machine::{Event, Machine, NoMemory, STACK};
 use ffi3_types::{Bytes, FfiType, Fields, Sig, check_sig};
