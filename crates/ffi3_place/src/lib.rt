@@ -1,15 +1,16 @@
 // Places of arguments and results, the trait of a calling standard, and what the standards share.
 #![tactic(auto)]
 
-ghost use Rattle.std.specs.Prelude.{◌≡◌, ℕ, ◌<◌, IfOk, length, slice_index_or};
+ghost use Rattle.std.specs.Prelude.{◌≡◌, ℕ, ◌*◌, ◌<◌, IfOk, length, slice_index_or};
 ghost use Rattle.ffi3_type_rules.specs.declared.Target.{Target};
 ghost use Rattle.ffi3_type_rules.specs.Signature.{Signature, SignatureHasNoFault};
 ghost use Rattle.ffi3_place_rules.specs.Standard.{Standard, plan_of};
 ghost use Rattle.ffi3_place_rules.specs.Sound.{IsSound, IsDetermined};
+ghost use Rattle.ffi3_place_rules.specs.Agrees.{AgreesWithMachine};
 
 pub mod parts;
 
-pub use ffi3_place_rules::{Ext, Loc, Piece, Pieces, Place, Places, Plan, Res};
+pub use ffi3_place_rules::{Ext, Loc, Piece, Pieces, Place, Places, Plan, Res, SaveWord};
 use ffi3_types::{NoMemory, Sig, Target};
 use std::alloc::Global;
 
@@ -38,10 +39,23 @@ pub trait Abi {
     /// How many registers a callee preserves, the stack pointer aside.
     const KEPT: u8;
 
-    /// Preserved register `k`, in the order of the save area.
+    /// Preserved register `k`.
     fn kept_register(k: u8) -> Loc
         requires { k < KEPT }
         ensures { result ≡ slice_index_or standard.preserved k result };
+
+    /// Word `k` of the area in which a callee saves registers, from its lowest address. A word has eight bytes.
+    fn saved_word(k: u8) -> SaveWord
+        requires { 8 * k < SAVE }
+        ensures { result ≡ slice_index_or standard.save_area k result };
+
+    /// The register that tells at a call how many vector registers its arguments use, where the standard has one.
+    fn vector_count() -> Option<Loc>
+        ensures { result ≡ standard.vector_count };
+
+    /// The register in which the address of a hidden result is returned, where the standard has one.
+    fn returned_address() -> Option<Loc>
+        ensures { result ≡ standard.returned_address };
 
     /// Where everything stands in a call of a signature that has no fault.
     fn plan(alloc: Global, sig: &Sig) -> Result<Plan, NoMemory>
@@ -55,6 +69,9 @@ pub trait Abi {
     ghost target_is: { standard.target ≡ TARGET };
 
     ghost kept_all: { length standard.preserved ≡ KEPT };
+
+    // What the standard names of its target's machine is what the machine has.
+    ghost agrees: { AgreesWithMachine standard };
 
     // No two places share anything, none is a forbidden register, and they have all of the values.
     ghost sound: { (s : Signature) → SignatureHasNoFault s → IsSound standard s };

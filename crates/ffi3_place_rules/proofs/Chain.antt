@@ -1,6 +1,8 @@
 -- A list of places, each taken from what the ones before it left, has no two that share a register or a byte of stack.
 use Rattle.std.proofs.Common.{◌≡◌, ◌≢◌, ℕ, zero, suc, ◌*◌, ◌+◌, ◌<◌, ◌≤◌, List, [], ◌∷◌, ◌++◌, subst, sym, ◌∙◌, arith, inl}
 use Rattle.std.specs.List.{AllByRecursion}
+use Rattle.ffi3_type_rules.specs.declared.Isa.{Isa}
+use Rattle.ffi3_place_rules.specs.Isa.{general_registers, floating_registers}
 use Rattle.ffi3_place_rules.specs.declared.Loc.{Loc}
 use Rattle.ffi3_place_rules.specs.declared.Loc.TheVariants.{G, F, S}
 use Rattle.ffi3_place_rules.specs.declared.Taken.{Taken}
@@ -98,16 +100,16 @@ module _ (general floating : ℕ → ℕ) (generals floatings : ℕ) where
         one (F r) f = subst (λ q. IsNoneOf never (F q)) (sym f.1) (in_floating f.0 f.3)
         one (S n) f = on_stack n
 
-  pub chain_lies_in : ((k : ℕ) → k < generals → general k < 32) → ((k : ℕ) → k < floatings → floating k < 32) → (a : Taken) (ls : List Loc) (b : Taken) (stack : ℕ) → b.stack ≤ stack → Chain a ls b → AllByRecursion (LiesIn stack) ls
-  chain_lies_in gs fs a [] b stack room h = tt
-  chain_lies_in gs fs a (l ∷ ls) b stack room h = (one l h.1 h.2, chain_lies_in gs fs h.0 ls b stack room h.4)
+  pub chain_lies_in : (isa : Isa) → ((k : ℕ) → k < generals → general k < general_registers isa) → ((k : ℕ) → k < floatings → floating k < floating_registers isa) → (a : Taken) (ls : List Loc) (b : Taken) (stack : ℕ) → b.stack ≤ stack → Chain a ls b → AllByRecursion (LiesIn isa stack) ls
+  chain_lies_in isa gs fs a [] b stack room h = tt
+  chain_lies_in isa gs fs a (l ∷ ls) b stack room h = (one l h.1 h.2, chain_lies_in isa gs fs h.0 ls b stack room h.4)
     where
       rest : AtMost h.0 b
       rest = chain_end h.0 ls b h.4
 
-      one : (m : Loc) → From a m → Until h.0 m → LiesIn stack m
-      one (G r) f u = subst (λ q. q < 32) (sym f.1) (gs f.0 f.3)
-      one (F r) f u = subst (λ q. q < 32) (sym f.1) (fs f.0 f.3)
+      one : (m : Loc) → From a m → Until h.0 m → LiesIn isa stack m
+      one (G r) f u = subst (λ q. q < general_registers isa) (sym f.1) (gs f.0 f.3)
+      one (F r) f u = subst (λ q. q < floating_registers isa) (sym f.1) (fs f.0 f.3)
       one (S n) f u = omega (arith, u, rest.stack, room)
 
 -- copies and buffers, which take stack alone

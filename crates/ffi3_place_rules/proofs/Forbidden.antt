@@ -1,10 +1,12 @@
--- A test for registers that are none of a list.
-use Rattle.std.proofs.Common.{◌≡◌, ℕ, Bool, true, false, not, ◌&&◌, eqb, List, [], ◌∷◌, arith}
+-- Tests for registers that are none of a list, that are one of it, and that are apart; and for what holds of each of a list.
+use Rattle.std.proofs.Common.{◌≡◌, ℕ, Bool, true, false, not, ◌&&◌, ◌||◌, eqb, List, [], ◌∷◌, ap, subst, refl, arith}
+use Rattle.std.specs.List.{AllByRecursion, list_all}
 use Rattle.std.proofs.lemmas.Bool.Decides.{nat_tests}
 use Rattle.ffi3_place_rules.specs.declared.Loc.{Loc}
 use Rattle.ffi3_place_rules.specs.declared.Loc.TheVariants.{G, F, S}
-use Rattle.ffi3_place_rules.specs.Sound.{IsNoneOf}
+use Rattle.ffi3_place_rules.specs.Sound.{Apart, AreApart, IsNoneOf, IsOneOf}
 use Rattle.ffi3_place_rules.proofs.Tests.{and_left, and_right}
+use Rattle.ffi3_place_rules.proofs.Covered.{any_later}
 
 differs : (r q : ℕ) → r ≡ q → not (eqb r q) ≡ true → ⊥
 differs r q e t = grind (arith, nat_tests)
@@ -29,3 +31,74 @@ none_of (F q ∷ others) (S r) h = (tt, none_of others (S r) h)
 none_of (S q ∷ others) (G r) h = (tt, none_of others (G r) h)
 none_of (S q ∷ others) (F r) h = (tt, none_of others (F r) h)
 none_of (S q ∷ others) (S r) h = cc
+
+-- ---- one of a list
+
+abbrev pub same_place : Loc → Loc → Bool
+same_place (G q) (G r) = eqb q r
+same_place (F q) (F r) = eqb q r
+same_place (S q) (S r) = eqb q r
+same_place (G q) (F r) = false
+same_place (G q) (S r) = false
+same_place (F q) (G r) = false
+same_place (F q) (S r) = false
+same_place (S q) (G r) = false
+same_place (S q) (F r) = false
+
+same_number : (q r : ℕ) → eqb q r ≡ true → q ≡ r
+same_number q r h = grind (arith, nat_tests)
+
+same_is : (a b : Loc) → same_place a b ≡ true → a ≡ b
+same_is (G q) (G r) h = ap G (same_number q r h)
+same_is (F q) (F r) h = ap F (same_number q r h)
+same_is (S q) (S r) h = ap S (same_number q r h)
+same_is (G q) (F r) h = cc
+same_is (G q) (S r) h = cc
+same_is (F q) (G r) h = cc
+same_is (F q) (S r) h = cc
+same_is (S q) (G r) h = cc
+same_is (S q) (F r) h = cc
+
+abbrev pub is_one_of : List Loc → Loc → Bool
+is_one_of [] l = false
+is_one_of (at ∷ places) l = same_place at l || is_one_of places l
+
+first_or_later : (at l : Loc) (places : List Loc) (b : Bool) → same_place at l ≡ b → (same_place at l || is_one_of places l) ≡ true → (is_one_of places l ≡ true → IsOneOf places l) → IsOneOf (at ∷ places) l
+first_or_later at l places true e h later = (0, at, omega arith, refl, same_is at l e)
+first_or_later at l places false e h later =
+    any_later (λ p. p ≡ l) at places (later (subst (λ b. (b || is_one_of places l) ≡ true) e h))
+
+pub one_of : (places : List Loc) (l : Loc) → is_one_of places l ≡ true → IsOneOf places l
+one_of [] l h = cc
+one_of (at ∷ places) l h =
+    first_or_later at l places (same_place at l) refl h (one_of places l)
+
+-- ---- each of a list
+
+pub each_by : (test : Loc → Bool) (P : Loc → Type 0) → ((l : Loc) → test l ≡ true → P l) → (ls : List Loc) → list_all test ls ≡ true → AllByRecursion P ls
+each_by test P sound [] h = tt
+each_by test P sound (l ∷ ls) h =
+    (sound l (and_left (test l) (list_all test ls) h), each_by test P sound ls (and_right (test l) (list_all test ls) h))
+
+pub each_none_of : (others ls : List Loc) → list_all (is_none_of others) ls ≡ true → AllByRecursion (IsNoneOf others) ls
+each_none_of others ls h = each_by (is_none_of others) (IsNoneOf others) (none_of others) ls h
+
+pub each_one_of : (places ls : List Loc) → list_all (is_one_of places) ls ≡ true → AllByRecursion (IsOneOf places) ls
+each_one_of places ls h = each_by (is_one_of places) (IsOneOf places) (one_of places) ls h
+
+-- ---- apart
+
+abbrev pub is_apart : Loc → Loc → Bool
+is_apart l m = is_none_of (m ∷ []) l
+
+abbrev pub are_apart : List Loc → Bool
+are_apart [] = true
+are_apart (l ∷ ls) = list_all (is_apart l) ls && are_apart ls
+
+pub apart_all : (ls : List Loc) → are_apart ls ≡ true → AreApart ls
+apart_all [] h = tt
+apart_all (l ∷ ls) h =
+    (each_by (is_apart l) (Apart l) (λ m e. (apart_of l m e)) ls (and_left (list_all (is_apart l) ls) (are_apart ls) h), apart_all ls (and_right (list_all (is_apart l) ls) (are_apart ls) h))
+  where
+    apart_of : (l m : Loc) → is_apart l m ≡ true → Apart l m
+    apart_of l m e = (none_of (m ∷ []) l e).0

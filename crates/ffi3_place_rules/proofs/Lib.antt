@@ -6,5 +6,7 @@ pub mod Forbidden
 pub mod EachPlace
 pub mod Doublewords
 pub mod Frame
+pub mod Aligned
+pub mod Filled
 pub mod Elements
 pub mod Worked

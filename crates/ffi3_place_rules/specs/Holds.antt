@@ -1,5 +1,5 @@
 -- What it means that an image holds the arguments of a call, or its result, and that registers are preserved.
-use Rattle.std.specs.Prelude.{◌≡◌, ℕ, ◌+◌, ◌-◌, ◌/◌, ◌^◌, ◌<◌, ◌≤◌, ⊤, true, List, [], ◌∷◌, ◌++◌, take, drop, get_or, Option, Some, None}
+use Rattle.std.specs.Prelude.{◌≡◌, ℕ, ◌+◌, ◌-◌, ◌/◌, ◌^◌, ◌<◌, ◌≤◌, ⊤, true, List, [], ◌∷◌, ◌++◌, take, drop, length, get_or, Option, Some, None}
 use Rattle.std.specs.List.{AllByRecursion}
 use Rattle.ffi3_type_rules.specs.Tree.{Tree, scalar}
 use Rattle.ffi3_type_rules.specs.Layout.{Leaf, leaves_of, size_of, scalar_size}
@@ -15,7 +15,7 @@ use Rattle.ffi3_place_rules.specs.declared.Place.TheVariants.{Direct, ByRef}
 use Rattle.ffi3_place_rules.specs.declared.Res.{Res}
 use Rattle.ffi3_place_rules.specs.declared.Res.TheVariants.{Nothing, Direct as DirectRes, Hidden}
 use Rattle.ffi3_place_rules.specs.Image.{Image, byte_at, word_at, register}
-use Rattle.ffi3_place_rules.specs.Standard.{Standard, plan_of}
+use Rattle.ffi3_place_rules.specs.Standard.{Standard, frame_of, plan_of}
 
 -- the bytes of a value's leaves, from the left
 abbrev mutual
@@ -66,8 +66,9 @@ abbrev pub OwnsHidden : Image → ℕ → Res → Type 0
 OwnsHidden m base (Hidden at buffer) = word_at m base at ≡ m.sp + base + buffer
 OwnsHidden m base _ = ⊤
 
--- The values are one for each argument, fit their types and stand at their places; a hidden result's address stands at its own.
+-- The values are one for each argument, fit their types and stand at their places; a hidden result's address stands at its own. The image reaches over the return address and the whole frame.
 pub record Own (std : Standard) (s : Signature) (values : List ValueTree) (m : Image) : Type 0 where
+  pub reaches : std.link + frame_of std s ≤ length m.stack
   pub arguments : OwnsArguments m std.link s.arguments (plan_of std s).places values
   pub hidden : OwnsHidden m std.link (plan_of std s).res
 
@@ -114,6 +115,7 @@ OwnsResult m t (DirectRes pieces) v = LeavesStand m 0 pieces (leaves_of t) (leaf
 OwnsResult m t (Hidden at buffer) v = StandsInMemory m 0 buffer t v
 
 pub record OwnResult (std : Standard) (s : Signature) (v : ValueTree) (m : Image) : Type 0 where
+  pub reaches : frame_of std s ≤ length m.stack
   pub fitting : fits s.result_type v ≡ true
   pub stands : OwnsResult m s.result_type (plan_of std s).res v
 

@@ -1,7 +1,9 @@
+pub mod Isa
 pub mod Standard
 pub mod Image
 pub mod Event
 pub mod Holds
 pub mod Sound
+pub mod Agrees
 pub mod Doublewords
 pub mod Sums

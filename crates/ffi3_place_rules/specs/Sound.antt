@@ -1,11 +1,14 @@
 -- What the places of a signature keep, whatever the standard.
-use Rattle.std.specs.Prelude.{◌≡◌, ◌≢◌, ℕ, zero, suc, ◌+◌, ◌/◌, ◌<◌, ◌≤◌, ◌⊎◌, ⊤, Bool, true, false, ◌&&◌, nat_lt, List, [], ◌∷◌, ◌++◌, map, Option, Some, None}
+use Rattle.std.specs.Prelude.{◌≡◌, ◌≢◌, ℕ, zero, suc, ◌+◌, ◌/◌, ◌%◌, ◌<◌, ◌≤◌, ◌⊎◌, ⊤, Bool, true, false, ◌&&◌, nat_lt, List, [], ◌∷◌, ◌++◌, map, Option, Some, None}
 use Rattle.std.specs.List.{AllByRecursion, Any, flat_map}
 use Rattle.ffi3_type_rules.specs.Tree.{Tree, void, scalar}
 use Rattle.ffi3_type_rules.specs.Layout.{Leaf, leaves_of, size_of, scalar_size}
 use Rattle.ffi3_type_rules.specs.Integer.{is_integer}
 use Rattle.ffi3_type_rules.specs.Signature.{Signature}
 use Rattle.ffi3_type_rules.specs.Value.{ValueTree}
+use Rattle.ffi3_type_rules.specs.declared.Isa.{Isa}
+use Rattle.ffi3_type_rules.specs.Isa.{isa_of}
+use Rattle.ffi3_place_rules.specs.Isa.{general_registers, floating_registers}
 use Rattle.ffi3_place_rules.specs.declared.Loc.{Loc}
 use Rattle.ffi3_place_rules.specs.declared.Loc.TheVariants.{G, F, S}
 use Rattle.ffi3_place_rules.specs.declared.Ext.{Ext}
@@ -16,7 +19,7 @@ use Rattle.ffi3_place_rules.specs.declared.Place.TheVariants.{Direct, ByRef}
 use Rattle.ffi3_place_rules.specs.declared.Res.{Res}
 use Rattle.ffi3_place_rules.specs.declared.Res.TheVariants.{Nothing, Direct as DirectRes, Hidden}
 use Rattle.ffi3_place_rules.specs.declared.Plan.{Plan}
-use Rattle.ffi3_place_rules.specs.Standard.{Standard, plan_of}
+use Rattle.ffi3_place_rules.specs.Standard.{Standard, frame_of, need_of, plan_of}
 use Rattle.ffi3_place_rules.specs.Image.{Image}
 use Rattle.ffi3_place_rules.specs.Holds.{Carries, Own, OwnResult}
 
@@ -38,11 +41,15 @@ AreApart (l ∷ ls) = AllByRecursion (Apart l) ls × AreApart ls
 abbrev pub IsNoneOf : List Loc → Loc → Type 0
 IsNoneOf others l = AllByRecursion (Apart l) others
 
--- the register is one of 32, the place on the stack lies in so many bytes
-abbrev pub LiesIn : ℕ → Loc → Type 0
-LiesIn stack (G r) = r < 32
-LiesIn stack (F r) = r < 32
-LiesIn stack (S n) = n + 8 ≤ stack
+-- the register is one that the instruction set has, the place on the stack lies in so many bytes
+abbrev pub LiesIn : Isa → ℕ → Loc → Type 0
+LiesIn isa stack (G r) = r < general_registers isa
+LiesIn isa stack (F r) = r < floating_registers isa
+LiesIn isa stack (S n) = n + 8 ≤ stack
+
+-- the place is one of the list
+abbrev pub IsOneOf : List Loc → Loc → Type 0
+IsOneOf places l = Any (λ at. at ≡ l) places
 
 -- ---- the places of a call
 
@@ -113,6 +120,11 @@ abbrev pub is_narrow_integer : Tree → Bool
 is_narrow_integer (scalar s) = is_integer s && nat_lt (scalar_size s) 8
 is_narrow_integer _ = false
 
+abbrev pub is_floating_place : Loc → Bool
+is_floating_place (F r) = true
+is_floating_place (G r) = false
+is_floating_place (S n) = false
+
 -- What fills the rest of a place suits its piece: an extended one is a whole narrow integer, a boxed one has four bytes.
 abbrev pub IsExtended : Tree → Piece → Ext → Type 0
 IsExtended t p Free = ⊤
@@ -125,6 +137,25 @@ pub record IsPieceOf (t : Tree) (p : Piece) : Type 0 where
   pub short : p.len ≤ 8
   pub within : p.off + p.len ≤ size_of t
   pub extended : IsExtended t p p.ext
+
+-- The other way round: a lone narrow integer fills its place as the standard says, and so does a float in a floating register.
+pub record IsFilled (std : Standard) (t : Tree) (p : Piece) : Type 0 where
+  pub narrow : is_narrow_integer t ≡ true → p.ext ≡ std.narrow
+  pub single : is_floating_place p.loc ≡ true → p.len ≡ 4 → p.ext ≡ std.single
+
+abbrev pub PlaceIsFilled : Standard → Tree → Place → Type 0
+PlaceIsFilled std t (Direct pieces) = AllByRecursion (IsFilled std t) pieces
+PlaceIsFilled std t (ByRef at copy) = ⊤
+
+abbrev pub PlacesAreFilled : Standard → List Tree → List Place → Type 0
+PlacesAreFilled std [] [] = ⊤
+PlacesAreFilled std (t ∷ ts) (p ∷ ps) = PlaceIsFilled std t p × PlacesAreFilled std ts ps
+PlacesAreFilled std _ _ = ⊥
+
+abbrev pub ResultIsFilled : Standard → Tree → Res → Type 0
+ResultIsFilled std t (DirectRes pieces) = AllByRecursion (IsFilled std t) pieces
+ResultIsFilled std t Nothing = ⊤
+ResultIsFilled std t (Hidden at buffer) = ⊤
 
 -- the pieces have every byte of every leaf
 pub record HaveAll (t : Tree) (pieces : List Piece) : Type 0 where
@@ -151,15 +182,20 @@ ResultHasAll t (Hidden at buffer) = ⊤
 pub record IsSound (std : Standard) (s : Signature) : Type 0 where
   -- no two places, copies and buffer included, share a register or a byte of the stack
   pub apart : AreApart (call_locs s (plan_of std s))
-  pub in_frame : AllByRecursion (LiesIn (plan_of std s).frame) (call_locs s (plan_of std s))
-  pub on_stack : AllByRecursion (LiesIn (std.placing s).stack_bytes) (argument_locs (plan_of std s))
+  pub in_frame : AllByRecursion (LiesIn (isa_of std.target) (plan_of std s).frame) (call_locs s (plan_of std s))
+  pub on_stack : AllByRecursion (LiesIn (isa_of std.target) (std.placing s).stack_bytes) (argument_locs (plan_of std s))
   pub allowed : AllByRecursion (IsNoneOf (no_argument std)) (argument_locs (plan_of std s))
   pub has_all : PlacesHaveAll s.arguments (plan_of std s).places
+  pub filled : PlacesAreFilled std s.arguments (plan_of std s).places
   -- the result's are registers
   pub result_apart : AreApart (result_locs (plan_of std s).res)
-  pub result_in_registers : AllByRecursion (LiesIn 0) (result_locs (plan_of std s).res)
+  pub result_in_registers : AllByRecursion (LiesIn (isa_of std.target) 0) (result_locs (plan_of std s).res)
   pub result_allowed : AllByRecursion (IsNoneOf (no_result std)) (result_locs (plan_of std s).res)
   pub result_has_all : ResultHasAll s.result_type (plan_of std s).res
+  pub result_filled : ResultIsFilled std s.result_type (plan_of std s).res
+  -- a call keeps the stack pointer at multiples of 16
+  pub frame_aligned : frame_of std s % 16 ≡ 0
+  pub need_aligned : need_of std s % 16 ≡ 0
 
 -- AN IMAGE THAT OWNS VALUES DETERMINES THEM
 pub record IsDetermined (std : Standard) (s : Signature) : Type 0 where

@@ -8,6 +8,7 @@ use Rattle.ffi3_type_rules.specs.Signature.{Signature}
 use Rattle.ffi3_place_rules.specs.declared.Loc.{Loc}
 use Rattle.ffi3_place_rules.specs.declared.Ext.{Ext}
 use Rattle.ffi3_place_rules.specs.declared.Piece.{Piece}
+use Rattle.ffi3_place_rules.specs.declared.SaveWord.{SaveWord}
 use Rattle.ffi3_place_rules.specs.declared.Place.{Place}
 use Rattle.ffi3_place_rules.specs.declared.Place.TheVariants.{Direct, ByRef}
 use Rattle.ffi3_place_rules.specs.declared.Res.{Res}
@@ -32,22 +33,30 @@ pub record Placing : Type 0 where
   pub stack_bytes : ℕ
   pub vector_registers : ℕ
 
+-- What a standard names of the machine of its target (`link`, `stack_pointer`, `reserved`, `link_register`, `closure_register`, `trampoline_registers`) is what the machine has; `AgreesWithMachine` is that law.
 pub record Standard : Type 0 where
   pub target : Target
   -- bytes of the return address on the stack at entry, and of the callee's save area
   pub link : ℕ
   pub save : ℕ
   pub stack_pointer : Loc
-  -- the registers that a callee preserves, in the order of its save area; those that nothing writes; the one that holds the return address
+  -- the registers that a callee preserves; those that nothing writes; the one that holds the return address
   pub preserved : List Loc
   pub reserved : List Loc
   pub link_register : Option Loc
+  -- the words of a callee's save area, from its lowest address
+  pub save_area : List SaveWord
   -- the register that holds the closure's address at entry, and all that a trampoline writes
   pub closure_register : ℕ
   pub trampoline_registers : List Loc
   -- the register that tells at a call how many vector registers the arguments use, and the one in which a hidden result's address is returned
   pub vector_count : Option Loc
   pub returned_address : Option Loc
+  -- how a lone integer of fewer than eight bytes fills its place, and how a float fills a floating register
+  pub narrow : Ext
+  pub single : Ext
+  -- where a copy or a buffer of a type begins, after the end of what stands before it in the frame
+  pub copy_start : ℕ → Tree → ℕ
   pub placing : Signature → Placing
 
 abbrev pub round8 : ℕ → ℕ
@@ -60,43 +69,55 @@ round16 n = least_multiple 16 n
 abbrev pub doubleword : Loc → ℕ → ℕ → Ext → Piece
 doubleword at j n e = record { loc = at; off = 8 * j; len = min 8 (n - 8 * j); ext = e }
 
+-- ---- where one thing begins after another
+
+-- At once: no type is aligned to more than eight bytes, and all that stands in doublewords ends at a multiple of eight.
+abbrev pub at_once : ℕ → Tree → ℕ
+at_once end t = end
+
 -- ---- the frame of a call: stack arguments, then copies in the order of the arguments, then the buffer of a hidden result
 
-abbrev pub copy_bytes : Tree → Spot → ℕ
-copy_bytes t (in_pieces pieces) = 0
-copy_bytes t (by_reference at) = round8 (size_of t)
+-- an argument's place, where what stands before it in the frame ends at `end`
+abbrev pub place_at : (ℕ → Tree → ℕ) → ℕ → Tree → Spot → Place
+place_at start end t (in_pieces pieces) = Direct pieces
+place_at start end t (by_reference at) = ByRef at (start end t)
 
-abbrev pub all_copy_bytes : List Tree → List Spot → ℕ
-all_copy_bytes (t ∷ ts) (s ∷ ss) = copy_bytes t s + all_copy_bytes ts ss
-all_copy_bytes _ _ = 0
+-- where its copy ends, if it has one
+abbrev pub copy_end : (ℕ → Tree → ℕ) → ℕ → Tree → Spot → ℕ
+copy_end start end t (in_pieces pieces) = end
+copy_end start end t (by_reference at) = start end t + round8 (size_of t)
 
-abbrev pub buffer_bytes : Tree → ResultSpot → ℕ
-buffer_bytes t (in_buffer at) = round8 (size_of t)
-buffer_bytes t _ = 0
+abbrev pub places_from : (ℕ → Tree → ℕ) → ℕ → List Tree → List Spot → List Place
+places_from start end (t ∷ ts) (s ∷ ss) =
+    place_at start end t s ∷ places_from start (copy_end start end t s) ts ss
+places_from start end _ _ = []
 
--- an argument's place, where the next copy stands at `copy`
-abbrev pub place_at : ℕ → Spot → Place
-place_at copy (in_pieces pieces) = Direct pieces
-place_at copy (by_reference at) = ByRef at copy
+abbrev pub copies_end : (ℕ → Tree → ℕ) → ℕ → List Tree → List Spot → ℕ
+copies_end start end (t ∷ ts) (s ∷ ss) = copies_end start (copy_end start end t s) ts ss
+copies_end start end _ _ = end
 
-abbrev pub places_from : ℕ → List Tree → List Spot → List Place
-places_from copy (t ∷ ts) (s ∷ ss) = place_at copy s ∷ places_from (copy + copy_bytes t s) ts ss
-places_from copy _ _ = []
+abbrev pub result_at : (ℕ → Tree → ℕ) → ℕ → Tree → ResultSpot → Res
+result_at start end t no_result = Nothing
+result_at start end t (in_result_pieces pieces) = DirectRes pieces
+result_at start end t (in_buffer at) = Hidden at (start end t)
 
-abbrev pub result_at : ℕ → ResultSpot → Res
-result_at buffer no_result = Nothing
-result_at buffer (in_result_pieces pieces) = DirectRes pieces
-result_at buffer (in_buffer at) = Hidden at buffer
+abbrev pub buffer_end : (ℕ → Tree → ℕ) → ℕ → Tree → ResultSpot → ℕ
+buffer_end start end t no_result = end
+buffer_end start end t (in_result_pieces pieces) = end
+buffer_end start end t (in_buffer at) = start end t + round8 (size_of t)
 
--- copies start behind the stack arguments, the buffer behind the copies
+-- copies stand behind the stack arguments, the buffer behind the copies
 abbrev pub copies_start : Placing → ℕ
 copies_start p = round16 p.stack_bytes
 
-abbrev pub buffer_start : Signature → Placing → ℕ
-buffer_start s p = copies_start p + all_copy_bytes s.arguments p.arguments
+module _ (std : Standard) (s : Signature) where
+  abbrev pub frame_copies_end : ℕ
+  frame_copies_end =
+      copies_end std.copy_start (copies_start (std.placing s)) s.arguments (std.placing s).arguments
 
-abbrev pub frame_bytes : Signature → Placing → ℕ
-frame_bytes s p = round16 (buffer_start s p + buffer_bytes s.result_type p.result_spot)
+  abbrev pub frame_of : ℕ
+  frame_of =
+      round16 (buffer_end std.copy_start frame_copies_end s.result_type (std.placing s).result_spot)
 
 -- the callee's copy of its arguments
 abbrev pub block_bytes : Signature → ℕ
@@ -104,16 +125,13 @@ block_bytes s = round16 (sum_by (λ t. round8 (size_of t)) s.arguments)
 
 -- all the stack that a call takes, the callee's save area and block included
 abbrev pub need_of : Standard → Signature → ℕ
-need_of std s = frame_bytes s (std.placing s) + std.link + std.save + block_bytes s
-
-abbrev pub frame_of : Standard → Signature → ℕ
-frame_of std s = frame_bytes s (std.placing s)
+need_of std s = frame_of std s + std.link + std.save + block_bytes s
 
 -- where everything stands in a call of a signature
 abbrev pub plan_of : Standard → Signature → Plan
 plan_of std s = record {
-  places = places_from (copies_start (std.placing s)) s.arguments (std.placing s).arguments;
-  res = result_at (buffer_start s (std.placing s)) (std.placing s).result_spot;
+  places = places_from std.copy_start (copies_start (std.placing s)) s.arguments (std.placing s).arguments;
+  res = result_at std.copy_start (frame_copies_end std s) s.result_type (std.placing s).result_spot;
   need = need_of std s;
   frame = frame_of std s;
   block = block_bytes s;

@@ -163,6 +163,17 @@ pub struct Plan {
     pub vectors: u8,
 }
 
+/// A word of eight bytes of the area in which a callee saves what it gives back.
+#[derive(Clone, Copy, Debug, PartialEq, Eq)]
+pub enum SaveWord {
+    /// A register that a callee preserves, or the one that holds the return address.
+    Register(Loc),
+    /// The address of a hidden result's buffer.
+    Hidden,
+    /// Nothing.
+    Spare,
+}
+
 /// The general registers, the floating registers and the bytes of stack that earlier arguments take.
 #[derive(Clone, Copy, Debug)]
 pub struct Taken {

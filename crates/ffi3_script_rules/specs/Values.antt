@@ -5,7 +5,7 @@ use Rattle.hex.specs.declared.error.FromHexError.{FromHexError}
 use Rattle.serde_json.specs.Data.{Data, null, boolean, number, string, array, object, Items, no_items, item, Members, no_members, member, Num}
 use Rattle.serde_json.specs.Find.{as_number, as_u64, as_str, as_integer}
 use Rattle.serde_json.specs.Events.{items_len}
-use Rattle.ffi3_type_rules.specs.Tree.{Tree, scalar, structure, list_of, elements_of, Scalar, float, double, pointer}
+use Rattle.ffi3_type_rules.specs.Tree.{Tree, scalar, structure, list_of, elements_of, Scalar, pointer}
 pub use Rattle.ffi3_type_rules.specs.Integer.{is_integer_type, is_floating_type}
 use Rattle.ffi3_type_rules.specs.Integer.{is_number_type, is_signed, scalar_of, width_of, bit_count, bytes_of_number}
 use Rattle.ffi3_type_rules.specs.Layout.{scalar_size}

@@ -1,6 +1,7 @@
 -- What is wrong with a type, and which fault is the first. (libffi manual, "Structures": FFI_BAD_TYPEDEF; the limits and the left-out kinds are this library's)
 use Rattle.std.specs.Prelude.{◌≡◌, ℕ, ◌+◌, ◌<◌, ◌⊎◌, Bool, false, List, [], ◌∷◌, length, Option, Some, None, slice_get, option_and_then}
-use Rattle.ffi3_type_rules.specs.Tree.{Tree, void, scalar, left_out, structure, LeftOutKind, Trees, no_trees, list_of}
+use Rattle.ffi3_type_rules.specs.declared.limits.TheConstants.{LARGEST_STRUCT, DEEPEST_NESTING}
+use Rattle.ffi3_type_rules.specs.Tree.{Tree, void, left_out, structure, LeftOutKind, Trees, no_trees, list_of, scalar}
 use Rattle.ffi3_type_rules.specs.Layout.{size_of}
 
 pub data Fault : Type 0 where
@@ -8,12 +9,6 @@ pub data Fault : Type 0 where
   left_out_type : Tree → Fault
   too_large : ℕ → Fault
   too_deep : Fault
-
-abbrev pub largest_struct : ℕ
-largest_struct = 1024
-
-abbrev pub deepest_nesting : ℕ
-deepest_nesting = 16
 
 -- element i of a struct
 abbrev pub element_at : Tree → ℕ → Option Tree
@@ -31,9 +26,9 @@ node_at (i ∷ path) t = option_and_then (node_at path) (element_at t i)
 pub data IsFault (outer : ℕ) (as_result : Bool) (root : Tree) : List ℕ → Fault → Type 0 where
   void_in_place : {path : List ℕ} → node_at path root ≡ Some void → (path ≡ [] → as_result ≡ false) → IsFault outer as_result root path bad_typedef
   left_out_kind : {path : List ℕ} {kind : LeftOutKind} → node_at path root ≡ Some (left_out kind) → IsFault outer as_result root path (left_out_type (left_out kind))
-  nested_deep : {path : List ℕ} {elements : Trees} → node_at path root ≡ Some (structure elements) → deepest_nesting < outer + length path + 1 → IsFault outer as_result root path too_deep
+  nested_deep : {path : List ℕ} {elements : Trees} → node_at path root ≡ Some (structure elements) → DEEPEST_NESTING < outer + length path + 1 → IsFault outer as_result root path too_deep
   no_elements : {path : List ℕ} → node_at path root ≡ Some (structure no_trees) → IsFault outer as_result root path bad_typedef
-  over_limit : {path : List ℕ} {elements : Trees} → node_at path root ≡ Some (structure elements) → largest_struct < size_of (structure elements) → IsFault outer as_result root path (too_large (size_of (structure elements)))
+  over_limit : {path : List ℕ} {elements : Trees} → node_at path root ≡ Some (structure elements) → LARGEST_STRUCT < size_of (structure elements) → IsFault outer as_result root path (too_large (size_of (structure elements)))
 
 -- which of two faults of one node comes first
 abbrev pub rank : Fault → ℕ

@@ -1,3 +1,4 @@
+pub mod Isa
 pub mod Tree
 pub mod Layout
 pub mod Fault

@@ -1,7 +1,8 @@
 -- A signature, and its first fault. (libffi manual, "The Basics" and "Variadic functions")
 use Rattle.std.specs.Prelude.{◌≡◌, ℕ, ◌<◌, ◌≤◌, ◌⊎◌, Bool, true, false, List, [], length, Option, Some, None, refl, slice_index_or}
 use Rattle.std.specs.Coded.{Coded, code_by, coded×, coded_list, coded_option, coded_ℕ}
-use Rattle.ffi3_type_rules.specs.Tree.{Tree, void, scalar, left_out, structure, tree_at, tree_code, tree_list_code, Scalar, u8, s8, u16, s16, u32, s32, u64, s64, float, double, pointer}
+use Rattle.ffi3_type_rules.specs.declared.limits.TheConstants.{MOST_ARGUMENTS}
+use Rattle.ffi3_type_rules.specs.Tree.{Tree, void, scalar, tree_at, tree_code, tree_list_code, Scalar, u8, s8, u16, s16, float, left_out, structure, u32, s32, u64, s64, double, pointer}
 use Rattle.ffi3_type_rules.specs.Fault.{Fault, IsFirstFault}
 
 pub record Signature : Type 0 where
@@ -20,9 +21,6 @@ signature_list_code = coded_list signature_code
 abbrev pub signature_at : List Signature → ℕ → Signature
 signature_at ss i =
     slice_index_or ss i (record { result_type = void; arguments = []; fixed = None })
-
-abbrev pub most_arguments : ℕ
-most_arguments = 64
 
 -- which type of a signature
 pub data Position : Type 0 where
@@ -56,7 +54,7 @@ is_promoted (left_out k) = false
 is_promoted (structure ts) = false
 
 pub data IsSignatureFault (s : Signature) : SignatureFault → Type 0 where
-  over_most : most_arguments < length s.arguments → IsSignatureFault s (too_many (length s.arguments))
+  over_most : MOST_ARGUMENTS < length s.arguments → IsSignatureFault s (too_many (length s.arguments))
   in_result : {path : List ℕ} {fault : Fault} → IsFirstFault 0 true s.result_type path fault → IsSignatureFault s (bad_type at_result path fault)
   in_argument : {i : ℕ} {path : List ℕ} {fault : Fault} → i < length s.arguments → IsFirstFault 0 false (tree_at s.arguments i) path fault → IsSignatureFault s (bad_type (at_argument i) path fault)
   fixed_outside : {n : ℕ} → s.fixed ≡ Some n → (n ≡ 0) ⊎ (length s.arguments < n) → IsSignatureFault s (bad_fixed n (length s.arguments))

@@ -3,6 +3,9 @@
 
 ghost use Rattle.std.specs.Prelude.{◌≡◌, ◌+◌, ◌<◌, ◌≤◌, ◌^◌};
 ghost use Rattle.ffi3_type_rules.specs.Layout.{IsLeastMultiple, least_multiple};
+ghost use Rattle.ffi3_type_rules.specs.Isa.{isa_of};
+
+pub mod limits;
 
 /// The least multiple of `align` that is not below `n`.
 pub fn round_up(n: u64, align: u64) -> u64
@@ -21,4 +24,25 @@ pub enum Target {
     Amd64,
     Aapcs64,
     Riscv,
+}
+
+/// The instruction set of a target: of its decoder, its trampolines and its registers' numbers.
+#[derive(Clone, Copy, Debug, PartialEq, Eq)]
+pub enum Isa {
+    Amd64,
+    Aarch64,
+    Riscv,
+}
+
+impl Target {
+    /// The instruction set that the target's machine has.
+    pub fn isa(self) -> Isa
+        ensures { result ≡ isa_of self }
+    {
+        match self {
+            Target::Amd64 => Isa::Amd64,
+            Target::Aapcs64 => Isa::Aarch64,
+            Target::Riscv => Isa::Riscv,
+        }
+    }
 }

@@ -1,0 +1,38 @@
+-- Pieces that are filled as the standard says: doublewords of one value, and references.
+use Rattle.std.proofs.Common.{◌≡◌, ℕ, zero, suc, ◌+◌, ◌*◌, true, false, List, [], ◌∷◌, ◌++◌, refl, arith}
+use Rattle.std.specs.List.{AllByRecursion}
+use Rattle.ffi3_type_rules.specs.Tree.{Tree, void, scalar, left_out, structure, Scalar, u8, s8, u16, s16, u32, s32, u64, s64, float, double, pointer}
+use Rattle.ffi3_type_rules.specs.Layout.{size_of}
+use Rattle.ffi3_place_rules.specs.declared.Loc.{Loc}
+use Rattle.ffi3_place_rules.specs.declared.Loc.TheVariants.{G, F, S}
+use Rattle.ffi3_place_rules.specs.declared.Ext.{Ext}
+use Rattle.ffi3_place_rules.specs.declared.Piece.{Piece}
+use Rattle.ffi3_place_rules.specs.Standard.{Standard, doubleword}
+use Rattle.ffi3_place_rules.specs.Doublewords.{doublewords, doublewords_at, filling}
+use Rattle.ffi3_place_rules.specs.Sound.{is_narrow_integer, is_floating_place, IsFilled}
+
+-- a lone narrow integer's filling is the one given
+pub narrow_filling : (e : Ext) (t : Tree) → is_narrow_integer t ≡ true → filling e t ≡ e
+narrow_filling e void h = cc
+narrow_filling e (left_out k) h = cc
+narrow_filling e (structure ts) h = cc
+narrow_filling e (scalar u8) h = refl
+narrow_filling e (scalar s8) h = refl
+narrow_filling e (scalar u16) h = refl
+narrow_filling e (scalar s16) h = refl
+narrow_filling e (scalar u32) h = refl
+narrow_filling e (scalar s32) h = refl
+narrow_filling e (scalar u64) h = cc
+narrow_filling e (scalar s64) h = cc
+narrow_filling e (scalar float) h = cc
+narrow_filling e (scalar double) h = cc
+narrow_filling e (scalar pointer) h = cc
+
+-- doublewords none of which stands in a floating register
+pub doublewords_filled : (std : Standard) (t : Tree) (place : ℕ → Loc) → ((j : ℕ) → is_floating_place (place j) ≡ false) → (j count : ℕ) → AllByRecursion (IsFilled std t) (doublewords_at place (size_of t) (filling std.narrow t) j count)
+doublewords_filled std t place none j zero = tt
+doublewords_filled std t place none j (suc count) =
+    (record { narrow = narrow_filling std.narrow t; single = λ is_floating. absurd (differ (place j) is_floating (none j)) }, doublewords_filled std t place none (j + 1) count)
+  where
+    differ : (l : Loc) → is_floating_place l ≡ true → is_floating_place l ≡ false → ⊥
+    differ l a b = cc

@@ -1,0 +1,63 @@
+-- A calling standard agrees with the machine of its target, and its registers do not get in one another's way.
+use Rattle.std.specs.Prelude.{◌≡◌, ℕ, ◌+◌, ◌*◌, ◌%◌, Bool, true, false, List, [], ◌∷◌, ◌++◌, length}
+use Rattle.std.specs.List.{AllByRecursion, flat_map, count_by}
+use Rattle.ffi3_type_rules.specs.declared.Isa.{Isa}
+use Rattle.ffi3_type_rules.specs.Isa.{isa_of}
+use Rattle.ffi3_type_rules.specs.Tree.{Tree}
+use Rattle.ffi3_place_rules.specs.declared.Loc.{Loc}
+use Rattle.ffi3_place_rules.specs.declared.Loc.TheVariants.{G}
+use Rattle.ffi3_place_rules.specs.declared.SaveWord.{SaveWord}
+use Rattle.ffi3_place_rules.specs.declared.SaveWord.TheVariants.{Register, Hidden, Spare}
+use Rattle.ffi3_place_rules.specs.Isa.{pushed_bytes, stack_pointer, link_place, reserved_places, closure_register, trampoline_registers, IsWritten}
+use Rattle.ffi3_place_rules.specs.Standard.{Standard}
+use Rattle.ffi3_place_rules.specs.Sound.{AreApart, IsNoneOf, IsOneOf, LiesIn, listed}
+
+-- the registers of a save area, in its order
+abbrev pub saved_register : SaveWord → List Loc
+saved_register (Register at) = at ∷ []
+saved_register Hidden = []
+saved_register Spare = []
+
+abbrev pub saved_registers : List SaveWord → List Loc
+saved_registers words = flat_map saved_register words
+
+abbrev pub is_hidden_word : SaveWord → Bool
+is_hidden_word (Register at) = false
+is_hidden_word Hidden = true
+is_hidden_word Spare = false
+
+-- what a callee gives back: the preserved registers and, where a register holds it, the return address
+abbrev pub given_back : Standard → List Loc
+given_back std = std.preserved ++ listed std.link_register
+
+-- the registers to which a call, a closure's entry or a return gives a meaning of its own
+abbrev pub special : Standard → List Loc
+special std =
+    std.stack_pointer ∷ (std.reserved ++ (listed std.link_register ++ (std.trampoline_registers ++ (listed std.vector_count ++ listed std.returned_address))))
+
+-- THE STANDARD AGREES WITH THE MACHINE OF ITS TARGET
+pub record AgreesWithMachine (std : Standard) : Type 0 where
+  pub link : std.link ≡ pushed_bytes (isa_of std.target)
+  pub stack_pointer : std.stack_pointer ≡ G (stack_pointer (isa_of std.target))
+  pub link_register : std.link_register ≡ link_place (isa_of std.target)
+  pub reserved : std.reserved ≡ reserved_places (isa_of std.target)
+  pub closure_register : std.closure_register ≡ closure_register (isa_of std.target)
+  pub trampoline : std.trampoline_registers ≡ trampoline_registers (isa_of std.target)
+  -- a register to which writes are dropped is reserved
+  pub written : (l : Loc) → IsNoneOf std.reserved l → IsWritten (isa_of std.target) l
+  -- preserved registers are registers, differ from one another, and have no other meaning
+  pub preserved_exist : AllByRecursion (LiesIn (isa_of std.target) 0) std.preserved
+  pub preserved_apart : AreApart std.preserved
+  pub preserved_plain : AllByRecursion (IsNoneOf (special std)) std.preserved
+  -- the registers that tell the vector count and return a hidden result's address are registers, and none of those that are given back or reserved
+  pub count_exists : AllByRecursion (LiesIn (isa_of std.target) 0) (listed std.vector_count)
+  pub count_plain : AllByRecursion (IsNoneOf (given_back std ++ std.reserved)) (listed std.vector_count)
+  pub returned_exists : AllByRecursion (LiesIn (isa_of std.target) 0) (listed std.returned_address)
+  pub returned_plain : AllByRecursion (IsNoneOf (given_back std ++ std.reserved)) (listed std.returned_address)
+  -- the save area has each register that is given back, once, no other one, and one word for a hidden result's address
+  pub area : 8 * length std.save_area ≡ std.save
+  pub saves_each : AllByRecursion (IsOneOf (saved_registers std.save_area)) (given_back std)
+  pub saves_no_other : AllByRecursion (IsOneOf (given_back std)) (saved_registers std.save_area)
+  pub saves_once : AreApart (saved_registers std.save_area)
+  pub saves_address : count_by is_hidden_word std.save_area ≡ 1
+  pub save_aligned : (std.link + std.save) % 16 ≡ 0

@@ -1,0 +1,34 @@
+// The limits of the library and the addresses of its modelled machine, each in this one place.
+
+/// The most arguments of a signature.
+pub const MOST_ARGUMENTS: u64 = 64;
+/// The size of the largest struct in bytes.
+pub const LARGEST_STRUCT: u64 = 1_024;
+/// How deep structs stand in one another at most.
+pub const DEEPEST_NESTING: u64 = 16;
+/// The bytes of the longest script.
+pub const LONGEST_SCRIPT: u64 = 1_048_576;
+/// The most moves of a run.
+pub const MOST_MOVES: u64 = 10_000;
+
+/// The most closures that are live together, each in a slot of its own.
+pub const SLOTS: u64 = 256;
+/// The bytes of a closure's slot.
+pub const SLOT_BYTES: u64 = 64;
+
+/// The bytes of the stack.
+pub const STACK_BYTES: u64 = 65_536;
+/// The lowest address of the stack.
+pub const STACK: u64 = 0x7FFE_0000;
+/// The address above the stack's highest byte.
+pub const STACK_TOP: u64 = 0x7FFF_0000;
+/// The bytes of the code region, which has the slots.
+pub const CODE_BYTES: u64 = 16_384;
+/// The lowest address of the code region.
+pub const CODE: u64 = 0x1_0000;
+/// The address above the code region's highest byte.
+pub const CODE_END: u64 = 0x1_4000;
+/// Where a closure's code jumps to.
+pub const ENTRY: u64 = 0x1000;
+/// Where a call returns to.
+pub const RETURN: u64 = 0x2000;
