@@ -20,8 +20,6 @@ ghost use Rattle.ffi3_call.specs.Calls.{HasBegun, HasEnded, IsCalled};
 
 mod callee;
 mod caller;
-#[cfg(test)]
-mod tests;
 
 pub use callee::{give_back, receive};
 pub use caller::{load_result, store_args};
