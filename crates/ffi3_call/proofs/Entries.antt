@@ -82,7 +82,7 @@ module _ (s : Signature) (vs : List ValueTree) (pointer : ℕ) (m : State) where
     is_entry fit low room address top outer below = record {
       kind = refl;
       closure = r10_there;
-      holds = holds s regs (image_of 8 at_entry) vs fit words_stand low rax_there;
+      holds = let eight : length (stack_at (m.sp - 8) 8 at_entry) ≡ 8 = ap length address in holds s regs (image_of 8 at_entry) vs fit words_stand low rax_there (omega (arith, eight));
       sp = let none = no_frame s regs in omega (arith, none, room, below);
       stack = let none = no_frame s regs in let eight : length (stack_at (m.sp - 8) 8 at_entry) ≡ 8 = ap length address in omega (arith, none, eight);
       preserved = (preserved_there 0 (omega arith), (preserved_there 1 (omega arith), (preserved_there 2 (omega arith), (preserved_there 3 (omega arith), (preserved_there 4 (omega arith), (preserved_there 5 (omega arith), tt))))));
