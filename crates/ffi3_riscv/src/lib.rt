@@ -15,7 +15,6 @@ ghost use Rattle.ffi3_riscv_rules.specs.Sums.{copy_bytes};
 ghost use Rattle.ffi3_riscv_rules.proofs.Shapes.{Suits, HasRoom};
 
 pub mod laws;
-
 #[cfg(test)]
 mod tests;
 
