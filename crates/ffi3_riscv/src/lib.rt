@@ -516,7 +516,7 @@ impl Abi for Riscv {
         // ra, s0 to s11, fs0 to fs11, and the hidden pointer
         if k == 0 {
             SaveWord::Register(Loc::G(1))
-        } else if k <= 24 {
+        } else if k <= Self::KEPT {
             SaveWord::Register(REGISTERS[k as usize - 1])
         } else {
             SaveWord::Hidden
