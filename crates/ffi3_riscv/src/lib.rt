@@ -8,10 +8,10 @@ ghost use Rattle.ffi3_type_rules.specs.Integer.{is_floating};
 ghost use Rattle.ffi3_type_rules.specs.Fault.{HasNoFault};
 ghost use Rattle.ffi3_type_rules.specs.Signature.{SignatureHasNoFault};
 ghost use Rattle.ffi3_types.specs.TreeOf.{tree_of};
-ghost use Rattle.ffi3_place_rules.specs.Standard.{at_once, place_at, copy_end, places_from, copies_end, result_at, buffer_end};
+ghost use Rattle.ffi3_place_rules.specs.Standard.{at_once, place_at, copy_end, places_from, copies_end, result_at, buffer_end, round8};
 ghost use Rattle.ffi3_place_rules.specs.Doublewords.{doublewords};
-ghost use Rattle.ffi3_riscv_rules.specs.Riscv.{is_word_integer, integer_shape, shape_of, words_of, floats_of, registers_suffice, passed_as, word, extension, boxing, floating_piece, integer_piece, word_pieces, spot_of, is_fixed, used_with, used_at_first, used_by_all, spots_after, result_shape, result_spot_of, stack_of, unused};
-ghost use Rattle.ffi3_riscv_rules.specs.Sums.{copy_bytes};
+ghost use Rattle.ffi3_riscv_rules.specs.Riscv.{is_word_integer, integer_shape, shape_of, words_of, floats_of, registers_suffice, passed_as, word, extension, boxing, floating_piece, integer_piece, word_pieces, spot_of, is_fixed, used_with, used_at_first, used_by_all, spots_after, result_shape, result_spot_of, is_by_reference, stack_of, unused};
+ghost use Rattle.ffi3_riscv_rules.specs.Copies.{buffer_size};
 ghost use Rattle.ffi3_riscv_rules.proofs.Shapes.{Suits, HasRoom};
 
 pub mod laws;
@@ -393,7 +393,7 @@ fn stack_of(used: Used) -> u64
 /// The bytes of an argument's copy.
 fn copy_of(ty: &FfiType, shape: Shape) -> u64
     requires { HasNoFault 0 true (tree_of ty.now) }
-    ensures value { result ≡ copy_bytes shape (tree_of ty.now) }
+    ensures value { result ≡ cond (is_by_reference shape) (round8 (size_of (tree_of ty.now))) 0 }
     ensures small { result ≤ 1032 }
 {
     if let Shape::ByRef = shape {
@@ -449,7 +449,7 @@ fn place_result(alloc: Global, ty: &FfiType, buffer: u64) -> Result<Res, NoMemor
 /// The bytes of a hidden result's buffer.
 fn buffer_of(ty: &FfiType) -> u64
     requires { HasNoFault 0 true (tree_of ty.now) }
-    ensures value { result ≡ copy_bytes (result_shape (tree_of ty.now)) (tree_of ty.now) }
+    ensures value { result ≡ buffer_size (tree_of ty.now) (result_spot_of (tree_of ty.now)) }
     ensures small { result ≤ 1032 }
 {
     copy_of(ty, result_shape(ty))
