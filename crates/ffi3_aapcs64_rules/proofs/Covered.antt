@@ -1,23 +1,25 @@
--- The pieces of a value have every byte of its leaves; and what a value needs.
-use Rattle.std.proofs.Common.{◌≡◌, ℕ, ◌+◌, ◌≤◌, Bool, true, false, not, ◌&&◌, cond, ltb, leb, List, [], ◌∷◌, length, subst, refl, arith}
+-- The pieces of a value have every byte of its leaves and are filled as the standard says; and what a value needs.
+use Rattle.std.proofs.Common.{◌≡◌, ℕ, ◌+◌, ◌*◌, ◌≤◌, Bool, true, false, not, ◌&&◌, cond, ltb, leb, List, [], ◌∷◌, length, subst, sym, ap, ◌∙◌, refl, arith}
 use Rattle.std.specs.Prelude.{Option, None, is_some}
 use Rattle.std.specs.List.{AllByRecursion}
 use Rattle.std.proofs.lemmas.Bool.{ltb-false, leb-true}
-use Rattle.ffi3_type_rules.specs.Tree.{Tree, void, scalar, left_out, structure}
-use Rattle.ffi3_type_rules.specs.Layout.{Leaf, leaves_of, size_of}
+use Rattle.std.proofs.lemmas.Bool.Decides.{nat_tests}
+use Rattle.ffi3_type_rules.specs.Tree.{Tree, void, scalar, left_out, structure, Scalar, u8, s8, u16, s16, u32, s32, u64, s64, float, double, pointer}
+use Rattle.ffi3_type_rules.specs.Layout.{Leaf, leaves_of, size_of, least_multiple}
 use Rattle.ffi3_type_rules.proofs.Layouts.{scalar_size-bounds}
 use Rattle.ffi3_place_rules.specs.declared.Loc.TheVariants.{G, F, S}
 use Rattle.ffi3_place_rules.specs.declared.Ext.TheVariants.{Free}
 use Rattle.ffi3_place_rules.specs.declared.Taken.{Taken}
-use Rattle.ffi3_place_rules.specs.Standard.{in_pieces, by_reference, place_at, places_from, copy_bytes}
+use Rattle.ffi3_place_rules.specs.Standard.{in_pieces, by_reference, place_at, places_from, copy_end, round8}
 use Rattle.ffi3_place_rules.specs.Doublewords.{doublewords, widening, stack_pieces}
 use Rattle.ffi3_place_rules.specs.Holds.{Carries}
-use Rattle.ffi3_place_rules.specs.Sound.{CoversLeaf, IsPieceOf, HaveAll, PlaceHasAll, PlacesHaveAll}
+use Rattle.ffi3_place_rules.specs.Sound.{CoversLeaf, IsPieceOf, HaveAll, PlaceHasAll, PlacesHaveAll, is_narrow_integer, IsFilled, PlaceIsFilled, PlacesAreFilled}
 use Rattle.ffi3_place_rules.proofs.Tests.{and_left, and_right, not_true, each_weaker}
 use Rattle.ffi3_place_rules.proofs.Covered.{EndsIn, leaves_end, any_later}
 use Rattle.ffi3_place_rules.proofs.Doublewords.{widening_suits, leaf_is_piece, doublewords_have_all, stack_has_all}
+use Rattle.ffi3_place_rules.proofs.Filled.{doublewords_filled}
 use Rattle.ffi3_aapcs64_rules.specs.declared.Kind.{Kind}
-use Rattle.ffi3_aapcs64_rules.specs.Aapcs64.{is_struct, in_vectors, is_copied, need, member_pieces, general_pieces, register_pieces, in_registers, spot_after, spots_after, taken_with}
+use Rattle.ffi3_aapcs64_rules.specs.Aapcs64.{aapcs64, is_struct, in_vectors, is_copied, passed, need, member_pieces, general_pieces, register_pieces, register_spot, stack_spot, register_start, stack_start, in_registers, spot_after, spots_after, taken_with, untouched}
 
 -- ---- pieces
 
@@ -42,25 +44,84 @@ generals_have_all : (g : ℕ) (t : Tree) → HaveAll t (general_pieces g t)
 generals_have_all g t =
     doublewords_have_all (λ j. G (g + j)) t (widening t) (widening_suits t)
 
-registers_have_all_if : (g v : ℕ) (t : Tree) (b : Bool) → HaveAll t (cond b (member_pieces v (leaves_of t)) (general_pieces g t))
-registers_have_all_if g v t true = members_have_all v t
-registers_have_all_if g v t false = generals_have_all g t
+registers_have_all_if : (first : ℕ) (t : Tree) (b : Bool) → HaveAll t (cond b (member_pieces first (leaves_of t)) (general_pieces first t))
+registers_have_all_if first t true = members_have_all first t
+registers_have_all_if first t false = generals_have_all first t
 
-pub registers_have_all : (g v : ℕ) (t : Tree) → HaveAll t (register_pieces g v t)
-registers_have_all g v t = registers_have_all_if g v t (in_vectors t)
+pub registers_have_all : (first : ℕ) (t : Tree) → HaveAll t (register_pieces first t)
+registers_have_all first t = registers_have_all_if first t (in_vectors t)
+
+-- ---- what fills the rest of their places
+
+-- a narrow integer takes no vector registers
+not_narrow : (t : Tree) → in_vectors t ≡ true → is_narrow_integer t ≡ true → ⊥
+not_narrow void v h = cc
+not_narrow (left_out k) v h = cc
+not_narrow (structure ts) v h = cc
+not_narrow (scalar float) v h = cc
+not_narrow (scalar double) v h = cc
+not_narrow (scalar u8) v h = cc
+not_narrow (scalar s8) v h = cc
+not_narrow (scalar u16) v h = cc
+not_narrow (scalar s16) v h = cc
+not_narrow (scalar u32) v h = cc
+not_narrow (scalar s32) v h = cc
+not_narrow (scalar u64) v h = cc
+not_narrow (scalar s64) v h = cc
+not_narrow (scalar pointer) v h = cc
+
+members_filled : (t : Tree) → in_vectors t ≡ true → (v : ℕ) (ls : List Leaf) → AllByRecursion (IsFilled aapcs64 t) (member_pieces v ls)
+members_filled t e v [] = tt
+members_filled t e v (l ∷ ls) =
+    (record { narrow = λ h. absurd (not_narrow t e h); single = λ place four. refl }, members_filled t e (v + 1) ls)
+
+registers_filled_if : (first : ℕ) (t : Tree) (b : Bool) → in_vectors t ≡ b → AllByRecursion (IsFilled aapcs64 t) (cond b (member_pieces first (leaves_of t)) (general_pieces first t))
+registers_filled_if first t true e = members_filled t e first (leaves_of t)
+registers_filled_if first t false e =
+    doublewords_filled aapcs64 t (λ j. G (first + j)) (λ j. refl) 0 (doublewords t)
+
+pub registers_filled : (first : ℕ) (t : Tree) → AllByRecursion (IsFilled aapcs64 t) (register_pieces first t)
+registers_filled first t = registers_filled_if first t (in_vectors t) refl
+
+stack_filled : (start : ℕ) (t : Tree) → AllByRecursion (IsFilled aapcs64 t) (stack_pieces start t)
+stack_filled start t =
+    doublewords_filled aapcs64 t (λ j. S (start + 8 * j)) (λ j. refl) 0 (doublewords t)
 
 -- ---- arguments
 
-spot_has_all_if : (copy : ℕ) (a : Taken) (t : Tree) (fits copied : Bool) → PlaceHasAll t (place_at copy (cond fits (cond copied (by_reference (G a.general)) (in_pieces (register_pieces a.general a.vector t))) (cond copied (by_reference (S a.stack)) (in_pieces (stack_pieces a.stack t)))))
-spot_has_all_if copy a t true true = tt
-spot_has_all_if copy a t true false = registers_have_all a.general a.vector t
-spot_has_all_if copy a t false true = tt
-spot_has_all_if copy a t false false = stack_has_all a.stack t
+register_spot_has_all : (start : ℕ → Tree → ℕ) (end first : ℕ) (t : Tree) (copied : Bool) → PlaceHasAll t (place_at start end t (cond copied (by_reference (G first)) (in_pieces (register_pieces first t))))
+register_spot_has_all start end first t true = tt
+register_spot_has_all start end first t false = registers_have_all first t
 
-pub arguments_have_all : (copy : ℕ) (before : Taken) (ts : List Tree) → PlacesHaveAll ts (places_from copy ts (spots_after before ts))
-arguments_have_all copy before [] = tt
-arguments_have_all copy before (t ∷ ts) =
-    (spot_has_all_if copy before t (in_registers before.general before.vector t) (is_copied t), arguments_have_all (copy + copy_bytes t (spot_after before t)) (taken_with before t) ts)
+stack_spot_has_all : (start : ℕ → Tree → ℕ) (end at : ℕ) (t : Tree) (copied : Bool) → PlaceHasAll t (place_at start end t (cond copied (by_reference (S at)) (in_pieces (stack_pieces at t))))
+stack_spot_has_all start end at t true = tt
+stack_spot_has_all start end at t false = stack_has_all at t
+
+spot_has_all_if : (start : ℕ → Tree → ℕ) (end first at : ℕ) (t : Tree) (fits : Bool) → PlaceHasAll t (place_at start end t (cond fits (register_spot first t) (stack_spot at t)))
+spot_has_all_if start end first at t true = register_spot_has_all start end first t (is_copied t)
+spot_has_all_if start end first at t false = stack_spot_has_all start end at t (is_copied t)
+
+pub arguments_have_all : (start : ℕ → Tree → ℕ) (end : ℕ) (before : Taken) (ts : List Tree) → PlacesHaveAll ts (places_from start end ts (spots_after before ts))
+arguments_have_all start end before [] = tt
+arguments_have_all start end before (t ∷ ts) =
+    (spot_has_all_if start end (register_start before t) (stack_start before.stack (passed t)) t (in_registers before t), arguments_have_all start (copy_end start end t (spot_after before t)) (taken_with before t) ts)
+
+register_spot_filled : (start : ℕ → Tree → ℕ) (end first : ℕ) (t : Tree) (copied : Bool) → PlaceIsFilled aapcs64 t (place_at start end t (cond copied (by_reference (G first)) (in_pieces (register_pieces first t))))
+register_spot_filled start end first t true = tt
+register_spot_filled start end first t false = registers_filled first t
+
+stack_spot_filled : (start : ℕ → Tree → ℕ) (end at : ℕ) (t : Tree) (copied : Bool) → PlaceIsFilled aapcs64 t (place_at start end t (cond copied (by_reference (S at)) (in_pieces (stack_pieces at t))))
+stack_spot_filled start end at t true = tt
+stack_spot_filled start end at t false = stack_filled at t
+
+spot_filled_if : (start : ℕ → Tree → ℕ) (end first at : ℕ) (t : Tree) (fits : Bool) → PlaceIsFilled aapcs64 t (place_at start end t (cond fits (register_spot first t) (stack_spot at t)))
+spot_filled_if start end first at t true = register_spot_filled start end first t (is_copied t)
+spot_filled_if start end first at t false = stack_spot_filled start end at t (is_copied t)
+
+pub arguments_filled : (start : ℕ → Tree → ℕ) (end : ℕ) (before : Taken) (ts : List Tree) → PlacesAreFilled aapcs64 ts (places_from start end ts (spots_after before ts))
+arguments_filled start end before [] = tt
+arguments_filled start end before (t ∷ ts) =
+    (spot_filled_if start end (register_start before t) (stack_start before.stack (passed t)) t (in_registers before t), arguments_filled start (copy_end start end t (spot_after before t)) (taken_with before t) ts)
 
 -- ---- needs
 
@@ -93,7 +154,12 @@ few_doublewords (left_out k) ev ec = omega arith
 few_doublewords (structure ts) ev ec =
     omega (arith, ltb-false 16 (size_of (structure ts)) (small_if (in_vectors (structure ts)) (ltb 16 (size_of (structure ts))) ev ec))
 
-few_needed_if : (t : Tree) (v c : Bool) → in_vectors t ≡ v → is_copied t ≡ c → cond v (length (leaves_of t)) (cond c 1 (doublewords t)) ≤ 4
+-- what an argument needs, by whether it is in vector registers and copied
+abbrev pub NeedBy : Bool → Bool → Tree → ℕ
+NeedBy vector copied t =
+    cond vector (length (leaves_of t)) (doublewords (cond {A = Tree} copied (scalar pointer) t))
+
+few_needed_if : (t : Tree) (v c : Bool) → in_vectors t ≡ v → is_copied t ≡ c → NeedBy v c t ≤ 4
 few_needed_if t true c ev ec = few_members t ev
 few_needed_if t false true ev ec = omega arith
 few_needed_if t false false ev ec = omega (arith, few_doublewords t ev ec)
@@ -101,13 +167,24 @@ few_needed_if t false false ev ec = omega (arith, few_doublewords t ev ec)
 pub few_needed : (t : Tree) → need t ≤ 4
 few_needed t = few_needed_if t (in_vectors t) (is_copied t) refl refl
 
+-- a pointer takes eight bytes of the stack
+pub pointer_rounded : round8 (size_of (scalar pointer)) ≡ 8
+unfolding least_multiple
+pointer_rounded = refl
+
 -- ---- what `in_registers` says
 
-pub members_fit : (a : Taken) (t : Tree) → in_vectors t ≡ true → in_registers a.general a.vector t ≡ true → a.vector + length (leaves_of t) ≤ 8
-members_fit a t ev ef =
-    leb-true _ _ (subst (λ v. cond v (leb (a.vector + cond v (length (leaves_of t)) (cond (is_copied t) 1 (doublewords t))) 8) (leb (a.general + cond v (length (leaves_of t)) (cond (is_copied t) 1 (doublewords t))) 8) ≡ true) ev ef)
+abbrev FitsBy : Bool → Bool → Taken → Tree → Bool
+FitsBy vector copied a t = leb (cond vector a.vector a.general + NeedBy vector copied t) 8
 
-pub generals_fit : (a : Taken) (t : Tree) (c : Bool) → in_vectors t ≡ false → is_copied t ≡ c → in_registers a.general a.vector t ≡ true → a.general + cond c 1 (doublewords t) ≤ 8
-generals_fit a t c ev ec ef =
-    let direct = subst (λ v. cond v (leb (a.vector + cond v (length (leaves_of t)) (cond (is_copied t) 1 (doublewords t))) 8) (leb (a.general + cond v (length (leaves_of t)) (cond (is_copied t) 1 (doublewords t))) 8) ≡ true) ev ef in
-    leb-true _ _ (subst (λ b. leb (a.general + cond b 1 (doublewords t)) 8 ≡ true) ec direct)
+pub fits_by : (a : Taken) (t : Tree) (vector copied : Bool) → in_vectors t ≡ vector → is_copied t ≡ copied → in_registers a t ≡ true → cond vector a.vector a.general + NeedBy vector copied t ≤ 8
+fits_by a t vector copied ev ec ef =
+    leb-true _ _ (sym (ap (λ v. FitsBy v (is_copied t) a t) ev ∙ ap (λ c. FitsBy vector c a t) ec) ∙ ef)
+
+-- a first argument is in registers
+few_fit : (n : ℕ) (b : Bool) → n ≤ 4 → leb (cond b 0 0 + n) 8 ≡ true
+few_fit n true h = grind (arith, nat_tests)
+few_fit n false h = grind (arith, nat_tests)
+
+pub first_fits : (t : Tree) → in_registers untouched t ≡ true
+first_fits t = few_fit (need t) (in_vectors t) (few_needed t)

@@ -1,7 +1,8 @@
 -- The places of a signature are a chain, so no two share a register or a byte of stack; and they have all of the values, which they therefore determine.
-use Rattle.std.proofs.Common.{◌≡◌, ℕ, zero, suc, ◌+◌, ◌≤◌, Bool, true, false, cond, List, [], ◌∷◌, ◌++◌, sym, refl, arith}
+use Rattle.std.proofs.Common.{◌≡◌, ℕ, zero, suc, ◌+◌, ◌≤◌, Bool, true, false, cond, List, [], ◌∷◌, ◌++◌, subst, ap, sym, ◌∙◌, refl, arith}
 use Rattle.std.specs.List.{AllByRecursion, flat_map}
-use Rattle.ffi3_type_rules.specs.Tree.{Tree, void, scalar, left_out, structure}
+use Rattle.ffi3_type_rules.specs.Isa.{isa_of}
+use Rattle.ffi3_type_rules.specs.Tree.{Tree, void, scalar, left_out, structure, pointer}
 use Rattle.ffi3_type_rules.specs.Layout.{Leaf, leaves_of, size_of}
 use Rattle.ffi3_type_rules.specs.Signature.{Signature}
 use Rattle.std.specs.Prelude.{length}
@@ -9,15 +10,16 @@ use Rattle.ffi3_place_rules.specs.declared.Loc.{Loc}
 use Rattle.ffi3_place_rules.specs.declared.Loc.TheVariants.{G, F, S}
 use Rattle.ffi3_place_rules.specs.declared.Ext.{Ext}
 use Rattle.ffi3_place_rules.specs.declared.Taken.{Taken}
-use Rattle.ffi3_place_rules.specs.Standard.{Spot, in_pieces, by_reference, in_result_pieces, in_buffer, place_at, places_from, copy_bytes, result_at, copies_start, buffer_start, frame_of, plan_of, round8}
+use Rattle.ffi3_place_rules.specs.Standard.{Spot, in_pieces, by_reference, ResultSpot, no_result as not_passed, in_result_pieces, in_buffer, place_at, places_from, copy_end, result_at, copies_start, frame_copies_end, frame_of, plan_of, round8}
 use Rattle.ffi3_place_rules.specs.Doublewords.{doublewords, doublewords_at, widening, stack_pieces}
-use Rattle.ffi3_place_rules.specs.Sound.{Apart, AreApart, piece_locs, place_locs, hidden_locs, result_locs, argument_locs, IsNoneOf, LiesIn, copy_locs, buffer_locs, call_locs, no_argument, no_result as not_for_results, ResultHasAll, IsSound, IsDetermined}
-use Rattle.ffi3_place_rules.proofs.Chain.{at_most_self, Chain, chain_append, chain_apart, chain_allowed, chain_lies_in}
+use Rattle.ffi3_place_rules.specs.Sound.{Apart, AreApart, piece_locs, place_locs, hidden_locs, result_locs, argument_locs, IsNoneOf, LiesIn, copy_locs, buffer_locs, call_locs, no_argument, no_result as not_for_results, ResultHasAll, ResultIsFilled, IsSound, IsDetermined}
+use Rattle.ffi3_place_rules.proofs.Chain.{AtMost, at_most_self, Chain, chain_append, chain_apart, chain_allowed, chain_lies_in}
 use Rattle.ffi3_place_rules.proofs.Frame.{up_to, value_chain, frame_chain}
+use Rattle.ffi3_place_rules.proofs.Aligned.{frame_is_aligned, need_is_aligned}
 use Rattle.ffi3_place_rules.proofs.Tests.{each_weaker}
 use Rattle.ffi3_place_rules.proofs.Determines.{determined}
-use Rattle.ffi3_aapcs64_rules.specs.Aapcs64.{aapcs64, in_vectors, is_copied, member_pieces, general_pieces, register_pieces, in_registers, taken_with, taken_after, untouched, spot_after, spots_after, result_spot_of, placing_of}
-use Rattle.ffi3_aapcs64_rules.proofs.Covered.{registers_have_all, arguments_have_all, copied_not_vectors, few_members, few_doublewords, members_fit, generals_fit}
+use Rattle.ffi3_aapcs64_rules.specs.Aapcs64.{aapcs64, in_vectors, is_copied, member_pieces, general_pieces, register_pieces, register_spot, stack_spot, in_registers, taken_with, taken_after, untouched, spot_after, spots_after, result_from, result_spot_of, placing_of}
+use Rattle.ffi3_aapcs64_rules.proofs.Covered.{registers_have_all, arguments_have_all, registers_filled, arguments_filled, copied_not_vectors, few_members, few_doublewords, NeedBy, fits_by, first_fits, pointer_rounded}
 use Rattle.ffi3_aapcs64_rules.proofs.Registers.{numbered, all_registers, argument_allowed, vector_allowed, stack_allowed, hidden_allowed, argument_not_hidden, result_allowed_general, result_allowed_vector, result_allowed_stack}
 
 abbrev PlacesChain : Taken → List Loc → Taken → Type 0
@@ -41,47 +43,59 @@ generals_chain a g size e j (suc count) b low fits gs f s =
 
 -- ---- one argument, by whether it is in registers, copied, and in vector registers
 
+abbrev FirstBy : Bool → Taken → ℕ
+FirstBy vector a = cond vector a.vector a.general
+
 abbrev SpotBy : Bool → Bool → Bool → Taken → Tree → Spot
 SpotBy fits copied vector a t =
     cond fits
-    (cond copied (by_reference (G a.general)) (in_pieces (cond vector (member_pieces a.vector (leaves_of t)) (general_pieces a.general t))))
+    (cond copied (by_reference (G (FirstBy vector a))) (in_pieces (cond vector (member_pieces (FirstBy vector a) (leaves_of t)) (general_pieces (FirstBy vector a) t))))
     (cond copied (by_reference (S a.stack)) (in_pieces (stack_pieces a.stack t)))
-
-abbrev NeedBy : Bool → Bool → Tree → ℕ
-NeedBy copied vector t =
-    cond vector (length (leaves_of t)) (cond copied 1 (doublewords t))
 
 abbrev TakenBy : Bool → Bool → Bool → Taken → Tree → Taken
 TakenBy fits copied vector a t = record {
-  general = a.general + cond vector 0 (NeedBy copied vector t);
-  vector = a.vector + cond vector (NeedBy copied vector t) 0;
-  stack = a.stack + cond fits 0 (cond copied 8 (round8 (size_of t)));
+  general = cond vector a.general (FirstBy vector a + NeedBy vector copied t);
+  vector = cond vector (FirstBy vector a + NeedBy vector copied t) a.vector;
+  stack = cond fits a.stack (a.stack + round8 (size_of (cond {A = Tree} copied (scalar pointer) t)));
 }
 
-argument_chain_by : (copy : ℕ) (a : Taken) (t : Tree) (fits copied vector : Bool) → in_registers a.general a.vector t ≡ fits → is_copied t ≡ copied → in_vectors t ≡ vector → PlacesChain a (place_locs (place_at copy (SpotBy fits copied vector a t))) (TakenBy fits copied vector a t)
-argument_chain_by copy a t true true true ef ec ev = let apart = copied_not_vectors t ec in cc
-argument_chain_by copy a t true true false ef ec ev =
-    let room : a.general + 1 ≤ 8 = generals_fit a t true ev ec ef in
-    (TakenBy true true false a t, (a.general, refl, omega arith, omega (arith, room)), (a.general, refl, omega arith), record { general = omega arith; vector = omega arith; stack = omega arith }, at_most_self (TakenBy true true false a t))
-argument_chain_by copy a t true false true ef ec ev =
-    members_chain a a.vector (leaves_of t) (TakenBy true false true a t) (omega arith) (members_fit a t ev ef) (omega arith) (omega arith) (omega arith)
-argument_chain_by copy a t true false false ef ec ev =
-    let room : a.general + doublewords t ≤ 8 = generals_fit a t false ev ec ef in
-    generals_chain a a.general (size_of t) (widening t) 0 (doublewords t) (TakenBy true false false a t) (omega arith) (omega (arith, room)) (omega arith) (omega arith) (omega arith)
-argument_chain_by copy a t false true vector ef ec ev =
-    (TakenBy false true vector a t, omega arith, omega arith, record { general = omega arith; vector = omega arith; stack = omega arith }, at_most_self (TakenBy false true vector a t))
-argument_chain_by copy a t false false vector ef ec ev =
-    value_chain numbered numbered 8 8 a t (TakenBy false false vector a t) (omega arith) (omega arith) (omega arith)
+-- what an argument leaves is never less
+taken_by_more : (fits copied vector : Bool) (a : Taken) (t : Tree) → AtMost a (TakenBy fits copied vector a t)
+taken_by_more true copied true a t =
+    record { general = omega arith; vector = omega arith; stack = omega arith }
+taken_by_more true copied false a t =
+    record { general = omega arith; vector = omega arith; stack = omega arith }
+taken_by_more false copied true a t =
+    record { general = omega arith; vector = omega arith; stack = omega arith }
+taken_by_more false copied false a t =
+    record { general = omega arith; vector = omega arith; stack = omega arith }
 
-argument_chain : (copy : ℕ) (a : Taken) (t : Tree) → PlacesChain a (place_locs (place_at copy (spot_after a t))) (taken_with a t)
-argument_chain copy a t =
-    argument_chain_by copy a t (in_registers a.general a.vector t) (is_copied t) (in_vectors t) refl refl refl
+module _ (start : ℕ → Tree → ℕ) where
+  argument_chain_by : (end : ℕ) (a : Taken) (t : Tree) (fits copied vector : Bool) → in_registers a t ≡ fits → is_copied t ≡ copied → in_vectors t ≡ vector → PlacesChain a (place_locs (place_at start end t (SpotBy fits copied vector a t))) (TakenBy fits copied vector a t)
+  argument_chain_by end a t true true true ef ec ev = let apart = copied_not_vectors t ec in cc
+  argument_chain_by end a t true true false ef ec ev =
+      let room : a.general + 1 ≤ 8 = fits_by a t false true ev ec ef in
+      (TakenBy true true false a t, (a.general, refl, omega arith, omega (arith, room)), (a.general, refl, omega arith), taken_by_more true true false a t, at_most_self (TakenBy true true false a t))
+  argument_chain_by end a t true false true ef ec ev =
+      members_chain a a.vector (leaves_of t) (TakenBy true false true a t) (omega arith) (fits_by a t true false ev ec ef) (omega arith) (omega arith) (omega arith)
+  argument_chain_by end a t true false false ef ec ev =
+      let room : a.general + doublewords t ≤ 8 = fits_by a t false false ev ec ef in
+      generals_chain a a.general (size_of t) (widening t) 0 (doublewords t) (TakenBy true false false a t) (omega arith) (omega (arith, room)) (omega arith) (omega arith) (omega arith)
+  argument_chain_by end a t false true vector ef ec ev =
+      (TakenBy false true vector a t, omega arith, omega (arith, pointer_rounded), taken_by_more false true vector a t, at_most_self (TakenBy false true vector a t))
+  argument_chain_by end a t false false vector ef ec ev =
+      let more = taken_by_more false false vector a t in
+      value_chain numbered numbered 8 8 a t (TakenBy false false vector a t) (omega arith) more.general more.vector
 
-places_chain : (copy : ℕ) (a : Taken) (ts : List Tree) → PlacesChain a (flat_map place_locs (places_from copy ts (spots_after a ts))) (taken_after a ts)
-places_chain copy a [] = at_most_self a
-places_chain copy a (t ∷ ts) =
-    chain_append numbered numbered 8 8 a (place_locs (place_at copy (spot_after a t))) (taken_with a t) _ _
-    (argument_chain copy a t) (places_chain (copy + copy_bytes t (spot_after a t)) (taken_with a t) ts)
+  argument_chain : (end : ℕ) (a : Taken) (t : Tree) → PlacesChain a (place_locs (place_at start end t (spot_after a t))) (taken_with a t)
+  argument_chain end a t =
+      argument_chain_by end a t (in_registers a t) (is_copied t) (in_vectors t) refl refl refl
+
+  places_chain : (end : ℕ) (a : Taken) (ts : List Tree) → PlacesChain a (flat_map place_locs (places_from start end ts (spots_after a ts))) (taken_after a ts)
+  places_chain end a [] = at_most_self a
+  places_chain end a (t ∷ ts) =
+      chain_append numbered numbered 8 8 a (place_locs (place_at start end t (spot_after a t))) (taken_with a t) _ _
+      (argument_chain end a t) (places_chain (copy_end start end t (spot_after a t)) (taken_with a t) ts)
 
 -- ---- the whole signature, but for the hidden result's address
 
@@ -92,7 +106,7 @@ abbrev pieces_and_references : Signature → List Loc
 pieces_and_references s = flat_map place_locs (plan_of aapcs64 s).places
 
 pieces_chain : (s : Signature) → PlacesChain untouched (pieces_and_references s) (taken_by_all s)
-pieces_chain s = places_chain (copies_start (placing_of s)) untouched s.arguments
+pieces_chain s = places_chain aapcs64.copy_start (copies_start (placing_of s)) untouched s.arguments
 
 abbrev framed : Signature → Taken
 framed s = up_to (taken_by_all s) (frame_of aapcs64 s)
@@ -103,19 +117,42 @@ copies_and_buffer s =
 
 call_chain : (s : Signature) → PlacesChain untouched (pieces_and_references s ++ copies_and_buffer s) (framed s)
 call_chain s =
-    chain_append numbered numbered 8 8 untouched (pieces_and_references s) (taken_by_all s) _ (framed s) (pieces_chain s) (frame_chain numbered numbered 8 8 aapcs64 s (taken_by_all s) (omega arith))
+    chain_append numbered numbered 8 8 untouched (pieces_and_references s) (taken_by_all s) _ (framed s) (pieces_chain s) (frame_chain numbered numbered 8 8 aapcs64 (λ end t. omega arith) s (taken_by_all s) (omega arith))
+
+-- ---- where a result stands
+
+either_zero : (b : Bool) → cond {A = ℕ} b 0 0 ≡ 0
+either_zero true = refl
+either_zero false = refl
+
+-- a first argument is in registers, from number 0 on
+as_first : (t : Tree) → result_from (spot_after untouched t) ≡ result_from (register_spot 0 t)
+as_first t =
+    ap (λ b. result_from (cond b (register_spot (cond (in_vectors t) 0 0) t) (stack_spot 0 t))) (first_fits t) ∙ ap (λ n. result_from (register_spot n t)) (either_zero (in_vectors t))
+
+-- cases on where a result stands
+pub result_cases : (P : ResultSpot → Type 0) (t : Tree) → (t ≡ void → P not_passed) → (is_copied t ≡ true → P (in_buffer (G 8))) → (is_copied t ≡ false → P (in_result_pieces (register_pieces 0 t))) → P (result_spot_of t)
+result_cases P t none hidden direct = cases t none hidden direct
+  where
+    by_copied : (u : Tree) (b : Bool) → is_copied u ≡ b → (is_copied u ≡ true → P (in_buffer (G 8))) → (is_copied u ≡ false → P (in_result_pieces (register_pieces 0 u))) → P (result_from (cond b (by_reference (G 0)) (in_pieces (register_pieces 0 u))))
+    by_copied u true e hidden direct = hidden e
+    by_copied u false e hidden direct = direct e
+
+    placed : (u : Tree) → (is_copied u ≡ true → P (in_buffer (G 8))) → (is_copied u ≡ false → P (in_result_pieces (register_pieces 0 u))) → P (result_from (spot_after untouched u))
+    placed u hidden direct =
+        subst P (sym (as_first u)) (by_copied u (is_copied u) refl hidden direct)
+
+    cases : (u : Tree) → (u ≡ void → P not_passed) → (is_copied u ≡ true → P (in_buffer (G 8))) → (is_copied u ≡ false → P (in_result_pieces (register_pieces 0 u))) → P (result_spot_of u)
+    cases void none hidden direct = none refl
+    cases (scalar k) none hidden direct = placed (scalar k) hidden direct
+    cases (left_out k) none hidden direct = placed (left_out k) hidden direct
+    cases (structure ts) none hidden direct = placed (structure ts) hidden direct
 
 -- ---- the hidden result's address, in x8
 
-hidden_cases : (P : List Loc → Type 0) → P [] → P (G 8 ∷ []) → (t : Tree) (buffer : ℕ) → P (hidden_locs (result_at buffer (result_spot_of t)))
-hidden_cases P none there void buffer = none
-hidden_cases P none there (scalar s) buffer = none
-hidden_cases P none there (left_out k) buffer = none
-hidden_cases P none there (structure ts) buffer = cases (is_copied (structure ts))
-  where
-    cases : (b : Bool) → P (hidden_locs (result_at buffer (cond b (in_buffer (G 8)) (in_result_pieces (register_pieces 0 0 (structure ts))))))
-    cases true = there
-    cases false = none
+hidden_cases : (P : List Loc → Type 0) → P [] → P (G 8 ∷ []) → (s : Signature) → P (hidden_locs (plan_of aapcs64 s).res)
+hidden_cases P none there s =
+    result_cases (λ spot. P (hidden_locs (result_at aapcs64.copy_start (frame_copies_end aapcs64 s) s.result_type spot))) s.result_type (λ e. none) (λ e. there) (λ e. none)
 
 apart_from_hidden : (l : Loc) → IsNoneOf (G 8 ∷ []) l → Apart (G 8) l
 apart_from_hidden (G r) h = λ e. h.0 (sym e)
@@ -127,22 +164,22 @@ plan_apart s =
     let others = chain_apart numbered numbered 8 8 all_registers untouched _ _ (call_chain s) in
     let none = chain_allowed numbered numbered 8 8 (G 8 ∷ []) argument_not_hidden (λ k h. (tt, tt)) (λ n. (tt, tt)) untouched _ _ (call_chain s) in
     let from_hidden = each_weaker (IsNoneOf (G 8 ∷ [])) (Apart (G 8)) apart_from_hidden _ none in
-    hidden_cases (λ hs. AreApart ((hs ++ pieces_and_references s) ++ copies_and_buffer s)) others (from_hidden, others) s.result_type (buffer_start s (placing_of s))
+    hidden_cases (λ hs. AreApart ((hs ++ pieces_and_references s) ++ copies_and_buffer s)) others (from_hidden, others) s
 
-plan_in_frame : (s : Signature) → AllByRecursion (LiesIn (frame_of aapcs64 s)) (call_locs s (plan_of aapcs64 s))
+plan_in_frame : (s : Signature) → AllByRecursion (LiesIn (isa_of aapcs64.target) (frame_of aapcs64 s)) (call_locs s (plan_of aapcs64 s))
 plan_in_frame s =
-    let others = chain_lies_in numbered numbered 8 8 (λ k h. omega arith) (λ k h. omega arith) untouched _ (framed s) (frame_of aapcs64 s) (omega arith) (call_chain s) in
-    hidden_cases (λ hs. AllByRecursion (LiesIn (frame_of aapcs64 s)) ((hs ++ pieces_and_references s) ++ copies_and_buffer s)) others (omega arith, others) s.result_type (buffer_start s (placing_of s))
+    let others = chain_lies_in numbered numbered 8 8 (isa_of aapcs64.target) (λ k h. omega arith) (λ k h. omega arith) untouched _ (framed s) (frame_of aapcs64 s) (omega arith) (call_chain s) in
+    hidden_cases (λ hs. AllByRecursion (LiesIn (isa_of aapcs64.target) (frame_of aapcs64 s)) ((hs ++ pieces_and_references s) ++ copies_and_buffer s)) others (omega arith, others) s
 
-plan_on_stack : (s : Signature) → AllByRecursion (LiesIn (placing_of s).stack_bytes) (argument_locs (plan_of aapcs64 s))
+plan_on_stack : (s : Signature) → AllByRecursion (LiesIn (isa_of aapcs64.target) (placing_of s).stack_bytes) (argument_locs (plan_of aapcs64 s))
 plan_on_stack s =
-    let others = chain_lies_in numbered numbered 8 8 (λ k h. omega arith) (λ k h. omega arith) untouched _ _ (placing_of s).stack_bytes (omega arith) (pieces_chain s) in
-    hidden_cases (λ hs. AllByRecursion (LiesIn (placing_of s).stack_bytes) (hs ++ pieces_and_references s)) others (omega arith, others) s.result_type (buffer_start s (placing_of s))
+    let others = chain_lies_in numbered numbered 8 8 (isa_of aapcs64.target) (λ k h. omega arith) (λ k h. omega arith) untouched _ _ (placing_of s).stack_bytes (omega arith) (pieces_chain s) in
+    hidden_cases (λ hs. AllByRecursion (LiesIn (isa_of aapcs64.target) (placing_of s).stack_bytes) (hs ++ pieces_and_references s)) others (omega arith, others) s
 
 plan_allowed : (s : Signature) → AllByRecursion (IsNoneOf (no_argument aapcs64)) (argument_locs (plan_of aapcs64 s))
 plan_allowed s =
     let others = chain_allowed numbered numbered 8 8 (no_argument aapcs64) argument_allowed vector_allowed stack_allowed untouched _ _ (pieces_chain s) in
-    hidden_cases (λ hs. AllByRecursion (IsNoneOf (no_argument aapcs64)) (hs ++ pieces_and_references s)) others (hidden_allowed, others) s.result_type (buffer_start s (placing_of s))
+    hidden_cases (λ hs. AllByRecursion (IsNoneOf (no_argument aapcs64)) (hs ++ pieces_and_references s)) others (hidden_allowed, others) s
 
 -- ---- the result
 
@@ -156,44 +193,39 @@ result_chain_if t true ec ev =
 result_chain_if t false ec ev =
     generals_chain untouched 0 (size_of t) (widening t) 0 (doublewords t) all_taken (omega arith) (omega (arith, few_doublewords t ev ec)) (omega (arith, few_doublewords t ev ec)) (omega arith) (omega arith)
 
-result_chain : (t : Tree) → is_copied t ≡ false → PlacesChain untouched (piece_locs (register_pieces 0 0 t)) all_taken
+result_chain : (t : Tree) → is_copied t ≡ false → PlacesChain untouched (piece_locs (register_pieces 0 t)) all_taken
 result_chain t ec = result_chain_if t (in_vectors t) ec refl
 
-result_cases : (P : List Loc → Type 0) → P [] → (t : Tree) → (is_copied t ≡ false → P (piece_locs (register_pieces 0 0 t))) → (buffer : ℕ) → P (result_locs (result_at buffer (result_spot_of t)))
-result_cases P none void direct buffer = none
-result_cases P none (scalar s) direct buffer = direct refl
-result_cases P none (left_out k) direct buffer = direct refl
-result_cases P none (structure ts) direct buffer = cases (is_copied (structure ts)) refl
-  where
-    cases : (b : Bool) → is_copied (structure ts) ≡ b → P (result_locs (result_at buffer (cond b (in_buffer (G 8)) (in_result_pieces (register_pieces 0 0 (structure ts))))))
-    cases true e = none
-    cases false e = direct e
+-- what holds of no places, and of those in registers, holds of a result's
+result_by : (P : List Loc → Type 0) → P [] → (s : Signature) → (is_copied s.result_type ≡ false → P (piece_locs (register_pieces 0 s.result_type))) → P (result_locs (plan_of aapcs64 s).res)
+result_by P none s direct =
+    result_cases (λ spot. P (result_locs (result_at aapcs64.copy_start (frame_copies_end aapcs64 s) s.result_type spot))) s.result_type (λ e. none) (λ e. none) direct
 
-result_has_all : (t : Tree) (buffer : ℕ) → ResultHasAll t (result_at buffer (result_spot_of t))
-result_has_all void buffer = refl
-result_has_all (scalar s) buffer = registers_have_all 0 0 (scalar s)
-result_has_all (left_out k) buffer = registers_have_all 0 0 (left_out k)
-result_has_all (structure ts) buffer = cases (is_copied (structure ts))
-  where
-    cases : (b : Bool) → ResultHasAll (structure ts) (result_at buffer (cond b (in_buffer (G 8)) (in_result_pieces (register_pieces 0 0 (structure ts)))))
-    cases true = tt
-    cases false = registers_have_all 0 0 (structure ts)
+result_has_all : (s : Signature) → ResultHasAll s.result_type (plan_of aapcs64 s).res
+result_has_all s =
+    result_cases (λ spot. ResultHasAll s.result_type (result_at aapcs64.copy_start (frame_copies_end aapcs64 s) s.result_type spot)) s.result_type (λ e. e) (λ e. tt) (λ e. registers_have_all 0 s.result_type)
+
+result_filled : (s : Signature) → ResultIsFilled aapcs64 s.result_type (plan_of aapcs64 s).res
+result_filled s =
+    result_cases (λ spot. ResultIsFilled aapcs64 s.result_type (result_at aapcs64.copy_start (frame_copies_end aapcs64 s) s.result_type spot)) s.result_type (λ e. tt) (λ e. tt) (λ e. registers_filled 0 s.result_type)
 
 -- every law of the places
 pub sound : (s : Signature) → IsSound aapcs64 s
-sound s =
-    let buffer = buffer_start s (placing_of s) in
-    record {
-      apart = plan_apart s;
-      in_frame = plan_in_frame s;
-      on_stack = plan_on_stack s;
-      allowed = plan_allowed s;
-      has_all = arguments_have_all (copies_start (placing_of s)) untouched s.arguments;
-      result_apart = result_cases AreApart tt s.result_type (λ e. chain_apart numbered numbered 8 8 all_registers untouched _ _ (result_chain s.result_type e)) buffer;
-      result_in_registers = result_cases (AllByRecursion (LiesIn 0)) tt s.result_type (λ e. chain_lies_in numbered numbered 8 8 (λ k h. omega arith) (λ k h. omega arith) untouched _ _ 0 (omega arith) (result_chain s.result_type e)) buffer;
-      result_allowed = result_cases (AllByRecursion (IsNoneOf (not_for_results aapcs64))) tt s.result_type (λ e. chain_allowed numbered numbered 8 8 (not_for_results aapcs64) result_allowed_general result_allowed_vector result_allowed_stack untouched _ _ (result_chain s.result_type e)) buffer;
-      result_has_all = result_has_all s.result_type buffer;
-    }
+sound s = record {
+  apart = plan_apart s;
+  in_frame = plan_in_frame s;
+  on_stack = plan_on_stack s;
+  allowed = plan_allowed s;
+  has_all = arguments_have_all aapcs64.copy_start (copies_start (placing_of s)) untouched s.arguments;
+  filled = arguments_filled aapcs64.copy_start (copies_start (placing_of s)) untouched s.arguments;
+  result_apart = result_by AreApart tt s (λ e. chain_apart numbered numbered 8 8 all_registers untouched _ _ (result_chain s.result_type e));
+  result_in_registers = result_by (AllByRecursion (LiesIn (isa_of aapcs64.target) 0)) tt s (λ e. chain_lies_in numbered numbered 8 8 (isa_of aapcs64.target) (λ k h. omega arith) (λ k h. omega arith) untouched _ _ 0 (omega arith) (result_chain s.result_type e));
+  result_allowed = result_by (AllByRecursion (IsNoneOf (not_for_results aapcs64))) tt s (λ e. chain_allowed numbered numbered 8 8 (not_for_results aapcs64) result_allowed_general result_allowed_vector result_allowed_stack untouched _ _ (result_chain s.result_type e));
+  result_has_all = result_has_all s;
+  result_filled = result_filled s;
+  frame_aligned = frame_is_aligned aapcs64 s;
+  need_aligned = need_is_aligned aapcs64 s refl;
+}
 
 pub determines : (s : Signature) → IsDetermined aapcs64 s
 determines s = determined aapcs64 s (sound s).has_all (sound s).result_has_all

@@ -9,10 +9,11 @@ use Rattle.ffi3_place_rules.specs.declared.Piece.{Piece}
 use Rattle.ffi3_place_rules.specs.declared.Taken.{Taken}
 use Rattle.ffi3_place_rules.specs.declared.Place.{Place}
 use Rattle.ffi3_place_rules.specs.declared.Place.TheVariants.{Direct, ByRef}
-use Rattle.ffi3_place_rules.specs.Standard.{in_pieces, by_reference, places_from, place_at, copy_bytes, all_copy_bytes, buffer_bytes, round8, in_buffer, in_result_pieces}
+use Rattle.ffi3_place_rules.specs.Standard.{Spot, in_pieces, by_reference, places_from, place_at, copy_end, copies_end, buffer_end, round8, in_buffer, in_result_pieces}
 use Rattle.ffi3_place_rules.specs.Doublewords.{stack_pieces, leaf_piece}
 use Rattle.ffi3_place_rules.proofs.Elements.{leaf_read, argument_read}
-use Rattle.ffi3_aapcs64_rules.specs.Aapcs64.{is_copied, member_pieces, register_pieces, in_registers, taken_with, taken_after, spot_after, spots_after, result_spot_of}
+use Rattle.ffi3_aapcs64_rules.specs.Aapcs64.{aapcs64, is_copied, passed, member_pieces, register_pieces, register_spot, stack_spot, register_start, stack_start, in_registers, taken_with, taken_after, spot_after, spots_after, result_spot_of}
+use Rattle.ffi3_aapcs64_rules.proofs.Sound.{result_cases}
 
 -- one more member, where the new list and its last piece are known by equations
 pub member_turn : (t : Tree) (v i : ℕ) (out new whole : List Piece) (p : Piece) → i < length (leaves_of t) → p ≡ leaf_piece (F (v + i)) Free (leaf_at t i) → new ≡ out ++ p ∷ [] → out ++ member_pieces (v + i) (drop i (leaves_of t)) ≡ whole → new ++ member_pieces (v + (i + 1)) (drop (i + 1) (leaves_of t)) ≡ whole
@@ -31,69 +32,79 @@ taken_step ts i t before whole h read e =
     subst (λ us. taken_after before us ≡ whole) (argument_read ts i t h read) e
 
 -- the place of one more argument
-pub place_step : (ts : List Tree) (i : ℕ) (t : Tree) (before : Taken) (copy : ℕ) (out whole : List Place) → i < length ts → t ≡ tree_at ts i →
-    out ++ places_from copy (drop i ts) (spots_after before (drop i ts)) ≡ whole →
-    (out ++ place_at copy (spot_after before t) ∷ []) ++ places_from (copy + copy_bytes t (spot_after before t)) (drop (i + 1) ts) (spots_after (taken_with before t) (drop (i + 1) ts)) ≡ whole
-place_step ts i t before copy out whole h read e =
-    let opened = subst (λ us. out ++ places_from copy us (spots_after before us) ≡ whole) (argument_read ts i t h read) e in
+pub place_step : (ts : List Tree) (i : ℕ) (t : Tree) (before : Taken) (end : ℕ) (out whole : List Place) → i < length ts → t ≡ tree_at ts i →
+    out ++ places_from aapcs64.copy_start end (drop i ts) (spots_after before (drop i ts)) ≡ whole →
+    (out ++ place_at aapcs64.copy_start end t (spot_after before t) ∷ []) ++ places_from aapcs64.copy_start (copy_end aapcs64.copy_start end t (spot_after before t)) (drop (i + 1) ts) (spots_after (taken_with before t) (drop (i + 1) ts)) ≡ whole
+place_step ts i t before end out whole h read e =
+    let opened = subst (λ us. out ++ places_from aapcs64.copy_start end us (spots_after before us) ≡ whole) (argument_read ts i t h read) e in
     append_assoc out _ _ ∙ opened
 
--- the copy of one more argument
-pub copy_step : (ts : List Tree) (i : ℕ) (t : Tree) (before : Taken) (copy whole : ℕ) → i < length ts → t ≡ tree_at ts i → copy + all_copy_bytes (drop i ts) (spots_after before (drop i ts)) ≡ whole → (copy + copy_bytes t (spot_after before t)) + all_copy_bytes (drop (i + 1) ts) (spots_after (taken_with before t) (drop (i + 1) ts)) ≡ whole
-copy_step ts i t before copy whole h read e =
-    let opened = subst (λ us. copy + all_copy_bytes us (spots_after before us) ≡ whole) (argument_read ts i t h read) e in
-    omega (arith, opened)
+-- where the copy of one more argument ends
+pub copy_step : (ts : List Tree) (i : ℕ) (t : Tree) (before : Taken) (end whole : ℕ) → i < length ts → t ≡ tree_at ts i → copies_end aapcs64.copy_start end (drop i ts) (spots_after before (drop i ts)) ≡ whole → copies_end aapcs64.copy_start (copy_end aapcs64.copy_start end t (spot_after before t)) (drop (i + 1) ts) (spots_after (taken_with before t) (drop (i + 1) ts)) ≡ whole
+copy_step ts i t before end whole h read e =
+    subst (λ us. copies_end aapcs64.copy_start end us (spots_after before us) ≡ whole) (argument_read ts i t h read) e
 
-direct_if : (copy : ℕ) (a : Taken) (t : Tree) (p : List Piece) (fits : Bool) → p ≡ cond fits (register_pieces a.general a.vector t) (stack_pieces a.stack t) → Direct p ≡ place_at copy (cond fits (in_pieces (register_pieces a.general a.vector t)) (in_pieces (stack_pieces a.stack t)))
-direct_if copy a t p true e = ap Direct e
-direct_if copy a t p false e = ap Direct e
+-- an argument's spot, by whether it is in registers and copied
+abbrev SpotBy : Bool → Bool → Taken → Tree → Spot
+SpotBy fits copied a t =
+    cond fits
+    (cond copied (by_reference (G (register_start a t))) (in_pieces (register_pieces (register_start a t) t)))
+    (cond copied (by_reference (S (stack_start a.stack (passed t)))) (in_pieces (stack_pieces (stack_start a.stack (passed t)) t)))
+
+direct_if : (end : ℕ) (a : Taken) (t : Tree) (p : List Piece) (fits : Bool) → p ≡ cond fits (register_pieces (register_start a t) t) (stack_pieces (stack_start a.stack (passed t)) t) → Direct p ≡ place_at aapcs64.copy_start end t (SpotBy fits false a t)
+direct_if end a t p true e = ap Direct e
+direct_if end a t p false e = ap Direct e
 
 -- an argument that is not copied
-pub place_direct : (copy : ℕ) (a : Taken) (t : Tree) (p : List Piece) → is_copied t ≡ false → p ≡ cond (in_registers a.general a.vector t) (register_pieces a.general a.vector t) (stack_pieces a.stack t) → Direct p ≡ place_at copy (spot_after a t)
-place_direct copy a t p direct e =
-    direct_if copy a t p (in_registers a.general a.vector t) e ∙ ap (λ c. place_at copy (cond (in_registers a.general a.vector t) (cond c (by_reference (G a.general)) (in_pieces (register_pieces a.general a.vector t))) (cond c (by_reference (S a.stack)) (in_pieces (stack_pieces a.stack t))))) (sym direct)
+pub place_direct : (end : ℕ) (a : Taken) (t : Tree) (p : List Piece) → is_copied t ≡ false → p ≡ cond (in_registers a t) (register_pieces (register_start a t) t) (stack_pieces (stack_start a.stack (passed t)) t) → Direct p ≡ place_at aapcs64.copy_start end t (spot_after a t)
+place_direct end a t p direct e =
+    direct_if end a t p (in_registers a t) e ∙ ap (λ c. place_at aapcs64.copy_start end t (SpotBy (in_registers a t) c a t)) (sym direct)
 
-reference_if : (copy : ℕ) (a : Taken) (l : Loc) (fits : Bool) → l ≡ cond fits (G a.general) (S a.stack) → ByRef l copy ≡ place_at copy (cond fits (by_reference (G a.general)) (by_reference (S a.stack)))
-reference_if copy a l true e = ap (λ m. ByRef m copy) e
-reference_if copy a l false e = ap (λ m. ByRef m copy) e
+reference_if : (end : ℕ) (a : Taken) (t : Tree) (l : Loc) (fits : Bool) → l ≡ cond fits (G (register_start a t)) (S (stack_start a.stack (passed t))) → ByRef l (aapcs64.copy_start end t) ≡ place_at aapcs64.copy_start end t (SpotBy fits true a t)
+reference_if end a t l true e = ap (λ m. ByRef m (aapcs64.copy_start end t)) e
+reference_if end a t l false e = ap (λ m. ByRef m (aapcs64.copy_start end t)) e
 
 -- an argument that is copied
-pub place_by_reference : (copy : ℕ) (a : Taken) (t : Tree) (l : Loc) → is_copied t ≡ true → l ≡ cond (in_registers a.general a.vector t) (G a.general) (S a.stack) → ByRef l copy ≡ place_at copy (spot_after a t)
-place_by_reference copy a t l over e =
-    reference_if copy a l (in_registers a.general a.vector t) e ∙ ap (λ c. place_at copy (cond (in_registers a.general a.vector t) (cond c (by_reference (G a.general)) (in_pieces (register_pieces a.general a.vector t))) (cond c (by_reference (S a.stack)) (in_pieces (stack_pieces a.stack t))))) (sym over)
+pub place_by_reference : (end : ℕ) (a : Taken) (t : Tree) (l : Loc) → is_copied t ≡ true → l ≡ cond (in_registers a t) (G (register_start a t)) (S (stack_start a.stack (passed t))) → ByRef l (aapcs64.copy_start end t) ≡ place_at aapcs64.copy_start end t (spot_after a t)
+place_by_reference end a t l over e =
+    reference_if end a t l (in_registers a t) e ∙ ap (λ c. place_at aapcs64.copy_start end t (SpotBy (in_registers a t) c a t)) (sym over)
 
-copy_bytes_if : (a : Taken) (t : Tree) (fits copied : Bool) → copy_bytes t (cond fits (cond copied (by_reference (G a.general)) (in_pieces (register_pieces a.general a.vector t))) (cond copied (by_reference (S a.stack)) (in_pieces (stack_pieces a.stack t)))) ≡ cond copied (round8 (size_of t)) 0
-copy_bytes_if a t true true = refl
-copy_bytes_if a t true false = refl
-copy_bytes_if a t false true = refl
-copy_bytes_if a t false false = refl
+copy_end_if : (end : ℕ) (a : Taken) (t : Tree) (fits copied : Bool) → copy_end aapcs64.copy_start end t (SpotBy fits copied a t) ≡ cond copied (aapcs64.copy_start end t + round8 (size_of t)) end
+copy_end_if end a t true true = refl
+copy_end_if end a t true false = refl
+copy_end_if end a t false true = refl
+copy_end_if end a t false false = refl
 
--- how much stack an argument's copy takes, wherever its pointer stands
-pub copy_bytes_is : (a : Taken) (t : Tree) → copy_bytes t (spot_after a t) ≡ cond (is_copied t) (round8 (size_of t)) 0
-copy_bytes_is a t = copy_bytes_if a t (in_registers a.general a.vector t) (is_copied t)
+-- where an argument's copy ends, wherever its pointer stands
+pub copy_end_is : (end : ℕ) (a : Taken) (t : Tree) → copy_end aapcs64.copy_start end t (spot_after a t) ≡ cond (is_copied t) (aapcs64.copy_start end t + round8 (size_of t)) end
+copy_end_is end a t = copy_end_if end a t (in_registers a t) (is_copied t)
 
 -- ---- results
 
-pub buffer_size : (t : Tree) → buffer_bytes t (result_spot_of t) ≡ cond (is_copied t) (round8 (size_of t)) 0
-buffer_size void = refl
-buffer_size (scalar s) = refl
-buffer_size (left_out k) = refl
-buffer_size (structure ts) = cases (is_copied (structure ts))
-  where
-    cases : (b : Bool) → buffer_bytes (structure ts) (cond b (in_buffer (G 8)) (in_result_pieces (register_pieces 0 0 (structure ts)))) ≡ cond b (round8 (size_of (structure ts))) 0
-    cases true = refl
-    cases false = refl
+-- where a hidden result's buffer ends
+pub buffer_end_is : (end : ℕ) (t : Tree) → buffer_end aapcs64.copy_start end t (result_spot_of t) ≡ cond (is_copied t) (aapcs64.copy_start end t + round8 (size_of t)) end
+buffer_end_is end t =
+    result_cases (λ spot. buffer_end aapcs64.copy_start end t spot ≡ cond (is_copied t) (aapcs64.copy_start end t + round8 (size_of t)) end) t
+    (λ e. ap (λ u. cond (is_copied u) (aapcs64.copy_start end t + round8 (size_of t)) end) (sym e))
+    (λ e. ap (λ b. cond b (aapcs64.copy_start end t + round8 (size_of t)) end) (sym e))
+    (λ e. ap (λ b. cond b (aapcs64.copy_start end t + round8 (size_of t)) end) (sym e))
 
 pub spot_of_copied : (t : Tree) → is_copied t ≡ true → result_spot_of t ≡ in_buffer (G 8)
-spot_of_copied void e = cc
-spot_of_copied (scalar s) e = cc
-spot_of_copied (left_out k) e = cc
-spot_of_copied (structure ts) e =
-    ap (λ b. cond b (in_buffer (G 8)) (in_result_pieces (register_pieces 0 0 (structure ts)))) e
+spot_of_copied t over =
+    result_cases (λ spot. spot ≡ in_buffer (G 8)) t (λ e. absurd (void_is_direct t e over)) (λ e. refl) (λ e. absurd (differ (is_copied t) over e))
+  where
+    void_is_direct : (u : Tree) → u ≡ void → is_copied u ≡ true → ⊥
+    void_is_direct void e h = cc
+    void_is_direct (scalar s) e h = cc
+    void_is_direct (left_out k) e h = cc
+    void_is_direct (structure ts) e h = cc
 
-pub spot_of_registers : (t : Tree) → ¬ (t ≡ void) → is_copied t ≡ false → result_spot_of t ≡ in_result_pieces (register_pieces 0 0 t)
-spot_of_registers void some e = absurd (some refl)
-spot_of_registers (scalar s) some e = refl
-spot_of_registers (left_out k) some e = refl
-spot_of_registers (structure ts) some e =
-    ap (λ b. cond b (in_buffer (G 8)) (in_result_pieces (register_pieces 0 0 (structure ts)))) e
+    differ : (b : Bool) → b ≡ true → b ≡ false → ⊥
+    differ b e h = cc
+
+pub spot_of_registers : (t : Tree) → ¬ (t ≡ void) → is_copied t ≡ false → result_spot_of t ≡ in_result_pieces (register_pieces 0 t)
+spot_of_registers t some direct =
+    result_cases (λ spot. spot ≡ in_result_pieces (register_pieces 0 t)) t (λ e. absurd (some e)) (λ e. absurd (differ (is_copied t) e direct)) (λ e. refl)
+  where
+    differ : (b : Bool) → b ≡ true → b ≡ false → ⊥
+    differ b e h = cc

@@ -1,27 +1,51 @@
--- Where the arguments and the result of a call stand on AArch64. (Arm AAPCS64, IHI 0055, "Parameter passing" and "Result return")
-use Rattle.std.specs.Prelude.{ℕ, ◌+◌, Bool, true, false, not, ◌&&◌, cond, nat_le, nat_lt, List, [], ◌∷◌, length, Option, Some, None, is_some}
+-- Where the arguments and the result of a call stand on AArch64. (Arm AAPCS64, IHI 0055, 6.8.2 "Parameter passing rules" and 6.9 "Result return". The rules of 6.8.2 are named by stage and number, as B.4, as the releases from 2020Q2 on number them.)
+use Rattle.std.specs.Prelude.{ℕ, ◌+◌, Bool, true, false, not, ◌&&◌, cond, nat_le, nat_lt, List, [], ◌∷◌, ◌++◌, map, length, Option, Some, None, is_some}
 use Rattle.std.specs.List.{list_all}
 use Rattle.ffi3_type_rules.specs.declared.Target.TheVariants as target
-use Rattle.ffi3_type_rules.specs.Tree.{Tree, void, scalar, structure, Scalar, float, double}
+use Rattle.ffi3_type_rules.specs.declared.Isa.{Isa}
+use Rattle.ffi3_type_rules.specs.Isa.{isa_of}
+use Rattle.ffi3_type_rules.specs.Tree.{Tree, void, scalar, structure, Scalar, u8, s8, u16, s16, u32, s32, u64, s64, float, double, pointer}
 use Rattle.ffi3_type_rules.specs.Layout.{Leaf, leaves_of, size_of}
 use Rattle.ffi3_type_rules.specs.Signature.{Signature}
-use Rattle.ffi3_type_rules.specs.Integer.{is_floating}
+use Rattle.ffi3_place_rules.specs.declared.Loc.{Loc}
 use Rattle.ffi3_place_rules.specs.declared.Loc.TheVariants.{G, F, S}
-use Rattle.ffi3_place_rules.specs.declared.Ext.TheVariants.{Free}
+use Rattle.ffi3_place_rules.specs.declared.Ext.TheVariants.{Free, Widen}
 use Rattle.ffi3_place_rules.specs.declared.Piece.{Piece}
+use Rattle.ffi3_place_rules.specs.declared.SaveWord.TheVariants.{Register, Hidden, Spare}
 use Rattle.ffi3_place_rules.specs.declared.Taken.{Taken}
-use Rattle.ffi3_place_rules.specs.Standard.{Standard, Placing, Spot, in_pieces, by_reference, ResultSpot, no_result, in_result_pieces, in_buffer, round8}
+use Rattle.ffi3_place_rules.specs.Isa.{pushed_bytes, stack_pointer, reserved_places, link_place, closure_register, trampoline_registers}
+use Rattle.ffi3_place_rules.specs.Sound.{listed}
+use Rattle.ffi3_place_rules.specs.Standard.{Standard, Placing, Spot, in_pieces, by_reference, ResultSpot, no_result, in_result_pieces, in_buffer, at_once, round8}
 use Rattle.ffi3_place_rules.specs.Doublewords.{doublewords, doublewords_at, widening, stack_pieces, leaf_piece}
 use Rattle.ffi3_aapcs64_rules.specs.declared.Kind.{Kind}
 use Rattle.ffi3_aapcs64_rules.specs.declared.Kind.TheVariants.{Float, Double}
 
--- ---- homogeneous floating-point aggregates (IHI 0055, 5.9.5)
+-- ---- homogeneous floating-point aggregates, HFA (5.9.5.1)
+
+-- the kind of a floating-point type
+abbrev pub kind_of : Scalar → Option Kind
+kind_of float = Some Float
+kind_of double = Some Double
+kind_of u8 = None
+kind_of s8 = None
+kind_of u16 = None
+kind_of s16 = None
+kind_of u32 = None
+kind_of s32 = None
+kind_of u64 = None
+kind_of s64 = None
+kind_of pointer = None
+
+abbrev pub is_kind : Kind → Option Kind → Bool
+is_kind Float (Some Float) = true
+is_kind Float (Some Double) = false
+is_kind Double (Some Float) = false
+is_kind Double (Some Double) = true
+is_kind Float None = false
+is_kind Double None = false
 
 abbrev pub is_of : Kind → Scalar → Bool
-is_of Float float = true
-is_of Float _ = false
-is_of Double double = true
-is_of Double _ = false
+is_of kind s = is_kind kind (kind_of s)
 
 abbrev pub is_member : Kind → Leaf → Bool
 is_member kind l = is_of kind l.kind
@@ -33,7 +57,7 @@ homogeneous_members ls =
     (cond (list_all (is_member Float) ls) (Some (Float, length ls))
     (cond (list_all (is_member Double) ls) (Some (Double, length ls)) None)) None
 
--- the type and the number of the members of a homogeneous floating-point aggregate, with nested structs flattened
+-- the type and the number of the members of an HFA, with nested structs flattened
 abbrev pub homogeneous : Tree → Option (Kind × ℕ)
 homogeneous (structure ts) = homogeneous_members (leaves_of (structure ts))
 homogeneous _ = None
@@ -42,68 +66,98 @@ abbrev pub is_struct : Tree → Bool
 is_struct (structure ts) = true
 is_struct _ = false
 
--- ---- what an argument needs
+-- ---- stage B: what is passed
 
--- a floating-point argument, or a homogeneous aggregate: it takes SIMD and floating-point registers
+-- a floating-point type or an HFA, which takes SIMD and floating-point registers (C.1, C.2, B.3)
 abbrev pub in_vectors : Tree → Bool
-in_vectors (scalar s) = is_floating s
+in_vectors (scalar s) = is_some (kind_of s)
 in_vectors t = is_some (homogeneous t)
 
--- any other composite larger than 16 bytes is copied by the caller, and replaced by a pointer to the copy
+-- B.4: any other composite larger than 16 bytes is copied by the caller, and replaced by a pointer to the copy
 abbrev pub is_copied : Tree → Bool
 is_copied t = is_struct t && (not (in_vectors t) && nat_lt 16 (size_of t))
 
--- how many registers of its kind it needs: one for each member, one for a pointer, one for each doubleword
+-- the argument after stage B
+abbrev pub passed : Tree → Tree
+passed t = cond {A = Tree} (is_copied t) (scalar pointer) t
+
+-- how many registers of its kind it needs: one for each member (C.1, C.2), or one for each doubleword (C.9, C.12)
 abbrev pub need : Tree → ℕ
-need t = cond (in_vectors t) (length (leaves_of t)) (cond (is_copied t) 1 (doublewords t))
+need t = cond (in_vectors t) (length (leaves_of t)) (doublewords (passed t))
 
-abbrev pub generals : Tree → ℕ
-generals t = cond (in_vectors t) 0 (need t)
-
-abbrev pub vectors : Tree → ℕ
-vectors t = cond (in_vectors t) (need t) 0
-
--- how much stack it takes where it is not in registers: a multiple of eight bytes
+-- how much stack it takes where it is not in registers: a multiple of eight bytes (B.5, C.3, C.5, C.16)
 abbrev pub stack_size : Tree → ℕ
-stack_size t = cond (is_copied t) 8 (round8 (size_of t))
+stack_size t = round8 (size_of (passed t))
+
+-- ---- where one argument begins after another
+
+-- An argument's first register, where those before it of its kind end. (C.10 makes it even in general registers for a type of alignment 16; there is none.)
+abbrev pub first_register : ℕ → Tree → ℕ
+first_register end t = end
+
+-- Its first byte on the stack, where what stands before it ends. (C.4, C.14: a multiple of 8, or of the type's alignment where that is greater.)
+abbrev pub stack_start : ℕ → Tree → ℕ
+stack_start end t = at_once end t
 
 -- ---- registers: x0 to x7, and v0 to v7
 
--- one register for each member of a floating-point argument or a homogeneous aggregate, from number v on
+-- C.1, C.2: one register for each member, from number v on
 abbrev pub member_pieces : ℕ → List Leaf → List Piece
 member_pieces v [] = []
 member_pieces v (l ∷ ls) =
     leaf_piece (F v) Free l ∷ member_pieces (v + 1) ls
 
--- one register for each doubleword, from number g on
+-- C.9, C.12: one register for each doubleword, from number g on
 abbrev pub general_pieces : ℕ → Tree → List Piece
 general_pieces g t =
     doublewords_at (λ j. G (g + j)) (size_of t) (widening t) 0 (doublewords t)
 
-abbrev pub register_pieces : ℕ → ℕ → Tree → List Piece
-register_pieces g v t =
-    cond (in_vectors t) (member_pieces v (leaves_of t)) (general_pieces g t)
+abbrev pub register_pieces : ℕ → Tree → List Piece
+register_pieces first t =
+    cond (in_vectors t) (member_pieces first (leaves_of t)) (general_pieces first t)
 
--- ---- arguments
+-- an argument, or the pointer to its copy, in registers from a number of its kind on
+abbrev pub register_spot : ℕ → Tree → Spot
+register_spot first t =
+    cond (is_copied t) (by_reference (G first)) (in_pieces (register_pieces first t))
 
--- With the next general register number (NGRN) and the next SIMD and floating-point register number (NSRN), the argument is in registers exactly where those of its kind that are left suffice for all of it. The numbers count on behind 8, so that no register of the kind is used once one argument did not fit.
-abbrev pub in_registers : ℕ → ℕ → Tree → Bool
-in_registers general vector t =
-    cond (in_vectors t) (nat_le (vector + need t) 8) (nat_le (general + need t) 8)
+-- the same on the stack, from a byte on (C.6, C.15, C.17)
+abbrev pub stack_spot : ℕ → Tree → Spot
+stack_spot start t =
+    cond (is_copied t) (by_reference (S start)) (in_pieces (stack_pieces start t))
 
--- `general` is the NGRN, `vector` the NSRN, `stack` the next stacked argument address (NSAA) from the first stack argument
+-- ---- stage C: arguments, with the next general-purpose register number (NGRN), the next SIMD and floating-point register number (NSRN), and the next stacked argument address (NSAA) from the first stack argument
+
+-- the number that counts the registers of the argument's kind
+abbrev pub next_register : Taken → Tree → ℕ
+next_register before t = cond (in_vectors t) before.vector before.general
+
+-- where the argument's registers begin and end. They end past 8 where the registers left do not suffice, so that no register of the kind is used any more. (C.3, C.13 set the number to 8.)
+abbrev pub register_start : Taken → Tree → ℕ
+register_start before t = first_register (next_register before t) (passed t)
+
+abbrev pub register_end : Taken → Tree → ℕ
+register_end before t = register_start before t + need t
+
+-- C.1, C.2, C.9, C.12: in registers exactly where those left suffice for all of it
+abbrev pub in_registers : Taken → Tree → Bool
+in_registers before t = nat_le (register_end before t) 8
+
+abbrev pub stack_end : Taken → Tree → ℕ
+stack_end before t = stack_start before.stack (passed t) + stack_size t
+
 abbrev pub taken_with : Taken → Tree → Taken
 taken_with before t = record {
-  general = before.general + generals t;
-  vector = before.vector + vectors t;
-  stack = before.stack + cond (in_registers before.general before.vector t) 0 (stack_size t);
+  general = cond (in_vectors t) before.general (register_end before t);
+  vector = cond (in_vectors t) (register_end before t) before.vector;
+  stack = cond (in_registers before t) before.stack (stack_end before t);
 }
 
 abbrev pub spot_after : Taken → Tree → Spot
 spot_after before t =
-    cond (in_registers before.general before.vector t)
-    (cond (is_copied t) (by_reference (G before.general)) (in_pieces (register_pieces before.general before.vector t)))
-    (cond (is_copied t) (by_reference (S before.stack)) (in_pieces (stack_pieces before.stack t)))
+    cond (in_registers before t)
+    (register_spot (register_start before t) t)
+    (stack_spot (stack_start before.stack (passed t)) t)
 
 abbrev pub spots_after : Taken → List Tree → List Spot
 spots_after before [] = []
@@ -113,16 +167,20 @@ abbrev pub taken_after : Taken → List Tree → Taken
 taken_after before [] = before
 taken_after before (t ∷ ts) = taken_after (taken_with before t) ts
 
+-- stage A
 abbrev pub untouched : Taken
 untouched = record { general = 0; vector = 0; stack = 0 }
 
--- ---- results
+-- ---- results (6.9)
 
--- Where an argument of the type would stand, were it the first; one that would be passed by a pointer goes to the caller's buffer, whose address is in x8.
+-- in the registers of a first argument; where that would be replaced by a pointer, in memory of the caller, whose address is in x8
+abbrev pub result_from : Spot → ResultSpot
+result_from (in_pieces pieces) = in_result_pieces pieces
+result_from (by_reference at) = in_buffer (G 8)
+
 abbrev pub result_spot_of : Tree → ResultSpot
 result_spot_of void = no_result
-result_spot_of t =
-    cond (is_copied t) (in_buffer (G 8)) (in_result_pieces (register_pieces 0 0 t))
+result_spot_of t = result_from (spot_after untouched t)
 
 abbrev pub placing_of : Signature → Placing
 placing_of s = record {
@@ -132,19 +190,37 @@ placing_of s = record {
   vector_registers = 0;
 }
 
--- The stack pointer has number 31. Preserved: x19 to x29, and the low 64 bits of v8 to v15. x18 is the platform's, x30 the link register, and x16 and x17 may be changed by a veneer: x17 holds the closure's address.
+-- ---- registers by their roles (6.1.1, 6.1.2)
+
+abbrev machine : Isa
+machine = isa_of target.Aapcs64
+
+-- callee-saved: x19 to x29
+abbrev pub saved_general : List Loc
+saved_general =
+    G 19 ∷ G 20 ∷ G 21 ∷ G 22 ∷ G 23 ∷ G 24 ∷ G 25 ∷ G 26 ∷ G 27 ∷ G 28 ∷ G 29 ∷ []
+
+-- callee-saved: the low 64 bits of v8 to v15
+abbrev pub saved_vector : List Loc
+saved_vector = F 8 ∷ F 9 ∷ F 10 ∷ F 11 ∷ F 12 ∷ F 13 ∷ F 14 ∷ F 15 ∷ []
+
+-- The save area has x19 to x30, v8 to v15, the result's address that came in x8, and a spare word. A lone narrow integer is extended by its sign, which is this library's rule: the standard leaves the bits above it unspecified (6.8.2, "Parameter passing rules"; C.9, C.16).
 abbrev pub aapcs64 : Standard
 aapcs64 = record {
   target = target.Aapcs64;
-  link = 0;
+  link = pushed_bytes machine;
   save = 176;
-  stack_pointer = G 31;
-  preserved = G 19 ∷ G 20 ∷ G 21 ∷ G 22 ∷ G 23 ∷ G 24 ∷ G 25 ∷ G 26 ∷ G 27 ∷ G 28 ∷ G 29 ∷ F 8 ∷ F 9 ∷ F 10 ∷ F 11 ∷ F 12 ∷ F 13 ∷ F 14 ∷ F 15 ∷ [];
-  reserved = G 18 ∷ [];
-  link_register = Some (G 30);
-  closure_register = 17;
-  trampoline_registers = G 16 ∷ G 17 ∷ [];
+  stack_pointer = G (stack_pointer machine);
+  preserved = saved_general ++ saved_vector;
+  reserved = reserved_places machine;
+  link_register = link_place machine;
+  save_area = map Register (saved_general ++ (listed (link_place machine) ++ saved_vector)) ++ (Hidden ∷ Spare ∷ []);
+  closure_register = closure_register machine;
+  trampoline_registers = trampoline_registers machine;
   vector_count = None;
   returned_address = None;
+  narrow = Widen;
+  single = Free;
+  copy_start = at_once;
   placing = placing_of;
 }

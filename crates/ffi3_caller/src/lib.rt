@@ -13,9 +13,6 @@ ghost use Rattle.ffi3_machine.specs.declared.TheConstants.{STACK, STACK_TOP};
 ghost use Rattle.ffi3_machine.specs.State.{image_of, with_sp};
 ghost use Rattle.ffi3_caller.specs.Loaded.{AreWithin, IsWithin, loaded, with_piece};
 
-#[cfg(test)]
-mod tests;
-
 use ffi3_cif::Cif;
 use ffi3_machine::{Machine, STACK};
 use ffi3_place::{Abi, Loc, Piece, Pieces, Res};

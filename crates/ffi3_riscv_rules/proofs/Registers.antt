@@ -1,6 +1,8 @@
 -- The lists of registers: no register stands twice in one, and none is forbidden.
 use Rattle.std.proofs.Common.{◌≡◌, ℕ, ◌<◌, true, refl, arith}
+use Rattle.ffi3_type_rules.specs.declared.Isa.TheVariants as isa
 use Rattle.ffi3_place_rules.specs.declared.Loc.TheVariants.{G, F, S}
+use Rattle.ffi3_place_rules.specs.Isa.{general_registers, floating_registers}
 use Rattle.ffi3_place_rules.specs.Sound.{IsNoneOf, no_argument, no_result}
 use Rattle.ffi3_place_rules.proofs.Tests.{each_of_eight}
 use Rattle.ffi3_place_rules.proofs.Chain.{Registers}
@@ -13,11 +15,11 @@ all_registers = record {
   floating_apart = λ j k h l e. absurd (omega (arith, e));
 }
 
-pub argument_small : (k : ℕ) → k < 8 → argument_register k < 32
-argument_small k h = omega (arith, h)
+pub argument_exists : (k : ℕ) → k < 8 → argument_register k < general_registers isa.Riscv
+argument_exists k h = omega (arith, h)
 
-pub floating_small : (k : ℕ) → k < 8 → floating_register k < 32
-floating_small k h = omega (arith, h)
+pub floating_exists : (k : ℕ) → k < 8 → floating_register k < floating_registers isa.Riscv
+floating_exists k h = omega (arith, h)
 
 pub argument_allowed : (k : ℕ) → k < 8 → IsNoneOf (no_argument riscv) (G (argument_register k))
 argument_allowed k h =

@@ -5,8 +5,8 @@ use Rattle.hex.specs.declared.error.FromHexError.{FromHexError}
 use Rattle.serde_json.specs.Data.{Data, null, boolean, number, string, array, object, Items, no_items, item, Members, no_members, member, Num}
 use Rattle.serde_json.specs.Find.{as_number, as_u64, as_str, as_integer}
 use Rattle.serde_json.specs.Events.{items_len}
-use Rattle.ffi3_type_rules.specs.Tree.{Tree, scalar, structure, list_of, elements_of, Scalar, float, double, pointer}
-use Rattle.ffi3_type_rules.specs.Integer.{is_integer, is_number_type, is_signed, scalar_of, width_of, bit_count, bytes_of_number}
+use Rattle.ffi3_type_rules.specs.Tree.{Tree, scalar, structure, list_of, elements_of, Scalar, pointer}
+use Rattle.ffi3_type_rules.specs.Integer.{is_integer, is_floating, is_number_type, is_signed, scalar_of, width_of, bit_count, bytes_of_number}
 use Rattle.ffi3_type_rules.specs.Layout.{scalar_size}
 use Rattle.ffi3_type_rules.specs.Same.{same_tree}
 use Rattle.ffi3_script_rules.specs.FirstFault.{Found, first_fault}
@@ -50,8 +50,7 @@ read_number t n path =
     if is_number_type t then read_integer (scalar_of t) (as_integer n) path else fault path wrong_type
 
 abbrev pub is_floating_type : Tree → Bool
-is_floating_type (scalar float) = true
-is_floating_type (scalar double) = true
+is_floating_type (scalar s) = is_floating s
 is_floating_type _ = false
 
 abbrev pub bytes_or_fault : Path → Result (List ℕ) FromHexError → Read Expression

@@ -36,10 +36,19 @@ fn write_text(alloc: Global, ty: &FfiType, value: &Value, text: &mut Bytes) -> R
                 let address = widen(ty, value);
                 text.extend(format!(in alloc; "{address:x}")?.as_bytes())
             }
-            _ => {
+            FfiType::U8
+            | FfiType::S8
+            | FfiType::U16
+            | FfiType::S16
+            | FfiType::U32
+            | FfiType::S32
+            | FfiType::U64
+            | FfiType::S64 => {
                 let number = number(ty, value);
                 text.extend(format!(in alloc; "{number}")?.as_bytes())
             }
+            FfiType::Void | FfiType::Struct(_) => unreachable!(),
+            FfiType::LongDouble | FfiType::Complex | FfiType::Vector => unreachable!(),
         },
         Value::List(values) => {
             if let FfiType::Struct(fields) = ty {

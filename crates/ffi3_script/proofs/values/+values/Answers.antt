@@ -11,7 +11,7 @@ use Rattle.ffi3_script_rules.specs.Values.{read_number, read_value, read_values,
 use Rattle.ffi3_json.proofs.Items.{depth-at, short-at}
 use Rattle.ffi3_json.proofs.Paths.{there_and_back}
 use Rattle.ffi3_json.proofs.Tellings.{tells_part, tells_made}
-use Rattle.ffi3_script.specs.ExprOf.{expression_of, expressions_in}
+use Rattle.ffi3_script_body.specs.ExprOf.{expression_of, expressions_in}
 use Rattle.ffi3_script.specs.ScopeOf.{scope_of}
 use Rattle.ffi3_script.specs.Shapes.{typed_form_of, typed_under, value_under_form, read_terms}
 use Rattle.ffi3_script.proofs.ReadValues.{ok_by, err_by, field_first, field_struct, field_wrong, of_second, of_both, two_first, two_second, two_both, terms_are, typed_member, of_number, of_other_count, of_values, of_member, Done, done-more, done-all}
