@@ -10,7 +10,7 @@ ghost use Rattle.ffi3_type_rules.specs.Signature.{SignatureHasNoFault};
 ghost use Rattle.ffi3_types.specs.TreeOf.{tree_of};
 ghost use Rattle.ffi3_place_rules.specs.declared.Loc.{Loc};
 ghost use Rattle.ffi3_place_rules.specs.declared.Loc.TheVariants.{G, S};
-ghost use Rattle.ffi3_place_rules.specs.Standard.{places_from, place_at, copies_end, copy_end, result_at, buffer_end};
+ghost use Rattle.ffi3_place_rules.specs.Standard.{places_from, place_at, copies_end, copy_end, result_at, buffer_end, round8};
 ghost use Rattle.ffi3_place_rules.specs.Doublewords.{doublewords, stack_pieces};
 ghost use Rattle.ffi3_aapcs64_rules.specs.Aapcs64.{aapcs64, next_register, is_of, is_member, homogeneous, in_vectors, is_copied, passed, need, stack_size, first_register, stack_start, member_pieces, general_pieces, register_pieces, register_start, register_end, in_registers, stack_end, taken_with, taken_after, untouched, spot_after, spots_after, result_spot_of};
 ghost use Rattle.ffi3_aapcs64_rules.specs.Sums.{IsPlacedBySums};
@@ -95,7 +95,19 @@ fn in_vectors(ty: &FfiType) -> bool
     match ty {
         FfiType::Float | FfiType::Double => true,
         FfiType::Struct(_) => homogeneous(ty).is_some(),
-        _ => false,
+        FfiType::Void
+        | FfiType::U8
+        | FfiType::S8
+        | FfiType::U16
+        | FfiType::S16
+        | FfiType::U32
+        | FfiType::S32
+        | FfiType::U64
+        | FfiType::S64
+        | FfiType::Pointer
+        | FfiType::LongDouble
+        | FfiType::Complex
+        | FfiType::Vector => false,
     }
 }
 
@@ -104,10 +116,7 @@ fn is_copied(ty: &FfiType) -> bool
     requires { HasNoFault 0 true (tree_of ty.now) }
     ensures { result ≡ is_copied (tree_of ty.now) }
 {
-    match ty {
-        FfiType::Struct(_) => !in_vectors(ty) && size_of(ty) > 16,
-        _ => false,
-    }
+    matches!(ty, FfiType::Struct(_)) && !in_vectors(ty) && size_of(ty) > 16
 }
 
 /// The size of what is passed: the value, or the pointer to its copy.
@@ -403,6 +412,16 @@ fn place_of(alloc: Global, before: Taken, ty: &FfiType, end: u64) -> Result<Plac
     Ok(Place::Direct(direct_pieces(alloc, before, ty)?))
 }
 
+/// Where a copy or a buffer of a type ends, if what is before it ends at `end`.
+fn end_behind(end: u64, ty: &FfiType) -> u64
+    requires right { HasNoFault 0 true (tree_of ty.now) }
+    requires low { end ≤ 262144 }
+    ensures value { result ≡ aapcs64.copy_start end (tree_of ty.now) + round8 (size_of (tree_of ty.now)) }
+    ensures low { result ≤ end + 1031 }
+{
+    copy_start(end, ty) + round_up(size_of(ty), 8)
+}
+
 /// Where an argument's copy ends, or what stands before it if it has none.
 fn copy_end(end: u64, ty: &FfiType) -> u64
     requires right { HasNoFault 0 true (tree_of ty.now) }
@@ -411,7 +430,7 @@ fn copy_end(end: u64, ty: &FfiType) -> u64
     ensures low { result ≤ end + 1031 }
 {
     if is_copied(ty) {
-        copy_start(end, ty) + round_up(size_of(ty), 8)
+        end_behind(end, ty)
     } else {
         end
     }
@@ -473,7 +492,7 @@ fn buffer_end(end: u64, ty: &FfiType) -> u64
     ensures low { result ≤ end + 1031 }
 {
     if is_copied(ty) {
-        copy_start(end, ty) + round_up(size_of(ty), 8)
+        end_behind(end, ty)
     } else {
         end
     }
