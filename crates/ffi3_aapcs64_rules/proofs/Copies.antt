@@ -1,17 +1,13 @@
 -- The copies of arguments by reference and the buffer of a hidden result stand where the sums say, by any standard whose copies follow one another at once.
-use Rattle.std.proofs.Common.{◌≡◌, ℕ, zero, suc, ◌+◌, ◌<◌, ◌≤◌, Bool, true, false, cond, List, [], ◌∷◌, take, length, ap, sym, ◌∙◌, refl, arith}
-use Rattle.std.specs.Prelude.{Option, Some, None, slice_get}
+use Rattle.std.proofs.Common.{◌≡◌, ℕ, zero, suc, ◌+◌, ◌<◌, ◌≤◌, cond, List, [], ◌∷◌, take, length, ap, sym, ◌∙◌, refl, arith}
+use Rattle.std.specs.Prelude.{Some, slice_get}
 use Rattle.ffi3_type_rules.specs.Tree.{Tree, tree_at}
 use Rattle.ffi3_type_rules.specs.Layout.{size_of}
 use Rattle.ffi3_type_rules.specs.Signature.{Signature}
-use Rattle.ffi3_place_rules.specs.declared.Loc.{Loc}
-use Rattle.ffi3_place_rules.specs.declared.Piece.{Piece}
-use Rattle.ffi3_place_rules.specs.declared.Place.{Place}
-use Rattle.ffi3_place_rules.specs.declared.Place.TheVariants.{Direct, ByRef}
+use Rattle.ffi3_place_rules.specs.declared.Place.TheVariants.{ByRef}
 use Rattle.ffi3_place_rules.specs.declared.Res.TheVariants.{Hidden}
 use Rattle.ffi3_place_rules.specs.Standard.{Standard, Spot, in_pieces, by_reference, ResultSpot, no_result, in_result_pieces, in_buffer, place_at, places_from, copy_end, copies_end, result_at, buffer_end, copies_start, frame_copies_end, round8, round16}
-use Rattle.ffi3_place_rules.specs.Sums.{sum_below}
-use Rattle.ffi3_aapcs64_rules.specs.Sums.{is_by_reference, buffer_size, copy_size, copies_before, CopiesBySums}
+use Rattle.ffi3_aapcs64_rules.specs.Sums.{is_by_reference, buffer_size, copies_before, CopiesBySums}
 
 -- spot i is there
 abbrev HasSpot : List Spot → ℕ → Spot → Type 0

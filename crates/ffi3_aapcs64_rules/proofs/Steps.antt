@@ -12,7 +12,7 @@ use Rattle.ffi3_place_rules.specs.declared.Place.TheVariants.{Direct, ByRef}
 use Rattle.ffi3_place_rules.specs.Standard.{Spot, in_pieces, by_reference, places_from, place_at, copy_end, copies_end, buffer_end, round8, in_buffer, in_result_pieces}
 use Rattle.ffi3_place_rules.specs.Doublewords.{stack_pieces, leaf_piece}
 use Rattle.ffi3_place_rules.proofs.Elements.{leaf_read, argument_read}
-use Rattle.ffi3_aapcs64_rules.specs.Aapcs64.{aapcs64, is_copied, passed, member_pieces, register_pieces, register_spot, stack_spot, register_start, stack_start, in_registers, taken_with, taken_after, spot_after, spots_after, result_spot_of}
+use Rattle.ffi3_aapcs64_rules.specs.Aapcs64.{aapcs64, is_copied, passed, member_pieces, register_pieces, register_start, stack_start, in_registers, taken_with, taken_after, spot_after, spots_after, result_spot_of}
 use Rattle.ffi3_aapcs64_rules.proofs.Sound.{result_cases}
 
 -- one more member, where the new list and its last piece are known by equations

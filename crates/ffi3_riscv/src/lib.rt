@@ -4,18 +4,17 @@
 ghost use Rattle.std.specs.Prelude.{◌≡◌, ◌<◌, ◌≤◌, ◌+◌, ◌*◌, ◌/◌, ◌^◌, length, IfOk, [], ◌∷◌, true, false, cond};
 ghost use Rattle.ffi3_type_rules.specs.Tree.{Scalar, scalar};
 ghost use Rattle.ffi3_type_rules.specs.Layout.{size_of, leaves_of, leaf_at};
-ghost use Rattle.ffi3_type_rules.specs.Integer.{is_floating, is_integer};
+ghost use Rattle.ffi3_type_rules.specs.Integer.{is_floating};
 ghost use Rattle.ffi3_type_rules.specs.Fault.{HasNoFault};
 ghost use Rattle.ffi3_type_rules.specs.Signature.{SignatureHasNoFault};
 ghost use Rattle.ffi3_types.specs.TreeOf.{tree_of};
 ghost use Rattle.ffi3_place_rules.specs.Standard.{at_once, place_at, copy_end, places_from, copies_end, result_at, buffer_end};
 ghost use Rattle.ffi3_place_rules.specs.Doublewords.{doublewords};
-ghost use Rattle.ffi3_riscv_rules.specs.Riscv.{integer_shape, shape_of, words_of, floats_of, registers_suffice, passed_as, word, extension, boxing, floating_piece, integer_piece, word_pieces, spot_of, is_fixed, used_with, used_at_first, used_by_all, spots_after, result_shape, result_spot_of, stack_of, unused};
+ghost use Rattle.ffi3_riscv_rules.specs.Riscv.{is_word_integer, integer_shape, shape_of, words_of, floats_of, registers_suffice, passed_as, word, extension, boxing, floating_piece, integer_piece, word_pieces, spot_of, is_fixed, used_with, used_at_first, used_by_all, spots_after, result_shape, result_spot_of, stack_of, unused};
 ghost use Rattle.ffi3_riscv_rules.specs.Sums.{copy_bytes};
 ghost use Rattle.ffi3_riscv_rules.proofs.Shapes.{Suits, HasRoom};
 
 pub mod laws;
-
 #[cfg(test)]
 mod tests;
 
@@ -31,14 +30,15 @@ use ffi3_types::{FfiType, NoMemory, Sig, Target};
 pub use laws::placement_laws;
 use std::alloc::Global;
 
-/// Whether a scalar is an integer. A pointer is none.
+/// Whether a scalar is an integer no more than 64 bits wide. A pointer is none.
 fn integer(kind: &FfiType) -> bool
-    ensures { (s : Scalar) → tree_of kind.now ≡ scalar s → result ≡ is_integer s }
+    ensures { (s : Scalar) → tree_of kind.now ≡ scalar s → result ≡ is_word_integer s }
 {
     match kind {
         FfiType::U8 | FfiType::S8 | FfiType::U16 | FfiType::S16 => true,
         FfiType::U32 | FfiType::S32 | FfiType::U64 | FfiType::S64 => true,
-        FfiType::Float | FfiType::Double | FfiType::Pointer => false,
+        FfiType::Pointer => false,
+        FfiType::Float | FfiType::Double => false,
         FfiType::Void | FfiType::Struct(_) => false,
         FfiType::LongDouble | FfiType::Complex | FfiType::Vector => false,
     }
@@ -54,11 +54,11 @@ fn is_floating_leaf(ty: &FfiType, i: u32) -> bool
     is_floating(&leaf.kind)
 }
 
-/// Whether leaf `i` is an integer.
+/// Whether leaf `i` is such an integer.
 fn is_integer_leaf(ty: &FfiType, i: u32) -> bool
     requires right { HasNoFault 0 true (tree_of ty.now) }
     requires in_range { i < length (leaves_of (tree_of ty.now)) }
-    ensures { result ≡ is_integer (leaf_at (tree_of ty.now) i).kind }
+    ensures { result ≡ is_word_integer (leaf_at (tree_of ty.now) i).kind }
 {
     let leaf = ty.leaf(i);
     integer(&leaf.kind)
@@ -516,7 +516,7 @@ impl Abi for Riscv {
         // ra, s0 to s11, fs0 to fs11, and the hidden pointer
         if k == 0 {
             SaveWord::Register(Loc::G(1))
-        } else if k <= 24 {
+        } else if k <= Self::KEPT {
             SaveWord::Register(REGISTERS[k as usize - 1])
         } else {
             SaveWord::Hidden

@@ -1,6 +1,6 @@
 -- What stands at each number of a list of places, and where the copies before it end. This holds for any standard.
-use Rattle.std.proofs.Common.{◌≡◌, ℕ, zero, suc, ◌+◌, ◌<◌, List, [], ◌∷◌, take, length, ap, refl, arith}
-use Rattle.std.specs.Prelude.{Option, Some, slice_get}
+use Rattle.std.proofs.Common.{◌≡◌, ℕ, zero, suc, ◌<◌, List, [], ◌∷◌, take, length, refl, arith}
+use Rattle.std.specs.Prelude.{Some, slice_get}
 use Rattle.ffi3_type_rules.specs.Tree.{Tree, tree_at}
 use Rattle.ffi3_place_rules.specs.Standard.{Spot, place_at, copy_end, places_from, copies_end}
 

@@ -20,7 +20,7 @@ use Rattle.ffi3_place_rules.proofs.Determines.{determined}
 use Rattle.ffi3_riscv_rules.specs.declared.Shape.{Shape}
 use Rattle.ffi3_riscv_rules.specs.declared.Shape.TheVariants.{OneF, TwoF, FI, IF, Words, ByRef}
 use Rattle.ffi3_riscv_rules.specs.declared.Used.{Used}
-use Rattle.ffi3_riscv_rules.specs.Riscv.{riscv, argument_register, floating_register, word, words_of, extension, word_pieces, spot_of, first_word, passed_as, is_fixed, used_with, used_at_start, passed_next, spot_next, used_next, used_after, used_at_first, used_by_all, unused, spots_after, result_shape, result_from, result_spot_of, is_by_reference, placing_of}
+use Rattle.ffi3_riscv_rules.specs.Riscv.{riscv, argument_register, floating_register, word, words_of, extension, word_pieces, spot_of, first_word, is_fixed, used_with, used_at_start, passed_next, spot_next, used_next, used_after, used_at_first, used_by_all, unused, spots_after, result_shape, result_from, result_spot_of, is_by_reference, placing_of}
 use Rattle.ffi3_riscv_rules.proofs.Shapes.{HasRoom, passed_has_room, passed_few, passed_suits, passed_floats}
 use Rattle.ffi3_riscv_rules.proofs.Covered.{spot_has_all, arguments_have_all}
 use Rattle.ffi3_riscv_rules.proofs.Filled.{spot_filled, arguments_filled}

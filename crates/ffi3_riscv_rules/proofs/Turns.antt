@@ -10,7 +10,7 @@ use Rattle.ffi3_place_rules.specs.Standard.{Spot, at_once, place_at, copy_end, p
 use Rattle.ffi3_place_rules.proofs.Elements.{argument_read}
 use Rattle.ffi3_riscv_rules.specs.declared.Shape.{Shape}
 use Rattle.ffi3_riscv_rules.specs.declared.Used.{Used}
-use Rattle.ffi3_riscv_rules.specs.Riscv.{passed_as, is_fixed, spot_of, used_with, passed_next, spot_next, used_next, spots_after, used_after, used_by_all, used_at_first, stack_of, placing_of, result_shape, result_spot_of, riscv}
+use Rattle.ffi3_riscv_rules.specs.Riscv.{passed_as, is_fixed, spot_of, used_with, passed_next, spot_next, used_next, spots_after, used_after, used_by_all, stack_of, placing_of, result_shape, result_spot_of, riscv}
 use Rattle.ffi3_riscv_rules.specs.Sums.{copy_bytes}
 use Rattle.ffi3_riscv_rules.proofs.Sums.{copied, buffered}
 

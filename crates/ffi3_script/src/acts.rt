@@ -23,7 +23,7 @@ use ffi3_types::FfiType;
 use std::alloc::Global;
 
 /// The kinds of moves, each named by its key.
-#[derive(Clone, Copy, Debug)]
+#[derive(Clone, Copy)]
 pub(crate) enum Kind {
     Call,
     Make,

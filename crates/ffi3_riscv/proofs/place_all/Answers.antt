@@ -1,4 +1,4 @@
-use Rattle.std.proofs.Common.{◌+◌, ◌*◌, ◌<◌, ◌≤◌, ap, subst, arith}
+use Rattle.std.proofs.Common.{◌+◌, ◌<◌, ap, subst, arith}
 use Rattle.ffi3_types.specs.TreeOf.{tree_of}
 use Rattle.ffi3_riscv_rules.proofs.Shapes.{passed_suits, passed_has_room}
 use Rattle.ffi3_riscv_rules.proofs.Turns.{copies_turn, places_turn}
