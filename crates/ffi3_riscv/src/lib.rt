@@ -4,15 +4,17 @@
 ghost use Rattle.std.specs.Prelude.{◌≡◌, ◌<◌, ◌≤◌, ◌+◌, ◌*◌, ◌/◌, ◌^◌, length, IfOk, [], ◌∷◌, true, false, cond};
 ghost use Rattle.ffi3_type_rules.specs.Tree.{Scalar, scalar};
 ghost use Rattle.ffi3_type_rules.specs.Layout.{size_of, leaves_of, leaf_at};
-ghost use Rattle.ffi3_type_rules.specs.Integer.{is_floating, is_integer};
+ghost use Rattle.ffi3_type_rules.specs.Integer.{is_floating};
 ghost use Rattle.ffi3_type_rules.specs.Fault.{HasNoFault};
 ghost use Rattle.ffi3_type_rules.specs.Signature.{SignatureHasNoFault};
 ghost use Rattle.ffi3_types.specs.TreeOf.{tree_of};
-ghost use Rattle.ffi3_place_rules.specs.Standard.{place_at, places_from, result_at, all_copy_bytes, buffer_bytes, round8};
+ghost use Rattle.ffi3_place_rules.specs.Standard.{at_once, place_at, copy_end, places_from, copies_end, result_at, buffer_end, round8};
 ghost use Rattle.ffi3_place_rules.specs.Doublewords.{doublewords};
-ghost use Rattle.ffi3_riscv_rules.specs.Riscv.{integer_shape, shape_of, words_of, floats_of, registers_suffice, passed_as, word, extension, boxing, floating_piece, integer_piece, word_pieces, spot_of, is_fixed, used_with, used_at_first, used_by_all, spots_after, result_shape, result_spot_of, is_by_reference, unused};
+ghost use Rattle.ffi3_riscv_rules.specs.Riscv.{is_word_integer, integer_shape, shape_of, words_of, floats_of, registers_suffice, passed_as, word, extension, boxing, floating_piece, integer_piece, word_pieces, spot_of, is_fixed, used_with, used_at_first, used_by_all, spots_after, result_shape, result_spot_of, is_by_reference, stack_of, unused};
+ghost use Rattle.ffi3_riscv_rules.specs.Copies.{buffer_size};
 ghost use Rattle.ffi3_riscv_rules.proofs.Shapes.{Suits, HasRoom};
 
+pub mod laws;
 #[cfg(test)]
 mod tests;
 
@@ -20,18 +22,26 @@ use ffi3_place::parts::{
     argument, count_of, doubleword, doublewords, filling, is_floating, leaf_piece, result_type,
     size_of, sizes_of,
 };
-use ffi3_place::{Abi, Ext, Loc, Piece, Pieces, Place, Places, Plan, Res};
+use ffi3_place::{Abi, Ext, Loc, Piece, Pieces, Place, Places, Plan, Res, SaveWord};
 pub use ffi3_riscv_rules::Shape;
 use ffi3_riscv_rules::Used;
 use ffi3_type_rules::round_up;
 use ffi3_types::{FfiType, NoMemory, Sig, Target};
+pub use laws::placement_laws;
 use std::alloc::Global;
 
-/// Whether a scalar is an integer. A pointer is none.
+/// Whether a scalar is an integer no more than 64 bits wide. A pointer is none.
 fn integer(kind: &FfiType) -> bool
-    ensures { (s : Scalar) → tree_of kind.now ≡ scalar s → result ≡ is_integer s }
+    ensures { (s : Scalar) → tree_of kind.now ≡ scalar s → result ≡ is_word_integer s }
 {
-    !matches!(kind, FfiType::Float | FfiType::Double | FfiType::Pointer)
+    match kind {
+        FfiType::U8 | FfiType::S8 | FfiType::U16 | FfiType::S16 => true,
+        FfiType::U32 | FfiType::S32 | FfiType::U64 | FfiType::S64 => true,
+        FfiType::Pointer => false,
+        FfiType::Float | FfiType::Double => false,
+        FfiType::Void | FfiType::Struct(_) => false,
+        FfiType::LongDouble | FfiType::Complex | FfiType::Vector => false,
+    }
 }
 
 /// Whether leaf `i` is a float or a double.
@@ -44,11 +54,11 @@ fn is_floating_leaf(ty: &FfiType, i: u32) -> bool
     is_floating(&leaf.kind)
 }
 
-/// Whether leaf `i` is an integer.
+/// Whether leaf `i` is such an integer.
 fn is_integer_leaf(ty: &FfiType, i: u32) -> bool
     requires right { HasNoFault 0 true (tree_of ty.now) }
     requires in_range { i < length (leaves_of (tree_of ty.now)) }
-    ensures { result ≡ is_integer (leaf_at (tree_of ty.now) i).kind }
+    ensures { result ≡ is_word_integer (leaf_at (tree_of ty.now) i).kind }
 {
     let leaf = ty.leaf(i);
     integer(&leaf.kind)
@@ -202,13 +212,17 @@ fn extended(ty: &FfiType) -> Ext
     filling(ty, Ext::Riscv)
 }
 
-/// What fills the rest of a floating register.
+/// A float in a floating-point register is NaN-boxed.
 fn boxed(kind: &FfiType) -> Ext
     ensures { (s : Scalar) → tree_of kind.now ≡ scalar s → result ≡ boxing s }
 {
     match kind {
         FfiType::Float => Ext::Boxed,
-        _ => Ext::Free,
+        FfiType::Double | FfiType::Pointer => Ext::Free,
+        FfiType::U8 | FfiType::S8 | FfiType::U16 | FfiType::S16 => Ext::Free,
+        FfiType::U32 | FfiType::S32 | FfiType::U64 | FfiType::S64 => Ext::Free,
+        FfiType::Void | FfiType::Struct(_) => Ext::Free,
+        FfiType::LongDouble | FfiType::Complex | FfiType::Vector => Ext::Free,
     }
 }
 
@@ -279,7 +293,7 @@ fn place_of(
     requires room { HasRoom before shape }
     requires low { before.words ≤ 1024 }
     requires near { copy ≤ 131072 }
-    ensures { IfOk result (λ p. p ≡ place_at copy (spot_of before (tree_of ty.now) shape)) }
+    ensures { IfOk result (λ p. p ≡ place_at at_once copy (tree_of ty.now) (spot_of before (tree_of ty.now) shape)) }
 {
     match shape {
         Shape::OneF => {
@@ -309,7 +323,7 @@ fn place_of(
     }
 }
 
-/// Whether argument `i` is no variadic one.
+/// Whether argument `i` is a named one, and no variadic one.
 fn is_fixed(sig: &Sig, i: u32) -> bool
     ensures { result ≡ is_fixed sig.now.fixed i }
 {
@@ -324,7 +338,7 @@ const UNUSED: Used = Used {
     floats: 0,
 };
 
-/// A result is passed as a first fixed argument would be.
+/// A result is returned as a first named argument would be passed.
 fn result_shape(ty: &FfiType) -> Shape
     requires { HasNoFault 0 true (tree_of ty.now) }
     ensures { result ≡ result_shape (tree_of ty.now) }
@@ -332,7 +346,7 @@ fn result_shape(ty: &FfiType) -> Shape
     passed_as(UNUSED, true, ty)
 }
 
-/// The address of a hidden result's buffer takes the first word.
+/// The hidden pointer to a result's buffer takes the first word.
 fn at_first(ty: &FfiType) -> Used
     requires { HasNoFault 0 true (tree_of ty.now) }
     ensures value { result ≡ used_at_first (tree_of ty.now) }
@@ -363,6 +377,19 @@ fn used_by_all(sig: &Sig) -> Used
     before
 }
 
+/// The bytes of the words that stand on the stack.
+fn stack_of(used: Used) -> u64
+    requires { used.words ≤ 1024 }
+    ensures value { result ≡ stack_of used }
+    ensures small { result ≤ 8 * used.words }
+{
+    if used.words < 8 {
+        0
+    } else {
+        8 * (used.words - 8)
+    }
+}
+
 /// The bytes of an argument's copy.
 fn copy_of(ty: &FfiType, shape: Shape) -> u64
     requires { HasNoFault 0 true (tree_of ty.now) }
@@ -386,8 +413,8 @@ struct Placed {
 fn place_all(alloc: Global, sig: &Sig, start: u64) -> Result<Placed, NoMemory>
     requires right { SignatureHasNoFault sig.now }
     requires near { start ≤ 2048 }
-    ensures places { IfOk result (λ p. p.places ≡ places_from start sig.now.arguments (spots_after sig.now.fixed (used_at_first sig.now.result_type) 0 sig.now.arguments)) }
-    ensures end { IfOk result (λ p. p.end ≡ start + all_copy_bytes sig.now.arguments (spots_after sig.now.fixed (used_at_first sig.now.result_type) 0 sig.now.arguments)) }
+    ensures places { IfOk result (λ p. p.places ≡ places_from at_once start sig.now.arguments (spots_after sig.now.fixed (used_at_first sig.now.result_type) 0 sig.now.arguments)) }
+    ensures end { IfOk result (λ p. p.end ≡ copies_end at_once start sig.now.arguments (spots_after sig.now.fixed (used_at_first sig.now.result_type) 0 sig.now.arguments)) }
     ensures near { IfOk result (λ p. p.end ≤ start + 66048) }
 {
     let mut before = at_first(result_type(sig));
@@ -407,7 +434,7 @@ fn place_all(alloc: Global, sig: &Sig, start: u64) -> Result<Placed, NoMemory>
 fn place_result(alloc: Global, ty: &FfiType, buffer: u64) -> Result<Res, NoMemory>
     requires right { HasNoFault 0 true (tree_of ty.now) }
     requires near { buffer ≤ 131072 }
-    ensures { IfOk result (λ r. r ≡ result_at buffer (result_spot_of (tree_of ty.now))) }
+    ensures { IfOk result (λ r. r ≡ result_at at_once buffer (tree_of ty.now) (result_spot_of (tree_of ty.now))) }
 {
     if let FfiType::Void = ty {
         return Ok(Res::Nothing);
@@ -422,11 +449,39 @@ fn place_result(alloc: Global, ty: &FfiType, buffer: u64) -> Result<Res, NoMemor
 /// The bytes of a hidden result's buffer.
 fn buffer_of(ty: &FfiType) -> u64
     requires { HasNoFault 0 true (tree_of ty.now) }
-    ensures value { result ≡ buffer_bytes (tree_of ty.now) (result_spot_of (tree_of ty.now)) }
+    ensures value { result ≡ buffer_size (tree_of ty.now) (result_spot_of (tree_of ty.now)) }
     ensures small { result ≤ 1032 }
 {
     copy_of(ty, result_shape(ty))
 }
+
+/// s0 to s11 and fs0 to fs11, which a callee saves.
+const REGISTERS: [Loc; 24] = [
+    Loc::G(8),
+    Loc::G(9),
+    Loc::G(18),
+    Loc::G(19),
+    Loc::G(20),
+    Loc::G(21),
+    Loc::G(22),
+    Loc::G(23),
+    Loc::G(24),
+    Loc::G(25),
+    Loc::G(26),
+    Loc::G(27),
+    Loc::F(8),
+    Loc::F(9),
+    Loc::F(18),
+    Loc::F(19),
+    Loc::F(20),
+    Loc::F(21),
+    Loc::F(22),
+    Loc::F(23),
+    Loc::F(24),
+    Loc::F(25),
+    Loc::F(26),
+    Loc::F(27),
+];
 
 /// The RISC-V calling standard with LP64D. (RISC-V ELF psABI)
 pub struct Riscv;
@@ -437,13 +492,13 @@ impl Abi for Riscv {
 
     ghost standard = { riscv };
 
-    ghost SAVE = { 208 };
+    ghost SAVE = { riscv.save };
 
-    ghost LINK = { 0 };
+    ghost LINK = { riscv.link };
 
     ghost TARGET = { target.Riscv };
 
-    ghost KEPT = { 24 };
+    ghost KEPT = { length riscv.preserved };
 
     const SAVE: u64 = 208;
 
@@ -454,44 +509,31 @@ impl Abi for Riscv {
     const KEPT: u8 = 24;
 
     fn kept_register(k: u8) -> Loc {
-        // s0 to s11, and fs0 to fs11
-        const REGISTERS: [Loc; 24] = [
-            Loc::G(8),
-            Loc::G(9),
-            Loc::G(18),
-            Loc::G(19),
-            Loc::G(20),
-            Loc::G(21),
-            Loc::G(22),
-            Loc::G(23),
-            Loc::G(24),
-            Loc::G(25),
-            Loc::G(26),
-            Loc::G(27),
-            Loc::F(8),
-            Loc::F(9),
-            Loc::F(18),
-            Loc::F(19),
-            Loc::F(20),
-            Loc::F(21),
-            Loc::F(22),
-            Loc::F(23),
-            Loc::F(24),
-            Loc::F(25),
-            Loc::F(26),
-            Loc::F(27),
-        ];
         REGISTERS[k as usize]
+    }
+
+    fn saved_word(k: u8) -> SaveWord {
+        // ra, s0 to s11, fs0 to fs11, and the hidden pointer
+        if k == 0 {
+            SaveWord::Register(Loc::G(1))
+        } else if k <= Self::KEPT {
+            SaveWord::Register(REGISTERS[k as usize - 1])
+        } else {
+            SaveWord::Hidden
+        }
+    }
+
+    fn vector_count() -> Option<Loc> {
+        None
+    }
+
+    fn returned_address() -> Option<Loc> {
+        None
     }
 
     fn plan(alloc: Global, sig: &Sig) -> Result<Plan, NoMemory> {
         let used = used_by_all(sig);
-        let stack = if used.words < 8 {
-            0
-        } else {
-            8 * (used.words - 8)
-        };
-        let start = round_up(stack, 16);
+        let start = round_up(stack_of(used), 16);
         let all = place_all(alloc, sig, start)?;
         let ret = result_type(sig);
         let frame = round_up(all.end + buffer_of(ret), 16);
@@ -500,7 +542,7 @@ impl Abi for Riscv {
         Ok(Plan {
             places: all.places,
             res,
-            need: frame + 208 + block,
+            need: frame + Self::LINK + Self::SAVE + block,
             frame,
             block,
             vectors: 0,
@@ -508,6 +550,7 @@ impl Abi for Riscv {
     }
 
     ghost use Rattle.std.specs.Prelude.{refl};
+    ghost use Rattle.ffi3_riscv_rules.proofs.Agrees.{agrees as with_machine};
     ghost use Rattle.ffi3_riscv_rules.proofs.Sound.{sound as every_law, determines};
 
     ghost save_is = { refl };
@@ -517,6 +560,8 @@ impl Abi for Riscv {
     ghost target_is = { refl };
 
     ghost kept_all = { refl };
+
+    ghost agrees = { with_machine };
 
     ghost sound = { λ s _. every_law s };
 

@@ -1,14 +1,14 @@
 -- The pieces of a value have every byte of its leaves.
 use Rattle.std.proofs.Common.{◌≡◌, ℕ, ◌+◌, List, [], ◌∷◌, length, subst, sym, refl, arith}
 use Rattle.std.specs.List.{AllByRecursion}
-use Rattle.std.specs.Prelude.{Option, slice_index_or}
-use Rattle.ffi3_type_rules.specs.Tree.{Tree, Scalar, u8, float}
+use Rattle.std.specs.Prelude.{Option}
+use Rattle.ffi3_type_rules.specs.Tree.{Tree, Scalar, float}
 use Rattle.ffi3_type_rules.specs.Layout.{Leaf, leaves_of, size_of, scalar_size}
 use Rattle.ffi3_place_rules.specs.declared.Loc.{Loc}
 use Rattle.ffi3_place_rules.specs.declared.Loc.TheVariants.{G, F}
 use Rattle.ffi3_place_rules.specs.declared.Ext.TheVariants.{Free, Riscv}
 use Rattle.ffi3_place_rules.specs.declared.Piece.{Piece}
-use Rattle.ffi3_place_rules.specs.Standard.{copy_bytes, place_at, places_from}
+use Rattle.ffi3_place_rules.specs.Standard.{copy_end, place_at, places_from}
 use Rattle.ffi3_place_rules.specs.Doublewords.{doublewords, leaf_piece}
 use Rattle.ffi3_place_rules.specs.Sound.{IsPieceOf, IsExtended, CoversLeaf, HaveAll, PlaceHasAll, PlacesHaveAll}
 use Rattle.ffi3_place_rules.proofs.Covered.{EndsIn, leaves_end}
@@ -16,8 +16,8 @@ use Rattle.ffi3_place_rules.proofs.Doublewords.{filling_suits, leaf_is_piece, do
 use Rattle.ffi3_riscv_rules.specs.declared.Shape.{Shape}
 use Rattle.ffi3_riscv_rules.specs.declared.Shape.TheVariants.{OneF, TwoF, FI, IF, Words, ByRef}
 use Rattle.ffi3_riscv_rules.specs.declared.Used.{Used}
-use Rattle.ffi3_riscv_rules.specs.Riscv.{word, extension, boxing, argument_register, floating_register, floating_piece, integer_piece, word_pieces, spot_of, passed_as, is_fixed, used_with, spots_after}
-use Rattle.ffi3_riscv_rules.proofs.Shapes.{Suits, passed_suits}
+use Rattle.ffi3_riscv_rules.specs.Riscv.{word, extension, boxing, argument_register, floating_register, floating_piece, integer_piece, word_pieces, spot_of, is_fixed, used_at_start, passed_next, spot_next, used_next, spots_after}
+use Rattle.ffi3_riscv_rules.proofs.Shapes.{Suits, leaf, passed_suits}
 
 -- ---- doublewords
 
@@ -49,12 +49,6 @@ covers_second : (l : Leaf) (p q : Piece) → HasLeaf l q → CoversLeaf (p ∷ q
 covers_second l p q e k h =
     (1, q, omega arith, refl, (omega (arith, e.0), omega (arith, e.0, e.1, h)))
 
-abbrev no_leaf : Leaf
-no_leaf = record { at = 0; kind = u8 }
-
-abbrev leaf : List Leaf → ℕ → Leaf
-leaf ls i = slice_index_or ls i no_leaf
-
 -- all pieces are of the value, and have these leaves
 abbrev HaveLeaves : Tree → List Leaf → List Piece → Type 0
 HaveLeaves t ls ps =
@@ -78,20 +72,21 @@ have_all t ps h = record { each = h.0; covered = h.1 }
 
 -- ---- by shapes
 
-pub spot_has_all : (copy : ℕ) (before : Used) (t : Tree) (shape : Shape) → Suits (size_of t) (leaves_of t) shape → PlaceHasAll t (place_at copy (spot_of before t shape))
-spot_has_all copy before t OneF h =
+pub spot_has_all : (start : ℕ → Tree → ℕ) (copies : ℕ) (before : Used) (t : Tree) (shape : Shape) → Suits (size_of t) (leaves_of t) shape → PlaceHasAll t (place_at start copies t (spot_of before t shape))
+spot_has_all start copies before t OneF h =
     have_all t _ (one_leaf t (leaves_of t) (floating_piece before.floats) (floating_piece_of t before.floats) (λ l. (refl, refl)) h (leaves_end t))
-spot_has_all copy before t TwoF h =
+spot_has_all start copies before t TwoF h =
     have_all t _ (two_leaves t (leaves_of t) (floating_piece before.floats) (floating_piece (before.floats + 1)) (floating_piece_of t before.floats) (λ l. (refl, refl)) (floating_piece_of t (before.floats + 1)) (λ l. (refl, refl)) h (leaves_end t))
-spot_has_all copy before t FI h =
+spot_has_all start copies before t FI h =
     have_all t _ (two_leaves t (leaves_of t) (floating_piece before.floats) (integer_piece before.words) (floating_piece_of t before.floats) (λ l. (refl, refl)) (integer_piece_of t before.words) (λ l. (refl, refl)) h (leaves_end t))
-spot_has_all copy before t IF h =
+spot_has_all start copies before t IF h =
     have_all t _ (two_leaves t (leaves_of t) (integer_piece before.words) (floating_piece before.floats) (integer_piece_of t before.words) (λ l. (refl, refl)) (floating_piece_of t before.floats) (λ l. (refl, refl)) h (leaves_end t))
-spot_has_all copy before t (Words n) h = words_have_all before.words t n h.0
-spot_has_all copy before t ByRef h = tt
+spot_has_all start copies before t (Words n) h = words_have_all before.words t n h.0
+spot_has_all start copies before t ByRef h = tt
 
-pub arguments_have_all : (copy : ℕ) (fixed : Option ℕ) (before : Used) (i : ℕ) (ts : List Tree) → PlacesHaveAll ts (places_from copy ts (spots_after fixed before i ts))
-arguments_have_all copy fixed before i [] = tt
-arguments_have_all copy fixed before i (t ∷ ts) =
-    let shape = passed_as before (is_fixed fixed i) t in
-    (spot_has_all copy before t shape (passed_suits before (is_fixed fixed i) t), arguments_have_all (copy + copy_bytes t (spot_of before t shape)) fixed (used_with before shape) (i + 1) ts)
+pub arguments_have_all : (start : ℕ → Tree → ℕ) (copies : ℕ) (fixed : Option ℕ) (end : Used) (i : ℕ) (ts : List Tree) → PlacesHaveAll ts (places_from start copies ts (spots_after fixed end i ts))
+arguments_have_all start copies fixed end i [] = tt
+arguments_have_all start copies fixed end i (t ∷ ts) =
+    let named = is_fixed fixed i in
+    let before = used_at_start end named t in
+    (spot_has_all start copies before t (passed_next end named t) (passed_suits before named t), arguments_have_all start (copy_end start copies t (spot_next end named t)) fixed (used_next end named t) (i + 1) ts)

@@ -1,6 +1,10 @@
 pub mod Shapes
 pub mod Covered
 pub mod Registers
+mod Filled
+pub mod Agrees
 pub mod Sound
+pub mod Copies
 pub mod Sums
+pub mod Turns
 mod Rows

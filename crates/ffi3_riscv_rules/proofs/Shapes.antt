@@ -1,15 +1,22 @@
 -- What a shape says of the value, and of the registers that are free.
 use Rattle.std.proofs.Common.{◌≡◌, ℕ, ◌+◌, ◌/◌, ◌≤◌, Bool, true, false, ◌&&◌, cond, leb, List, [], ◌∷◌, length, refl, arith}
-use Rattle.std.specs.Prelude.{⊤}
+use Rattle.std.specs.Prelude.{⊤, slice_index_or}
 use Rattle.std.proofs.lemmas.Bool.{leb-true}
-use Rattle.ffi3_type_rules.specs.Tree.{Tree}
+use Rattle.ffi3_type_rules.specs.Tree.{Tree, u8}
 use Rattle.ffi3_type_rules.specs.Layout.{Leaf, leaves_of, size_of}
-use Rattle.ffi3_type_rules.specs.Integer.{is_floating, is_integer}
+use Rattle.ffi3_type_rules.specs.Integer.{is_floating}
 use Rattle.ffi3_place_rules.proofs.Tests.{and_left, and_right}
 use Rattle.ffi3_riscv_rules.specs.declared.Shape.{Shape}
 use Rattle.ffi3_riscv_rules.specs.declared.Shape.TheVariants.{OneF, TwoF, FI, IF, Words, ByRef}
 use Rattle.ffi3_riscv_rules.specs.declared.Used.{Used}
-use Rattle.ffi3_riscv_rules.specs.Riscv.{integer_shape, shape_of_leaves, shape_of, registers_suffice, passed_as, words_of, floats_of}
+use Rattle.ffi3_riscv_rules.specs.Riscv.{is_word_integer, integer_shape, shape_of_leaves, shape_of, registers_suffice, passed_as, words_of, floats_of}
+
+abbrev no_leaf : Leaf
+no_leaf = record { at = 0; kind = u8 }
+
+-- leaf i of these
+abbrev pub leaf : List Leaf → ℕ → Leaf
+leaf ls i = slice_index_or ls i no_leaf
 
 -- so many bytes and leaves are passed by the shape
 abbrev pub Suits : ℕ → List Leaf → Shape → Type 0
@@ -37,8 +44,8 @@ leaves_suit n otherwise (a ∷ []) h =
     choose (Suits n (a ∷ [])) (is_floating a.kind) OneF otherwise refl h
 leaves_suit n otherwise (a ∷ b ∷ []) h =
     choose (Suits n (a ∷ b ∷ [])) (is_floating a.kind && is_floating b.kind) TwoF _ refl
-    (choose (Suits n (a ∷ b ∷ [])) (is_floating a.kind && is_integer b.kind) FI _ refl
-    (choose (Suits n (a ∷ b ∷ [])) (is_integer a.kind && is_floating b.kind) IF otherwise refl h))
+    (choose (Suits n (a ∷ b ∷ [])) (is_floating a.kind && is_word_integer b.kind) FI _ refl
+    (choose (Suits n (a ∷ b ∷ [])) (is_word_integer a.kind && is_floating b.kind) IF otherwise refl h))
 leaves_suit n otherwise (a ∷ b ∷ c ∷ ls) h = h
 
 pub shape_suits : (t : Tree) → Suits (size_of t) (leaves_of t) (shape_of t)
@@ -48,6 +55,38 @@ shape_suits t =
 pub passed_suits : (before : Used) (fixed : Bool) (t : Tree) → Suits (size_of t) (leaves_of t) (passed_as before fixed t)
 passed_suits before fixed t =
     choose (Suits (size_of t) (leaves_of t)) (fixed && registers_suffice before (shape_of t)) (shape_of t) (integer_shape t) (shape_suits t) (integer_suits t)
+
+-- the leaves that stand in floating registers are floats and doubles
+abbrev pub HasFloats : List Leaf → Shape → Type 0
+HasFloats ls OneF = is_floating (leaf ls 0).kind ≡ true
+HasFloats ls TwoF =
+    (is_floating (leaf ls 0).kind ≡ true) × (is_floating (leaf ls 1).kind ≡ true)
+HasFloats ls FI = is_floating (leaf ls 0).kind ≡ true
+HasFloats ls IF = is_floating (leaf ls 1).kind ≡ true
+HasFloats ls (Words n) = ⊤
+HasFloats ls ByRef = ⊤
+
+choose_if : (P : Shape → Type 0) (b : Bool) (x y : Shape) → (b ≡ true → P x) → P y → P (cond {A = Shape} b x y)
+choose_if P true x y h k = h refl
+choose_if P false x y h k = k
+
+leaves_float : (otherwise : Shape) (ls : List Leaf) → HasFloats ls otherwise → HasFloats ls (shape_of_leaves otherwise ls)
+leaves_float otherwise [] h = h
+leaves_float otherwise (a ∷ []) h =
+    choose_if (HasFloats (a ∷ [])) (is_floating a.kind) OneF otherwise (λ e. e) h
+leaves_float otherwise (a ∷ b ∷ []) h =
+    choose_if (HasFloats (a ∷ b ∷ [])) (is_floating a.kind && is_floating b.kind) TwoF _ (λ e. (and_left (is_floating a.kind) (is_floating b.kind) e, and_right (is_floating a.kind) (is_floating b.kind) e))
+    (choose_if (HasFloats (a ∷ b ∷ [])) (is_floating a.kind && is_word_integer b.kind) FI _ (λ e. and_left (is_floating a.kind) (is_word_integer b.kind) e)
+    (choose_if (HasFloats (a ∷ b ∷ [])) (is_word_integer a.kind && is_floating b.kind) IF otherwise (λ e. and_right (is_word_integer a.kind) (is_floating b.kind) e) h))
+leaves_float otherwise (a ∷ b ∷ c ∷ ls) h = h
+
+integer_floats : (t : Tree) → HasFloats (leaves_of t) (integer_shape t)
+integer_floats t =
+    choose (HasFloats (leaves_of t)) (leb (size_of t) 16) (Words ((size_of t + 7) / 8)) ByRef tt tt
+
+pub passed_floats : (before : Used) (fixed : Bool) (t : Tree) → HasFloats (leaves_of t) (passed_as before fixed t)
+passed_floats before fixed t =
+    choose (HasFloats (leaves_of t)) (fixed && registers_suffice before (shape_of t)) (shape_of t) (integer_shape t) (leaves_float (integer_shape t) (leaves_of t) (integer_floats t)) (integer_floats t)
 
 -- registers are free for the shape
 abbrev pub HasRoom : Used → Shape → Type 0

@@ -6,22 +6,26 @@ use Rattle.std.proofs.lemmas.Bool.{ltb-true, ltb-false}
 use Rattle.ffi3_type_rules.specs.Tree.{Tree, void, scalar, left_out, structure}
 use Rattle.ffi3_type_rules.specs.Layout.{size_of}
 use Rattle.ffi3_type_rules.specs.Signature.{Signature}
+use Rattle.ffi3_type_rules.specs.declared.Isa.TheVariants as isa
 use Rattle.ffi3_place_rules.specs.declared.Loc.{Loc}
 use Rattle.ffi3_place_rules.specs.declared.Loc.TheVariants.{G, F, S}
 use Rattle.ffi3_place_rules.specs.declared.Taken.{Taken}
-use Rattle.ffi3_place_rules.specs.Standard.{plan_of, copy_bytes, place_at, places_from, result_at, copies_start, buffer_start, frame_of}
+use Rattle.ffi3_place_rules.specs.Standard.{Spot, in_pieces, by_reference, ResultSpot, no_result as nowhere, plan_of, at_once, copy_end, place_at, places_from, result_at, copies_start, frame_copies_end, frame_of}
 use Rattle.ffi3_place_rules.specs.Doublewords.{doublewords_at}
-use Rattle.ffi3_place_rules.specs.Sound.{AreApart, piece_locs, place_locs, hidden_locs, result_locs, argument_locs, IsNoneOf, LiesIn, call_locs, no_argument, no_result as not_for_results, PlaceHasAll, ResultHasAll, IsSound, IsDetermined}
-use Rattle.ffi3_place_rules.proofs.Chain.{AtMost, at_most_self, From, Until, Chain, chain_append, chain_apart, chain_allowed, chain_lies_in}
+use Rattle.ffi3_place_rules.specs.Sound.{AreApart, piece_locs, place_locs, hidden_locs, result_locs, argument_locs, IsNoneOf, LiesIn, call_locs, no_argument, no_result, PlaceHasAll, ResultHasAll, PlaceIsFilled, ResultIsFilled, IsSound, IsDetermined}
+use Rattle.ffi3_place_rules.proofs.Chain.{AtMost, at_most_self, From, Until, Chain, chain_less, chain_append, chain_apart, chain_allowed, chain_lies_in}
 use Rattle.ffi3_place_rules.proofs.Frame.{up_to, frame_chain}
+use Rattle.ffi3_place_rules.proofs.Aligned.{frame_is_aligned, need_is_aligned}
 use Rattle.ffi3_place_rules.proofs.Determines.{determined}
 use Rattle.ffi3_riscv_rules.specs.declared.Shape.{Shape}
 use Rattle.ffi3_riscv_rules.specs.declared.Shape.TheVariants.{OneF, TwoF, FI, IF, Words, ByRef}
 use Rattle.ffi3_riscv_rules.specs.declared.Used.{Used}
-use Rattle.ffi3_riscv_rules.specs.Riscv.{riscv, argument_register, floating_register, word, words_of, extension, word_pieces, spot_of, passed_as, is_fixed, used_with, used_after, used_at_first, used_by_all, unused, spots_after, result_shape, result_from, result_spot_of, is_by_reference, placing_of}
-use Rattle.ffi3_riscv_rules.proofs.Shapes.{HasRoom, passed_has_room, passed_few, passed_suits}
+use Rattle.ffi3_riscv_rules.specs.Riscv.{riscv, argument_register, floating_register, word, words_of, extension, word_pieces, spot_of, first_word, is_fixed, used_with, used_at_start, passed_next, spot_next, used_next, used_after, used_at_first, used_by_all, unused, spots_after, result_shape, result_from, result_spot_of, is_by_reference, placing_of}
+use Rattle.ffi3_riscv_rules.proofs.Shapes.{HasRoom, passed_has_room, passed_few, passed_suits, passed_floats}
 use Rattle.ffi3_riscv_rules.proofs.Covered.{spot_has_all, arguments_have_all}
-use Rattle.ffi3_riscv_rules.proofs.Registers.{all_registers, argument_small, floating_small, argument_allowed, floating_allowed, stack_allowed, result_allowed_general, result_allowed_floating, result_allowed_stack}
+use Rattle.ffi3_riscv_rules.proofs.Filled.{spot_filled, arguments_filled}
+use Rattle.ffi3_riscv_rules.proofs.Agrees.{agrees}
+use Rattle.ffi3_riscv_rules.proofs.Registers.{all_registers, argument_exists, floating_exists, argument_allowed, floating_allowed, stack_allowed, result_allowed_general, result_allowed_floating, result_allowed_stack}
 
 -- what so many words and floating registers take
 abbrev taken_of : ℕ → ℕ → Taken
@@ -90,30 +94,30 @@ general_first w f ls b room rest = (
   rest,
 )
 
-spot_chain : (copy : ℕ) (before : Used) (t : Tree) (shape : Shape) → HasRoom before shape → WordsChain (taken before) (place_locs (place_at copy (spot_of before t shape))) (taken (used_with before shape))
-spot_chain copy before t OneF room =
+spot_chain : (start : ℕ → Tree → ℕ) (copies : ℕ) (before : Used) (t : Tree) (shape : Shape) → HasRoom before shape → WordsChain (taken before) (place_locs (place_at start copies t (spot_of before t shape))) (taken (used_with before shape))
+spot_chain start copies before t OneF room =
     floating_first before.words before.floats [] _ room (more_words before.words (before.words + 0) (before.floats + 1) (before.floats + 1) (omega arith) (omega arith))
-spot_chain copy before t TwoF room =
+spot_chain start copies before t TwoF room =
     floating_first before.words before.floats (F (floating_register (before.floats + 1)) ∷ []) (taken_of (before.words + 0) (before.floats + 2)) (omega (arith, room))
     (floating_first before.words (before.floats + 1) [] _ (omega (arith, room))
     (more_words before.words (before.words + 0) (before.floats + 1 + 1) (before.floats + 2) (omega arith) (omega arith)))
-spot_chain copy before t FI room =
+spot_chain start copies before t FI room =
     floating_first before.words before.floats (G (argument_register before.words) ∷ []) (taken_of (before.words + 1) (before.floats + 1)) room.0
     (general_first before.words (before.floats + 1) [] _ room.1
     (more_words (before.words + 1) (before.words + 1) (before.floats + 1) (before.floats + 1) (omega arith) (omega arith)))
-spot_chain copy before t IF room =
+spot_chain start copies before t IF room =
     general_first before.words before.floats (F (floating_register before.floats) ∷ []) (taken_of (before.words + 1) (before.floats + 1)) room.1
     (floating_first (before.words + 1) before.floats [] _ room.0
     (more_words (before.words + 1) (before.words + 1) (before.floats + 1) (before.floats + 1) (omega arith) (omega arith)))
-spot_chain copy before t (Words n) room =
-    let start : before.words + 0 ≡ before.words = omega arith in
+spot_chain start copies before t (Words n) room =
+    let from : before.words + 0 ≡ before.words = omega arith in
     let end : before.words + (0 + n) ≡ before.words + n = omega arith in
     let floats : before.floats ≡ before.floats + 0 = omega arith in
     let pieces = words_chain before.words before.floats t 0 n in
-    let from_start = subst (λ w. WordsChain (taken_of w before.floats) (piece_locs (word_pieces before.words t n)) (taken_of (before.words + (0 + n)) before.floats)) start pieces in
+    let from_start = subst (λ w. WordsChain (taken_of w before.floats) (piece_locs (word_pieces before.words t n)) (taken_of (before.words + (0 + n)) before.floats)) from pieces in
     let to_end = subst (λ w. WordsChain (taken before) (piece_locs (word_pieces before.words t n)) (taken_of w before.floats)) end from_start in
     subst (λ f. WordsChain (taken before) (piece_locs (word_pieces before.words t n)) (taken_of (before.words + n) f)) floats to_end
-spot_chain copy before t ByRef room = (
+spot_chain start copies before t ByRef room = (
   taken_of (before.words + 1) before.floats,
   word_from before.words before.floats,
   word_until before.words before.floats,
@@ -121,19 +125,38 @@ spot_chain copy before t ByRef room = (
   more_words (before.words + 1) (before.words + 1) before.floats (before.floats + 0) (omega arith) (omega arith),
 )
 
-places_chain : (copy : ℕ) (fixed : Option ℕ) (before : Used) (i : ℕ) (ts : List Tree) → WordsChain (taken before) (flat_map place_locs (places_from copy ts (spots_after fixed before i ts))) (taken (used_after fixed before i ts))
-places_chain copy fixed before i [] = at_most_self (taken before)
-places_chain copy fixed before i (t ∷ ts) =
-    let shape = passed_as before (is_fixed fixed i) t in
-    chain_append argument_register floating_register 8 8 (taken before) (place_locs (place_at copy (spot_of before t shape))) (taken (used_with before shape)) _ _
-    (spot_chain copy before t shape (passed_has_room before (is_fixed fixed i) t)) (places_chain (copy + copy_bytes t (spot_of before t shape)) fixed (used_with before shape) (i + 1) ts)
+-- an argument's words begin behind those of the arguments before it
+first_word-behind : (fixed : Bool) (t : Tree) (end : ℕ) → end ≤ first_word fixed t end
+first_word-behind fixed t end = omega arith
+
+start-behind : (end : Used) (fixed : Bool) (t : Tree) → AtMost (taken end) (taken (used_at_start end fixed t))
+start-behind end fixed t = more_words end.words (first_word fixed t end.words) end.floats end.floats (first_word-behind fixed t end.words) (omega arith)
+
+argument_chain : (start : ℕ → Tree → ℕ) (copies : ℕ) (end : Used) (fixed : Bool) (t : Tree) → WordsChain (taken end) (place_locs (place_at start copies t (spot_next end fixed t))) (taken (used_next end fixed t))
+argument_chain start copies end fixed t =
+    let before = used_at_start end fixed t in
+    chain_less argument_register floating_register 8 8 (taken end) (taken before) _ _ (start-behind end fixed t) (spot_chain start copies before t (passed_next end fixed t) (passed_has_room before fixed t))
+
+places_chain : (start : ℕ → Tree → ℕ) (copies : ℕ) (fixed : Option ℕ) (end : Used) (i : ℕ) (ts : List Tree) → WordsChain (taken end) (flat_map place_locs (places_from start copies ts (spots_after fixed end i ts))) (taken (used_after fixed end i ts))
+places_chain start copies fixed end i [] = at_most_self (taken end)
+places_chain start copies fixed end i (t ∷ ts) =
+    let named = is_fixed fixed i in
+    chain_append argument_register floating_register 8 8 (taken end) (place_locs (place_at start copies t (spot_next end named t))) (taken (used_next end named t)) _ _
+    (argument_chain start copies end named t) (places_chain start (copy_end start copies t (spot_next end named t)) fixed (used_next end named t) (i + 1) ts)
 
 -- ---- the whole signature
+
+-- A result is nowhere, or as its place as a first named argument says.
+result_cases : (P : ResultSpot → Type 0) (t : Tree) → (t ≡ void → P nowhere) → P (result_from (spot_of unused t (result_shape t))) → P (result_spot_of t)
+result_cases P void none h = none refl
+result_cases P (scalar s) none h = h
+result_cases P (left_out k) none h = h
+result_cases P (structure ts) none h = h
 
 abbrev first_used : Shape → Used
 first_used shape = record { words = cond (is_by_reference shape) 1 0; floats = 0 }
 
-hidden_of : (t : Tree) (buffer : ℕ) (shape : Shape) → WordsChain (taken unused) (hidden_locs (result_at buffer (result_from (spot_of unused t shape)))) (taken (first_used shape))
+hidden_of : (t : Tree) (buffer : ℕ) (shape : Shape) → WordsChain (taken unused) (hidden_locs (result_at at_once buffer t (result_from (spot_of unused t shape)))) (taken (first_used shape))
 hidden_of t buffer OneF = at_most_self (taken unused)
 hidden_of t buffer TwoF = at_most_self (taken unused)
 hidden_of t buffer FI = at_most_self (taken unused)
@@ -141,24 +164,23 @@ hidden_of t buffer IF = at_most_self (taken unused)
 hidden_of t buffer (Words n) = at_most_self (taken unused)
 hidden_of t buffer ByRef = general_first 0 0 [] (taken_of 1 0) (omega arith) (at_most_self (taken_of 1 0))
 
-hidden_chain : (t : Tree) (buffer : ℕ) → WordsChain (taken unused) (hidden_locs (result_at buffer (result_spot_of t))) (taken (used_at_first t))
-hidden_chain void buffer = at_most_self (taken unused)
-hidden_chain (scalar s) buffer = hidden_of (scalar s) buffer (result_shape (scalar s))
-hidden_chain (left_out k) buffer = hidden_of (left_out k) buffer (result_shape (left_out k))
-hidden_chain (structure ts) buffer = hidden_of (structure ts) buffer (result_shape (structure ts))
+hidden_chain : (t : Tree) (buffer : ℕ) → WordsChain (taken unused) (hidden_locs (result_at at_once buffer t (result_spot_of t))) (taken (used_at_first t))
+hidden_chain t buffer =
+    let first = used_at_first t in
+    result_cases (λ spot. WordsChain (taken unused) (hidden_locs (result_at at_once buffer t spot)) (taken first)) t (λ e. more_words 0 first.words 0 0 (omega arith) (omega arith)) (hidden_of t buffer (result_shape t))
 
 plan_chain : (s : Signature) → WordsChain (taken unused) (argument_locs (plan_of riscv s)) (taken (used_by_all s))
 plan_chain s =
     chain_append argument_register floating_register 8 8 (taken unused) (hidden_locs (plan_of riscv s).res) (taken (used_at_first s.result_type)) _ _
-    (hidden_chain s.result_type (buffer_start s (placing_of s))) (places_chain (copies_start (placing_of s)) s.fixed (used_at_first s.result_type) 0 s.arguments)
+    (hidden_chain s.result_type (frame_copies_end riscv s)) (places_chain at_once (copies_start (placing_of s)) s.fixed (used_at_first s.result_type) 0 s.arguments)
 
 plan_allowed : (s : Signature) → AllByRecursion (IsNoneOf (no_argument riscv)) (argument_locs (plan_of riscv s))
 plan_allowed s =
     chain_allowed argument_register floating_register 8 8 (no_argument riscv) argument_allowed floating_allowed stack_allowed (taken unused) _ _ (plan_chain s)
 
-plan_lies_in : (s : Signature) → AllByRecursion (LiesIn (placing_of s).stack_bytes) (argument_locs (plan_of riscv s))
+plan_lies_in : (s : Signature) → AllByRecursion (LiesIn isa.Riscv (placing_of s).stack_bytes) (argument_locs (plan_of riscv s))
 plan_lies_in s =
-    chain_lies_in argument_register floating_register 8 8 argument_small floating_small (taken unused) _ _ (placing_of s).stack_bytes (omega arith) (plan_chain s)
+    chain_lies_in argument_register floating_register 8 8 isa.Riscv argument_exists floating_exists (taken unused) _ _ (placing_of s).stack_bytes (omega arith) (plan_chain s)
 
 -- ---- the frame
 
@@ -167,71 +189,83 @@ framed s = up_to (taken (used_by_all s)) (frame_of riscv s)
 
 call_chain : (s : Signature) → WordsChain (taken unused) (call_locs s (plan_of riscv s)) (framed s)
 call_chain s =
-    chain_append argument_register floating_register 8 8 (taken unused) (argument_locs (plan_of riscv s)) (taken (used_by_all s)) _ (framed s) (plan_chain s) (frame_chain argument_register floating_register 8 8 riscv s (taken (used_by_all s)) (omega arith))
+    chain_append argument_register floating_register 8 8 (taken unused) (argument_locs (plan_of riscv s)) (taken (used_by_all s)) _ (framed s) (plan_chain s) (frame_chain argument_register floating_register 8 8 riscv (λ end t. omega arith) s (taken (used_by_all s)) (omega arith))
 
 plan_apart : (s : Signature) → AreApart (call_locs s (plan_of riscv s))
 plan_apart s = chain_apart argument_register floating_register 8 8 all_registers (taken unused) _ _ (call_chain s)
 
-plan_in_frame : (s : Signature) → AllByRecursion (LiesIn (frame_of riscv s)) (call_locs s (plan_of riscv s))
+plan_in_frame : (s : Signature) → AllByRecursion (LiesIn isa.Riscv (frame_of riscv s)) (call_locs s (plan_of riscv s))
 plan_in_frame s =
-    chain_lies_in argument_register floating_register 8 8 argument_small floating_small (taken unused) _ (framed s) (frame_of riscv s) (omega arith) (call_chain s)
+    chain_lies_in argument_register floating_register 8 8 isa.Riscv argument_exists floating_exists (taken unused) _ (framed s) (frame_of riscv s) (omega arith) (call_chain s)
 
 -- ---- the result
 
--- what holds of the places that a first fixed argument would have, holds of the result's
-result_of : (P : List Loc → Type 0) → P [] → (t : Tree) (buffer : ℕ) (shape : Shape) → P (place_locs (place_at 0 (spot_of unused t shape))) → P (result_locs (result_at buffer (result_from (spot_of unused t shape))))
-result_of P none t buffer OneF h = h
-result_of P none t buffer TwoF h = h
-result_of P none t buffer FI h = h
-result_of P none t buffer IF h = h
-result_of P none t buffer (Words n) h = h
-result_of P none t buffer ByRef h = none
+-- what holds of the places of an argument, holds of a result's that stands so
+locs_of : (P : List Loc → Type 0) → P [] → (t : Tree) (buffer : ℕ) (spot : Spot) → P (place_locs (place_at at_once 0 t spot)) → P (result_locs (result_at at_once buffer t (result_from spot)))
+locs_of P none t buffer (in_pieces pieces) h = h
+locs_of P none t buffer (by_reference at) h = none
 
-result_cases : (P : List Loc → Type 0) → P [] → (t : Tree) (buffer : ℕ) → P (place_locs (place_at 0 (spot_of unused t (result_shape t)))) → P (result_locs (result_at buffer (result_spot_of t)))
-result_cases P none void buffer h = none
-result_cases P none (scalar s) buffer h = result_of P none (scalar s) buffer (result_shape (scalar s)) h
-result_cases P none (left_out k) buffer h = result_of P none (left_out k) buffer (result_shape (left_out k)) h
-result_cases P none (structure ts) buffer h =
-    result_of P none (structure ts) buffer (result_shape (structure ts)) h
+all_of : (t : Tree) (buffer : ℕ) (spot : Spot) → PlaceHasAll t (place_at at_once 0 t spot) → ResultHasAll t (result_at at_once buffer t (result_from spot))
+all_of t buffer (in_pieces pieces) h = h
+all_of t buffer (by_reference at) h = tt
 
-result_chain : (t : Tree) → WordsChain (taken unused) (place_locs (place_at 0 (spot_of unused t (result_shape t)))) (taken (used_with unused (result_shape t)))
-result_chain t = spot_chain 0 unused t (result_shape t) (passed_has_room unused true t)
+filled_of : (t : Tree) (buffer : ℕ) (spot : Spot) → PlaceIsFilled riscv t (place_at at_once 0 t spot) → ResultIsFilled riscv t (result_at at_once buffer t (result_from spot))
+filled_of t buffer (in_pieces pieces) h = h
+filled_of t buffer (by_reference at) h = tt
 
-no_stack : (w : ℕ) → w ≤ 2 → 8 * (0 + w - 8) ≤ 0
-no_stack w h = omega (arith, h)
+module _ (t : Tree) (buffer : ℕ) where
+  abbrev shape : Shape
+  shape = result_shape t
 
-all_of : (t : Tree) (buffer : ℕ) (shape : Shape) → PlaceHasAll t (place_at 0 (spot_of unused t shape)) → ResultHasAll t (result_at buffer (result_from (spot_of unused t shape)))
-all_of t buffer OneF h = h
-all_of t buffer TwoF h = h
-all_of t buffer FI h = h
-all_of t buffer IF h = h
-all_of t buffer (Words n) h = h
-all_of t buffer ByRef h = tt
+  result_is : (P : List Loc → Type 0) → P [] → P (place_locs (place_at at_once 0 t (spot_of unused t shape))) → P (result_locs (result_at at_once buffer t (result_spot_of t)))
+  result_is P none h =
+      result_cases (λ spot. P (result_locs (result_at at_once buffer t spot))) t (λ e. none) (locs_of P none t buffer (spot_of unused t shape) h)
 
-result_place : (t : Tree) → PlaceHasAll t (place_at 0 (spot_of unused t (result_shape t)))
-result_place t = spot_has_all 0 unused t (result_shape t) (passed_suits unused true t)
+  result_chain : WordsChain (taken unused) (place_locs (place_at at_once 0 t (spot_of unused t shape))) (taken (used_with unused shape))
+  result_chain = spot_chain at_once 0 unused t shape (passed_has_room unused true t)
 
-result_has_all : (t : Tree) (buffer : ℕ) → ResultHasAll t (result_at buffer (result_spot_of t))
-result_has_all void buffer = refl
-result_has_all (scalar s) buffer = all_of (scalar s) buffer (result_shape (scalar s)) (result_place (scalar s))
-result_has_all (left_out k) buffer = all_of (left_out k) buffer (result_shape (left_out k)) (result_place (left_out k))
-result_has_all (structure ts) buffer =
-    all_of (structure ts) buffer (result_shape (structure ts)) (result_place (structure ts))
+  no_stack : (w : ℕ) → w ≤ 2 → 8 * (0 + w - 8) ≤ 0
+  no_stack w h = omega (arith, h)
+
+  result_apart : AreApart (result_locs (result_at at_once buffer t (result_spot_of t)))
+  result_apart = result_is AreApart tt (chain_apart argument_register floating_register 8 8 all_registers (taken unused) _ _ result_chain)
+
+  result_in_registers : AllByRecursion (LiesIn isa.Riscv 0) (result_locs (result_at at_once buffer t (result_spot_of t)))
+  result_in_registers =
+      result_is (AllByRecursion (LiesIn isa.Riscv 0)) tt (chain_lies_in argument_register floating_register 8 8 isa.Riscv argument_exists floating_exists (taken unused) _ _ 0 (no_stack (words_of shape) (passed_few unused true t)) result_chain)
+
+  result_allowed : AllByRecursion (IsNoneOf (no_result riscv)) (result_locs (result_at at_once buffer t (result_spot_of t)))
+  result_allowed =
+      result_is (AllByRecursion (IsNoneOf (no_result riscv))) tt (chain_allowed argument_register floating_register 8 8 (no_result riscv) result_allowed_general result_allowed_floating result_allowed_stack (taken unused) _ _ result_chain)
+
+  result_has_all : ResultHasAll t (result_at at_once buffer t (result_spot_of t))
+  result_has_all =
+      let stands = spot_has_all at_once 0 unused t shape (passed_suits unused true t) in
+      result_cases (λ spot. ResultHasAll t (result_at at_once buffer t spot)) t (λ e. e) (all_of t buffer (spot_of unused t shape) stands)
+
+  result_filled : ResultIsFilled riscv t (result_at at_once buffer t (result_spot_of t))
+  result_filled =
+      let fills = spot_filled at_once 0 unused t shape (passed_suits unused true t) (passed_floats unused true t) in
+      result_cases (λ spot. ResultIsFilled riscv t (result_at at_once buffer t spot)) t (λ e. tt) (filled_of t buffer (spot_of unused t shape) fills)
 
 -- every law of the places
 pub sound : (s : Signature) → IsSound riscv s
 sound s =
-    let buffer = buffer_start s (placing_of s) in
+    let buffer = frame_copies_end riscv s in
     record {
       apart = plan_apart s;
       in_frame = plan_in_frame s;
       on_stack = plan_lies_in s;
       allowed = plan_allowed s;
-      has_all = arguments_have_all (copies_start (placing_of s)) s.fixed (used_at_first s.result_type) 0 s.arguments;
-      result_apart = result_cases AreApart tt s.result_type buffer (chain_apart argument_register floating_register 8 8 all_registers (taken unused) _ _ (result_chain s.result_type));
-      result_in_registers = result_cases (AllByRecursion (LiesIn 0)) tt s.result_type buffer (chain_lies_in argument_register floating_register 8 8 argument_small floating_small (taken unused) _ _ 0 (no_stack (words_of (result_shape s.result_type)) (passed_few unused true s.result_type)) (result_chain s.result_type));
-      result_allowed = result_cases (AllByRecursion (IsNoneOf (not_for_results riscv))) tt s.result_type buffer (chain_allowed argument_register floating_register 8 8 (not_for_results riscv) result_allowed_general result_allowed_floating result_allowed_stack (taken unused) _ _ (result_chain s.result_type));
+      has_all = arguments_have_all at_once (copies_start (placing_of s)) s.fixed (used_at_first s.result_type) 0 s.arguments;
+      filled = arguments_filled at_once (copies_start (placing_of s)) s.fixed (used_at_first s.result_type) 0 s.arguments;
+      result_apart = result_apart s.result_type buffer;
+      result_in_registers = result_in_registers s.result_type buffer;
+      result_allowed = result_allowed s.result_type buffer;
       result_has_all = result_has_all s.result_type buffer;
+      result_filled = result_filled s.result_type buffer;
+      frame_aligned = frame_is_aligned riscv s;
+      need_aligned = need_is_aligned riscv s agrees.save_aligned;
     }
 
 pub determines : (s : Signature) → IsDetermined riscv s

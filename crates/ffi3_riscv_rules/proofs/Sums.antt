@@ -5,9 +5,10 @@ use Rattle.ffi3_type_rules.specs.Tree.{Tree, tree_at}
 use Rattle.ffi3_type_rules.specs.Signature.{Signature}
 use Rattle.ffi3_riscv_rules.specs.declared.Shape.{Shape}
 use Rattle.ffi3_riscv_rules.specs.declared.Used.{Used}
-use Rattle.ffi3_riscv_rules.specs.Riscv.{words_of, passed_as, is_fixed, spot_of, spots_after, used_with, used_after, used_at_first, is_by_reference, result_shape, stack_of}
+use Rattle.ffi3_riscv_rules.specs.Riscv.{words_of, passed_as, is_fixed, spot_of, spots_after, used_with, used_after, used_at_first, is_by_reference, result_shape, stack_of, riscv}
 use Rattle.ffi3_place_rules.specs.Sums.{sum_below}
-use Rattle.ffi3_riscv_rules.specs.Sums.{sums_before, ArePlacedBySums}
+use Rattle.ffi3_riscv_rules.specs.Sums.{sums_before, AreChosenBySums, ArePlacedBySums, IsPlacedBySums}
+use Rattle.ffi3_riscv_rules.proofs.Copies.{copies_by_sums}
 
 -- what the arguments before number i use
 abbrev pub used_before : Signature → ℕ → Used
@@ -44,6 +45,10 @@ module _ (fixed : Option ℕ) where
       let same : k + 1 + i ≡ k + suc i = omega arith in
       spot_at (next_used a k t) (k + 1) ts i (omega arith) ∙ ap (λ n. Some (spot_of (used_after fixed (next_used a k t) (k + 1) (take i ts)) (tree_at ts i) (passed_as (used_after fixed (next_used a k t) (k + 1) (take i ts)) (is_fixed fixed n) (tree_at ts i)))) same
 
+spots_length : (fixed : Option ℕ) (a : Used) (k : ℕ) (ts : List Tree) → length (spots_after fixed a k ts) ≡ length ts
+spots_length fixed a k [] = refl
+spots_length fixed a k (t ∷ ts) = ap suc (spots_length fixed (used_with a (passed_as a (is_fixed fixed k) t)) (k + 1) ts)
+
 same_used : (a b : Used) → a.words ≡ b.words → a.floats ≡ b.floats → a ≡ b
 same_used a b w f =
     ap (λ n. record { words = n; floats = a.floats }) w ∙ ap (λ n. record { words = b.words; floats = n }) f
@@ -71,6 +76,7 @@ module _ (s : Signature) where
   placed_by_sums =
       let total = sym (used_all s.fixed (used_at_first s.result_type) 0 s.arguments) ∙ sums_are_used (length s.arguments) (omega arith) in
       record {
+        one_each = spots_length s.fixed (used_at_first s.result_type) 0 s.arguments;
         chosen = λ i h. ap (λ a. passed_as a (is_fixed s.fixed i) (tree_at s.arguments i)) (sums_are_used i (omega arith));
         placed = λ i h.
             let index : 0 + i ≡ i = omega arith in
@@ -80,12 +86,7 @@ module _ (s : Signature) where
 
 -- ---- the sums leave no choice
 
--- the test that decides by the sums
-abbrev Decides : Signature → (ℕ → Shape) → Type 0
-Decides s p =
-    (i : ℕ) → i < length s.arguments → p i ≡ passed_as (sums_before s p i) (is_fixed s.fixed i) (tree_at s.arguments i)
-
-module _ (s : Signature) (p q : ℕ → Shape) (by_p : Decides s p) (by_q : Decides s q) where
+module _ (s : Signature) (p q : ℕ → Shape) (by_p : AreChosenBySums s p) (by_q : AreChosenBySums s q) where
   same_sums : (i : ℕ) → i ≤ length s.arguments → sums_before s p i ≡ sums_before s q i
   same_sums zero h = refl
   same_sums (suc i) h =
@@ -97,3 +98,11 @@ module _ (s : Signature) (p q : ℕ → Shape) (by_p : Decides s p) (by_q : Deci
   pub same_choice : (i : ℕ) → i < length s.arguments → p i ≡ q i
   same_choice i h =
       by_p i h ∙ ap (λ a. passed_as a (is_fixed s.fixed i) (tree_at s.arguments i)) (same_sums i (omega arith)) ∙ sym (by_q i h)
+
+pub is_placed_by_sums : (s : Signature) → IsPlacedBySums s
+is_placed_by_sums s = record {
+  passed = passed s;
+  arguments = placed_by_sums s;
+  only = λ other chosen i h. same_choice s other (passed s) chosen (placed_by_sums s).chosen i h;
+  frame = copies_by_sums riscv s (λ end t. refl) (spots_length s.fixed (used_at_first s.result_type) 0 s.arguments);
+}

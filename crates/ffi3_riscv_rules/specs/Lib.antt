@@ -1,2 +1,3 @@
 pub mod Riscv
+pub mod Copies
 pub mod Sums

@@ -1,8 +1,9 @@
--- Where the arguments and the result of a call stand on RISC-V. (RISC-V ELF psABI, "Integer Calling Convention" and "Hardware Floating-point Calling Convention", LP64D: XLEN and FLEN are 64)
-use Rattle.std.specs.Prelude.{ℕ, ◌+◌, ◌-◌, ◌*◌, Bool, true, false, ◌&&◌, cond, nat_le, nat_lt, List, [], ◌∷◌, Option, Some, None}
+-- Where the arguments and the result of a call stand on RISC-V with LP64D: XLEN and ABI_FLEN are 64. (RISC-V ELF psABI: each rule names its section, "Integer Calling Convention" or "Hardware Floating-point Calling Convention", and the paragraph by what it is on.)
+use Rattle.std.specs.Prelude.{ℕ, ◌+◌, ◌-◌, ◌*◌, Bool, true, false, ◌&&◌, cond, nat_le, nat_lt, List, [], ◌∷◌, ◌++◌, map, length, Option, Some, None}
 use Rattle.ffi3_type_rules.specs.declared.Target.TheVariants as target
-use Rattle.ffi3_type_rules.specs.Tree.{Tree, void, Scalar, float}
-use Rattle.ffi3_type_rules.specs.Layout.{Leaf, leaves_of, leaf_at, size_of}
+use Rattle.ffi3_type_rules.specs.declared.Isa.TheVariants as isa
+use Rattle.ffi3_type_rules.specs.Tree.{Tree, void, Scalar, u8, s8, u16, s16, u32, s32, u64, s64, float, double, pointer}
+use Rattle.ffi3_type_rules.specs.Layout.{Leaf, leaves_of, leaf_at, size_of, scalar_size}
 use Rattle.ffi3_type_rules.specs.Signature.{Signature}
 use Rattle.ffi3_type_rules.specs.Integer.{is_floating, is_integer}
 use Rattle.ffi3_place_rules.specs.declared.Loc.{Loc}
@@ -10,7 +11,11 @@ use Rattle.ffi3_place_rules.specs.declared.Loc.TheVariants.{G, F, S}
 use Rattle.ffi3_place_rules.specs.declared.Ext.{Ext}
 use Rattle.ffi3_place_rules.specs.declared.Ext.TheVariants.{Free, Riscv, Boxed}
 use Rattle.ffi3_place_rules.specs.declared.Piece.{Piece}
-use Rattle.ffi3_place_rules.specs.Standard.{Standard, Placing, Spot, in_pieces, by_reference, ResultSpot, no_result, in_result_pieces, in_buffer}
+use Rattle.ffi3_place_rules.specs.declared.SaveWord.{SaveWord}
+use Rattle.ffi3_place_rules.specs.declared.SaveWord.TheVariants.{Register, Hidden}
+use Rattle.ffi3_place_rules.specs.Isa.{pushed_bytes, stack_pointer, link_place, reserved_places, closure_register, trampoline_registers}
+use Rattle.ffi3_place_rules.specs.Standard.{Standard, Placing, Spot, in_pieces, by_reference, ResultSpot, no_result, in_result_pieces, in_buffer, at_once}
+use Rattle.ffi3_place_rules.specs.Sound.{listed}
 use Rattle.ffi3_place_rules.specs.Doublewords.{doublewords, filling, doublewords_at, leaf_piece}
 use Rattle.ffi3_riscv_rules.specs.declared.Shape.{Shape}
 use Rattle.ffi3_riscv_rules.specs.declared.Shape.TheVariants.{OneF, TwoF, FI, IF, Words, ByRef}
@@ -18,26 +23,30 @@ use Rattle.ffi3_riscv_rules.specs.declared.Used.{Used}
 
 -- ---- shapes
 
--- The integer convention: a value of at most two XLEN is passed in its doublewords, a larger one by reference.
+-- A value of at most 2×XLEN bits is passed in its doublewords, a larger one by reference. ("Integer Calling Convention", on scalars, and on aggregates of at most XLEN, at most 2×XLEN and more than 2×XLEN bits)
 abbrev pub integer_shape : Tree → Shape
 integer_shape t =
     cond {A = Shape} (nat_le (size_of t) 16) (Words (doublewords t)) ByRef
 
--- The floating-point convention of two leaves: two floating ones, or one and an integer. A pointer is no integer.
+-- an integer no more than XLEN bits wide; a pointer is no integer
+abbrev pub is_word_integer : Scalar → Bool
+is_word_integer s = is_integer s && nat_le (scalar_size s) 8
+
+-- Two leaves: two floating-point reals, or one and one such integer in either order. ("Hardware Floating-point Calling Convention", on a struct of two floating-point reals, and of one and one integer)
 abbrev pub shape_of_two : Shape → Scalar → Scalar → Shape
 shape_of_two otherwise a b =
     cond {A = Shape} (is_floating a && is_floating b) TwoF
-    (cond {A = Shape} (is_floating a && is_integer b) FI
-    (cond {A = Shape} (is_integer a && is_floating b) IF otherwise))
+    (cond {A = Shape} (is_floating a && is_word_integer b) FI
+    (cond {A = Shape} (is_word_integer a && is_floating b) IF otherwise))
 
--- The floating-point convention of a value whose structs are flattened, and what it is otherwise.
+-- A value whose structs are flattened. ("Hardware Floating-point Calling Convention", on what "struct" means there, on a real floating-point argument, and on a struct of just one)
 abbrev pub shape_of_leaves : Shape → List Leaf → Shape
 shape_of_leaves otherwise (a ∷ []) =
     cond {A = Shape} (is_floating a.kind) OneF otherwise
 shape_of_leaves otherwise (a ∷ b ∷ []) = shape_of_two otherwise a.kind b.kind
 shape_of_leaves otherwise _ = otherwise
 
--- the shape of a value that is no variadic argument, where enough registers are free
+-- how a named argument is passed where enough registers are free
 abbrev pub shape_of : Tree → Shape
 shape_of t = shape_of_leaves (integer_shape t) (leaves_of t)
 
@@ -59,7 +68,7 @@ floats_of IF = 1
 floats_of (Words n) = 0
 floats_of ByRef = 0
 
--- Enough registers are free for a value of the floating-point convention. The integer convention always has words left.
+-- Enough of fa0 to fa7 and of a0 to a7 are free for a value of the floating-point convention. The integer convention always has words left. ("Hardware Floating-point Calling Convention", the conditions of each of its paragraphs)
 abbrev pub registers_suffice : Used → Shape → Bool
 registers_suffice before OneF = nat_le (before.floats + 1) 8
 registers_suffice before TwoF = nat_le (before.floats + 2) 8
@@ -68,39 +77,48 @@ registers_suffice before IF = nat_le (before.floats + 1) 8 && nat_le (before.wor
 registers_suffice before (Words n) = true
 registers_suffice before ByRef = true
 
--- A fixed argument is passed by its shape where enough registers are free. All others, and variadic arguments, follow the integer convention.
+-- A named argument is passed by its shape where enough registers are free. All others, and variadic arguments, follow the integer convention. ("Hardware Floating-point Calling Convention": "the remainder of this section applies only to named arguments", and "otherwise, it is passed according to the integer calling convention")
 abbrev pub passed_as : Used → Bool → Tree → Shape
 passed_as before fixed t =
     cond {A = Shape} (fixed && registers_suffice before (shape_of t)) (shape_of t) (integer_shape t)
 
 -- ---- places
 
--- a0 to a7
+-- a0 to a7 ("Integer Register Convention")
 abbrev pub argument_register : ℕ → ℕ
 argument_register k = 10 + k
 
--- fa0 to fa7
+-- fa0 to fa7 ("Floating-point Register Convention")
 abbrev pub floating_register : ℕ → ℕ
 floating_register k = 10 + k
 
--- word k of the stream of integer words: a0 to a7, and then the stack
+-- Word k of the stream of integer words: a0 to a7, and then the stack from offset 0 on. ("Integer Calling Convention", on a value of which the first XLEN bits are passed in the last register and the rest on the stack, and on the first argument on the stack)
 abbrev pub word : ℕ → Loc
 word k =
     cond {A = Loc} (nat_lt k 8) (G (argument_register k)) (S (8 * (k - 8)))
 
--- A lone integer narrower than XLEN is extended by its sign to 32 bits, and from there by its upper bit.
+-- An integer narrower than XLEN is widened by its sign to 32 bits, then sign-extended. ("Integer Calling Convention", on scalars of at most XLEN bits)
 abbrev pub extension : Tree → Ext
 extension t = filling Riscv t
 
--- a float in a floating register has ones above it
+-- A float in a floating-point register is NaN-boxed. ("Hardware Floating-point Calling Convention", on a floating-point argument narrower than FLEN)
 abbrev pub boxing : Scalar → Ext
+boxing u8 = Free
+boxing s8 = Free
+boxing u16 = Free
+boxing s16 = Free
+boxing u32 = Free
+boxing s32 = Free
+boxing u64 = Free
+boxing s64 = Free
 boxing float = Boxed
-boxing _ = Free
+boxing double = Free
+boxing pointer = Free
 
 abbrev pub floating_piece : ℕ → Leaf → Piece
 floating_piece f l = leaf_piece (F (floating_register f)) (boxing l.kind) l
 
--- the integer of a mixed pair, whose upper bits are free
+-- The integer of a struct of one floating-point real and one integer is passed "without extending the integer to XLEN bits". ("Hardware Floating-point Calling Convention")
 abbrev pub integer_piece : ℕ → Leaf → Piece
 integer_piece w l = leaf_piece (G (argument_register w)) Free l
 
@@ -123,32 +141,52 @@ spot_of before t ByRef = by_reference (word before.words)
 
 -- ---- arguments
 
--- an argument is fixed, by its number
+-- an argument is named, and no variadic one, by its number
 abbrev pub is_fixed : Option ℕ → ℕ → Bool
 is_fixed None i = true
 is_fixed (Some n) i = nat_lt i n
+
+-- Where an argument's words begin, behind those that end at `end`: at once, since no type is aligned to 2×XLEN. ("Integer Calling Convention", on aligned register pairs, and on the alignment of what is passed on the stack)
+abbrev pub first_word : Bool → Tree → ℕ → ℕ
+first_word fixed t end = end
+
+-- what is used where an argument begins, behind others
+abbrev pub used_at_start : Used → Bool → Tree → Used
+used_at_start end fixed t =
+    record { words = first_word fixed t end.words; floats = end.floats }
 
 abbrev pub used_with : Used → Shape → Used
 used_with before shape =
     record { words = before.words + words_of shape; floats = before.floats + floats_of shape }
 
+-- how an argument is passed behind others, where it stands, and what is used after it
+module _ (end : Used) (fixed : Bool) (t : Tree) where
+  abbrev pub passed_next : Shape
+  passed_next = passed_as (used_at_start end fixed t) fixed t
+
+  abbrev pub spot_next : Spot
+  spot_next = spot_of (used_at_start end fixed t) t passed_next
+
+  abbrev pub used_next : Used
+  used_next = used_with (used_at_start end fixed t) passed_next
+
 -- the arguments from number i on
 abbrev pub spots_after : Option ℕ → Used → ℕ → List Tree → List Spot
-spots_after fixed before i [] = []
-spots_after fixed before i (t ∷ ts) =
-    spot_of before t (passed_as before (is_fixed fixed i) t) ∷ spots_after fixed (used_with before (passed_as before (is_fixed fixed i) t)) (i + 1) ts
+spots_after fixed end i [] = []
+spots_after fixed end i (t ∷ ts) =
+    spot_next end (is_fixed fixed i) t ∷ spots_after fixed (used_next end (is_fixed fixed i) t) (i + 1) ts
 
 abbrev pub used_after : Option ℕ → Used → ℕ → List Tree → Used
-used_after fixed before i [] = before
-used_after fixed before i (t ∷ ts) =
-    used_after fixed (used_with before (passed_as before (is_fixed fixed i) t)) (i + 1) ts
+used_after fixed end i [] = end
+used_after fixed end i (t ∷ ts) =
+    used_after fixed (used_next end (is_fixed fixed i) t) (i + 1) ts
 
 -- ---- results
 
 abbrev pub unused : Used
 unused = record { words = 0; floats = 0 }
 
--- A result stands where a first fixed argument would stand. The address of a buffer takes the place of one by reference.
+-- A result is returned as a first named argument of its type would be passed. Where that is by reference, the address of a buffer is an implicit first argument. ("Integer Calling Convention" and "Hardware Floating-point Calling Convention", on return values)
 abbrev pub result_shape : Tree → Shape
 result_shape t = passed_as unused true t
 
@@ -161,10 +199,14 @@ result_spot_of void = no_result
 result_spot_of t = result_from (spot_of unused t (result_shape t))
 
 abbrev pub is_by_reference : Shape → Bool
+is_by_reference OneF = false
+is_by_reference TwoF = false
+is_by_reference FI = false
+is_by_reference IF = false
+is_by_reference (Words n) = false
 is_by_reference ByRef = true
-is_by_reference _ = false
 
--- the address of a hidden result's buffer takes the first word
+-- the hidden pointer to a result's buffer takes the first word
 abbrev pub used_at_first : Tree → Used
 used_at_first result_type =
     record { words = cond (is_by_reference (result_shape result_type)) 1 0; floats = 0 }
@@ -184,19 +226,33 @@ placing_of s = record {
   vector_registers = 0;
 }
 
--- The stack pointer is sp. Preserved: s0 to s11 and fs0 to fs11. Nothing writes gp and tp. ra holds the return address. t1 holds the closure's address, and a trampoline writes t1 and t2.
+-- s0 to s11 and fs0 to fs11, which are callee-saved ("Integer Register Convention", "Floating-point Register Convention")
+abbrev pub callee_saved : List Loc
+callee_saved =
+    G 8 ∷ G 9 ∷ G 18 ∷ G 19 ∷ G 20 ∷ G 21 ∷ G 22 ∷ G 23 ∷ G 24 ∷ G 25 ∷ G 26 ∷ G 27 ∷ F 8 ∷ F 9 ∷ F 18 ∷ F 19 ∷ F 20 ∷ F 21 ∷ F 22 ∷ F 23 ∷ F 24 ∷ F 25 ∷ F 26 ∷ F 27 ∷ []
+
+-- The words of a callee's save area, from its lowest address: ra, the callee-saved registers, and the hidden pointer. (This library's own order.)
+abbrev pub saved_words : List SaveWord
+saved_words =
+    map Register (listed (link_place isa.Riscv) ++ callee_saved) ++ (Hidden ∷ [])
+
+-- The calling standard. ra holds the return address; no register tells how many floating-point registers are used, and none returns a hidden pointer.
 abbrev pub riscv : Standard
 riscv = record {
   target = target.Riscv;
-  link = 0;
-  save = 208;
-  stack_pointer = G 2;
-  preserved = G 8 ∷ G 9 ∷ G 18 ∷ G 19 ∷ G 20 ∷ G 21 ∷ G 22 ∷ G 23 ∷ G 24 ∷ G 25 ∷ G 26 ∷ G 27 ∷ F 8 ∷ F 9 ∷ F 18 ∷ F 19 ∷ F 20 ∷ F 21 ∷ F 22 ∷ F 23 ∷ F 24 ∷ F 25 ∷ F 26 ∷ F 27 ∷ [];
-  reserved = G 3 ∷ G 4 ∷ [];
-  link_register = Some (G 1);
-  closure_register = 6;
-  trampoline_registers = G 6 ∷ G 7 ∷ [];
+  link = pushed_bytes isa.Riscv;
+  save = 8 * length saved_words;
+  stack_pointer = G (stack_pointer isa.Riscv);
+  preserved = callee_saved;
+  reserved = reserved_places isa.Riscv;
+  link_register = link_place isa.Riscv;
+  save_area = saved_words;
+  closure_register = closure_register isa.Riscv;
+  trampoline_registers = trampoline_registers isa.Riscv;
   vector_count = None;
   returned_address = None;
+  narrow = Riscv;
+  single = Boxed;
+  copy_start = at_once;
   placing = placing_of;
 }

@@ -1,0 +1,99 @@
+-- What fills the rest of each place is what the standard says: a lone narrow integer is extended, a float in a floating register is NaN-boxed.
+use Rattle.std.proofs.Common.{◌≡◌, ℕ, ◌+◌, ◌-◌, ◌*◌, Bool, true, false, cond, ltb, List, [], ◌∷◌, length, refl, arith}
+use Rattle.std.specs.Prelude.{Option}
+use Rattle.ffi3_type_rules.specs.Tree.{Tree, void, scalar, left_out, structure, Scalar, u8, s8, u16, s16, u32, s32, u64, s64, float, double, pointer}
+use Rattle.ffi3_type_rules.specs.Layout.{Leaf, leaves_of, leaf_at, size_of, scalar_size}
+use Rattle.ffi3_type_rules.specs.Integer.{is_floating, is_integer}
+use Rattle.ffi3_place_rules.specs.declared.Loc.{Loc}
+use Rattle.ffi3_place_rules.specs.declared.Loc.TheVariants.{G, S}
+use Rattle.ffi3_place_rules.specs.declared.Ext.TheVariants.{Boxed}
+use Rattle.ffi3_place_rules.specs.Standard.{copy_end, place_at, places_from}
+use Rattle.ffi3_place_rules.specs.Sound.{is_narrow_integer, is_floating_place, IsFilled, PlaceIsFilled, PlacesAreFilled}
+use Rattle.ffi3_place_rules.proofs.Tests.{and_left}
+use Rattle.ffi3_place_rules.proofs.Filled.{doublewords_filled}
+use Rattle.ffi3_riscv_rules.specs.declared.Shape.{Shape}
+use Rattle.ffi3_riscv_rules.specs.declared.Shape.TheVariants.{OneF, TwoF, FI, IF, Words, ByRef}
+use Rattle.ffi3_riscv_rules.specs.declared.Used.{Used}
+use Rattle.ffi3_riscv_rules.specs.Riscv.{riscv, argument_register, word, boxing, floating_piece, integer_piece, spot_of, is_fixed, used_at_start, passed_next, spot_next, used_next, spots_after}
+use Rattle.ffi3_riscv_rules.proofs.Shapes.{Suits, HasFloats, passed_suits, passed_floats}
+
+-- ---- values that are no lone narrow integer
+
+no_integer : (s : Scalar) → is_floating s ≡ true → is_integer s ≡ true → ⊥
+no_integer u8 f i = cc
+no_integer s8 f i = cc
+no_integer u16 f i = cc
+no_integer s16 f i = cc
+no_integer u32 f i = cc
+no_integer s32 f i = cc
+no_integer u64 f i = cc
+no_integer s64 f i = cc
+no_integer float f i = cc
+no_integer double f i = cc
+no_integer pointer f i = cc
+
+first_floats : (t : Tree) → is_floating (leaf_at t 0).kind ≡ true → is_narrow_integer t ≡ true → ⊥
+first_floats void f n = cc
+first_floats (scalar s) f n = no_integer s f (and_left (is_integer s) _ n)
+first_floats (left_out k) f n = cc
+first_floats (structure ts) f n = cc
+
+has_two : (t : Tree) → length (leaves_of t) ≡ 2 → is_narrow_integer t ≡ true → ⊥
+has_two void e n = cc
+has_two (scalar s) e n = absurd (omega (arith, e))
+has_two (left_out k) e n = cc
+has_two (structure ts) e n = cc
+
+-- ---- pieces
+
+float_boxed : (s : Scalar) → is_floating s ≡ true → scalar_size s ≡ 4 → boxing s ≡ Boxed
+float_boxed u8 f e = cc
+float_boxed s8 f e = cc
+float_boxed u16 f e = cc
+float_boxed s16 f e = cc
+float_boxed u32 f e = cc
+float_boxed s32 f e = cc
+float_boxed u64 f e = cc
+float_boxed s64 f e = cc
+float_boxed float f e = refl
+float_boxed double f e = absurd (omega (arith, e))
+float_boxed pointer f e = cc
+
+module _ (t : Tree) (wide : is_narrow_integer t ≡ true → ⊥) where
+  floating_filled : (f : ℕ) (l : Leaf) → is_floating l.kind ≡ true → IsFilled riscv t (floating_piece f l)
+  floating_filled f l floats = record { narrow = λ n. absurd (wide n); single = λ _ e. float_boxed l.kind floats e }
+
+  integer_filled : (w : ℕ) (l : Leaf) → IsFilled riscv t (integer_piece w l)
+  integer_filled w l = record { narrow = λ n. absurd (wide n); single = λ h e. absurd (in_general h) }
+    where
+      in_general : is_floating_place (G (argument_register w)) ≡ true → ⊥
+      in_general h = cc
+
+word_if : (w : ℕ) (b : Bool) → is_floating_place (cond {A = Loc} b (G (argument_register w)) (S (8 * (w - 8)))) ≡ false
+word_if w true = refl
+word_if w false = refl
+
+word_not_floating : (w : ℕ) → is_floating_place (word w) ≡ false
+word_not_floating w = word_if w (ltb w 8)
+
+-- ---- by shapes
+
+pub spot_filled : (start : ℕ → Tree → ℕ) (copies : ℕ) (before : Used) (t : Tree) (shape : Shape) → Suits (size_of t) (leaves_of t) shape → HasFloats (leaves_of t) shape → PlaceIsFilled riscv t (place_at start copies t (spot_of before t shape))
+spot_filled start copies before t OneF h f =
+    (floating_filled t (first_floats t f) before.floats (leaf_at t 0) f, tt)
+spot_filled start copies before t TwoF h f =
+    (floating_filled t (has_two t h) before.floats (leaf_at t 0) f.0, (floating_filled t (has_two t h) (before.floats + 1) (leaf_at t 1) f.1, tt))
+spot_filled start copies before t FI h f =
+    (floating_filled t (has_two t h) before.floats (leaf_at t 0) f, (integer_filled t (has_two t h) before.words (leaf_at t 1), tt))
+spot_filled start copies before t IF h f =
+    (integer_filled t (has_two t h) before.words (leaf_at t 0), (floating_filled t (has_two t h) before.floats (leaf_at t 1) f, tt))
+spot_filled start copies before t (Words n) h f =
+    doublewords_filled riscv t (λ j. word (before.words + j)) (λ j. word_not_floating (before.words + j)) 0 n
+spot_filled start copies before t ByRef h f = tt
+
+pub arguments_filled : (start : ℕ → Tree → ℕ) (copies : ℕ) (fixed : Option ℕ) (end : Used) (i : ℕ) (ts : List Tree) → PlacesAreFilled riscv ts (places_from start copies ts (spots_after fixed end i ts))
+arguments_filled start copies fixed end i [] = tt
+arguments_filled start copies fixed end i (t ∷ ts) =
+    let named = is_fixed fixed i in
+    let before = used_at_start end named t in
+    (spot_filled start copies before t (passed_next end named t) (passed_suits before named t) (passed_floats before named t), arguments_filled start (copy_end start copies t (spot_next end named t)) fixed (used_next end named t) (i + 1) ts)
