@@ -6,8 +6,9 @@ ghost use Rattle.ffi3_type_rules.specs.Layout.{leaves_of, leaf_at};
 ghost use Rattle.ffi3_type_rules.specs.Fault.{HasNoFault};
 ghost use Rattle.ffi3_type_rules.specs.Signature.{SignatureHasNoFault};
 ghost use Rattle.ffi3_types.specs.TreeOf.{tree_of};
-ghost use Rattle.ffi3_place_rules.specs.Standard.{places_from, result_at, buffer_bytes};
+ghost use Rattle.ffi3_place_rules.specs.Standard.{at_once, places_from, result_at, buffer_end};
 ghost use Rattle.ffi3_amd64_rules.specs.Amd64.{is_integer_leaf_in, class_of, in_memory, integers, sses, register_pieces, classes, in_registers, pieces_after, taken_with, taken_after, taken_at_first, spots_after, result_spot_of};
+ghost use Rattle.ffi3_amd64_rules.specs.Sums.{IsPlacedBySums};
 
 #[cfg(test)]
 mod tests;
@@ -17,7 +18,7 @@ use ffi3_place::parts::{
     argument, count_of, doubleword, doublewords, is_floating, pieces_on_stack, result_type,
     size_of, sizes_of, widening,
 };
-use ffi3_place::{Abi, Loc, Pieces, Place, Places, Plan, Res};
+use ffi3_place::{Abi, Loc, Pieces, Place, Places, Plan, Res, SaveWord};
 use ffi3_place_rules::Taken;
 use ffi3_type_rules::round_up;
 use ffi3_types::{FfiType, NoMemory, Sig, Target};
@@ -53,10 +54,7 @@ pub fn in_memory(ty: &FfiType) -> bool
     requires { HasNoFault 0 true (tree_of ty.now) }
     ensures { result ≡ in_memory (tree_of ty.now) }
 {
-    match ty {
-        FfiType::Struct(_) => size_of(ty) > 16,
-        _ => false,
-    }
+    matches!(ty, FfiType::Struct(_)) && size_of(ty) > 16
 }
 
 /// How many eightbytes of each class a value has, none where it is in memory.
@@ -91,6 +89,9 @@ const ARGUMENT_REGISTERS: [u8; 6] = [7, 6, 2, 1, 8, 9];
 
 /// rax, rdx
 const RESULT_REGISTERS: [u8; 2] = [0, 2];
+
+/// rbx, rbp, r12 to r15
+const PRESERVED_REGISTERS: [u8; 6] = [3, 5, 12, 13, 14, 15];
 
 /// A value's eightbytes in registers, from numbers `general` and `vector` on.
 fn pieces_in_registers(
@@ -206,7 +207,7 @@ fn at_first(result_type: &FfiType) -> Taken
 
 fn place_all(alloc: Global, sig: &Sig) -> Result<Placed, NoMemory>
     requires { SignatureHasNoFault sig.now }
-    ensures places { IfOk result (λ p. p.places ≡ places_from 0 sig.now.arguments (spots_after (taken_at_first sig.now.result_type) sig.now.arguments)) }
+    ensures places { IfOk result (λ p. p.places ≡ places_from at_once 0 sig.now.arguments (spots_after (taken_at_first sig.now.result_type) sig.now.arguments)) }
     ensures taken { IfOk result (λ p. p.taken ≡ taken_after (taken_at_first sig.now.result_type) sig.now.arguments) }
     ensures low { IfOk result (λ p. p.taken.stack ≤ 66048) }
     ensures few_vector { IfOk result (λ p. p.taken.vector ≤ 8) }
@@ -227,7 +228,7 @@ fn place_all(alloc: Global, sig: &Sig) -> Result<Placed, NoMemory>
 fn place_result(alloc: Global, ty: &FfiType, buffer: u64) -> Result<Res, NoMemory>
     requires right { HasNoFault 0 true (tree_of ty.now) }
     requires low { buffer ≤ 131072 }
-    ensures { IfOk result (λ r. r ≡ result_at buffer (result_spot_of (tree_of ty.now))) }
+    ensures { IfOk result (λ r. r ≡ result_at at_once buffer (tree_of ty.now) (result_spot_of (tree_of ty.now))) }
 {
     if let FfiType::Void = ty {
         return Ok(Res::Nothing);
@@ -241,18 +242,24 @@ fn place_result(alloc: Global, ty: &FfiType, buffer: u64) -> Result<Res, NoMemor
     Ok(Res::Direct(pieces_in_registers(alloc, ty, 0, 0, &RESULT_REGISTERS)?))
 }
 
-/// The bytes of a hidden result's buffer.
-fn buffer_of(ty: &FfiType) -> u64
-    requires { HasNoFault 0 true (tree_of ty.now) }
-    ensures value { result ≡ buffer_bytes (tree_of ty.now) (result_spot_of (tree_of ty.now)) }
-    ensures small { result ≤ 1032 }
+/// Where a hidden result's buffer ends that begins at `start`. Without one, that is `start`.
+fn buffer_end(ty: &FfiType, start: u64) -> u64
+    requires right { HasNoFault 0 true (tree_of ty.now) }
+    requires low { start ≤ 131072 }
+    ensures value { result ≡ buffer_end at_once start (tree_of ty.now) (result_spot_of (tree_of ty.now)) }
+    ensures small { result ≤ start + 1031 }
 {
     if in_memory(ty) {
-        round_up(size_of(ty), 8)
+        start + round_up(size_of(ty), 8)
     } else {
-        0
+        start
     }
 }
+
+/// Does nothing. Its contract says by sums over all arguments which of them are in registers, and where arguments, copies, the buffer of a hidden result and the frame's end are; and that no other choice of arguments in registers agrees with the sums. (psABI AMD64 3.2.3)
+pub fn placement_laws(_sig: &Sig)
+    ensures { IsPlacedBySums _sig.now }
+{}
 
 /// The System V AMD64 calling standard. (psABI AMD64 3.2)
 pub struct Amd64;
@@ -280,23 +287,37 @@ impl Abi for Amd64 {
     const KEPT: u8 = 6;
 
     fn kept_register(k: u8) -> Loc {
-        // rbx, rbp, r12 to r15
-        const REGISTERS: [u8; 6] = [3, 5, 12, 13, 14, 15];
-        Loc::G(REGISTERS[k as usize])
+        Loc::G(PRESERVED_REGISTERS[k as usize])
+    }
+
+    fn saved_word(k: u8) -> SaveWord {
+        if k < Self::KEPT {
+            SaveWord::Register(Self::kept_register(k))
+        } else {
+            SaveWord::Hidden
+        }
+    }
+
+    fn vector_count() -> Option<Loc> {
+        Some(Loc::G(RESULT_REGISTERS[0]))
+    }
+
+    fn returned_address() -> Option<Loc> {
+        Some(Loc::G(RESULT_REGISTERS[0]))
     }
 
     fn plan(alloc: Global, sig: &Sig) -> Result<Plan, NoMemory> {
         let all = place_all(alloc, sig)?;
         let ret = result_type(sig);
         let buffer = round_up(all.taken.stack, 16);
-        let frame = round_up(buffer + buffer_of(ret), 16);
+        let frame = round_up(buffer_end(ret, buffer), 16);
         let block = round_up(sizes_of(sig), 16);
         let res = place_result(alloc, ret, buffer)?;
         let vectors = all.taken.vector as u8;
         Ok(Plan {
             places: all.places,
             res,
-            need: frame + 8 + 56 + block,
+            need: frame + Self::LINK + Self::SAVE + block,
             frame,
             block,
             vectors,
@@ -304,6 +325,7 @@ impl Abi for Amd64 {
     }
 
     ghost use Rattle.std.specs.Prelude.{refl};
+    ghost use Rattle.ffi3_amd64_rules.proofs.Agrees.{agrees as with_machine};
     ghost use Rattle.ffi3_amd64_rules.proofs.Sound.{sound as every_law, determines};
 
     ghost save_is = { refl };
@@ -313,6 +335,8 @@ impl Abi for Amd64 {
     ghost target_is = { refl };
 
     ghost kept_all = { refl };
+
+    ghost agrees = { with_machine };
 
     ghost sound = { λ s _. every_law s };
 

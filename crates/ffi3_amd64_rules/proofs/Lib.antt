@@ -1,4 +1,7 @@
+pub mod Agrees
+pub mod Copies
 pub mod Covered
+pub mod Filled
 pub mod Registers
 pub mod Sound
 pub mod Sums

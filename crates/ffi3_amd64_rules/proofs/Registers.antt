@@ -1,6 +1,8 @@
 -- The lists of registers: no register stands twice in one, and none is forbidden.
 use Rattle.std.proofs.Common.{◌≡◌, ℕ, zero, suc, ◌<◌, true, [], ◌∷◌, get_or, sym, ◌∙◌, ap, refl, arith}
+use Rattle.ffi3_type_rules.specs.declared.Isa.TheVariants.{Amd64}
 use Rattle.ffi3_place_rules.specs.declared.Loc.TheVariants.{G, F, S}
+use Rattle.ffi3_place_rules.specs.Isa.{general_registers}
 use Rattle.ffi3_place_rules.specs.Sound.{IsNoneOf, no_argument, no_result}
 use Rattle.ffi3_place_rules.proofs.Chain.{Registers}
 use Rattle.ffi3_place_rules.proofs.Forbidden.{is_none_of, none_of}
@@ -40,8 +42,8 @@ argument_registers = record {
         let same : j ≡ k = sym (argument_number j (omega arith)) ∙ ap number_of e ∙ argument_number k l in
         omega (arith, same)
 
-pub argument_small : (k : ℕ) → k < 6 → argument_register k < 32
-argument_small = each_of_six (λ k. argument_register k < 32) (omega arith) (omega arith) (omega arith) (omega arith) (omega arith) (omega arith)
+pub argument_exists : (k : ℕ) → k < 6 → argument_register k < general_registers Amd64
+argument_exists = each_of_six (λ k. argument_register k < 16) (omega arith) (omega arith) (omega arith) (omega arith) (omega arith) (omega arith)
 
 pub argument_allowed : (k : ℕ) → k < 6 → IsNoneOf (no_argument amd64) (G (argument_register k))
 argument_allowed k h =
@@ -72,8 +74,8 @@ result_registers = record {
         let same : j ≡ k = sym (result_number j (omega arith)) ∙ ap number_of_result e ∙ result_number k l in
         omega (arith, same)
 
-pub result_small : (k : ℕ) → k < 2 → result_register k < 32
-result_small = each_of_two (λ k. result_register k < 32) (omega arith) (omega arith)
+pub result_exists : (k : ℕ) → k < 2 → result_register k < general_registers Amd64
+result_exists = each_of_two (λ k. result_register k < 16) (omega arith) (omega arith)
 
 pub result_allowed_general : (k : ℕ) → k < 2 → IsNoneOf (no_result amd64) (G (result_register k))
 result_allowed_general k h =

@@ -3,22 +3,24 @@ use Rattle.std.proofs.Common.{◌≡◌, ℕ, ◌+◌, ◌≤◌, Bool, true, fa
 use Rattle.std.specs.List.{AllByRecursion, count_by, flat_map}
 use Rattle.std.proofs.lemmas.List.Sums.{sum_by-cons, sum_by_push}
 use Rattle.ffi3_type_rules.specs.Tree.{Tree, void, scalar, left_out, structure}
-use Rattle.ffi3_type_rules.specs.Layout.{size_of}
 use Rattle.ffi3_type_rules.specs.Signature.{Signature}
+use Rattle.ffi3_type_rules.specs.declared.Isa.TheVariants.{Amd64}
 use Rattle.ffi3_place_rules.specs.declared.Loc.{Loc}
 use Rattle.ffi3_place_rules.specs.declared.Loc.TheVariants.{G}
 use Rattle.ffi3_place_rules.specs.declared.Taken.{Taken}
-use Rattle.ffi3_place_rules.specs.Standard.{in_result_pieces, in_buffer, plan_of, places_from, result_at, copies_start, buffer_start, frame_of, round8}
+use Rattle.ffi3_place_rules.specs.Standard.{in_result_pieces, in_buffer, plan_of, places_from, result_at, copies_start, frame_copies_end, frame_of, at_once}
 use Rattle.ffi3_place_rules.specs.Doublewords.{stack_pieces}
 use Rattle.ffi3_place_rules.specs.Sound.{AreApart, piece_locs, place_locs, hidden_locs, result_locs, argument_locs, IsNoneOf, LiesIn, call_locs, no_argument, no_result as not_for_results, ResultHasAll, IsSound, IsDetermined}
 use Rattle.ffi3_place_rules.proofs.Chain.{AtMost, at_most_self, Chain, chain_append, chain_less, chain_apart, chain_allowed, chain_lies_in}
 use Rattle.ffi3_place_rules.proofs.Frame.{up_to, value_chain, frame_chain}
+use Rattle.ffi3_place_rules.proofs.Aligned.{frame_is_aligned, need_is_aligned}
 use Rattle.ffi3_place_rules.proofs.Determines.{determined}
 use Rattle.ffi3_amd64_rules.specs.declared.Class.{Class}
 use Rattle.ffi3_amd64_rules.specs.declared.Class.TheVariants.{Integer, Sse}
-use Rattle.ffi3_amd64_rules.specs.Amd64.{amd64, is_integer_class, is_sse_class, classes, integers, sses, in_memory, argument_register, vector_register, result_register, register_pieces, in_registers, taken_with, taken_after, taken_at_first, pieces_after, spots_after, result_spot_of, placing_of}
+use Rattle.ffi3_amd64_rules.specs.Amd64.{amd64, is_integer_class, is_sse_class, classes, integers, sses, in_memory, argument_register, vector_register, result_register, register_pieces, in_registers, stack_start, stack_end, taken_with, taken_after, taken_at_first, pieces_after, spots_after, result_spot_of, placing_of}
 use Rattle.ffi3_amd64_rules.proofs.Covered.{fits_registers, integers_few, sses_few, classes_when, registers_have_all, arguments_have_all}
-use Rattle.ffi3_amd64_rules.proofs.Registers.{argument_registers, argument_small, argument_allowed, vector_allowed, stack_allowed, result_registers, result_small, result_allowed_general, result_allowed_vector, result_allowed_stack}
+use Rattle.ffi3_amd64_rules.proofs.Filled.{arguments_filled, result_filled}
+use Rattle.ffi3_amd64_rules.proofs.Registers.{argument_registers, argument_exists, argument_allowed, vector_allowed, stack_allowed, result_registers, result_exists, result_allowed_general, result_allowed_vector, result_allowed_stack}
 
 abbrev at_eightbyte : Taken → List Class → Taken
 at_eightbyte a earlier =
@@ -65,10 +67,10 @@ abbrev ChainIf : Taken → Tree → Bool → Type 0
 ChainIf a t b = ArgumentsChain a
     (piece_locs (cond b
     (register_pieces argument_register a.general a.vector t [] (classes t))
-    (stack_pieces a.stack t)))
+    (stack_pieces (stack_start a.stack t) t)))
     (cond {A = Taken} b
     (record { general = a.general + integers t; vector = a.vector + sses t; stack = a.stack })
-    (record { general = a.general; vector = a.vector; stack = a.stack + round8 (size_of t) }))
+    (record { general = a.general; vector = a.vector; stack = stack_end a.stack t }))
 
 chain_if : (a : Taken) (t : Tree) (b : Bool) → in_registers a t ≡ b → ChainIf a t b
 chain_if a t true e =
@@ -77,16 +79,16 @@ chain_if a t true e =
     chain_less argument_register vector_register 6 8 a (at_eightbyte a []) _ _ start
     (register_chain argument_register 6 8 a t [] (classes t) (omega (arith, fits.0)) (omega (arith, fits.1)))
 chain_if a t false e =
-    value_chain argument_register vector_register 6 8 a t (record { general = a.general; vector = a.vector; stack = a.stack + round8 (size_of t) }) (omega arith) (omega arith) (omega arith)
+    value_chain argument_register vector_register 6 8 a t (record { general = a.general; vector = a.vector; stack = stack_end a.stack t }) (omega arith) (omega arith) (omega arith)
 
 argument_chain : (a : Taken) (t : Tree) → ArgumentsChain a (piece_locs (pieces_after a t)) (taken_with a t)
 argument_chain a t = chain_if a t (in_registers a t) refl
 
-places_chain : (copy : ℕ) (a : Taken) (ts : List Tree) → ArgumentsChain a (flat_map place_locs (places_from copy ts (spots_after a ts))) (taken_after a ts)
-places_chain copy a [] = at_most_self a
-places_chain copy a (t ∷ ts) =
+places_chain : (end : ℕ) (a : Taken) (ts : List Tree) → ArgumentsChain a (flat_map place_locs (places_from at_once end ts (spots_after a ts))) (taken_after a ts)
+places_chain end a [] = at_most_self a
+places_chain end a (t ∷ ts) =
     chain_append argument_register vector_register 6 8 a (piece_locs (pieces_after a t)) (taken_with a t) _ _
-    (argument_chain a t) (places_chain (copy + 0) (taken_with a t) ts)
+    (argument_chain a t) (places_chain end (taken_with a t) ts)
 
 -- ---- the whole signature
 
@@ -96,13 +98,13 @@ untouched = record { general = 0; vector = 0; stack = 0 }
 abbrev taken_by_all : Signature → Taken
 taken_by_all s = taken_after (taken_at_first s.result_type) s.arguments
 
-hidden_chain : (t : Tree) (buffer : ℕ) → ArgumentsChain untouched (hidden_locs (result_at buffer (result_spot_of t))) (taken_at_first t)
-hidden_chain void buffer = at_most_self untouched
-hidden_chain (scalar s) buffer = at_most_self untouched
-hidden_chain (left_out k) buffer = at_most_self untouched
-hidden_chain (structure ts) buffer = cases (in_memory (structure ts))
+hidden_chain : (t : Tree) (end : ℕ) → ArgumentsChain untouched (hidden_locs (result_at at_once end t (result_spot_of t))) (taken_at_first t)
+hidden_chain void end = at_most_self untouched
+hidden_chain (scalar s) end = at_most_self untouched
+hidden_chain (left_out k) end = at_most_self untouched
+hidden_chain (structure ts) end = cases (in_memory (structure ts))
   where
-    cases : (b : Bool) → ArgumentsChain untouched (hidden_locs (result_at buffer (cond b (in_buffer (G (argument_register 0))) (in_result_pieces (register_pieces result_register 0 0 (structure ts) [] (classes (structure ts))))))) (record { general = cond b 1 0; vector = 0; stack = 0 })
+    cases : (b : Bool) → ArgumentsChain untouched (hidden_locs (result_at at_once end (structure ts) (cond b (in_buffer (G (argument_register 0))) (in_result_pieces (register_pieces result_register 0 0 (structure ts) [] (classes (structure ts))))))) (record { general = cond b 1 0; vector = 0; stack = 0 })
     cases true =
         let one : AtMost untouched (record { general = 1; vector = 0; stack = 0 }) = record { general = omega arith; vector = omega arith; stack = omega arith } in
         (record { general = 1; vector = 0; stack = 0 }, (0, refl, omega arith, omega arith), (0, refl, omega arith), one, at_most_self (record { general = 1; vector = 0; stack = 0 }))
@@ -111,15 +113,15 @@ hidden_chain (structure ts) buffer = cases (in_memory (structure ts))
 plan_chain : (s : Signature) → ArgumentsChain untouched (argument_locs (plan_of amd64 s)) (taken_by_all s)
 plan_chain s =
     chain_append argument_register vector_register 6 8 untouched (hidden_locs (plan_of amd64 s).res) (taken_at_first s.result_type) _ _
-    (hidden_chain s.result_type (buffer_start s (placing_of s))) (places_chain (copies_start (placing_of s)) (taken_at_first s.result_type) s.arguments)
+    (hidden_chain s.result_type (frame_copies_end amd64 s)) (places_chain (copies_start (placing_of s)) (taken_at_first s.result_type) s.arguments)
 
 plan_allowed : (s : Signature) → AllByRecursion (IsNoneOf (no_argument amd64)) (argument_locs (plan_of amd64 s))
 plan_allowed s =
     chain_allowed argument_register vector_register 6 8 (no_argument amd64) argument_allowed vector_allowed stack_allowed untouched _ _ (plan_chain s)
 
-plan_lies_in : (s : Signature) → AllByRecursion (LiesIn (placing_of s).stack_bytes) (argument_locs (plan_of amd64 s))
+plan_lies_in : (s : Signature) → AllByRecursion (LiesIn Amd64 (placing_of s).stack_bytes) (argument_locs (plan_of amd64 s))
 plan_lies_in s =
-    chain_lies_in argument_register vector_register 6 8 argument_small (λ k h. omega arith) untouched _ _ (placing_of s).stack_bytes (omega arith) (plan_chain s)
+    chain_lies_in argument_register vector_register 6 8 Amd64 argument_exists (λ k h. omega arith) untouched _ _ (placing_of s).stack_bytes (omega arith) (plan_chain s)
 
 -- ---- the frame
 
@@ -128,14 +130,14 @@ framed s = up_to (taken_by_all s) (frame_of amd64 s)
 
 call_chain : (s : Signature) → ArgumentsChain untouched (call_locs s (plan_of amd64 s)) (framed s)
 call_chain s =
-    chain_append argument_register vector_register 6 8 untouched (argument_locs (plan_of amd64 s)) (taken_by_all s) _ (framed s) (plan_chain s) (frame_chain argument_register vector_register 6 8 amd64 s (taken_by_all s) (omega arith))
+    chain_append argument_register vector_register 6 8 untouched (argument_locs (plan_of amd64 s)) (taken_by_all s) _ (framed s) (plan_chain s) (frame_chain argument_register vector_register 6 8 amd64 (λ end t. omega arith) s (taken_by_all s) (omega arith))
 
 plan_apart : (s : Signature) → AreApart (call_locs s (plan_of amd64 s))
 plan_apart s = chain_apart argument_register vector_register 6 8 argument_registers untouched _ _ (call_chain s)
 
-plan_in_frame : (s : Signature) → AllByRecursion (LiesIn (frame_of amd64 s)) (call_locs s (plan_of amd64 s))
+plan_in_frame : (s : Signature) → AllByRecursion (LiesIn Amd64 (frame_of amd64 s)) (call_locs s (plan_of amd64 s))
 plan_in_frame s =
-    chain_lies_in argument_register vector_register 6 8 argument_small (λ k h. omega arith) untouched _ (framed s) (frame_of amd64 s) (omega arith) (call_chain s)
+    chain_lies_in argument_register vector_register 6 8 Amd64 argument_exists (λ k h. omega arith) untouched _ (framed s) (frame_of amd64 s) (omega arith) (call_chain s)
 
 -- ---- the result
 
@@ -144,40 +146,44 @@ result_chain : (t : Tree) → Chain result_register vector_register 2 2 (at_eigh
 result_chain t =
     register_chain result_register 2 2 untouched t [] (classes t) (omega (arith, integers_few t)) (omega (arith, sses_few t))
 
-result_cases : (P : List Loc → Type 0) → P [] → (t : Tree) → P (piece_locs (register_pieces result_register 0 0 t [] (classes t))) → (buffer : ℕ) → P (result_locs (result_at buffer (result_spot_of t)))
-result_cases P none void direct buffer = none
-result_cases P none (scalar s) direct buffer = direct
-result_cases P none (left_out k) direct buffer = direct
-result_cases P none (structure ts) direct buffer = cases (in_memory (structure ts))
+result_cases : (P : List Loc → Type 0) → P [] → (t : Tree) → P (piece_locs (register_pieces result_register 0 0 t [] (classes t))) → (end : ℕ) → P (result_locs (result_at at_once end t (result_spot_of t)))
+result_cases P none void direct end = none
+result_cases P none (scalar s) direct end = direct
+result_cases P none (left_out k) direct end = direct
+result_cases P none (structure ts) direct end = cases (in_memory (structure ts))
   where
-    cases : (b : Bool) → P (result_locs (result_at buffer (cond b (in_buffer (G (argument_register 0))) (in_result_pieces (register_pieces result_register 0 0 (structure ts) [] (classes (structure ts)))))))
+    cases : (b : Bool) → P (result_locs (result_at at_once end (structure ts) (cond b (in_buffer (G (argument_register 0))) (in_result_pieces (register_pieces result_register 0 0 (structure ts) [] (classes (structure ts)))))))
     cases true = none
     cases false = direct
 
-result_has_all : (t : Tree) (buffer : ℕ) → ResultHasAll t (result_at buffer (result_spot_of t))
-result_has_all void buffer = refl
-result_has_all (scalar s) buffer = registers_have_all result_register 0 0 (scalar s) (classes (scalar s)) (classes_when (scalar s) refl)
-result_has_all (left_out k) buffer = registers_have_all result_register 0 0 (left_out k) (classes (left_out k)) (classes_when (left_out k) refl)
-result_has_all (structure ts) buffer = cases (in_memory (structure ts)) refl
+result_has_all : (t : Tree) (end : ℕ) → ResultHasAll t (result_at at_once end t (result_spot_of t))
+result_has_all void end = refl
+result_has_all (scalar s) end = registers_have_all result_register 0 0 (scalar s) (classes (scalar s)) (classes_when (scalar s) refl)
+result_has_all (left_out k) end = registers_have_all result_register 0 0 (left_out k) (classes (left_out k)) (classes_when (left_out k) refl)
+result_has_all (structure ts) end = cases (in_memory (structure ts)) refl
   where
-    cases : (b : Bool) → in_memory (structure ts) ≡ b → ResultHasAll (structure ts) (result_at buffer (cond b (in_buffer (G (argument_register 0))) (in_result_pieces (register_pieces result_register 0 0 (structure ts) [] (classes (structure ts))))))
+    cases : (b : Bool) → in_memory (structure ts) ≡ b → ResultHasAll (structure ts) (result_at at_once end (structure ts) (cond b (in_buffer (G (argument_register 0))) (in_result_pieces (register_pieces result_register 0 0 (structure ts) [] (classes (structure ts))))))
     cases true e = tt
     cases false e = registers_have_all result_register 0 0 (structure ts) (classes (structure ts)) (classes_when (structure ts) e)
 
 -- every law of the places
 pub sound : (s : Signature) → IsSound amd64 s
 sound s =
-    let buffer = buffer_start s (placing_of s) in
+    let end = frame_copies_end amd64 s in
     record {
       apart = plan_apart s;
       in_frame = plan_in_frame s;
       on_stack = plan_lies_in s;
       allowed = plan_allowed s;
-      has_all = arguments_have_all (copies_start (placing_of s)) (taken_at_first s.result_type) s.arguments;
-      result_apart = result_cases AreApart tt s.result_type (chain_apart result_register vector_register 2 2 result_registers (at_eightbyte untouched []) _ _ (result_chain s.result_type)) buffer;
-      result_in_registers = result_cases (AllByRecursion (LiesIn 0)) tt s.result_type (chain_lies_in result_register vector_register 2 2 result_small (λ k h. omega arith) (at_eightbyte untouched []) _ _ 0 (omega arith) (result_chain s.result_type)) buffer;
-      result_allowed = result_cases (AllByRecursion (IsNoneOf (not_for_results amd64))) tt s.result_type (chain_allowed result_register vector_register 2 2 (not_for_results amd64) result_allowed_general result_allowed_vector result_allowed_stack (at_eightbyte untouched []) _ _ (result_chain s.result_type)) buffer;
-      result_has_all = result_has_all s.result_type buffer;
+      has_all = arguments_have_all at_once (copies_start (placing_of s)) (taken_at_first s.result_type) s.arguments;
+      result_apart = result_cases AreApart tt s.result_type (chain_apart result_register vector_register 2 2 result_registers (at_eightbyte untouched []) _ _ (result_chain s.result_type)) end;
+      result_in_registers = result_cases (AllByRecursion (LiesIn Amd64 0)) tt s.result_type (chain_lies_in result_register vector_register 2 2 Amd64 result_exists (λ k h. omega arith) (at_eightbyte untouched []) _ _ 0 (omega arith) (result_chain s.result_type)) end;
+      result_allowed = result_cases (AllByRecursion (IsNoneOf (not_for_results amd64))) tt s.result_type (chain_allowed result_register vector_register 2 2 (not_for_results amd64) result_allowed_general result_allowed_vector result_allowed_stack (at_eightbyte untouched []) _ _ (result_chain s.result_type)) end;
+      result_has_all = result_has_all s.result_type end;
+      filled = arguments_filled (copies_start (placing_of s)) (taken_at_first s.result_type) s.arguments;
+      result_filled = result_filled s.result_type end;
+      frame_aligned = frame_is_aligned amd64 s;
+      need_aligned = need_is_aligned amd64 s refl;
     }
 
 pub determines : (s : Signature) → IsDetermined amd64 s

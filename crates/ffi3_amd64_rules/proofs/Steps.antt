@@ -10,7 +10,7 @@ use Rattle.ffi3_place_rules.specs.declared.Piece.{Piece}
 use Rattle.ffi3_place_rules.specs.declared.Taken.{Taken}
 use Rattle.ffi3_place_rules.specs.declared.Place.{Place}
 use Rattle.ffi3_place_rules.specs.declared.Place.TheVariants.{Direct}
-use Rattle.ffi3_place_rules.specs.Standard.{doubleword, places_from, all_copy_bytes, buffer_bytes, round8, in_buffer, in_result_pieces}
+use Rattle.ffi3_place_rules.specs.Standard.{doubleword, places_from, copies_end, buffer_end, at_once, round8, in_buffer, in_result_pieces}
 use Rattle.ffi3_place_rules.specs.Doublewords.{widening}
 use Rattle.ffi3_place_rules.proofs.Elements.{leaf_read, argument_read}
 use Rattle.ffi3_amd64_rules.specs.declared.Class.{Class}
@@ -78,31 +78,31 @@ taken_step ts i t before whole h read e =
 
 -- the place of one more argument
 pub place_step : (ts : List Tree) (i : ℕ) (t : Tree) (before : Taken) (out whole : List Place) → i < length ts → t ≡ tree_at ts i →
-    out ++ places_from 0 (drop i ts) (spots_after before (drop i ts)) ≡ whole →
-    (out ++ Direct (pieces_after before t) ∷ []) ++ places_from 0 (drop (i + 1) ts) (spots_after (taken_with before t) (drop (i + 1) ts)) ≡ whole
+    out ++ places_from at_once 0 (drop i ts) (spots_after before (drop i ts)) ≡ whole →
+    (out ++ Direct (pieces_after before t) ∷ []) ++ places_from at_once 0 (drop (i + 1) ts) (spots_after (taken_with before t) (drop (i + 1) ts)) ≡ whole
 place_step ts i t before out whole h read e =
-    let opened = subst (λ us. out ++ places_from 0 us (spots_after before us) ≡ whole) (argument_read ts i t h read) e in
+    let opened = subst (λ us. out ++ places_from at_once 0 us (spots_after before us) ≡ whole) (argument_read ts i t h read) e in
     append_assoc out _ _ ∙ opened
 
 -- no argument has a copy
-pub places_without_copies : (c d : ℕ) (a : Taken) (ts : List Tree) → places_from c ts (spots_after a ts) ≡ places_from d ts (spots_after a ts)
-places_without_copies c d a [] = refl
-places_without_copies c d a (t ∷ ts) =
-    ap (λ ps. Direct (pieces_after a t) ∷ ps) (places_without_copies (c + 0) (d + 0) (taken_with a t) ts)
+pub places_without_copies : (start : ℕ → Tree → ℕ) (c d : ℕ) (a : Taken) (ts : List Tree) → places_from start c ts (spots_after a ts) ≡ places_from start d ts (spots_after a ts)
+places_without_copies start c d a [] = refl
+places_without_copies start c d a (t ∷ ts) =
+    ap (λ ps. Direct (pieces_after a t) ∷ ps) (places_without_copies start c d (taken_with a t) ts)
 
-pub no_copy_bytes : (a : Taken) (ts : List Tree) → all_copy_bytes ts (spots_after a ts) ≡ 0
-no_copy_bytes a [] = refl
-no_copy_bytes a (t ∷ ts) = omega (arith, no_copy_bytes (taken_with a t) ts)
+pub ends_without_copies : (start : ℕ → Tree → ℕ) (end : ℕ) (a : Taken) (ts : List Tree) → copies_end start end ts (spots_after a ts) ≡ end
+ends_without_copies start end a [] = refl
+ends_without_copies start end a (t ∷ ts) = ends_without_copies start end (taken_with a t) ts
 
 -- ---- results
 
-pub buffer_size : (t : Tree) → buffer_bytes t (result_spot_of t) ≡ cond (in_memory t) (round8 (size_of t)) 0
-buffer_size void = refl
-buffer_size (scalar s) = refl
-buffer_size (left_out k) = refl
-buffer_size (structure ts) = cases (in_memory (structure ts))
+pub buffer_ends : (end : ℕ) (t : Tree) → buffer_end at_once end t (result_spot_of t) ≡ cond (in_memory t) (end + round8 (size_of t)) end
+buffer_ends end void = refl
+buffer_ends end (scalar s) = refl
+buffer_ends end (left_out k) = refl
+buffer_ends end (structure ts) = cases (in_memory (structure ts))
   where
-    cases : (b : Bool) → buffer_bytes (structure ts) (cond b (in_buffer (G (argument_register 0))) (in_result_pieces (register_pieces result_register 0 0 (structure ts) [] (classes (structure ts))))) ≡ cond b (round8 (size_of (structure ts))) 0
+    cases : (b : Bool) → buffer_end at_once end (structure ts) (cond b (in_buffer (G (argument_register 0))) (in_result_pieces (register_pieces result_register 0 0 (structure ts) [] (classes (structure ts))))) ≡ cond b (end + round8 (size_of (structure ts))) end
     cases true = refl
     cases false = refl
 

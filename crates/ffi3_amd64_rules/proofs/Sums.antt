@@ -5,9 +5,11 @@ use Rattle.ffi3_type_rules.specs.Tree.{Tree, tree_at}
 use Rattle.ffi3_type_rules.specs.Layout.{size_of}
 use Rattle.ffi3_type_rules.specs.Signature.{Signature}
 use Rattle.ffi3_place_rules.specs.declared.Taken.{Taken}
-use Rattle.ffi3_place_rules.specs.Standard.{in_pieces, round8}
-use Rattle.ffi3_amd64_rules.specs.Amd64.{integers, sses, in_registers, taken_with, taken_after, taken_at_first, pieces_after, spots_after}
-use Rattle.ffi3_amd64_rules.specs.Sums.{sums_before, ArePlacedBySums}
+use Rattle.ffi3_place_rules.specs.declared.Place.TheVariants.{Direct}
+use Rattle.ffi3_place_rules.specs.Standard.{places_from, copies_start, at_once, round8}
+use Rattle.ffi3_amd64_rules.specs.Amd64.{amd64, integers, sses, in_registers, taken_with, taken_after, taken_at_first, pieces_after, spots_after, placing_of}
+use Rattle.ffi3_amd64_rules.specs.Sums.{sums_before, AreChosenBySums, ArePlacedBySums, IsPlacedBySums}
+use Rattle.ffi3_amd64_rules.proofs.Copies.{copies_by_sums}
 
 -- what the arguments before number i take
 abbrev pub taken_before : Signature → ℕ → Taken
@@ -25,10 +27,10 @@ taken_all : (a : Taken) (ts : List Tree) → taken_after a (take (length ts) ts)
 taken_all a [] = refl
 taken_all a (t ∷ ts) = taken_all (taken_with a t) ts
 
-spot_at : (a : Taken) (ts : List Tree) (i : ℕ) → i < length ts → slice_get (spots_after a ts) i ≡ Some (in_pieces (pieces_after (taken_after a (take i ts)) (tree_at ts i)))
-spot_at a [] i h = absurd (omega arith)
-spot_at a (t ∷ ts) zero h = refl
-spot_at a (t ∷ ts) (suc i) h = spot_at (taken_with a t) ts i (omega arith)
+stands_at : (end : ℕ) (a : Taken) (ts : List Tree) (i : ℕ) → i < length ts → slice_get (places_from at_once end ts (spots_after a ts)) i ≡ Some (Direct (pieces_after (taken_after a (take i ts)) (tree_at ts i)))
+stands_at end a [] i h = absurd (omega arith)
+stands_at end a (t ∷ ts) zero h = refl
+stands_at end a (t ∷ ts) (suc i) h = stands_at end (taken_with a t) ts i (omega arith)
 
 abbrev more_if : Taken → Tree → Bool → Taken
 more_if a t b =
@@ -71,19 +73,14 @@ module _ (s : Signature) where
       let total = sym (taken_all (taken_at_first s.result_type) s.arguments) ∙ sums_are_taken (length s.arguments) (omega arith) in
       record {
         registers_suffice = λ i h. ap (λ a. in_registers a (tree_at s.arguments i)) (sums_are_taken i (omega arith));
-        placed = λ i h. spot_at (taken_at_first s.result_type) s.arguments i h ∙ ap (λ a. Some (in_pieces (pieces_after a (tree_at s.arguments i)))) (sums_are_taken i (omega arith));
+        placed = λ i h. stands_at (copies_start (placing_of s)) (taken_at_first s.result_type) s.arguments i h ∙ ap (λ a. Some (Direct (pieces_after a (tree_at s.arguments i)))) (sums_are_taken i (omega arith));
         stack_total = ap (λ a. a.stack) total;
         vector_total = ap (λ a. a.vector) total;
       }
 
 -- ---- the sums leave no choice
 
--- the test that decides by the sums
-abbrev Decides : Signature → (ℕ → Bool) → Type 0
-Decides s chosen =
-    (i : ℕ) → i < length s.arguments → chosen i ≡ in_registers (sums_before s chosen i) (tree_at s.arguments i)
-
-module _ (s : Signature) (p q : ℕ → Bool) (by_p : Decides s p) (by_q : Decides s q) where
+module _ (s : Signature) (p q : ℕ → Bool) (by_p : AreChosenBySums s p) (by_q : AreChosenBySums s q) where
   same_sums : (i : ℕ) → i ≤ length s.arguments → sums_before s p i ≡ sums_before s q i
   same_sums zero h = refl
   same_sums (suc i) h =
@@ -102,3 +99,12 @@ module _ (s : Signature) (p q : ℕ → Bool) (by_p : Decides s p) (by_q : Decid
   pub same_choice : (i : ℕ) → i < length s.arguments → p i ≡ q i
   same_choice i h =
       by_p i h ∙ ap (λ a. in_registers a (tree_at s.arguments i)) (same_sums i (omega arith)) ∙ sym (by_q i h)
+
+-- all of it, for every signature
+pub call_by_sums : (s : Signature) → IsPlacedBySums s
+call_by_sums s = record {
+  chosen = is_in_registers s;
+  arguments = placed_by_sums s;
+  only_choice = λ other chosen. same_choice s other (is_in_registers s) chosen (placed_by_sums s).registers_suffice;
+  frame = copies_by_sums amd64 (λ end t. refl) s;
+}

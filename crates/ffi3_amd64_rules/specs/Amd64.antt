@@ -1,16 +1,21 @@
--- Where the arguments and the result of a call stand on AMD64. (System V psABI AMD64 3.2.3)
-use Rattle.std.specs.Prelude.{ℕ, zero, suc, ◌+◌, ◌*◌, Bool, true, false, not, ◌&&◌, cond, nat_le, nat_lt, List, [], ◌∷◌, ◌++◌, get_or, length, Some, None}
+-- Where the arguments and the result of a call stand on AMD64. (System V psABI AMD64 3.2.3, "Parameter Passing" and "Returning of Values")
+use Rattle.std.specs.Prelude.{ℕ, zero, suc, ◌+◌, ◌*◌, Bool, true, false, not, ◌&&◌, cond, nat_le, nat_lt, List, [], ◌∷◌, ◌++◌, map, get_or, length, Some}
 use Rattle.std.specs.List.{list_any, count_by}
+use Rattle.ffi3_type_rules.specs.declared.Isa.TheVariants as isa
 use Rattle.ffi3_type_rules.specs.declared.Target.TheVariants as target
-use Rattle.ffi3_type_rules.specs.Tree.{Tree, void, structure}
+use Rattle.ffi3_type_rules.specs.Tree.{Tree, void, scalar, left_out, structure}
 use Rattle.ffi3_type_rules.specs.Layout.{Leaf, leaves_of, size_of, scalar_size}
 use Rattle.ffi3_type_rules.specs.Signature.{Signature}
 use Rattle.ffi3_type_rules.specs.Integer.{is_floating}
 use Rattle.ffi3_place_rules.specs.declared.Loc.{Loc}
 use Rattle.ffi3_place_rules.specs.declared.Loc.TheVariants.{G, F}
+use Rattle.ffi3_place_rules.specs.declared.Ext.TheVariants.{Widen, Free}
 use Rattle.ffi3_place_rules.specs.declared.Piece.{Piece}
+use Rattle.ffi3_place_rules.specs.declared.SaveWord.{SaveWord}
+use Rattle.ffi3_place_rules.specs.declared.SaveWord.TheVariants.{Register, Hidden}
 use Rattle.ffi3_place_rules.specs.declared.Taken.{Taken}
-use Rattle.ffi3_place_rules.specs.Standard.{Standard, Placing, Spot, in_pieces, ResultSpot, no_result, in_result_pieces, in_buffer, doubleword, round8}
+use Rattle.ffi3_place_rules.specs.Isa.{pushed_bytes, stack_pointer, link_place, reserved_places, closure_register, trampoline_registers}
+use Rattle.ffi3_place_rules.specs.Standard.{Standard, Placing, Spot, in_pieces, ResultSpot, no_result, in_result_pieces, in_buffer, doubleword, round8, at_once}
 use Rattle.ffi3_place_rules.specs.Doublewords.{doublewords, widening, stack_pieces}
 use Rattle.ffi3_amd64_rules.specs.declared.Class.{Class}
 use Rattle.ffi3_amd64_rules.specs.declared.Class.TheVariants.{Integer, Sse}
@@ -30,19 +35,21 @@ lies_in_eightbyte j l = nat_lt l.at (8 * j + 8) && nat_lt (8 * j) (l.at + scalar
 abbrev pub is_integer_leaf_in : ℕ → Leaf → Bool
 is_integer_leaf_in j l = lies_in_eightbyte j l && not (is_floating l.kind)
 
--- INTEGER exactly where an integer or pointer leaf lies in it, otherwise SSE
+-- INTEGER exactly where an integer or pointer leaf lies in it, otherwise SSE. (Classification of aggregates, steps 3 and 4: each eightbyte for itself; INTEGER before SSE, rule (d))
 abbrev pub class_of : Tree → ℕ → Class
 class_of t j = cond (list_any (is_integer_leaf_in j) (leaves_of t)) Integer Sse
 
 abbrev pub is_struct : Tree → Bool
+is_struct void = false
+is_struct (scalar s) = false
+is_struct (left_out k) = false
 is_struct (structure ts) = true
-is_struct _ = false
 
--- class MEMORY: a struct over two eightbytes
+-- class MEMORY: a struct over two eightbytes, none of which is SSEUP here (Classification of aggregates, step 5 (c): the post merger cleanup)
 abbrev pub in_memory : Tree → Bool
 in_memory t = is_struct t && nat_lt 16 (size_of t)
 
--- how many eightbytes a value takes; the standard's name for doublewords
+-- how many eightbytes a value takes, its size rounded up; the standard's name for doublewords
 abbrev pub eightbytes : Tree → ℕ
 eightbytes t = doublewords t
 
@@ -62,19 +69,19 @@ sses t = count_by is_sse_class (classes t)
 
 -- ---- registers
 
--- rdi, rsi, rdx, rcx, r8, r9
+-- rdi, rsi, rdx, rcx, r8, r9 (Passing, step 2)
 abbrev pub argument_register : ℕ → ℕ
 argument_register k = get_or (7 ∷ 6 ∷ 2 ∷ 1 ∷ 8 ∷ 9 ∷ []) k 0
 
--- rax, rdx
+-- rax, rdx (Returning of Values, step 3)
 abbrev pub result_register : ℕ → ℕ
 result_register k = get_or (0 ∷ 2 ∷ []) k 0
 
--- xmm0 and those that follow
+-- xmm0 and those that follow, to xmm7 for arguments (Passing, step 3) and to xmm1 for results (Returning of Values, step 4)
 abbrev pub vector_register : ℕ → ℕ
 vector_register k = k
 
--- The register of an eightbyte: of its class, the one whose number is that of the value's first and of the eightbytes of the class before it.
+-- The register of an eightbyte is the next of its class: its number is that of the value's first, and the eightbytes of the class before it. (Passing, steps 2 and 3)
 abbrev pub register_of : (ℕ → ℕ) → ℕ → ℕ → List Class → Class → Loc
 register_of general g f earlier Integer = G (general (g + count_by is_integer_class earlier))
 register_of general g f earlier Sse = F (vector_register (f + count_by is_sse_class earlier))
@@ -87,23 +94,32 @@ register_pieces general g f t earlier (c ∷ cs) =
 
 -- ---- arguments
 
--- the registers that are left suffice for all eightbytes of the argument
+-- Registers are available for every eightbyte of the argument: there are six general ones and eight vector registers. (Passing: "If there are no registers available for any eightbyte of an argument, the whole argument is passed on the stack")
 abbrev pub in_registers : Taken → Tree → Bool
 in_registers before t = not (in_memory t) && (nat_le (before.general + integers t) 6 && nat_le (before.vector + sses t) 8)
 
--- an argument takes registers for all its eightbytes, or stack, and then no register
+-- where an argument on the stack begins, after the end of the one before it (Passing, step 1: at an address respecting its alignment)
+abbrev pub stack_start : ℕ → Tree → ℕ
+stack_start = at_once
+
+-- it ends with the last of its eightbytes (Classification: the size of each argument gets rounded up to eightbytes)
+abbrev pub stack_end : ℕ → Tree → ℕ
+stack_end end t = stack_start end t + round8 (size_of t)
+
+-- An argument takes registers for all its eightbytes, or stack, and then no register. (Passing: "If registers have already been assigned for some eightbytes of such an argument, the assignments get reverted")
 abbrev pub taken_with : Taken → Tree → Taken
 taken_with before t =
     cond {A = Taken} (in_registers before t)
     (record { general = before.general + integers t; vector = before.vector + sses t; stack = before.stack })
-    (record { general = before.general; vector = before.vector; stack = before.stack + round8 (size_of t) })
+    (record { general = before.general; vector = before.vector; stack = stack_end before.stack t })
 
 abbrev pub pieces_after : Taken → Tree → List Piece
 pieces_after before t =
     cond (in_registers before t)
     (register_pieces argument_register before.general before.vector t [] (classes t))
-    (stack_pieces before.stack t)
+    (stack_pieces (stack_start before.stack t) t)
 
+-- the arguments in left-to-right order
 abbrev pub spots_after : Taken → List Tree → List Spot
 spots_after before [] = []
 spots_after before (t ∷ ts) = in_pieces (pieces_after before t) ∷ spots_after (taken_with before t) ts
@@ -112,13 +128,14 @@ abbrev pub taken_after : Taken → List Tree → Taken
 taken_after before [] = before
 taken_after before (t ∷ ts) = taken_after (taken_with before t) ts
 
--- the address of a result in memory takes the first general register
+-- The address of a result in memory is a hidden first argument. (Returning of Values, step 2)
 abbrev pub taken_at_first : Tree → Taken
 taken_at_first result_type =
     record { general = cond (in_memory result_type) 1 0; vector = 0; stack = 0 }
 
 -- ---- results
 
+-- in the caller's storage for class MEMORY, otherwise in the next registers of each eightbyte's class (Returning of Values, steps 2 to 4)
 abbrev pub result_spot_of : Tree → ResultSpot
 result_spot_of void = no_result
 result_spot_of t =
@@ -133,19 +150,33 @@ placing_of s = record {
   vector_registers = (taken_after (taken_at_first s.result_type) s.arguments).vector;
 }
 
--- The stack pointer is rsp. Preserved: rbx, rbp, r12 to r15. r10 holds the closure's address. rax tells the number of vector registers, and returns the address of a result in memory.
+-- ---- the standard
+
+-- rbx, rbp, r12 to r15 (psABI AMD64 3.2.1: "Registers %rbp, %rbx and %r12 through %r15 belong to the calling function")
+abbrev pub callee_saved : List Loc
+callee_saved = G 3 ∷ G 5 ∷ G 12 ∷ G 13 ∷ G 14 ∷ G 15 ∷ []
+
+-- Each of them, and above them the hidden argument. (Where they stand is this library's rule.)
+abbrev pub saved_words : List SaveWord
+saved_words = map Register callee_saved ++ Hidden ∷ []
+
+-- What it names of the machine is what an AMD64 machine has. rax tells the number of vector registers (3.2.3, al at calls of functions with variable arguments) and returns the hidden argument (Returning of Values, step 2).
 abbrev pub amd64 : Standard
 amd64 = record {
   target = target.Amd64;
-  link = 8;
-  save = 56;
-  stack_pointer = G 4;
-  preserved = G 3 ∷ G 5 ∷ G 12 ∷ G 13 ∷ G 14 ∷ G 15 ∷ [];
-  reserved = [];
-  link_register = None;
-  closure_register = 10;
-  trampoline_registers = G 10 ∷ [];
-  vector_count = Some (G 0);
-  returned_address = Some (G 0);
+  link = pushed_bytes isa.Amd64;
+  save = 8 * length saved_words;
+  stack_pointer = G (stack_pointer isa.Amd64);
+  preserved = callee_saved;
+  reserved = reserved_places isa.Amd64;
+  link_register = link_place isa.Amd64;
+  save_area = saved_words;
+  closure_register = closure_register isa.Amd64;
+  trampoline_registers = trampoline_registers isa.Amd64;
+  vector_count = Some (G (result_register 0));
+  returned_address = Some (G (result_register 0));
+  narrow = Widen;
+  single = Free;
+  copy_start = at_once;
   placing = placing_of;
 }

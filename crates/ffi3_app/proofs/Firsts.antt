@@ -5,7 +5,7 @@ use Rattle.std.proofs.lemmas.List.{drop_more}
 use Rattle.ffi3_script_rules.specs.Language.{Path, at_item}
 use Rattle.ffi3_script_rules.specs.RunLimit.{is_free, is_run_in_main, first_not}
 use Rattle.ffi3_script_rules.specs.Script.{Act, call, make, free, print, return, return_void, ScriptMove}
-use Rattle.ffi3_script.specs.KindOf.{kind_of_act}
+use Rattle.ffi3_script_body.specs.KindOf.{kind_of_act}
 use Rattle.ffi3_app.specs.Kinds.{runs_in_main}
 
 pub kind_in_main : (a : Act) → runs_in_main (kind_of_act a) ≡ not (is_free a)

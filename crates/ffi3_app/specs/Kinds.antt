@@ -1,7 +1,7 @@
 -- Which kinds of moves are run.
 use Rattle.std.specs.Prelude.{Bool, true, false}
-use Rattle.ffi3_script.specs.declared.body.MoveKind.{MoveKind}
-use Rattle.ffi3_script.specs.declared.body.MoveKind.TheVariants.{Print, Return, Free}
+use Rattle.ffi3_script_body.specs.declared.body.MoveKind.{MoveKind}
+use Rattle.ffi3_script_body.specs.declared.body.MoveKind.TheVariants.{Print, Return, Free}
 
 abbrev pub runs_in_function : MoveKind → Bool
 runs_in_function Print = true

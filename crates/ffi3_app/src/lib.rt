@@ -7,16 +7,8 @@ mod layout;
 mod limit;
 mod load;
 mod place;
-#[cfg(test)]
-mod refusal_tests;
-#[cfg(test)]
-mod run_tests;
 mod tell;
-#[cfg(test)]
-mod tests;
 mod top;
-#[cfg(test)]
-mod word_tests;
 mod words;
 mod work;
 mod write;

@@ -4,7 +4,7 @@ ghost use Rattle.std.specs.List.{list_all};
 ghost use Rattle.ffi3_script_rules.specs.Language.{under, at_item};
 ghost use Rattle.ffi3_script_rules.specs.RunLimit.{is_plain, is_plain_result, is_run, is_run_in_function, is_run_in_main, first_not, first_in_functions, first_not_run};
 ghost use Rattle.ffi3_types.specs.TreeOf.{tree_of};
-ghost use Rattle.ffi3_script.specs.BodyOf.{moves_of};
+ghost use Rattle.ffi3_script_body.specs.BodyOf.{moves_of};
 ghost use Rattle.ffi3_script.specs.ScriptOf.{script_of};
 
 use ffi3_json::Where;

@@ -2,16 +2,16 @@
 use Rattle.std.proofs.Common.{◌≡◌, ℕ, ◌+◌, List, replicate, refl}
 use Rattle.std.specs.List.{replace_range}
 use Rattle.std.specs.Int.{w64, to_le_bytes}
-use Rattle.ffi3_type_rules.specs.declared.Target.{Target}
-use Rattle.ffi3_type_rules.specs.declared.Target.TheVariants.{Amd64, Aapcs64, Riscv}
+use Rattle.ffi3_type_rules.specs.declared.Isa.{Isa}
+use Rattle.ffi3_type_rules.specs.declared.Isa.TheVariants.{Amd64, Aarch64, Riscv}
 use Rattle.ffi3_run_rules.specs.declared.Closure.{Closure}
 use Rattle.ffi3_closures.specs.Slots.{trampoline, slot_head, slot_tail, live_slot}
 
 abbrev pub put : ℕ → ℕ → List ℕ → List ℕ
 put at word bytes = replace_range bytes at (at + 8) (to_le_bytes w64 word)
 
-pub put_together : (target : Target) (c : Closure) → put 48 c.user (put 40 c.sig (put 32 c.func (replace_range (replicate 64 0) 0 32 (slot_head target)))) ≡ live_slot target c
+pub put_together : (isa : Isa) (c : Closure) → put 48 c.user (put 40 c.sig (put 32 c.func (replace_range (replicate 64 0) 0 32 (slot_head isa)))) ≡ live_slot isa c
 unfolding trampoline slot_head slot_tail
 put_together Amd64 c = refl
-put_together Aapcs64 c = refl
+put_together Aarch64 c = refl
 put_together Riscv c = refl

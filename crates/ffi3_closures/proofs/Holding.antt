@@ -6,28 +6,30 @@ use Rattle.std.proofs.lemmas.List.{get_or-set_same, get_or-set_other, get_or-rep
 use Rattle.std.proofs.Math.Seq.{take-append_seam, drop-append-add}
 use Rattle.std.specs.Prelude.{slice_index_or}
 use Rattle.ffi3_type_rules.specs.declared.Target.{Target}
-use Rattle.ffi3_type_rules.specs.declared.Target.TheVariants.{Amd64, Aapcs64, Riscv}
+use Rattle.ffi3_type_rules.specs.declared.Isa.{Isa}
+use Rattle.ffi3_type_rules.specs.declared.Isa.TheVariants.{Amd64, Aarch64, Riscv}
+use Rattle.ffi3_type_rules.specs.Isa.{isa_of}
 use Rattle.ffi3_machine.specs.State.{State, free_slot, begun_code, with_code}
 use Rattle.ffi3_run_rules.specs.declared.Closure.{Closure}
 use Rattle.ffi3_run_rules.specs.Closures.{Closures, with_closure, no_closures}
 use Rattle.ffi3_closures.proofs.Written.{length-written, range-written, above-written, below-written}
 use Rattle.ffi3_closures.specs.Slots.{trampoline, slot_head, slot_tail, slot_content, live_slot, HoldsMap}
 
-pub length-free_slot : (target : Target) → length (free_slot target) ≡ 64
+pub length-free_slot : (isa : Isa) → length (free_slot isa) ≡ 64
 unfolding free_slot
 length-free_slot Amd64 = refl
-length-free_slot Aapcs64 = refl
+length-free_slot Aarch64 = refl
 length-free_slot Riscv = refl
 
-pub length-live_slot : (target : Target) (c : Closure) → length (live_slot target c) ≡ 64
+pub length-live_slot : (isa : Isa) (c : Closure) → length (live_slot isa c) ≡ 64
 unfolding trampoline slot_head slot_tail
 length-live_slot Amd64 c = refl
-length-live_slot Aapcs64 c = refl
+length-live_slot Aarch64 c = refl
 length-live_slot Riscv c = refl
 
-length-slot_content : (target : Target) (entry : Option Closure) → length (slot_content target entry) ≡ 64
-length-slot_content target None = length-free_slot target
-length-slot_content target (Some c) = length-live_slot target c
+length-slot_content : (isa : Isa) (entry : Option Closure) → length (slot_content isa entry) ≡ 64
+length-slot_content isa None = length-free_slot isa
+length-slot_content isa (Some c) = length-live_slot isa c
 
 cases_ne : (j k : ℕ) → (j ≡ k) ⊎ (j ≢ k)
 cases_ne j k = elim (cases_lt j k) [
@@ -39,42 +41,42 @@ cases_ne j k = elim (cases_lt j k) [
 ]
 
 -- the slot that was written has its bytes
-holds-here : (target : Target) (closures : Closures) (code : List ℕ) (k : ℕ) (entry : Option Closure) → length closures ≡ 256 → k < 256 → HoldsMap target closures code → take 64 (drop (64 * k) (replace_range code (64 * k) (64 * k + length (slot_content target entry)) (slot_content target entry))) ≡ slot_content target (slice_index_or (with_closure closures k entry) k None)
+holds-here : (target : Target) (closures : Closures) (code : List ℕ) (k : ℕ) (entry : Option Closure) → length closures ≡ 256 → k < 256 → HoldsMap target closures code → take 64 (drop (64 * k) (replace_range code (64 * k) (64 * k + length (slot_content (isa_of target) entry)) (slot_content (isa_of target) entry))) ≡ slot_content (isa_of target) (slice_index_or (with_closure closures k entry) k None)
 holds-here target closures code k entry count h holds =
-    let long : length (slot_content target entry) ≡ 64 = length-slot_content target entry in
-    let fits : 64 * k + length (slot_content target entry) ≤ length code = omega (arith, holds.region) in
-    let is = range-written code (slot_content target entry) (64 * k) fits in
-    let P : ℕ → Type 0 = λ n. take n (drop (64 * k) (replace_range code (64 * k) (64 * k + length (slot_content target entry)) (slot_content target entry))) ≡ slot_content target entry in
-    subst P long is ∙ ap (slot_content target) (sym (get_or-set_same closures k entry None (omega arith)))
+    let long : length (slot_content (isa_of target) entry) ≡ 64 = length-slot_content (isa_of target) entry in
+    let fits : 64 * k + length (slot_content (isa_of target) entry) ≤ length code = omega (arith, holds.region) in
+    let is = range-written code (slot_content (isa_of target) entry) (64 * k) fits in
+    let P : ℕ → Type 0 = λ n. take n (drop (64 * k) (replace_range code (64 * k) (64 * k + length (slot_content (isa_of target) entry)) (slot_content (isa_of target) entry))) ≡ slot_content (isa_of target) entry in
+    subst P long is ∙ ap (slot_content (isa_of target)) (sym (get_or-set_same closures k entry None (omega arith)))
 
 -- another slot has its bytes still
-holds-there : (target : Target) (closures : Closures) (code : List ℕ) (k j : ℕ) (entry : Option Closure) → k < 256 → j < 256 → j ≢ k → HoldsMap target closures code → take 64 (drop (64 * j) (replace_range code (64 * k) (64 * k + length (slot_content target entry)) (slot_content target entry))) ≡ slot_content target (slice_index_or (with_closure closures k entry) j None)
+holds-there : (target : Target) (closures : Closures) (code : List ℕ) (k j : ℕ) (entry : Option Closure) → k < 256 → j < 256 → j ≢ k → HoldsMap target closures code → take 64 (drop (64 * j) (replace_range code (64 * k) (64 * k + length (slot_content (isa_of target) entry)) (slot_content (isa_of target) entry))) ≡ slot_content (isa_of target) (slice_index_or (with_closure closures k entry) j None)
 holds-there target closures code k j entry h below other holds =
-    let long : length (slot_content target entry) ≡ 64 = length-slot_content target entry in
-    let fits : 64 * k + length (slot_content target entry) ≤ length code = omega (arith, holds.region) in
-    let stays : take 64 (drop (64 * j) (replace_range code (64 * k) (64 * k + length (slot_content target entry)) (slot_content target entry))) ≡ take 64 (drop (64 * j) code) =
+    let long : length (slot_content (isa_of target) entry) ≡ 64 = length-slot_content (isa_of target) entry in
+    let fits : 64 * k + length (slot_content (isa_of target) entry) ≤ length code = omega (arith, holds.region) in
+    let stays : take 64 (drop (64 * j) (replace_range code (64 * k) (64 * k + length (slot_content (isa_of target) entry)) (slot_content (isa_of target) entry))) ≡ take 64 (drop (64 * j) code) =
     elim (cases_lt j k) [
-      | inl less ↦ below-written code (slot_content target entry) (64 * k) 64 (64 * j) fits (omega arith)
-      | inr more ↦ above-written code (slot_content target entry) (64 * k) 64 (64 * j) fits (omega arith)
+      | inl less ↦ below-written code (slot_content (isa_of target) entry) (64 * k) 64 (64 * j) fits (omega arith)
+      | inr more ↦ above-written code (slot_content (isa_of target) entry) (64 * k) 64 (64 * j) fits (omega arith)
     ] in
-    stays ∙ holds.slot j below ∙ ap (slot_content target) (sym (get_or-set_other closures k j entry None other))
+    stays ∙ holds.slot j below ∙ ap (slot_content (isa_of target)) (sym (get_or-set_other closures k j entry None other))
 
 -- slot k was written
-pub holds-written : (target : Target) (closures : Closures) (code : List ℕ) (k : ℕ) (entry : Option Closure) → length closures ≡ 256 → k < 256 → HoldsMap target closures code → HoldsMap target (with_closure closures k entry) (replace_range code (64 * k) (64 * k + length (slot_content target entry)) (slot_content target entry))
+pub holds-written : (target : Target) (closures : Closures) (code : List ℕ) (k : ℕ) (entry : Option Closure) → length closures ≡ 256 → k < 256 → HoldsMap target closures code → HoldsMap target (with_closure closures k entry) (replace_range code (64 * k) (64 * k + length (slot_content (isa_of target) entry)) (slot_content (isa_of target) entry))
 holds-written target closures code k entry count h holds =
-    let long : length (slot_content target entry) ≡ 64 = length-slot_content target entry in
-    let new = replace_range code (64 * k) (64 * k + length (slot_content target entry)) (slot_content target entry) in
+    let long : length (slot_content (isa_of target) entry) ≡ 64 = length-slot_content (isa_of target) entry in
+    let new = replace_range code (64 * k) (64 * k + length (slot_content (isa_of target) entry)) (slot_content (isa_of target) entry) in
     record {
-      region = length-written code (slot_content target entry) (64 * k) (omega (arith, holds.region)) ∙ holds.region;
-      slot = λ j below. elim (cases_ne j k) as (λ _. take 64 (drop (64 * j) new) ≡ slot_content target (slice_index_or (with_closure closures k entry) j None)) [
-        | inl same ↦ let P : ℕ → Type 0 = λ i. take 64 (drop (64 * i) new) ≡ slot_content target (slice_index_or (with_closure closures k entry) i None) in
+      region = length-written code (slot_content (isa_of target) entry) (64 * k) (omega (arith, holds.region)) ∙ holds.region;
+      slot = λ j below. elim (cases_ne j k) as (λ _. take 64 (drop (64 * j) new) ≡ slot_content (isa_of target) (slice_index_or (with_closure closures k entry) j None)) [
+        | inl same ↦ let P : ℕ → Type 0 = λ i. take 64 (drop (64 * i) new) ≡ slot_content (isa_of target) (slice_index_or (with_closure closures k entry) i None) in
             subst P (sym same) (holds-here target closures code k entry count h holds)
         | inr other ↦ holds-there target closures code k j entry h below other holds
       ];
     }
 
 -- the machine after a slot was written
-pub holds-after : (before after : State) (closures : Closures) (k addr : ℕ) (entry : Option Closure) (bytes : List ℕ) → length closures ≡ 256 → k < 256 → addr ≡ 65536 + 64 * k → bytes ≡ slot_content before.target entry → after ≡ with_code addr bytes before → HoldsMap before.target closures before.code → HoldsMap after.target (with_closure closures k entry) after.code
+pub holds-after : (before after : State) (closures : Closures) (k addr : ℕ) (entry : Option Closure) (bytes : List ℕ) → length closures ≡ 256 → k < 256 → addr ≡ 65536 + 64 * k → bytes ≡ slot_content (isa_of before.target) entry → after ≡ with_code addr bytes before → HoldsMap before.target closures before.code → HoldsMap after.target (with_closure closures k entry) after.code
 holds-after before after closures k addr entry bytes count h at is written holds =
     let P : State → Type 0 = λ s. HoldsMap s.target (with_closure closures k entry) s.code in
     let Q : ℕ → Type 0 = λ i. HoldsMap before.target (with_closure closures k entry) (replace_range before.code i (i + length bytes) bytes) in
@@ -97,9 +99,9 @@ length-repeat : (n : ℕ) (xs : List ℕ) → length (repeat n xs) ≡ n * lengt
 length-repeat zero xs = omega arith
 length-repeat (suc n) xs = omega (arith, length-append xs (repeat n xs), length-repeat n xs)
 
-pub holds-begun : (target : Target) → HoldsMap target no_closures (begun_code target)
+pub holds-begun : (target : Target) → HoldsMap target no_closures (begun_code (isa_of target))
 unfolding begun_code
 holds-begun target = record {
-  region = length-repeat 256 (free_slot target) ∙ ap (λ n. 256 * n) (length-free_slot target);
-  slot = λ k below. piece 256 k 64 (free_slot target) (length-free_slot target) below ∙ ap (slot_content target) (sym (get_or-replicate {A = Option Closure} 256 k None None below));
+  region = length-repeat 256 (free_slot (isa_of target)) ∙ ap (λ n. 256 * n) (length-free_slot (isa_of target));
+  slot = λ k below. piece 256 k 64 (free_slot (isa_of target)) (length-free_slot (isa_of target)) below ∙ ap (slot_content (isa_of target)) (sym (get_or-replicate {A = Option Closure} 256 k None None below));
 }

@@ -3,4 +3,5 @@ pub mod Written
 pub mod Holding
 pub mod Trampolines
 pub mod Live
+pub mod Steps
 pub mod Counting

@@ -4,11 +4,14 @@ use Rattle.std.specs.Prelude.{option_and_then, nat_le, IsSome}
 use Rattle.std.proofs.lemmas.Bool.{cases_lt}
 use Rattle.std.proofs.lemmas.Bool.Decides.{nat_tests}
 use Rattle.std.proofs.lemmas.List.{get_or_past}
+use Rattle.ffi3_type_rules.specs.Isa.{isa_of}
 use Rattle.ffi3_machine.specs.State.{State, IsMachine}
 use Rattle.ffi3_run_rules.specs.declared.Closure.{Closure}
 use Rattle.ffi3_run_rules.specs.Closures.{Closures, closure_at}
 use Rattle.ffi3_closures.specs.Slots.{HoldsMap, slot_content}
-use Rattle.ffi3_closures.proofs.Trampolines.{ThreeSteps, reaches}
+use Rattle.ffi3_machine.specs.Step.{TakesSteps}
+use Rattle.ffi3_closures.specs.Reaching.{reached}
+use Rattle.ffi3_closures.proofs.Trampolines.{reaches}
 
 record IsLiveAt (closures : Closures) (ptr : ℕ) : Type 0 where
   closure : Closure
@@ -43,7 +46,7 @@ is_live : (closures : Closures) (ptr : ℕ) → length closures ≡ 256 → IsSo
 is_live closures ptr count live = live_if closures ptr (nat_le 65536 ptr && (ptr - 65536) % 64 == 0) count refl live
 
 -- from the live slot at pc
-pub three_steps : (closures : Closures) (s : State) → length closures ≡ 256 → IsMachine s → HoldsMap s.target closures s.code → IsSome (closure_at closures s.pc) → ThreeSteps s
+pub three_steps : (closures : Closures) (s : State) → length closures ≡ 256 → IsMachine s → HoldsMap s.target closures s.code → IsSome (closure_at closures s.pc) → TakesSteps 3 s (reached s)
 three_steps closures s count machine holds live =
     let l = is_live closures s.pc count live in
-    reaches s l.closure l.number machine.general l.below l.at (holds.slot l.number l.below ∙ ap (slot_content s.target) l.is)
+    reaches s l.closure l.number machine.general l.below l.at (holds.slot l.number l.below ∙ ap (slot_content (isa_of s.target)) l.is)

@@ -1,5 +1,5 @@
--- The three steps of each target's trampoline.
-use Rattle.std.proofs.Common.{◌≡◌, ◌≢◌, ℕ, ◌+◌, ◌-◌, ◌*◌, ◌%◌, ◌^◌, ◌<◌, ◌≤◌, Bool, true, false, if◌then◌else◌, List, ◌++◌, length, take, drop, get_or, set, refl, sym, ap, ◌∙◌, arith, lit<, length-set, append_assoc, Option, Some}
+-- The three steps of each instruction set's trampoline.
+use Rattle.std.proofs.Common.{◌≡◌, ◌≢◌, ℕ, ◌+◌, ◌-◌, ◌*◌, ◌%◌, ◌^◌, ◌<◌, ◌≤◌, Bool, true, false, if◌then◌else◌, List, ◌++◌, length, take, drop, get_or, set, refl, sym, ap, ◌∙◌, subst, arith, lit<, length-set, append_assoc, Option, Some}
 use Rattle.std.proofs.Math.Nat.{mod-eq_of_lt, add-mod_right}
 use Rattle.std.proofs.lemmas.Bool.Decides.{nat_tests}
 use Rattle.std.proofs.lemmas.List.{drop-drop, get_or-set_same, get_or-set_other, set_comm, take-append-drop}
@@ -11,19 +11,21 @@ use Rattle.ffi3_isa.specs.Aarch64.{ldr_literal, adr, br}
 use Rattle.ffi3_isa.specs.Riscv.{auipc, ld, jalr}
 use Rattle.ffi3_memory.specs.Memory.{number_of}
 use Rattle.ffi3_type_rules.specs.declared.Target.{Target}
-use Rattle.ffi3_type_rules.specs.declared.Target.TheVariants.{Amd64, Aapcs64, Riscv}
+use Rattle.ffi3_type_rules.specs.declared.Isa.{Isa}
+use Rattle.ffi3_type_rules.specs.declared.Isa.TheVariants.{Amd64, Aarch64, Riscv}
+use Rattle.ffi3_type_rules.specs.Isa.{isa_of}
 use Rattle.ffi3_machine.specs.State.{State}
-use Rattle.ffi3_machine.specs.Step.{Steps, has_eight, loaded, moved, goes_to, sets, even}
+use Rattle.ffi3_machine.specs.Step.{StepsBy, Steps, TakesSteps, has_eight, loaded, moved, goes_to, sets, even}
 use Rattle.ffi3_run_rules.specs.declared.Closure.{Closure}
 use Rattle.ffi3_closures.specs.Slots.{trampoline, slot_head, slot_tail, live_slot}
-use Rattle.ffi3_closures.specs.Reaching.{reached}
+use Rattle.ffi3_closures.specs.Reaching.{reached, reached_by}
 
-pub record ThreeSteps (s : State) : Type 0 where
-  pub first : State
-  pub second : State
-  pub one : Steps s first
-  pub two : Steps first second
-  pub three : Steps second (reached s)
+record ThreeSteps (isa : Isa) (s : State) : Type 0 where
+  first : State
+  second : State
+  one : StepsBy isa s first
+  two : StepsBy isa first second
+  three : StepsBy isa second (reached_by isa s)
 
 -- ---- addresses
 
@@ -60,18 +62,18 @@ load : (s : State) (bytes : List ℕ) (k n addr : ℕ) → k < 256 → n ≤ 56 
 load s bytes k n addr h g at is =
     second_of (has_eight 2147352576 2147418112 addr) (has_eight 65536 81920 addr) _ _ _ (has_eight-no 2147352576 2147418112 addr (omega arith)) (has_eight-yes 65536 81920 addr (omega arith) (omega arith)) ∙ ap (λ b. Some (number_of 8 (take 8 b))) (from s.code bytes k n addr at is)
 
--- ---- each target
+-- ---- each instruction set
 
-amd64-reaches : (s : State) (k : ℕ) (tail : List ℕ) → k < 256 → s.pc ≡ 65536 + 64 * k → drop (64 * k) s.code ≡ slot_head Amd64 ++ tail → ThreeSteps (record s { target = Amd64 })
+amd64-reaches : (s : State) (k : ℕ) (tail : List ℕ) → k < 256 → s.pc ≡ 65536 + 64 * k → drop (64 * k) s.code ≡ slot_head Amd64 ++ tail → ThreeSteps Amd64 s
 unfolding trampoline slot_head
 amd64-reaches s k tail h at is =
     let next_2 : (s.pc + 4 + 7) % 2 ^ 64 ≡ s.pc + 11 = plain (s.pc + 4) 7 (s.pc + 11) (omega arith) (omega arith) in
     let to : moved ((s.pc + 4 + 7) % 2 ^ 64) (disp32 0xF5 0xFF 0xFF 0xFF) ≡ s.pc = ap (λ a. moved a (disp32 0xF5 0xFF 0xFF 0xFF)) next_2 ∙ wraps (s.pc + 11) 18446744073709551605 s.pc (omega arith) (omega arith) in
     let next_3 : (s.pc + 11 + 6) % 2 ^ 64 ≡ s.pc + 17 = plain (s.pc + 11) 6 (s.pc + 17) (omega arith) (omega arith) in
     let entry : moved ((s.pc + 11 + 6) % 2 ^ 64) (disp32 7 0 0 0) ≡ s.pc + 24 = ap (λ a. moved a (disp32 7 0 0 0)) next_3 ∙ plain (s.pc + 17) 7 (s.pc + 24) (omega arith) (omega arith) in
-    let s_2 : State = record s { target = Amd64; general = slice_set s.general 10 s.pc; pc = s.pc + 11 } in
+    let s_2 : State = record s { general = slice_set s.general 10 s.pc; pc = s.pc + 11 } in
     record {
-      first = record s { target = Amd64; pc = s.pc + 4 };
+      first = record s { pc = s.pc + 4 };
       second = s_2;
       one = record {
         instr = Endbr;
@@ -103,19 +105,18 @@ amd64-reaches s k tail h at is =
       };
     }
 
-aapcs64-reaches : (s : State) (k : ℕ) (tail : List ℕ) → length s.general ≡ 32 → k < 256 → s.pc ≡ 65536 + 64 * k → drop (64 * k) s.code ≡ slot_head Aapcs64 ++ tail → ThreeSteps (record s { target = Aapcs64 })
+aarch64-reaches : (s : State) (k : ℕ) (tail : List ℕ) → length s.general ≡ 32 → k < 256 → s.pc ≡ 65536 + 64 * k → drop (64 * k) s.code ≡ slot_head Aarch64 ++ tail → ThreeSteps Aarch64 s
 unfolding trampoline slot_head
-aapcs64-reaches s k tail count h at is =
+aarch64-reaches s k tail count h at is =
     let entry : moved s.pc (sign_extend 21 16) ≡ s.pc + 16 = plain s.pc 16 (s.pc + 16) refl (omega arith) in
     let next_1 : (s.pc + 4) % 2 ^ 64 ≡ s.pc + 4 = plain s.pc 4 (s.pc + 4) refl (omega arith) in
     let next_2 : (s.pc + 4 + 4) % 2 ^ 64 ≡ s.pc + 8 = plain (s.pc + 4) 4 (s.pc + 8) (omega arith) (omega arith) in
     let to : moved (s.pc + 4) (sign_extend 21 2097148) ≡ s.pc = wraps (s.pc + 4) 18446744073709551612 s.pc (omega arith) (omega arith) in
-    let s_0 : State = record s { target = Aapcs64 } in
     let other = differ 16 17 (lit< tt) in
     let held : get_or (set (set s.general 16 4096) 17 s.pc) 16 0 ≡ 4096 = get_or-set_other (set s.general 16 4096) 17 16 s.pc 0 other ∙ get_or-set_same s.general 16 4096 0 (omega arith) in
     record {
-      first = record s { target = Aapcs64; general = slice_set s.general 16 4096; pc = s.pc + 4 };
-      second = record s { target = Aapcs64; general = slice_set (slice_set s.general 16 4096) 17 s.pc; pc = s.pc + 8 };
+      first = record s { general = slice_set s.general 16 4096; pc = s.pc + 4 };
+      second = record s { general = slice_set (slice_set s.general 16 4096) 17 s.pc; pc = s.pc + 8 };
       one = record {
         instr = LdrLit 16 (sign_extend 21 16);
         size = 4;
@@ -125,12 +126,12 @@ aapcs64-reaches s k tail count h at is =
           aligned = omega arith;
           listed = record {
             word = 0x58000090;
-            begins = ap first_word (from s.code (slot_head Aapcs64 ++ tail) k 0 s.pc (omega arith) is);
+            begins = ap first_word (from s.code (slot_head Aarch64 ++ tail) k 0 s.pc (omega arith) is);
             means = ldr_literal {imm19 = 4} {t = 16} (lit< tt) (lit< tt) refl;
             is_size = refl;
           };
         };
-        does = ap (λ a. option_map (sets 16 ((s.pc + 4) % 2 ^ 64)) (loaded a s_0)) entry ∙ ap (option_map (sets 16 ((s.pc + 4) % 2 ^ 64))) (load s_0 (slot_head Aapcs64 ++ tail) k 16 (s.pc + 16) h (omega arith) (omega arith) is) ∙ ap (λ a. Some (sets 16 a 4096)) next_1;
+        does = ap (λ a. option_map (sets 16 ((s.pc + 4) % 2 ^ 64)) (loaded a s)) entry ∙ ap (option_map (sets 16 ((s.pc + 4) % 2 ^ 64))) (load s (slot_head Aarch64 ++ tail) k 16 (s.pc + 16) h (omega arith) (omega arith) is) ∙ ap (λ a. Some (sets 16 a 4096)) next_1;
         is_after = refl;
       };
       two = record {
@@ -142,7 +143,7 @@ aapcs64-reaches s k tail count h at is =
           aligned = omega arith;
           listed = record {
             word = 0x10FFFFF1;
-            begins = ap first_word (from s.code (slot_head Aapcs64 ++ tail) k 4 (s.pc + 4) (omega arith) is);
+            begins = ap first_word (from s.code (slot_head Aarch64 ++ tail) k 4 (s.pc + 4) (omega arith) is);
             means = adr {immlo = 0} {immhi = 524287} {rd = 17} (lit< tt) (lit< tt) (lit< tt) refl;
             is_size = refl;
           };
@@ -159,7 +160,7 @@ aapcs64-reaches s k tail count h at is =
           aligned = omega arith;
           listed = record {
             word = 0xD61F0200;
-            begins = ap first_word (from s.code (slot_head Aapcs64 ++ tail) k 8 (s.pc + 8) (omega arith) is);
+            begins = ap first_word (from s.code (slot_head Aarch64 ++ tail) k 8 (s.pc + 8) (omega arith) is);
             means = br {n = 16} (lit< tt) refl;
             is_size = refl;
           };
@@ -169,7 +170,7 @@ aapcs64-reaches s k tail count h at is =
       };
     }
 
-riscv-reaches : (s : State) (k : ℕ) (tail : List ℕ) → length s.general ≡ 32 → k < 256 → s.pc ≡ 65536 + 64 * k → drop (64 * k) s.code ≡ slot_head Riscv ++ tail → ThreeSteps (record s { target = Riscv })
+riscv-reaches : (s : State) (k : ℕ) (tail : List ℕ) → length s.general ≡ 32 → k < 256 → s.pc ≡ 65536 + 64 * k → drop (64 * k) s.code ≡ slot_head Riscv ++ tail → ThreeSteps Riscv s
 unfolding trampoline slot_head
 riscv-reaches s k tail count h at is =
     let next_1 : (s.pc + 4) % 2 ^ 64 ≡ s.pc + 4 = plain s.pc 4 (s.pc + 4) refl (omega arith) in
@@ -177,7 +178,7 @@ riscv-reaches s k tail count h at is =
     let next_2 : (s.pc + 4 + 4) % 2 ^ 64 ≡ s.pc + 8 = plain (s.pc + 4) 4 (s.pc + 8) (omega arith) (omega arith) in
     let own : get_or (set s.general 6 s.pc) 6 0 ≡ s.pc = get_or-set_same s.general 6 s.pc 0 (omega arith) in
     let entry : moved (get_or (set s.general 6 s.pc) 6 0) (sign_extend 12 16) ≡ s.pc + 16 = ap (λ a. moved a (sign_extend 12 16)) own ∙ plain s.pc 16 (s.pc + 16) refl (omega arith) in
-    let s_1 : State = record s { target = Riscv; general = slice_set s.general 6 s.pc; pc = s.pc + 4 } in
+    let s_1 : State = record s { general = slice_set s.general 6 s.pc; pc = s.pc + 4 } in
     let count_1 : length (set s.general 6 s.pc) ≡ 32 = length-set s.general 6 s.pc ∙ count in
     let held : get_or (set (set s.general 6 s.pc) 7 4096) 7 0 ≡ 4096 = get_or-set_same (set s.general 6 s.pc) 7 4096 0 (omega arith) in
     let to : even (moved (get_or (set (set s.general 6 s.pc) 7 4096) 7 0) (sign_extend 12 0)) ≡ 4096 = ap (λ a. even (moved a (sign_extend 12 0))) held in
@@ -185,7 +186,7 @@ riscv-reaches s k tail count h at is =
     let swapped : set (set s.general 7 4096) 6 s.pc ≡ set (set s.general 6 s.pc) 7 4096 = sym (set_comm s.general 6 7 s.pc 4096 other) in
     record {
       first = s_1;
-      second = record s { target = Riscv; general = slice_set (slice_set s.general 6 s.pc) 7 4096; pc = s.pc + 8 };
+      second = record s { general = slice_set (slice_set s.general 6 s.pc) 7 4096; pc = s.pc + 8 };
       one = record {
         instr = Auipc 6 (sign_extend 32 0);
         size = 4;
@@ -235,17 +236,27 @@ riscv-reaches s k tail count h at is =
           };
         };
         does = ap (λ a. Some (sets 0 a ((s.pc + 8 + 4) % 2 ^ 64))) to;
-        is_after = ap (λ g. let t : State = record s { target = Riscv; general = g; pc = 4096 } in t) swapped;
+        is_after = ap (λ g. let t : State = record s { general = g; pc = 4096 } in t) swapped;
       };
     }
 
-reaches-at : (t : Target) (s : State) (k : ℕ) (tail : List ℕ) → length s.general ≡ 32 → k < 256 → s.pc ≡ 65536 + 64 * k → drop (64 * k) s.code ≡ slot_head t ++ tail → ThreeSteps (record s { target = t })
+reaches-at : (isa : Isa) (s : State) (k : ℕ) (tail : List ℕ) → length s.general ≡ 32 → k < 256 → s.pc ≡ 65536 + 64 * k → drop (64 * k) s.code ≡ slot_head isa ++ tail → ThreeSteps isa s
 reaches-at Amd64 s k tail count h at is = amd64-reaches s k tail h at is
-reaches-at Aapcs64 s k tail count h at is = aapcs64-reaches s k tail count h at is
+reaches-at Aarch64 s k tail count h at is = aarch64-reaches s k tail count h at is
 reaches-at Riscv s k tail count h at is = riscv-reaches s k tail count h at is
 
+-- ---- the machine's own
+
+in_turn : (s : State) → ThreeSteps (isa_of s.target) s → TakesSteps 3 s (reached s)
+in_turn s w =
+    let same : w.first.target ≡ s.target = ap (λ (x : State). x.target) w.one.is_after in
+    let still : w.second.target ≡ s.target = ap (λ (x : State). x.target) w.two.is_after ∙ same in
+    let two : Steps w.first w.second = subst (λ (t : Target). StepsBy (isa_of t) w.first w.second) (sym same) w.two in
+    let three : Steps w.second (reached s) = subst (λ (t : Target). StepsBy (isa_of t) w.second (reached s)) (sym still) w.three in
+    (w.first, w.one, (w.second, two, (reached s, three, refl)))
+
 -- from a live slot
-pub reaches : (s : State) (c : Closure) (k : ℕ) → length s.general ≡ 32 → k < 256 → s.pc ≡ 65536 + 64 * k → take 64 (drop (64 * k) s.code) ≡ live_slot s.target c → ThreeSteps s
+pub reaches : (s : State) (c : Closure) (k : ℕ) → length s.general ≡ 32 → k < 256 → s.pc ≡ 65536 + 64 * k → take 64 (drop (64 * k) s.code) ≡ live_slot (isa_of s.target) c → TakesSteps 3 s (reached s)
 reaches s c k count h at is =
-    let whole : drop (64 * k) s.code ≡ slot_head s.target ++ (slot_tail c ++ drop 64 (drop (64 * k) s.code)) = sym (take-append-drop 64 (drop (64 * k) s.code)) ∙ ap (λ b. b ++ drop 64 (drop (64 * k) s.code)) is ∙ append_assoc (slot_head s.target) (slot_tail c) (drop 64 (drop (64 * k) s.code)) in
-    reaches-at s.target s k (slot_tail c ++ drop 64 (drop (64 * k) s.code)) count h at whole
+    let whole : drop (64 * k) s.code ≡ slot_head (isa_of s.target) ++ (slot_tail c ++ drop 64 (drop (64 * k) s.code)) = sym (take-append-drop 64 (drop (64 * k) s.code)) ∙ ap (λ b. b ++ drop 64 (drop (64 * k) s.code)) is ∙ append_assoc (slot_head (isa_of s.target)) (slot_tail c) (drop 64 (drop (64 * k) s.code)) in
+    in_turn s (reaches-at (isa_of s.target) s k (slot_tail c ++ drop 64 (drop (64 * k) s.code)) count h at whole)

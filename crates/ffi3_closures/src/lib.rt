@@ -15,15 +15,19 @@ ghost use Rattle.ffi3_run_rules.specs.Closures.{
   with_closure,
 };
 ghost use Rattle.ffi3_type_rules.specs.declared.Target.{Target};
+ghost use Rattle.ffi3_type_rules.specs.Isa.{isa_of};
 ghost use Rattle.ffi3_machine.specs.State.{IsSlot, begun_code, free_slot, with_code};
+ghost use Rattle.ffi3_machine.specs.Step.{TakesSteps};
 ghost use Rattle.ffi3_closures.specs.Reaching.{reached};
 ghost use Rattle.ffi3_closures.specs.Slots.{HoldsMap, live_count, live_slot, slot_head};
 
 #[cfg(test)]
 mod tests;
 
-use ffi3_machine::{CODE, Machine, Target};
+use arrayvec::ArrayVec;
+use ffi3_machine::{CODE, Machine};
 pub use ffi3_run_rules::Closure;
+use ffi3_type_rules::Isa;
 use std::marker::Model;
 
 /// 256 closures are live.
@@ -33,7 +37,7 @@ pub struct TableFull;
 /// The live closures, each at its slot.
 #[derive(Drop)]
 pub struct Table {
-    slots: [Option<Closure>; 256],
+    slots: ArrayVec<Option<Closure>, 256>,
 }
 
 impl Model for Table {
@@ -42,18 +46,20 @@ impl Model for Table {
 
     ghost Value = { Closures };
 
-    ghost view = { λ t. t.slots };
+    ghost view = { λ t. t.slots.items };
 
-    ghost invariant = { λ t. length t.slots ≡ 256 };
+    ghost invariant = { λ t. length t.slots.items ≡ 256 };
 }
 
 impl Table {
     /// No slot is live, as in a machine that begins.
     pub fn new() -> Table
         ensures value { result ≡ no_closures }
-        ensures begins { (target : Target) → HoldsMap target result (begun_code target) }
+        ensures begins { (target : Target) → HoldsMap target result (begun_code (isa_of target)) }
     {
-        Table { slots: [None; 256] }
+        Table {
+            slots: ArrayVec::from([None; 256]),
+        }
     }
 
     // The lowest slot that is free, or 256.
@@ -67,6 +73,14 @@ impl Table {
             }
         }
         256
+    }
+
+    // Writes the entry of a slot.
+    fn put(&mut self, k: usize, entry: Option<Closure>)
+        requires { k < 256 }
+        ensures { self.new ≡ with_closure self.old k entry }
+    {
+        self.slots[k] = entry;
     }
 
     /// Makes a closure of a function and its signature, by their numbers, and user data. It takes the lowest free
@@ -83,7 +97,7 @@ impl Table {
         ensures not_all_live { OnOk result (live_count self.old < slots) }
         ensures address { IfOk result (λ addr. addr ≡ slot_address (first_free self.old)) }
         ensures made { OnOk result (self.new ≡ with_closure self.old (first_free self.old) (Some (record { func = func; sig = sig; user = user }))) }
-        ensures written { OnOk result (machine.new ≡ with_code (slot_address (first_free self.old)) (live_slot machine.old.target (record { func = func; sig = sig; user = user })) machine.old) }
+        ensures written { OnOk result (machine.new ≡ with_code (slot_address (first_free self.old)) (live_slot (isa_of machine.old.target) (record { func = func; sig = sig; user = user })) machine.old) }
         ensures full { OnErr result (first_free self.old ≡ slots) }
         ensures all_live { OnErr result (live_count self.old ≡ slots) }
         ensures same_map { OnErr result (self.new ≡ self.old) }
@@ -97,8 +111,8 @@ impl Table {
         }
         let closure = Closure { func, sig, user };
         let addr = CODE + 64 * k as u64;
-        machine.write_code(addr, &live_slot(machine.target(), closure));
-        self.slots[k] = Some(closure);
+        machine.write_code(addr, &live_slot(machine.target().isa(), closure));
+        self.put(k, Some(closure));
         Ok(addr)
     }
 
@@ -108,7 +122,7 @@ impl Table {
         requires { HoldsMap machine.old.target self.old machine.old.code }
         ensures value { result ≡ closure_at self.old addr }
         ensures freed { OnSome result (self.new ≡ freed self.old addr) }
-        ensures written { OnSome result (machine.new ≡ with_code addr (free_slot machine.old.target) machine.old) }
+        ensures written { OnSome result (machine.new ≡ with_code addr (free_slot (isa_of machine.old.target)) machine.old) }
         ensures same_map { result ≡ None → self.new ≡ self.old }
         ensures same_machine { result ≡ None → machine.new ≡ machine.old }
         ensures holds { HoldsMap machine.new.target self.new machine.new.code }
@@ -119,8 +133,8 @@ impl Table {
             return None;
         }
         let closure = slots[k]?;
-        machine.write_code(addr, &free_slot(machine.target()));
-        self.slots[k] = None;
+        machine.write_code(addr, &free_slot(machine.target().isa()));
+        self.put(k, None);
         Some(closure)
     }
 
@@ -134,16 +148,19 @@ impl Table {
     }
 
     /// Runs the trampoline of the live slot at pc: three steps, of which none traps. Then pc is ENTRY and the closure
-    /// register has the slot's address. Of the rest only x16 changes on AAPCS64, and t2 on RISC-V.
+    /// register has the slot's address. Of the rest only x16 changes on AArch64, and t2 on RISC-V.
     pub fn run_trampoline(&self, machine: &mut Machine)
         requires holds { HoldsMap machine.old.target self.now machine.old.code }
         requires live { IsSome (closure_at self.now machine.old.pc) }
-        ensures { machine.new ≡ reached machine.old }
+        ensures reached { machine.new ≡ reached machine.old }
+        ensures steps { TakesSteps 3 machine.old machine.new }
     {
         let _slots = &self.slots;
-        let _first = machine.step();
-        let _second = machine.step();
-        let _third = machine.step();
+        // its contract tells what is true of every machine
+        let _sp = machine.sp();
+        for _k in 0..3u8 {
+            let _step = machine.step();
+        }
     }
 }
 
@@ -161,19 +178,19 @@ fn slot_number(addr: u64) -> Option<usize>
 
 // The first 32 bytes of a live slot.
 #[tactic(auto, unfolding(crate::specs::Slots::slot_head, crate::specs::Slots::trampoline))]
-fn slot_head(target: Target) -> [u8; 32]
-    ensures { result ≡ slot_head target }
+fn slot_head(isa: Isa) -> [u8; 32]
+    ensures { result ≡ slot_head isa }
 {
-    match target {
-        Target::Amd64 => [
+    match isa {
+        Isa::Amd64 => [
             0xF3, 0x0F, 0x1E, 0xFA, 0x4C, 0x8D, 0x15, 0xF5, 0xFF, 0xFF, 0xFF, 0xFF, 0x25, 0x07, 0,
             0, 0, 0x0F, 0x1F, 0x80, 0, 0, 0, 0, 0, 0x10, 0, 0, 0, 0, 0, 0,
         ],
-        Target::Aapcs64 => [
+        Isa::Aarch64 => [
             0x90, 0, 0, 0x58, 0xF1, 0xFF, 0xFF, 0x10, 0, 0x02, 0x1F, 0xD6, 0, 0, 0, 0, 0, 0x10, 0,
             0, 0, 0, 0, 0, 0, 0, 0, 0, 0, 0, 0, 0,
         ],
-        Target::Riscv => [
+        Isa::Riscv => [
             0x17, 0x03, 0, 0, 0x83, 0x33, 0x03, 0x01, 0x67, 0x80, 0x03, 0, 0x13, 0, 0, 0, 0, 0x10,
             0, 0, 0, 0, 0, 0, 0, 0, 0, 0, 0, 0, 0, 0,
         ],
@@ -181,11 +198,11 @@ fn slot_head(target: Target) -> [u8; 32]
 }
 
 // The bytes of a live slot.
-fn live_slot(target: Target, closure: Closure) -> [u8; 64]
-    ensures { result ≡ live_slot target closure }
+fn live_slot(isa: Isa, closure: Closure) -> [u8; 64]
+    ensures { result ≡ live_slot isa closure }
 {
     let mut bytes = [0u8; 64];
-    bytes[..32].copy_from_slice(&slot_head(target));
+    bytes[..32].copy_from_slice(&slot_head(isa));
     put_word(&mut bytes, 32, u64::from(closure.func));
     put_word(&mut bytes, 40, u64::from(closure.sig));
     put_word(&mut bytes, 48, closure.user);
@@ -202,13 +219,13 @@ fn put_word(bytes: &mut [u8; 64], at: usize, word: u64)
 
 // The bytes of a free slot.
 #[tactic(auto, unfolding(ffi3_machine::specs::State::free_slot))]
-fn free_slot(target: Target) -> [u8; 64]
-    ensures { result ≡ free_slot target }
+fn free_slot(isa: Isa) -> [u8; 64]
+    ensures { result ≡ free_slot isa }
 {
-    let word = match target {
-        Target::Amd64 => [0xCC, 0xCC, 0xCC, 0xCC],
-        Target::Aapcs64 => [0x00, 0x00, 0x20, 0xD4],
-        Target::Riscv => [0x73, 0x00, 0x10, 0x00],
+    let word = match isa {
+        Isa::Amd64 => [0xCC, 0xCC, 0xCC, 0xCC],
+        Isa::Aarch64 => [0x00, 0x00, 0x20, 0xD4],
+        Isa::Riscv => [0x73, 0x00, 0x10, 0x00],
     };
     let [a, b, c, d] = word;
     [

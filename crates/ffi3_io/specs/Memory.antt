@@ -1,5 +1,6 @@
 -- Sources and sinks in memory, as their callers see them.
-use Rattle.std.specs.Prelude.{ℕ, ◌+◌, List, ◌++◌, length, Option, None, Some, if◌then◌else◌, nat_le}
+use Rattle.std.specs.Prelude.{◌≡◌, ℕ, ◌+◌, List, ◌++◌, length, take, drop, Contains, Option, None, Some, if◌then◌else◌, nat_le}
+use Rattle.ffi3_io.specs.Count.{next_count}
 
 -- the bytes left, the calls that fail, the number of the last call and the count of faults
 pub record MemSourceState : Type 0 where
@@ -31,3 +32,21 @@ abbrev pub fitting : ℕ → Option (List ℕ) → List ℕ → Option (List ℕ
 fitting room None piece = None
 fitting room (Some all) piece =
     (if nat_le (length all + length piece) room then Some (all ++ piece) else None)
+
+-- one more read was called
+abbrev pub IsNextRead : MemSourceState → MemSourceState → Type 0
+IsNextRead before after =
+    (after.calls ≡ next_count before.calls) × (after.fails ≡ before.fails)
+
+-- a read gives as many of the bytes left as there is room for, and fails where the number of its call is one of those that fail
+abbrev pub MemoryGives : MemSourceState → ℕ → Option (List ℕ) → MemSourceState → Type 0
+MemoryGives before room (Some piece) after =
+    IsNextRead before after × (¬ Contains before.fails after.calls) × (piece ≡ take room before.left) × (after.left ≡ drop room before.left)
+MemoryGives before room None after =
+    IsNextRead before after × Contains before.fails after.calls × (after.left ≡ before.left)
+
+-- the same, and it never fails
+abbrev pub SureGives : SureSourceState → ℕ → Option (List ℕ) → SureSourceState → Type 0
+SureGives before room (Some piece) after =
+    (piece ≡ take room before.left) × (after.left ≡ drop room before.left)
+SureGives before room None after = ⊥

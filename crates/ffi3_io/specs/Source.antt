@@ -1,5 +1,5 @@
 -- What a source gives. Bytes left are `None` where the source does not tell them.
-use Rattle.std.specs.Prelude.{◌≡◌, ℕ, ◌≤◌, ◌↔◌, List, [], ◌++◌, take, drop, length, Option, Some}
+use Rattle.std.specs.Prelude.{◌≡◌, ℕ, ◌+◌, ◌<◌, ◌≤◌, ◌↔◌, List, [], ◌++◌, take, drop, length, Option, Some, None}
 pub use Rattle.ffi3_io.specs.Count.{Rose}
 
 -- what tells before tells after: these bytes stood first, and the others are left
@@ -26,3 +26,36 @@ LosesSome limit before after =
 abbrev pub GivesAfter : ℕ → Option (List ℕ) → List ℕ → List ℕ → Option (List ℕ) → Type 0
 GivesAfter n before old new after =
     (piece : List ℕ) × (length piece ≡ n) × (new ≡ old ++ piece) × Gives before piece after
+
+-- what the reads of a source give: from one state of it, into room for so many bytes, these bytes or a failure, and its state after that. Up to a limit, from the state that it had at first
+module _ {S : Type 0} (gives : S → ℕ → Option (List ℕ) → S → Type 0) (limit : ℕ) (from : S) where
+  -- THE READS SO FAR, each of which took at least one byte, and none of which had room for more than is wanted: all their bytes, and the source after them
+  pub data HasRead : List ℕ → S → Type 0 where
+    not_yet : HasRead [] from
+    one_more : {bytes piece : List ℕ} {s t : S} {room : ℕ} → HasRead bytes s → length bytes + room ≤ limit → gives s room (Some piece) t → 0 < length piece → HasRead (bytes ++ piece) t
+
+  -- WHERE READING ENDS: where as many bytes were taken as the limit, or at a read with room for a byte that gave none
+  pub data HasReadAll : List ℕ → S → Type 0 where
+    at_limit : {bytes : List ℕ} {t : S} → HasRead bytes t → length bytes ≡ limit → HasReadAll bytes t
+    at_end : {bytes : List ℕ} {s t : S} {room : ℕ} → HasRead bytes s → 0 < room → length bytes + room ≤ limit → gives s room (Some []) t → HasReadAll bytes t
+
+  -- WHERE READING FAILS: at a read with room for a byte that failed
+  pub data HasFailed : S → Type 0 where
+    at_fault : {bytes : List ℕ} {s t : S} {room : ℕ} → HasRead bytes s → 0 < room → length bytes + room ≤ limit → gives s room None t → HasFailed t
+
+  -- a read with room for no more than is wanted gave n bytes, put after those read before
+  pub record HasOneMore (before : List ℕ) (n : ℕ) (after : List ℕ) (to : S) : Type 0 where
+    pub room : ℕ
+    pub piece : List ℕ
+    pub some_room : 0 < room
+    pub within : length before + room ≤ limit
+    pub count : length piece ≡ n
+    pub added : after ≡ before ++ piece
+    pub gave : gives from room (Some piece) to
+
+  -- a read with room for no more than is wanted failed
+  pub record FailsNext (before : List ℕ) (to : S) : Type 0 where
+    pub room : ℕ
+    pub some_room : 0 < room
+    pub within : length before + room ≤ limit
+    pub gave : gives from room None to

@@ -1,7 +1,8 @@
 //! Sources and sinks over std's readers and writers: the edge to the world outside.
-ghost use Rattle.std.specs.Prelude.{◌≡◌, ◌<◌, ◌≤◌, [], ℕ, List, Option, None, take, length, IfOk, OnOk, OnErr};
+ghost use Rattle.std.specs.Prelude.{◌≡◌, ◌<◌, ◌≤◌, [], ℕ, List, Option, None, Some, take, length, IfOk, OnOk, OnErr};
 ghost use Rattle.ffi3_io.specs.Count.{next_count};
 ghost use Rattle.std.specs.Io.KnownBytes.{Appends, Consumes, IsAtEnd, Keeps};
+ghost use Rattle.ffi3_io.specs.Adapter.{ReaderGives};
 ghost use Rattle.ffi3_io.specs.Source.{Rose};
 
 use crate::{Failed, Sink, Source};
@@ -38,6 +39,8 @@ impl<R: Read> Source for ReadSource<R> {
 
     ghost faults = { λ s. s.faults };
 
+    ghost read_gives = { λ s room given t. ReaderGives (R.remaining s.inner) room given (R.remaining t.inner) };
+
     /// One read of the reader. Each of its errors is a fault.
     fn read(&mut self, buf: &mut [u8]) -> Result<usize, Failed>
         ensures within { IfOk result (λ n. n ≤ length buf.old) }
@@ -47,6 +50,7 @@ impl<R: Read> Source for ReadSource<R> {
         ensures reads { IfOk result (λ n. Consumes (R.remaining self.old.inner) (R.remaining self.new.inner) (take n buf.new)) }
         ensures ends { IfOk result (λ n. n ≡ 0 → 0 < length buf.old → IsAtEnd (R.remaining self.new.inner)) }
         ensures kept { OnErr result (Keeps (R.remaining self.old.inner) (R.remaining self.new.inner)) }
+        ensures gave { IfOk result (λ n. ReaderGives (R.remaining self.old.inner) (length buf.old) (Some (take n buf.new)) (R.remaining self.new.inner)) }
         ensures counted { OnErr result (self.new.faults ≡ next_count self.old.faults) }
     {
         match self.inner.read(buf) {

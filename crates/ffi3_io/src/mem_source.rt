@@ -1,6 +1,7 @@
 //! A source in memory that fails at chosen calls.
 ghost use Rattle.std.specs.Prelude.{◌≡◌, ◌<◌, ◌≤◌, ◌++◌, [], Some, take, drop, min, length, Contains, IfOk, OnOk, OnErr};
 ghost use Rattle.ffi3_io.specs.Count.{next_count};
+ghost use Rattle.ffi3_io.specs.Memory.{MemoryGives};
 ghost use Rattle.ffi3_io.specs.Source.{Gives, IsEndAtZero, Rose};
 
 use crate::due::is_due;
@@ -52,6 +53,8 @@ impl Source for MemSource {
     ghost left = { λ s. Some s.left };
 
     ghost faults = { λ s. s.faults };
+
+    ghost read_gives = { MemoryGives };
 
     /// Fails exactly where the call's number is one of those that fail. Gives as much as is left and
     /// fits.

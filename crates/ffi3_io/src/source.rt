@@ -1,6 +1,6 @@
 //! Where bytes come from.
-ghost use Rattle.std.specs.Prelude.{◌≡◌, ◌<◌, ◌≤◌, ◌+◌, ◌-◌, List, ℕ, Option, take, length, vec_len, IfOk, IfErr, OnOk, OnErr};
-ghost use Rattle.ffi3_io.specs.Source.{Gives, GivesAfter, GivesFirst, IsEndAtZero, LosesSome, Rose};
+ghost use Rattle.std.specs.Prelude.{◌≡◌, ◌<◌, ◌≤◌, ◌+◌, ◌-◌, List, ℕ, Option, Some, None, ⊤, take, length, vec_len, IfOk, IfErr, OnOk, OnErr};
+ghost use Rattle.ffi3_io.specs.Source.{Gives, GivesAfter, GivesFirst, HasRead, HasReadAll, HasFailed, HasOneMore, FailsNext, IsEndAtZero, LosesSome, Rose};
 
 use crate::Failed;
 use std::alloc::Global;
@@ -12,6 +12,10 @@ pub trait Source {
 
     /// How many reads failed. The count never falls.
     ghost faults: { Self → ℕ };
+
+    /// What a read gives, told or not: from one state of the source, into room for so many bytes,
+    /// these bytes, or none at all where it fails, and the state after that.
+    ghost read_gives: { Self → ℕ → Option (List ℕ) → Self → Type 0 } = { λ _ _ _ _. ⊤ };
 
     /// Puts bytes at the start of a buffer, and says how many. For a buffer that is not empty 0 is
     /// the end.
@@ -25,7 +29,9 @@ pub trait Source {
         ensures same { OnOk result (faults self.new ≡ faults self.old) }
         ensures failed { OnErr result (Rose (faults self.old) (faults self.new)) }
         ensures never_falls { faults self.old ≤ faults self.new }
-        ensures kept { OnErr result (left self.new ≡ left self.old) };
+        ensures kept { OnErr result (left self.new ≡ left self.old) }
+        ensures gave { IfOk result (λ n. read_gives self.old (length buf.old) (Some (take n buf.new)) self.new) }
+        ensures broke { OnErr result (read_gives self.old (length buf.old) None self.new) };
 }
 
 /// Why reading ended before its end.
@@ -37,11 +43,12 @@ pub enum ReadEnd {
     NoMemory,
 }
 
-/// Reads until the end, or until this many bytes were taken. Every read before that takes at least
-/// one byte.
+/// Reads until a read gives nothing, or until this many bytes were taken. Every read before that
+/// takes at least one byte, and none has room for more than is still wanted: so reading ends, also
+/// of a source that does not tell what it has left.
 ///
-/// At `Failed` the count of faults rose, or stands at 2^64 - 1; at `NoMemory` it is as it was. The
-/// bytes taken until then are lost.
+/// At `Failed` a read failed, and the count of faults rose, or stands at 2^64 - 1; at `NoMemory` it
+/// is as it was. The bytes taken until then are lost.
 pub fn read_all<I: Source>(alloc: Global, input: &mut I, limit: usize) -> Result<Vec<u8>, ReadEnd>
     ensures within { IfOk result (λ v. length v.items ≤ limit) }
     ensures first { IfOk result (λ v. GivesFirst limit (I.left input.old) v.items (I.left input.new)) }
@@ -50,6 +57,10 @@ pub fn read_all<I: Source>(alloc: Global, input: &mut I, limit: usize) -> Result
     ensures no_memory { IfErr result (λ e. e ≡ ReadEnd.NoMemory → I.faults input.new ≡ I.faults input.old) }
     ensures never_falls { I.faults input.old ≤ I.faults input.new }
     ensures lost { OnErr result (LosesSome limit (I.left input.old) (I.left input.new)) }
+    ensures read { IfOk result (λ v. HasReadAll I.read_gives limit input.old v.items input.new) }
+    ensures broke { IfErr result (λ e. e ≡ ReadEnd.Failed → HasFailed I.read_gives limit input.old input.new) }
+    ensures until { IfErr result (λ e. e ≡ ReadEnd.NoMemory →
+        (bytes : List ℕ) × HasRead I.read_gives limit input.old bytes input.new) }
 {
     let mut bytes = Vec::new(alloc);
     let mut buf = [0u8; 4096];
@@ -81,11 +92,18 @@ fn read_on<I: Source>(
     ensures no_memory { IfErr result (λ e. e ≡ ReadEnd.NoMemory → I.faults input.new ≡ I.faults input.old) }
     ensures never_falls { I.faults input.old ≤ I.faults input.new }
     ensures lost { OnErr result (LosesSome (limit - vec_len bytes.old) (I.left input.old) (I.left input.new)) }
+    ensures one { IfOk result (λ n. HasOneMore I.read_gives limit input.old bytes.old.items n bytes.new.items input.new) }
+    ensures broke { IfErr result (λ e. e ≡ ReadEnd.Failed → FailsNext I.read_gives limit input.old bytes.old.items input.new) }
+    ensures until { IfErr result (λ e. e ≡ ReadEnd.NoMemory →
+        (n : ℕ) × (0 < n) × (after : List ℕ) × HasOneMore I.read_gives limit input.old bytes.old.items n after input.new) }
 {
     let most = buf.len().min(limit - bytes.len());
     let Ok(n) = input.read(&mut buf[..most]) else {
         return Err(ReadEnd::Failed);
     };
+    if n == 0 {
+        return Ok(0);
+    }
     if bytes.extend_from_slice(&buf[..n]).is_err() {
         return Err(ReadEnd::NoMemory);
     }

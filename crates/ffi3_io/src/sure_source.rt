@@ -1,5 +1,6 @@
 //! A source in memory that never fails.
 ghost use Rattle.std.specs.Prelude.{◌≡◌, ◌<◌, ◌≤◌, ◌++◌, [], Some, take, drop, min, length, IsOk, IfOk, OnOk, OnErr};
+ghost use Rattle.ffi3_io.specs.Memory.{SureGives};
 ghost use Rattle.ffi3_io.specs.Source.{Gives, IsEndAtZero, Rose};
 
 use crate::{Failed, Source};
@@ -36,6 +37,8 @@ impl Source for SureSource {
     ghost left = { λ s. Some s.left };
 
     ghost faults = { λ _. 0 };
+
+    ghost read_gives = { SureGives };
 
     /// Never fails. Gives as much as is left and fits.
     fn read(&mut self, buf: &mut [u8]) -> Result<usize, Failed>

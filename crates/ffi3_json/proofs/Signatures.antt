@@ -1,15 +1,16 @@
 -- A signature's parts, one after another.
-use Rattle.std.proofs.Common.{◌≡◌, ℕ, List, Option, Some, None, codes, ap, ◌∙◌}
+use Rattle.std.proofs.Common.{◌≡◌, inl, inr, ℕ, List, Option, Some, None, codes, ap, ◌∙◌}
 use Rattle.std.specs.Prelude.{unwrap_or}
 use Rattle.serde_json.specs.Data.{Data, null}
 use Rattle.serde_json.specs.Find.{get}
 use Rattle.ffi3_type_rules.specs.Tree.{Tree}
 use Rattle.ffi3_type_rules.specs.Signature.{Signature, SignatureFault, IsFirstSignatureFault, SignatureHasNoFault}
 use Rattle.ffi3_script_rules.specs.Language.{Path, Reason, Read, read, fault, and_then, read_map, check_object, signature_keys, read_type, read_types, read_fixed, value_under, under, read_shapes, read_signature, unless_faulty, place_of_fault, reason_of_fault}
-use Rattle.ffi3_script_rules.proofs.FirstSignatureFaults.{signature_found_by_first, signature_none_found}
+use Rattle.ffi3_script_rules.proofs.FirstSignatureFaults.{signature_found_by_first, signature_none_found, one_first_signature_fault}
+use Rattle.ffi3_script_rules.specs.SignatureRefusal.{IsNoSignature}
 use Rattle.ffi3_json.specs.Told.{Tells}
 use Rattle.ffi3_json.specs.declared.fault.ScriptFault.{ScriptFault}
-use Rattle.ffi3_json.proofs.Tellings.{tells_part, tells_made}
+use Rattle.ffi3_json.proofs.Tellings.{tells_more, tells_part, tells_made}
 
 then_fault : {A B : Type 0} (f : A → Read B) (x : Read A) (p : Path) (r : Reason) → x ≡ fault p r → and_then f x ≡ fault p r
 then_fault f x p r e = ap (and_then f) e
@@ -70,3 +71,13 @@ tells_own d path s f shapes first e t =
 pub read_right : (d : Data) (path : Path) (s : Signature) → read_shapes d path ≡ read s → SignatureHasNoFault s → read_signature d path ≡ read s
 read_right d path s shapes right =
     then_read _ (read_shapes d path) s shapes ∙ ap (unless_faulty path s) (signature_none_found s right)
+
+-- ---- the same by the order of faults
+
+pub tells_no_shape : (d : Data) (path : Path) (e : ScriptFault) → Tells (λ p r. read_shapes d path ≡ fault p r) e → Tells (IsNoSignature d path) e
+tells_no_shape d path e t = tells_more {P = λ p r. read_shapes d path ≡ fault p r} {Q = IsNoSignature d path} (λ p r is. inl is) e t
+
+pub tells_first : (d : Data) (path : Path) (s : Signature) (f : SignatureFault) → read_shapes d path ≡ read s → IsFirstSignatureFault s f
+    → (e : ScriptFault) → Tells (λ p r. (p ≡ place_of_fault path f) × (r ≡ reason_of_fault f)) e → Tells (IsNoSignature d path) e
+tells_first d path s f shapes first e t =
+    tells_more {P = λ p r. (p ≡ place_of_fault path f) × (r ≡ reason_of_fault f)} {Q = IsNoSignature d path} (λ p r is. inr (s, shapes, record { first = f; is_first = first; alone = λ other o. one_first_signature_fault s other f o first; stands = is.0; tells = is.1 })) e t

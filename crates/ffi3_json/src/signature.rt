@@ -4,6 +4,7 @@ ghost use Rattle.serde_json.specs.Find.{get};
 ghost use Rattle.serde_json.specs.View.{view};
 ghost use Rattle.ffi3_script_rules.specs.Language as language;
 ghost use Rattle.ffi3_script_rules.specs.Language.{read, read_shapes, read_fixed, HasShortArrays, signature_keys, inside_type, place_of_type, place_of_fault, reason_of_type_fault, reason_of_fault, left_out_reason, read_type, read_types, value_under, under};
+ghost use Rattle.ffi3_script_rules.specs.SignatureRefusal.{IsNoSignature};
 ghost use Rattle.ffi3_type_rules.specs.Signature.{SignatureHasNoFault};
 ghost use Rattle.ffi3_types.specs.TreeOf.{tree_of};
 ghost use Rattle.ffi3_types.specs.FaultOf.{fault_of};
@@ -24,8 +25,12 @@ use std::alloc::Global;
 pub fn read_signature(alloc: Global, value: &Json, at: &Where) -> Result<Sig, ScriptFault>
     requires { HasShortArrays (view value.now) }
     ensures ok { IfOk result (λ s. language.read_signature (view value.now) at.now ≡ read s) }
-    ensures right { IfOk result SignatureHasNoFault }
     ensures err { IfErr result (Tells (λ p r. language.read_signature (view value.now) at.now ≡ language.fault p r)) }
+
+    // The same in the order of faults itself: its shapes are read and it has no fault, or the one first fault is told.
+    ensures shapes { IfOk result (λ s. read_shapes (view value.now) at.now ≡ read s) }
+    ensures right { IfOk result SignatureHasNoFault }
+    ensures first { IfErr result (Tells (IsNoSignature (view value.now) at.now)) }
 {
     let sig = match read_shapes(alloc, value, at) {
         Ok(sig) => sig,

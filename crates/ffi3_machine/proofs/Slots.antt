@@ -3,8 +3,8 @@ use Rattle.std.proofs.Common.{◌≡◌, ℕ, zero, suc, ◌+◌, ◌*◌, ◌�
 use Rattle.std.proofs.lemmas.List.{take_at, at_drop_all, length-replicate}
 use Rattle.std.proofs.lemmas.Slice.{drop-append-drop}
 use Rattle.std.specs.List.{repeat, replace_range}
-use Rattle.ffi3_type_rules.specs.declared.Target.{Target}
-use Rattle.ffi3_type_rules.specs.declared.Target.TheVariants.{Amd64, Aapcs64, Riscv}
+use Rattle.ffi3_type_rules.specs.declared.Isa.{Isa}
+use Rattle.ffi3_type_rules.specs.declared.Isa.TheVariants.{Amd64, Aarch64, Riscv}
 use Rattle.ffi3_machine.specs.State.{free_word, free_slot, begun_code, begun_stack}
 
 pub repeat-add : (m n : ℕ) (xs : List ℕ) → repeat (m + n) xs ≡ repeat m xs ++ repeat n xs
@@ -47,9 +47,9 @@ freed-all m n k w initial is_all long =
     let none : drop (4 * k) initial ≡ [] = at_drop_all (λ r. r) initial (4 * k) long in
     ap (λ r. repeat k w ++ r) none ∙ append-nil (repeat k w) ∙ ap (λ i. repeat i w) is_all ∙ repeat-repeat m n w
 
-pub begun_code-is : (target : Target) (k : ℕ) (initial : List ℕ) → k ≡ 4096 → length initial ≡ 16384 → repeat k (free_word target) ++ drop (4 * k) initial ≡ begun_code target
+pub begun_code-is : (isa : Isa) (k : ℕ) (initial : List ℕ) → k ≡ 4096 → length initial ≡ 16384 → repeat k (free_word isa) ++ drop (4 * k) initial ≡ begun_code isa
 unfolding begun_code free_slot
-begun_code-is target k initial is_all long = freed-all 256 16 k (free_word target) initial (omega arith) (omega arith)
+begun_code-is isa k initial is_all long = freed-all 256 16 k (free_word isa) initial (omega arith) (omega arith)
 
 pub length-replaced : (xs new : List ℕ) (at end : ℕ) → end ≡ at + length new → end ≤ length xs → length (replace_range xs at end new) ≡ length xs
 length-replaced xs new at end is_end low =
@@ -66,8 +66,8 @@ pub length-begun_stack : length begun_stack ≡ 65536
 unfolding begun_stack
 length-begun_stack = length-replicate {A = ℕ} 65536 165
 
-pub length-begun_code : (target : Target) → length (begun_code target) ≡ 16384
+pub length-begun_code : (isa : Isa) → length (begun_code isa) ≡ 16384
 unfolding begun_code free_slot
 length-begun_code Amd64 = length-repeat 256 (free_slot Amd64)
-length-begun_code Aapcs64 = length-repeat 256 (free_slot Aapcs64)
+length-begun_code Aarch64 = length-repeat 256 (free_slot Aarch64)
 length-begun_code Riscv = length-repeat 256 (free_slot Riscv)

@@ -2,26 +2,31 @@
 #![tactic(auto)]
 
 ghost use Rattle.std.specs.Prelude.{◌≡◌, ℕ, ◌<◌, ◌≤◌, ◌+◌, ◌-◌, ◌*◌, ◌%◌, ◌^◌, length, IfOk, IsTrue, OnOk, OnErr, slice_index, ◌↔◌};
-ghost use Rattle.std.specs.Prelude.{true, replicate};
+ghost use Rattle.std.specs.Prelude.{true, replicate, take, drop};
 ghost use Rattle.ffi3_memory.specs.Memory.{low_bytes};
+ghost use Rattle.ffi3_type_rules.specs.Isa.{isa_of};
+ghost use Rattle.ffi3_place_rules.specs.Isa.{
+  closure_register,
+  is_reserved,
+  is_zero_register,
+  link_register,
+  pushed_bytes,
+};
 ghost use Rattle.ffi3_machine.specs.State.{
   State,
   IsMachine,
   IsSlot,
   IsReturn,
+  LieInStack,
   begun,
   begun_code,
   begun_stack,
   called,
-  closure_register,
   code_at,
   entered,
   filled,
   free_word,
-  is_left,
-  is_zero_register,
   left,
-  pushed_bytes,
   scribbled,
   scribbled_floating,
   scribbled_general,
@@ -43,24 +48,14 @@ mod tests;
 
 pub use ffi3_memory::NoMemory;
 use ffi3_memory::Region;
+use ffi3_type_rules::Isa;
 pub use ffi3_type_rules::Target;
+use ffi3_type_rules::limits::{CODE_BYTES, STACK_BYTES};
+pub use ffi3_type_rules::limits::{CODE, CODE_END, ENTRY, RETURN, STACK, STACK_TOP};
 pub use journal::{Event, EventKind, Journal};
 use std::alloc::Global;
 use std::marker::Model;
 pub use step::Trap;
-
-/// The lowest address of the stack.
-pub const STACK: u64 = 0x7FFE_0000;
-/// The address above the stack's highest byte.
-pub const STACK_TOP: u64 = 0x7FFF_0000;
-/// The lowest address of the code region, which has 256 slots of 64 bytes.
-pub const CODE: u64 = 0x1_0000;
-/// The address above the code region's highest byte.
-pub const CODE_END: u64 = 0x1_4000;
-/// Where a closure's code jumps to.
-pub const ENTRY: u64 = 0x1000;
-/// Where a call returns to.
-pub const RETURN: u64 = 0x2000;
 
 /// Registers, stack, code region and journal. General and floating registers go by their numbers in the target's standard; sp is apart.
 #[derive(Drop)]
@@ -78,7 +73,7 @@ pub struct Machine {
 
 impl Model for Machine {
     ghost use Rattle.std.specs.Prelude.{◌≡◌};
-    ghost use Rattle.ffi3_machine.specs.declared.TheConstants.{STACK, CODE};
+    ghost use Rattle.ffi3_type_rules.specs.declared.limits.TheConstants.{STACK, CODE};
     ghost use Rattle.ffi3_machine.specs.State.{State, IsMachine};
 
     ghost Value = { State };
@@ -104,8 +99,8 @@ impl Machine {
             sp: STACK_TOP,
             pc: RETURN,
             mark: STACK_TOP,
-            stack: Region::new(alloc, STACK, STACK_TOP - STACK)?,
-            code: Region::new(alloc, CODE, CODE_END - CODE)?,
+            stack: Region::new(alloc, STACK, STACK_BYTES)?,
+            code: Region::new(alloc, CODE, CODE_BYTES)?,
             journal: Journal::new(alloc),
         };
         machine.begin(Target::Amd64);
@@ -119,13 +114,14 @@ impl Machine {
         self.target = target;
         self.general = [0; 32];
         self.floating = [0; 32];
-        scribble_general(target, &mut self.general, 0);
+        let isa = target.isa();
+        scribble_general(isa, &mut self.general, 0);
         scribble_floating(&mut self.floating, 0);
         self.sp = STACK_TOP;
         self.pc = RETURN;
         self.mark = STACK_TOP;
         begin_stack(&mut self.stack);
-        free_slots(target, &mut self.code);
+        free_slots(isa, &mut self.code);
         self.journal.clear();
     }
 
@@ -140,7 +136,7 @@ impl Machine {
     pub fn g(&self, k: u8) -> u64
         requires { k < 32 }
         ensures value { result ≡ slice_index self.now.general k }
-        ensures zero { is_zero_register self.now.target k ≡ true → result ≡ 0 }
+        ensures zero { is_zero_register (isa_of self.now.target) k ≡ true → result ≡ 0 }
     {
         self.general[k as usize]
     }
@@ -156,8 +152,6 @@ impl Machine {
     /// The stack pointer. Its contract tells too what is true of every machine.
     pub fn sp(&self) -> u64
         ensures value { result ≡ self.now.sp }
-        ensures low { STACK ≤ result }
-        ensures high { result ≤ STACK_TOP }
         ensures machine { IsMachine self.now }
     {
         self.sp
@@ -182,7 +176,7 @@ impl Machine {
         requires { k < 32 }
         ensures { self.new ≡ with_general k value self.old }
     {
-        if !is_zero_register(self.target, k) {
+        if !is_zero_register(self.target.isa(), k) {
             self.general[k as usize] = value;
         }
     }
@@ -195,10 +189,8 @@ impl Machine {
         self.floating[k as usize] = value;
     }
 
-    /// Sets the stack pointer, to an address in the stack or STACK_TOP.
+    /// Sets the stack pointer, also to an address outside the stack.
     pub fn set_sp(&mut self, value: u64)
-        requires low { STACK ≤ value }
-        requires high { value ≤ STACK_TOP }
         ensures { self.new ≡ with_sp value self.old }
     {
         self.sp = value;
@@ -232,6 +224,20 @@ impl Machine {
         self.stack.fill(addr, len, byte);
         if len != 0 && addr < self.mark {
             self.mark = addr;
+        }
+    }
+
+    /// Copies `len` bytes of the stack to other places of it, as through a buffer. The mark falls to `to` if that is lower, and `len` is not 0.
+    pub fn copy_stack(&mut self, from: u64, to: u64, len: u64)
+        requires from_low { STACK ≤ from }
+        requires from_high { from + len ≤ STACK_TOP }
+        requires to_low { STACK ≤ to }
+        requires to_high { to + len ≤ STACK_TOP }
+        ensures { self.new ≡ stored to (stack_at from len self.old) self.old }
+    {
+        self.stack.copy_within(from, to, len);
+        if len != 0 && to < self.mark {
+            self.mark = to;
         }
     }
 
@@ -276,58 +282,59 @@ impl Machine {
     pub fn scribble(&mut self, n: u64)
         ensures { self.new ≡ scribbled n self.old }
     {
-        scribble_general(self.target, &mut self.general, n);
+        scribble_general(self.target.isa(), &mut self.general, n);
         scribble_floating(&mut self.floating, n);
     }
 
-    /// Calls the code at the slot `addr`: RETURN is the return address, and pc is `addr`.
+    /// Calls the code at the slot `addr`: RETURN is the return address, and pc is `addr`. What is pushed lies in the stack.
     pub fn call(&mut self, addr: u64)
         requires slot { IsSlot addr }
-        requires room { STACK + pushed_bytes self.old.target ≤ self.old.sp }
+        requires room { LieInStack (self.old.sp - pushed_bytes (isa_of self.old.target)) (pushed_bytes (isa_of self.old.target)) }
         ensures whole { self.new ≡ called addr self.old }
         ensures return_address { IsReturn self.new }
     {
-        match self.target {
-            Target::Amd64 => {
+        match link_register(self.target.isa()) {
+            Some(link) => self.general[link as usize] = RETURN,
+            None => {
                 self.sp -= 8;
                 self.stack.store(self.sp, 8, RETURN);
                 if self.sp < self.mark {
                     self.mark = self.sp;
                 }
             }
-            Target::Aapcs64 => self.general[30] = RETURN,
-            Target::Riscv => self.general[1] = RETURN,
         }
         self.pc = addr;
     }
 
-    /// Records that a closure is entered, with `bytes` bytes of stack from sp on.
+    /// Records that a closure is entered, with `bytes` bytes of stack from sp on, which lie in the stack.
     pub fn enter(&mut self, bytes: u64)
         requires entry { self.old.pc ≡ ENTRY }
-        requires stack { self.old.sp + bytes ≤ STACK_TOP }
+        requires stack { LieInStack self.old.sp bytes }
         requires events { 1 ≤ self.old.spare_events }
         requires bytes { bytes ≤ self.old.spare_bytes }
         ensures { self.new ≡ entered bytes self.old }
     {
         let event = Event {
             kind: EventKind::Enter,
-            closure: self.general[closure_register(self.target) as usize],
+            closure: self.general[closure_register(self.target.isa()) as usize],
             general: self.general,
             floating: self.floating,
             sp: self.sp,
         };
-        self.journal.add(event, self.stack.lend(self.sp, bytes));
+        self.journal
+            .add(event, from_sp(&self.stack, self.sp, bytes));
     }
 
-    /// Returns to RETURN, and records it with `bytes` bytes of stack from the sp after it on.
+    /// Returns to RETURN, and records it with `bytes` bytes of stack from the sp after it on. These, and what is popped,
+    /// lie in the stack.
     pub fn leave(&mut self, bytes: u64)
         requires address { IsReturn self.old }
-        requires stack { self.old.sp + pushed_bytes self.old.target + bytes ≤ STACK_TOP }
+        requires stack { LieInStack self.old.sp (pushed_bytes (isa_of self.old.target) + bytes) }
         requires events { 1 ≤ self.old.spare_events }
         requires bytes { bytes ≤ self.old.spare_bytes }
         ensures { self.new ≡ left bytes self.old }
     {
-        self.sp += pushed_bytes(self.target);
+        self.sp += pushed_bytes(self.target.isa());
         self.pc = RETURN;
         let event = Event {
             kind: EventKind::Leave,
@@ -336,60 +343,86 @@ impl Machine {
             floating: self.floating,
             sp: self.sp,
         };
-        self.journal.add(event, self.stack.lend(self.sp, bytes));
+        self.journal
+            .add(event, from_sp(&self.stack, self.sp, bytes));
     }
 }
 
-// Where a closure's address stands at its entry.
-fn closure_register(target: Target) -> u8
-    ensures { result ≡ closure_register target }
+// The `len` bytes of the stack from sp on. Of none it asks nothing of sp.
+fn from_sp(stack: &Region, sp: u64, len: u64) -> &[u8]
+    requires base { stack.now.base ≡ STACK }
+    requires length { length stack.now.bytes ≡ STACK_BYTES }
+    requires within { LieInStack sp len }
+    ensures value { result.now ≡ take len (drop (sp - STACK) stack.now.bytes) }
+    ensures len { length result.now ≡ len }
 {
-    match target {
-        Target::Amd64 => 10,
-        Target::Aapcs64 => 17,
-        Target::Riscv => 6,
+    if len == 0 {
+        return &[];
+    }
+    stack.lend(sp, len)
+}
+
+// Where a closure's address stands at its entry.
+fn closure_register(isa: Isa) -> u8
+    ensures { result ≡ closure_register isa }
+{
+    match isa {
+        Isa::Amd64 => 10,
+        Isa::Aarch64 => 17,
+        Isa::Riscv => 6,
+    }
+}
+
+// Where a call leaves the return address, or none where it pushes it.
+fn link_register(isa: Isa) -> Option<u8>
+    ensures { result ≡ link_register isa }
+{
+    match isa {
+        Isa::Amd64 => None,
+        Isa::Aarch64 => Some(30),
+        Isa::Riscv => Some(1),
     }
 }
 
 // How many bytes a call pushes.
-fn pushed_bytes(target: Target) -> u64
-    ensures { result ≡ pushed_bytes target }
+fn pushed_bytes(isa: Isa) -> u64
+    ensures { result ≡ pushed_bytes isa }
 {
-    match target {
-        Target::Amd64 => 8,
-        Target::Aapcs64 => 0,
-        Target::Riscv => 0,
+    match isa {
+        Isa::Amd64 => 8,
+        Isa::Aarch64 => 0,
+        Isa::Riscv => 0,
     }
 }
 
 // Whether the register is 0 always.
-fn is_zero_register(target: Target, k: u8) -> bool
-    ensures { result ≡ is_zero_register target k }
+fn is_zero_register(isa: Isa, k: u8) -> bool
+    ensures { result ≡ is_zero_register isa k }
 {
-    match target {
-        Target::Amd64 => false,
-        Target::Aapcs64 => false,
-        Target::Riscv => k == 0,
+    match isa {
+        Isa::Amd64 => false,
+        Isa::Aarch64 => false,
+        Isa::Riscv => k == 0,
     }
 }
 
 // Whether a scribble leaves the register.
-fn is_left(target: Target, k: usize) -> bool
-    ensures { result ≡ is_left target k }
+fn is_reserved(isa: Isa, k: usize) -> bool
+    ensures { result ≡ is_reserved isa k }
 {
-    match target {
-        Target::Amd64 => false,
-        Target::Aapcs64 => k == 18,
-        Target::Riscv => k == 0 || k == 3 || k == 4,
+    match isa {
+        Isa::Amd64 => false,
+        Isa::Aarch64 => k == 18,
+        Isa::Riscv => k == 0 || k == 3 || k == 4,
     }
 }
 
 // Scribbles on the general registers.
-fn scribble_general(target: Target, registers: &mut [u64; 32], n: u64)
-    ensures { registers.new ≡ scribbled_general target n registers.old }
+fn scribble_general(isa: Isa, registers: &mut [u64; 32], n: u64)
+    ensures { registers.new ≡ scribbled_general isa n registers.old }
 {
     for k in 0..32usize {
-        if !is_left(target, k) {
+        if !is_reserved(isa, k) {
             registers[k] = number(0xA5A5_0000_0000_0000, n, k as u64);
         }
     }
@@ -412,23 +445,23 @@ fn number(from: u64, n: u64, k: u64) -> u64
 }
 
 // The word that a free slot is filled with.
-fn free_word(target: Target) -> u64
-    ensures { low_bytes 4 result ≡ free_word target }
+fn free_word(isa: Isa) -> u64
+    ensures { low_bytes 4 result ≡ free_word isa }
 {
-    match target {
-        Target::Amd64 => 0xCCCC_CCCC,
-        Target::Aapcs64 => 0xD420_0000,
-        Target::Riscv => 0x0010_0073,
+    match isa {
+        Isa::Amd64 => 0xCCCC_CCCC,
+        Isa::Aarch64 => 0xD420_0000,
+        Isa::Riscv => 0x0010_0073,
     }
 }
 
 // Fills the stack.
 fn begin_stack(stack: &mut Region)
     requires base { stack.old.base ≡ STACK }
-    requires length { length stack.old.bytes ≡ 65536 }
+    requires length { length stack.old.bytes ≡ STACK_BYTES }
     ensures { stack.new ≡ record stack.old { bytes = begun_stack } }
 {
-    fill_all(stack, STACK, STACK_TOP - STACK, 0xA5);
+    fill_all(stack, STACK, STACK_BYTES, 0xA5);
 }
 
 // Fills a region from its base to its end.
@@ -441,13 +474,13 @@ fn fill_all(region: &mut Region, base: u64, len: u64, byte: u8)
 }
 
 // Frees every slot.
-fn free_slots(target: Target, code: &mut Region)
+fn free_slots(isa: Isa, code: &mut Region)
     requires base { code.old.base ≡ CODE }
-    requires length { length code.old.bytes ≡ 16384 }
-    ensures { code.new ≡ record code.old { bytes = begun_code target } }
+    requires length { length code.old.bytes ≡ CODE_BYTES }
+    ensures { code.new ≡ record code.old { bytes = begun_code isa } }
 {
-    let word = free_word(target);
-    for k in 0..4096u64 {
+    let word = free_word(isa);
+    for k in 0..CODE_BYTES / 4 {
         code.store(CODE + 4 * k, 4, word);
     }
 }

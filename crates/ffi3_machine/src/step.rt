@@ -2,6 +2,7 @@
 ghost use Rattle.std.specs.Prelude.{◌≡◌, ℕ, ◌<◌, ◌≤◌, ◌+◌, ◌-◌, ◌%◌, ◌^◌, ℤ, drop, IfSome, IfErr, OnOk, OnErr, Ok, Some};
 ghost use Rattle.ffi3_isa.specs.declared.Instr.{Instr};
 ghost use Rattle.ffi3_isa.specs.Registers.{HasRegistersBelow};
+ghost use Rattle.ffi3_type_rules.specs.Isa.{isa_of};
 ghost use Rattle.ffi3_machine.specs.State.{IsMachine, State};
 ghost use Rattle.ffi3_machine.specs.Step.{
   Stands,
@@ -18,8 +19,9 @@ ghost use Rattle.ffi3_machine.specs.Step.{
   register,
 };
 
-use crate::{CODE, CODE_END, Machine, STACK, STACK_TOP, Target};
+use crate::{CODE, CODE_END, Machine, STACK, STACK_TOP};
 use ffi3_isa::{Instr, decode_aarch64, decode_amd64, decode_riscv};
+use ffi3_type_rules::Isa;
 
 /// A step that cannot be done, with its pc.
 #[derive(Clone, Copy, Debug, PartialEq, Eq)]
@@ -58,8 +60,8 @@ impl Machine {
 
     // The instruction that stands wholly in the code region at pc, and how many bytes it has.
     fn decoded(&self) -> Option<(Instr, u8)>
-        ensures stands { IfSome result (λ p. Stands self.now p.0 p.1) }
-        ensures only { (i : Instr) (n : ℕ) → Stands self.now i n → result ≡ Some (i, n) }
+        ensures stands { IfSome result (λ p. Stands (isa_of self.now.target) self.now p.0 p.1) }
+        ensures only { (i : Instr) (n : ℕ) → Stands (isa_of self.now.target) self.now i n → result ≡ Some (i, n) }
         ensures registers { IfSome result (λ p. HasRegistersBelow 32 p.0) }
     {
         let pc = self.pc();
@@ -67,15 +69,15 @@ impl Machine {
             return None;
         }
         let bytes = self.code_from(pc);
-        match self.target() {
-            Target::Amd64 => decode_amd64(bytes),
-            Target::Aapcs64 => {
+        match self.target().isa() {
+            Isa::Amd64 => decode_amd64(bytes),
+            Isa::Aarch64 => {
                 if pc % 4 != 0 {
                     return None;
                 }
                 decode_aarch64(bytes)
             }
-            Target::Riscv => {
+            Isa::Riscv => {
                 if pc % 4 != 0 {
                     return None;
                 }
@@ -99,7 +101,7 @@ impl Machine {
     // What an instruction of `size` bytes changes.
     fn change_of(&self, instr: Instr, size: u8) -> Option<Change>
         requires { HasRegistersBelow 32 instr }
-        ensures value { result ≡ change_of instr size self.now }
+        ensures value { result ≡ change_of (isa_of self.now.target) instr size self.now }
         ensures in_range { IfSome result (λ c. IfSome c.register (λ p. p.0 < 32)) }
     {
         let pc = self.pc();
@@ -136,12 +138,12 @@ impl Machine {
     // A general register, as an instruction reads it.
     fn register(&self, k: u8) -> u64
         requires { k < 32 }
-        ensures { result ≡ register k self.now }
+        ensures { result ≡ register (isa_of self.now.target) k self.now }
     {
-        let target = self.target();
-        if reads_zero(target, k) {
+        let isa = self.target().isa();
+        if reads_zero(isa, k) {
             0
-        } else if reads_sp(target, k) {
+        } else if reads_sp(isa, k) {
             self.sp()
         } else {
             self.g(k)
@@ -164,10 +166,10 @@ impl Machine {
     // Makes the change.
     fn apply(&mut self, change: Change)
         requires { IfSome change.register (λ p. p.0 < 32) }
-        ensures { self.new ≡ changed change self.old }
+        ensures { self.new ≡ changed (isa_of self.old.target) change self.old }
     {
         if let Some((k, value)) = change.register {
-            if !reads_zero(self.target, k) {
+            if !reads_zero(self.target.isa(), k) {
                 self.general[k as usize] = value;
             }
         }
@@ -199,25 +201,25 @@ fn even(addr: u64) -> u64
     addr - addr % 2
 }
 
-// Whether the register is the zero register.
-fn reads_zero(target: Target, k: u8) -> bool
-    ensures { result ≡ reads_zero target k }
+// Whether the register reads as 0, and a write to it is dropped.
+fn reads_zero(isa: Isa, k: u8) -> bool
+    ensures { result ≡ reads_zero isa k }
 {
-    match target {
-        Target::Amd64 => false,
-        Target::Aapcs64 => k == 31,
-        Target::Riscv => k == 0,
+    match isa {
+        Isa::Amd64 => false,
+        Isa::Aarch64 => k == 31,
+        Isa::Riscv => k == 0,
     }
 }
 
 // Whether the register's number names the stack pointer.
-fn reads_sp(target: Target, k: u8) -> bool
-    ensures { result ≡ reads_sp target k }
+fn reads_sp(isa: Isa, k: u8) -> bool
+    ensures { result ≡ reads_sp isa k }
 {
-    match target {
-        Target::Amd64 => false,
-        Target::Aapcs64 => false,
-        Target::Riscv => k == 2,
+    match isa {
+        Isa::Amd64 => false,
+        Isa::Aarch64 => false,
+        Isa::Riscv => k == 2,
     }
 }
 

@@ -102,6 +102,20 @@ impl Region {
         let at = (addr - self.base) as usize;
         self.bytes[at..at + len as usize].fill(byte);
     }
+
+    /// Copies the `len` bytes from `from` on to the places from `to` on, as through a buffer. Both ranges lie in the region.
+    pub fn copy_within(&mut self, from: u64, to: u64, len: u64)
+        requires from_low { self.old.base ≤ from }
+        requires from_high { from + len ≤ self.old.base + length self.old.bytes }
+        requires to_low { self.old.base ≤ to }
+        requires to_high { to + len ≤ self.old.base + length self.old.bytes }
+        ensures { self.new ≡ with_bytes to (range_of self.old from len) self.old }
+    {
+        let start = (from - self.base) as usize;
+        let end = start + len as usize;
+        let at = (to - self.base) as usize;
+        self.bytes.copy_within(start..end, at);
+    }
 }
 
 // The number that 1, 2, 4 or 8 bytes make.
@@ -171,6 +185,24 @@ mod tests {
         assert!(rt; region.has(0x1000, 4) && region.has(0x1004, 0));
         assert!(rt;
             !region.has(0xFFF, 1) && !region.has(0x1001, 4) && !region.has(0x1000, u64::MAX)
+        );
+        Ok(())
+    }
+
+    // Eight bytes, copied by one place up and down over themselves.
+    #[test]
+    fn copies_over_itself(rt: HostRuntime) -> Result<(), NoMemory> {
+        let mut region = Region::new(rt.alloc(), 0x1000, 9)?;
+        region.copy_in(0x1000, &[1, 2, 3, 4, 5, 6, 7, 8, 9]);
+        region.copy_within(0x1000, 0x1001, 8);
+        assert_eq!(rt;
+            region.lend(0x1000, 9),
+            [1, 1, 2, 3, 4, 5, 6, 7, 8].as_slice()
+        );
+        region.copy_within(0x1001, 0x1000, 8);
+        assert_eq!(rt;
+            region.lend(0x1000, 9),
+            [1, 2, 3, 4, 5, 6, 7, 8, 8].as_slice()
         );
         Ok(())
     }

@@ -1,4 +1,6 @@
+mod RowStandard
 mod Rows
 mod StopRows
 mod NativeRows
 pub mod Recursion
+pub mod Texts

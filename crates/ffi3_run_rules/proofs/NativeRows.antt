@@ -1,6 +1,6 @@
 -- Natives that call back: one that calls twice a closure, whose function calls on through another native.
 use Rattle.std.proofs.Common.{◌≡◌, ℕ, [], ◌∷◌, refl}
-use Rattle.std.specs.Prelude.{None, ◌++◌, pos, codes}
+use Rattle.std.specs.Prelude.{None, List, ◌++◌, pos, codes, take, length}
 use Rattle.std.specs.Fmt.{digits}
 use Rattle.std.specs.Int.{w64, from_le_bytes}
 use Rattle.ffi3_type_rules.specs.Tree.{scalar, s64, pointer}
@@ -10,8 +10,10 @@ use Rattle.ffi3_type_rules.specs.Value.{ValueTree, void_value, leaf_value, bytes
 use Rattle.ffi3_run_rules.specs.Move.{call, make, print, return, Behaviour}
 use Rattle.ffi3_run_rules.specs.Meaning.{Program, with_natives, act, act_within, meaning_of, peak_of}
 use Rattle.ffi3_run_rules.specs.Happenings.{happenings_of}
-use Rattle.ffi3_run_rules.specs.Journal.{events_in}
-use Rattle.ffi3_run_rules.specs.Lines.{text}
+use Rattle.ffi3_run_rules.specs.Journal.{events_in, stack_top}
+use Rattle.ffi3_type_rules.specs.Layout.{least_multiple}
+use Rattle.ffi3_run_rules.proofs.RowStandard.{in_registers}
+use Rattle.ffi3_run_rules.specs.Lines.{untraced, traced, a_line, text_of_run}
 
 -- 20: twice of a closure that calls apply on another
 abbrev n64 : ℕ → ValueTree
@@ -58,7 +60,7 @@ main_of args user (_ ∷ _ ∷ _ ∷ _ ∷ []) = call 65728 1 (ptr 65664 ∷ n64
 main_of args user (_ ∷ _ ∷ _ ∷ _ ∷ r ∷ []) = print (scalar s64) r
 main_of args user _ = return void_value
 
-abbrev program : Program
+abbrev pub program : Program
 program = with_natives (record {
   signatures = one ∷ two ∷ [];
   functions = record { behaviour = h_of; signature = 0 } ∷ record { behaviour = g_of; signature = 0 } ∷ [];
@@ -66,7 +68,7 @@ program = with_natives (record {
   need = λ s. 80;
 }) (record { behaviour = apply_of; signatures = two ∷ one ∷ [] } ∷ record { behaviour = twice_of; signatures = two ∷ one ∷ [] } ∷ [])
 
-pub twenty : text program.signatures (happenings_of program) ≡ codes "20" ++ 10 ∷ []
+pub twenty : text_of_run untraced program ≡ codes "20" ++ 10 ∷ []
 unfolding act act_within digits
 twenty = refl
 
@@ -81,3 +83,12 @@ twenty_moves = refl
 pub peak : peak_of program (meaning_of program).deeds ≡ 320
 unfolding act act_within
 peak = refl
+
+-- four calls, each inside the one before, and the return of the innermost
+abbrev four_calls : List ℕ
+four_calls =
+    a_line (codes "enter 0x100c0 sp 0x7ffefff8 (0x10080,10)") ++ a_line (codes "keep a5a5000000000003 a5a5000000000005 a5a500000000000c a5a500000000000d a5a500000000000e a5a500000000000f") ++ a_line (codes "enter 0x10080 sp 0x7ffeffa8 (10)") ++ a_line (codes "keep a5a5000000000043 a5a5000000000045 a5a500000000004c a5a500000000004d a5a500000000004e a5a500000000004f") ++ a_line (codes "enter 0x10040 sp 0x7ffeff58 (0x10000,10)") ++ a_line (codes "keep a5a5000000000083 a5a5000000000085 a5a500000000008c a5a500000000008d a5a500000000008e a5a500000000008f") ++ a_line (codes "enter 0x10000 sp 0x7ffeff08 (10)") ++ a_line (codes "keep a5a50000000000c3 a5a50000000000c5 a5a50000000000cc a5a50000000000cd a5a50000000000ce a5a50000000000cf") ++ a_line (codes "leave sp 0x7ffeff10 15") ++ a_line (codes "keep a5a50000000000c3 a5a50000000000c5 a5a50000000000cc a5a50000000000cd a5a50000000000ce a5a50000000000cf")
+
+pub trace_begins : take (length four_calls) (text_of_run (traced in_registers stack_top) program) ≡ four_calls
+unfolding act act_within digits least_multiple
+trace_begins = refl

@@ -2,8 +2,10 @@
 use Rattle.std.proofs.Common.{◌≡◌, ℕ, zero, suc, ◌≤◌, List, refl, ap, ◌∙◌, arith}
 use Rattle.std.specs.Prelude.{Some}
 use Rattle.ffi3_type_rules.specs.Value.{ValueTree, void_value}
+use Rattle.ffi3_run_rules.specs.declared.Stop.TheVariants.{MoveLimit}
 use Rattle.ffi3_run_rules.specs.Closures.{Closures}
-use Rattle.ffi3_run_rules.specs.Meaning.{Program, Acting, Acts, Doing, ends, stops, prints, goes_on, enters, End, returned, stopped, Outcome, follows, resumed, resumed_after, with_result, doing, next_move, after, called, line, act, act_within}
+use Rattle.ffi3_run_rules.specs.Recursion.{IsPlainRecursion}
+use Rattle.ffi3_run_rules.specs.Meaning.{Program, Acting, Acts, Doing, ends, stops, prints, goes_on, enters, End, returned, stopped, Outcome, stops_with, follows, resumed, resumed_after, with_result, doing, next_move, after, called, line, act, act_within}
 
 -- the moves never rise, and fuel beyond the moves left changes nothing
 abbrev Falls : Acts → Type 0
@@ -61,3 +63,15 @@ pub act-is : (p : Program) (a : Acting) (c : Closures) (m : ℕ) → act p a c (
 unfolding act act_within
 act-is p a c m =
     agree_follows (act_within p m) (act p) (λ b d n. falls p n b d n) a c m (doing p a c (next_move p a)) (λ b d n k. same_within p m n b d n k (omega arith))
+
+none_left : (p : Program) (a : Acting) (c : Closures) → act p a c 0 ≡ stops_with MoveLimit c 0
+unfolding act act_within
+none_left p a c = refl
+
+never_rise : (p : Program) (a : Acting) (c : Closures) (m : ℕ) → (act p a c m).moves ≤ m
+unfolding act
+never_rise p a c m = falls p m a c m
+
+pub is_plain_recursion : (p : Program) → IsPlainRecursion p
+is_plain_recursion p =
+    record { none_left = none_left p; one_more = act-is p; never_rise = never_rise p }

@@ -10,7 +10,7 @@ use Rattle.ffi3_run_rules.specs.Move.{call, make, free, print, return, Behaviour
 use Rattle.ffi3_run_rules.specs.Meaning.{Program, act, act_within}
 use Rattle.ffi3_run_rules.specs.Happenings.{happenings_of}
 use Rattle.ffi3_run_rules.specs.Journal.{events_in}
-use Rattle.ffi3_run_rules.specs.Lines.{text}
+use Rattle.ffi3_run_rules.specs.Lines.{untraced, text_of_run}
 
 -- a run with a wrong signature, after a closure freed itself
 abbrev sig_s32 : Signature
@@ -41,7 +41,7 @@ program n = record {
   need = λ s. n;
 }
 
-pub stops_wrong : text (program 64).signatures (happenings_of (program 64)) ≡ codes "7" ++ 10 ∷ (codes "9" ++ 10 ∷ (codes "stop: wrong signature at 0x10000: called as sint64(), is sint32()" ++ 10 ∷ []))
+pub stops_wrong : text_of_run untraced (program 64) ≡ codes "7" ++ 10 ∷ (codes "9" ++ 10 ∷ (codes "stop: wrong signature at 0x10000: called as sint64(), is sint32()" ++ 10 ∷ []))
 unfolding act act_within digits
 stops_wrong = refl
 
@@ -49,6 +49,6 @@ pub enters_full : events_in (happenings_of (program 65536)) ≡ 4
 unfolding act act_within
 enters_full = refl
 
-pub stops_full : text (program 65537).signatures (happenings_of (program 65537)) ≡ codes "stop: stack full: need 65537, left 65536" ++ 10 ∷ []
+pub stops_full : text_of_run untraced (program 65537) ≡ codes "stop: stack full: need 65537, left 65536" ++ 10 ∷ []
 unfolding act act_within digits
 stops_full = refl

@@ -1,12 +1,18 @@
--- The text of a run.
-use Rattle.std.specs.Prelude.{ℕ, false, List, [], ◌∷◌, ◌++◌, codes}
+-- The text of a run: a line for each print and for what stops it; where the run is traced, also two lines for each entry and each return. It does not depend on how far a machine came, so nothing that a machine recorded is looked at.
+use Rattle.std.specs.Prelude.{ℕ, ◌+◌, ◌-◌, false, List, [], ◌∷◌, ◌++◌, length, map, drop, replicate, codes}
 use Rattle.std.specs.Fmt.{decimal, digits}
+use Rattle.std.specs.List.{concat, sum_by, join_with_byte}
+use Rattle.ffi3_type_rules.specs.Tree.{trees_of}
 use Rattle.ffi3_type_rules.specs.Signature.{Signature, signature_at}
 use Rattle.ffi3_type_rules.specs.Text.{signature_text}
-use Rattle.ffi3_type_rules.specs.ValueText.{value_text_of}
+use Rattle.ffi3_type_rules.specs.Value.{ValueTree, values_of}
+use Rattle.ffi3_type_rules.specs.ValueText.{value_text_of, value_texts_of}
+use Rattle.ffi3_place_rules.specs.Standard.{Standard, need_of, frame_of}
 use Rattle.ffi3_run_rules.specs.declared.Stop.{Stop}
 use Rattle.ffi3_run_rules.specs.declared.Stop.TheVariants.{NoClosure, WrongSig, TableFull, StackFull, MoveLimit}
-use Rattle.ffi3_run_rules.specs.Happenings.{Happening, Enter, Line, Leave, StopLine}
+use Rattle.ffi3_run_rules.specs.Meaning.{Program}
+use Rattle.ffi3_run_rules.specs.Happenings.{Happening, Enter, Line, Leave, StopLine, happenings_of}
+use Rattle.ffi3_run_rules.specs.Journal.{scribble}
 
 -- with a newline at the end
 abbrev pub a_line : List ℕ → List ℕ
@@ -25,14 +31,89 @@ stop_text signatures (StackFull need left) =
     codes "stop: stack full: need " ++ decimal need ++ codes ", left " ++ decimal left
 stop_text signatures MoveLimit = codes "stop: move limit"
 
--- a print is the value's text; entries and returns have no line
-abbrev pub text_of : List Signature → Happening → List ℕ
-text_of signatures (Enter ptr sig args) = []
-text_of signatures (Line t v) = a_line (value_text_of t v)
-text_of signatures (Leave sig r) = []
-text_of signatures (StopLine stop) = a_line (stop_text signatures stop)
+-- ---- where a run stands
 
--- THE TEXT OF A RUN: the lines of what happens, in order
-abbrev pub text : List Signature → List Happening → List ℕ
-text signatures [] = []
-text signatures (h ∷ rest) = text_of signatures h ++ text signatures rest
+-- a call that is open: its signature, and the number of its entry among the run's entries and returns, from 0
+pub record OpenCall : Type 0 where
+  pub signature : Signature
+  pub entry : ℕ
+
+-- how many entries and returns came before, and the calls that are open, the innermost first
+pub record Point : Type 0 where
+  pub events : ℕ
+  pub calls : List OpenCall
+
+abbrev pub at_start : Point
+at_start = record { events = 0; calls = [] }
+
+-- after what happens next
+abbrev pub past : List Signature → Point → Happening → Point
+past signatures at (Enter ptr sig args) = record {
+  events = at.events + 1;
+  calls = record { signature = signature_at signatures sig; entry = at.events } ∷ at.calls;
+}
+past signatures at (Leave sig r) =
+    record { events = at.events + 1; calls = drop 1 at.calls }
+past signatures at (Line t v) = at
+past signatures at (StopLine stop) = at
+
+-- ---- the lines of entries and returns
+
+-- not told at all, or told by a standard, on a stack that falls from `top`
+pub data Trace : Type 0 where
+  untraced : Trace
+  traced : Standard → (top : ℕ) → Trace
+
+-- the stack pointer at a call, inside these calls: below all that they need and the call's own frame
+abbrev pub sp_at_call : Standard → (top : ℕ) → List OpenCall → Signature → ℕ
+sp_at_call std top outer s =
+    top - sum_by (λ c. need_of std c.signature) outer - frame_of std s
+
+abbrev pub enter_text : Standard → (top : ℕ) → List OpenCall → (address : ℕ) → Signature → List ValueTree → List ℕ
+enter_text std top outer address s args =
+    codes "enter " ++ address_text address ++ codes " sp " ++ address_text (sp_at_call std top outer s - std.link) ++ codes " (" ++ join_with_byte 44 (value_texts_of (trees_of s.arguments) (values_of args)) ++ codes ")"
+
+abbrev pub leave_text : Standard → (top : ℕ) → List OpenCall → Signature → ValueTree → List ℕ
+leave_text std top outer s r =
+    codes "leave sp " ++ address_text (sp_at_call std top outer s) ++ codes " " ++ value_text_of s.result_type r
+
+-- 16 hexadecimal digits
+abbrev pub word_text : ℕ → List ℕ
+word_text n =
+    replicate (16 - length (digits 16 false n)) 48 ++ digits 16 false n
+
+-- the preserved registers, as the caller leaves them for the entry of number n
+abbrev pub keep_text : Standard → (n : ℕ) → List ℕ
+keep_text std n =
+    codes "keep" ++ concat (map (λ at. codes " " ++ word_text (scribble n at)) std.preserved)
+
+abbrev pub enter_lines : Trace → Point → (address : ℕ) → Signature → List ValueTree → List ℕ
+enter_lines untraced at address s args = []
+enter_lines (traced std top) at address s args =
+    a_line (enter_text std top at.calls address s args) ++ a_line (keep_text std at.events)
+
+-- of the innermost call
+abbrev pub leave_lines : Trace → List OpenCall → ValueTree → List ℕ
+leave_lines untraced calls r = []
+leave_lines (traced std top) [] r = []
+leave_lines (traced std top) (c ∷ outer) r =
+    a_line (leave_text std top outer c.signature r) ++ a_line (keep_text std c.entry)
+
+-- ---- the text
+
+abbrev pub text_of : Trace → List Signature → Point → Happening → List ℕ
+text_of trace signatures at (Enter ptr sig args) =
+    enter_lines trace at ptr (signature_at signatures sig) args
+text_of trace signatures at (Line t v) = a_line (value_text_of t v)
+text_of trace signatures at (Leave sig r) = leave_lines trace at.calls r
+text_of trace signatures at (StopLine stop) = a_line (stop_text signatures stop)
+
+-- of what happens from some point on, in order
+abbrev pub text : Trace → List Signature → Point → List Happening → List ℕ
+text trace signatures at [] = []
+text trace signatures at (h ∷ rest) =
+    text_of trace signatures at h ++ text trace signatures (past signatures at h) rest
+
+-- THE TEXT OF A PROGRAM'S RUN
+abbrev pub text_of_run : Trace → Program → List ℕ
+text_of_run trace p = text trace p.signatures at_start (happenings_of p)

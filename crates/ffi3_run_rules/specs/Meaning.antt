@@ -170,7 +170,7 @@ act_within p (suc fuel) a closures zero = stops_with MoveLimit closures 0
 act_within p (suc fuel) a closures (suc moves) =
     follows (act_within p fuel) a closures moves (doing p a closures (next_move p a))
 
--- How an activation acts. A move is counted before it is done, and none is asked for where none is left; so no depth is greater than the moves left, which are fuel enough: `act-is` in proofs/ is this recursion without fuel.
+-- How an activation acts. A move is counted before it is done, and none is asked for where none is left; so no depth is greater than the moves left, which are fuel enough: `Recursion.antt` has this recursion without fuel.
 unfoldable pub act : Program → Acting → Closures → ℕ → Outcome
 act p a closures moves = act_within p moves a closures moves
 

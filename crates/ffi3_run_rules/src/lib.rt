@@ -1,6 +1,9 @@
 // What a run of functions is: their moves, the direct meaning, its text and its journal. The definitions are in `specs/`; these are the words that they share with the code.
 #![tactic(auto)]
 
+ghost use Rattle.ffi3_run_rules.specs.Meaning.{Program};
+ghost use Rattle.ffi3_run_rules.specs.Recursion.{IsPlainRecursion};
+
 /// What a closure stands for: a function and its signature, by their numbers in the run, and 64 bits of user data.
 #[derive(Clone, Copy, Debug, PartialEq, Eq)]
 pub struct Closure {
@@ -23,3 +26,9 @@ pub enum Stop {
     /// All moves of the run are used up.
     MoveLimit,
 }
+
+/// Does nothing. Its contract says that the direct meaning of every program is the plain recursion: an activation with no move
+/// left stops, and one with a move left does it, and what follows goes on with one move less.
+pub fn meaning_laws()
+    ensures { (p : Program) → IsPlainRecursion p }
+{}

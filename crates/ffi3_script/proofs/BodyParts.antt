@@ -9,9 +9,9 @@ use Rattle.ffi3_script_rules.specs.Script as script
 use Rattle.ffi3_script_rules.specs.Values.{Given}
 use Rattle.ffi3_script_rules.specs.Bodies.{Surroundings, read_move, read_moves, given_by, type_of_act, always_returns, ends}
 use Rattle.ffi3_json.proofs.Objects.{next}
-use Rattle.ffi3_script.specs.ExprOf.{act_of, script_move_of, script_moves_of}
+use Rattle.ffi3_script_body.specs.ExprOf.{act_of, script_move_of, script_moves_of}
 use Rattle.ffi3_script.specs.ScopeOf.{given_of}
-use Rattle.ffi3_script.specs.declared.moves.ScriptMove.{ScriptMove}
+use Rattle.ffi3_script_body.specs.declared.moves.ScriptMove.{ScriptMove}
 use Rattle.ffi3_script.proofs.Loops.{before, first_and, one_more, mapped-more}
 
 given-more : (names : List (Option (List ℕ))) (types : List Tree) (n : Option (List ℕ)) (t : Tree) → length names ≡ length types → given_of (names ++ n ∷ []) (types ++ t ∷ []) ≡ given_of names types ++ record { name = n; type = t } ∷ []

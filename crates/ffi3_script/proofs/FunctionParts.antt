@@ -15,7 +15,7 @@ use Rattle.ffi3_script_rules.specs.Bodies as bodies
 use Rattle.ffi3_script_rules.specs.Bodies.{is_one_of, new_name, read_heading, read_headings, names_of, function_of, read_body, read_bodies}
 use Rattle.ffi3_json.proofs.Objects.{next}
 use Rattle.ffi3_script.specs.Taken.{is_taken}
-use Rattle.ffi3_script.specs.ExprOf.{script_moves_of}
+use Rattle.ffi3_script_body.specs.ExprOf.{script_moves_of}
 use Rattle.ffi3_script.specs.PartsOf.{heading_of, headings_of, part_of, IsHeaded}
 use Rattle.ffi3_script.specs.declared.headings.Heading.{Heading}
 use Rattle.ffi3_script.specs.declared.function_parts.FunctionPart.{FunctionPart}

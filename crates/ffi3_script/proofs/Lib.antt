@@ -11,11 +11,6 @@ mod ReadShapes
 mod ReadTypes
 mod ReadValues
 pub mod Standing
-pub mod Rows
-pub mod Evaluated
-pub mod Parts
-mod Walked
-mod Pasts
 mod Few
 mod Making
 mod Refusals

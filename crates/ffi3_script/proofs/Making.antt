@@ -10,10 +10,10 @@ use Rattle.ffi3_run_rules.specs.Move.{no_signature}
 use Rattle.ffi3_script_rules.specs.Script as script
 use Rattle.ffi3_script_rules.specs.Typed.{script_is_typed, function_is_typed, body_is_typed, signature_is_right}
 use Rattle.ffi3_script_rules.proofs.Tests.{and_left, and_right}
-use Rattle.ffi3_script.specs.ExprOf.{script_move_of, script_moves_of}
+use Rattle.ffi3_script_body.specs.ExprOf.{script_move_of, script_moves_of}
 use Rattle.ffi3_script.specs.FunctionOf.{function_of}
 use Rattle.ffi3_script.specs.PartsOf.{part_of, script_in}
-use Rattle.ffi3_script.specs.declared.moves.ScriptMove.{ScriptMove}
+use Rattle.ffi3_script_body.specs.declared.moves.ScriptMove.{ScriptMove}
 use Rattle.ffi3_script.specs.declared.function_parts.FunctionPart.{FunctionPart}
 use Rattle.ffi3_script.specs.declared.script.ScriptFunction.{ScriptFunction}
 use Rattle.ffi3_script.proofs.Loops.{mapped-more}

@@ -1,10 +1,10 @@
 -- The functions of a script, each by its number.
-use Rattle.std.proofs.Common.{◌≡◌, ℕ, zero, suc, ◌<◌, Bool, true, List, [], ◌∷◌, length, All, Some, map, ap, sym, ◌∙◌, subst, arith, get_or}
+use Rattle.std.proofs.Common.{◌≡◌, ℕ, zero, suc, ◌<◌, Bool, true, List, [], ◌∷◌, length, All, map, ap, sym, ◌∙◌, subst, arith, get_or}
 use Rattle.std.specs.Prelude.{nat_lt}
 use Rattle.std.specs.List.{list_all}
 use Rattle.std.proofs.lemmas.Bool.{ltb-true}
 use Rattle.std.proofs.lemmas.List.{get_or-map, length-map}
-use Rattle.ffi3_type_rules.specs.Signature.{Signature, SignatureHasNoFault}
+use Rattle.ffi3_type_rules.specs.Signature.{Signature, signature_at, SignatureHasNoFault}
 use Rattle.ffi3_script_rules.specs.Script as script
 use Rattle.ffi3_script_rules.specs.FirstFault.{first_signature_fault}
 use Rattle.ffi3_script_rules.specs.Typed.{function_is_typed, signature_is_right}
@@ -25,9 +25,9 @@ all_at p (x ∷ xs) (suc i) d below h =
 pub function_is : (fs : List ScriptFunction) (i : ℕ) (f : ScriptFunction) (d : script.ScriptFunction) → i < length fs → f ≡ get_or fs i f → get_or (map function_of fs) i d ≡ function_of f
 function_is fs i f d below is = get_or-map function_of fs i f d below ∙ ap function_of (sym is)
 
-pub stands : (ss : List Signature) (n : ℕ) (fs : List ScriptFunction) (i : ℕ) (f : ScriptFunction) → i < length fs → f ≡ get_or fs i f → All (λ g. StandsIn ss n (Some g.sig) g.body) fs → StandsIn ss n (Some f.sig) f.body
+pub stands : (ss : List Signature) (n : ℕ) (fs : List ScriptFunction) (i : ℕ) (f : ScriptFunction) → i < length fs → f ≡ get_or fs i f → All (λ g. StandsIn ss n (signature_at ss g.sig) g.body) fs → StandsIn ss n (signature_at ss f.sig) f.body
 stands ss n fs i f below is all =
-    subst (λ g. StandsIn ss n (Some g.sig) g.body) (sym is) (all i f below)
+    subst (λ g. StandsIn ss n (signature_at ss g.sig) g.body) (sym is) (all i f below)
 
 -- the number of its signature is one of the script's
 pub signature_below : (ss : List Signature) (n : ℕ) (fs : List ScriptFunction) (i : ℕ) (f : ScriptFunction) → i < length fs → f ≡ get_or fs i f → list_all (function_is_typed ss n) (map function_of fs) ≡ true → f.sig < length ss

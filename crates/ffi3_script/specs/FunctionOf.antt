@@ -1,9 +1,9 @@
 -- Which functions and which script those of the code are.
-use Rattle.std.specs.Prelude.{◌≡◌, ℕ, List, Option, map, string_bytes}
+use Rattle.std.specs.Prelude.{◌≡◌, ℕ, List, map, string_bytes}
 use Rattle.ffi3_type_rules.specs.Signature.{Signature}
 use Rattle.ffi3_script_rules.specs.Script as script
-use Rattle.ffi3_script.specs.BodyOf.{moves_of}
-use Rattle.ffi3_script.specs.declared.body.ScriptBody.{ScriptBody}
+use Rattle.ffi3_script_body.specs.BodyOf.{moves_of, signatures_of, functions_of, signature_of}
+use Rattle.ffi3_script_body.specs.declared.body.ScriptBody.{ScriptBody}
 use Rattle.ffi3_script.specs.declared.script.ScriptFunction.{ScriptFunction}
 
 abbrev pub function_of : ScriptFunction → script.ScriptFunction
@@ -18,8 +18,8 @@ script_from signatures functions main = record {
   main = moves_of main;
 }
 
--- A body stands in a script: it counts in the script's signatures and functions, and its own signature is the one of this number, or main's.
-pub record StandsIn (signatures : List Signature) (functions : ℕ) (own : Option ℕ) (b : ScriptBody) : Type 0 where
-  pub signatures_are : b.sigs.value ≡ signatures
-  pub functions_are : b.functions ≡ functions
-  pub own_is : b.own ≡ own
+-- A body stands in a script: it counts in the script's signatures and functions, and is called by this signature.
+pub record StandsIn (signatures : List Signature) (functions : ℕ) (own : Signature) (b : ScriptBody) : Type 0 where
+  pub signatures_are : signatures_of b ≡ signatures
+  pub functions_are : functions_of b ≡ functions
+  pub own_is : signature_of b ≡ own

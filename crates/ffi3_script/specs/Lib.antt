@@ -1,4 +1,3 @@
-pub mod ExprOf
 pub mod ScopeOf
 pub mod Finds
 pub mod Texts
@@ -7,12 +6,6 @@ pub mod Kinds
 pub mod Numbers
 pub mod PartsOf
 pub mod Shapes
-pub mod Own
-pub mod Always
-pub mod KindOf
-pub mod BodyOf
 pub mod FunctionOf
 pub mod ScriptOf
-pub mod KnownOf
-pub mod KnownAt
 pub mod Refusal

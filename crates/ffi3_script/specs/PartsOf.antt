@@ -7,8 +7,8 @@ use Rattle.ffi3_script_rules.specs.Bodies.{read_body, read_bodies}
 use Rattle.ffi3_type_rules.specs.Signature.{Signature}
 use Rattle.ffi3_script_rules.specs.Script as script
 use Rattle.ffi3_script_rules.specs.Bodies as bodies
-use Rattle.ffi3_script.specs.ExprOf.{script_moves_of}
-use Rattle.ffi3_script.specs.declared.moves.ScriptMove.{ScriptMove}
+use Rattle.ffi3_script_body.specs.ExprOf.{script_moves_of}
+use Rattle.ffi3_script_body.specs.declared.moves.ScriptMove.{ScriptMove}
 use Rattle.ffi3_script.specs.declared.headings.Heading.{Heading}
 use Rattle.ffi3_script.specs.declared.function_parts.FunctionPart.{FunctionPart}
 

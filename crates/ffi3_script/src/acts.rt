@@ -7,7 +7,7 @@ ghost use Rattle.ffi3_script_rules.specs.Language as language;
 ghost use Rattle.ffi3_script_rules.specs.Language.{read, under, HasShortArrays};
 ghost use Rattle.ffi3_script_rules.specs.Bodies.{kind_of, keys_of, read_call, read_make, read_act, read_move};
 ghost use Rattle.ffi3_json.specs.Told.{Tells};
-ghost use Rattle.ffi3_script.specs.ExprOf.{typed_of, script_move_of};
+ghost use Rattle.ffi3_script_body.specs.ExprOf.{typed_of, script_move_of};
 ghost use Rattle.ffi3_script.specs.ScopeOf.{scope_of, given_in, surroundings_of, IsEven};
 ghost use Rattle.ffi3_script.specs.Kinds.{kind_from};
 ghost use Rattle.ffi3_script.specs.Numbers.{CallsWithin};
@@ -23,7 +23,7 @@ use ffi3_types::FfiType;
 use std::alloc::Global;
 
 /// The kinds of moves, each named by its key.
-#[derive(Clone, Copy, Debug)]
+#[derive(Clone, Copy)]
 pub(crate) enum Kind {
     Call,
     Make,

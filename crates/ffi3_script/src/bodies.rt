@@ -8,7 +8,7 @@ ghost use Rattle.ffi3_script_rules.specs.Language.{read, under, value_under, Has
 ghost use Rattle.ffi3_script_rules.specs.Bodies.{type_of_act, is_return, always_returns, ends};
 ghost use Rattle.ffi3_script_rules.specs.Bodies.{read_move, read_moves, read_body};
 ghost use Rattle.ffi3_json.specs.Told.{Tells};
-ghost use Rattle.ffi3_script.specs.ExprOf.{act_of, script_move_of, script_moves_of};
+ghost use Rattle.ffi3_script_body.specs.ExprOf.{act_of, script_move_of, script_moves_of};
 ghost use Rattle.ffi3_script.specs.ScopeOf.{given_of, surroundings_in};
 ghost use Rattle.ffi3_script.specs.Numbers.{CallsWithin};
 

@@ -9,7 +9,7 @@ ghost use Rattle.ffi3_script_rules.specs.Language.{read, under, value_under, Has
 ghost use Rattle.ffi3_script_rules.specs.Values as values;
 ghost use Rattle.ffi3_script_rules.specs.Bodies.{read_name, read_condition, read_arguments, read_user, read_result};
 ghost use Rattle.ffi3_json.specs.Told.{Tells};
-ghost use Rattle.ffi3_script.specs.ExprOf.{expression_of, expressions_in, typed_of, act_of};
+ghost use Rattle.ffi3_script_body.specs.ExprOf.{expression_of, expressions_in, typed_of, act_of};
 ghost use Rattle.ffi3_script.specs.Numbers.{CallsWithin};
 ghost use Rattle.ffi3_script.specs.ScopeOf.{scope_of, given_in, IsEven};
 

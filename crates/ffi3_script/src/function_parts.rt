@@ -6,7 +6,7 @@ ghost use Rattle.ffi3_script_rules.specs.Language as language;
 ghost use Rattle.ffi3_script_rules.specs.Language.{read, under, value_under, HasShortArrays, HaveShortArrays};
 ghost use Rattle.ffi3_script_rules.specs.Bodies.{read_body, read_bodies};
 ghost use Rattle.ffi3_json.specs.Told.{Tells};
-ghost use Rattle.ffi3_script.specs.ExprOf.{script_moves_of};
+ghost use Rattle.ffi3_script_body.specs.ExprOf.{script_moves_of};
 ghost use Rattle.ffi3_script.specs.ScopeOf.{surroundings_in};
 ghost use Rattle.ffi3_script.specs.PartsOf.{headings_of, part_of, IsHeaded};
 
@@ -18,7 +18,7 @@ use ffi3_json::{Json, ScriptFault, Where};
 use std::alloc::Global;
 
 /// A function of a script: its name, the number of its signature, its moves.
-#[derive(Debug, Drop)]
+#[derive(Drop)]
 pub(crate) struct FunctionPart {
     pub(crate) name: String,
     pub(crate) sig: u32,

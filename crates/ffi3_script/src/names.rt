@@ -1,5 +1,6 @@
 // The names of the natives.
-ghost use Rattle.std.specs.Prelude.{◌≡◌, ◌<◌, ◌++◌, ◌∷◌, [], OnOk, OnErr, length, slice_get, Some, string_bytes};
+ghost use Rattle.std.specs.Prelude.{◌≡◌, ◌+◌, ◌<◌, ◌^◌, ◌++◌, ◌∷◌, [], OnOk, OnErr, length};
+ghost use Rattle.std.specs.Prelude.{slice_get, Some, string_bytes};
 
 use crate::NoMemory;
 use std::alloc::Global;
@@ -12,11 +13,13 @@ pub struct Names {
 }
 
 impl Model for Names {
-    ghost use Rattle.std.specs.Prelude.{List, ℕ, map, string_bytes};
+    ghost use Rattle.std.specs.Prelude.{List, ℕ, ◌<◌, ◌^◌, length, map, string_bytes};
 
     ghost Value = { List (List ℕ) };
 
     ghost view = { λ n. map string_bytes n.names.items };
+
+    ghost invariant = { λ n. length n.names.items < 2 ^ 32 };
 }
 
 impl Names {
@@ -31,7 +34,8 @@ impl Names {
 
     /// How many names there are.
     pub fn len(&self) -> usize
-        ensures { result ≡ length self.now }
+        ensures count { result ≡ length self.now }
+        ensures bound { length self.now < 2 ^ 32 }
     {
         self.names.len()
     }
@@ -46,6 +50,7 @@ impl Names {
 
     /// One more name at the end. Refused, it leaves the list as it was.
     pub fn push(&mut self, name: String) -> Result<(), NoMemory>
+        requires { length self.old + 1 < 2 ^ 32 }
         ensures ok { OnOk result (self.new ≡ self.old ++ string_bytes name ∷ []) }
         ensures err { OnErr result (self.new ≡ self.old) }
     {

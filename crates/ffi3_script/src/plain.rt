@@ -10,7 +10,7 @@ ghost use Rattle.ffi3_script_rules.specs.Values.{typed, in_range, is_integer_typ
 ghost use Rattle.ffi3_script_rules.specs.Values.{argument_of, result_of, user_of, element_of, against, cast_of};
 ghost use Rattle.ffi3_script_rules.specs.Values.{read_right_type};
 ghost use Rattle.ffi3_json.specs.Told.{Tells};
-ghost use Rattle.ffi3_script.specs.ExprOf.{expression_of, expressions_in, typed_of};
+ghost use Rattle.ffi3_script_body.specs.ExprOf.{expression_of, typed_of};
 ghost use Rattle.ffi3_script.specs.ScopeOf.{scope_of};
 
 use crate::scope::Scope;
@@ -34,13 +34,6 @@ pub(crate) fn push(values: &mut Vec<Expr>, value: Expr) -> Result<(), NoMemory>
     ensures { OnOk result (values.new.items ≡ values.old.items ++ value ∷ []) }
 {
     Ok(values.push(value)?)
-}
-
-/// A struct of these values.
-pub(crate) fn composed(values: Vec<Expr>) -> Expr
-    ensures { expression_of result ≡ script.composed (expressions_in values.items) }
-{
-    Expr::Composed(values)
 }
 
 /// The sum of two integers of a type.

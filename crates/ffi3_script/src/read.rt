@@ -1,8 +1,9 @@
 // From bytes to a script.
 ghost use Rattle.std.specs.Prelude.{◌≡◌, ◌+◌, ◌<◌, ◌≤◌, ◌^◌, ◌++◌, ◌∷◌, [], All, IfOk};
-ghost use Rattle.std.specs.Prelude.{IfErr, OnOk, Some, true, length, map};
+ghost use Rattle.std.specs.Prelude.{IfErr, OnOk, true, length, map};
 ghost use Rattle.std.specs.List.{list_all};
 ghost use Rattle.serde_json.specs.View.{view};
+ghost use Rattle.ffi3_type_rules.specs.Signature.{signature_at};
 ghost use Rattle.ffi3_script_rules.specs.Reading.{IsTheReading, script};
 ghost use Rattle.ffi3_script_rules.specs.Typed.{script_is_typed, function_is_typed, signature_is_right};
 ghost use Rattle.ffi3_script.specs.FunctionOf.{function_of, StandsIn};
@@ -72,7 +73,8 @@ fn functions_of(
     requires typed { All (λ f. function_is_typed sigs.now.value count (part_of f) ≡ true) parts.items }
     requires right { list_all signature_is_right sigs.now.value ≡ true }
     ensures are { IfOk result (λ fs. map function_of fs.items ≡ map part_of parts.items) }
-    ensures stand { IfOk result (λ fs. All (λ f. StandsIn sigs.now.value count (Some f.sig) f.body) fs.items) }
+    ensures stand { IfOk result
+        (λ fs. All (λ f. StandsIn sigs.now.value count (signature_at sigs.now.value f.sig) f.body) fs.items) }
 {
     let mut functions = Vec::new(alloc);
     for part in parts {
@@ -88,7 +90,7 @@ fn function_of(sigs: &Rc<Sigs>, count: u32, part: FunctionPart) -> Result<Script
     requires typed { function_is_typed sigs.now.value count (part_of part) ≡ true }
     requires right { list_all signature_is_right sigs.now.value ≡ true }
     ensures is { IfOk result (λ f. function_of f ≡ part_of part) }
-    ensures stands { IfOk result (λ f. StandsIn sigs.now.value count (Some f.sig) f.body) }
+    ensures stands { IfOk result (λ f. StandsIn sigs.now.value count (signature_at sigs.now.value f.sig) f.body) }
 {
     let FunctionPart { name, sig, moves } = part;
     let body = ScriptBody::new(sigs.clone()?, count, Some(sig), moves);

@@ -1,6 +1,8 @@
 // A whole script: its signatures, its functions and main.
-ghost use Rattle.std.specs.Prelude.{◌≡◌, ◌<◌, ◌+◌, ◌^◌, length, true, All, Some, None};
+ghost use Rattle.std.specs.Prelude.{◌≡◌, ◌<◌, ◌+◌, ◌^◌, length, true, All};
 ghost use Rattle.std.specs.List.{list_all};
+ghost use Rattle.ffi3_type_rules.specs.Signature.{signature_at};
+ghost use Rattle.ffi3_run_rules.specs.Move.{no_signature};
 ghost use Rattle.ffi3_script_rules.specs.Typed.{script_is_typed, signature_is_right};
 ghost use Rattle.ffi3_script.specs.FunctionOf.{script_from, StandsIn};
 
@@ -30,19 +32,19 @@ pub struct Script {
     ghost few_signatures: { length sigs.value < 2 ^ 31 },
     ghost few_functions: { length functions.items < 2 ^ 31 },
     ghost few_natives: { natives < 2 ^ 31 },
-    ghost main_stands: { ∥ StandsIn sigs.value (length functions.items + natives) None main ∥₁ },
-    ghost bodies_stand: { ∥ All (λ f. StandsIn sigs.value (length functions.items + natives) (Some f.sig) f.body)
-        functions.items ∥₁ },
+    ghost main_stands: { ∥ StandsIn sigs.value (length functions.items + natives) no_signature main ∥₁ },
+    ghost bodies_stand: { ∥ All (λ f. StandsIn sigs.value (length functions.items + natives)
+        (signature_at sigs.value f.sig) f.body) functions.items ∥₁ },
     ghost typed: { script_is_typed natives (script_from sigs.value functions.items main) ≡ true },
 }
 
 impl Script {
-    ghost use Rattle.std.specs.Prelude.{◌≡◌, ◌<◌, ◌+◌, ◌^◌, length, true, All, Some, None};
+    ghost use Rattle.std.specs.Prelude.{◌≡◌, ◌<◌, ◌+◌, ◌^◌, length, true, All};
     ghost use Rattle.std.specs.List.{list_all};
     ghost use Rattle.ffi3_type_rules.specs.Signature.{signature_at, SignatureHasNoFault};
     ghost use Rattle.ffi3_run_rules.specs.Move.{no_signature};
     ghost use Rattle.ffi3_script_rules.specs.Typed.{script_is_typed, signature_is_right};
-    ghost use Rattle.ffi3_script.specs.BodyOf.{moves_of, signatures_of, functions_of, signature_of};
+    ghost use Rattle.ffi3_script_body.specs.BodyOf.{moves_of, signatures_of, functions_of, signature_of};
     ghost use Rattle.ffi3_script.specs.FunctionOf.{script_from, StandsIn};
     ghost use Rattle.ffi3_script.specs.ScriptOf.{script_of, natives_of, function_at};
 
@@ -56,9 +58,9 @@ impl Script {
         requires few_signatures { length sigs.value < 2 ^ 31 }
         requires few_functions { length functions.items < 2 ^ 31 }
         requires few_natives { natives < 2 ^ 31 }
-        requires main_stands { StandsIn sigs.value (length functions.items + natives) None main }
-        requires bodies_stand { All (λ f. StandsIn sigs.value (length functions.items + natives) (Some f.sig) f.body)
-            functions.items }
+        requires main_stands { StandsIn sigs.value (length functions.items + natives) no_signature main }
+        requires bodies_stand { All (λ f. StandsIn sigs.value (length functions.items + natives)
+            (signature_at sigs.value f.sig) f.body) functions.items }
         requires typed { script_is_typed natives (script_from sigs.value functions.items main) ≡ true }
         ensures is { script_of result ≡ script_from sigs.value functions.items main }
         ensures natives_are { natives_of result ≡ natives }

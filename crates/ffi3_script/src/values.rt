@@ -5,13 +5,13 @@ ghost use Rattle.ffi3_types.specs.TreeOf.{tree_of};
 ghost use Rattle.ffi3_script_rules.specs.Language.{read, fault, HasShortArrays, HaveShortArrays, at_item, under};
 ghost use Rattle.ffi3_script_rules.specs.Values.{read_value, read_values, read_typed, read_field, read_of, form_named};
 ghost use Rattle.ffi3_json.specs.Told.{Tells};
-ghost use Rattle.ffi3_script.specs.ExprOf.{expression_of, expressions_in, typed_of};
+ghost use Rattle.ffi3_script_body.specs.ExprOf.{expression_of, expressions_in, typed_of};
 ghost use Rattle.ffi3_script.specs.ScopeOf.{scope_of};
 ghost use Rattle.ffi3_script.specs.Shapes.{typed_form_of, typed_under, value_under_form, read_terms};
 
 use crate::forms::{Form, TypedForm, form_named, is_untyped, only_member, two_items};
 use crate::plain::{
-    against, argument_of, cast_of, composed, difference, element_of, is_integer, is_number, push,
+    against, argument_of, cast_of, difference, element_of, is_integer, is_number, push,
     read_first_type, read_number, read_text, result_of, sum, typed_as, user_of,
 };
 use crate::scope::Scope;
@@ -52,7 +52,7 @@ pub(crate) fn read_value(
             return Err(bad(alloc, at, Reason::WrongCount));
         }
         return match read_values(alloc, scope, fields, items, at) {
-            Ok(values) => Ok(composed(values)),
+            Ok(values) => Ok(Expr::of_elements(values)),
             Err(fault) => Err(fault),
         };
     }

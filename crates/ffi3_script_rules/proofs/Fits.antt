@@ -4,8 +4,8 @@ use Rattle.std.specs.Prelude.{slice_index_or, nat_lt, ◌&&◌, is_none}
 use Rattle.std.specs.Int.{w64, to_le_bytes}
 use Rattle.std.specs.List.{list_all}
 use Rattle.std.proofs.lemmas.Bool.{eq-eqb, eqb-true, ltb-true}
-use Rattle.ffi3_type_rules.specs.Tree.{Scalar, pointer, Tree, void, scalar, left_out, structure, Trees, no_trees, tree, tree_at, trees_of, list_of, elements_of, trees_of-list_of}
-use Rattle.ffi3_type_rules.specs.Integer.{bytes_of_number, number_of, sum_of}
+use Rattle.ffi3_type_rules.specs.Tree.{Scalar, u8, s8, u16, s16, u32, s32, u64, s64, float, double, pointer, Tree, void, scalar, left_out, structure, Trees, no_trees, tree, tree_at, trees_of, list_of, elements_of, trees_of-list_of}
+use Rattle.ffi3_type_rules.specs.Integer.{is_integer, is_number, bytes_of_number, number_of, sum_of}
 use Rattle.ffi3_type_rules.specs.Layout.{scalar_size}
 use Rattle.ffi3_type_rules.specs.Value.{ValueTree, ValueTrees, no_values, value, void_value, leaf_value, struct_value, bytes_of, list_of_values, zero_value, fits, all_fit}
 use Rattle.ffi3_type_rules.specs.Signature.{Signature, signature_at}
@@ -17,7 +17,7 @@ use Rattle.ffi3_run_rules.specs.Move.{Move, MoveFits, result_type_of, no_signatu
 use Rattle.ffi3_script_rules.specs.FirstFault.{first_fault}
 use Rattle.ffi3_script_rules.specs.Bodies.{type_of_act, is_return, ends}
 use Rattle.ffi3_script_rules.specs.Meaning.{Known, value_of, values_of, element_value, difference_of, is_done, move_of, next_by, next_of, knows_too, behaviour_of, known}
-use Rattle.ffi3_script_rules.specs.Typed.{Kinds, is_at, own_type, is_scalar_of, is_number_of, is_struct, trees_in, has_type, have_types, same_scalar, Setting, is_right, signature_is_right, act_is_typed, gives_too, moves_are_typed, body_is_typed, function_is_typed, script_is_typed, IsOfType, is_condition}
+use Rattle.ffi3_script_rules.specs.Typed.{Kinds, is_at, own_type, is_scalar_of, is_integer_of, is_number_of, is_struct, trees_in, has_type, have_types, same_scalar, Setting, is_right, signature_is_right, act_is_typed, gives_too, moves_are_typed, body_is_typed, function_is_typed, script_is_typed, IsOfType, is_condition}
 use Rattle.ffi3_script_rules.proofs.Tests.{and_left, and_right, both, types_are_same, scalars_are_same}
 use Rattle.ffi3_script_rules.proofs.FirstFaults.{right_by_none}
 use Rattle.ffi3_script_rules.proofs.RightTypes.{is_none-none, zero_fits, any_result_type_is_right}
@@ -64,6 +64,27 @@ number_fits s void bytes n h = cc
 number_fits s (left_out k) bytes n h = cc
 number_fits s (structure ts) bytes n h = cc
 
+pub integer_is_number : (s : Scalar) → is_integer s ≡ true → is_number s ≡ true
+integer_is_number u8 h = refl
+integer_is_number s8 h = refl
+integer_is_number u16 h = refl
+integer_is_number s16 h = refl
+integer_is_number u32 h = refl
+integer_is_number s32 h = refl
+integer_is_number u64 h = refl
+integer_is_number s64 h = refl
+integer_is_number float h = cc
+integer_is_number double h = cc
+integer_is_number pointer h = cc
+
+-- an integer's type is a number's
+pub number_by_integer : (s : Scalar) (t : Tree) → is_integer_of s t ≡ true → is_number_of s t ≡ true
+number_by_integer s (scalar r) h =
+    both (same_scalar s r) (is_number r) (and_left (same_scalar s r) _ h) (integer_is_number r (and_right (same_scalar s r) _ h))
+number_by_integer s void h = cc
+number_by_integer s (left_out k) h = cc
+number_by_integer s (structure ts) h = cc
+
 composed_fits : (t : Tree) (vs : ValueTrees) → is_struct t ≡ true → all_fit (trees_in t) vs ≡ true → fits t (struct_value vs) ≡ true
 composed_fits (structure ts) vs h each = each
 composed_fits void vs h each = cc
@@ -88,9 +109,9 @@ module _ (kinds : Kinds) (k : Known) (arguments : all_fit (trees_of kinds.argume
     value_fits t (typed_as u e) h =
         subst (λ w. fits w (value_of k e) ≡ true) (types_are_same u t (and_left _ _ h)) (value_fits u e (and_right _ _ h))
     value_fits t (sum s e f) h =
-        number_fits s t (sum_of s (bytes_of (value_of k e)) (bytes_of (value_of k f))) (length-bytes_of_number s _) (and_left (is_number_of s t) _ h)
+        number_fits s t (sum_of s (bytes_of (value_of k e)) (bytes_of (value_of k f))) (length-bytes_of_number s _) (number_by_integer s t (and_left (is_integer_of s t) _ h))
     value_fits t (difference s e f) h =
-        number_fits s t (difference_of s (bytes_of (value_of k e)) (bytes_of (value_of k f))) (length-bytes_of_number s _) (and_left (is_number_of s t) _ h)
+        number_fits s t (difference_of s (bytes_of (value_of k e)) (bytes_of (value_of k f))) (length-bytes_of_number s _) (number_by_integer s t (and_left (is_integer_of s t) _ h))
     value_fits t (cast from to e) h =
         number_fits to t (bytes_of_number to (number_of from (bytes_of (value_of k e)))) (length-bytes_of_number to _) (and_left (is_number_of to t) _ h)
 

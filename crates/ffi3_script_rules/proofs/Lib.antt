@@ -7,6 +7,7 @@ mod MoveRows
 mod ValueRows
 mod MeaningRows
 mod ComputedValueRows
+mod TypedRows
 mod RunLimitRows
 pub mod Tests
 pub mod RightTypes

@@ -11,7 +11,6 @@ use Rattle.ffi3_type_rules.specs.ValueText.{value_text_of}
 use Rattle.ffi3_place_rules.specs.Standard.{Standard}
 use Rattle.ffi3_run_rules.specs.Move.{Move, print}
 use Rattle.ffi3_run_rules.specs.Meaning.{Program, function_at}
-use Rattle.ffi3_run_rules.specs.Happenings.{happenings_of}
 use Rattle.ffi3_run_rules.specs.Lines as lines
 use Rattle.ffi3_script_rules.specs.Language.{Read, read, fault}
 use Rattle.ffi3_script_rules.specs.ReasonText.{text_of_path, text_of_reason}
@@ -118,4 +117,4 @@ is_of standard type value =
     prints standard (codes "{'print':{'of':[" ++ type ++ codes "," ++ value ++ codes "]}}")
 
 abbrev pub run_text : Program → List ℕ
-run_text p = lines.text p.signatures (happenings_of p)
+run_text p = lines.text_of_run lines.untraced p

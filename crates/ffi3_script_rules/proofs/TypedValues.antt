@@ -10,7 +10,7 @@ use Rattle.hex.proofs.HexLemmas.{decode_pairs-ok}
 use Rattle.serde_json.specs.Data.{Data, null, boolean, number, string, array, object, Items, no_items, item, Members, no_members, member, Num}
 use Rattle.serde_json.specs.Find.{as_number, as_u64, as_str, as_integer}
 use Rattle.serde_json.specs.Events.{items_len}
-use Rattle.ffi3_type_rules.specs.Tree.{Tree, void, scalar, left_out, structure, Trees, no_trees, tree, tree_at, trees_of, list_of, elements_of, trees_of-list_of, Scalar, u8, s8, u16, s16, u32, s32, u64, s64, float, double, pointer}
+use Rattle.ffi3_type_rules.specs.Tree.{Tree, void, scalar, left_out, structure, Trees, no_trees, tree, tree_at, trees_of, list_of, elements_of, trees_of-list_of, Scalar, pointer}
 use Rattle.ffi3_type_rules.specs.Integer.{is_integer, is_number, is_number_type, scalar_of, bytes_of_number}
 use Rattle.ffi3_type_rules.specs.Layout.{scalar_size}
 use Rattle.ffi3_type_rules.specs.Same.{same_tree}
@@ -19,7 +19,7 @@ use Rattle.ffi3_script_rules.specs.FirstFault.{Found, first_fault}
 use Rattle.ffi3_script_rules.specs.Language.{Read, read, and_then, read_map, Path, under, at_item, read_type, out_of_range, wrong_type, wrong_count}
 use Rattle.ffi3_script_rules.specs.Script.{Expression, constant, composed, argument, outcome, user_data, element, typed_as, cast, Expressions, no_expressions, expression, Typed}
 use Rattle.ffi3_script_rules.specs.Values.{Given, Scope, read_integer, in_range, read_number, is_floating_type, bytes_or_fault, read_text, typed, against, typed_argument, argument_of, has_name, typed_result, result_number, result_of, user_of, typed_element, element_in, field_of, right_type, read_right_type, TypedForm, arg_form, res_form, user_form, field_form, of_form, Form, typed_form, add_form, sub_form, cast_form, no_form, form_named, is_integer_type, if_integer, cast_of, composed_of, Pair, sum_of, difference_of, typed_by, value_by, own_by, read_value, read_values, read_object, read_two, read_typed, read_typed_object, read_field, read_of}
-use Rattle.ffi3_script_rules.specs.Typed.{Kinds, is_at, own_type, is_scalar_of, is_number_of, has_type, have_types, same_scalar, is_right, is_right_argument, types_of, kinds_of, scope_is_right}
+use Rattle.ffi3_script_rules.specs.Typed.{Kinds, is_at, own_type, is_scalar_of, is_integer_of, is_number_of, has_type, have_types, same_scalar, is_right, is_right_argument, types_of, kinds_of, scope_is_right}
 use Rattle.ffi3_script_rules.proofs.Tests.{and_left, and_right, both, types_are_same, type_is_itself}
 use Rattle.ffi3_script_rules.proofs.RightTypes.{is_none-none, none-is_none, right_as_result, element_as_argument}
 use Rattle.ffi3_script_rules.proofs.ReadParts.{first_was_read, part_was_read, same_read, test_held, got}
@@ -38,21 +38,8 @@ number_type void h = absurd (cc)
 number_type (left_out k) h = absurd (cc)
 number_type (structure ts) h = absurd (cc)
 
-integer_is_number : (s : Scalar) → is_integer s ≡ true → is_number s ≡ true
-integer_is_number u8 h = refl
-integer_is_number s8 h = refl
-integer_is_number u16 h = refl
-integer_is_number s16 h = refl
-integer_is_number u32 h = refl
-integer_is_number s32 h = refl
-integer_is_number u64 h = refl
-integer_is_number s64 h = refl
-integer_is_number float h = cc
-integer_is_number double h = cc
-integer_is_number pointer h = cc
-
-integer_type : (t : Tree) → is_integer_type t ≡ true → (t ≡ scalar (scalar_of t)) × (is_number (scalar_of t) ≡ true)
-integer_type (scalar s) h = (refl, integer_is_number s h)
+integer_type : (t : Tree) → is_integer_type t ≡ true → (t ≡ scalar (scalar_of t)) × (is_integer (scalar_of t) ≡ true)
+integer_type (scalar s) h = (refl, h)
 integer_type void h = absurd (cc)
 integer_type (left_out k) h = absurd (cc)
 integer_type (structure ts) h = absurd (cc)
@@ -67,6 +54,10 @@ floating_type (structure ts) h = cc
 number_of_scalar : (s : Scalar) (t : Tree) → (t ≡ scalar s) × (is_number s ≡ true) → is_number_of s t ≡ true
 number_of_scalar s t h =
     subst (λ u. is_number_of s u ≡ true) (sym h.0) (both (same_scalar s s) (is_number s) (eq-eqb _ _ refl) h.1)
+
+integer_of_scalar : (s : Scalar) (t : Tree) → (t ≡ scalar s) × (is_integer s ≡ true) → is_integer_of s t ≡ true
+integer_of_scalar s t h =
+    subst (λ u. is_integer_of s u ≡ true) (sym h.0) (both (same_scalar s s) (is_integer s) (eq-eqb _ _ refl) h.1)
 
 -- a text that is decoded has two digits for each byte
 ok_else : (b : Bool) (x : FromHexError) (r : Result (List ℕ) FromHexError) (bytes : List ℕ) → (if b then Err x else r) ≡ Ok bytes → r ≡ Ok bytes
@@ -263,14 +254,14 @@ module _ (scope : Scope) (right : scope_is_right scope ≡ true) where
       let held = test_held (is_integer_type t) (read_map (sum_of (scalar_of t)) (two tt)) path wrong_type e h in
       let part = part_was_read (sum_of (scalar_of t)) (two tt) e held.1 in
       let both_have = each part.0 part.1 in
-      subst (λ f. has_type kinds t f ≡ true) part.2 (both (is_number_of (scalar_of t) t) _ (number_of_scalar (scalar_of t) t (integer_type t held.0)) (both (has_type kinds t part.0.0) _ both_have.0 both_have.1))
+      subst (λ f. has_type kinds t f ≡ true) part.2 (both (is_integer_of (scalar_of t) t) _ (integer_of_scalar (scalar_of t) t (integer_type t held.0)) (both (has_type kinds t part.0.0) _ both_have.0 both_have.1))
 
   difference_has : (t : Tree) (path : Path) (two : ⊤ → Read Pair) (e : Expression) → ((p : Pair) → two tt ≡ read p → AreOfType t p) → if_integer t path (λ _. read_map (difference_of (scalar_of t)) (two tt)) ≡ read e → has_type kinds t e ≡ true
   difference_has t path two e each h =
       let held = test_held (is_integer_type t) (read_map (difference_of (scalar_of t)) (two tt)) path wrong_type e h in
       let part = part_was_read (difference_of (scalar_of t)) (two tt) e held.1 in
       let both_have = each part.0 part.1 in
-      subst (λ f. has_type kinds t f ≡ true) part.2 (both (is_number_of (scalar_of t) t) _ (number_of_scalar (scalar_of t) t (integer_type t held.0)) (both (has_type kinds t part.0.0) _ both_have.0 both_have.1))
+      subst (λ f. has_type kinds t f ≡ true) part.2 (both (is_integer_of (scalar_of t) t) _ (integer_of_scalar (scalar_of t) t (integer_type t held.0)) (both (has_type kinds t part.0.0) _ both_have.0 both_have.1))
 
   value_by_has : (t : Tree) (path place : Path) (own : TypedForm → Read Typed) (two : ⊤ → Read Pair) (inner : ⊤ → Read Typed) (form : Form) (e : Expression) → ((f : TypedForm) → IsGood (own f)) → ((p : Pair) → two tt ≡ read p → AreOfType t p) → IsGood (inner tt) → value_by t path place own two inner form ≡ read e → has_type kinds t e ≡ true
   value_by_has t path place own two inner no_form e of_own of_two of_inner h = cc

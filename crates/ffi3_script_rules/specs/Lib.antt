@@ -1,5 +1,6 @@
 pub mod Step
 pub mod FirstFault
+pub mod SignatureRefusal
 pub mod Language
 pub mod ReasonText
 pub mod Script

@@ -3,7 +3,7 @@ use Rattle.std.specs.Prelude.{◌≡◌, ℕ, ◌+◌, ◌==◌, ◌&&◌, List,
 use Rattle.std.specs.List.{list_all}
 use Rattle.ffi3_type_rules.specs.Tree.{Tree, void, scalar, left_out, structure, Trees, no_trees, tree, tree_at, trees_of, Scalar, scalar_number, pointer}
 use Rattle.ffi3_type_rules.specs.Tree as types
-use Rattle.ffi3_type_rules.specs.Integer.{is_number, is_number_type}
+use Rattle.ffi3_type_rules.specs.Integer.{is_integer, is_number, is_number_type}
 use Rattle.ffi3_type_rules.specs.Layout.{scalar_size}
 use Rattle.ffi3_type_rules.specs.Same.{same_tree}
 use Rattle.ffi3_type_rules.specs.Signature.{Signature, signature_at}
@@ -39,7 +39,12 @@ abbrev pub is_scalar_of : ℕ → Tree → Bool
 is_scalar_of size (scalar s) = size == scalar_size s
 is_scalar_of size _ = false
 
--- the scalar type of a number
+-- the scalar type of an integer
+abbrev pub is_integer_of : Scalar → Tree → Bool
+is_integer_of s (scalar r) = same_scalar s r && is_integer r
+is_integer_of s _ = false
+
+-- the scalar type of an integer or a pointer
 abbrev pub is_number_of : Scalar → Tree → Bool
 is_number_of s (scalar r) = same_scalar s r && is_number r
 is_number_of s _ = false
@@ -63,8 +68,9 @@ abbrev mutual
   has_type k t (element e i) =
       is_at (types.elements_of (own_type k e)) i t && has_type k (own_type k e) e
   has_type k t (typed_as u e) = same_tree u t && has_type k u e
-  has_type k t (sum s e f) = is_number_of s t && (has_type k t e && has_type k t f)
-  has_type k t (difference s e f) = is_number_of s t && (has_type k t e && has_type k t f)
+  has_type k t (sum s e f) = is_integer_of s t && (has_type k t e && has_type k t f)
+  has_type k t (difference s e f) =
+      is_integer_of s t && (has_type k t e && has_type k t f)
   has_type k t (cast from to e) =
       is_number_of to t && (is_number from && has_type k (scalar from) e)
 

@@ -4,8 +4,6 @@
 mod layout;
 mod names;
 mod place;
-#[cfg(test)]
-mod tests;
 
 pub use layout::layout_line;
 pub use place::{place_line, sig_line};

@@ -1,15 +1,16 @@
 -- Every layout keeps its laws.
 use Prim.Native.Nat.{◌∣◌}
-use Rattle.std.proofs.Common.{◌≡◌, ℕ, zero, suc, ◌+◌, ◌-◌, ◌*◌, ◌/◌, ◌%◌, ◌<◌, ◌≤◌, inl, inr, max, List, [], ◌∷◌, ◌++◌, map, length, refl, ap, ◌∙◌, subst, arith}
+use Rattle.std.proofs.Common.{◌≡◌, ℕ, zero, suc, ◌+◌, ◌%◌, ◌<◌, ◌≤◌, inl, inr, max, List, [], ◌∷◌, ◌++◌, map, length, refl, ap, ◌∙◌, subst, arith}
 use Rattle.std.specs.Prelude.{slice_index_or}
-use Rattle.std.proofs.Math.Nat.{dvd-add, mod-lt, mod-eq_of_lt, mul-mod_left, mod_self}
-use Rattle.std.proofs.lemmas.Nat.{div-add-mod'}
+use Rattle.std.proofs.Math.Nat.{dvd-add}
 use Rattle.std.proofs.lemmas.Nat.Gcd.{dvd_refl, dvd-zero, dvd_trans, dvd_of_mod-eq-zero, mod-eq-zero_of_dvd}
 use Rattle.std.proofs.lemmas.Bool.{cases_lt}
 use Rattle.ffi3_type_rules.specs.Tree.{Tree, void, scalar, left_out, structure, Trees, no_trees, tree, tree_at, list_of, Scalar, u8, s8, u16, s16, u32, s32, u64, s64, float, double, pointer}
 use Rattle.ffi3_type_rules.specs.Layout.{Layout, Leaf, layout, layouts, nothing, element, end_before, start_of, align_before, leaves_before, moved, least_multiple, struct_layout, scalar_size, scalar_layout, leaves_of, leaf_at, size_of, align_of}
 use Rattle.ffi3_type_rules.specs.LayoutLaws.{leaf_end, StandsOnPath, IsWellLaidOut}
 use Rattle.ffi3_type_rules.proofs.Layouts.{least_multiple-above}
+use Rattle.ffi3_type_rules.proofs.LeastMultiples.{least_multiple-divides}
+use Rattle.ffi3_type_rules.proofs.StructLaws.{element_placed, greatest_alignment, least_size}
 use Rattle.ffi3_type_rules.proofs.Faults.{node_outside}
 
 -- the alignments
@@ -123,29 +124,6 @@ scalar_power s64 = (p8, refl)
 scalar_power float = (p4, refl)
 scalar_power double = (p8, refl)
 scalar_power pointer = (p8, refl)
-
--- the least multiple is one
-multiple-zero : (a n : ℕ) → n % a ≡ 0 → (n + (a - n % a) % a) % a ≡ 0
-multiple-zero a n e =
-    let whole : a - n % a ≡ a = omega arith in
-    let none : (a - n % a) % a ≡ 0 = ap (λ k. k % a) whole ∙ mod_self a in
-    let same : n + (a - n % a) % a ≡ n = omega arith in
-    ap (λ k. k % a) same ∙ e
-
-multiple-more : (a n : ℕ) → 0 < a → 0 < n % a → (n + (a - n % a) % a) % a ≡ 0
-multiple-more a n p h =
-    let below : n % a < a = mod-lt n p in
-    let rest : (a - n % a) % a ≡ a - n % a = mod-eq_of_lt (omega arith) in
-    let next : n + (a - n % a) % a ≡ (n / a + 1) * a = omega (arith, div-add-mod' n a) in
-    ap (λ k. k % a) next ∙ mul-mod_left (n / a + 1) a
-
-least_multiple-divides : (a n : ℕ) → 0 < a → a ∣ least_multiple a n
-unfolding least_multiple
-least_multiple-divides a n p =
-    elim (cases_lt 0 (n % a)) [
-      | inl more ↦ dvd_of_mod-eq-zero a (multiple-more a n p more)
-      | inr none ↦ dvd_of_mod-eq-zero a (multiple-zero a n (omega arith))
-    ]
 
 -- leaves from one place up to another
 abbrev Rising : ℕ → List Leaf → ℕ → Type 0
@@ -325,6 +303,9 @@ well_laid_out t =
     let ls = leaves_of t in
     let d : Leaf = record { at = 0; kind = u8 } in
     record {
+      placed = λ i h. element_placed t i h;
+      greatest = λ h. greatest_alignment t h;
+      least = λ h. least_size t h;
       inside = λ i h. (rising-inside 0 ls (size_of t) i d h well.rising).1;
       in_order = λ i j h k. rising-order 0 ls (size_of t) i j d h k well.rising;
       aligned = λ i h. mod-eq-zero_of_dvd (scalar_size (leaf_at t i).kind) (aligned-at (align_of t) ls i d h well.aligned);

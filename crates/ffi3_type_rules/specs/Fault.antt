@@ -1,7 +1,7 @@
 -- What is wrong with a type, and which fault is the first. (libffi manual, "Structures": FFI_BAD_TYPEDEF; the limits and the left-out kinds are this library's)
 use Rattle.std.specs.Prelude.{◌≡◌, ℕ, ◌+◌, ◌<◌, ◌⊎◌, Bool, false, List, [], ◌∷◌, length, Option, Some, None, slice_get, option_and_then}
 use Rattle.ffi3_type_rules.specs.declared.limits.TheConstants.{LARGEST_STRUCT, DEEPEST_NESTING}
-use Rattle.ffi3_type_rules.specs.Tree.{Tree, void, left_out, structure, LeftOutKind, Trees, no_trees, list_of}
+use Rattle.ffi3_type_rules.specs.Tree.{Tree, void, left_out, structure, LeftOutKind, Trees, no_trees, list_of, scalar}
 use Rattle.ffi3_type_rules.specs.Layout.{size_of}
 
 pub data Fault : Type 0 where
@@ -12,8 +12,10 @@ pub data Fault : Type 0 where
 
 -- element i of a struct
 abbrev pub element_at : Tree → ℕ → Option Tree
+element_at void i = None
+element_at (scalar s) i = None
+element_at (left_out k) i = None
 element_at (structure ts) i = slice_get (list_of ts) i
-element_at _ i = None
 
 -- the node that a path of element numbers leads to
 abbrev pub node_at : List ℕ → Tree → Option Tree

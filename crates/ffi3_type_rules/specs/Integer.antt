@@ -1,36 +1,67 @@
 -- The number that the bytes of an integer make, and back: little-endian, two's complement. (psABI AMD64 3.1.2, AAPCS64 5.1, RISC-V ELF psABI "C type details")
 use Rattle.std.specs.Prelude.{ℕ, suc, ◌-◌, ◌%◌, ◌^◌, Bool, true, false, if◌then◌else◌, ℤ, pos, negsuc, ◌+ℤ◌, List}
-use Rattle.std.specs.Int.{Width, w8, w16, w32, w64, to_le_bytes, from_le_bytes, cast_signed, cast_unsigned}
-use Rattle.ffi3_type_rules.specs.Tree.{Scalar, u8, s8, u16, s16, u32, s32, u64, s64, float, double, pointer, Tree, scalar}
+use Rattle.std.specs.Int.{Width, w8, w16, w32, w64, w128, to_le_bytes, from_le_bytes, cast_signed, cast_unsigned}
+use Rattle.ffi3_type_rules.specs.Tree.{Scalar, u8, s8, u16, s16, u32, s32, u64, s64, float, double, pointer, Tree, void, scalar, left_out, structure}
 
 -- the eight integer types
 abbrev pub is_integer : Scalar → Bool
+is_integer u8 = true
+is_integer s8 = true
+is_integer u16 = true
+is_integer s16 = true
+is_integer u32 = true
+is_integer s32 = true
+is_integer u64 = true
+is_integer s64 = true
 is_integer float = false
 is_integer double = false
 is_integer pointer = false
-is_integer _ = true
+
+abbrev pub is_integer_type : Tree → Bool
+is_integer_type void = false
+is_integer_type (scalar s) = is_integer s
+is_integer_type (left_out k) = false
+is_integer_type (structure ts) = false
 
 -- the types whose bytes are a number: the integers and the pointer
 abbrev pub is_number : Scalar → Bool
+is_number u8 = true
+is_number s8 = true
+is_number u16 = true
+is_number s16 = true
+is_number u32 = true
+is_number s32 = true
+is_number u64 = true
+is_number s64 = true
 is_number float = false
 is_number double = false
-is_number _ = true
+is_number pointer = true
 
 abbrev pub is_number_type : Tree → Bool
+is_number_type void = false
 is_number_type (scalar s) = is_number s
-is_number_type _ = false
+is_number_type (left_out k) = false
+is_number_type (structure ts) = false
 
 -- the scalar that a type is
 abbrev pub scalar_of : Tree → Scalar
+scalar_of void = u8
 scalar_of (scalar s) = s
-scalar_of _ = u8
+scalar_of (left_out k) = u8
+scalar_of (structure ts) = u8
 
 abbrev pub is_signed : Scalar → Bool
+is_signed u8 = false
 is_signed s8 = true
+is_signed u16 = false
 is_signed s16 = true
+is_signed u32 = false
 is_signed s32 = true
+is_signed u64 = false
 is_signed s64 = true
-is_signed _ = false
+is_signed float = false
+is_signed double = false
+is_signed pointer = false
 
 abbrev pub width_of : Scalar → Width
 width_of u8 = w8
@@ -50,7 +81,7 @@ bit_count w8 = 8
 bit_count w16 = 16
 bit_count w32 = 32
 bit_count w64 = 64
-bit_count _ = 128
+bit_count w128 = 128
 
 -- the number of an integer or a pointer, read by its sign
 abbrev pub number_of : Scalar → List ℕ → ℤ
@@ -82,6 +113,20 @@ widened_from_32 s bytes =
     cast_unsigned w64 (cast_signed w32 (modulo 32 (number_of s bytes)))
 
 abbrev pub is_floating : Scalar → Bool
+is_floating u8 = false
+is_floating s8 = false
+is_floating u16 = false
+is_floating s16 = false
+is_floating u32 = false
+is_floating s32 = false
+is_floating u64 = false
+is_floating s64 = false
 is_floating float = true
 is_floating double = true
-is_floating _ = false
+is_floating pointer = false
+
+abbrev pub is_floating_type : Tree → Bool
+is_floating_type void = false
+is_floating_type (scalar s) = is_floating s
+is_floating_type (left_out k) = false
+is_floating_type (structure ts) = false

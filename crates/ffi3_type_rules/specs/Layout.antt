@@ -99,8 +99,10 @@ leaves_of t = (layout t).leaves
 
 -- where element i of a struct starts
 abbrev pub offset_of : Tree → ℕ → ℕ
+offset_of void i = 0
+offset_of (scalar s) i = 0
+offset_of (left_out k) i = 0
 offset_of (structure ts) i = start_of (layouts ts) i
-offset_of _ i = 0
 
 -- leaf i of a type
 abbrev pub leaf_at : Tree → ℕ → Leaf

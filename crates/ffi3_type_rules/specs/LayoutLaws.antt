@@ -1,7 +1,7 @@
--- What every layout keeps. (C, "Structure and union specifiers": elements lie in order, each at a multiple of its alignment)
-use Rattle.std.specs.Prelude.{◌≡◌, ℕ, ◌+◌, ◌%◌, ◌<◌, ◌≤◌, List, [], ◌∷◌, length, Some}
+-- What every layout keeps. (libffi manual, "Size and Alignment"; C, "Structure and union specifiers": elements lie in order, each at a multiple of its alignment)
+use Rattle.std.specs.Prelude.{◌≡◌, ℕ, zero, suc, ◌+◌, ◌%◌, ◌<◌, ◌≤◌, List, [], ◌∷◌, length, Some}
 use Rattle.ffi3_type_rules.specs.Tree.{Tree, scalar, tree_at, elements_of}
-use Rattle.ffi3_type_rules.specs.Layout.{Leaf, scalar_size, size_of, align_of, leaves_of, leaf_at, offset_of}
+use Rattle.ffi3_type_rules.specs.Layout.{Leaf, IsLeastMultiple, scalar_size, size_of, align_of, leaves_of, leaf_at, offset_of}
 use Rattle.ffi3_type_rules.specs.Fault.{node_at}
 
 -- where a leaf ends
@@ -19,7 +19,25 @@ pub record StandsOnPath (t : Tree) (leaf : Leaf) : Type 0 where
   pub leads : node_at path t ≡ Some (scalar leaf.kind)
   pub starts : leaf.at ≡ offset_on path t
 
+-- where the element before number i ends: 0 for the first
+abbrev pub end_of_previous : Tree → ℕ → ℕ
+end_of_previous t zero = 0
+end_of_previous t (suc i) = offset_of t i + size_of (tree_at (elements_of t) i)
+
+-- the greatest alignment of these types
+pub record IsGreatestAlignment (ts : List Tree) (align : ℕ) : Type 0 where
+  pub number : ℕ
+  pub in_range : number < length ts
+  pub reached : align_of (tree_at ts number) ≡ align
+  pub none_greater : (i : ℕ) → i < length ts → align_of (tree_at ts i) ≤ align
+
 pub record IsWellLaidOut (t : Tree) : Type 0 where
+  -- each element of a struct stands at the least multiple of its alignment that is not below the end of the one before
+  pub placed : (i : ℕ) → i < length (elements_of t) → IsLeastMultiple (align_of (tree_at (elements_of t) i)) (end_of_previous t i) (offset_of t i)
+  -- a struct's alignment is the greatest of its elements'
+  pub greatest : 0 < length (elements_of t) → IsGreatestAlignment (elements_of t) (align_of t)
+  -- its size is the least multiple of its alignment that is not below the end of its last element
+  pub least : 0 < length (elements_of t) → IsLeastMultiple (align_of t) (end_of_previous t (length (elements_of t))) (size_of t)
   -- leaves lie in the type
   pub inside : (i : ℕ) → i < length (leaves_of t) → leaf_end (leaf_at t i) ≤ size_of t
   -- they rise from the left and do not overlap

@@ -2,7 +2,7 @@
 use Rattle.std.specs.Prelude.{◌≡◌, ℕ, ◌<◌, ◌≤◌, ◌⊎◌, Bool, true, false, List, [], length, Option, Some, None, refl, slice_index_or}
 use Rattle.std.specs.Coded.{Coded, code_by, coded×, coded_list, coded_option, coded_ℕ}
 use Rattle.ffi3_type_rules.specs.declared.limits.TheConstants.{MOST_ARGUMENTS}
-use Rattle.ffi3_type_rules.specs.Tree.{Tree, void, scalar, tree_at, tree_code, tree_list_code, Scalar, u8, s8, u16, s16, float}
+use Rattle.ffi3_type_rules.specs.Tree.{Tree, void, scalar, tree_at, tree_code, tree_list_code, Scalar, u8, s8, u16, s16, float, left_out, structure, u32, s32, u64, s64, double, pointer}
 use Rattle.ffi3_type_rules.specs.Fault.{Fault, IsFirstFault}
 
 pub record Signature : Type 0 where
@@ -39,12 +39,19 @@ is_promoted_scalar u8 = true
 is_promoted_scalar s8 = true
 is_promoted_scalar u16 = true
 is_promoted_scalar s16 = true
+is_promoted_scalar u32 = false
+is_promoted_scalar s32 = false
+is_promoted_scalar u64 = false
+is_promoted_scalar s64 = false
 is_promoted_scalar float = true
-is_promoted_scalar _ = false
+is_promoted_scalar double = false
+is_promoted_scalar pointer = false
 
 abbrev pub is_promoted : Tree → Bool
+is_promoted void = false
 is_promoted (scalar s) = is_promoted_scalar s
-is_promoted _ = false
+is_promoted (left_out k) = false
+is_promoted (structure ts) = false
 
 pub data IsSignatureFault (s : Signature) : SignatureFault → Type 0 where
   over_most : MOST_ARGUMENTS < length s.arguments → IsSignatureFault s (too_many (length s.arguments))
@@ -62,9 +69,11 @@ kind_rank (bad_fixed n count) = 3
 kind_rank (bad_argument_type i) = 4
 
 abbrev pub argument_number : SignatureFault → ℕ
+argument_number (too_many n) = 0
+argument_number (bad_type at_result path fault) = 0
 argument_number (bad_type (at_argument i) path fault) = i
+argument_number (bad_fixed n count) = 0
 argument_number (bad_argument_type i) = i
-argument_number _ = 0
 
 abbrev pub SignatureFaultBefore : SignatureFault → SignatureFault → Type 0
 SignatureFaultBefore f g =

@@ -27,13 +27,15 @@ values_of (v ∷ vs) = value v (values_of vs)
 
 -- the bytes of a leaf
 abbrev pub bytes_of : ValueTree → List ℕ
+bytes_of void_value = []
 bytes_of (leaf_value bytes) = bytes
-bytes_of _ = []
+bytes_of (struct_value vs) = []
 
 -- the values of a struct's elements
 abbrev pub elements_of : ValueTree → ValueTrees
+elements_of void_value = no_values
+elements_of (leaf_value bytes) = no_values
 elements_of (struct_value vs) = vs
-elements_of _ = no_values
 
 -- how many nodes a value has
 abbrev mutual

@@ -3,7 +3,7 @@ use Rattle.std.specs.Prelude.{ℕ, ◌/◌, ◌%◌, false, List, [], ◌∷◌,
 use Rattle.std.specs.Fmt.{digit_glyph, digits, signed_decimal}
 use Rattle.std.specs.Int.{w64, from_le_bytes}
 use Rattle.std.specs.List.{join_with_byte}
-use Rattle.ffi3_type_rules.specs.Tree.{Scalar, float, double, pointer, Tree, void, scalar, left_out, structure, Trees, no_trees, tree}
+use Rattle.ffi3_type_rules.specs.Tree.{Scalar, u8, s8, u16, s16, u32, s32, u64, s64, float, double, pointer, Tree, void, scalar, left_out, structure, Trees, no_trees, tree}
 use Rattle.ffi3_type_rules.specs.Integer.{number_of}
 use Rattle.ffi3_type_rules.specs.Value.{ValueTree, ValueTrees, no_values, value, bytes_of, elements_of}
 
@@ -15,10 +15,17 @@ hexadecimal (b ∷ bytes) =
 
 -- an integer in decimal by its sign, a pointer in hexadecimal without leading zeros, and the bytes of what is floating
 abbrev pub scalar_text : Scalar → List ℕ → List ℕ
+scalar_text u8 bytes = signed_decimal (number_of u8 bytes)
+scalar_text s8 bytes = signed_decimal (number_of s8 bytes)
+scalar_text u16 bytes = signed_decimal (number_of u16 bytes)
+scalar_text s16 bytes = signed_decimal (number_of s16 bytes)
+scalar_text u32 bytes = signed_decimal (number_of u32 bytes)
+scalar_text s32 bytes = signed_decimal (number_of s32 bytes)
+scalar_text u64 bytes = signed_decimal (number_of u64 bytes)
+scalar_text s64 bytes = signed_decimal (number_of s64 bytes)
 scalar_text float bytes = hexadecimal bytes
 scalar_text double bytes = hexadecimal bytes
 scalar_text pointer bytes = codes "0x" ++ digits 16 false (from_le_bytes w64 bytes)
-scalar_text s bytes = signed_decimal (number_of s bytes)
 
 -- a struct's is that of its elements, between commas; what is left out has no text
 abbrev mutual

@@ -67,7 +67,17 @@ fn check_node(ty: &FfiType, outer: u32, as_result: bool) -> Result<(), TypeFault
                 Ok(())
             }
         }
-        _ => Ok(()),
+        FfiType::U8
+        | FfiType::S8
+        | FfiType::U16
+        | FfiType::S16
+        | FfiType::U32
+        | FfiType::S32
+        | FfiType::U64
+        | FfiType::S64
+        | FfiType::Float
+        | FfiType::Double
+        | FfiType::Pointer => Ok(()),
     }
 }
 

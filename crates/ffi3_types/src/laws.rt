@@ -4,9 +4,12 @@ ghost use Rattle.ffi3_types.specs.TreeOf.{tree_of};
 
 use crate::FfiType;
 
-/// Does nothing. Its contract says what every layout keeps: leaves lie inside the type, rise
-/// from the left without overlapping, are aligned as their kinds are, and stand at the sum of
-/// the offsets on their paths; the size is a multiple of the alignment.
+/// Does nothing. Its contract says what every layout keeps. Each element of a struct stands at the
+/// least multiple of its alignment that is not below the end of the one before; the struct's
+/// alignment is the greatest of its elements'; its size is the least multiple of its alignment
+/// that is not below the end of its last element. Leaves lie inside the type, rise from the left
+/// without overlapping, are aligned as their kinds are, and stand at the sum of the offsets on
+/// their paths.
 pub fn layout_laws(_ty: &FfiType)
     ensures { IsWellLaidOut (tree_of _ty.now) }
 {}

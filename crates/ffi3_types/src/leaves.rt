@@ -41,7 +41,17 @@ impl FfiType {
         match self {
             FfiType::Void | FfiType::LongDouble | FfiType::Complex | FfiType::Vector => 0,
             FfiType::Struct(fields) => fields.count_leaves(),
-            _ => 1,
+            FfiType::U8
+            | FfiType::S8
+            | FfiType::U16
+            | FfiType::S16
+            | FfiType::U32
+            | FfiType::S32
+            | FfiType::U64
+            | FfiType::S64
+            | FfiType::Float
+            | FfiType::Double
+            | FfiType::Pointer => 1,
         }
     }
 

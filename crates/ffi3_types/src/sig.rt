@@ -132,10 +132,12 @@ impl FfiType {
     fn is_promoted(&self) -> bool
         ensures { result ≡ is_promoted (tree_of self.now) }
     {
-        matches!(
-            self,
-            FfiType::U8 | FfiType::S8 | FfiType::U16 | FfiType::S16 | FfiType::Float
-        )
+        match self {
+            FfiType::U8 | FfiType::S8 | FfiType::U16 | FfiType::S16 | FfiType::Float => true,
+            FfiType::U32 | FfiType::S32 | FfiType::U64 | FfiType::S64 => false,
+            FfiType::Double | FfiType::Pointer | FfiType::Struct(_) | FfiType::Void => false,
+            FfiType::LongDouble | FfiType::Complex | FfiType::Vector => false,
+        }
     }
 }
 

@@ -24,7 +24,17 @@ pub fn value_from_bytes(alloc: Global, ty: &FfiType, bytes: &[u8]) -> Result<Val
         FfiType::Void => Ok(Value::Void),
         FfiType::LongDouble | FfiType::Complex | FfiType::Vector => unreachable!(),
         FfiType::Struct(fields) => Ok(Value::List(values_from_bytes(alloc, fields, bytes)?)),
-        _ => Ok(Value::Leaf(Bytes::from_slice(alloc, bytes)?)),
+        FfiType::U8
+        | FfiType::S8
+        | FfiType::U16
+        | FfiType::S16
+        | FfiType::U32
+        | FfiType::S32
+        | FfiType::U64
+        | FfiType::S64
+        | FfiType::Float
+        | FfiType::Double
+        | FfiType::Pointer => Ok(Value::Leaf(Bytes::from_slice(alloc, bytes)?)),
     }
 }
 

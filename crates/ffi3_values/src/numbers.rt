@@ -56,7 +56,9 @@ pub fn number(ty: &FfiType, value: &Value) -> i128
         FfiType::U32 => from_four(bytes) as i128,
         FfiType::S32 => from_four(bytes).cast_signed() as i128,
         FfiType::S64 => from_eight(bytes).cast_signed() as i128,
-        _ => from_eight(bytes) as i128,
+        FfiType::U64 | FfiType::Pointer => from_eight(bytes) as i128,
+        FfiType::Void | FfiType::Float | FfiType::Double | FfiType::Struct(_) => unreachable!(),
+        FfiType::LongDouble | FfiType::Complex | FfiType::Vector => unreachable!(),
     }
 }
 
@@ -77,7 +79,9 @@ pub fn widen(ty: &FfiType, value: &Value) -> u64
         FfiType::S16 => (from_two(bytes).cast_signed() as i64).cast_unsigned(),
         FfiType::U32 => from_four(bytes) as u64,
         FfiType::S32 => (from_four(bytes).cast_signed() as i64).cast_unsigned(),
-        _ => from_eight(bytes),
+        FfiType::U64 | FfiType::S64 | FfiType::Pointer => from_eight(bytes),
+        FfiType::Void | FfiType::Float | FfiType::Double | FfiType::Struct(_) => unreachable!(),
+        FfiType::LongDouble | FfiType::Complex | FfiType::Vector => unreachable!(),
     }
 }
 
@@ -99,7 +103,11 @@ fn from_bits(alloc: Global, ty: &FfiType, n: u64) -> Result<Value, NoMemory>
             alloc,
             &((n % 0x1_0000_0000) as u32).to_le_bytes(),
         )?,
-        _ => Bytes::from_slice(alloc, &n.to_le_bytes())?,
+        FfiType::U64 | FfiType::S64 | FfiType::Pointer => {
+            Bytes::from_slice(alloc, &n.to_le_bytes())?
+        }
+        FfiType::Void | FfiType::Float | FfiType::Double | FfiType::Struct(_) => unreachable!(),
+        FfiType::LongDouble | FfiType::Complex | FfiType::Vector => unreachable!(),
     }))
 }
 

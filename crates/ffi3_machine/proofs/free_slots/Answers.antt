@@ -6,7 +6,7 @@ use Rattle.ffi3_machine.proofs.free_slots.Goals as goal
 
 pub loop-k-preserved : goal.loop-k-preserved
 loop-k-preserved c =
-    let turn = freed-turn (low_bytes 4 c.free_word-word.result) (free_word c.args.target) c.loop-k.code.bytes c.args.code.now.bytes (65536 + 4 * c.loop-k.k - c.loop-k.code.base) (65536 + 4 * c.loop-k.k - c.loop-k.code.base + 4) c.loop-k.k c.free_word-word.ensures refl (omega arith) refl c.loop-k.invariant.freed in
+    let turn = freed-turn (low_bytes 4 c.free_word-word.result) (free_word c.args.isa) c.loop-k.code.bytes c.args.code.now.bytes (65536 + 4 * c.loop-k.k - c.loop-k.code.base) (65536 + 4 * c.loop-k.k - c.loop-k.code.base + 4) c.loop-k.k c.free_word-word.ensures refl (omega arith) refl c.loop-k.invariant.freed in
     record {
       base = ap (λ (m : Memory). m.base) c.store.ensures ∙ c.loop-k.invariant.base;
       size = ap (λ (m : Memory). length m.bytes) c.store.ensures ∙ length-replaced c.loop-k.code.bytes (low_bytes 4 c.free_word-word.result) (65536 + 4 * c.loop-k.k - c.loop-k.code.base) (65536 + 4 * c.loop-k.k - c.loop-k.code.base + 4) refl (omega arith) ∙ c.loop-k.invariant.size;
@@ -16,5 +16,5 @@ loop-k-preserved c =
 pub returns : goal.returns
 returns c =
     let base : c.loop-k.code.base ≡ c.args.code.now.base = cc in
-    let bytes = c.loop-k.invariant.freed ∙ begun_code-is c.args.target c.loop-k.k c.args.code.now.bytes (omega arith) c.requires.length in
+    let bytes = c.loop-k.invariant.freed ∙ begun_code-is c.args.isa c.loop-k.k c.args.code.now.bytes (omega arith) c.requires.length in
     ap (λ b. let m : Memory = record { base = b; bytes = c.loop-k.code.bytes } in m) base ∙ ap (λ b. let m : Memory = record { base = c.args.code.now.base; bytes = b } in m) bytes

@@ -7,5 +7,5 @@ abbrev pub invariant-loop-k : goal.invariant-loop-k
 invariant-loop-k l = record {
   base : l.code.base ≡ 0x10000;
   size : length l.code.bytes ≡ 16384;
-  freed : l.code.bytes ≡ repeat l.k (free_word l.fn.target) ++ drop (4 * l.k) l.initial.code.bytes;
+  freed : l.code.bytes ≡ repeat l.k (free_word l.fn.isa) ++ drop (4 * l.k) l.initial.code.bytes;
 }

@@ -6,4 +6,4 @@ use Rattle.ffi3_machine.proofs.scribble_general.Goals as goal
 pub returns : goal.returns
 unfolding scribbled_general
 returns c =
-    fill_by_all (λ k. scribbled_register c.args.target c.args.n k (get_or c.args.registers.now k 0)) c.loop-k.registers 32 0 c.loop-k.invariant.size (λ k h. c.loop-k.invariant.done k (omega arith))
+    fill_by_all (λ k. scribbled_register c.args.isa c.args.n k (get_or c.args.registers.now k 0)) c.loop-k.registers 32 0 c.loop-k.invariant.size (λ k h. c.loop-k.invariant.done k (omega arith))

@@ -1,7 +1,7 @@
 use Rattle.std.proofs.Common.{◌≡◌, [], drop, codes}
 use Rattle.ffi3_script_rules.specs.Language.{under, at_item}
 use Rattle.ffi3_script_rules.specs.RunLimit.{is_run_in_function, first_not}
-use Rattle.ffi3_script.specs.BodyOf.{moves_of}
+use Rattle.ffi3_script_body.specs.BodyOf.{moves_of}
 use Rattle.ffi3_app.proofs.limit.first_in_function.Given as goal
 
 abbrev pub invariant-loop-j : goal.invariant-loop-j

@@ -2,7 +2,7 @@ use Rattle.std.proofs.Common.{rules, ◌≡◌, [], true, codes, get_or, None, s
 use Rattle.ffi3_script_rules.specs.Language.{under}
 use Rattle.ffi3_script_rules.specs.RunLimit.{is_run_in_main}
 use Rattle.ffi3_script_rules.specs.Script.{return_void, ScriptMove}
-use Rattle.ffi3_script.specs.BodyOf.{moves_of}
+use Rattle.ffi3_script_body.specs.BodyOf.{moves_of}
 use Rattle.ffi3_app.specs.Kinds.{runs_in_main}
 use Rattle.ffi3_app.proofs.Firsts.{kind_in_main, main_on}
 use Rattle.ffi3_app.proofs.limit.first_in_main.Goals as goal

@@ -1,11 +1,12 @@
 use Rattle.std.proofs.Common.{length, vec_len, ◌-◌, ◌≡◌, ◌≤◌}
-use Rattle.ffi3_io.specs.Source.{Gives}
+use Rattle.ffi3_io.specs.Source.{Gives, HasRead}
 use Rattle.ffi3_io.proofs.source.read_all.Given as goal
 
 abbrev pub invariant-loop-buf : goal.invariant-loop-buf
 invariant-loop-buf g l = record {
   within : vec_len l.bytes ≤ l.limit;
   room : length l.buf ≡ 4096;
+  reads : HasRead g.I.Source.read_gives l.limit l.fn.input l.bytes.items l.input;
   gives : Gives (g.I.Source.left l.fn.input) l.bytes.items (g.I.Source.left l.input);
   same : g.I.Source.faults l.input ≡ g.I.Source.faults l.fn.input;
 }

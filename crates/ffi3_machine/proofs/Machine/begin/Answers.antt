@@ -1,5 +1,6 @@
 use Rattle.std.proofs.Common.{◌∙◌, ap, arith, length, refl}
 use Rattle.ffi3_memory.specs.Memory.{Memory}
+use Rattle.ffi3_type_rules.specs.Isa.{isa_of}
 use Rattle.ffi3_machine.specs.State.{begun_general}
 use Rattle.ffi3_machine.specs.Scribbled.{length-scribbled_general, length-scribbled_floating, IsZeroHeld-begun}
 use Rattle.ffi3_machine.proofs.Slots.{length-begun_stack, length-begun_code}
@@ -14,16 +15,14 @@ invariant_of-self c = (
     general = rw c.scribble_general.ensures (length-scribbled_general _ _ _);
     floating = rw c.scribble_floating.ensures (length-scribbled_floating _);
     stack = ap (λ (m : Memory). length m.bytes) c.begin_stack.ensures ∙ length-begun_stack;
-    code = ap (λ (m : Memory). length m.bytes) c.free_slots.ensures ∙ length-begun_code c.args.target;
-    sp_low = omega arith;
-    sp_high = omega arith;
+    code = ap (λ (m : Memory). length m.bytes) c.free_slots.ensures ∙ length-begun_code _;
     mark_low = omega arith;
     mark_high = omega arith;
-    zero = rw c.scribble_general.ensures (IsZeroHeld-begun c.args.target);
+    zero = rw (c.scribble_general.ensures, c.isa-isa.ensures) (IsZeroHeld-begun (isa_of c.args.target));
   },
 )
 
 pub returns : goal.returns
 unfolding begun_general
 returns c =
-    rw (c.scribble_general.ensures, c.scribble_floating.ensures, c.begin_stack.ensures, c.free_slots.ensures, c.clear.ensures, ← c.self.view_is) refl
+    rw (c.scribble_general.ensures, c.scribble_floating.ensures, c.begin_stack.ensures, c.free_slots.ensures, c.isa-isa.ensures, c.clear.ensures, ← c.self.view_is) refl

@@ -11,10 +11,8 @@ invariant_of-self c =
         floating = rw c.scribble_floating.ensures (length-scribbled_floating _);
         stack = before.stack;
         code = before.code;
-        sp_low = before.sp_low;
-        sp_high = before.sp_high;
         mark_low = before.mark_low;
         mark_high = before.mark_high;
-        zero = rw c.scribble_general.ensures (IsZeroHeld-scribbled _ _ _ before.zero);
+        zero = rw (c.scribble_general.ensures, c.isa.ensures) (IsZeroHeld-scribbled _ _ _ before.zero);
       },
     )

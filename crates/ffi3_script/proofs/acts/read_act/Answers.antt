@@ -1,6 +1,6 @@
 use Rattle.std.proofs.Common.{length, subst, sym}
 use Rattle.ffi3_script.specs.Numbers.{CallsWithin}
-use Rattle.ffi3_script.specs.declared.moves.ScriptMove.{ScriptMove}
+use Rattle.ffi3_script_body.specs.declared.moves.ScriptMove.{ScriptMove}
 use Rattle.ffi3_script.proofs.acts.read_act.Goals as goal
 
 pub returns-in-Ok-read_result-clause-within : goal.returns-in-Ok-read_result-clause-within

@@ -4,7 +4,7 @@ use Rattle.serde_json.specs.View.{view, items_view}
 use Rattle.ffi3_script_rules.specs.Language.{read, at_item}
 use Rattle.ffi3_script_rules.specs.Bodies.{read_move, read_moves, type_of_act}
 use Rattle.ffi3_json.proofs.Items.{short-at}
-use Rattle.ffi3_script.specs.ExprOf.{act_of, script_move_of}
+use Rattle.ffi3_script_body.specs.ExprOf.{act_of, script_move_of}
 use Rattle.ffi3_script.specs.ScopeOf.{given_of, surroundings_in}
 use Rattle.ffi3_script.proofs.Steps.{back_from_item, at_same}
 use Rattle.ffi3_script.proofs.BodyParts.{moves-turn}

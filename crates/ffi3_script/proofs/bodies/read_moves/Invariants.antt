@@ -1,7 +1,7 @@
 use Rattle.std.proofs.Common.{◌≡◌, [], length, drop}
 use Rattle.serde_json.specs.View.{items_view}
 use Rattle.ffi3_script_rules.specs.Bodies.{read_moves}
-use Rattle.ffi3_script.specs.ExprOf.{script_moves_of}
+use Rattle.ffi3_script_body.specs.ExprOf.{script_moves_of}
 use Rattle.ffi3_script.specs.ScopeOf.{given_of, surroundings_in}
 use Rattle.ffi3_script.proofs.Loops.{before}
 use Rattle.ffi3_script.proofs.bodies.read_moves.Given as goal

@@ -4,7 +4,7 @@ use Rattle.ffi3_type_rules.specs.Signature.{signature_at}
 use Rattle.ffi3_script_rules.specs.Language.{read, at_item, under, value_under}
 use Rattle.ffi3_script_rules.specs.Bodies.{read_body, read_bodies}
 use Rattle.ffi3_json.proofs.Items.{short-at}
-use Rattle.ffi3_script.specs.ExprOf.{script_moves_of}
+use Rattle.ffi3_script_body.specs.ExprOf.{script_moves_of}
 use Rattle.ffi3_script.specs.ScopeOf.{surroundings_in}
 use Rattle.ffi3_script.specs.PartsOf.{headings_of, part_of}
 use Rattle.ffi3_script.specs.declared.headings.Heading.{Heading}

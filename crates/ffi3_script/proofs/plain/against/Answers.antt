@@ -3,7 +3,7 @@ use Rattle.ffi3_types.specs.TreeOf.{tree_of}
 use Rattle.ffi3_script_rules.specs.Language.{wrong_type}
 use Rattle.ffi3_script_rules.specs.Values.{against}
 use Rattle.ffi3_json.proofs.Tellings.{tells_made}
-use Rattle.ffi3_script.specs.ExprOf.{expression_of, typed_of}
+use Rattle.ffi3_script_body.specs.ExprOf.{expression_of, typed_of}
 use Rattle.ffi3_script.proofs.ReadTypes.{against-is}
 use Rattle.ffi3_script.proofs.plain.against.Goals as goal
 

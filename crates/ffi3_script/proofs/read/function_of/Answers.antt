@@ -3,7 +3,7 @@ use Rattle.std.specs.List.{list_all}
 use Rattle.ffi3_type_rules.specs.Signature.{Signature, signature_at}
 use Rattle.ffi3_script_rules.specs.Typed.{body_is_typed, signature_is_right}
 use Rattle.ffi3_script_rules.proofs.Tests.{and_left, and_right}
-use Rattle.ffi3_script.specs.ExprOf.{script_moves_of}
+use Rattle.ffi3_script_body.specs.ExprOf.{script_moves_of}
 use Rattle.ffi3_script.proofs.read.function_of.Goals as goal
 
 pub new-body-requires : goal.new-body-requires

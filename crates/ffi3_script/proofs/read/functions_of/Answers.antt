@@ -1,6 +1,7 @@
-use Rattle.std.proofs.Common.{◌≡◌, ◌<◌, ◌++◌, ◌^◌, true, All, Some, length, map, sym, ap, subst, ◌∙◌}
+use Rattle.std.proofs.Common.{◌≡◌, ◌<◌, ◌++◌, ◌^◌, true, All, length, map, sym, ap, subst, ◌∙◌}
 use Rattle.std.proofs.lemmas.List.Elements.{All-nil, All-push}
 use Rattle.std.specs.Vec.Iter.{into_iter_items}
+use Rattle.ffi3_type_rules.specs.Signature.{signature_at}
 use Rattle.ffi3_script_rules.specs.Typed.{function_is_typed}
 use Rattle.ffi3_script.specs.FunctionOf.{function_of, StandsIn}
 use Rattle.ffi3_script.specs.PartsOf.{part_of}
@@ -16,7 +17,7 @@ loop-part-init c =
     let none = c.new-functions.ensures.items in
     record {
       are = ap (λ fs. map function_of fs ++ map part_of left) none ∙ ap (map part_of) given;
-      stand = subst (All (λ (f : ScriptFunction). StandsIn c.args.sigs.now.value c.args.count (Some f.sig) f.body)) (sym none) (All-nil (λ (f : ScriptFunction). StandsIn c.args.sigs.now.value c.args.count (Some f.sig) f.body));
+      stand = subst (All (λ (f : ScriptFunction). StandsIn c.args.sigs.now.value c.args.count (signature_at c.args.sigs.now.value f.sig) f.body)) (sym none) (All-nil (λ (f : ScriptFunction). StandsIn c.args.sigs.now.value c.args.count (signature_at c.args.sigs.now.value f.sig) f.body));
       few = subst (All (λ (f : FunctionPart). length f.moves.items < 2 ^ 31)) (sym given) c.requires.few;
       typed = subst (All (λ (f : FunctionPart). function_is_typed c.args.sigs.now.value c.args.count (part_of f) ≡ true)) (sym given) c.requires.typed;
     }
@@ -42,8 +43,8 @@ loop-part-preserved c =
     let pushed = c.in_ok-push_function.ensures in
     record {
       are = making-turn fs c.push_function.new.functions.items one c.in-Some.part left rest (map part_of c.args.parts.items) c.loop-part.invariant.are is c.in_ok-function.ensures.is pushed;
-      stand = subst (All (λ (f : ScriptFunction). StandsIn c.args.sigs.now.value c.args.count (Some f.sig) f.body)) (sym pushed)
-          (All-push (λ (f : ScriptFunction). StandsIn c.args.sigs.now.value c.args.count (Some f.sig) f.body) fs one c.loop-part.invariant.stand c.in_ok-function.ensures.stands);
+      stand = subst (All (λ (f : ScriptFunction). StandsIn c.args.sigs.now.value c.args.count (signature_at c.args.sigs.now.value f.sig) f.body)) (sym pushed)
+          (All-push (λ (f : ScriptFunction). StandsIn c.args.sigs.now.value c.args.count (signature_at c.args.sigs.now.value f.sig) f.body) fs one c.loop-part.invariant.stand c.in_ok-function.ensures.stands);
       few = all-rest (λ (f : FunctionPart). length f.moves.items < 2 ^ 31) left rest c.in-Some.part is c.loop-part.invariant.few;
       typed = all-rest (λ (f : FunctionPart). function_is_typed c.args.sigs.now.value c.args.count (part_of f) ≡ true) left rest c.in-Some.part is c.loop-part.invariant.typed;
     }

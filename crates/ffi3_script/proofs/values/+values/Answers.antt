@@ -11,7 +11,7 @@ use Rattle.ffi3_script_rules.specs.Values.{read_number, read_value, read_values,
 use Rattle.ffi3_json.proofs.Items.{depth-at, short-at}
 use Rattle.ffi3_json.proofs.Paths.{there_and_back}
 use Rattle.ffi3_json.proofs.Tellings.{tells_part, tells_made}
-use Rattle.ffi3_script.specs.ExprOf.{expression_of, expressions_in}
+use Rattle.ffi3_script_body.specs.ExprOf.{expression_of, expressions_in}
 use Rattle.ffi3_script.specs.ScopeOf.{scope_of}
 use Rattle.ffi3_script.specs.Shapes.{typed_form_of, typed_under, value_under_form, read_terms}
 use Rattle.ffi3_script.proofs.ReadValues.{ok_by, err_by, field_first, field_struct, field_wrong, of_second, of_both, two_first, two_second, two_both, terms_are, typed_member, of_number, of_other_count, of_values, of_member, Done, done-more, done-all}
@@ -196,7 +196,7 @@ read_value-returns-in-Ok-clause-ok t c =
     let vs = c.in-Some-as_array.items.now.items in
     let same : items_len (items_view vs) ≡ length c.in-Struct.fields = omega (arith, c.len.ensures, c.len-in-Some-as_array.ensures.count, items_len-items_view vs, c.if-len.false) in
     ap (λ y. read_value s (tree_of y) d path) c.in-Struct.is
-    ∙ of_values s c.in-Struct.fields d path (items_view vs) (sym c.in-Some-as_array.ensures) (read (expressions_in c.in-Ok.values.items)) same c.in-Ok.ensures.ok ∙ ap read (sym c.composed.ensures)
+    ∙ of_values s c.in-Struct.fields d path (items_view vs) (sym c.in-Some-as_array.ensures) (read (expressions_in c.in-Ok.values.items)) same c.in-Ok.ensures.ok ∙ ap read (sym c.of_elements.ensures)
 
 pub read_value-returns-in-Err-clause-err : goal.read_value-returns-in-Err-clause-err
 read_value-returns-in-Err-clause-err t c =

@@ -1,7 +1,7 @@
 use Rattle.std.proofs.Common.{◌≡◌, ◌+◌, ◌*◌, map}
 use Rattle.serde_json.specs.Data.{depth, items_depth}
 use Rattle.serde_json.specs.View.{view, items_view}
-use Rattle.ffi3_script.specs.ExprOf.{expression_of}
+use Rattle.ffi3_script_body.specs.ExprOf.{expression_of}
 use Rattle.ffi3_script.specs.ScopeOf.{scope_of}
 use Rattle.ffi3_script.proofs.ReadValues.{Done}
 use Rattle.ffi3_script.proofs.values.+values.Given as goal

@@ -4,7 +4,7 @@ use Rattle.std.proofs.lemmas.List.{nil_from_length}
 use Rattle.std.proofs.lemmas.List.{get_or_default}
 use Rattle.ffi3_type_rules.specs.Tree.{tree_at, void, long_double, complex, vector}
 use Rattle.ffi3_type_rules.proofs.Faults.{first_too_deep, first_empty, first_void, first_left_out, first_inside, struct_is_right, first_too_large, right_is_small, void_faults, scalar_faults}
-use Rattle.ffi3_types.proofs.Scalars.{scalar_else}
+use Rattle.ffi3_types.proofs.Scalars.{one_scalar}
 use Rattle.ffi3_types.proofs.check.+check.Goals as goal
 
 pub check_node-returns-then-outer-ge16-clause-err : goal.check_node-returns-then-outer-ge16-clause-err
@@ -18,7 +18,7 @@ check_node-returns-then-len-eq0-clause-err t c =
 
 pub check_node-extent-size-requires : goal.check_node-extent-size-requires
 check_node-extent-size-requires t c k d below =
-    let right = c.in_default-check_elements.ensures.ok k below in
+    let right = c.in_default.ensures.ok k below in
     rw (get_or_default c.in-Struct.fields k d void below) (right_is_small _ _ (tree_at c.in-Struct.fields k) right)
 
 pub check_node-returns-then-as_result-clause-ok : goal.check_node-returns-then-as_result-clause-ok
@@ -44,18 +44,17 @@ check_node-returns-in-Vector-clause-err t c =
 pub check_node-returns-then-size-gt1024-clause-err : goal.check_node-returns-then-size-gt1024-clause-err
 check_node-returns-then-size-gt1024-clause-err t c =
     let sized = c.extent-size.ensures.size in
-    let first = first_too_large c.in-Struct.fields c.if-outer-ge16.false (omega arith) c.in_default-check_elements.ensures.ok (omega arith) in
+    let first = first_too_large c.in-Struct.fields c.if-outer-ge16.false (omega arith) c.in_default.ensures.ok (omega arith) in
     rw (c.in-Struct.is, c.new-then-size-gt1024.ensures, sized) first
 
 pub check_node-returns-else-size-gt1024-clause-ok : goal.check_node-returns-else-size-gt1024-clause-ok
 check_node-returns-else-size-gt1024-clause-ok t c =
     let sized = c.extent-size.ensures.size in
-    rw c.in-Struct.is (struct_is_right c.in-Struct.fields c.if-outer-ge16.false (omega arith) c.in_default-check_elements.ensures.ok (omega arith))
+    rw c.in-Struct.is (struct_is_right c.in-Struct.fields c.if-outer-ge16.false (omega arith) c.in_default.ensures.ok (omega arith))
 
-pub check_node-returns-in_default : goal.check_node-returns-in_default
-check_node-returns-in_default t c =
-    let else = c.in_default in
-    let is = scalar_else c.args.ty.now else.not-Void else.not-Struct else.not-LongDouble else.not-Complex else.not-Vector in
+pub check_node-returns-in-U8 : goal.check_node-returns-in-U8
+check_node-returns-in-U8 t c =
+    let is = one_scalar c.args.ty.now c.in-U8.is in
     record { ok = rw is.1 (scalar_faults is.0); err = tt; room = tt }
 
 pub check_node-returns-in-Err-clause-err : goal.check_node-returns-in-Err-clause-err

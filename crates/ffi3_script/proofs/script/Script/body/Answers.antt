@@ -4,7 +4,6 @@ use Rattle.std.proofs.Math.Logic.{∥∥₁_elim}
 use base.Stored.{Coded-set, coded_ℕ}
 use Rattle.ffi3_type_rules.specs.Signature.{signature_at, signature_code, signature_list_code}
 use Rattle.ffi3_script.specs.FunctionOf.{function_of}
-use Rattle.ffi3_script.specs.Own.{own_of}
 use Rattle.ffi3_script.proofs.Standing.{function_is, stands}
 use Rattle.ffi3_script.proofs.script.Script.body.Goals as goal
 
@@ -22,8 +21,7 @@ returns-clause-own_is c =
     let all = length-map s.functions.items function_of in
     let below : c.args.i < length s.functions.items = omega (arith, c.requires, all) in
     let function = ap (λ g. signature_at s.sigs.value g.signature) (function_is s.functions.items c.args.i f _ below c.index.ensures) in
-    ∥∥₁_elim s.bodies_stand (Coded-set signature_code _ _) (λ each. let here = stands s.sigs.value _ s.functions.items c.args.i f below c.index.ensures each in
-    ap (own_of f.body.sigs.value) here.own_is ∙ ap (λ ss. signature_at ss f.sig) here.signatures_are ∙ sym function)
+    ∥∥₁_elim s.bodies_stand (Coded-set signature_code _ _) (λ each. (stands s.sigs.value _ s.functions.items c.args.i f below c.index.ensures each).own_is ∙ sym function)
 
 pub returns-clause-functions_are : goal.returns-clause-functions_are
 returns-clause-functions_are c =

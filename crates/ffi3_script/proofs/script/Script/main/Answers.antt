@@ -4,7 +4,6 @@ use Rattle.std.proofs.Math.Logic.{∥∥₁_elim}
 use base.Stored.{Coded-set, coded_ℕ}
 use Rattle.ffi3_type_rules.specs.Signature.{signature_code, signature_list_code}
 use Rattle.ffi3_script.specs.FunctionOf.{function_of}
-use Rattle.ffi3_script.specs.Own.{own_of}
 use Rattle.ffi3_script.proofs.script.Script.main.Goals as goal
 
 pub returns-clause-signatures_are : goal.returns-clause-signatures_are
@@ -13,7 +12,7 @@ returns-clause-signatures_are c =
 
 pub returns-clause-own_is : goal.returns-clause-own_is
 returns-clause-own_is c =
-    ∥∥₁_elim c.args.self.now.main_stands (Coded-set signature_code _ _) (λ s. ap (own_of c.args.self.now.main.sigs.value) s.own_is)
+    ∥∥₁_elim c.args.self.now.main_stands (Coded-set signature_code _ _) (λ s. s.own_is)
 
 pub returns-clause-functions_are : goal.returns-clause-functions_are
 returns-clause-functions_are c =

@@ -1,0 +1,40 @@
+-- The standard agrees with an AMD64 machine.
+use Rattle.std.proofs.Common.{refl, arith, ◌++◌}
+use Rattle.ffi3_place_rules.specs.declared.Loc.{Loc}
+use Rattle.ffi3_place_rules.specs.declared.Loc.TheVariants.{G, F, S}
+use Rattle.ffi3_type_rules.specs.declared.Isa.TheVariants.{Amd64}
+use Rattle.ffi3_place_rules.specs.Isa.{IsWritten}
+use Rattle.ffi3_place_rules.specs.Sound.{IsNoneOf, listed}
+use Rattle.ffi3_place_rules.specs.Agrees.{AgreesWithMachine, given_back, special, saved_registers}
+use Rattle.ffi3_place_rules.proofs.Forbidden.{each_none_of, each_one_of, apart_all}
+use Rattle.ffi3_amd64_rules.specs.Amd64.{amd64}
+
+pub agrees : AgreesWithMachine amd64
+agrees = record {
+  link = refl;
+  stack_pointer = refl;
+  link_register = refl;
+  reserved = refl;
+  closure_register = refl;
+  trampoline = refl;
+  written = written;
+  preserved_exist = (omega arith, (omega arith, (omega arith, (omega arith, (omega arith, (omega arith, tt))))));
+  preserved_apart = apart_all amd64.preserved refl;
+  preserved_plain = each_none_of (special amd64) amd64.preserved refl;
+  count_exists = (omega arith, tt);
+  count_plain = each_none_of (given_back amd64 ++ amd64.reserved) (listed amd64.vector_count) refl;
+  returned_exists = (omega arith, tt);
+  returned_plain = each_none_of (given_back amd64 ++ amd64.reserved) (listed amd64.returned_address) refl;
+  area = refl;
+  saves_each = each_one_of (saved_registers amd64.save_area) (given_back amd64) refl;
+  saves_no_other = each_one_of (given_back amd64) (saved_registers amd64.save_area) refl;
+  saves_once = apart_all (saved_registers amd64.save_area) refl;
+  saves_address = refl;
+  save_aligned = refl;
+}
+  where
+    -- a write to any register is kept
+    written : (l : Loc) → IsNoneOf amd64.reserved l → IsWritten Amd64 l
+    written (G k) h = refl
+    written (F k) h = tt
+    written (S n) h = tt

@@ -1,0 +1,62 @@
+-- Texts of what happens in two parts, and where a run stands after a part.
+use Rattle.std.proofs.Common.{◌≡◌, ℕ, ◌+◌, ◌-◌, List, [], ◌∷◌, ◌++◌, refl, ap, sym, ◌∙◌, arith, append_assoc}
+use Rattle.std.specs.List.{sum_by}
+use Rattle.std.proofs.lemmas.List.Sums.{sum_by-cons}
+use Rattle.ffi3_type_rules.specs.Signature.{Signature}
+use Rattle.ffi3_type_rules.specs.Value.{ValueTree}
+use Rattle.ffi3_place_rules.specs.declared.Loc.{Loc}
+use Rattle.ffi3_place_rules.specs.Event.{Event}
+use Rattle.ffi3_place_rules.specs.Standard.{Standard, need_of, frame_of}
+use Rattle.ffi3_run_rules.specs.Happenings.{Happening, Enter, Line, Leave, StopLine}
+use Rattle.ffi3_run_rules.specs.Journal.{Entered, needs, IsEntry}
+use Rattle.ffi3_run_rules.specs.Lines.{OpenCall, Point, past, Trace, untraced, text_of, text, sp_at_call}
+
+-- after all of a part
+abbrev pub past_all : List Signature → Point → List Happening → Point
+past_all ss at [] = at
+past_all ss at (h ∷ rest) = past_all ss (past ss at h) rest
+
+pub text-append : (trace : Trace) (ss : List Signature) (at : Point) (a b : List Happening) → text trace ss at (a ++ b) ≡ text trace ss at a ++ text trace ss (past_all ss at a) b
+text-append trace ss at [] b = refl
+text-append trace ss at (h ∷ a) b =
+    ap (λ (l : List ℕ). text_of trace ss at h ++ l) (text-append trace ss (past ss at h) a b) ∙ sym (append_assoc (text_of trace ss at h) (text trace ss (past ss at h) a) (text trace ss (past_all ss (past ss at h) a) b))
+
+-- the text of a run that is not traced does not depend on where it stands
+pub untraced_anywhere : (ss : List Signature) (at at' : Point) (hs : List Happening) → text untraced ss at hs ≡ text untraced ss at' hs
+untraced_anywhere ss at at' [] = refl
+untraced_anywhere ss at at' (Enter ptr sig args ∷ rest) =
+    untraced_anywhere ss (past ss at (Enter ptr sig args)) (past ss at' (Enter ptr sig args)) rest
+untraced_anywhere ss at at' (Leave sig r ∷ rest) =
+    untraced_anywhere ss (past ss at (Leave sig r)) (past ss at' (Leave sig r)) rest
+untraced_anywhere ss at at' (Line t v ∷ rest) =
+    ap (λ (l : List ℕ). text_of untraced ss at (Line t v) ++ l) (untraced_anywhere ss at at' rest)
+untraced_anywhere ss at at' (StopLine stop ∷ rest) =
+    ap (λ (l : List ℕ). text_of untraced ss at (StopLine stop) ++ l) (untraced_anywhere ss at at' rest)
+
+pub untraced-append : (ss : List Signature) (at : Point) (a b : List Happening) → text untraced ss at (a ++ b) ≡ text untraced ss at a ++ text untraced ss at b
+untraced-append ss at a b =
+    text-append untraced ss at a b ∙ ap (λ (l : List ℕ). text untraced ss at a ++ l) (untraced_anywhere ss (past_all ss at a) at b)
+
+-- ---- the stack pointer that a line tells is that of the event
+
+-- calls that are open, as a journal and as a text see them
+abbrev pub AreSameCalls : List Entered → List OpenCall → Type 0
+AreSameCalls [] [] = Unit {0}
+AreSameCalls (e ∷ es) (c ∷ cs) = (e.signature ≡ c.signature) × AreSameCalls es cs
+AreSameCalls _ _ = ⊥
+
+same_needs : (std : Standard) (es : List Entered) (cs : List OpenCall) → AreSameCalls es cs → sum_by (λ (c : OpenCall). need_of std c.signature) cs ≡ needs std es
+same_needs std [] [] same = refl
+same_needs std (e ∷ es) (c ∷ cs) same =
+    let rest = same_needs std es cs same.1 in
+    let here : need_of std e.signature ≡ need_of std c.signature = ap (need_of std) same.0 in
+    let sum = sum_by-cons (λ (d : OpenCall). need_of std d.signature) c cs in
+    omega (arith, rest, here, sum)
+same_needs std [] (c ∷ cs) same = absurd same
+same_needs std (e ∷ es) [] same = absurd same
+
+pub sp_is_told : (std : Standard) (top : ℕ) (held : Loc → ℕ) (outer : List Entered) (calls : List OpenCall) (n pointer : ℕ) (s : Signature) (args : List ValueTree) (e : Event) → AreSameCalls outer calls → IsEntry std top held outer n pointer s args e → sp_at_call std top calls s - std.link ≡ e.image.sp
+sp_is_told std top held outer calls n pointer s args e same is =
+    let below = same_needs std outer calls same in
+    let at : e.image.sp + (std.link + frame_of std s + needs std outer) ≡ top = is.sp in
+    omega (arith, below, at)

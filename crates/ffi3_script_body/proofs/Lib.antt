@@ -1,0 +1,5 @@
+pub mod Rows
+pub mod Evaluated
+pub mod Parts
+mod Walked
+mod Pasts

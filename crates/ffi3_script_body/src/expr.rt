@@ -1,0 +1,41 @@
+// Values of a script, as bodies compute them.
+
+use ffi3_types::{Bytes, FfiType};
+
+/// A value of a script: of what an activation knows it is computed anew at each move.
+#[derive(Debug, Drop)]
+pub enum Expr {
+    /// The bytes of a scalar, in memory order.
+    Constant(Bytes),
+    /// A struct, by the values of its elements.
+    Composed(Vec<Expr>),
+    /// The argument of this number.
+    Argument(u32),
+    /// The result of the body's move of this number.
+    Outcome(u32),
+    /// The user data of the closure, as a pointer.
+    User,
+    /// The element of this number of a struct.
+    Element(Box<Expr>, u32),
+    /// A value that the script says is of this type.
+    TypedAs(FfiType, Box<Expr>),
+    /// The sum of two integers of this type, modulo two to its number of bits.
+    Sum(FfiType, Box<Expr>, Box<Expr>),
+    /// The difference of two integers of this type, modulo two to its number of bits.
+    Difference(FfiType, Box<Expr>, Box<Expr>),
+    /// An integer or pointer of the first type as one of the second, modulo two to its number of bits.
+    Cast(FfiType, FfiType, Box<Expr>),
+}
+
+impl Expr {
+    ghost use Rattle.std.specs.Prelude.{◌≡◌};
+    ghost use Rattle.ffi3_script_rules.specs.Script as script;
+    ghost use Rattle.ffi3_script_body.specs.ExprOf.{expression_of, expressions_in};
+
+    /// A struct of these elements.
+    pub fn of_elements(values: Vec<Expr>) -> Expr
+        ensures { expression_of result ≡ script.composed (expressions_in values.items) }
+    {
+        Expr::Composed(values)
+    }
+}

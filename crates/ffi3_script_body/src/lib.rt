@@ -1,0 +1,15 @@
+//! The bodies of scripts: their values and moves, and what a body does next.
+#![tactic(auto)]
+
+mod body;
+mod doing;
+mod eval;
+mod expr;
+mod known;
+mod moves;
+
+pub use body::{MoveKind, ScriptBody};
+pub use expr::Expr;
+/// A want of memory: the one answer that no clause ties to a cause.
+pub use ffi3_types::NoMemory;
+pub use moves::{Act, ScriptMove, TypedExpr};
