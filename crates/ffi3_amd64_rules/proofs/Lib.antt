@@ -1,5 +1,4 @@
 pub mod Agrees
-pub mod Copies
 pub mod Covered
 pub mod Filled
 pub mod Registers
