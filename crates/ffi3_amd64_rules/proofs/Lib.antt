@@ -5,5 +5,4 @@ pub mod Registers
 pub mod Sound
 pub mod Sums
 pub mod Steps
-pub mod Planned
 mod Rows
