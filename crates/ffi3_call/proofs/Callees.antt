@@ -12,7 +12,7 @@ use Rattle.ffi3_place_rules.specs.Standard.{block_bytes}
 use Rattle.ffi3_amd64_rules.specs.Amd64.{argument_register}
 use Rattle.ffi3_body.specs.Activation.{block_offset, arguments_in}
 use Rattle.ffi3_body.proofs.Blocks.{arguments_by_each}
-use Rattle.ffi3_machine.specs.declared.TheConstants.{STACK, STACK_TOP}
+use Rattle.ffi3_type_rules.specs.declared.limits.TheConstants.{STACK, STACK_TOP}
 use Rattle.ffi3_machine.specs.State.{State, stack_at, with_sp}
 use Rattle.ffi3_call.specs.Registers.{IsInRegisters, AreLow, preserved_register, value_at}
 use Rattle.ffi3_call.specs.Steps.{word_address, word_from, saved, argument_bytes, argument_word, copied, block_address, received}

@@ -4,7 +4,7 @@ use Rattle.ffi3_type_rules.specs.Signature.{Signature}
 use Rattle.ffi3_type_rules.specs.Value.{ValueTree}
 use Rattle.ffi3_place_rules.specs.Standard.{need_of}
 use Rattle.ffi3_amd64_rules.specs.Amd64.{amd64}
-use Rattle.ffi3_machine.specs.declared.TheConstants.{STACK}
+use Rattle.ffi3_type_rules.specs.declared.limits.TheConstants.{STACK}
 use Rattle.ffi3_machine.specs.State.{State}
 use Rattle.ffi3_call.specs.Calls.{HasBegun, HasEnded, IsCalled, IsMade}
 

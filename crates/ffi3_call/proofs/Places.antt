@@ -16,13 +16,13 @@ use Rattle.ffi3_place_rules.specs.declared.Piece.{Piece}
 use Rattle.ffi3_place_rules.specs.declared.Place.TheVariants.{Direct}
 use Rattle.ffi3_place_rules.specs.declared.Taken.{Taken}
 use Rattle.ffi3_place_rules.specs.Image.{Image}
-use Rattle.ffi3_place_rules.specs.Standard.{doubleword, places_from, result_at, frame_of, need_of, block_bytes, plan_of, buffer_bytes, round8, all_copy_bytes, copies_start, buffer_start}
+use Rattle.ffi3_place_rules.specs.Standard.{doubleword, places_from, result_at, frame_of, need_of, block_bytes, plan_of, buffer_end, round8, round16, copies_start, frame_copies_end, at_once}
 use Rattle.ffi3_place_rules.specs.Holds.{leaf_bytes, LeavesStand, OwnsArgument, OwnsArguments, OwnsHidden, FillsAs, FillPieces, FillArguments, Holds, OwnsResult, FillsResult, HoldsResult}
 use Rattle.ffi3_amd64_rules.specs.declared.Class.TheVariants.{Integer}
 use Rattle.ffi3_place_rules.specs.Doublewords.{widening, filling_of_scalar, stack_pieces}
 use Rattle.ffi3_place_rules.specs.declared.Ext.TheVariants.{Widen}
 use Rattle.ffi3_amd64_rules.specs.Amd64.{amd64, is_integer_class, is_sse_class, classes, integers, sses, in_memory, argument_register, result_register, register_pieces, eightbytes, in_registers, taken_with, pieces_after, spots_after, taken_after, taken_at_first, result_spot_of, placing_of}
-use Rattle.ffi3_amd64_rules.proofs.Steps.{no_copy_bytes}
+use Rattle.ffi3_amd64_rules.proofs.Steps.{ends_without_copies}
 use Rattle.ffi3_call.specs.Registers.{IsInRegisters, is_void, is_number_or_void, value_at, word_of, IsLow, AreLow, IsLowResult}
 use Rattle.ffi3_call.proofs.Numbers.{AreNumbers}
 
@@ -146,7 +146,7 @@ others_fit : (a b : Bool) → (a && b) ≡ true → b ≡ true
 others_fit true b e = e
 others_fit false b e = cc
 
-owns : (m : Image) (base copy g : ℕ) (ts : List Tree) (vs : List ValueTree) → g + length ts ≤ 6 → AreNumbers ts → all_fit (trees_of ts) (values_of vs) ≡ true → WordsStand m g ts vs → AreLow (length ts) ts vs → OwnsArguments m base ts (places_from copy ts (spots_after (taken g) ts)) vs
+owns : (m : Image) (base copy g : ℕ) (ts : List Tree) (vs : List ValueTree) → g + length ts ≤ 6 → AreNumbers ts → all_fit (trees_of ts) (values_of vs) ≡ true → WordsStand m g ts vs → AreLow (length ts) ts vs → OwnsArguments m base ts (places_from at_once copy ts (spots_after (taken g) ts)) vs
 owns m base copy g [] [] few numbers fit words low = tt
 owns m base copy g [] (v ∷ vs) few numbers fit words low = cc
 owns m base copy g (t ∷ ts) [] few numbers fit words low = cc
@@ -154,13 +154,13 @@ owns m base copy g (t ∷ ts) (v ∷ vs) few numbers fit words low =
     let is = numbers 0 (omega arith) in
     let left : g + 1 ≤ 6 = omega (arith, few) in
     let P : List Piece → Type 0 = λ ps. OwnsArgument m base t (Direct ps) v in
-    let Q : Taken → Type 0 = λ a. OwnsArguments m base ts (places_from (copy + 0) ts (spots_after a ts)) vs in
+    let Q : Taken → Type 0 = λ a. OwnsArguments m base ts (places_from at_once copy ts (spots_after a ts)) vs in
     let here = first_fits t ts v vs fit in
     let first : OwnsArgument m base t (Direct (piece t (argument_register g) ∷ [])) v = (here, stands m base (argument_register g) t v is here (first_word m g t ts v vs words) (low 0 (omega arith))) in
-    let rest = owns m base (copy + 0) (g + 1) ts vs (omega (arith, few)) (λ i below. numbers (suc i) (omega arith)) (others_fit (fits t v) _ fit) (later_words m g t ts v vs words) (λ i below. low (suc i) (omega arith)) in
+    let rest = owns m base copy (g + 1) ts vs (omega (arith, few)) (λ i below. numbers (suc i) (omega arith)) (others_fit (fits t v) _ fit) (later_words m g t ts v vs words) (λ i below. low (suc i) (omega arith)) in
     (subst P (sym (pieces-is t is g left)) first, subst Q (sym (taken-is t is g left)) rest)
 
-fill : (m : Image) (base copy g : ℕ) (ts : List Tree) (vs : List ValueTree) → g + length ts ≤ 6 → AreNumbers ts → all_fit (trees_of ts) (values_of vs) ≡ true → WordsStand m g ts vs → FillArguments m base ts (places_from copy ts (spots_after (taken g) ts)) vs
+fill : (m : Image) (base copy g : ℕ) (ts : List Tree) (vs : List ValueTree) → g + length ts ≤ 6 → AreNumbers ts → all_fit (trees_of ts) (values_of vs) ≡ true → WordsStand m g ts vs → FillArguments m base ts (places_from at_once copy ts (spots_after (taken g) ts)) vs
 fill m base copy g [] [] few numbers fit words = tt
 fill m base copy g [] (v ∷ vs) few numbers fit words = cc
 fill m base copy g (t ∷ ts) [] few numbers fit words = cc
@@ -168,9 +168,9 @@ fill m base copy g (t ∷ ts) (v ∷ vs) few numbers fit words =
     let is = numbers 0 (omega arith) in
     let left : g + 1 ≤ 6 = omega (arith, few) in
     let P : List Piece → Type 0 = λ ps. FillPieces m base t ps v in
-    let Q : Taken → Type 0 = λ a. FillArguments m base ts (places_from (copy + 0) ts (spots_after a ts)) vs in
+    let Q : Taken → Type 0 = λ a. FillArguments m base ts (places_from at_once copy ts (spots_after a ts)) vs in
     let first = fills m base (argument_register g) t v is (first_fits t ts v vs fit) (first_word m g t ts v vs words) in
-    let rest = fill m base (copy + 0) (g + 1) ts vs (omega (arith, few)) (λ i below. numbers (suc i) (omega arith)) (others_fit (fits t v) _ fit) (later_words m g t ts v vs words) in
+    let rest = fill m base copy (g + 1) ts vs (omega (arith, few)) (λ i below. numbers (suc i) (omega arith)) (others_fit (fits t v) _ fit) (later_words m g t ts v vs words) in
     (subst P (sym (pieces-is t is g left)) first, subst Q (sym (taken-is t is g left)) rest)
 
 all_taken : (g : ℕ) (ts : List Tree) → g + length ts ≤ 6 → AreNumbers ts → taken_after (taken g) ts ≡ taken (g + length ts)
@@ -190,13 +190,13 @@ result_not_in_memory (structure ts) is = cc
 none_first : (t : Tree) → is_number_or_void t ≡ true → taken_at_first t ≡ taken 0
 none_first t is = ap (λ b. taken (cond b 1 0)) (result_not_in_memory t is)
 
-no_buffer : (t : Tree) → is_number_or_void t ≡ true → buffer_bytes t (result_spot_of t) ≡ 0
-no_buffer void is = refl
-no_buffer (scalar s) is = refl
-no_buffer (left_out k) is = cc
-no_buffer (structure ts) is = cc
+no_buffer : (end : ℕ) (t : Tree) → is_number_or_void t ≡ true → buffer_end at_once end t (result_spot_of t) ≡ end
+no_buffer end void is = refl
+no_buffer end (scalar s) is = refl
+no_buffer end (left_out k) is = cc
+no_buffer end (structure ts) is = cc
 
-not_hidden : (m : Image) (base buffer : ℕ) (t : Tree) → is_number_or_void t ≡ true → OwnsHidden m base (result_at buffer (result_spot_of t))
+not_hidden : (m : Image) (base buffer : ℕ) (t : Tree) → is_number_or_void t ≡ true → OwnsHidden m base (result_at at_once buffer t (result_spot_of t))
 not_hidden m base buffer void is = tt
 not_hidden m base buffer (scalar s) is = tt
 not_hidden m base buffer (left_out k) is = cc
@@ -213,27 +213,26 @@ module _ (s : Signature) (regs : IsInRegisters s) where
   unfolding least_multiple
   no_frame =
       let stack : (placing_of s).stack_bytes ≡ 0 = ap (λ a. a.stack) all_arguments in
-      let copies = no_copy_bytes (taken_at_first s.result_type) s.arguments in
-      let buffer = no_buffer s.result_type regs.result_type in
-      let total : ℕ → ℕ → ℕ → ℕ = λ a b c. least_multiple 16 (least_multiple 16 a + b + c) in
-      ap (λ a. total a (all_copy_bytes s.arguments (placing_of s).arguments) (buffer_bytes s.result_type (result_spot_of s.result_type))) stack ∙ ap (λ b. total 0 b (buffer_bytes s.result_type (result_spot_of s.result_type))) copies ∙ ap (λ c. total 0 0 c) buffer
+      let copies : frame_copies_end amd64 s ≡ copies_start (placing_of s) = ends_without_copies at_once (copies_start (placing_of s)) (taken_at_first s.result_type) s.arguments in
+      ap round16 (no_buffer (frame_copies_end amd64 s) s.result_type regs.result_type ∙ copies ∙ ap round16 stack)
 
   pub need-is : need_of amd64 s ≡ 64 + block_bytes s
   need-is = let none = no_frame in omega (arith, none)
 
   -- AN IMAGE WITH THE WORDS IN THEIR REGISTERS HOLDS THE ARGUMENTS
-  pub holds : (m : Image) (vs : List ValueTree) → all_fit (trees_of s.arguments) (values_of vs) ≡ true → WordsStand m 0 s.arguments vs → AreLow (length s.arguments) s.arguments vs → get_or m.general 0 0 ≡ 0 → Holds amd64 s vs m
-  holds m vs fit words low vectors =
+  pub holds : (m : Image) (vs : List ValueTree) → all_fit (trees_of s.arguments) (values_of vs) ≡ true → WordsStand m 0 s.arguments vs → AreLow (length s.arguments) s.arguments vs → get_or m.general 0 0 ≡ 0 → 8 ≤ length m.stack → Holds amd64 s vs m
+  holds m vs fit words low vectors long =
       let start = copies_start (placing_of s) in
       let first = none_first s.result_type regs.result_type in
       let few : 0 + length s.arguments ≤ 6 = omega (arith, regs.few) in
-      let P : Taken → Type 0 = λ a. OwnsArguments m 8 s.arguments (places_from start s.arguments (spots_after a s.arguments)) vs in
-      let Q : Taken → Type 0 = λ a. FillArguments m 8 s.arguments (places_from start s.arguments (spots_after a s.arguments)) vs in
+      let P : Taken → Type 0 = λ a. OwnsArguments m 8 s.arguments (places_from at_once start s.arguments (spots_after a s.arguments)) vs in
+      let Q : Taken → Type 0 = λ a. FillArguments m 8 s.arguments (places_from at_once start s.arguments (spots_after a s.arguments)) vs in
       let none : 0 ≡ (plan_of amd64 s).vectors = sym (ap (λ a. a.vector) all_arguments) in
       record {
         own = record {
+          reaches = let none = no_frame in omega (arith, none, long);
           arguments = subst P (sym first) (owns m 8 start 0 s.arguments vs few regs.arguments fit words low);
-          hidden = not_hidden m 8 (buffer_start s (placing_of s)) s.result_type regs.result_type;
+          hidden = not_hidden m 8 (frame_copies_end amd64 s) s.result_type regs.result_type;
         };
         filled = subst Q (sym first) (fill m 8 start 0 s.arguments vs few regs.arguments fit words);
         vectors = vectors ∙ none;
@@ -244,7 +243,7 @@ module _ (s : Signature) (regs : IsInRegisters s) where
 result_in_rax : (t : Tree) → is_number_type t ≡ true → register_pieces result_register 0 0 t [] (classes t) ≡ piece t 0 ∷ []
 result_in_rax t is = ap (register_pieces result_register 0 0 t []) (one_integer t is)
 
-owns_result : (m : Image) (buffer : ℕ) (t : Tree) (v : ValueTree) → is_number_or_void t ≡ true → fits t v ≡ true → (is_void t ≡ false → get_or m.general 0 0 ≡ word_of t v) → IsLowResult t v → OwnsResult m t (result_at buffer (result_spot_of t)) v
+owns_result : (m : Image) (buffer : ℕ) (t : Tree) (v : ValueTree) → is_number_or_void t ≡ true → fits t v ≡ true → (is_void t ≡ false → get_or m.general 0 0 ≡ word_of t v) → IsLowResult t v → OwnsResult m t (result_at at_once buffer t (result_spot_of t)) v
 owns_result m buffer void v is fit word low = tt
 owns_result m buffer (scalar s) v is fit word low =
     let P : List Piece → Type 0 = λ ps. LeavesStand m 0 ps (leaves_of (scalar s)) (leaf_bytes v) in
@@ -252,7 +251,7 @@ owns_result m buffer (scalar s) v is fit word low =
 owns_result m buffer (left_out k) v is fit word low = cc
 owns_result m buffer (structure ts) v is fit word low = cc
 
-fills_result : (m : Image) (buffer : ℕ) (t : Tree) (v : ValueTree) → is_number_or_void t ≡ true → fits t v ≡ true → (is_void t ≡ false → get_or m.general 0 0 ≡ word_of t v) → FillsResult amd64 m t (result_at buffer (result_spot_of t)) v
+fills_result : (m : Image) (buffer : ℕ) (t : Tree) (v : ValueTree) → is_number_or_void t ≡ true → fits t v ≡ true → (is_void t ≡ false → get_or m.general 0 0 ≡ word_of t v) → FillsResult amd64 m t (result_at at_once buffer t (result_spot_of t)) v
 fills_result m buffer void v is fit word = tt
 fills_result m buffer (scalar s) v is fit word =
     let P : List Piece → Type 0 = λ ps. FillPieces m 0 (scalar s) ps v in
@@ -263,8 +262,8 @@ fills_result m buffer (structure ts) v is fit word = cc
 -- AN IMAGE WITH THE WORD IN RAX HOLDS THE RESULT
 pub holds_result : (s : Signature) → IsInRegisters s → (m : Image) (v : ValueTree) → fits s.result_type v ≡ true → (is_void s.result_type ≡ false → get_or m.general 0 0 ≡ word_of s.result_type v) → IsLowResult s.result_type v → HoldsResult amd64 s v m
 holds_result s regs m v fit word low =
-    let buffer = buffer_start s (placing_of s) in
+    let buffer = frame_copies_end amd64 s in
     record {
-      own = record { fitting = fit; stands = owns_result m buffer s.result_type v regs.result_type fit word low };
+      own = record { reaches = let none = no_frame s regs in omega (arith, none); fitting = fit; stands = owns_result m buffer s.result_type v regs.result_type fit word low };
       filled = fills_result m buffer s.result_type v regs.result_type fit word;
     }

@@ -12,8 +12,10 @@ use Rattle.ffi3_place_rules.specs.Event.{Event, leaves}
 use Rattle.ffi3_place_rules.specs.Standard.{block_bytes}
 use Rattle.ffi3_amd64_rules.specs.Amd64.{amd64}
 use Rattle.ffi3_run_rules.specs.Journal as journal
-use Rattle.ffi3_machine.specs.declared.TheConstants.{STACK_TOP}
-use Rattle.ffi3_machine.specs.State.{State, IsReturn, image_of, left, pushed_bytes, returned, stack_at}
+use Rattle.ffi3_type_rules.specs.declared.limits.TheConstants.{STACK, STACK_TOP}
+use Rattle.ffi3_type_rules.specs.Isa.{isa_of}
+use Rattle.ffi3_place_rules.specs.Isa.{pushed_bytes}
+use Rattle.ffi3_machine.specs.State.{State, IsReturn, LieInStack, image_of, left, returned, stack_at}
 use Rattle.ffi3_call.specs.Registers.{IsInRegisters, IsLowResult, is_void, is_number_or_void, preserved_register, word_of}
 use Rattle.ffi3_call.specs.Steps.{given_back, word_address, word_from}
 use Rattle.ffi3_call.specs.Calls.{IsInCallee, IsCalled, HasEnded}
@@ -123,12 +125,13 @@ module _ (s : Signature) (v : ValueTree) (m given : State) (called : IsCalled s 
       let P : State → Type 0 = λ x. IsReturn x in
       subst P (sym given_is) (ap (λ a. stack_at a 8 m) sp ∙ in_callee.return_address)
 
-  pub return_within : given.sp + pushed_bytes given.target + 0 ≤ STACK_TOP
+  pub return_within : LieInStack given.sp (pushed_bytes (isa_of given.target) + 0)
   return_within =
       let sp : m.sp + block_bytes s + 56 ≡ called.0.image.sp = in_callee.sp in
       let top : called.0.image.sp + 8 ≤ STACK_TOP = in_callee.top in
-      let P : State → Type 0 = λ x. x.sp + pushed_bytes x.target + 0 ≤ STACK_TOP in
-      subst P (sym given_is) (omega (arith, sp, top))
+      let bottom : STACK ≤ m.sp = in_callee.bottom in
+      let P : State → Type 0 = λ x. LieInStack x.sp (pushed_bytes (isa_of x.target) + 0) in
+      subst P (sym given_is) (λ some. (omega (arith, sp, bottom), omega (arith, sp, top)))
 
   pub return_has_room : 1 ≤ given.spare_events
   return_has_room =

@@ -6,7 +6,9 @@ use Rattle.std.proofs.lemmas.List.{get_or-set_other, length-set}
 use Rattle.std.proofs.lemmas.Grind.{get_or-set_at}
 use Rattle.ffi3_type_rules.specs.declared.Target.{Target}
 use Rattle.ffi3_type_rules.specs.declared.Target.TheVariants.{Amd64}
-use Rattle.ffi3_machine.specs.State.{State, is_zero_register, with_general}
+use Rattle.ffi3_type_rules.specs.Isa.{isa_of}
+use Rattle.ffi3_place_rules.specs.Isa.{is_zero_register}
+use Rattle.ffi3_machine.specs.State.{State, with_general}
 use Rattle.ffi3_call.specs.Steps.{words_set, with_words}
 
 module _ (row word : ℕ → ℕ) (general : List ℕ) where
@@ -34,7 +36,7 @@ module _ (row word : ℕ → ℕ) (general : List ℕ) where
 -- on AMD64 no register is 0 always
 abbrev set_in : ℕ → ℕ → State → Target → State
 set_in k v s t =
-    record s { general = if is_zero_register t k then s.general else slice_set s.general k v }
+    record s { general = if is_zero_register (isa_of t) k then s.general else slice_set s.general k v }
 
 pub general-set : (k v : ℕ) (s : State) → s.target ≡ Amd64 → with_general k v s ≡ record s { general = slice_set s.general k v }
 general-set k v s on_amd64 = ap (set_in k v s) on_amd64

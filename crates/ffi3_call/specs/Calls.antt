@@ -11,7 +11,7 @@ use Rattle.ffi3_place_rules.specs.Standard.{need_of, block_bytes}
 use Rattle.ffi3_amd64_rules.specs.Amd64.{amd64}
 use Rattle.ffi3_run_rules.specs.Journal.{Entered, needs, IsEntry, IsReturn}
 use Rattle.ffi3_body.specs.Activation.{arguments_in}
-use Rattle.ffi3_machine.specs.declared.TheConstants.{RETURN, STACK_TOP}
+use Rattle.ffi3_type_rules.specs.declared.limits.TheConstants.{RETURN, STACK, STACK_TOP}
 use Rattle.ffi3_machine.specs.State.{State, stack_at}
 use Rattle.ffi3_call.specs.Registers.{preserved_register}
 use Rattle.ffi3_call.specs.Steps.{save_bytes, word_address, word_from}
@@ -20,6 +20,7 @@ use Rattle.ffi3_call.specs.Steps.{save_bytes, word_address, word_from}
 pub record IsInCallee (entered : Entered) (m : State) : Type 0 where
   pub target : m.target ≡ Amd64
   pub sp : m.sp + block_bytes entered.signature + save_bytes ≡ entered.event.image.sp
+  pub bottom : STACK ≤ m.sp
   pub top : entered.event.image.sp + amd64.link ≤ STACK_TOP
   pub saved : (i : ℕ) → i < 6 → word_from (word_address (m.sp + block_bytes entered.signature) i) m ≡ register entered.event.image (G (preserved_register i))
   pub return_address : stack_at entered.event.image.sp 8 m ≡ to_le_bytes w64 RETURN

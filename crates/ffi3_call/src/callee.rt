@@ -5,7 +5,7 @@ ghost use Rattle.ffi3_type_rules.specs.Value.{fits};
 ghost use Rattle.ffi3_place_rules.specs.Standard.{block_bytes};
 ghost use Rattle.ffi3_types.specs.TreeOf.{tree_of};
 ghost use Rattle.ffi3_values.specs.ValueOf.{value_of};
-ghost use Rattle.ffi3_machine.specs.declared.TheConstants.{STACK, STACK_TOP};
+ghost use Rattle.ffi3_type_rules.specs.declared.limits.TheConstants.{STACK, STACK_TOP};
 ghost use Rattle.ffi3_call.specs.Registers.{IsInRegisters, IsLowResult, is_number_or_void};
 ghost use Rattle.ffi3_call.specs.Steps.{copied, given_back, received, restored, saved, save_bytes};
 ghost use Rattle.ffi3_call.specs.Steps.{with_result, word_from};
@@ -24,6 +24,7 @@ const PRESERVED: [u8; 6] = [3, 5, 12, 13, 14, 15];
 pub fn receive(machine: &mut Machine, sig: &Sig)
     requires registers { IsInRegisters sig.now }
     requires room { STACK + save_bytes + block_bytes sig.now ≤ machine.old.sp }
+    requires top { machine.old.sp ≤ STACK_TOP }
     ensures { machine.new ≡ received sig.now machine.old }
 {
     let save_area = machine.sp() - SAVE;
@@ -41,6 +42,7 @@ pub fn give_back(machine: &mut Machine, sig: &Sig, value: &Value)
     requires target { machine.old.target ≡ Target.Amd64 }
     requires registers { IsInRegisters sig.now }
     requires fits { fits sig.now.result_type (value_of value.now) ≡ true }
+    requires bottom { STACK ≤ machine.old.sp }
     requires room { machine.old.sp + block_bytes sig.now + save_bytes ≤ STACK_TOP }
     ensures given { machine.new ≡ given_back sig.now (value_of value.now) machine.old }
     ensures low { IsLowResult sig.now.result_type (value_of value.now) }

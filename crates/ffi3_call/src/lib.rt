@@ -12,7 +12,7 @@ ghost use Rattle.ffi3_place_rules.specs.Standard.{block_bytes, need_of};
 ghost use Rattle.ffi3_amd64_rules.specs.Amd64.{amd64};
 ghost use Rattle.ffi3_run_rules.specs.Closures.{closure_at};
 ghost use Rattle.ffi3_values.specs.ValueOf.{value_of};
-ghost use Rattle.ffi3_machine.specs.declared.TheConstants.{STACK};
+ghost use Rattle.ffi3_type_rules.specs.declared.limits.TheConstants.{STACK, STACK_TOP};
 ghost use Rattle.ffi3_machine.specs.State.{IsSlot, stack_at};
 ghost use Rattle.ffi3_closures.specs.Slots.{HoldsMap};
 ghost use Rattle.ffi3_call.specs.Registers.{IsInRegisters};
@@ -97,6 +97,7 @@ pub fn begin_call(
     requires registers { IsInRegisters sig.now }
     requires fit { all_fit (trees_of sig.now.arguments) (values_of args.now) ≡ true }
     requires room { STACK + need_of amd64 sig.now ≤ machine.old.sp }
+    requires top { machine.old.sp ≤ STACK_TOP }
     requires holds { HoldsMap machine.old.target table.now machine.old.code }
     requires slot { IsSlot ptr }
     requires live { IsSome (closure_at table.now ptr) }

@@ -24,6 +24,7 @@ ghost use Rattle.ffi3_closures.specs.Slots.{HoldsMap, live_count, live_slot, slo
 #[cfg(test)]
 mod tests;
 
+use arrayvec::ArrayVec;
 use ffi3_machine::{CODE, Machine};
 pub use ffi3_run_rules::Closure;
 use ffi3_type_rules::Isa;
@@ -36,7 +37,7 @@ pub struct TableFull;
 /// The live closures, each at its slot.
 #[derive(Drop)]
 pub struct Table {
-    slots: [Option<Closure>; 256],
+    slots: ArrayVec<Option<Closure>, 256>,
 }
 
 impl Model for Table {
@@ -45,9 +46,9 @@ impl Model for Table {
 
     ghost Value = { Closures };
 
-    ghost view = { λ t. t.slots };
+    ghost view = { λ t. t.slots.items };
 
-    ghost invariant = { λ t. length t.slots ≡ 256 };
+    ghost invariant = { λ t. length t.slots.items ≡ 256 };
 }
 
 impl Table {
@@ -56,7 +57,9 @@ impl Table {
         ensures value { result ≡ no_closures }
         ensures begins { (target : Target) → HoldsMap target result (begun_code (isa_of target)) }
     {
-        Table { slots: [None; 256] }
+        Table {
+            slots: ArrayVec::from([None; 256]),
+        }
     }
 
     // The lowest slot that is free, or 256.
@@ -70,6 +73,14 @@ impl Table {
             }
         }
         256
+    }
+
+    // Writes the entry of a slot.
+    fn put(&mut self, k: usize, entry: Option<Closure>)
+        requires { k < 256 }
+        ensures { self.new ≡ with_closure self.old k entry }
+    {
+        self.slots[k] = entry;
     }
 
     /// Makes a closure of a function and its signature, by their numbers, and user data. It takes the lowest free
@@ -101,7 +112,7 @@ impl Table {
         let closure = Closure { func, sig, user };
         let addr = CODE + 64 * k as u64;
         machine.write_code(addr, &live_slot(machine.target().isa(), closure));
-        self.slots[k] = Some(closure);
+        self.put(k, Some(closure));
         Ok(addr)
     }
 
@@ -123,7 +134,7 @@ impl Table {
         }
         let closure = slots[k]?;
         machine.write_code(addr, &free_slot(machine.target().isa()));
-        self.slots[k] = None;
+        self.put(k, None);
         Some(closure)
     }
 

@@ -321,7 +321,8 @@ impl Machine {
             floating: self.floating,
             sp: self.sp,
         };
-        self.journal.add(event, from_sp(&self.stack, self.sp, bytes));
+        self.journal
+            .add(event, from_sp(&self.stack, self.sp, bytes));
     }
 
     /// Returns to RETURN, and records it with `bytes` bytes of stack from the sp after it on. These, and what is popped,
@@ -342,7 +343,8 @@ impl Machine {
             floating: self.floating,
             sp: self.sp,
         };
-        self.journal.add(event, from_sp(&self.stack, self.sp, bytes));
+        self.journal
+            .add(event, from_sp(&self.stack, self.sp, bytes));
     }
 }
 

@@ -195,9 +195,15 @@ mod tests {
         let mut region = Region::new(rt.alloc(), 0x1000, 9)?;
         region.copy_in(0x1000, &[1, 2, 3, 4, 5, 6, 7, 8, 9]);
         region.copy_within(0x1000, 0x1001, 8);
-        assert_eq!(rt; region.lend(0x1000, 9), [1, 1, 2, 3, 4, 5, 6, 7, 8].as_slice());
+        assert_eq!(rt;
+            region.lend(0x1000, 9),
+            [1, 1, 2, 3, 4, 5, 6, 7, 8].as_slice()
+        );
         region.copy_within(0x1001, 0x1000, 8);
-        assert_eq!(rt; region.lend(0x1000, 9), [1, 2, 3, 4, 5, 6, 7, 8, 8].as_slice());
+        assert_eq!(rt;
+            region.lend(0x1000, 9),
+            [1, 2, 3, 4, 5, 6, 7, 8, 8].as_slice()
+        );
         Ok(())
     }
 }

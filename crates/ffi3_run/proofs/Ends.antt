@@ -12,7 +12,7 @@ use Rattle.ffi3_run_rules.specs.Journal.{stack_top}
 use Rattle.ffi3_run_rules.specs.Meaning.{Program, End, returned, stopped, meaning_of, peak_of, most_moves}
 use Rattle.ffi3_body.proofs.Follow.{none_follow}
 use Rattle.ffi3_machine.specs.State.{State, begun, begun_code}
-use Rattle.ffi3_machine.specs.declared.TheConstants.{STACK_TOP}
+use Rattle.ffi3_type_rules.specs.declared.limits.TheConstants.{STACK_TOP}
 use Rattle.ffi3_closures.specs.Slots.{HoldsMap}
 use Rattle.ffi3_run.specs.declared.board.Board.{Board}
 use Rattle.ffi3_run.specs.declared.line.Cut.{Cut}

@@ -11,7 +11,7 @@ use Rattle.ffi3_run_rules.specs.Lines.{a_line, stop_text}
 use Rattle.ffi3_run_rules.specs.Happenings.{written_out}
 use Rattle.ffi3_body.specs.Follow.{ResultsFollow}
 use Rattle.ffi3_machine.specs.State.{State}
-use Rattle.ffi3_machine.specs.declared.TheConstants.{STACK_TOP}
+use Rattle.ffi3_type_rules.specs.declared.limits.TheConstants.{STACK_TOP}
 use Rattle.ffi3_closures.specs.Slots.{HoldsMap}
 use Rattle.ffi3_run.specs.declared.board.Board.{Board}
 use Rattle.ffi3_run.specs.declared.board.Turn.{Turn}

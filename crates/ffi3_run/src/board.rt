@@ -14,7 +14,7 @@ ghost use Rattle.ffi3_script_rules.specs.Typed.{signature_is_right};
 ghost use Rattle.ffi3_body.specs.Follow.{ResultsFollow};
 ghost use Rattle.ffi3_body.specs.MoveOf.{move_of};
 ghost use Rattle.ffi3_machine.specs.State.{State};
-ghost use Rattle.ffi3_machine.specs.declared.TheConstants.{STACK_TOP};
+ghost use Rattle.ffi3_type_rules.specs.declared.limits.TheConstants.{STACK_TOP};
 ghost use Rattle.ffi3_script.specs.ScriptOf.{natives_of, script_of};
 ghost use Rattle.ffi3_call.specs.Calls.{HasEnded, IsCalled};
 ghost use Rattle.ffi3_call.specs.Registers.{IsInRegisters};

@@ -8,7 +8,7 @@ use Rattle.ffi3_closures.proofs.Table.run_trampoline.Goals as goal
 
 pub loop-k-init : goal.loop-k-init
 loop-k-init c =
-    let map : c.self.inside.slots ≡ c.args.self.now = c.self.view_is in
+    let map : c.self.inside.slots.items ≡ c.args.self.now = c.self.view_is in
     record {
       done = refl;
       rest = three_steps c.args.self.now c.args.machine.now (rw map at c.self.invariant) c.sp-sp.ensures.machine c.requires.holds c.requires.live;
