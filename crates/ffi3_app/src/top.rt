@@ -3,6 +3,7 @@ ghost use Rattle.std.specs.Prelude.{◌≡◌, ◌<◌, ◌⊎◌, [], List, ℕ
 ghost use Rattle.ffi3_io.specs.Sink.{Rose};
 ghost use Rattle.ffi3_script_rules.specs.Reading.{Reading, IsReading, script};
 ghost use Rattle.ffi3_script_rules.specs.Script.{Script as RulesScript};
+ghost use Rattle.ffi3_script_rules.specs.Natives.{NamedNative, names_of};
 ghost use Rattle.ffi3_run.specs.Told.{took};
 ghost use Rattle.ffi3_app.specs.declared.words.Request.{Request};
 ghost use Rattle.ffi3_app.specs.Words.{IsStated};
@@ -24,7 +25,7 @@ use std::alloc::Global;
 ///
 /// The words hold the program's name first. For `layout`, `place --target TARGET` and `run --target amd64` the input is read to its
 /// end, or until it is longer than a script may be, and the output takes the lines that the command writes of the script. The line
-/// of a fault goes to `faults`. The list of natives is empty for now.
+/// of a fault goes to `faults`. The list of natives is empty for now; scripts are read beside their names, and run together with them.
 ///
 /// | status | when |
 /// |---|---|
@@ -46,20 +47,23 @@ pub fn ffi3<I: Source, O: Sink, E: Sink>(
 ) -> u8
     requires { natives.now.items ≡ [] }
 
-    // What each status says: its cause, what was written, and what stayed as it was.
-    ensures says { Says (map string_bytes words.items) (map (λ b. handed_in (title b) (meaning b) (signatures b)) natives.now.items)
+    // What each status says, for scripts beside these natives: its cause, what was written, and what stayed as it was.
+    ensures says { let handed : List NamedNative = map (λ b. handed_in (title b) (meaning b) (signatures b)) natives.now.items in
+        Says (map string_bytes words.items) handed
         (given (I.left input.old) (I.faults input.old)) (given (I.left input.new) (I.faults input.new))
         (took (O.taken output.old) (O.faults output.old)) (took (O.taken output.new) (O.faults output.new))
         (took (E.taken faults.old) (E.faults faults.old)) (took (E.taken faults.new) (E.faults faults.new))
         machine.old machine.new result }
 
     // Where nothing fails, what stated words ask for is done with a script, and what is none is refused; want of memory alone is free.
-    ensures complete { (r : Request) → IsStated (map string_bytes words.items) r → (all : List ℕ) → I.left input.old ≡ Some all →
-        (s : RulesScript) → IsReading (map (λ b. title b) natives.now.items) all (script s) → not_yet r s ≡ None →
+    ensures complete { let handed : List NamedNative = map (λ b. handed_in (title b) (meaning b) (signatures b)) natives.now.items in
+        (r : Request) → IsStated (map string_bytes words.items) r → (all : List ℕ) → I.left input.old ≡ Some all →
+        (s : RulesScript) → IsReading (names_of handed) all (script s) → not_yet r s ≡ None →
         (Rose (I.faults input.old) (I.faults input.new) → ⊥) → (Rose (O.faults output.old) (O.faults output.new) → ⊥) →
-        (Rose (E.faults faults.old) (E.faults faults.new) → ⊥) → (result ≡ status_when_done r (map (λ b. handed_in (title b) (meaning b) (signatures b)) natives.now.items) s) ⊎ (result ≡ 5) }
-    ensures refuses { (r : Request) → IsStated (map string_bytes words.items) r → (all : List ℕ) → I.left input.old ≡ Some all →
-        (reading : Reading) → IsReading (map (λ b. title b) natives.now.items) all reading → (line : List ℕ) → refusal_of r reading ≡ Some line →
+        (Rose (E.faults faults.old) (E.faults faults.new) → ⊥) → (result ≡ status_when_done r handed s) ⊎ (result ≡ 5) }
+    ensures refuses { let handed : List NamedNative = map (λ b. handed_in (title b) (meaning b) (signatures b)) natives.now.items in
+        (r : Request) → IsStated (map string_bytes words.items) r → (all : List ℕ) → I.left input.old ≡ Some all →
+        (reading : Reading) → IsReading (names_of handed) all reading → (line : List ℕ) → refusal_of r reading ≡ Some line →
         (Rose (I.faults input.old) (I.faults input.new) → ⊥) → (Rose (O.faults output.old) (O.faults output.new) → ⊥) →
         (Rose (E.faults faults.old) (E.faults faults.new) → ⊥) → (result ≡ 1) ⊎ (result ≡ 5) }
     ensures knows_words { (r : Request) → IsStated (map string_bytes words.items) r → result ≡ 2 → ⊥ }

@@ -19,11 +19,9 @@ use ffi3_io::Sink;
 use ffi3_machine::{Machine, Target};
 use ffi3_run_rules::Stop;
 use ffi3_script::Script;
+use ffi3_type_rules::limits::MOST_MOVES;
 use ffi3_values::Values;
 use std::alloc::Global;
-
-/// How many moves a run may do.
-const MOST_MOVES: u32 = 10_000;
 
 /// How a run ended.
 #[derive(Clone, Copy, Debug, PartialEq, Eq)]
@@ -69,7 +67,7 @@ pub fn run_main<O: Sink>(
     machine.begin(Target::Amd64);
     let mut board = Board {
         table: Table::new(),
-        moves: MOST_MOVES,
+        moves: MOST_MOVES as u32,
         results: Values::new(alloc),
     };
     run_on(alloc, &mut board, script, machine, output)
