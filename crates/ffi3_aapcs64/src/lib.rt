@@ -10,19 +10,21 @@ ghost use Rattle.ffi3_type_rules.specs.Signature.{SignatureHasNoFault};
 ghost use Rattle.ffi3_types.specs.TreeOf.{tree_of};
 ghost use Rattle.ffi3_place_rules.specs.declared.Loc.{Loc};
 ghost use Rattle.ffi3_place_rules.specs.declared.Loc.TheVariants.{G, S};
-ghost use Rattle.ffi3_place_rules.specs.Standard.{places_from, place_at, all_copy_bytes, copy_bytes, result_at, buffer_bytes};
+ghost use Rattle.ffi3_place_rules.specs.Standard.{places_from, place_at, copies_end, result_at};
 ghost use Rattle.ffi3_place_rules.specs.Doublewords.{doublewords, stack_pieces};
-ghost use Rattle.ffi3_aapcs64_rules.specs.Aapcs64.{is_of, is_member, homogeneous, in_vectors, is_copied, need, generals, vectors, stack_size, member_pieces, general_pieces, register_pieces, in_registers, taken_with, taken_after, untouched, spot_after, spots_after, result_spot_of};
+ghost use Rattle.ffi3_aapcs64_rules.specs.Aapcs64.{aapcs64, next_register, is_of, is_member, homogeneous, in_vectors, is_copied, passed, need, stack_size, first_register, stack_start, member_pieces, general_pieces, register_pieces, register_start, register_end, in_registers, stack_end, taken_with, taken_after, untouched, spot_after, spots_after, result_spot_of};
+ghost use Rattle.ffi3_aapcs64_rules.specs.Sums.{IsPlacedBySums};
 
 #[cfg(test)]
 mod tests;
 
 pub use ffi3_aapcs64_rules::Kind;
+use ffi3_place::ends::{buffer_end, copy_end, planned};
 use ffi3_place::parts::{
     argument, count_of, doubleword, doublewords, leaf_piece, pieces_on_stack, result_type, size_of,
-    sizes_of, widening,
+    widening,
 };
-use ffi3_place::{Abi, Ext, Loc, Pieces, Place, Places, Plan, Res};
+use ffi3_place::{Abi, Ext, Loc, Pieces, Place, Places, Plan, Res, SaveWord};
 use ffi3_place_rules::Taken;
 use ffi3_type_rules::round_up;
 use ffi3_types::{FfiType, NoMemory, Sig, Target};
@@ -84,7 +86,7 @@ pub fn homogeneous(ty: &FfiType) -> Option<(Kind, u8)>
     None
 }
 
-// ---- what an argument needs
+// ---- what is passed, and what it needs
 
 /// Whether a value takes SIMD and floating-point registers.
 fn in_vectors(ty: &FfiType) -> bool
@@ -94,7 +96,19 @@ fn in_vectors(ty: &FfiType) -> bool
     match ty {
         FfiType::Float | FfiType::Double => true,
         FfiType::Struct(_) => homogeneous(ty).is_some(),
-        _ => false,
+        FfiType::Void
+        | FfiType::U8
+        | FfiType::S8
+        | FfiType::U16
+        | FfiType::S16
+        | FfiType::U32
+        | FfiType::S32
+        | FfiType::U64
+        | FfiType::S64
+        | FfiType::Pointer
+        | FfiType::LongDouble
+        | FfiType::Complex
+        | FfiType::Vector => false,
     }
 }
 
@@ -103,10 +117,16 @@ fn is_copied(ty: &FfiType) -> bool
     requires { HasNoFault 0 true (tree_of ty.now) }
     ensures { result ≡ is_copied (tree_of ty.now) }
 {
-    match ty {
-        FfiType::Struct(_) => !in_vectors(ty) && size_of(ty) > 16,
-        _ => false,
-    }
+    matches!(ty, FfiType::Struct(_)) && !in_vectors(ty) && size_of(ty) > 16
+}
+
+/// The size of what is passed: the value, or the pointer to its copy.
+fn passed_size(ty: &FfiType) -> u64
+    requires { HasNoFault 0 true (tree_of ty.now) }
+    ensures value { result ≡ size_of (passed (tree_of ty.now)) }
+    ensures small { result ≤ 1024 }
+{
+    if is_copied(ty) { 8 } else { size_of(ty) }
 }
 
 /// How many doublewords a value has that goes directly in general registers.
@@ -118,7 +138,7 @@ fn doublewords_of(ty: &FfiType) -> u64
     doublewords(ty)
 }
 
-/// The registers that an argument needs: whether they are SIMD and floating-point registers, and how many. (AAPCS64, "Parameter passing")
+/// The registers that an argument needs: whether they are SIMD and floating-point registers, and how many. (AAPCS64 C.1, C.2, C.9, C.12)
 pub fn need_of(ty: &FfiType) -> (bool, u8)
     requires { HasNoFault 0 true (tree_of ty.now) }
     ensures { result ≡ (in_vectors (tree_of ty.now), need (tree_of ty.now)) }
@@ -147,11 +167,63 @@ fn stack_size(ty: &FfiType) -> u64
     ensures value { result ≡ stack_size (tree_of ty.now) }
     ensures small { result ≤ 1031 }
 {
-    if is_copied(ty) {
-        8
+    round_up(passed_size(ty), 8)
+}
+
+// ---- where one thing begins after another
+
+/// The first register of an argument, where those before it of its kind end. (AAPCS64 C.10)
+fn first_register(end: u64, _ty: &FfiType) -> u64
+    ensures { result ≡ first_register end (passed (tree_of _ty.now)) }
+{
+    end
+}
+
+/// The first byte of an argument on the stack, where what stands before it ends. (AAPCS64 C.4, C.14)
+fn stack_start(end: u64, _ty: &FfiType) -> u64
+    ensures { result ≡ stack_start end (passed (tree_of _ty.now)) }
+{
+    end
+}
+
+/// The first byte of a copy or a buffer in the frame, where what stands before it ends.
+fn copy_start(end: u64, _ty: &FfiType) -> u64
+    ensures { result ≡ aapcs64.copy_start end (tree_of _ty.now) }
+{
+    end
+}
+
+// ---- what an argument takes
+
+/// The registers of an argument's kind that the arguments before it take.
+fn next_register(before: Taken, ty: &FfiType) -> u64
+    requires { HasNoFault 0 true (tree_of ty.now) }
+    ensures { result ≡ next_register before (tree_of ty.now) }
+{
+    if in_vectors(ty) {
+        before.vector
     } else {
-        round_up(size_of(ty), 8)
+        before.general
     }
+}
+
+/// The first register of an argument, by its kind.
+fn register_start(before: Taken, ty: &FfiType) -> u64
+    requires { HasNoFault 0 true (tree_of ty.now) }
+    ensures { result ≡ register_start before (tree_of ty.now) }
+{
+    first_register(next_register(before, ty), ty)
+}
+
+/// Where the registers of an argument end. 256 is what 64 arguments need at most.
+fn register_end(before: Taken, ty: &FfiType) -> u64
+    requires right { HasNoFault 0 true (tree_of ty.now) }
+    requires few_general { before.general ≤ 256 }
+    requires few_vector { before.vector ≤ 256 }
+    ensures value { result ≡ register_end before (tree_of ty.now) }
+    ensures few { result ≤ next_register before (tree_of ty.now) + 4 }
+{
+    register_start(before, ty) + number_needed(ty)
 }
 
 /// Whether the registers that are left suffice for the whole argument.
@@ -159,13 +231,91 @@ fn fits_registers(before: Taken, ty: &FfiType) -> bool
     requires right { HasNoFault 0 true (tree_of ty.now) }
     requires few_general { before.general ≤ 256 }
     requires few_vector { before.vector ≤ 256 }
-    ensures value { result ≡ in_registers before.general before.vector (tree_of ty.now) }
+    ensures value { result ≡ in_registers before (tree_of ty.now) }
+{
+    register_end(before, ty) <= 8
+}
+
+/// The general registers that are taken after an argument.
+fn general_end(before: Taken, ty: &FfiType) -> u64
+    requires right { HasNoFault 0 true (tree_of ty.now) }
+    requires few_general { before.general ≤ 256 }
+    requires few_vector { before.vector ≤ 256 }
+    ensures value { result ≡ (taken_with before (tree_of ty.now)).general }
+    ensures few { result ≤ before.general + 4 }
 {
     if in_vectors(ty) {
-        before.vector + number_needed(ty) <= 8
+        before.general
     } else {
-        before.general + number_needed(ty) <= 8
+        register_end(before, ty)
     }
+}
+
+/// The SIMD and floating-point registers that are taken after an argument.
+fn vector_end(before: Taken, ty: &FfiType) -> u64
+    requires right { HasNoFault 0 true (tree_of ty.now) }
+    requires few_general { before.general ≤ 256 }
+    requires few_vector { before.vector ≤ 256 }
+    ensures value { result ≡ (taken_with before (tree_of ty.now)).vector }
+    ensures few { result ≤ before.vector + 4 }
+{
+    if in_vectors(ty) {
+        register_end(before, ty)
+    } else {
+        before.vector
+    }
+}
+
+/// The bytes of stack that are taken after an argument.
+fn stack_end(before: Taken, ty: &FfiType) -> u64
+    requires right { HasNoFault 0 true (tree_of ty.now) }
+    requires few_general { before.general ≤ 256 }
+    requires few_vector { before.vector ≤ 256 }
+    requires low { before.stack ≤ 66048 }
+    ensures value { result ≡ (taken_with before (tree_of ty.now)).stack }
+    ensures low { result ≤ before.stack + 1031 }
+{
+    if fits_registers(before, ty) {
+        before.stack
+    } else {
+        stack_start(before.stack, ty) + stack_size(ty)
+    }
+}
+
+fn with_argument(before: Taken, ty: &FfiType) -> Taken
+    requires right { HasNoFault 0 true (tree_of ty.now) }
+    requires few_general { before.general ≤ 256 }
+    requires few_vector { before.vector ≤ 256 }
+    requires low { before.stack ≤ 66048 }
+    ensures value { result ≡ taken_with before (tree_of ty.now) }
+    ensures few_general { result.general ≤ before.general + 4 }
+    ensures few_vector { result.vector ≤ before.vector + 4 }
+    ensures low { result.stack ≤ before.stack + 1031 }
+{
+    Taken {
+        general: general_end(before, ty),
+        vector: vector_end(before, ty),
+        stack: stack_end(before, ty),
+    }
+}
+
+const UNTOUCHED: Taken = Taken {
+    general: 0,
+    vector: 0,
+    stack: 0,
+};
+
+/// What all arguments take.
+fn taken_by_all(sig: &Sig) -> Taken
+    requires { SignatureHasNoFault sig.now }
+    ensures value { result ≡ taken_after untouched sig.now.arguments }
+    ensures low { result.stack ≤ 65984 }
+{
+    let mut before = UNTOUCHED;
+    for i in 0..count_of(sig) {
+        before = with_argument(before, argument(sig, i));
+    }
+    before
 }
 
 // ---- pieces
@@ -197,22 +347,17 @@ fn pieces_in_vectors(alloc: Global, ty: &FfiType, vector: u64) -> Result<Pieces,
     Ok(pieces)
 }
 
-/// A value in registers, from numbers `general` and `vector` on.
-fn pieces_in_registers(
-    alloc: Global,
-    ty: &FfiType,
-    general: u64,
-    vector: u64,
-) -> Result<Pieces, NoMemory>
+/// A value in registers of its kind, from number `first` on.
+fn pieces_in_registers(alloc: Global, ty: &FfiType, first: u64) -> Result<Pieces, NoMemory>
     requires right { HasNoFault 0 true (tree_of ty.now) }
-    requires enough_vector { in_vectors (tree_of ty.now) ≡ true → vector + length (leaves_of (tree_of ty.now)) ≤ 8 }
-    requires enough_general { in_vectors (tree_of ty.now) ≡ false → general + doublewords (tree_of ty.now) ≤ 8 }
-    ensures { IfOk result (λ p. p ≡ register_pieces general vector (tree_of ty.now)) }
+    requires enough_vector { in_vectors (tree_of ty.now) ≡ true → first + length (leaves_of (tree_of ty.now)) ≤ 8 }
+    requires enough_general { in_vectors (tree_of ty.now) ≡ false → first + doublewords (tree_of ty.now) ≤ 8 }
+    ensures { IfOk result (λ p. p ≡ register_pieces first (tree_of ty.now)) }
 {
     if in_vectors(ty) {
-        pieces_in_vectors(alloc, ty, vector)
+        pieces_in_vectors(alloc, ty, first)
     } else {
-        pieces_in_general(alloc, ty, general)
+        pieces_in_general(alloc, ty, first)
     }
 }
 
@@ -225,12 +370,12 @@ fn direct_pieces(alloc: Global, before: Taken, ty: &FfiType) -> Result<Pieces, N
     requires few_general { before.general ≤ 256 }
     requires few_vector { before.vector ≤ 256 }
     requires low { before.stack ≤ 66048 }
-    ensures { IfOk result (λ p. p ≡ cond (in_registers before.general before.vector (tree_of ty.now)) (register_pieces before.general before.vector (tree_of ty.now)) (stack_pieces before.stack (tree_of ty.now))) }
+    ensures { IfOk result (λ p. p ≡ cond (in_registers before (tree_of ty.now)) (register_pieces (register_start before (tree_of ty.now)) (tree_of ty.now)) (stack_pieces (stack_start before.stack (passed (tree_of ty.now))) (tree_of ty.now))) }
 {
     if fits_registers(before, ty) {
-        pieces_in_registers(alloc, ty, before.general, before.vector)
+        pieces_in_registers(alloc, ty, register_start(before, ty))
     } else {
-        pieces_on_stack(alloc, ty, before.stack)
+        pieces_on_stack(alloc, ty, stack_start(before.stack, ty))
     }
 }
 
@@ -241,113 +386,31 @@ fn pointer_place(before: Taken, ty: &FfiType) -> Loc
     requires few_general { before.general ≤ 256 }
     requires few_vector { before.vector ≤ 256 }
     requires low { before.stack ≤ 66048 }
-    ensures { result ≡ cond (in_registers before.general before.vector (tree_of ty.now)) (G before.general) (S before.stack) }
+    ensures { result ≡ cond (in_registers before (tree_of ty.now)) (G (register_start before (tree_of ty.now))) (S (stack_start before.stack (passed (tree_of ty.now)))) }
 {
     if fits_registers(before, ty) {
-        Loc::G(before.general as u8)
+        Loc::G(register_start(before, ty) as u8)
     } else {
-        Loc::S(before.stack as u32)
+        Loc::S(stack_start(before.stack, ty) as u32)
     }
 }
 
-/// Where an argument stands, if the next copy stands at `copy`.
-fn place_of(alloc: Global, before: Taken, ty: &FfiType, copy: u64) -> Result<Place, NoMemory>
+/// Where an argument stands, if what is before its copy ends at `end`.
+fn place_of(alloc: Global, before: Taken, ty: &FfiType, end: u64) -> Result<Place, NoMemory>
     requires right { HasNoFault 0 true (tree_of ty.now) }
     requires few_general { before.general ≤ 256 }
     requires few_vector { before.vector ≤ 256 }
     requires low { before.stack ≤ 66048 }
-    requires low_copy { copy ≤ 262144 }
-    ensures { IfOk result (λ p. p ≡ place_at copy (spot_after before (tree_of ty.now))) }
+    requires low_copy { end ≤ 262144 }
+    ensures { IfOk result (λ p. p ≡ place_at aapcs64.copy_start end (tree_of ty.now) (spot_after before (tree_of ty.now))) }
 {
     if is_copied(ty) {
         return Ok(Place::ByRef {
             at: pointer_place(before, ty),
-            copy: copy as u32,
+            copy: copy_start(end, ty) as u32,
         });
     }
     Ok(Place::Direct(direct_pieces(alloc, before, ty)?))
-}
-
-/// The bytes of an argument's copy.
-fn copy_size(ty: &FfiType) -> u64
-    requires { HasNoFault 0 true (tree_of ty.now) }
-    ensures value { (before : Taken) → result ≡ copy_bytes (tree_of ty.now) (spot_after before (tree_of ty.now)) }
-    ensures small { result ≤ 1031 }
-{
-    if is_copied(ty) {
-        round_up(size_of(ty), 8)
-    } else {
-        0
-    }
-}
-
-/// The general registers that an argument needs.
-fn generals(ty: &FfiType) -> u64
-    requires { HasNoFault 0 true (tree_of ty.now) }
-    ensures value { result ≡ generals (tree_of ty.now) }
-    ensures few { result ≤ 4 }
-{
-    if in_vectors(ty) { 0 } else { number_needed(ty) }
-}
-
-/// The SIMD and floating-point registers that an argument needs.
-fn vectors(ty: &FfiType) -> u64
-    requires { HasNoFault 0 true (tree_of ty.now) }
-    ensures value { result ≡ vectors (tree_of ty.now) }
-    ensures few { result ≤ 4 }
-{
-    if in_vectors(ty) { number_needed(ty) } else { 0 }
-}
-
-/// The stack that an argument takes.
-fn stack_taken(before: Taken, ty: &FfiType) -> u64
-    requires right { HasNoFault 0 true (tree_of ty.now) }
-    requires few_general { before.general ≤ 256 }
-    requires few_vector { before.vector ≤ 256 }
-    ensures value { result ≡ cond (in_registers before.general before.vector (tree_of ty.now)) 0 (stack_size (tree_of ty.now)) }
-    ensures small { result ≤ 1031 }
-{
-    if fits_registers(before, ty) {
-        0
-    } else {
-        stack_size(ty)
-    }
-}
-
-fn with_argument(before: Taken, ty: &FfiType) -> Taken
-    requires right { HasNoFault 0 true (tree_of ty.now) }
-    requires few_general { before.general ≤ 256 }
-    requires few_vector { before.vector ≤ 256 }
-    requires low { before.stack ≤ 66048 }
-    ensures value { result ≡ taken_with before (tree_of ty.now) }
-    ensures few_general { result.general ≤ before.general + 4 }
-    ensures few_vector { result.vector ≤ before.vector + 4 }
-    ensures low { result.stack ≤ before.stack + 1031 }
-{
-    Taken {
-        general: before.general + generals(ty),
-        vector: before.vector + vectors(ty),
-        stack: before.stack + stack_taken(before, ty),
-    }
-}
-
-const UNTOUCHED: Taken = Taken {
-    general: 0,
-    vector: 0,
-    stack: 0,
-};
-
-/// What all arguments take.
-fn taken_by_all(sig: &Sig) -> Taken
-    requires { SignatureHasNoFault sig.now }
-    ensures value { result ≡ taken_after untouched sig.now.arguments }
-    ensures low { result.stack ≤ 65984 }
-{
-    let mut before = UNTOUCHED;
-    for i in 0..count_of(sig) {
-        before = with_argument(before, argument(sig, i));
-    }
-    before
 }
 
 /// The places of all arguments, and where their copies end.
@@ -361,28 +424,30 @@ struct Placed {
 fn place_all(alloc: Global, sig: &Sig, start: u64) -> Result<Placed, NoMemory>
     requires right { SignatureHasNoFault sig.now }
     requires low { start ≤ 66048 }
-    ensures places { IfOk result (λ p. p.places ≡ places_from start sig.now.arguments (spots_after untouched sig.now.arguments)) }
-    ensures end { IfOk result (λ p. p.end ≡ start + all_copy_bytes sig.now.arguments (spots_after untouched sig.now.arguments)) }
+    ensures places { IfOk result (λ p. p.places ≡ places_from aapcs64.copy_start start sig.now.arguments (spots_after untouched sig.now.arguments)) }
+    ensures end { IfOk result (λ p. p.end ≡ copies_end aapcs64.copy_start start sig.now.arguments (spots_after untouched sig.now.arguments)) }
     ensures low { IfOk result (λ p. p.end ≤ 132096) }
 {
     let mut before = UNTOUCHED;
-    let mut copy = start;
+    let mut end = start;
     let mut places = Places::new(alloc);
     for i in 0..count_of(sig) {
         let ty = argument(sig, i);
-        places.push(place_of(alloc, before, ty, copy)?)?;
-        copy += copy_size(ty);
+        let place = place_of(alloc, before, ty, end)?;
+        end = copy_end(&place, ty, end);
+        places.push(place)?;
         before = with_argument(before, ty);
     }
-    Ok(Placed { places, end: copy })
+    Ok(Placed { places, end })
 }
 
 // ---- results
 
-fn place_result(alloc: Global, ty: &FfiType, buffer: u64) -> Result<Res, NoMemory>
+/// Where a result stands, if what is before its buffer ends at `end`.
+fn place_result(alloc: Global, ty: &FfiType, end: u64) -> Result<Res, NoMemory>
     requires right { HasNoFault 0 true (tree_of ty.now) }
-    requires low { buffer ≤ 262144 }
-    ensures { IfOk result (λ r. r ≡ result_at buffer (result_spot_of (tree_of ty.now))) }
+    requires low { end ≤ 262144 }
+    ensures { IfOk result (λ r. r ≡ result_at aapcs64.copy_start end (tree_of ty.now) (result_spot_of (tree_of ty.now))) }
 {
     if let FfiType::Void = ty {
         return Ok(Res::Nothing);
@@ -391,41 +456,60 @@ fn place_result(alloc: Global, ty: &FfiType, buffer: u64) -> Result<Res, NoMemor
         // x8 holds the buffer's address
         return Ok(Res::Hidden {
             at: Loc::G(8),
-            buffer: buffer as u32,
+            buffer: copy_start(end, ty) as u32,
         });
     }
-    Ok(Res::Direct(pieces_in_registers(alloc, ty, 0, 0)?))
+    Ok(Res::Direct(pieces_in_registers(alloc, ty, 0)?))
 }
 
-/// The bytes of a hidden result's buffer.
-fn buffer_of(ty: &FfiType) -> u64
-    requires { HasNoFault 0 true (tree_of ty.now) }
-    ensures value { result ≡ buffer_bytes (tree_of ty.now) (result_spot_of (tree_of ty.now)) }
-    ensures small { result ≤ 1032 }
-{
-    if is_copied(ty) {
-        round_up(size_of(ty), 8)
-    } else {
-        0
-    }
-}
+// ---- the standard
+
+/// Does nothing. Its contract says where everything stands in a call of the signature, by sums over all its arguments: an argument is in registers exactly where the needs of its kind up to its own add up to at most 8, its first register and its first byte on the stack are such sums too, and so are the places of copies and buffer. No other placing agrees with the sums.
+pub fn placement_laws(_sig: &Sig)
+    ensures { IsPlacedBySums _sig.now }
+{}
+
+/// The callee-saved registers: x19 to x29, and the low halves of v8 to v15.
+const CALLEE_SAVED: [Loc; 19] = [
+    Loc::G(19),
+    Loc::G(20),
+    Loc::G(21),
+    Loc::G(22),
+    Loc::G(23),
+    Loc::G(24),
+    Loc::G(25),
+    Loc::G(26),
+    Loc::G(27),
+    Loc::G(28),
+    Loc::G(29),
+    Loc::F(8),
+    Loc::F(9),
+    Loc::F(10),
+    Loc::F(11),
+    Loc::F(12),
+    Loc::F(13),
+    Loc::F(14),
+    Loc::F(15),
+];
+
+/// The link register: x30.
+const LINK_REGISTER: Loc = Loc::G(30);
 
 /// The Arm AAPCS64 calling standard. (IHI 0055)
 pub struct Aapcs64;
 
 impl Abi for Aapcs64 {
-    ghost use Rattle.ffi3_type_rules.specs.declared.Target.TheVariants as target;
     ghost use Rattle.ffi3_aapcs64_rules.specs.Aapcs64.{aapcs64};
 
     ghost standard = { aapcs64 };
 
-    ghost SAVE = { 176 };
+    ghost SAVE = { aapcs64.save };
 
-    ghost LINK = { 0 };
+    ghost LINK = { aapcs64.link };
 
-    ghost TARGET = { target.Aapcs64 };
+    ghost TARGET = { aapcs64.target };
 
-    ghost KEPT = { 19 };
+    ghost KEPT = { length aapcs64.preserved };
 
     const SAVE: u64 = 176;
 
@@ -436,50 +520,39 @@ impl Abi for Aapcs64 {
     const KEPT: u8 = 19;
 
     fn kept_register(k: u8) -> Loc {
-        // x19 to x29, v8 to v15
-        const REGISTERS: [Loc; 19] = [
-            Loc::G(19),
-            Loc::G(20),
-            Loc::G(21),
-            Loc::G(22),
-            Loc::G(23),
-            Loc::G(24),
-            Loc::G(25),
-            Loc::G(26),
-            Loc::G(27),
-            Loc::G(28),
-            Loc::G(29),
-            Loc::F(8),
-            Loc::F(9),
-            Loc::F(10),
-            Loc::F(11),
-            Loc::F(12),
-            Loc::F(13),
-            Loc::F(14),
-            Loc::F(15),
-        ];
-        REGISTERS[k as usize]
+        CALLEE_SAVED[k as usize]
+    }
+
+    fn saved_word(k: u8) -> SaveWord {
+        // x19 to x30, v8 to v15, the hidden result's address, and a spare word
+        match k {
+            0..=10 => SaveWord::Register(CALLEE_SAVED[k as usize]),
+            11 => SaveWord::Register(LINK_REGISTER),
+            12..=19 => SaveWord::Register(CALLEE_SAVED[k as usize - 1]),
+            20 => SaveWord::Hidden,
+            _ => SaveWord::Spare,
+        }
+    }
+
+    fn vector_count() -> Option<Loc> {
+        None
+    }
+
+    fn returned_address() -> Option<Loc> {
+        None
     }
 
     fn plan(alloc: Global, sig: &Sig) -> Result<Plan, NoMemory> {
         let taken = taken_by_all(sig);
-        let start = round_up(taken.stack, 16);
-        let all = place_all(alloc, sig, start)?;
+        let all = place_all(alloc, sig, round_up(taken.stack, 16))?;
         let ret = result_type(sig);
-        let frame = round_up(all.end + buffer_of(ret), 16);
-        let block = round_up(sizes_of(sig), 16);
         let res = place_result(alloc, ret, all.end)?;
-        Ok(Plan {
-            places: all.places,
-            res,
-            need: frame + 176 + block,
-            frame,
-            block,
-            vectors: 0,
-        })
+        let end = buffer_end(&res, ret, all.end);
+        Ok(planned(sig, all.places, res, end, Self::LINK + Self::SAVE, 0))
     }
 
     ghost use Rattle.std.specs.Prelude.{refl};
+    ghost use Rattle.ffi3_aapcs64_rules.proofs.Agrees.{agrees as agrees_with_machine};
     ghost use Rattle.ffi3_aapcs64_rules.proofs.Sound.{sound as every_law, determines};
 
     ghost save_is = { refl };
@@ -489,6 +562,8 @@ impl Abi for Aapcs64 {
     ghost target_is = { refl };
 
     ghost kept_all = { refl };
+
+    ghost agrees = { agrees_with_machine };
 
     ghost sound = { λ s _. every_law s };
 

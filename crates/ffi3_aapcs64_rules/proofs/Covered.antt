@@ -1,10 +1,10 @@
 -- The pieces of a value have every byte of its leaves and are filled as the standard says; and what a value needs.
-use Rattle.std.proofs.Common.{◌≡◌, ℕ, ◌+◌, ◌*◌, ◌≤◌, Bool, true, false, not, ◌&&◌, cond, ltb, leb, List, [], ◌∷◌, length, subst, sym, ap, ◌∙◌, refl, arith}
+use Rattle.std.proofs.Common.{◌≡◌, ℕ, ◌+◌, ◌*◌, ◌≤◌, Bool, true, false, not, ◌&&◌, cond, ltb, leb, List, [], ◌∷◌, length, sym, ap, ◌∙◌, refl, arith}
 use Rattle.std.specs.Prelude.{Option, None, is_some}
 use Rattle.std.specs.List.{AllByRecursion}
 use Rattle.std.proofs.lemmas.Bool.{ltb-false, leb-true}
 use Rattle.std.proofs.lemmas.Bool.Decides.{nat_tests}
-use Rattle.ffi3_type_rules.specs.Tree.{Tree, void, scalar, left_out, structure, Scalar, u8, s8, u16, s16, u32, s32, u64, s64, float, double, pointer}
+use Rattle.ffi3_type_rules.specs.Tree.{Tree, void, scalar, left_out, structure, u8, s8, u16, s16, u32, s32, u64, s64, float, double, pointer}
 use Rattle.ffi3_type_rules.specs.Layout.{Leaf, leaves_of, size_of, least_multiple}
 use Rattle.ffi3_type_rules.proofs.Layouts.{scalar_size-bounds}
 use Rattle.ffi3_place_rules.specs.declared.Loc.TheVariants.{G, F, S}

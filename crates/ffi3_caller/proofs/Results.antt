@@ -1,23 +1,27 @@
 -- A result that an image owns is what is loaded from it, in pieces or from the caller's buffer.
-use Rattle.std.proofs.Common.{◌≡◌, ℕ, ◌+◌, ◌-◌, ◌≤◌, List, [], ◌∷◌, take, drop, length, refl, ap, sym, ◌∙◌, subst, arith}
+use Rattle.std.proofs.Common.{◌≡◌, ℕ, ◌+◌, ◌-◌, ◌≤◌, List, [], ◌∷◌, take, drop, length, ap, sym, ◌∙◌, subst, arith}
 use Rattle.std.specs.List.{AllByRecursion}
 use Rattle.std.proofs.lemmas.List.{drop-drop, drop-take, take-take}
+use Rattle.ffi3_type_rules.specs.declared.Isa.{Isa}
+use Rattle.ffi3_type_rules.specs.declared.Isa.TheVariants.{Amd64, Aarch64, Riscv}
+use Rattle.ffi3_type_rules.specs.declared.limits.TheConstants.{STACK}
+use Rattle.ffi3_type_rules.specs.Isa.{isa_of}
 use Rattle.ffi3_type_rules.specs.Tree.{Tree}
 use Rattle.ffi3_type_rules.specs.Layout.{size_of, leaves_of}
 use Rattle.ffi3_type_rules.specs.Signature.{Signature}
 use Rattle.ffi3_type_rules.specs.Value.{ValueTree, value_in}
 use Rattle.ffi3_type_rules.proofs.Layouts.{least_multiple-above}
 use Rattle.ffi3_place_rules.specs.declared.Loc.{Loc}
+use Rattle.ffi3_place_rules.specs.declared.Loc.TheVariants.{G, F, S}
 use Rattle.ffi3_place_rules.specs.declared.Piece.{Piece}
 use Rattle.ffi3_place_rules.specs.declared.Res.{Res}
 use Rattle.ffi3_place_rules.specs.declared.Res.TheVariants.{Direct as DirectRes, Hidden}
-use Rattle.ffi3_place_rules.specs.Standard.{Standard, ResultSpot, no_result, in_result_pieces, in_buffer, plan_of, frame_of, result_at, buffer_start, buffer_bytes, round8}
+use Rattle.ffi3_place_rules.specs.Standard.{Standard, ResultSpot, no_result, in_result_pieces, in_buffer, plan_of, frame_of, result_at, buffer_end, frame_copies_end, round8}
 use Rattle.ffi3_place_rules.specs.Holds.{leaf_bytes, OwnResult, OwnsResult}
 use Rattle.ffi3_place_rules.specs.Sound.{LiesIn, IsSound, HaveAll, IsPieceOf, ResultHasAll, piece_locs, result_locs}
 use Rattle.ffi3_place_rules.proofs.Tests.{each_weaker}
 use Rattle.ffi3_machine.specs.State.{State, image_of, stack_at}
-use Rattle.ffi3_machine.specs.declared.TheConstants.{STACK}
-use Rattle.ffi3_caller.specs.Loaded.{IsWithin, loaded}
+use Rattle.ffi3_caller.specs.Loaded.{AreWithin, IsRegister, IsWithin, loaded}
 use Rattle.ffi3_caller.proofs.Reading.{reads}
 use Rattle.ffi3_caller.proofs.Loading.{leaves_loaded}
 
@@ -25,37 +29,54 @@ each_loc : (P : Loc → Type 0) (pieces : List Piece) → AllByRecursion P (piec
 each_loc P [] h = tt
 each_loc P (p ∷ ps) h = (h.0, each_loc P ps h.1)
 
--- the pieces of a result stand in registers
-pub in_registers : (r : Res) (pieces : List Piece) → r ≡ DirectRes pieces → AllByRecursion (LiesIn 0) (result_locs r) → AllByRecursion (λ p. LiesIn 0 p.loc) pieces
-in_registers r pieces is h =
-    each_loc (LiesIn 0) pieces (subst (λ q. AllByRecursion (LiesIn 0) (result_locs q)) is h)
+-- a register of an instruction set is one of a machine's 32
+machine_has : (isa : Isa) (l : Loc) → LiesIn isa 0 l → IsRegister l
+machine_has Amd64 (G r) h = omega (arith, h)
+machine_has Amd64 (F r) h = omega (arith, h)
+machine_has Aarch64 (G r) h = omega (arith, h)
+machine_has Aarch64 (F r) h = omega (arith, h)
+machine_has Riscv (G r) h = omega (arith, h)
+machine_has Riscv (F r) h = omega (arith, h)
+machine_has isa (S n) h = omega (arith, h)
 
-pub has_all : (t : Tree) (r : Res) (pieces : List Piece) → r ≡ DirectRes pieces → ResultHasAll t r → HaveAll t pieces
+-- the pieces of a result stand in registers
+pub in_registers : (isa : Isa) (r : Res) (pieces : List Piece) → r ≡ DirectRes pieces → AllByRecursion (LiesIn isa 0) (result_locs r) → AllByRecursion (λ p. IsRegister p.loc) pieces
+in_registers isa r pieces is h =
+    each_weaker (λ (p : Piece). LiesIn isa 0 p.loc) (λ (p : Piece). IsRegister p.loc) (λ p k. machine_has isa p.loc k) pieces (each_loc (LiesIn isa 0) pieces (subst (λ q. AllByRecursion (LiesIn isa 0) (result_locs q)) is h))
+
+has_all : (t : Tree) (r : Res) (pieces : List Piece) → r ≡ DirectRes pieces → ResultHasAll t r → HaveAll t pieces
 has_all t r pieces is h = subst (ResultHasAll t) is h
+
+-- and lie in the value
+pub are_within : (t : Tree) (r : Res) (pieces : List Piece) → r ≡ DirectRes pieces → ResultHasAll t r → AreWithin (size_of t) pieces
+are_within t r pieces is h =
+    each_weaker (IsPieceOf t) (IsWithin (size_of t)) (λ p k. (k.short, k.within)) pieces (has_all t r pieces is h).each
 
 pub direct_value : (m : State) (frame : ℕ) (std : Standard) (s : Signature) (pieces : List Piece) (old : List ℕ) (v : ValueTree) → IsSound std s → (plan_of std s).res ≡ DirectRes pieces → length old ≡ size_of s.result_type → length (loaded m pieces old) ≡ length old → OwnResult std s v (image_of frame m) → value_in s.result_type (loaded m pieces old) ≡ v
 direct_value m frame std s pieces old v sound is sized still own =
     let t = s.result_type in
     let all = has_all t (plan_of std s).res pieces is sound.result_has_all in
-    let within = each_weaker (IsPieceOf t) (IsWithin (size_of t)) (λ p h. (h.short, h.within)) pieces all.each in
-    let registers = in_registers (plan_of std s).res pieces is sound.result_in_registers in
+    let within = are_within t (plan_of std s).res pieces is sound.result_has_all in
+    let registers = in_registers (isa_of std.target) (plan_of std s).res pieces is sound.result_in_registers in
     let stand = subst (λ r. OwnsResult (image_of frame m) t r v) is own.stands in
     reads t v (loaded m pieces old) own.fitting (still ∙ sized) (leaves_loaded m frame (size_of t) pieces old (leaves_of t) (leaf_bytes v) sized within registers all.covered stand)
 
 -- ---- a hidden result
 
-buffer_is : (t : Tree) (start : ℕ) (spot : ResultSpot) (at : Loc) (buffer : ℕ) → result_at start spot ≡ Hidden at buffer → (start ≡ buffer) × (buffer_bytes t spot ≡ round8 (size_of t))
-buffer_is t start no_result at buffer is = cc
-buffer_is t start (in_result_pieces pieces) at buffer is = cc
-buffer_is t start (in_buffer here) at buffer is = (cc, refl)
+buffer_is : (start : ℕ → Tree → ℕ) (end : ℕ) (t : Tree) (spot : ResultSpot) (at : Loc) (buffer : ℕ) → result_at start end t spot ≡ Hidden at buffer → buffer_end start end t spot ≡ buffer + round8 (size_of t)
+buffer_is start end t no_result at buffer is = cc
+buffer_is start end t (in_result_pieces pieces) at buffer is = cc
+buffer_is start end t (in_buffer here) at buffer is =
+    let same : start end t ≡ buffer = cc in
+    ap (λ n. n + round8 (size_of t)) same
 
 -- its buffer lies in the frame
 pub buffer_within : (std : Standard) (s : Signature) (at : Loc) (buffer : ℕ) → (plan_of std s).res ≡ Hidden at buffer → buffer + size_of s.result_type ≤ frame_of std s
 buffer_within std s at buffer is =
     let p = std.placing s in
     let t = s.result_type in
-    let known = buffer_is t (buffer_start s p) p.result_spot at buffer is in
-    omega (arith, known.0, known.1, least_multiple-above 8 (size_of t), least_multiple-above 16 (buffer_start s p + buffer_bytes t p.result_spot))
+    let ends = buffer_is std.copy_start (frame_copies_end std s) t p.result_spot at buffer is in
+    omega (arith, ends, least_multiple-above 8 (size_of t), least_multiple-above 16 (buffer_end std.copy_start (frame_copies_end std s) t p.result_spot))
 
 part_of_frame : (xs : List ℕ) (n buffer size : ℕ) → buffer + size ≤ n → take size (drop buffer (take n xs)) ≡ take size (drop buffer xs)
 part_of_frame xs n buffer size room =

@@ -7,11 +7,10 @@ ghost use Rattle.std.specs.List.{AllByRecursion};
 ghost use Rattle.ffi3_type_rules.specs.Layout.{size_of};
 ghost use Rattle.ffi3_type_rules.specs.Value.{ValueTree, value_in};
 ghost use Rattle.ffi3_place_rules.specs.Holds.{OwnResult};
-ghost use Rattle.ffi3_place_rules.specs.Sound.{LiesIn};
 ghost use Rattle.ffi3_place_rules.specs.Standard.{plan_of, need_of, frame_of};
-ghost use Rattle.ffi3_machine.specs.declared.TheConstants.{STACK, STACK_TOP};
+ghost use Rattle.ffi3_type_rules.specs.declared.limits.TheConstants.{STACK, STACK_TOP};
 ghost use Rattle.ffi3_machine.specs.State.{image_of, with_sp};
-ghost use Rattle.ffi3_caller.specs.Loaded.{AreWithin, IsWithin, loaded, with_piece};
+ghost use Rattle.ffi3_caller.specs.Loaded.{AreWithin, IsRegister, IsWithin, loaded, with_piece};
 
 use ffi3_cif::Cif;
 use ffi3_machine::{Machine, STACK};
@@ -28,8 +27,10 @@ pub struct StackFull {
     pub left: u64,
 }
 
-/// Whether the stack has room for a call, the callee's save area and block included.
+/// Whether the stack has room for a call, the callee's save area and block included. The stack pointer is an address of the stack, or its top.
 pub fn room_for<A: Abi>(machine: &Machine, cif: &Cif<A>) -> Result<(), StackFull>
+    requires bottom { STACK ≤ machine.now.sp }
+    requires top { machine.now.sp ≤ STACK_TOP }
     ensures ok { IfOk result (λ r. STACK + need_of A.standard cif.now ≤ machine.now.sp) }
     ensures full { IfErr result (λ f. machine.now.sp < STACK + need_of A.standard cif.now) }
     ensures numbers { IfErr result
@@ -45,13 +46,14 @@ pub fn room_for<A: Abi>(machine: &Machine, cif: &Cif<A>) -> Result<(), StackFull
 
 /// The bytes of the result, at a return. Bytes of padding may be any.
 pub fn load_result<A: Abi>(machine: &Machine, cif: &Cif<A>, out: &mut [u8])
+    requires bottom { STACK ≤ machine.now.sp }
     requires frame { machine.now.sp + frame_of A.standard cif.now ≤ STACK_TOP }
     requires sized { length out.old ≡ size_of cif.now.result_type }
     ensures sized { length out.new ≡ length out.old }
     ensures value { (v : ValueTree) → OwnResult A.standard cif.now v (image_of (frame_of A.standard cif.now) machine.now) →
         value_in cif.now.result_type out.new ≡ v }
 {
-    // their contracts tell what is true of every interface and of every machine
+    // its contract tells what is true of every interface
     let _sig = cif.sig();
     let base = machine.sp();
     match cif.result_place() {
@@ -67,7 +69,7 @@ pub fn load_result<A: Abi>(machine: &Machine, cif: &Cif<A>, out: &mut [u8])
 // The bytes of pieces in registers.
 fn load_pieces(machine: &Machine, pieces: &Pieces, out: &mut [u8])
     requires within { AreWithin (length out.old) pieces.now }
-    requires registers { AllByRecursion (λ p. LiesIn 0 p.loc) pieces.now }
+    requires registers { AllByRecursion (λ p. IsRegister p.loc) pieces.now }
     ensures sized { length out.new ≡ length out.old }
     ensures loaded { out.new ≡ loaded machine.now pieces.now out.old }
 {
@@ -79,7 +81,7 @@ fn load_pieces(machine: &Machine, pieces: &Pieces, out: &mut [u8])
 // The bytes of one piece in a register.
 fn load_piece(machine: &Machine, piece: &Piece, out: &mut [u8])
     requires within { IsWithin (length out.old) piece.now }
-    requires register { LiesIn 0 piece.now.loc }
+    requires register { IsRegister piece.now.loc }
     ensures sized { length out.new ≡ length out.old }
     ensures loaded { out.new ≡ with_piece machine.now piece.now out.old }
 {

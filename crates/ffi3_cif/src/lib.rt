@@ -1,14 +1,19 @@
 // Prepared call interfaces.
 #![tactic(auto)]
 
-ghost use Rattle.std.specs.Prelude.{◌≡◌, ◌<◌, length, IfOk, IfErr, None, Some, slice_get};
+ghost use Rattle.std.specs.Prelude.{◌≡◌, ◌<◌, length, IfOk, IfErr, IsSomeAnd, None, Some, slice_get};
 ghost use Rattle.ffi3_type_rules.specs.Signature.{SignatureHasNoFault};
 ghost use Rattle.ffi3_types.specs.TreeOf.{tree_of};
 ghost use Rattle.ffi3_place_rules.specs.Standard.{plan_of};
 ghost use Rattle.ffi3_cif.specs.Prepared.{IsRefusal};
+ghost use Rattle.ffi3_cif.specs.Runs.{AreRunsOf, pieces_of};
+
+mod runs;
 
 use ffi3_place::{Abi, Place, Plan, Res};
 use ffi3_types::{FfiType, Fields, Sig, SigFault, check_sig};
+pub use runs::{Run, Runs};
+use runs::{AllRuns, all_runs};
 use std::alloc::Global;
 use std::marker::{Model, PhantomData};
 use thiserror::Error;
@@ -27,6 +32,7 @@ pub enum PrepFault {
 pub struct Cif<A: Abi> {
     sig: Sig,
     plan: Plan,
+    runs: AllRuns,
     standard: PhantomData<A>,
 }
 
@@ -34,6 +40,7 @@ impl<A: Abi> Model for Cif<A> {
     ghost use Rattle.std.specs.Prelude.{◌≡◌};
     ghost use Rattle.ffi3_type_rules.specs.Signature.{Signature, signature_code, SignatureHasNoFault};
     ghost use Rattle.ffi3_place_rules.specs.Standard.{plan_of};
+    ghost use Rattle.ffi3_cif.specs.Runs.{PlacesHaveRuns};
 
     ghost Value = { Signature };
 
@@ -44,6 +51,7 @@ impl<A: Abi> Model for Cif<A> {
     ghost invariant = { λ c. record {
       faultless : SignatureHasNoFault c.sig;
       planned : c.plan ≡ plan_of A.standard c.sig;
+      gathered : PlacesHaveRuns c.plan.places c.runs;
     } };
 }
 
@@ -85,6 +93,14 @@ impl<A: Abi> Cif<A> {
         self.plan.places.get(i as usize)
     }
 
+    /// The bytes of argument `i` that stand on the stack, in as few runs as they make. An argument by reference has none.
+    pub fn runs(&self, i: u32) -> &Runs
+        requires { i < length self.now.arguments }
+        ensures { IsSomeAnd (slice_get (plan_of A.standard self.now).places i) (λ p. AreRunsOf (pieces_of p) result.now) }
+    {
+        self.runs.get(i as usize)
+    }
+
     /// Where the result stands.
     pub fn result_place(&self) -> &Res
         ensures { result.now ≡ (plan_of A.standard self.now).res }
@@ -109,14 +125,18 @@ fn prepare<A: Abi>(alloc: Global, sig: Sig) -> Result<Cif<A>, PrepFault>
     if let Err(fault) = check_sig(&sig) {
         return Err(PrepFault::Sig(fault));
     }
-    match A::plan(alloc, &sig) {
-        Ok(plan) => Ok(Cif {
-            sig,
-            plan,
-            standard: PhantomData,
-        }),
-        Err(_) => Err(PrepFault::NoMemory),
-    }
+    let Ok(plan) = A::plan(alloc, &sig) else {
+        return Err(PrepFault::NoMemory);
+    };
+    let Ok(runs) = all_runs(alloc, &plan.places) else {
+        return Err(PrepFault::NoMemory);
+    };
+    Ok(Cif {
+        sig,
+        plan,
+        runs,
+        standard: PhantomData,
+    })
 }
 
 /// Prepares calls of a function of a fixed number of arguments. Refused, it drops both parts. (libffi's `ffi_prep_cif`)

@@ -4,24 +4,23 @@
 ghost use Rattle.std.specs.Prelude.{◌≡◌, ◌<◌, ◌≤◌, ◌+◌, ◌*◌, ◌/◌, ◌^◌, length, IfOk, [], ◌∷◌, true, false, cond};
 ghost use Rattle.ffi3_type_rules.specs.Tree.{Scalar, scalar};
 ghost use Rattle.ffi3_type_rules.specs.Layout.{size_of, leaves_of, leaf_at};
-ghost use Rattle.ffi3_type_rules.specs.Integer.{is_floating, is_integer};
+ghost use Rattle.ffi3_type_rules.specs.Integer.{is_floating};
 ghost use Rattle.ffi3_type_rules.specs.Fault.{HasNoFault};
 ghost use Rattle.ffi3_type_rules.specs.Signature.{SignatureHasNoFault};
 ghost use Rattle.ffi3_types.specs.TreeOf.{tree_of};
-ghost use Rattle.ffi3_place_rules.specs.Standard.{at_once, place_at, copy_end, places_from, copies_end, result_at, buffer_end};
+ghost use Rattle.ffi3_place_rules.specs.Standard.{at_once, place_at, copy_end, places_from, copies_end, result_at, buffer_end, round8};
 ghost use Rattle.ffi3_place_rules.specs.Doublewords.{doublewords};
-ghost use Rattle.ffi3_riscv_rules.specs.Riscv.{integer_shape, shape_of, words_of, floats_of, registers_suffice, passed_as, word, extension, boxing, floating_piece, integer_piece, word_pieces, spot_of, is_fixed, used_with, used_at_first, used_by_all, spots_after, result_shape, result_spot_of, stack_of, unused};
-ghost use Rattle.ffi3_riscv_rules.specs.Sums.{copy_bytes};
+ghost use Rattle.ffi3_riscv_rules.specs.Riscv.{is_word_integer, integer_shape, shape_of, words_of, floats_of, registers_suffice, passed_as, word, extension, boxing, floating_piece, integer_piece, word_pieces, spot_of, is_fixed, used_with, used_at_first, used_by_all, spots_after, result_shape, result_spot_of, is_by_reference, stack_of, unused};
 ghost use Rattle.ffi3_riscv_rules.proofs.Shapes.{Suits, HasRoom};
 
 pub mod laws;
-
 #[cfg(test)]
 mod tests;
 
+use ffi3_place::ends::{buffer_end, copy_end, planned};
 use ffi3_place::parts::{
     argument, count_of, doubleword, doublewords, filling, is_floating, leaf_piece, result_type,
-    size_of, sizes_of,
+    size_of,
 };
 use ffi3_place::{Abi, Ext, Loc, Piece, Pieces, Place, Places, Plan, Res, SaveWord};
 pub use ffi3_riscv_rules::Shape;
@@ -31,14 +30,15 @@ use ffi3_types::{FfiType, NoMemory, Sig, Target};
 pub use laws::placement_laws;
 use std::alloc::Global;
 
-/// Whether a scalar is an integer. A pointer is none.
+/// Whether a scalar is an integer no more than 64 bits wide. A pointer is none.
 fn integer(kind: &FfiType) -> bool
-    ensures { (s : Scalar) → tree_of kind.now ≡ scalar s → result ≡ is_integer s }
+    ensures { (s : Scalar) → tree_of kind.now ≡ scalar s → result ≡ is_word_integer s }
 {
     match kind {
         FfiType::U8 | FfiType::S8 | FfiType::U16 | FfiType::S16 => true,
         FfiType::U32 | FfiType::S32 | FfiType::U64 | FfiType::S64 => true,
-        FfiType::Float | FfiType::Double | FfiType::Pointer => false,
+        FfiType::Pointer => false,
+        FfiType::Float | FfiType::Double => false,
         FfiType::Void | FfiType::Struct(_) => false,
         FfiType::LongDouble | FfiType::Complex | FfiType::Vector => false,
     }
@@ -54,11 +54,11 @@ fn is_floating_leaf(ty: &FfiType, i: u32) -> bool
     is_floating(&leaf.kind)
 }
 
-/// Whether leaf `i` is an integer.
+/// Whether leaf `i` is such an integer.
 fn is_integer_leaf(ty: &FfiType, i: u32) -> bool
     requires right { HasNoFault 0 true (tree_of ty.now) }
     requires in_range { i < length (leaves_of (tree_of ty.now)) }
-    ensures { result ≡ is_integer (leaf_at (tree_of ty.now) i).kind }
+    ensures { result ≡ is_word_integer (leaf_at (tree_of ty.now) i).kind }
 {
     let leaf = ty.leaf(i);
     integer(&leaf.kind)
@@ -390,19 +390,6 @@ fn stack_of(used: Used) -> u64
     }
 }
 
-/// The bytes of an argument's copy.
-fn copy_of(ty: &FfiType, shape: Shape) -> u64
-    requires { HasNoFault 0 true (tree_of ty.now) }
-    ensures value { result ≡ copy_bytes shape (tree_of ty.now) }
-    ensures small { result ≤ 1032 }
-{
-    if let Shape::ByRef = shape {
-        round_up(size_of(ty), 8)
-    } else {
-        0
-    }
-}
-
 /// The places of all arguments, and where their copies end.
 #[derive(Drop)]
 struct Placed {
@@ -423,8 +410,9 @@ fn place_all(alloc: Global, sig: &Sig, start: u64) -> Result<Placed, NoMemory>
     for i in 0..count_of(sig) {
         let ty = argument(sig, i);
         let shape = passed_as(before, is_fixed(sig, i), ty);
-        places.push(place_of(alloc, before, ty, shape, copy)?)?;
-        copy += copy_of(ty, shape);
+        let place = place_of(alloc, before, ty, shape, copy)?;
+        copy = copy_end(&place, ty, copy);
+        places.push(place)?;
         before = used_with(before, shape);
     }
     Ok(Placed { places, end: copy })
@@ -444,15 +432,6 @@ fn place_result(alloc: Global, ty: &FfiType, buffer: u64) -> Result<Res, NoMemor
         Place::Direct(pieces) => Ok(Res::Direct(pieces)),
         Place::ByRef { at, copy } => Ok(Res::Hidden { at, buffer: copy }),
     }
-}
-
-/// The bytes of a hidden result's buffer.
-fn buffer_of(ty: &FfiType) -> u64
-    requires { HasNoFault 0 true (tree_of ty.now) }
-    ensures value { result ≡ copy_bytes (result_shape (tree_of ty.now)) (tree_of ty.now) }
-    ensures small { result ≤ 1032 }
-{
-    copy_of(ty, result_shape(ty))
 }
 
 /// s0 to s11 and fs0 to fs11, which a callee saves.
@@ -516,7 +495,7 @@ impl Abi for Riscv {
         // ra, s0 to s11, fs0 to fs11, and the hidden pointer
         if k == 0 {
             SaveWord::Register(Loc::G(1))
-        } else if k <= 24 {
+        } else if k <= Self::KEPT {
             SaveWord::Register(REGISTERS[k as usize - 1])
         } else {
             SaveWord::Hidden
@@ -533,20 +512,11 @@ impl Abi for Riscv {
 
     fn plan(alloc: Global, sig: &Sig) -> Result<Plan, NoMemory> {
         let used = used_by_all(sig);
-        let start = round_up(stack_of(used), 16);
-        let all = place_all(alloc, sig, start)?;
+        let all = place_all(alloc, sig, round_up(stack_of(used), 16))?;
         let ret = result_type(sig);
-        let frame = round_up(all.end + buffer_of(ret), 16);
-        let block = round_up(sizes_of(sig), 16);
         let res = place_result(alloc, ret, all.end)?;
-        Ok(Plan {
-            places: all.places,
-            res,
-            need: frame + Self::LINK + Self::SAVE + block,
-            frame,
-            block,
-            vectors: 0,
-        })
+        let end = buffer_end(&res, ret, all.end);
+        Ok(planned(sig, all.places, res, end, Self::LINK + Self::SAVE, 0))
     }
 
     ghost use Rattle.std.specs.Prelude.{refl};

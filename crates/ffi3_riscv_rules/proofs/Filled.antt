@@ -5,7 +5,7 @@ use Rattle.ffi3_type_rules.specs.Tree.{Tree, void, scalar, left_out, structure, 
 use Rattle.ffi3_type_rules.specs.Layout.{Leaf, leaves_of, leaf_at, size_of, scalar_size}
 use Rattle.ffi3_type_rules.specs.Integer.{is_floating, is_integer}
 use Rattle.ffi3_place_rules.specs.declared.Loc.{Loc}
-use Rattle.ffi3_place_rules.specs.declared.Loc.TheVariants.{G, F, S}
+use Rattle.ffi3_place_rules.specs.declared.Loc.TheVariants.{G, S}
 use Rattle.ffi3_place_rules.specs.declared.Ext.TheVariants.{Boxed}
 use Rattle.ffi3_place_rules.specs.Standard.{copy_end, place_at, places_from}
 use Rattle.ffi3_place_rules.specs.Sound.{is_narrow_integer, is_floating_place, IsFilled, PlaceIsFilled, PlacesAreFilled}

@@ -1,12 +1,14 @@
 -- The lists of registers: no register stands twice in one, and none is forbidden.
-use Rattle.std.proofs.Common.{◌≡◌, ℕ, ◌<◌, true, refl, arith}
+use Rattle.std.proofs.Common.{◌≡◌, ℕ, ◌<◌, true, List, [], ◌∷◌, refl, arith}
+use Rattle.std.specs.List.{list_all}
 use Rattle.ffi3_type_rules.specs.declared.Isa.TheVariants as isa
+use Rattle.ffi3_place_rules.specs.declared.Loc.{Loc}
 use Rattle.ffi3_place_rules.specs.declared.Loc.TheVariants.{G, F, S}
 use Rattle.ffi3_place_rules.specs.Isa.{general_registers, floating_registers}
 use Rattle.ffi3_place_rules.specs.Sound.{IsNoneOf, no_argument, no_result}
 use Rattle.ffi3_place_rules.proofs.Tests.{each_of_eight}
 use Rattle.ffi3_place_rules.proofs.Chain.{Registers}
-use Rattle.ffi3_place_rules.proofs.Forbidden.{is_none_of, none_of}
+use Rattle.ffi3_place_rules.proofs.Forbidden.{is_none_of, none_of, each_none_of}
 use Rattle.ffi3_riscv_rules.specs.Riscv.{riscv, argument_register, floating_register}
 
 pub all_registers : Registers argument_register floating_register 8 8
@@ -21,24 +23,30 @@ argument_exists k h = omega (arith, h)
 pub floating_exists : (k : ℕ) → k < 8 → floating_register k < floating_registers isa.Riscv
 floating_exists k h = omega (arith, h)
 
+abbrev eight : (ℕ → Loc) → List Loc
+eight register =
+    register 0 ∷ register 1 ∷ register 2 ∷ register 3 ∷ register 4 ∷ register 5 ∷ register 6 ∷ register 7 ∷ []
+
+-- eight registers of which a test says that none is one of the others
+eight_allowed : (others : List Loc) (register : ℕ → Loc) → list_all (is_none_of others) (eight register) ≡ true → (k : ℕ) → k < 8 → IsNoneOf others (register k)
+eight_allowed others register e =
+    let h = each_none_of others (eight register) e in
+    each_of_eight (λ j. IsNoneOf others (register j)) h.0 h.1.0 h.1.1.0 h.1.1.1.0 h.1.1.1.1.0 h.1.1.1.1.1.0 h.1.1.1.1.1.1.0 h.1.1.1.1.1.1.1.0
+
 pub argument_allowed : (k : ℕ) → k < 8 → IsNoneOf (no_argument riscv) (G (argument_register k))
-argument_allowed k h =
-    none_of (no_argument riscv) (G (argument_register k)) (each_of_eight (λ j. is_none_of (no_argument riscv) (G (argument_register j)) ≡ true) refl refl refl refl refl refl refl refl k h)
+argument_allowed = eight_allowed (no_argument riscv) (λ k. G (argument_register k)) refl
 
 pub floating_allowed : (k : ℕ) → k < 8 → IsNoneOf (no_argument riscv) (F (floating_register k))
-floating_allowed k h =
-    none_of (no_argument riscv) (F (floating_register k)) (each_of_eight (λ j. is_none_of (no_argument riscv) (F (floating_register j)) ≡ true) refl refl refl refl refl refl refl refl k h)
+floating_allowed = eight_allowed (no_argument riscv) (λ k. F (floating_register k)) refl
 
 pub stack_allowed : (n : ℕ) → IsNoneOf (no_argument riscv) (S n)
 stack_allowed n = none_of (no_argument riscv) (S n) refl
 
 pub result_allowed_general : (k : ℕ) → k < 8 → IsNoneOf (no_result riscv) (G (argument_register k))
-result_allowed_general k h =
-    none_of (no_result riscv) (G (argument_register k)) (each_of_eight (λ j. is_none_of (no_result riscv) (G (argument_register j)) ≡ true) refl refl refl refl refl refl refl refl k h)
+result_allowed_general = eight_allowed (no_result riscv) (λ k. G (argument_register k)) refl
 
 pub result_allowed_floating : (k : ℕ) → k < 8 → IsNoneOf (no_result riscv) (F (floating_register k))
-result_allowed_floating k h =
-    none_of (no_result riscv) (F (floating_register k)) (each_of_eight (λ j. is_none_of (no_result riscv) (F (floating_register j)) ≡ true) refl refl refl refl refl refl refl refl k h)
+result_allowed_floating = eight_allowed (no_result riscv) (λ k. F (floating_register k)) refl
 
 pub result_allowed_stack : (n : ℕ) → IsNoneOf (no_result riscv) (S n)
 result_allowed_stack n = none_of (no_result riscv) (S n) refl

@@ -6,6 +6,7 @@ use Rattle.ffi3_place_rules.specs.declared.Loc.{Loc}
 use Rattle.ffi3_place_rules.specs.declared.Loc.TheVariants.{G, F, S}
 use Rattle.ffi3_place_rules.specs.declared.Ext.TheVariants.{Riscv, Boxed}
 use Rattle.ffi3_place_rules.specs.declared.Piece.{Piece}
+use Rattle.ffi3_place_rules.specs.declared.SaveWord.TheVariants.{Register, Hidden as HiddenWord}
 use Rattle.ffi3_place_rules.specs.declared.Place.{Place}
 use Rattle.ffi3_place_rules.specs.declared.Place.TheVariants.{Direct, ByRef}
 use Rattle.ffi3_place_rules.specs.declared.Res.TheVariants.{Nothing, Direct as DirectRes, Hidden}
@@ -33,6 +34,10 @@ in_floating =
 abbrev in_general : List Place
 in_general =
     alone (G 10) ∷ alone (G 11) ∷ alone (G 12) ∷ alone (G 13) ∷ alone (G 14) ∷ alone (G 15) ∷ alone (G 16) ∷ alone (G 17) ∷ []
+
+-- the save area: ra, s0 to s11, fs0 to fs11, the hidden pointer
+pub saved : riscv.save_area ≡ Register (G 1) ∷ Register (G 8) ∷ Register (G 9) ∷ Register (G 18) ∷ Register (G 19) ∷ Register (G 20) ∷ Register (G 21) ∷ Register (G 22) ∷ Register (G 23) ∷ Register (G 24) ∷ Register (G 25) ∷ Register (G 26) ∷ Register (G 27) ∷ Register (F 8) ∷ Register (F 9) ∷ Register (F 18) ∷ Register (F 19) ∷ Register (F 20) ∷ Register (F 21) ∷ Register (F 22) ∷ Register (F 23) ∷ Register (F 24) ∷ Register (F 25) ∷ Register (F 26) ∷ Register (F 27) ∷ HiddenWord ∷ []
+saved = refl
 
 -- sint32(sint32)
 pub one_integer : plan_of riscv (sig_of (scalar s32) (scalar s32 ∷ [])) ≡ record {

@@ -4,12 +4,12 @@ use Rattle.std.specs.Prelude.{⊤, slice_index_or}
 use Rattle.std.proofs.lemmas.Bool.{leb-true}
 use Rattle.ffi3_type_rules.specs.Tree.{Tree, u8}
 use Rattle.ffi3_type_rules.specs.Layout.{Leaf, leaves_of, size_of}
-use Rattle.ffi3_type_rules.specs.Integer.{is_floating, is_integer}
+use Rattle.ffi3_type_rules.specs.Integer.{is_floating}
 use Rattle.ffi3_place_rules.proofs.Tests.{and_left, and_right}
 use Rattle.ffi3_riscv_rules.specs.declared.Shape.{Shape}
 use Rattle.ffi3_riscv_rules.specs.declared.Shape.TheVariants.{OneF, TwoF, FI, IF, Words, ByRef}
 use Rattle.ffi3_riscv_rules.specs.declared.Used.{Used}
-use Rattle.ffi3_riscv_rules.specs.Riscv.{integer_shape, shape_of_leaves, shape_of, registers_suffice, passed_as, words_of, floats_of}
+use Rattle.ffi3_riscv_rules.specs.Riscv.{is_word_integer, integer_shape, shape_of_leaves, shape_of, registers_suffice, passed_as, words_of, floats_of}
 
 abbrev no_leaf : Leaf
 no_leaf = record { at = 0; kind = u8 }
@@ -44,8 +44,8 @@ leaves_suit n otherwise (a ∷ []) h =
     choose (Suits n (a ∷ [])) (is_floating a.kind) OneF otherwise refl h
 leaves_suit n otherwise (a ∷ b ∷ []) h =
     choose (Suits n (a ∷ b ∷ [])) (is_floating a.kind && is_floating b.kind) TwoF _ refl
-    (choose (Suits n (a ∷ b ∷ [])) (is_floating a.kind && is_integer b.kind) FI _ refl
-    (choose (Suits n (a ∷ b ∷ [])) (is_integer a.kind && is_floating b.kind) IF otherwise refl h))
+    (choose (Suits n (a ∷ b ∷ [])) (is_floating a.kind && is_word_integer b.kind) FI _ refl
+    (choose (Suits n (a ∷ b ∷ [])) (is_word_integer a.kind && is_floating b.kind) IF otherwise refl h))
 leaves_suit n otherwise (a ∷ b ∷ c ∷ ls) h = h
 
 pub shape_suits : (t : Tree) → Suits (size_of t) (leaves_of t) (shape_of t)
@@ -76,8 +76,8 @@ leaves_float otherwise (a ∷ []) h =
     choose_if (HasFloats (a ∷ [])) (is_floating a.kind) OneF otherwise (λ e. e) h
 leaves_float otherwise (a ∷ b ∷ []) h =
     choose_if (HasFloats (a ∷ b ∷ [])) (is_floating a.kind && is_floating b.kind) TwoF _ (λ e. (and_left (is_floating a.kind) (is_floating b.kind) e, and_right (is_floating a.kind) (is_floating b.kind) e))
-    (choose_if (HasFloats (a ∷ b ∷ [])) (is_floating a.kind && is_integer b.kind) FI _ (λ e. and_left (is_floating a.kind) (is_integer b.kind) e)
-    (choose_if (HasFloats (a ∷ b ∷ [])) (is_integer a.kind && is_floating b.kind) IF otherwise (λ e. and_right (is_integer a.kind) (is_floating b.kind) e) h))
+    (choose_if (HasFloats (a ∷ b ∷ [])) (is_floating a.kind && is_word_integer b.kind) FI _ (λ e. and_left (is_floating a.kind) (is_word_integer b.kind) e)
+    (choose_if (HasFloats (a ∷ b ∷ [])) (is_word_integer a.kind && is_floating b.kind) IF otherwise (λ e. and_right (is_word_integer a.kind) (is_floating b.kind) e) h))
 leaves_float otherwise (a ∷ b ∷ c ∷ ls) h = h
 
 integer_floats : (t : Tree) → HasFloats (leaves_of t) (integer_shape t)

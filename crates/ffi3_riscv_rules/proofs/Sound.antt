@@ -10,9 +10,9 @@ use Rattle.ffi3_type_rules.specs.declared.Isa.TheVariants as isa
 use Rattle.ffi3_place_rules.specs.declared.Loc.{Loc}
 use Rattle.ffi3_place_rules.specs.declared.Loc.TheVariants.{G, F, S}
 use Rattle.ffi3_place_rules.specs.declared.Taken.{Taken}
-use Rattle.ffi3_place_rules.specs.Standard.{plan_of, at_once, copy_end, place_at, places_from, result_at, copies_start, frame_copies_end, frame_of}
+use Rattle.ffi3_place_rules.specs.Standard.{Spot, in_pieces, by_reference, ResultSpot, no_result as nowhere, plan_of, at_once, copy_end, place_at, places_from, result_at, copies_start, frame_copies_end, frame_of}
 use Rattle.ffi3_place_rules.specs.Doublewords.{doublewords_at}
-use Rattle.ffi3_place_rules.specs.Sound.{AreApart, piece_locs, place_locs, hidden_locs, result_locs, argument_locs, IsNoneOf, LiesIn, call_locs, no_argument, no_result as not_for_results, PlaceHasAll, ResultHasAll, PlaceIsFilled, ResultIsFilled, IsSound, IsDetermined}
+use Rattle.ffi3_place_rules.specs.Sound.{AreApart, piece_locs, place_locs, hidden_locs, result_locs, argument_locs, IsNoneOf, LiesIn, call_locs, no_argument, no_result, PlaceHasAll, ResultHasAll, PlaceIsFilled, ResultIsFilled, IsSound, IsDetermined}
 use Rattle.ffi3_place_rules.proofs.Chain.{AtMost, at_most_self, From, Until, Chain, chain_less, chain_append, chain_apart, chain_allowed, chain_lies_in}
 use Rattle.ffi3_place_rules.proofs.Frame.{up_to, frame_chain}
 use Rattle.ffi3_place_rules.proofs.Aligned.{frame_is_aligned, need_is_aligned}
@@ -20,7 +20,7 @@ use Rattle.ffi3_place_rules.proofs.Determines.{determined}
 use Rattle.ffi3_riscv_rules.specs.declared.Shape.{Shape}
 use Rattle.ffi3_riscv_rules.specs.declared.Shape.TheVariants.{OneF, TwoF, FI, IF, Words, ByRef}
 use Rattle.ffi3_riscv_rules.specs.declared.Used.{Used}
-use Rattle.ffi3_riscv_rules.specs.Riscv.{riscv, argument_register, floating_register, word, words_of, extension, word_pieces, spot_of, first_word, passed_as, is_fixed, used_with, used_at_start, passed_next, spot_next, used_next, used_after, used_at_first, used_by_all, unused, spots_after, result_shape, result_from, result_spot_of, is_by_reference, placing_of}
+use Rattle.ffi3_riscv_rules.specs.Riscv.{riscv, argument_register, floating_register, word, words_of, extension, word_pieces, spot_of, first_word, is_fixed, used_with, used_at_start, passed_next, spot_next, used_next, used_after, used_at_first, used_by_all, unused, spots_after, result_shape, result_from, result_spot_of, is_by_reference, placing_of}
 use Rattle.ffi3_riscv_rules.proofs.Shapes.{HasRoom, passed_has_room, passed_few, passed_suits, passed_floats}
 use Rattle.ffi3_riscv_rules.proofs.Covered.{spot_has_all, arguments_have_all}
 use Rattle.ffi3_riscv_rules.proofs.Filled.{spot_filled, arguments_filled}
@@ -146,6 +146,13 @@ places_chain start copies fixed end i (t ∷ ts) =
 
 -- ---- the whole signature
 
+-- A result is nowhere, or as its place as a first named argument says.
+result_cases : (P : ResultSpot → Type 0) (t : Tree) → (t ≡ void → P nowhere) → P (result_from (spot_of unused t (result_shape t))) → P (result_spot_of t)
+result_cases P void none h = none refl
+result_cases P (scalar s) none h = h
+result_cases P (left_out k) none h = h
+result_cases P (structure ts) none h = h
+
 abbrev first_used : Shape → Used
 first_used shape = record { words = cond (is_by_reference shape) 1 0; floats = 0 }
 
@@ -158,10 +165,9 @@ hidden_of t buffer (Words n) = at_most_self (taken unused)
 hidden_of t buffer ByRef = general_first 0 0 [] (taken_of 1 0) (omega arith) (at_most_self (taken_of 1 0))
 
 hidden_chain : (t : Tree) (buffer : ℕ) → WordsChain (taken unused) (hidden_locs (result_at at_once buffer t (result_spot_of t))) (taken (used_at_first t))
-hidden_chain void buffer = at_most_self (taken unused)
-hidden_chain (scalar s) buffer = hidden_of (scalar s) buffer (result_shape (scalar s))
-hidden_chain (left_out k) buffer = hidden_of (left_out k) buffer (result_shape (left_out k))
-hidden_chain (structure ts) buffer = hidden_of (structure ts) buffer (result_shape (structure ts))
+hidden_chain t buffer =
+    let first = used_at_first t in
+    result_cases (λ spot. WordsChain (taken unused) (hidden_locs (result_at at_once buffer t spot)) (taken first)) t (λ e. more_words 0 first.words 0 0 (omega arith) (omega arith)) (hidden_of t buffer (result_shape t))
 
 plan_chain : (s : Signature) → WordsChain (taken unused) (argument_locs (plan_of riscv s)) (taken (used_by_all s))
 plan_chain s =
@@ -194,65 +200,53 @@ plan_in_frame s =
 
 -- ---- the result
 
--- what holds of the places that a first fixed argument would have, holds of the result's
-result_of : (P : List Loc → Type 0) → P [] → (t : Tree) (buffer : ℕ) (shape : Shape) → P (place_locs (place_at at_once 0 t (spot_of unused t shape))) → P (result_locs (result_at at_once buffer t (result_from (spot_of unused t shape))))
-result_of P none t buffer OneF h = h
-result_of P none t buffer TwoF h = h
-result_of P none t buffer FI h = h
-result_of P none t buffer IF h = h
-result_of P none t buffer (Words n) h = h
-result_of P none t buffer ByRef h = none
+-- what holds of the places of an argument, holds of a result's that stands so
+locs_of : (P : List Loc → Type 0) → P [] → (t : Tree) (buffer : ℕ) (spot : Spot) → P (place_locs (place_at at_once 0 t spot)) → P (result_locs (result_at at_once buffer t (result_from spot)))
+locs_of P none t buffer (in_pieces pieces) h = h
+locs_of P none t buffer (by_reference at) h = none
 
-result_cases : (P : List Loc → Type 0) → P [] → (t : Tree) (buffer : ℕ) → P (place_locs (place_at at_once 0 t (spot_of unused t (result_shape t)))) → P (result_locs (result_at at_once buffer t (result_spot_of t)))
-result_cases P none void buffer h = none
-result_cases P none (scalar s) buffer h = result_of P none (scalar s) buffer (result_shape (scalar s)) h
-result_cases P none (left_out k) buffer h = result_of P none (left_out k) buffer (result_shape (left_out k)) h
-result_cases P none (structure ts) buffer h =
-    result_of P none (structure ts) buffer (result_shape (structure ts)) h
+all_of : (t : Tree) (buffer : ℕ) (spot : Spot) → PlaceHasAll t (place_at at_once 0 t spot) → ResultHasAll t (result_at at_once buffer t (result_from spot))
+all_of t buffer (in_pieces pieces) h = h
+all_of t buffer (by_reference at) h = tt
 
-result_chain : (t : Tree) → WordsChain (taken unused) (place_locs (place_at at_once 0 t (spot_of unused t (result_shape t)))) (taken (used_with unused (result_shape t)))
-result_chain t = spot_chain at_once 0 unused t (result_shape t) (passed_has_room unused true t)
+filled_of : (t : Tree) (buffer : ℕ) (spot : Spot) → PlaceIsFilled riscv t (place_at at_once 0 t spot) → ResultIsFilled riscv t (result_at at_once buffer t (result_from spot))
+filled_of t buffer (in_pieces pieces) h = h
+filled_of t buffer (by_reference at) h = tt
 
-no_stack : (w : ℕ) → w ≤ 2 → 8 * (0 + w - 8) ≤ 0
-no_stack w h = omega (arith, h)
+module _ (t : Tree) (buffer : ℕ) where
+  abbrev shape : Shape
+  shape = result_shape t
 
-all_of : (t : Tree) (buffer : ℕ) (shape : Shape) → PlaceHasAll t (place_at at_once 0 t (spot_of unused t shape)) → ResultHasAll t (result_at at_once buffer t (result_from (spot_of unused t shape)))
-all_of t buffer OneF h = h
-all_of t buffer TwoF h = h
-all_of t buffer FI h = h
-all_of t buffer IF h = h
-all_of t buffer (Words n) h = h
-all_of t buffer ByRef h = tt
+  result_is : (P : List Loc → Type 0) → P [] → P (place_locs (place_at at_once 0 t (spot_of unused t shape))) → P (result_locs (result_at at_once buffer t (result_spot_of t)))
+  result_is P none h =
+      result_cases (λ spot. P (result_locs (result_at at_once buffer t spot))) t (λ e. none) (locs_of P none t buffer (spot_of unused t shape) h)
 
-result_place : (t : Tree) → PlaceHasAll t (place_at at_once 0 t (spot_of unused t (result_shape t)))
-result_place t = spot_has_all at_once 0 unused t (result_shape t) (passed_suits unused true t)
+  result_chain : WordsChain (taken unused) (place_locs (place_at at_once 0 t (spot_of unused t shape))) (taken (used_with unused shape))
+  result_chain = spot_chain at_once 0 unused t shape (passed_has_room unused true t)
 
-result_has_all : (t : Tree) (buffer : ℕ) → ResultHasAll t (result_at at_once buffer t (result_spot_of t))
-result_has_all void buffer = refl
-result_has_all (scalar s) buffer = all_of (scalar s) buffer (result_shape (scalar s)) (result_place (scalar s))
-result_has_all (left_out k) buffer = all_of (left_out k) buffer (result_shape (left_out k)) (result_place (left_out k))
-result_has_all (structure ts) buffer =
-    all_of (structure ts) buffer (result_shape (structure ts)) (result_place (structure ts))
+  no_stack : (w : ℕ) → w ≤ 2 → 8 * (0 + w - 8) ≤ 0
+  no_stack w h = omega (arith, h)
 
-filled_of : (t : Tree) (buffer : ℕ) (shape : Shape) → PlaceIsFilled riscv t (place_at at_once 0 t (spot_of unused t shape)) → ResultIsFilled riscv t (result_at at_once buffer t (result_from (spot_of unused t shape)))
-filled_of t buffer OneF h = h
-filled_of t buffer TwoF h = h
-filled_of t buffer FI h = h
-filled_of t buffer IF h = h
-filled_of t buffer (Words n) h = h
-filled_of t buffer ByRef h = tt
+  result_apart : AreApart (result_locs (result_at at_once buffer t (result_spot_of t)))
+  result_apart = result_is AreApart tt (chain_apart argument_register floating_register 8 8 all_registers (taken unused) _ _ result_chain)
 
-result_place_filled : (t : Tree) → PlaceIsFilled riscv t (place_at at_once 0 t (spot_of unused t (result_shape t)))
-result_place_filled t =
-    spot_filled at_once 0 unused t (result_shape t) (passed_suits unused true t) (passed_floats unused true t)
+  result_in_registers : AllByRecursion (LiesIn isa.Riscv 0) (result_locs (result_at at_once buffer t (result_spot_of t)))
+  result_in_registers =
+      result_is (AllByRecursion (LiesIn isa.Riscv 0)) tt (chain_lies_in argument_register floating_register 8 8 isa.Riscv argument_exists floating_exists (taken unused) _ _ 0 (no_stack (words_of shape) (passed_few unused true t)) result_chain)
 
-result_filled : (t : Tree) (buffer : ℕ) → ResultIsFilled riscv t (result_at at_once buffer t (result_spot_of t))
-result_filled void buffer = tt
-result_filled (scalar s) buffer = filled_of (scalar s) buffer (result_shape (scalar s)) (result_place_filled (scalar s))
-result_filled (left_out k) buffer =
-    filled_of (left_out k) buffer (result_shape (left_out k)) (result_place_filled (left_out k))
-result_filled (structure ts) buffer =
-    filled_of (structure ts) buffer (result_shape (structure ts)) (result_place_filled (structure ts))
+  result_allowed : AllByRecursion (IsNoneOf (no_result riscv)) (result_locs (result_at at_once buffer t (result_spot_of t)))
+  result_allowed =
+      result_is (AllByRecursion (IsNoneOf (no_result riscv))) tt (chain_allowed argument_register floating_register 8 8 (no_result riscv) result_allowed_general result_allowed_floating result_allowed_stack (taken unused) _ _ result_chain)
+
+  result_has_all : ResultHasAll t (result_at at_once buffer t (result_spot_of t))
+  result_has_all =
+      let stands = spot_has_all at_once 0 unused t shape (passed_suits unused true t) in
+      result_cases (λ spot. ResultHasAll t (result_at at_once buffer t spot)) t (λ e. e) (all_of t buffer (spot_of unused t shape) stands)
+
+  result_filled : ResultIsFilled riscv t (result_at at_once buffer t (result_spot_of t))
+  result_filled =
+      let fills = spot_filled at_once 0 unused t shape (passed_suits unused true t) (passed_floats unused true t) in
+      result_cases (λ spot. ResultIsFilled riscv t (result_at at_once buffer t spot)) t (λ e. tt) (filled_of t buffer (spot_of unused t shape) fills)
 
 -- every law of the places
 pub sound : (s : Signature) → IsSound riscv s
@@ -265,9 +259,9 @@ sound s =
       allowed = plan_allowed s;
       has_all = arguments_have_all at_once (copies_start (placing_of s)) s.fixed (used_at_first s.result_type) 0 s.arguments;
       filled = arguments_filled at_once (copies_start (placing_of s)) s.fixed (used_at_first s.result_type) 0 s.arguments;
-      result_apart = result_cases AreApart tt s.result_type buffer (chain_apart argument_register floating_register 8 8 all_registers (taken unused) _ _ (result_chain s.result_type));
-      result_in_registers = result_cases (AllByRecursion (LiesIn isa.Riscv 0)) tt s.result_type buffer (chain_lies_in argument_register floating_register 8 8 isa.Riscv argument_exists floating_exists (taken unused) _ _ 0 (no_stack (words_of (result_shape s.result_type)) (passed_few unused true s.result_type)) (result_chain s.result_type));
-      result_allowed = result_cases (AllByRecursion (IsNoneOf (not_for_results riscv))) tt s.result_type buffer (chain_allowed argument_register floating_register 8 8 (not_for_results riscv) result_allowed_general result_allowed_floating result_allowed_stack (taken unused) _ _ (result_chain s.result_type));
+      result_apart = result_apart s.result_type buffer;
+      result_in_registers = result_in_registers s.result_type buffer;
+      result_allowed = result_allowed s.result_type buffer;
       result_has_all = result_has_all s.result_type buffer;
       result_filled = result_filled s.result_type buffer;
       frame_aligned = frame_is_aligned riscv s;

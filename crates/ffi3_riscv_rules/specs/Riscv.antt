@@ -3,7 +3,7 @@ use Rattle.std.specs.Prelude.{ℕ, ◌+◌, ◌-◌, ◌*◌, Bool, true, false,
 use Rattle.ffi3_type_rules.specs.declared.Target.TheVariants as target
 use Rattle.ffi3_type_rules.specs.declared.Isa.TheVariants as isa
 use Rattle.ffi3_type_rules.specs.Tree.{Tree, void, Scalar, u8, s8, u16, s16, u32, s32, u64, s64, float, double, pointer}
-use Rattle.ffi3_type_rules.specs.Layout.{Leaf, leaves_of, leaf_at, size_of}
+use Rattle.ffi3_type_rules.specs.Layout.{Leaf, leaves_of, leaf_at, size_of, scalar_size}
 use Rattle.ffi3_type_rules.specs.Signature.{Signature}
 use Rattle.ffi3_type_rules.specs.Integer.{is_floating, is_integer}
 use Rattle.ffi3_place_rules.specs.declared.Loc.{Loc}
@@ -28,12 +28,16 @@ abbrev pub integer_shape : Tree → Shape
 integer_shape t =
     cond {A = Shape} (nat_le (size_of t) 16) (Words (doublewords t)) ByRef
 
--- Two leaves: two floating-point reals, or one and one integer in either order. A pointer is no integer. ("Hardware Floating-point Calling Convention", on a struct of two floating-point reals, and of one and one integer)
+-- an integer no more than XLEN bits wide; a pointer is no integer
+abbrev pub is_word_integer : Scalar → Bool
+is_word_integer s = is_integer s && nat_le (scalar_size s) 8
+
+-- Two leaves: two floating-point reals, or one and one such integer in either order. ("Hardware Floating-point Calling Convention", on a struct of two floating-point reals, and of one and one integer)
 abbrev pub shape_of_two : Shape → Scalar → Scalar → Shape
 shape_of_two otherwise a b =
     cond {A = Shape} (is_floating a && is_floating b) TwoF
-    (cond {A = Shape} (is_floating a && is_integer b) FI
-    (cond {A = Shape} (is_integer a && is_floating b) IF otherwise))
+    (cond {A = Shape} (is_floating a && is_word_integer b) FI
+    (cond {A = Shape} (is_word_integer a && is_floating b) IF otherwise))
 
 -- A value whose structs are flattened. ("Hardware Floating-point Calling Convention", on what "struct" means there, on a real floating-point argument, and on a struct of just one)
 abbrev pub shape_of_leaves : Shape → List Leaf → Shape

@@ -1,18 +1,12 @@
 -- The places of a call by sums over the whole list of arguments, with no count that goes from one argument to the next. (RISC-V ELF psABI, "Integer Calling Convention" and "Hardware Floating-point Calling Convention")
 use Rattle.std.specs.Prelude.{◌≡◌, ℕ, ◌+◌, ◌<◌, cond, length, Some, slice_get}
-use Rattle.std.specs.List.{sum_by}
-use Rattle.ffi3_type_rules.specs.Tree.{Tree, tree_at}
-use Rattle.ffi3_type_rules.specs.Layout.{size_of}
+use Rattle.ffi3_type_rules.specs.Tree.{tree_at}
 use Rattle.ffi3_type_rules.specs.Signature.{Signature}
-use Rattle.ffi3_place_rules.specs.Standard.{at_once, place_at, result_at, plan_of, round8, round16}
 use Rattle.ffi3_place_rules.specs.Sums.{sum_below}
 use Rattle.ffi3_riscv_rules.specs.declared.Shape.{Shape}
 use Rattle.ffi3_riscv_rules.specs.declared.Used.{Used}
-use Rattle.ffi3_riscv_rules.specs.Riscv.{words_of, floats_of, passed_as, is_fixed, spot_of, result_shape, result_spot_of, is_by_reference, stack_of, placing_of, riscv}
-
--- the bytes of the copy of a value that is passed so
-abbrev pub copy_bytes : Shape → Tree → ℕ
-copy_bytes shape t = cond (is_by_reference shape) (round8 (size_of t)) 0
+use Rattle.ffi3_riscv_rules.specs.Riscv.{words_of, floats_of, passed_as, is_fixed, spot_of, result_shape, is_by_reference, stack_of, placing_of, riscv}
+use Rattle.ffi3_place_rules.specs.Copies.{CopiesBySums}
 
 -- how each argument is passed, by its number
 module _ (s : Signature) (passed : ℕ → Shape) where
@@ -28,11 +22,6 @@ module _ (s : Signature) (passed : ℕ → Shape) where
   abbrev pub sums_before : ℕ → Used
   sums_before i = record { words = words_before i; floats = floats_before i }
 
-  -- where the copies of the arguments before number i end: they begin behind the stack arguments
-  abbrev pub copies_before : ℕ → ℕ
-  copies_before i =
-      round16 (placing_of s).stack_bytes + sum_below (λ j. copy_bytes (passed j) (tree_at s.arguments j)) i
-
   -- an argument is passed by its shape exactly where it is named and the sums leave enough registers
   abbrev pub AreChosenBySums : Type 0
   AreChosenBySums =
@@ -41,20 +30,13 @@ module _ (s : Signature) (passed : ℕ → Shape) where
   -- THE SUMS PLACE THE ARGUMENTS: so each is passed, and it stands where the sums say.
   pub record ArePlacedBySums : Type 0 where
     pub chosen : AreChosenBySums
+    pub one_each : length (placing_of s).arguments ≡ length s.arguments
     pub placed : (i : ℕ) → i < length s.arguments → slice_get (placing_of s).arguments i ≡ Some (spot_of (sums_before i) (tree_at s.arguments i) (passed i))
     pub stack_total : (placing_of s).stack_bytes ≡ stack_of (sums_before (length s.arguments))
 
-  -- THE SUMS PLACE COPIES AND BUFFER: each copy stands behind those before it, the buffer behind the last, and the frame ends behind the buffer.
-  pub record CopiesBySums : Type 0 where
-    pub places : (i : ℕ) → i < length s.arguments → slice_get (plan_of riscv s).places i ≡ Some (place_at at_once (copies_before i) (tree_at s.arguments i) (spot_of (sums_before i) (tree_at s.arguments i) (passed i)))
-    pub res : (plan_of riscv s).res ≡ result_at at_once (copies_before (length s.arguments)) s.result_type (result_spot_of s.result_type)
-    pub frame : (plan_of riscv s).frame ≡ round16 (copies_before (length s.arguments) + copy_bytes (result_shape s.result_type) s.result_type)
-    pub block : (plan_of riscv s).block ≡ round16 (sum_by (λ t. round8 (size_of t)) s.arguments)
-    pub need : (plan_of riscv s).need ≡ (plan_of riscv s).frame + riscv.link + riscv.save + (plan_of riscv s).block
-
--- THE SUMS PLACE A CALL: one way to pass the arguments meets them, and no other one.
+-- THE SUMS PLACE A CALL: one way to pass the arguments meets them, and no other one; copies and buffer follow.
 pub record IsPlacedBySums (s : Signature) : Type 0 where
   pub passed : ℕ → Shape
   pub arguments : ArePlacedBySums s passed
-  pub copies : CopiesBySums s passed
   pub only : (other : ℕ → Shape) → AreChosenBySums s other → (i : ℕ) → i < length s.arguments → other i ≡ passed i
+  pub frame : CopiesBySums riscv s

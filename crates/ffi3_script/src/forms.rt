@@ -7,7 +7,7 @@ ghost use Rattle.ffi3_script.specs.Shapes.{only_member, two_items, is_untyped, f
 use ffi3_json::Json;
 
 /// The forms of values that have a type of their own.
-#[derive(Clone, Copy, Debug)]
+#[derive(Clone, Copy)]
 pub(crate) enum TypedForm {
     /// The argument of a number.
     Arg,
@@ -22,7 +22,7 @@ pub(crate) enum TypedForm {
 }
 
 /// The forms of values that are objects, each named by its key.
-#[derive(Clone, Copy, Debug)]
+#[derive(Clone, Copy)]
 pub(crate) enum Form {
     Typed(TypedForm),
     /// The sum of two integers.

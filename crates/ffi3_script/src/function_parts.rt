@@ -18,7 +18,7 @@ use ffi3_json::{Json, ScriptFault, Where};
 use std::alloc::Global;
 
 /// A function of a script: its name, the number of its signature, its moves.
-#[derive(Debug, Drop)]
+#[derive(Drop)]
 pub(crate) struct FunctionPart {
     pub(crate) name: String,
     pub(crate) sig: u32,

@@ -7,7 +7,7 @@ use std::alloc::Global;
 use std::marker::Model;
 
 /// Names of functions by number, and their numbers by name.
-#[derive(Debug, Drop)]
+#[derive(Drop)]
 pub(crate) struct FunctionNames {
     index: NameIndex,
 }

@@ -18,14 +18,14 @@ use ffi3_types::Sigs;
 use std::alloc::Global;
 
 /// A function's name, and the number of its signature.
-#[derive(Debug, Drop)]
+#[derive(Drop)]
 pub(crate) struct Heading {
     pub(crate) name: String,
     pub(crate) sig: u32,
 }
 
 /// The headings of a script's functions, and their names once more.
-#[derive(Debug, Drop)]
+#[derive(Drop)]
 pub(crate) struct Headings {
     pub(crate) names: FunctionNames,
     pub(crate) list: Vec<Heading>,

@@ -11,7 +11,7 @@ use std::collections::BTreeMap;
 use std::marker::Model;
 
 /// Things by number, each with a name or without one.
-#[derive(Debug, Drop)]
+#[derive(Drop)]
 pub(crate) struct NameIndex {
     names: Vec<Option<String>>,
     // the number of the first thing of each name

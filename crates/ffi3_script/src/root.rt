@@ -23,7 +23,7 @@ use ffi3_types::{FfiType, Fields, Sig, Sigs};
 use std::alloc::Global;
 
 /// What a script was read as: its signatures, its functions, and the moves of main.
-#[derive(Debug, Drop)]
+#[derive(Drop)]
 pub(crate) struct Parts {
     pub(crate) sigs: Sigs,
     pub(crate) functions: Vec<FunctionPart>,
@@ -31,7 +31,7 @@ pub(crate) struct Parts {
 }
 
 // The functions, and the moves of main.
-#[derive(Debug, Drop)]
+#[derive(Drop)]
 struct AllBodies {
     functions: Vec<FunctionPart>,
     main: Vec<ScriptMove>,

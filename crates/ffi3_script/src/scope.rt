@@ -5,7 +5,7 @@ use crate::index::NameIndex;
 use ffi3_types::{Fields, Sig, Sigs};
 
 /// Where a value stands: in a body of this signature, after moves whose results have these names and types.
-#[derive(Debug, Drop)]
+#[derive(Drop)]
 pub(crate) struct Scope<'a> {
     pub(crate) own: &'a Sig,
     pub(crate) names: &'a NameIndex,
@@ -13,7 +13,7 @@ pub(crate) struct Scope<'a> {
 }
 
 /// What all bodies of a script speak of: its signatures, and its functions and then the natives.
-#[derive(Debug, Drop)]
+#[derive(Drop)]
 pub(crate) struct Globals<'a> {
     pub(crate) sigs: &'a Sigs,
     pub(crate) functions: &'a FunctionNames,

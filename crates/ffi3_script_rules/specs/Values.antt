@@ -6,7 +6,8 @@ use Rattle.serde_json.specs.Data.{Data, null, boolean, number, string, array, ob
 use Rattle.serde_json.specs.Find.{as_number, as_u64, as_str, as_integer}
 use Rattle.serde_json.specs.Events.{items_len}
 use Rattle.ffi3_type_rules.specs.Tree.{Tree, scalar, structure, list_of, elements_of, Scalar, pointer}
-use Rattle.ffi3_type_rules.specs.Integer.{is_integer, is_floating, is_number_type, is_signed, scalar_of, width_of, bit_count, bytes_of_number}
+pub use Rattle.ffi3_type_rules.specs.Integer.{is_integer_type, is_floating_type}
+use Rattle.ffi3_type_rules.specs.Integer.{is_number_type, is_signed, scalar_of, width_of, bit_count, bytes_of_number}
 use Rattle.ffi3_type_rules.specs.Layout.{scalar_size}
 use Rattle.ffi3_type_rules.specs.Same.{same_tree}
 use Rattle.ffi3_script_rules.specs.FirstFault.{Found, first_fault}
@@ -48,10 +49,6 @@ read_integer s (Some z) path =
 abbrev pub read_number : Tree → Num → Path → Read Expression
 read_number t n path =
     if is_number_type t then read_integer (scalar_of t) (as_integer n) path else fault path wrong_type
-
-abbrev pub is_floating_type : Tree → Bool
-is_floating_type (scalar s) = is_floating s
-is_floating_type _ = false
 
 abbrev pub bytes_or_fault : Path → Result (List ℕ) FromHexError → Read Expression
 bytes_or_fault path (Ok bytes) = read (constant bytes)
@@ -150,10 +147,6 @@ form_named name =
     cond (bytes_eq name (codes "arg")) (typed_form arg_form) (cond (bytes_eq name (codes "res")) (typed_form res_form) (cond (bytes_eq name (codes "user")) (typed_form user_form) (cond (bytes_eq name (codes "field")) (typed_form field_form) (cond (bytes_eq name (codes "of")) (typed_form of_form) (cond (bytes_eq name (codes "add")) add_form (cond (bytes_eq name (codes "sub")) sub_form (cond (bytes_eq name (codes "cast")) cast_form no_form)))))))
 
 -- sums and differences are of integer types, casts of integers and pointers; looked at before the parts
-abbrev pub is_integer_type : Tree → Bool
-is_integer_type (scalar s) = is_integer s
-is_integer_type _ = false
-
 abbrev pub if_integer : Tree → Path → (⊤ → Read Expression) → Read Expression
 if_integer t path more =
     if is_integer_type t then more tt else fault path wrong_type

@@ -1,12 +1,11 @@
 -- The texts of a struct's values, one after another.
-use Rattle.std.proofs.Common.{◌≡◌, ℕ, zero, suc, ◌+◌, ◌/◌, ◌%◌, ◌<◌, ◌≤◌, false, List, [], ◌∷◌, ◌++◌, length, take, refl, ap, sym, ◌∙◌, arith, append_assoc, append-nil}
+use Rattle.std.proofs.Common.{◌≡◌, ℕ, zero, suc, ◌+◌, ◌<◌, List, [], ◌∷◌, ◌++◌, length, take, refl, ap, sym, ◌∙◌, arith, append_assoc, append-nil}
 use Rattle.std.specs.Prelude.{slice_index_or}
 use Rattle.std.specs.List.{join_with_byte}
-use Rattle.std.proofs.lemmas.List.{take_more, take_all as take_whole}
-use Rattle.std.specs.Fmt.{digit_glyph}
+use Rattle.std.proofs.lemmas.List.{take_more}
 use Rattle.ffi3_type_rules.specs.Tree.{Tree, tree_at, trees_of}
 use Rattle.ffi3_type_rules.specs.Value.{ValueTree, values_of}
-use Rattle.ffi3_type_rules.specs.ValueText.{value_text_of, value_texts_of, hexadecimal}
+use Rattle.ffi3_type_rules.specs.ValueText.{value_text_of, value_texts_of}
 use Rattle.ffi3_type_rules.proofs.Values.{value_at}
 
 -- the texts of a struct's elements
@@ -66,17 +65,3 @@ joined-turn-first xs i before now text none some n t =
 pub joined-turn-next : (xs : List (List ℕ)) (i : ℕ) (before now comma text : List ℕ) → 0 < i → i < length xs → now ≡ before ++ joined xs i → comma ≡ now ++ (44 ∷ []) → text ≡ slice_index_or xs i [] → comma ++ text ≡ before ++ joined xs (i + 1)
 joined-turn-next xs i before now comma text some below n c t =
     rw (c, n, t, joined-more xs i some below, append_assoc, append_assoc)
-
-hexadecimal-last : (bytes : List ℕ) (b : ℕ) → hexadecimal (bytes ++ b ∷ []) ≡ hexadecimal bytes ++ (digit_glyph false (b / 16) ∷ digit_glyph false (b % 16) ∷ [])
-hexadecimal-last [] b = refl
-hexadecimal-last (c ∷ bytes) b =
-    ap (λ xs. digit_glyph false (c / 16) ∷ digit_glyph false (c % 16) ∷ xs) (hexadecimal-last bytes b)
-
--- the digits of one more byte
-pub hexadecimal-more : (before bytes : List ℕ) (i b : ℕ) → i < length bytes → b ≡ slice_index_or bytes i 0 → (before ++ hexadecimal (take i bytes)) ++ (digit_glyph false (b / 16) ∷ digit_glyph false (b % 16) ∷ []) ≡ before ++ hexadecimal (take (i + 1) bytes)
-hexadecimal-more before bytes i b below is =
-    let two : List ℕ = digit_glyph false (b / 16) ∷ digit_glyph false (b % 16) ∷ [] in
-    append_assoc before (hexadecimal (take i bytes)) two ∙ ap (λ xs. before ++ xs) (ap (λ c. hexadecimal (take i bytes) ++ (digit_glyph false (c / 16) ∷ digit_glyph false (c % 16) ∷ [])) is ∙ sym (hexadecimal-last (take i bytes) (slice_index_or bytes i 0)) ∙ ap hexadecimal (sym (take_more bytes i 0 below)))
-
-pub hexadecimal-all : (before bytes : List ℕ) (i : ℕ) → length bytes ≤ i → before ++ hexadecimal (take i bytes) ≡ before ++ hexadecimal bytes
-hexadecimal-all before bytes i all = ap (λ xs. before ++ hexadecimal xs) (take_whole i bytes all)

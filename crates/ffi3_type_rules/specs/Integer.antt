@@ -17,6 +17,12 @@ is_integer float = false
 is_integer double = false
 is_integer pointer = false
 
+abbrev pub is_integer_type : Tree → Bool
+is_integer_type void = false
+is_integer_type (scalar s) = is_integer s
+is_integer_type (left_out k) = false
+is_integer_type (structure ts) = false
+
 -- the types whose bytes are a number: the integers and the pointer
 abbrev pub is_number : Scalar → Bool
 is_number u8 = true
@@ -118,3 +124,9 @@ is_floating s64 = false
 is_floating float = true
 is_floating double = true
 is_floating pointer = false
+
+abbrev pub is_floating_type : Tree → Bool
+is_floating_type void = false
+is_floating_type (scalar s) = is_floating s
+is_floating_type (left_out k) = false
+is_floating_type (structure ts) = false

@@ -12,6 +12,7 @@ mod bytes;
 mod check;
 mod copy;
 mod fault;
+mod kinds;
 mod laws;
 mod layout;
 mod leaves;

@@ -1,7 +1,6 @@
 // Values as text.
 ghost use Rattle.std.specs.Prelude.{◌≡◌, ◌++◌, ◌∷◌, ◌<◌, [], OnOk, IfOk, true, false};
 ghost use Rattle.std.specs.List.{join_with_byte};
-ghost use Rattle.std.specs.Fmt.{digit_glyph};
 ghost use Rattle.ffi3_type_rules.specs.Tree.{trees_of};
 ghost use Rattle.ffi3_type_rules.specs.Value.{fits, all_fit, values_of};
 ghost use Rattle.ffi3_type_rules.specs.ValueText.{value_text_of, value_texts_of, hexadecimal};
@@ -30,7 +29,7 @@ fn write_text(alloc: Global, ty: &FfiType, value: &Value, text: &mut Bytes) -> R
     match value {
         Value::Void => text.extend("void".as_bytes()),
         Value::Leaf(bytes) => match ty {
-            FfiType::Float | FfiType::Double => write_hexadecimal(bytes.as_slice(), text),
+            FfiType::Float | FfiType::Double => write_hexadecimal(alloc, bytes.as_slice(), text),
             FfiType::Pointer => {
                 text.extend("0x".as_bytes())?;
                 let address = widen(ty, value);
@@ -81,20 +80,9 @@ fn write_texts(
 }
 
 /// Two lower-case hexadecimal digits for each byte.
-fn write_hexadecimal(bytes: &[u8], text: &mut Bytes) -> Result<(), NoMemory>
+fn write_hexadecimal(alloc: Global, bytes: &[u8], text: &mut Bytes) -> Result<(), NoMemory>
     ensures { OnOk result (text.new ≡ text.old ++ hexadecimal bytes.now) }
 {
-    for b in bytes {
-        text.push(digit(*b / 16))?;
-        text.push(digit(*b % 16))?;
-    }
-    Ok(())
-}
-
-/// A hexadecimal digit.
-fn digit(n: u8) -> u8
-    requires { n < 16 }
-    ensures { result ≡ digit_glyph false n }
-{
-    if n < 10 { b'0' + n } else { b'a' + (n - 10) }
+    let digits = hex::encode(alloc, bytes)?;
+    text.extend(digits.as_bytes())
 }

@@ -1,14 +1,22 @@
-use Rattle.std.proofs.Common.{◌+◌, length, ap, sym, ◌∙◌, arith}
+use Rattle.std.proofs.Common.{◌+◌, length, ap, sym, ◌∙◌, subst, arith}
+use Rattle.ffi3_type_rules.specs.Isa.{isa_of}
 use Rattle.ffi3_type_rules.specs.Value.{value_in}
 use Rattle.ffi3_place_rules.specs.Standard.{plan_of, frame_of}
 use Rattle.ffi3_machine.specs.State.{stack_at}
-use Rattle.ffi3_caller.proofs.Results.{in_registers, direct_value, buffer_within, hidden_value}
+use Rattle.ffi3_caller.specs.Loaded.{AreWithin}
+use Rattle.ffi3_caller.proofs.Results.{are_within, in_registers, direct_value, buffer_within, hidden_value}
 use Rattle.ffi3_caller.proofs.load_result.Goals as goal
 
 pub load_pieces-requires-clause-registers : goal.load_pieces-requires-clause-registers
 load_pieces-requires-clause-registers g c =
     let sound = g.met.A.Abi.sound c.args.cif.now c.sig-sig.ensures.faultless in
-    in_registers (plan_of g.A.Abi.standard c.args.cif.now).res c.in-Direct.pieces (sym c.result_place.ensures ∙ c.in-Direct.is) sound.result_in_registers
+    in_registers (isa_of g.A.Abi.standard.target) (plan_of g.A.Abi.standard c.args.cif.now).res c.in-Direct.pieces (sym c.result_place.ensures ∙ c.in-Direct.is) sound.result_in_registers
+
+pub load_pieces-requires-clause-within : goal.load_pieces-requires-clause-within
+load_pieces-requires-clause-within g c =
+    let s = c.args.cif.now in
+    let sound = g.met.A.Abi.sound s c.sig-sig.ensures.faultless in
+    subst (λ n. AreWithin n c.in-Direct.pieces) (sym c.requires.sized) (are_within s.result_type (plan_of g.A.Abi.standard s).res c.in-Direct.pieces (sym c.result_place.ensures ∙ c.in-Direct.is) sound.result_has_all)
 
 pub lend_stack-requires-clause-high : goal.lend_stack-requires-clause-high
 lend_stack-requires-clause-high g c =
@@ -27,4 +35,4 @@ returns-in-Hidden-clause-value g c = λ v own.
     let m = c.args.machine.now in
     let start = c.sp-base.result + c.in-Hidden.buffer in
     let lent = c.copy_from_slice.ensures.after ∙ c.lend_stack.ensures.value ∙ ap (λ n. stack_at start n m) c.requires.sized in
-    ap (value_in s.result_type) lent ∙ hidden_value m g.A.Abi.standard s c.in-Hidden.at c.in-Hidden.buffer start v (sym c.result_place.ensures ∙ c.in-Hidden.is) c.sp-base.ensures.machine.sp_low (ap (λ n. n + c.in-Hidden.buffer) c.sp-base.ensures.value) own
+    ap (value_in s.result_type) lent ∙ hidden_value m g.A.Abi.standard s c.in-Hidden.at c.in-Hidden.buffer start v (sym c.result_place.ensures ∙ c.in-Hidden.is) c.requires.bottom (ap (λ n. n + c.in-Hidden.buffer) c.sp-base.ensures.value) own

@@ -22,7 +22,7 @@ script_of-requires c =
     let p = c.in-Ok-read_root.parts in
     let s = script_in p.sigs p.functions.items p.main.items in
     let few : IsFew 1048577 s = script-few 1048577 natives (view c.in-Ok.value) s c.in-Ok.ensures.few c.in-Ok-read_root.ensures.ok in
-    let same : c.len.result ≡ length natives = c.len.ensures in
+    let same : c.len.result ≡ length natives = c.len.ensures.count in
     record {
       few_signatures = signatures-few 1048577 (omega arith) p.sigs p.functions.items p.main.items few;
       few_natives = omega (arith, same, c.requires);

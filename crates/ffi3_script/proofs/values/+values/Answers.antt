@@ -196,7 +196,7 @@ read_value-returns-in-Ok-clause-ok t c =
     let vs = c.in-Some-as_array.items.now.items in
     let same : items_len (items_view vs) ≡ length c.in-Struct.fields = omega (arith, c.len.ensures, c.len-in-Some-as_array.ensures.count, items_len-items_view vs, c.if-len.false) in
     ap (λ y. read_value s (tree_of y) d path) c.in-Struct.is
-    ∙ of_values s c.in-Struct.fields d path (items_view vs) (sym c.in-Some-as_array.ensures) (read (expressions_in c.in-Ok.values.items)) same c.in-Ok.ensures.ok ∙ ap read (sym c.composed.ensures)
+    ∙ of_values s c.in-Struct.fields d path (items_view vs) (sym c.in-Some-as_array.ensures) (read (expressions_in c.in-Ok.values.items)) same c.in-Ok.ensures.ok ∙ ap read (sym c.of_elements.ensures)
 
 pub read_value-returns-in-Err-clause-err : goal.read_value-returns-in-Err-clause-err
 read_value-returns-in-Err-clause-err t c =

@@ -1,0 +1,2 @@
+mod Glue
+mod Gather

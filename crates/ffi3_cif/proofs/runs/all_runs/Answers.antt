@@ -1,0 +1,22 @@
+use Rattle.std.proofs.Common.{◌≡◌, ◌<◌, [], length, sym, subst, arith}
+use Rattle.ffi3_cif.specs.Runs.{PlacesHaveRuns, PlaceEndsWithin}
+use Rattle.ffi3_place_rules.proofs.Tests.{each_at}
+use Rattle.ffi3_cif.proofs.Gather.{place_taken, all_places}
+use Rattle.ffi3_cif.proofs.runs.all_runs.Goals as goal
+
+pub loop-i-init : goal.loop-i-init
+loop-i-init c = subst (λ rs. PlacesHaveRuns [] rs) (sym c.new-all.ensures) tt
+
+pub place_runs-requires : goal.place_runs-requires
+place_runs-requires c =
+    each_at (PlaceEndsWithin 1024) c.args.places.now c.loop-i.i c.get.result.now (omega (arith, c.loop-i-test.true, c.len-i-end.ensures)) (sym c.get.ensures) c.requires
+
+pub loop-i-preserved : goal.loop-i-preserved
+loop-i-preserved c =
+    let inside : c.loop-i.i < length c.args.places.now = omega (arith, c.loop-i-test.true, c.len-i-end.ensures) in
+    place_taken c.args.places.now c.loop-i.i c.get.result.now c.loop-i.all _ _ inside c.get.ensures c.loop-i.invariant c.in_ok-push.ensures.ok c.in_ok-place_runs.ensures
+
+pub returns : goal.returns
+returns c =
+    let end : c.loop-i.i ≡ length c.args.places.now = omega (arith, c.loop-i-test.false, c.loop-i.auto.i-end, c.len-i-end.ensures) in
+    all_places c.args.places.now c.loop-i.i c.loop-i.all end c.loop-i.invariant

@@ -1,0 +1,194 @@
+//! The bytes of arguments that stand on the stack, in runs.
+
+ghost use Rattle.std.specs.Prelude.{◌≡◌, ◌+◌, ◌<◌, ◌≤◌, ◌++◌, List, [], ◌∷◌, length, slice_index_or, IfOk, OnOk, OnErr};
+ghost use Rattle.std.specs.List.{AllByRecursion};
+ghost use Rattle.ffi3_cif.specs.Runs.{AreRunsOf, EndsWithin, PlaceEndsWithin, PlacesHaveRuns, pieces_of, run_at, goes_on, some_run, glued};
+
+use ffi3_place::{Loc, Piece, Pieces, Place, Places};
+use ffi3_types::NoMemory;
+use std::alloc::Global;
+use std::marker::Model;
+
+/// `len` bytes of a value, from `off` on, stand from byte `at` of the stack arguments on.
+#[derive(Clone, Copy, Debug, PartialEq, Eq)]
+pub struct Run {
+    pub at: u32,
+    pub off: u32,
+    pub len: u32,
+}
+
+/// The bytes of an argument that stand on the stack, in as few runs as they make.
+#[derive(Debug, Drop)]
+pub struct Runs {
+    items: Vec<Run>,
+}
+
+impl Model for Runs {
+    ghost use Rattle.std.specs.Prelude.{List};
+    ghost use Rattle.ffi3_cif.specs.declared.runs.Run.{Run};
+
+    ghost Value = { List Run };
+
+    ghost view = { λ f. f.items.items };
+}
+
+impl Runs {
+    fn new(alloc: Global) -> Runs
+        ensures { result ≡ [] }
+    {
+        Runs {
+            items: Vec::new(alloc),
+        }
+    }
+
+    /// One more run, if it has bytes. Refused, it leaves the list as it was.
+    fn push(&mut self, run: Run) -> Result<(), NoMemory>
+        ensures ok { OnOk result (self.new ≡ self.old ++ some_run run) }
+        ensures err { OnErr result (self.new ≡ self.old) }
+    {
+        if run.len > 0 {
+            self.items.push(run)?;
+        }
+        Ok(())
+    }
+
+    /// How many runs there are.
+    pub fn len(&self) -> usize
+        ensures { result ≡ length self.now }
+    {
+        self.items.len()
+    }
+
+    /// Run `i`.
+    pub fn get(&self, i: usize) -> Run
+        requires { i < length self.now }
+        ensures { result ≡ slice_index_or self.now i result }
+    {
+        self.items[i]
+    }
+}
+
+/// The runs of each argument.
+#[derive(Debug, Drop)]
+pub struct AllRuns {
+    items: Vec<Runs>,
+}
+
+impl Model for AllRuns {
+    ghost use Rattle.std.specs.Prelude.{List};
+    ghost use Rattle.ffi3_cif.specs.declared.runs.Run.{Run};
+
+    ghost Value = { List (List Run) };
+
+    ghost view = { λ f. f.items.items };
+}
+
+impl AllRuns {
+    fn new(alloc: Global) -> AllRuns
+        ensures { result ≡ [] }
+    {
+        AllRuns {
+            items: Vec::new(alloc),
+        }
+    }
+
+    fn push(&mut self, item: Runs) -> Result<(), NoMemory>
+        ensures ok { OnOk result (self.new ≡ self.old ++ item ∷ []) }
+        ensures err { OnErr result (self.new ≡ self.old) }
+    {
+        self.items.push(item)?;
+        Ok(())
+    }
+
+    pub fn get(&self, i: usize) -> &Runs
+        requires { i < length self.now }
+        ensures { result.now ≡ slice_index_or self.now i result.now }
+    {
+        &self.items[i]
+    }
+}
+
+/// The bytes of a piece that stands on the stack.
+fn run_at(piece: &Piece) -> Option<Run>
+    ensures { result ≡ run_at piece.now.loc piece.now }
+{
+    match piece.loc {
+        Loc::S(at) => Some(Run {
+            at,
+            off: piece.off,
+            len: piece.len as u32,
+        }),
+        Loc::G(_) => None,
+        Loc::F(_) => None,
+    }
+}
+
+/// Whether the second run goes on where the first ends, in the value and on the stack.
+fn goes_on(run: Run, next: Run) -> bool
+    ensures { result ≡ goes_on run next }
+{
+    run.at as u64 + run.len as u64 == next.at as u64
+        && run.off as u64 + run.len as u64 == next.off as u64
+}
+
+/// The run to which more may be added, with bytes that come next. What they do not make longer is whole.
+fn with_next(runs: &mut Runs, run: Run, next: Run) -> Result<Run, NoMemory>
+    requires { next.off + next.len ≤ 1024 }
+    ensures { IfOk result
+        (λ r. ((rest : List Run) → runs.new ++ glued r rest ≡ runs.old ++ glued run (next ∷ rest))) }
+{
+    if next.len == 0 {
+        return Ok(run);
+    }
+    if goes_on(run, next) {
+        return Ok(Run {
+            at: run.at,
+            off: run.off,
+            len: run.len + next.len,
+        });
+    }
+    runs.push(run)?;
+    Ok(next)
+}
+
+/// The runs of the pieces that stand on the stack. No type has more than 1024 bytes.
+fn runs_of(alloc: Global, pieces: &Pieces) -> Result<Runs, NoMemory>
+    requires { AllByRecursion (EndsWithin 1024) pieces.now }
+    ensures { IfOk result (λ r. AreRunsOf pieces.now r) }
+{
+    let mut runs = Runs::new(alloc);
+    let mut run = Run {
+        at: 0,
+        off: 0,
+        len: 0,
+    };
+    for i in 0..pieces.len() {
+        if let Some(next) = run_at(pieces.get(i)) {
+            run = with_next(&mut runs, run, next)?;
+        }
+    }
+    runs.push(run)?;
+    Ok(runs)
+}
+
+fn place_runs(alloc: Global, place: &Place) -> Result<Runs, NoMemory>
+    requires { PlaceEndsWithin 1024 place.now }
+    ensures { IfOk result (λ r. AreRunsOf (pieces_of place.now) r) }
+{
+    match place {
+        Place::Direct(pieces) => runs_of(alloc, pieces),
+        Place::ByRef { .. } => Ok(Runs::new(alloc)),
+    }
+}
+
+/// The runs of each argument.
+pub fn all_runs(alloc: Global, places: &Places) -> Result<AllRuns, NoMemory>
+    requires { AllByRecursion (PlaceEndsWithin 1024) places.now }
+    ensures { IfOk result (λ r. PlacesHaveRuns places.now r) }
+{
+    let mut all = AllRuns::new(alloc);
+    for i in 0..places.len() {
+        all.push(place_runs(alloc, places.get(i))?)?;
+    }
+    Ok(all)
+}
