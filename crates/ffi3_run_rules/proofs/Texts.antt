@@ -10,7 +10,8 @@ use Rattle.ffi3_place_rules.specs.Event.{Event}
 use Rattle.ffi3_place_rules.specs.Image.{Image, register}
 use Rattle.ffi3_place_rules.specs.Standard.{Standard, need_of, frame_of}
 use Rattle.ffi3_run_rules.specs.Happenings.{Happening, Enter, Line, Leave, StopLine}
-use Rattle.ffi3_run_rules.specs.Journal.{Entered, needs, scribble, IsEntry, IsReturn}
+use Rattle.ffi3_run_rules.specs.Journal.{Entered, needs, IsEntry, IsReturn}
+use Rattle.ffi3_place_rules.specs.Isa.{scribble}
 use Rattle.ffi3_run_rules.specs.Lines.{OpenCall, Point, past, Trace, untraced, text_of, text, sp_at_call, word_text, keep_text}
 
 -- after all of a part
@@ -80,6 +81,6 @@ words_are_told n image [] is = refl
 words_are_told n image (at ∷ registers) is = λ i.
     (codes " " ++ word_text (sym is.0 i)) ∷ words_are_told n image registers is.1 i
 
-pub registers_are_told : (std : Standard) (top : ℕ) (held : Loc → ℕ) (outer : List Entered) (n pointer : ℕ) (s : Signature) (args : List ValueTree) (e : Event) → IsEntry std top held outer n pointer s args e → keep_text std n ≡ codes "keep" ++ registers_text (register e.image) std.preserved
+pub registers_are_told : (std : Standard) (top : ℕ) (held : Loc → ℕ) (outer : List Entered) (n pointer : ℕ) (s : Signature) (args : List ValueTree) (e : Event) → IsEntry std top held outer n pointer s args e → keep_text std (scribble n) ≡ codes "keep" ++ registers_text (register e.image) std.preserved
 registers_are_told std top held outer n pointer s args e is =
     ap (λ (words : List (List ℕ)). codes "keep" ++ concat words) (words_are_told n e.image std.preserved is.preserved)
