@@ -69,7 +69,7 @@ module _ (k : Kinds) (e : Expr) (h : has_type k (own_type k (expression_of e)) (
       and_right (is_at (elements_of (own_type k (expression_of whole.value))) i (own_type k (expression_of (Element whole i)))) _ (own_as (Element whole i) is)
 
   pub of_typed : (ty : FfiType) (inner : Box Expr Global) → e ≡ TypedAs ty inner → has_type k (tree_of ty) (expression_of inner.value) ≡ true
-  of_typed ty inner is = and_right _ _ (own_as (TypedAs ty inner) is)
+  of_typed ty inner is = and_right _ _ (and_right _ _ (own_as (TypedAs ty inner) is))
 
 -- ---- nodes
 
