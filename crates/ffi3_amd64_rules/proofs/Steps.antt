@@ -96,16 +96,6 @@ ends_without_copies start end a (t ∷ ts) = ends_without_copies start end (take
 
 -- ---- results
 
-pub buffer_ends : (end : ℕ) (t : Tree) → buffer_end at_once end t (result_spot_of t) ≡ cond (in_memory t) (end + round8 (size_of t)) end
-buffer_ends end void = refl
-buffer_ends end (scalar s) = refl
-buffer_ends end (left_out k) = refl
-buffer_ends end (structure ts) = cases (in_memory (structure ts))
-  where
-    cases : (b : Bool) → buffer_end at_once end (structure ts) (cond b (in_buffer (G (argument_register 0))) (in_result_pieces (register_pieces result_register 0 0 (structure ts) [] (classes (structure ts))))) ≡ cond b (end + round8 (size_of (structure ts))) end
-    cases true = refl
-    cases false = refl
-
 pub spot_of_memory : (t : Tree) → in_memory t ≡ true → result_spot_of t ≡ in_buffer (G (argument_register 0))
 spot_of_memory void e = cc
 spot_of_memory (scalar s) e = cc

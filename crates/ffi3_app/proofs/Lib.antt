@@ -11,3 +11,4 @@ pub mod Right
 pub mod Saying
 pub mod Stated
 pub mod Telling
+mod Alone
