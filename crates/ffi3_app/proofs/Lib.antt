@@ -1,4 +1,5 @@
 pub mod Answering
+pub mod Anywhere
 pub mod Asked
 pub mod Asks
 pub mod Firsts

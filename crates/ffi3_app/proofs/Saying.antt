@@ -24,7 +24,8 @@ use Rattle.ffi3_app.specs.declared.words.WordsFault.TheVariants.{Refused}
 use Rattle.ffi3_app.specs.Commands.{not_yet}
 use Rattle.ffi3_app.specs.Refusals.{IsRefusal, IsRefusedWith, refusal_line, refusal_status, HasPlace, TellsRefusal}
 use Rattle.ffi3_app.specs.Top.{Given, ReadAs, IsReadInPart, Tells, whole, cut, IsDone, Fails, refused, bad_words, read_failed, write_failed, no_memory_for_words, no_memory, Says, done, failed, refusal_of, limit_line, status_of, status_when_done, no_memory_line}
-use Rattle.ffi3_app.proofs.Stated.{stated_is_read}
+use Rattle.ffi3_app.specs.WordCommands.{Addresses}
+use Rattle.ffi3_app.proofs.Stated.{stated_is_taken}
 
 -- ---- words
 
@@ -34,15 +35,28 @@ some_is x y e = cc
 none_is_some : {X : Type 0} (x : X) → None ≡ Some x → ⊥
 none_is_some x e = cc
 
+abbrev nowhere : Addresses
+nowhere n = (0, 0)
+
+-- words are taken as one request alone
+pub one_request : (words : List (List ℕ)) (q r : Request) → Takes words q → Takes words r → q ≡ r
+one_request words q r takes takes' =
+    some_is q r (sym (takes.means nowhere nowhere) ∙ takes'.means nowhere nowhere)
+
+-- words that are taken are not refused
+pub taken_not_refused : (words : List (List ℕ)) (r : Request) → IsRefused words → Takes words r → ⊥
+taken_not_refused words r refuses takes =
+    refuses nowhere nowhere (takes.passes nowhere nowhere)
+
 -- words are taken as what they state
 pub same_request : (words : List (List ℕ)) (q r : Request) → Takes words q → IsStated words r → q ≡ r
 same_request words q r takes stated =
-    some_is q r (sym takes.means ∙ (stated_is_read takes.placing takes.running words r stated).1)
+    one_request words q r takes (stated_is_taken words r stated)
 
 -- stated words are not refused
 pub not_refused : (words : List (List ℕ)) (r : Request) → IsRefused words → IsStated words r → ⊥
 not_refused words r refuses stated =
-    refuses.fails (stated_is_read refuses.placing refuses.running words r stated).0
+    taken_not_refused words r refuses (stated_is_taken words r stated)
 
 pub is_refused : (words : List (List ℕ)) (f : WordsFault) (text : _) → f ≡ Refused text → WordsRefusal words f → IsRefused words
 is_refused words f text is refusal = (subst (WordsRefusal words) is refusal).0
@@ -180,6 +194,28 @@ module _ (words : List (List ℕ)) (natives : List NamedNative) (input input' : 
   refuses_all _ (failed (write_failed takes s' read does' end count part rose) (whole told)) r stated all known reading reads line tells no_read no_write no_tell = absurd (no_write rose)
   refuses_all _ (failed (no_memory_for_words same_input same_output same_machine) (whole told)) r stated all known reading reads line tells no_read no_write no_tell = inr refl
   refuses_all _ (failed (no_memory takes part count began faults) (whole told)) r stated all known reading reads line tells no_read no_write no_tell = inr refl
+
+  -- ---- status 2 comes of words that are refused
+
+  one_not_two : ◌≡◌ {A = ℕ} 1 2 → ⊥
+  one_not_two is = cc
+
+  three_not_two : ◌≡◌ {A = ℕ} 3 2 → ⊥
+  three_not_two is = cc
+
+  two_is_refused : (status : ℕ) → Says words natives input input' output output' told told' machine machine' status → status ≡ 2 → IsRefused words
+  two_is_refused status (done {request = q} takes s read does end count is same) two = absurd (work_not_two q natives s output output' machine machine' status is two)
+  two_is_refused _ (failed wrong (cut part rose)) two = absurd (four_not_two two)
+  two_is_refused _ (failed (refused takes r tells read all_read count same_output same_machine) (whole told)) two = absurd (one_not_two two)
+  two_is_refused _ (failed (bad_words refuses same_input same_output same_machine) (whole told)) two = refuses
+  two_is_refused _ (failed (read_failed takes rose part same_output same_machine) (whole told)) two = absurd (three_not_two two)
+  two_is_refused _ (failed (write_failed takes s read does end count part rose) (whole told)) two = absurd (four_not_two two)
+  two_is_refused _ (failed (no_memory_for_words same_input same_output same_machine) (whole told)) two = absurd (five_not_two two)
+  two_is_refused _ (failed (no_memory takes part count began faults) (whole told)) two = absurd (five_not_two two)
+
+  pub two_asks_nothing : (status : ℕ) → Says words natives input input' output output' told told' machine machine' status → status ≡ 2 → (r : Request) → Takes words r → ⊥
+  two_asks_nothing status says two r takes =
+      taken_not_refused words r (two_is_refused status says two) takes
 
   -- ---- counts that rose show in the status
 

@@ -6,7 +6,7 @@ ghost use Rattle.ffi3_script_rules.specs.Script.{Script as RulesScript};
 ghost use Rattle.ffi3_script_rules.specs.Natives.{NamedNative, names_of};
 ghost use Rattle.ffi3_run.specs.Told.{took};
 ghost use Rattle.ffi3_app.specs.declared.words.Request.{Request};
-ghost use Rattle.ffi3_app.specs.Words.{IsStated};
+ghost use Rattle.ffi3_app.specs.Words.{IsStated, Takes};
 ghost use Rattle.ffi3_app.specs.Commands.{not_yet};
 ghost use Rattle.ffi3_app.specs.Top.{Says, given, handed_in, refusal_of, status_when_done};
 
@@ -67,6 +67,10 @@ pub fn ffi3<I: Source, O: Sink, E: Sink>(
         (Rose (I.faults input.old) (I.faults input.new) → ⊥) → (Rose (O.faults output.old) (O.faults output.new) → ⊥) →
         (Rose (E.faults faults.old) (E.faults faults.new) → ⊥) → (result ≡ 1) ⊎ (result ≡ 5) }
     ensures knows_words { (r : Request) → IsStated (map string_bytes words.items) r → result ≡ 2 → ⊥ }
+
+    // Words that are refused ask for nothing, and no words ask for two things.
+    ensures refused_ask_nothing { result ≡ 2 → (r : Request) → Takes (map string_bytes words.items) r → ⊥ }
+    ensures ask_one { (q r : Request) → Takes (map string_bytes words.items) q → Takes (map string_bytes words.items) r → q ≡ r }
 
     // A count that is higher than before shows in the status.
     ensures read_counted { I.faults input.old < I.faults input.new → (result ≡ 3) ⊎ (result ≡ 4) }
