@@ -10,3 +10,4 @@ pub mod Right
 pub mod Saying
 pub mod Stated
 pub mod Telling
+mod Alone

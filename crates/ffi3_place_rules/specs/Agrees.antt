@@ -47,9 +47,9 @@ pub record AgreesWithMachine (std : Standard) : Type 0 where
   pub preserved_exist : AllByRecursion (LiesIn (isa_of std.target) 0) std.preserved
   pub preserved_apart : AreApart std.preserved
   pub preserved_plain : AllByRecursion (IsNoneOf (special std)) std.preserved
-  -- the registers that tell the vector count and return a hidden result's address are registers, and none of those that are given back or reserved
+  -- the registers that tell the vector count and return a hidden result's address are registers, and none of those that are given back or reserved, and the first none that a trampoline writes
   pub count_exists : AllByRecursion (LiesIn (isa_of std.target) 0) (listed std.vector_count)
-  pub count_plain : AllByRecursion (IsNoneOf (given_back std ++ std.reserved)) (listed std.vector_count)
+  pub count_plain : AllByRecursion (IsNoneOf (given_back std ++ (std.reserved ++ std.trampoline_registers))) (listed std.vector_count)
   pub returned_exists : AllByRecursion (LiesIn (isa_of std.target) 0) (listed std.returned_address)
   pub returned_plain : AllByRecursion (IsNoneOf (given_back std ++ std.reserved)) (listed std.returned_address)
   -- the save area has each register that is given back, once, no other one, and one word for a hidden result's address

@@ -36,7 +36,7 @@ link_register Amd64 = None
 link_register Aarch64 = Some 30
 link_register Riscv = Some 1
 
--- the registers that nothing writes once the machine began: the platform register x18; zero, gp and tp
+-- the registers that neither side of a call writes: the platform register x18; zero, gp and tp
 abbrev pub reserved_registers : Isa → List ℕ
 reserved_registers Amd64 = []
 reserved_registers Aarch64 = 18 ∷ []

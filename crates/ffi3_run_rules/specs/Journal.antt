@@ -1,6 +1,7 @@
 -- The journal of a machine against what happens in a run: each entry holds the caller's values, each return the callee's result, and what is to be preserved is preserved.
 use Rattle.std.specs.Prelude.{◌≡◌, ℕ, ◌+◌, ◌*◌, ◌%◌, ◌^◌, ⊤, List, [], ◌∷◌, length}
 use Rattle.std.specs.List.{AllByRecursion}
+use Rattle.ffi3_type_rules.specs.declared.limits.TheConstants.{STACK_TOP}
 use Rattle.ffi3_type_rules.specs.Signature.{Signature, signature_at}
 use Rattle.ffi3_type_rules.specs.Value.{ValueTree}
 use Rattle.ffi3_place_rules.specs.declared.Loc.{Loc}
@@ -13,7 +14,7 @@ use Rattle.ffi3_run_rules.specs.Happenings.{Happening, Enter, Line, Leave, StopL
 
 -- the first address above the stack
 abbrev pub stack_top : ℕ
-stack_top = 0x7fff0000
+stack_top = STACK_TOP
 
 -- what the caller leaves in a register that it does not use at the event of number n, so that each call's preserved registers differ
 abbrev pub scribble : ℕ → Loc → ℕ
@@ -37,6 +38,8 @@ pub record IsEntry (std : Standard) (top : ℕ) (held : Loc → ℕ) (outer : Li
   pub closure : e.closure ≡ pointer
   pub holds : Holds std s arguments e.image
   pub sp : e.image.sp + (std.link + frame_of std s + needs std outer) ≡ top
+  -- the caller's stack pointer, as it calls, is a multiple of 16 (psABI AMD64 3.2.2, AAPCS64 6.4.5.1, RISC-V ELF psABI "Integer Calling Convention")
+  pub aligned : top % 16 ≡ 0 → (e.image.sp + std.link) % 16 ≡ 0
   pub stack : length e.image.stack ≡ std.link + frame_of std s
   pub preserved : AllByRecursion (λ at. register e.image at ≡ scribble n at) std.preserved
   pub reserved : AllByRecursion (λ at. register e.image at ≡ held at) std.reserved

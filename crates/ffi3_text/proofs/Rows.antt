@@ -1,8 +1,8 @@
 -- Worked lines, computed.
-use Rattle.std.specs.Prelude.{◌≡◌, ℕ, List, [], ◌∷◌, ◌++◌, refl, None, Some, codes}
+use Rattle.std.specs.Prelude.{◌≡◌, ℕ, List, [], ◌∷◌, ◌++◌, refl, None, codes}
 use Rattle.std.specs.Fmt.{digits}
 use Rattle.ffi3_type_rules.specs.declared.Target.TheVariants.{Aapcs64, Riscv}
-use Rattle.ffi3_type_rules.specs.Tree.{Tree, void, scalar, struct_of, u8, s8, u16, s16, u32, s32, u64, s64, float, double, pointer}
+use Rattle.ffi3_type_rules.specs.Tree.{Tree, void, scalar, struct_of, u8, s8, u16, s16, u32, s32, float, double}
 use Rattle.ffi3_type_rules.specs.Layout.{least_multiple}
 use Rattle.ffi3_type_rules.specs.Signature.{Signature, at_result, at_argument}
 use Rattle.ffi3_place_rules.specs.declared.Loc.{Loc}

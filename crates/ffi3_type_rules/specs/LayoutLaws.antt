@@ -42,8 +42,9 @@ pub record IsWellLaidOut (t : Tree) : Type 0 where
   pub inside : (i : ℕ) → i < length (leaves_of t) → leaf_end (leaf_at t i) ≤ size_of t
   -- they rise from the left and do not overlap
   pub in_order : (i j : ℕ) → i < j → j < length (leaves_of t) → leaf_end (leaf_at t i) ≤ (leaf_at t j).at
-  -- each is aligned
+  -- each is aligned to its size
   pub aligned : (i : ℕ) → i < length (leaves_of t) → (leaf_at t i).at % scalar_size (leaf_at t i).kind ≡ 0
   -- its offset is the sum of those on its path
   pub summed : (i : ℕ) → i < length (leaves_of t) → StandsOnPath t (leaf_at t i)
+  -- any type's size is a multiple of its alignment
   pub whole : size_of t % align_of t ≡ 0
