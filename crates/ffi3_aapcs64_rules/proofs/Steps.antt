@@ -1,7 +1,7 @@
 -- What one more member or argument adds.
 use Rattle.std.proofs.Common.{◌≡◌, ℕ, ◌+◌, ◌<◌, Bool, true, false, cond, List, [], ◌∷◌, ◌++◌, drop, length, ap, sym, ◌∙◌, refl, arith, subst, append_assoc}
 use Rattle.ffi3_type_rules.specs.Tree.{Tree, void, scalar, left_out, structure, tree_at}
-use Rattle.ffi3_type_rules.specs.Layout.{leaves_of, leaf_at, size_of}
+use Rattle.ffi3_type_rules.specs.Layout.{leaves_of, leaf_at}
 use Rattle.ffi3_place_rules.specs.declared.Loc.{Loc}
 use Rattle.ffi3_place_rules.specs.declared.Loc.TheVariants.{G, F, S}
 use Rattle.ffi3_place_rules.specs.declared.Ext.TheVariants.{Free}
@@ -9,7 +9,7 @@ use Rattle.ffi3_place_rules.specs.declared.Piece.{Piece}
 use Rattle.ffi3_place_rules.specs.declared.Taken.{Taken}
 use Rattle.ffi3_place_rules.specs.declared.Place.{Place}
 use Rattle.ffi3_place_rules.specs.declared.Place.TheVariants.{Direct, ByRef}
-use Rattle.ffi3_place_rules.specs.Standard.{Spot, in_pieces, by_reference, places_from, place_at, copy_end, copies_end, buffer_end, round8, in_buffer, in_result_pieces}
+use Rattle.ffi3_place_rules.specs.Standard.{Spot, in_pieces, by_reference, places_from, place_at, copy_end, copies_end, in_buffer, in_result_pieces}
 use Rattle.ffi3_place_rules.specs.Doublewords.{stack_pieces, leaf_piece}
 use Rattle.ffi3_place_rules.proofs.Elements.{leaf_read, argument_read}
 use Rattle.ffi3_aapcs64_rules.specs.Aapcs64.{aapcs64, is_copied, passed, member_pieces, register_pieces, register_start, stack_start, in_registers, taken_with, taken_after, spot_after, spots_after, result_spot_of}

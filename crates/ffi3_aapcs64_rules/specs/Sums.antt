@@ -1,4 +1,4 @@
--- The places of a call by sums over the whole list of arguments, with no count that goes from one argument to the next. (Arm AAPCS64, IHI 0055, 6.8.2 "Parameter passing rules", stage C)
+-- The places of a call by sums over the whole list of arguments, with no count that goes from one argument to the next. (Arm AAPCS64, IHI 0055, "Parameter passing rules", stage C)
 use Rattle.std.specs.Prelude.{◌≡◌, ℕ, ◌+◌, ◌<◌, ◌≤◌, Bool, true, false, cond, nat_le, List, length, Some, slice_get}
 use Rattle.ffi3_type_rules.specs.Tree.{Tree, tree_at}
 use Rattle.ffi3_type_rules.specs.Signature.{Signature}

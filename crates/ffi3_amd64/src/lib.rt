@@ -137,7 +137,9 @@ fn fits_registers(before: Taken, ty: &FfiType) -> bool
     ensures { result ≡ in_registers before (tree_of ty.now) }
 {
     let count = count_classes(ty);
-    !in_memory(ty) && before.general + count.integers <= 6 && before.vector + count.sses <= 8
+    let general = before.general + count.integers;
+    let vector = before.vector + count.sses;
+    !in_memory(ty) && general <= 6 && vector <= 8
 }
 
 fn argument_pieces(alloc: Global, before: Taken, ty: &FfiType) -> Result<Pieces, NoMemory>

@@ -14,7 +14,7 @@ use Rattle.ffi3_amd64_rules.specs.Amd64.{amd64, integers, sses, in_memory, in_re
 abbrev pub sum_where : (ℕ → Bool) → (ℕ → ℕ) → ℕ → ℕ
 sum_where chosen term n = sum_below (λ j. cond (chosen j) (term j) 0) n
 
--- the size of argument j, a multiple of 8
+-- the size of argument j, rounded up to a multiple of 8
 abbrev pub rounded_size : Signature → ℕ → ℕ
 rounded_size s j = round8 (size_of (tree_at s.arguments j))
 

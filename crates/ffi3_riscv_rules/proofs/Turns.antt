@@ -1,18 +1,13 @@
 -- One more argument, over plain variables.
-use Rattle.std.proofs.Common.{◌≡◌, ℕ, ◌+◌, ◌<◌, Bool, cond, List, [], ◌∷◌, ◌++◌, drop, length, ap, subst, sym, ◌∙◌, refl, arith, append_assoc}
+use Rattle.std.proofs.Common.{◌≡◌, ℕ, ◌+◌, ◌<◌, Bool, List, [], ◌∷◌, ◌++◌, drop, length, ap, subst, ◌∙◌, append_assoc}
 use Rattle.std.specs.Prelude.{Option}
-use Rattle.ffi3_type_rules.specs.Tree.{Tree, void, scalar, left_out, structure, tree_at}
-use Rattle.ffi3_type_rules.specs.Layout.{size_of}
-use Rattle.ffi3_type_rules.specs.Signature.{Signature}
+use Rattle.ffi3_type_rules.specs.Tree.{Tree, tree_at}
 use Rattle.ffi3_place_rules.specs.declared.Place.{Place}
-use Rattle.ffi3_place_rules.specs.declared.Res.{Res}
-use Rattle.ffi3_place_rules.specs.declared.Plan.{Plan}
-use Rattle.ffi3_place_rules.specs.Standard.{Spot, at_once, place_at, copy_end, places_from, copies_end, result_at, copies_start, frame_copies_end, block_bytes, plan_of, round8, round16}
+use Rattle.ffi3_place_rules.specs.Standard.{at_once, place_at, copy_end, places_from, copies_end}
 use Rattle.ffi3_place_rules.proofs.Elements.{argument_read}
 use Rattle.ffi3_riscv_rules.specs.declared.Shape.{Shape}
-use Rattle.ffi3_riscv_rules.specs.declared.Shape.TheVariants.{OneF, TwoF, FI, IF, Words, ByRef}
 use Rattle.ffi3_riscv_rules.specs.declared.Used.{Used}
-use Rattle.ffi3_riscv_rules.specs.Riscv.{passed_as, is_fixed, spot_of, used_with, passed_next, spot_next, used_next, spots_after, used_after, used_by_all, stack_of, placing_of, result_shape, result_from, result_spot_of, unused, is_by_reference, riscv}
+use Rattle.ffi3_riscv_rules.specs.Riscv.{passed_as, is_fixed, spot_of, used_with, passed_next, spot_next, used_next, spots_after, used_after}
 
 -- ---- one more argument, by its number, its type and how it is passed
 
