@@ -11,7 +11,7 @@ ghost use Rattle.ffi3_script_body.specs.ExprOf.{script_move_of};
 ghost use Rattle.ffi3_script.specs.ScopeOf.{scope_of, given_in, surroundings_of, IsEven};
 ghost use Rattle.ffi3_script.specs.Kinds.{kind_from};
 ghost use Rattle.ffi3_script.specs.Numbers.{CallsWithin};
-ghost use Rattle.ffi3_script.specs.Deeds.{move_by};
+ghost use Rattle.ffi3_script.specs.NamedActs.{move_by};
 
 use crate::fields::{
     read_arguments, read_condition, read_name, read_pointer, read_printed, read_result, read_user,
@@ -123,7 +123,7 @@ fn keys_of(alloc: Global, kind: Kind) -> Result<Keys, NoMemory>
 
 // What a move does, and the name of its result.
 #[derive(Drop)]
-struct Deed {
+struct NamedAct {
     act: Act,
     name: Option<String>,
 }
@@ -135,7 +135,7 @@ fn read_call(
     scope: &Scope,
     value: &Json,
     at: &mut Where,
-) -> Result<Deed, ScriptFault>
+) -> Result<NamedAct, ScriptFault>
     requires short { HasShortArrays (view value.now) }
     requires even { IsEven scope.now }
     ensures within { IfOk result (λ d. CallsWithin (length globals.now.sigs.now) d.act) }
@@ -164,7 +164,7 @@ fn read_call(
         Ok(name) => name,
         Err(fault) => return Err(fault),
     };
-    Ok(Deed {
+    Ok(NamedAct {
         act: Act::Call { ptr, sig: i, args },
         name,
     })
@@ -177,7 +177,7 @@ fn read_make(
     scope: &Scope,
     value: &Json,
     at: &mut Where,
-) -> Result<Deed, ScriptFault>
+) -> Result<NamedAct, ScriptFault>
     requires short { HasShortArrays (view value.now) }
     requires even { IsEven scope.now }
     requires few { length globals.now.functions.now < 2 ^ 32 }
@@ -202,17 +202,17 @@ fn read_make(
         Ok(name) => name,
         Err(fault) => return Err(fault),
     };
-    Ok(Deed {
+    Ok(NamedAct {
         act: Act::Make { func, user },
         name,
     })
 }
 
 // What a move of a kind without a name does.
-fn unnamed(act: Act) -> Deed
+fn unnamed(act: Act) -> NamedAct
     ensures { result ≡ record { act = act; name = None } }
 {
-    Deed { act, name: None }
+    NamedAct { act, name: None }
 }
 
 // The fields of a move of a kind, but its condition.
@@ -223,7 +223,7 @@ fn read_act(
     kind: Kind,
     value: &Json,
     at: &mut Where,
-) -> Result<Deed, ScriptFault>
+) -> Result<NamedAct, ScriptFault>
     requires short { HasShortArrays (view value.now) }
     requires even { IsEven scope.now }
     requires few { length globals.now.functions.now < 2 ^ 32 }
@@ -286,7 +286,7 @@ pub(crate) fn read_move(
         Err(fault) => return Err(fault),
     };
     match read_act(alloc, globals, scope, kind, value, at) {
-        Ok(Deed { act, name }) => Ok(ScriptMove {
+        Ok(NamedAct { act, name }) => Ok(ScriptMove {
             condition,
             act,
             name,

@@ -6,7 +6,7 @@ use Rattle.ffi3_json.proofs.Tellings.{tells_part}
 use Rattle.ffi3_script_body.specs.ExprOf.{typed_of}
 use Rattle.ffi3_script.specs.ScopeOf.{scope_of, given_in, surroundings_of}
 use Rattle.ffi3_script.specs.Kinds.{kind_from}
-use Rattle.ffi3_script.specs.Deeds.{move_by}
+use Rattle.ffi3_script.specs.NamedActs.{move_by}
 use Rattle.ffi3_script.proofs.Steps.{at_same}
 use Rattle.ffi3_script.proofs.Conditions.{move-read, move-refused}
 use Rattle.ffi3_script.proofs.acts.read_move.Goals as goal
