@@ -1,7 +1,7 @@
 //! What is raw in this crate: one block that the allocator gave, and the two places where it is taken and given back.
 //!
 //! A [`Block`] is a pointer and a size, and with them the right to free. The bytes themselves are lodged in a
-//! `Vec<u8, Lodged>`: a vector over the very same memory, which never grows, never moves its bytes and never frees. So a
+//! `Vec<u8, Lodged>`: a vector over the very same memory, which never grows, never moves elsewhere and never frees. So a
 //! byte has one owner, the vector; the block's end has one owner, the `Block`; and no other code sees a pointer.
 //!
 //! Why each `unsafe` is safe:

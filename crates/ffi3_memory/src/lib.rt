@@ -148,12 +148,20 @@ impl Region {
     {
         let from = (from - self.base) as usize;
         let to = (to - self.base) as usize;
-        let bytes = self.bytes.as_mut_slice();
-        if to <= from {
-            move_down(bytes, from, to, len as usize);
-        } else {
-            move_up(bytes, from, to, len as usize);
-        }
+        move_within(self.bytes.as_mut_slice(), from, to, len as usize);
+    }
+}
+
+// Copies as through a buffer: in the order in which no byte is written before it is read.
+fn move_within(bytes: &mut [u8], from: usize, to: usize, len: usize)
+    requires from_high { from + len ≤ length bytes.old }
+    requires to_high { to + len ≤ length bytes.old }
+    ensures { bytes.new ≡ replace_range bytes.old to (to + len) (take len (drop from bytes.old)) }
+{
+    if to <= from {
+        move_down(bytes, from, to, len);
+    } else {
+        move_up(bytes, from, to, len);
     }
 }
 
