@@ -7,17 +7,27 @@ use ffi3_app::{Machine, ffi3};
 use ffi3_body::Native;
 use ffi3_io::{ReadSource, WriteSink};
 use std::env;
+use std::io::{Error, ErrorKind};
 use std::process::ExitCode;
 
-/// The status where the words can't be read.
+/// The status where a word is not UTF-8.
 const NO_WORDS: u8 = 2;
 /// The status where memory is refused.
 const NO_MEMORY: u8 = 5;
 
+/// The status where the words cannot be collected.
+fn status_without_words(fault: &Error) -> u8 {
+    match fault.kind() {
+        ErrorKind::OutOfMemory => NO_MEMORY,
+        _ => NO_WORDS,
+    }
+}
+
 fn main(rt: HostRuntime) -> ExitCode {
     let alloc = rt.alloc();
-    let Ok(args) = env::args(&rt) else {
-        return ExitCode::from(NO_WORDS);
+    let args = match env::args(&rt) {
+        Ok(args) => args,
+        Err(fault) => return ExitCode::from(status_without_words(&fault)),
     };
     let mut words = Vec::new(alloc);
     for word in args {

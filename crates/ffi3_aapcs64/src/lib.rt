@@ -10,7 +10,7 @@ ghost use Rattle.ffi3_type_rules.specs.Signature.{SignatureHasNoFault};
 ghost use Rattle.ffi3_types.specs.TreeOf.{tree_of};
 ghost use Rattle.ffi3_place_rules.specs.declared.Loc.{Loc};
 ghost use Rattle.ffi3_place_rules.specs.declared.Loc.TheVariants.{G, S};
-ghost use Rattle.ffi3_place_rules.specs.Standard.{places_from, place_at, copies_end, copy_end, result_at, buffer_end, round8};
+ghost use Rattle.ffi3_place_rules.specs.Standard.{places_from, place_at, copies_end, result_at};
 ghost use Rattle.ffi3_place_rules.specs.Doublewords.{doublewords, stack_pieces};
 ghost use Rattle.ffi3_aapcs64_rules.specs.Aapcs64.{aapcs64, next_register, is_of, is_member, homogeneous, in_vectors, is_copied, passed, need, stack_size, first_register, stack_start, member_pieces, general_pieces, register_pieces, register_start, register_end, in_registers, stack_end, taken_with, taken_after, untouched, spot_after, spots_after, result_spot_of};
 ghost use Rattle.ffi3_aapcs64_rules.specs.Sums.{IsPlacedBySums};
@@ -19,9 +19,10 @@ ghost use Rattle.ffi3_aapcs64_rules.specs.Sums.{IsPlacedBySums};
 mod tests;
 
 pub use ffi3_aapcs64_rules::Kind;
+use ffi3_place::ends::{buffer_end, copy_end, planned};
 use ffi3_place::parts::{
     argument, count_of, doubleword, doublewords, leaf_piece, pieces_on_stack, result_type, size_of,
-    sizes_of, widening,
+    widening,
 };
 use ffi3_place::{Abi, Ext, Loc, Pieces, Place, Places, Plan, Res, SaveWord};
 use ffi3_place_rules::Taken;
@@ -412,30 +413,6 @@ fn place_of(alloc: Global, before: Taken, ty: &FfiType, end: u64) -> Result<Plac
     Ok(Place::Direct(direct_pieces(alloc, before, ty)?))
 }
 
-/// Where a copy or a buffer of a type ends, if what is before it ends at `end`.
-fn end_behind(end: u64, ty: &FfiType) -> u64
-    requires right { HasNoFault 0 true (tree_of ty.now) }
-    requires low { end ≤ 262144 }
-    ensures value { result ≡ aapcs64.copy_start end (tree_of ty.now) + round8 (size_of (tree_of ty.now)) }
-    ensures low { result ≤ end + 1031 }
-{
-    copy_start(end, ty) + round_up(size_of(ty), 8)
-}
-
-/// Where an argument's copy ends, or what stands before it if it has none.
-fn copy_end(end: u64, ty: &FfiType) -> u64
-    requires right { HasNoFault 0 true (tree_of ty.now) }
-    requires low { end ≤ 262144 }
-    ensures value { (before : Taken) → result ≡ copy_end aapcs64.copy_start end (tree_of ty.now) (spot_after before (tree_of ty.now)) }
-    ensures low { result ≤ end + 1031 }
-{
-    if is_copied(ty) {
-        end_behind(end, ty)
-    } else {
-        end
-    }
-}
-
 /// The places of all arguments, and where their copies end.
 #[derive(Drop)]
 struct Placed {
@@ -456,8 +433,9 @@ fn place_all(alloc: Global, sig: &Sig, start: u64) -> Result<Placed, NoMemory>
     let mut places = Places::new(alloc);
     for i in 0..count_of(sig) {
         let ty = argument(sig, i);
-        places.push(place_of(alloc, before, ty, end)?)?;
-        end = copy_end(end, ty);
+        let place = place_of(alloc, before, ty, end)?;
+        end = copy_end(&place, ty, end);
+        places.push(place)?;
         before = with_argument(before, ty);
     }
     Ok(Placed { places, end })
@@ -482,20 +460,6 @@ fn place_result(alloc: Global, ty: &FfiType, end: u64) -> Result<Res, NoMemory>
         });
     }
     Ok(Res::Direct(pieces_in_registers(alloc, ty, 0)?))
-}
-
-/// Where a hidden result's buffer ends, or what stands before it if there is none.
-fn buffer_end(end: u64, ty: &FfiType) -> u64
-    requires right { HasNoFault 0 true (tree_of ty.now) }
-    requires low { end ≤ 262144 }
-    ensures value { result ≡ buffer_end aapcs64.copy_start end (tree_of ty.now) (result_spot_of (tree_of ty.now)) }
-    ensures low { result ≤ end + 1031 }
-{
-    if is_copied(ty) {
-        end_behind(end, ty)
-    } else {
-        end
-    }
 }
 
 // ---- the standard
@@ -580,20 +544,11 @@ impl Abi for Aapcs64 {
 
     fn plan(alloc: Global, sig: &Sig) -> Result<Plan, NoMemory> {
         let taken = taken_by_all(sig);
-        let start = round_up(taken.stack, 16);
-        let all = place_all(alloc, sig, start)?;
+        let all = place_all(alloc, sig, round_up(taken.stack, 16))?;
         let ret = result_type(sig);
-        let frame = round_up(buffer_end(all.end, ret), 16);
-        let block = round_up(sizes_of(sig), 16);
         let res = place_result(alloc, ret, all.end)?;
-        Ok(Plan {
-            places: all.places,
-            res,
-            need: frame + Self::LINK + Self::SAVE + block,
-            frame,
-            block,
-            vectors: 0,
-        })
+        let end = buffer_end(&res, ret, all.end);
+        Ok(planned(sig, all.places, res, end, Self::LINK + Self::SAVE, 0))
     }
 
     ghost use Rattle.std.specs.Prelude.{refl};

@@ -1,7 +1,7 @@
 -- What one more member or argument adds.
 use Rattle.std.proofs.Common.{◌≡◌, ℕ, ◌+◌, ◌<◌, Bool, true, false, cond, List, [], ◌∷◌, ◌++◌, drop, length, ap, sym, ◌∙◌, refl, arith, subst, append_assoc}
 use Rattle.ffi3_type_rules.specs.Tree.{Tree, void, scalar, left_out, structure, tree_at}
-use Rattle.ffi3_type_rules.specs.Layout.{leaves_of, leaf_at, size_of}
+use Rattle.ffi3_type_rules.specs.Layout.{leaves_of, leaf_at}
 use Rattle.ffi3_place_rules.specs.declared.Loc.{Loc}
 use Rattle.ffi3_place_rules.specs.declared.Loc.TheVariants.{G, F, S}
 use Rattle.ffi3_place_rules.specs.declared.Ext.TheVariants.{Free}
@@ -9,7 +9,7 @@ use Rattle.ffi3_place_rules.specs.declared.Piece.{Piece}
 use Rattle.ffi3_place_rules.specs.declared.Taken.{Taken}
 use Rattle.ffi3_place_rules.specs.declared.Place.{Place}
 use Rattle.ffi3_place_rules.specs.declared.Place.TheVariants.{Direct, ByRef}
-use Rattle.ffi3_place_rules.specs.Standard.{Spot, in_pieces, by_reference, places_from, place_at, copy_end, copies_end, buffer_end, round8, in_buffer, in_result_pieces}
+use Rattle.ffi3_place_rules.specs.Standard.{Spot, in_pieces, by_reference, places_from, place_at, copy_end, copies_end, in_buffer, in_result_pieces}
 use Rattle.ffi3_place_rules.specs.Doublewords.{stack_pieces, leaf_piece}
 use Rattle.ffi3_place_rules.proofs.Elements.{leaf_read, argument_read}
 use Rattle.ffi3_aapcs64_rules.specs.Aapcs64.{aapcs64, is_copied, passed, member_pieces, register_pieces, register_start, stack_start, in_registers, taken_with, taken_after, spot_after, spots_after, result_spot_of}
@@ -69,25 +69,7 @@ pub place_by_reference : (end : ℕ) (a : Taken) (t : Tree) (l : Loc) → is_cop
 place_by_reference end a t l over e =
     reference_if end a t l (in_registers a t) e ∙ ap (λ c. place_at aapcs64.copy_start end t (SpotBy (in_registers a t) c a t)) (sym over)
 
-copy_end_if : (end : ℕ) (a : Taken) (t : Tree) (fits copied : Bool) → copy_end aapcs64.copy_start end t (SpotBy fits copied a t) ≡ cond copied (aapcs64.copy_start end t + round8 (size_of t)) end
-copy_end_if end a t true true = refl
-copy_end_if end a t true false = refl
-copy_end_if end a t false true = refl
-copy_end_if end a t false false = refl
-
--- where an argument's copy ends, wherever its pointer stands
-pub copy_end_is : (end : ℕ) (a : Taken) (t : Tree) → copy_end aapcs64.copy_start end t (spot_after a t) ≡ cond (is_copied t) (aapcs64.copy_start end t + round8 (size_of t)) end
-copy_end_is end a t = copy_end_if end a t (in_registers a t) (is_copied t)
-
 -- ---- results
-
--- where a hidden result's buffer ends
-pub buffer_end_is : (end : ℕ) (t : Tree) → buffer_end aapcs64.copy_start end t (result_spot_of t) ≡ cond (is_copied t) (aapcs64.copy_start end t + round8 (size_of t)) end
-buffer_end_is end t =
-    result_cases (λ spot. buffer_end aapcs64.copy_start end t spot ≡ cond (is_copied t) (aapcs64.copy_start end t + round8 (size_of t)) end) t
-    (λ e. ap (λ u. cond (is_copied u) (aapcs64.copy_start end t + round8 (size_of t)) end) (sym e))
-    (λ e. ap (λ b. cond b (aapcs64.copy_start end t + round8 (size_of t)) end) (sym e))
-    (λ e. ap (λ b. cond b (aapcs64.copy_start end t + round8 (size_of t)) end) (sym e))
 
 pub spot_of_copied : (t : Tree) → is_copied t ≡ true → result_spot_of t ≡ in_buffer (G 8)
 spot_of_copied t over =

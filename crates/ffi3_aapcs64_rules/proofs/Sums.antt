@@ -10,7 +10,7 @@ use Rattle.ffi3_place_rules.specs.Standard.{Spot}
 use Rattle.ffi3_place_rules.specs.Sums.{sum_below}
 use Rattle.ffi3_aapcs64_rules.specs.Aapcs64.{aapcs64, in_vectors, need, stack_size, register_spot, stack_spot, taken_with, taken_after, untouched, spot_after, spots_after, placing_of}
 use Rattle.ffi3_aapcs64_rules.specs.Sums.{generals, vectors, general_before, vector_before, needed_before, is_in_registers, stack_before, ArePlacedBySums, IsOnlyPlacing, NoneFitsLater, IsPlacedBySums}
-use Rattle.ffi3_aapcs64_rules.proofs.Copies.{copies_by_sums}
+use Rattle.ffi3_place_rules.proofs.Copies.{copies_by_sums}
 
 -- what the arguments before number i take
 abbrev pub taken_before : Signature → ℕ → Taken

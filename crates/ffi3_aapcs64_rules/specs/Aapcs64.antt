@@ -1,5 +1,5 @@
--- Where the arguments and the result of a call stand on AArch64. (Arm AAPCS64, IHI 0055, 6.8.2 "Parameter passing rules" and 6.9 "Result return". The rules of 6.8.2 are named by stage and number, as B.4, as the releases from 2020Q2 on number them.)
-use Rattle.std.specs.Prelude.{ℕ, ◌+◌, Bool, true, false, not, ◌&&◌, cond, nat_le, nat_lt, List, [], ◌∷◌, ◌++◌, map, length, Option, Some, None, is_some}
+-- Where the arguments and the result of a call stand on AArch64. (Arm AAPCS64, IHI 0055, "Parameter passing rules" and "Result return". Rules are named by stage and number, as B.4, as the releases from 2020Q2 on number them.)
+use Rattle.std.specs.Prelude.{ℕ, ◌+◌, ◌*◌, Bool, true, false, not, ◌&&◌, cond, nat_le, nat_lt, List, [], ◌∷◌, ◌++◌, map, length, Option, Some, None, is_some}
 use Rattle.std.specs.List.{list_all}
 use Rattle.ffi3_type_rules.specs.declared.Target.TheVariants as target
 use Rattle.ffi3_type_rules.specs.declared.Isa.{Isa}
@@ -11,6 +11,7 @@ use Rattle.ffi3_place_rules.specs.declared.Loc.{Loc}
 use Rattle.ffi3_place_rules.specs.declared.Loc.TheVariants.{G, F, S}
 use Rattle.ffi3_place_rules.specs.declared.Ext.TheVariants.{Free, Widen}
 use Rattle.ffi3_place_rules.specs.declared.Piece.{Piece}
+use Rattle.ffi3_place_rules.specs.declared.SaveWord.{SaveWord}
 use Rattle.ffi3_place_rules.specs.declared.SaveWord.TheVariants.{Register, Hidden, Spare}
 use Rattle.ffi3_place_rules.specs.declared.Taken.{Taken}
 use Rattle.ffi3_place_rules.specs.Isa.{pushed_bytes, stack_pointer, reserved_places, link_place, closure_register, trampoline_registers}
@@ -171,7 +172,7 @@ taken_after before (t ∷ ts) = taken_after (taken_with before t) ts
 abbrev pub untouched : Taken
 untouched = record { general = 0; vector = 0; stack = 0 }
 
--- ---- results (6.9)
+-- ---- results ("Result return")
 
 -- in the registers of a first argument; where that would be replaced by a pointer, in memory of the caller, whose address is in x8
 abbrev pub result_from : Spot → ResultSpot
@@ -204,17 +205,22 @@ saved_general =
 abbrev pub saved_vector : List Loc
 saved_vector = F 8 ∷ F 9 ∷ F 10 ∷ F 11 ∷ F 12 ∷ F 13 ∷ F 14 ∷ F 15 ∷ []
 
--- The save area has x19 to x30, v8 to v15, the result's address that came in x8, and a spare word. A lone narrow integer is extended by its sign, which is this library's rule: the standard leaves the bits above it unspecified (6.8.2, "Parameter passing rules"; C.9, C.16).
+-- the save area: x19 to x30, v8 to v15, the result's address that came in x8, and a spare word
+abbrev pub saved_words : List SaveWord
+saved_words =
+    map Register (saved_general ++ (listed (link_place machine) ++ saved_vector)) ++ (Hidden ∷ Spare ∷ [])
+
+-- A lone narrow integer is extended by its sign, which is this library's rule: the standard leaves the bits above it unspecified ("Parameter passing rules", C.9, C.16).
 abbrev pub aapcs64 : Standard
 aapcs64 = record {
   target = target.Aapcs64;
   link = pushed_bytes machine;
-  save = 176;
+  save = 8 * length saved_words;
   stack_pointer = G (stack_pointer machine);
   preserved = saved_general ++ saved_vector;
   reserved = reserved_places machine;
   link_register = link_place machine;
-  save_area = map Register (saved_general ++ (listed (link_place machine) ++ saved_vector)) ++ (Hidden ∷ Spare ∷ []);
+  save_area = saved_words;
   closure_register = closure_register machine;
   trampoline_registers = trampoline_registers machine;
   vector_count = None;

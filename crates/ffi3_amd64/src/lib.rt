@@ -6,7 +6,7 @@ ghost use Rattle.ffi3_type_rules.specs.Layout.{leaves_of, leaf_at};
 ghost use Rattle.ffi3_type_rules.specs.Fault.{HasNoFault};
 ghost use Rattle.ffi3_type_rules.specs.Signature.{SignatureHasNoFault};
 ghost use Rattle.ffi3_types.specs.TreeOf.{tree_of};
-ghost use Rattle.ffi3_place_rules.specs.Standard.{at_once, places_from, result_at, buffer_end};
+ghost use Rattle.ffi3_place_rules.specs.Standard.{at_once, places_from, result_at};
 ghost use Rattle.ffi3_amd64_rules.specs.Amd64.{is_integer_leaf_in, class_of, in_memory, integers, sses, register_pieces, classes, in_registers, pieces_after, taken_with, taken_after, taken_at_first, spots_after, result_spot_of};
 ghost use Rattle.ffi3_amd64_rules.specs.Sums.{IsPlacedBySums};
 
@@ -14,9 +14,10 @@ ghost use Rattle.ffi3_amd64_rules.specs.Sums.{IsPlacedBySums};
 mod tests;
 
 pub use ffi3_amd64_rules::Class;
+use ffi3_place::ends::{buffer_end, planned};
 use ffi3_place::parts::{
     argument, count_of, doubleword, doublewords, is_floating, pieces_on_stack, result_type,
-    size_of, sizes_of, widening,
+    size_of, widening,
 };
 use ffi3_place::{Abi, Loc, Pieces, Place, Places, Plan, Res, SaveWord};
 use ffi3_place_rules::Taken;
@@ -136,7 +137,9 @@ fn fits_registers(before: Taken, ty: &FfiType) -> bool
     ensures { result ≡ in_registers before (tree_of ty.now) }
 {
     let count = count_classes(ty);
-    !in_memory(ty) && before.general + count.integers <= 6 && before.vector + count.sses <= 8
+    let general = before.general + count.integers;
+    let vector = before.vector + count.sses;
+    !in_memory(ty) && general <= 6 && vector <= 8
 }
 
 fn argument_pieces(alloc: Global, before: Taken, ty: &FfiType) -> Result<Pieces, NoMemory>
@@ -242,20 +245,6 @@ fn place_result(alloc: Global, ty: &FfiType, buffer: u64) -> Result<Res, NoMemor
     Ok(Res::Direct(pieces_in_registers(alloc, ty, 0, 0, &RESULT_REGISTERS)?))
 }
 
-/// Where a hidden result's buffer ends that begins at `start`. Without one, that is `start`.
-fn buffer_end(ty: &FfiType, start: u64) -> u64
-    requires right { HasNoFault 0 true (tree_of ty.now) }
-    requires low { start ≤ 131072 }
-    ensures value { result ≡ buffer_end at_once start (tree_of ty.now) (result_spot_of (tree_of ty.now)) }
-    ensures small { result ≤ start + 1031 }
-{
-    if in_memory(ty) {
-        start + round_up(size_of(ty), 8)
-    } else {
-        start
-    }
-}
-
 /// Does nothing. Its contract says by sums over all arguments which of them are in registers, and where arguments, copies, the buffer of a hidden result and the frame's end are; and that no other choice of arguments in registers agrees with the sums. (psABI AMD64 3.2.3)
 pub fn placement_laws(_sig: &Sig)
     ensures { IsPlacedBySums _sig.now }
@@ -309,19 +298,13 @@ impl Abi for Amd64 {
     fn plan(alloc: Global, sig: &Sig) -> Result<Plan, NoMemory> {
         let all = place_all(alloc, sig)?;
         let ret = result_type(sig);
-        let buffer = round_up(all.taken.stack, 16);
-        let frame = round_up(buffer_end(ret, buffer), 16);
-        let block = round_up(sizes_of(sig), 16);
-        let res = place_result(alloc, ret, buffer)?;
+        // no argument has a copy
+        let copied = round_up(all.taken.stack, 16);
+        let res = place_result(alloc, ret, copied)?;
+        let end = buffer_end(&res, ret, copied);
         let vectors = all.taken.vector as u8;
-        Ok(Plan {
-            places: all.places,
-            res,
-            need: frame + Self::LINK + Self::SAVE + block,
-            frame,
-            block,
-            vectors,
-        })
+        let area = Self::LINK + Self::SAVE;
+        Ok(planned(sig, all.places, res, end, area, vectors))
     }
 
     ghost use Rattle.std.specs.Prelude.{refl};

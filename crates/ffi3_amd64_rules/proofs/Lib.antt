@@ -1,10 +1,8 @@
 pub mod Agrees
-pub mod Copies
 pub mod Covered
 pub mod Filled
 pub mod Registers
 pub mod Sound
 pub mod Sums
 pub mod Steps
-pub mod Planned
 mod Rows

@@ -1,6 +1,7 @@
 -- What one more leaf, eightbyte or argument adds.
-use Rattle.std.proofs.Common.{◌≡◌, ℕ, zero, suc, ◌+◌, ◌-◌, ◌<◌, Bool, true, false, cond, List, [], ◌∷◌, ◌++◌, drop, length, ap, sym, ◌∙◌, refl, arith, subst, add-zero, append_assoc}
+use Rattle.std.proofs.Common.{◌≡◌, ℕ, zero, suc, ◌+◌, ◌-◌, ◌<◌, Bool, true, false, cond, List, [], ◌∷◌, ◌++◌, drop, length, ap, sym, ◌∙◌, refl, arith, subst, add-zero, append_assoc, ◌≤◌, leb, not, ◌&&◌}
 use Rattle.std.specs.List.{count_by, list_any}
+use Rattle.std.proofs.lemmas.Bool.{le-leb}
 use Rattle.std.proofs.lemmas.List.Sums.{sum_by-cons, sum_by_push}
 use Rattle.ffi3_type_rules.specs.Tree.{Tree, void, scalar, left_out, structure, tree_at}
 use Rattle.ffi3_type_rules.specs.Layout.{leaves_of, leaf_at, size_of}
@@ -10,11 +11,11 @@ use Rattle.ffi3_place_rules.specs.declared.Piece.{Piece}
 use Rattle.ffi3_place_rules.specs.declared.Taken.{Taken}
 use Rattle.ffi3_place_rules.specs.declared.Place.{Place}
 use Rattle.ffi3_place_rules.specs.declared.Place.TheVariants.{Direct}
-use Rattle.ffi3_place_rules.specs.Standard.{doubleword, places_from, copies_end, buffer_end, at_once, round8, in_buffer, in_result_pieces}
+use Rattle.ffi3_place_rules.specs.Standard.{doubleword, places_from, copies_end, at_once, in_buffer, in_result_pieces}
 use Rattle.ffi3_place_rules.specs.Doublewords.{widening}
 use Rattle.ffi3_place_rules.proofs.Elements.{leaf_read, argument_read}
 use Rattle.ffi3_amd64_rules.specs.declared.Class.{Class}
-use Rattle.ffi3_amd64_rules.specs.Amd64.{is_integer_leaf_in, class_of, classes_from, classes, in_memory, argument_register, result_register, register_of, register_pieces, taken_with, taken_after, pieces_after, spots_after, result_spot_of}
+use Rattle.ffi3_amd64_rules.specs.Amd64.{is_integer_leaf_in, class_of, classes_from, classes, in_memory, argument_register, result_register, register_of, register_pieces, taken_with, taken_after, pieces_after, spots_after, result_spot_of, integers, sses, in_registers, stack_end}
 use Rattle.ffi3_amd64_rules.proofs.Covered.{length-classes_from}
 
 -- ---- leaves
@@ -96,16 +97,6 @@ ends_without_copies start end a (t ∷ ts) = ends_without_copies start end (take
 
 -- ---- results
 
-pub buffer_ends : (end : ℕ) (t : Tree) → buffer_end at_once end t (result_spot_of t) ≡ cond (in_memory t) (end + round8 (size_of t)) end
-buffer_ends end void = refl
-buffer_ends end (scalar s) = refl
-buffer_ends end (left_out k) = refl
-buffer_ends end (structure ts) = cases (in_memory (structure ts))
-  where
-    cases : (b : Bool) → buffer_end at_once end (structure ts) (cond b (in_buffer (G (argument_register 0))) (in_result_pieces (register_pieces result_register 0 0 (structure ts) [] (classes (structure ts))))) ≡ cond b (end + round8 (size_of (structure ts))) end
-    cases true = refl
-    cases false = refl
-
 pub spot_of_memory : (t : Tree) → in_memory t ≡ true → result_spot_of t ≡ in_buffer (G (argument_register 0))
 spot_of_memory void e = cc
 spot_of_memory (scalar s) e = cc
@@ -125,3 +116,14 @@ pub register_turn : (general : ℕ → ℕ) (g f : ℕ) (t : Tree) (j count : �
     new ++ register_pieces general g f t (classes_from t 0 (j + 1)) (classes_from t (j + 1) (count - (j + 1))) ≡ whole
 register_turn general g f t j count out new whole p l h loc piece pushed before =
     ap (λ ps. ps ++ register_pieces general g f t (classes_from t 0 (j + 1)) (classes_from t (j + 1) (count - (j + 1)))) (pushed ∙ ap (λ q. out ++ q ∷ []) (piece ∙ ap (λ m. doubleword m j (size_of t) (widening t)) loc)) ∙ register_step general g f t j count out whole h before
+
+-- an argument that finds too few registers
+pub taken_on_stack : (a : Taken) (t : Tree) (n : ℕ) → in_registers a t ≡ false → n ≡ round8 (size_of t) → record { general = a.general; vector = a.vector; stack = a.stack + n } ≡ taken_with a t
+taken_on_stack a t n few size =
+    ap (λ k. record { general = a.general; vector = a.vector; stack = a.stack + k }) size ∙ sym (ap (λ b. cond {A = Taken} b (record { general = a.general + integers t; vector = a.vector + sses t; stack = a.stack }) (record { general = a.general; vector = a.vector; stack = stack_end a.stack t })) few)
+
+-- where the general registers suffice, the vector registers decide
+pub vectors_decide : (a : Taken) (t : Tree) → in_memory t ≡ false → a.general + integers t ≤ 6 → leb (a.vector + sses t) 8 ≡ in_registers a t
+vectors_decide a t direct enough =
+    let general : leb (a.general + integers t) 6 ≡ true = le-leb (a.general + integers t) 6 enough in
+    sym (ap (λ m. not m && (leb (a.general + integers t) 6 && leb (a.vector + sses t) 8)) direct ∙ ap (λ g. g && leb (a.vector + sses t) 8) general)

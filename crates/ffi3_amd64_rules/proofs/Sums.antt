@@ -9,7 +9,7 @@ use Rattle.ffi3_place_rules.specs.declared.Place.TheVariants.{Direct}
 use Rattle.ffi3_place_rules.specs.Standard.{places_from, copies_start, at_once, round8}
 use Rattle.ffi3_amd64_rules.specs.Amd64.{amd64, integers, sses, in_registers, taken_with, taken_after, taken_at_first, pieces_after, spots_after, placing_of}
 use Rattle.ffi3_amd64_rules.specs.Sums.{sums_before, AreChosenBySums, ArePlacedBySums, IsPlacedBySums}
-use Rattle.ffi3_amd64_rules.proofs.Copies.{copies_by_sums}
+use Rattle.ffi3_place_rules.proofs.Copies.{copies_by_sums}
 
 -- what the arguments before number i take
 abbrev pub taken_before : Signature → ℕ → Taken
@@ -26,6 +26,10 @@ taken_next a (t ∷ ts) (suc i) h = taken_next (taken_with a t) ts i (omega arit
 taken_all : (a : Taken) (ts : List Tree) → taken_after a (take (length ts) ts) ≡ taken_after a ts
 taken_all a [] = refl
 taken_all a (t ∷ ts) = taken_all (taken_with a t) ts
+
+spots_length : (a : Taken) (ts : List Tree) → length (spots_after a ts) ≡ length ts
+spots_length a [] = refl
+spots_length a (t ∷ ts) = ap suc (spots_length (taken_with a t) ts)
 
 stands_at : (end : ℕ) (a : Taken) (ts : List Tree) (i : ℕ) → i < length ts → slice_get (places_from at_once end ts (spots_after a ts)) i ≡ Some (Direct (pieces_after (taken_after a (take i ts)) (tree_at ts i)))
 stands_at end a [] i h = absurd (omega arith)
@@ -106,5 +110,5 @@ call_by_sums s = record {
   chosen = is_in_registers s;
   arguments = placed_by_sums s;
   only_choice = λ other chosen. same_choice s other (is_in_registers s) chosen (placed_by_sums s).registers_suffice;
-  frame = copies_by_sums amd64 (λ end t. refl) s;
+  frame = copies_by_sums amd64 s (λ end t. refl) (spots_length (taken_at_first s.result_type) s.arguments);
 }

@@ -49,7 +49,7 @@ is_struct (structure ts) = true
 abbrev pub in_memory : Tree → Bool
 in_memory t = is_struct t && nat_lt 16 (size_of t)
 
--- how many eightbytes a value takes, its size rounded up; the standard's name for doublewords
+-- how many eightbytes a value takes: its size rounded up (eightbyte is this standard's word for doubleword)
 abbrev pub eightbytes : Tree → ℕ
 eightbytes t = doublewords t
 
@@ -160,7 +160,7 @@ callee_saved = G 3 ∷ G 5 ∷ G 12 ∷ G 13 ∷ G 14 ∷ G 15 ∷ []
 abbrev pub saved_words : List SaveWord
 saved_words = map Register callee_saved ++ Hidden ∷ []
 
--- What it names of the machine is what an AMD64 machine has. rax tells the number of vector registers (3.2.3, al at calls of functions with variable arguments) and returns the hidden argument (Returning of Values, step 2).
+-- What it names of the machine is what an AMD64 machine has. rax tells the number of vector registers (3.2.3, al at calls of functions with variable arguments) and returns the hidden argument (Returning of Values, step 2). (That it tells the exact number, and at every call, is this library's rule: the standard asks for an upper bound in al, where arguments may be variable.)
 abbrev pub amd64 : Standard
 amd64 = record {
   target = target.Amd64;

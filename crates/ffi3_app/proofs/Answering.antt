@@ -10,7 +10,8 @@ use Rattle.ffi3_app.specs.WordCommands.{IsProgram, asked, program}
 use Rattle.ffi3_app.specs.Words.{CanDo, IsRefusal, IsStated, IsToldAs, Takes}
 use Rattle.ffi3_app.proofs.Asked.{something_asked}
 use Rattle.ffi3_app.proofs.Program.{is_free, is_plain}
-use Rattle.ffi3_app.proofs.Stated.{stated_is_read}
+use Rattle.ffi3_app.proofs.Anywhere.{same_fault, same_command}
+use Rattle.ffi3_app.proofs.Stated.{stated_is_read, stated_is_taken}
 
 some_is : {X : Type 0} (x y : X) → Some x ≡ Some y → x ≡ y
 some_is x y e = cc
@@ -35,37 +36,46 @@ module _ (a : App) (is : IsProgram a) where
 
       pub taken_as : (r : Request) → asked (subcommand_rows_of m) ≡ Some r → Takes words r
       taken_as r asks =
-          record { placing = is.placing; running = is.running; passes = told fine; means = ap asked (sym met_in) ∙ asks }
+          record {
+            passes = λ at at'. same_fault at at' is.placing is.running words ∙ told fine;
+            means = λ at at'. ap asked (same_command at at' is.placing is.running words ∙ sym met_in) ∙ asks;
+          }
 
       pub can_as : (r : Request) → asked (subcommand_rows_of m) ≡ Some r → CanDo r
       can_as r asks =
           let read = something_asked is.placing is.running words (told fine) in
           subst CanDo (some_is read.0 r (sym read.1 ∙ ap asked (sym met_in) ∙ asks)) read.2
 
+      pub one_as : (q r : Request) → asked (subcommand_rows_of m) ≡ Some q → Takes words r → q ≡ r
+      one_as q r asks takes =
+          some_is q r (sym asks ∙ (ap asked met_in ∙ takes.means is.placing is.running))
+
       pub stated_as : (q r : Request) → asked (subcommand_rows_of m) ≡ Some q → IsStated words r → q ≡ r
-      stated_as q r asks stated =
-          some_is q r (sym asks ∙ (ap asked met_in ∙ (stated_is_read is.placing is.running words r stated).1))
+      stated_as q r asks stated = one_as q r asks (stated_is_taken words r stated)
 
       pub asks_something : asked (subcommand_rows_of m) ≡ None → ⊥
       asks_something none =
           let read = something_asked is.placing is.running words (told fine) in
           none_is_some read.0 (sym none ∙ (ap asked met_in ∙ read.1))
 
-    pub stated_fails : (e : Error) (f : WordsFault) (r : Request) → HasKind (fault_of a words) e → IsToldAs e f → IsStated words r → f ≡ NoMemory
-    stated_fails e NoMemory r has tells stated = refl
-    stated_fails e (Refused text) r (inl memory) tells stated = absurd (tells memory)
-    stated_fails e (Refused text) r (inr among) tells stated = absurd (fails among)
+    pub taken_fails : (e : Error) (f : WordsFault) (r : Request) → HasKind (fault_of a words) e → IsToldAs e f → Takes words r → f ≡ NoMemory
+    taken_fails e NoMemory r has tells takes = refl
+    taken_fails e (Refused text) r (inl memory) tells takes = absurd (tells memory)
+    taken_fails e (Refused text) r (inr among) tells takes = absurd (fails among)
       where
         fails : IsAmong (kind_of e) (fault_of a words) → ⊥
         fails among' =
-            let none : fault_of a words ≡ [] = ap (λ (x : App). fault_of x words) is.same ∙ (stated_is_read is.placing is.running words r stated).0 in
+            let none : fault_of a words ≡ [] = ap (λ (x : App). fault_of x words) is.same ∙ takes.passes is.placing is.running in
             subst (IsAmong (kind_of e)) none among'
+
+    pub stated_fails : (e : Error) (f : WordsFault) (r : Request) → HasKind (fault_of a words) e → IsToldAs e f → IsStated words r → f ≡ NoMemory
+    stated_fails e f r has tells stated = taken_fails e f r has tells (stated_is_taken words r stated)
 
     pub refused_as : (e : Error) (f : WordsFault) → HasKind (fault_of a words) e → IsToldAs e f → IsRefusal words f
     refused_as e NoMemory has tells = tt
     refused_as e (Refused text) has tells =
         let named = without_memory has in (
-          record { placing = is.placing; running = is.running; fails = λ none. subst (IsAmong (kind_of e)) (ap (λ (x : App). fault_of x words) is.same ∙ none) named },
+          λ at at' none. subst (IsAmong (kind_of e)) (ap (λ (x : App). fault_of x words) is.same ∙ same_fault is.placing is.running at at' words ∙ none) named,
           λ r stated. subst (IsAmong (kind_of e)) (ap (λ (x : App). fault_of x words) is.same ∙ (stated_is_read is.placing is.running words r stated).0) named,
         )
       where

@@ -30,22 +30,22 @@ all_taken : (all : List ℕ) → length (take 1048577 all) ≤ 1048576 → take 
 all_taken all short = take_all 1048577 all (short_whole all short)
 
 -- the first bytes are read as all of them
-reading_of_all : (all : List ℕ) (r : Reading) → IsReading [] (take 1048577 all) r → IsReading [] all r
-reading_of_all all too_long long = omega (arith, length-take 1048577 all)
-reading_of_all all not_json (short, rest) =
-    let P = λ (bytes : List ℕ). IsReading [] bytes not_json in subst P (all_taken all short) (short, rest)
-reading_of_all all (bad_script path reason) (d, json, is) =
-    let P = λ (bytes : List ℕ). IsReading [] bytes (bad_script path reason) in subst P (all_taken all json.short) (d, json, is)
-reading_of_all all (script s) (d, json, is) =
-    let P = λ (bytes : List ℕ). IsReading [] bytes (script s) in subst P (all_taken all json.short) (d, json, is)
+reading_of_all : (names : List (List ℕ)) (all : List ℕ) (r : Reading) → IsReading names (take 1048577 all) r → IsReading names all r
+reading_of_all names all too_long long = omega (arith, length-take 1048577 all)
+reading_of_all names all not_json (short, rest) =
+    let P = λ (bytes : List ℕ). IsReading names bytes not_json in subst P (all_taken all short) (short, rest)
+reading_of_all names all (bad_script path reason) (d, json, is) =
+    let P = λ (bytes : List ℕ). IsReading names bytes (bad_script path reason) in subst P (all_taken all json.short) (d, json, is)
+reading_of_all names all (script s) (d, json, is) =
+    let P = λ (bytes : List ℕ). IsReading names bytes (script s) in subst P (all_taken all json.short) (d, json, is)
 
-module _ (left left' : Option (List ℕ)) (count count' : ℕ) (bytes lent : List ℕ) (gives : GivesFirst 1048577 left bytes left') (same : lent ≡ bytes) where
-  pub read_as : (r : Reading) → IsReading [] lent r → ReadAs (given left count) r
+module _ (names : List (List ℕ)) (left left' : Option (List ℕ)) (count count' : ℕ) (bytes lent : List ℕ) (gives : GivesFirst 1048577 left bytes left') (same : lent ≡ bytes) where
+  pub read_as : (r : Reading) → IsReading names lent r → ReadAs names (given left count) r
   read_as r reading all is =
-      let P = λ (b : List ℕ). IsReading [] b r in
-      reading_of_all all r (subst P (same ∙ (gives all is).0) reading)
+      let P = λ (b : List ℕ). IsReading names b r in
+      reading_of_all names all r (subst P (same ∙ (gives all is).0) reading)
 
-  pub at_end : (s : Script) → IsReading [] lent (script s) → IsAtEnd (given left count) (given left' count')
+  pub at_end : (s : Script) → IsReading names lent (script s) → IsAtEnd (given left count) (given left' count')
   at_end s (d, json, is) all known =
       let P = λ (b : List ℕ). length b ≤ 1048576 in
       let taken : length (take 1048577 all) ≤ 1048576 = subst P (same ∙ (gives all known).0) json.short in
@@ -60,7 +60,7 @@ module _ (left left' : Option (List ℕ)) (count count' : ℕ) (bytes lent : Lis
       let limit : 1048577 ≤ 1048577 = lit≤ tt in (1048577, limit, (λ all is. (gives all is).1))
 
   -- what was judged of the bytes refuses the input
-  pub judged_refused : (request : Request) (r : Refusal) → count' ≡ count → IsJudged lent r → IsRefusal request (given left count) (given left' count') r
+  pub judged_refused : (request : Request) (r : Refusal) → count' ≡ count → IsJudged names lent r → IsRefusal names request (given left count) (given left' count') r
   judged_refused request ReadFault counted judged = absurd judged
   judged_refused request NoMemory counted judged = (counted, read_in_part)
   judged_refused request TooLong counted judged =
@@ -72,16 +72,16 @@ module _ (left left' : Option (List ℕ)) (count count' : ℕ) (bytes lent : Lis
   judged_refused request (NotYet path) counted judged = absurd judged
 
 -- a script of which a command does not do all refuses the input
-pub limit_refused : (request : Request) (input input' : Given) (s : Script) (r : Refusal) → ReadAs input (script s) → IsRead input input' → IsReadInPart input input' → input'.faults ≡ input.faults → IsLimit request s r → IsRefusal request input input' r
-limit_refused Layout input input' s r read all part counted limit = absurd limit
-limit_refused (Place t) input input' s r read all part counted limit = absurd limit
-limit_refused (Run t) input input' s NoMemory read all part counted limit = (counted, part)
-limit_refused (Run t) input input' s (NotYet path) read all part counted limit =
+pub limit_refused : (names : List (List ℕ)) (request : Request) (input input' : Given) (s : Script) (r : Refusal) → ReadAs names input (script s) → IsRead input input' → IsReadInPart input input' → input'.faults ≡ input.faults → IsLimit request s r → IsRefusal names request input input' r
+limit_refused names Layout input input' s r read all part counted limit = absurd limit
+limit_refused names (Place t) input input' s r read all part counted limit = absurd limit
+limit_refused names (Run t) input input' s NoMemory read all part counted limit = (counted, part)
+limit_refused names (Run t) input input' s (NotYet path) read all part counted limit =
     record { reading = script s; tells = ap limit_line limit; read_as = read; all_read = all; count = counted }
-limit_refused (Run t) input input' s ReadFault read all part counted limit = absurd limit
-limit_refused (Run t) input input' s TooLong read all part counted limit = absurd limit
-limit_refused (Run t) input input' s BadJson read all part counted limit = absurd limit
-limit_refused (Run t) input input' s (BadScript path why) read all part counted limit = absurd limit
+limit_refused names (Run t) input input' s ReadFault read all part counted limit = absurd limit
+limit_refused names (Run t) input input' s TooLong read all part counted limit = absurd limit
+limit_refused names (Run t) input input' s BadJson read all part counted limit = absurd limit
+limit_refused names (Run t) input input' s (BadScript path why) read all part counted limit = absurd limit
 
 pub IfErr-weaker : {X Y : Type 0} (r : Result X Y) (P Q : Y → Type 0) → ((y : Y) → P y → Q y) → IfErr r P → IfErr r Q
 IfErr-weaker (Ok x) P Q weaker is = tt

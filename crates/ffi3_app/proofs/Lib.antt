@@ -1,4 +1,5 @@
 pub mod Answering
+pub mod Anywhere
 pub mod Asked
 pub mod Asks
 pub mod Firsts
@@ -10,3 +11,4 @@ pub mod Right
 pub mod Saying
 pub mod Stated
 pub mod Telling
+mod Alone

@@ -1,10 +1,11 @@
 -- What the top call says, from what its parts say.
 use Rattle.std.proofs.Common.{◌≡◌, ℕ, ◌+◌, ◌<◌, List, [], inl, inr, refl, sym, subst, ap, ap₂, ◌∙◌, arith}
-use Rattle.std.specs.Prelude.{◌⊎◌, Some, None}
+use Rattle.std.specs.Prelude.{◌⊎◌, Some, None, map}
 use Rattle.ffi3_io.specs.Sink.{Rose}
 use Rattle.ffi3_type_rules.specs.declared.Target.{Target}
 use Rattle.ffi3_type_rules.specs.declared.Target.TheVariants.{Amd64}
 use Rattle.ffi3_script_rules.specs.Script.{Script}
+use Rattle.ffi3_script_rules.specs.Natives.{NamedNative, names_of}
 use Rattle.ffi3_script_rules.specs.Reading.{Reading, script, IsReading, max_length}
 use Rattle.ffi3_script_rules.proofs.Readings.{one_reading}
 use Rattle.ffi3_machine.specs.State.{State}
@@ -22,8 +23,9 @@ use Rattle.ffi3_app.specs.declared.words.WordsFault.{WordsFault}
 use Rattle.ffi3_app.specs.declared.words.WordsFault.TheVariants.{Refused}
 use Rattle.ffi3_app.specs.Commands.{not_yet}
 use Rattle.ffi3_app.specs.Refusals.{IsRefusal, IsRefusedWith, refusal_line, refusal_status, HasPlace, TellsRefusal}
-use Rattle.ffi3_app.specs.Top.{Given, IsReadInPart, Tells, whole, cut, IsDone, Fails, refused, bad_words, read_failed, write_failed, no_memory_for_words, no_memory, Says, done, failed, refusal_of, limit_line, status_of, status_when_done, no_memory_line}
-use Rattle.ffi3_app.proofs.Stated.{stated_is_read}
+use Rattle.ffi3_app.specs.Top.{Given, ReadAs, IsReadInPart, Tells, whole, cut, IsDone, Fails, refused, bad_words, read_failed, write_failed, no_memory_for_words, no_memory, Says, done, failed, refusal_of, limit_line, status_of, status_when_done, no_memory_line}
+use Rattle.ffi3_app.specs.WordCommands.{Addresses}
+use Rattle.ffi3_app.proofs.Stated.{stated_is_taken}
 
 -- ---- words
 
@@ -33,15 +35,28 @@ some_is x y e = cc
 none_is_some : {X : Type 0} (x : X) → None ≡ Some x → ⊥
 none_is_some x e = cc
 
+abbrev nowhere : Addresses
+nowhere n = (0, 0)
+
+-- words are taken as one request alone
+pub one_request : (words : List (List ℕ)) (q r : Request) → Takes words q → Takes words r → q ≡ r
+one_request words q r takes takes' =
+    some_is q r (sym (takes.means nowhere nowhere) ∙ takes'.means nowhere nowhere)
+
+-- words that are taken are not refused
+pub taken_not_refused : (words : List (List ℕ)) (r : Request) → IsRefused words → Takes words r → ⊥
+taken_not_refused words r refuses takes =
+    refuses nowhere nowhere (takes.passes nowhere nowhere)
+
 -- words are taken as what they state
 pub same_request : (words : List (List ℕ)) (q r : Request) → Takes words q → IsStated words r → q ≡ r
 same_request words q r takes stated =
-    some_is q r (sym takes.means ∙ (stated_is_read takes.placing takes.running words r stated).1)
+    one_request words q r takes (stated_is_taken words r stated)
 
 -- stated words are not refused
 pub not_refused : (words : List (List ℕ)) (r : Request) → IsRefused words → IsStated words r → ⊥
 not_refused words r refuses stated =
-    refuses.fails (stated_is_read refuses.placing refuses.running words r stated).0
+    taken_not_refused words r refuses (stated_is_taken words r stated)
 
 pub is_refused : (words : List (List ℕ)) (f : WordsFault) (text : _) → f ≡ Refused text → WordsRefusal words f → IsRefused words
 is_refused words f text is refusal = (subst (WordsRefusal words) is refusal).0
@@ -54,13 +69,13 @@ on_amd64 P (Run u) t is can p = subst (λ (v : Target). P (Run v)) (sym can) p
 
 -- ---- work that is done
 
-module _ (output output' : Took) (machine machine' : State) where
-  done_status : (q : Request) (s : Script) (status : ℕ) → IsDone q s output output' machine machine' status → status ≡ status_when_done q s
+module _ (natives : List NamedNative) (output output' : Took) (machine machine' : State) where
+  done_status : (q : Request) (s : Script) (status : ℕ) → IsDone q natives s output output' machine machine' status → status ≡ status_when_done q natives s
   done_status Layout s status is = is.2
   done_status (Place t) s status is = is.2
   done_status (Run t) s status is = is.1
 
-  done_count : (q : Request) (s : Script) (status : ℕ) → IsDone q s output output' machine machine' status → output'.faults ≡ output.faults
+  done_count : (q : Request) (s : Script) (status : ℕ) → IsDone q natives s output output' machine machine' status → output'.faults ≡ output.faults
   done_count Layout s status is = is.0.count
   done_count (Place t) s status is = is.0.count
   done_count (Run t) s status is = is.0.written.count
@@ -75,14 +90,14 @@ not_two : (e : End) → status_of e ≡ 2 → ⊥
 not_two (returned v) is = cc
 not_two (stopped stop) is = cc
 
-done_not_two : (q : Request) (s : Script) → status_when_done q s ≡ 2 → ⊥
-done_not_two Layout s is = cc
-done_not_two (Place t) s is = cc
-done_not_two (Run t) s is = not_two _ is
+done_not_two : (q : Request) (natives : List NamedNative) (s : Script) → status_when_done q natives s ≡ 2 → ⊥
+done_not_two Layout natives s is = cc
+done_not_two (Place t) natives s is = cc
+done_not_two (Run t) natives s is = not_two _ is
 
-pub work_not_two : (q : Request) (s : Script) (output output' : Took) (machine machine' : State) (status : ℕ) → IsDone q s output output' machine machine' status → status ≡ 2 → ⊥
-work_not_two q s output output' machine machine' status is two =
-    done_not_two q s (sym (done_status output output' machine machine' q s status is) ∙ two)
+pub work_not_two : (q : Request) (natives : List NamedNative) (s : Script) (output output' : Took) (machine machine' : State) (status : ℕ) → IsDone q natives s output output' machine machine' status → status ≡ 2 → ⊥
+work_not_two q natives s output output' machine machine' status is two =
+    done_not_two q natives s (sym (done_status natives output output' machine machine' q s status is) ∙ two)
 
 -- a line was told with another status
 pub told_not_two : (line : List ℕ) (status answer : ℕ) (before after : Took) → (status ≡ 2 → ⊥) → Tells line status before after answer → answer ≡ 2 → ⊥
@@ -109,18 +124,18 @@ refused_not_two r answer before after (inr told) = told_not_two _ _ answer befor
 
 -- ---- refusals
 
-module _ (words : List (List ℕ)) (input input' : Given) (output output' : Took) (machine machine' : State) (request : Request) (takes : Takes words request) (same_output : output' ≡ output) (same_machine : machine' ≡ machine) where
-  out_of_memory : input'.faults ≡ input.faults → IsReadInPart input input' → Fails words input input' output output' machine machine' 5 no_memory_line
+module _ (words : List (List ℕ)) (natives : List NamedNative) (input input' : Given) (output output' : Took) (machine machine' : State) (request : Request) (takes : Takes words request) (same_output : output' ≡ output) (same_machine : machine' ≡ machine) where
+  out_of_memory : input'.faults ≡ input.faults → IsReadInPart input input' → Fails words natives input input' output output' machine machine' 5 no_memory_line
   out_of_memory count part =
       let same : output'.faults ≡ output.faults = ap (λ t. t.faults) same_output in
       no_memory takes part count (inl (same_output, same_machine)) same
 
-  fails_with : (line : List ℕ) → IsRefusedWith request input input' line → Fails words input input' output output' machine machine' 1 line
+  fails_with : (line : List ℕ) → IsRefusedWith (names_of natives) request input input' line → Fails words natives input input' output output' machine machine' 1 line
   fails_with line is =
       refused takes is.reading is.tells is.read_as is.all_read is.count same_output same_machine
 
   -- a refusal of the input is what goes wrong
-  fails_by : (r : Refusal) → IsRefusal request input input' r → Fails words input input' output output' machine machine' (refusal_status r) (refusal_line r)
+  fails_by : (r : Refusal) → IsRefusal (names_of natives) request input input' r → Fails words natives input input' output output' machine machine' (refusal_status r) (refusal_line r)
   fails_by ReadFault is = read_failed takes is.0 is.1 same_output same_machine
   fails_by NoMemory is = out_of_memory is.0 is.1
   fails_by TooLong is = fails_with _ is
@@ -128,11 +143,11 @@ module _ (words : List (List ℕ)) (input input' : Given) (output output' : Took
   fails_by (BadScript path why) is = fails_with _ is
   fails_by (NotYet path) is = fails_with _ is
 
-  in_part : (line : List ℕ) → IsRefusedWith request input input' line → IsReadInPart input input'
+  in_part : (line : List ℕ) → IsRefusedWith (names_of natives) request input input' line → IsReadInPart input input'
   in_part line is = (max_length + 1, omega arith, is.all_read)
 
   -- or want of memory for its line
-  no_line : (r : Refusal) → HasPlace r → IsRefusal request input input' r → Fails words input input' output output' machine machine' 5 no_memory_line
+  no_line : (r : Refusal) → HasPlace r → IsRefusal (names_of natives) request input input' r → Fails words natives input input' output output' machine machine' 5 no_memory_line
   no_line ReadFault place is = absurd place
   no_line NoMemory place is = absurd place
   no_line TooLong place is = absurd place
@@ -140,7 +155,7 @@ module _ (words : List (List ℕ)) (input input' : Given) (output output' : Took
   no_line (BadScript path why) place is = out_of_memory is.count (in_part _ is)
   no_line (NotYet path) place is = out_of_memory is.count (in_part _ is)
 
-  pub says_refusal : (told told' : Took) (answer : ℕ) (r : Refusal) → IsRefusal request input input' r → TellsRefusal r told told' answer → Says words input input' output output' told told' machine machine' answer
+  pub says_refusal : (told told' : Took) (answer : ℕ) (r : Refusal) → IsRefusal (names_of natives) request input input' r → TellsRefusal r told told' answer → Says words natives input input' output output' told told' machine machine' answer
   says_refusal told told' answer r is (inl tells) = failed (fails_by r is) tells
   says_refusal told told' answer r is (inr (place, tells)) = failed (no_line r place is) tells
 
@@ -154,13 +169,13 @@ not_limited q r s line same does tells =
 same_script : (r s : Script) → script r ≡ script s → r ≡ s
 same_script r s e = cc
 
-module _ (words : List (List ℕ)) (input input' : Given) (output output' told told' : Took) (machine machine' : State) where
-  pub completes : (status : ℕ) → Says words input input' output output' told told' machine machine' status → (r : Request) → IsStated words r → (all : List ℕ) → input.left ≡ Some all → (s : Script) → IsReading [] all (script s) → not_yet r s ≡ None → (Rose input.faults input'.faults → ⊥) → (Rose output.faults output'.faults → ⊥) → (Rose told.faults told'.faults → ⊥) → (status ≡ status_when_done r s) ⊎ (status ≡ 5)
+module _ (words : List (List ℕ)) (natives : List NamedNative) (input input' : Given) (output output' told told' : Took) (machine machine' : State) where
+  pub completes : (status : ℕ) → Says words natives input input' output output' told told' machine machine' status → (r : Request) → IsStated words r → (all : List ℕ) → input.left ≡ Some all → (s : Script) → IsReading (names_of natives) all (script s) → not_yet r s ≡ None → (Rose input.faults input'.faults → ⊥) → (Rose output.faults output'.faults → ⊥) → (Rose told.faults told'.faults → ⊥) → (status ≡ status_when_done r natives s) ⊎ (status ≡ 5)
   completes status (done {request = q} takes s' read does' end count is same) r stated all known s reading does no_read no_write no_tell =
-      inl (done_status output output' machine machine' q s' status is ∙ ap₂ status_when_done (same_request words q r takes stated) (same_script s' s (one_reading [] all (script s') (script s) (read all known) reading)))
+      inl (done_status natives output output' machine machine' q s' status is ∙ ap₂ (λ p t. status_when_done p natives t) (same_request words q r takes stated) (same_script s' s (one_reading (names_of natives) all (script s') (script s) (read all known) reading)))
   completes _ (failed wrong (cut part rose)) r stated all known s reading does no_read no_write no_tell = absurd (no_tell rose)
   completes _ (failed (refused {request = q} takes r' {line = line} tells read all_read count same_output same_machine) (whole told)) r stated all known s reading does no_read no_write no_tell =
-      let is : r' ≡ script s = one_reading [] all r' (script s) (read all known) reading in
+      let is : r' ≡ script s = one_reading (names_of natives) all r' (script s) (read all known) reading in
       absurd (not_limited q r s line (same_request words q r takes stated) does (ap (refusal_of q) (sym is) ∙ tells))
   completes _ (failed (bad_words refuses same_input same_output same_machine) (whole told)) r stated all known s reading does no_read no_write no_tell = absurd (not_refused words r refuses stated)
   completes _ (failed (read_failed takes rose part same_output same_machine) (whole told)) r stated all known s reading does no_read no_write no_tell = absurd (no_read rose)
@@ -168,9 +183,9 @@ module _ (words : List (List ℕ)) (input input' : Given) (output output' told t
   completes _ (failed (no_memory_for_words same_input same_output same_machine) (whole told)) r stated all known s reading does no_read no_write no_tell = inr refl
   completes _ (failed (no_memory takes part count began faults) (whole told)) r stated all known s reading does no_read no_write no_tell = inr refl
 
-  pub refuses_all : (status : ℕ) → Says words input input' output output' told told' machine machine' status → (r : Request) → IsStated words r → (all : List ℕ) → input.left ≡ Some all → (reading : Reading) → IsReading [] all reading → (line : List ℕ) → refusal_of r reading ≡ Some line → (Rose input.faults input'.faults → ⊥) → (Rose output.faults output'.faults → ⊥) → (Rose told.faults told'.faults → ⊥) → (status ≡ 1) ⊎ (status ≡ 5)
+  pub refuses_all : (status : ℕ) → Says words natives input input' output output' told told' machine machine' status → (r : Request) → IsStated words r → (all : List ℕ) → input.left ≡ Some all → (reading : Reading) → IsReading (names_of natives) all reading → (line : List ℕ) → refusal_of r reading ≡ Some line → (Rose input.faults input'.faults → ⊥) → (Rose output.faults output'.faults → ⊥) → (Rose told.faults told'.faults → ⊥) → (status ≡ 1) ⊎ (status ≡ 5)
   refuses_all status (done {request = q} takes s' read does end count is same) r stated all known reading reads line tells no_read no_write no_tell =
-      let same_reading : reading ≡ script s' = one_reading [] all reading (script s') reads (read all known) in
+      let same_reading : reading ≡ script s' = one_reading (names_of natives) all reading (script s') reads (read all known) in
       absurd (not_limited r q s' line (sym (same_request words q r takes stated)) does (ap (refusal_of r) (sym same_reading) ∙ tells))
   refuses_all _ (failed wrong (cut part rose)) r stated all known reading reads line tells no_read no_write no_tell = absurd (no_tell rose)
   refuses_all _ (failed (refused takes r' tells' read all_read count same_output same_machine) (whole told)) r stated all known reading reads line tells no_read no_write no_tell = inl refl
@@ -180,9 +195,31 @@ module _ (words : List (List ℕ)) (input input' : Given) (output output' told t
   refuses_all _ (failed (no_memory_for_words same_input same_output same_machine) (whole told)) r stated all known reading reads line tells no_read no_write no_tell = inr refl
   refuses_all _ (failed (no_memory takes part count began faults) (whole told)) r stated all known reading reads line tells no_read no_write no_tell = inr refl
 
+  -- ---- status 2 comes of words that are refused
+
+  one_not_two : ◌≡◌ {A = ℕ} 1 2 → ⊥
+  one_not_two is = cc
+
+  three_not_two : ◌≡◌ {A = ℕ} 3 2 → ⊥
+  three_not_two is = cc
+
+  two_is_refused : (status : ℕ) → Says words natives input input' output output' told told' machine machine' status → status ≡ 2 → IsRefused words
+  two_is_refused status (done {request = q} takes s read does end count is same) two = absurd (work_not_two q natives s output output' machine machine' status is two)
+  two_is_refused _ (failed wrong (cut part rose)) two = absurd (four_not_two two)
+  two_is_refused _ (failed (refused takes r tells read all_read count same_output same_machine) (whole told)) two = absurd (one_not_two two)
+  two_is_refused _ (failed (bad_words refuses same_input same_output same_machine) (whole told)) two = refuses
+  two_is_refused _ (failed (read_failed takes rose part same_output same_machine) (whole told)) two = absurd (three_not_two two)
+  two_is_refused _ (failed (write_failed takes s read does end count part rose) (whole told)) two = absurd (four_not_two two)
+  two_is_refused _ (failed (no_memory_for_words same_input same_output same_machine) (whole told)) two = absurd (five_not_two two)
+  two_is_refused _ (failed (no_memory takes part count began faults) (whole told)) two = absurd (five_not_two two)
+
+  pub two_asks_nothing : (status : ℕ) → Says words natives input input' output output' told told' machine machine' status → status ≡ 2 → (r : Request) → Takes words r → ⊥
+  two_asks_nothing status says two r takes =
+      taken_not_refused words r (two_is_refused status says two) takes
+
   -- ---- counts that rose show in the status
 
-  pub read_count : (status : ℕ) → Says words input input' output output' told told' machine machine' status → input.faults < input'.faults → (status ≡ 3) ⊎ (status ≡ 4)
+  pub read_count : (status : ℕ) → Says words natives input input' output output' told told' machine machine' status → input.faults < input'.faults → (status ≡ 3) ⊎ (status ≡ 4)
   read_count _ (done takes s read does end count is same) higher = absurd (omega arith)
   read_count _ (failed wrong (cut part rose)) higher = inr refl
   read_count _ (failed (refused takes r tells read all_read count same_output same_machine) (whole told)) higher = absurd (omega arith)
@@ -194,9 +231,9 @@ module _ (words : List (List ℕ)) (input input' : Given) (output output' told t
       let same : input'.faults ≡ input.faults = ap (λ t. t.faults) same_input in absurd (omega (arith, same))
   read_count _ (failed (no_memory takes part count began faults) (whole told)) higher = absurd (omega arith)
 
-  pub write_count : (status : ℕ) → Says words input input' output output' told told' machine machine' status → output.faults < output'.faults → status ≡ 4
+  pub write_count : (status : ℕ) → Says words natives input input' output output' told told' machine machine' status → output.faults < output'.faults → status ≡ 4
   write_count status (done {request = q} takes s read does end count is same) higher =
-      let same_count : output'.faults ≡ output.faults = done_count output output' machine machine' q s status is in absurd (omega (arith, same_count))
+      let same_count : output'.faults ≡ output.faults = done_count natives output output' machine machine' q s status is in absurd (omega (arith, same_count))
   write_count _ (failed wrong (cut part rose)) higher = refl
   write_count _ (failed (refused takes r tells read all_read count same_output same_machine) (whole told)) higher =
       let same : output'.faults ≡ output.faults = ap (λ t. t.faults) same_output in absurd (omega (arith, same))
@@ -209,9 +246,27 @@ module _ (words : List (List ℕ)) (input input' : Given) (output output' told t
       let same : output'.faults ≡ output.faults = ap (λ t. t.faults) same_output in absurd (omega (arith, same))
   write_count _ (failed (no_memory takes part count began faults) (whole told)) higher = absurd (omega arith)
 
-  pub tell_count : (status : ℕ) → Says words input input' output output' told told' machine machine' status → told.faults < told'.faults → status ≡ 4
+  pub tell_count : (status : ℕ) → Says words natives input input' output output' told told' machine machine' status → told.faults < told'.faults → status ≡ 4
   tell_count _ (done takes s read does end count is same) higher =
       let same_count : told'.faults ≡ told.faults = ap (λ t. t.faults) same in absurd (omega (arith, same_count))
   tell_count _ (failed wrong (cut part rose)) higher = refl
   tell_count _ (failed wrong (whole line)) higher =
       let same_count : told'.faults ≡ told.faults = line.count in absurd (omega (arith, same_count))
+
+-- what is said beside no natives is said beside a list that is empty
+pub says_beside : (words : List (List ℕ)) (natives : List NamedNative) (input input' : Given) (output output' told told' : Took) (machine machine' : State) (status : ℕ) → natives ≡ [] → Says words [] input input' output output' told told' machine machine' status → Says words natives input input' output output' told told' machine machine' status
+says_beside words natives input input' output output' told told' machine machine' status none says =
+    let P = λ (ns : List NamedNative). Says words ns input input' output output' told told' machine machine' status in
+    subst P (sym none) says
+
+pub mapped_none : {A B : Type 0} (f : A → B) (xs : List A) → xs ≡ [] → map f xs ≡ []
+mapped_none f xs none = ap (map f) none
+
+-- what is read beside names that are none
+pub read_alone : (names : List (List ℕ)) (input : Given) (r : Reading) → names ≡ [] → ReadAs names input r → ReadAs [] input r
+read_alone names input r none read =
+    let P = λ (ns : List (List ℕ)). ReadAs ns input r in subst P none read
+
+pub refused_alone : (names : List (List ℕ)) (request : Request) (input input' : Given) (r : Refusal) → names ≡ [] → IsRefusal names request input input' r → IsRefusal [] request input input' r
+refused_alone names request input input' r none refuses =
+    let P = λ (ns : List (List ℕ)). IsRefusal ns request input input' r in subst P none refuses

@@ -43,6 +43,7 @@ stated_is_read at at' (name ∷ rest) r stated = states at at' name rest r state
 
 pub stated_is_taken : (words : List Text) (r : Request) → IsStated words r → Takes words r
 stated_is_taken words r stated =
-    let nowhere : Addresses = λ n. (0, 0) in
-    let read = stated_is_read nowhere nowhere words r stated in
-    record { placing = nowhere; running = nowhere; passes = read.0; means = read.1 }
+    record {
+      passes = λ at at'. (stated_is_read at at' words r stated).0;
+      means = λ at at'. (stated_is_read at at' words r stated).1;
+    }

@@ -10,9 +10,9 @@ use Rattle.ffi3_aapcs64_rules.specs.Aapcs64.{aapcs64}
 use Rattle.ffi3_riscv_rules.specs.Riscv.{riscv}
 use Rattle.ffi3_script_rules.specs.Language.{Path}
 use Rattle.ffi3_script_rules.specs.Script.{Script}
-use Rattle.ffi3_script_rules.specs.Meaning.{program_of}
+use Rattle.ffi3_script_rules.specs.Natives.{NamedNative, program_beside}
 use Rattle.ffi3_script_rules.specs.RunLimit.{first_not_run}
-use Rattle.ffi3_run.specs.Told.{text_of_run}
+use Rattle.ffi3_run_rules.specs.Lines.{untraced, text_of_run}
 use Rattle.ffi3_text.specs.LayoutLines.{layout_text_of}
 use Rattle.ffi3_text.specs.PlaceLines.{sig_text_of, place_text_of}
 use Rattle.ffi3_app.specs.declared.words.Request.{Request}
@@ -56,11 +56,12 @@ layout_text script = joined (lines_from layout_lines 0 script.signatures)
 abbrev pub place_text : Standard → Script → List ℕ
 place_text std script = joined (lines_from (place_lines std) 0 script.signatures)
 
--- THE TEXT OF A COMMAND
-abbrev pub text_of : Request → Script → List ℕ
-text_of Layout script = layout_text script
-text_of (Place t) script = place_text (standard_of t) script
-text_of (Run t) script = text_of_run (program_of (standard_of t) script)
+-- THE TEXT OF A COMMAND, for a script beside natives
+abbrev pub text_of : Request → List NamedNative → Script → List ℕ
+text_of Layout natives script = layout_text script
+text_of (Place t) natives script = place_text (standard_of t) script
+text_of (Run t) natives script =
+    text_of_run untraced (program_beside (standard_of t) natives script)
 
 -- the place of a script, if there is one, that the command does not do yet
 abbrev pub not_yet : Request → Script → Option Path

@@ -27,13 +27,14 @@ refusal_status ReadFault = 3
 refusal_status NoMemory = 5
 refusal_status _ = 1
 
--- bytes are no script
-abbrev pub IsJudged : List ℕ → Refusal → Type 0
-IsJudged bytes TooLong = IsReading [] bytes too_long
-IsJudged bytes BadJson = IsReading [] bytes not_json
-IsJudged bytes (BadScript path why) = IsReading [] bytes (bad_script path (reason_of why))
-IsJudged bytes NoMemory = Unit {0}
-IsJudged bytes _ = ⊥
+-- bytes are no script beside natives of these names
+abbrev pub IsJudged : (names : List (List ℕ)) → List ℕ → Refusal → Type 0
+IsJudged names bytes TooLong = IsReading names bytes too_long
+IsJudged names bytes BadJson = IsReading names bytes not_json
+IsJudged names bytes (BadScript path why) =
+    IsReading names bytes (bad_script path (reason_of why))
+IsJudged names bytes NoMemory = Unit {0}
+IsJudged names bytes _ = ⊥
 
 -- a script asks for what a run does not do yet
 abbrev pub IsRunLimit : Script → Refusal → Type 0
@@ -47,27 +48,27 @@ IsLimit (Run t) s refusal = IsRunLimit s refusal
 IsLimit _ s refusal = ⊥
 
 -- what the input is read as is refused with this line, and no read failed
-pub record IsRefusedWith (request : Request) (input input' : Given) (line : List ℕ) : Type 0 where
+pub record IsRefusedWith (names : List (List ℕ)) (request : Request) (input input' : Given) (line : List ℕ) : Type 0 where
   pub reading : Reading
   pub tells : refusal_of request reading ≡ Some line
-  pub read_as : ReadAs input reading
+  pub read_as : ReadAs names input reading
   pub all_read : IsRead input input'
   pub count : input'.faults ≡ input.faults
 
 -- the input is refused
-abbrev pub IsRefusal : Request → Given → Given → Refusal → Type 0
-IsRefusal request input input' ReadFault =
+abbrev pub IsRefusal : (names : List (List ℕ)) → Request → Given → Given → Refusal → Type 0
+IsRefusal names request input input' ReadFault =
     Rose input.faults input'.faults × IsReadInPart input input'
-IsRefusal request input input' NoMemory =
+IsRefusal names request input input' NoMemory =
     (input'.faults ≡ input.faults) × IsReadInPart input input'
-IsRefusal request input input' TooLong =
-    IsRefusedWith request input input' (refusal_line TooLong)
-IsRefusal request input input' BadJson =
-    IsRefusedWith request input input' (refusal_line BadJson)
-IsRefusal request input input' (BadScript path why) =
-    IsRefusedWith request input input' (refusal_line (BadScript path why))
-IsRefusal request input input' (NotYet path) =
-    IsRefusedWith request input input' (refusal_line (NotYet path))
+IsRefusal names request input input' TooLong =
+    IsRefusedWith names request input input' (refusal_line TooLong)
+IsRefusal names request input input' BadJson =
+    IsRefusedWith names request input input' (refusal_line BadJson)
+IsRefusal names request input input' (BadScript path why) =
+    IsRefusedWith names request input input' (refusal_line (BadScript path why))
+IsRefusal names request input input' (NotYet path) =
+    IsRefusedWith names request input input' (refusal_line (NotYet path))
 
 -- the refusal has the place of a value
 abbrev pub HasPlace : Refusal → Type 0

@@ -2,13 +2,15 @@
 use Rattle.std.specs.Prelude.{◌≡◌, ℕ, ◌+◌, ◌⊎◌, List, [], ◌++◌, take, drop, Option, Some, None, codes}
 use Rattle.ffi3_io.specs.Sink.{Adds, AddsSome, Rose}
 use Rattle.ffi3_io.specs.Source.{LosesSome}
+use Rattle.ffi3_type_rules.specs.Signature.{Signature}
+use Rattle.ffi3_run_rules.specs.Move.{Behaviour}
 use Rattle.ffi3_run_rules.specs.Meaning.{End, returned, stopped, meaning_of}
-use Rattle.ffi3_run_rules.specs.Lines.{a_line}
+use Rattle.ffi3_run_rules.specs.Lines.{a_line, untraced}
 use Rattle.ffi3_script_rules.specs.Language.{Path}
 use Rattle.ffi3_script_rules.specs.ReasonText.{text_of_path, text_of_reason}
 use Rattle.ffi3_script_rules.specs.Script.{Script}
 use Rattle.ffi3_script_rules.specs.Reading.{Reading, too_long, not_json, bad_script, script, IsReading, max_length}
-use Rattle.ffi3_script_rules.specs.Meaning.{program_of}
+use Rattle.ffi3_script_rules.specs.Natives.{NamedNative, names_of, program_beside}
 use Rattle.ffi3_machine.specs.State.{State}
 use Rattle.ffi3_run.specs.Told.{Took, TookLine, IsTold}
 use Rattle.ffi3_app.specs.declared.words.Request.{Request}
@@ -43,6 +45,11 @@ refusal_of request not_json = Some (a_line (codes "ffi3: not JSON"))
 refusal_of request (bad_script path reason) = Some (place_line path (text_of_reason reason))
 refusal_of request (script s) = limit_line (not_yet request s)
 
+-- a native that is handed in: its name, what it does, and its signatures
+abbrev pub handed_in : List ℕ → Behaviour → List Signature → NamedNative
+handed_in name behaviour signatures =
+    record { name = name; native = record { behaviour = behaviour; signatures = signatures } }
+
 -- ---- what the world around shows, before the call and after it
 
 -- a source: the bytes that it has left, where it tells, and its count of faults
@@ -50,9 +57,10 @@ pub record Given : Type 0 where
   pub left : Option (List ℕ)
   pub faults : ℕ
 
--- THE INPUT IS READ AS THIS: what the source had left, where it told that, beside no natives
-abbrev pub ReadAs : Given → Reading → Type 0
-ReadAs input r = (all : List ℕ) → input.left ≡ Some all → IsReading [] all r
+-- THE INPUT IS READ AS THIS, beside natives of these names: what the source had left, where it told that
+abbrev pub ReadAs : (names : List (List ℕ)) → Given → Reading → Type 0
+ReadAs names input r =
+    (all : List ℕ) → input.left ≡ Some all → IsReading names all r
 
 abbrev pub given : Option (List ℕ) → ℕ → Given
 given left faults = record { left = left; faults = faults }
@@ -78,27 +86,29 @@ status_of (returned v) = 0
 status_of (stopped stop) = 6
 
 -- the status of work that is done
-abbrev pub status_when_done : Request → Script → ℕ
-status_when_done (Run t) s = status_of (meaning_of (program_of (standard_of t) s)).end
-status_when_done _ s = 0
+abbrev pub status_when_done : Request → List NamedNative → Script → ℕ
+status_when_done Layout natives s = 0
+status_when_done (Place t) natives s = 0
+status_when_done (Run t) natives s =
+    status_of (meaning_of (program_beside (standard_of t) natives s)).end
 
 -- THE WORK IS DONE: the text is written whole; a run is told whole, and what stops it is status 6; the other commands leave the machine as it was
-abbrev pub IsDone : Request → Script → Took → Took → State → State → ℕ → Type 0
-IsDone Layout s output output' machine machine' status =
-    TookLine (text_of Layout s) output output' × (machine' ≡ machine) × (status ≡ 0)
-IsDone (Place t) s output output' machine machine' status =
-    TookLine (text_of (Place t) s) output output' × (machine' ≡ machine) × (status ≡ 0)
-IsDone (Run t) s output output' machine machine' status =
-    IsTold (standard_of t) (program_of (standard_of t) s) output output' machine' × (status ≡ status_of (meaning_of (program_of (standard_of t) s)).end)
+abbrev pub IsDone : Request → List NamedNative → Script → Took → Took → State → State → ℕ → Type 0
+IsDone Layout natives s output output' machine machine' status =
+    TookLine (text_of Layout natives s) output output' × (machine' ≡ machine) × (status ≡ 0)
+IsDone (Place t) natives s output output' machine machine' status =
+    TookLine (text_of (Place t) natives s) output output' × (machine' ≡ machine) × (status ≡ 0)
+IsDone (Run t) natives s output output' machine machine' status =
+    IsTold untraced (standard_of t) (program_beside (standard_of t) natives s) output output' machine' × (status ≡ status_when_done (Run t) natives s)
 
 -- a first part of the text was written, and only a run changes the machine
 abbrev pub KeepsMachine : Request → State → State → Type 0
 KeepsMachine (Run t) machine machine' = Unit {0}
 KeepsMachine _ machine machine' = machine' ≡ machine
 
-abbrev pub IsDoneInPart : Request → Script → Took → Took → State → State → Type 0
-IsDoneInPart request s output output' machine machine' =
-    ((part : ℕ) × Adds output.taken (take part (text_of request s)) output'.taken) × KeepsMachine request machine machine'
+abbrev pub IsDoneInPart : Request → List NamedNative → Script → Took → Took → State → State → Type 0
+IsDoneInPart request natives s output output' machine machine' =
+    ((part : ℕ) × Adds output.taken (take part (text_of request natives s)) output'.taken) × KeepsMachine request machine machine'
 
 -- ---- statuses
 
@@ -108,20 +118,20 @@ pub data Tells (line : List ℕ) (status : ℕ) (before after : Took) : ℕ → 
   cut : AddsSome before.taken line after.taken → Rose before.faults after.faults → Tells line status before after 4
 
 -- nothing was written, and the machine is as it was; or what the input is read as was begun
-abbrev pub BeganOrNot : Request → Given → Given → Took → Took → State → State → Type 0
-BeganOrNot request input input' output output' machine machine' =
-    ((output' ≡ output) × (machine' ≡ machine)) ⊎ ((s : Script) × ReadAs input (script s) × (not_yet request s ≡ None) × IsAtEnd input input' × IsDoneInPart request s output output' machine machine')
+abbrev pub BeganOrNot : Request → List NamedNative → Given → Given → Took → Took → State → State → Type 0
+BeganOrNot request natives input input' output output' machine machine' =
+    ((output' ≡ output) × (machine' ≡ machine)) ⊎ ((s : Script) × ReadAs (names_of natives) input (script s) × (not_yet request s ≡ None) × IsAtEnd input input' × IsDoneInPart request natives s output output' machine machine')
 
 -- WHAT GOES WRONG, with the status and the line that tell it: its cause, what was written, and what stayed as it was
-pub data Fails (words : List (List ℕ)) (input input' : Given) (output output' : Took) (machine machine' : State) : ℕ → List ℕ → Type 0 where
-  refused : {request : Request} → Takes words request → (r : Reading) → {line : List ℕ} → refusal_of request r ≡ Some line → ReadAs input r → IsRead input input' → input'.faults ≡ input.faults → output' ≡ output → machine' ≡ machine → Fails words input input' output output' machine machine' 1 line
-  bad_words : {line : List ℕ} → IsRefused words → input' ≡ input → output' ≡ output → machine' ≡ machine → Fails words input input' output output' machine machine' 2 line
-  read_failed : {request : Request} → Takes words request → Rose input.faults input'.faults → IsReadInPart input input' → output' ≡ output → machine' ≡ machine → Fails words input input' output output' machine machine' 3 read_fault_line
-  write_failed : {request : Request} → Takes words request → (s : Script) → ReadAs input (script s) → not_yet request s ≡ None → IsAtEnd input input' → input'.faults ≡ input.faults → IsDoneInPart request s output output' machine machine' → Rose output.faults output'.faults → Fails words input input' output output' machine machine' 4 write_fault_line
-  no_memory_for_words : input' ≡ input → output' ≡ output → machine' ≡ machine → Fails words input input' output output' machine machine' 5 no_memory_line
-  no_memory : {request : Request} → Takes words request → IsReadInPart input input' → input'.faults ≡ input.faults → BeganOrNot request input input' output output' machine machine' → output'.faults ≡ output.faults → Fails words input input' output output' machine machine' 5 no_memory_line
+pub data Fails (words : List (List ℕ)) (natives : List NamedNative) (input input' : Given) (output output' : Took) (machine machine' : State) : ℕ → List ℕ → Type 0 where
+  refused : {request : Request} → Takes words request → (r : Reading) → {line : List ℕ} → refusal_of request r ≡ Some line → ReadAs (names_of natives) input r → IsRead input input' → input'.faults ≡ input.faults → output' ≡ output → machine' ≡ machine → Fails words natives input input' output output' machine machine' 1 line
+  bad_words : {line : List ℕ} → IsRefused words → input' ≡ input → output' ≡ output → machine' ≡ machine → Fails words natives input input' output output' machine machine' 2 line
+  read_failed : {request : Request} → Takes words request → Rose input.faults input'.faults → IsReadInPart input input' → output' ≡ output → machine' ≡ machine → Fails words natives input input' output output' machine machine' 3 read_fault_line
+  write_failed : {request : Request} → Takes words request → (s : Script) → ReadAs (names_of natives) input (script s) → not_yet request s ≡ None → IsAtEnd input input' → input'.faults ≡ input.faults → IsDoneInPart request natives s output output' machine machine' → Rose output.faults output'.faults → Fails words natives input input' output output' machine machine' 4 write_fault_line
+  no_memory_for_words : input' ≡ input → output' ≡ output → machine' ≡ machine → Fails words natives input input' output output' machine machine' 5 no_memory_line
+  no_memory : {request : Request} → Takes words request → IsReadInPart input input' → input'.faults ≡ input.faults → BeganOrNot request natives input input' output output' machine machine' → output'.faults ≡ output.faults → Fails words natives input input' output output' machine machine' 5 no_memory_line
 
 -- WHAT EACH STATUS SAYS: the work is done whole, or what goes wrong is told, and then 4 in place of its status where that failed
-pub data Says (words : List (List ℕ)) (input input' : Given) (output output' told told' : Took) (machine machine' : State) : ℕ → Type 0 where
-  done : {request : Request} {status : ℕ} → Takes words request → (s : Script) → ReadAs input (script s) → not_yet request s ≡ None → IsAtEnd input input' → input'.faults ≡ input.faults → IsDone request s output output' machine machine' status → told' ≡ told → Says words input input' output output' told told' machine machine' status
-  failed : {status : ℕ} {line : List ℕ} {answer : ℕ} → Fails words input input' output output' machine machine' status line → Tells line status told told' answer → Says words input input' output output' told told' machine machine' answer
+pub data Says (words : List (List ℕ)) (natives : List NamedNative) (input input' : Given) (output output' told told' : Took) (machine machine' : State) : ℕ → Type 0 where
+  done : {request : Request} {status : ℕ} → Takes words request → (s : Script) → ReadAs (names_of natives) input (script s) → not_yet request s ≡ None → IsAtEnd input input' → input'.faults ≡ input.faults → IsDone request natives s output output' machine machine' status → told' ≡ told → Says words natives input input' output output' told told' machine machine' status
+  failed : {status : ℕ} {line : List ℕ} {answer : ℕ} → Fails words natives input input' output output' machine machine' status line → Tells line status told told' answer → Says words natives input input' output output' told told' machine machine' answer

@@ -37,18 +37,15 @@ abbrev pub IsStated : List Text → Request → Type 0
 IsStated [] r = ⊥
 IsStated (name ∷ rest) r = StatesAfterName rest r
 
--- CLAP TAKES the words, for want of memory at most refuses them, and reads them as this
+-- CLAP TAKES the words, for want of memory at most refuses them, and reads them as this, wherever the program's texts lie
 pub record Takes (words : List Text) (r : Request) : Type 0 where
-  pub placing : Addresses
-  pub running : Addresses
-  pub passes : fault_of (program placing running) words ≡ []
-  pub means : asked (subcommand_of (program placing running) words) ≡ Some r
+  pub passes : (placing running : Addresses) → fault_of (program placing running) words ≡ []
+  pub means : (placing running : Addresses) → asked (subcommand_of (program placing running) words) ≡ Some r
 
--- CLAP REFUSES the words for another cause than memory; a request for help or the version counts
-pub record IsRefused (words : List Text) : Type 0 where
-  pub placing : Addresses
-  pub running : Addresses
-  pub fails : fault_of (program placing running) words ≡ [] → ⊥
+-- CLAP REFUSES the words for another cause than memory, wherever the program's texts lie; a request for help or the version counts
+abbrev pub IsRefused : List Text → Type 0
+IsRefused words =
+    (placing running : Addresses) → fault_of (program placing running) words ≡ [] → ⊥
 
 abbrev pub IsRefusal : List Text → WordsFault → Type 0
 IsRefusal words (Refused text) = IsRefused words × ((r : Request) → IsStated words r → ⊥)

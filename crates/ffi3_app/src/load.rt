@@ -1,5 +1,5 @@
 //! From the input to a script that a command does, or to why there is none.
-ghost use Rattle.std.specs.Prelude.{◌≡◌, [], IfOk, IfErr, OnOk, None};
+ghost use Rattle.std.specs.Prelude.{◌≡◌, ◌<◌, ◌^◌, length, IfOk, IfErr, OnOk, None};
 ghost use Rattle.ffi3_script_rules.specs.Reading.{IsReading, script};
 ghost use Rattle.ffi3_script_rules.specs.RunLimit.{first_not_run};
 ghost use Rattle.ffi3_script.specs.ScriptOf.{script_of, natives_of};
@@ -32,17 +32,23 @@ pub enum Refusal {
 
 ghost use Rattle.ffi3_app.specs.Refusals.{IsRefusal, IsJudged, IsLimit, IsRunLimit};
 
-/// Reads the input to its end, or until it is too long, and judges what was read.
-pub fn load<I: Source>(alloc: Global, request: Request, input: &mut I) -> Result<Script, Refusal>
-    ensures script { IfOk result (λ s. ReadAs (given (I.left input.old) (I.faults input.old)) (script (script_of s))) }
-    ensures alone { IfOk result (λ s. natives_of s ≡ 0) }
+/// Reads the input to its end, or until it is too long, and judges what was read, beside natives of these names.
+pub fn load<I: Source>(
+    alloc: Global,
+    request: Request,
+    natives: &Names,
+    input: &mut I,
+) -> Result<Script, Refusal>
+    requires { length natives.now < 2 ^ 31 }
+    ensures script { IfOk result (λ s. ReadAs natives.now (given (I.left input.old) (I.faults input.old)) (script (script_of s))) }
+    ensures alone { IfOk result (λ s. natives_of s ≡ length natives.now) }
     ensures done { IfOk result (λ s. not_yet request (script_of s) ≡ None) }
     ensures end { OnOk result (IsAtEnd (given (I.left input.old) (I.faults input.old)) (given (I.left input.new) (I.faults input.new))) }
     ensures same { OnOk result (I.faults input.new ≡ I.faults input.old) }
     ensures part { IsReadInPart (given (I.left input.old) (I.faults input.old)) (given (I.left input.new) (I.faults input.new)) }
-    ensures refused { IfErr result (IsRefusal request (given (I.left input.old) (I.faults input.old)) (given (I.left input.new) (I.faults input.new))) }
+    ensures refused { IfErr result (IsRefusal natives.now request (given (I.left input.old) (I.faults input.old)) (given (I.left input.new) (I.faults input.new))) }
 {
-    match read(alloc, input) {
+    match read(alloc, natives, input) {
         Ok(script) => match limit(alloc, request, &script) {
             Ok(()) => Ok(script),
             Err(refusal) => Err(refusal),
@@ -52,29 +58,31 @@ pub fn load<I: Source>(alloc: Global, request: Request, input: &mut I) -> Result
 }
 
 // The same, whatever the command.
-fn read<I: Source>(alloc: Global, input: &mut I) -> Result<Script, Refusal>
-    ensures script { IfOk result (λ s. ReadAs (given (I.left input.old) (I.faults input.old)) (script (script_of s))) }
-    ensures alone { IfOk result (λ s. natives_of s ≡ 0) }
+fn read<I: Source>(alloc: Global, natives: &Names, input: &mut I) -> Result<Script, Refusal>
+    requires { length natives.now < 2 ^ 31 }
+    ensures script { IfOk result (λ s. ReadAs natives.now (given (I.left input.old) (I.faults input.old)) (script (script_of s))) }
+    ensures alone { IfOk result (λ s. natives_of s ≡ length natives.now) }
     ensures end { OnOk result (IsAtEnd (given (I.left input.old) (I.faults input.old)) (given (I.left input.new) (I.faults input.new))) }
     ensures all { OnOk result (IsRead (given (I.left input.old) (I.faults input.old)) (given (I.left input.new) (I.faults input.new))) }
     ensures same { OnOk result (I.faults input.new ≡ I.faults input.old) }
     ensures part { IsReadInPart (given (I.left input.old) (I.faults input.old)) (given (I.left input.new) (I.faults input.new)) }
-    ensures refused { (r : Request) → IfErr result (IsRefusal r (given (I.left input.old) (I.faults input.old)) (given (I.left input.new) (I.faults input.new))) }
+    ensures refused { (r : Request) → IfErr result (IsRefusal natives.now r (given (I.left input.old) (I.faults input.old)) (given (I.left input.new) (I.faults input.new))) }
 {
     match read_all(alloc, input, MAX_LENGTH + 1) {
-        Ok(bytes) => judge(alloc, &bytes),
+        Ok(bytes) => judge(alloc, natives, &bytes),
         Err(ReadEnd::Failed) => Err(Refusal::ReadFault),
         Err(ReadEnd::NoMemory) => Err(Refusal::NoMemory),
     }
 }
 
 // What the bytes are read as.
-fn judge(alloc: Global, bytes: &[u8]) -> Result<Script, Refusal>
-    ensures script { IfOk result (λ s. IsReading [] bytes.now (script (script_of s))) }
-    ensures alone { IfOk result (λ s. natives_of s ≡ 0) }
-    ensures refused { IfErr result (IsJudged bytes.now) }
+fn judge(alloc: Global, natives: &Names, bytes: &[u8]) -> Result<Script, Refusal>
+    requires { length natives.now < 2 ^ 31 }
+    ensures script { IfOk result (λ s. IsReading natives.now bytes.now (script (script_of s))) }
+    ensures alone { IfOk result (λ s. natives_of s ≡ length natives.now) }
+    ensures refused { IfErr result (IsJudged natives.now bytes.now) }
 {
-    match read_script(alloc, bytes, &Names::new(alloc)) {
+    match read_script(alloc, bytes, natives) {
         Ok(script) => Ok(script),
         Err(ScriptFault::TooLong) => Err(Refusal::TooLong),
         Err(ScriptFault::BadJson) => Err(Refusal::BadJson),

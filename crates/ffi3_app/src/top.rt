@@ -3,11 +3,12 @@ ghost use Rattle.std.specs.Prelude.{◌≡◌, ◌<◌, ◌⊎◌, [], List, ℕ
 ghost use Rattle.ffi3_io.specs.Sink.{Rose};
 ghost use Rattle.ffi3_script_rules.specs.Reading.{Reading, IsReading, script};
 ghost use Rattle.ffi3_script_rules.specs.Script.{Script as RulesScript};
+ghost use Rattle.ffi3_script_rules.specs.Natives.{NamedNative, names_of};
 ghost use Rattle.ffi3_run.specs.Told.{took};
 ghost use Rattle.ffi3_app.specs.declared.words.Request.{Request};
-ghost use Rattle.ffi3_app.specs.Words.{IsStated};
+ghost use Rattle.ffi3_app.specs.Words.{IsStated, Takes};
 ghost use Rattle.ffi3_app.specs.Commands.{not_yet};
-ghost use Rattle.ffi3_app.specs.Top.{Says, given, refusal_of, status_when_done};
+ghost use Rattle.ffi3_app.specs.Top.{Says, given, handed_in, refusal_of, status_when_done};
 
 use crate::load::load;
 use crate::tell::{tell, tell_refusal};
@@ -17,13 +18,14 @@ use crate::write::WriteEnd;
 use ffi3_body::Native;
 use ffi3_io::{Sink, Source};
 use ffi3_machine::Machine;
+use ffi3_script::Names;
 use std::alloc::Global;
 
 /// Does what the words ask for, and answers the status of the program.
 ///
 /// The words hold the program's name first. For `layout`, `place --target TARGET` and `run --target amd64` the input is read to its
 /// end, or until it is longer than a script may be, and the output takes the lines that the command writes of the script. The line
-/// of a fault goes to `faults`. The list of natives is empty for now.
+/// of a fault goes to `faults`. The list of natives is empty for now; scripts are read beside their names, and run together with them.
 ///
 /// | status | when |
 /// |---|---|
@@ -45,23 +47,30 @@ pub fn ffi3<I: Source, O: Sink, E: Sink>(
 ) -> u8
     requires { natives.now.items ≡ [] }
 
-    // What each status says: its cause, what was written, and what stayed as it was.
-    ensures says { Says (map string_bytes words.items)
+    // What each status says, for scripts beside these natives: its cause, what was written, and what stayed as it was.
+    ensures says { let handed : List NamedNative = map (λ b. handed_in (title b) (meaning b) (signatures b)) natives.now.items in
+        Says (map string_bytes words.items) handed
         (given (I.left input.old) (I.faults input.old)) (given (I.left input.new) (I.faults input.new))
         (took (O.taken output.old) (O.faults output.old)) (took (O.taken output.new) (O.faults output.new))
         (took (E.taken faults.old) (E.faults faults.old)) (took (E.taken faults.new) (E.faults faults.new))
         machine.old machine.new result }
 
     // Where nothing fails, what stated words ask for is done with a script, and what is none is refused; want of memory alone is free.
-    ensures complete { (r : Request) → IsStated (map string_bytes words.items) r → (all : List ℕ) → I.left input.old ≡ Some all →
-        (s : RulesScript) → IsReading [] all (script s) → not_yet r s ≡ None →
+    ensures complete { let handed : List NamedNative = map (λ b. handed_in (title b) (meaning b) (signatures b)) natives.now.items in
+        (r : Request) → IsStated (map string_bytes words.items) r → (all : List ℕ) → I.left input.old ≡ Some all →
+        (s : RulesScript) → IsReading (names_of handed) all (script s) → not_yet r s ≡ None →
         (Rose (I.faults input.old) (I.faults input.new) → ⊥) → (Rose (O.faults output.old) (O.faults output.new) → ⊥) →
-        (Rose (E.faults faults.old) (E.faults faults.new) → ⊥) → (result ≡ status_when_done r s) ⊎ (result ≡ 5) }
-    ensures refuses { (r : Request) → IsStated (map string_bytes words.items) r → (all : List ℕ) → I.left input.old ≡ Some all →
-        (reading : Reading) → IsReading [] all reading → (line : List ℕ) → refusal_of r reading ≡ Some line →
+        (Rose (E.faults faults.old) (E.faults faults.new) → ⊥) → (result ≡ status_when_done r handed s) ⊎ (result ≡ 5) }
+    ensures refuses { let handed : List NamedNative = map (λ b. handed_in (title b) (meaning b) (signatures b)) natives.now.items in
+        (r : Request) → IsStated (map string_bytes words.items) r → (all : List ℕ) → I.left input.old ≡ Some all →
+        (reading : Reading) → IsReading (names_of handed) all reading → (line : List ℕ) → refusal_of r reading ≡ Some line →
         (Rose (I.faults input.old) (I.faults input.new) → ⊥) → (Rose (O.faults output.old) (O.faults output.new) → ⊥) →
         (Rose (E.faults faults.old) (E.faults faults.new) → ⊥) → (result ≡ 1) ⊎ (result ≡ 5) }
     ensures knows_words { (r : Request) → IsStated (map string_bytes words.items) r → result ≡ 2 → ⊥ }
+
+    // Words that are refused ask for nothing, and no words ask for two things.
+    ensures refused_ask_nothing { result ≡ 2 → (r : Request) → Takes (map string_bytes words.items) r → ⊥ }
+    ensures ask_one { (q r : Request) → Takes (map string_bytes words.items) q → Takes (map string_bytes words.items) r → q ≡ r }
 
     // A count that is higher than before shows in the status.
     ensures read_counted { I.faults input.old < I.faults input.new → (result ≡ 3) ⊎ (result ≡ 4) }
@@ -72,7 +81,7 @@ pub fn ffi3<I: Source, O: Sink, E: Sink>(
     answer(alloc, words, input, output, faults, machine)
 }
 
-// The same, of which the clauses above but the first follow.
+// The same beside no natives, from which the clauses above follow.
 fn answer<I: Source, O: Sink, E: Sink>(
     alloc: Global,
     words: Vec<String>,
@@ -81,7 +90,7 @@ fn answer<I: Source, O: Sink, E: Sink>(
     faults: &mut E,
     machine: &mut Machine,
 ) -> u8
-    ensures says { Says (map string_bytes words.items)
+    ensures says { Says (map string_bytes words.items) []
         (given (I.left input.old) (I.faults input.old)) (given (I.left input.new) (I.faults input.new))
         (took (O.taken output.old) (O.faults output.old)) (took (O.taken output.new) (O.faults output.new))
         (took (E.taken faults.old) (E.faults faults.old)) (took (E.taken faults.new) (E.faults faults.new))
@@ -93,7 +102,8 @@ fn answer<I: Source, O: Sink, E: Sink>(
         Err(WordsFault::Refused(text)) => return tell(faults, text.as_str(), 2),
         Err(WordsFault::NoMemory) => return tell(faults, "ffi3: out of memory\n", 5),
     };
-    let script = match load(alloc, request, input) {
+    let natives = Names::new(alloc);
+    let script = match load(alloc, request, &natives, input) {
         Ok(script) => script,
         Err(refusal) => return tell_refusal(alloc, &refusal, faults),
     };

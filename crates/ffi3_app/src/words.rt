@@ -35,6 +35,8 @@ pub fn read_words(alloc: Global, words: Vec<String>) -> Result<Request, WordsFau
     ensures takes { IfOk result (Takes (map string_bytes words.items)) }
     ensures can { IfOk result CanDo }
     ensures refused { IfErr result (IsRefusal (map string_bytes words.items)) }
+    ensures one { (r : Request) → Takes (map string_bytes words.items) r →
+        IfOk result (λ q. q ≡ r) × IfErr result (λ e. e ≡ WordsFault.NoMemory) }
     ensures stated { (r : Request) → IsStated (map string_bytes words.items) r →
         IfOk result (λ q. q ≡ r) × IfErr result (λ e. e ≡ WordsFault.NoMemory) }
 {

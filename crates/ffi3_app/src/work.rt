@@ -1,5 +1,5 @@
 //! What each command does with a script.
-ghost use Rattle.std.specs.Prelude.{◌≡◌, IfOk, IfErr, OnErr, None};
+ghost use Rattle.std.specs.Prelude.{◌≡◌, [], IfOk, IfErr, OnErr, None};
 ghost use Rattle.ffi3_type_rules.specs.declared.Target.TheVariants.{Amd64};
 ghost use Rattle.ffi3_script_rules.specs.RunLimit.{first_not_run};
 ghost use Rattle.ffi3_script.specs.ScriptOf.{script_of, natives_of};
@@ -20,7 +20,7 @@ use ffi3_run::{RunEnd, run_main};
 use ffi3_script::Script;
 use std::alloc::Global;
 
-/// Does what is asked for with a script, and says the status: 0, or 6 where the run stopped.
+/// Does what is asked for with a script beside no natives, and says the status: 0, or 6 where the run stopped.
 pub fn work<O: Sink>(
     alloc: Global,
     request: Request,
@@ -31,9 +31,9 @@ pub fn work<O: Sink>(
     requires can { CanDo request }
     requires done { not_yet request (script_of script.now) ≡ None }
     requires alone { natives_of script.now ≡ 0 }
-    ensures done { IfOk result (IsDone request (script_of script.now)
+    ensures done { IfOk result (IsDone request [] (script_of script.now)
         (took (O.taken output.old) (O.faults output.old)) (took (O.taken output.new) (O.faults output.new)) machine.old machine.new) }
-    ensures part { OnErr result (IsDoneInPart request (script_of script.now)
+    ensures part { OnErr result (IsDoneInPart request [] (script_of script.now)
         (took (O.taken output.old) (O.faults output.old)) (took (O.taken output.new) (O.faults output.new)) machine.old machine.new) }
     ensures ended { IfErr result (Ended (took (O.taken output.old) (O.faults output.old)) (took (O.taken output.new) (O.faults output.new))) }
 {
@@ -59,9 +59,9 @@ fn run<O: Sink>(
 ) -> Result<u8, WriteEnd>
     requires done { first_not_run (script_of script.now) ≡ None }
     requires alone { natives_of script.now ≡ 0 }
-    ensures done { IfOk result (IsDone (Run Amd64) (script_of script.now)
+    ensures done { IfOk result (IsDone (Run Amd64) [] (script_of script.now)
         (took (O.taken output.old) (O.faults output.old)) (took (O.taken output.new) (O.faults output.new)) machine.old machine.new) }
-    ensures part { OnErr result (IsDoneInPart (Run Amd64) (script_of script.now)
+    ensures part { OnErr result (IsDoneInPart (Run Amd64) [] (script_of script.now)
         (took (O.taken output.old) (O.faults output.old)) (took (O.taken output.new) (O.faults output.new)) machine.old machine.new) }
     ensures ended { IfErr result (Ended (took (O.taken output.old) (O.faults output.old)) (took (O.taken output.new) (O.faults output.new))) }
 {

@@ -20,10 +20,10 @@ use Rattle.ffi3_closures.specs.Slots.{HoldsMap}
 use Rattle.ffi3_call.specs.Registers.{IsInRegisters, AreLow, preserved_register}
 use Rattle.ffi3_call.specs.Steps.{with_arguments, received}
 use Rattle.ffi3_call.specs.Calls.{IsInCallee, HasBegun}
-use Rattle.ffi3_call.proofs.Stack.{length-written, above-written}
+use Rattle.ffi3_call.proofs.Stack.{length-written, above-written, below-written}
 use Rattle.ffi3_call.proofs.Places.{need-is}
 use Rattle.ffi3_call.proofs.Entries.{on_amd64, at_entry, entry_event, is_entry, argument_there, preserved_there}
-use Rattle.ffi3_call.proofs.Callees.{target-received, sp-received, code-received, events-received, room-received, mark-received, above-received, preserved-received, arguments-received}
+use Rattle.ffi3_call.proofs.Callees.{target-received, sp-received, code-received, events-received, room-received, mark-received, above-received, below-received, preserved-received, arguments-received}
 use Rattle.ffi3_call.proofs.Returns.{is_on_amd64}
 
 -- the stack with the return address has its length
@@ -37,6 +37,12 @@ above-linked : (sp : ℕ) (stack : List ℕ) (address count : ℕ) → length st
 above-linked sp stack address count long low high above =
     let end : sp - STACK ≡ sp - 8 - STACK + 8 = omega (arith, low) in
     ap (λ j. take count (drop (address - STACK) (replace_range stack (sp - 8 - STACK) j (to_le_bytes w64 RETURN)))) end ∙ above-written stack (to_le_bytes w64 RETURN) (sp - 8 - STACK) count (address - STACK) (omega (arith, long, low, high)) (omega (arith, low, above))
+
+-- and what lies below it
+below-linked : (sp : ℕ) (stack : List ℕ) (address count : ℕ) → length stack ≡ 65536 → STACK + 8 ≤ sp → sp ≤ STACK_TOP → STACK ≤ address → address + count + 8 ≤ sp → take count (drop (address - STACK) (linked_stack None sp stack)) ≡ take count (drop (address - STACK) stack)
+below-linked sp stack address count long low high bottom below =
+    let end : sp - STACK ≡ sp - 8 - STACK + 8 = omega (arith, low) in
+    ap (λ j. take count (drop (address - STACK) (replace_range stack (sp - 8 - STACK) j (to_le_bytes w64 RETURN)))) end ∙ below-written stack (to_le_bytes w64 RETURN) (sp - 8 - STACK) count (address - STACK) (omega (arith, long, low, high)) (omega (arith, low, bottom, below))
 
 module _ (s : Signature) (vs : List ValueTree) (pointer : ℕ) (m : State) (regs : IsInRegisters s) where
   -- the callee's side begins here
@@ -109,7 +115,7 @@ module _ (s : Signature) (vs : List ValueTree) (pointer : ℕ) (m : State) (regs
       bottom = let sp = sp-received s regs entered_there in let below = below_sp in omega (arith, sp, below);
       top = high_enough;
       saved = λ i below. preserved-received s regs entered_there long low_enough high_enough i below (preserved_small i below);
-      return_address = above-received s regs entered_there long low_enough high_enough entered_there.sp 8 (omega arith) ∙ address;
+      return_address = above-received s regs entered_there long low_enough high_enough entered_there.sp 8 (omega arith) ∙ address.1;
       room = let spare = room-received s regs entered_there in omega (arith, spare);
     }
 
@@ -117,12 +123,15 @@ module _ (s : Signature) (vs : List ValueTree) (pointer : ℕ) (m : State) (regs
     begun_there = record {
       entry = entry_event s vs pointer m;
       events = events-received s regs entered_there;
-      is_entry = λ top outer below. let under = below_sp in is_entry s vs pointer m regs fit low (omega (arith, under)) address top outer below;
+      is_entry = λ top outer below. let under = below_sp in is_entry s vs pointer m regs fit low (omega (arith, under)) address.1 top outer below;
       in_callee = callee_runs;
       arguments_stand = arguments-received s regs entered_there long low_enough high_enough vs fit low (argument_there s vs pointer m regs);
       sp = let sp = sp-received s regs entered_there in let below = below_sp in let need = need-is s regs in omega (arith, sp, below, need);
       above = λ place count over. let below = below_sp in let stack = machine.stack in
           above-received s regs entered_there long low_enough high_enough place count (omega (arith, over)) ∙ above-linked m.sp m.stack place count stack (omega (arith, below)) high over;
+      below = λ place count bottom under.
+          let sp = sp-received s regs entered_there in let low = below_sp in let stack = machine.stack in
+          below-received s regs entered_there long low_enough high_enough place count bottom under ∙ below-linked m.sp m.stack place count stack (omega (arith, low)) high bottom (omega (arith, sp, low, under));
       mark = let sp = sp-received s regs entered_there in let below = below_sp in mark-received s regs entered_there (min m.mark callee_there.sp) (omega (arith, sp, below)) (omega (arith, sp));
       code = code-received s regs entered_there;
       room = let spare = room-received s regs entered_there in omega (arith, spare);

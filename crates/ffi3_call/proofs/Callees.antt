@@ -16,7 +16,7 @@ use Rattle.ffi3_type_rules.specs.declared.limits.TheConstants.{STACK, STACK_TOP}
 use Rattle.ffi3_machine.specs.State.{State, stack_at, with_sp}
 use Rattle.ffi3_call.specs.Registers.{IsInRegisters, AreLow, preserved_register, value_at}
 use Rattle.ffi3_call.specs.Steps.{word_address, word_from, saved, argument_bytes, argument_word, copied, block_address, received}
-use Rattle.ffi3_call.proofs.Stack.{written, length-pieces, above-pieces, read-pieces, stack-pieces, others-pieces, mark-pieces, part-of-front}
+use Rattle.ffi3_call.proofs.Stack.{written, length-pieces, above-pieces, below-pieces, read-pieces, stack-pieces, others-pieces, mark-pieces, part-of-front}
 use Rattle.ffi3_call.proofs.Numbers.{number-sized, value-of-bytes, offset-is, block-enough}
 
 module _ (s : Signature) (regs : IsInRegisters s) (e : State) where
@@ -107,6 +107,12 @@ module _ (s : Signature) (regs : IsInRegisters s) (e : State) where
     pub above-received : (address count : ℕ) → e.sp ≤ address → stack_at address count (received s e) ≡ stack_at address count e
     above-received address count above =
         above_block count (address - STACK) (omega (arith, above)) ∙ above-pieces area_place saved_word e.stack 6 count (address - STACK) area_within (λ i below. omega (arith, low, above))
+
+    -- what stood below the callee's sp stays
+    pub below-received : (address count : ℕ) → STACK ≤ address → address + count ≤ (received s e).sp → stack_at address count (received s e) ≡ stack_at address count e
+    below-received address count bottom under =
+        let sp = sp-received in
+        ap (λ xs. take count (drop (address - STACK) xs)) stack-received ∙ below-pieces block_place argument_at area_stack (length s.arguments) count (address - STACK) block_within (λ i less. omega (arith, sp, low, bottom, under)) ∙ below-pieces area_place saved_word e.stack 6 count (address - STACK) area_within (λ i less. omega (arith, sp, low, bottom, under))
 
     -- each preserved register stands in the save area
     pub saved-received : (i : ℕ) → i < 6 → stack_at (word_address (e.sp - 56) i) 8 (received s e) ≡ to_le_bytes w64 (get_or e.general (preserved_register i) 0)

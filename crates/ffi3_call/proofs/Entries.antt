@@ -11,6 +11,7 @@ use Rattle.ffi3_type_rules.specs.Value.{ValueTree, values_of, all_fit}
 use Rattle.ffi3_place_rules.specs.Event.{Event, enters}
 use Rattle.ffi3_amd64_rules.specs.Amd64.{amd64, argument_register}
 use Rattle.ffi3_run_rules.specs.Journal.{Entered, needs, IsEntry}
+use Rattle.ffi3_run_rules.proofs.Aligned.{entry_is_aligned}
 use Rattle.ffi3_type_rules.specs.declared.limits.TheConstants.{RETURN}
 use Rattle.ffi3_machine.specs.State.{State, scribble_general, scribbled_general, called, image_of, stack_at, with_room}
 use Rattle.ffi3_machine.specs.Scribbled.{length-scribbled_general, get_or-scribbled_general}
@@ -84,6 +85,7 @@ module _ (s : Signature) (vs : List ValueTree) (pointer : ℕ) (m : State) where
       closure = r10_there;
       holds = let eight : length (stack_at (m.sp - 8) 8 at_entry) ≡ 8 = ap length address in holds s regs (image_of 8 at_entry) vs fit words_stand low rax_there (omega (arith, eight));
       sp = let none = no_frame s regs in omega (arith, none, room, below);
+      aligned = entry_is_aligned amd64 refl s outer (m.sp - 8) top (let none = no_frame s regs in omega (arith, none, room, below));
       stack = let none = no_frame s regs in let eight : length (stack_at (m.sp - 8) 8 at_entry) ≡ 8 = ap length address in omega (arith, none, eight);
       preserved = (preserved_there 0 (omega arith), (preserved_there 1 (omega arith), (preserved_there 2 (omega arith), (preserved_there 3 (omega arith), (preserved_there 4 (omega arith), (preserved_there 5 (omega arith), tt))))));
       reserved = tt;

@@ -22,6 +22,7 @@ made s vs pointer v before during after begun ended = record {
   target = ended.target ∙ begun.in_callee.target;
   sp = ended.sp ∙ begun.sp;
   above = λ address count over. ap (λ xs. take count (drop (address - STACK) xs)) ended.stack ∙ begun.above address count over;
+  below = λ address count bottom under. ap (λ xs. take count (drop (address - STACK) xs)) ended.stack ∙ begun.below address count bottom (let sp = begun.sp in omega (arith, sp, under));
   mark = let lower : during.sp ≡ before.sp - need_of amd64 s = let sp = begun.sp in omega (arith, sp) in
       let mark = begun.mark in
       let same = ended.mark in

@@ -21,7 +21,7 @@ use Rattle.ffi3_place_rules.specs.Holds.{leaf_bytes, LeavesStand, OwnsArgument, 
 use Rattle.ffi3_amd64_rules.specs.declared.Class.TheVariants.{Integer}
 use Rattle.ffi3_place_rules.specs.Doublewords.{widening, filling_of_scalar, stack_pieces}
 use Rattle.ffi3_place_rules.specs.declared.Ext.TheVariants.{Widen}
-use Rattle.ffi3_amd64_rules.specs.Amd64.{amd64, is_integer_class, is_sse_class, classes, integers, sses, in_memory, argument_register, result_register, register_pieces, eightbytes, in_registers, taken_with, pieces_after, spots_after, taken_after, taken_at_first, result_spot_of, placing_of}
+use Rattle.ffi3_amd64_rules.specs.Amd64.{amd64, is_integer_class, is_sse_class, classes, integers, sses, in_memory, argument_register, result_register, register_pieces, in_registers, taken_with, pieces_after, spots_after, taken_after, taken_at_first, result_spot_of, placing_of}
 use Rattle.ffi3_amd64_rules.proofs.Steps.{ends_without_copies}
 use Rattle.ffi3_call.specs.Registers.{IsInRegisters, is_void, is_number_or_void, value_at, word_of, IsLow, AreLow, IsLowResult}
 use Rattle.ffi3_call.proofs.Numbers.{AreNumbers}

@@ -123,7 +123,8 @@ module _ (s : Signature) (v : ValueTree) (m given : State) (called : IsCalled s 
   return_address_back =
       let sp : m.sp + block_bytes s + 56 ≡ called.0.image.sp = in_callee.sp in
       let P : State → Type 0 = λ x. IsReturn x in
-      subst P (sym given_is) (ap (λ a. stack_at a 8 m) sp ∙ in_callee.return_address)
+      let bottom : STACK ≤ m.sp = in_callee.bottom in
+      subst P (sym given_is) ((omega (arith, sp, bottom)), ap (λ a. stack_at a 8 m) sp ∙ in_callee.return_address)
 
   pub return_within : LieInStack given.sp (pushed_bytes (isa_of given.target) + 0)
   return_within =

@@ -75,6 +75,13 @@ module _ (place : ℕ → ℕ) (bytes : ℕ → List ℕ) (xs : List ℕ) where
       let before : length (written place bytes n xs) ≡ length xs = length-pieces n (λ i below. within i (omega arith)) in
       above-written (written place bytes n xs) (bytes n) (place n) k m (omega (arith, before, within n (omega arith))) (above n (omega arith)) ∙ above-pieces n k m (λ i below. within i (omega arith)) (λ i below. above i (omega arith))
 
+  -- what lies below all of them stays
+  pub below-pieces : (n k m : ℕ) → LieWithin n → ((i : ℕ) → i < n → m + k ≤ place i) → take k (drop m (written place bytes n xs)) ≡ take k (drop m xs)
+  below-pieces zero k m within below = refl
+  below-pieces (suc n) k m within below =
+      let before : length (written place bytes n xs) ≡ length xs = length-pieces n (λ i less. within i (omega arith)) in
+      below-written (written place bytes n xs) (bytes n) (place n) k m (omega (arith, before, within n (omega arith))) (below n (omega arith)) ∙ below-pieces n k m (λ i less. within i (omega arith)) (λ i less. below i (omega arith))
+
   -- each piece stands at its place, where those behind it lie above it
   pub read-pieces : (n j : ℕ) → LieWithin n → ((i : ℕ) → j < i → i < n → place j + length (bytes j) ≤ place i) → j < n → take (length (bytes j)) (drop (place j) (written place bytes n xs)) ≡ bytes j
   read-pieces zero j within rise below = absurd (omega arith)

@@ -39,6 +39,8 @@ pub record HasBegun (s : Signature) (arguments : List ValueTree) (pointer : ℕ)
   pub arguments_stand : arguments_in s.arguments (stack_at after.sp (block_bytes s) after) ≡ arguments
   pub sp : after.sp + need_of amd64 s ≡ before.sp
   pub above : (address count : ℕ) → before.sp ≤ address → stack_at address count after ≡ stack_at address count before
+  -- also where the mark was lower before
+  pub below : (address count : ℕ) → STACK ≤ address → address + count ≤ after.sp → stack_at address count after ≡ stack_at address count before
   pub mark : min before.mark after.sp ≤ after.mark
   pub code : after.code ≡ before.code
   pub room : after.spare_events ≡ before.spare_events + 1
@@ -65,6 +67,7 @@ pub record IsMade (s : Signature) (arguments : List ValueTree) (pointer : ℕ) (
   pub target : after.target ≡ Amd64
   pub sp : after.sp ≡ before.sp
   pub above : (address count : ℕ) → before.sp ≤ address → stack_at address count after ≡ stack_at address count before
+  pub below : (address count : ℕ) → STACK ≤ address → address + count + need_of amd64 s ≤ before.sp → stack_at address count after ≡ stack_at address count before
   pub mark : min before.mark (before.sp - need_of amd64 s) ≤ after.mark
   pub code : after.code ≡ before.code
   pub room : after.spare_events ≡ before.spare_events

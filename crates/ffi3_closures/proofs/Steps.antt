@@ -1,5 +1,5 @@
 -- Steps, one after another.
-use Rattle.std.proofs.Common.{◌≡◌, ℕ, zero, suc, ◌+◌, subst, sym, refl, arith}
+use Rattle.std.proofs.Common.{◌≡◌, ℕ, zero, suc, ◌+◌, subst, refl, arith}
 use Rattle.ffi3_machine.specs.State.{State}
 use Rattle.ffi3_machine.specs.Step.{Steps, TakesSteps}
 

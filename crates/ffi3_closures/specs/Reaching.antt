@@ -11,7 +11,7 @@ abbrev pub jumped_through : Option ℕ → List ℕ → List ℕ
 jumped_through None general = general
 jumped_through (Some jump) general = slice_set general jump ENTRY
 
--- From pc at a slot: pc is ENTRY, the closure register has the slot's address, and all else stays
+-- From pc at a slot: pc is ENTRY, the closure register has the slot's address, the register that the trampoline jumps through, if any, has ENTRY, and all else stays
 abbrev pub reached_by : Isa → State → State
 reached_by isa s = record s {
   general = slice_set (jumped_through (jump_register isa) s.general) (closure_register isa) s.pc;

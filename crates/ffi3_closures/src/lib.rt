@@ -28,6 +28,7 @@ use arrayvec::ArrayVec;
 use ffi3_machine::{CODE, Machine};
 pub use ffi3_run_rules::Closure;
 use ffi3_type_rules::Isa;
+use ffi3_type_rules::limits::SLOT_BYTES;
 use std::marker::Model;
 
 /// 256 closures are live.
@@ -62,17 +63,17 @@ impl Table {
         }
     }
 
-    // The lowest slot that is free, or 256.
+    // The lowest slot that is free, or the number of slots.
     fn first_free(&self) -> usize
         ensures value { result ≡ first_free self.now }
         ensures high { result ≤ 256 }
     {
-        for k in 0..256usize {
+        for k in 0..self.slots.len() {
             if self.slots[k].is_none() {
                 return k;
             }
         }
-        256
+        self.slots.len()
     }
 
     // Writes the entry of a slot.
@@ -106,11 +107,12 @@ impl Table {
     {
         let _slots = &self.slots;
         let k = self.first_free();
-        if k == 256 {
+        let full = k == self.slots.len();
+        if full {
             return Err(TableFull);
         }
         let closure = Closure { func, sig, user };
-        let addr = CODE + 64 * k as u64;
+        let addr = CODE + SLOT_BYTES * k as u64;
         machine.write_code(addr, &live_slot(machine.target().isa(), closure));
         self.put(k, Some(closure));
         Ok(addr)
@@ -144,7 +146,11 @@ impl Table {
         ensures slot { IfSome result (λ c. IsSlot addr) }
     {
         let k = slot_number(addr)?;
-        if k < 256 { self.slots[k] } else { None }
+        if k < self.slots.len() {
+            self.slots[k]
+        } else {
+            None
+        }
     }
 
     /// Runs the trampoline of the live slot at pc: three steps, of which none traps. Then pc is ENTRY and the closure
@@ -172,8 +178,12 @@ fn slot_number(addr: u64) -> Option<usize>
     if addr < CODE {
         return None;
     }
-    let at = (addr - CODE) as usize;
-    if at % 64 == 0 { Some(at / 64) } else { None }
+    let at = addr - CODE;
+    if at % SLOT_BYTES == 0 {
+        Some((at / SLOT_BYTES) as usize)
+    } else {
+        None
+    }
 }
 
 // The first 32 bytes of a live slot.

@@ -25,6 +25,7 @@ pub use reason::{Reason, reason_text};
 pub use serde_json::Value as Json;
 pub use signature::{push_way, read_signature, reason_of_type};
 pub use types::{read_node, read_type};
+use ffi3_type_rules::limits::LONGEST_SCRIPT;
 
 /// The greatest length of a script in bytes.
-pub const MAX_LENGTH: usize = 1_048_576;
+pub const MAX_LENGTH: usize = LONGEST_SCRIPT as usize;

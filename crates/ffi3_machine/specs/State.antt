@@ -7,11 +7,12 @@ use Rattle.ffi3_type_rules.specs.declared.Isa.{Isa}
 use Rattle.ffi3_type_rules.specs.declared.Isa.TheVariants.{Amd64, Aarch64, Riscv}
 use Rattle.ffi3_type_rules.specs.Isa.{isa_of}
 use Rattle.ffi3_type_rules.specs.declared.limits.TheConstants.{STACK, STACK_TOP, STACK_BYTES, CODE, CODE_BYTES, RETURN, SLOTS, SLOT_BYTES}
+use Rattle.ffi3_place_rules.specs.declared.Loc.TheVariants.{G, F}
 use Rattle.ffi3_place_rules.specs.Image.{Image}
 use Rattle.ffi3_place_rules.specs.Event.{EventKind, enters, leaves, Event}
-use Rattle.ffi3_place_rules.specs.Isa.{pushed_bytes, link_register, is_reserved, is_zero_register, closure_register}
+use Rattle.ffi3_place_rules.specs.Isa.{pushed_bytes, link_register, is_reserved, is_zero_register, closure_register, scribble}
 
--- Byte i of `stack` stands at STACK + i, and byte i of `code` at CODE + i. `mark` is the lowest stack address written since the machine began.
+-- Byte i of `stack` stands at STACK + i, and byte i of `code` at CODE + i. `mark` is the lowest stack address written since the machine began, STACK_TOP where none was.
 -- There is room in the journal for `spare_events` further events with `spare_bytes` bytes of stack in all.
 pub record State : Type 0 where
   pub target : Target
@@ -29,10 +30,10 @@ pub record State : Type 0 where
 -- ---- registers, by their numbers
 
 abbrev pub scribble_general : ℕ → ℕ → ℕ
-scribble_general n k = (0xA5A5000000000000 + 64 * n + k) % 2 ^ 64
+scribble_general n k = scribble n (G k)
 
 abbrev pub scribble_floating : ℕ → ℕ → ℕ
-scribble_floating n k = (0x5A5A000000000000 + 64 * n + k) % 2 ^ 64
+scribble_floating n k = scribble n (F k)
 
 -- general register k after a scribble, where it was `old`: a reserved one is left
 abbrev pub scribbled_register : Isa → ℕ → ℕ → ℕ → ℕ
@@ -144,7 +145,7 @@ LieInStack addr len = 0 < len → (STACK ≤ addr) × (addr + len ≤ STACK_TOP)
 
 -- RETURN is the return address: in the link register, or at sp where a call pushes it (System V psABI AMD64, "The Stack Frame")
 abbrev pub HasReturn : Option ℕ → List ℕ → ℕ → List ℕ → Type 0
-HasReturn None general sp stack = take 8 (drop (sp - STACK) stack) ≡ to_le_bytes w64 RETURN
+HasReturn None general sp stack = (STACK ≤ sp) × (take 8 (drop (sp - STACK) stack) ≡ to_le_bytes w64 RETURN)
 HasReturn (Some link) general sp stack = get_or general link 0 ≡ RETURN
 
 abbrev pub IsReturn : State → Type 0

@@ -1,4 +1,4 @@
--- What one instruction does. (Intel 64 and IA-32 Architectures Software Developer's Manual, volume 2; Arm Architecture Reference Manual for A-profile, C6.2; RISC-V unprivileged ISA, 2.4 to 2.6)
+-- What one instruction does. (Intel 64 and IA-32 Architectures Software Developer's Manual, volume 2; Arm Architecture Reference Manual for A-profile, C6.2; RISC-V unprivileged ISA, 2.4 to 2.6, and RV64I)
 use Rattle.std.specs.Prelude.{◌≡◌, ℕ, zero, suc, ⊤, ◌+◌, ◌-◌, ◌%◌, ◌^◌, ◌≤◌, Bool, false, ◌&&◌, ◌==◌, nat_le, if◌then◌else◌, ℤ, List, drop, slice_index, slice_set, Option, Some, None, option_map}
 use Rattle.std.specs.Int.{w64, cast_unsigned}
 use Rattle.ffi3_memory.specs.Memory.{number_of}
@@ -109,7 +109,7 @@ IsListed Amd64 bytes instr size = IsAmd64 bytes instr size
 IsListed Aarch64 bytes instr size = IsAarch64 bytes instr size
 IsListed Riscv bytes instr size = IsRiscv bytes instr size
 
--- where an instruction may stand (Arm ARM D1.3.4, RISC-V unprivileged ISA 1.5)
+-- where an instruction may stand (Arm ARM, "PC alignment checking"; RISC-V unprivileged ISA 1.5)
 abbrev pub IsAligned : Isa → ℕ → Type 0
 IsAligned Amd64 pc = ⊤
 IsAligned Aarch64 pc = pc % 4 ≡ 0

@@ -55,6 +55,8 @@ fn begins(rt: &impl Abort, m: &mut Machine, row: Row) {
     assert_eq!(rt; m.lend_code(0x13FFC, 4), row.free.as_slice());
     m.fill_stack(STACK_TOP - 32, 0, 1);
     assert_eq!(rt; m.sp(), STACK_TOP);
+    m.set_sp(8);
+    assert_eq!(rt; m.sp(), 8);
     assert_eq!(rt; m.pc(), RETURN);
     assert_eq!(rt; m.mark(), STACK_TOP);
     m.scribble(2);
@@ -71,4 +73,6 @@ fn calls(rt: &impl Abort, m: &mut Machine, row: Row)
     assert!(rt; m.step().is_err());
     assert_eq!(rt; m.pc(), CODE + 64);
     assert_eq!(rt; m.events().len(), 0);
+    m.copy_stack(STACK_TOP - 16, STACK_TOP - 15, 2);
+    assert_eq!(rt; m.lend_stack(STACK_TOP - 16, 4), [1, 1, 2, 0xA5].as_slice());
 }

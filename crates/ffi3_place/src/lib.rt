@@ -8,6 +8,7 @@ ghost use Rattle.ffi3_place_rules.specs.Standard.{Standard, plan_of};
 ghost use Rattle.ffi3_place_rules.specs.Sound.{IsSound, IsDetermined};
 ghost use Rattle.ffi3_place_rules.specs.Agrees.{AgreesWithMachine};
 
+pub mod ends;
 pub mod parts;
 
 pub use ffi3_place_rules::{Ext, Loc, Piece, Pieces, Place, Places, Plan, Res, SaveWord};

@@ -1,14 +1,12 @@
 -- Pieces that are filled as the standard says: doublewords of one value, and references.
-use Rattle.std.proofs.Common.{◌≡◌, ℕ, zero, suc, ◌+◌, ◌*◌, true, false, List, [], ◌∷◌, ◌++◌, refl, arith}
+use Rattle.std.proofs.Common.{◌≡◌, ℕ, zero, suc, ◌+◌, true, false, refl}
 use Rattle.std.specs.List.{AllByRecursion}
-use Rattle.ffi3_type_rules.specs.Tree.{Tree, void, scalar, left_out, structure, Scalar, u8, s8, u16, s16, u32, s32, u64, s64, float, double, pointer}
+use Rattle.ffi3_type_rules.specs.Tree.{Tree, void, scalar, left_out, structure, u8, s8, u16, s16, u32, s32, u64, s64, float, double, pointer}
 use Rattle.ffi3_type_rules.specs.Layout.{size_of}
 use Rattle.ffi3_place_rules.specs.declared.Loc.{Loc}
-use Rattle.ffi3_place_rules.specs.declared.Loc.TheVariants.{G, F, S}
 use Rattle.ffi3_place_rules.specs.declared.Ext.{Ext}
-use Rattle.ffi3_place_rules.specs.declared.Piece.{Piece}
-use Rattle.ffi3_place_rules.specs.Standard.{Standard, doubleword}
-use Rattle.ffi3_place_rules.specs.Doublewords.{doublewords, doublewords_at, filling}
+use Rattle.ffi3_place_rules.specs.Standard.{Standard}
+use Rattle.ffi3_place_rules.specs.Doublewords.{doublewords_at, filling}
 use Rattle.ffi3_place_rules.specs.Sound.{is_narrow_integer, is_floating_place, IsFilled}
 
 -- a lone narrow integer's filling is the one given

@@ -10,3 +10,5 @@ pub mod Aligned
 pub mod Filled
 pub mod Elements
 pub mod Worked
+pub mod Copies
+pub mod Planned

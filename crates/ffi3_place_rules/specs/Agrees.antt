@@ -1,9 +1,7 @@
 -- A calling standard agrees with the machine of its target, and its registers do not get in one another's way.
-use Rattle.std.specs.Prelude.{◌≡◌, ℕ, ◌+◌, ◌*◌, ◌%◌, Bool, true, false, List, [], ◌∷◌, ◌++◌, length}
+use Rattle.std.specs.Prelude.{◌≡◌, ◌+◌, ◌*◌, ◌%◌, Bool, true, false, List, [], ◌∷◌, ◌++◌, length}
 use Rattle.std.specs.List.{AllByRecursion, flat_map, count_by}
-use Rattle.ffi3_type_rules.specs.declared.Isa.{Isa}
 use Rattle.ffi3_type_rules.specs.Isa.{isa_of}
-use Rattle.ffi3_type_rules.specs.Tree.{Tree}
 use Rattle.ffi3_place_rules.specs.declared.Loc.{Loc}
 use Rattle.ffi3_place_rules.specs.declared.Loc.TheVariants.{G}
 use Rattle.ffi3_place_rules.specs.declared.SaveWord.{SaveWord}
@@ -49,9 +47,9 @@ pub record AgreesWithMachine (std : Standard) : Type 0 where
   pub preserved_exist : AllByRecursion (LiesIn (isa_of std.target) 0) std.preserved
   pub preserved_apart : AreApart std.preserved
   pub preserved_plain : AllByRecursion (IsNoneOf (special std)) std.preserved
-  -- the registers that tell the vector count and return a hidden result's address are registers, and none of those that are given back or reserved
+  -- the registers that tell the vector count and return a hidden result's address are registers, and none of those that are given back or reserved, and the first none that a trampoline writes
   pub count_exists : AllByRecursion (LiesIn (isa_of std.target) 0) (listed std.vector_count)
-  pub count_plain : AllByRecursion (IsNoneOf (given_back std ++ std.reserved)) (listed std.vector_count)
+  pub count_plain : AllByRecursion (IsNoneOf (given_back std ++ (std.reserved ++ std.trampoline_registers))) (listed std.vector_count)
   pub returned_exists : AllByRecursion (LiesIn (isa_of std.target) 0) (listed std.returned_address)
   pub returned_plain : AllByRecursion (IsNoneOf (given_back std ++ std.reserved)) (listed std.returned_address)
   -- the save area has each register that is given back, once, no other one, and one word for a hidden result's address

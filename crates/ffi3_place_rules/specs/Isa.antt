@@ -1,5 +1,5 @@
 -- What an instruction set's machine has: its registers by number, and what a call and a closure's trampoline do with them. (System V psABI AMD64, "Register Usage"; Arm AAPCS64 6.1.1 and 6.1.2; RISC-V ELF psABI, "Register Convention")
-use Rattle.std.specs.Prelude.{◌≡◌, ℕ, Bool, false, ◌==◌, ⊤, List, [], ◌∷◌, map, Option, Some, None, option_map}
+use Rattle.std.specs.Prelude.{◌≡◌, ℕ, ◌+◌, ◌*◌, ◌%◌, ◌^◌, Bool, false, ◌==◌, ⊤, List, [], ◌∷◌, map, Option, Some, None, option_map}
 use Rattle.std.specs.List.{list_any}
 use Rattle.ffi3_type_rules.specs.declared.Isa.{Isa}
 use Rattle.ffi3_type_rules.specs.declared.Isa.TheVariants.{Amd64, Aarch64, Riscv}
@@ -36,7 +36,7 @@ link_register Amd64 = None
 link_register Aarch64 = Some 30
 link_register Riscv = Some 1
 
--- the registers that nothing writes once the machine began: the platform register x18; zero, gp and tp
+-- the registers that neither side of a call writes: the platform register x18; zero, gp and tp
 abbrev pub reserved_registers : Isa → List ℕ
 reserved_registers Amd64 = []
 reserved_registers Aarch64 = 18 ∷ []
@@ -84,3 +84,11 @@ abbrev pub IsWritten : Isa → Loc → Type 0
 IsWritten isa (G k) = is_zero_register isa k ≡ false
 IsWritten isa (F k) = ⊤
 IsWritten isa (S n) = ⊤
+
+-- ---- what a register holds that carries nothing
+
+-- What a register that carries nothing holds at the event of number n. The number is in it, so that preserved registers differ from call to call. (This library's)
+abbrev pub scribble : ℕ → Loc → ℕ
+scribble n (G k) = (0xA5A5000000000000 + 64 * n + k) % 2 ^ 64
+scribble n (F k) = (0x5A5A000000000000 + 64 * n + k) % 2 ^ 64
+scribble n (S k) = 0

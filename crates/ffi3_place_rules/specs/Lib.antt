@@ -7,3 +7,5 @@ pub mod Sound
 pub mod Agrees
 pub mod Doublewords
 pub mod Sums
+pub mod Copies
+pub mod Planned

@@ -125,10 +125,10 @@ is_floating_place (F r) = true
 is_floating_place (G r) = false
 is_floating_place (S n) = false
 
--- What fills the rest of a place suits its piece: an extended one is a whole narrow integer, a boxed one has four bytes.
+-- What fills the rest of a place suits its piece: an extended one is a whole narrow integer, a boxed one has four bytes in a floating register.
 abbrev pub IsExtended : Tree → Piece → Ext → Type 0
 IsExtended t p Free = ⊤
-IsExtended t p Boxed = p.len ≡ 4
+IsExtended t p Boxed = (is_floating_place p.loc ≡ true) × (p.len ≡ 4)
 IsExtended t p Widen = (is_narrow_integer t ≡ true) × (p.off ≡ 0) × (p.len ≡ size_of t)
 IsExtended t p Riscv = (is_narrow_integer t ≡ true) × (p.off ≡ 0) × (p.len ≡ size_of t)
 

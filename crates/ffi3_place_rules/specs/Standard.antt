@@ -31,6 +31,7 @@ pub record Placing : Type 0 where
   pub arguments : List Spot
   pub result_spot : ResultSpot
   pub stack_bytes : ℕ
+  -- what the register `vector_count` tells; 0 where the standard has none
   pub vector_registers : ℕ
 
 -- What a standard names of the machine of its target (`link`, `stack_pointer`, `reserved`, `link_register`, `closure_register`, `trampoline_registers`) is what the machine has; `AgreesWithMachine` is that law.
@@ -71,7 +72,7 @@ doubleword at j n e = record { loc = at; off = 8 * j; len = min 8 (n - 8 * j); e
 
 -- ---- where one thing begins after another
 
--- At once: no type is aligned to more than eight bytes, and all that stands in doublewords ends at a multiple of eight.
+-- Directly behind it: each end is a multiple of eight, and no type is aligned to more than eight bytes.
 abbrev pub at_once : ℕ → Tree → ℕ
 at_once end t = end
 

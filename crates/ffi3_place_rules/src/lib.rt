@@ -174,7 +174,8 @@ pub enum SaveWord {
     Spare,
 }
 
-/// The general registers, the floating registers and the bytes of stack that earlier arguments take.
+/// The general registers, the floating registers and the bytes of stack that earlier arguments take. AAPCS64 counts on
+/// past the last register, so that none is free any more.
 #[derive(Clone, Copy, Debug)]
 pub struct Taken {
     pub general: u64,

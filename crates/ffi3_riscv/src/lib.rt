@@ -11,16 +11,16 @@ ghost use Rattle.ffi3_types.specs.TreeOf.{tree_of};
 ghost use Rattle.ffi3_place_rules.specs.Standard.{at_once, place_at, copy_end, places_from, copies_end, result_at, buffer_end, round8};
 ghost use Rattle.ffi3_place_rules.specs.Doublewords.{doublewords};
 ghost use Rattle.ffi3_riscv_rules.specs.Riscv.{is_word_integer, integer_shape, shape_of, words_of, floats_of, registers_suffice, passed_as, word, extension, boxing, floating_piece, integer_piece, word_pieces, spot_of, is_fixed, used_with, used_at_first, used_by_all, spots_after, result_shape, result_spot_of, is_by_reference, stack_of, unused};
-ghost use Rattle.ffi3_riscv_rules.specs.Copies.{buffer_size};
 ghost use Rattle.ffi3_riscv_rules.proofs.Shapes.{Suits, HasRoom};
 
 pub mod laws;
 #[cfg(test)]
 mod tests;
 
+use ffi3_place::ends::{buffer_end, copy_end, planned};
 use ffi3_place::parts::{
     argument, count_of, doubleword, doublewords, filling, is_floating, leaf_piece, result_type,
-    size_of, sizes_of,
+    size_of,
 };
 use ffi3_place::{Abi, Ext, Loc, Piece, Pieces, Place, Places, Plan, Res, SaveWord};
 pub use ffi3_riscv_rules::Shape;
@@ -390,19 +390,6 @@ fn stack_of(used: Used) -> u64
     }
 }
 
-/// The bytes of an argument's copy.
-fn copy_of(ty: &FfiType, shape: Shape) -> u64
-    requires { HasNoFault 0 true (tree_of ty.now) }
-    ensures value { result ≡ cond (is_by_reference shape) (round8 (size_of (tree_of ty.now))) 0 }
-    ensures small { result ≤ 1032 }
-{
-    if let Shape::ByRef = shape {
-        round_up(size_of(ty), 8)
-    } else {
-        0
-    }
-}
-
 /// The places of all arguments, and where their copies end.
 #[derive(Drop)]
 struct Placed {
@@ -423,8 +410,9 @@ fn place_all(alloc: Global, sig: &Sig, start: u64) -> Result<Placed, NoMemory>
     for i in 0..count_of(sig) {
         let ty = argument(sig, i);
         let shape = passed_as(before, is_fixed(sig, i), ty);
-        places.push(place_of(alloc, before, ty, shape, copy)?)?;
-        copy += copy_of(ty, shape);
+        let place = place_of(alloc, before, ty, shape, copy)?;
+        copy = copy_end(&place, ty, copy);
+        places.push(place)?;
         before = used_with(before, shape);
     }
     Ok(Placed { places, end: copy })
@@ -444,15 +432,6 @@ fn place_result(alloc: Global, ty: &FfiType, buffer: u64) -> Result<Res, NoMemor
         Place::Direct(pieces) => Ok(Res::Direct(pieces)),
         Place::ByRef { at, copy } => Ok(Res::Hidden { at, buffer: copy }),
     }
-}
-
-/// The bytes of a hidden result's buffer.
-fn buffer_of(ty: &FfiType) -> u64
-    requires { HasNoFault 0 true (tree_of ty.now) }
-    ensures value { result ≡ buffer_size (tree_of ty.now) (result_spot_of (tree_of ty.now)) }
-    ensures small { result ≤ 1032 }
-{
-    copy_of(ty, result_shape(ty))
 }
 
 /// s0 to s11 and fs0 to fs11, which a callee saves.
@@ -533,20 +512,11 @@ impl Abi for Riscv {
 
     fn plan(alloc: Global, sig: &Sig) -> Result<Plan, NoMemory> {
         let used = used_by_all(sig);
-        let start = round_up(stack_of(used), 16);
-        let all = place_all(alloc, sig, start)?;
+        let all = place_all(alloc, sig, round_up(stack_of(used), 16))?;
         let ret = result_type(sig);
-        let frame = round_up(all.end + buffer_of(ret), 16);
-        let block = round_up(sizes_of(sig), 16);
         let res = place_result(alloc, ret, all.end)?;
-        Ok(Plan {
-            places: all.places,
-            res,
-            need: frame + Self::LINK + Self::SAVE + block,
-            frame,
-            block,
-            vectors: 0,
-        })
+        let end = buffer_end(&res, ret, all.end);
+        Ok(planned(sig, all.places, res, end, Self::LINK + Self::SAVE, 0))
     }
 
     ghost use Rattle.std.specs.Prelude.{refl};

@@ -27,13 +27,13 @@ words_have_all w t count e =
 
 -- ---- leaves
 
-boxes : (t : Tree) (at : Loc) (o : ℕ) (s : Scalar) → IsExtended t (leaf_piece at (boxing s) (record { at = o; kind = s })) (boxing s)
-boxes t at o float = refl
-boxes t at o _ = tt
+boxes : (t : Tree) (r o : ℕ) (s : Scalar) → IsExtended t (leaf_piece (F r) (boxing s) (record { at = o; kind = s })) (boxing s)
+boxes t r o float = (refl, refl)
+boxes t r o _ = tt
 
 floating_piece_of : (t : Tree) (f : ℕ) (l : Leaf) → EndsIn (size_of t) l → IsPieceOf t (floating_piece f l)
 floating_piece_of t f l h =
-    leaf_is_piece t (F (floating_register f)) (boxing l.kind) l h (boxes t (F (floating_register f)) l.at l.kind)
+    leaf_is_piece t (F (floating_register f)) (boxing l.kind) l h (boxes t (floating_register f) l.at l.kind)
 
 integer_piece_of : (t : Tree) (w : ℕ) (l : Leaf) → EndsIn (size_of t) l → IsPieceOf t (integer_piece w l)
 integer_piece_of t w l h = leaf_is_piece t (G (argument_register w)) Free l h tt

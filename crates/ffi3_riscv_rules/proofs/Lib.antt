@@ -4,7 +4,6 @@ pub mod Registers
 mod Filled
 pub mod Agrees
 pub mod Sound
-pub mod Copies
 pub mod Sums
 pub mod Turns
 mod Rows

@@ -8,7 +8,7 @@ use Rattle.ffi3_riscv_rules.specs.declared.Used.{Used}
 use Rattle.ffi3_riscv_rules.specs.Riscv.{words_of, passed_as, is_fixed, spot_of, spots_after, used_with, used_after, used_at_first, is_by_reference, result_shape, stack_of, riscv}
 use Rattle.ffi3_place_rules.specs.Sums.{sum_below}
 use Rattle.ffi3_riscv_rules.specs.Sums.{sums_before, AreChosenBySums, ArePlacedBySums, IsPlacedBySums}
-use Rattle.ffi3_riscv_rules.proofs.Copies.{copies_by_sums}
+use Rattle.ffi3_place_rules.proofs.Copies.{copies_by_sums}
 
 -- what the arguments before number i use
 abbrev pub used_before : Signature → ℕ → Used

@@ -1,3 +1,2 @@
 pub mod Riscv
-pub mod Copies
 pub mod Sums

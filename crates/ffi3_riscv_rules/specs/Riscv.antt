@@ -141,7 +141,7 @@ spot_of before t ByRef = by_reference (word before.words)
 
 -- ---- arguments
 
--- an argument is named, and no variadic one, by its number
+-- whether the argument of this number is named, not variadic
 abbrev pub is_fixed : Option ℕ → ℕ → Bool
 is_fixed None i = true
 is_fixed (Some n) i = nat_lt i n

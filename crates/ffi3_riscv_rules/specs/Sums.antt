@@ -6,7 +6,7 @@ use Rattle.ffi3_place_rules.specs.Sums.{sum_below}
 use Rattle.ffi3_riscv_rules.specs.declared.Shape.{Shape}
 use Rattle.ffi3_riscv_rules.specs.declared.Used.{Used}
 use Rattle.ffi3_riscv_rules.specs.Riscv.{words_of, floats_of, passed_as, is_fixed, spot_of, result_shape, is_by_reference, stack_of, placing_of, riscv}
-use Rattle.ffi3_riscv_rules.specs.Copies.{CopiesBySums}
+use Rattle.ffi3_place_rules.specs.Copies.{CopiesBySums}
 
 -- how each argument is passed, by its number
 module _ (s : Signature) (passed : ℕ → Shape) where

@@ -9,9 +9,10 @@ use Rattle.ffi3_amd64_rules.specs.Amd64.{amd64}
 use Rattle.ffi3_run_rules.specs.declared.Closure.{Closure}
 use Rattle.ffi3_run_rules.specs.declared.Stop.TheVariants.{MoveLimit}
 use Rattle.ffi3_run_rules.specs.Closures.{Closures}
-use Rattle.ffi3_run_rules.specs.Happenings.{Leave, written_out}
+use Rattle.ffi3_run_rules.specs.Happenings.{Enter, Leave, written_out}
 use Rattle.ffi3_run_rules.specs.Journal.{events_in, stack_top, IsEntry}
-use Rattle.ffi3_run_rules.specs.Lines.{text, a_line, stop_text}
+use Rattle.ffi3_run_rules.specs.Lines.{untraced, Point, at_start, past, text, a_line, stop_text}
+use Rattle.ffi3_run_rules.proofs.Texts.{untraced-append, untraced_anywhere}
 use Rattle.ffi3_run_rules.specs.Move.{call}
 use Rattle.ffi3_run_rules.specs.Meaning.{Program, Acting, enters, Deeds, no_deeds, deed, called, stop_line, End, returned, stopped, Outcome, stops_with, act, doing, resumed, resumed_after, need_at, callee_of, peak_of}
 use Rattle.ffi3_machine.specs.State.{State}
@@ -27,7 +28,7 @@ use Rattle.ffi3_run.specs.Moment.{Moment, moment, main_after, rest_of, asking, I
 use Rattle.ffi3_run.specs.Leaf.{LeafCame, returning}
 use Rattle.ffi3_run.proofs.Acts.{act_enters}
 use Rattle.ffi3_run.proofs.Answering.{called_answers, stopped_answers}
-use Rattle.ffi3_run.proofs.Joining.{text-joined, text-append, events_in-append, events_in-joined, joined_none}
+use Rattle.ffi3_run.proofs.Joining.{text-joined, events_in-append, events_in-joined, joined_none}
 use Rattle.ffi3_run.proofs.Lines.{took_then, took_as, cut_after, cut_in}
 use Rattle.ffi3_run.proofs.Turns.{more_follow, still_few}
 
@@ -53,15 +54,19 @@ module _ (p : Program) (ptr sig : ℕ) (args : List ValueTree) (inside : Deeds) 
       let e : events_in ((lines ++ []) ++ []) ≡ events_in lines = ap events_in (append-nil (lines ++ [])) ∙ ap events_in (append-nil lines) in
       omega (arith, e, quiet)
 
+  -- inside the call
+  abbrev entered : Point
+  entered = past p.signatures at_start (Enter ptr sig args)
+
   returned_text : (r : ValueTree) → text_of p (returning_call r) ≡ text_of p inside
   returned_text r =
       let lines = written_out inside in
-      ap (text p.signatures) (append-nil (lines ++ Leave sig r ∷ [])) ∙ text-append p.signatures lines (Leave sig r ∷ []) ∙ append-nil (text p.signatures lines)
+      ap (text untraced p.signatures entered) (append-nil (lines ++ Leave sig r ∷ [])) ∙ untraced-append p.signatures entered lines (Leave sig r ∷ []) ∙ append-nil (text untraced p.signatures entered lines) ∙ untraced_anywhere p.signatures entered at_start lines
 
   stopped_text : text_of p stopped_call ≡ text_of p inside
   stopped_text =
       let lines = written_out inside in
-      ap (text p.signatures) (append-nil (lines ++ [])) ∙ ap (text p.signatures) (append-nil lines)
+      ap (text untraced p.signatures entered) (append-nil (lines ++ [])) ∙ ap (text untraced p.signatures entered) (append-nil lines) ∙ untraced_anywhere p.signatures entered at_start lines
 
   -- whatever follows it
   pub text_first : (a : Acting) (o : Outcome) (e : End) → o.deeds ≡ inside → (tail : List ℕ) × (text_of p (resumed (act p) a ptr sig args o e).deeds ≡ text_of p inside ++ tail)

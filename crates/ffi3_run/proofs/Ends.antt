@@ -19,7 +19,8 @@ use Rattle.ffi3_run.specs.declared.line.Cut.{Cut}
 use Rattle.ffi3_run.specs.declared.line.Cut.TheVariants as cut
 use Rattle.ffi3_run.specs.declared.run.RunEnd.{RunEnd}
 use Rattle.ffi3_run.specs.declared.run.RunEnd.TheVariants as run
-use Rattle.ffi3_run.specs.Told.{Took, IsTold, WrotePart, text_of_run}
+use Rattle.ffi3_run.specs.Told.{Took, IsTold, WrotePart}
+use Rattle.ffi3_run_rules.specs.Lines.{untraced, text_of_run}
 use Rattle.ffi3_run.specs.Deeds.{AnswersAfter}
 use Rattle.ffi3_run.specs.Moment.{Moment, moment, IsBetween, Came, CutIn, Ran}
 use Rattle.ffi3_run.proofs.Lines.{whole_part}
@@ -60,7 +61,7 @@ reaches top first last peak is (inl h) = omega arith
 reaches top first last peak is (inr h) = h
 
 module _ (p : Program) (m : State) (o : Took) (last : Moment) (none : m.events ≡ []) (mark : m.mark ≡ STACK_TOP) where
-  pub told : (end : End) → Came p end (start m o) last → IsTold amd64 p o last.scene.output last.scene.machine
+  pub told : (end : End) → Came p end (start m o) last → IsTold untraced amd64 p o last.scene.output last.scene.machine
   told end came =
       let added : last.scene.machine.events ≡ came.done.events = came.done.added ∙ ap (λ (l : List Event). l ++ came.done.events) none in
       let P = λ (k : ℕ). AnswersAfter p k (happenings_of p) came.done.events in
@@ -74,15 +75,15 @@ module _ (p : Program) (m : State) (o : Took) (last : Moment) (none : m.events �
         mark = reaches stack_top m.mark last.scene.machine.mark (peak_of p (meaning_of p).deeds) mark came.done.mark;
       }
 
-  part_of_all : (end : End) → Came p end (start m o) last → WrotePart p o last.scene.output
+  part_of_all : (end : End) → Came p end (start m o) last → WrotePart untraced p o last.scene.output
   part_of_all end came =
-      whole_part o.taken last.scene.output.taken (text_of_run p) came.done.lines.added
+      whole_part o.taken last.scene.output.taken (text_of_run untraced p) came.done.lines.added
 
-  part_of_cut : (why : Cut) → CutIn p (start m o) last why → WrotePart p o last.scene.output
+  part_of_cut : (why : Cut) → CutIn p (start m o) last why → WrotePart untraced p o last.scene.output
   part_of_cut why h = (h.part, h.written)
 
   -- what each answer says
-  pub ran_done : (t : RunEnd) → Ran p (start m o) last t → t ≡ run.Done → IsTold amd64 p o last.scene.output last.scene.machine
+  pub ran_done : (t : RunEnd) → Ran p (start m o) last t → t ≡ run.Done → IsTold untraced amd64 p o last.scene.output last.scene.machine
   ran_done run.Done ran is = told (returned void_value) ran
   ran_done (run.Stopped stop) ran is = cc
   ran_done run.NoMemory ran is = cc
@@ -94,7 +95,7 @@ module _ (p : Program) (m : State) (o : Took) (last : Moment) (none : m.events �
   ran_returned run.NoMemory ran is = cc
   ran_returned run.Failed ran is = cc
 
-  pub ran_stopped : (t : RunEnd) → Ran p (start m o) last t → (stop : Stop) → t ≡ run.Stopped stop → IsTold amd64 p o last.scene.output last.scene.machine
+  pub ran_stopped : (t : RunEnd) → Ran p (start m o) last t → (stop : Stop) → t ≡ run.Stopped stop → IsTold untraced amd64 p o last.scene.output last.scene.machine
   ran_stopped run.Done ran stop is = cc
   ran_stopped (run.Stopped other) ran stop is = told (stopped other) ran
   ran_stopped run.NoMemory ran stop is = cc
@@ -129,7 +130,7 @@ module _ (p : Program) (m : State) (o : Took) (last : Moment) (none : m.events �
   ran_never_falls run.NoMemory ran = no_fewer o.faults last.scene.output.faults ran.cause
   ran_never_falls run.Failed ran = ran.cause.1
 
-  pub ran_part : (t : RunEnd) → Ran p (start m o) last t → WrotePart p o last.scene.output
+  pub ran_part : (t : RunEnd) → Ran p (start m o) last t → WrotePart untraced p o last.scene.output
   ran_part run.Done ran = part_of_all (returned void_value) ran
   ran_part (run.Stopped stop) ran = part_of_all (stopped stop) ran
   ran_part run.NoMemory ran = part_of_cut cut.NoMemory ran

@@ -4,7 +4,8 @@ use Rattle.ffi3_type_rules.specs.Signature.{Signature}
 use Rattle.ffi3_place_rules.specs.Event.{Event}
 use Rattle.ffi3_run_rules.specs.Happenings.{Happening, Enter, Line, Leave, StopLine, written_out, written_out_one}
 use Rattle.ffi3_run_rules.specs.Journal.{events_in}
-use Rattle.ffi3_run_rules.specs.Lines.{text, text_of}
+use Rattle.ffi3_run_rules.specs.Lines.{untraced, at_start, text}
+use Rattle.ffi3_run_rules.proofs.Texts.{untraced-append}
 use Rattle.ffi3_run_rules.specs.Meaning.{Program, Deeds, no_deeds, deed, Outcome, peak_of}
 use Rattle.ffi3_run.specs.Deeds as deeds
 use Rattle.ffi3_run.specs.Deeds.{joined, preceded, AnswersAfter, AnswersFirst}
@@ -14,14 +15,9 @@ written_out-joined no_deeds es = refl
 written_out-joined (deed d ds) es =
     ap (λ (l : List Happening). written_out_one d ++ l) (written_out-joined ds es) ∙ sym (append_assoc (written_out_one d) (written_out ds) (written_out es))
 
-pub text-append : (ss : List Signature) (a b : List Happening) → text ss (a ++ b) ≡ text ss a ++ text ss b
-text-append ss [] b = refl
-text-append ss (h ∷ a) b =
-    ap (λ (l : List ℕ). text_of ss h ++ l) (text-append ss a b) ∙ sym (append_assoc (text_of ss h) (text ss a) (text ss b))
-
 pub text-joined : (p : Program) (ds es : Deeds) → deeds.text_of p (joined ds es) ≡ deeds.text_of p ds ++ deeds.text_of p es
 text-joined p ds es =
-    ap (text p.signatures) (written_out-joined ds es) ∙ text-append p.signatures (written_out ds) (written_out es)
+    ap (text untraced p.signatures at_start) (written_out-joined ds es) ∙ untraced-append p.signatures at_start (written_out ds) (written_out es)
 
 pub events_in-append : (a b : List Happening) → events_in (a ++ b) ≡ events_in a + events_in b
 events_in-append [] b = omega arith

@@ -4,7 +4,7 @@ use Rattle.ffi3_place_rules.specs.Event.{Event}
 use Rattle.ffi3_amd64_rules.specs.Amd64.{amd64}
 use Rattle.ffi3_run_rules.specs.Meaning.{Program, Deeds, no_deeds, deed, Outcome, peak_of}
 use Rattle.ffi3_run_rules.specs.Happenings.{Happening, written_out}
-use Rattle.ffi3_run_rules.specs.Lines.{text}
+use Rattle.ffi3_run_rules.specs.Lines.{untraced, at_start, text}
 use Rattle.ffi3_run_rules.specs.Journal.{Answers, events_in, stack_top}
 use Rattle.ffi3_machine.specs.State.{State}
 use Rattle.ffi3_run.specs.Told.{Took, TookLine}
@@ -19,7 +19,7 @@ preceded ds o = record o { deeds = joined ds o.deeds }
 
 -- the text of some deeds
 abbrev pub text_of : Program → Deeds → List ℕ
-text_of p ds = text p.signatures (written_out ds)
+text_of p ds = text untraced p.signatures at_start (written_out ds)
 
 -- what is seen of a run: the machine, and what the output took
 pub record Scene : Type 0 where

@@ -4,7 +4,7 @@ use Rattle.ffi3_io.specs.Sink.{Adds}
 use Rattle.ffi3_place_rules.specs.Standard.{Standard}
 use Rattle.ffi3_run_rules.specs.Meaning.{Program, meaning_of, peak_of}
 use Rattle.ffi3_run_rules.specs.Happenings.{happenings_of}
-use Rattle.ffi3_run_rules.specs.Lines.{text}
+use Rattle.ffi3_run_rules.specs.Lines.{Trace, text_of_run}
 use Rattle.ffi3_run_rules.specs.Journal.{JournalOf, IsWhole, stack_top}
 use Rattle.ffi3_machine.specs.State.{State}
 use Rattle.ffi3_closures.specs.Slots.{HoldsMap}
@@ -22,13 +22,9 @@ pub record TookLine (line : List ℕ) (before after : Took) : Type 0 where
   pub added : Adds before.taken line after.taken
   pub count : after.faults ≡ before.faults
 
--- the text of a program's direct meaning
-abbrev pub text_of_run : Program → List ℕ
-text_of_run p = text p.signatures (happenings_of p)
-
 -- THE RUN IS TOLD WHOLE: the output took exactly the text of the direct meaning, the journal is that meaning's call tree, the code region holds the bytes of the closures that are live, and no byte was written beyond the stack that the tree's calls take.
-pub record IsTold (std : Standard) (p : Program) (before after : Took) (machine : State) : Type 0 where
-  pub written : TookLine (text_of_run p) before after
+pub record IsTold (trace : Trace) (std : Standard) (p : Program) (before after : Took) (machine : State) : Type 0 where
+  pub written : TookLine (text_of_run trace p) before after
   pub target : machine.target ≡ std.target
   pub journal : JournalOf std p.signatures (happenings_of p) machine.events
   pub whole : IsWhole (happenings_of p) machine.events
@@ -36,6 +32,6 @@ pub record IsTold (std : Standard) (p : Program) (before after : Took) (machine 
   pub mark : stack_top ≤ machine.mark + peak_of p (meaning_of p).deeds
 
 -- a first part of the text of the direct meaning was written
-abbrev pub WrotePart : Program → Took → Took → Type 0
-WrotePart p before after =
-    (part : ℕ) × Adds before.taken (take part (text_of_run p)) after.taken
+abbrev pub WrotePart : Trace → Program → Took → Took → Type 0
+WrotePart trace p before after =
+    (part : ℕ) × Adds before.taken (take part (text_of_run trace p)) after.taken

@@ -7,6 +7,7 @@ ghost use Rattle.ffi3_run_rules.specs.Meaning.{meaning_of, returned, stopped};
 ghost use Rattle.ffi3_script_rules.specs.Meaning.{program_of};
 ghost use Rattle.ffi3_script_rules.specs.RunLimit.{first_not_run};
 ghost use Rattle.ffi3_script.specs.ScriptOf.{natives_of, script_of};
+ghost use Rattle.ffi3_run_rules.specs.Lines.{untraced};
 ghost use Rattle.ffi3_run.specs.Told.{IsTold, WrotePart, took};
 ghost use Rattle.ffi3_run.specs.Moment.{IsBetween, Ran, moment};
 ghost use Rattle.ffi3_run.specs.Programs.{program};
@@ -18,11 +19,9 @@ use ffi3_io::Sink;
 use ffi3_machine::{Machine, Target};
 use ffi3_run_rules::Stop;
 use ffi3_script::Script;
+use ffi3_type_rules::limits::MOST_MOVES;
 use ffi3_values::Values;
 use std::alloc::Global;
-
-/// How many moves a run may do.
-const MOST_MOVES: u32 = 10_000;
 
 /// How a run ended.
 #[derive(Clone, Copy, Debug, PartialEq, Eq)]
@@ -48,13 +47,13 @@ pub fn run_main<O: Sink>(
     requires runs { first_not_run (script_of script.now) ≡ None }
     requires no_natives { natives_of script.now ≡ 0 }
     ensures done { result ≡ RunEnd.Done →
-        IsTold amd64 (program_of amd64 (script_of script.now))
+        IsTold untraced amd64 (program_of amd64 (script_of script.now))
         (took (O.taken output.old) (O.faults output.old)) (took (O.taken output.new) (O.faults output.new))
         machine.new }
     ensures returns { result ≡ RunEnd.Done →
         (meaning_of (program_of amd64 (script_of script.now))).end ≡ returned void_value }
     ensures stopped { (stop : Stop) → result ≡ RunEnd.Stopped stop →
-        IsTold amd64 (program_of amd64 (script_of script.now))
+        IsTold untraced amd64 (program_of amd64 (script_of script.now))
         (took (O.taken output.old) (O.faults output.old)) (took (O.taken output.new) (O.faults output.new))
         machine.new }
     ensures stops { (stop : Stop) → result ≡ RunEnd.Stopped stop →
@@ -62,13 +61,13 @@ pub fn run_main<O: Sink>(
     ensures no_memory { result ≡ RunEnd.NoMemory → O.faults output.new ≡ O.faults output.old }
     ensures failed { result ≡ RunEnd.Failed → Rose (O.faults output.old) (O.faults output.new) }
     ensures never_falls { O.faults output.old ≤ O.faults output.new }
-    ensures part { WrotePart (program_of amd64 (script_of script.now))
+    ensures part { WrotePart untraced (program_of amd64 (script_of script.now))
         (took (O.taken output.old) (O.faults output.old)) (took (O.taken output.new) (O.faults output.new)) }
 {
     machine.begin(Target::Amd64);
     let mut board = Board {
         table: Table::new(),
-        moves: MOST_MOVES,
+        moves: MOST_MOVES as u32,
         results: Values::new(alloc),
     };
     run_on(alloc, &mut board, script, machine, output)

@@ -4,3 +4,4 @@ mod StopRows
 mod NativeRows
 pub mod Recursion
 pub mod Texts
+pub mod Aligned

@@ -13,6 +13,7 @@ use Rattle.ffi3_run_rules.specs.Happenings.{happenings_of}
 use Rattle.ffi3_run_rules.specs.Journal.{events_in, stack_top}
 use Rattle.ffi3_type_rules.specs.Layout.{least_multiple}
 use Rattle.ffi3_run_rules.proofs.RowStandard.{in_registers}
+use Rattle.ffi3_place_rules.specs.Isa.{scribble}
 use Rattle.ffi3_run_rules.specs.Lines.{untraced, traced, a_line, text_of_run}
 
 -- 20: twice of a closure that calls apply on another
@@ -89,6 +90,6 @@ abbrev four_calls : List ℕ
 four_calls =
     a_line (codes "enter 0x100c0 sp 0x7ffefff8 (0x10080,10)") ++ a_line (codes "keep a5a5000000000003 a5a5000000000005 a5a500000000000c a5a500000000000d a5a500000000000e a5a500000000000f") ++ a_line (codes "enter 0x10080 sp 0x7ffeffa8 (10)") ++ a_line (codes "keep a5a5000000000043 a5a5000000000045 a5a500000000004c a5a500000000004d a5a500000000004e a5a500000000004f") ++ a_line (codes "enter 0x10040 sp 0x7ffeff58 (0x10000,10)") ++ a_line (codes "keep a5a5000000000083 a5a5000000000085 a5a500000000008c a5a500000000008d a5a500000000008e a5a500000000008f") ++ a_line (codes "enter 0x10000 sp 0x7ffeff08 (10)") ++ a_line (codes "keep a5a50000000000c3 a5a50000000000c5 a5a50000000000cc a5a50000000000cd a5a50000000000ce a5a50000000000cf") ++ a_line (codes "leave sp 0x7ffeff10 15") ++ a_line (codes "keep a5a50000000000c3 a5a50000000000c5 a5a50000000000cc a5a50000000000cd a5a50000000000ce a5a50000000000cf")
 
-pub trace_begins : take (length four_calls) (text_of_run (traced in_registers stack_top) program) ≡ four_calls
+pub trace_begins : take (length four_calls) (text_of_run (traced in_registers stack_top scribble) program) ≡ four_calls
 unfolding act act_within digits least_multiple
 trace_begins = refl

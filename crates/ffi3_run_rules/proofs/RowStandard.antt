@@ -2,7 +2,8 @@
 use Rattle.std.specs.Prelude.{[], ◌∷◌, map, None}
 use Rattle.ffi3_type_rules.specs.declared.Target.TheVariants.{Amd64}
 use Rattle.ffi3_place_rules.specs.declared.Loc.TheVariants.{G}
-use Rattle.ffi3_place_rules.specs.Standard.{Standard, in_pieces, in_result_pieces}
+use Rattle.ffi3_place_rules.specs.declared.Ext.TheVariants.{Free}
+use Rattle.ffi3_place_rules.specs.Standard.{Standard, in_pieces, in_result_pieces, at_once}
 
 abbrev pub in_registers : Standard
 in_registers = record {
@@ -13,10 +14,14 @@ in_registers = record {
   preserved = G 3 ∷ G 5 ∷ G 12 ∷ G 13 ∷ G 14 ∷ G 15 ∷ [];
   reserved = [];
   link_register = None;
+  save_area = [];
   closure_register = 10;
   trampoline_registers = [];
   vector_count = None;
   returned_address = None;
+  narrow = Free;
+  single = Free;
+  copy_start = at_once;
   placing = λ s. record {
     arguments = map (λ t. in_pieces []) s.arguments;
     result_spot = in_result_pieces [];

@@ -7,6 +7,7 @@ use Rattle.ffi3_type_rules.specs.Value.{ValueTree, void_value, leaf_value, bytes
 use Rattle.ffi3_run_rules.specs.Move.{call, make, print, return, Behaviour}
 use Rattle.ffi3_run_rules.specs.Meaning.{Program, meaning_of, act, act_within, returned}
 use Rattle.ffi3_run_rules.specs.Happenings.{happenings_of}
+use Rattle.ffi3_place_rules.specs.Isa.{scribble}
 use Rattle.ffi3_run_rules.specs.Lines.{untraced, traced, a_line, text_of_run}
 use Rattle.ffi3_run_rules.specs.Journal.{events_in, stack_top}
 use Rattle.ffi3_type_rules.specs.Layout.{least_multiple}
@@ -51,6 +52,6 @@ pub moves_left : (meaning_of program).moves ≡ 9995
 unfolding act act_within
 moves_left = refl
 
-pub trace_is : text_of_run (traced in_registers stack_top) program ≡ a_line (codes "enter 0x10000 sp 0x7ffefff8 (41)") ++ a_line (codes "keep a5a5000000000003 a5a5000000000005 a5a500000000000c a5a500000000000d a5a500000000000e a5a500000000000f") ++ a_line (codes "leave sp 0x7fff0000 42") ++ a_line (codes "keep a5a5000000000003 a5a5000000000005 a5a500000000000c a5a500000000000d a5a500000000000e a5a500000000000f") ++ a_line (codes "42")
+pub trace_is : text_of_run (traced in_registers stack_top scribble) program ≡ a_line (codes "enter 0x10000 sp 0x7ffefff8 (41)") ++ a_line (codes "keep a5a5000000000003 a5a5000000000005 a5a500000000000c a5a500000000000d a5a500000000000e a5a500000000000f") ++ a_line (codes "leave sp 0x7fff0000 42") ++ a_line (codes "keep a5a5000000000003 a5a5000000000005 a5a500000000000c a5a500000000000d a5a500000000000e a5a500000000000f") ++ a_line (codes "42")
 unfolding act act_within digits least_multiple
 trace_is = refl

@@ -1,15 +1,18 @@
 -- Texts of what happens in two parts, and where a run stands after a part.
 use Rattle.std.proofs.Common.{◌≡◌, ℕ, ◌+◌, ◌-◌, List, [], ◌∷◌, ◌++◌, refl, ap, sym, ◌∙◌, arith, append_assoc}
-use Rattle.std.specs.List.{sum_by}
+use Rattle.std.specs.Prelude.{map, codes}
+use Rattle.std.specs.List.{AllByRecursion, concat, sum_by}
 use Rattle.std.proofs.lemmas.List.Sums.{sum_by-cons}
 use Rattle.ffi3_type_rules.specs.Signature.{Signature}
 use Rattle.ffi3_type_rules.specs.Value.{ValueTree}
 use Rattle.ffi3_place_rules.specs.declared.Loc.{Loc}
 use Rattle.ffi3_place_rules.specs.Event.{Event}
+use Rattle.ffi3_place_rules.specs.Image.{Image, register}
 use Rattle.ffi3_place_rules.specs.Standard.{Standard, need_of, frame_of}
 use Rattle.ffi3_run_rules.specs.Happenings.{Happening, Enter, Line, Leave, StopLine}
-use Rattle.ffi3_run_rules.specs.Journal.{Entered, needs, IsEntry}
-use Rattle.ffi3_run_rules.specs.Lines.{OpenCall, Point, past, Trace, untraced, text_of, text, sp_at_call}
+use Rattle.ffi3_run_rules.specs.Journal.{Entered, needs, IsEntry, IsReturn}
+use Rattle.ffi3_place_rules.specs.Isa.{scribble}
+use Rattle.ffi3_run_rules.specs.Lines.{OpenCall, Point, past, Trace, untraced, text_of, text, sp_at_call, word_text, keep_text}
 
 -- after all of a part
 abbrev pub past_all : List Signature → Point → List Happening → Point
@@ -60,3 +63,24 @@ sp_is_told std top held outer calls n pointer s args e same is =
     let below = same_needs std outer calls same in
     let at : e.image.sp + (std.link + frame_of std s + needs std outer) ≡ top = is.sp in
     omega (arith, below, at)
+
+pub sp_is_told_at_return : (std : Standard) (top : ℕ) (held : Loc → ℕ) (outer : List Entered) (calls : List OpenCall) (n pointer : ℕ) (s : Signature) (args : List ValueTree) (e : Event) (r : ValueTree) (return : Event) → AreSameCalls outer calls → IsEntry std top held outer n pointer s args e → IsReturn std (record { signature = s; event = e }) r return → sp_at_call std top calls s ≡ return.image.sp
+sp_is_told_at_return std top held outer calls n pointer s args e r return same is back =
+    let below = same_needs std outer calls same in
+    let at : e.image.sp + (std.link + frame_of std s + needs std outer) ≡ top = is.sp in
+    let kept : return.image.sp ≡ e.image.sp + std.link = back.kept.sp in
+    omega (arith, below, at, kept)
+
+-- ---- the registers that a line tells are those of the event
+
+abbrev pub registers_text : (Loc → ℕ) → List Loc → List ℕ
+registers_text value registers = concat (map (λ at. codes " " ++ word_text (value at)) registers)
+
+words_are_told : (n : ℕ) (image : Image) (registers : List Loc) → AllByRecursion (λ at. register image at ≡ scribble n at) registers → map (λ at. codes " " ++ word_text (scribble n at)) registers ≡ map (λ at. codes " " ++ word_text (register image at)) registers
+words_are_told n image [] is = refl
+words_are_told n image (at ∷ registers) is = λ i.
+    (codes " " ++ word_text (sym is.0 i)) ∷ words_are_told n image registers is.1 i
+
+pub registers_are_told : (std : Standard) (top : ℕ) (held : Loc → ℕ) (outer : List Entered) (n pointer : ℕ) (s : Signature) (args : List ValueTree) (e : Event) → IsEntry std top held outer n pointer s args e → keep_text std (scribble n) ≡ codes "keep" ++ registers_text (register e.image) std.preserved
+registers_are_told std top held outer n pointer s args e is =
+    ap (λ (words : List (List ℕ)). codes "keep" ++ concat words) (words_are_told n e.image std.preserved is.preserved)

@@ -1,15 +1,16 @@
--- The live closures: a finite map from the numbers of 256 slots. (libffi manual, "The Closure API")
+-- The live closures: a finite map from the numbers of slots. (libffi manual, "The Closure API")
 use Rattle.std.specs.Prelude.{ℕ, ◌+◌, ◌-◌, ◌*◌, ◌/◌, ◌%◌, ◌==◌, ◌&&◌, nat_le, List, [], ◌∷◌, replicate, slice_index_or, slice_set, Option, Some, None, option_and_then, if◌then◌else◌}
+use Rattle.ffi3_type_rules.specs.declared.limits.TheConstants.{SLOTS, SLOT_BYTES, CODE}
 use Rattle.ffi3_run_rules.specs.declared.Closure.{Closure}
 
 abbrev pub slots : ℕ
-slots = 256
+slots = SLOTS
 
 abbrev pub slot_bytes : ℕ
-slot_bytes = 64
+slot_bytes = SLOT_BYTES
 
 abbrev pub code_start : ℕ
-code_start = 0x10000
+code_start = CODE
 
 -- at each slot number one closure or none
 abbrev pub Closures : Type 0

@@ -1,10 +1,11 @@
 -- The journal of a machine against what happens in a run: each entry holds the caller's values, each return the callee's result, and what is to be preserved is preserved.
-use Rattle.std.specs.Prelude.{◌≡◌, ℕ, ◌+◌, ◌*◌, ◌%◌, ◌^◌, ⊤, List, [], ◌∷◌, length}
+use Rattle.std.specs.Prelude.{◌≡◌, ℕ, ◌+◌, ◌%◌, ⊤, List, [], ◌∷◌, length}
 use Rattle.std.specs.List.{AllByRecursion}
+use Rattle.ffi3_type_rules.specs.declared.limits.TheConstants.{STACK_TOP}
 use Rattle.ffi3_type_rules.specs.Signature.{Signature, signature_at}
 use Rattle.ffi3_type_rules.specs.Value.{ValueTree}
 use Rattle.ffi3_place_rules.specs.declared.Loc.{Loc}
-use Rattle.ffi3_place_rules.specs.declared.Loc.TheVariants.{G, F, S}
+use Rattle.ffi3_place_rules.specs.Isa.{scribble}
 use Rattle.ffi3_place_rules.specs.Standard.{Standard, need_of, frame_of}
 use Rattle.ffi3_place_rules.specs.Image.{register}
 use Rattle.ffi3_place_rules.specs.Holds.{Holds, HoldsResult, Kept}
@@ -13,13 +14,7 @@ use Rattle.ffi3_run_rules.specs.Happenings.{Happening, Enter, Line, Leave, StopL
 
 -- the first address above the stack
 abbrev pub stack_top : ℕ
-stack_top = 0x7fff0000
-
--- what the caller leaves in a register that it does not use at the event of number n, so that each call's preserved registers differ
-abbrev pub scribble : ℕ → Loc → ℕ
-scribble n (G k) = (0xa5a5000000000000 + 64 * n + k) % 2 ^ 64
-scribble n (F k) = (0x5a5a000000000000 + 64 * n + k) % 2 ^ 64
-scribble n (S k) = 0
+stack_top = STACK_TOP
 
 -- an unfinished call: its signature, and the event of its entry
 pub record Entered : Type 0 where
@@ -31,12 +26,14 @@ abbrev pub needs : Standard → List Entered → ℕ
 needs std [] = 0
 needs std (e ∷ outer) = need_of std e.signature + needs std outer
 
--- Event number n is the entry of a call with these arguments, below the unfinished calls around it, the first of which stands below `top`; the reserved registers hold what they `held` there.
+-- Event number n is the entry of a call with these arguments, below the unfinished calls around it, the outermost of which lies just below `top`; a reserved register holds what it `held` where these calls began.
 pub record IsEntry (std : Standard) (top : ℕ) (held : Loc → ℕ) (outer : List Entered) (n pointer : ℕ) (s : Signature) (arguments : List ValueTree) (e : Event) : Type 0 where
   pub kind : e.kind ≡ enters
   pub closure : e.closure ≡ pointer
   pub holds : Holds std s arguments e.image
   pub sp : e.image.sp + (std.link + frame_of std s + needs std outer) ≡ top
+  -- the caller's stack pointer, as it calls, is a multiple of 16 (psABI AMD64 3.2.2; AAPCS64, "Stack constraints at a public interface"; RISC-V ELF psABI, "Integer Calling Convention")
+  pub aligned : top % 16 ≡ 0 → (e.image.sp + std.link) % 16 ≡ 0
   pub stack : length e.image.stack ≡ std.link + frame_of std s
   pub preserved : AllByRecursion (λ at. register e.image at ≡ scribble n at) std.preserved
   pub reserved : AllByRecursion (λ at. register e.image at ≡ held at) std.reserved

@@ -7,12 +7,12 @@ use Rattle.ffi3_type_rules.specs.Signature.{Signature, signature_at}
 use Rattle.ffi3_type_rules.specs.Text.{signature_text}
 use Rattle.ffi3_type_rules.specs.Value.{ValueTree, values_of}
 use Rattle.ffi3_type_rules.specs.ValueText.{value_text_of, value_texts_of}
+use Rattle.ffi3_place_rules.specs.declared.Loc.{Loc}
 use Rattle.ffi3_place_rules.specs.Standard.{Standard, need_of, frame_of}
 use Rattle.ffi3_run_rules.specs.declared.Stop.{Stop}
 use Rattle.ffi3_run_rules.specs.declared.Stop.TheVariants.{NoClosure, WrongSig, TableFull, StackFull, MoveLimit}
 use Rattle.ffi3_run_rules.specs.Meaning.{Program}
 use Rattle.ffi3_run_rules.specs.Happenings.{Happening, Enter, Line, Leave, StopLine, happenings_of}
-use Rattle.ffi3_run_rules.specs.Journal.{scribble}
 
 -- with a newline at the end
 abbrev pub a_line : List ℕ → List ℕ
@@ -59,10 +59,10 @@ past signatures at (StopLine stop) = at
 
 -- ---- the lines of entries and returns
 
--- not told at all, or told by a standard, on a stack that falls from `top`
+-- not told at all, or told by a standard, on a stack that falls from `top`, where at the entry of number n a preserved register has what `leaves n` says
 pub data Trace : Type 0 where
   untraced : Trace
-  traced : Standard → (top : ℕ) → Trace
+  traced : Standard → (top : ℕ) → (leaves : ℕ → Loc → ℕ) → Trace
 
 -- the stack pointer at a call, inside these calls: below all that they need and the call's own frame
 abbrev pub sp_at_call : Standard → (top : ℕ) → List OpenCall → Signature → ℕ
@@ -82,22 +82,22 @@ abbrev pub word_text : ℕ → List ℕ
 word_text n =
     replicate (16 - length (digits 16 false n)) 48 ++ digits 16 false n
 
--- the preserved registers, as the caller leaves them for the entry of number n
-abbrev pub keep_text : Standard → (n : ℕ) → List ℕ
-keep_text std n =
-    codes "keep" ++ concat (map (λ at. codes " " ++ word_text (scribble n at)) std.preserved)
+-- the preserved registers, as a caller leaves them
+abbrev pub keep_text : Standard → (Loc → ℕ) → List ℕ
+keep_text std leaves =
+    codes "keep" ++ concat (map (λ at. codes " " ++ word_text (leaves at)) std.preserved)
 
 abbrev pub enter_lines : Trace → Point → (address : ℕ) → Signature → List ValueTree → List ℕ
 enter_lines untraced at address s args = []
-enter_lines (traced std top) at address s args =
-    a_line (enter_text std top at.calls address s args) ++ a_line (keep_text std at.events)
+enter_lines (traced std top leaves) at address s args =
+    a_line (enter_text std top at.calls address s args) ++ a_line (keep_text std (leaves at.events))
 
 -- of the innermost call
 abbrev pub leave_lines : Trace → List OpenCall → ValueTree → List ℕ
 leave_lines untraced calls r = []
-leave_lines (traced std top) [] r = []
-leave_lines (traced std top) (c ∷ outer) r =
-    a_line (leave_text std top outer c.signature r) ++ a_line (keep_text std c.entry)
+leave_lines (traced std top leaves) [] r = []
+leave_lines (traced std top leaves) (c ∷ outer) r =
+    a_line (leave_text std top outer c.signature r) ++ a_line (keep_text std (leaves c.entry))
 
 -- ---- the text
 

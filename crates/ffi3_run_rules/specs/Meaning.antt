@@ -5,6 +5,7 @@ use Rattle.ffi3_type_rules.specs.Signature.{Signature, signature_at}
 use Rattle.ffi3_type_rules.specs.Same.{same_signature}
 use Rattle.ffi3_type_rules.specs.Value.{ValueTree, void_value, leaf_value}
 use Rattle.std.specs.Int.{w64, to_le_bytes}
+use Rattle.ffi3_type_rules.specs.declared.limits.TheConstants.{STACK_BYTES, MOST_MOVES}
 use Rattle.ffi3_run_rules.specs.declared.Closure.{Closure}
 use Rattle.ffi3_run_rules.specs.declared.Stop.{Stop}
 use Rattle.ffi3_run_rules.specs.declared.Stop.TheVariants.{NoClosure, WrongSig, TableFull, StackFull, MoveLimit}
@@ -24,10 +25,10 @@ pub record Program : Type 0 where
   pub need : Signature → ℕ
 
 abbrev pub stack_size : ℕ
-stack_size = 65536
+stack_size = STACK_BYTES
 
 abbrev pub most_moves : ℕ
-most_moves = 10000
+most_moves = MOST_MOVES
 
 -- a function that returns at once
 abbrev pub idle : Function

@@ -1,4 +1,4 @@
--- The direct meaning is the plain recursion: nothing, where no move is left, or else one move and all that follows it. No depth is in it.
+-- The direct meaning is the plain recursion: where no move is left it stops for that, or else it is one move and all that follows. No depth is in it.
 use Rattle.std.specs.Prelude.{◌≡◌, ℕ, suc, ◌≤◌}
 use Rattle.ffi3_run_rules.specs.declared.Stop.TheVariants.{MoveLimit}
 use Rattle.ffi3_run_rules.specs.Closures.{Closures}

@@ -3,6 +3,7 @@ mod Steps
 mod Given
 mod Arguments
 mod Loops
+mod Conditions
 mod BodyParts
 mod FunctionParts
 mod RootParts

@@ -4,6 +4,7 @@ pub mod Texts
 pub mod Taken
 pub mod Kinds
 pub mod Numbers
+pub mod NamedActs
 pub mod PartsOf
 pub mod Shapes
 pub mod FunctionOf

@@ -7,17 +7,18 @@ ghost use Rattle.ffi3_script_rules.specs.Language as language;
 ghost use Rattle.ffi3_script_rules.specs.Language.{read, under, HasShortArrays};
 ghost use Rattle.ffi3_script_rules.specs.Bodies.{kind_of, keys_of, read_call, read_make, read_act, read_move};
 ghost use Rattle.ffi3_json.specs.Told.{Tells};
-ghost use Rattle.ffi3_script_body.specs.ExprOf.{typed_of, script_move_of};
+ghost use Rattle.ffi3_script_body.specs.ExprOf.{script_move_of};
 ghost use Rattle.ffi3_script.specs.ScopeOf.{scope_of, given_in, surroundings_of, IsEven};
 ghost use Rattle.ffi3_script.specs.Kinds.{kind_from};
 ghost use Rattle.ffi3_script.specs.Numbers.{CallsWithin};
+ghost use Rattle.ffi3_script.specs.NamedActs.{move_by};
 
 use crate::fields::{
     read_arguments, read_condition, read_name, read_pointer, read_printed, read_result, read_user,
 };
 use crate::heads::{read_function, read_signature_number};
 use crate::scope::{Globals, Scope};
-use crate::{Act, NoMemory, ScriptMove, TypedExpr};
+use crate::{Act, NoMemory, ScriptMove};
 use ffi3_json::{Json, Key, Keys, Reason, ScriptFault, Where, bad, check_object};
 use ffi3_types::FfiType;
 use std::alloc::Global;
@@ -120,25 +121,31 @@ fn keys_of(alloc: Global, kind: Kind) -> Result<Keys, NoMemory>
     }
 }
 
+// What a move does, and the name of its result.
+#[derive(Drop)]
+struct NamedAct {
+    act: Act,
+    name: Option<String>,
+}
+
 // A call: the pointer, the number of the signature, the arguments, the name.
 fn read_call(
     alloc: Global,
     globals: &Globals,
     scope: &Scope,
-    condition: Option<TypedExpr>,
     value: &Json,
     at: &mut Where,
-) -> Result<ScriptMove, ScriptFault>
+) -> Result<NamedAct, ScriptFault>
     requires short { HasShortArrays (view value.now) }
     requires even { IsEven scope.now }
-    ensures within { IfOk result (λ m. CallsWithin (length globals.now.sigs.now) m.act) }
+    ensures within { IfOk result (λ d. CallsWithin (length globals.now.sigs.now) d.act) }
     ensures place { OnOk result (at.new ≡ at.old) }
     ensures ok { IfOk result
-        (λ m. read_call (surroundings_of globals.now scope.now) (given_in scope.now)
-        (scope_of scope.now) (option_map typed_of condition) (view value.now) at.old ≡ read (script_move_of m)) }
+        (λ d. read_call (surroundings_of globals.now scope.now) (given_in scope.now)
+        (scope_of scope.now) None (view value.now) at.old ≡ read (move_by None d)) }
     ensures err { IfErr result
         (Tells (λ p r. read_call (surroundings_of globals.now scope.now) (given_in scope.now)
-        (scope_of scope.now) (option_map typed_of condition) (view value.now) at.old ≡ language.fault p r)) }
+        (scope_of scope.now) None (view value.now) at.old ≡ language.fault p r)) }
 {
     let ptr = match read_pointer(alloc, scope, "call", value, at) {
         Ok(ptr) => ptr,
@@ -157,8 +164,7 @@ fn read_call(
         Ok(name) => name,
         Err(fault) => return Err(fault),
     };
-    Ok(ScriptMove {
-        condition,
+    Ok(NamedAct {
         act: Act::Call { ptr, sig: i, args },
         name,
     })
@@ -169,21 +175,20 @@ fn read_make(
     alloc: Global,
     globals: &Globals,
     scope: &Scope,
-    condition: Option<TypedExpr>,
     value: &Json,
     at: &mut Where,
-) -> Result<ScriptMove, ScriptFault>
+) -> Result<NamedAct, ScriptFault>
     requires short { HasShortArrays (view value.now) }
     requires even { IsEven scope.now }
     requires few { length globals.now.functions.now < 2 ^ 32 }
-    ensures within { IfOk result (λ m. CallsWithin (length globals.now.sigs.now) m.act) }
+    ensures within { IfOk result (λ d. CallsWithin (length globals.now.sigs.now) d.act) }
     ensures place { OnOk result (at.new ≡ at.old) }
     ensures ok { IfOk result
-        (λ m. read_make (surroundings_of globals.now scope.now) (given_in scope.now)
-        (scope_of scope.now) (option_map typed_of condition) (view value.now) at.old ≡ read (script_move_of m)) }
+        (λ d. read_make (surroundings_of globals.now scope.now) (given_in scope.now)
+        (scope_of scope.now) None (view value.now) at.old ≡ read (move_by None d)) }
     ensures err { IfErr result
         (Tells (λ p r. read_make (surroundings_of globals.now scope.now) (given_in scope.now)
-        (scope_of scope.now) (option_map typed_of condition) (view value.now) at.old ≡ language.fault p r)) }
+        (scope_of scope.now) None (view value.now) at.old ≡ language.fault p r)) }
 {
     let func = match read_function(alloc, globals.functions, value, at) {
         Ok(func) => func,
@@ -197,59 +202,53 @@ fn read_make(
         Ok(name) => name,
         Err(fault) => return Err(fault),
     };
-    Ok(ScriptMove {
-        condition,
+    Ok(NamedAct {
         act: Act::Make { func, user },
         name,
     })
 }
 
 // What a move of a kind without a name does.
-fn unnamed(condition: Option<TypedExpr>, act: Act) -> ScriptMove
-    ensures { result ≡ record { condition = condition; act = act; name = None } }
+fn unnamed(act: Act) -> NamedAct
+    ensures { result ≡ record { act = act; name = None } }
 {
-    ScriptMove {
-        condition,
-        act,
-        name: None,
-    }
+    NamedAct { act, name: None }
 }
 
-// The fields of a move of a kind, after its condition.
+// The fields of a move of a kind, but its condition.
 fn read_act(
     alloc: Global,
     globals: &Globals,
     scope: &Scope,
     kind: Kind,
-    condition: Option<TypedExpr>,
     value: &Json,
     at: &mut Where,
-) -> Result<ScriptMove, ScriptFault>
+) -> Result<NamedAct, ScriptFault>
     requires short { HasShortArrays (view value.now) }
     requires even { IsEven scope.now }
     requires few { length globals.now.functions.now < 2 ^ 32 }
-    ensures within { IfOk result (λ m. CallsWithin (length globals.now.sigs.now) m.act) }
+    ensures within { IfOk result (λ d. CallsWithin (length globals.now.sigs.now) d.act) }
     ensures place { OnOk result (at.new ≡ at.old) }
     ensures ok { IfOk result
-        (λ m. read_act (surroundings_of globals.now scope.now) (given_in scope.now) (scope_of scope.now)
-        (kind_from kind) (view value.now) at.old (option_map typed_of condition) ≡ read (script_move_of m)) }
+        (λ d. read_act (surroundings_of globals.now scope.now) (given_in scope.now) (scope_of scope.now)
+        (kind_from kind) (view value.now) at.old None ≡ read (move_by None d)) }
     ensures err { IfErr result
         (Tells (λ p r. read_act (surroundings_of globals.now scope.now) (given_in scope.now) (scope_of scope.now)
-        (kind_from kind) (view value.now) at.old (option_map typed_of condition) ≡ language.fault p r)) }
+        (kind_from kind) (view value.now) at.old None ≡ language.fault p r)) }
 {
     match kind {
-        Kind::Call => read_call(alloc, globals, scope, condition, value, at),
-        Kind::Make => read_make(alloc, globals, scope, condition, value, at),
+        Kind::Call => read_call(alloc, globals, scope, value, at),
+        Kind::Make => read_make(alloc, globals, scope, value, at),
         Kind::Free => match read_pointer(alloc, scope, "free", value, at) {
-            Ok(ptr) => Ok(unnamed(condition, Act::Free { ptr })),
+            Ok(ptr) => Ok(unnamed(Act::Free { ptr })),
             Err(fault) => Err(fault),
         },
         Kind::Print => match read_printed(alloc, scope, value, at) {
-            Ok(printed) => Ok(unnamed(condition, Act::Print(printed))),
+            Ok(printed) => Ok(unnamed(Act::Print(printed))),
             Err(fault) => Err(fault),
         },
         Kind::Return => match read_result(alloc, scope, scope.own.ret(), value, at) {
-            Ok(act) => Ok(unnamed(condition, act)),
+            Ok(act) => Ok(unnamed(act)),
             Err(fault) => Err(fault),
         },
     }
@@ -286,5 +285,12 @@ pub(crate) fn read_move(
         Ok(condition) => condition,
         Err(fault) => return Err(fault),
     };
-    read_act(alloc, globals, scope, kind, condition, value, at)
+    match read_act(alloc, globals, scope, kind, value, at) {
+        Ok(NamedAct { act, name }) => Ok(ScriptMove {
+            condition,
+            act,
+            name,
+        }),
+        Err(fault) => Err(fault),
+    }
 }

@@ -60,9 +60,11 @@ fn push_move(
     ensures typed { OnOk result (types.new ≡ types.old ++ type_of_act sigs.now (act_of one.act) ∷ []) }
     ensures pushed { OnOk result (moves.new.items ≡ moves.old.items ++ one ∷ []) }
 {
+    let number = moves.len();
+    moves.push(one)?;
+    let one = &moves[number];
     push_name(alloc, names, &one.name)?;
     types.push(result_type(alloc, sigs, &one.act)?)?;
-    moves.push(one)?;
     Ok(())
 }
 

@@ -41,7 +41,9 @@ pub(crate) fn sum(alloc: Global, ty: &FfiType, a: Expr, b: Expr) -> Result<Expr,
     ensures { IfOk result
         (λ e. expression_of e ≡ script.sum (scalar_of (tree_of ty.now)) (expression_of a) (expression_of b)) }
 {
-    Ok(Expr::Sum(ty.copy(alloc)?, boxed(alloc, a)?, boxed(alloc, b)?))
+    let a = boxed(alloc, a)?;
+    let b = boxed(alloc, b)?;
+    Ok(Expr::Sum(ty.copy(alloc)?, a, b))
 }
 
 /// The difference of two integers of a type.
@@ -49,16 +51,19 @@ pub(crate) fn difference(alloc: Global, ty: &FfiType, a: Expr, b: Expr) -> Resul
     ensures { IfOk result
         (λ e. expression_of e ≡ script.difference (scalar_of (tree_of ty.now)) (expression_of a) (expression_of b)) }
 {
-    Ok(Expr::Difference(ty.copy(alloc)?, boxed(alloc, a)?, boxed(alloc, b)?))
+    let a = boxed(alloc, a)?;
+    let b = boxed(alloc, b)?;
+    Ok(Expr::Difference(ty.copy(alloc)?, a, b))
 }
 
 /// A value that is said to be of a type.
 pub(crate) fn typed_as(alloc: Global, ty: FfiType, value: Expr) -> Result<TypedExpr, NoMemory>
     ensures { IfOk result (λ v. typed_of v ≡ typed (tree_of ty) (script.typed_as (tree_of ty) (expression_of value))) }
 {
+    let value = boxed(alloc, value)?;
     Ok(TypedExpr {
         ty: ty.copy(alloc)?,
-        value: Expr::TypedAs(ty, boxed(alloc, value)?),
+        value: Expr::TypedAs(ty, value),
     })
 }
 
@@ -238,6 +243,7 @@ pub(crate) fn element_of(
         (Tells (λ p r. element_of (expression_of value) fields.now
         (option_and_then as_u64 (as_number (view number.now))) at.now ≡ fault p r)) }
 {
+    let value = boxed(alloc, value)?;
     let Some(i) = number.as_u64() else {
         return Err(bad(alloc, at, Reason::NoSuchField));
     };
@@ -246,7 +252,7 @@ pub(crate) fn element_of(
     }
     Ok(TypedExpr {
         ty: fields.get(i as usize).copy(alloc)?,
-        value: Expr::Element(boxed(alloc, value)?, i as u32),
+        value: Expr::Element(value, i as u32),
     })
 }
 
@@ -279,11 +285,12 @@ pub(crate) fn cast_of(
     ensures err { IfErr result
         (Tells (λ p r. cast_of (scalar_of (tree_of to.now)) at.now (typed_of value) ≡ fault p r)) }
 {
-    if is_number(&value.ty) {
-        Ok(Expr::Cast(value.ty, to.copy(alloc)?, boxed(alloc, value.value)?))
-    } else {
-        Err(bad(alloc, at, Reason::WrongType))
+    if !is_number(&value.ty) {
+        return Err(bad(alloc, at, Reason::WrongType));
     }
+    let TypedExpr { ty, value } = value;
+    let value = boxed(alloc, value)?;
+    Ok(Expr::Cast(ty, to.copy(alloc)?, value))
 }
 
 // A type that may be an argument's. The place is left as it was where one is read.

@@ -10,7 +10,8 @@ use Rattle.ffi3_types.specs.declared.FfiType.{FfiType}
 use Rattle.ffi3_types.specs.TreeOf.{tree_of}
 use Rattle.ffi3_script_rules.specs.Script as script
 use Rattle.ffi3_script_rules.specs.Meaning.{Known, value_of, values_of}
-use Rattle.ffi3_script_rules.specs.Typed.{Kinds, has_type, have_types, own_type, is_at, is_number_of, is_struct}
+use Rattle.ffi3_script_rules.specs.Typed.{Kinds, has_type, have_types, own_type, is_at, is_integer_of, is_number_of, is_struct}
+use Rattle.ffi3_script_rules.proofs.Fits.{number_by_integer}
 use Rattle.ffi3_script_rules.proofs.Tests.{and_left, and_right}
 use Rattle.ffi3_script_body.specs.ExprOf.{expression_of, expressions_in}
 use Rattle.ffi3_script_body.specs.declared.expr.Expr.{Expr, Constant, Composed, Composed', Argument, Outcome, User, Element, Element', TypedAs, TypedAs', Sum, Sum', Difference, Difference', Cast, Cast', roll-Expr, roll-out-Expr}
@@ -38,14 +39,14 @@ module _ (k : Kinds) (t : Tree) (e : Expr) (h : has_type k t (expression_of e) �
     pub of_sum : e ≡ Sum ty a b → (is_number_of (scalar_of (tree_of ty)) t ≡ true) × ((has_type k t (expression_of a.value) ≡ true) × (has_type k t (expression_of b.value) ≡ true))
     of_sum is =
         let here = has_type_as k t e (Sum ty a b) is h in
-        let both = and_right (is_number_of (scalar_of (tree_of ty)) t) _ here in
-        (and_left (is_number_of (scalar_of (tree_of ty)) t) _ here, (and_left (has_type k t (expression_of a.value)) _ both, and_right (has_type k t (expression_of a.value)) _ both))
+        let both = and_right (is_integer_of (scalar_of (tree_of ty)) t) _ here in
+        (number_by_integer (scalar_of (tree_of ty)) t (and_left (is_integer_of (scalar_of (tree_of ty)) t) _ here), (and_left (has_type k t (expression_of a.value)) _ both, and_right (has_type k t (expression_of a.value)) _ both))
 
     pub of_difference : e ≡ Difference ty a b → (is_number_of (scalar_of (tree_of ty)) t ≡ true) × ((has_type k t (expression_of a.value) ≡ true) × (has_type k t (expression_of b.value) ≡ true))
     of_difference is =
         let here = has_type_as k t e (Difference ty a b) is h in
-        let both = and_right (is_number_of (scalar_of (tree_of ty)) t) _ here in
-        (and_left (is_number_of (scalar_of (tree_of ty)) t) _ here, (and_left (has_type k t (expression_of a.value)) _ both, and_right (has_type k t (expression_of a.value)) _ both))
+        let both = and_right (is_integer_of (scalar_of (tree_of ty)) t) _ here in
+        (number_by_integer (scalar_of (tree_of ty)) t (and_left (is_integer_of (scalar_of (tree_of ty)) t) _ here), (and_left (has_type k t (expression_of a.value)) _ both, and_right (has_type k t (expression_of a.value)) _ both))
 
   pub of_cast : (from to : FfiType) (a : Box Expr Global) → e ≡ Cast from to a → (is_number_of (scalar_of (tree_of to)) t ≡ true) × ((is_number (scalar_of (tree_of from)) ≡ true) × (has_type k (scalar (scalar_of (tree_of from))) (expression_of a.value) ≡ true))
   of_cast from to a is =
@@ -68,7 +69,7 @@ module _ (k : Kinds) (e : Expr) (h : has_type k (own_type k (expression_of e)) (
       and_right (is_at (elements_of (own_type k (expression_of whole.value))) i (own_type k (expression_of (Element whole i)))) _ (own_as (Element whole i) is)
 
   pub of_typed : (ty : FfiType) (inner : Box Expr Global) → e ≡ TypedAs ty inner → has_type k (tree_of ty) (expression_of inner.value) ≡ true
-  of_typed ty inner is = and_right _ _ (own_as (TypedAs ty inner) is)
+  of_typed ty inner is = and_right _ _ (and_right _ _ (own_as (TypedAs ty inner) is))
 
 -- ---- nodes
 

@@ -107,7 +107,7 @@ module _ (kinds : Kinds) (k : Known) (arguments : all_fit (trees_of kinds.argume
     value_fits t (element e i) h =
         element_fits (own_type kinds e) (value_of k e) i t (value_fits (own_type kinds e) e (and_right (is_at (elements_of (own_type kinds e)) i t) _ h)) (and_left (is_at (elements_of (own_type kinds e)) i t) _ h)
     value_fits t (typed_as u e) h =
-        subst (λ w. fits w (value_of k e) ≡ true) (types_are_same u t (and_left _ _ h)) (value_fits u e (and_right _ _ h))
+        subst (λ w. fits w (value_of k e) ≡ true) (types_are_same u t (and_left _ _ h)) (value_fits u e (and_right _ _ (and_right _ _ h)))
     value_fits t (sum s e f) h =
         number_fits s t (sum_of s (bytes_of (value_of k e)) (bytes_of (value_of k f))) (length-bytes_of_number s _) (number_by_integer s t (and_left (is_integer_of s t) _ h))
     value_fits t (difference s e f) h =

@@ -16,3 +16,4 @@ pub mod ReadParts
 pub mod TypedValues
 pub mod WellTyped
 pub mod BodyRules
+pub mod Natives

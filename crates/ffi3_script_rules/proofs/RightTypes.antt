@@ -4,12 +4,13 @@ use Rattle.std.specs.Prelude.{nat_lt, option_map, is_none, if◌then◌else◌}
 use Rattle.std.specs.List.{list_all}
 use Rattle.std.proofs.lemmas.Bool.{eq-eqb}
 use Rattle.std.proofs.lemmas.List.{length-replicate}
+use Rattle.ffi3_type_rules.specs.declared.limits.TheConstants.{DEEPEST_NESTING, MOST_ARGUMENTS}
 use Rattle.ffi3_type_rules.specs.Tree.{Tree, void, scalar, left_out, structure, Trees, no_trees, tree, tree_at, list_of, trees_of-list_of}
 use Rattle.ffi3_type_rules.specs.Layout.{Layout, layouts, start_of, size_of}
 use Rattle.ffi3_type_rules.specs.Value.{part, value_in, values_in, zero_value, fits, all_fit}
-use Rattle.ffi3_type_rules.specs.Fault.{deepest_nesting, too_deep}
+use Rattle.ffi3_type_rules.specs.Fault.{too_deep}
 use Rattle.ffi3_type_rules.proofs.Faults.{fault_deeper}
-use Rattle.ffi3_type_rules.specs.Signature.{Signature, signature_at, at_result, at_argument, most_arguments, SignatureFault, too_many}
+use Rattle.ffi3_type_rules.specs.Signature.{Signature, signature_at, at_result, at_argument, SignatureFault, too_many}
 use Rattle.ffi3_type_rules.proofs.Values.{element_within}
 use Rattle.ffi3_type_rules.proofs.Parts.{length_part}
 use Rattle.ffi3_script_rules.specs.FirstFault.{Found, first_fault, first_inside, or_else, in_struct, inside_element, fault_of_size, first_signature_fault, first_in_arguments, first_in_fixed, at_position}
@@ -56,7 +57,7 @@ in_struct-none outer (tree t ts) f h = none_first f (fault_of_size (size_of (str
 module _ (outer : ℕ) (as_result : Bool) (ts : Trees) (h : first_fault outer as_result (structure ts) ≡ None) where
   pub inside_is_right : first_inside (outer + 1) 0 ts ≡ None
   inside_is_right =
-      in_struct-none outer ts (first_inside (outer + 1) 0 ts) (none_then (nat_lt outer deepest_nesting) (in_struct outer ts (first_inside (outer + 1) 0 ts)) ([], too_deep) h)
+      in_struct-none outer ts (first_inside (outer + 1) 0 ts) (none_then (nat_lt outer DEEPEST_NESTING) (in_struct outer ts (first_inside (outer + 1) 0 ts)) ([], too_deep) h)
 
 -- each element of a list without first fault has none
 pub each_is_right : (outer i : ℕ) (ts : Trees) (k : ℕ) → first_inside outer i ts ≡ None → k < length (list_of ts) → first_fault outer false (tree_at (list_of ts) k) ≡ None
@@ -124,7 +125,7 @@ first_but_number s =
 
 none_but_number : (s : Signature) → signature_is_right s ≡ true → first_but_number s ≡ None
 none_but_number s h =
-    none_else (nat_lt most_arguments (length s.arguments)) (first_but_number s) (too_many (length s.arguments)) (is_none-none (first_signature_fault s) h)
+    none_else (nat_lt MOST_ARGUMENTS (length s.arguments)) (first_but_number s) (too_many (length s.arguments)) (is_none-none (first_signature_fault s) h)
 
 -- the result type of a right signature
 pub result_type_is_right : (s : Signature) → signature_is_right s ≡ true → is_right s.result_type ≡ true

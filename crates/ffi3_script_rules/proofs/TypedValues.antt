@@ -347,5 +347,6 @@ module _ (scope : Scope) (right : scope_is_right scope ≡ true) where
         let t = was.0 in
         let rest = part_was_read (λ w. typed t (typed_as t w)) (read_value scope t e (at_item place 1)) v was.2 in
         let has = value_is_typed t e (at_item place 1) rest.0 rest.1 in
-        subst (IsOfItsType kinds) rest.2 (record { has_it = both (same_tree t t) _ (type_is_itself t) has; is_own = refl; is_fit = argument_is_result_too t (right_type_has d (at_item place 0) t was.1) })
+        let right = right_type_has d (at_item place 0) t was.1 in
+        subst (IsOfItsType kinds) rest.2 (record { has_it = both (same_tree t t) _ (type_is_itself t) (both (is_right_argument t) _ right has); is_own = refl; is_fit = argument_is_result_too t right })
     of_is_typed _ place v h = absurd (cc)

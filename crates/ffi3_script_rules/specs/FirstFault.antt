@@ -1,9 +1,10 @@
 -- The first fault of a type and of a signature, computed. `proofs/FirstFaults.antt` and `proofs/FirstSignatureFaults.antt` have that each is the first fault by the order of faults, and that it is there wherever one is.
 use Rattle.std.specs.Prelude.{ℕ, ◌+◌, ◌==◌, ◌||◌, Bool, true, false, List, [], ◌∷◌, length, drop, Option, Some, None, option_map, if◌then◌else◌, nat_lt}
+use Rattle.ffi3_type_rules.specs.declared.limits.TheConstants.{DEEPEST_NESTING, LARGEST_STRUCT, MOST_ARGUMENTS}
 use Rattle.ffi3_type_rules.specs.Tree.{Tree, void, scalar, left_out, structure, Trees, no_trees, tree}
 use Rattle.ffi3_type_rules.specs.Layout.{size_of}
-use Rattle.ffi3_type_rules.specs.Fault.{Fault, bad_typedef, left_out_type, too_large, too_deep, largest_struct, deepest_nesting}
-use Rattle.ffi3_type_rules.specs.Signature.{Signature, SignatureFault, too_many, bad_type, bad_fixed, bad_argument_type, Position, at_result, at_argument, most_arguments, is_promoted}
+use Rattle.ffi3_type_rules.specs.Fault.{Fault, bad_typedef, left_out_type, too_large, too_deep}
+use Rattle.ffi3_type_rules.specs.Signature.{Signature, SignatureFault, too_many, bad_type, bad_fixed, bad_argument_type, Position, at_result, at_argument, is_promoted}
 
 -- a fault, and the element numbers that lead to its node
 abbrev pub Found : Type 0
@@ -20,7 +21,7 @@ inside_element i f = (i ∷ f.0, f.1)
 -- the struct itself, after all that is inside it
 abbrev pub fault_of_size : ℕ → Option Found
 fault_of_size size =
-    if nat_lt largest_struct size then Some ([], too_large size) else None
+    if nat_lt LARGEST_STRUCT size then Some ([], too_large size) else None
 
 -- of a struct, from the first fault inside it
 abbrev pub in_struct : ℕ → Trees → Option Found → Option Found
@@ -29,7 +30,7 @@ in_struct outer (tree t ts) inside =
     or_else inside (fault_of_size (size_of (structure (tree t ts))))
 
 abbrev pub unless_deep : ℕ → Option Found → Option Found
-unless_deep outer f = if nat_lt outer deepest_nesting then f else Some ([], too_deep)
+unless_deep outer f = if nat_lt outer DEEPEST_NESTING then f else Some ([], too_deep)
 
 -- of a type that stands inside so many structs: a node comes before its elements, elements come from the left
 abbrev mutual
@@ -73,6 +74,6 @@ first_in_fixed (Some n) arguments =
 
 abbrev pub first_signature_fault : Signature → Option SignatureFault
 first_signature_fault s =
-    if nat_lt most_arguments (length s.arguments)
+    if nat_lt MOST_ARGUMENTS (length s.arguments)
     then Some (too_many (length s.arguments))
     else or_else (option_map (at_position at_result) (first_fault 0 true s.result_type)) (or_else (first_in_arguments 0 s.arguments) (first_in_fixed s.fixed s.arguments))

@@ -7,6 +7,7 @@ pub mod Script
 pub mod Values
 pub mod Bodies
 pub mod Meaning
+pub mod Natives
 pub mod Typed
 pub mod Reading
 pub mod RunLimit

@@ -2,6 +2,7 @@
 use Rattle.std.specs.Prelude.{◌≡◌, ℕ, ◌<◌, ◌≤◌, List, length, Some, None, IsUtf8}
 use Rattle.serde_json.specs.Data.{Data}
 use Rattle.serde_json.specs.Read.{read}
+use Rattle.ffi3_type_rules.specs.declared.limits.TheConstants.{LONGEST_SCRIPT}
 use Rattle.ffi3_script_rules.specs.Language as language
 use Rattle.ffi3_script_rules.specs.Language.{Path, Reason}
 use Rattle.ffi3_script_rules.specs.Script.{Script}
@@ -15,7 +16,7 @@ pub data Reading : Type 0 where
 
 -- in bytes
 abbrev pub max_length : ℕ
-max_length = 1048576
+max_length = LONGEST_SCRIPT
 
 -- The bytes are a JSON text in UTF-8 (RFC 8259, 8.1) of this value.
 pub record IsJson (bytes : List ℕ) (d : Data) : Type 0 where

@@ -57,6 +57,10 @@ abbrev pub trees_in : Tree → Trees
 trees_in (structure ts) = ts
 trees_in _ = no_trees
 
+-- a type that may be an argument's
+abbrev pub is_right_argument : Tree → Bool
+is_right_argument t = is_none (first_fault 0 false t)
+
 abbrev mutual
   -- A VALUE HAS A TYPE
   pub has_type : Kinds → Tree → Expression → Bool
@@ -67,7 +71,8 @@ abbrev mutual
   has_type k t user_data = same_tree (scalar pointer) t
   has_type k t (element e i) =
       is_at (types.elements_of (own_type k e)) i t && has_type k (own_type k e) e
-  has_type k t (typed_as u e) = same_tree u t && has_type k u e
+  has_type k t (typed_as u e) =
+      same_tree u t && (is_right_argument u && has_type k u e)
   has_type k t (sum s e f) = is_integer_of s t && (has_type k t e && has_type k t f)
   has_type k t (difference s e f) =
       is_integer_of s t && (has_type k t e && has_type k t f)
@@ -95,10 +100,6 @@ is_condition k (Some c) = is_number_type c.type && is_typed k c
 -- a type that may be a result's
 abbrev pub is_right : Tree → Bool
 is_right t = is_none (first_fault 0 true t)
-
--- a type that may be an argument's
-abbrev pub is_right_argument : Tree → Bool
-is_right_argument t = is_none (first_fault 0 false t)
 
 -- what a body is typed in: the signatures, how many functions there are, and the type of its result
 pub record Setting : Type 0 where

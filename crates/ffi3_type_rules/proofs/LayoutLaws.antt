@@ -1,13 +1,14 @@
 -- Every layout keeps its laws.
 use Prim.Native.Nat.{◌∣◌}
 use Rattle.std.proofs.Common.{◌≡◌, ℕ, zero, suc, ◌+◌, ◌%◌, ◌<◌, ◌≤◌, inl, inr, max, List, [], ◌∷◌, ◌++◌, map, length, refl, ap, ◌∙◌, subst, arith}
-use Rattle.std.specs.Prelude.{slice_index_or}
+use Rattle.std.specs.Prelude.{◌⊎◌, Some, slice_get, slice_index_or, option_and_then}
 use Rattle.std.proofs.Math.Nat.{dvd-add}
 use Rattle.std.proofs.lemmas.Nat.Gcd.{dvd_refl, dvd-zero, dvd_trans, dvd_of_mod-eq-zero, mod-eq-zero_of_dvd}
 use Rattle.std.proofs.lemmas.Bool.{cases_lt}
 use Rattle.ffi3_type_rules.specs.Tree.{Tree, void, scalar, left_out, structure, Trees, no_trees, tree, tree_at, list_of, Scalar, u8, s8, u16, s16, u32, s32, u64, s64, float, double, pointer}
 use Rattle.ffi3_type_rules.specs.Layout.{Layout, Leaf, layout, layouts, nothing, element, end_before, start_of, align_before, leaves_before, moved, least_multiple, struct_layout, scalar_size, scalar_layout, leaves_of, leaf_at, size_of, align_of}
-use Rattle.ffi3_type_rules.specs.LayoutLaws.{leaf_end, StandsOnPath, IsWellLaidOut}
+use Rattle.ffi3_type_rules.specs.Fault.{node_at}
+use Rattle.ffi3_type_rules.specs.LayoutLaws.{leaf_end, offset_on, StandsOnPath, HasLeafAt, IsWellLaidOut}
 use Rattle.ffi3_type_rules.proofs.Layouts.{least_multiple-above}
 use Rattle.ffi3_type_rules.proofs.LeastMultiples.{least_multiple-divides}
 use Rattle.ffi3_type_rules.proofs.StructLaws.{element_placed, greatest_alignment, least_size}
@@ -297,6 +298,68 @@ mutual
   trees_stands (tree t ts) zero = tree_stands t
   trees_stands (tree t ts) (suc k) = trees_stands ts k
 
+-- ---- every scalar is a leaf
+
+-- a leaf of the list has this offset and kind
+abbrev Among : ℕ → Scalar → List Leaf → Type 0
+Among at s [] = ⊥
+Among at s (l ∷ ls) = ((l.at ≡ at) × (l.kind ≡ s)) ⊎ Among at s ls
+
+among-left : (at : ℕ) (s : Scalar) (xs ys : List Leaf) → Among at s xs → Among at s (xs ++ ys)
+among-left at s [] ys h = absurd h
+among-left at s (x ∷ xs) ys (inl here) = inl here
+among-left at s (x ∷ xs) ys (inr later) = inr (among-left at s xs ys later)
+
+among-right : (at : ℕ) (s : Scalar) (xs ys : List Leaf) → Among at s ys → Among at s (xs ++ ys)
+among-right at s [] ys h = h
+among-right at s (x ∷ xs) ys h = inr (among-right at s xs ys h)
+
+among-moved : (by at : ℕ) (s : Scalar) (ls : List Leaf) → Among at s ls → Among (by + at) s (map (moved by) ls)
+among-moved by at s [] h = absurd h
+among-moved by at s (l ∷ ls) (inl here) = inl (ap (λ n. by + n) here.0, here.1)
+among-moved by at s (l ∷ ls) (inr later) = inr (among-moved by at s ls later)
+
+among-before : (es : List Layout) (k n at : ℕ) (s : Scalar) → k < n → Among at s (element es k).leaves → Among (start_of es k + at) s (leaves_before es n)
+among-before es k zero at s h there = absurd (omega arith)
+among-before es k (suc n) at s h there =
+    elim (cases_lt k n) [
+      | inl earlier ↦ among-left (start_of es k + at) s (leaves_before es n) _ (among-before es k n at s earlier there)
+      | inr here ↦ let same : k ≡ n = omega arith in
+          among-right (start_of es k + at) s (leaves_before es n) _ (subst (λ (j : ℕ). Among (start_of es k + at) s (map (moved (start_of es j)) (element es j).leaves)) same (among-moved (start_of es k) at s (element es k).leaves there))
+    ]
+
+mutual
+  tree_there : (t : Tree) (path : List ℕ) (s : Scalar) → node_at path t ≡ Some (scalar s) → Among (offset_on path t) s (leaves_of t)
+  tree_there void [] s h = cc
+  tree_there (left_out k) [] s h = cc
+  tree_there (scalar r) [] s h = inl (refl, cc)
+  tree_there (structure ts) [] s h = cc
+  tree_there void (k ∷ path) s h = cc
+  tree_there (left_out j) (k ∷ path) s h = cc
+  tree_there (scalar r) (k ∷ path) s h = cc
+  tree_there (structure ts) (k ∷ path) s h =
+      let inside = trees_there ts k path s h in
+      among-before (layouts ts) k (length (layouts ts)) (offset_on path (tree_at (list_of ts) k)) s inside.0 inside.1
+
+  trees_there : (ts : Trees) (k : ℕ) (path : List ℕ) (s : Scalar) → option_and_then (node_at path) (slice_get (list_of ts) k) ≡ Some (scalar s) → (k < length (layouts ts)) × Among (offset_on path (tree_at (list_of ts) k)) s (element (layouts ts) k).leaves
+  trees_there no_trees k path s h = cc
+  trees_there (tree t ts) zero path s h = (omega arith, tree_there t path s h)
+  trees_there (tree t ts) (suc k) path s h =
+      let inside = trees_there ts k path s h in
+      (omega (arith, inside.0), inside.1)
+
+among-at : (at : ℕ) (s : Scalar) (ls : List Leaf) (d : Leaf) → Among at s ls → (i : ℕ) × (i < length ls) × ((slice_index_or ls i d).at ≡ at) × ((slice_index_or ls i d).kind ≡ s)
+among-at at s [] d h = absurd h
+among-at at s (l ∷ ls) d (inl here) = (0, omega arith, here.0, here.1)
+among-at at s (l ∷ ls) d (inr later) =
+    let found = among-at at s ls d later in
+    (suc found.0, omega (arith, found.1), found.2, found.3)
+
+leaf_there : (t : Tree) (path : List ℕ) (s : Scalar) → node_at path t ≡ Some (scalar s) → HasLeafAt t (offset_on path t) s
+leaf_there t path s h =
+    let found = among-at (offset_on path t) s (leaves_of t) (record { at = 0; kind = u8 }) (tree_there t path s h) in
+    record { number = found.0; in_range = found.1; starts = found.2; is = found.3 }
+
 pub well_laid_out : (t : Tree) → IsWellLaidOut t
 well_laid_out t =
     let well = tree_well t in
@@ -310,5 +373,6 @@ well_laid_out t =
       in_order = λ i j h k. rising-order 0 ls (size_of t) i j d h k well.rising;
       aligned = λ i h. mod-eq-zero_of_dvd (scalar_size (leaf_at t i).kind) (aligned-at (align_of t) ls i d h well.aligned);
       summed = λ i h. stands-at t ls i d h (tree_stands t);
+      complete = λ path s h. leaf_there t path s h;
       whole = mod-eq-zero_of_dvd (align_of t) well.whole;
     }

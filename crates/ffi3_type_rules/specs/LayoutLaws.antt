@@ -1,6 +1,6 @@
 -- What every layout keeps. (libffi manual, "Size and Alignment"; C, "Structure and union specifiers": elements lie in order, each at a multiple of its alignment)
 use Rattle.std.specs.Prelude.{◌≡◌, ℕ, zero, suc, ◌+◌, ◌%◌, ◌<◌, ◌≤◌, List, [], ◌∷◌, length, Some}
-use Rattle.ffi3_type_rules.specs.Tree.{Tree, scalar, tree_at, elements_of}
+use Rattle.ffi3_type_rules.specs.Tree.{Tree, scalar, Scalar, tree_at, elements_of}
 use Rattle.ffi3_type_rules.specs.Layout.{Leaf, IsLeastMultiple, scalar_size, size_of, align_of, leaves_of, leaf_at, offset_of}
 use Rattle.ffi3_type_rules.specs.Fault.{node_at}
 
@@ -18,6 +18,13 @@ pub record StandsOnPath (t : Tree) (leaf : Leaf) : Type 0 where
   pub path : List ℕ
   pub leads : node_at path t ≡ Some (scalar leaf.kind)
   pub starts : leaf.at ≡ offset_on path t
+
+-- a leaf of this kind starts there
+pub record HasLeafAt (t : Tree) (start : ℕ) (kind : Scalar) : Type 0 where
+  pub number : ℕ
+  pub in_range : number < length (leaves_of t)
+  pub starts : (leaf_at t number).at ≡ start
+  pub is : (leaf_at t number).kind ≡ kind
 
 -- where the element before number i ends: 0 for the first
 abbrev pub end_of_previous : Tree → ℕ → ℕ
@@ -42,8 +49,11 @@ pub record IsWellLaidOut (t : Tree) : Type 0 where
   pub inside : (i : ℕ) → i < length (leaves_of t) → leaf_end (leaf_at t i) ≤ size_of t
   -- they rise from the left and do not overlap
   pub in_order : (i j : ℕ) → i < j → j < length (leaves_of t) → leaf_end (leaf_at t i) ≤ (leaf_at t j).at
-  -- each is aligned
+  -- each is aligned to its size
   pub aligned : (i : ℕ) → i < length (leaves_of t) → (leaf_at t i).at % scalar_size (leaf_at t i).kind ≡ 0
   -- its offset is the sum of those on its path
   pub summed : (i : ℕ) → i < length (leaves_of t) → StandsOnPath t (leaf_at t i)
+  -- each scalar of the type is a leaf, where its path says
+  pub complete : (path : List ℕ) (s : Scalar) → node_at path t ≡ Some (scalar s) → HasLeafAt t (offset_on path t) s
+  -- any type's size is a multiple of its alignment
   pub whole : size_of t % align_of t ≡ 0

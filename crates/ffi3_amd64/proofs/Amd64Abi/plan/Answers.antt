@@ -1,7 +1,18 @@
-use Rattle.ffi3_amd64_rules.proofs.Planned.{plan_is}
+use Rattle.std.proofs.Common.{ap, sym, ◌∙◌, refl}
+use Rattle.ffi3_types.specs.TreeOf.{tree_of}
+use Rattle.ffi3_place_rules.specs.Standard.{at_once}
+use Rattle.ffi3_place_rules.proofs.Planned.{planned_is}
+use Rattle.ffi3_amd64_rules.specs.Amd64.{amd64, taken_at_first, result_spot_of}
+use Rattle.ffi3_amd64_rules.proofs.Steps.{places_without_copies, ends_without_copies}
 use Rattle.ffi3_amd64.proofs.Amd64Abi.plan.Goals as goal
 
 pub returns : goal.returns
 returns c =
+    let s = c.args.sig.now in
     let of_result = c.result_type-ret.ensures.element in
-    plan_is c.args.sig.now _ _ _ _ _ _ _ _ c.in_ok-all.ensures.places c.in_ok-all.ensures.taken c.round_up-buffer.ensures.value (rw of_result at c.buffer_end.ensures.value) c.round_up-frame.ensures.value c.sizes_of.ensures.value c.round_up-block.ensures.value (rw of_result at c.in_ok-res.ensures)
+    let first = taken_at_first s.result_type in
+    let copied = c.round_up-copied.result in
+    let placed = c.in_ok-all.ensures.places ∙ places_without_copies at_once 0 copied first s.arguments in
+    let copies = sym (ends_without_copies at_once copied first s.arguments) in
+    let ends = c.buffer_end-end.ensures.value at_once (result_spot_of (tree_of c.result_type-ret.result.now)) c.in_ok-res.ensures in
+    c.planned.ensures ∙ planned_is amd64 s _ copied _ copied _ _ _ _ (ap (λ a. a.stack) c.in_ok-all.ensures.taken) c.round_up-copied.ensures.value placed copies (rw of_result at c.in_ok-res.ensures) (rw of_result at ends) refl (ap (λ a. a.vector) c.in_ok-all.ensures.taken)

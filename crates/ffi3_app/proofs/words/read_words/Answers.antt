@@ -1,6 +1,6 @@
 use Rattle.std.proofs.Common.{◌≡◌, ◌∙◌, List, [], map, string_bytes, sym, ap, subst}
 use Rattle.clap.specs.Words.{HasKind, Text, app_of, fault_of, subcommand_of, subcommand_rows_of}
-use Rattle.ffi3_app.proofs.Answering.{asks_something, can_as, free, refused_as, simple, stated_as, stated_fails, taken_as}
+use Rattle.ffi3_app.proofs.Answering.{asks_something, can_as, free, one_as, refused_as, simple, stated_as, stated_fails, taken_as, taken_fails}
 use Rattle.ffi3_app.proofs.words.read_words.Goals as goal
 
 pub returns-in-Some-clause-takes : goal.returns-in-Some-clause-takes
@@ -36,6 +36,17 @@ returns-in-Some-clause-stated c r stated =
     let met : subcommand_rows_of m ≡ subcommand_of a words = (parsed.matches (simple a c.in-Ok.ensures)).1 ∙ ap (subcommand_of a) same in
     (stated_as a c.in-Ok.ensures words m fine met c.in-Some.request r (sym c.request_of.ensures ∙ c.in-Some.is) stated, tt)
 
+pub returns-in-Some-clause-one : goal.returns-in-Some-clause-one
+returns-in-Some-clause-one c r takes =
+    let a = app_of c.in-Ok.command in
+    let m = c.in-Ok-try_get_matches_from.matches in
+    let words : List Text = map string_bytes c.args.words.items in
+    let same : map string_bytes c.as_slice.result.now ≡ words = ap (map string_bytes) c.as_slice.ensures.value in
+    let parsed = c.in-Ok-try_get_matches_from.ensures in
+    let fine : fault_of a words ≡ [] = ap (fault_of a) (sym same) ∙ parsed.kinds (free a c.in-Ok.ensures) in
+    let met : subcommand_rows_of m ≡ subcommand_of a words = (parsed.matches (simple a c.in-Ok.ensures)).1 ∙ ap (subcommand_of a) same in
+    (one_as a c.in-Ok.ensures words m fine met c.in-Some.request r (sym c.request_of.ensures ∙ c.in-Some.is) takes, tt)
+
 pub unreachable-requires : goal.unreachable-requires
 unreachable-requires c =
     let a = app_of c.in-Ok.command in
@@ -54,6 +65,14 @@ returns-clause-refused c =
     let same : map string_bytes c.as_slice.result.now ≡ words = ap (map string_bytes) c.as_slice.ensures.value in
     let has : HasKind (fault_of a words) c.in-Err.error = subst (λ (ws : List Text). HasKind (fault_of a ws) c.in-Err.error) same (c.in-Err.ensures.kinds (free a c.in-Ok.ensures)) in
     refused_as a c.in-Ok.ensures words c.in-Err.error c.refusal.result has c.refusal.ensures
+
+pub returns-clause-one : goal.returns-clause-one
+returns-clause-one c r takes =
+    let a = app_of c.in-Ok.command in
+    let words : List Text = map string_bytes c.args.words.items in
+    let same : map string_bytes c.as_slice.result.now ≡ words = ap (map string_bytes) c.as_slice.ensures.value in
+    let has : HasKind (fault_of a words) c.in-Err.error = subst (λ (ws : List Text). HasKind (fault_of a ws) c.in-Err.error) same (c.in-Err.ensures.kinds (free a c.in-Ok.ensures)) in
+    (tt, taken_fails a c.in-Ok.ensures words c.in-Err.error c.refusal.result r has c.refusal.ensures takes)
 
 pub returns-clause-stated : goal.returns-clause-stated
 returns-clause-stated c r stated =

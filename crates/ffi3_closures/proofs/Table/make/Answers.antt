@@ -13,7 +13,7 @@ returns-clause-not_all_live c =
     let map : c.self.inside.slots.items ≡ c.args.self.now = c.self.view_is in
     not_all_live c.args.self.now (rw map at c.self.invariant) (omega arith)
 
-pub returns-then-k-eq256-clause-all_live : goal.returns-then-k-eq256-clause-all_live
-returns-then-k-eq256-clause-all_live c =
+pub returns-then-full-clause-all_live : goal.returns-then-full-clause-all_live
+returns-then-full-clause-all_live c =
     let map : c.self.inside.slots.items ≡ c.args.self.now = c.self.view_is in
     all_live c.args.self.now (rw map at c.self.invariant) (omega arith)

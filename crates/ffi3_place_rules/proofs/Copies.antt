@@ -7,7 +7,7 @@ use Rattle.ffi3_type_rules.specs.Signature.{Signature}
 use Rattle.ffi3_place_rules.specs.declared.Place.TheVariants.{ByRef}
 use Rattle.ffi3_place_rules.specs.declared.Res.TheVariants.{Hidden}
 use Rattle.ffi3_place_rules.specs.Standard.{Standard, Spot, in_pieces, by_reference, ResultSpot, no_result, in_result_pieces, in_buffer, place_at, places_from, copy_end, copies_end, result_at, buffer_end, copies_start, frame_copies_end, round8, round16}
-use Rattle.ffi3_aapcs64_rules.specs.Sums.{is_by_reference, buffer_size, copies_before, CopiesBySums}
+use Rattle.ffi3_place_rules.specs.Copies.{is_by_reference, buffer_size, copies_before, CopiesBySums}
 
 -- spot i is there
 abbrev HasSpot : List Spot → ℕ → Spot → Type 0
@@ -44,7 +44,7 @@ module _ (start : ℕ → Tree → ℕ) (at_once : (end : ℕ) (t : Tree) → st
   there_below (x ∷ spots) zero spot h = omega arith
   there_below (x ∷ spots) (suc i) spot h = omega (arith, there_below spots i spot h)
 
-  buffer_ends : (end : ℕ) (t : Tree) (spot : ResultSpot) → buffer_end start end t spot ≡ end + buffer_size t spot
+  pub buffer_ends : (end : ℕ) (t : Tree) (spot : ResultSpot) → buffer_end start end t spot ≡ end + buffer_size t spot
   buffer_ends end t no_result = omega arith
   buffer_ends end t (in_result_pieces pieces) = omega arith
   buffer_ends end t (in_buffer at) = ap (λ n. n + round8 (size_of t)) (at_once end t)

@@ -1,0 +1,58 @@
+// Where copies and buffers end in the frame of a call, and the plan that ends with them: alike by every standard.
+ghost use Rattle.std.specs.Prelude.{◌≡◌, ◌≤◌, ◌+◌, ℕ, true};
+ghost use Rattle.ffi3_type_rules.specs.Tree.{Tree};
+ghost use Rattle.ffi3_type_rules.specs.Fault.{HasNoFault};
+ghost use Rattle.ffi3_type_rules.specs.Signature.{SignatureHasNoFault};
+ghost use Rattle.ffi3_types.specs.TreeOf.{tree_of};
+ghost use Rattle.ffi3_place_rules.specs.Standard.{Spot, ResultSpot, at_once, place_at, copy_end, result_at, buffer_end};
+ghost use Rattle.ffi3_place_rules.specs.Planned.{planned};
+
+use crate::parts::{size_of, sizes_of};
+use ffi3_place_rules::{Place, Places, Plan, Res};
+use ffi3_type_rules::round_up;
+use ffi3_types::{FfiType, Sig};
+
+/// Where an argument's copy ends. Without one, that is `end`, where what stands before it ends.
+pub fn copy_end(place: &Place, ty: &FfiType, end: u64) -> u64
+    requires { HasNoFault 0 true (tree_of ty.now) }
+    ensures value { (start : ℕ → Tree → ℕ) (spot : Spot) → place.now ≡ place_at start end (tree_of ty.now) spot → result ≡ copy_end start end (tree_of ty.now) spot }
+    ensures low { (spot : Spot) → place.now ≡ place_at at_once end (tree_of ty.now) spot → result ≤ end + 1031 }
+{
+    match place {
+        Place::Direct(_) => end,
+        Place::ByRef { copy, .. } => *copy as u64 + round_up(size_of(ty), 8),
+    }
+}
+
+/// Where the buffer of a hidden result ends. Without one, that is `end`, where what stands before it ends.
+pub fn buffer_end(res: &Res, ty: &FfiType, end: u64) -> u64
+    requires right { HasNoFault 0 true (tree_of ty.now) }
+    requires low { end ≤ 4294967295 }
+    ensures value { (start : ℕ → Tree → ℕ) (spot : ResultSpot) → res.now ≡ result_at start end (tree_of ty.now) spot → result ≡ buffer_end start end (tree_of ty.now) spot }
+    ensures low { result ≤ 4294968326 }
+{
+    match res {
+        Res::Nothing => end,
+        Res::Direct(_) => end,
+        Res::Hidden { buffer, .. } => *buffer as u64 + round_up(size_of(ty), 8),
+    }
+}
+
+/// The plan of a call from its places: the last copy or buffer ends at `end`, and the return address and the callee's save area take `area` bytes.
+pub fn planned(sig: &Sig, places: Places, res: Res, end: u64, area: u64, vectors: u8) -> Plan
+    requires right { SignatureHasNoFault sig.now }
+    requires low { end ≤ 4294968326 }
+    requires small { area ≤ 65536 }
+    ensures { result ≡ planned sig.now places res end area vectors }
+{
+    let frame = round_up(end, 16);
+    let block = round_up(sizes_of(sig), 16);
+    Plan {
+        places,
+        res,
+        need: frame + area + block,
+        frame,
+        block,
+        vectors,
+    }
+}
