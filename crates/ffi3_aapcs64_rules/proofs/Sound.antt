@@ -20,6 +20,7 @@ use Rattle.ffi3_place_rules.proofs.Tests.{each_weaker}
 use Rattle.ffi3_place_rules.proofs.Determines.{determined}
 use Rattle.ffi3_aapcs64_rules.specs.Aapcs64.{aapcs64, in_vectors, is_copied, member_pieces, general_pieces, register_pieces, register_spot, stack_spot, in_registers, taken_with, taken_after, untouched, spot_after, spots_after, result_from, result_spot_of, placing_of}
 use Rattle.ffi3_aapcs64_rules.proofs.Covered.{registers_have_all, arguments_have_all, registers_filled, arguments_filled, copied_not_vectors, few_members, few_doublewords, NeedBy, fits_by, first_fits, pointer_rounded}
+use Rattle.ffi3_aapcs64_rules.proofs.Rising.{arguments_rise}
 use Rattle.ffi3_aapcs64_rules.proofs.Registers.{numbered, all_registers, argument_allowed, vector_allowed, stack_allowed, hidden_allowed, argument_not_hidden, result_allowed_general, result_allowed_vector, result_allowed_stack}
 
 abbrev PlacesChain : Taken → List Loc → Taken → Type 0
@@ -218,6 +219,7 @@ sound s = record {
   allowed = plan_allowed s;
   has_all = arguments_have_all aapcs64.copy_start (copies_start (placing_of s)) untouched s.arguments;
   filled = arguments_filled aapcs64.copy_start (copies_start (placing_of s)) untouched s.arguments;
+  rising = arguments_rise aapcs64.copy_start (copies_start (placing_of s)) untouched s.arguments;
   result_apart = result_by AreApart tt s (λ e. chain_apart numbered numbered 8 8 all_registers untouched _ _ (result_chain s.result_type e));
   result_in_registers = result_by (AllByRecursion (LiesIn (isa_of aapcs64.target) 0)) tt s (λ e. chain_lies_in numbered numbered 8 8 (isa_of aapcs64.target) (λ k h. omega arith) (λ k h. omega arith) untouched _ _ 0 (omega arith) (result_chain s.result_type e));
   result_allowed = result_by (AllByRecursion (IsNoneOf (not_for_results aapcs64))) tt s (λ e. chain_allowed numbered numbered 8 8 (not_for_results aapcs64) result_allowed_general result_allowed_vector result_allowed_stack untouched _ _ (result_chain s.result_type e));

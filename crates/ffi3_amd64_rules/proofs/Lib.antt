@@ -1,6 +1,7 @@
 pub mod Agrees
 pub mod Covered
 pub mod Filled
+mod Rising
 pub mod Registers
 pub mod Sound
 pub mod Sums

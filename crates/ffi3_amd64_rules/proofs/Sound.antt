@@ -20,6 +20,7 @@ use Rattle.ffi3_amd64_rules.specs.declared.Class.TheVariants.{Integer, Sse}
 use Rattle.ffi3_amd64_rules.specs.Amd64.{amd64, is_integer_class, is_sse_class, classes, integers, sses, in_memory, argument_register, vector_register, result_register, register_pieces, in_registers, stack_start, stack_end, taken_with, taken_after, taken_at_first, pieces_after, spots_after, result_spot_of, placing_of}
 use Rattle.ffi3_amd64_rules.proofs.Covered.{fits_registers, integers_few, sses_few, classes_when, registers_have_all, arguments_have_all}
 use Rattle.ffi3_amd64_rules.proofs.Filled.{arguments_filled, result_filled}
+use Rattle.ffi3_amd64_rules.proofs.Rising.{arguments_rise}
 use Rattle.ffi3_amd64_rules.proofs.Registers.{argument_registers, argument_exists, argument_allowed, vector_allowed, stack_allowed, result_registers, result_exists, result_allowed_general, result_allowed_vector, result_allowed_stack}
 
 abbrev at_eightbyte : Taken → List Class → Taken
@@ -181,6 +182,7 @@ sound s =
       result_allowed = result_cases (AllByRecursion (IsNoneOf (not_for_results amd64))) tt s.result_type (chain_allowed result_register vector_register 2 2 (not_for_results amd64) result_allowed_general result_allowed_vector result_allowed_stack (at_eightbyte untouched []) _ _ (result_chain s.result_type)) end;
       result_has_all = result_has_all s.result_type end;
       filled = arguments_filled (copies_start (placing_of s)) (taken_at_first s.result_type) s.arguments;
+      rising = arguments_rise (copies_start (placing_of s)) (taken_at_first s.result_type) s.arguments;
       result_filled = result_filled s.result_type end;
       frame_aligned = frame_is_aligned amd64 s;
       need_aligned = need_is_aligned amd64 s refl;

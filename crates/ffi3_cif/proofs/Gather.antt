@@ -10,7 +10,7 @@ use Rattle.ffi3_place_rules.specs.declared.Loc.TheVariants.{G, F, S}
 use Rattle.ffi3_place_rules.specs.declared.Piece.{Piece}
 use Rattle.ffi3_place_rules.specs.declared.Place.{Place}
 use Rattle.ffi3_place_rules.specs.declared.Place.TheVariants.{Direct, ByRef}
-use Rattle.ffi3_place_rules.specs.Sound.{IsPieceOf, PlaceHasAll, PlacesHaveAll}
+use Rattle.ffi3_place_rules.specs.Sound.{IsPieceOf, PlaceHasAll, PlacesHaveAll, RisesTo, AreRising}
 use Rattle.ffi3_place_rules.proofs.Elements.{drop_read}
 use Rattle.ffi3_place_rules.proofs.Tests.{each_at, each_weaker}
 use Rattle.ffi3_cif.specs.declared.runs.Run.{Run}
@@ -33,15 +33,39 @@ other_next r n rest some off = rw (some, off) refl
 abbrev pub first_run : Run
 first_run = record { at = 0; off = 0; len = 0 }
 
-pub runs_made : (pieces : List Piece) → AreRunsOf pieces (glued first_run (stack_runs pieces))
-runs_made pieces =
+abbrev run_of : ℕ → Piece → Run
+run_of start p = record { at = start; off = p.off; len = p.len }
+
+-- the run of a piece rises to the runs of those after it
+first_rises : (p : Piece) (start : ℕ) → p.loc ≡ S start → (qs : List Piece) → AllByRecursion (RisesTo p) qs → Neighbours Rises (stack_runs qs) → Neighbours Rises (run_of start p ∷ stack_runs qs)
+first_rises p start at [] h k = tt
+first_rises p start at (q ∷ qs) h k = by_place q.loc refl (first_rises p start at qs h.1) k
+  where
+    by_place : (l : Loc) → q.loc ≡ l → (Neighbours Rises (stack_runs qs) → Neighbours Rises (run_of start p ∷ stack_runs qs)) → Neighbours Rises (run_then (run_at l q) (stack_runs qs)) → Neighbours Rises (run_of start p ∷ run_then (run_at l q) (stack_runs qs))
+    by_place (S high) there rest k =
+        let rises = h.0 start high at there in
+        (record { at = rises.0; off = rises.1 }, k)
+    by_place (G r) there rest k = rest k
+    by_place (F r) there rest k = rest k
+
+runs_rise : (pieces : List Piece) → AreRising pieces → Neighbours Rises (stack_runs pieces)
+runs_rise [] h = tt
+runs_rise (p ∷ ps) h = by_place p.loc refl (runs_rise ps h.1)
+  where
+    by_place : (l : Loc) → p.loc ≡ l → Neighbours Rises (stack_runs ps) → Neighbours Rises (run_then (run_at l p) (stack_runs ps))
+    by_place (S start) at k = first_rises p start at ps h.0 k
+    by_place (G r) at k = k
+    by_place (F r) at k = k
+
+pub runs_made : (pieces : List Piece) → AreRising pieces → AreRunsOf pieces (glued first_run (stack_runs pieces))
+runs_made pieces rising =
     let g = are_glued first_run (stack_runs pieces) in
     record {
       has_each = λ at off c. g.has_each at off (inr c);
       has_no_other = λ at off c. others at off (g.has_no_other at off c);
       some_bytes = g.some_bytes;
       whole = g.whole;
-      rising = λ h. g.rising (from_first (stack_runs pieces) h);
+      rising = g.rising (from_first (stack_runs pieces) (runs_rise pieces rising));
     }
   where
     others : (at off : ℕ) → OneCopies at off (first_run ∷ stack_runs pieces) → OneCopies at off (stack_runs pieces)
@@ -94,10 +118,10 @@ module _ (pieces : List Piece) (i : ℕ) (p : Piece) (inside : i < length pieces
     piece_taken n next new e f some step =
         same_run new next e f (step (stack_runs (drop (i + 1) pieces)) ∙ subst (λ ns. runs ++ glued r ns ≡ whole) (its_run p (drop (i + 1) pieces) n some) opened)
 
-pub all_taken : (pieces : List Piece) (i : ℕ) (runs out : List Run) (r : Run) → length pieces ≤ i → runs ++ glued r (stack_runs (drop i pieces)) ≡ glued first_run (stack_runs pieces) → out ≡ runs ++ some_run r → AreRunsOf pieces out
-all_taken pieces i runs out r over before pushed =
+pub all_taken : (pieces : List Piece) (i : ℕ) (runs out : List Run) (r : Run) → AreRising pieces → length pieces ≤ i → runs ++ glued r (stack_runs (drop i pieces)) ≡ glued first_run (stack_runs pieces) → out ≡ runs ++ some_run r → AreRunsOf pieces out
+all_taken pieces i runs out r rising over before pushed =
     let done = subst (λ ps. runs ++ glued r (stack_runs ps) ≡ glued first_run (stack_runs pieces)) (drop_of_length-le pieces over) before in
-    subst (λ rs. AreRunsOf pieces rs) (sym (pushed ∙ done)) (runs_made pieces)
+    subst (λ rs. AreRunsOf pieces rs) (sym (pushed ∙ done)) (runs_made pieces rising)
 
 -- a piece of the list ends within the bound, and so does its run
 pub run_ends : (size : ℕ) (pieces : List Piece) (i : ℕ) (p : Piece) (n : Run) → i < length pieces → p ≡ slice_index_or pieces i p → run_at p.loc p ≡ Some n → AllByRecursion (EndsWithin size) pieces → n.off + n.len ≤ size
@@ -118,7 +142,7 @@ run_ends size pieces i p n inside read e all = ends p.loc e
 
 pub none_of_none : AreRunsOf [] []
 none_of_none =
-    record { has_each = λ at off c. c; has_no_other = λ at off c. c; some_bytes = tt; whole = tt; rising = λ h. h }
+    record { has_each = λ at off c. c; has_no_other = λ at off c. c; some_bytes = tt; whole = tt; rising = tt }
 
 pub place_taken : (places : List Place) (i : ℕ) (p : Place) (all out : List (List Run)) (r : List Run) → i < length places → p ≡ slice_index_or places i p → PlacesHaveRuns (take i places) all → out ≡ all ++ r ∷ [] → AreRunsOf (pieces_of p) r → PlacesHaveRuns (take (i + 1) places) out
 place_taken places i p all out r inside read before pushed has =

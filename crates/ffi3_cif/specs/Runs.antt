@@ -62,8 +62,8 @@ pub record AreRunsOf (pieces : List Piece) (runs : List Run) : Type 0 where
   -- none is empty, and no two neighbours are one run
   pub some_bytes : AllByRecursion (λ r. 0 < r.len) runs
   pub whole : Neighbours (λ r n. (¬ GoesOn r n)) runs
-  -- they rise where the pieces do
-  pub rising : Neighbours Rises (stack_runs pieces) → Neighbours Rises runs
+  -- each next one stands higher and has later bytes
+  pub rising : Neighbours Rises runs
 
 -- the runs of each argument
 abbrev pub PlacesHaveRuns : List Place → List (List Run) → Type 0

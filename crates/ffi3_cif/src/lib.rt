@@ -93,7 +93,7 @@ impl<A: Abi> Cif<A> {
         self.plan.places.get(i as usize)
     }
 
-    /// The bytes of argument `i` that stand on the stack, in as few runs as they make. An argument by reference has none.
+    /// The bytes of argument `i` that stand on the stack, in as few runs as they make, which rise. An argument by reference has none.
     pub fn runs(&self, i: u32) -> &Runs
         requires { i < length self.now.arguments }
         ensures { IsSomeAnd (slice_get (plan_of A.standard self.now).places i) (λ p. AreRunsOf (pieces_of p) result.now) }

@@ -2,6 +2,7 @@
 
 ghost use Rattle.std.specs.Prelude.{◌≡◌, ◌+◌, ◌<◌, ◌≤◌, ◌++◌, List, [], ◌∷◌, length, slice_index_or, IfOk, OnOk, OnErr};
 ghost use Rattle.std.specs.List.{AllByRecursion};
+ghost use Rattle.ffi3_place_rules.specs.Sound.{AreRising, PlaceRises};
 ghost use Rattle.ffi3_cif.specs.Runs.{AreRunsOf, EndsWithin, PlaceEndsWithin, PlacesHaveRuns, pieces_of, run_at, goes_on, some_run, glued};
 
 use ffi3_place::{Loc, Piece, Pieces, Place, Places};
@@ -153,7 +154,8 @@ fn with_next(runs: &mut Runs, run: Run, next: Run) -> Result<Run, NoMemory>
 
 /// The runs of the pieces that stand on the stack. No type has more than 1024 bytes.
 fn runs_of(alloc: Global, pieces: &Pieces) -> Result<Runs, NoMemory>
-    requires { AllByRecursion (EndsWithin 1024) pieces.now }
+    requires within { AllByRecursion (EndsWithin 1024) pieces.now }
+    requires rising { AreRising pieces.now }
     ensures { IfOk result (λ r. AreRunsOf pieces.now r) }
 {
     let mut runs = Runs::new(alloc);
@@ -172,7 +174,8 @@ fn runs_of(alloc: Global, pieces: &Pieces) -> Result<Runs, NoMemory>
 }
 
 fn place_runs(alloc: Global, place: &Place) -> Result<Runs, NoMemory>
-    requires { PlaceEndsWithin 1024 place.now }
+    requires within { PlaceEndsWithin 1024 place.now }
+    requires rising { PlaceRises place.now }
     ensures { IfOk result (λ r. AreRunsOf (pieces_of place.now) r) }
 {
     match place {
@@ -183,7 +186,8 @@ fn place_runs(alloc: Global, place: &Place) -> Result<Runs, NoMemory>
 
 /// The runs of each argument.
 pub fn all_runs(alloc: Global, places: &Places) -> Result<AllRuns, NoMemory>
-    requires { AllByRecursion (PlaceEndsWithin 1024) places.now }
+    requires within { AllByRecursion (PlaceEndsWithin 1024) places.now }
+    requires rising { AllByRecursion PlaceRises places.now }
     ensures { IfOk result (λ r. PlacesHaveRuns places.now r) }
 {
     let mut all = AllRuns::new(alloc);

@@ -1,30 +1,52 @@
 //! A region of memory: bytes that stand at the addresses from a base on.
 #![tactic(auto)]
 
-ghost use Rattle.std.specs.Prelude.{◌≡◌, ◌<◌, ◌≤◌, ◌+◌, ◌^◌, ◌↔◌, length, take, replicate, IfOk, IsTrue};
+ghost use Rattle.std.specs.Prelude.{◌≡◌, ◌<◌, ◌≤◌, ◌+◌, ◌^◌, ◌↔◌, length, take, drop, replicate, [], IfOk, IsTrue};
+ghost use Rattle.std.specs.List.{replace_range};
 ghost use Rattle.ffi3_memory.specs.Memory.{LiesIn, range_of, with_bytes, IsWidth, number_of, low_bytes};
 
 /// A want of memory: the one answer that no clause ties to a cause.
 pub use std::alloc::AllocError as NoMemory;
+
+mod block;
+
+use block::Block;
 use std::alloc::{AllocError, Global};
 use std::marker::Model;
+use std_alloc::vec::Lodged;
 
 /// Bytes at the addresses from a base on. Numbers stand in them in little-endian order.
-#[derive(Drop)]
+///
+/// They lie in one block of raw memory, which the region owns, and which goes back when the region is dropped. The
+/// address `base` is a number that the region is told: it says nothing of where the block lies.
 pub struct Region {
     base: u64,
-    bytes: Vec<u8>,
+    bytes: Vec<u8, Lodged>,
+    block: Block<Global>,
+    alloc: Global,
 }
 
 impl Model for Region {
-    ghost use Rattle.std.specs.Prelude.{◌<◌, ◌+◌, ◌^◌, length};
+    ghost use Rattle.std.specs.Prelude.{◌≡◌, ◌<◌, ◌+◌, ◌^◌, length};
     ghost use Rattle.ffi3_memory.specs.Memory.{Memory};
 
     ghost Value = { Memory };
 
     ghost view = { λ r. record { base = r.base; bytes = r.bytes.items } };
 
-    ghost invariant = { λ r. r.base + length r.bytes.items < 2 ^ 64 };
+    ghost invariant = { λ r. (r.base + length r.bytes.items < 2 ^ 64) × (r.bytes.ptr ≡ r.block.ptr) × (r.bytes.cap ≡ r.block.size) × (r.block.alloc ≡ r.alloc) };
+}
+
+impl Drop for Region {
+    fn drop(self) {
+        let Region {
+            base: _,
+            bytes,
+            block,
+            alloc,
+        } = self;
+        block.give(bytes, &alloc);
+    }
 }
 
 impl Region {
@@ -33,10 +55,23 @@ impl Region {
         requires { base + len < 2 ^ 64 }
         ensures { IfOk result (λ r. r ≡ record { base = base; bytes = replicate len 0 }) }
     {
-        Ok(Region {
-            base,
-            bytes: vec![in alloc; 0; len as usize]?,
-        })
+        if len > 0x7FFF_FFFF_FFFF_FFFF {
+            return Err(AllocError);
+        }
+        let len = len as usize;
+        let size = if len == 0 { 1 } else { len };
+        match Block::take(&alloc, size) {
+            Some((unwritten, block)) => {
+                let bytes = zeros(unwritten, len);
+                Ok(Region {
+                    base,
+                    bytes,
+                    block,
+                    alloc,
+                })
+            }
+            None => Err(AllocError),
+        }
     }
 
     /// Whether the `len` bytes from `addr` on lie in the region.
@@ -111,11 +146,53 @@ impl Region {
         requires to_high { to + len ≤ self.old.base + length self.old.bytes }
         ensures { self.new ≡ with_bytes to (range_of self.old from len) self.old }
     {
-        let start = (from - self.base) as usize;
-        let end = start + len as usize;
-        let at = (to - self.base) as usize;
-        self.bytes.copy_within(start..end, at);
+        let from = (from - self.base) as usize;
+        let to = (to - self.base) as usize;
+        let bytes = self.bytes.as_mut_slice();
+        if to <= from {
+            move_down(bytes, from, to, len as usize);
+        } else {
+            move_up(bytes, from, to, len as usize);
+        }
     }
+}
+
+// Copies to lower places, the first byte first: each is read before its place is written.
+fn move_down(bytes: &mut [u8], from: usize, to: usize, len: usize)
+    requires down { to ≤ from }
+    requires high { from + len ≤ length bytes.old }
+    ensures { bytes.new ≡ replace_range bytes.old to (to + len) (take len (drop from bytes.old)) }
+{
+    for i in 0..len {
+        bytes[to + i] = bytes[from + i];
+    }
+}
+
+// Copies to higher places, the last byte first.
+fn move_up(bytes: &mut [u8], from: usize, to: usize, len: usize)
+    requires up { from ≤ to }
+    requires high { to + len ≤ length bytes.old }
+    ensures { bytes.new ≡ replace_range bytes.old to (to + len) (take len (drop from bytes.old)) }
+{
+    let mut rest = len;
+    while rest > 0 {
+        rest -= 1;
+        bytes[to + rest] = bytes[from + rest];
+    }
+}
+
+// The first `len` bytes of an unwritten block, now zero.
+fn zeros(bytes: Vec<u8, Lodged>, len: usize) -> Vec<u8, Lodged>
+    requires room { len ≤ bytes.cap }
+    requires unwritten { bytes.items ≡ [] }
+    ensures value { result.items ≡ replicate len 0 }
+    ensures place { (result.ptr ≡ bytes.ptr) × (result.cap ≡ bytes.cap) }
+{
+    let mut bytes = bytes;
+    for i in 0..len {
+        bytes.insert_reserved(i, 0);
+    }
+    bytes
 }
 
 // The number that 1, 2, 4 or 8 bytes make.
@@ -189,21 +266,28 @@ mod tests {
         Ok(())
     }
 
-    // Eight bytes, copied by one place up and down over themselves.
+    // Each range overlaps the other, and the bytes are those that a copy through a buffer leaves.
     #[test]
-    fn copies_over_itself(rt: HostRuntime) -> Result<(), NoMemory> {
+    fn copies_within(rt: HostRuntime) -> Result<(), NoMemory> {
         let mut region = Region::new(rt.alloc(), 0x1000, 9)?;
-        region.copy_in(0x1000, &[1, 2, 3, 4, 5, 6, 7, 8, 9]);
+        region.copy_in(0x1000, &[1, 2, 3, 4, 5, 6, 7, 8]);
         region.copy_within(0x1000, 0x1001, 8);
+        assert_eq!(rt; region.lend(0x1000, 8), [1, 1, 2, 3, 4, 5, 6, 7].as_slice());
+        assert_eq!(rt; region.lend(0x1008, 1), [8].as_slice());
+        region.copy_within(0x1002, 0x1000, 7);
         assert_eq!(rt;
             region.lend(0x1000, 9),
-            [1, 1, 2, 3, 4, 5, 6, 7, 8].as_slice()
+            [2, 3, 4, 5, 6, 7, 8, 7, 8].as_slice()
         );
-        region.copy_within(0x1001, 0x1000, 8);
-        assert_eq!(rt;
-            region.lend(0x1000, 9),
-            [1, 2, 3, 4, 5, 6, 7, 8, 8].as_slice()
-        );
+        Ok(())
+    }
+
+    // A region with no byte has a block too, which is freed.
+    #[test]
+    fn has_no_byte(rt: HostRuntime) -> Result<(), NoMemory> {
+        let mut region = Region::new(rt.alloc(), 0x1000, 0)?;
+        region.copy_within(0x1000, 0x1000, 0);
+        assert!(rt; region.has(0x1000, 0) && !region.has(0x1000, 1));
         Ok(())
     }
 }

@@ -8,6 +8,7 @@ pub mod Doublewords
 pub mod Frame
 pub mod Aligned
 pub mod Filled
+pub mod Rising
 pub mod Elements
 pub mod Worked
 pub mod Copies

@@ -178,6 +178,22 @@ ResultHasAll t Nothing = t ≡ void
 ResultHasAll t (DirectRes pieces) = HaveAll t pieces
 ResultHasAll t (Hidden at buffer) = ⊤
 
+-- ---- pieces on the stack
+
+-- where both stand on the stack, the second stands higher and has later bytes of the value
+abbrev pub RisesTo : Piece → Piece → Type 0
+RisesTo p q =
+    (low high : ℕ) → p.loc ≡ S low → q.loc ≡ S high → (low + p.len ≤ high) × (p.off + p.len ≤ q.off)
+
+-- each to every later one
+abbrev pub AreRising : List Piece → Type 0
+AreRising [] = ⊤
+AreRising (p ∷ ps) = AllByRecursion (RisesTo p) ps × AreRising ps
+
+abbrev pub PlaceRises : Place → Type 0
+PlaceRises (Direct pieces) = AreRising pieces
+PlaceRises (ByRef at copy) = ⊤
+
 -- THE PLACES OF A SIGNATURE ARE SOUND
 pub record IsSound (std : Standard) (s : Signature) : Type 0 where
   -- no two places, copies and buffer included, share a register or a byte of the stack
@@ -187,6 +203,8 @@ pub record IsSound (std : Standard) (s : Signature) : Type 0 where
   pub allowed : AllByRecursion (IsNoneOf (no_argument std)) (argument_locs (plan_of std s))
   pub has_all : PlacesHaveAll s.arguments (plan_of std s).places
   pub filled : PlacesAreFilled std s.arguments (plan_of std s).places
+  -- the pieces of one argument that stand on the stack rise, each by its place and by its bytes
+  pub rising : AllByRecursion PlaceRises (plan_of std s).places
   -- the result's are registers
   pub result_apart : AreApart (result_locs (plan_of std s).res)
   pub result_in_registers : AllByRecursion (LiesIn (isa_of std.target) 0) (result_locs (plan_of std s).res)

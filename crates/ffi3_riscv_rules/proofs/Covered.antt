@@ -4,7 +4,6 @@ use Rattle.std.specs.List.{AllByRecursion}
 use Rattle.std.specs.Prelude.{Option}
 use Rattle.ffi3_type_rules.specs.Tree.{Tree, Scalar, float}
 use Rattle.ffi3_type_rules.specs.Layout.{Leaf, leaves_of, size_of, scalar_size}
-use Rattle.ffi3_place_rules.specs.declared.Loc.{Loc}
 use Rattle.ffi3_place_rules.specs.declared.Loc.TheVariants.{G, F}
 use Rattle.ffi3_place_rules.specs.declared.Ext.TheVariants.{Free, Riscv}
 use Rattle.ffi3_place_rules.specs.declared.Piece.{Piece}

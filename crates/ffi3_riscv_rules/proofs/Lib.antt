@@ -2,6 +2,7 @@ pub mod Shapes
 pub mod Covered
 pub mod Registers
 mod Filled
+mod Rising
 pub mod Agrees
 pub mod Sound
 pub mod Sums

@@ -24,6 +24,7 @@ use Rattle.ffi3_riscv_rules.specs.Riscv.{riscv, argument_register, floating_regi
 use Rattle.ffi3_riscv_rules.proofs.Shapes.{HasRoom, passed_has_room, passed_few, passed_suits, passed_floats}
 use Rattle.ffi3_riscv_rules.proofs.Covered.{spot_has_all, arguments_have_all}
 use Rattle.ffi3_riscv_rules.proofs.Filled.{spot_filled, arguments_filled}
+use Rattle.ffi3_riscv_rules.proofs.Rising.{arguments_rise}
 use Rattle.ffi3_riscv_rules.proofs.Agrees.{agrees}
 use Rattle.ffi3_riscv_rules.proofs.Registers.{all_registers, argument_exists, floating_exists, argument_allowed, floating_allowed, stack_allowed, result_allowed_general, result_allowed_floating, result_allowed_stack}
 
@@ -259,6 +260,7 @@ sound s =
       allowed = plan_allowed s;
       has_all = arguments_have_all at_once (copies_start (placing_of s)) s.fixed (used_at_first s.result_type) 0 s.arguments;
       filled = arguments_filled at_once (copies_start (placing_of s)) s.fixed (used_at_first s.result_type) 0 s.arguments;
+      rising = arguments_rise at_once (copies_start (placing_of s)) s.fixed (used_at_first s.result_type) 0 s.arguments;
       result_apart = result_apart s.result_type buffer;
       result_in_registers = result_in_registers s.result_type buffer;
       result_allowed = result_allowed s.result_type buffer;

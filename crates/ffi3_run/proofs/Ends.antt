@@ -2,6 +2,7 @@
 use Rattle.std.proofs.Common.{◌≡◌, ℕ, ◌+◌, ◌≤◌, ◌⊎◌, inl, inr, List, [], ◌++◌, length, sym, ap, ◌∙◌, subst, arith}
 use Rattle.ffi3_type_rules.specs.Value.{void_value}
 use Rattle.ffi3_type_rules.specs.declared.Target.TheVariants.{Amd64}
+use Rattle.ffi3_type_rules.specs.declared.Isa.TheVariants as isa
 use Rattle.ffi3_place_rules.specs.Event.{Event}
 use Rattle.ffi3_amd64_rules.specs.Amd64.{amd64}
 use Rattle.ffi3_io.specs.Sink.{Rose}
@@ -44,7 +45,7 @@ starts b m o closures moves results = λ i. record {
   scene = record { machine = m; output = o };
 }
 
-pub between_at_start : (p : Program) (m : State) (o : Took) (a b : ℕ) → m ≡ begun Amd64 a b → HoldsMap Amd64 no_closures (begun_code Amd64) → IsBetween p (start m o)
+pub between_at_start : (p : Program) (m : State) (o : Took) (a b : ℕ) → m ≡ begun Amd64 a b → HoldsMap Amd64 no_closures (begun_code isa.Amd64) → IsBetween p (start m o)
 between_at_start p m o a b is holds = record {
   target = ap (λ (s : State). s.target) is;
   sp = ap (λ (s : State). s.sp) is;

@@ -9,4 +9,6 @@ mod lines;
 #[cfg(test)]
 mod results;
 #[cfg(test)]
+mod runs;
+#[cfg(test)]
 mod top;

@@ -1,7 +1,7 @@
 //! Results of calls, by the registers in which the three standards return them, and room on the stack.
 ghost use Rattle.std.specs.Prelude.{◌≡◌, ◌≤◌, ◌+◌, IfOk, length};
 ghost use Rattle.ffi3_type_rules.specs.Layout.{size_of};
-ghost use Rattle.ffi3_machine.specs.declared.TheConstants.{STACK, STACK_TOP};
+ghost use Rattle.ffi3_type_rules.specs.declared.limits.TheConstants.{STACK, STACK_TOP};
 
 use ffi3_aapcs64::Aapcs64;
 use ffi3_amd64::Amd64;

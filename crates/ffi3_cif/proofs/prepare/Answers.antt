@@ -6,14 +6,21 @@ use Rattle.ffi3_type_rules.proofs.Faults.{right_is_small}
 use Rattle.ffi3_type_rules.proofs.Right.{argument_as_result}
 use Rattle.ffi3_place_rules.specs.declared.Plan.{Plan}
 use Rattle.ffi3_place_rules.specs.Standard.{plan_of}
+use Rattle.ffi3_place_rules.specs.Sound.{PlaceRises}
 use Rattle.ffi3_cif.specs.Runs.{PlaceEndsWithin}
 use Rattle.ffi3_cif.proofs.Gather.{places_end}
 use Rattle.ffi3_cif.proofs.prepare.Goals as goal
 
-pub all_runs-requires : goal.all_runs-requires
-all_runs-requires g c =
+pub all_runs-requires-clause-within : goal.all_runs-requires-clause-within
+all_runs-requires-clause-within g c =
     let s = c.args.sig in
     let faultless = c.in_default.ensures.ok in
     let sound = g.met.A.Abi.sound s faultless in
     let small = places_end 1024 s.arguments (plan_of g.A.Abi.standard s).places (λ k below. right_is_small 0 true (tree_at s.arguments k) (argument_as_result s faultless k below)) sound.has_all in
     subst (AllByRecursion (PlaceEndsWithin 1024)) (sym (ap (λ (p : Plan). p.places) c.in-Ok.ensures)) small
+
+pub all_runs-requires-clause-rising : goal.all_runs-requires-clause-rising
+all_runs-requires-clause-rising g c =
+    let s = c.args.sig in
+    let sound = g.met.A.Abi.sound s c.in_default.ensures.ok in
+    subst (AllByRecursion PlaceRises) (sym (ap (λ (p : Plan). p.places) c.in-Ok.ensures)) sound.rising

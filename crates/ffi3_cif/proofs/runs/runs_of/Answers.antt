@@ -9,7 +9,7 @@ loop-i-init c = ap (λ rs. rs ++ glued first_run (stack_runs c.args.pieces.now))
 
 pub with_next-requires : goal.with_next-requires
 with_next-requires c =
-    run_ends 1024 c.args.pieces.now c.loop-i.i c.get.result.now c.in-Some.next (omega (arith, c.loop-i-test.true, c.len-i-end.ensures)) c.get.ensures (sym c.run_at.ensures ∙ c.in-Some.is) c.requires
+    run_ends 1024 c.args.pieces.now c.loop-i.i c.get.result.now c.in-Some.next (omega (arith, c.loop-i-test.true, c.len-i-end.ensures)) c.get.ensures (sym c.run_at.ensures ∙ c.in-Some.is) c.requires.within
 
 pub loop-i-preserved : goal.loop-i-preserved
 loop-i-preserved c =
@@ -24,4 +24,4 @@ loop-i-preserved c =
 
 pub returns : goal.returns
 returns c =
-    all_taken c.args.pieces.now c.loop-i.i c.loop-i.runs _ c.loop-i.run (omega (arith, c.loop-i-test.false, c.len-i-end.ensures)) c.loop-i.invariant c.in_ok-push.ensures.ok
+    all_taken c.args.pieces.now c.loop-i.i c.loop-i.runs _ c.loop-i.run c.requires.rising (omega (arith, c.loop-i-test.false, c.len-i-end.ensures)) c.loop-i.invariant c.in_ok-push.ensures.ok

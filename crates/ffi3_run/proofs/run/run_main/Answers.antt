@@ -1,5 +1,6 @@
 use Rattle.std.proofs.Common.{refl, sym, ap, subst}
 use Rattle.ffi3_type_rules.specs.declared.Target.TheVariants.{Amd64}
+use Rattle.ffi3_type_rules.specs.declared.Isa.TheVariants as isa
 use Rattle.ffi3_run_rules.specs.Closures.{Closures}
 use Rattle.ffi3_machine.specs.State.{State, begun_code}
 use Rattle.ffi3_closures.specs.Slots.{HoldsMap}
@@ -16,7 +17,7 @@ run_on-requires-clause-between g c =
     let b : Board = record { table = c.new.result; moves = 10000; results = c.new-2.result } in
     let o = took (g.O.Sink.taken c.args.output.now) (g.O.Sink.faults c.args.output.now) in
     let is = starts b c.begin.new.self o c.new.ensures.value refl c.new-2.ensures in
-    let holds = subst (λ (cs : Closures). HoldsMap Amd64 cs (begun_code Amd64)) c.new.ensures.value (c.new.ensures.begins Amd64) in
+    let holds = subst (λ (cs : Closures). HoldsMap Amd64 cs (begun_code isa.Amd64)) c.new.ensures.value (c.new.ensures.begins Amd64) in
     subst (λ (x : Moment). IsBetween p x) (sym is) (between_at_start p c.begin.new.self o _ _ c.begin.ensures holds)
 
 pub returns : goal.returns

@@ -1,0 +1,58 @@
+-- The pieces of one argument that stand on the stack rise.
+use Rattle.std.proofs.Common.{◌≡◌, ℕ, ◌+◌, ◌-◌, ◌*◌, ◌≤◌, Bool, true, false, cond, ltb, List, [], ◌∷◌, refl, arith}
+use Rattle.std.specs.Prelude.{Option}
+use Rattle.std.specs.List.{AllByRecursion}
+use Rattle.std.proofs.lemmas.Bool.{ltb-false}
+use Rattle.ffi3_type_rules.specs.Tree.{Tree}
+use Rattle.ffi3_type_rules.specs.Layout.{leaf_at, size_of}
+use Rattle.ffi3_place_rules.specs.declared.Loc.{Loc}
+use Rattle.ffi3_place_rules.specs.declared.Loc.TheVariants.{G, S}
+use Rattle.ffi3_place_rules.specs.declared.Piece.{Piece}
+use Rattle.ffi3_place_rules.specs.Standard.{place_at, places_from, copy_end}
+use Rattle.ffi3_place_rules.specs.Sound.{AreRising, PlaceRises}
+use Rattle.ffi3_place_rules.proofs.Rising.{PlacesRise, register_rises, general_not_stack, floating_not_stack, stack_at, doublewords_rise}
+use Rattle.ffi3_riscv_rules.specs.declared.Shape.{Shape}
+use Rattle.ffi3_riscv_rules.specs.declared.Shape.TheVariants.{OneF, TwoF, FI, IF, Words, ByRef}
+use Rattle.ffi3_riscv_rules.specs.declared.Used.{Used}
+use Rattle.ffi3_riscv_rules.specs.Riscv.{argument_register, floating_register, floating_piece, integer_piece, word, word_pieces, extension, spot_of, is_fixed, used_at_start, passed_next, spot_next, used_next, spots_after}
+
+-- ---- the stream of words
+
+word_at_if : (w at : ℕ) (b : Bool) → ltb w 8 ≡ b → cond {A = Loc} b (G (argument_register w)) (S (8 * (w - 8))) ≡ S at → (8 ≤ w) × (8 * (w - 8) ≡ at)
+word_at_if w at true e there = absurd (general_not_stack (argument_register w) at there)
+word_at_if w at false e there = (ltb-false w 8 e, stack_at (8 * (w - 8)) at there)
+
+word_at : (w at : ℕ) → word w ≡ S at → (8 ≤ w) × (8 * (w - 8) ≡ at)
+word_at w at there = word_at_if w at (ltb w 8) refl there
+
+words_rise : (w : ℕ) (t : Tree) (count : ℕ) → AreRising (word_pieces w t count)
+words_rise w t count =
+    doublewords_rise (λ j. word (w + j)) (size_of t) (extension t) rise 0 count
+  where
+    rise : PlacesRise (λ j. word (w + j))
+    rise j k low high h at there =
+        let first : 8 * (w + j - 8) ≡ low = (word_at (w + j) low at).1 in
+        let second : 8 * (w + k - 8) ≡ high = (word_at (w + k) high there).1 in
+        omega (arith, h, (word_at (w + j) low at).0, first, second)
+
+-- ---- by shapes
+
+pair_rises : (p q : Piece) → ((at : ℕ) → p.loc ≡ S at → ⊥) → AreRising (p ∷ q ∷ [])
+pair_rises p q none = (register_rises p none (q ∷ []), (tt, tt))
+
+spot_rises : (start : ℕ → Tree → ℕ) (copies : ℕ) (before : Used) (t : Tree) (shape : Shape) → PlaceRises (place_at start copies t (spot_of before t shape))
+spot_rises start copies before t OneF = (tt, tt)
+spot_rises start copies before t TwoF =
+    pair_rises (floating_piece before.floats (leaf_at t 0)) (floating_piece (before.floats + 1) (leaf_at t 1)) (floating_not_stack (floating_register before.floats))
+spot_rises start copies before t FI =
+    pair_rises (floating_piece before.floats (leaf_at t 0)) (integer_piece before.words (leaf_at t 1)) (floating_not_stack (floating_register before.floats))
+spot_rises start copies before t IF =
+    pair_rises (integer_piece before.words (leaf_at t 0)) (floating_piece before.floats (leaf_at t 1)) (general_not_stack (argument_register before.words))
+spot_rises start copies before t (Words n) = words_rise before.words t n
+spot_rises start copies before t ByRef = tt
+
+pub arguments_rise : (start : ℕ → Tree → ℕ) (copies : ℕ) (fixed : Option ℕ) (end : Used) (i : ℕ) (ts : List Tree) → AllByRecursion PlaceRises (places_from start copies ts (spots_after fixed end i ts))
+arguments_rise start copies fixed end i [] = tt
+arguments_rise start copies fixed end i (t ∷ ts) =
+    let named = is_fixed fixed i in
+    (spot_rises start copies (used_at_start end named t) t (passed_next end named t), arguments_rise start (copy_end start copies t (spot_next end named t)) fixed (used_next end named t) (i + 1) ts)
