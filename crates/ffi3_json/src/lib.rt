@@ -22,10 +22,10 @@ pub use object::check_object;
 pub use place::{Step, Where};
 pub use reason::{Reason, reason_text};
 /// A JSON value.
+use ffi3_type_rules::limits::LONGEST_SCRIPT;
 pub use serde_json::Value as Json;
 pub use signature::{push_way, read_signature, reason_of_type};
 pub use types::{read_node, read_type};
-use ffi3_type_rules::limits::LONGEST_SCRIPT;
 
 /// The greatest length of a script in bytes.
 pub const MAX_LENGTH: usize = LONGEST_SCRIPT as usize;
