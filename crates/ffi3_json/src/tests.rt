@@ -3,6 +3,7 @@ use crate::{
     Bytes, Key, Keys, NoMemory, ScriptFault, Step, Where, check_object, parse, read_signature,
     read_type, reason_text,
 };
+use ffi3_types::{FfiType, Fields, same_type};
 use std::alloc::Global;
 use std::test::Fail;
 
@@ -195,12 +196,13 @@ fn reads_types_and_objects(rt: HostRuntime) -> Result<(), Fail> {
     let Ok(value) = parse(alloc, "{\"struct\":[\"schar\",\"ulong\"]}".as_bytes()) else {
         return Err(Fail::from(NoMemory));
     };
-    assert!(rt;
-        matches!(
-            read_type(alloc, &value, &at),
-            Ok(ffi3_types::FfiType::Struct(_))
-        )
-    );
+    let Ok(ty) = read_type(alloc, &value, &at) else {
+        return Err(Fail::from(NoMemory));
+    };
+    let mut elements = Fields::new(alloc);
+    elements.push(FfiType::S8)?;
+    elements.push(FfiType::U64)?;
+    assert!(rt; same_type(&ty, &FfiType::Struct(elements)));
     let mut keys = Keys::new(alloc);
     keys.push(Key {
         name: String::from_str(alloc, "struct")?,
