@@ -5,14 +5,14 @@ ghost use Rattle.std.specs.Prelude.{◌≡◌, ◌<◌, ◌≤◌, ◌+◌, ◌*
 ghost use Rattle.std.specs.List.{list_all};
 ghost use Rattle.ffi3_type_rules.specs.Tree.{Scalar, scalar};
 ghost use Rattle.ffi3_type_rules.specs.Layout.{size_of, leaves_of, leaf_at, scalar_size};
-ghost use Rattle.ffi3_type_rules.specs.Fault.{HasNoFault};
+ghost use Rattle.ffi3_type_rules.specs.Fault.{IsResultType};
 ghost use Rattle.ffi3_type_rules.specs.Signature.{SignatureHasNoFault};
 ghost use Rattle.ffi3_types.specs.TreeOf.{tree_of};
 ghost use Rattle.ffi3_place_rules.specs.declared.Loc.{Loc};
 ghost use Rattle.ffi3_place_rules.specs.declared.Loc.TheVariants.{G, S};
 ghost use Rattle.ffi3_place_rules.specs.Standard.{places_from, place_at, copies_end, result_at};
 ghost use Rattle.ffi3_place_rules.specs.Doublewords.{doublewords, stack_pieces};
-ghost use Rattle.ffi3_aapcs64_rules.specs.Aapcs64.{aapcs64, next_register, is_of, is_member, homogeneous, in_vectors, is_copied, passed, need, stack_size, first_register, stack_start, member_pieces, general_pieces, register_pieces, register_start, register_end, in_registers, stack_end, taken_with, taken_after, untouched, spot_after, spots_after, result_spot_of};
+ghost use Rattle.ffi3_aapcs64_rules.specs.Aapcs64.{aapcs64, next_register, is_of, is_member, homogeneous, in_vectors, is_copied, passed, registers_needed, stack_size, first_register, stack_start, member_pieces, general_pieces, register_pieces, register_start, register_end, in_registers, stack_end, taken_with, taken_after, untouched, spot_after, spots_after, result_spot_of};
 ghost use Rattle.ffi3_aapcs64_rules.specs.Sums.{IsPlacedBySums};
 
 #[cfg(test)]
@@ -44,7 +44,7 @@ fn is_of(kind: Kind, ty: &FfiType) -> bool
 
 /// Whether leaf `i` is of the kind.
 fn is_member(ty: &FfiType, i: u32, kind: Kind) -> bool
-    requires right { HasNoFault 0 true (tree_of ty.now) }
+    requires right { IsResultType (tree_of ty.now) }
     requires in_range { i < length (leaves_of (tree_of ty.now)) }
     ensures { result ≡ is_member kind (leaf_at (tree_of ty.now) i) }
 {
@@ -54,7 +54,7 @@ fn is_member(ty: &FfiType, i: u32, kind: Kind) -> bool
 
 /// Whether every leaf is of the kind.
 fn has_only(ty: &FfiType, kind: Kind) -> bool
-    requires { HasNoFault 0 true (tree_of ty.now) }
+    requires { IsResultType (tree_of ty.now) }
     ensures { result ≡ list_all (is_member kind) (leaves_of (tree_of ty.now)) }
 {
     for i in 0..ty.leaf_count() {
@@ -67,7 +67,7 @@ fn has_only(ty: &FfiType, kind: Kind) -> bool
 
 /// The type and the number of the members of a homogeneous floating-point aggregate: a struct of one to four leaves, all floats or all doubles, with nested structs flattened. None where the type is no such. (AAPCS64, "Homogeneous Aggregates")
 pub fn homogeneous(ty: &FfiType) -> Option<(Kind, u8)>
-    requires { HasNoFault 0 true (tree_of ty.now) }
+    requires { IsResultType (tree_of ty.now) }
     ensures { result ≡ homogeneous (tree_of ty.now) }
 {
     let FfiType::Struct(_) = ty else {
@@ -90,7 +90,7 @@ pub fn homogeneous(ty: &FfiType) -> Option<(Kind, u8)>
 
 /// Whether a value takes SIMD and floating-point registers.
 fn in_vectors(ty: &FfiType) -> bool
-    requires { HasNoFault 0 true (tree_of ty.now) }
+    requires { IsResultType (tree_of ty.now) }
     ensures { result ≡ in_vectors (tree_of ty.now) }
 {
     match ty {
@@ -114,7 +114,7 @@ fn in_vectors(ty: &FfiType) -> bool
 
 /// Whether the caller copies a value and passes a pointer to the copy.
 fn is_copied(ty: &FfiType) -> bool
-    requires { HasNoFault 0 true (tree_of ty.now) }
+    requires { IsResultType (tree_of ty.now) }
     ensures { result ≡ is_copied (tree_of ty.now) }
 {
     matches!(ty, FfiType::Struct(_)) && !in_vectors(ty) && size_of(ty) > 16
@@ -122,7 +122,7 @@ fn is_copied(ty: &FfiType) -> bool
 
 /// The size of what is passed: the value, or the pointer to its copy.
 fn passed_size(ty: &FfiType) -> u64
-    requires { HasNoFault 0 true (tree_of ty.now) }
+    requires { IsResultType (tree_of ty.now) }
     ensures value { result ≡ size_of (passed (tree_of ty.now)) }
     ensures small { result ≤ 1024 }
 {
@@ -131,7 +131,7 @@ fn passed_size(ty: &FfiType) -> u64
 
 /// How many doublewords a value has that goes directly in general registers.
 fn doublewords_of(ty: &FfiType) -> u64
-    requires { HasNoFault 0 true (tree_of ty.now) }
+    requires { IsResultType (tree_of ty.now) }
     ensures value { result ≡ doublewords (tree_of ty.now) }
     ensures few { in_vectors (tree_of ty.now) ≡ false → is_copied (tree_of ty.now) ≡ false → result ≤ 2 }
 {
@@ -140,8 +140,8 @@ fn doublewords_of(ty: &FfiType) -> u64
 
 /// The registers that an argument needs: whether they are SIMD and floating-point registers, and how many. (AAPCS64 C.1, C.2, C.9, C.12)
 pub fn need_of(ty: &FfiType) -> (bool, u8)
-    requires { HasNoFault 0 true (tree_of ty.now) }
-    ensures { result ≡ (in_vectors (tree_of ty.now), need (tree_of ty.now)) }
+    requires { IsResultType (tree_of ty.now) }
+    ensures { result ≡ (in_vectors (tree_of ty.now), registers_needed (tree_of ty.now)) }
 {
     if in_vectors(ty) {
         return (true, ty.leaf_count() as u8);
@@ -154,8 +154,8 @@ pub fn need_of(ty: &FfiType) -> (bool, u8)
 
 /// The same number, which is at most 4.
 fn number_needed(ty: &FfiType) -> u64
-    requires { HasNoFault 0 true (tree_of ty.now) }
-    ensures value { result ≡ need (tree_of ty.now) }
+    requires { IsResultType (tree_of ty.now) }
+    ensures value { result ≡ registers_needed (tree_of ty.now) }
     ensures few { result ≤ 4 }
 {
     need_of(ty).1 as u64
@@ -163,7 +163,7 @@ fn number_needed(ty: &FfiType) -> u64
 
 /// The stack that an argument takes where it is not in registers.
 fn stack_size(ty: &FfiType) -> u64
-    requires { HasNoFault 0 true (tree_of ty.now) }
+    requires { IsResultType (tree_of ty.now) }
     ensures value { result ≡ stack_size (tree_of ty.now) }
     ensures small { result ≤ 1031 }
 {
@@ -197,7 +197,7 @@ fn copy_start(end: u64, _ty: &FfiType) -> u64
 
 /// The registers of an argument's kind that the arguments before it take.
 fn next_register(before: Taken, ty: &FfiType) -> u64
-    requires { HasNoFault 0 true (tree_of ty.now) }
+    requires { IsResultType (tree_of ty.now) }
     ensures { result ≡ next_register before (tree_of ty.now) }
 {
     if in_vectors(ty) {
@@ -209,7 +209,7 @@ fn next_register(before: Taken, ty: &FfiType) -> u64
 
 /// The first register of an argument, by its kind.
 fn register_start(before: Taken, ty: &FfiType) -> u64
-    requires { HasNoFault 0 true (tree_of ty.now) }
+    requires { IsResultType (tree_of ty.now) }
     ensures { result ≡ register_start before (tree_of ty.now) }
 {
     first_register(next_register(before, ty), ty)
@@ -217,7 +217,7 @@ fn register_start(before: Taken, ty: &FfiType) -> u64
 
 /// Where the registers of an argument end. 256 is what 64 arguments need at most.
 fn register_end(before: Taken, ty: &FfiType) -> u64
-    requires right { HasNoFault 0 true (tree_of ty.now) }
+    requires right { IsResultType (tree_of ty.now) }
     requires few_general { before.general ≤ 256 }
     requires few_vector { before.vector ≤ 256 }
     ensures value { result ≡ register_end before (tree_of ty.now) }
@@ -228,7 +228,7 @@ fn register_end(before: Taken, ty: &FfiType) -> u64
 
 /// Whether the registers that are left suffice for the whole argument.
 fn fits_registers(before: Taken, ty: &FfiType) -> bool
-    requires right { HasNoFault 0 true (tree_of ty.now) }
+    requires right { IsResultType (tree_of ty.now) }
     requires few_general { before.general ≤ 256 }
     requires few_vector { before.vector ≤ 256 }
     ensures value { result ≡ in_registers before (tree_of ty.now) }
@@ -238,7 +238,7 @@ fn fits_registers(before: Taken, ty: &FfiType) -> bool
 
 /// The general registers that are taken after an argument.
 fn general_end(before: Taken, ty: &FfiType) -> u64
-    requires right { HasNoFault 0 true (tree_of ty.now) }
+    requires right { IsResultType (tree_of ty.now) }
     requires few_general { before.general ≤ 256 }
     requires few_vector { before.vector ≤ 256 }
     ensures value { result ≡ (taken_with before (tree_of ty.now)).general }
@@ -253,7 +253,7 @@ fn general_end(before: Taken, ty: &FfiType) -> u64
 
 /// The SIMD and floating-point registers that are taken after an argument.
 fn vector_end(before: Taken, ty: &FfiType) -> u64
-    requires right { HasNoFault 0 true (tree_of ty.now) }
+    requires right { IsResultType (tree_of ty.now) }
     requires few_general { before.general ≤ 256 }
     requires few_vector { before.vector ≤ 256 }
     ensures value { result ≡ (taken_with before (tree_of ty.now)).vector }
@@ -268,7 +268,7 @@ fn vector_end(before: Taken, ty: &FfiType) -> u64
 
 /// The bytes of stack that are taken after an argument.
 fn stack_end(before: Taken, ty: &FfiType) -> u64
-    requires right { HasNoFault 0 true (tree_of ty.now) }
+    requires right { IsResultType (tree_of ty.now) }
     requires few_general { before.general ≤ 256 }
     requires few_vector { before.vector ≤ 256 }
     requires low { before.stack ≤ 66048 }
@@ -283,7 +283,7 @@ fn stack_end(before: Taken, ty: &FfiType) -> u64
 }
 
 fn with_argument(before: Taken, ty: &FfiType) -> Taken
-    requires right { HasNoFault 0 true (tree_of ty.now) }
+    requires right { IsResultType (tree_of ty.now) }
     requires few_general { before.general ≤ 256 }
     requires few_vector { before.vector ≤ 256 }
     requires low { before.stack ≤ 66048 }
@@ -322,7 +322,7 @@ fn taken_by_all(sig: &Sig) -> Taken
 
 /// A value's doublewords in general registers, from number `general` on.
 fn pieces_in_general(alloc: Global, ty: &FfiType, general: u64) -> Result<Pieces, NoMemory>
-    requires right { HasNoFault 0 true (tree_of ty.now) }
+    requires right { IsResultType (tree_of ty.now) }
     requires enough { general + doublewords (tree_of ty.now) ≤ 8 }
     ensures { IfOk result (λ p. p ≡ general_pieces general (tree_of ty.now)) }
 {
@@ -336,7 +336,7 @@ fn pieces_in_general(alloc: Global, ty: &FfiType, general: u64) -> Result<Pieces
 
 /// A value's leaves in vector registers, from number `vector` on.
 fn pieces_in_vectors(alloc: Global, ty: &FfiType, vector: u64) -> Result<Pieces, NoMemory>
-    requires right { HasNoFault 0 true (tree_of ty.now) }
+    requires right { IsResultType (tree_of ty.now) }
     requires enough { vector + length (leaves_of (tree_of ty.now)) ≤ 8 }
     ensures { IfOk result (λ p. p ≡ member_pieces vector (leaves_of (tree_of ty.now))) }
 {
@@ -349,7 +349,7 @@ fn pieces_in_vectors(alloc: Global, ty: &FfiType, vector: u64) -> Result<Pieces,
 
 /// A value in registers of its kind, from number `first` on.
 fn pieces_in_registers(alloc: Global, ty: &FfiType, first: u64) -> Result<Pieces, NoMemory>
-    requires right { HasNoFault 0 true (tree_of ty.now) }
+    requires right { IsResultType (tree_of ty.now) }
     requires enough_vector { in_vectors (tree_of ty.now) ≡ true → first + length (leaves_of (tree_of ty.now)) ≤ 8 }
     requires enough_general { in_vectors (tree_of ty.now) ≡ false → first + doublewords (tree_of ty.now) ≤ 8 }
     ensures { IfOk result (λ p. p ≡ register_pieces first (tree_of ty.now)) }
@@ -365,7 +365,7 @@ fn pieces_in_registers(alloc: Global, ty: &FfiType, first: u64) -> Result<Pieces
 
 /// An argument that is not copied.
 fn direct_pieces(alloc: Global, before: Taken, ty: &FfiType) -> Result<Pieces, NoMemory>
-    requires right { HasNoFault 0 true (tree_of ty.now) }
+    requires right { IsResultType (tree_of ty.now) }
     requires direct { is_copied (tree_of ty.now) ≡ false }
     requires few_general { before.general ≤ 256 }
     requires few_vector { before.vector ≤ 256 }
@@ -381,7 +381,7 @@ fn direct_pieces(alloc: Global, before: Taken, ty: &FfiType) -> Result<Pieces, N
 
 /// Where the pointer to an argument's copy stands.
 fn pointer_place(before: Taken, ty: &FfiType) -> Loc
-    requires right { HasNoFault 0 true (tree_of ty.now) }
+    requires right { IsResultType (tree_of ty.now) }
     requires copied { is_copied (tree_of ty.now) ≡ true }
     requires few_general { before.general ≤ 256 }
     requires few_vector { before.vector ≤ 256 }
@@ -397,7 +397,7 @@ fn pointer_place(before: Taken, ty: &FfiType) -> Loc
 
 /// Where an argument stands, if what is before its copy ends at `end`.
 fn place_of(alloc: Global, before: Taken, ty: &FfiType, end: u64) -> Result<Place, NoMemory>
-    requires right { HasNoFault 0 true (tree_of ty.now) }
+    requires right { IsResultType (tree_of ty.now) }
     requires few_general { before.general ≤ 256 }
     requires few_vector { before.vector ≤ 256 }
     requires low { before.stack ≤ 66048 }
@@ -445,7 +445,7 @@ fn place_all(alloc: Global, sig: &Sig, start: u64) -> Result<Placed, NoMemory>
 
 /// Where a result stands, if what is before its buffer ends at `end`.
 fn place_result(alloc: Global, ty: &FfiType, end: u64) -> Result<Res, NoMemory>
-    requires right { HasNoFault 0 true (tree_of ty.now) }
+    requires right { IsResultType (tree_of ty.now) }
     requires low { end ≤ 262144 }
     ensures { IfOk result (λ r. r ≡ result_at aapcs64.copy_start end (tree_of ty.now) (result_spot_of (tree_of ty.now))) }
 {

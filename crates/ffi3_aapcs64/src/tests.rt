@@ -1,6 +1,6 @@
 // What values need, as the standard says; the registers of whole signatures are rows of the program.
 ghost use Rattle.std.specs.Prelude.{true};
-ghost use Rattle.ffi3_type_rules.specs.Fault.{HasNoFault};
+ghost use Rattle.ffi3_type_rules.specs.Fault.{IsResultType};
 ghost use Rattle.ffi3_types.specs.TreeOf.{tree_of};
 
 use crate::{homogeneous, need_of};
@@ -26,7 +26,7 @@ fn type_of(alloc: Global, word: &str) -> Result<FfiType, Fail> {
 
 /// A type's members, where it is homogeneous, and its need.
 fn needs_of(alloc: Global, ty: &FfiType) -> Result<String, Fail>
-    requires { HasNoFault 0 true (tree_of ty.now) }
+    requires { IsResultType (tree_of ty.now) }
 {
     let mut text = String::new(alloc);
     if let Some((kind, count)) = homogeneous(ty) {

@@ -8,7 +8,7 @@ use Rattle.ffi3_place_rules.specs.declared.Loc.{Loc}
 use Rattle.ffi3_place_rules.specs.declared.Loc.TheVariants.{G, F, S}
 use Rattle.ffi3_place_rules.specs.declared.SaveWord.{SaveWord}
 use Rattle.ffi3_place_rules.specs.declared.SaveWord.TheVariants.{Register, Hidden, Spare}
-use Rattle.ffi3_place_rules.specs.Isa.{general_registers, floating_registers, IsWritten}
+use Rattle.ffi3_place_rules.specs.Isa.{general_registers, floating_registers, TakesWrites}
 use Rattle.ffi3_place_rules.specs.Sound.{IsNoneOf, LiesIn}
 use Rattle.ffi3_place_rules.specs.Agrees.{AgreesWithMachine, saved_registers, given_back, special}
 use Rattle.ffi3_place_rules.proofs.Forbidden.{each_by, each_none_of, each_one_of, apart_all}
@@ -26,7 +26,7 @@ register_exists isa (F r) h = ltb-true r _ h
 register_exists isa (S n) h = cc
 
 -- the register that is 0 always is no number of a general register here
-written : (l : Loc) → IsNoneOf aapcs64.reserved l → IsWritten (isa_of aapcs64.target) l
+written : (l : Loc) → IsNoneOf aapcs64.reserved l → TakesWrites (isa_of aapcs64.target) l
 written (G r) h = refl
 written (F r) h = tt
 written (S n) h = tt

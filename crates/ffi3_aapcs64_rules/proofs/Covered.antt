@@ -19,7 +19,7 @@ use Rattle.ffi3_place_rules.proofs.Covered.{EndsIn, leaves_end, any_later}
 use Rattle.ffi3_place_rules.proofs.Doublewords.{widening_suits, leaf_is_piece, doublewords_have_all, stack_has_all}
 use Rattle.ffi3_place_rules.proofs.Filled.{doublewords_filled}
 use Rattle.ffi3_aapcs64_rules.specs.declared.Kind.{Kind}
-use Rattle.ffi3_aapcs64_rules.specs.Aapcs64.{aapcs64, is_struct, in_vectors, is_copied, passed, need, member_pieces, general_pieces, register_pieces, register_spot, stack_spot, register_start, stack_start, in_registers, spot_after, spots_after, taken_with, untouched}
+use Rattle.ffi3_aapcs64_rules.specs.Aapcs64.{aapcs64, is_struct, in_vectors, is_copied, passed, registers_needed, member_pieces, general_pieces, register_pieces, register_spot, stack_spot, register_start, stack_start, in_registers, spot_after, spots_after, taken_with, untouched}
 
 -- ---- pieces
 
@@ -164,7 +164,7 @@ few_needed_if t true c ev ec = few_members t ev
 few_needed_if t false true ev ec = omega arith
 few_needed_if t false false ev ec = omega (arith, few_doublewords t ev ec)
 
-pub few_needed : (t : Tree) → need t ≤ 4
+pub few_needed : (t : Tree) → registers_needed t ≤ 4
 few_needed t = few_needed_if t (in_vectors t) (is_copied t) refl refl
 
 -- a pointer takes eight bytes of the stack
@@ -187,4 +187,4 @@ few_fit n true h = grind (arith, nat_tests)
 few_fit n false h = grind (arith, nat_tests)
 
 pub first_fits : (t : Tree) → in_registers untouched t ≡ true
-first_fits t = few_fit (need t) (in_vectors t) (few_needed t)
+first_fits t = few_fit (registers_needed t) (in_vectors t) (few_needed t)

@@ -1,7 +1,7 @@
 -- The lists of registers: no register stands twice in one, and none is forbidden.
 use Rattle.std.proofs.Common.{◌≡◌, ℕ, ◌<◌, true, [], ◌∷◌, refl, arith}
 use Rattle.ffi3_place_rules.specs.declared.Loc.TheVariants.{G, F, S}
-use Rattle.ffi3_place_rules.specs.Sound.{IsNoneOf, no_argument, no_result}
+use Rattle.ffi3_place_rules.specs.Sound.{IsNoneOf, closed_to_arguments, closed_to_results}
 use Rattle.ffi3_place_rules.proofs.Tests.{each_of_eight}
 use Rattle.ffi3_place_rules.proofs.Chain.{Registers}
 use Rattle.ffi3_place_rules.proofs.Forbidden.{is_none_of, none_of}
@@ -19,19 +19,19 @@ all_registers = record {
 
 -- ---- arguments
 
-pub argument_allowed : (k : ℕ) → k < 8 → IsNoneOf (no_argument aapcs64) (G (numbered k))
+pub argument_allowed : (k : ℕ) → k < 8 → IsNoneOf (closed_to_arguments aapcs64) (G (numbered k))
 argument_allowed k h =
-    none_of (no_argument aapcs64) (G k) (each_of_eight (λ j. is_none_of (no_argument aapcs64) (G j) ≡ true) refl refl refl refl refl refl refl refl k h)
+    none_of (closed_to_arguments aapcs64) (G k) (each_of_eight (λ j. is_none_of (closed_to_arguments aapcs64) (G j) ≡ true) refl refl refl refl refl refl refl refl k h)
 
-pub vector_allowed : (k : ℕ) → k < 8 → IsNoneOf (no_argument aapcs64) (F (numbered k))
+pub vector_allowed : (k : ℕ) → k < 8 → IsNoneOf (closed_to_arguments aapcs64) (F (numbered k))
 vector_allowed k h =
-    none_of (no_argument aapcs64) (F k) (each_of_eight (λ j. is_none_of (no_argument aapcs64) (F j) ≡ true) refl refl refl refl refl refl refl refl k h)
+    none_of (closed_to_arguments aapcs64) (F k) (each_of_eight (λ j. is_none_of (closed_to_arguments aapcs64) (F j) ≡ true) refl refl refl refl refl refl refl refl k h)
 
-pub stack_allowed : (n : ℕ) → IsNoneOf (no_argument aapcs64) (S n)
-stack_allowed n = none_of (no_argument aapcs64) (S n) refl
+pub stack_allowed : (n : ℕ) → IsNoneOf (closed_to_arguments aapcs64) (S n)
+stack_allowed n = none_of (closed_to_arguments aapcs64) (S n) refl
 
-pub hidden_allowed : IsNoneOf (no_argument aapcs64) (G 8)
-hidden_allowed = none_of (no_argument aapcs64) (G 8) refl
+pub hidden_allowed : IsNoneOf (closed_to_arguments aapcs64) (G 8)
+hidden_allowed = none_of (closed_to_arguments aapcs64) (G 8) refl
 
 -- x8 is none of the argument registers
 pub argument_not_hidden : (k : ℕ) → k < 8 → IsNoneOf (G 8 ∷ []) (G (numbered k))
@@ -39,13 +39,13 @@ argument_not_hidden k h = ((λ e. omega (arith, e, h)), tt)
 
 -- ---- results
 
-pub result_allowed_general : (k : ℕ) → k < 8 → IsNoneOf (no_result aapcs64) (G (numbered k))
+pub result_allowed_general : (k : ℕ) → k < 8 → IsNoneOf (closed_to_results aapcs64) (G (numbered k))
 result_allowed_general k h =
-    none_of (no_result aapcs64) (G k) (each_of_eight (λ j. is_none_of (no_result aapcs64) (G j) ≡ true) refl refl refl refl refl refl refl refl k h)
+    none_of (closed_to_results aapcs64) (G k) (each_of_eight (λ j. is_none_of (closed_to_results aapcs64) (G j) ≡ true) refl refl refl refl refl refl refl refl k h)
 
-pub result_allowed_vector : (k : ℕ) → k < 8 → IsNoneOf (no_result aapcs64) (F (numbered k))
+pub result_allowed_vector : (k : ℕ) → k < 8 → IsNoneOf (closed_to_results aapcs64) (F (numbered k))
 result_allowed_vector k h =
-    none_of (no_result aapcs64) (F k) (each_of_eight (λ j. is_none_of (no_result aapcs64) (F j) ≡ true) refl refl refl refl refl refl refl refl k h)
+    none_of (closed_to_results aapcs64) (F k) (each_of_eight (λ j. is_none_of (closed_to_results aapcs64) (F j) ≡ true) refl refl refl refl refl refl refl refl k h)
 
-pub result_allowed_stack : (n : ℕ) → IsNoneOf (no_result aapcs64) (S n)
-result_allowed_stack n = none_of (no_result aapcs64) (S n) refl
+pub result_allowed_stack : (n : ℕ) → IsNoneOf (closed_to_results aapcs64) (S n)
+result_allowed_stack n = none_of (closed_to_results aapcs64) (S n) refl

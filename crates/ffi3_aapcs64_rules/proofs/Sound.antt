@@ -12,7 +12,7 @@ use Rattle.ffi3_place_rules.specs.declared.Ext.{Ext}
 use Rattle.ffi3_place_rules.specs.declared.Taken.{Taken}
 use Rattle.ffi3_place_rules.specs.Standard.{Spot, in_pieces, by_reference, ResultSpot, no_result as not_passed, in_result_pieces, in_buffer, place_at, places_from, copy_end, result_at, copies_start, frame_copies_end, frame_of, plan_of, round8}
 use Rattle.ffi3_place_rules.specs.Doublewords.{doublewords, doublewords_at, widening, stack_pieces}
-use Rattle.ffi3_place_rules.specs.Sound.{Apart, AreApart, piece_locs, place_locs, hidden_locs, result_locs, argument_locs, IsNoneOf, LiesIn, copy_locs, buffer_locs, call_locs, no_argument, no_result as not_for_results, ResultHasAll, ResultIsFilled, IsSound, IsDetermined}
+use Rattle.ffi3_place_rules.specs.Sound.{Apart, AreApart, piece_locs, place_locs, hidden_locs, result_locs, argument_locs, IsNoneOf, LiesIn, copy_locs, buffer_locs, call_locs, closed_to_arguments, closed_to_results, ResultHasAll, ResultIsFilled, IsSound, IsDetermined}
 use Rattle.ffi3_place_rules.proofs.Chain.{AtMost, at_most_self, Chain, chain_append, chain_apart, chain_allowed, chain_lies_in}
 use Rattle.ffi3_place_rules.proofs.Frame.{up_to, value_chain, frame_chain}
 use Rattle.ffi3_place_rules.proofs.Aligned.{frame_is_aligned, need_is_aligned}
@@ -177,10 +177,10 @@ plan_on_stack s =
     let others = chain_lies_in numbered numbered 8 8 (isa_of aapcs64.target) (λ k h. omega arith) (λ k h. omega arith) untouched _ _ (placing_of s).stack_bytes (omega arith) (pieces_chain s) in
     hidden_cases (λ hs. AllByRecursion (LiesIn (isa_of aapcs64.target) (placing_of s).stack_bytes) (hs ++ pieces_and_references s)) others (omega arith, others) s
 
-plan_allowed : (s : Signature) → AllByRecursion (IsNoneOf (no_argument aapcs64)) (argument_locs (plan_of aapcs64 s))
+plan_allowed : (s : Signature) → AllByRecursion (IsNoneOf (closed_to_arguments aapcs64)) (argument_locs (plan_of aapcs64 s))
 plan_allowed s =
-    let others = chain_allowed numbered numbered 8 8 (no_argument aapcs64) argument_allowed vector_allowed stack_allowed untouched _ _ (pieces_chain s) in
-    hidden_cases (λ hs. AllByRecursion (IsNoneOf (no_argument aapcs64)) (hs ++ pieces_and_references s)) others (hidden_allowed, others) s
+    let others = chain_allowed numbered numbered 8 8 (closed_to_arguments aapcs64) argument_allowed vector_allowed stack_allowed untouched _ _ (pieces_chain s) in
+    hidden_cases (λ hs. AllByRecursion (IsNoneOf (closed_to_arguments aapcs64)) (hs ++ pieces_and_references s)) others (hidden_allowed, others) s
 
 -- ---- the result
 
@@ -222,7 +222,7 @@ sound s = record {
   rising = arguments_rise aapcs64.copy_start (copies_start (placing_of s)) untouched s.arguments;
   result_apart = result_by AreApart tt s (λ e. chain_apart numbered numbered 8 8 all_registers untouched _ _ (result_chain s.result_type e));
   result_in_registers = result_by (AllByRecursion (LiesIn (isa_of aapcs64.target) 0)) tt s (λ e. chain_lies_in numbered numbered 8 8 (isa_of aapcs64.target) (λ k h. omega arith) (λ k h. omega arith) untouched _ _ 0 (omega arith) (result_chain s.result_type e));
-  result_allowed = result_by (AllByRecursion (IsNoneOf (not_for_results aapcs64))) tt s (λ e. chain_allowed numbered numbered 8 8 (not_for_results aapcs64) result_allowed_general result_allowed_vector result_allowed_stack untouched _ _ (result_chain s.result_type e));
+  result_allowed = result_by (AllByRecursion (IsNoneOf (closed_to_results aapcs64))) tt s (λ e. chain_allowed numbered numbered 8 8 (closed_to_results aapcs64) result_allowed_general result_allowed_vector result_allowed_stack untouched _ _ (result_chain s.result_type e));
   result_has_all = result_has_all s;
   result_filled = result_filled s;
   frame_aligned = frame_is_aligned aapcs64 s;

@@ -8,7 +8,7 @@ use Rattle.ffi3_type_rules.specs.Signature.{Signature}
 use Rattle.ffi3_place_rules.specs.declared.Taken.{Taken}
 use Rattle.ffi3_place_rules.specs.Standard.{Spot}
 use Rattle.ffi3_place_rules.specs.Sums.{sum_below}
-use Rattle.ffi3_aapcs64_rules.specs.Aapcs64.{aapcs64, in_vectors, need, stack_size, register_spot, stack_spot, taken_with, taken_after, untouched, spot_after, spots_after, placing_of}
+use Rattle.ffi3_aapcs64_rules.specs.Aapcs64.{aapcs64, in_vectors, registers_needed, stack_size, register_spot, stack_spot, taken_with, taken_after, untouched, spot_after, spots_after, placing_of}
 use Rattle.ffi3_aapcs64_rules.specs.Sums.{generals, vectors, general_before, vector_before, needed_before, is_in_registers, stack_before, ArePlacedBySums, IsOnlyPlacing, NoneFitsLater, IsPlacedBySums}
 use Rattle.ffi3_place_rules.proofs.Copies.{copies_by_sums}
 
@@ -100,7 +100,7 @@ module _ (s : Signature) where
   sums_are_taken (suc i) h =
       let t = tree_at s.arguments i in
       let before = sums_are_taken i (omega arith) in
-      let more = same_taken (taken_with (sums_before i) t) (sums_before (suc i)) (next_general (in_vectors t) (general_before s i) (vector_before s i) (need t)) (next_vector (in_vectors t) (general_before s i) (vector_before s i) (need t)) (next_stack (is_in_registers s i) (stack_before s i) (stack_size t)) in
+      let more = same_taken (taken_with (sums_before i) t) (sums_before (suc i)) (next_general (in_vectors t) (general_before s i) (vector_before s i) (registers_needed t)) (next_vector (in_vectors t) (general_before s i) (vector_before s i) (registers_needed t)) (next_stack (is_in_registers s i) (stack_before s i) (stack_size t)) in
       taken_next untouched s.arguments i (omega arith) ∙ ap (λ a. taken_with a t) before ∙ more
 
   -- the place of each argument is that of the sums
@@ -134,8 +134,8 @@ module _ (s : Signature) where
       let vector_rises = sum_rises (λ k. vectors (tree_at s.arguments k)) (suc i) (suc j) (omega arith) in
       let general_rises = sum_rises (λ k. generals (tree_at s.arguments k)) (suc i) (suc j) (omega arith) in
       let rises = kind_rises (in_vectors (tree_at s.arguments i)) (in_vectors (tree_at s.arguments j)) _ _ _ _ kind vector_rises general_rises in
-      let here = up_to_own (in_vectors (tree_at s.arguments i)) (vector_before s i) (general_before s i) (need (tree_at s.arguments i)) in
-      let there = up_to_own (in_vectors (tree_at s.arguments j)) (vector_before s j) (general_before s j) (need (tree_at s.arguments j)) in
+      let here = up_to_own (in_vectors (tree_at s.arguments i)) (vector_before s i) (general_before s i) (registers_needed (tree_at s.arguments i)) in
+      let there = up_to_own (in_vectors (tree_at s.arguments j)) (vector_before s j) (general_before s j) (registers_needed (tree_at s.arguments j)) in
       past_eight _ _ (omega (arith, rises, here, there)) out
 
   -- THE SUMS PLACE A CALL

@@ -83,8 +83,8 @@ abbrev pub passed : Tree → Tree
 passed t = cond {A = Tree} (is_copied t) (scalar pointer) t
 
 -- how many registers of its kind it needs: one for each member (C.1, C.2), or one for each doubleword (C.9, C.12)
-abbrev pub need : Tree → ℕ
-need t = cond (in_vectors t) (length (leaves_of t)) (doublewords (passed t))
+abbrev pub registers_needed : Tree → ℕ
+registers_needed t = cond (in_vectors t) (length (leaves_of t)) (doublewords (passed t))
 
 -- how much stack it takes where it is not in registers: a multiple of eight bytes (B.5, C.3, C.5, C.16)
 abbrev pub stack_size : Tree → ℕ
@@ -138,7 +138,7 @@ abbrev pub register_start : Taken → Tree → ℕ
 register_start before t = first_register (next_register before t) (passed t)
 
 abbrev pub register_end : Taken → Tree → ℕ
-register_end before t = register_start before t + need t
+register_end before t = register_start before t + registers_needed t
 
 -- C.1, C.2, C.9, C.12: in registers exactly where those left suffice for all of it
 abbrev pub in_registers : Taken → Tree → Bool

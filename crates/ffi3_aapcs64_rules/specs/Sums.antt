@@ -5,16 +5,16 @@ use Rattle.ffi3_type_rules.specs.Signature.{Signature}
 use Rattle.ffi3_place_rules.specs.Standard.{Spot}
 use Rattle.ffi3_place_rules.specs.Sums.{sum_below}
 use Rattle.ffi3_place_rules.specs.Copies.{CopiesBySums}
-use Rattle.ffi3_aapcs64_rules.specs.Aapcs64.{aapcs64, in_vectors, need, stack_size, register_spot, stack_spot, placing_of}
+use Rattle.ffi3_aapcs64_rules.specs.Aapcs64.{aapcs64, in_vectors, registers_needed, stack_size, register_spot, stack_spot, placing_of}
 
 -- ---- arguments
 
 -- what an argument needs of each kind of register
 abbrev pub generals : Tree → ℕ
-generals t = cond (in_vectors t) 0 (need t)
+generals t = cond (in_vectors t) 0 (registers_needed t)
 
 abbrev pub vectors : Tree → ℕ
-vectors t = cond (in_vectors t) (need t) 0
+vectors t = cond (in_vectors t) (registers_needed t) 0
 
 module _ (s : Signature) where
   abbrev pub general_before : ℕ → ℕ
@@ -30,7 +30,7 @@ module _ (s : Signature) where
 
   -- argument i is in registers: the needs of its kind, up to and including its own, add up to at most 8
   abbrev pub is_in_registers : ℕ → Bool
-  is_in_registers i = nat_le (needed_before i + need (tree_at s.arguments i)) 8
+  is_in_registers i = nat_le (needed_before i + registers_needed (tree_at s.arguments i)) 8
 
   -- the stack sizes of the arguments before number i that are not in registers
   abbrev pub stack_before : ℕ → ℕ

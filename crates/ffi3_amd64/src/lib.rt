@@ -3,7 +3,7 @@
 
 ghost use Rattle.std.specs.Prelude.{◌≡◌, ◌<◌, ◌≤◌, ◌+◌, length, slice_index, IfOk, [], true, false};
 ghost use Rattle.ffi3_type_rules.specs.Layout.{leaves_of, leaf_at};
-ghost use Rattle.ffi3_type_rules.specs.Fault.{HasNoFault};
+ghost use Rattle.ffi3_type_rules.specs.Fault.{IsResultType};
 ghost use Rattle.ffi3_type_rules.specs.Signature.{SignatureHasNoFault};
 ghost use Rattle.ffi3_types.specs.TreeOf.{tree_of};
 ghost use Rattle.ffi3_place_rules.specs.Standard.{at_once, places_from, result_at};
@@ -27,7 +27,7 @@ use std::alloc::Global;
 
 /// Whether leaf `i` is an integer or a pointer with a byte in the eightbyte.
 fn is_integer_in(ty: &FfiType, i: u32, eightbyte: u32) -> bool
-    requires right { HasNoFault 0 true (tree_of ty.now) }
+    requires right { IsResultType (tree_of ty.now) }
     requires in_range { i < length (leaves_of (tree_of ty.now)) }
     ensures { result ≡ is_integer_leaf_in eightbyte (leaf_at (tree_of ty.now) i) }
 {
@@ -39,7 +39,7 @@ fn is_integer_in(ty: &FfiType, i: u32, eightbyte: u32) -> bool
 
 /// The class of an eightbyte of a value that is passed in registers: INTEGER where an integer or a pointer lies in it, otherwise SSE. (psABI AMD64 3.2.3)
 pub fn class_of(ty: &FfiType, eightbyte: u32) -> Class
-    requires { HasNoFault 0 true (tree_of ty.now) }
+    requires { IsResultType (tree_of ty.now) }
     ensures { result ≡ class_of (tree_of ty.now) eightbyte }
 {
     for i in 0..ty.leaf_count() {
@@ -52,7 +52,7 @@ pub fn class_of(ty: &FfiType, eightbyte: u32) -> Class
 
 /// Whether a value has the class MEMORY: a struct over two eightbytes. (psABI AMD64 3.2.3)
 pub fn in_memory(ty: &FfiType) -> bool
-    requires { HasNoFault 0 true (tree_of ty.now) }
+    requires { IsResultType (tree_of ty.now) }
     ensures { result ≡ in_memory (tree_of ty.now) }
 {
     matches!(ty, FfiType::Struct(_)) && size_of(ty) > 16
@@ -66,7 +66,7 @@ struct Classes {
 }
 
 fn count_classes(ty: &FfiType) -> Classes
-    requires { HasNoFault 0 true (tree_of ty.now) }
+    requires { IsResultType (tree_of ty.now) }
     ensures general { result.integers ≡ integers (tree_of ty.now) }
     ensures vector { result.sses ≡ sses (tree_of ty.now) }
     ensures few_general { result.integers ≤ 128 }
@@ -102,7 +102,7 @@ fn pieces_in_registers(
     vector: u64,
     registers: &[u8],
 ) -> Result<Pieces, NoMemory>
-    requires right { HasNoFault 0 true (tree_of ty.now) }
+    requires right { IsResultType (tree_of ty.now) }
     requires direct { in_memory (tree_of ty.now) ≡ false }
     requires enough_general { general + integers (tree_of ty.now) ≤ length registers.now }
     requires enough_vector { vector + sses (tree_of ty.now) ≤ 8 }
@@ -131,7 +131,7 @@ fn pieces_in_registers(
 
 /// Whether the registers that are left suffice for the whole argument.
 fn fits_registers(before: Taken, ty: &FfiType) -> bool
-    requires right { HasNoFault 0 true (tree_of ty.now) }
+    requires right { IsResultType (tree_of ty.now) }
     requires few_general { before.general ≤ 6 }
     requires few_vector { before.vector ≤ 8 }
     ensures { result ≡ in_registers before (tree_of ty.now) }
@@ -143,7 +143,7 @@ fn fits_registers(before: Taken, ty: &FfiType) -> bool
 }
 
 fn argument_pieces(alloc: Global, before: Taken, ty: &FfiType) -> Result<Pieces, NoMemory>
-    requires right { HasNoFault 0 true (tree_of ty.now) }
+    requires right { IsResultType (tree_of ty.now) }
     requires few_general { before.general ≤ 6 }
     requires few_vector { before.vector ≤ 8 }
     requires low { before.stack ≤ 65536 }
@@ -163,7 +163,7 @@ fn argument_pieces(alloc: Global, before: Taken, ty: &FfiType) -> Result<Pieces,
 }
 
 fn with_argument(before: Taken, ty: &FfiType) -> Taken
-    requires right { HasNoFault 0 true (tree_of ty.now) }
+    requires right { IsResultType (tree_of ty.now) }
     requires few_general { before.general ≤ 6 }
     requires few_vector { before.vector ≤ 8 }
     requires low { before.stack ≤ 65536 }
@@ -197,7 +197,7 @@ struct Placed {
 
 /// The address of a result in memory takes the first general register.
 fn at_first(result_type: &FfiType) -> Taken
-    requires { HasNoFault 0 true (tree_of result_type.now) }
+    requires { IsResultType (tree_of result_type.now) }
     ensures value { result ≡ taken_at_first (tree_of result_type.now) }
     ensures few { result.general ≤ 1 }
 {
@@ -229,7 +229,7 @@ fn place_all(alloc: Global, sig: &Sig) -> Result<Placed, NoMemory>
 }
 
 fn place_result(alloc: Global, ty: &FfiType, buffer: u64) -> Result<Res, NoMemory>
-    requires right { HasNoFault 0 true (tree_of ty.now) }
+    requires right { IsResultType (tree_of ty.now) }
     requires low { buffer ≤ 131072 }
     ensures { IfOk result (λ r. r ≡ result_at at_once buffer (tree_of ty.now) (result_spot_of (tree_of ty.now))) }
 {

@@ -1,6 +1,6 @@
 // The classes of a value's eightbytes. (The places of whole signatures are rows of `place`.)
 ghost use Rattle.std.specs.Prelude.{true};
-ghost use Rattle.ffi3_type_rules.specs.Fault.{HasNoFault};
+ghost use Rattle.ffi3_type_rules.specs.Fault.{IsResultType};
 ghost use Rattle.ffi3_types.specs.TreeOf.{tree_of};
 
 use crate::{class_of, in_memory};
@@ -23,7 +23,7 @@ fn struct_of(alloc: Global, word: &str) -> Result<FfiType, Fail> {
 
 /// The class of each eightbyte.
 fn classes_of(alloc: Global, ty: &FfiType) -> Result<String, Fail>
-    requires { HasNoFault 0 true (tree_of ty.now) }
+    requires { IsResultType (tree_of ty.now) }
 {
     let mut text = String::new(alloc);
     if in_memory(ty) {

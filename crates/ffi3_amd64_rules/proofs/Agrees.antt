@@ -3,7 +3,7 @@ use Rattle.std.proofs.Common.{refl, arith, ◌++◌}
 use Rattle.ffi3_place_rules.specs.declared.Loc.{Loc}
 use Rattle.ffi3_place_rules.specs.declared.Loc.TheVariants.{G, F, S}
 use Rattle.ffi3_type_rules.specs.declared.Isa.TheVariants.{Amd64}
-use Rattle.ffi3_place_rules.specs.Isa.{IsWritten}
+use Rattle.ffi3_place_rules.specs.Isa.{TakesWrites}
 use Rattle.ffi3_place_rules.specs.Sound.{IsNoneOf, listed}
 use Rattle.ffi3_place_rules.specs.Agrees.{AgreesWithMachine, given_back, special, saved_registers}
 use Rattle.ffi3_place_rules.proofs.Forbidden.{each_none_of, each_one_of, apart_all}
@@ -34,7 +34,7 @@ agrees = record {
 }
   where
     -- a write to any register is kept
-    written : (l : Loc) → IsNoneOf amd64.reserved l → IsWritten Amd64 l
+    written : (l : Loc) → IsNoneOf amd64.reserved l → TakesWrites Amd64 l
     written (G k) h = refl
     written (F k) h = tt
     written (S n) h = tt

@@ -3,7 +3,7 @@ use Rattle.std.proofs.Common.{◌≡◌, ℕ, zero, suc, ◌<◌, true, [], ◌�
 use Rattle.ffi3_type_rules.specs.declared.Isa.TheVariants.{Amd64}
 use Rattle.ffi3_place_rules.specs.declared.Loc.TheVariants.{G, F, S}
 use Rattle.ffi3_place_rules.specs.Isa.{general_registers}
-use Rattle.ffi3_place_rules.specs.Sound.{IsNoneOf, no_argument, no_result}
+use Rattle.ffi3_place_rules.specs.Sound.{IsNoneOf, closed_to_arguments, closed_to_results}
 use Rattle.ffi3_place_rules.proofs.Chain.{Registers}
 use Rattle.ffi3_place_rules.proofs.Forbidden.{is_none_of, none_of}
 use Rattle.ffi3_amd64_rules.specs.Amd64.{amd64, argument_register, result_register, vector_register}
@@ -45,15 +45,15 @@ argument_registers = record {
 pub argument_exists : (k : ℕ) → k < 6 → argument_register k < general_registers Amd64
 argument_exists = each_of_six (λ k. argument_register k < 16) (omega arith) (omega arith) (omega arith) (omega arith) (omega arith) (omega arith)
 
-pub argument_allowed : (k : ℕ) → k < 6 → IsNoneOf (no_argument amd64) (G (argument_register k))
+pub argument_allowed : (k : ℕ) → k < 6 → IsNoneOf (closed_to_arguments amd64) (G (argument_register k))
 argument_allowed k h =
-    none_of (no_argument amd64) (G (argument_register k)) (each_of_six (λ j. is_none_of (no_argument amd64) (G (argument_register j)) ≡ true) refl refl refl refl refl refl k h)
+    none_of (closed_to_arguments amd64) (G (argument_register k)) (each_of_six (λ j. is_none_of (closed_to_arguments amd64) (G (argument_register j)) ≡ true) refl refl refl refl refl refl k h)
 
-pub vector_allowed : (k : ℕ) → k < 8 → IsNoneOf (no_argument amd64) (F (vector_register k))
-vector_allowed k h = none_of (no_argument amd64) (F (vector_register k)) refl
+pub vector_allowed : (k : ℕ) → k < 8 → IsNoneOf (closed_to_arguments amd64) (F (vector_register k))
+vector_allowed k h = none_of (closed_to_arguments amd64) (F (vector_register k)) refl
 
-pub stack_allowed : (n : ℕ) → IsNoneOf (no_argument amd64) (S n)
-stack_allowed n = none_of (no_argument amd64) (S n) refl
+pub stack_allowed : (n : ℕ) → IsNoneOf (closed_to_arguments amd64) (S n)
+stack_allowed n = none_of (closed_to_arguments amd64) (S n) refl
 
 -- ---- results
 
@@ -77,12 +77,12 @@ result_registers = record {
 pub result_exists : (k : ℕ) → k < 2 → result_register k < general_registers Amd64
 result_exists = each_of_two (λ k. result_register k < 16) (omega arith) (omega arith)
 
-pub result_allowed_general : (k : ℕ) → k < 2 → IsNoneOf (no_result amd64) (G (result_register k))
+pub result_allowed_general : (k : ℕ) → k < 2 → IsNoneOf (closed_to_results amd64) (G (result_register k))
 result_allowed_general k h =
-    none_of (no_result amd64) (G (result_register k)) (each_of_two (λ j. is_none_of (no_result amd64) (G (result_register j)) ≡ true) refl refl k h)
+    none_of (closed_to_results amd64) (G (result_register k)) (each_of_two (λ j. is_none_of (closed_to_results amd64) (G (result_register j)) ≡ true) refl refl k h)
 
-pub result_allowed_vector : (k : ℕ) → k < 2 → IsNoneOf (no_result amd64) (F (vector_register k))
-result_allowed_vector k h = none_of (no_result amd64) (F (vector_register k)) refl
+pub result_allowed_vector : (k : ℕ) → k < 2 → IsNoneOf (closed_to_results amd64) (F (vector_register k))
+result_allowed_vector k h = none_of (closed_to_results amd64) (F (vector_register k)) refl
 
-pub result_allowed_stack : (n : ℕ) → IsNoneOf (no_result amd64) (S n)
-result_allowed_stack n = none_of (no_result amd64) (S n) refl
+pub result_allowed_stack : (n : ℕ) → IsNoneOf (closed_to_results amd64) (S n)
+result_allowed_stack n = none_of (closed_to_results amd64) (S n) refl

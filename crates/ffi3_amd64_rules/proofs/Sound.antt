@@ -10,7 +10,7 @@ use Rattle.ffi3_place_rules.specs.declared.Loc.TheVariants.{G}
 use Rattle.ffi3_place_rules.specs.declared.Taken.{Taken}
 use Rattle.ffi3_place_rules.specs.Standard.{in_result_pieces, in_buffer, plan_of, places_from, result_at, copies_start, frame_copies_end, frame_of, at_once}
 use Rattle.ffi3_place_rules.specs.Doublewords.{stack_pieces}
-use Rattle.ffi3_place_rules.specs.Sound.{AreApart, piece_locs, place_locs, hidden_locs, result_locs, argument_locs, IsNoneOf, LiesIn, call_locs, no_argument, no_result as not_for_results, ResultHasAll, IsSound, IsDetermined}
+use Rattle.ffi3_place_rules.specs.Sound.{AreApart, piece_locs, place_locs, hidden_locs, result_locs, argument_locs, IsNoneOf, LiesIn, call_locs, closed_to_arguments, closed_to_results, ResultHasAll, IsSound, IsDetermined}
 use Rattle.ffi3_place_rules.proofs.Chain.{AtMost, at_most_self, Chain, chain_append, chain_less, chain_apart, chain_allowed, chain_lies_in}
 use Rattle.ffi3_place_rules.proofs.Frame.{up_to, value_chain, frame_chain}
 use Rattle.ffi3_place_rules.proofs.Aligned.{frame_is_aligned, need_is_aligned}
@@ -116,9 +116,9 @@ plan_chain s =
     chain_append argument_register vector_register 6 8 untouched (hidden_locs (plan_of amd64 s).res) (taken_at_first s.result_type) _ _
     (hidden_chain s.result_type (frame_copies_end amd64 s)) (places_chain (copies_start (placing_of s)) (taken_at_first s.result_type) s.arguments)
 
-plan_allowed : (s : Signature) → AllByRecursion (IsNoneOf (no_argument amd64)) (argument_locs (plan_of amd64 s))
+plan_allowed : (s : Signature) → AllByRecursion (IsNoneOf (closed_to_arguments amd64)) (argument_locs (plan_of amd64 s))
 plan_allowed s =
-    chain_allowed argument_register vector_register 6 8 (no_argument amd64) argument_allowed vector_allowed stack_allowed untouched _ _ (plan_chain s)
+    chain_allowed argument_register vector_register 6 8 (closed_to_arguments amd64) argument_allowed vector_allowed stack_allowed untouched _ _ (plan_chain s)
 
 plan_lies_in : (s : Signature) → AllByRecursion (LiesIn Amd64 (placing_of s).stack_bytes) (argument_locs (plan_of amd64 s))
 plan_lies_in s =
@@ -179,7 +179,7 @@ sound s =
       has_all = arguments_have_all at_once (copies_start (placing_of s)) (taken_at_first s.result_type) s.arguments;
       result_apart = result_cases AreApart tt s.result_type (chain_apart result_register vector_register 2 2 result_registers (at_eightbyte untouched []) _ _ (result_chain s.result_type)) end;
       result_in_registers = result_cases (AllByRecursion (LiesIn Amd64 0)) tt s.result_type (chain_lies_in result_register vector_register 2 2 Amd64 result_exists (λ k h. omega arith) (at_eightbyte untouched []) _ _ 0 (omega arith) (result_chain s.result_type)) end;
-      result_allowed = result_cases (AllByRecursion (IsNoneOf (not_for_results amd64))) tt s.result_type (chain_allowed result_register vector_register 2 2 (not_for_results amd64) result_allowed_general result_allowed_vector result_allowed_stack (at_eightbyte untouched []) _ _ (result_chain s.result_type)) end;
+      result_allowed = result_cases (AllByRecursion (IsNoneOf (closed_to_results amd64))) tt s.result_type (chain_allowed result_register vector_register 2 2 (closed_to_results amd64) result_allowed_general result_allowed_vector result_allowed_stack (at_eightbyte untouched []) _ _ (result_chain s.result_type)) end;
       result_has_all = result_has_all s.result_type end;
       filled = arguments_filled (copies_start (placing_of s)) (taken_at_first s.result_type) s.arguments;
       rising = arguments_rise (copies_start (placing_of s)) (taken_at_first s.result_type) s.arguments;

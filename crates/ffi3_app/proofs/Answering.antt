@@ -7,7 +7,7 @@ use Rattle.ffi3_app.specs.declared.words.Request.{Request}
 use Rattle.ffi3_app.specs.declared.words.WordsFault.{WordsFault}
 use Rattle.ffi3_app.specs.declared.words.WordsFault.TheVariants.{Refused, NoMemory}
 use Rattle.ffi3_app.specs.WordCommands.{IsProgram, asked, program}
-use Rattle.ffi3_app.specs.Words.{CanDo, IsRefusal, IsStated, IsToldAs, Takes}
+use Rattle.ffi3_app.specs.Words.{CanDo, IsWordsRefusal, IsStated, IsToldAs, Takes}
 use Rattle.ffi3_app.proofs.Asked.{something_asked}
 use Rattle.ffi3_app.proofs.Program.{is_free, is_plain}
 use Rattle.ffi3_app.proofs.Anywhere.{same_fault, same_command}
@@ -71,7 +71,7 @@ module _ (a : App) (is : IsProgram a) where
     pub stated_fails : (e : Error) (f : WordsFault) (r : Request) → HasKind (fault_of a words) e → IsToldAs e f → IsStated words r → f ≡ NoMemory
     stated_fails e f r has tells stated = taken_fails e f r has tells (stated_is_taken words r stated)
 
-    pub refused_as : (e : Error) (f : WordsFault) → HasKind (fault_of a words) e → IsToldAs e f → IsRefusal words f
+    pub refused_as : (e : Error) (f : WordsFault) → HasKind (fault_of a words) e → IsToldAs e f → IsWordsRefusal words f
     refused_as e NoMemory has tells = tt
     refused_as e (Refused text) has tells =
         let named = without_memory has in (

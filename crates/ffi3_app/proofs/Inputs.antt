@@ -9,7 +9,7 @@ use Rattle.ffi3_script_rules.specs.Reading.{Reading, too_long, not_json, bad_scr
 use Rattle.ffi3_script_rules.specs.Script.{Script}
 use Rattle.ffi3_json.specs.ReasonOf.{reason_of}
 use Rattle.ffi3_app.specs.Top.{ReadAs, IsRead, IsReadInPart, IsAtEnd, Given, given, limit_line}
-use Rattle.ffi3_app.specs.Refusals.{IsJudged, IsLimit, IsRefusal}
+use Rattle.ffi3_app.specs.Refusals.{IsJudged, IsLimit, IsInputRefusal}
 use Rattle.ffi3_app.specs.declared.words.Request.{Request}
 use Rattle.ffi3_app.specs.declared.words.Request.TheVariants.{Layout, Place, Run}
 use Rattle.ffi3_app.specs.declared.load.Refusal.{Refusal}
@@ -60,7 +60,7 @@ module _ (names : List (List ℕ)) (left left' : Option (List ℕ)) (count count
       let limit : 1048577 ≤ 1048577 = lit≤ tt in (1048577, limit, (λ all is. (gives all is).1))
 
   -- what was judged of the bytes refuses the input
-  pub judged_refused : (request : Request) (r : Refusal) → count' ≡ count → IsJudged names lent r → IsRefusal names request (given left count) (given left' count') r
+  pub judged_refused : (request : Request) (r : Refusal) → count' ≡ count → IsJudged names lent r → IsInputRefusal names request (given left count) (given left' count') r
   judged_refused request ReadFault counted judged = absurd judged
   judged_refused request NoMemory counted judged = (counted, read_in_part)
   judged_refused request TooLong counted judged =
@@ -72,7 +72,7 @@ module _ (names : List (List ℕ)) (left left' : Option (List ℕ)) (count count
   judged_refused request (NotYet path) counted judged = absurd judged
 
 -- a script of which a command does not do all refuses the input
-pub limit_refused : (names : List (List ℕ)) (request : Request) (input input' : Given) (s : Script) (r : Refusal) → ReadAs names input (script s) → IsRead input input' → IsReadInPart input input' → input'.faults ≡ input.faults → IsLimit request s r → IsRefusal names request input input' r
+pub limit_refused : (names : List (List ℕ)) (request : Request) (input input' : Given) (s : Script) (r : Refusal) → ReadAs names input (script s) → IsRead input input' → IsReadInPart input input' → input'.faults ≡ input.faults → IsLimit request s r → IsInputRefusal names request input input' r
 limit_refused names Layout input input' s r read all part counted limit = absurd limit
 limit_refused names (Place t) input input' s r read all part counted limit = absurd limit
 limit_refused names (Run t) input input' s NoMemory read all part counted limit = (counted, part)

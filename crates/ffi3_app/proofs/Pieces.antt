@@ -10,7 +10,7 @@ use Rattle.ffi3_type_rules.specs.Signature.{Signature, signature_at, Position, a
 use Rattle.ffi3_type_rules.specs.Tree.{Tree}
 use Rattle.ffi3_type_rules.specs.declared.Target.{Target}
 use Rattle.ffi3_script_rules.specs.Script.{Script}
-use Rattle.ffi3_run.specs.Told.{Took, TookLine}
+use Rattle.ffi3_run.specs.RunMatches.{Took, TookLine}
 use Rattle.ffi3_app.specs.Commands.{standard_of, joined, lines_from, arguments_from, place_text}
 use Rattle.ffi3_app.specs.Wrote.{Ended, Wrote}
 use Rattle.ffi3_app.specs.declared.write.WriteEnd.{WriteEnd}

@@ -6,8 +6,8 @@ use Rattle.std.proofs.lemmas.Option.{get_or_from_slice_get}
 use Rattle.ffi3_script_rules.specs.Step.{PathStep}
 use Rattle.ffi3_script_rules.specs.Language.{Path}
 use Rattle.ffi3_script_rules.specs.ReasonText.{text_of_step, text_of_steps}
-use Rattle.ffi3_run.specs.Told.{Took}
-use Rattle.ffi3_app.specs.Top.{Tells}
+use Rattle.ffi3_run.specs.RunMatches.{Took}
+use Rattle.ffi3_app.specs.Top.{ReportsFault}
 use Rattle.ffi3_app.specs.Refusals.{refusal_line, refusal_status, HasPlace, TellsRefusal, TellsPlace}
 use Rattle.ffi3_app.specs.declared.load.Refusal.{Refusal}
 
@@ -19,12 +19,12 @@ step_on path i s text text' all below is before on =
     ap (λ t. t ++ text_of_steps (drop (i + 1) path)) on ∙ append_assoc text (text_of_step s) (text_of_steps (drop (i + 1) path)) ∙ ap (λ t. text ++ t) (sym here) ∙ before
 
 module _ (before after : Took) (answer : ℕ) where
-  pub told_as : (r s : Refusal) → r ≡ s → Tells (refusal_line s) (refusal_status s) before after answer → TellsRefusal r before after answer
+  pub told_as : (r s : Refusal) → r ≡ s → ReportsFault (refusal_line s) (refusal_status s) before after answer → TellsRefusal r before after answer
   told_as r s is tells =
       let P = λ (q : Refusal). TellsRefusal q before after answer in subst P (sym is) (inl tells)
 
   pub told_with_place : (r s : Refusal) → r ≡ s → HasPlace s → refusal_status s ≡ 1 → TellsPlace (refusal_line s) before after answer → TellsRefusal r before after answer
   told_with_place r s is place one (inl tells) =
-      let Q = λ (n : ℕ). Tells (refusal_line s) n before after answer in told_as r s is (subst Q (sym one) tells)
+      let Q = λ (n : ℕ). ReportsFault (refusal_line s) n before after answer in told_as r s is (subst Q (sym one) tells)
   told_with_place r s is place one (inr tells) =
       let P = λ (q : Refusal). TellsRefusal q before after answer in subst P (sym is) (inr (place, tells))

@@ -57,10 +57,10 @@ abbrev pub place_text : Standard → Script → List ℕ
 place_text std script = joined (lines_from (place_lines std) 0 script.signatures)
 
 -- THE TEXT OF A COMMAND, for a script beside natives
-abbrev pub text_of : Request → List NamedNative → Script → List ℕ
-text_of Layout natives script = layout_text script
-text_of (Place t) natives script = place_text (standard_of t) script
-text_of (Run t) natives script =
+abbrev pub command_text : Request → List NamedNative → Script → List ℕ
+command_text Layout natives script = layout_text script
+command_text (Place t) natives script = place_text (standard_of t) script
+command_text (Run t) natives script =
     text_of_run untraced (program_beside (standard_of t) natives script)
 
 -- the place of a script, if there is one, that the command does not do yet

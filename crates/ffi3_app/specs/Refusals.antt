@@ -6,21 +6,21 @@ use Rattle.ffi3_script_rules.specs.ReasonText.{text_of_reason}
 use Rattle.ffi3_script_rules.specs.Reading.{Reading, too_long, not_json, bad_script, IsReading}
 use Rattle.ffi3_script_rules.specs.Script.{Script}
 use Rattle.ffi3_script_rules.specs.RunLimit.{first_not_run}
-use Rattle.ffi3_run.specs.Told.{Took}
+use Rattle.ffi3_run.specs.RunMatches.{Took}
 use Rattle.ffi3_json.specs.ReasonOf.{reason_of}
 use Rattle.ffi3_app.specs.declared.words.Request.{Request}
 use Rattle.ffi3_app.specs.declared.words.Request.TheVariants.{Run}
 use Rattle.ffi3_app.specs.declared.load.Refusal.{Refusal}
 use Rattle.ffi3_app.specs.declared.load.Refusal.TheVariants.{ReadFault, NoMemory, TooLong, BadJson, BadScript, NotYet}
-use Rattle.ffi3_app.specs.Top.{Tells, Given, ReadAs, IsRead, IsReadInPart, refusal_of, place_line, read_fault_line, no_memory_line}
+use Rattle.ffi3_app.specs.Top.{ReportsFault, Given, ReadAs, IsRead, IsReadInPart, refusal_of, located_line, read_fault_line, no_memory_line}
 
 abbrev pub refusal_line : Refusal → List ℕ
 refusal_line ReadFault = read_fault_line
 refusal_line NoMemory = no_memory_line
 refusal_line TooLong = a_line (codes "ffi3: script too long")
 refusal_line BadJson = a_line (codes "ffi3: not JSON")
-refusal_line (BadScript path why) = place_line path (text_of_reason (reason_of why))
-refusal_line (NotYet path) = place_line path (codes "not yet")
+refusal_line (BadScript path why) = located_line path (text_of_reason (reason_of why))
+refusal_line (NotYet path) = located_line path (codes "not yet")
 
 abbrev pub refusal_status : Refusal → ℕ
 refusal_status ReadFault = 3
@@ -56,18 +56,18 @@ pub record IsRefusedWith (names : List (List ℕ)) (request : Request) (input in
   pub count : input'.faults ≡ input.faults
 
 -- the input is refused
-abbrev pub IsRefusal : (names : List (List ℕ)) → Request → Given → Given → Refusal → Type 0
-IsRefusal names request input input' ReadFault =
+abbrev pub IsInputRefusal : (names : List (List ℕ)) → Request → Given → Given → Refusal → Type 0
+IsInputRefusal names request input input' ReadFault =
     Rose input.faults input'.faults × IsReadInPart input input'
-IsRefusal names request input input' NoMemory =
+IsInputRefusal names request input input' NoMemory =
     (input'.faults ≡ input.faults) × IsReadInPart input input'
-IsRefusal names request input input' TooLong =
+IsInputRefusal names request input input' TooLong =
     IsRefusedWith names request input input' (refusal_line TooLong)
-IsRefusal names request input input' BadJson =
+IsInputRefusal names request input input' BadJson =
     IsRefusedWith names request input input' (refusal_line BadJson)
-IsRefusal names request input input' (BadScript path why) =
+IsInputRefusal names request input input' (BadScript path why) =
     IsRefusedWith names request input input' (refusal_line (BadScript path why))
-IsRefusal names request input input' (NotYet path) =
+IsInputRefusal names request input input' (NotYet path) =
     IsRefusedWith names request input input' (refusal_line (NotYet path))
 
 -- the refusal has the place of a value
@@ -79,9 +79,9 @@ HasPlace _ = ⊥
 -- a refusal was told, or want of memory for the line of its place
 abbrev pub TellsRefusal : Refusal → Took → Took → ℕ → Type 0
 TellsRefusal refusal before after answer =
-    Tells (refusal_line refusal) (refusal_status refusal) before after answer ⊎ (HasPlace refusal × Tells no_memory_line 5 before after answer)
+    ReportsFault (refusal_line refusal) (refusal_status refusal) before after answer ⊎ (HasPlace refusal × ReportsFault no_memory_line 5 before after answer)
 
 -- the line of a place was told, or want of memory for it
 abbrev pub TellsPlace : List ℕ → Took → Took → ℕ → Type 0
 TellsPlace line before after answer =
-    Tells line 1 before after answer ⊎ Tells no_memory_line 5 before after answer
+    ReportsFault line 1 before after answer ⊎ ReportsFault no_memory_line 5 before after answer

@@ -12,11 +12,11 @@ use Rattle.ffi3_script_rules.specs.Script.{Script}
 use Rattle.ffi3_script_rules.specs.Reading.{Reading, too_long, not_json, bad_script, script, IsReading, max_length}
 use Rattle.ffi3_script_rules.specs.Natives.{NamedNative, names_of, program_beside}
 use Rattle.ffi3_machine.specs.State.{State}
-use Rattle.ffi3_run.specs.Told.{Took, TookLine, IsTold}
+use Rattle.ffi3_run.specs.RunMatches.{Took, TookLine, RunMatches}
 use Rattle.ffi3_app.specs.declared.words.Request.{Request}
 use Rattle.ffi3_app.specs.declared.words.Request.TheVariants.{Layout, Place, Run}
 use Rattle.ffi3_app.specs.Words.{Takes, IsRefused}
-use Rattle.ffi3_app.specs.Commands.{standard_of, text_of, not_yet}
+use Rattle.ffi3_app.specs.Commands.{standard_of, command_text, not_yet}
 
 -- ---- the lines of faults
 
@@ -30,19 +30,19 @@ abbrev pub no_memory_line : List ℕ
 no_memory_line = a_line (codes "ffi3: out of memory")
 
 -- a place of a script, and what is told of it
-abbrev pub place_line : Path → List ℕ → List ℕ
-place_line path words = a_line (codes "ffi3: " ++ text_of_path path ++ codes ": " ++ words)
+abbrev pub located_line : Path → List ℕ → List ℕ
+located_line path words = a_line (codes "ffi3: " ++ text_of_path path ++ codes ": " ++ words)
 
 -- what a command does not do yet
 abbrev pub limit_line : Option Path → Option (List ℕ)
 limit_line None = None
-limit_line (Some path) = Some (place_line path (codes "not yet"))
+limit_line (Some path) = Some (located_line path (codes "not yet"))
 
 -- THE LINE OF WHAT IS REFUSED: what the input is read as is no script, or the command does not do it yet
 abbrev pub refusal_of : Request → Reading → Option (List ℕ)
 refusal_of request too_long = Some (a_line (codes "ffi3: script too long"))
 refusal_of request not_json = Some (a_line (codes "ffi3: not JSON"))
-refusal_of request (bad_script path reason) = Some (place_line path (text_of_reason reason))
+refusal_of request (bad_script path reason) = Some (located_line path (text_of_reason reason))
 refusal_of request (script s) = limit_line (not_yet request s)
 
 -- a native that is handed in: its name, what it does, and its signatures
@@ -95,11 +95,11 @@ status_when_done (Run t) natives s =
 -- THE WORK IS DONE: the text is written whole; a run is told whole, and what stops it is status 6; the other commands leave the machine as it was
 abbrev pub IsDone : Request → List NamedNative → Script → Took → Took → State → State → ℕ → Type 0
 IsDone Layout natives s output output' machine machine' status =
-    TookLine (text_of Layout natives s) output output' × (machine' ≡ machine) × (status ≡ 0)
+    TookLine (command_text Layout natives s) output output' × (machine' ≡ machine) × (status ≡ 0)
 IsDone (Place t) natives s output output' machine machine' status =
-    TookLine (text_of (Place t) natives s) output output' × (machine' ≡ machine) × (status ≡ 0)
+    TookLine (command_text (Place t) natives s) output output' × (machine' ≡ machine) × (status ≡ 0)
 IsDone (Run t) natives s output output' machine machine' status =
-    IsTold untraced (standard_of t) (program_beside (standard_of t) natives s) output output' machine' × (status ≡ status_when_done (Run t) natives s)
+    RunMatches untraced (standard_of t) (program_beside (standard_of t) natives s) output output' machine' × (status ≡ status_when_done (Run t) natives s)
 
 -- a first part of the text was written, and only a run changes the machine
 abbrev pub KeepsMachine : Request → State → State → Type 0
@@ -108,14 +108,14 @@ KeepsMachine _ machine machine' = machine' ≡ machine
 
 abbrev pub IsDoneInPart : Request → List NamedNative → Script → Took → Took → State → State → Type 0
 IsDoneInPart request natives s output output' machine machine' =
-    ((part : ℕ) × Adds output.taken (take part (text_of request natives s)) output'.taken) × KeepsMachine request machine machine'
+    ((part : ℕ) × Adds output.taken (take part (command_text request natives s)) output'.taken) × KeepsMachine request machine machine'
 
 -- ---- statuses
 
 -- a line was handed to the sink of faults: it took the line whole, or it failed in it, which is status 4 whatever the status was before
-pub data Tells (line : List ℕ) (status : ℕ) (before after : Took) : ℕ → Type 0 where
-  whole : TookLine line before after → Tells line status before after status
-  cut : AddsSome before.taken line after.taken → Rose before.faults after.faults → Tells line status before after 4
+pub data ReportsFault (line : List ℕ) (status : ℕ) (before after : Took) : ℕ → Type 0 where
+  whole : TookLine line before after → ReportsFault line status before after status
+  cut : AddsSome before.taken line after.taken → Rose before.faults after.faults → ReportsFault line status before after 4
 
 -- nothing was written, and the machine is as it was; or what the input is read as was begun
 abbrev pub BeganOrNot : Request → List NamedNative → Given → Given → Took → Took → State → State → Type 0
@@ -134,4 +134,4 @@ pub data Fails (words : List (List ℕ)) (natives : List NamedNative) (input inp
 -- WHAT EACH STATUS SAYS: the work is done whole, or what goes wrong is told, and then 4 in place of its status where that failed
 pub data Says (words : List (List ℕ)) (natives : List NamedNative) (input input' : Given) (output output' told told' : Took) (machine machine' : State) : ℕ → Type 0 where
   done : {request : Request} {status : ℕ} → Takes words request → (s : Script) → ReadAs (names_of natives) input (script s) → not_yet request s ≡ None → IsAtEnd input input' → input'.faults ≡ input.faults → IsDone request natives s output output' machine machine' status → told' ≡ told → Says words natives input input' output output' told told' machine machine' status
-  failed : {status : ℕ} {line : List ℕ} {answer : ℕ} → Fails words natives input input' output output' machine machine' status line → Tells line status told told' answer → Says words natives input input' output output' told told' machine machine' answer
+  failed : {status : ℕ} {line : List ℕ} {answer : ℕ} → Fails words natives input input' output output' machine machine' status line → ReportsFault line status told told' answer → Says words natives input input' output output' told told' machine machine' answer

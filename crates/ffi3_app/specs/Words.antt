@@ -47,9 +47,9 @@ abbrev pub IsRefused : List Text → Type 0
 IsRefused words =
     (placing running : Addresses) → fault_of (program placing running) words ≡ [] → ⊥
 
-abbrev pub IsRefusal : List Text → WordsFault → Type 0
-IsRefusal words (Refused text) = IsRefused words × ((r : Request) → IsStated words r → ⊥)
-IsRefusal words NoMemory = Unit {0}
+abbrev pub IsWordsRefusal : List Text → WordsFault → Type 0
+IsWordsRefusal words (Refused text) = IsRefused words × ((r : Request) → IsStated words r → ⊥)
+IsWordsRefusal words NoMemory = Unit {0}
 
 -- an error of clap is told as this: its text, where it is not want of memory
 abbrev pub IsToldAs : Error → WordsFault → Type 0

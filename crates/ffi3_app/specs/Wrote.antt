@@ -1,7 +1,7 @@
 -- What came of a text that was handed to a sink piece by piece.
 use Rattle.std.specs.Prelude.{◌≡◌, ℕ, ◌≤◌, List, take, length, Result, Ok, Err}
 use Rattle.ffi3_io.specs.Sink.{Adds, Rose}
-use Rattle.ffi3_run.specs.Told.{Took, TookLine}
+use Rattle.ffi3_run.specs.RunMatches.{Took, TookLine}
 use Rattle.ffi3_app.specs.declared.write.WriteEnd.{WriteEnd}
 use Rattle.ffi3_app.specs.declared.write.WriteEnd.TheVariants.{NoMemory, Failed}
 

@@ -2,7 +2,7 @@
 ghost use Rattle.std.specs.Prelude.{◌≡◌, ◌<◌, length, true};
 ghost use Rattle.ffi3_type_rules.specs.Signature.{SignatureHasNoFault};
 ghost use Rattle.ffi3_script.specs.ScriptOf.{script_of};
-ghost use Rattle.ffi3_run.specs.Told.{took};
+ghost use Rattle.ffi3_run.specs.RunMatches.{took};
 ghost use Rattle.ffi3_app.specs.Commands.{joined, layout_lines, layout_text};
 ghost use Rattle.ffi3_app.specs.Wrote.{Wrote};
 

@@ -30,7 +30,7 @@ pub enum Refusal {
     NotYet { path: Where },
 }
 
-ghost use Rattle.ffi3_app.specs.Refusals.{IsRefusal, IsJudged, IsLimit, IsRunLimit};
+ghost use Rattle.ffi3_app.specs.Refusals.{IsInputRefusal, IsJudged, IsLimit, IsRunLimit};
 
 /// Reads the input to its end, or until it is too long, and judges what was read, beside natives of these names.
 pub fn load<I: Source>(
@@ -46,7 +46,7 @@ pub fn load<I: Source>(
     ensures end { OnOk result (IsAtEnd (given (I.left input.old) (I.faults input.old)) (given (I.left input.new) (I.faults input.new))) }
     ensures same { OnOk result (I.faults input.new ≡ I.faults input.old) }
     ensures part { IsReadInPart (given (I.left input.old) (I.faults input.old)) (given (I.left input.new) (I.faults input.new)) }
-    ensures refused { IfErr result (IsRefusal natives.now request (given (I.left input.old) (I.faults input.old)) (given (I.left input.new) (I.faults input.new))) }
+    ensures refused { IfErr result (IsInputRefusal natives.now request (given (I.left input.old) (I.faults input.old)) (given (I.left input.new) (I.faults input.new))) }
 {
     match read(alloc, natives, input) {
         Ok(script) => match limit(alloc, request, &script) {
@@ -66,7 +66,7 @@ fn read<I: Source>(alloc: Global, natives: &Names, input: &mut I) -> Result<Scri
     ensures all { OnOk result (IsRead (given (I.left input.old) (I.faults input.old)) (given (I.left input.new) (I.faults input.new))) }
     ensures same { OnOk result (I.faults input.new ≡ I.faults input.old) }
     ensures part { IsReadInPart (given (I.left input.old) (I.faults input.old)) (given (I.left input.new) (I.faults input.new)) }
-    ensures refused { (r : Request) → IfErr result (IsRefusal natives.now r (given (I.left input.old) (I.faults input.old)) (given (I.left input.new) (I.faults input.new))) }
+    ensures refused { (r : Request) → IfErr result (IsInputRefusal natives.now r (given (I.left input.old) (I.faults input.old)) (given (I.left input.new) (I.faults input.new))) }
 {
     match read_all(alloc, input, MAX_LENGTH + 1) {
         Ok(bytes) => judge(alloc, natives, &bytes),

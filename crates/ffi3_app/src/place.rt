@@ -1,9 +1,9 @@
 //! The lines of place.
 ghost use Rattle.std.specs.Prelude.{◌≡◌, IfOk, IfErr};
 ghost use Rattle.ffi3_type_rules.specs.Signature.{SignatureHasNoFault};
-ghost use Rattle.ffi3_cif.specs.Prepared.{IsRefusal};
+ghost use Rattle.ffi3_cif.specs.Prepared.{IsPrepRefusal};
 ghost use Rattle.ffi3_script.specs.ScriptOf.{script_of};
-ghost use Rattle.ffi3_run.specs.Told.{took};
+ghost use Rattle.ffi3_run.specs.RunMatches.{took};
 ghost use Rattle.ffi3_app.specs.Commands.{joined, place_lines, place_text, standard_of};
 ghost use Rattle.ffi3_app.specs.Wrote.{Wrote};
 
@@ -82,7 +82,7 @@ fn cif_of<A: Abi>(alloc: Global, sig: &Sig) -> Result<Cif<A>, NoMemory>
 fn prepared<A: Abi>(alloc: Global, sig: &Sig) -> Result<Cif<A>, PrepFault>
     requires { SignatureHasNoFault sig.now }
     ensures ok { IfOk result (λ c. c ≡ sig.now) }
-    ensures err { IfErr result (IsRefusal sig.now) }
+    ensures err { IfErr result (IsPrepRefusal sig.now) }
 {
     let Ok(ret) = sig.ret().copy(alloc) else {
         return Err(PrepFault::NoMemory);

@@ -1,9 +1,9 @@
 //! Lines to the sink of faults.
 ghost use Rattle.std.specs.Prelude.{◌≡◌, ◌++◌, IfOk, OnOk, ℕ, List};
-ghost use Rattle.ffi3_run.specs.Told.{took};
+ghost use Rattle.ffi3_run.specs.RunMatches.{took};
 ghost use Rattle.ffi3_script_rules.specs.ReasonText.{text_of_path, text_of_step};
 ghost use Rattle.ffi3_json.specs.StepOf.{step_of};
-ghost use Rattle.ffi3_app.specs.Top.{Tells, place_line};
+ghost use Rattle.ffi3_app.specs.Top.{ReportsFault, located_line};
 ghost use Rattle.ffi3_app.specs.Refusals.{TellsRefusal, TellsPlace};
 
 use crate::load::Refusal;
@@ -15,13 +15,13 @@ use std::alloc::Global;
 /// Writes a line to the sink of faults, and says the status: the one handed in, or 4 where the line
 /// could not be written.
 pub fn tell<E: Sink>(faults: &mut E, line: &str, status: u8) -> u8
-    ensures { Tells line.now status (took (E.taken faults.old) (E.faults faults.old)) (took (E.taken faults.new) (E.faults faults.new)) result }
+    ensures { ReportsFault line.now status (took (E.taken faults.old) (E.faults faults.old)) (took (E.taken faults.new) (E.faults faults.new)) result }
 {
     tell_bytes(faults, line.as_bytes(), status)
 }
 
 fn tell_bytes<E: Sink>(faults: &mut E, line: &[u8], status: u8) -> u8
-    ensures { Tells line.now status (took (E.taken faults.old) (E.faults faults.old)) (took (E.taken faults.new) (E.faults faults.new)) result }
+    ensures { ReportsFault line.now status (took (E.taken faults.old) (E.faults faults.old)) (took (E.taken faults.new) (E.faults faults.new)) result }
 {
     match write_all(faults, line) {
         Ok(()) => status,
@@ -29,7 +29,7 @@ fn tell_bytes<E: Sink>(faults: &mut E, line: &[u8], status: u8) -> u8
     }
 }
 
-/// Tells why there is no script, and says the status.
+/// ReportsFault why there is no script, and says the status.
 pub fn tell_refusal<E: Sink>(alloc: Global, refusal: &Refusal, faults: &mut E) -> u8
     ensures { TellsRefusal refusal.now (took (E.taken faults.old) (E.faults faults.old)) (took (E.taken faults.new) (E.faults faults.new)) result }
 {
@@ -55,28 +55,28 @@ pub fn tell_refusal<E: Sink>(alloc: Global, refusal: &Refusal, faults: &mut E) -
     }
 }
 
-// Tells what is said of a place, where there was memory for the words.
+// ReportsFault what is said of a place, where there was memory for the words.
 fn tell_place<E: Sink>(
     alloc: Global,
     path: &Where,
     words: Result<Bytes, NoMemory>,
     faults: &mut E,
 ) -> u8
-    ensures { (text : List ℕ) → IfOk words (λ w. w ≡ text) → TellsPlace (place_line path.now text)
+    ensures { (text : List ℕ) → IfOk words (λ w. w ≡ text) → TellsPlace (located_line path.now text)
         (took (E.taken faults.old) (E.faults faults.old)) (took (E.taken faults.new) (E.faults faults.new)) result }
 {
     let Ok(words) = words else {
         return tell(faults, "ffi3: out of memory\n", 5);
     };
-    match place_line(alloc, path, words.as_slice()) {
+    match located_line(alloc, path, words.as_slice()) {
         Ok(line) => tell_bytes(faults, line.as_slice(), 1),
         Err(_) => tell(faults, "ffi3: out of memory\n", 5),
     }
 }
 
 // The line of a place and what is said of it.
-fn place_line(alloc: Global, path: &Where, words: &[u8]) -> Result<Bytes, NoMemory>
-    ensures { IfOk result (λ line. line ≡ place_line path.now words.now) }
+fn located_line(alloc: Global, path: &Where, words: &[u8]) -> Result<Bytes, NoMemory>
+    ensures { IfOk result (λ line. line ≡ located_line path.now words.now) }
 {
     let mut line = Bytes::from_slice(alloc, "ffi3: ".as_bytes())?;
     line.extend(path_text(alloc, path)?.as_slice())?;

@@ -3,7 +3,7 @@ ghost use Rattle.std.specs.Prelude.{◌≡◌, [], IfOk, IfErr, OnErr, None};
 ghost use Rattle.ffi3_type_rules.specs.declared.Target.TheVariants.{Amd64};
 ghost use Rattle.ffi3_script_rules.specs.RunLimit.{first_not_run};
 ghost use Rattle.ffi3_script.specs.ScriptOf.{script_of, natives_of};
-ghost use Rattle.ffi3_run.specs.Told.{took};
+ghost use Rattle.ffi3_run.specs.RunMatches.{took};
 ghost use Rattle.ffi3_app.specs.declared.words.Request.TheVariants.{Run};
 ghost use Rattle.ffi3_app.specs.Words.{CanDo};
 ghost use Rattle.ffi3_app.specs.Commands.{not_yet};

@@ -1,6 +1,6 @@
 //! Lines to the output.
 ghost use Rattle.std.specs.Prelude.{◌≡◌, ℕ, List, IfOk};
-ghost use Rattle.ffi3_run.specs.Told.{took};
+ghost use Rattle.ffi3_run.specs.RunMatches.{took};
 ghost use Rattle.ffi3_app.specs.Wrote.{Wrote};
 
 use ffi3_io::{Sink, write_all};

@@ -13,7 +13,7 @@ use Rattle.ffi3_type_rules.proofs.Faults.{right_is_small}
 use Rattle.ffi3_type_rules.proofs.Right.{argument_is_right, few_arguments}
 use Rattle.ffi3_type_rules.proofs.Values.{value_at}
 use Rattle.ffi3_place_rules.specs.Standard.{round8, block_bytes}
-use Rattle.ffi3_body.specs.Activation.{block_offset, arguments_in}
+use Rattle.ffi3_body.specs.SeenActivation.{block_offset, arguments_in}
 
 abbrev whole_size : Tree → ℕ
 whole_size t = round8 (size_of t)

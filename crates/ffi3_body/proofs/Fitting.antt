@@ -3,7 +3,7 @@ use Rattle.std.proofs.Common.{◌≡◌, ℕ, suc, ◌+◌, ◌<◌, ◌≤◌, 
 use Rattle.std.specs.Prelude.{◌==◌, ◌&&◌}
 use Rattle.ffi3_type_rules.specs.Tree.{Tree, void, scalar, left_out, structure, Trees, no_trees, tree, list_of, trees_of, tree_at, trees_of-list_of}
 use Rattle.ffi3_type_rules.specs.Layout.{Layout, layouts, size_of, start_of}
-use Rattle.ffi3_type_rules.specs.Fault.{HasNoFault, left_out_type, left_out_kind}
+use Rattle.ffi3_type_rules.specs.Fault.{left_out_type, left_out_kind, IsResultType}
 use Rattle.ffi3_type_rules.specs.Signature.{Signature, SignatureHasNoFault}
 use Rattle.ffi3_type_rules.specs.Value.{value_in, values_in, values_of, part, fits, all_fit}
 use Rattle.ffi3_type_rules.proofs.Layouts.{least_multiple-above}
@@ -12,7 +12,7 @@ use Rattle.ffi3_type_rules.proofs.Right.{argument_as_result}
 use Rattle.ffi3_type_rules.proofs.Values.{value_at, element_within}
 use Rattle.ffi3_type_rules.proofs.ValueElements.{fit_by_elements}
 use Rattle.ffi3_place_rules.specs.Standard.{block_bytes, round8}
-use Rattle.ffi3_body.specs.Activation.{block_offset, arguments_in}
+use Rattle.ffi3_body.specs.SeenActivation.{block_offset, arguments_in}
 use Rattle.ffi3_body.proofs.Blocks.{argument_here, whole_within}
 
 both : (a b : Bool) → a ≡ true → b ≡ true → (a && b) ≡ true
@@ -27,7 +27,7 @@ length_part : (bytes : List ℕ) (from n : ℕ) → from + n ≤ length bytes �
 length_part bytes from n within = simp (length-take, length-drop) (omega (arith, within))
 
 -- the elements of a struct without fault have none
-element_right : (ts : Trees) → HasNoFault 0 true (structure ts) → (i : ℕ) → i < length (list_of ts) → HasNoFault 0 true (tree_at (list_of ts) i)
+element_right : (ts : Trees) → IsResultType (structure ts) → (i : ℕ) → i < length (list_of ts) → IsResultType (tree_at (list_of ts) i)
 element_right ts right i below =
     argument_is_result 0 (tree_at (list_of ts) i) (λ path f fault. right (i ∷ path) f (fault_outside ts i path f below (fault_deeper 0 false _ path f fault)))
 
@@ -45,14 +45,14 @@ room_within ts bytes n i below =
 
 mutual
   -- the value of as many bytes as the type has
-  value_fits : (t : Tree) (bytes : List ℕ) → HasNoFault 0 true t → length bytes ≡ size_of t → fits t (value_in t bytes) ≡ true
+  value_fits : (t : Tree) (bytes : List ℕ) → IsResultType t → length bytes ≡ size_of t → fits t (value_in t bytes) ≡ true
   value_fits void bytes right n = refl
   value_fits (scalar s) bytes right n = same_count _ _ n
   value_fits (left_out k) bytes right n = absurd (right [] (left_out_type (left_out k)) (left_out_kind refl))
   value_fits (structure ts) bytes right n =
       values_fit ts (layouts ts) 0 bytes (element_right ts right) (room_within ts bytes n)
 
-  values_fit : (ts : Trees) (es : List Layout) (i : ℕ) (bytes : List ℕ) → ((k : ℕ) → k < length (list_of ts) → HasNoFault 0 true (tree_at (list_of ts) k)) → ((k : ℕ) → k < length (list_of ts) → start_of es (i + k) + size_of (tree_at (list_of ts) k) ≤ length bytes) → all_fit ts (values_in ts es i bytes) ≡ true
+  values_fit : (ts : Trees) (es : List Layout) (i : ℕ) (bytes : List ℕ) → ((k : ℕ) → k < length (list_of ts) → IsResultType (tree_at (list_of ts) k)) → ((k : ℕ) → k < length (list_of ts) → start_of es (i + k) + size_of (tree_at (list_of ts) k) ≤ length bytes) → all_fit ts (values_in ts es i bytes) ≡ true
   values_fit no_trees es i bytes right room = refl
   values_fit (tree t ts) es i bytes right room =
       let at_zero : i + 0 ≡ i = omega arith in

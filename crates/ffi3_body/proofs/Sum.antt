@@ -1,7 +1,7 @@
 -- The signatures of the tests have no fault; the sizes of their blocks.
 use Rattle.std.proofs.Common.{◌≡◌, All, ◌∷◌, [], ℕ, zero, suc, ◌<◌, false, length, refl, arith}
 use Rattle.ffi3_type_rules.specs.Tree.{tree_at, s8, s16, s64}
-use Rattle.ffi3_type_rules.specs.Fault.{HasNoFault}
+use Rattle.ffi3_type_rules.specs.Fault.{IsArgumentType}
 use Rattle.ffi3_type_rules.specs.Signature.{SignatureHasNoFault}
 use Rattle.ffi3_type_rules.proofs.Faults.{scalar_faults, void_faults}
 use Rattle.ffi3_type_rules.proofs.Signatures.{right_with_no_fixed}
@@ -9,7 +9,7 @@ use Rattle.ffi3_type_rules.specs.Layout.{least_multiple}
 use Rattle.ffi3_place_rules.specs.Standard.{block_bytes}
 use Rattle.ffi3_body.specs.Sum.{sum_signature, narrow_signature}
 
-sum_arguments : (j : ℕ) → j < length sum_signature.arguments → HasNoFault 0 false (tree_at sum_signature.arguments j)
+sum_arguments : (j : ℕ) → j < length sum_signature.arguments → IsArgumentType (tree_at sum_signature.arguments j)
 sum_arguments zero h = scalar_faults s64
 sum_arguments (suc zero) h = scalar_faults s64
 sum_arguments (suc (suc zero)) h = scalar_faults s64
@@ -19,7 +19,7 @@ pub sum_right : SignatureHasNoFault sum_signature
 sum_right =
     right_with_no_fixed sum_signature (omega arith) (scalar_faults s64) sum_arguments refl
 
-narrow_arguments : (j : ℕ) → j < length narrow_signature.arguments → HasNoFault 0 false (tree_at narrow_signature.arguments j)
+narrow_arguments : (j : ℕ) → j < length narrow_signature.arguments → IsArgumentType (tree_at narrow_signature.arguments j)
 narrow_arguments zero h = scalar_faults s8
 narrow_arguments (suc zero) h = scalar_faults s16
 narrow_arguments (suc (suc j)) h = absurd (omega arith)

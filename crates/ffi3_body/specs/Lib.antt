@@ -1,4 +1,4 @@
 pub mod MoveOf
-pub mod Activation
+pub mod SeenActivation
 pub mod Follow
 pub mod Sum

@@ -7,7 +7,7 @@ ghost use Rattle.ffi3_type_rules.specs.Signature.{Signature, signature_at, Signa
 ghost use Rattle.ffi3_type_rules.specs.Value.{ValueTree};
 ghost use Rattle.ffi3_run_rules.specs.Move.{Behaviour, MoveFits};
 ghost use Rattle.ffi3_body.specs.MoveOf.{move_of};
-ghost use Rattle.ffi3_body.specs.Activation.{arguments_of};
+ghost use Rattle.ffi3_body.specs.SeenActivation.{arguments_of};
 ghost use Rattle.ffi3_body.specs.Follow.{ResultsFollow};
 
 mod seen;

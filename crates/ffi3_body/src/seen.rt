@@ -3,12 +3,12 @@ ghost use Rattle.std.specs.Prelude.{◌≡◌, ◌+◌, ◌<◌, ◌≤◌, ◌^
 ghost use Rattle.ffi3_type_rules.specs.Tree.{tree_at, trees_of};
 ghost use Rattle.ffi3_type_rules.specs.Value.{void_value, values_of, fits, all_fit};
 ghost use Rattle.ffi3_type_rules.specs.Layout.{size_of};
-ghost use Rattle.ffi3_type_rules.specs.Fault.{HasNoFault};
+ghost use Rattle.ffi3_type_rules.specs.Fault.{IsResultType};
 ghost use Rattle.ffi3_type_rules.specs.Signature.{SignatureHasNoFault};
 ghost use Rattle.ffi3_place_rules.specs.Standard.{block_bytes, round8};
 ghost use Rattle.ffi3_types.specs.TreeOf.{tree_of};
 ghost use Rattle.ffi3_values.specs.ValueOf.{value_of};
-ghost use Rattle.ffi3_body.specs.Activation.{argument_bytes, arguments_of, block_offset};
+ghost use Rattle.ffi3_body.specs.SeenActivation.{argument_bytes, arguments_of, block_offset};
 
 use ffi3_type_rules::round_up;
 use ffi3_types::{FfiType, NoMemory, Sig};
@@ -29,9 +29,9 @@ impl<'a> Model for Seen<'a> {
     ghost use Rattle.std.specs.Prelude.{◌≡◌, length};
     ghost use Rattle.ffi3_type_rules.specs.Signature.{SignatureHasNoFault};
     ghost use Rattle.ffi3_place_rules.specs.Standard.{block_bytes};
-    ghost use Rattle.ffi3_body.specs.Activation.{Activation, activation_code};
+    ghost use Rattle.ffi3_body.specs.SeenActivation.{SeenActivation, activation_code};
 
-    ghost Value = { Activation };
+    ghost Value = { SeenActivation };
 
     ghost coded = { activation_code };
 
@@ -69,7 +69,7 @@ impl<'a> Seen<'a> {
     fn arg_type(&self, i: u32) -> &'a FfiType
         requires { i < length self.now.signature.arguments }
         ensures is { tree_of result.now ≡ tree_at self.now.signature.arguments i }
-        ensures right { HasNoFault 0 true (tree_of result.now) }
+        ensures right { IsResultType (tree_of result.now) }
         ensures small { size_of (tree_of result.now) ≤ 1024 }
         ensures within { block_offset self.now.signature.arguments i + round8 (size_of (tree_of result.now)) ≤ length self.now.block }
         ensures bound { length self.now.block < 2 ^ 32 }

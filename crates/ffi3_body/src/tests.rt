@@ -2,7 +2,7 @@
 ghost use Rattle.std.specs.Prelude.{◌≡◌, ◌<◌, ◌∷◌, [], IfOk, All, length};
 ghost use Rattle.ffi3_type_rules.specs.Signature.{signature_at, SignatureHasNoFault};
 ghost use Rattle.ffi3_body.specs.MoveOf.{move_of};
-ghost use Rattle.ffi3_body.specs.Activation.{arguments_of};
+ghost use Rattle.ffi3_body.specs.SeenActivation.{arguments_of};
 ghost use Rattle.ffi3_body.specs.Follow.{ResultsFollow};
 ghost use Rattle.ffi3_body.specs.Sum.{sum_signature, sum_behaviour, narrow_signature};
 ghost use Rattle.ffi3_run_rules.specs.Move.{MoveFits};

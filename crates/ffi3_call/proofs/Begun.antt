@@ -14,7 +14,7 @@ use Rattle.ffi3_run_rules.specs.Closures.{Closures, closure_at}
 use Rattle.ffi3_type_rules.specs.declared.limits.TheConstants.{STACK, STACK_TOP, ENTRY, RETURN}
 use Rattle.ffi3_type_rules.specs.Isa.{isa_of}
 use Rattle.ffi3_place_rules.specs.Isa.{pushed_bytes}
-use Rattle.ffi3_machine.specs.State.{State, IsMachine, IsReturn, LieInStack, called, entered, linked_stack, with_room}
+use Rattle.ffi3_machine.specs.State.{State, IsMachine, HasReturnAddress, LieInStack, called, after_enter, linked_stack, with_room}
 use Rattle.ffi3_closures.specs.Reaching.{reached}
 use Rattle.ffi3_closures.specs.Slots.{HoldsMap}
 use Rattle.ffi3_call.specs.Registers.{IsInRegisters, AreLow, preserved_register}
@@ -47,7 +47,7 @@ below-linked sp stack address count long low high bottom below =
 module _ (s : Signature) (vs : List ValueTree) (pointer : ℕ) (m : State) (regs : IsInRegisters s) where
   -- the callee's side begins here
   abbrev entered_there : State
-  entered_there = entered 8 (at_entry s vs pointer m)
+  entered_there = after_enter 8 (at_entry s vs pointer m)
 
   abbrev callee_there : State
   callee_there = received s entered_there
@@ -72,20 +72,20 @@ module _ (s : Signature) (vs : List ValueTree) (pointer : ℕ) (m : State) (regs
     entry_has_bytes =
         let spare : m4.spare_bytes ≡ m.spare_bytes + 2 * 8 = ap (λ x. x.spare_bytes) at in omega (arith, spare)
 
-    pub callee_below_top : (m5 : State) → m5 ≡ entered 8 m4 → m.sp ≤ STACK_TOP → m5.sp ≤ STACK_TOP
+    pub callee_below_top : (m5 : State) → m5 ≡ after_enter 8 m4 → m.sp ≤ STACK_TOP → m5.sp ≤ STACK_TOP
     callee_below_top m5 enters high =
-        let sp : m5.sp ≡ m.sp - 8 = ap (λ x. x.sp) (enters ∙ ap (entered 8) at) in
+        let sp : m5.sp ≡ m.sp - 8 = ap (λ x. x.sp) (enters ∙ ap (after_enter 8) at) in
         omega (arith, sp, high)
 
-    pub callee_has_room : (m5 : State) → m5 ≡ entered 8 m4 → STACK + need_of amd64 s ≤ m.sp → STACK + 56 + block_bytes s ≤ m5.sp
+    pub callee_has_room : (m5 : State) → m5 ≡ after_enter 8 m4 → STACK + need_of amd64 s ≤ m.sp → STACK + 56 + block_bytes s ≤ m5.sp
     callee_has_room m5 enters room =
-        let sp : m5.sp ≡ m.sp - 8 = ap (λ x. x.sp) (enters ∙ ap (entered 8) at) in
+        let sp : m5.sp ≡ m.sp - 8 = ap (λ x. x.sp) (enters ∙ ap (after_enter 8) at) in
         let need = need-is s regs in
         omega (arith, sp, need, room)
 
   -- ---- the call
 
-  module _ (fit : all_fit (trees_of s.arguments) (values_of vs) ≡ true) (low : AreLow (length s.arguments) s.arguments vs) (machine : IsMachine m) (room : STACK + need_of amd64 s ≤ m.sp) (high : m.sp ≤ STACK_TOP) (address : IsReturn (at_entry s vs pointer m)) where
+  module _ (fit : all_fit (trees_of s.arguments) (values_of vs) ≡ true) (low : AreLow (length s.arguments) s.arguments vs) (machine : IsMachine m) (room : STACK + need_of amd64 s ≤ m.sp) (high : m.sp ≤ STACK_TOP) (address : HasReturnAddress (at_entry s vs pointer m)) where
     below_sp : STACK + 64 + block_bytes s ≤ m.sp
     below_sp = let need = need-is s regs in omega (arith, need, room)
 
@@ -143,23 +143,23 @@ entry-is s vs pointer m m1 m2 m3 m4 target rooms stores calls reaches =
     reaches ∙ ap reached (calls ∙ ap (called pointer) (stores ∙ ap (with_arguments s vs) (rooms ∙ ap (with_room 8) (is_on_amd64 m target))))
 
 -- THE CALL HAS BEGUN
-pub begun : (s : Signature) (vs : List ValueTree) (pointer : ℕ) (m m3 m4 m5 m6 : State) → IsInRegisters s → all_fit (trees_of s.arguments) (values_of vs) ≡ true → AreLow (length s.arguments) s.arguments vs → IsMachine m → STACK + need_of amd64 s ≤ m.sp → m.sp ≤ STACK_TOP → m.target ≡ Amd64 → IsReturn m3 → m4 ≡ reached m3 → m4 ≡ at_entry s vs pointer m → m5 ≡ entered 8 m4 → m6 ≡ received s m5 → HasBegun s vs pointer m m6
+pub begun : (s : Signature) (vs : List ValueTree) (pointer : ℕ) (m m3 m4 m5 m6 : State) → IsInRegisters s → all_fit (trees_of s.arguments) (values_of vs) ≡ true → AreLow (length s.arguments) s.arguments vs → IsMachine m → STACK + need_of amd64 s ≤ m.sp → m.sp ≤ STACK_TOP → m.target ≡ Amd64 → HasReturnAddress m3 → m4 ≡ reached m3 → m4 ≡ at_entry s vs pointer m → m5 ≡ after_enter 8 m4 → m6 ≡ received s m5 → HasBegun s vs pointer m m6
 begun s vs pointer m m3 m4 m5 m6 regs fit low machine room high target address reaches at enters receives =
     let same = is_on_amd64 m target in
-    let is : m6 ≡ received s (entered 8 (at_entry s vs pointer m)) = receives ∙ ap (received s) (enters ∙ ap (entered 8) at) in
+    let is : m6 ≡ received s (after_enter 8 (at_entry s vs pointer m)) = receives ∙ ap (received s) (enters ∙ ap (after_enter 8) at) in
     let on : m3.target ≡ Amd64 = sym (ap (λ x. x.target) reaches) ∙ ap (λ x. x.target) at in
     let P : State → Type 0 = λ x. HasBegun s vs pointer x m6 in
     let Q : State → Type 0 = λ x. HasBegun s vs pointer (on_amd64 m) x in
-    let R : State → Type 0 = λ x. IsReturn x in
-    let reached_address : IsReturn m4 = subst R (sym reaches) (same_return m3 on address) in
+    let R : State → Type 0 = λ x. HasReturnAddress x in
+    let reached_address : HasReturnAddress m4 = subst R (sym reaches) (same_return m3 on address) in
     subst P (sym same) (subst Q (sym is) (begun_there s vs pointer m regs fit low machine room high (subst R at reached_address)))
   where
     -- a trampoline leaves the return address
-    same_return : (x : State) → x.target ≡ Amd64 → IsReturn x → IsReturn (reached x)
+    same_return : (x : State) → x.target ≡ Amd64 → HasReturnAddress x → HasReturnAddress (reached x)
     same_return x on back =
         let here = is_on_amd64 x on in
-        let R : State → Type 0 = λ y. IsReturn y in
-        let T : State → Type 0 = λ y. IsReturn (reached y) in
+        let R : State → Type 0 = λ y. HasReturnAddress y in
+        let T : State → Type 0 = λ y. HasReturnAddress (reached y) in
         subst T (sym here) (subst R here back)
 
 -- ---- what the first steps ask of the machine

@@ -10,7 +10,7 @@ use Rattle.ffi3_type_rules.specs.Value.{ValueTree, values_of, value_in, all_fit,
 use Rattle.ffi3_type_rules.proofs.ValueElements.{fitting_lengths, fitting_element}
 use Rattle.ffi3_place_rules.specs.Standard.{block_bytes}
 use Rattle.ffi3_amd64_rules.specs.Amd64.{argument_register}
-use Rattle.ffi3_body.specs.Activation.{block_offset, arguments_in}
+use Rattle.ffi3_body.specs.SeenActivation.{block_offset, arguments_in}
 use Rattle.ffi3_body.proofs.Blocks.{arguments_by_each}
 use Rattle.ffi3_type_rules.specs.declared.limits.TheConstants.{STACK, STACK_TOP}
 use Rattle.ffi3_machine.specs.State.{State, stack_at, with_sp}

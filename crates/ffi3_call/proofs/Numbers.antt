@@ -8,20 +8,20 @@ use Rattle.std.proofs.lemmas.List.Sums.{sum_by-cons, sum_by_push}
 use Rattle.ffi3_type_rules.specs.Tree.{Tree, void, scalar, left_out, structure, tree_at, u8, s8, u16, s16, u32, s32, u64, s64, float, double, pointer}
 use Rattle.ffi3_type_rules.specs.Layout.{size_of, scalar_size, least_multiple}
 use Rattle.ffi3_type_rules.specs.Integer.{is_number_type}
-use Rattle.ffi3_type_rules.specs.Fault.{HasNoFault}
+use Rattle.ffi3_type_rules.specs.Fault.{IsResultType}
 use Rattle.ffi3_type_rules.specs.Signature.{Signature}
 use Rattle.ffi3_type_rules.specs.Value.{ValueTree, void_value, leaf_value, struct_value, bytes_of, value_in, fits}
 use Rattle.ffi3_type_rules.proofs.Faults.{scalar_faults, void_faults}
 use Rattle.ffi3_type_rules.proofs.Widened.{take-widened}
 use Rattle.ffi3_type_rules.proofs.Layouts.{scalar_size-bounds, least_multiple-above}
 use Rattle.ffi3_place_rules.specs.Standard.{round8, round16, block_bytes}
-use Rattle.ffi3_body.specs.Activation.{block_offset}
+use Rattle.ffi3_body.specs.SeenActivation.{block_offset}
 use Rattle.ffi3_call.specs.Registers.{is_void, is_number_or_void, IsInRegisters, IsLow}
 
 -- ---- types
 
 -- an integer or a pointer has no fault, of any place
-pub number-right : (t : Tree) → is_number_type t ≡ true → HasNoFault 0 true t
+pub number-right : (t : Tree) → is_number_type t ≡ true → IsResultType t
 number-right void is = cc
 number-right (scalar s) is = scalar_faults s
 number-right (left_out k) is = cc
@@ -40,10 +40,10 @@ result-number (scalar s) is some = is
 result-number (left_out k) is some = cc
 result-number (structure ts) is some = cc
 
-void_right : HasNoFault 0 true void
+void_right : IsResultType void
 void_right path f fault = let inside = (void_faults path f fault).2 in cc
 
-pub result-right : (t : Tree) → is_number_or_void t ≡ true → HasNoFault 0 true t
+pub result-right : (t : Tree) → is_number_or_void t ≡ true → IsResultType t
 result-right void is = void_right
 result-right (scalar s) is = scalar_faults s
 result-right (left_out k) is = cc

@@ -15,7 +15,7 @@ use Rattle.ffi3_run_rules.specs.Journal as journal
 use Rattle.ffi3_type_rules.specs.declared.limits.TheConstants.{STACK, STACK_TOP}
 use Rattle.ffi3_type_rules.specs.Isa.{isa_of}
 use Rattle.ffi3_place_rules.specs.Isa.{pushed_bytes}
-use Rattle.ffi3_machine.specs.State.{State, IsReturn, LieInStack, image_of, left, returned, stack_at}
+use Rattle.ffi3_machine.specs.State.{State, HasReturnAddress, LieInStack, image_of, after_leave, returned, stack_at}
 use Rattle.ffi3_call.specs.Registers.{IsInRegisters, IsLowResult, is_void, is_number_or_void, preserved_register, word_of}
 use Rattle.ffi3_call.specs.Steps.{given_back, word_address, word_from}
 use Rattle.ffi3_call.specs.Calls.{IsInCallee, IsCalled, HasEnded}
@@ -82,7 +82,7 @@ module _ (s : Signature) (v : ValueTree) (m : State) where
             stack = sym (no_frame s regs);
           }
 
-      ended_there : 1 ≤ m.spare_events → HasEnded s v (on_amd64 m) (left 0 back)
+      ended_there : 1 ≤ m.spare_events → HasEnded s v (on_amd64 m) (after_leave 0 back)
       ended_there room = record {
         return = return_event;
         events = refl;
@@ -96,18 +96,18 @@ module _ (s : Signature) (v : ValueTree) (m : State) where
       }
 
 -- THE CALL HAS ENDED
-pub ended : (s : Signature) (v : ValueTree) (m given after : State) → IsInRegisters s → fits s.result_type v ≡ true → IsLowResult s.result_type v → m.target ≡ Amd64 → 1 ≤ m.spare_events → length m.general ≡ 32 → given ≡ given_back s v m → after ≡ left 0 given → HasEnded s v m after
+pub ended : (s : Signature) (v : ValueTree) (m given after : State) → IsInRegisters s → fits s.result_type v ≡ true → IsLowResult s.result_type v → m.target ≡ Amd64 → 1 ≤ m.spare_events → length m.general ≡ 32 → given ≡ given_back s v m → after ≡ after_leave 0 given → HasEnded s v m after
 ended s v m given after regs fit low target room registers gives left_by =
     let same = is_on_amd64 m target in
-    let is : after ≡ left 0 (back s v m) = left_by ∙ ap (left 0) (gives ∙ ap (given_back s v) same) in
+    let is : after ≡ after_leave 0 (back s v m) = left_by ∙ ap (after_leave 0) (gives ∙ ap (given_back s v) same) in
     let P : State → Type 0 = λ x. HasEnded s v x after in
     let Q : State → Type 0 = λ x. HasEnded s v (on_amd64 m) x in
     subst P (sym same) (subst Q (sym is) (ended_there s v m registers regs fit low room))
 
 -- what the caller loads is the result
-pub loaded_back : (s : Signature) (v : ValueTree) (m given after : State) → IsInRegisters s → fits s.result_type v ≡ true → IsLowResult s.result_type v → m.target ≡ Amd64 → length m.general ≡ 32 → given ≡ given_back s v m → after ≡ left 0 given → value_in s.result_type (take (size_of s.result_type) (to_le_bytes w64 (get_or after.general 0 0))) ≡ v
+pub loaded_back : (s : Signature) (v : ValueTree) (m given after : State) → IsInRegisters s → fits s.result_type v ≡ true → IsLowResult s.result_type v → m.target ≡ Amd64 → length m.general ≡ 32 → given ≡ given_back s v m → after ≡ after_leave 0 given → value_in s.result_type (take (size_of s.result_type) (to_le_bytes w64 (get_or after.general 0 0))) ≡ v
 loaded_back s v m given after regs fit low target registers gives left_by =
-    let is : after ≡ left 0 (back s v m) = left_by ∙ ap (left 0) (gives ∙ ap (given_back s v) (is_on_amd64 m target)) in
+    let is : after ≡ after_leave 0 (back s v m) = left_by ∙ ap (after_leave 0) (gives ∙ ap (given_back s v) (is_on_amd64 m target)) in
     loaded s.result_type v (get_or after.general 0 0) regs.result_type fit (λ some. ap (λ x. get_or x.general 0 0) is ∙ result_there s v m registers some) low
 
 -- ---- what a return asks of the machine
@@ -119,10 +119,10 @@ module _ (s : Signature) (v : ValueTree) (m given : State) (called : IsCalled s 
   given_is : given ≡ back s v m
   given_is = gives ∙ ap (given_back s v) (is_on_amd64 m in_callee.target)
 
-  pub return_address_back : IsReturn given
+  pub return_address_back : HasReturnAddress given
   return_address_back =
       let sp : m.sp + block_bytes s + 56 ≡ called.0.image.sp = in_callee.sp in
-      let P : State → Type 0 = λ x. IsReturn x in
+      let P : State → Type 0 = λ x. HasReturnAddress x in
       let bottom : STACK ≤ m.sp = in_callee.bottom in
       subst P (sym given_is) ((omega (arith, sp, bottom)), ap (λ a. stack_at a 8 m) sp ∙ in_callee.return_address)
 

@@ -10,7 +10,7 @@ use Rattle.ffi3_place_rules.specs.Image.{register}
 use Rattle.ffi3_place_rules.specs.Standard.{need_of, block_bytes}
 use Rattle.ffi3_amd64_rules.specs.Amd64.{amd64}
 use Rattle.ffi3_run_rules.specs.Journal.{Entered, needs, IsEntry, IsReturn}
-use Rattle.ffi3_body.specs.Activation.{arguments_in}
+use Rattle.ffi3_body.specs.SeenActivation.{arguments_in}
 use Rattle.ffi3_type_rules.specs.declared.limits.TheConstants.{RETURN, STACK, STACK_TOP}
 use Rattle.ffi3_machine.specs.State.{State, stack_at}
 use Rattle.ffi3_call.specs.Registers.{preserved_register}

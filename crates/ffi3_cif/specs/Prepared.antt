@@ -5,6 +5,6 @@ use Rattle.ffi3_cif.specs.declared.PrepFault.{PrepFault}
 use Rattle.ffi3_cif.specs.declared.PrepFault.TheVariants.{Sig, NoMemory}
 
 -- the signature's first fault; want of memory only where it has none
-abbrev pub IsRefusal : Signature → PrepFault → Type 0
-IsRefusal s (Sig fault) = IsFirstSignatureFault s (signature_fault_of fault)
-IsRefusal s NoMemory = SignatureHasNoFault s
+abbrev pub IsPrepRefusal : Signature → PrepFault → Type 0
+IsPrepRefusal s (Sig fault) = IsFirstSignatureFault s (signature_fault_of fault)
+IsPrepRefusal s NoMemory = SignatureHasNoFault s

@@ -5,7 +5,7 @@ ghost use Rattle.std.specs.Prelude.{◌≡◌, ◌<◌, length, IfOk, IfErr, IsS
 ghost use Rattle.ffi3_type_rules.specs.Signature.{SignatureHasNoFault};
 ghost use Rattle.ffi3_types.specs.TreeOf.{tree_of};
 ghost use Rattle.ffi3_place_rules.specs.Standard.{plan_of};
-ghost use Rattle.ffi3_cif.specs.Prepared.{IsRefusal};
+ghost use Rattle.ffi3_cif.specs.Prepared.{IsPrepRefusal};
 ghost use Rattle.ffi3_cif.specs.Runs.{AreRunsOf, pieces_of};
 
 mod runs;
@@ -120,7 +120,7 @@ impl<A: Abi> Cif<A> {
 fn prepare<A: Abi>(alloc: Global, sig: Sig) -> Result<Cif<A>, PrepFault>
     ensures ok { IfOk result (λ c. c ≡ sig) }
     ensures faultless { IfOk result (λ c. SignatureHasNoFault c) }
-    ensures err { IfErr result (λ f. IsRefusal sig f) }
+    ensures err { IfErr result (λ f. IsPrepRefusal sig f) }
 {
     if let Err(fault) = check_sig(&sig) {
         return Err(PrepFault::Sig(fault));
@@ -143,7 +143,7 @@ fn prepare<A: Abi>(alloc: Global, sig: Sig) -> Result<Cif<A>, PrepFault>
 pub fn prep_cif<A: Abi>(alloc: Global, ret: FfiType, args: Fields) -> Result<Cif<A>, PrepFault>
     ensures ok { IfOk result (λ c. c ≡ record { result_type = tree_of ret; arguments = args; fixed = None }) }
     ensures faultless { IfOk result (λ c. SignatureHasNoFault c) }
-    ensures err { IfErr result (λ f. IsRefusal (record { result_type = tree_of ret; arguments = args; fixed = None }) f) }
+    ensures err { IfErr result (λ f. IsPrepRefusal (record { result_type = tree_of ret; arguments = args; fixed = None }) f) }
 {
     prepare::<A>(alloc, Sig::new(ret, args, None))
 }
@@ -157,7 +157,7 @@ pub fn prep_cif_var<A: Abi>(
 ) -> Result<Cif<A>, PrepFault>
     ensures ok { IfOk result (λ c. c ≡ record { result_type = tree_of ret; arguments = args; fixed = Some fixed }) }
     ensures faultless { IfOk result (λ c. SignatureHasNoFault c) }
-    ensures err { IfErr result (λ f. IsRefusal (record { result_type = tree_of ret; arguments = args; fixed = Some fixed }) f) }
+    ensures err { IfErr result (λ f. IsPrepRefusal (record { result_type = tree_of ret; arguments = args; fixed = Some fixed }) f) }
 {
     prepare::<A>(alloc, Sig::new(ret, args, Some(fixed)))
 }

@@ -8,7 +8,7 @@ use Rattle.ffi3_type_rules.specs.Signature.{Signature, SignatureFault, IsFirstSi
 use Rattle.ffi3_script_rules.specs.Language.{Path, Reason, Read, read, fault, and_then, read_map, check_object, signature_keys, read_type, read_types, read_fixed, value_under, under, read_shapes, read_signature, unless_faulty, place_of_fault, reason_of_fault}
 use Rattle.ffi3_script_rules.proofs.FirstSignatureFaults.{signature_found_by_first, signature_none_found, one_first_signature_fault}
 use Rattle.ffi3_script_rules.specs.SignatureRefusal.{IsNoSignature}
-use Rattle.ffi3_json.specs.Told.{Tells}
+use Rattle.ffi3_json.specs.Reports.{Reports}
 use Rattle.ffi3_json.specs.declared.fault.ScriptFault.{ScriptFault}
 use Rattle.ffi3_json.proofs.Tellings.{tells_more, tells_part, tells_made}
 
@@ -57,13 +57,13 @@ pub shapes-all : (d : Data) (path : Path) (t : Tree) (ts : List Tree) (n : Optio
 shapes-all d path t ts n e0 e1 e2 e3 = shapes-most d path t ts e0 e1 e2 ∙ ap (λ x. read_map (λ fixed. record { result_type = t; arguments = ts; fixed = fixed }) x) e3
 
 -- a fault of the shapes is the signature's
-pub tells_shape : (d : Data) (path : Path) (e : ScriptFault) → Tells (λ p r. read_shapes d path ≡ fault p r) e → Tells (λ p r. read_signature d path ≡ fault p r) e
+pub tells_shape : (d : Data) (path : Path) (e : ScriptFault) → Reports (λ p r. read_shapes d path ≡ fault p r) e → Reports (λ p r. read_signature d path ≡ fault p r) e
 tells_shape d path e t =
     tells_part (read_signature d path) (read_shapes d path) (λ p r is. then_fault _ (read_shapes d path) p r is) e t
 
 -- so is the first fault of a signature whose shapes were read
 pub tells_own : (d : Data) (path : Path) (s : Signature) (f : SignatureFault) → read_shapes d path ≡ read s → IsFirstSignatureFault s f
-    → (e : ScriptFault) → Tells (λ p r. (p ≡ place_of_fault path f) × (r ≡ reason_of_fault f)) e → Tells (λ p r. read_signature d path ≡ fault p r) e
+    → (e : ScriptFault) → Reports (λ p r. (p ≡ place_of_fault path f) × (r ≡ reason_of_fault f)) e → Reports (λ p r. read_signature d path ≡ fault p r) e
 tells_own d path s f shapes first e t =
     tells_made (read_signature d path) (place_of_fault path f) (reason_of_fault f) (then_read _ (read_shapes d path) s shapes ∙ ap (unless_faulty path s) (signature_found_by_first s f first)) e t
 
@@ -74,10 +74,10 @@ read_right d path s shapes right =
 
 -- ---- the same by the order of faults
 
-pub tells_no_shape : (d : Data) (path : Path) (e : ScriptFault) → Tells (λ p r. read_shapes d path ≡ fault p r) e → Tells (IsNoSignature d path) e
+pub tells_no_shape : (d : Data) (path : Path) (e : ScriptFault) → Reports (λ p r. read_shapes d path ≡ fault p r) e → Reports (IsNoSignature d path) e
 tells_no_shape d path e t = tells_more {P = λ p r. read_shapes d path ≡ fault p r} {Q = IsNoSignature d path} (λ p r is. inl is) e t
 
 pub tells_first : (d : Data) (path : Path) (s : Signature) (f : SignatureFault) → read_shapes d path ≡ read s → IsFirstSignatureFault s f
-    → (e : ScriptFault) → Tells (λ p r. (p ≡ place_of_fault path f) × (r ≡ reason_of_fault f)) e → Tells (IsNoSignature d path) e
+    → (e : ScriptFault) → Reports (λ p r. (p ≡ place_of_fault path f) × (r ≡ reason_of_fault f)) e → Reports (IsNoSignature d path) e
 tells_first d path s f shapes first e t =
     tells_more {P = λ p r. (p ≡ place_of_fault path f) × (r ≡ reason_of_fault f)} {Q = IsNoSignature d path} (λ p r is. inr (s, shapes, record { first = f; is_first = first; alone = λ other o. one_first_signature_fault s other f o first; stands = is.0; tells = is.1 })) e t

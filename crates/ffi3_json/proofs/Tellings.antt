@@ -2,11 +2,11 @@
 use Rattle.std.proofs.Common.{◌≡◌, sym, ◌∙◌}
 use Rattle.ffi3_script_rules.specs.Language.{Path, Reason, Read, fault}
 use Rattle.ffi3_json.specs.ReasonOf.{reason_of}
-use Rattle.ffi3_json.specs.Told.{Tells}
+use Rattle.ffi3_json.specs.Reports.{Reports}
 use Rattle.ffi3_json.specs.declared.fault.ScriptFault.{ScriptFault}
 use Rattle.ffi3_json.specs.declared.fault.ScriptFault.TheVariants.{TooLong, BadJson, BadScript, NoMemory}
 
-pub tells_more : {P Q : Path → Reason → Type 0} → ((p : Path) (r : Reason) → P p r → Q p r) → (e : ScriptFault) → Tells P e → Tells Q e
+pub tells_more : {P Q : Path → Reason → Type 0} → ((p : Path) (r : Reason) → P p r → Q p r) → (e : ScriptFault) → Reports P e → Reports Q e
 tells_more f TooLong t = t
 tells_more f BadJson t = t
 tells_more f (BadScript path why) t = f path (reason_of why) t
@@ -16,14 +16,14 @@ pub same_fault : {A : Type 0} {p q : Path} {r s : Reason} → p ≡ q → r ≡ 
 same_fault e f = λ i. fault (sym e i) (sym f i)
 
 -- the fault is that which was made at the place
-pub tells_made : {A : Type 0} (x : Read A) (at : Path) (why : Reason) → x ≡ fault at why → (e : ScriptFault) → Tells (λ p r. (p ≡ at) × (r ≡ why)) e → Tells (λ p r. x ≡ fault p r) e
+pub tells_made : {A : Type 0} (x : Read A) (at : Path) (why : Reason) → x ≡ fault at why → (e : ScriptFault) → Reports (λ p r. (p ≡ at) × (r ≡ why)) e → Reports (λ p r. x ≡ fault p r) e
 tells_made x at why is TooLong t = t
 tells_made x at why is BadJson t = t
 tells_made x at why is (BadScript path reason) t = is ∙ same_fault t.0 t.1
 tells_made x at why is NoMemory t = tt
 
 -- the fault is that of a part
-pub tells_part : {A B : Type 0} (x : Read A) (y : Read B) → ((p : Path) (r : Reason) → y ≡ fault p r → x ≡ fault p r) → (e : ScriptFault) → Tells (λ p r. y ≡ fault p r) e → Tells (λ p r. x ≡ fault p r) e
+pub tells_part : {A B : Type 0} (x : Read A) (y : Read B) → ((p : Path) (r : Reason) → y ≡ fault p r → x ≡ fault p r) → (e : ScriptFault) → Reports (λ p r. y ≡ fault p r) e → Reports (λ p r. x ≡ fault p r) e
 tells_part x y f TooLong t = t
 tells_part x y f BadJson t = t
 tells_part x y f (BadScript path reason) t = f path (reason_of reason) t

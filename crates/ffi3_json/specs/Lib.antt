@@ -1,5 +1,5 @@
 pub mod StepOf
 pub mod KeyOf
 pub mod ReasonOf
-pub mod Told
+pub mod Reports
 pub mod Within

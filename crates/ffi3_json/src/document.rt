@@ -3,7 +3,7 @@ ghost use Rattle.std.specs.Prelude.{IfOk, IfErr};
 ghost use Rattle.serde_json.specs.View.{view};
 ghost use Rattle.ffi3_script_rules.specs.Language.{HasShortArrays};
 ghost use Rattle.ffi3_script_rules.specs.Reading.{IsJson};
-ghost use Rattle.ffi3_json.specs.Told.{IsCauseOf};
+ghost use Rattle.ffi3_json.specs.Reports.{IsCauseOf};
 ghost use Rattle.ffi3_json.specs.Within.{HasArraysWithin};
 
 use crate::{Json, MAX_LENGTH, ScriptFault};

@@ -1,7 +1,7 @@
 // Why a script was refused.
 ghost use Rattle.std.specs.Prelude.{◌≡◌};
 ghost use Rattle.ffi3_json.specs.ReasonOf.{reason_of};
-ghost use Rattle.ffi3_json.specs.Told.{Tells};
+ghost use Rattle.ffi3_json.specs.Reports.{Reports};
 
 use crate::{NoMemory, Reason, Where};
 use std::alloc::Global;
@@ -36,7 +36,7 @@ impl From<NoMemory> for ScriptFault {
 
 /// The fault of the value at a place, or a want of memory.
 pub fn bad(alloc: Global, at: &Where, why: Reason) -> ScriptFault
-    ensures { Tells (λ p r. (p ≡ at.now) × (r ≡ reason_of why)) result }
+    ensures { Reports (λ p r. (p ≡ at.now) × (r ≡ reason_of why)) result }
 {
     match at.copy(alloc) {
         Ok(path) => ScriptFault::BadScript { path, why },

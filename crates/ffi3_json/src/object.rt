@@ -3,7 +3,7 @@ ghost use Rattle.std.specs.Prelude.{◌≡◌, IfErr, OnOk};
 ghost use Rattle.serde_json.specs.View.{view, members_view};
 ghost use Rattle.ffi3_script_rules.specs.Language as language;
 ghost use Rattle.ffi3_script_rules.specs.Language.{read, has_only};
-ghost use Rattle.ffi3_json.specs.Told.{Tells};
+ghost use Rattle.ffi3_json.specs.Reports.{Reports};
 
 use crate::fault::bad;
 use crate::{Json, Keys, Reason, ScriptFault, Where};
@@ -14,7 +14,7 @@ use std::alloc::Global;
 /// so is the fault; of keys that are missing the first in the order of `keys`.
 pub fn check_object(alloc: Global, value: &Json, keys: &Keys, at: &Where) -> Result<(), ScriptFault>
     ensures ok { OnOk result (language.check_object (view value.now) keys.now at.now ≡ read tt) }
-    ensures err { IfErr result (Tells (λ p r. language.check_object (view value.now) keys.now at.now ≡ language.fault p r)) }
+    ensures err { IfErr result (Reports (λ p r. language.check_object (view value.now) keys.now at.now ≡ language.fault p r)) }
 {
     let Some(members) = value.as_object() else {
         return Err(bad(alloc, at, Reason::NotAnObject));

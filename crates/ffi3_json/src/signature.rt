@@ -10,7 +10,7 @@ ghost use Rattle.ffi3_types.specs.TreeOf.{tree_of};
 ghost use Rattle.ffi3_types.specs.FaultOf.{fault_of};
 ghost use Rattle.ffi3_types.specs.SignatureFaultOf.{signature_fault_of, position_of};
 ghost use Rattle.ffi3_json.specs.ReasonOf.{reason_of};
-ghost use Rattle.ffi3_json.specs.Told.{Tells};
+ghost use Rattle.ffi3_json.specs.Reports.{Reports};
 
 use crate::fault::bad;
 use crate::object::check_object;
@@ -25,12 +25,12 @@ use std::alloc::Global;
 pub fn read_signature(alloc: Global, value: &Json, at: &Where) -> Result<Sig, ScriptFault>
     requires { HasShortArrays (view value.now) }
     ensures ok { IfOk result (λ s. language.read_signature (view value.now) at.now ≡ read s) }
-    ensures err { IfErr result (Tells (λ p r. language.read_signature (view value.now) at.now ≡ language.fault p r)) }
+    ensures err { IfErr result (Reports (λ p r. language.read_signature (view value.now) at.now ≡ language.fault p r)) }
 
     // The same in the order of faults itself: its shapes are read and it has no fault, or the one first fault is told.
     ensures shapes { IfOk result (λ s. read_shapes (view value.now) at.now ≡ read s) }
     ensures right { IfOk result SignatureHasNoFault }
-    ensures first { IfErr result (Tells (IsNoSignature (view value.now) at.now)) }
+    ensures first { IfErr result (Reports (IsNoSignature (view value.now) at.now)) }
 {
     let sig = match read_shapes(alloc, value, at) {
         Ok(sig) => sig,
@@ -46,7 +46,7 @@ pub fn read_signature(alloc: Global, value: &Json, at: &Where) -> Result<Sig, Sc
 fn read_shapes(alloc: Global, value: &Json, at: &Where) -> Result<Sig, ScriptFault>
     requires { HasShortArrays (view value.now) }
     ensures ok { IfOk result (λ s. read_shapes (view value.now) at.now ≡ read s) }
-    ensures err { IfErr result (Tells (λ p r. read_shapes (view value.now) at.now ≡ language.fault p r)) }
+    ensures err { IfErr result (Reports (λ p r. read_shapes (view value.now) at.now ≡ language.fault p r)) }
 {
     let keys = signature_keys(alloc)?;
     if let Err(fault) = check_object(alloc, value, &keys, at) {
@@ -91,7 +91,7 @@ fn signature_keys(alloc: Global) -> Result<Keys, NoMemory>
 fn read_ret(alloc: Global, value: &Json, at: &Where) -> Result<FfiType, ScriptFault>
     requires { HasShortArrays (view value.now) }
     ensures ok { IfOk result (λ t. read_type (value_under (codes "ret") (view value.now)) (under at.now (codes "ret")) ≡ read (tree_of t)) }
-    ensures err { IfErr result (Tells (λ p r. read_type (value_under (codes "ret") (view value.now)) (under at.now (codes "ret")) ≡ language.fault p r)) }
+    ensures err { IfErr result (Reports (λ p r. read_type (value_under (codes "ret") (view value.now)) (under at.now (codes "ret")) ≡ language.fault p r)) }
 {
     let mut place = at.copy(alloc)?;
     place.push_key(alloc, "ret")?;
@@ -108,7 +108,7 @@ fn read_ret(alloc: Global, value: &Json, at: &Where) -> Result<FfiType, ScriptFa
 fn read_args(alloc: Global, value: &Json, at: &Where) -> Result<Fields, ScriptFault>
     requires { HasShortArrays (view value.now) }
     ensures ok { IfOk result (λ ts. read_types (value_under (codes "args") (view value.now)) (under at.now (codes "args")) ≡ read ts) }
-    ensures err { IfErr result (Tells (λ p r. read_types (value_under (codes "args") (view value.now)) (under at.now (codes "args")) ≡ language.fault p r)) }
+    ensures err { IfErr result (Reports (λ p r. read_types (value_under (codes "args") (view value.now)) (under at.now (codes "args")) ≡ language.fault p r)) }
 {
     let mut place = at.copy(alloc)?;
     place.push_key(alloc, "args")?;
@@ -124,7 +124,7 @@ fn read_args(alloc: Global, value: &Json, at: &Where) -> Result<Fields, ScriptFa
 // The number of fixed arguments, where there is one.
 fn read_fixed(alloc: Global, value: &Json, at: &Where) -> Result<Option<u32>, ScriptFault>
     ensures ok { IfOk result (λ n. read_fixed (get (codes "fixed") (view value.now)) (under at.now (codes "fixed")) ≡ read n) }
-    ensures err { IfErr result (Tells (λ p r. read_fixed (get (codes "fixed") (view value.now)) (under at.now (codes "fixed")) ≡ language.fault p r)) }
+    ensures err { IfErr result (Reports (λ p r. read_fixed (get (codes "fixed") (view value.now)) (under at.now (codes "fixed")) ≡ language.fault p r)) }
 {
     let mut place = at.copy(alloc)?;
     place.push_key(alloc, "fixed")?;
@@ -143,7 +143,7 @@ fn read_fixed(alloc: Global, value: &Json, at: &Where) -> Result<Option<u32>, Sc
 
 // The fault of the signature at a place, as that of a script.
 fn told(alloc: Global, at: &Where, fault: &SigFault) -> ScriptFault
-    ensures { Tells (λ p r. (p ≡ place_of_fault at.now (signature_fault_of fault.now)) × (r ≡ reason_of_fault (signature_fault_of fault.now))) result }
+    ensures { Reports (λ p r. (p ≡ place_of_fault at.now (signature_fault_of fault.now)) × (r ≡ reason_of_fault (signature_fault_of fault.now))) result }
 {
     match place_of(alloc, at, fault) {
         Ok(path) => ScriptFault::BadScript {

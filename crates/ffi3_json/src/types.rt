@@ -4,7 +4,7 @@ ghost use Rattle.serde_json.specs.View.{view};
 ghost use Rattle.ffi3_script_rules.specs.Language as language;
 ghost use Rattle.ffi3_script_rules.specs.Language.{read, HasShortArrays};
 ghost use Rattle.ffi3_types.specs.TreeOf.{tree_of};
-ghost use Rattle.ffi3_json.specs.Told.{Tells};
+ghost use Rattle.ffi3_json.specs.Reports.{Reports};
 
 use crate::fault::bad;
 use crate::{Json, NoMemory, Reason, ScriptFault, Where};
@@ -16,7 +16,7 @@ use std::alloc::Global;
 pub fn read_type(alloc: Global, value: &Json, at: &Where) -> Result<FfiType, ScriptFault>
     requires { HasShortArrays (view value.now) }
     ensures ok { IfOk result (λ t. language.read_type (view value.now) at.now ≡ read (tree_of t)) }
-    ensures err { IfErr result (Tells (λ p r. language.read_type (view value.now) at.now ≡ language.fault p r)) }
+    ensures err { IfErr result (Reports (λ p r. language.read_type (view value.now) at.now ≡ language.fault p r)) }
 {
     let mut place = at.copy(alloc)?;
     read_node(alloc, value, &mut place)
@@ -28,7 +28,7 @@ pub fn read_node(alloc: Global, value: &Json, at: &mut Where) -> Result<FfiType,
     requires { HasShortArrays (view value.now) }
     ensures place { OnOk result (at.new ≡ at.old) }
     ensures ok { IfOk result (λ t. language.read_type (view value.now) at.old ≡ read (tree_of t)) }
-    ensures err { IfErr result (Tells (λ p r. language.read_type (view value.now) at.old ≡ language.fault p r)) }
+    ensures err { IfErr result (Reports (λ p r. language.read_type (view value.now) at.old ≡ language.fault p r)) }
 {
     if let Some(name) = value.as_str() {
         return match FfiType::from_name(name) {
@@ -60,7 +60,7 @@ pub(crate) fn read_list(alloc: Global, value: &Json, at: &mut Where) -> Result<F
     requires { HasShortArrays (view value.now) }
     ensures place { OnOk result (at.new ≡ at.old) }
     ensures ok { IfOk result (λ ts. language.read_types (view value.now) at.old ≡ read ts) }
-    ensures err { IfErr result (Tells (λ p r. language.read_types (view value.now) at.old ≡ language.fault p r)) }
+    ensures err { IfErr result (Reports (λ p r. language.read_types (view value.now) at.old ≡ language.fault p r)) }
 {
     let Some(items) = value.as_array() else {
         return Err(bad(alloc, at, Reason::NotAnArray));

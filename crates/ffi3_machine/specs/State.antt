@@ -144,12 +144,12 @@ abbrev pub LieInStack : ℕ → ℕ → Type 0
 LieInStack addr len = 0 < len → (STACK ≤ addr) × (addr + len ≤ STACK_TOP)
 
 -- RETURN is the return address: in the link register, or at sp where a call pushes it (System V psABI AMD64, "The Stack Frame")
-abbrev pub HasReturn : Option ℕ → List ℕ → ℕ → List ℕ → Type 0
-HasReturn None general sp stack = (STACK ≤ sp) × (take 8 (drop (sp - STACK) stack) ≡ to_le_bytes w64 RETURN)
-HasReturn (Some link) general sp stack = get_or general link 0 ≡ RETURN
+abbrev pub HasReturnAt : Option ℕ → List ℕ → ℕ → List ℕ → Type 0
+HasReturnAt None general sp stack = (STACK ≤ sp) × (take 8 (drop (sp - STACK) stack) ≡ to_le_bytes w64 RETURN)
+HasReturnAt (Some link) general sp stack = get_or general link 0 ≡ RETURN
 
-abbrev pub IsReturn : State → Type 0
-IsReturn s = HasReturn (link_register (isa_of s.target)) s.general s.sp s.stack
+abbrev pub HasReturnAddress : State → Type 0
+HasReturnAddress s = HasReturnAt (link_register (isa_of s.target)) s.general s.sp s.stack
 
 abbrev pub linked_general : Option ℕ → List ℕ → List ℕ
 linked_general None general = general
@@ -188,16 +188,16 @@ recorded kind closure len s = record s {
   spare_bytes = s.spare_bytes - len;
 }
 
-abbrev pub entered : ℕ → State → State
-entered len s =
+abbrev pub after_enter : ℕ → State → State
+after_enter len s =
     recorded enters (slice_index s.general (closure_register (isa_of s.target))) len s
 
 -- back at RETURN, the return address popped where it was pushed
 abbrev pub returned : State → State
 returned s = record s { sp = s.sp + pushed_bytes (isa_of s.target); pc = RETURN }
 
-abbrev pub left : ℕ → State → State
-left len s = recorded leaves 0 len (returned s)
+abbrev pub after_leave : ℕ → State → State
+after_leave len s = recorded leaves 0 len (returned s)
 
 abbrev pub with_room : ℕ → State → State
 with_room len s = record s {

@@ -16,17 +16,17 @@ ghost use Rattle.ffi3_machine.specs.State.{
   State,
   IsMachine,
   IsSlot,
-  IsReturn,
+  HasReturnAddress,
   LieInStack,
   begun,
   begun_code,
   begun_stack,
   called,
   code_at,
-  entered,
+  after_enter,
   filled,
   free_word,
-  left,
+  after_leave,
   scribbled,
   scribbled_floating,
   scribbled_general,
@@ -291,7 +291,7 @@ impl Machine {
         requires slot { IsSlot addr }
         requires room { LieInStack (self.old.sp - pushed_bytes (isa_of self.old.target)) (pushed_bytes (isa_of self.old.target)) }
         ensures whole { self.new ≡ called addr self.old }
-        ensures return_address { IsReturn self.new }
+        ensures return_address { HasReturnAddress self.new }
     {
         match link_register(self.target.isa()) {
             Some(link) => self.general[link as usize] = RETURN,
@@ -312,7 +312,7 @@ impl Machine {
         requires stack { LieInStack self.old.sp bytes }
         requires events { 1 ≤ self.old.spare_events }
         requires bytes { bytes ≤ self.old.spare_bytes }
-        ensures { self.new ≡ entered bytes self.old }
+        ensures { self.new ≡ after_enter bytes self.old }
     {
         let event = Event {
             kind: EventKind::Enter,
@@ -328,11 +328,11 @@ impl Machine {
     /// Returns to RETURN, and records it with `bytes` bytes of stack from the sp after it on. These, and what is popped,
     /// lie in the stack.
     pub fn leave(&mut self, bytes: u64)
-        requires address { IsReturn self.old }
+        requires address { HasReturnAddress self.old }
         requires stack { LieInStack self.old.sp (pushed_bytes (isa_of self.old.target) + bytes) }
         requires events { 1 ≤ self.old.spare_events }
         requires bytes { bytes ≤ self.old.spare_bytes }
-        ensures { self.new ≡ left bytes self.old }
+        ensures { self.new ≡ after_leave bytes self.old }
     {
         self.sp += pushed_bytes(self.target.isa());
         self.pc = RETURN;

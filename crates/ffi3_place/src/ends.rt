@@ -1,7 +1,7 @@
 // Where copies and buffers end in the frame of a call, and the plan that ends with them: alike by every standard.
 ghost use Rattle.std.specs.Prelude.{◌≡◌, ◌≤◌, ◌+◌, ℕ, true};
 ghost use Rattle.ffi3_type_rules.specs.Tree.{Tree};
-ghost use Rattle.ffi3_type_rules.specs.Fault.{HasNoFault};
+ghost use Rattle.ffi3_type_rules.specs.Fault.{IsResultType};
 ghost use Rattle.ffi3_type_rules.specs.Signature.{SignatureHasNoFault};
 ghost use Rattle.ffi3_types.specs.TreeOf.{tree_of};
 ghost use Rattle.ffi3_place_rules.specs.Standard.{Spot, ResultSpot, at_once, place_at, copy_end, result_at, buffer_end};
@@ -14,7 +14,7 @@ use ffi3_types::{FfiType, Sig};
 
 /// Where an argument's copy ends. Without one, that is `end`, where what stands before it ends.
 pub fn copy_end(place: &Place, ty: &FfiType, end: u64) -> u64
-    requires { HasNoFault 0 true (tree_of ty.now) }
+    requires { IsResultType (tree_of ty.now) }
     ensures value { (start : ℕ → Tree → ℕ) (spot : Spot) → place.now ≡ place_at start end (tree_of ty.now) spot → result ≡ copy_end start end (tree_of ty.now) spot }
     ensures low { (spot : Spot) → place.now ≡ place_at at_once end (tree_of ty.now) spot → result ≤ end + 1031 }
 {
@@ -26,7 +26,7 @@ pub fn copy_end(place: &Place, ty: &FfiType, end: u64) -> u64
 
 /// Where the buffer of a hidden result ends. Without one, that is `end`, where what stands before it ends.
 pub fn buffer_end(res: &Res, ty: &FfiType, end: u64) -> u64
-    requires right { HasNoFault 0 true (tree_of ty.now) }
+    requires right { IsResultType (tree_of ty.now) }
     requires low { end ≤ 4294967295 }
     ensures value { (start : ℕ → Tree → ℕ) (spot : ResultSpot) → res.now ≡ result_at start end (tree_of ty.now) spot → result ≡ buffer_end start end (tree_of ty.now) spot }
     ensures low { result ≤ 4294968326 }

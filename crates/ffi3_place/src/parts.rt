@@ -4,7 +4,7 @@ ghost use Rattle.std.specs.List.{sum_by};
 ghost use Rattle.ffi3_type_rules.specs.Tree.{Scalar, scalar, tree_at};
 ghost use Rattle.ffi3_type_rules.specs.Layout.{size_of, leaves_of, leaf_at};
 ghost use Rattle.ffi3_type_rules.specs.Integer.{is_floating};
-ghost use Rattle.ffi3_type_rules.specs.Fault.{HasNoFault};
+ghost use Rattle.ffi3_type_rules.specs.Fault.{IsResultType};
 ghost use Rattle.ffi3_type_rules.specs.Signature.{SignatureHasNoFault};
 ghost use Rattle.ffi3_types.specs.TreeOf.{tree_of};
 ghost use Rattle.ffi3_place_rules.specs.Standard.{doubleword, round8};
@@ -31,7 +31,7 @@ pub fn argument(sig: &Sig, i: u32) -> &FfiType
     requires right { SignatureHasNoFault sig.now }
     requires within { i < length sig.now.arguments }
     ensures element { tree_of result.now ≡ tree_at sig.now.arguments i }
-    ensures right { HasNoFault 0 true (tree_of result.now) }
+    ensures right { IsResultType (tree_of result.now) }
 {
     sig.arg(i)
 }
@@ -40,7 +40,7 @@ pub fn argument(sig: &Sig, i: u32) -> &FfiType
 pub fn result_type(sig: &Sig) -> &FfiType
     requires { SignatureHasNoFault sig.now }
     ensures element { tree_of result.now ≡ sig.now.result_type }
-    ensures right { HasNoFault 0 true (tree_of result.now) }
+    ensures right { IsResultType (tree_of result.now) }
 {
     sig.ret()
 }
@@ -62,7 +62,7 @@ pub fn sizes_of(sig: &Sig) -> u64
 
 /// The size of a type without fault, in bytes.
 pub fn size_of(ty: &FfiType) -> u64
-    requires { HasNoFault 0 true (tree_of ty.now) }
+    requires { IsResultType (tree_of ty.now) }
     ensures value { result ≡ size_of (tree_of ty.now) }
     ensures small { result ≤ 1024 }
 {
@@ -71,7 +71,7 @@ pub fn size_of(ty: &FfiType) -> u64
 
 /// How many doublewords a value takes. The last has what is left where the size is no multiple of 8.
 pub fn doublewords(ty: &FfiType) -> u64
-    requires { HasNoFault 0 true (tree_of ty.now) }
+    requires { IsResultType (tree_of ty.now) }
     ensures value { result ≡ doublewords (tree_of ty.now) }
     ensures few { result ≤ 128 }
 {
@@ -107,7 +107,7 @@ pub fn widening(ty: &FfiType) -> Ext
 
 /// Doubleword `j` of a value, in its place: 8 bytes, or what is left of the value. `ext` fills the rest of the place.
 pub fn doubleword(ty: &FfiType, j: u64, loc: Loc, ext: Ext) -> Piece
-    requires right { HasNoFault 0 true (tree_of ty.now) }
+    requires right { IsResultType (tree_of ty.now) }
     requires within { 8 * j < size_of (tree_of ty.now) }
     ensures { result ≡ doubleword loc j (size_of (tree_of ty.now)) ext }
 {
@@ -122,7 +122,7 @@ pub fn doubleword(ty: &FfiType, j: u64, loc: Loc, ext: Ext) -> Piece
 
 /// Leaf `i` of a value, in its place, whose rest `ext` fills.
 pub fn leaf_piece(ty: &FfiType, i: u32, loc: Loc, ext: Ext) -> Piece
-    requires right { HasNoFault 0 true (tree_of ty.now) }
+    requires right { IsResultType (tree_of ty.now) }
     requires in_range { i < length (leaves_of (tree_of ty.now)) }
     ensures { result ≡ leaf_piece loc ext (leaf_at (tree_of ty.now) i) }
 {
@@ -138,7 +138,7 @@ pub fn leaf_piece(ty: &FfiType, i: u32, loc: Loc, ext: Ext) -> Piece
 
 /// A value's doublewords on the stack, from byte `start` of the stack arguments on. A narrow integer is extended by its sign. 66048 bytes is what the arguments before it take at most.
 pub fn pieces_on_stack(alloc: Global, ty: &FfiType, start: u64) -> Result<Pieces, NoMemory>
-    requires right { HasNoFault 0 true (tree_of ty.now) }
+    requires right { IsResultType (tree_of ty.now) }
     requires low { start ≤ 66048 }
     ensures { IfOk result (λ p. p ≡ stack_pieces start (tree_of ty.now)) }
 {

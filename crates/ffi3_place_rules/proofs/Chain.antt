@@ -6,7 +6,7 @@ use Rattle.ffi3_place_rules.specs.Isa.{general_registers, floating_registers}
 use Rattle.ffi3_place_rules.specs.declared.Loc.{Loc}
 use Rattle.ffi3_place_rules.specs.declared.Loc.TheVariants.{G, F, S}
 use Rattle.ffi3_place_rules.specs.declared.Taken.{Taken}
-use Rattle.ffi3_place_rules.specs.Sound.{Apart, AreApart, IsNoneOf, LiesIn, slots}
+use Rattle.ffi3_place_rules.specs.Sound.{Apart, AreApart, IsNoneOf, LiesIn, stack_words}
 
 pub record AtMost (a b : Taken) : Type 0 where
   pub general : a.general ≤ b.general
@@ -113,7 +113,7 @@ module _ (general floating : ℕ → ℕ) (generals floatings : ℕ) where
       one (S n) f u = omega (arith, u, rest.stack, room)
 
 -- copies and buffers, which take stack alone
-pub slots_chain : (general floating : ℕ → ℕ) (generals floatings : ℕ) (a : Taken) (at n : ℕ) (b : Taken) → a.stack ≤ at → at + 8 * n ≤ b.stack → a.general ≤ b.general → a.vector ≤ b.vector → Chain general floating generals floatings a (slots at n) b
+pub slots_chain : (general floating : ℕ → ℕ) (generals floatings : ℕ) (a : Taken) (at n : ℕ) (b : Taken) → a.stack ≤ at → at + 8 * n ≤ b.stack → a.general ≤ b.general → a.vector ≤ b.vector → Chain general floating generals floatings a (stack_words at n) b
 slots_chain general floating generals floatings a at zero b low high g f =
     record { general = g; vector = f; stack = omega arith }
 slots_chain general floating generals floatings a at (suc n) b low high g f = (

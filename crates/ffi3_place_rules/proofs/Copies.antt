@@ -7,14 +7,14 @@ use Rattle.ffi3_type_rules.specs.Signature.{Signature}
 use Rattle.ffi3_place_rules.specs.declared.Place.TheVariants.{ByRef}
 use Rattle.ffi3_place_rules.specs.declared.Res.TheVariants.{Hidden}
 use Rattle.ffi3_place_rules.specs.Standard.{Standard, Spot, in_pieces, by_reference, ResultSpot, no_result, in_result_pieces, in_buffer, place_at, places_from, copy_end, copies_end, result_at, buffer_end, copies_start, frame_copies_end, round8, round16}
-use Rattle.ffi3_place_rules.specs.Copies.{is_by_reference, buffer_size, copies_before, CopiesBySums}
+use Rattle.ffi3_place_rules.specs.Copies.{by_reference_at, buffer_size, copies_before, CopiesBySums}
 
 -- spot i is there
 abbrev HasSpot : List Spot → ℕ → Spot → Type 0
 HasSpot spots i spot = slice_get spots i ≡ Some spot
 
 module _ (start : ℕ → Tree → ℕ) (at_once : (end : ℕ) (t : Tree) → start end t ≡ end) where
-  end_next : (c : ℕ) (ts : List Tree) (spots : List Spot) (i : ℕ) → i < length ts → length spots ≡ length ts → copies_end start c (take (suc i) ts) (take (suc i) spots) ≡ copies_end start c (take i ts) (take i spots) + cond (is_by_reference spots i) (round8 (size_of (tree_at ts i))) 0
+  end_next : (c : ℕ) (ts : List Tree) (spots : List Spot) (i : ℕ) → i < length ts → length spots ≡ length ts → copies_end start c (take (suc i) ts) (take (suc i) spots) ≡ copies_end start c (take i ts) (take i spots) + cond (by_reference_at spots i) (round8 (size_of (tree_at ts i))) 0
   end_next c [] spots i h e = absurd (omega arith)
   end_next c (t ∷ ts) [] i h e = absurd (omega (arith, e))
   end_next c (t ∷ ts) (in_pieces pieces ∷ spots) zero h e = omega arith

@@ -9,7 +9,7 @@ use Rattle.ffi3_place_rules.specs.declared.Ext.{Ext}
 use Rattle.ffi3_place_rules.specs.declared.Taken.{Taken}
 use Rattle.ffi3_place_rules.specs.Standard.{Standard, Spot, in_pieces, by_reference, ResultSpot, no_result, in_result_pieces, in_buffer, places_from, copies_end, result_at, buffer_end, copies_start, frame_copies_end, frame_of, plan_of, round8}
 use Rattle.ffi3_place_rules.specs.Doublewords.{doublewords, doublewords_at, widening, stack_pieces}
-use Rattle.ffi3_place_rules.specs.Sound.{piece_locs, copy_locs, buffer_locs, slots_for}
+use Rattle.ffi3_place_rules.specs.Sound.{piece_locs, copy_locs, buffer_locs, stack_words_for}
 use Rattle.ffi3_place_rules.proofs.Chain.{Chain, chain_append, slots_chain}
 use Rattle.ffi3_place_rules.proofs.Doublewords.{doublewords_in}
 
@@ -43,7 +43,7 @@ module _ (general floating : ℕ → ℕ) (generals floatings : ℕ) where
     copies_chain a end (t ∷ ts) (by_reference at ∷ spots) b low high g f =
         let mid : Taken = record { general = a.general; vector = a.vector; stack = start end t + round8 (size_of t) } in
         let from = behind end t in
-        chain_append general floating generals floatings a (slots_for (start end t) t) mid _ b
+        chain_append general floating generals floatings a (stack_words_for (start end t) t) mid _ b
         (slots_chain general floating generals floatings a (start end t) (doublewords t) mid (omega (arith, low, from)) (omega (arith, doublewords_in (size_of t))) (omega arith) (omega arith))
         (copies_chain mid (start end t + round8 (size_of t)) ts spots b (omega arith) high g f)
 

@@ -6,7 +6,7 @@ use Rattle.ffi3_place_rules.specs.declared.Loc.{Loc}
 use Rattle.ffi3_place_rules.specs.declared.Loc.TheVariants.{G}
 use Rattle.ffi3_place_rules.specs.declared.SaveWord.{SaveWord}
 use Rattle.ffi3_place_rules.specs.declared.SaveWord.TheVariants.{Register, Hidden, Spare}
-use Rattle.ffi3_place_rules.specs.Isa.{pushed_bytes, stack_pointer, link_place, reserved_places, closure_register, trampoline_registers, IsWritten}
+use Rattle.ffi3_place_rules.specs.Isa.{pushed_bytes, stack_pointer, link_place, reserved_places, closure_register, trampoline_registers, TakesWrites}
 use Rattle.ffi3_place_rules.specs.Standard.{Standard}
 use Rattle.ffi3_place_rules.specs.Sound.{AreApart, IsNoneOf, IsOneOf, LiesIn, listed}
 
@@ -42,7 +42,7 @@ pub record AgreesWithMachine (std : Standard) : Type 0 where
   pub closure_register : std.closure_register ≡ closure_register (isa_of std.target)
   pub trampoline : std.trampoline_registers ≡ trampoline_registers (isa_of std.target)
   -- a register to which writes are dropped is reserved
-  pub written : (l : Loc) → IsNoneOf std.reserved l → IsWritten (isa_of std.target) l
+  pub written : (l : Loc) → IsNoneOf std.reserved l → TakesWrites (isa_of std.target) l
   -- preserved registers are registers, differ from one another, and have no other meaning
   pub preserved_exist : AllByRecursion (LiesIn (isa_of std.target) 0) std.preserved
   pub preserved_apart : AreApart std.preserved

@@ -12,11 +12,11 @@ use Rattle.ffi3_place_rules.specs.Standard.{Standard, Spot, in_pieces, by_refere
 use Rattle.ffi3_place_rules.specs.Sums.{sum_below}
 
 -- argument i is passed by reference
-abbrev pub is_by_reference : List Spot → ℕ → Bool
-is_by_reference [] i = false
-is_by_reference (in_pieces pieces ∷ spots) zero = false
-is_by_reference (by_reference at ∷ spots) zero = true
-is_by_reference (spot ∷ spots) (suc i) = is_by_reference spots i
+abbrev pub by_reference_at : List Spot → ℕ → Bool
+by_reference_at [] i = false
+by_reference_at (in_pieces pieces ∷ spots) zero = false
+by_reference_at (by_reference at ∷ spots) zero = true
+by_reference_at (spot ∷ spots) (suc i) = by_reference_at spots i
 
 abbrev pub buffer_size : Tree → ResultSpot → ℕ
 buffer_size t no_result = 0
@@ -26,7 +26,7 @@ buffer_size t (in_buffer at) = round8 (size_of t)
 module _ (std : Standard) (s : Signature) where
   abbrev pub copy_size : ℕ → ℕ
   copy_size i =
-      cond (is_by_reference (std.placing s).arguments i) (round8 (size_of (tree_at s.arguments i))) 0
+      cond (by_reference_at (std.placing s).arguments i) (round8 (size_of (tree_at s.arguments i))) 0
 
   -- where the copies of the arguments before number i end, behind the stack arguments
   abbrev pub copies_before : ℕ → ℕ

@@ -97,15 +97,15 @@ FillArguments m base (t ∷ ts) (p ∷ ps) (v ∷ vs) = FillsArgument m base t p
 FillArguments m base _ _ _ = ⊥
 
 -- a register holds a number, where the standard names one for it
-abbrev pub Tells : Image → Option Loc → ℕ → Type 0
-Tells m (Some at) n = register m at ≡ n
-Tells m None n = ⊤
+abbrev pub RegisterHolds : Image → Option Loc → ℕ → Type 0
+RegisterHolds m (Some at) n = register m at ≡ n
+RegisterHolds m None n = ⊤
 
 -- THE IMAGE AT AN ENTRY HOLDS THE VALUES: they stand at their places, extended as the standard says, and the number of vector registers stands in its register.
 pub record Holds (std : Standard) (s : Signature) (values : List ValueTree) (m : Image) : Type 0 where
   pub own : Own std s values m
   pub filled : FillArguments m std.link s.arguments (plan_of std s).places values
-  pub vectors : Tells m std.vector_count (plan_of std s).vectors
+  pub vectors : RegisterHolds m std.vector_count (plan_of std s).vectors
 
 -- ---- results; what was the frame's start at the call is sp at the return
 
@@ -122,7 +122,7 @@ pub record OwnResult (std : Standard) (s : Signature) (v : ValueTree) (m : Image
 abbrev pub FillsResult : Standard → Image → Tree → Res → ValueTree → Type 0
 FillsResult std m t Nothing v = ⊤
 FillsResult std m t (DirectRes pieces) v = FillPieces m 0 t pieces v
-FillsResult std m t (Hidden at buffer) v = Tells m std.returned_address (m.sp + buffer)
+FillsResult std m t (Hidden at buffer) v = RegisterHolds m std.returned_address (m.sp + buffer)
 
 -- THE IMAGE AT A RETURN HOLDS THE RESULT: it stands at its place, extended as the standard says; a hidden result's address stands in its register.
 pub record HoldsResult (std : Standard) (s : Signature) (v : ValueTree) (m : Image) : Type 0 where

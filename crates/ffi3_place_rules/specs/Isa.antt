@@ -80,10 +80,10 @@ abbrev pub link_place : Isa → Option Loc
 link_place isa = option_map G (link_register isa)
 
 -- a write to the place is not dropped
-abbrev pub IsWritten : Isa → Loc → Type 0
-IsWritten isa (G k) = is_zero_register isa k ≡ false
-IsWritten isa (F k) = ⊤
-IsWritten isa (S n) = ⊤
+abbrev pub TakesWrites : Isa → Loc → Type 0
+TakesWrites isa (G k) = is_zero_register isa k ≡ false
+TakesWrites isa (F k) = ⊤
+TakesWrites isa (S n) = ⊤
 
 -- ---- what a register holds that carries nothing
 

@@ -73,22 +73,22 @@ abbrev pub argument_locs : Plan → List Loc
 argument_locs p = hidden_locs p.res ++ flat_map place_locs p.places
 
 -- so many stack places of eight bytes from an offset on
-abbrev pub slots : ℕ → ℕ → List Loc
-slots at zero = []
-slots at (suc n) = S at ∷ slots (at + 8) n
+abbrev pub stack_words : ℕ → ℕ → List Loc
+stack_words at zero = []
+stack_words at (suc n) = S at ∷ stack_words (at + 8) n
 
-abbrev pub slots_for : ℕ → Tree → List Loc
-slots_for at t = slots at ((size_of t + 7) / 8)
+abbrev pub stack_words_for : ℕ → Tree → List Loc
+stack_words_for at t = stack_words at ((size_of t + 7) / 8)
 
 -- the copies of arguments by reference
 abbrev pub copy_locs : List Tree → List Place → List Loc
-copy_locs (t ∷ ts) (ByRef at copy ∷ ps) = slots_for copy t ++ copy_locs ts ps
+copy_locs (t ∷ ts) (ByRef at copy ∷ ps) = stack_words_for copy t ++ copy_locs ts ps
 copy_locs (t ∷ ts) (Direct pieces ∷ ps) = copy_locs ts ps
 copy_locs _ _ = []
 
 -- the buffer of a hidden result
 abbrev pub buffer_locs : Tree → Res → List Loc
-buffer_locs t (Hidden at buffer) = slots_for buffer t
+buffer_locs t (Hidden at buffer) = stack_words_for buffer t
 buffer_locs t _ = []
 
 -- all that a call's registers and frame carry: places, copies and buffer
@@ -102,12 +102,12 @@ listed (Some at) = at ∷ []
 listed None = []
 
 -- no result stands in these: the stack pointer, the preserved, the reserved and the link register
-abbrev pub no_result : Standard → List Loc
-no_result std = std.stack_pointer ∷ (std.preserved ++ (std.reserved ++ listed std.link_register))
+abbrev pub closed_to_results : Standard → List Loc
+closed_to_results std = std.stack_pointer ∷ (std.preserved ++ (std.reserved ++ listed std.link_register))
 
 -- no argument stands in these or in those that a call itself needs
-abbrev pub no_argument : Standard → List Loc
-no_argument std = no_result std ++ (std.trampoline_registers ++ listed std.vector_count)
+abbrev pub closed_to_arguments : Standard → List Loc
+closed_to_arguments std = closed_to_results std ++ (std.trampoline_registers ++ listed std.vector_count)
 
 -- ---- pieces that have the whole value
 
@@ -200,7 +200,7 @@ pub record IsSound (std : Standard) (s : Signature) : Type 0 where
   pub apart : AreApart (call_locs s (plan_of std s))
   pub in_frame : AllByRecursion (LiesIn (isa_of std.target) (plan_of std s).frame) (call_locs s (plan_of std s))
   pub on_stack : AllByRecursion (LiesIn (isa_of std.target) (std.placing s).stack_bytes) (argument_locs (plan_of std s))
-  pub allowed : AllByRecursion (IsNoneOf (no_argument std)) (argument_locs (plan_of std s))
+  pub allowed : AllByRecursion (IsNoneOf (closed_to_arguments std)) (argument_locs (plan_of std s))
   pub has_all : PlacesHaveAll s.arguments (plan_of std s).places
   pub filled : PlacesAreFilled std s.arguments (plan_of std s).places
   -- the pieces of one argument that stand on the stack rise, each by its place and by its bytes
@@ -208,7 +208,7 @@ pub record IsSound (std : Standard) (s : Signature) : Type 0 where
   -- the result's are registers
   pub result_apart : AreApart (result_locs (plan_of std s).res)
   pub result_in_registers : AllByRecursion (LiesIn (isa_of std.target) 0) (result_locs (plan_of std s).res)
-  pub result_allowed : AllByRecursion (IsNoneOf (no_result std)) (result_locs (plan_of std s).res)
+  pub result_allowed : AllByRecursion (IsNoneOf (closed_to_results std)) (result_locs (plan_of std s).res)
   pub result_has_all : ResultHasAll s.result_type (plan_of std s).res
   pub result_filled : ResultIsFilled std s.result_type (plan_of std s).res
   -- a call keeps the stack pointer at multiples of 16

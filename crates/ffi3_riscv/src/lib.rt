@@ -5,7 +5,7 @@ ghost use Rattle.std.specs.Prelude.{◌≡◌, ◌<◌, ◌≤◌, ◌+◌, ◌*
 ghost use Rattle.ffi3_type_rules.specs.Tree.{Scalar, scalar};
 ghost use Rattle.ffi3_type_rules.specs.Layout.{size_of, leaves_of, leaf_at};
 ghost use Rattle.ffi3_type_rules.specs.Integer.{is_floating};
-ghost use Rattle.ffi3_type_rules.specs.Fault.{HasNoFault};
+ghost use Rattle.ffi3_type_rules.specs.Fault.{IsResultType};
 ghost use Rattle.ffi3_type_rules.specs.Signature.{SignatureHasNoFault};
 ghost use Rattle.ffi3_types.specs.TreeOf.{tree_of};
 ghost use Rattle.ffi3_place_rules.specs.Standard.{at_once, place_at, copy_end, places_from, copies_end, result_at, buffer_end, round8};
@@ -46,7 +46,7 @@ fn integer(kind: &FfiType) -> bool
 
 /// Whether leaf `i` is a float or a double.
 fn is_floating_leaf(ty: &FfiType, i: u32) -> bool
-    requires right { HasNoFault 0 true (tree_of ty.now) }
+    requires right { IsResultType (tree_of ty.now) }
     requires in_range { i < length (leaves_of (tree_of ty.now)) }
     ensures { result ≡ is_floating (leaf_at (tree_of ty.now) i).kind }
 {
@@ -56,7 +56,7 @@ fn is_floating_leaf(ty: &FfiType, i: u32) -> bool
 
 /// Whether leaf `i` is such an integer.
 fn is_integer_leaf(ty: &FfiType, i: u32) -> bool
-    requires right { HasNoFault 0 true (tree_of ty.now) }
+    requires right { IsResultType (tree_of ty.now) }
     requires in_range { i < length (leaves_of (tree_of ty.now)) }
     ensures { result ≡ is_word_integer (leaf_at (tree_of ty.now) i).kind }
 {
@@ -66,7 +66,7 @@ fn is_integer_leaf(ty: &FfiType, i: u32) -> bool
 
 /// How a value is passed by the integer convention: in at most two words, or by reference.
 fn integer_shape(ty: &FfiType) -> Shape
-    requires { HasNoFault 0 true (tree_of ty.now) }
+    requires { IsResultType (tree_of ty.now) }
     ensures { result ≡ integer_shape (tree_of ty.now) }
 {
     if size_of(ty) <= 16 {
@@ -77,7 +77,7 @@ fn integer_shape(ty: &FfiType) -> Shape
 }
 
 fn shape_of_one(ty: &FfiType) -> Shape
-    requires right { HasNoFault 0 true (tree_of ty.now) }
+    requires right { IsResultType (tree_of ty.now) }
     requires one { length (leaves_of (tree_of ty.now)) ≡ 1 }
     ensures { result ≡ shape_of (tree_of ty.now) }
 {
@@ -89,7 +89,7 @@ fn shape_of_one(ty: &FfiType) -> Shape
 }
 
 fn shape_of_two(ty: &FfiType) -> Shape
-    requires right { HasNoFault 0 true (tree_of ty.now) }
+    requires right { IsResultType (tree_of ty.now) }
     requires two { length (leaves_of (tree_of ty.now)) ≡ 2 }
     ensures { result ≡ shape_of (tree_of ty.now) }
 {
@@ -106,7 +106,7 @@ fn shape_of_two(ty: &FfiType) -> Shape
 
 /// How a fixed argument or a result is passed where enough registers are free. (RISC-V ELF psABI, "Hardware Floating-point Calling Convention")
 pub fn shape_of(ty: &FfiType) -> Shape
-    requires { HasNoFault 0 true (tree_of ty.now) }
+    requires { IsResultType (tree_of ty.now) }
     ensures { result ≡ shape_of (tree_of ty.now) }
 {
     let count = ty.leaf_count();
@@ -166,7 +166,7 @@ fn registers_suffice(before: Used, shape: Shape) -> bool
 
 /// How an argument is passed behind others.
 fn passed_as(before: Used, fixed: bool, ty: &FfiType) -> Shape
-    requires right { HasNoFault 0 true (tree_of ty.now) }
+    requires right { IsResultType (tree_of ty.now) }
     requires few { before.floats ≤ 8 }
     requires low { before.words ≤ 1024 }
     ensures value { result ≡ passed_as before fixed (tree_of ty.now) }
@@ -228,7 +228,7 @@ fn boxed(kind: &FfiType) -> Ext
 
 /// A value's doublewords, in the stream of words from number `first` on.
 fn word_pieces(alloc: Global, ty: &FfiType, first: u64, count: u64) -> Result<Pieces, NoMemory>
-    requires right { HasNoFault 0 true (tree_of ty.now) }
+    requires right { IsResultType (tree_of ty.now) }
     requires low { first ≤ 1024 }
     requires all { count ≡ doublewords (tree_of ty.now) }
     requires few { count ≤ 2 }
@@ -244,7 +244,7 @@ fn word_pieces(alloc: Global, ty: &FfiType, first: u64, count: u64) -> Result<Pi
 
 /// Leaf `i` in floating register fa`number`.
 fn floating_piece(ty: &FfiType, i: u32, number: u64) -> Piece
-    requires right { HasNoFault 0 true (tree_of ty.now) }
+    requires right { IsResultType (tree_of ty.now) }
     requires in_range { i < length (leaves_of (tree_of ty.now)) }
     requires few { number ≤ 7 }
     ensures { result ≡ floating_piece number (leaf_at (tree_of ty.now) i) }
@@ -255,7 +255,7 @@ fn floating_piece(ty: &FfiType, i: u32, number: u64) -> Piece
 
 /// Leaf `i` in integer register a`number`.
 fn integer_piece(ty: &FfiType, i: u32, number: u64) -> Piece
-    requires right { HasNoFault 0 true (tree_of ty.now) }
+    requires right { IsResultType (tree_of ty.now) }
     requires in_range { i < length (leaves_of (tree_of ty.now)) }
     requires few { number ≤ 7 }
     ensures { result ≡ integer_piece number (leaf_at (tree_of ty.now) i) }
@@ -288,7 +288,7 @@ fn place_of(
     shape: Shape,
     copy: u64,
 ) -> Result<Place, NoMemory>
-    requires right { HasNoFault 0 true (tree_of ty.now) }
+    requires right { IsResultType (tree_of ty.now) }
     requires suits { Suits (size_of (tree_of ty.now)) (leaves_of (tree_of ty.now)) shape }
     requires room { HasRoom before shape }
     requires low { before.words ≤ 1024 }
@@ -340,7 +340,7 @@ const UNUSED: Used = Used {
 
 /// A result is returned as a first named argument would be passed.
 fn result_shape(ty: &FfiType) -> Shape
-    requires { HasNoFault 0 true (tree_of ty.now) }
+    requires { IsResultType (tree_of ty.now) }
     ensures { result ≡ result_shape (tree_of ty.now) }
 {
     passed_as(UNUSED, true, ty)
@@ -348,7 +348,7 @@ fn result_shape(ty: &FfiType) -> Shape
 
 /// The hidden pointer to a result's buffer takes the first word.
 fn at_first(ty: &FfiType) -> Used
-    requires { HasNoFault 0 true (tree_of ty.now) }
+    requires { IsResultType (tree_of ty.now) }
     ensures value { result ≡ used_at_first (tree_of ty.now) }
     ensures one { result.words ≤ 1 }
     ensures none { result.floats ≡ 0 }
@@ -420,7 +420,7 @@ fn place_all(alloc: Global, sig: &Sig, start: u64) -> Result<Placed, NoMemory>
 
 /// A result's place is that of an argument, and its buffer takes the place of a copy.
 fn place_result(alloc: Global, ty: &FfiType, buffer: u64) -> Result<Res, NoMemory>
-    requires right { HasNoFault 0 true (tree_of ty.now) }
+    requires right { IsResultType (tree_of ty.now) }
     requires near { buffer ≤ 131072 }
     ensures { IfOk result (λ r. r ≡ result_at at_once buffer (tree_of ty.now) (result_spot_of (tree_of ty.now))) }
 {

@@ -6,7 +6,7 @@ use Rattle.ffi3_type_rules.specs.declared.Isa.{Isa}
 use Rattle.ffi3_type_rules.specs.declared.Isa.TheVariants as isa
 use Rattle.ffi3_place_rules.specs.declared.Loc.{Loc}
 use Rattle.ffi3_place_rules.specs.declared.Loc.TheVariants.{G, F, S}
-use Rattle.ffi3_place_rules.specs.Isa.{general_registers, floating_registers, IsWritten, is_zero_register}
+use Rattle.ffi3_place_rules.specs.Isa.{general_registers, floating_registers, TakesWrites, is_zero_register}
 use Rattle.ffi3_place_rules.specs.Sound.{IsNoneOf, LiesIn}
 use Rattle.ffi3_place_rules.specs.Agrees.{given_back, saved_registers, special, AgreesWithMachine}
 use Rattle.ffi3_place_rules.proofs.Forbidden.{each_by, each_none_of, each_one_of, apart_all}
@@ -24,7 +24,7 @@ exists isa (F r) h = ltb-true r (floating_registers isa) h
 exists isa (S n) h = cc
 
 -- only zero drops a write, and it is reserved
-written : (l : Loc) → IsNoneOf riscv.reserved l → IsWritten isa.Riscv l
+written : (l : Loc) → IsNoneOf riscv.reserved l → TakesWrites isa.Riscv l
 written (G k) h = not_zero k h.0
   where
     not_zero : (k : ℕ) → (k ≡ 0 → ⊥) → is_zero_register isa.Riscv k ≡ false

@@ -5,7 +5,7 @@ use Rattle.ffi3_type_rules.specs.declared.Isa.TheVariants as isa
 use Rattle.ffi3_place_rules.specs.declared.Loc.{Loc}
 use Rattle.ffi3_place_rules.specs.declared.Loc.TheVariants.{G, F, S}
 use Rattle.ffi3_place_rules.specs.Isa.{general_registers, floating_registers}
-use Rattle.ffi3_place_rules.specs.Sound.{IsNoneOf, no_argument, no_result}
+use Rattle.ffi3_place_rules.specs.Sound.{IsNoneOf, closed_to_arguments, closed_to_results}
 use Rattle.ffi3_place_rules.proofs.Tests.{each_of_eight}
 use Rattle.ffi3_place_rules.proofs.Chain.{Registers}
 use Rattle.ffi3_place_rules.proofs.Forbidden.{is_none_of, none_of, each_none_of}
@@ -33,20 +33,20 @@ eight_allowed others register e =
     let h = each_none_of others (eight register) e in
     each_of_eight (λ j. IsNoneOf others (register j)) h.0 h.1.0 h.1.1.0 h.1.1.1.0 h.1.1.1.1.0 h.1.1.1.1.1.0 h.1.1.1.1.1.1.0 h.1.1.1.1.1.1.1.0
 
-pub argument_allowed : (k : ℕ) → k < 8 → IsNoneOf (no_argument riscv) (G (argument_register k))
-argument_allowed = eight_allowed (no_argument riscv) (λ k. G (argument_register k)) refl
+pub argument_allowed : (k : ℕ) → k < 8 → IsNoneOf (closed_to_arguments riscv) (G (argument_register k))
+argument_allowed = eight_allowed (closed_to_arguments riscv) (λ k. G (argument_register k)) refl
 
-pub floating_allowed : (k : ℕ) → k < 8 → IsNoneOf (no_argument riscv) (F (floating_register k))
-floating_allowed = eight_allowed (no_argument riscv) (λ k. F (floating_register k)) refl
+pub floating_allowed : (k : ℕ) → k < 8 → IsNoneOf (closed_to_arguments riscv) (F (floating_register k))
+floating_allowed = eight_allowed (closed_to_arguments riscv) (λ k. F (floating_register k)) refl
 
-pub stack_allowed : (n : ℕ) → IsNoneOf (no_argument riscv) (S n)
-stack_allowed n = none_of (no_argument riscv) (S n) refl
+pub stack_allowed : (n : ℕ) → IsNoneOf (closed_to_arguments riscv) (S n)
+stack_allowed n = none_of (closed_to_arguments riscv) (S n) refl
 
-pub result_allowed_general : (k : ℕ) → k < 8 → IsNoneOf (no_result riscv) (G (argument_register k))
-result_allowed_general = eight_allowed (no_result riscv) (λ k. G (argument_register k)) refl
+pub result_allowed_general : (k : ℕ) → k < 8 → IsNoneOf (closed_to_results riscv) (G (argument_register k))
+result_allowed_general = eight_allowed (closed_to_results riscv) (λ k. G (argument_register k)) refl
 
-pub result_allowed_floating : (k : ℕ) → k < 8 → IsNoneOf (no_result riscv) (F (floating_register k))
-result_allowed_floating = eight_allowed (no_result riscv) (λ k. F (floating_register k)) refl
+pub result_allowed_floating : (k : ℕ) → k < 8 → IsNoneOf (closed_to_results riscv) (F (floating_register k))
+result_allowed_floating = eight_allowed (closed_to_results riscv) (λ k. F (floating_register k)) refl
 
-pub result_allowed_stack : (n : ℕ) → IsNoneOf (no_result riscv) (S n)
-result_allowed_stack n = none_of (no_result riscv) (S n) refl
+pub result_allowed_stack : (n : ℕ) → IsNoneOf (closed_to_results riscv) (S n)
+result_allowed_stack n = none_of (closed_to_results riscv) (S n) refl

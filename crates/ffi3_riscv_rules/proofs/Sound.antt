@@ -12,7 +12,7 @@ use Rattle.ffi3_place_rules.specs.declared.Loc.TheVariants.{G, F, S}
 use Rattle.ffi3_place_rules.specs.declared.Taken.{Taken}
 use Rattle.ffi3_place_rules.specs.Standard.{Spot, in_pieces, by_reference, ResultSpot, no_result as nowhere, plan_of, at_once, copy_end, place_at, places_from, result_at, copies_start, frame_copies_end, frame_of}
 use Rattle.ffi3_place_rules.specs.Doublewords.{doublewords_at}
-use Rattle.ffi3_place_rules.specs.Sound.{AreApart, piece_locs, place_locs, hidden_locs, result_locs, argument_locs, IsNoneOf, LiesIn, call_locs, no_argument, no_result, PlaceHasAll, ResultHasAll, PlaceIsFilled, ResultIsFilled, IsSound, IsDetermined}
+use Rattle.ffi3_place_rules.specs.Sound.{AreApart, piece_locs, place_locs, hidden_locs, result_locs, argument_locs, IsNoneOf, LiesIn, call_locs, closed_to_arguments, closed_to_results, PlaceHasAll, ResultHasAll, PlaceIsFilled, ResultIsFilled, IsSound, IsDetermined}
 use Rattle.ffi3_place_rules.proofs.Chain.{AtMost, at_most_self, From, Until, Chain, chain_less, chain_append, chain_apart, chain_allowed, chain_lies_in}
 use Rattle.ffi3_place_rules.proofs.Frame.{up_to, frame_chain}
 use Rattle.ffi3_place_rules.proofs.Aligned.{frame_is_aligned, need_is_aligned}
@@ -175,9 +175,9 @@ plan_chain s =
     chain_append argument_register floating_register 8 8 (taken unused) (hidden_locs (plan_of riscv s).res) (taken (used_at_first s.result_type)) _ _
     (hidden_chain s.result_type (frame_copies_end riscv s)) (places_chain at_once (copies_start (placing_of s)) s.fixed (used_at_first s.result_type) 0 s.arguments)
 
-plan_allowed : (s : Signature) → AllByRecursion (IsNoneOf (no_argument riscv)) (argument_locs (plan_of riscv s))
+plan_allowed : (s : Signature) → AllByRecursion (IsNoneOf (closed_to_arguments riscv)) (argument_locs (plan_of riscv s))
 plan_allowed s =
-    chain_allowed argument_register floating_register 8 8 (no_argument riscv) argument_allowed floating_allowed stack_allowed (taken unused) _ _ (plan_chain s)
+    chain_allowed argument_register floating_register 8 8 (closed_to_arguments riscv) argument_allowed floating_allowed stack_allowed (taken unused) _ _ (plan_chain s)
 
 plan_lies_in : (s : Signature) → AllByRecursion (LiesIn isa.Riscv (placing_of s).stack_bytes) (argument_locs (plan_of riscv s))
 plan_lies_in s =
@@ -235,9 +235,9 @@ module _ (t : Tree) (buffer : ℕ) where
   result_in_registers =
       result_is (AllByRecursion (LiesIn isa.Riscv 0)) tt (chain_lies_in argument_register floating_register 8 8 isa.Riscv argument_exists floating_exists (taken unused) _ _ 0 (no_stack (words_of shape) (passed_few unused true t)) result_chain)
 
-  result_allowed : AllByRecursion (IsNoneOf (no_result riscv)) (result_locs (result_at at_once buffer t (result_spot_of t)))
+  result_allowed : AllByRecursion (IsNoneOf (closed_to_results riscv)) (result_locs (result_at at_once buffer t (result_spot_of t)))
   result_allowed =
-      result_is (AllByRecursion (IsNoneOf (no_result riscv))) tt (chain_allowed argument_register floating_register 8 8 (no_result riscv) result_allowed_general result_allowed_floating result_allowed_stack (taken unused) _ _ result_chain)
+      result_is (AllByRecursion (IsNoneOf (closed_to_results riscv))) tt (chain_allowed argument_register floating_register 8 8 (closed_to_results riscv) result_allowed_general result_allowed_floating result_allowed_stack (taken unused) _ _ result_chain)
 
   result_has_all : ResultHasAll t (result_at at_once buffer t (result_spot_of t))
   result_has_all =

@@ -8,7 +8,7 @@ use Rattle.ffi3_amd64_rules.specs.Amd64.{amd64}
 use Rattle.ffi3_io.specs.Sink.{Rose}
 use Rattle.ffi3_run_rules.specs.declared.Stop.{Stop}
 use Rattle.ffi3_run_rules.specs.Closures.{no_closures}
-use Rattle.ffi3_run_rules.specs.Happenings.{happenings_of}
+use Rattle.ffi3_run_rules.specs.Trace.{trace_of}
 use Rattle.ffi3_run_rules.specs.Journal.{stack_top}
 use Rattle.ffi3_run_rules.specs.Meaning.{Program, End, returned, stopped, meaning_of, peak_of, most_moves}
 use Rattle.ffi3_body.proofs.Follow.{none_follow}
@@ -20,9 +20,9 @@ use Rattle.ffi3_run.specs.declared.line.Cut.{Cut}
 use Rattle.ffi3_run.specs.declared.line.Cut.TheVariants as cut
 use Rattle.ffi3_run.specs.declared.run.RunEnd.{RunEnd}
 use Rattle.ffi3_run.specs.declared.run.RunEnd.TheVariants as run
-use Rattle.ffi3_run.specs.Told.{Took, IsTold, WrotePart}
+use Rattle.ffi3_run.specs.RunMatches.{Took, RunMatches, WrotePart}
 use Rattle.ffi3_run_rules.specs.Lines.{untraced, text_of_run}
-use Rattle.ffi3_run.specs.Deeds.{AnswersAfter}
+use Rattle.ffi3_run.specs.CallTree.{AnswersAfter}
 use Rattle.ffi3_run.specs.Moment.{Moment, moment, IsBetween, Came, CutIn, Ran}
 use Rattle.ffi3_run.proofs.Lines.{whole_part}
 use Rattle.ffi3_run.proofs.Makes.{none_known}
@@ -62,18 +62,18 @@ reaches top first last peak is (inl h) = omega arith
 reaches top first last peak is (inr h) = h
 
 module _ (p : Program) (m : State) (o : Took) (last : Moment) (none : m.events ≡ []) (mark : m.mark ≡ STACK_TOP) where
-  pub told : (end : End) → Came p end (start m o) last → IsTold untraced amd64 p o last.scene.output last.scene.machine
+  pub told : (end : End) → Came p end (start m o) last → RunMatches untraced amd64 p o last.scene.output last.scene.machine
   told end came =
       let added : last.scene.machine.events ≡ came.done.events = came.done.added ∙ ap (λ (l : List Event). l ++ came.done.events) none in
-      let P = λ (k : ℕ). AnswersAfter p k (happenings_of p) came.done.events in
-      let Q = λ (l : List Event). AnswersAfter p 0 (happenings_of p) l in
+      let P = λ (k : ℕ). AnswersAfter p k (trace_of p) came.done.events in
+      let Q = λ (l : List Event). AnswersAfter p 0 (trace_of p) l in
       record {
         written = came.done.lines;
         target = came.target;
         journal = subst Q (sym added) (subst P (ap length none) came.answers);
         whole = ap length added ∙ came.done.whole;
         code = came.holds;
-        mark = reaches stack_top m.mark last.scene.machine.mark (peak_of p (meaning_of p).deeds) mark came.done.mark;
+        mark = reaches stack_top m.mark last.scene.machine.mark (peak_of p (meaning_of p).call_tree) mark came.done.mark;
       }
 
   part_of_all : (end : End) → Came p end (start m o) last → WrotePart untraced p o last.scene.output
@@ -84,7 +84,7 @@ module _ (p : Program) (m : State) (o : Took) (last : Moment) (none : m.events �
   part_of_cut why h = (h.part, h.written)
 
   -- what each answer says
-  pub ran_done : (t : RunEnd) → Ran p (start m o) last t → t ≡ run.Done → IsTold untraced amd64 p o last.scene.output last.scene.machine
+  pub ran_done : (t : RunEnd) → Ran p (start m o) last t → t ≡ run.Done → RunMatches untraced amd64 p o last.scene.output last.scene.machine
   ran_done run.Done ran is = told (returned void_value) ran
   ran_done (run.Stopped stop) ran is = cc
   ran_done run.NoMemory ran is = cc
@@ -96,7 +96,7 @@ module _ (p : Program) (m : State) (o : Took) (last : Moment) (none : m.events �
   ran_returned run.NoMemory ran is = cc
   ran_returned run.Failed ran is = cc
 
-  pub ran_stopped : (t : RunEnd) → Ran p (start m o) last t → (stop : Stop) → t ≡ run.Stopped stop → IsTold untraced amd64 p o last.scene.output last.scene.machine
+  pub ran_stopped : (t : RunEnd) → Ran p (start m o) last t → (stop : Stop) → t ≡ run.Stopped stop → RunMatches untraced amd64 p o last.scene.output last.scene.machine
   ran_stopped run.Done ran stop is = cc
   ran_stopped (run.Stopped other) ran stop is = told (stopped other) ran
   ran_stopped run.NoMemory ran stop is = cc

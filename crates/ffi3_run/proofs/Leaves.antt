@@ -6,18 +6,18 @@ use Rattle.ffi3_type_rules.specs.Value.{ValueTree, void_value}
 use Rattle.ffi3_type_rules.specs.ValueText.{value_text_of}
 use Rattle.ffi3_run_rules.specs.declared.Stop.TheVariants.{MoveLimit}
 use Rattle.ffi3_run_rules.specs.Closures.{Closures}
-use Rattle.ffi3_run_rules.specs.Happenings.{written_out}
+use Rattle.ffi3_run_rules.specs.Trace.{written_out}
 use Rattle.ffi3_run_rules.specs.Journal.{events_in}
 use Rattle.ffi3_run_rules.specs.Lines.{a_line}
 use Rattle.ffi3_run_rules.specs.Move.{Move, free, print, return, Behaviour, result_type_of}
-use Rattle.ffi3_run_rules.specs.Meaning.{Program, Acting, Deeds, no_deeds, deed, line, Outcome, stops_with, act, next_move, most_moves}
-use Rattle.ffi3_body.specs.Activation.{arguments_in}
+use Rattle.ffi3_run_rules.specs.Meaning.{Program, Activation, CallTree, no_nodes, node, line, Outcome, stops_with, act, next_move, most_moves}
+use Rattle.ffi3_body.specs.SeenActivation.{arguments_in}
 use Rattle.ffi3_body.specs.Follow.{IsOfType, ResultsFollow}
 use Rattle.ffi3_body.proofs.Follow.{none_follow, one_more_follows}
 use Rattle.ffi3_run.specs.declared.line.Cut.{Cut}
 use Rattle.ffi3_run.specs.declared.line.Cut.TheVariants.{NoMemory}
-use Rattle.ffi3_run.specs.Told.{Took, TookLine}
-use Rattle.ffi3_run.specs.Deeds.{joined, preceded, text_of}
+use Rattle.ffi3_run.specs.RunMatches.{Took, TookLine}
+use Rattle.ffi3_run.specs.CallTree.{joined, preceded, text_of}
 use Rattle.ffi3_run.specs.Cuts.{CutOff}
 use Rattle.ffi3_run.specs.Leaf.{IsKept, Begins, LeafWent, LeafBetween, LeafCame, returning}
 use Rattle.ffi3_run.proofs.Acts.{at_limit, act_returns, act_prints}
@@ -25,7 +25,7 @@ use Rattle.ffi3_run.proofs.Joining.{text-joined, events_in-joined, preceded_twic
 use Rattle.ffi3_run.proofs.Lines.{took_nothing, took_then, cut_after, cut_in, cut_between}
 
 -- the text of one line
-pub one_line : (p : Program) (t : Tree) (v : ValueTree) → text_of p (deed (line t v) no_deeds) ≡ a_line (value_text_of t v)
+pub one_line : (p : Program) (t : Tree) (v : ValueTree) → text_of p (node (line t v) no_nodes) ≡ a_line (value_text_of t v)
 one_line p t v = append-nil (a_line (value_text_of t v))
 
 -- a free is not kept
@@ -39,8 +39,8 @@ print_follows signatures behaviour arguments user results t v is before =
     let this : P (print t v) = refl in
     one_more_follows signatures behaviour arguments user results void_value before (subst P (sym is) this)
 
-module _ (behaviour : Behaviour) (s : Signature) (block : List ℕ) (user : ℕ) (p : Program) (a : Acting) (c : Closures) (begins : Begins behaviour s block user p a) (first : ℕ) (before : Took) where
-  abbrev at : List ValueTree → Acting
+module _ (behaviour : Behaviour) (s : Signature) (block : List ℕ) (user : ℕ) (p : Program) (a : Activation) (c : Closures) (begins : Begins behaviour s block user p a) (first : ℕ) (before : Took) where
+  abbrev at : List ValueTree → Activation
   at results = record a { results = results }
 
   abbrev asked : List ValueTree → Move
@@ -56,62 +56,62 @@ module _ (behaviour : Behaviour) (s : Signature) (block : List ℕ) (user : ℕ)
   leaf_begins =
       let same : a ≡ at [] = λ i. record a { results = begins.no_results i } in
       record {
-        deeds = no_deeds;
+        call_tree = no_nodes;
         quiet = refl;
-        follows = ap (λ (x : Acting). act p x c first) same;
+        follows = ap (λ (x : Activation). act p x c first) same;
         lines = took_nothing before;
       }
 
   module _ (results : List ValueTree) (moves left : ℕ) (now : Took) (went : LeafWent p a c first results moves before now) where
     -- cut off between two moves
-    pub leaf_cut_now : CutOff (text_of p (act p a c first).deeds) before now NoMemory
+    pub leaf_cut_now : CutOff (text_of p (act p a c first).call_tree) before now NoMemory
     leaf_cut_now =
-        let rest = (act p (at results) c moves).deeds in
-        cut_between before now (text_of p went.deeds) (text_of p rest) (text_of p (act p a c first).deeds) (ap (λ (o : Outcome). text_of p o.deeds) went.follows ∙ text-joined p went.deeds rest) went.lines
+        let rest = (act p (at results) c moves).call_tree in
+        cut_between before now (text_of p went.call_tree) (text_of p rest) (text_of p (act p a c first).call_tree) (ap (λ (o : Outcome). text_of p o.call_tree) went.follows ∙ text-joined p went.call_tree rest) went.lines
 
     pub leaf_limit : moves ≡ 0 → LeafCame p a c first (stops_with MoveLimit c 0) before now
     leaf_limit none = record {
-      deeds = went.deeds;
+      call_tree = went.call_tree;
       quiet = went.quiet;
-      is = went.follows ∙ ap (preceded went.deeds) (ap (act p (at results) c) none ∙ at_limit p (at results) c);
+      is = went.follows ∙ ap (preceded went.call_tree) (ap (act p (at results) c) none ∙ at_limit p (at results) c);
       lines = went.lines;
     }
 
     module _ (counts : moves ≡ suc left) where
       pub leaf_returns : (v : ValueTree) → asked results ≡ return v → LeafCame p a c first (returning v c left) before now
       leaf_returns v is = record {
-        deeds = went.deeds;
+        call_tree = went.call_tree;
         quiet = went.quiet;
-        is = went.follows ∙ ap (preceded went.deeds) (ap (act p (at results) c) counts ∙ act_returns p (at results) c left v (asks results ∙ is));
+        is = went.follows ∙ ap (preceded went.call_tree) (ap (act p (at results) c) counts ∙ act_returns p (at results) c left v (asks results ∙ is));
         lines = went.lines;
       }
 
       module _ (t : Tree) (v : ValueTree) (is : asked results ≡ print t v) where
-        abbrev this : Deeds
-        this = deed (line t v) no_deeds
+        abbrev this : CallTree
+        this = node (line t v) no_nodes
 
-        then_prints : act p a c first ≡ preceded went.deeds (preceded this (act p (at (results ++ void_value ∷ [])) c left))
+        then_prints : act p a c first ≡ preceded went.call_tree (preceded this (act p (at (results ++ void_value ∷ [])) c left))
         then_prints =
-            went.follows ∙ ap (preceded went.deeds) (ap (act p (at results) c) counts ∙ act_prints p (at results) c left t v (asks results ∙ is))
+            went.follows ∙ ap (preceded went.call_tree) (ap (act p (at results) c) counts ∙ act_prints p (at results) c left t v (asks results ∙ is))
 
         -- the line is taken
         pub leaf_prints : (after : Took) → TookLine (a_line (value_text_of t v)) now after → LeafWent p a c first (results ++ void_value ∷ []) left before after
         leaf_prints after took = record {
-          deeds = joined went.deeds this;
+          call_tree = joined went.call_tree this;
           quiet =
-              let e : events_in (written_out (joined went.deeds this)) ≡ events_in (written_out went.deeds) + 0 = events_in-joined went.deeds this in
+              let e : events_in (written_out (joined went.call_tree this)) ≡ events_in (written_out went.call_tree) + 0 = events_in-joined went.call_tree this in
               omega (arith, e, went.quiet);
-          follows = then_prints ∙ preceded_twice went.deeds this (act p (at (results ++ void_value ∷ [])) c left);
-          lines = took_then before now after (text_of p went.deeds) (a_line (value_text_of t v)) (text_of p (joined went.deeds this)) (text-joined p went.deeds this ∙ ap (λ (l : List ℕ). text_of p went.deeds ++ l) (one_line p t v)) went.lines took;
+          follows = then_prints ∙ preceded_twice went.call_tree this (act p (at (results ++ void_value ∷ [])) c left);
+          lines = took_then before now after (text_of p went.call_tree) (a_line (value_text_of t v)) (text_of p (joined went.call_tree this)) (text-joined p went.call_tree this ∙ ap (λ (l : List ℕ). text_of p went.call_tree ++ l) (one_line p t v)) went.lines took;
         }
 
         -- cut off in the line
-        pub leaf_cut_in_line : (after : Took) (cut : Cut) → CutOff (a_line (value_text_of t v)) now after cut → CutOff (text_of p (act p a c first).deeds) before after cut
+        pub leaf_cut_in_line : (after : Took) (cut : Cut) → CutOff (a_line (value_text_of t v)) now after cut → CutOff (text_of p (act p a c first).call_tree) before after cut
         leaf_cut_in_line after cut h =
             let o = act p (at (results ++ void_value ∷ [])) c left in
-            let rest = joined this o.deeds in
-            cut_after before now after (text_of p went.deeds) (text_of p rest) (text_of p (act p a c first).deeds) cut (ap (λ (x : Outcome). text_of p x.deeds) then_prints ∙ text-joined p went.deeds rest) went.lines
-            (cut_in now after (a_line (value_text_of t v)) (text_of p o.deeds) (text_of p rest) cut refl h)
+            let rest = joined this o.call_tree in
+            cut_after before now after (text_of p went.call_tree) (text_of p rest) (text_of p (act p a c first).call_tree) cut (ap (λ (x : Outcome). text_of p x.call_tree) then_prints ∙ text-joined p went.call_tree rest) went.lines
+            (cut_in now after (a_line (value_text_of t v)) (text_of p o.call_tree) (text_of p rest) cut refl h)
 
 -- ---- what holds between two moves
 
@@ -131,12 +131,12 @@ module _ (signatures : List Signature) (behaviour : Behaviour) (s : Signature) (
       subst P (sym none) start
 
   module _ (results : List ValueTree) (left : ℕ) (now : Took) (h : LeafBetween signatures behaviour s block user first results left before now) where
-    module _ (p : Program) (a : Acting) (c : Closures) (begins : Begins behaviour s block user p a) where
+    module _ (p : Program) (a : Activation) (c : Closures) (begins : Begins behaviour s block user p a) where
       pub limit_there : left ≡ 0 → LeafCame p a c first (stops_with MoveLimit c 0) before now
       limit_there none =
           leaf_limit behaviour s block user p a c begins first before results left 0 now (h.went p a c begins) none
 
-      pub cut_there : CutOff (text_of p (act p a c first).deeds) before now NoMemory
+      pub cut_there : CutOff (text_of p (act p a c first).call_tree) before now NoMemory
       cut_there =
           leaf_cut_now behaviour s block user p a c begins first before results left 0 now (h.went p a c begins)
 
@@ -144,7 +144,7 @@ module _ (signatures : List Signature) (behaviour : Behaviour) (s : Signature) (
       returns_there some v is =
           leaf_returns behaviour s block user p a c begins first before results left (left - 1) now (h.went p a c begins) (one_fewer left some) v is
 
-      pub cut_in_line_there : (left ≡ 0 → ⊥) → (t : Tree) (v : ValueTree) → behaviour (arguments_in s.arguments block) user results ≡ print t v → (after : Took) (cut : Cut) → CutOff (a_line (value_text_of t v)) now after cut → CutOff (text_of p (act p a c first).deeds) before after cut
+      pub cut_in_line_there : (left ≡ 0 → ⊥) → (t : Tree) (v : ValueTree) → behaviour (arguments_in s.arguments block) user results ≡ print t v → (after : Took) (cut : Cut) → CutOff (a_line (value_text_of t v)) now after cut → CutOff (text_of p (act p a c first).call_tree) before after cut
       cut_in_line_there some t v is after cut cut_line =
           leaf_cut_in_line behaviour s block user p a c begins first before results left (left - 1) now (h.went p a c begins) (one_fewer left some) t v is after cut cut_line
 

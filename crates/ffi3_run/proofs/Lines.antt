@@ -6,7 +6,7 @@ use Rattle.ffi3_io.specs.Sink.{Adds}
 use Rattle.ffi3_io.proofs.Adding.{Adds-then, Adds-along, Adds-none}
 use Rattle.ffi3_run.specs.declared.line.Cut.{Cut}
 use Rattle.ffi3_run.specs.declared.line.Cut.TheVariants.{NoMemory}
-use Rattle.ffi3_run.specs.Told.{Took, TookLine}
+use Rattle.ffi3_run.specs.RunMatches.{Took, TookLine}
 use Rattle.ffi3_run.specs.Cuts.{IsCause, CutOff}
 
 pub took_nothing : (before : Took) → TookLine [] before before

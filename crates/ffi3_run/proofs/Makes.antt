@@ -6,7 +6,7 @@ use Rattle.ffi3_amd64_rules.specs.Amd64.{amd64}
 use Rattle.ffi3_run_rules.specs.declared.Closure.{Closure}
 use Rattle.ffi3_run_rules.specs.Closures.{Closures, slots, slot_address, slot_number, closure_at, no_closures, first_free, with_closure}
 use Rattle.ffi3_run_rules.specs.Move.{make}
-use Rattle.ffi3_run_rules.specs.Meaning.{Program, no_deeds, pointer_value, function_at, goes_on}
+use Rattle.ffi3_run_rules.specs.Meaning.{Program, no_nodes, pointer_value, function_at, goes_on}
 use Rattle.ffi3_machine.specs.State.{State}
 use Rattle.ffi3_closures.specs.Slots.{HoldsMap}
 use Rattle.ffi3_run.specs.Moment.{Moment, main_after, rest_of, asking, IsKnown, AreKnown, IsBetween, Went}
@@ -72,7 +72,7 @@ module _ (p : Program) (x : Moment) (between : IsBetween p (asking x)) (func sig
 
   pub went_make : m.events ≡ x.scene.machine.events → m.mark ≡ x.scene.machine.mark → Went p (asking x) made
   went_make events mark = record {
-    deeds = no_deeds;
+    call_tree = no_nodes;
     follows = makes;
     done = record {
       events = [];
@@ -81,7 +81,7 @@ module _ (p : Program) (x : Moment) (between : IsBetween p (asking x)) (func sig
       lines = took_nothing x.scene.output;
       mark = inl (omega (arith, mark));
     };
-    answers = quiet_answers p (length x.scene.machine.events) no_deeds refl;
+    answers = quiet_answers p (length x.scene.machine.events) no_nodes refl;
   }
 
   pub between_makes : m.target ≡ amd64.target → m.sp ≡ x.scene.machine.sp → HoldsMap amd64.target made.closures m.code → func < length p.functions → sig < length p.signatures → IsBetween p made

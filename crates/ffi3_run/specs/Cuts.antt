@@ -5,7 +5,7 @@ use Rattle.ffi3_run_rules.specs.declared.Stop.{Stop}
 use Rattle.ffi3_run_rules.specs.declared.Stop.TheVariants.{WrongSig}
 use Rattle.ffi3_run.specs.declared.line.Cut.{Cut}
 use Rattle.ffi3_run.specs.declared.line.Cut.TheVariants.{NoMemory, Failed}
-use Rattle.ffi3_run.specs.Told.{Took, TookLine}
+use Rattle.ffi3_run.specs.RunMatches.{Took, TookLine}
 
 -- the count of faults, before and after
 abbrev pub IsCause : Cut → ℕ → ℕ → Type 0

@@ -1,5 +1,5 @@
-pub mod Told
-pub mod Deeds
+pub mod RunMatches
+pub mod CallTree
 pub mod Cuts
 pub mod Moment
 pub mod Leaf

@@ -6,9 +6,9 @@ use Rattle.ffi3_amd64_rules.specs.Amd64.{amd64}
 use Rattle.ffi3_run_rules.specs.declared.Closure.{Closure}
 use Rattle.ffi3_run_rules.specs.declared.Stop.{Stop}
 use Rattle.ffi3_run_rules.specs.Closures.{Closures}
-use Rattle.ffi3_run_rules.specs.Meaning.{Program, Acting, Deeds, End, returned, stopped, Outcome, act, function_at, main_call, most_moves}
+use Rattle.ffi3_run_rules.specs.Meaning.{Program, Activation, CallTree, End, returned, stopped, Outcome, act, function_at, main_call, most_moves}
 use Rattle.ffi3_run_rules.specs.Lines.{a_line, stop_text}
-use Rattle.ffi3_run_rules.specs.Happenings.{written_out}
+use Rattle.ffi3_run_rules.specs.Trace.{written_out}
 use Rattle.ffi3_body.specs.Follow.{ResultsFollow}
 use Rattle.ffi3_machine.specs.State.{State}
 use Rattle.ffi3_type_rules.specs.declared.limits.TheConstants.{STACK_TOP}
@@ -20,12 +20,12 @@ use Rattle.ffi3_run.specs.declared.line.Cut.{Cut}
 use Rattle.ffi3_run.specs.declared.line.Cut.TheVariants as cut
 use Rattle.ffi3_run.specs.declared.run.RunEnd.{RunEnd}
 use Rattle.ffi3_run.specs.declared.run.RunEnd.TheVariants as run
-use Rattle.ffi3_run.specs.Told.{Took, TookLine}
-use Rattle.ffi3_run.specs.Deeds.{preceded, text_of, Scene, Done, AnswersAfter, AnswersFirst}
+use Rattle.ffi3_run.specs.RunMatches.{Took, TookLine}
+use Rattle.ffi3_run.specs.CallTree.{preceded, text_of, Scene, Done, AnswersAfter, AnswersFirst}
 use Rattle.ffi3_run.specs.Cuts.{CutOff}
 
 -- main, after moves with these results
-abbrev pub main_after : List ValueTree → Acting
+abbrev pub main_after : List ValueTree → Activation
 main_after results = record main_call { results = results }
 
 -- what stands between two moves: the results of main's moves so far, the live closures, the moves that are left, and what is seen
@@ -70,25 +70,25 @@ pub record IsBetween (p : Program) (x : Moment) : Type 0 where
   pub follow : ResultsFollow p.signatures p.main [] 0 x.results
   pub few : length x.results + x.moves ≤ most_moves
 
--- The run goes on: these deeds are done, and what follows is what followed before without them.
+-- The run goes on: this call tree is done, and what follows is what followed before without them.
 pub record Went (p : Program) (old new : Moment) : Type 0 where
-  pub deeds : Deeds
-  pub follows : rest_of p old ≡ preceded deeds (rest_of p new)
-  pub done : Done p deeds old.scene new.scene
-  pub answers : AnswersFirst p (length old.scene.machine.events) deeds done.events
+  pub call_tree : CallTree
+  pub follows : rest_of p old ≡ preceded call_tree (rest_of p new)
+  pub done : Done p call_tree old.scene new.scene
+  pub answers : AnswersFirst p (length old.scene.machine.events) call_tree done.events
 
 -- THE RUN CAME TO THIS END: all that followed is done.
 pub record Came (p : Program) (end : End) (old new : Moment) : Type 0 where
   pub is : (rest_of p old).end ≡ end
-  pub done : Done p (rest_of p old).deeds old.scene new.scene
-  pub answers : AnswersAfter p (length old.scene.machine.events) (written_out (rest_of p old).deeds) done.events
+  pub done : Done p (rest_of p old).call_tree old.scene new.scene
+  pub answers : AnswersAfter p (length old.scene.machine.events) (written_out (rest_of p old).call_tree) done.events
   pub target : new.scene.machine.target ≡ amd64.target
   pub holds : HoldsMap amd64.target (rest_of p old).closures new.scene.machine.code
 
 -- the run was cut off in what follows
 abbrev pub CutIn : Program → Moment → Moment → Cut → Type 0
 CutIn p old new cut =
-    CutOff (text_of p (rest_of p old).deeds) old.scene.output new.scene.output cut
+    CutOff (text_of p (rest_of p old).call_tree) old.scene.output new.scene.output cut
 
 -- what a move's answer says
 abbrev pub Turned : Program → Moment → Moment → Result Turn Cut → Type 0

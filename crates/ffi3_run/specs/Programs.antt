@@ -7,7 +7,7 @@ use Rattle.ffi3_amd64_rules.specs.Amd64.{amd64}
 use Rattle.ffi3_run_rules.specs.declared.Closure.{Closure}
 use Rattle.ffi3_run_rules.specs.declared.Stop.{Stop}
 use Rattle.ffi3_run_rules.specs.Closures.{Closures, closure_at}
-use Rattle.ffi3_run_rules.specs.Meaning.{Program, Acting, enters, stops, doing, callee_of, stack_size}
+use Rattle.ffi3_run_rules.specs.Meaning.{Program, Activation, enters, stops, effect_of, callee_of, stack_size}
 use Rattle.ffi3_run_rules.specs.Move.{call}
 use Rattle.ffi3_script_rules.specs.Meaning.{program_of}
 use Rattle.ffi3_machine.specs.State.{IsSlot}
@@ -27,8 +27,8 @@ pub record CanEnter (p : Program) (closures : Closures) (ptr sig : ℕ) (c : Clo
   pub room : need_of amd64 (signature_at p.signatures sig) ≤ stack_size
 
 -- in the direct meaning a call enters this closure, or stops the run
-abbrev pub LeadsTo : Program → Acting → Closures → (ptr sig : ℕ) → List ValueTree → Result Closure Stop → Type 0
+abbrev pub LeadsTo : Program → Activation → Closures → (ptr sig : ℕ) → List ValueTree → Result Closure Stop → Type 0
 LeadsTo p a closures ptr sig args (Ok closure) =
-    doing p a closures (call ptr sig args) ≡ enters ptr sig (callee_of p a sig args closure)
+    effect_of p a closures (call ptr sig args) ≡ enters ptr sig (callee_of p a sig args closure)
 LeadsTo p a closures ptr sig args (Err stop) =
-    doing p a closures (call ptr sig args) ≡ stops stop
+    effect_of p a closures (call ptr sig args) ≡ stops stop

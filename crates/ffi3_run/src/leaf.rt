@@ -4,11 +4,11 @@ ghost use Rattle.ffi3_type_rules.specs.Signature.{SignatureHasNoFault};
 ghost use Rattle.ffi3_place_rules.specs.Standard.{block_bytes};
 ghost use Rattle.ffi3_run_rules.specs.Move.{MoveFits};
 ghost use Rattle.ffi3_run_rules.specs.Closures.{Closures};
-ghost use Rattle.ffi3_run_rules.specs.Meaning.{Acting, Program, most_moves};
-ghost use Rattle.ffi3_body.specs.Activation.{arguments_in};
+ghost use Rattle.ffi3_run_rules.specs.Meaning.{Activation, Program, most_moves};
+ghost use Rattle.ffi3_body.specs.SeenActivation.{arguments_in};
 ghost use Rattle.ffi3_body.specs.Follow.{ResultsFollow};
 ghost use Rattle.ffi3_body.specs.MoveOf.{move_of};
-ghost use Rattle.ffi3_run.specs.Told.{took};
+ghost use Rattle.ffi3_run.specs.RunMatches.{took};
 ghost use Rattle.ffi3_run.specs.Leaf.{Begins, EndFits, IsLeaf, LeafRan};
 
 use crate::line::{Cut, write_print};
@@ -43,7 +43,7 @@ pub fn run_leaf<B: Body, O: Sink>(
     requires own { sig.now ≡ B.signature body.now }
     requires leaf { IsLeaf (B.meaning body.now) }
     requires few { moves.old ≤ most_moves }
-    ensures ran { (p : Program) (a : Acting) (c : Closures) →
+    ensures ran { (p : Program) (a : Activation) (c : Closures) →
         Begins (B.meaning body.now) sig.now block.now user p a →
         LeafRan p a c moves.old moves.new
         (took (O.taken output.old) (O.faults output.old)) (took (O.taken output.new) (O.faults output.new)) result }

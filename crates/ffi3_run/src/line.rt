@@ -10,7 +10,7 @@ ghost use Rattle.ffi3_types.specs.TreeOf.{tree_of};
 ghost use Rattle.ffi3_values.specs.ValueOf.{value_of};
 ghost use Rattle.ffi3_script_rules.specs.Typed.{signature_is_right};
 ghost use Rattle.ffi3_run_rules.specs.Lines.{a_line, address_text, stop_text};
-ghost use Rattle.ffi3_run.specs.Told.{took};
+ghost use Rattle.ffi3_run.specs.RunMatches.{took};
 ghost use Rattle.ffi3_run.specs.Cuts.{IsOfSigs, Wrote};
 
 use ffi3_io::{Sink, write_all};

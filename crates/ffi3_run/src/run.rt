@@ -8,7 +8,7 @@ ghost use Rattle.ffi3_script_rules.specs.Meaning.{program_of};
 ghost use Rattle.ffi3_script_rules.specs.RunLimit.{first_not_run};
 ghost use Rattle.ffi3_script.specs.ScriptOf.{natives_of, script_of};
 ghost use Rattle.ffi3_run_rules.specs.Lines.{untraced};
-ghost use Rattle.ffi3_run.specs.Told.{IsTold, WrotePart, took};
+ghost use Rattle.ffi3_run.specs.RunMatches.{RunMatches, WrotePart, took};
 ghost use Rattle.ffi3_run.specs.Moment.{IsBetween, Ran, moment};
 ghost use Rattle.ffi3_run.specs.Programs.{program};
 
@@ -47,13 +47,13 @@ pub fn run_main<O: Sink>(
     requires runs { first_not_run (script_of script.now) ≡ None }
     requires no_natives { natives_of script.now ≡ 0 }
     ensures done { result ≡ RunEnd.Done →
-        IsTold untraced amd64 (program_of amd64 (script_of script.now))
+        RunMatches untraced amd64 (program_of amd64 (script_of script.now))
         (took (O.taken output.old) (O.faults output.old)) (took (O.taken output.new) (O.faults output.new))
         machine.new }
     ensures returns { result ≡ RunEnd.Done →
         (meaning_of (program_of amd64 (script_of script.now))).end ≡ returned void_value }
     ensures stopped { (stop : Stop) → result ≡ RunEnd.Stopped stop →
-        IsTold untraced amd64 (program_of amd64 (script_of script.now))
+        RunMatches untraced amd64 (program_of amd64 (script_of script.now))
         (took (O.taken output.old) (O.faults output.old)) (took (O.taken output.new) (O.faults output.new))
         machine.new }
     ensures stops { (stop : Stop) → result ≡ RunEnd.Stopped stop →

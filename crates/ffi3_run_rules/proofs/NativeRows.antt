@@ -9,7 +9,7 @@ use Rattle.ffi3_type_rules.specs.Integer.{bytes_of_number, sum_of}
 use Rattle.ffi3_type_rules.specs.Value.{ValueTree, void_value, leaf_value, bytes_of}
 use Rattle.ffi3_run_rules.specs.Move.{call, make, print, return, Behaviour}
 use Rattle.ffi3_run_rules.specs.Meaning.{Program, with_natives, act, act_within, meaning_of, peak_of}
-use Rattle.ffi3_run_rules.specs.Happenings.{happenings_of}
+use Rattle.ffi3_run_rules.specs.Trace.{trace_of}
 use Rattle.ffi3_run_rules.specs.Journal.{events_in, stack_top}
 use Rattle.ffi3_type_rules.specs.Layout.{least_multiple}
 use Rattle.ffi3_run_rules.proofs.RowStandard.{in_registers}
@@ -73,7 +73,7 @@ pub twenty : text_of_run untraced program ≡ codes "20" ++ 10 ∷ []
 unfolding act act_within digits
 twenty = refl
 
-pub fourteen : events_in (happenings_of program) ≡ 14
+pub fourteen : events_in (trace_of program) ≡ 14
 unfolding act act_within
 fourteen = refl
 
@@ -81,7 +81,7 @@ pub twenty_moves : (meaning_of program).moves ≡ 9980
 unfolding act act_within
 twenty_moves = refl
 
-pub peak : peak_of program (meaning_of program).deeds ≡ 320
+pub peak : peak_of program (meaning_of program).call_tree ≡ 320
 unfolding act act_within
 peak = refl
 

@@ -6,7 +6,7 @@ use Rattle.ffi3_type_rules.specs.Integer.{number_of, bytes_of_number}
 use Rattle.ffi3_type_rules.specs.Value.{ValueTree, void_value, leaf_value, bytes_of}
 use Rattle.ffi3_run_rules.specs.Move.{call, make, print, return, Behaviour}
 use Rattle.ffi3_run_rules.specs.Meaning.{Program, meaning_of, act, act_within, returned}
-use Rattle.ffi3_run_rules.specs.Happenings.{happenings_of}
+use Rattle.ffi3_run_rules.specs.Trace.{trace_of}
 use Rattle.ffi3_place_rules.specs.Isa.{scribble}
 use Rattle.ffi3_run_rules.specs.Lines.{untraced, traced, a_line, text_of_run}
 use Rattle.ffi3_run_rules.specs.Journal.{events_in, stack_top}
@@ -44,7 +44,7 @@ pub text_is : text_of_run untraced program ≡ codes "42" ++ 10 ∷ []
 unfolding act act_within digits
 text_is = refl
 
-pub two_events : events_in (happenings_of program) ≡ 2
+pub two_events : events_in (trace_of program) ≡ 2
 unfolding act act_within
 two_events = refl
 

@@ -8,7 +8,7 @@ use Rattle.ffi3_type_rules.specs.Signature.{Signature}
 use Rattle.ffi3_type_rules.specs.Value.{void_value, leaf_value}
 use Rattle.ffi3_run_rules.specs.Move.{call, make, free, print, return, Behaviour}
 use Rattle.ffi3_run_rules.specs.Meaning.{Program, act, act_within}
-use Rattle.ffi3_run_rules.specs.Happenings.{happenings_of}
+use Rattle.ffi3_run_rules.specs.Trace.{trace_of}
 use Rattle.ffi3_run_rules.specs.Journal.{events_in}
 use Rattle.ffi3_run_rules.specs.Lines.{untraced, text_of_run}
 
@@ -45,7 +45,7 @@ pub stops_wrong : text_of_run untraced (program 64) ≡ codes "7" ++ 10 ∷ (cod
 unfolding act act_within digits
 stops_wrong = refl
 
-pub enters_full : events_in (happenings_of (program 65536)) ≡ 4
+pub enters_full : events_in (trace_of (program 65536)) ≡ 4
 unfolding act act_within
 enters_full = refl
 

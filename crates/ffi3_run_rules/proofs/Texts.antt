@@ -9,34 +9,34 @@ use Rattle.ffi3_place_rules.specs.declared.Loc.{Loc}
 use Rattle.ffi3_place_rules.specs.Event.{Event}
 use Rattle.ffi3_place_rules.specs.Image.{Image, register}
 use Rattle.ffi3_place_rules.specs.Standard.{Standard, need_of, frame_of}
-use Rattle.ffi3_run_rules.specs.Happenings.{Happening, Enter, Line, Leave, StopLine}
+use Rattle.ffi3_run_rules.specs.Trace.{TraceItem, Enter, Line, Leave, StopLine}
 use Rattle.ffi3_run_rules.specs.Journal.{Entered, needs, IsEntry, IsReturn}
 use Rattle.ffi3_place_rules.specs.Isa.{scribble}
-use Rattle.ffi3_run_rules.specs.Lines.{OpenCall, Point, past, Trace, untraced, text_of, text, sp_at_call, word_text, keep_text}
+use Rattle.ffi3_run_rules.specs.Lines.{OpenCall, Point, past, Tracing, untraced, item_text, text, sp_at_call, word_text, keep_text}
 
 -- after all of a part
-abbrev pub past_all : List Signature → Point → List Happening → Point
+abbrev pub past_all : List Signature → Point → List TraceItem → Point
 past_all ss at [] = at
 past_all ss at (h ∷ rest) = past_all ss (past ss at h) rest
 
-pub text-append : (trace : Trace) (ss : List Signature) (at : Point) (a b : List Happening) → text trace ss at (a ++ b) ≡ text trace ss at a ++ text trace ss (past_all ss at a) b
-text-append trace ss at [] b = refl
-text-append trace ss at (h ∷ a) b =
-    ap (λ (l : List ℕ). text_of trace ss at h ++ l) (text-append trace ss (past ss at h) a b) ∙ sym (append_assoc (text_of trace ss at h) (text trace ss (past ss at h) a) (text trace ss (past_all ss (past ss at h) a) b))
+pub text-append : (tracing : Tracing) (ss : List Signature) (at : Point) (a b : List TraceItem) → text tracing ss at (a ++ b) ≡ text tracing ss at a ++ text tracing ss (past_all ss at a) b
+text-append tracing ss at [] b = refl
+text-append tracing ss at (h ∷ a) b =
+    ap (λ (l : List ℕ). item_text tracing ss at h ++ l) (text-append tracing ss (past ss at h) a b) ∙ sym (append_assoc (item_text tracing ss at h) (text tracing ss (past ss at h) a) (text tracing ss (past_all ss (past ss at h) a) b))
 
 -- the text of a run that is not traced does not depend on where it stands
-pub untraced_anywhere : (ss : List Signature) (at at' : Point) (hs : List Happening) → text untraced ss at hs ≡ text untraced ss at' hs
+pub untraced_anywhere : (ss : List Signature) (at at' : Point) (hs : List TraceItem) → text untraced ss at hs ≡ text untraced ss at' hs
 untraced_anywhere ss at at' [] = refl
 untraced_anywhere ss at at' (Enter ptr sig args ∷ rest) =
     untraced_anywhere ss (past ss at (Enter ptr sig args)) (past ss at' (Enter ptr sig args)) rest
 untraced_anywhere ss at at' (Leave sig r ∷ rest) =
     untraced_anywhere ss (past ss at (Leave sig r)) (past ss at' (Leave sig r)) rest
 untraced_anywhere ss at at' (Line t v ∷ rest) =
-    ap (λ (l : List ℕ). text_of untraced ss at (Line t v) ++ l) (untraced_anywhere ss at at' rest)
+    ap (λ (l : List ℕ). item_text untraced ss at (Line t v) ++ l) (untraced_anywhere ss at at' rest)
 untraced_anywhere ss at at' (StopLine stop ∷ rest) =
-    ap (λ (l : List ℕ). text_of untraced ss at (StopLine stop) ++ l) (untraced_anywhere ss at at' rest)
+    ap (λ (l : List ℕ). item_text untraced ss at (StopLine stop) ++ l) (untraced_anywhere ss at at' rest)
 
-pub untraced-append : (ss : List Signature) (at : Point) (a b : List Happening) → text untraced ss at (a ++ b) ≡ text untraced ss at a ++ text untraced ss at b
+pub untraced-append : (ss : List Signature) (at : Point) (a b : List TraceItem) → text untraced ss at (a ++ b) ≡ text untraced ss at a ++ text untraced ss at b
 untraced-append ss at a b =
     text-append untraced ss at a b ∙ ap (λ (l : List ℕ). text untraced ss at a ++ l) (untraced_anywhere ss (past_all ss at a) at b)
 

@@ -10,7 +10,7 @@ use Rattle.ffi3_place_rules.specs.Standard.{Standard, need_of, frame_of}
 use Rattle.ffi3_place_rules.specs.Image.{register}
 use Rattle.ffi3_place_rules.specs.Holds.{Holds, HoldsResult, Kept}
 use Rattle.ffi3_place_rules.specs.Event.{Event, enters, leaves}
-use Rattle.ffi3_run_rules.specs.Happenings.{Happening, Enter, Line, Leave, StopLine}
+use Rattle.ffi3_run_rules.specs.Trace.{TraceItem, Enter, Line, Leave, StopLine}
 
 -- the first address above the stack
 abbrev pub stack_top : ℕ
@@ -47,8 +47,8 @@ pub record IsReturn (std : Standard) (entered : Entered) (result : ValueTree) (e
   pub stack : length e.image.stack ≡ frame_of std entered.signature
 
 -- Each event answers to the entry or return of its number; n events came before. `unfinished` are the calls that are open, the innermost first.
-abbrev pub Answers : Standard → (top : ℕ) → (held : Loc → ℕ) → List Signature → ℕ → List Entered → List Happening → List Event → Type 0
-Answers std top held signatures n unfinished happenings [] = ⊤
+abbrev pub Answers : Standard → (top : ℕ) → (held : Loc → ℕ) → List Signature → ℕ → List Entered → List TraceItem → List Event → Type 0
+Answers std top held signatures n unfinished trace [] = ⊤
 Answers std top held signatures n unfinished [] (e ∷ events) = ⊥
 Answers std top held signatures n unfinished (Line t v ∷ rest) (e ∷ events) = Answers std top held signatures n unfinished rest (e ∷ events)
 Answers std top held signatures n unfinished (StopLine stop ∷ rest) (e ∷ events) = Answers std top held signatures n unfinished rest (e ∷ events)
@@ -59,7 +59,7 @@ Answers std top held signatures n (entered ∷ unfinished) (Leave sig r ∷ rest
     IsReturn std entered r e × Answers std top held signatures (n + 1) unfinished rest events
 
 -- how many entries and returns there are
-abbrev pub events_in : List Happening → ℕ
+abbrev pub events_in : List TraceItem → ℕ
 events_in [] = 0
 events_in (Enter ptr sig args ∷ rest) = events_in rest + 1
 events_in (Leave sig r ∷ rest) = events_in rest + 1
@@ -67,10 +67,10 @@ events_in (Line t v ∷ rest) = events_in rest
 events_in (StopLine stop ∷ rest) = events_in rest
 
 -- THE JOURNAL IS THAT OF THESE HAPPENINGS, as far as it goes, on a machine that began: from the top of the stack down, with reserved registers 0
-abbrev pub JournalOf : Standard → List Signature → List Happening → List Event → Type 0
-JournalOf std signatures happenings journal =
-    Answers std stack_top (λ at. 0) signatures 0 [] happenings journal
+abbrev pub JournalOf : Standard → List Signature → List TraceItem → List Event → Type 0
+JournalOf std signatures trace journal =
+    Answers std stack_top (λ at. 0) signatures 0 [] trace journal
 
 -- and it is whole
-abbrev pub IsWhole : List Happening → List Event → Type 0
-IsWhole happenings journal = length journal ≡ events_in happenings
+abbrev pub IsWhole : List TraceItem → List Event → Type 0
+IsWhole trace journal = length journal ≡ events_in trace

@@ -2,6 +2,6 @@ pub mod Move
 pub mod Closures
 pub mod Meaning
 pub mod Recursion
-pub mod Happenings
+pub mod Trace
 pub mod Lines
 pub mod Journal

@@ -12,7 +12,7 @@ use Rattle.ffi3_place_rules.specs.Standard.{Standard, need_of, frame_of}
 use Rattle.ffi3_run_rules.specs.declared.Stop.{Stop}
 use Rattle.ffi3_run_rules.specs.declared.Stop.TheVariants.{NoClosure, WrongSig, TableFull, StackFull, MoveLimit}
 use Rattle.ffi3_run_rules.specs.Meaning.{Program}
-use Rattle.ffi3_run_rules.specs.Happenings.{Happening, Enter, Line, Leave, StopLine, happenings_of}
+use Rattle.ffi3_run_rules.specs.Trace.{TraceItem, Enter, Line, Leave, StopLine, trace_of}
 
 -- with a newline at the end
 abbrev pub a_line : List ℕ → List ℕ
@@ -47,7 +47,7 @@ abbrev pub at_start : Point
 at_start = record { events = 0; calls = [] }
 
 -- after what happens next
-abbrev pub past : List Signature → Point → Happening → Point
+abbrev pub past : List Signature → Point → TraceItem → Point
 past signatures at (Enter ptr sig args) = record {
   events = at.events + 1;
   calls = record { signature = signature_at signatures sig; entry = at.events } ∷ at.calls;
@@ -60,9 +60,9 @@ past signatures at (StopLine stop) = at
 -- ---- the lines of entries and returns
 
 -- not told at all, or told by a standard, on a stack that falls from `top`, where at the entry of number n a preserved register has what `leaves n` says
-pub data Trace : Type 0 where
-  untraced : Trace
-  traced : Standard → (top : ℕ) → (leaves : ℕ → Loc → ℕ) → Trace
+pub data Tracing : Type 0 where
+  untraced : Tracing
+  traced : Standard → (top : ℕ) → (leaves : ℕ → Loc → ℕ) → Tracing
 
 -- the stack pointer at a call, inside these calls: below all that they need and the call's own frame
 abbrev pub sp_at_call : Standard → (top : ℕ) → List OpenCall → Signature → ℕ
@@ -87,13 +87,13 @@ abbrev pub keep_text : Standard → (Loc → ℕ) → List ℕ
 keep_text std leaves =
     codes "keep" ++ concat (map (λ at. codes " " ++ word_text (leaves at)) std.preserved)
 
-abbrev pub enter_lines : Trace → Point → (address : ℕ) → Signature → List ValueTree → List ℕ
+abbrev pub enter_lines : Tracing → Point → (address : ℕ) → Signature → List ValueTree → List ℕ
 enter_lines untraced at address s args = []
 enter_lines (traced std top leaves) at address s args =
     a_line (enter_text std top at.calls address s args) ++ a_line (keep_text std (leaves at.events))
 
 -- of the innermost call
-abbrev pub leave_lines : Trace → List OpenCall → ValueTree → List ℕ
+abbrev pub leave_lines : Tracing → List OpenCall → ValueTree → List ℕ
 leave_lines untraced calls r = []
 leave_lines (traced std top leaves) [] r = []
 leave_lines (traced std top leaves) (c ∷ outer) r =
@@ -101,19 +101,19 @@ leave_lines (traced std top leaves) (c ∷ outer) r =
 
 -- ---- the text
 
-abbrev pub text_of : Trace → List Signature → Point → Happening → List ℕ
-text_of trace signatures at (Enter ptr sig args) =
-    enter_lines trace at ptr (signature_at signatures sig) args
-text_of trace signatures at (Line t v) = a_line (value_text_of t v)
-text_of trace signatures at (Leave sig r) = leave_lines trace at.calls r
-text_of trace signatures at (StopLine stop) = a_line (stop_text signatures stop)
+abbrev pub item_text : Tracing → List Signature → Point → TraceItem → List ℕ
+item_text tracing signatures at (Enter ptr sig args) =
+    enter_lines tracing at ptr (signature_at signatures sig) args
+item_text tracing signatures at (Line t v) = a_line (value_text_of t v)
+item_text tracing signatures at (Leave sig r) = leave_lines tracing at.calls r
+item_text tracing signatures at (StopLine stop) = a_line (stop_text signatures stop)
 
 -- of what happens from some point on, in order
-abbrev pub text : Trace → List Signature → Point → List Happening → List ℕ
-text trace signatures at [] = []
-text trace signatures at (h ∷ rest) =
-    text_of trace signatures at h ++ text trace signatures (past signatures at h) rest
+abbrev pub text : Tracing → List Signature → Point → List TraceItem → List ℕ
+text tracing signatures at [] = []
+text tracing signatures at (h ∷ rest) =
+    item_text tracing signatures at h ++ text tracing signatures (past signatures at h) rest
 
 -- THE TEXT OF A PROGRAM'S RUN
-abbrev pub text_of_run : Trace → Program → List ℕ
-text_of_run trace p = text trace p.signatures at_start (happenings_of p)
+abbrev pub text_of_run : Tracing → Program → List ℕ
+text_of_run tracing p = text tracing p.signatures at_start (trace_of p)

@@ -50,48 +50,48 @@ behaviour_of p main = p.main
 behaviour_of p (function k) = (function_at p k).behaviour
 
 -- an activation: whose, with which arguments and user data, the bytes of stack left below it, and the results of its moves so far
-pub record Acting : Type 0 where
+pub record Activation : Type 0 where
   pub who : Who
   pub arguments : List ValueTree
   pub user : ℕ
   pub left : ℕ
   pub results : List ValueTree
 
-abbrev pub with_result : Acting → ValueTree → Acting
+abbrev pub with_result : Activation → ValueTree → Activation
 with_result a r = record a { results = a.results ++ r ∷ [] }
 
-abbrev pub next_move : Program → Acting → Move
+abbrev pub next_move : Program → Activation → Move
 next_move p a = behaviour_of p a.who a.arguments a.user a.results
 
 -- a pointer as a value
 abbrev pub pointer_value : ℕ → ValueTree
 pointer_value address = leaf_value (to_le_bytes w64 address)
 
--- The deeds of an activation, in order: its lines and its calls, and last the line of a stop. A call has the deeds of its function inside it, and its result, or none where the run stopped in it.
+-- The call tree of an activation: its lines and its calls in order, and last the line of a stop. A call has the call tree of its function inside it, and its result, or none where the run stopped in it.
 mutual
-  pub data Deed : Type 0 where
-    line : Tree → ValueTree → Deed
-    called : (pointer signature : ℕ) → (arguments : List ValueTree) → (inside : Deeds) → (result : Option ValueTree) → Deed
-    stop_line : Stop → Deed
+  pub data TreeNode : Type 0 where
+    line : Tree → ValueTree → TreeNode
+    called : (pointer signature : ℕ) → (arguments : List ValueTree) → (inside : CallTree) → (result : Option ValueTree) → TreeNode
+    stop_line : Stop → TreeNode
 
-  pub data Deeds : Type 0 where
-    no_deeds : Deeds
-    deed : Deed → Deeds → Deeds
+  pub data CallTree : Type 0 where
+    no_nodes : CallTree
+    node : TreeNode → CallTree → CallTree
 
 -- what a move does at once: it ends the activation, or stops the run, or goes on with a result, or enters a function
-pub data Doing : Type 0 where
-  ends : ValueTree → Doing
-  stops : Stop → Doing
-  prints : Tree → ValueTree → Doing
-  goes_on : (result : ValueTree) → Closures → Doing
-  enters : (pointer signature : ℕ) → Acting → Doing
+pub data Effect : Type 0 where
+  ends : ValueTree → Effect
+  stops : Stop → Effect
+  prints : Tree → ValueTree → Effect
+  goes_on : (result : ValueTree) → Closures → Effect
+  enters : (pointer signature : ℕ) → Activation → Effect
 
-abbrev pub at_closure : Option Closure → ℕ → (Closure → Doing) → Doing
+abbrev pub at_closure : Option Closure → ℕ → (Closure → Effect) → Effect
 at_closure None ptr go = stops (NoClosure ptr)
 at_closure (Some closure) ptr go = go closure
 
 -- the activation that a call of a closure starts
-abbrev pub callee_of : Program → Acting → ℕ → List ValueTree → Closure → Acting
+abbrev pub callee_of : Program → Activation → ℕ → List ValueTree → Closure → Activation
 callee_of p a sig args closure = record {
   who = function closure.func;
   arguments = args;
@@ -101,7 +101,7 @@ callee_of p a sig args closure = record {
 }
 
 -- a call enters a live closure of its own signature, where the stack suffices
-abbrev pub call_of : Program → Acting → ℕ → ℕ → List ValueTree → Closure → Doing
+abbrev pub call_of : Program → Activation → ℕ → ℕ → List ValueTree → Closure → Effect
 call_of p a ptr sig args closure =
     if same_signature (signature_at p.signatures sig) (signature_at p.signatures closure.sig)
     then (if nat_lt a.left (need_at p sig)
@@ -109,54 +109,54 @@ call_of p a ptr sig args closure =
     else enters ptr sig (callee_of p a sig args closure))
     else stops (WrongSig ptr sig closure.sig)
 
-abbrev pub doing : Program → Acting → Closures → Move → Doing
-doing p a closures (return v) = ends v
-doing p a closures (print t v) = prints t v
-doing p a closures (make func user) =
+abbrev pub effect_of : Program → Activation → Closures → Move → Effect
+effect_of p a closures (return v) = ends v
+effect_of p a closures (print t v) = prints t v
+effect_of p a closures (make func user) =
     if nat_lt (first_free closures) slots
     then goes_on (pointer_value (slot_address (first_free closures))) (with_closure closures (first_free closures) (Some (record { func = func; sig = (function_at p func).signature; user = user })))
     else stops TableFull
-doing p a closures (free ptr) =
+effect_of p a closures (free ptr) =
     at_closure (closure_at closures ptr) ptr (λ closure. goes_on void_value (freed closures ptr))
-doing p a closures (call ptr sig args) =
+effect_of p a closures (call ptr sig args) =
     at_closure (closure_at closures ptr) ptr (call_of p a ptr sig args)
 
 pub data End : Type 0 where
   returned : ValueTree → End
   stopped : Stop → End
 
--- how an activation ended, the closures and moves that are left, and its deeds
+-- how an activation ended, the closures and moves that are left, and its call tree
 pub record Outcome : Type 0 where
   pub end : End
   pub closures : Closures
   pub moves : ℕ
-  pub deeds : Deeds
+  pub call_tree : CallTree
 
-abbrev pub after : Deed → Outcome → Outcome
-after d o = record o { deeds = deed d o.deeds }
+abbrev pub after : TreeNode → Outcome → Outcome
+after d o = record o { call_tree = node d o.call_tree }
 
 abbrev pub stops_with : Stop → Closures → ℕ → Outcome
 stops_with stop closures moves =
-    record { end = stopped stop; closures = closures; moves = moves; deeds = deed (stop_line stop) no_deeds }
+    record { end = stopped stop; closures = closures; moves = moves; call_tree = node (stop_line stop) no_nodes }
 
 -- what follows where closures and moves left are given
 abbrev pub Acts : Type 0
-Acts = Acting → Closures → ℕ → Outcome
+Acts = Activation → Closures → ℕ → Outcome
 
--- an activation goes on once the function that it called has ended; where the run stopped in that, it has no more deeds
-abbrev pub resumed : Acts → Acting → ℕ → ℕ → List ValueTree → Outcome → End → Outcome
+-- an activation goes on once the function that it called has ended; where the run stopped in that, its call tree ends there
+abbrev pub resumed : Acts → Activation → ℕ → ℕ → List ValueTree → Outcome → End → Outcome
 resumed acts a ptr sig args o (stopped stop) =
-    record o { deeds = deed (called ptr sig args o.deeds None) no_deeds }
+    record o { call_tree = node (called ptr sig args o.call_tree None) no_nodes }
 resumed acts a ptr sig args o (returned r) =
-    after (called ptr sig args o.deeds (Some r)) (acts (with_result a r) o.closures o.moves)
+    after (called ptr sig args o.call_tree (Some r)) (acts (with_result a r) o.closures o.moves)
 
-abbrev pub resumed_after : Acts → Acting → ℕ → ℕ → List ValueTree → Outcome → Outcome
+abbrev pub resumed_after : Acts → Activation → ℕ → ℕ → List ValueTree → Outcome → Outcome
 resumed_after acts a ptr sig args o = resumed acts a ptr sig args o o.end
 
 -- one move and all that follows it; `moves` are left after it
-abbrev pub follows : Acts → Acting → Closures → ℕ → Doing → Outcome
+abbrev pub follows : Acts → Activation → Closures → ℕ → Effect → Outcome
 follows acts a closures moves (ends v) =
-    record { end = returned v; closures = closures; moves = moves; deeds = no_deeds }
+    record { end = returned v; closures = closures; moves = moves; call_tree = no_nodes }
 follows acts a closures moves (stops stop) = stops_with stop closures moves
 follows acts a closures moves (prints t v) =
     after (line t v) (acts (with_result a void_value) closures moves)
@@ -165,17 +165,17 @@ follows acts a closures moves (enters ptr sig callee) =
     resumed_after acts a ptr sig callee.arguments (acts callee closures moves)
 
 -- ---- as far as a depth of `fuel` moves
-unfoldable pub act_within : Program → ℕ → Acting → Closures → ℕ → Outcome
+unfoldable pub act_within : Program → ℕ → Activation → Closures → ℕ → Outcome
 act_within p zero a closures moves = stops_with MoveLimit closures 0
 act_within p (suc fuel) a closures zero = stops_with MoveLimit closures 0
 act_within p (suc fuel) a closures (suc moves) =
-    follows (act_within p fuel) a closures moves (doing p a closures (next_move p a))
+    follows (act_within p fuel) a closures moves (effect_of p a closures (next_move p a))
 
 -- How an activation acts. A move is counted before it is done, and none is asked for where none is left; so no depth is greater than the moves left, which are fuel enough: `Recursion.antt` has this recursion without fuel.
-unfoldable pub act : Program → Acting → Closures → ℕ → Outcome
+unfoldable pub act : Program → Activation → Closures → ℕ → Outcome
 act p a closures moves = act_within p moves a closures moves
 
-abbrev pub main_call : Acting
+abbrev pub main_call : Activation
 main_call = record { who = main; arguments = []; user = 0; left = stack_size; results = [] }
 
 -- THE DIRECT MEANING OF A PROGRAM: main acts, with the whole stack, no closures and all moves left.
@@ -219,11 +219,11 @@ with_natives p natives = record p {
 
 -- the peak of a call is its need and the peak of the calls inside it; that of several calls is the greatest
 abbrev mutual
-  pub peak_of : Program → Deeds → ℕ
-  peak_of p no_deeds = 0
-  peak_of p (deed d ds) = max (peak_in p d) (peak_of p ds)
+  pub peak_of : Program → CallTree → ℕ
+  peak_of p no_nodes = 0
+  peak_of p (node d ds) = max (peak_in p d) (peak_of p ds)
 
-  peak_in : Program → Deed → ℕ
+  peak_in : Program → TreeNode → ℕ
   peak_in p (line t v) = 0
   peak_in p (stop_line stop) = 0
   peak_in p (called ptr sig args inside r) = need_at p sig + peak_of p inside

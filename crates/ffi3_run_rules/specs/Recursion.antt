@@ -2,10 +2,10 @@
 use Rattle.std.specs.Prelude.{◌≡◌, ℕ, suc, ◌≤◌}
 use Rattle.ffi3_run_rules.specs.declared.Stop.TheVariants.{MoveLimit}
 use Rattle.ffi3_run_rules.specs.Closures.{Closures}
-use Rattle.ffi3_run_rules.specs.Meaning.{Program, Acting, doing, next_move, follows, stops_with, act}
+use Rattle.ffi3_run_rules.specs.Meaning.{Program, Activation, effect_of, next_move, follows, stops_with, act}
 
 pub record IsPlainRecursion (p : Program) : Type 0 where
-  pub none_left : (a : Acting) (closures : Closures) → act p a closures 0 ≡ stops_with MoveLimit closures 0
-  pub one_more : (a : Acting) (closures : Closures) (moves : ℕ) → act p a closures (suc moves) ≡ follows (act p) a closures moves (doing p a closures (next_move p a))
+  pub none_left : (a : Activation) (closures : Closures) → act p a closures 0 ≡ stops_with MoveLimit closures 0
+  pub one_more : (a : Activation) (closures : Closures) (moves : ℕ) → act p a closures (suc moves) ≡ follows (act p) a closures moves (effect_of p a closures (next_move p a))
   -- no more moves are left after it than before
-  pub never_rise : (a : Acting) (closures : Closures) (moves : ℕ) → (act p a closures moves).moves ≤ moves
+  pub never_rise : (a : Activation) (closures : Closures) (moves : ℕ) → (act p a closures moves).moves ≤ moves

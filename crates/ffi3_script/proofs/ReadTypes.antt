@@ -5,7 +5,7 @@ use Rattle.std.proofs.lemmas.Bool.{false≢true}
 use Rattle.serde_json.specs.Data.{Data}
 use Rattle.ffi3_type_rules.specs.Tree.{Tree}
 use Rattle.ffi3_type_rules.specs.Fault as type_fault
-use Rattle.ffi3_type_rules.specs.Fault.{HasNoFault, IsFirstFault}
+use Rattle.ffi3_type_rules.specs.Fault.{IsFirstFault, IsArgumentType}
 use Rattle.ffi3_type_rules.specs.Same.{same_tree}
 use Rattle.ffi3_types.specs.declared.FfiType.{FfiType}
 use Rattle.ffi3_types.specs.TreeOf.{tree_of}
@@ -40,7 +40,7 @@ against-is own ty path e b r iff is =
 
 -- ---- a type that may be an argument's
 
-pub right_type-ok : (d : Data) (path : Path) (t : Tree) → read_type d path ≡ read t → HasNoFault 0 false t → read_right_type d path ≡ read t
+pub right_type-ok : (d : Data) (path : Path) (t : Tree) → read_type d path ≡ read t → IsArgumentType t → read_right_type d path ≡ read t
 right_type-ok d path t was right =
     then_read _ (read_type d path) t was ∙ ap (right_type path t) (none_found 0 false t right)
 

@@ -7,19 +7,19 @@ use Rattle.ffi3_script_rules.specs.Bodies.{read_script}
 use Rattle.ffi3_script_rules.specs.Reading.{IsJson, IsTheReading, too_long, not_json, bad_script, script}
 use Rattle.ffi3_script_rules.proofs.Readings.{the_reading}
 use Rattle.ffi3_json.specs.ReasonOf.{reason_of}
-use Rattle.ffi3_json.specs.Told.{Tells, IsCauseOf}
+use Rattle.ffi3_json.specs.Reports.{Reports, IsCauseOf}
 use Rattle.ffi3_json.specs.declared.fault.ScriptFault.{ScriptFault}
 use Rattle.ffi3_json.specs.declared.fault.ScriptFault.TheVariants.{TooLong, BadJson, BadScript, NoMemory}
-use Rattle.ffi3_script.specs.Refusal.{IsRefusal}
+use Rattle.ffi3_script.specs.Refusal.{IsScriptRefusal}
 
 module _ (natives : List (List ℕ)) (bytes : List ℕ) where
-  pub refused-text : (e : ScriptFault) → IsCauseOf bytes e → IsRefusal natives bytes e
+  pub refused-text : (e : ScriptFault) → IsCauseOf bytes e → IsScriptRefusal natives bytes e
   refused-text TooLong h = the_reading natives bytes too_long h
   refused-text BadJson h = the_reading natives bytes not_json h
   refused-text (BadScript path why) h = absurd h
   refused-text NoMemory h = tt
 
-  pub refused-value : (d : Data) → IsJson bytes d → (e : ScriptFault) → Tells (λ p r. read_script natives d ≡ fault p r) e → IsRefusal natives bytes e
+  pub refused-value : (d : Data) → IsJson bytes d → (e : ScriptFault) → Reports (λ p r. read_script natives d ≡ fault p r) e → IsScriptRefusal natives bytes e
   refused-value d is TooLong h = absurd h
   refused-value d is BadJson h = absurd h
   refused-value d is (BadScript path why) h = the_reading natives bytes (bad_script path (reason_of why)) (d, is, h)

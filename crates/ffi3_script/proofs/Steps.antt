@@ -5,7 +5,7 @@ use Rattle.serde_json.specs.Data.{Data, null}
 use Rattle.serde_json.specs.Find.{get}
 use Rattle.ffi3_script_rules.specs.Step.{key, number}
 use Rattle.ffi3_script_rules.specs.Language.{Path, Reason, Read, read, fault, and_then, under, at_item, value_under}
-use Rattle.ffi3_json.specs.Told.{Tells}
+use Rattle.ffi3_json.specs.Reports.{Reports}
 use Rattle.ffi3_json.specs.declared.fault.ScriptFault.{ScriptFault}
 use Rattle.ffi3_json.proofs.Tellings.{tells_made, tells_part}
 use Rattle.ffi3_json.proofs.Paths.{there_and_back}
@@ -17,11 +17,11 @@ pub then_read : {A B : Type 0} (f : A → Read B) (x : Read A) (a : A) → x ≡
 then_read f x a e = ap (and_then f) e
 
 -- a fault that was made at a place, which is this one
-pub tells_here : {A : Type 0} (x : Read A) (path on : Path) (why : Reason) → on ≡ path → x ≡ fault path why → (e : ScriptFault) → Tells (λ p r. (p ≡ on) × (r ≡ why)) e → Tells (λ p r. x ≡ fault p r) e
+pub tells_here : {A : Type 0} (x : Read A) (path on : Path) (why : Reason) → on ≡ path → x ≡ fault path why → (e : ScriptFault) → Reports (λ p r. (p ≡ on) × (r ≡ why)) e → Reports (λ p r. x ≡ fault p r) e
 tells_here x path on why same is e t = tells_made x on why (is ∙ ap (λ p. fault p why) (sym same)) e t
 
 -- a fault of the same value at a place, which is this one
-pub tells_there : {A B : Type 0} (x : Read A) (y : Path → Read B) (path on : Path) → on ≡ path → ((p : Path) (r : Reason) → y path ≡ fault p r → x ≡ fault p r) → (e : ScriptFault) → Tells (λ p r. y on ≡ fault p r) e → Tells (λ p r. x ≡ fault p r) e
+pub tells_there : {A B : Type 0} (x : Read A) (y : Path → Read B) (path on : Path) → on ≡ path → ((p : Path) (r : Reason) → y path ≡ fault p r → x ≡ fault p r) → (e : ScriptFault) → Reports (λ p r. y on ≡ fault p r) e → Reports (λ p r. x ≡ fault p r) e
 tells_there x y path on same f e t = tells_part x (y on) (λ p r h. f p r (ap y (sym same) ∙ h)) e t
 
 -- back from the member under a key

@@ -6,9 +6,9 @@ use Rattle.ffi3_json.specs.declared.fault.ScriptFault.{ScriptFault}
 use Rattle.ffi3_json.specs.declared.fault.ScriptFault.TheVariants.{TooLong, BadJson, BadScript, NoMemory}
 
 -- Beside natives of these names the bytes are read as what the fault tells. Memory alone is free.
-abbrev pub IsRefusal : List (List ℕ) → List ℕ → ScriptFault → Type 0
-IsRefusal natives bytes TooLong = IsTheReading natives bytes too_long
-IsRefusal natives bytes BadJson = IsTheReading natives bytes not_json
-IsRefusal natives bytes (BadScript path why) =
+abbrev pub IsScriptRefusal : List (List ℕ) → List ℕ → ScriptFault → Type 0
+IsScriptRefusal natives bytes TooLong = IsTheReading natives bytes too_long
+IsScriptRefusal natives bytes BadJson = IsTheReading natives bytes not_json
+IsScriptRefusal natives bytes (BadScript path why) =
     IsTheReading natives bytes (bad_script path (reason_of why))
-IsRefusal natives bytes NoMemory = ⊤
+IsScriptRefusal natives bytes NoMemory = ⊤

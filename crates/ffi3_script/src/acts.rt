@@ -6,7 +6,7 @@ ghost use Rattle.serde_json.specs.View.{view};
 ghost use Rattle.ffi3_script_rules.specs.Language as language;
 ghost use Rattle.ffi3_script_rules.specs.Language.{read, under, HasShortArrays};
 ghost use Rattle.ffi3_script_rules.specs.Bodies.{kind_of, keys_of, read_call, read_make, read_act, read_move};
-ghost use Rattle.ffi3_json.specs.Told.{Tells};
+ghost use Rattle.ffi3_json.specs.Reports.{Reports};
 ghost use Rattle.ffi3_script_body.specs.ExprOf.{script_move_of};
 ghost use Rattle.ffi3_script.specs.ScopeOf.{scope_of, given_in, surroundings_of, IsEven};
 ghost use Rattle.ffi3_script.specs.Kinds.{kind_from};
@@ -144,7 +144,7 @@ fn read_call(
         (λ d. read_call (surroundings_of globals.now scope.now) (given_in scope.now)
         (scope_of scope.now) None (view value.now) at.old ≡ read (move_by None d)) }
     ensures err { IfErr result
-        (Tells (λ p r. read_call (surroundings_of globals.now scope.now) (given_in scope.now)
+        (Reports (λ p r. read_call (surroundings_of globals.now scope.now) (given_in scope.now)
         (scope_of scope.now) None (view value.now) at.old ≡ language.fault p r)) }
 {
     let ptr = match read_pointer(alloc, scope, "call", value, at) {
@@ -187,7 +187,7 @@ fn read_make(
         (λ d. read_make (surroundings_of globals.now scope.now) (given_in scope.now)
         (scope_of scope.now) None (view value.now) at.old ≡ read (move_by None d)) }
     ensures err { IfErr result
-        (Tells (λ p r. read_make (surroundings_of globals.now scope.now) (given_in scope.now)
+        (Reports (λ p r. read_make (surroundings_of globals.now scope.now) (given_in scope.now)
         (scope_of scope.now) None (view value.now) at.old ≡ language.fault p r)) }
 {
     let func = match read_function(alloc, globals.functions, value, at) {
@@ -233,7 +233,7 @@ fn read_act(
         (λ d. read_act (surroundings_of globals.now scope.now) (given_in scope.now) (scope_of scope.now)
         (kind_from kind) (view value.now) at.old None ≡ read (move_by None d)) }
     ensures err { IfErr result
-        (Tells (λ p r. read_act (surroundings_of globals.now scope.now) (given_in scope.now) (scope_of scope.now)
+        (Reports (λ p r. read_act (surroundings_of globals.now scope.now) (given_in scope.now) (scope_of scope.now)
         (kind_from kind) (view value.now) at.old None ≡ language.fault p r)) }
 {
     match kind {
@@ -271,7 +271,7 @@ pub(crate) fn read_move(
         (λ m. read_move (surroundings_of globals.now scope.now) (given_in scope.now) (view value.now) at.old
         ≡ read (script_move_of m)) }
     ensures err { IfErr result
-        (Tells (λ p r. read_move (surroundings_of globals.now scope.now) (given_in scope.now) (view value.now) at.old
+        (Reports (λ p r. read_move (surroundings_of globals.now scope.now) (given_in scope.now) (view value.now) at.old
         ≡ language.fault p r)) }
 {
     let Some(kind) = kind_of(value) else {

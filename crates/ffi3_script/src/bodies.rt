@@ -7,7 +7,7 @@ ghost use Rattle.ffi3_script_rules.specs.Language as language;
 ghost use Rattle.ffi3_script_rules.specs.Language.{read, under, value_under, HasShortArrays, HaveShortArrays};
 ghost use Rattle.ffi3_script_rules.specs.Bodies.{type_of_act, is_return, always_returns, ends};
 ghost use Rattle.ffi3_script_rules.specs.Bodies.{read_move, read_moves, read_body};
-ghost use Rattle.ffi3_json.specs.Told.{Tells};
+ghost use Rattle.ffi3_json.specs.Reports.{Reports};
 ghost use Rattle.ffi3_script_body.specs.ExprOf.{act_of, script_move_of, script_moves_of};
 ghost use Rattle.ffi3_script.specs.ScopeOf.{given_of, surroundings_in};
 ghost use Rattle.ffi3_script.specs.Numbers.{CallsWithin};
@@ -88,7 +88,7 @@ fn read_next(
         (λ m. read_move (surroundings_in globals.now own.now) (given_of names.now types.now) (view value.now) at.old
         ≡ read (script_move_of m)) }
     ensures err { IfErr result
-        (Tells (λ p r. read_move (surroundings_in globals.now own.now) (given_of names.now types.now)
+        (Reports (λ p r. read_move (surroundings_in globals.now own.now) (given_of names.now types.now)
         (view value.now) at.old ≡ language.fault p r)) }
 {
     let scope = Scope { own, names, types };
@@ -114,7 +114,7 @@ fn read_moves(
         (λ ms. read_moves (surroundings_in globals.now own.now) [] (items_view items.now.items) at.old 0
         ≡ read (script_moves_of ms.items)) }
     ensures err { IfErr result
-        (Tells (λ p r. read_moves (surroundings_in globals.now own.now) [] (items_view items.now.items) at.old 0
+        (Reports (λ p r. read_moves (surroundings_in globals.now own.now) [] (items_view items.now.items) at.old 0
         ≡ language.fault p r)) }
 {
     let mut names = NameIndex::new(alloc);
@@ -179,7 +179,7 @@ pub(crate) fn read_body(
         (λ ms. read_body (surroundings_in globals.now own.now) (value_under name.now (view value.now))
         (under at.old name.now) ≡ read (script_moves_of ms.items)) }
     ensures err { IfErr result
-        (Tells (λ p r. read_body (surroundings_in globals.now own.now) (value_under name.now (view value.now))
+        (Reports (λ p r. read_body (surroundings_in globals.now own.now) (value_under name.now (view value.now))
         (under at.old name.now) ≡ language.fault p r)) }
 {
     at.push_key(alloc, name)?;

@@ -8,7 +8,7 @@ ghost use Rattle.ffi3_script_rules.specs.Language as language;
 ghost use Rattle.ffi3_script_rules.specs.Language.{read, under, value_under, HasShortArrays};
 ghost use Rattle.ffi3_script_rules.specs.Values as values;
 ghost use Rattle.ffi3_script_rules.specs.Bodies.{read_name, read_condition, read_arguments, read_user, read_result};
-ghost use Rattle.ffi3_json.specs.Told.{Tells};
+ghost use Rattle.ffi3_json.specs.Reports.{Reports};
 ghost use Rattle.ffi3_script_body.specs.ExprOf.{expression_of, expressions_in, typed_of, act_of};
 ghost use Rattle.ffi3_script.specs.Numbers.{CallsWithin};
 ghost use Rattle.ffi3_script.specs.ScopeOf.{scope_of, given_in, IsEven};
@@ -36,7 +36,7 @@ pub(crate) fn read_name(
         (λ name. read_name (given_in scope.now) (tree_of ty.now) (get (codes "as") (view value.now))
         (under at.old (codes "as")) ≡ read (option_map string_bytes name)) }
     ensures err { IfErr result
-        (Tells (λ p r. read_name (given_in scope.now) (tree_of ty.now) (get (codes "as") (view value.now))
+        (Reports (λ p r. read_name (given_in scope.now) (tree_of ty.now) (get (codes "as") (view value.now))
         (under at.old (codes "as")) ≡ language.fault p r)) }
 {
     let Some(named) = value.get("as") else {
@@ -68,7 +68,7 @@ pub(crate) fn read_condition(
         (λ c. read_condition (scope_of scope.now) (get (codes "when") (view value.now)) (under at.old (codes "when"))
         ≡ read (option_map typed_of c)) }
     ensures err { IfErr result
-        (Tells (λ p r. read_condition (scope_of scope.now) (get (codes "when") (view value.now))
+        (Reports (λ p r. read_condition (scope_of scope.now) (get (codes "when") (view value.now))
         (under at.old (codes "when")) ≡ language.fault p r)) }
 {
     let Some(when) = value.get("when") else {
@@ -101,7 +101,7 @@ pub(crate) fn read_arguments(
         (λ es. read_arguments (scope_of scope.now) types.now (value_under (codes "args") (view value.now))
         (under at.old (codes "args")) ≡ read (expressions_in es.items)) }
     ensures err { IfErr result
-        (Tells (λ p r. read_arguments (scope_of scope.now) types.now (value_under (codes "args") (view value.now))
+        (Reports (λ p r. read_arguments (scope_of scope.now) types.now (value_under (codes "args") (view value.now))
         (under at.old (codes "args")) ≡ language.fault p r)) }
 {
     at.push_key(alloc, "args")?;
@@ -137,7 +137,7 @@ pub(crate) fn read_pointer(
         (λ e. values.read_value (scope_of scope.now) (scalar pointer) (value_under name.now (view value.now))
         (under at.old name.now) ≡ read (expression_of e)) }
     ensures err { IfErr result
-        (Tells (λ p r. values.read_value (scope_of scope.now) (scalar pointer) (value_under name.now (view value.now))
+        (Reports (λ p r. values.read_value (scope_of scope.now) (scalar pointer) (value_under name.now (view value.now))
         (under at.old name.now) ≡ language.fault p r)) }
 {
     at.push_key(alloc, name)?;
@@ -166,7 +166,7 @@ pub(crate) fn read_user(
         (λ e. read_user (scope_of scope.now) (get (codes "user") (view value.now)) (under at.old (codes "user"))
         ≡ read (expression_of e)) }
     ensures err { IfErr result
-        (Tells (λ p r. read_user (scope_of scope.now) (get (codes "user") (view value.now))
+        (Reports (λ p r. read_user (scope_of scope.now) (get (codes "user") (view value.now))
         (under at.old (codes "user")) ≡ language.fault p r)) }
 {
     let Some(user) = value.get("user") else {
@@ -196,7 +196,7 @@ pub(crate) fn read_printed(
         (λ v. values.read_typed (scope_of scope.now) (value_under (codes "print") (view value.now))
         (under at.old (codes "print")) ≡ read (typed_of v)) }
     ensures err { IfErr result
-        (Tells (λ p r. values.read_typed (scope_of scope.now) (value_under (codes "print") (view value.now))
+        (Reports (λ p r. values.read_typed (scope_of scope.now) (value_under (codes "print") (view value.now))
         (under at.old (codes "print")) ≡ language.fault p r)) }
 {
     at.push_key(alloc, "print")?;
@@ -227,7 +227,7 @@ pub(crate) fn read_result(
         (λ a. read_result (scope_of scope.now) (tree_of ty.now) (value_under (codes "return") (view value.now))
         (under at.old (codes "return")) ≡ read (act_of a)) }
     ensures err { IfErr result
-        (Tells (λ p r. read_result (scope_of scope.now) (tree_of ty.now) (value_under (codes "return") (view value.now))
+        (Reports (λ p r. read_result (scope_of scope.now) (tree_of ty.now) (value_under (codes "return") (view value.now))
         (under at.old (codes "return")) ≡ language.fault p r)) }
 {
     at.push_key(alloc, "return")?;
@@ -255,7 +255,7 @@ fn read_returned(
         (λ a. read_result (scope_of scope.now) (tree_of ty.now) (value_under (codes "return") (view value.now)) at.old
         ≡ read (act_of a)) }
     ensures err { IfErr result
-        (Tells (λ p r. read_result (scope_of scope.now) (tree_of ty.now) (value_under (codes "return")
+        (Reports (λ p r. read_result (scope_of scope.now) (tree_of ty.now) (value_under (codes "return")
         (view value.now)) at.old ≡ language.fault p r)) }
 {
     if let FfiType::Void = ty {

@@ -5,7 +5,7 @@ ghost use Rattle.ffi3_type_rules.specs.Signature.{signature_at};
 ghost use Rattle.ffi3_script_rules.specs.Language as language;
 ghost use Rattle.ffi3_script_rules.specs.Language.{read, under, value_under, HasShortArrays, HaveShortArrays};
 ghost use Rattle.ffi3_script_rules.specs.Bodies.{read_body, read_bodies};
-ghost use Rattle.ffi3_json.specs.Told.{Tells};
+ghost use Rattle.ffi3_json.specs.Reports.{Reports};
 ghost use Rattle.ffi3_script_body.specs.ExprOf.{script_moves_of};
 ghost use Rattle.ffi3_script.specs.ScopeOf.{surroundings_in};
 ghost use Rattle.ffi3_script.specs.PartsOf.{headings_of, part_of, IsHeaded};
@@ -43,7 +43,7 @@ fn read_part(
         (value_under (codes "body") (view value.now)) (under at.old (codes "body"))
         ≡ read (script_moves_of f.moves.items)) }
     ensures err { IfErr result
-        (Tells (λ p r. read_body (surroundings_in globals.now (signature_at globals.now.sigs.now heading.now.sig))
+        (Reports (λ p r. read_body (surroundings_in globals.now (signature_at globals.now.sigs.now heading.now.sig))
         (value_under (codes "body") (view value.now)) (under at.old (codes "body")) ≡ language.fault p r)) }
 {
     let own = globals.sigs.get(heading.sig as usize);
@@ -84,7 +84,7 @@ pub(crate) fn read_parts(
         (λ fs. read_bodies globals.now.sigs.now globals.now.functions.now (headings_of headings.now.items)
         (items_view items.now.items) at.old 0 ≡ read (map part_of fs.items)) }
     ensures err { IfErr result
-        (Tells (λ p r. read_bodies globals.now.sigs.now globals.now.functions.now (headings_of headings.now.items)
+        (Reports (λ p r. read_bodies globals.now.sigs.now globals.now.functions.now (headings_of headings.now.items)
         (items_view items.now.items) at.old 0 ≡ language.fault p r)) }
 {
     let mut parts = Vec::new(alloc);

@@ -6,7 +6,7 @@ ghost use Rattle.ffi3_script_rules.specs.Language as language;
 ghost use Rattle.ffi3_script_rules.specs.Language.{read, under, value_under};
 ghost use Rattle.ffi3_script_rules.specs.Bodies.{is_one_of, new_name, function_keys, read_heading};
 ghost use Rattle.ffi3_script_rules.specs.Bodies.{read_headings, names_of};
-ghost use Rattle.ffi3_json.specs.Told.{Tells};
+ghost use Rattle.ffi3_json.specs.Reports.{Reports};
 ghost use Rattle.ffi3_script.specs.PartsOf.{heading_of, headings_of};
 
 use crate::NoMemory;
@@ -54,7 +54,7 @@ fn read_function_name(
         (λ name. new_name (is_one_of earlier.now) (as_str (value_under (codes "name") (view value.now)))
         (under at.old (codes "name")) ≡ read (string_bytes name)) }
     ensures err { IfErr result
-        (Tells (λ p r. new_name (is_one_of earlier.now) (as_str (value_under (codes "name") (view value.now)))
+        (Reports (λ p r. new_name (is_one_of earlier.now) (as_str (value_under (codes "name") (view value.now)))
         (under at.old (codes "name")) ≡ language.fault p r)) }
 {
     at.push_key(alloc, "name")?;
@@ -82,7 +82,7 @@ fn read_heading(
     ensures ok { IfOk result
         (λ h. read_heading (length sigs.now) earlier.now (view value.now) at.old ≡ read (heading_of h)) }
     ensures err { IfErr result
-        (Tells (λ p r. read_heading (length sigs.now) earlier.now (view value.now) at.old ≡ language.fault p r)) }
+        (Reports (λ p r. read_heading (length sigs.now) earlier.now (view value.now) at.old ≡ language.fault p r)) }
 {
     let keys = function_keys(alloc)?;
     if let Err(fault) = check_object(alloc, value, &keys, at) {
@@ -130,7 +130,7 @@ pub(crate) fn read_headings(
         (λ h. read_headings (length sigs.now) [] (items_view items.now.items) at.old 0 ≡ read
         (headings_of h.list.items)) }
     ensures err { IfErr result
-        (Tells (λ p r. read_headings (length sigs.now) [] (items_view items.now.items) at.old 0 ≡ language.fault p r)) }
+        (Reports (λ p r. read_headings (length sigs.now) [] (items_view items.now.items) at.old 0 ≡ language.fault p r)) }
 {
     let mut names = FunctionNames::new(alloc);
     let mut list = Vec::new(alloc);

@@ -6,7 +6,7 @@ ghost use Rattle.serde_json.specs.View.{view};
 ghost use Rattle.ffi3_script_rules.specs.Language as language;
 ghost use Rattle.ffi3_script_rules.specs.Language.{read, under, value_under};
 ghost use Rattle.ffi3_script_rules.specs.Bodies.{is_name_byte, is_name, new_name, read_signature_number, read_function};
-ghost use Rattle.ffi3_json.specs.Told.{Tells};
+ghost use Rattle.ffi3_json.specs.Reports.{Reports};
 ghost use Rattle.ffi3_script.specs.Taken.{is_taken};
 
 use crate::functions::FunctionNames;
@@ -55,7 +55,7 @@ pub(crate) fn new_name(
     ensures ok { IfOk result
         (λ name. new_name (is_taken names.now) (as_str (view value.now)) at.now ≡ read (string_bytes name)) }
     ensures err { IfErr result
-        (Tells (λ p r. new_name (is_taken names.now) (as_str (view value.now)) at.now ≡ language.fault p r)) }
+        (Reports (λ p r. new_name (is_taken names.now) (as_str (view value.now)) at.now ≡ language.fault p r)) }
 {
     let Some(name) = value.as_str() else {
         return Err(bad(alloc, at, Reason::BadName));
@@ -82,7 +82,7 @@ pub(crate) fn read_signature_number(
         (λ i. read_signature_number (length sigs.now) (value_under (codes "sig") (view value.now))
         (under at.old (codes "sig")) ≡ read i) }
     ensures err { IfErr result
-        (Tells (λ p r. read_signature_number (length sigs.now) (value_under (codes "sig") (view value.now))
+        (Reports (λ p r. read_signature_number (length sigs.now) (value_under (codes "sig") (view value.now))
         (under at.old (codes "sig")) ≡ language.fault p r)) }
 {
     at.push_key(alloc, "sig")?;
@@ -112,7 +112,7 @@ pub(crate) fn read_function(
         (λ k. read_function functions.now (as_str (value_under (codes "make") (view value.now)))
         (under at.old (codes "make")) ≡ read k) }
     ensures err { IfErr result
-        (Tells (λ p r. read_function functions.now (as_str (value_under (codes "make") (view value.now)))
+        (Reports (λ p r. read_function functions.now (as_str (value_under (codes "make") (view value.now)))
         (under at.old (codes "make")) ≡ language.fault p r)) }
 {
     at.push_key(alloc, "make")?;

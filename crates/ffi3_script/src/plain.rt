@@ -9,7 +9,7 @@ ghost use Rattle.ffi3_script_rules.specs.Script as script;
 ghost use Rattle.ffi3_script_rules.specs.Values.{typed, in_range, is_integer_type, read_number, read_text};
 ghost use Rattle.ffi3_script_rules.specs.Values.{argument_of, result_of, user_of, element_of, against, cast_of};
 ghost use Rattle.ffi3_script_rules.specs.Values.{read_right_type};
-ghost use Rattle.ffi3_json.specs.Told.{Tells};
+ghost use Rattle.ffi3_json.specs.Reports.{Reports};
 ghost use Rattle.ffi3_script_body.specs.ExprOf.{expression_of, typed_of};
 ghost use Rattle.ffi3_script.specs.ScopeOf.{scope_of};
 
@@ -120,7 +120,7 @@ pub(crate) fn read_number(
     at: &Where,
 ) -> Result<Expr, ScriptFault>
     ensures ok { IfOk result (λ e. read_number (tree_of ty.now) (number_view n.now) at.now ≡ read (expression_of e)) }
-    ensures err { IfErr result (Tells (λ p r. read_number (tree_of ty.now) (number_view n.now) at.now ≡ fault p r)) }
+    ensures err { IfErr result (Reports (λ p r. read_number (tree_of ty.now) (number_view n.now) at.now ≡ fault p r)) }
 {
     if !is_number(ty) {
         return Err(bad(alloc, at, Reason::WrongType));
@@ -145,7 +145,7 @@ pub(crate) fn read_text(
     at: &Where,
 ) -> Result<Expr, ScriptFault>
     ensures ok { IfOk result (λ e. read_text (tree_of ty.now) text.now at.now ≡ read (expression_of e)) }
-    ensures err { IfErr result (Tells (λ p r. read_text (tree_of ty.now) text.now at.now ≡ fault p r)) }
+    ensures err { IfErr result (Reports (λ p r. read_text (tree_of ty.now) text.now at.now ≡ fault p r)) }
 {
     match ty {
         FfiType::Float => match <[u8; 4] as FromHex>::from_hex(text) {
@@ -171,7 +171,7 @@ pub(crate) fn argument_of(
         (λ v. argument_of (scope_of scope.now).arguments (option_and_then as_u64 (as_number (view value.now))) at.now
         ≡ read (typed_of v)) }
     ensures err { IfErr result
-        (Tells (λ p r. argument_of (scope_of scope.now).arguments (option_and_then as_u64 (as_number (view value.now)))
+        (Reports (λ p r. argument_of (scope_of scope.now).arguments (option_and_then as_u64 (as_number (view value.now)))
         at.now ≡ fault p r)) }
 {
     let Some(i) = value.as_u64() else {
@@ -198,7 +198,7 @@ pub(crate) fn result_of(
     ensures ok { IfOk result
         (λ v. result_of (scope_of scope.now).given (as_str (view value.now)) at.now ≡ read (typed_of v)) }
     ensures err { IfErr result
-        (Tells (λ p r. result_of (scope_of scope.now).given (as_str (view value.now)) at.now ≡ fault p r)) }
+        (Reports (λ p r. result_of (scope_of scope.now).given (as_str (view value.now)) at.now ≡ fault p r)) }
 {
     let Some(name) = value.as_str() else {
         return Err(bad(alloc, at, Reason::NoSuchResult));
@@ -217,7 +217,7 @@ pub(crate) fn result_of(
 /// The user data of the closure.
 pub(crate) fn user_of(alloc: Global, value: &Json, at: &Where) -> Result<TypedExpr, ScriptFault>
     ensures ok { IfOk result (λ v. user_of (view value.now) at.now ≡ read (typed_of v)) }
-    ensures err { IfErr result (Tells (λ p r. user_of (view value.now) at.now ≡ fault p r)) }
+    ensures err { IfErr result (Reports (λ p r. user_of (view value.now) at.now ≡ fault p r)) }
 {
     match value.as_bool() {
         Some(true) => Ok(TypedExpr {
@@ -240,7 +240,7 @@ pub(crate) fn element_of(
         (λ v. element_of (expression_of value) fields.now (option_and_then as_u64 (as_number (view number.now))) at.now
         ≡ read (typed_of v)) }
     ensures err { IfErr result
-        (Tells (λ p r. element_of (expression_of value) fields.now
+        (Reports (λ p r. element_of (expression_of value) fields.now
         (option_and_then as_u64 (as_number (view number.now))) at.now ≡ fault p r)) }
 {
     let value = boxed(alloc, value)?;
@@ -264,7 +264,7 @@ pub(crate) fn against(
     at: &Where,
 ) -> Result<Expr, ScriptFault>
     ensures ok { IfOk result (λ e. against (tree_of ty.now) at.now (typed_of value) ≡ read (expression_of e)) }
-    ensures err { IfErr result (Tells (λ p r. against (tree_of ty.now) at.now (typed_of value) ≡ fault p r)) }
+    ensures err { IfErr result (Reports (λ p r. against (tree_of ty.now) at.now (typed_of value) ≡ fault p r)) }
 {
     if same_type(&value.ty, ty) {
         Ok(value.value)
@@ -283,7 +283,7 @@ pub(crate) fn cast_of(
     ensures ok { IfOk result
         (λ e. cast_of (scalar_of (tree_of to.now)) at.now (typed_of value) ≡ read (expression_of e)) }
     ensures err { IfErr result
-        (Tells (λ p r. cast_of (scalar_of (tree_of to.now)) at.now (typed_of value) ≡ fault p r)) }
+        (Reports (λ p r. cast_of (scalar_of (tree_of to.now)) at.now (typed_of value) ≡ fault p r)) }
 {
     if !is_number(&value.ty) {
         return Err(bad(alloc, at, Reason::WrongType));
@@ -298,7 +298,7 @@ fn read_right_type(alloc: Global, value: &Json, at: &mut Where) -> Result<FfiTyp
     requires { HasShortArrays (view value.now) }
     ensures place { OnOk result (at.new ≡ at.old) }
     ensures ok { IfOk result (λ t. read_right_type (view value.now) at.old ≡ read (tree_of t)) }
-    ensures err { IfErr result (Tells (λ p r. read_right_type (view value.now) at.old ≡ fault p r)) }
+    ensures err { IfErr result (Reports (λ p r. read_right_type (view value.now) at.old ≡ fault p r)) }
 {
     let ty = match read_node(alloc, value, at) {
         Ok(ty) => ty,
@@ -322,7 +322,7 @@ pub(crate) fn read_first_type(
     requires { HasShortArrays (view item.now) }
     ensures place { OnOk result (at.new ≡ at.old) }
     ensures ok { IfOk result (λ t. read_right_type (view item.now) (at_item at.old 0) ≡ read (tree_of t)) }
-    ensures err { IfErr result (Tells (λ p r. read_right_type (view item.now) (at_item at.old 0) ≡ fault p r)) }
+    ensures err { IfErr result (Reports (λ p r. read_right_type (view item.now) (at_item at.old 0) ≡ fault p r)) }
 {
     at.push_number(0)?;
     let ty = match read_right_type(alloc, item, at) {

@@ -8,7 +8,7 @@ ghost use Rattle.ffi3_script_rules.specs.Reading.{IsTheReading, script};
 ghost use Rattle.ffi3_script_rules.specs.Typed.{script_is_typed, function_is_typed, signature_is_right};
 ghost use Rattle.ffi3_script.specs.FunctionOf.{function_of, StandsIn};
 ghost use Rattle.ffi3_script.specs.PartsOf.{part_of, script_in};
-ghost use Rattle.ffi3_script.specs.Refusal.{IsRefusal};
+ghost use Rattle.ffi3_script.specs.Refusal.{IsScriptRefusal};
 ghost use Rattle.ffi3_script.specs.ScriptOf.{script_of, natives_of};
 
 use crate::function_parts::FunctionPart;
@@ -26,7 +26,7 @@ pub fn read_script(alloc: Global, bytes: &[u8], natives: &Names) -> Result<Scrip
     requires { length natives.now < 2 ^ 31 }
     ensures ok { IfOk result (λ s. IsTheReading natives.now bytes.now (script (script_of s))) }
     ensures natives { IfOk result (λ s. natives_of s ≡ length natives.now) }
-    ensures err { IfErr result (IsRefusal natives.now bytes.now) }
+    ensures err { IfErr result (IsScriptRefusal natives.now bytes.now) }
 {
     let value = match parse(alloc, bytes) {
         Ok(value) => value,

@@ -7,7 +7,7 @@ ghost use Rattle.ffi3_script_rules.specs.Language as language;
 ghost use Rattle.ffi3_script_rules.specs.Language.{read, under, value_under, HasShortArrays, HaveShortArrays};
 ghost use Rattle.ffi3_script_rules.specs.Bodies.{script_keys, version_of, items_at, read_signatures, read_headings};
 ghost use Rattle.ffi3_script_rules.specs.Bodies.{read_bodies, read_rest, read_script, names_of};
-ghost use Rattle.ffi3_json.specs.Told.{Tells};
+ghost use Rattle.ffi3_json.specs.Reports.{Reports};
 ghost use Rattle.ffi3_json.specs.Within.{HasArraysWithin};
 ghost use Rattle.ffi3_script.specs.PartsOf.{headings_of, part_of, script_in, bodies_and_main};
 
@@ -56,7 +56,7 @@ fn read_version(alloc: Global, value: &Json, at: &mut Where) -> Result<(), Scrip
         (version_of (option_and_then as_u64 (as_number (value_under (codes "version") (view value.now))))
         (under at.old (codes "version")) ≡ read tt) }
     ensures err { IfErr result
-        (Tells (λ p r. version_of (option_and_then as_u64 (as_number (value_under (codes "version") (view value.now))))
+        (Reports (λ p r. version_of (option_and_then as_u64 (as_number (value_under (codes "version") (view value.now))))
         (under at.old (codes "version")) ≡ language.fault p r)) }
 {
     at.push_key(alloc, "version")?;
@@ -89,7 +89,7 @@ fn items_under<'a>(
         (λ items. items_at (value_under name.now (view value.now)) (under at.old name.now) ≡ read
         (items_view items.now.items)) }
     ensures err { IfErr result
-        (Tells (λ p r. items_at (value_under name.now (view value.now)) (under at.old name.now) ≡ language.fault p r)) }
+        (Reports (λ p r. items_at (value_under name.now (view value.now)) (under at.old name.now) ≡ language.fault p r)) }
 {
     at.push_key(alloc, name)?;
     let Some(inside) = value.get(name) else {
@@ -113,7 +113,7 @@ fn read_each_signature(
     ensures place { OnOk result (at.new ≡ at.old) }
     ensures ok { IfOk result (λ ss. read_signatures (items_view items.now.items) at.old 0 ≡ read ss) }
     ensures err { IfErr result
-        (Tells (λ p r. read_signatures (items_view items.now.items) at.old 0 ≡ language.fault p r)) }
+        (Reports (λ p r. read_signatures (items_view items.now.items) at.old 0 ≡ language.fault p r)) }
 {
     let mut sigs = Sigs::new(alloc);
     for i in 0..items.len() {
@@ -136,7 +136,7 @@ fn read_signatures(alloc: Global, items: &Vec<Json>, at: &mut Where) -> Result<S
     ensures ok { IfOk result
         (λ ss. read_signatures (items_view items.now.items) (under at.old (codes "signatures")) 0 ≡ read ss) }
     ensures err { IfErr result
-        (Tells (λ p r. read_signatures (items_view items.now.items) (under at.old (codes "signatures")) 0
+        (Reports (λ p r. read_signatures (items_view items.now.items) (under at.old (codes "signatures")) 0
         ≡ language.fault p r)) }
 {
     at.push_key(alloc, "signatures")?;
@@ -164,7 +164,7 @@ fn read_functions(
         (λ h. read_headings (length sigs.now) [] (items_view items.now.items) (under at.old (codes "functions")) 0
         ≡ read (headings_of h.list.items)) }
     ensures err { IfErr result
-        (Tells (λ p r. read_headings (length sigs.now) [] (items_view items.now.items)
+        (Reports (λ p r. read_headings (length sigs.now) [] (items_view items.now.items)
         (under at.old (codes "functions")) 0 ≡ language.fault p r)) }
 {
     at.push_key(alloc, "functions")?;
@@ -204,7 +204,7 @@ fn read_function_bodies(
         (λ fs. read_bodies globals.now.sigs.now globals.now.functions.now (headings_of headings.now.items)
         (items_view items.now.items) (under at.old (codes "functions")) 0 ≡ read (map part_of fs.items)) }
     ensures err { IfErr result
-        (Tells (λ p r. read_bodies globals.now.sigs.now globals.now.functions.now (headings_of headings.now.items)
+        (Reports (λ p r. read_bodies globals.now.sigs.now globals.now.functions.now (headings_of headings.now.items)
         (items_view items.now.items) (under at.old (codes "functions")) 0 ≡ language.fault p r)) }
 {
     at.push_key(alloc, "functions")?;
@@ -237,7 +237,7 @@ fn read_all_bodies(
         (items_view items.now.items) (view value.now) at.old
         ≡ read (script_in globals.now.sigs.now b.functions.items b.main.items)) }
     ensures err { IfErr result
-        (Tells (λ p r. bodies_and_main globals.now.sigs.now globals.now.functions.now (headings_of headings.now.items)
+        (Reports (λ p r. bodies_and_main globals.now.sigs.now globals.now.functions.now (headings_of headings.now.items)
         (items_view items.now.items) (view value.now) at.old ≡ language.fault p r)) }
 {
     let functions = match read_function_bodies(alloc, globals, headings, items, at) {
@@ -274,7 +274,7 @@ fn read_rest(
         (λ b. read_rest natives.now (view value.now) sigs.now (items_view items.now.items)
         (headings_of headings.list.items) ≡ read (script_in sigs.now b.functions.items b.main.items)) }
     ensures err { IfErr result
-        (Tells (λ p r. read_rest natives.now (view value.now) sigs.now (items_view items.now.items)
+        (Reports (λ p r. read_rest natives.now (view value.now) sigs.now (items_view items.now.items)
         (headings_of headings.list.items) ≡ language.fault p r)) }
 {
     let Headings { mut names, list } = headings;
@@ -296,7 +296,7 @@ pub(crate) fn read_root(alloc: Global, value: &Json, natives: &Names) -> Result<
     requires few { length natives.now < 2 ^ 31 }
     ensures ok { IfOk result
         (λ p. read_script natives.now (view value.now) ≡ read (script_in p.sigs p.functions.items p.main.items)) }
-    ensures err { IfErr result (Tells (λ p r. read_script natives.now (view value.now) ≡ language.fault p r)) }
+    ensures err { IfErr result (Reports (λ p r. read_script natives.now (view value.now) ≡ language.fault p r)) }
 {
     let mut at = Where::new(alloc);
     let keys = script_keys(alloc)?;

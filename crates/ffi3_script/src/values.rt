@@ -4,7 +4,7 @@ ghost use Rattle.serde_json.specs.View.{view, items_view};
 ghost use Rattle.ffi3_types.specs.TreeOf.{tree_of};
 ghost use Rattle.ffi3_script_rules.specs.Language.{read, fault, HasShortArrays, HaveShortArrays, at_item, under};
 ghost use Rattle.ffi3_script_rules.specs.Values.{read_value, read_values, read_typed, read_field, read_of, form_named};
-ghost use Rattle.ffi3_json.specs.Told.{Tells};
+ghost use Rattle.ffi3_json.specs.Reports.{Reports};
 ghost use Rattle.ffi3_script_body.specs.ExprOf.{expression_of, expressions_in, typed_of};
 ghost use Rattle.ffi3_script.specs.ScopeOf.{scope_of};
 ghost use Rattle.ffi3_script.specs.Shapes.{typed_form_of, typed_under, value_under_form, read_terms};
@@ -36,7 +36,7 @@ pub(crate) fn read_value(
     ensures ok { IfOk result
         (λ e. read_value (scope_of scope.now) (tree_of ty.now) (view value.now) at.old ≡ read (expression_of e)) }
     ensures err { IfErr result
-        (Tells (λ p r. read_value (scope_of scope.now) (tree_of ty.now) (view value.now) at.old ≡ fault p r)) }
+        (Reports (λ p r. read_value (scope_of scope.now) (tree_of ty.now) (view value.now) at.old ≡ fault p r)) }
 {
     if let Some(n) = value.as_number() {
         return read_number(alloc, ty, n, at);
@@ -79,7 +79,7 @@ fn read_item(
         (λ e. read_value (scope_of scope.now) (tree_of ty.now) (view item.now) (at_item at.old i)
         ≡ read (expression_of e)) }
     ensures err { IfErr result
-        (Tells (λ p r. read_value (scope_of scope.now) (tree_of ty.now) (view item.now) (at_item at.old i)
+        (Reports (λ p r. read_value (scope_of scope.now) (tree_of ty.now) (view item.now) (at_item at.old i)
         ≡ fault p r)) }
 {
     at.push_number(i)?;
@@ -108,7 +108,7 @@ pub(crate) fn read_values(
         (λ es. read_values (scope_of scope.now) types.now (items_view items.now.items) at.old 0
         ≡ read (expressions_in es.items)) }
     ensures err { IfErr result
-        (Tells (λ p r. read_values (scope_of scope.now) types.now (items_view items.now.items) at.old 0 ≡ fault p r)) }
+        (Reports (λ p r. read_values (scope_of scope.now) types.now (items_view items.now.items) at.old 0 ≡ fault p r)) }
 {
     let mut values = Vec::new(alloc);
     for i in 0..types.len() {
@@ -137,7 +137,7 @@ fn read_form(
         (λ e. value_under_form (scope_of scope.now) (tree_of ty.now) name.now (view inside.now) at.old
         (form_named name.now) ≡ read (expression_of e)) }
     ensures err { IfErr result
-        (Tells (λ p r. value_under_form (scope_of scope.now) (tree_of ty.now) name.now (view inside.now) at.old
+        (Reports (λ p r. value_under_form (scope_of scope.now) (tree_of ty.now) name.now (view inside.now) at.old
         (form_named name.now) ≡ fault p r)) }
 {
     match form_named(name) {
@@ -191,7 +191,7 @@ fn read_terms(
         (λ p. read_terms (scope_of scope.now) (tree_of ty.now) name.now (view inside.now) at.old
         ≡ read (expression_of p.0, expression_of p.1)) }
     ensures err { IfErr result
-        (Tells (λ p r. read_terms (scope_of scope.now) (tree_of ty.now) name.now (view inside.now) at.old
+        (Reports (λ p r. read_terms (scope_of scope.now) (tree_of ty.now) name.now (view inside.now) at.old
         ≡ fault p r)) }
 {
     if !is_integer(ty) {
@@ -225,7 +225,7 @@ pub(crate) fn read_typed(
     requires even { length scope.now.names.now ≡ length scope.now.types.now }
     ensures place { OnOk result (at.new ≡ at.old) }
     ensures ok { IfOk result (λ v. read_typed (scope_of scope.now) (view value.now) at.old ≡ read (typed_of v)) }
-    ensures err { IfErr result (Tells (λ p r. read_typed (scope_of scope.now) (view value.now) at.old ≡ fault p r)) }
+    ensures err { IfErr result (Reports (λ p r. read_typed (scope_of scope.now) (view value.now) at.old ≡ fault p r)) }
 {
     if is_untyped(value) {
         return Err(bad(alloc, at, Reason::NoTypeOfItsOwn));
@@ -257,7 +257,7 @@ fn read_own(
         (λ v. typed_under (scope_of scope.now) name.now (view inside.now) at.old (typed_form_of form)
         ≡ read (typed_of v)) }
     ensures err { IfErr result
-        (Tells (λ p r. typed_under (scope_of scope.now) name.now (view inside.now) at.old (typed_form_of form)
+        (Reports (λ p r. typed_under (scope_of scope.now) name.now (view inside.now) at.old (typed_form_of form)
         ≡ fault p r)) }
 {
     match form {
@@ -284,7 +284,7 @@ fn read_field(
     ensures ok { IfOk result
         (λ v. read_field (scope_of scope.now) (view inside.now) (under at.old name.now) at.old ≡ read (typed_of v)) }
     ensures err { IfErr result
-        (Tells (λ p r. read_field (scope_of scope.now) (view inside.now) (under at.old name.now) at.old ≡ fault p r)) }
+        (Reports (λ p r. read_field (scope_of scope.now) (view inside.now) (under at.old name.now) at.old ≡ fault p r)) }
 {
     at.push_key(alloc, name)?;
     let Some((inner, number)) = two_items(inside) else {
@@ -318,7 +318,7 @@ fn read_of(
     ensures ok { IfOk result
         (λ v. read_of (scope_of scope.now) (view inside.now) (under at.old name.now) ≡ read (typed_of v)) }
     ensures err { IfErr result
-        (Tells (λ p r. read_of (scope_of scope.now) (view inside.now) (under at.old name.now) ≡ fault p r)) }
+        (Reports (λ p r. read_of (scope_of scope.now) (view inside.now) (under at.old name.now) ≡ fault p r)) }
 {
     at.push_key(alloc, name)?;
     let Some((first, second)) = two_items(inside) else {

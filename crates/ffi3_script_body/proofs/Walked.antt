@@ -8,7 +8,7 @@ use Rattle.ffi3_type_rules.specs.Tree.{trees_of}
 use Rattle.ffi3_type_rules.specs.Signature.{Signature}
 use Rattle.ffi3_type_rules.specs.Value.{ValueTree, void_value, fits, all_fit, values_of, zero_value}
 use Rattle.ffi3_run_rules.specs.Move.{Move, result_type_of}
-use Rattle.ffi3_body.specs.Activation.{Activation, arguments_of}
+use Rattle.ffi3_body.specs.SeenActivation.{SeenActivation, arguments_of}
 use Rattle.ffi3_script_rules.specs.Script as script
 use Rattle.ffi3_script_rules.specs.Script.{Act, call, make, free, print, return, return_void}
 use Rattle.ffi3_script_rules.specs.Bodies.{type_of_act, ends}
@@ -58,7 +58,7 @@ calls_typed s k (return e) h = refl
 calls_typed s k return_void h = refl
 
 -- After these moves, which took so many results, these moves are left.
-pub record Walked (s : Setting) (a : Activation) (next : List ValueTree → Move) (pasts : List Past) (taken : ℕ) (ms : List script.ScriptMove) : Type 0 where
+pub record Walked (s : Setting) (a : SeenActivation) (next : List ValueTree → Move) (pasts : List Past) (taken : ℕ) (ms : List script.ScriptMove) : Type 0 where
   pub typed : moves_are_typed s (kinds_from s.signatures a pasts) ms ≡ true
   pub ended : ends ms ≡ true
   pub there : list_all (is_there (length s.signatures) (length a.results)) pasts ≡ true
@@ -70,7 +70,7 @@ abbrev pub setting : List Signature → ℕ → Signature → Setting
 setting signatures functions own =
     record { signatures = signatures; functions = functions; result_type = own.result_type }
 
-pub walked_none : (signatures : List Signature) (functions : ℕ) (own : Signature) (a : Activation) (ms : List script.ScriptMove) → a.signature ≡ own → body_is_typed signatures functions own ms ≡ true → Walked (setting signatures functions own) a (behaviour_of signatures ms (arguments_of a) a.user) [] 0 ms
+pub walked_none : (signatures : List Signature) (functions : ℕ) (own : Signature) (a : SeenActivation) (ms : List script.ScriptMove) → a.signature ≡ own → body_is_typed signatures functions own ms ≡ true → Walked (setting signatures functions own) a (behaviour_of signatures ms (arguments_of a) a.user) [] 0 ms
 walked_none signatures functions own a ms own_is h =
     let s = setting signatures functions own in
     record {
@@ -82,7 +82,7 @@ walked_none signatures functions own a ms own_is h =
       left = λ rest. refl;
     }
 
-module _ (s : Setting) (a : Activation) (next : List ValueTree → Move) (pasts : List Past) (taken : ℕ) (m : script.ScriptMove) (ms : List script.ScriptMove) (walked : Walked s a next pasts taken (m ∷ ms)) (right : list_all signature_is_right s.signatures ≡ true) (p : Past) (act_is : p.act ≡ m.act) where
+module _ (s : Setting) (a : SeenActivation) (next : List ValueTree → Move) (pasts : List Past) (taken : ℕ) (m : script.ScriptMove) (ms : List script.ScriptMove) (walked : Walked s a next pasts taken (m ∷ ms)) (right : list_all signature_is_right s.signatures ≡ true) (p : Past) (act_is : p.act ≡ m.act) where
   abbrev before : Known
   before = known_from s.signatures a pasts
 
@@ -130,7 +130,7 @@ module _ (s : Setting) (a : Activation) (next : List ValueTree → Move) (pasts 
       grown ps n taken are n_is (walked_more (zero_value (type_of_act s.signatures m.act)) taken (ap (value_by (past_type s.signatures p) a.results) result_is ∙ ap zero_value type_is) (unfinished_fits s.signatures m.act right) (ap (is_below (length a.results)) result_is) (ends_after_undone m ms before undone walked.ended) walked.within (left_undone s next a.results taken m ms before undone walked.left))
 
 -- THE MOVES AT THE START THAT ARE ALWAYS DONE: each takes a result
-module _ (s : Setting) (a : Activation) (next : List ValueTree → Move) (right : list_all signature_is_right s.signatures ≡ true) (follow : (i : ℕ) → i < length a.results → IsOfType (slice_index_or a.results i void_value) (result_type_of s.signatures (next (take i a.results)))) where
+module _ (s : Setting) (a : SeenActivation) (next : List ValueTree → Move) (right : list_all signature_is_right s.signatures ≡ true) (follow : (i : ℕ) → i < length a.results → IsOfType (slice_index_or a.results i void_value) (result_type_of s.signatures (next (take i a.results)))) where
   walked_on : (pasts : List Past) (taken : ℕ) (ms : List ScriptMove) (n : ℕ) → Walked s a next pasts taken (script_moves_of ms) → list_all is_unconditional (take n ms) ≡ true → taken + n ≤ length a.results → Walked s a next (pasts ++ done_from taken (script_moves_of (take n ms))) (taken + n) (drop n (script_moves_of ms))
   walked_on pasts taken ms zero walked always few =
       let n : taken ≡ taken + 0 = omega arith in

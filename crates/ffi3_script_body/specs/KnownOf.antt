@@ -3,7 +3,7 @@ use Rattle.std.specs.Prelude.{ℕ, ◌+◌, ◌&&◌, List, [], ◌∷◌, ◌++
 use Rattle.ffi3_type_rules.specs.Tree.{Tree}
 use Rattle.ffi3_type_rules.specs.Signature.{Signature}
 use Rattle.ffi3_type_rules.specs.Value.{ValueTree, void_value, zero_value}
-use Rattle.ffi3_body.specs.Activation.{Activation, arguments_of}
+use Rattle.ffi3_body.specs.SeenActivation.{SeenActivation, arguments_of}
 use Rattle.ffi3_script_rules.specs.Script.{Act, call, ScriptMove}
 use Rattle.ffi3_script_rules.specs.Bodies.{type_of_act}
 use Rattle.ffi3_script_rules.specs.Meaning as meaning
@@ -50,11 +50,11 @@ calls_below count _ = true
 abbrev pub is_there : ℕ → ℕ → Past → Bool
 is_there signatures results p = is_below results p.result && calls_below signatures p.act
 
-abbrev pub kinds_from : List Signature → Activation → List Past → Kinds
+abbrev pub kinds_from : List Signature → SeenActivation → List Past → Kinds
 kinds_from signatures a pasts =
     record { arguments = a.signature.arguments; outcomes = map (past_type signatures) pasts }
 
-abbrev pub known_from : List Signature → Activation → List Past → meaning.Known
+abbrev pub known_from : List Signature → SeenActivation → List Past → meaning.Known
 known_from signatures a pasts = record {
   arguments = arguments_of a;
   user = a.user;

@@ -3,7 +3,7 @@ use Rattle.std.proofs.Common.{◌≡◌, ℕ, zero, suc, ◌+◌, ◌-◌, ◌<�
 use Rattle.std.proofs.lemmas.Bool.{cases_order, ltb-true, ltb-false, eqb-true, eqb-false, or_cases, or_parts}
 use Rattle.std.proofs.lemmas.List.{get_or-drop, length-drop}
 use Rattle.ffi3_type_rules.specs.Tree.{Tree, void, tree_at}
-use Rattle.ffi3_type_rules.specs.Fault.{Fault, HasNoFault, IsFirstFault}
+use Rattle.ffi3_type_rules.specs.Fault.{Fault, IsFirstFault, IsResultType, IsArgumentType}
 use Rattle.ffi3_type_rules.specs.Signature.{Signature, SignatureFault, too_many, bad_type, bad_fixed, bad_argument_type, at_result, at_argument, is_promoted, IsSignatureFault, over_most, in_result, in_argument, fixed_outside, promoted, kind_rank, argument_number, SignatureFaultBefore, SignatureHasNoFault, IsFirstSignatureFault}
 use Rattle.ffi3_type_rules.proofs.Signatures.{first_too_many, first_in_result, first_in_argument, first_bad_fixed, right_with_no_fixed, right_with_fixed}
 use Rattle.ffi3_type_rules.proofs.Signatures as known
@@ -23,12 +23,12 @@ record FirstArgument (i : ℕ) (ts : List Tree) (f : SignatureFault) : Type 0 wh
   pub fault : Fault
   pub leads : f ≡ bad_type (at_argument (i + number)) way fault
   pub there : number < length ts
-  pub right_before : (j : ℕ) → j < number → HasNoFault 0 false (tree_at ts j)
+  pub right_before : (j : ℕ) → j < number → IsArgumentType (tree_at ts j)
   pub first : IsFirstFault 0 false (tree_at ts number) way fault
 
 -- of arguments, the first of them number i
 abbrev ArgumentsAnswer : ℕ → List Tree → Option SignatureFault → Type 0
-ArgumentsAnswer i ts None = (j : ℕ) → j < length ts → HasNoFault 0 false (tree_at ts j)
+ArgumentsAnswer i ts None = (j : ℕ) → j < length ts → IsArgumentType (tree_at ts j)
 ArgumentsAnswer i ts (Some f) = FirstArgument i ts f
 
 argument_in_front : (i : ℕ) (t : Tree) (ts : List Tree) (f : Option Found) (g : Option SignatureFault) → Answers 0 false t f → ArgumentsAnswer (i + 1) ts g → ArgumentsAnswer i (t ∷ ts) (or_else (option_map (at_position (at_argument i)) f) g)
@@ -36,13 +36,13 @@ argument_in_front i t ts (Some f) g first others =
     record { number = 0; way = f.0; fault = f.1; leads = ap (λ n. bad_type (at_argument n) f.0 f.1) (omega arith); there = omega arith; right_before = λ j h. absurd (omega arith); first = first }
 argument_in_front i t ts None None right rights = each
   where
-    each : (j : ℕ) → j < length (t ∷ ts) → HasNoFault 0 false (tree_at (t ∷ ts) j)
+    each : (j : ℕ) → j < length (t ∷ ts) → IsArgumentType (tree_at (t ∷ ts) j)
     each zero h = right
     each (suc j) h = rights j (omega arith)
 argument_in_front i t ts None (Some g) right first =
     record { number = suc first.number; way = first.way; fault = first.fault; leads = first.leads ∙ ap (λ n. bad_type (at_argument n) first.way first.fault) (omega arith); there = omega (arith, first.there); right_before = each; first = first.first }
   where
-    each : (j : ℕ) → j < suc first.number → HasNoFault 0 false (tree_at (t ∷ ts) j)
+    each : (j : ℕ) → j < suc first.number → IsArgumentType (tree_at (t ∷ ts) j)
     each zero h = right
     each (suc j) h = first.right_before j (omega arith)
 
@@ -88,8 +88,8 @@ after_drop n ts i = get_or-drop n ts i void
 
 -- the kinds of faults, one after another
 module _ (s : Signature) (few : length s.arguments ≤ 64) where
-  module _ (result_right : HasNoFault 0 true s.result_type) where
-    module _ (right : (j : ℕ) → j < length s.arguments → HasNoFault 0 false (tree_at s.arguments j)) where
+  module _ (result_right : IsResultType s.result_type) where
+    module _ (right : (j : ℕ) → j < length s.arguments → IsArgumentType (tree_at s.arguments j)) where
       by_promoted : (n : ℕ) → s.fixed ≡ Some n → 0 < n → n ≤ length s.arguments → (f : Option SignatureFault) → PromotedAnswer n (drop n s.arguments) f → SignatureAnswers s f
       by_promoted n is some within None none = right_with_fixed s few result_right right n is some within each
         where

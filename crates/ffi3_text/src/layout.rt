@@ -1,6 +1,6 @@
 // Lines of layout.
 ghost use Rattle.std.specs.Prelude.{◌≡◌, ◌<◌, ◌++◌, IfOk, OnOk, length, true};
-ghost use Rattle.ffi3_type_rules.specs.Fault.{HasNoFault};
+ghost use Rattle.ffi3_type_rules.specs.Fault.{IsResultType};
 ghost use Rattle.ffi3_type_rules.specs.Signature.{SignatureHasNoFault, at_result, at_argument};
 ghost use Rattle.ffi3_types.specs.TreeOf.{tree_of};
 ghost use Rattle.ffi3_types.specs.SignatureFaultOf.{position_of};
@@ -47,7 +47,7 @@ fn argument_line(alloc: Global, sig_number: u32, sig: &Sig, i: u32) -> Result<By
 
 /// The type and its layout at the end of a text.
 fn write_type(alloc: Global, ty: &FfiType, text: &mut Bytes) -> Result<(), NoMemory>
-    requires { HasNoFault 0 true (tree_of ty.now) }
+    requires { IsResultType (tree_of ty.now) }
     ensures { OnOk result (text.new ≡ text.old ++ type_layout_text (tree_of ty.now)) }
 {
     text.extend(type_text(alloc, ty)?.as_slice())?;
@@ -59,7 +59,7 @@ fn write_type(alloc: Global, ty: &FfiType, text: &mut Bytes) -> Result<(), NoMem
 
 /// Size, alignment and leaves.
 fn write_layout(alloc: Global, ty: &FfiType, text: &mut Bytes) -> Result<(), NoMemory>
-    requires { HasNoFault 0 true (tree_of ty.now) }
+    requires { IsResultType (tree_of ty.now) }
     ensures { OnOk result (text.new ≡ text.old ++ sized_text (tree_of ty.now)) }
 {
     let size = ty.size();
@@ -72,7 +72,7 @@ fn write_layout(alloc: Global, ty: &FfiType, text: &mut Bytes) -> Result<(), NoM
 }
 
 fn write_leaf(alloc: Global, leaf: &Leaf, text: &mut Bytes) -> Result<(), NoMemory>
-    requires { HasNoFault 0 true (tree_of leaf.now.kind) }
+    requires { IsResultType (tree_of leaf.now.kind) }
     ensures { OnOk result (text.new ≡ text.old ++ at_text leaf.now.at (tree_of leaf.now.kind)) }
 {
     let at = leaf.at;

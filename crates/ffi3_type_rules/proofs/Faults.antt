@@ -5,7 +5,7 @@ use Rattle.std.proofs.lemmas.Bool.{cases_lt}
 use Rattle.ffi3_type_rules.specs.Tree.{Tree, void, scalar, left_out, structure, struct_of, trees_of, Trees, no_trees, list_of, tree_at, list_of-trees_of, Scalar, LeftOutKind}
 use Rattle.ffi3_type_rules.specs.Layout.{size_of}
 use Rattle.ffi3_type_rules.proofs.Layouts.{scalar_size-bounds}
-use Rattle.ffi3_type_rules.specs.Fault.{Fault, bad_typedef, left_out_type, too_large, too_deep, node_at, IsFault, void_in_place, left_out_kind, nested_deep, no_elements, over_limit, rank, IsBefore, HasNoFault, IsFirstFault}
+use Rattle.ffi3_type_rules.specs.Fault.{Fault, bad_typedef, left_out_type, too_large, too_deep, node_at, IsFault, void_in_place, left_out_kind, nested_deep, no_elements, over_limit, rank, IsBefore, HasNoFault, IsFirstFault, IsResultType}
 
 -- an element is at its number
 pub element_is : (ts : List Tree) (i : ℕ) → i < length ts → slice_get ts i ≡ Some (tree_at ts i)
@@ -213,6 +213,6 @@ fault_deeper outer as_result t path f (no_elements is) = no_elements is
 fault_deeper outer as_result t path f (over_limit is large) = over_limit is large
 
 -- the elements of a type without fault have none
-pub element_is_right : (as_result : Bool) (ts : List Tree) → HasNoFault 0 as_result (struct_of ts) → (i : ℕ) → i < length ts → HasNoFault 0 true (tree_at ts i)
+pub element_is_right : (as_result : Bool) (ts : List Tree) → HasNoFault 0 as_result (struct_of ts) → (i : ℕ) → i < length ts → IsResultType (tree_at ts i)
 element_is_right as_result ts h i below =
     argument_is_result 0 (tree_at ts i) (λ path f fault. h (i ∷ path) f (fault_by_element ts i path f below (fault_deeper 0 false _ path f fault)))

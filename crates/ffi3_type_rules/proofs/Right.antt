@@ -3,7 +3,7 @@ use Rattle.std.proofs.Common.{ℕ, zero, suc, ◌+◌, ◌<◌, ◌≤◌, ◌�
 use Rattle.std.proofs.lemmas.Bool.{cases_lt}
 use Rattle.ffi3_type_rules.specs.Tree.{Tree, void, scalar, left_out, structure, struct_of, Trees, no_trees, tree, list_of, tree_at, trees_of-list_of}
 use Rattle.ffi3_type_rules.specs.Layout.{size_of}
-use Rattle.ffi3_type_rules.specs.Fault.{Fault, HasNoFault, IsFirstFault}
+use Rattle.ffi3_type_rules.specs.Fault.{Fault, HasNoFault, IsFirstFault, IsResultType, IsArgumentType}
 use Rattle.ffi3_type_rules.specs.Signature.{Signature, SignatureHasNoFault, too_many, bad_type, at_result, at_argument, over_most, in_result, in_argument}
 use Rattle.ffi3_type_rules.proofs.Faults.{scalar_faults, void_faults, first_too_deep, first_empty, first_void, first_left_out, first_inside, struct_is_right, first_too_large, argument_is_result}
 
@@ -84,14 +84,14 @@ module _ (s : Signature) (right : SignatureHasNoFault s) where
         | inr few ↦ few
       ]
 
-  pub result_is_right : HasNoFault 0 true s.result_type
+  pub result_is_right : IsResultType s.result_type
   result_is_right =
       right_without_first true s.result_type (λ path f first. right (bad_type at_result path f) (in_result first))
 
-  pub argument_is_right : (i : ℕ) → i < length s.arguments → HasNoFault 0 false (tree_at s.arguments i)
+  pub argument_is_right : (i : ℕ) → i < length s.arguments → IsArgumentType (tree_at s.arguments i)
   argument_is_right i below =
       right_without_first false (tree_at s.arguments i) (λ path f first. right (bad_type (at_argument i) path f) (in_argument below first))
 
   -- so each may be a result, and has at most 1,024 bytes
-  pub argument_as_result : (i : ℕ) → i < length s.arguments → HasNoFault 0 true (tree_at s.arguments i)
+  pub argument_as_result : (i : ℕ) → i < length s.arguments → IsResultType (tree_at s.arguments i)
   argument_as_result i below = argument_is_result 0 (tree_at s.arguments i) (argument_is_right i below)

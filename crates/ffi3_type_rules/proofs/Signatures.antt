@@ -2,7 +2,7 @@
 use Rattle.std.proofs.Common.{◌≡◌, ℕ, ◌<◌, ◌≤◌, ◌⊎◌, inl, inr, true, false, List, length, Some, None, sym, ◌∙◌, arith}
 use Rattle.std.proofs.lemmas.Bool.{cases_lt}
 use Rattle.ffi3_type_rules.specs.Tree.{tree_at}
-use Rattle.ffi3_type_rules.specs.Fault.{Fault, IsFirstFault, HasNoFault}
+use Rattle.ffi3_type_rules.specs.Fault.{Fault, IsFirstFault, IsResultType, IsArgumentType}
 use Rattle.ffi3_type_rules.specs.Signature.{Signature, at_result, at_argument, SignatureFault, too_many, bad_type, bad_fixed, bad_argument_type, is_promoted, IsSignatureFault, over_most, in_result, in_argument, fixed_outside, promoted, SignatureFaultBefore, SignatureHasNoFault, IsFirstSignatureFault}
 
 module _ (s : Signature) where
@@ -21,8 +21,8 @@ module _ (s : Signature) where
         go g (fixed_outside is outside) before = elim before [ inl less ↦ omega arith | inr less ↦ omega arith ]
         go g (promoted is from below right) before = elim before [ inl less ↦ omega arith | inr less ↦ omega arith ]
 
-    module _ (result_right : HasNoFault 0 true s.result_type) where
-      pub first_in_argument : (i : ℕ) (path : List ℕ) (f : Fault) → i < length s.arguments → ((j : ℕ) → j < i → HasNoFault 0 false (tree_at s.arguments j)) → IsFirstFault 0 false (tree_at s.arguments i) path f → IsFirstSignatureFault s (bad_type (at_argument i) path f)
+    module _ (result_right : IsResultType s.result_type) where
+      pub first_in_argument : (i : ℕ) (path : List ℕ) (f : Fault) → i < length s.arguments → ((j : ℕ) → j < i → IsArgumentType (tree_at s.arguments j)) → IsFirstFault 0 false (tree_at s.arguments i) path f → IsFirstSignatureFault s (bad_type (at_argument i) path f)
       first_in_argument i path f below right first = record { is_there = in_argument below first; none_before = go }
         where
           go : (g : SignatureFault) → IsSignatureFault s g → ¬ SignatureFaultBefore g (bad_type (at_argument i) path f)
@@ -32,7 +32,7 @@ module _ (s : Signature) where
           go g (fixed_outside is outside) before = elim before [ inl less ↦ omega arith | inr less ↦ omega arith ]
           go g (promoted is from inside right') before = elim before [ inl less ↦ omega arith | inr less ↦ omega arith ]
 
-      module _ (right : (j : ℕ) → j < length s.arguments → HasNoFault 0 false (tree_at s.arguments j)) where
+      module _ (right : (j : ℕ) → j < length s.arguments → IsArgumentType (tree_at s.arguments j)) where
         pub first_bad_fixed : (n : ℕ) → s.fixed ≡ Some n → (n ≡ 0) ⊎ (length s.arguments < n) → IsFirstSignatureFault s (bad_fixed n (length s.arguments))
         first_bad_fixed n is outside = record { is_there = fixed_outside is outside; none_before = go }
           where

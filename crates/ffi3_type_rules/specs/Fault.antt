@@ -1,5 +1,5 @@
 -- What is wrong with a type, and which fault is the first. (libffi manual, "Structures": FFI_BAD_TYPEDEF; the limits and the left-out kinds are this library's)
-use Rattle.std.specs.Prelude.{◌≡◌, ℕ, ◌+◌, ◌<◌, ◌⊎◌, Bool, false, List, [], ◌∷◌, length, Option, Some, None, slice_get, option_and_then}
+use Rattle.std.specs.Prelude.{◌≡◌, ℕ, ◌+◌, ◌<◌, ◌⊎◌, Bool, true, false, List, [], ◌∷◌, length, Option, Some, None, slice_get, option_and_then}
 use Rattle.ffi3_type_rules.specs.declared.limits.TheConstants.{LARGEST_STRUCT, DEEPEST_NESTING}
 use Rattle.ffi3_type_rules.specs.Tree.{Tree, void, left_out, structure, LeftOutKind, Trees, no_trees, list_of, scalar}
 use Rattle.ffi3_type_rules.specs.Layout.{size_of}
@@ -47,6 +47,13 @@ IsBefore (i ∷ p) f (j ∷ q) g = (i < j) ⊎ ((i ≡ j) × IsBefore p f q g)
 abbrev pub HasNoFault : ℕ → Bool → Tree → Type 0
 HasNoFault outer as_result root =
     (path : List ℕ) (fault : Fault) → ¬ IsFault outer as_result root path fault
+
+-- a type without fault as a result's, and one as an argument's
+abbrev pub IsResultType : Tree → Type 0
+IsResultType t = HasNoFault 0 true t
+
+abbrev pub IsArgumentType : Tree → Type 0
+IsArgumentType t = HasNoFault 0 false t
 
 pub record IsFirstFault (outer : ℕ) (as_result : Bool) (root : Tree) (path : List ℕ) (fault : Fault) : Type 0 where
   pub is_there : IsFault outer as_result root path fault

@@ -2,7 +2,7 @@
 ghost use Rattle.std.specs.Prelude.{◌≡◌, ◌+◌, ◌<◌, ◌≤◌, All, length, true};
 ghost use Rattle.ffi3_type_rules.specs.Tree.{struct_of, tree_at, trees_of, elements_of};
 ghost use Rattle.ffi3_type_rules.specs.Layout.{size_of, align_of, offset_of, layouts, end_before, align_before};
-ghost use Rattle.ffi3_type_rules.specs.Fault.{HasNoFault};
+ghost use Rattle.ffi3_type_rules.specs.Fault.{IsResultType};
 ghost use Rattle.ffi3_types.specs.TreeOf.{tree_of};
 
 use crate::{FfiType, Fields};
@@ -18,7 +18,7 @@ pub(crate) struct Extent {
 impl FfiType {
     /// Size in bytes, a multiple of the alignment.
     pub fn size(&self) -> u64
-        requires { HasNoFault 0 true (tree_of self.now) }
+        requires { IsResultType (tree_of self.now) }
         ensures { result ≡ size_of (tree_of self.now) }
     {
         self.extent().size
@@ -26,7 +26,7 @@ impl FfiType {
 
     /// Alignment in bytes: 1, 2, 4 or 8.
     pub fn align(&self) -> u64
-        requires { HasNoFault 0 true (tree_of self.now) }
+        requires { IsResultType (tree_of self.now) }
         ensures { result ≡ align_of (tree_of self.now) }
     {
         self.extent().align
@@ -34,7 +34,7 @@ impl FfiType {
 
     /// Where element `i` of a struct starts, in bytes from the struct's start.
     pub fn offset(&self, i: u32) -> u64
-        requires right { HasNoFault 0 true (tree_of self.now) }
+        requires right { IsResultType (tree_of self.now) }
         requires in_range { i < length (elements_of (tree_of self.now)) }
         ensures start { result ≡ offset_of (tree_of self.now) i }
         ensures within { result + size_of (tree_at (elements_of (tree_of self.now)) i) ≤ size_of (tree_of self.now) }
@@ -69,7 +69,7 @@ impl FfiType {
 impl Fields {
     /// Where element `i` of the struct with these elements starts, in bytes from its start.
     pub fn offset(&self, i: usize) -> u64
-        requires right { HasNoFault 0 true (struct_of self.now) }
+        requires right { IsResultType (struct_of self.now) }
         requires in_range { i < length self.now }
         ensures start { result ≡ offset_of (struct_of self.now) i }
         ensures within { result + size_of (tree_at self.now i) ≤ size_of (struct_of self.now) }

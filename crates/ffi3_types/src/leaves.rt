@@ -2,7 +2,7 @@
 ghost use Rattle.std.specs.Prelude.{◌≡◌, ◌<◌, ◌≤◌, All, length, true};
 ghost use Rattle.ffi3_type_rules.specs.Tree.{struct_of, scalar};
 ghost use Rattle.ffi3_type_rules.specs.Layout.{size_of, leaves_of, leaf_at};
-ghost use Rattle.ffi3_type_rules.specs.Fault.{HasNoFault};
+ghost use Rattle.ffi3_type_rules.specs.Fault.{IsResultType};
 ghost use Rattle.ffi3_types.specs.TreeOf.{tree_of};
 
 use crate::{FfiType, Fields};
@@ -17,7 +17,7 @@ pub struct Leaf {
 
 impl FfiType {
     pub fn leaf_count(&self) -> u32
-        requires { HasNoFault 0 true (tree_of self.now) }
+        requires { IsResultType (tree_of self.now) }
         ensures { result ≡ length (leaves_of (tree_of self.now)) }
     {
         self.count_leaves()
@@ -25,7 +25,7 @@ impl FfiType {
 
     /// Leaf `i`, from the front.
     pub fn leaf(&self, i: u32) -> Leaf
-        requires right { HasNoFault 0 true (tree_of self.now) }
+        requires right { IsResultType (tree_of self.now) }
         requires in_range { i < length (leaves_of (tree_of self.now)) }
         ensures at { result.at ≡ (leaf_at (tree_of self.now) i).at }
         ensures kind { tree_of result.kind ≡ scalar (leaf_at (tree_of self.now) i).kind }

@@ -97,7 +97,7 @@ impl Model for Fields {
 
     ghost size = { λ ts. all_nodes (trees_of ts) };
 
-    ghost use Rattle.ffi3_types.specs.Falls.{most_le-nodes};
+    ghost use Rattle.ffi3_types.specs.Measure.{most_le-nodes};
 
     ghost size_decreases = { λ a h. most_le-nodes a.types.items };
 }

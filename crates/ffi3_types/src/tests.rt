@@ -1,6 +1,6 @@
 // Names, limits on both sides, faults and texts, through the public calls.
 ghost use Rattle.std.specs.Prelude.{true};
-ghost use Rattle.ffi3_type_rules.specs.Fault.{HasNoFault};
+ghost use Rattle.ffi3_type_rules.specs.Fault.{IsResultType};
 ghost use Rattle.ffi3_types.specs.TreeOf.{tree_of};
 
 use crate::{
@@ -54,7 +54,7 @@ fn mixed(alloc: Global) -> Result<FfiType, NoMemory> {
 
 /// Text, size, alignment and leaves of a type.
 fn layout(alloc: Global, ty: &FfiType) -> Result<String, Fail>
-    requires { HasNoFault 0 true (tree_of ty.now) }
+    requires { IsResultType (tree_of ty.now) }
 {
     let name = type_text(alloc, ty)?;
     let mut text = String::from_utf8_lossy(alloc, name.as_slice())?;

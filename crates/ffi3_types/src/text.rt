@@ -1,7 +1,7 @@
 // Types and signatures as text.
 ghost use Rattle.std.specs.Prelude.{◌≡◌, ◌++◌, ◌≤◌, OnOk, IfOk, length, slice_range, true, false};
 ghost use Rattle.ffi3_type_rules.specs.Text.{text_of, list_text, arguments_text, signature_text};
-ghost use Rattle.ffi3_type_rules.specs.Fault.{HasNoFault};
+ghost use Rattle.ffi3_type_rules.specs.Fault.{IsResultType};
 ghost use Rattle.ffi3_type_rules.specs.Signature.{SignatureHasNoFault};
 ghost use Rattle.ffi3_types.specs.TreeOf.{tree_of};
 
@@ -11,7 +11,7 @@ use std::alloc::Global;
 /// The type's text, as `struct{sint8,double}`: the name of a scalar with its size, a struct's
 /// elements between commas, without spaces.
 pub fn type_text(alloc: Global, ty: &FfiType) -> Result<Bytes, NoMemory>
-    requires { HasNoFault 0 true (tree_of ty.now) }
+    requires { IsResultType (tree_of ty.now) }
     ensures { IfOk result (λ text. text ≡ text_of (tree_of ty.now)) }
 {
     let mut text = Bytes::new(alloc);

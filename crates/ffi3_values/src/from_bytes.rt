@@ -2,7 +2,7 @@
 ghost use Rattle.std.specs.Prelude.{◌≡◌, IfOk, length, true};
 ghost use Rattle.ffi3_type_rules.specs.Tree.{trees_of, struct_of};
 ghost use Rattle.ffi3_type_rules.specs.Layout.{layouts, size_of};
-ghost use Rattle.ffi3_type_rules.specs.Fault.{HasNoFault};
+ghost use Rattle.ffi3_type_rules.specs.Fault.{IsResultType};
 ghost use Rattle.ffi3_type_rules.specs.Value.{value_in, values_in, values_of, zero_value, fits, all_fit};
 ghost use Rattle.ffi3_types.specs.TreeOf.{tree_of};
 ghost use Rattle.ffi3_values.specs.ValueOf.{value_of};
@@ -15,7 +15,7 @@ use std::alloc::Global;
 /// The value that these bytes of a type have: padding has no part in it.
 #[cycle(from_bytes)]
 pub fn value_from_bytes(alloc: Global, ty: &FfiType, bytes: &[u8]) -> Result<Value, NoMemory>
-    requires right { HasNoFault 0 true (tree_of ty.now) }
+    requires right { IsResultType (tree_of ty.now) }
     requires sized { length bytes.now ≡ size_of (tree_of ty.now) }
     ensures value { IfOk result (λ v. value_of v ≡ value_in (tree_of ty.now) bytes.now) }
     ensures fits { IfOk result (λ v. fits (tree_of ty.now) (value_of v) ≡ true) }
@@ -40,7 +40,7 @@ pub fn value_from_bytes(alloc: Global, ty: &FfiType, bytes: &[u8]) -> Result<Val
 
 #[cycle(from_bytes)]
 fn values_from_bytes(alloc: Global, fields: &Fields, bytes: &[u8]) -> Result<Values, NoMemory>
-    requires right { HasNoFault 0 true (struct_of fields.now) }
+    requires right { IsResultType (struct_of fields.now) }
     requires sized { length bytes.now ≡ size_of (struct_of fields.now) }
     ensures value { IfOk result
         (λ vs. values_of vs ≡ values_in (trees_of fields.now) (layouts (trees_of fields.now)) 0 bytes.now) }
@@ -60,7 +60,7 @@ fn values_from_bytes(alloc: Global, fields: &Fields, bytes: &[u8]) -> Result<Val
 
 /// The value whose bytes are all zero.
 pub fn zero(alloc: Global, ty: &FfiType) -> Result<Value, NoMemory>
-    requires { HasNoFault 0 true (tree_of ty.now) }
+    requires { IsResultType (tree_of ty.now) }
     ensures value { IfOk result (λ v. value_of v ≡ zero_value (tree_of ty.now)) }
     ensures fits { IfOk result (λ v. fits (tree_of ty.now) (value_of v) ≡ true) }
 {

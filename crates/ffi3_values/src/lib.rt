@@ -57,7 +57,7 @@ impl Model for Values {
 
     ghost size = { λ vs. all_value_nodes (values_of vs) };
 
-    ghost use Rattle.ffi3_values.specs.Falls.{most_le-nodes};
+    ghost use Rattle.ffi3_values.specs.Measure.{most_le-nodes};
 
     ghost size_decreases = { λ a h. most_le-nodes a.values.items };
 }

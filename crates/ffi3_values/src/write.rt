@@ -2,7 +2,7 @@
 ghost use Rattle.std.specs.Prelude.{◌≡◌, length, true};
 ghost use Rattle.ffi3_type_rules.specs.Tree.{trees_of, struct_of};
 ghost use Rattle.ffi3_type_rules.specs.Layout.{size_of};
-ghost use Rattle.ffi3_type_rules.specs.Fault.{HasNoFault};
+ghost use Rattle.ffi3_type_rules.specs.Fault.{IsResultType};
 ghost use Rattle.ffi3_type_rules.specs.Value.{IsWritten, fits, all_fit, values_of, struct_value};
 ghost use Rattle.ffi3_types.specs.TreeOf.{tree_of};
 ghost use Rattle.ffi3_values.specs.ValueOf.{value_of};
@@ -14,7 +14,7 @@ use ffi3_types::{FfiType, Fields};
 /// Writes the bytes of the value's scalars where the type has them. Padding keeps what stood there.
 #[cycle(write_bytes)]
 pub fn write_bytes(ty: &FfiType, value: &Value, out: &mut [u8])
-    requires right { HasNoFault 0 true (tree_of ty.now) }
+    requires right { IsResultType (tree_of ty.now) }
     requires fits { fits (tree_of ty.now) (value_of value.now) ≡ true }
     requires sized { length out.old ≡ size_of (tree_of ty.now) }
     ensures { IsWritten (tree_of ty.now) (value_of value.now) out.old out.new }
@@ -32,7 +32,7 @@ pub fn write_bytes(ty: &FfiType, value: &Value, out: &mut [u8])
 
 #[cycle(write_bytes)]
 fn write_values(fields: &Fields, values: &Values, out: &mut [u8])
-    requires right { HasNoFault 0 true (struct_of fields.now) }
+    requires right { IsResultType (struct_of fields.now) }
     requires fits { all_fit (trees_of fields.now) (values_of values.now) ≡ true }
     requires sized { length out.old ≡ size_of (struct_of fields.now) }
     ensures { IsWritten (struct_of fields.now) (struct_value (values_of values.now)) out.old out.new }

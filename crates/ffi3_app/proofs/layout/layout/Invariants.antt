@@ -1,5 +1,5 @@
 use Rattle.std.proofs.Common.{drop}
-use Rattle.ffi3_run.specs.Told.{took}
+use Rattle.ffi3_run.specs.RunMatches.{took}
 use Rattle.ffi3_script.specs.ScriptOf.{script_of}
 use Rattle.ffi3_app.specs.Commands.{joined, lines_from, layout_lines, layout_text}
 use Rattle.ffi3_app.proofs.Pieces.{Continues}

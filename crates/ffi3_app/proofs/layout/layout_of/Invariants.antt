@@ -1,5 +1,5 @@
 use Rattle.std.proofs.Common.{drop, [], map, ◌++◌}
-use Rattle.ffi3_run.specs.Told.{took}
+use Rattle.ffi3_run.specs.RunMatches.{took}
 use Rattle.ffi3_text.specs.LayoutLines.{layout_text_of}
 use Rattle.ffi3_app.specs.Commands.{joined, layout_lines, arguments_from}
 use Rattle.ffi3_app.proofs.Pieces.{Continues}

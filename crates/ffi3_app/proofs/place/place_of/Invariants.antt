@@ -1,6 +1,6 @@
 use Rattle.std.proofs.Common.{drop, [], ◌∷◌, ◌++◌, map}
 use Rattle.ffi3_type_rules.specs.Signature.{at_result}
-use Rattle.ffi3_run.specs.Told.{took}
+use Rattle.ffi3_run.specs.RunMatches.{took}
 use Rattle.ffi3_text.specs.PlaceLines.{place_text_of}
 use Rattle.ffi3_app.specs.Commands.{joined, place_lines, arguments_from}
 use Rattle.ffi3_app.proofs.Pieces.{Continues}

@@ -1,7 +1,7 @@
 use Rattle.std.proofs.Common.{[], refl, inr}
 use Rattle.ffi3_script.specs.ScriptOf.{script_of}
 use Rattle.ffi3_script_rules.specs.Reading.{script}
-use Rattle.ffi3_run.specs.Told.{took}
+use Rattle.ffi3_run.specs.RunMatches.{took}
 use Rattle.ffi3_app.specs.Top.{given, bad_words, no_memory_for_words, write_failed, no_memory, done, failed}
 use Rattle.ffi3_app.proofs.Saying.{read_alone, refused_alone, is_refused, says_refusal, no_fault_counted, fault_counted, refused_not_two, told_not_two, work_not_two, five_not_two, four_not_two}
 use Rattle.ffi3_app.proofs.top.answer.Goals as goal

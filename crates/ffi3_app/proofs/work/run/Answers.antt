@@ -1,6 +1,6 @@
 use Rattle.std.proofs.Common.{ap, sym}
 use Rattle.ffi3_script.specs.ScriptOf.{script_of}
-use Rattle.ffi3_run.specs.Told.{took}
+use Rattle.ffi3_run.specs.RunMatches.{took}
 use Rattle.ffi3_app.specs.Top.{status_of}
 use Rattle.ffi3_app.proofs.Alone.{done_alone, part_alone}
 use Rattle.ffi3_app.proofs.work.run.Goals as goal

@@ -1,6 +1,6 @@
 use Rattle.std.specs.Prelude.{[], OnErr}
 use Rattle.ffi3_script.specs.ScriptOf.{script_of}
-use Rattle.ffi3_run.specs.Told.{took}
+use Rattle.ffi3_run.specs.RunMatches.{took}
 use Rattle.ffi3_app.specs.declared.words.Request.{Request}
 use Rattle.ffi3_app.specs.Top.{IsDoneInPart}
 use Rattle.ffi3_app.proofs.Saying.{on_amd64}

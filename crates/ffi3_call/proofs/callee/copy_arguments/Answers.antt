@@ -1,6 +1,6 @@
 use Rattle.std.proofs.Common.{◌+◌, ◌*◌, ◌<◌, true, length, ap, sym, subst, arith}
 use Rattle.ffi3_type_rules.specs.Tree.{Tree}
-use Rattle.ffi3_type_rules.specs.Fault.{HasNoFault}
+use Rattle.ffi3_type_rules.specs.Fault.{IsResultType}
 use Rattle.ffi3_types.specs.TreeOf.{tree_of}
 use Rattle.ffi3_call.proofs.Numbers.{number-right}
 use Rattle.ffi3_call.proofs.Stepping.{copied-next}
@@ -8,7 +8,7 @@ use Rattle.ffi3_call.proofs.callee.copy_arguments.Goals as goal
 
 pub size-size-requires : goal.size-size-requires
 size-size-requires c =
-    let P : Tree → Type 0 = λ t. HasNoFault 0 true t in
+    let P : Tree → Type 0 = λ t. IsResultType t in
     let below : c.loop-i.i < length c.args.sig.now.arguments = omega (arith, c.loop-i-test.true, c.count-i-end.ensures) in
     subst P (sym c.arg.ensures) (number-right _ (c.requires.registers.arguments c.loop-i.i below))
 

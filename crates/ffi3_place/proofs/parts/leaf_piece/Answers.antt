@@ -1,12 +1,12 @@
 use Rattle.std.proofs.Common.{true, sym, subst, arith}
-use Rattle.ffi3_type_rules.specs.Fault.{HasNoFault}
+use Rattle.ffi3_type_rules.specs.Fault.{IsResultType}
 use Rattle.ffi3_type_rules.proofs.Faults.{scalar_faults, right_is_small}
 use Rattle.ffi3_types.specs.TreeOf.{tree_of}
 use Rattle.ffi3_place_rules.proofs.Elements.{leaf_ends}
 use Rattle.ffi3_place.proofs.parts.leaf_piece.Goals as goal
 
 pub size-size-requires : goal.size-size-requires
-size-size-requires c = subst (HasNoFault 0 true) (sym c.leaf-leaf.ensures.kind) (scalar_faults _)
+size-size-requires c = subst (IsResultType) (sym c.leaf-leaf.ensures.kind) (scalar_faults _)
 
 pub overflow_cast-result : goal.overflow_cast-result
 overflow_cast-result c =

@@ -3,9 +3,9 @@ use Rattle.ffi3_type_rules.specs.Value.{void_value}
 use Rattle.ffi3_types.specs.TreeOf.{tree_of}
 use Rattle.ffi3_values.specs.ValueOf.{value_of}
 use Rattle.ffi3_run_rules.specs.Move.{print}
-use Rattle.ffi3_body.specs.Activation.{arguments_in}
+use Rattle.ffi3_body.specs.SeenActivation.{arguments_in}
 use Rattle.ffi3_body.specs.MoveOf.{move_of}
-use Rattle.ffi3_run.specs.Told.{took}
+use Rattle.ffi3_run.specs.RunMatches.{took}
 use Rattle.ffi3_run.proofs.Leaves.{leaf_starts, leaf_keeps, limit_there, cut_there, returns_there, cut_in_line_there}
 use Rattle.ffi3_run.proofs.leaf.run_leaf.Goals as goal
 

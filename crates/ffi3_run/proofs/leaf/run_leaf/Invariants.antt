@@ -1,4 +1,4 @@
-use Rattle.ffi3_run.specs.Told.{took}
+use Rattle.ffi3_run.specs.RunMatches.{took}
 use Rattle.ffi3_run.specs.Leaf.{LeafBetween}
 use Rattle.ffi3_run.proofs.leaf.run_leaf.Given as goal
 

@@ -5,7 +5,7 @@ use Rattle.ffi3_run_rules.specs.Closures.{Closures}
 use Rattle.ffi3_machine.specs.State.{State, begun_code}
 use Rattle.ffi3_closures.specs.Slots.{HoldsMap}
 use Rattle.ffi3_run.specs.declared.board.Board.{Board}
-use Rattle.ffi3_run.specs.Told.{took}
+use Rattle.ffi3_run.specs.RunMatches.{took}
 use Rattle.ffi3_run.specs.Moment.{Moment, IsBetween, Ran, moment}
 use Rattle.ffi3_run.specs.Programs.{program}
 use Rattle.ffi3_run.proofs.Ends.{starts, between_at_start, ran_done, ran_returned, ran_stopped, ran_stops, ran_no_memory, ran_failed, ran_never_falls, ran_part}

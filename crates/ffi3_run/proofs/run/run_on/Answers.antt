@@ -4,7 +4,7 @@ use Rattle.ffi3_run_rules.specs.Meaning.{returned, stopped}
 use Rattle.ffi3_run.specs.declared.board.Turn.{Turn}
 use Rattle.ffi3_run.specs.declared.line.Cut.{Cut}
 use Rattle.ffi3_run.specs.declared.line.Cut.TheVariants as cut
-use Rattle.ffi3_run.specs.Told.{took}
+use Rattle.ffi3_run.specs.RunMatches.{took}
 use Rattle.ffi3_run.specs.Moment.{Turned, moment}
 use Rattle.ffi3_run.specs.Programs.{program}
 use Rattle.ffi3_run.proofs.Going.{went_nowhere, went_then, came_then, cut_then}

@@ -1,4 +1,4 @@
-use Rattle.ffi3_run.specs.Told.{took}
+use Rattle.ffi3_run.specs.RunMatches.{took}
 use Rattle.ffi3_run.specs.Moment.{IsBetween, Went, moment}
 use Rattle.ffi3_run.specs.Programs.{program}
 use Rattle.ffi3_run.proofs.run.run_on.Given as goal

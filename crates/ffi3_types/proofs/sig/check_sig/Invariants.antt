@@ -1,11 +1,11 @@
 use Rattle.std.proofs.Common.{◌≡◌, ◌≤◌, ◌<◌, ℕ, false}
 use Rattle.ffi3_type_rules.specs.Tree.{tree_at}
-use Rattle.ffi3_type_rules.specs.Fault.{HasNoFault}
+use Rattle.ffi3_type_rules.specs.Fault.{IsArgumentType}
 use Rattle.ffi3_type_rules.specs.Signature.{is_promoted}
 use Rattle.ffi3_types.proofs.sig.check_sig.Given as goal
 
 abbrev pub invariant-loop-i : goal.invariant-loop-i
-invariant-loop-i l = (j : ℕ) → j < l.i → HasNoFault 0 false (tree_at l.sig.arguments j)
+invariant-loop-i l = (j : ℕ) → j < l.i → IsArgumentType (tree_at l.sig.arguments j)
 
 abbrev pub invariant-loop-i-2 : goal.invariant-loop-i-2
 invariant-loop-i-2 l =

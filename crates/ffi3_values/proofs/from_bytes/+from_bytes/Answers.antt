@@ -1,6 +1,6 @@
 use Rattle.std.proofs.Common.{◌≡◌, inl, inr, [], Some, true, ap, ◌∙◌, arith, length, length-take, length-drop, length-append}
 use Rattle.ffi3_type_rules.specs.Tree.{Tree, LeftOutKind, left_out, long_double, complex, vector}
-use Rattle.ffi3_type_rules.specs.Fault.{HasNoFault, left_out_kind, left_out_type}
+use Rattle.ffi3_type_rules.specs.Fault.{left_out_kind, left_out_type, IsResultType}
 use Rattle.ffi3_type_rules.proofs.Layouts.{align_positive, end_before-turn}
 use Rattle.ffi3_type_rules.proofs.Values.{struct_by_elements, push_value}
 use Rattle.ffi3_type_rules.proofs.ValueElements.{fit_by_elements, push_fitting}
@@ -9,7 +9,7 @@ use Rattle.ffi3_types.specs.TreeOf.{tree_of}
 use Rattle.ffi3_values.proofs.from_bytes.+from_bytes.Goals as goal
 
 -- what is left out has a fault
-never_left_out : (t : Tree) (k : LeftOutKind) → HasNoFault 0 true t → t ≡ left_out k → ⊥
+never_left_out : (t : Tree) (k : LeftOutKind) → IsResultType t → t ≡ left_out k → ⊥
 never_left_out t k right is = right [] (left_out_type (left_out k)) (left_out_kind (ap Some is))
 
 pub value_from_bytes-unreachable-requires : goal.value_from_bytes-unreachable-requires

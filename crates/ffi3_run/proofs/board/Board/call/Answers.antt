@@ -5,12 +5,12 @@ use Rattle.ffi3_values.specs.ValueOf.{value_of}
 use Rattle.ffi3_run_rules.specs.declared.Stop.TheVariants.{MoveLimit}
 use Rattle.ffi3_run_rules.specs.Move.{call}
 use Rattle.ffi3_run_rules.specs.Meaning.{callee_of}
-use Rattle.ffi3_body.specs.Activation.{arguments_in}
+use Rattle.ffi3_body.specs.SeenActivation.{arguments_in}
 use Rattle.ffi3_call.specs.Calls.{HasBegun, HasEnded}
 use Rattle.ffi3_call.specs.Registers.{IsInRegisters}
 use Rattle.ffi3_script.specs.ScriptOf.{script_of}
 use Rattle.ffi3_run.specs.declared.leaf.LeafEnd.{LeafEnd}
-use Rattle.ffi3_run.specs.Told.{took}
+use Rattle.ffi3_run.specs.RunMatches.{took}
 use Rattle.ffi3_run.specs.Leaf.{EndFits, LeafRan}
 use Rattle.ffi3_run.specs.Moment.{StoppedBy, asking, main_after, moment}
 use Rattle.ffi3_run.specs.Programs.{program}

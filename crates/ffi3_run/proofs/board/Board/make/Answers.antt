@@ -12,7 +12,7 @@ use Rattle.ffi3_run_rules.specs.Meaning.{pointer_value}
 use Rattle.ffi3_machine.specs.State.{State}
 use Rattle.ffi3_closures.specs.Slots.{HoldsMap}
 use Rattle.ffi3_script.specs.ScriptOf.{script_of}
-use Rattle.ffi3_run.specs.Told.{took}
+use Rattle.ffi3_run.specs.RunMatches.{took}
 use Rattle.ffi3_run.specs.Moment.{GoneOn, StoppedBy, Turned, asking, main_after, moment}
 use Rattle.ffi3_run.specs.Programs.{program}
 use Rattle.ffi3_run.proofs.Acts.{make_is_full}

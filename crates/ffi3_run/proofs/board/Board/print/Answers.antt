@@ -2,7 +2,7 @@ use Rattle.std.proofs.Common.{arith}
 use Rattle.ffi3_type_rules.specs.Value.{void_value}
 use Rattle.ffi3_types.specs.TreeOf.{tree_of}
 use Rattle.ffi3_values.specs.ValueOf.{value_of}
-use Rattle.ffi3_run.specs.Told.{took}
+use Rattle.ffi3_run.specs.RunMatches.{took}
 use Rattle.ffi3_run.specs.Moment.{moment, asking}
 use Rattle.ffi3_run.proofs.Turns.{goes, went_line, between_lines, cut_in_print}
 use Rattle.ffi3_run.proofs.board.Board.print.Goals as goal

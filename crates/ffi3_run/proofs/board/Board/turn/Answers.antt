@@ -6,7 +6,7 @@ use Rattle.ffi3_run_rules.specs.declared.Stop.TheVariants.{MoveLimit}
 use Rattle.ffi3_run_rules.specs.Move.{Move, MoveFits}
 use Rattle.ffi3_body.specs.MoveOf.{move_of}
 use Rattle.ffi3_script.specs.ScriptOf.{script_of}
-use Rattle.ffi3_run.specs.Told.{took}
+use Rattle.ffi3_run.specs.RunMatches.{took}
 use Rattle.ffi3_run.specs.Moment.{IsBetween, StoppedBy, Turned, Came, moment}
 use Rattle.ffi3_run.specs.Programs.{program}
 use Rattle.ffi3_run_rules.specs.Meaning.{returned}

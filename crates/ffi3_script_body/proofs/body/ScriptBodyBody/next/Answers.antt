@@ -4,7 +4,7 @@ use Rattle.std.proofs.lemmas.Result.{IfOk-weaker}
 use Rattle.ffi3_type_rules.specs.Tree.{trees_of}
 use Rattle.ffi3_type_rules.specs.Value.{all_fit, values_of}
 use Rattle.ffi3_run_rules.specs.Move.{MoveFits}
-use Rattle.ffi3_body.specs.Activation.{arguments_of}
+use Rattle.ffi3_body.specs.SeenActivation.{arguments_of}
 use Rattle.ffi3_script_rules.specs.Meaning as meaning
 use Rattle.ffi3_script_rules.specs.Typed.{is_condition, act_is_typed}
 use Rattle.ffi3_script_rules.proofs.Fits.{body_fits}

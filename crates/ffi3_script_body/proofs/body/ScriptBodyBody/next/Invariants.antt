@@ -1,5 +1,5 @@
 use Rattle.std.proofs.Common.{drop}
-use Rattle.ffi3_body.specs.Activation.{arguments_of}
+use Rattle.ffi3_body.specs.SeenActivation.{arguments_of}
 use Rattle.ffi3_script_body.specs.BodyOf.{meaning_of, setting_of, moves_of}
 use Rattle.ffi3_script_body.specs.KnownOf.{pasts_of}
 use Rattle.ffi3_script_body.proofs.Walked.{Walked}

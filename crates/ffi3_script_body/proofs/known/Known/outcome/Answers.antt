@@ -1,7 +1,7 @@
 use Rattle.std.proofs.Common.{◌≡◌, true, ap, ◌∙◌, subst, sym}
 use Rattle.ffi3_type_rules.specs.Tree.{pointer}
 use Rattle.ffi3_type_rules.specs.Signature.{signature_at}
-use Rattle.ffi3_type_rules.specs.Fault.{HasNoFault}
+use Rattle.ffi3_type_rules.specs.Fault.{IsResultType}
 use Rattle.ffi3_type_rules.proofs.Faults.{scalar_faults}
 use Rattle.ffi3_types.specs.TreeOf.{tree_of}
 use Rattle.ffi3_script_rules.specs.FirstFault.{first_fault}
@@ -13,9 +13,9 @@ pub zero-requires : goal.zero-requires
 zero-requires c =
     let ss = c.args.self.now.sigs.now in
     let t = (signature_at ss c.in-Call.sig).result_type in
-    let right : HasNoFault 0 true t = right_by_none 0 true t (is_none-none (first_fault 0 true t) (any_result_type_is_right ss c.in-Call.sig c.args.self.now.right)) in
+    let right : IsResultType t = right_by_none 0 true t (is_none-none (first_fault 0 true t) (any_result_type_is_right ss c.in-Call.sig c.args.self.now.right)) in
     let is : tree_of c.ret.result.now ≡ t = c.ret.ensures ∙ ap (λ s. s.result_type) c.get.ensures in
-    subst (HasNoFault 0 true) (sym is) right
+    subst (IsResultType) (sym is) right
 
 pub zero-requires-in-Make : goal.zero-requires-in-Make
 zero-requires-in-Make c = scalar_faults pointer

@@ -7,11 +7,11 @@ use Rattle.ffi3_json.specs.declared.fault.ScriptFault.{ScriptFault}
 use Rattle.ffi3_json.specs.declared.fault.ScriptFault.TheVariants.{TooLong, BadJson, BadScript, NoMemory}
 
 -- The fault is that of a value, and its place and reason are as said. Memory alone is free.
-abbrev pub Tells : (Path → Reason → Type 0) → ScriptFault → Type 0
-Tells says TooLong = ⊥
-Tells says BadJson = ⊥
-Tells says (BadScript path why) = says path (reason_of why)
-Tells says NoMemory = Unit {0}
+abbrev pub Reports : (Path → Reason → Type 0) → ScriptFault → Type 0
+Reports says TooLong = ⊥
+Reports says BadJson = ⊥
+Reports says (BadScript path why) = says path (reason_of why)
+Reports says NoMemory = Unit {0}
 
 -- The fault is that of a text which is too long or no JSON. Memory alone is free.
 abbrev pub IsCauseOf : List ℕ → ScriptFault → Type 0

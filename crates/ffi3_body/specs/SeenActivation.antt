@@ -8,7 +8,7 @@ use Rattle.ffi3_type_rules.specs.Signature.{Signature, signature_code}
 use Rattle.ffi3_type_rules.specs.Value.{ValueTree, value_in, part, value_list_code}
 use Rattle.ffi3_place_rules.specs.Standard.{round8}
 
-pub record Activation : Type 0 where
+pub record SeenActivation : Type 0 where
   pub signature : Signature
   -- the callee's copy of its arguments
   pub block : List ℕ
@@ -16,7 +16,7 @@ pub record Activation : Type 0 where
   -- one for each move done: a call's result, a make's pointer, void after a free or a print
   pub results : List ValueTree
 
-abbrev pub activation_code : Coded Activation
+abbrev pub activation_code : Coded SeenActivation
 activation_code =
     code_by (Signature × (List ℕ × (ℕ × List ValueTree))) (coded× signature_code (coded× (coded_list coded_ℕ) (coded× coded_ℕ value_list_code))) (λ a. (a.signature, (a.block, (a.user, a.results)))) (λ p. record { signature = p.0; block = p.1.0; user = p.1.1.0; results = p.1.1.1 }) (λ _. refl)
 
@@ -25,7 +25,7 @@ abbrev pub block_offset : List Tree → ℕ → ℕ
 block_offset ts i = sum_by (λ t. round8 (size_of t)) (take i ts)
 
 -- the bytes of argument i
-abbrev pub argument_bytes : Activation → ℕ → List ℕ
+abbrev pub argument_bytes : SeenActivation → ℕ → List ℕ
 argument_bytes a i =
     part a.block (block_offset a.signature.arguments i) (size_of (tree_at a.signature.arguments i))
 
@@ -35,5 +35,5 @@ arguments_in [] block = []
 arguments_in (t ∷ ts) block =
     value_in t (take (size_of t) block) ∷ arguments_in ts (drop (round8 (size_of t)) block)
 
-abbrev pub arguments_of : Activation → List ValueTree
+abbrev pub arguments_of : SeenActivation → List ValueTree
 arguments_of a = arguments_in a.signature.arguments a.block

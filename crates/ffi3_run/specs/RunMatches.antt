@@ -3,8 +3,8 @@ use Rattle.std.specs.Prelude.{◌≡◌, ℕ, ◌+◌, ◌≤◌, List, take, Op
 use Rattle.ffi3_io.specs.Sink.{Adds}
 use Rattle.ffi3_place_rules.specs.Standard.{Standard}
 use Rattle.ffi3_run_rules.specs.Meaning.{Program, meaning_of, peak_of}
-use Rattle.ffi3_run_rules.specs.Happenings.{happenings_of}
-use Rattle.ffi3_run_rules.specs.Lines.{Trace, text_of_run}
+use Rattle.ffi3_run_rules.specs.Trace.{trace_of}
+use Rattle.ffi3_run_rules.specs.Lines.{Tracing, text_of_run}
 use Rattle.ffi3_run_rules.specs.Journal.{JournalOf, IsWhole, stack_top}
 use Rattle.ffi3_machine.specs.State.{State}
 use Rattle.ffi3_closures.specs.Slots.{HoldsMap}
@@ -23,15 +23,15 @@ pub record TookLine (line : List ℕ) (before after : Took) : Type 0 where
   pub count : after.faults ≡ before.faults
 
 -- THE RUN IS TOLD WHOLE: the output took exactly the text of the direct meaning, the journal is that meaning's call tree, the code region holds the bytes of the closures that are live, and no byte was written beyond the stack that the tree's calls take.
-pub record IsTold (trace : Trace) (std : Standard) (p : Program) (before after : Took) (machine : State) : Type 0 where
-  pub written : TookLine (text_of_run trace p) before after
+pub record RunMatches (tracing : Tracing) (std : Standard) (p : Program) (before after : Took) (machine : State) : Type 0 where
+  pub written : TookLine (text_of_run tracing p) before after
   pub target : machine.target ≡ std.target
-  pub journal : JournalOf std p.signatures (happenings_of p) machine.events
-  pub whole : IsWhole (happenings_of p) machine.events
+  pub journal : JournalOf std p.signatures (trace_of p) machine.events
+  pub whole : IsWhole (trace_of p) machine.events
   pub code : HoldsMap std.target (meaning_of p).closures machine.code
-  pub mark : stack_top ≤ machine.mark + peak_of p (meaning_of p).deeds
+  pub mark : stack_top ≤ machine.mark + peak_of p (meaning_of p).call_tree
 
 -- a first part of the text of the direct meaning was written
-abbrev pub WrotePart : Trace → Program → Took → Took → Type 0
-WrotePart trace p before after =
-    (part : ℕ) × Adds before.taken (take part (text_of_run trace p)) after.taken
+abbrev pub WrotePart : Tracing → Program → Took → Took → Type 0
+WrotePart tracing p before after =
+    (part : ℕ) × Adds before.taken (take part (text_of_run tracing p)) after.taken
