@@ -22,7 +22,7 @@ use Rattle.ffi3_app.specs.declared.write.WriteEnd.TheVariants as end
 use Rattle.ffi3_app.specs.declared.words.WordsFault.{WordsFault}
 use Rattle.ffi3_app.specs.declared.words.WordsFault.TheVariants.{Refused}
 use Rattle.ffi3_app.specs.Commands.{not_yet}
-use Rattle.ffi3_app.specs.Refusals.{IsWordsRefusal, IsRefusedWith, refusal_line, refusal_status, HasPlace, TellsRefusal}
+use Rattle.ffi3_app.specs.Refusals.{IsInputRefusal, IsRefusedWith, refusal_line, refusal_status, HasPlace, TellsRefusal}
 use Rattle.ffi3_app.specs.Top.{Given, ReadAs, IsReadInPart, ReportsFault, whole, cut, IsDone, Fails, refused, bad_words, read_failed, write_failed, no_memory_for_words, no_memory, Says, done, failed, refusal_of, limit_line, status_of, status_when_done, no_memory_line}
 use Rattle.ffi3_app.specs.WordCommands.{Addresses}
 use Rattle.ffi3_app.proofs.Stated.{stated_is_taken}
@@ -135,7 +135,7 @@ module _ (words : List (List ℕ)) (natives : List NamedNative) (input input' : 
       refused takes is.reading is.tells is.read_as is.all_read is.count same_output same_machine
 
   -- a refusal of the input is what goes wrong
-  fails_by : (r : Refusal) → IsWordsRefusal (names_of natives) request input input' r → Fails words natives input input' output output' machine machine' (refusal_status r) (refusal_line r)
+  fails_by : (r : Refusal) → IsInputRefusal (names_of natives) request input input' r → Fails words natives input input' output output' machine machine' (refusal_status r) (refusal_line r)
   fails_by ReadFault is = read_failed takes is.0 is.1 same_output same_machine
   fails_by NoMemory is = out_of_memory is.0 is.1
   fails_by TooLong is = fails_with _ is
@@ -147,7 +147,7 @@ module _ (words : List (List ℕ)) (natives : List NamedNative) (input input' : 
   in_part line is = (max_length + 1, omega arith, is.all_read)
 
   -- or want of memory for its line
-  no_line : (r : Refusal) → HasPlace r → IsWordsRefusal (names_of natives) request input input' r → Fails words natives input input' output output' machine machine' 5 no_memory_line
+  no_line : (r : Refusal) → HasPlace r → IsInputRefusal (names_of natives) request input input' r → Fails words natives input input' output output' machine machine' 5 no_memory_line
   no_line ReadFault place is = absurd place
   no_line NoMemory place is = absurd place
   no_line TooLong place is = absurd place
@@ -155,7 +155,7 @@ module _ (words : List (List ℕ)) (natives : List NamedNative) (input input' : 
   no_line (BadScript path why) place is = out_of_memory is.count (in_part _ is)
   no_line (NotYet path) place is = out_of_memory is.count (in_part _ is)
 
-  pub says_refusal : (told told' : Took) (answer : ℕ) (r : Refusal) → IsWordsRefusal (names_of natives) request input input' r → TellsRefusal r told told' answer → Says words natives input input' output output' told told' machine machine' answer
+  pub says_refusal : (told told' : Took) (answer : ℕ) (r : Refusal) → IsInputRefusal (names_of natives) request input input' r → TellsRefusal r told told' answer → Says words natives input input' output output' told told' machine machine' answer
   says_refusal told told' answer r is (inl tells) = failed (fails_by r is) tells
   says_refusal told told' answer r is (inr (place, tells)) = failed (no_line r place is) tells
 
@@ -267,6 +267,6 @@ pub read_alone : (names : List (List ℕ)) (input : Given) (r : Reading) → nam
 read_alone names input r none read =
     let P = λ (ns : List (List ℕ)). ReadAs ns input r in subst P none read
 
-pub refused_alone : (names : List (List ℕ)) (request : Request) (input input' : Given) (r : Refusal) → names ≡ [] → IsWordsRefusal names request input input' r → IsWordsRefusal [] request input input' r
+pub refused_alone : (names : List (List ℕ)) (request : Request) (input input' : Given) (r : Refusal) → names ≡ [] → IsInputRefusal names request input input' r → IsInputRefusal [] request input input' r
 refused_alone names request input input' r none refuses =
-    let P = λ (ns : List (List ℕ)). IsWordsRefusal ns request input input' r in subst P none refuses
+    let P = λ (ns : List (List ℕ)). IsInputRefusal ns request input input' r in subst P none refuses

@@ -32,7 +32,7 @@ returns-in_err-write_line-2 g c =
     let n = c.args.number in
     let j = c.loop-j.j in
     let ended : c.from_residual-in_err-write_line-2.result ≡ Err c.in_err-write_line-2.field-0.0 = search rules in
-    continues_ended (joined (place_lines std n s)) _ _ _ c.loop-j.invariant (place_text_of std s (at_argument j)) _ _ _ _ (argument_at (place_text_of std s) s.arguments (place_text_of std s at_result ∷ []) j void (search rules)) (c.in_err-write_line-2.ensures (place_text_of std s (at_argument j)) c.located_line.ensures) ended
+    continues_ended (joined (place_lines std n s)) _ _ _ c.loop-j.invariant (place_text_of std s (at_argument j)) _ _ _ _ (argument_at (place_text_of std s) s.arguments (place_text_of std s at_result ∷ []) j void (search rules)) (c.in_err-write_line-2.ensures (place_text_of std s (at_argument j)) c.place_line.ensures) ended
 
 pub loop-j-preserved : goal.loop-j-preserved
 loop-j-preserved g c =
@@ -40,7 +40,7 @@ loop-j-preserved g c =
     let s = c.args.cif.now in
     let n = c.args.number in
     let j = c.loop-j.j in
-    continues_on (joined (place_lines std n s)) _ _ _ c.loop-j.invariant (place_text_of std s (at_argument j)) _ _ (argument_at (place_text_of std s) s.arguments (place_text_of std s at_result ∷ []) j void (search rules)) (c.in_ok-write_line-2.ensures (place_text_of std s (at_argument j)) c.located_line.ensures)
+    continues_on (joined (place_lines std n s)) _ _ _ c.loop-j.invariant (place_text_of std s (at_argument j)) _ _ (argument_at (place_text_of std s) s.arguments (place_text_of std s at_result ∷ []) j void (search rules)) (c.in_ok-write_line-2.ensures (place_text_of std s (at_argument j)) c.place_line.ensures)
 
 pub returns : goal.returns
 returns g c =
