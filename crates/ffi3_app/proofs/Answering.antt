@@ -75,7 +75,7 @@ module _ (a : App) (is : IsProgram a) where
     refused_as e NoMemory has tells = tt
     refused_as e (Refused text) has tells =
         let named = without_memory has in (
-          λ at at' none. subst (IsAmong (kind_of e)) (ap (λ (x : App). fault_of x words) is.same ∙ same_fault is.placing is.running at at' words ∙ none) named,
+          record { fails = λ at at' none. subst (IsAmong (kind_of e)) (ap (λ (x : App). fault_of x words) is.same ∙ same_fault is.placing is.running at at' words ∙ none) named },
           λ r stated. subst (IsAmong (kind_of e)) (ap (λ (x : App). fault_of x words) is.same ∙ (stated_is_read is.placing is.running words r stated).0) named,
         )
       where

@@ -46,7 +46,7 @@ one_request words q r takes takes' =
 -- words that are taken are not refused
 pub taken_not_refused : (words : List (List ℕ)) (r : Request) → IsRefused words → Takes words r → ⊥
 taken_not_refused words r refuses takes =
-    refuses nowhere nowhere (takes.passes nowhere nowhere)
+    refuses.fails nowhere nowhere (takes.passes nowhere nowhere)
 
 -- words are taken as what they state
 pub same_request : (words : List (List ℕ)) (q r : Request) → Takes words q → IsStated words r → q ≡ r

@@ -43,9 +43,8 @@ pub record Takes (words : List Text) (r : Request) : Type 0 where
   pub means : (placing running : Addresses) → asked (subcommand_of (program placing running) words) ≡ Some r
 
 -- CLAP REFUSES the words for another cause than memory, wherever the program's texts lie; a request for help or the version counts
-abbrev pub IsRefused : List Text → Type 0
-IsRefused words =
-    (placing running : Addresses) → fault_of (program placing running) words ≡ [] → ⊥
+pub record IsRefused (words : List Text) : Type 0 where
+  pub fails : (placing running : Addresses) → fault_of (program placing running) words ≡ [] → ⊥
 
 abbrev pub IsRefusal : List Text → WordsFault → Type 0
 IsRefusal words (Refused text) = IsRefused words × ((r : Request) → IsStated words r → ⊥)
