@@ -1,0 +1,114 @@
+"""Compiles signatures once for a target and compiler, and runs cases of them in one process."""
+
+import pathlib
+import random
+import re
+import shutil
+import subprocess
+from concurrent.futures import ThreadPoolExecutor
+
+import cases
+from emit import Chunk, index_of
+from places import Layout
+
+HERE = pathlib.Path(__file__).resolve().parent
+IN_A_CHUNK = 200
+JOBS = 2
+SECONDS = 900
+
+# The GNU prefix of a target, the emulator that runs its programs (none on the host), and what clang is told.
+TARGETS = {
+    "amd64": ("x86_64-linux-gnu", None, []),
+    "aapcs64": ("aarch64-linux-gnu", "qemu-aarch64", []),
+    "riscv": ("riscv64-linux-gnu", "qemu-riscv64", ["-march=rv64gc", "-mabi=lp64d"]),
+}
+COMPILERS = ("gcc", "clang")
+FLAGS = ["-O1", "-w", "-std=gnu11", "-fno-pie", "-fno-stack-protector"]
+
+
+def command_of(target, compiler):
+    prefix, _, flags = TARGETS[target]
+    if compiler == "gcc":
+        return [f"{prefix}-gcc"]
+    return ["clang", f"--target={prefix}", *flags]
+
+
+def missing(target, compiler):
+    """The programs that this target and compiler need and that are not installed."""
+    prefix, emulator, _ = TARGETS[target]
+    needed = [f"{prefix}-gcc", command_of(target, compiler)[0], *([emulator] if emulator else [])]
+    return [name for name in needed if shutil.which(name) is None]
+
+
+def version_of(target, compiler):
+    lines = subprocess.run([*command_of(target, compiler), "--version"], capture_output=True, text=True).stdout
+    return lines.splitlines()[0]
+
+
+class Batch:
+    """Signatures as compiled for one target by one compiler, in a folder of their own."""
+
+    def __init__(self, target, compiler, signatures, folder):
+        self.target, self.compiler, self.folder = target, compiler, pathlib.Path(folder)
+        self.folder.mkdir(parents=True, exist_ok=True)
+        starts = range(0, len(signatures), IN_A_CHUNK)
+        self.chunks = [Chunk(number, signatures[start:start + IN_A_CHUNK]) for number, start in enumerate(starts)]
+        for chunk in self.chunks:
+            (self.folder / f"chunk_{chunk.number}.c").write_text(chunk.text())
+        counts = [len(signatures[start:start + IN_A_CHUNK]) for start in starts]
+        (self.folder / "index.c").write_text(index_of(counts))
+        with ThreadPoolExecutor(JOBS) as pool:
+            list(pool.map(self.compile, (f"chunk_{chunk.number}" for chunk in self.chunks)))
+        objects = [self.folder / f"chunk_{chunk.number}.o" for chunk in self.chunks]
+        self.program = self.folder / "play"
+        gcc = command_of(target, "gcc")
+        subprocess.run([*gcc, *FLAGS, "-static", f"-I{HERE}", "-o", self.program, HERE / "player.c", HERE / f"{target}.S",
+                        self.folder / "index.c", *objects], check=True)
+
+    def compile(self, name):
+        subprocess.run([*command_of(self.target, self.compiler), *FLAGS, f"-I{HERE}", "-c", "-o",
+                        self.folder / f"{name}.o", self.folder / f"{name}.c"], check=True)
+
+    def play(self, lines):
+        """Runs the cases; gives what was written: the layouts by type, and (index, direction) -> reasons."""
+        emulator = TARGETS[self.target][1]
+        ended = subprocess.run([*([emulator] if emulator else []), self.program], input=lines, text=True,
+                               stdout=subprocess.PIPE, timeout=SECONDS)
+        layouts, failed = {}, {}
+        types = {chunk.number: iter(chunk.types) for chunk in self.chunks}
+        ran = None
+        for line in ended.stdout.splitlines():
+            words = line.split()
+            if words[0] == "layout":
+                size, align, *offsets = map(int, words[2:])
+                kind = next(types[int(words[1])])
+                layouts.setdefault(kind, Layout(size, align, tuple(offsets)))
+            elif words[0] == "failed":
+                failed[int(words[1]), words[2]] = " ".join(words[3:])
+            elif words[0] == "ran":
+                ran = int(words[1])
+        return layouts, failed, ran
+
+
+def case_lines(target, signatures, plans, layouts, seed, first=0):
+    """The lines of all cases, and (index, direction) -> reason where a plan itself is wrong."""
+    parts, wrong = [], {}
+    for index, (signature, plan) in enumerate(zip(signatures, plans), first):
+        try:
+            parts.append(cases.lines_of(target, index, signature, plan, layouts, random.Random(f"{seed} {index}")))
+        except cases.Uncovered as fault:
+            wrong[index, "plan"] = str(fault)
+    return parts, wrong
+
+
+def failures(batch, signatures, plans, layouts, seed):
+    """Plays all signatures in both directions: how many cases passed, and (index, direction) -> reasons."""
+    parts, wrong = case_lines(batch.target, signatures, plans, layouts, seed)
+    found, failed, ran = batch.play("".join(parts))
+    if ran != 2 * len(parts):
+        wrong[len(signatures), "player"] = f"ran {ran} of {2 * len(parts)} cases"
+    wrong |= failed
+    for index, signature in enumerate(signatures):
+        if different := [kind for kind in signature.types() if kind != "void" and found[kind] != layouts[kind]]:
+            wrong[index, "layout"] = f"{different[0]}: {found[different[0]]}, ffi3 has {layouts[different[0]]}"
+    return 3 * len(signatures) - len(wrong), wrong
