@@ -1,4 +1,7 @@
-"""Compiles signatures once for a target and compiler, and runs cases of them in one process."""
+"""Compiles signatures once for a target and compiler, and runs cases of them in one process.
+
+libffi counts as one more compiler of the host's target: see `libffi.c`.
+"""
 
 import pathlib
 import random
@@ -22,7 +25,7 @@ TARGETS = {
     "aapcs64": ("aarch64-linux-gnu", "qemu-aarch64", []),
     "riscv": ("riscv64-linux-gnu", "qemu-riscv64", ["-march=rv64gc", "-mabi=lp64d"]),
 }
-COMPILERS = ("gcc", "clang")
+COMPILERS = {"amd64": ("gcc", "clang", "libffi"), "aapcs64": ("gcc", "clang"), "riscv": ("gcc", "clang")}
 FLAGS = ["-O1", "-w", "-std=gnu11", "-fno-pie", "-fno-stack-protector"]
 
 
@@ -45,49 +48,70 @@ def version_of(target, compiler):
     return lines.splitlines()[0]
 
 
-class Batch:
+class Played:
+    """A program that plays cases: `command` runs it, `types` has the types of its lines `layout`, chunk by chunk."""
+
+    def play(self, lines):
+        """Runs the cases; gives what was written: the layouts by type, and (index, direction) -> reasons."""
+        ended = subprocess.run(self.command, input=lines, text=True, stdout=subprocess.PIPE, timeout=SECONDS)
+        layouts, failed = {}, {}
+        types = list(map(iter, self.types))
+        ran = None
+        for line in ended.stdout.splitlines():
+            words = line.split()
+            if words[0] == "layout":
+                size, align, *offsets = map(int, words[2:])
+                layouts.setdefault(next(types[int(words[1])]), set()).add(Layout(size, align, tuple(offsets)))
+            elif words[0] == "failed":
+                failed[int(words[1]), words[2]] = " ".join(words[3:])
+            elif words[0] == "ran":
+                ran = int(words[1])
+        return layouts, failed, ran
+
+
+class Compiled(Played):
     """Signatures as compiled for one target by one compiler, in a folder of their own."""
 
     def __init__(self, target, compiler, signatures, folder):
         self.target, self.compiler, self.folder = target, compiler, pathlib.Path(folder)
         self.folder.mkdir(parents=True, exist_ok=True)
         starts = range(0, len(signatures), IN_A_CHUNK)
-        self.chunks = [Chunk(number, signatures[start:start + IN_A_CHUNK]) for number, start in enumerate(starts)]
-        for chunk in self.chunks:
-            (self.folder / f"chunk_{chunk.number}.c").write_text(chunk.text())
-        counts = [len(signatures[start:start + IN_A_CHUNK]) for start in starts]
-        (self.folder / "index.c").write_text(index_of(counts))
+        chunks = [Chunk(number, signatures[start:start + IN_A_CHUNK]) for number, start in enumerate(starts)]
+        self.types = [chunk.types for chunk in chunks]
+        names = [f"chunk_{chunk.number}" for chunk in chunks]
+        for name, chunk in zip(names, chunks):
+            (self.folder / f"{name}.c").write_text(chunk.text())
+        (self.folder / "index.c").write_text(index_of([len(signatures[start:start + IN_A_CHUNK]) for start in starts]))
         with ThreadPoolExecutor(JOBS) as pool:
-            list(pool.map(self.compile, (f"chunk_{chunk.number}" for chunk in self.chunks)))
-        objects = [self.folder / f"chunk_{chunk.number}.o" for chunk in self.chunks]
-        self.program = self.folder / "play"
-        gcc = command_of(target, "gcc")
-        subprocess.run([*gcc, *FLAGS, "-static", f"-I{HERE}", "-o", self.program, HERE / "player.c", HERE / f"{target}.S",
-                        self.folder / "index.c", *objects], check=True)
+            list(pool.map(self.compile, names))
+        program = self.folder / "play"
+        subprocess.run([*command_of(target, "gcc"), *FLAGS, "-static", f"-I{HERE}", "-o", program, HERE / "player.c",
+                        HERE / f"{target}.S", self.folder / "index.c", *(self.folder / f"{name}.o" for name in names)],
+                       check=True)
+        emulator = TARGETS[target][1]
+        self.command = [*([emulator] if emulator else []), program]
 
     def compile(self, name):
         subprocess.run([*command_of(self.target, self.compiler), *FLAGS, f"-I{HERE}", "-c", "-o",
                         self.folder / f"{name}.o", self.folder / f"{name}.c"], check=True)
 
-    def play(self, lines):
-        """Runs the cases; gives what was written: the layouts by type, and (index, direction) -> reasons."""
-        emulator = TARGETS[self.target][1]
-        ended = subprocess.run([*([emulator] if emulator else []), self.program], input=lines, text=True,
-                               stdout=subprocess.PIPE, timeout=SECONDS)
-        layouts, failed = {}, {}
-        types = {chunk.number: iter(chunk.types) for chunk in self.chunks}
-        ran = None
-        for line in ended.stdout.splitlines():
-            words = line.split()
-            if words[0] == "layout":
-                size, align, *offsets = map(int, words[2:])
-                kind = next(types[int(words[1])])
-                layouts.setdefault(kind, Layout(size, align, tuple(offsets)))
-            elif words[0] == "failed":
-                failed[int(words[1]), words[2]] = " ".join(words[3:])
-            elif words[0] == "ran":
-                ran = int(words[1])
-        return layouts, failed, ran
+
+class Libffi(Played):
+    """The host's libffi: closures are the callees, ffi_call is the caller."""
+
+    def __init__(self, signatures, folder):
+        self.target, self.compiler, self.folder = "amd64", "libffi", pathlib.Path(folder)
+        self.folder.mkdir(parents=True, exist_ok=True)
+        program, listed = self.folder / "play", self.folder / "signatures"
+        listed.write_text("".join(f"{signature}\n" for signature in signatures))
+        subprocess.run([*command_of("amd64", "gcc"), *FLAGS, "-no-pie", f"-I{HERE}", "-o", program, HERE / "player.c",
+                        HERE / "amd64.S", HERE / "libffi.c", "-lffi"], check=True)
+        self.types = [[kind for signature in signatures for kind in signature.types() if kind != "void"]]
+        self.command = [program, listed]
+
+
+def built(target, compiler, signatures, folder):
+    return Libffi(signatures, folder) if compiler == "libffi" else Compiled(target, compiler, signatures, folder)
 
 
 def case_lines(target, signatures, plans, layouts, seed, first=0):
@@ -109,6 +133,6 @@ def failures(batch, signatures, plans, layouts, seed):
         wrong[len(signatures), "player"] = f"ran {ran} of {2 * len(parts)} cases"
     wrong |= failed
     for index, signature in enumerate(signatures):
-        if different := [kind for kind in signature.types() if kind != "void" and found[kind] != layouts[kind]]:
+        if different := [kind for kind in signature.types() if kind != "void" and found[kind] != {layouts[kind]}]:
             wrong[index, "layout"] = f"{different[0]}: {found[different[0]]}, ffi3 has {layouts[different[0]]}"
     return 3 * len(signatures) - len(wrong), wrong

@@ -52,9 +52,9 @@ def runs(pairs):
 
 def in_pieces(target, kind, layout, leaves, pieces, is_widened):
     """(place and byte, bytes) for each run of a value's bytes in its pieces, extended as the plan says."""
-    if is_narrow(kind) and is_widened and [(piece.offset, piece.length) for piece in pieces] == [(0, SIZES[kind])]:
-        return [(f"{pieces[0].place}+0", extended(target, kind, leaves[0]))]
     found, covered = [], []
+    if is_narrow(kind) and is_widened:
+        found.append((f"{pieces[0].place}+{SIZES[kind]}", extended(target, kind, leaves[0])[SIZES[kind]:]))
     for piece in pieces:
         inside = [(at - piece.offset, byte) for at, byte in leaf_bytes(kind, layout, leaves)
                   if piece.offset <= at < piece.offset + piece.length]

@@ -96,6 +96,6 @@ def index_of(counts):
     return "".join([
         '#include "player.h"\n',
         *(f"extern const struct entry chunk_{k}[];\nextern const struct layout *const layouts_{k}[];\n" for k in numbers),
-        f"const struct chunk chunks[] = {{ {', '.join(f'{{ chunk_{k}, layouts_{k}, {counts[k]} }}' for k in numbers)} }};\n",
-        f"const int chunk_count = {len(counts)};\n",
+        f"static const struct chunk all[] = {{ {', '.join(f'{{ chunk_{k}, layouts_{k}, {counts[k]} }}' for k in numbers)} }};\n",
+        f"const struct chunk *chunks = all;\nint chunk_count = {len(counts)};\n",
     ])

@@ -39,14 +39,15 @@ enum { STACK_POINTER = 2, LINK = 0, KEPT = 0x0FFC0300, RESERVED = 1 << 0 | 1 << 
        KEPT_FLOATING = 0x0FFC0300 };
 #endif
 
-extern const struct chunk chunks[];
-extern const int chunk_count;
+extern const struct chunk *chunks;
+extern int chunk_count;
 
 /* In the target's assembly. play_call calls with the registers of `now`, and leaves there those of the return.
    play_enter is what compiled code calls: it leaves the registers in `now`, calls entered, and returns with `now`. */
 void play_call(function *callee, unsigned char *stack_pointer);
 void play_enter(void);
 
+long current;
 struct image now;
 static struct image before;
 static unsigned char *base; /* the first stack argument, where the frame starts */
@@ -282,7 +283,7 @@ static void call(function *callee)
         wrong("written above the frame");
 }
 
-static void run_case(int is_call, const struct entry *entry, long index)
+static void run_case(int is_call, const struct entry *entry)
 {
     ended = 0;
     value_at = result_at = argument = 0;
@@ -300,7 +301,7 @@ static void run_case(int is_call, const struct entry *entry, long index)
     if (!fault && (value_at != value_count || (is_call && result_at != result_count)))
         wrong("not all values were passed");
     if (reasons[0])
-        printf("failed %ld %s %s\n", index, is_call ? "call" : "enter", reasons);
+        printf("failed %ld %s %s\n", current, is_call ? "call" : "enter", reasons);
 }
 
 static void caught(int signal)
@@ -346,11 +347,11 @@ int main(void)
         line = cursor;
         cursor = newline + 1;
         int is_call = !strcmp(word(), "call");
-        long index = number(), rest = index;
+        long rest = current = number();
         const struct chunk *chunk = chunks;
         while (rest >= chunk->count)
             rest -= chunk++->count;
-        run_case(is_call, chunk->entries + rest, index);
+        run_case(is_call, chunk->entries + rest);
         ran++;
     }
     printf("ran %ld\n", ran);

@@ -22,6 +22,9 @@ struct chunk {
     int count;
 };
 
+/* The signature whose case is played. */
+extern long current;
+
 /* A compiled callee hands in its arguments, in order, and asks for its result; a compiled caller the other way. */
 void argument_in(const void *value, const struct layout *layout);
 void argument_out(void *value, const struct layout *layout);
