@@ -12,7 +12,7 @@ from concurrent.futures import ThreadPoolExecutor
 
 import cases
 from emit import Chunk, index_of
-from places import Layout
+from places import FLOATING, GENERAL, Layout
 
 HERE = pathlib.Path(__file__).resolve().parent
 IN_A_CHUNK = 200
@@ -39,11 +39,23 @@ def command_of(target, compiler):
 def missing(target, compiler):
     """The programs that this target and compiler need and that are not installed."""
     prefix, emulator, _ = TARGETS[target]
+    if compiler == "libffi":
+        return [] if libffi_version() else ["ffi.h"]
     needed = [f"{prefix}-gcc", command_of(target, compiler)[0], *([emulator] if emulator else [])]
     return [name for name in needed if shutil.which(name) is None]
 
 
+def libffi_version():
+    """The version that libffi's header names, or None where it is not installed."""
+    ended = subprocess.run([*command_of("amd64", "gcc"), "-E", "-C", "-"], input="#include <ffi.h>\n", capture_output=True,
+                           text=True)
+    found = re.search(r"libffi (\d\S*)", ended.stdout)
+    return found and found[1]
+
+
 def version_of(target, compiler):
+    if compiler == "libffi":
+        return f"libffi {libffi_version()}"
     lines = subprocess.run([*command_of(target, compiler), "--version"], capture_output=True, text=True).stdout
     return lines.splitlines()[0]
 
@@ -67,6 +79,24 @@ class Played:
             elif words[0] == "ran":
                 ran = int(words[1])
         return layouts, failed, ran
+
+    def show(self, lines):
+        """Runs one case that has a line `show`: each byte by its place, (REG, byte), (ref REG, byte) or (stackN, byte)."""
+        ended = subprocess.run(self.command, input=lines, text=True, stdout=subprocess.PIPE, timeout=SECONDS)
+        shown = [line.split() for line in ended.stdout.splitlines() if line.startswith("shown ")]
+        if not shown:
+            return {}
+        base = int(shown[0][1], 16)
+        general, floating, stack = map(bytes.fromhex, shown[0][2:])
+        words = {name: general[8 * k:8 * k + 8] for name, k in GENERAL[self.target].items()}
+        words |= {name: floating[8 * k:8 * k + 8] for name, k in FLOATING[self.target].items()}
+        stacked = {f"stack{k}": stack[k:k + 8] for k in range(0, len(stack), 8)}
+        found = {(name, k): byte for name, word in words.items() for k, byte in enumerate(word)}
+        for name, word in (words | stacked).items():
+            start = int.from_bytes(word, "little") - base
+            if 0 <= start < len(stack):
+                found |= {(f"ref {name}", k): byte for k, byte in enumerate(stack[start:])}
+        return found | {(name, k): byte for name, word in stacked.items() for k, byte in enumerate(word)}
 
 
 class Compiled(Played):

@@ -68,7 +68,9 @@ def in_pieces(target, kind, layout, leaves, pieces, is_widened):
 
 
 def head(direction, index, plan, values, result):
-    return [f"{direction} {index}", f"frame {plan.frame}", f"values {b''.join(sum(values, [])).hex()}",
+    """The first lines of a case. A callee has the frame that it finds."""
+    frame = [f"frame {plan.frame}"] if direction == "call" else []
+    return [f"{direction} {index}", *frame, f"values {b''.join(sum(values, [])).hex()}",
             f"result {b''.join(result).hex()}"]
 
 
@@ -100,7 +102,7 @@ def call_lines(target, index, signature, plan, layouts, values, result):
 
 def enter_lines(target, index, signature, plan, layouts, values, result):
     """ffi3 is the callee."""
-    lines = head("enter", index, plan, values, result)[:1] + head("enter", index, plan, values, result)[2:]
+    lines = head("enter", index, plan, values, result)
     for kind, stand, leaves in zip(signature.arguments, plan.arguments, values):
         if stand.reference:
             lines.append(f"want_aligned {stand.reference}+0 {layouts[kind].align}")

@@ -13,6 +13,7 @@
  *   want P HEX, want_address P N, want_at P N HEX    the same, looked at
  *   want_aligned P A  the address in place P is a multiple of A
  *   want_between P L H   the lowest byte of place P is from L to H
+ *   show         writes a line `shown BASE GENERAL FLOATING STACK`, in hexadecimal: the registers, and the stack from BASE on
  *   go           in a call: now call; at an entry: what follows is the result
  *   end          ends a case
  *
@@ -29,6 +30,7 @@
 
 #define GUARD 256
 #define LONGEST 70000
+#define SHOWN 2048
 
 #if defined __x86_64__
 enum { STACK_POINTER = 4, LINK = 8, KEPT = 1 << 3 | 1 << 5 | 0xF000, RESERVED = 0, KEPT_FLOATING = 0 };
@@ -175,13 +177,32 @@ static void look(const char *name, const unsigned char *at)
         wrong("other bytes at %s", name);
 }
 
+static void write_hex(const void *bytes, size_t count)
+{
+    printf(" ");
+    for (const unsigned char *at = bytes; count--;)
+        printf("%02x", *at++);
+}
+
+static void show(void)
+{
+    size_t in_area = base >= area && base < area + sizeof area ? area + sizeof area - base : SHOWN;
+    printf("shown %lx", (unsigned long)base);
+    write_hex(now.general, sizeof now.general);
+    write_hex(now.floating, sizeof now.floating);
+    write_hex(base, in_area < SHOWN ? in_area : SHOWN);
+    printf("\n");
+}
+
 /* Does one line, whose first word is given. */
 static void play(const char *what)
 {
     char name[40];
     snprintf(name, sizeof name, "%s", line);
     name[strcspn(name, " \n")] = 0;
-    if (!strcmp(what, "frame")) {
+    if (!strcmp(what, "show")) {
+        show();
+    } else if (!strcmp(what, "frame")) {
         base = area + sizeof area - GUARD - number();
         fill(base, area + sizeof area - base);
         memcpy(guard, area + sizeof area - GUARD, GUARD);
@@ -322,6 +343,7 @@ static void write_layouts(void)
 
 int main(void)
 {
+    volatile unsigned char above[SHOWN] = { 0 }; /* so that the stack above each entry can be shown */
     static unsigned char signal_stack[1 << 16];
     stack_t stack = { .ss_sp = signal_stack, .ss_size = sizeof signal_stack };
     struct sigaction action = { .sa_handler = caught, .sa_flags = SA_ONSTACK | SA_NODEFER };
@@ -355,5 +377,5 @@ int main(void)
         ran++;
     }
     printf("ran %ld\n", ran);
-    return 0;
+    return above[0];
 }

@@ -41,8 +41,9 @@ def smaller_signatures(signature):
 
 
 def shrunk(program, target, compiler, signature, direction, is_failure, seed, folder):
-    """The smallest signature found that still fails, with its plan and reasons. Each step compiles all that are one
-    smaller, and goes on with the first that fails. `is_failure` says whether a case is no listed difference."""
+    """The smallest signature found that still fails, with its plan, the layouts, the reasons, and the program that has it,
+    by number. Each step compiles all that are one smaller, and goes on with the first that fails. `is_failure` says
+    whether a case is no listed difference."""
     found = None
     for step in range(STEPS):
         candidates = [signature] if step == 0 else list(dict.fromkeys(smaller_signatures(signature)))[:200]
@@ -52,7 +53,8 @@ def shrunk(program, target, compiler, signature, direction, is_failure, seed, fo
         layouts = places.layouts(program, candidates)
         built = batch.built(target, compiler, candidates, f"{folder}/{target}-{compiler}-{step}")
         _, wrong = batch.failures(built, candidates, plans, layouts, seed)
-        failing = [key for key in sorted(wrong) if key[1] == direction and is_failure(candidates[key[0]], plans[key[0]], key[1], wrong[key])]
+        failing = [(index, way) for index, way in sorted(wrong)
+                   if way == direction and is_failure(candidates[index], plans[index], way, wrong[index, way])]
         if not failing:
             break
         index = failing[0][0]
@@ -65,41 +67,34 @@ ROUNDS = 4
 
 
 def seen(found, target, seed):
-    """Where the compiled caller of a shrunk signature puts each argument, as runs of bytes in registers and on the stack.
+    """Where compiled code has each argument at the entry, and the result at the return: lines as `place` writes them.
 
-    The caller passes random bytes a few times. A byte's places are those where it stands each time; what is passed by
-    reference is looked for where a place holds an address on the stack."""
+    It is given random bytes a few times. A byte's place is one where it stands each time: a register, what a place holds
+    the address of (ref), or the stack. Where the call itself goes wrong the result is not found."""
     signature, plan, layouts, _, built, index = found
-    rounds = []
+    entries, returns = [], []
     for number in range(ROUNDS):
         values, result = cases.values_for(signature, random.Random(f"{seed} seen {number}"))
-        lines = [f"enter {index}", f"values {b''.join(sum(values, [])).hex()}", f"result {b''.join(result).hex()}", "show", "go", "end"]
-        image = built.show("\n".join(lines) + "\n")
-        rounds.append((values, image))
-    texts = []
-    for i, kind in enumerate(signature.arguments):
-        texts.append(f"arg {i} " + (" ".join(places_seen(target, kind, layouts[kind], i, rounds)) or "not found"))
-    return texts
+        entry = [*cases.head("enter", index, None, values, result), "show", "go", "end", ""]
+        entries.append((values, built.show("\n".join(entry))))
+        call = cases.call_lines(target, index, signature, plan, layouts, values, result)
+        call = [*call[:call.index("go") + 1], "show", "end", ""]
+        returns.append(([result], built.show("\n".join(call))))
+    lines = [f"arg {i} {places_seen(kind, layouts[kind], i, entries)}" for i, kind in enumerate(signature.arguments)]
+    return [*lines, f"ret {places_seen(signature.result, layouts[signature.result], 0, returns)}"]
 
 
-def places_seen(target, kind, layout, argument, rounds):
-    """Runs of a value's bytes as `place` writes pieces, a + before what lies beyond a place's start."""
-    leaves = [cases.leaf_bytes(kind, layout, values[argument]) for values, _ in rounds]
-    found = []
-    for k, (offset, _) in enumerate(leaves[0]):
-        here = None
-        for name in rounds[0][1]:
-            if all(image.get(name) == leaf[k][1] for leaf, (_, image) in zip(leaves, rounds)):
-                here = name
-                break
-        found.append((offset, here))
+def places_seen(kind, layout, which, rounds):
+    """Runs of the bytes of a value: PLACE:OFF+LEN, with the byte of the place in brackets where it is not the first."""
+    leaves = [cases.leaf_bytes(kind, layout, values[which]) for values, _ in rounds]
     runs = []
-    for offset, here in found:
-        if here is None:
-            continue
-        place, byte = here
-        if runs and runs[-1][0] == place and runs[-1][1] + runs[-1][3] == byte and runs[-1][2] + runs[-1][3] == offset:
-            runs[-1][3] += 1
-        else:
-            runs.append([place, byte, offset, 1])
-    return [f"{place}{f'[{byte}]' if byte else ''}:{offset}+{length}" for place, byte, offset, length in runs]
+    for k, (offset, _) in enumerate(leaves[0]):
+        name, byte = next((where for where in rounds[0][1]
+                           if all(image.get(where) == leaf[k][1] for leaf, (_, image) in zip(leaves, rounds))), (None, 0))
+        last = runs[-1] if runs else None
+        if last and last[0] == name and last[1] + last[3] == byte and last[2] + last[3] == offset:
+            last[3] += 1
+        elif name:
+            runs.append([name, byte, offset, 1])
+    texts = [f"{name}{f'[{byte}]' if byte else ''}:{offset}+{length}" for name, byte, offset, length in runs]
+    return " ".join(texts) or ("void" if kind == "void" else "not found")
