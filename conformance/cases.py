@@ -69,9 +69,8 @@ def in_pieces(target, kind, layout, leaves, pieces, is_widened):
 
 def head(direction, index, plan, values, result):
     """The first lines of a case. A callee has the frame that it finds."""
-    frame = [f"frame {plan.frame}"] if direction == "call" else []
-    return [f"{direction} {index}", *frame, f"values {b''.join(sum(values, [])).hex()}",
-            f"result {b''.join(result).hex()}"]
+    lines = [f"{direction} {index}", f"values {b''.join(sum(values, [])).hex()}", f"result {b''.join(result).hex()}"]
+    return [*lines, f"frame {plan.frame}" if direction == "call" else "begin"]
 
 
 def call_lines(target, index, signature, plan, layouts, values, result):

@@ -107,6 +107,18 @@ def place_of(target, text):
     return Place("f", FLOATING[target][text])
 
 
+def named(target, text):
+    """A text with the player's places written by name: g10+0 is a0 on RISC-V, s16+2 is stack16+2."""
+    names = {("g", number): name for name, number in GENERAL[target].items()}
+    names |= {("f", number): name for name, number in FLOATING[target].items()}
+
+    def name_of(match):
+        kind, number, byte = match[1], int(match[2]), int(match[3])
+        return names.get((kind, number), f"stack{number}") + (f"+{byte}" if byte else "")
+
+    return re.sub(r"\b([gfs])(\d+)\+(\d+)", name_of, text)
+
+
 def stand_of(target, words):
     if words[0] in ("ref", "hidden"):
         return Stand(reference=place_of(target, words[1]), copy=int(words[3]))

@@ -6,6 +6,7 @@
  *   enter I      compiled caller I calls the player, which looks at registers and stack, and hands back a result
  *   frame N      bytes of the caller's frame
  *   values HEX   the bytes of the arguments' leaves, in order; `result HEX` those of the result
+ *   begin        in an entry: now the compiled caller is called, and what follows is at the entry
  *   put P HEX         bytes at place P; a place is g7+0, f3+0 or s16+0: register or stack, number, byte
  *   put_address P N   the address of byte N of the frame
  *   put_copy P Q      the doubleword that was in place Q at the entry
@@ -142,13 +143,17 @@ static long number(void)
     return atol(word());
 }
 
+static unsigned digit(char of)
+{
+    return of >= 'a' ? of - 'a' + 10u : of - '0' + 0u;
+}
+
 static unsigned hex(unsigned char *bytes)
 {
     char *text = word();
     unsigned count = 0;
-    if (text)
-        for (; sscanf(text, "%2hhx", bytes + count) == 1; text += 2)
-            count++;
+    for (; text && text[0] && text[1]; text += 2)
+        bytes[count++] = digit(text[0]) << 4 | digit(text[1]);
     return count;
 }
 
@@ -317,6 +322,7 @@ static void run_case(int is_call, const struct entry *entry)
     } else if (is_call) {
         call(entry->callee);
     } else {
+        play_to("begin");
         entry->caller(play_enter);
     }
     if (!fault && (value_at != value_count || (is_call && result_at != result_count)))

@@ -2,7 +2,7 @@
 
 The bytes are those that docs/FORMATS.md, section 7, prints. What must come of them is docs/RULES.md, section 12: three
 instructions from the slot reach ENTRY, the closure register has the slot's address, one more register may change, and
-no memory does.
+no memory does. The first instruction of a free slot's filling traps.
 """
 
 import pathlib
@@ -30,6 +30,13 @@ def slot_bytes():
     return found
 
 
+def free_slot_bytes():
+    """A free slot's bytes, for each target."""
+    line = re.search(r"^A free slot is filled with (.*?)\n\n", FORMATS.read_text(), re.MULTILINE | re.DOTALL)[1]
+    fillings = re.findall(r"`([0-9a-f]+)` \([^)]*\)(?: on|,)\s+(?:on\s+)?(\w+)", line)
+    return {target: bytes.fromhex(filling) * (SLOT // (len(filling) // 2)) for filling, target in fillings}
+
+
 def machine(target):
     """A machine of Unicorn, the numbers of its registers by name, and the number of its pc."""
     import unicorn
@@ -46,6 +53,19 @@ def machine(target):
     names = [f"x{number}" for number in range(1, 32)]
     return (unicorn.Uc(unicorn.UC_ARCH_RISCV, unicorn.UC_MODE_RISCV64),
             {name: getattr(riscv_const, f"UC_RISCV_REG_{name.upper()}") for name in names}, riscv_const.UC_RISCV_REG_PC)
+
+
+def is_trap(target, bytes_of_slot):
+    """Whether the first instruction at a slot raises an exception. Unicorn 2.0.1 tells RISC-V's ebreak as invalid."""
+    import unicorn
+    processor, _, _ = machine(target)
+    processor.mem_map(CODE, CODE_SIZE)
+    processor.mem_write(CODE, bytes_of_slot)
+    try:
+        processor.emu_start(CODE, 0, count=1)
+    except unicorn.UcError as fault:
+        return fault.errno in (unicorn.UC_ERR_EXCEPTION, unicorn.UC_ERR_INSN_INVALID)
+    return False
 
 
 def wrong_in(target, bytes_of_slot, number, source):
@@ -74,7 +94,7 @@ def wrong_in(target, bytes_of_slot, number, source):
 
 
 def compare(target, seed):
-    """How many slots behave as the rules say, and what the others do."""
+    """How many slots, a free one among them, behave as the rules say, and what the others do."""
     bytes_of_slot = slot_bytes()[target]
     passed, failed = 0, []
     for number in TRIED:
@@ -83,6 +103,10 @@ def compare(target, seed):
             failed.append(f"slot {number}: {'; '.join(wrong)}")
         else:
             passed += 1
+    if is_trap(target, free_slot_bytes()[target]):
+        passed += 1
+    else:
+        failed.append("a free slot: its first instruction does not trap")
     return passed, failed
 
 
