@@ -1,4 +1,4 @@
-/* Times libffi's ffi_prep_cif: prep_cif FILE, with one signature a line. Writes nanoseconds for all of them, once through. */
+/* Times libffi's ffi_prep_cif: prep_cif FILE, with one signature a line. Writes the nanoseconds for all of them. */
 #include "../conformance/libffi.c"
 
 #include <time.h>

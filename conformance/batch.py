@@ -47,8 +47,8 @@ def missing(target, compiler):
 
 def libffi_version():
     """The version that libffi's header names, or None where it is not installed."""
-    ended = subprocess.run([*command_of("amd64", "gcc"), "-E", "-C", "-"], input="#include <ffi.h>\n", capture_output=True,
-                           text=True)
+    words = [*command_of("amd64", "gcc"), "-E", "-C", "-"]
+    ended = subprocess.run(words, input="#include <ffi.h>\n", capture_output=True, text=True)
     found = re.search(r"libffi (\d\S*)", ended.stdout)
     return found and found[1]
 
@@ -81,7 +81,7 @@ class Played:
         return layouts, failed, ran
 
     def show(self, lines):
-        """Runs one case that has a line `show`: each byte by its place, (REG, byte), (ref REG, byte) or (stackN, byte)."""
+        """Runs one case that has a line `show`: each byte by its place: a name (REG, ref REG, stackN) and a byte."""
         ended = subprocess.run(self.command, input=lines, text=True, stdout=subprocess.PIPE, timeout=SECONDS)
         shown = [line.split() for line in ended.stdout.splitlines() if line.startswith("shown ")]
         if not shown:

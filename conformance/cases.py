@@ -79,7 +79,8 @@ def call_lines(target, index, signature, plan, layouts, values, result):
     for kind, stand, leaves in zip(signature.arguments, plan.arguments, values):
         if stand.reference:
             lines.append(f"put_address {stand.reference}+0 {stand.copy}")
-            lines += [f"put s{stand.copy + at}+0 {run.hex()}" for at, run in runs(leaf_bytes(kind, layouts[kind], leaves))]
+            lines += [f"put s{stand.copy + at}+0 {run.hex()}"
+                      for at, run in runs(leaf_bytes(kind, layouts[kind], leaves))]
         else:
             lines += [f"put {place} {run.hex()}"
                       for place, run in in_pieces(target, kind, layouts[kind], leaves, stand.pieces, True)]

@@ -25,7 +25,7 @@ class Difference:
 def narrow_on_the_stack(signature, plan, direction, reason):
     found = re.fullmatch(r"other bytes at s(\d+)\+(\d+)", reason)
     return direction == "enter" and found is not None and any(
-        is_narrow(kind) and piece.place.kind == "s" and piece.place.number == int(found[1]) and SIZES[kind] == int(found[2])
+        is_narrow(kind) and str(piece.place) == f"s{found[1]}" and SIZES[kind] == int(found[2])
         for kind, stand in zip(signature.arguments, plan.arguments) for piece in stand.pieces)
 
 
@@ -41,16 +41,18 @@ def last_register_and_a_vector(signature, plan, direction, reason):
 DIFFERENCES = [
     Difference(
         "clang leaves a narrow integer on the stack unextended", "riscv", "clang",
-        "clang 14 marks no integer that must use the stack as sign- or zero-extended, so the bytes beyond its own are what "
-        "the load left (an lb or lh of an unsigned one). ffi3's callee reads the value's own bytes alone, so nothing is "
-        "lost; ffi3's caller extends.",
-        "RISC-V ELF psABI, integer calling convention: When passed in registers or on the stack, integer scalars narrower "
-        "than XLEN bits are widened according to the sign of their type up to 32 bits, then sign-extended to XLEN bits.",
+        "clang 14 marks no integer that must use the stack as sign- or zero-extended, so the bytes beyond its own are "
+        "what the load left (an lb or lh of an unsigned one). ffi3's callee reads the value's own bytes alone, so "
+        "nothing is lost; ffi3's caller extends.",
+        "RISC-V ELF psABI, integer calling convention: When passed in registers or on the stack, integer scalars "
+        "narrower than XLEN bits are widened according to the sign of their type up to 32 bits, then sign-extended to "
+        "XLEN bits.",
         narrow_on_the_stack),
     Difference(
         "ffi_call writes over xmm0", "amd64", "libffi",
-        "libffi 3.4.4 copies the whole rest of a struct to the place of its INTEGER eightbyte. Where that place is r9, the "
-        "last one, and the next eightbyte is SSE, the copy runs on into the place of xmm0, which an earlier argument has.",
+        "libffi 3.4.4 copies the whole rest of a struct to the place of its INTEGER eightbyte. Where that place is r9, "
+        "the last one, and the next eightbyte is SSE, the copy runs on into the place of xmm0, which an earlier "
+        "argument has: xmm0 then holds the struct's second eightbyte too.",
         "System V psABI AMD64 3.2.3, passing: If the class is SSE, the next available vector register is used, the "
         "registers are taken in the order from %xmm0 to %xmm7.",
         last_register_and_a_vector),

@@ -92,10 +92,11 @@ class Chunk:
 
 def index_of(counts):
     """The C file that lists the chunks, whose numbers of signatures are given."""
-    numbers = range(len(counts))
+    declared = [f"extern const struct entry chunk_{k}[];\nextern const struct layout *const layouts_{k}[];\n"
+                for k in range(len(counts))]
+    listed = [f"{{ chunk_{k}, layouts_{k}, {count} }}" for k, count in enumerate(counts)]
     return "".join([
-        '#include "player.h"\n',
-        *(f"extern const struct entry chunk_{k}[];\nextern const struct layout *const layouts_{k}[];\n" for k in numbers),
-        f"static const struct chunk all[] = {{ {', '.join(f'{{ chunk_{k}, layouts_{k}, {counts[k]} }}' for k in numbers)} }};\n",
+        '#include "player.h"\n', *declared,
+        f"static const struct chunk all[] = {{ {', '.join(listed)} }};\n",
         f"const struct chunk *chunks = all;\nint chunk_count = {len(counts)};\n",
     ])

@@ -1,5 +1,5 @@
-/* libffi in the place of a compiler: its closures are the callees, ffi_call is the caller. The first word of the command
-   line names a file with one signature a line, in the text of docs/FORMATS.md, section 3. */
+/* libffi in the place of a compiler: its closures are the callees, ffi_call is the caller. The first word of the
+   command line names a file with one signature a line, in the text of docs/FORMATS.md, section 3. */
 #include <ffi.h>
 #include <stdio.h>
 #include <stdlib.h>
@@ -93,8 +93,8 @@ static void *room(size_t size)
     return malloc(size < 16 ? 16 : size);
 }
 
-/* ffi_call calls the player. It may change the array of addresses (libffi 3.4.4 copies large structs itself, and writes the
-   copies' addresses there), so the rooms are freed by another array. */
+/* ffi_call calls the player. It may change the array of addresses (libffi 3.4.4 copies large structs itself, and writes
+   the copies' addresses there), so the rooms are freed by another array. */
 static void caller(function *called)
 {
     struct signature *signature = signatures + current;

@@ -38,8 +38,9 @@ def rounded_to_16(signature, plan, layouts):
 def result_by_eightbyte(signature, plan, layouts):
     """A result's second eightbyte is in rdx or xmm1, whatever class the first has."""
     second = {Place("g", 0): Place("g", 2), Place("f", 0): Place("f", 1)}
-    plan.result = Stand([piece if piece.offset == 0 else Piece(second.get(piece.place, piece.place), piece.offset, piece.length)
-                         for piece in plan.result.pieces], plan.result.reference, plan.result.copy)
+    for i, piece in enumerate(plan.result.pieces):
+        if piece.offset:
+            plan.result.pieces[i] = Piece(second.get(piece.place, piece.place), piece.offset, piece.length)
 
 
 def no_vectors_counted(signature, plan, layouts):
@@ -83,7 +84,8 @@ def vectors_not_ended(signature, plan, layouts):
 def reference_at_16(signature, plan, layouts):
     """A struct of 16 bytes is passed by reference: it takes one register, the address of a copy."""
     for i, (kind, stand) in enumerate(zip(signature.arguments, plan.arguments)):
-        if not isinstance(kind, str) and layouts[kind].size == 16 and [piece.place.kind for piece in stand.pieces] == ["g", "g"]:
+        kinds = [piece.place.kind for piece in stand.pieces]
+        if not isinstance(kind, str) and layouts[kind].size == 16 and kinds == ["g", "g"]:
             plan.arguments[i] = Stand(reference=stand.pieces[0].place, copy=plan.frame)
             plan.frame += 16
 
@@ -129,7 +131,8 @@ def two_floats_packed(signature, plan, layouts):
 
 def hidden_takes_no_word(signature, plan, layouts):
     """The address of a hidden result is in a7, and arguments begin with a0."""
-    if plan.result.reference and not any(piece.place == Place("g", 17) for stand in plan.arguments for piece in stand.pieces):
+    taken = [piece.place for stand in plan.arguments for piece in stand.pieces]
+    if plan.result.reference and Place("g", 17) not in taken:
         plan.arguments = [moved(stand, lambda place: Place("g", place.number - 1) if place.kind == "g" else place)
                           for stand in plan.arguments]
         plan.result.reference = Place("g", 17)

@@ -14,7 +14,7 @@
  *   want P HEX, want_address P N, want_at P N HEX    the same, looked at
  *   want_aligned P A  the address in place P is a multiple of A
  *   want_between P L H   the lowest byte of place P is from L to H
- *   show         writes a line `shown BASE GENERAL FLOATING STACK`, in hexadecimal: the registers, and the stack from BASE on
+ *   show         writes a line `shown BASE GENERAL FLOATING STACK`, in hexadecimal: registers, and the stack from BASE
  *   go           in a call: now call; at an entry: what follows is the result
  *   end          ends a case
  *

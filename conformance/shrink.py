@@ -41,9 +41,9 @@ def smaller_signatures(signature):
 
 
 def shrunk(program, target, compiler, signature, direction, is_failure, seed, folder):
-    """The smallest signature found that still fails, with its plan, the layouts, the reasons, and the program that has it,
-    by number. Each step compiles all that are one smaller, and goes on with the first that fails. `is_failure` says
-    whether a case is no listed difference."""
+    """The smallest signature found that still fails, with its plan, the layouts, the reasons, the program that has it,
+    and its number there. Each step compiles all that are one smaller, and goes on with the first that fails.
+    `is_failure` says whether a case is no listed difference."""
     found = None
     for step in range(STEPS):
         candidates = [signature] if step == 0 else list(dict.fromkeys(smaller_signatures(signature)))[:200]
@@ -69,8 +69,8 @@ ROUNDS = 4
 def seen(found, target, seed):
     """Where compiled code has each argument at the entry, and the result at the return: lines as `place` writes them.
 
-    It is given random bytes a few times. A byte's place is one where it stands each time: a register, what a place holds
-    the address of (ref), or the stack. Where the call itself goes wrong the result is not found."""
+    It is given random bytes a few times. A byte's place is one where it stands each time: a register, what a place
+    holds the address of (ref), or the stack. Where the call itself goes wrong the result is not found."""
     signature, plan, layouts, _, built, index = found
     entries, returns = [], []
     for number in range(ROUNDS):
@@ -89,8 +89,9 @@ def places_seen(kind, layout, which, rounds):
     leaves = [cases.leaf_bytes(kind, layout, values[which]) for values, _ in rounds]
     runs = []
     for k, (offset, _) in enumerate(leaves[0]):
-        name, byte = next((where for where in rounds[0][1]
-                           if all(image.get(where) == leaf[k][1] for leaf, (_, image) in zip(leaves, rounds))), (None, 0))
+        fits = [where for where in rounds[0][1]
+                if all(image.get(where) == leaf[k][1] for leaf, (_, image) in zip(leaves, rounds))]
+        name, byte = fits[0] if fits else (None, 0)
         last = runs[-1] if runs else None
         if last and last[0] == name and last[1] + last[3] == byte and last[2] + last[3] == offset:
             last[3] += 1
