@@ -3,6 +3,7 @@
 libffi counts as one more compiler of the host's target: see `libffi.c`.
 """
 
+import itertools
 import pathlib
 import random
 import re
@@ -26,7 +27,9 @@ TARGETS = {
     "riscv": ("riscv64-linux-gnu", "qemu-riscv64", ["-march=rv64gc", "-mabi=lp64d"]),
 }
 COMPILERS = {"amd64": ("gcc", "clang", "libffi"), "aapcs64": ("gcc", "clang"), "riscv": ("gcc", "clang")}
-FLAGS = ["-O1", "-w", "-std=gnu11", "-fno-pie", "-fno-stack-protector"]
+FLAGS = ["-w", "-std=gnu11", "-fno-pie", "-fno-stack-protector"]
+# The files of one batch are optimised in turn: not at all, and much.
+OPTIMISED = ["-O0", "-O2"]
 
 
 def command_of(target, compiler):
@@ -99,10 +102,17 @@ class Played:
         return found | {(name, k): byte for name, word in stacked.items() for k, byte in enumerate(word)}
 
 
+def link(target, program, files):
+    """Links the player and these files by the target's gcc; static, so that an emulator needs no folder of libraries."""
+    kind = ["-no-pie"] if files[-1] == "-lffi" else ["-static"]
+    subprocess.run([*command_of(target, "gcc"), *FLAGS, "-O1", *kind, f"-I{HERE}", "-o", program, HERE / "player.c",
+                    HERE / f"{target}.S", *files], check=True)
+
+
 class Compiled(Played):
     """Signatures as compiled for one target by one compiler, in a folder of their own."""
 
-    def __init__(self, target, compiler, signatures, folder):
+    def __init__(self, target, compiler, signatures, folder, optimised):
         self.target, self.compiler, self.folder = target, compiler, pathlib.Path(folder)
         self.folder.mkdir(parents=True, exist_ok=True)
         starts = range(0, len(signatures), IN_A_CHUNK)
@@ -113,16 +123,14 @@ class Compiled(Played):
             (self.folder / f"{name}.c").write_text(chunk.text())
         (self.folder / "index.c").write_text(index_of([len(signatures[start:start + IN_A_CHUNK]) for start in starts]))
         with ThreadPoolExecutor(JOBS) as pool:
-            list(pool.map(self.compile, names))
+            list(pool.map(self.compile, names, itertools.cycle(optimised)))
         program = self.folder / "play"
-        subprocess.run([*command_of(target, "gcc"), *FLAGS, "-static", f"-I{HERE}", "-o", program, HERE / "player.c",
-                        HERE / f"{target}.S", self.folder / "index.c", *(self.folder / f"{name}.o" for name in names)],
-                       check=True)
+        link(target, program, [self.folder / "index.c", *(self.folder / f"{name}.o" for name in names)])
         emulator = TARGETS[target][1]
         self.command = [*([emulator] if emulator else []), program]
 
-    def compile(self, name):
-        subprocess.run([*command_of(self.target, self.compiler), *FLAGS, f"-I{HERE}", "-c", "-o",
+    def compile(self, name, optimised):
+        subprocess.run([*command_of(self.target, self.compiler), *FLAGS, optimised, f"-I{HERE}", "-c", "-o",
                         self.folder / f"{name}.o", self.folder / f"{name}.c"], check=True)
 
 
@@ -134,14 +142,20 @@ class Libffi(Played):
         self.folder.mkdir(parents=True, exist_ok=True)
         program, listed = self.folder / "play", self.folder / "signatures"
         listed.write_text("".join(f"{signature}\n" for signature in signatures))
-        subprocess.run([*command_of("amd64", "gcc"), *FLAGS, "-no-pie", f"-I{HERE}", "-o", program, HERE / "player.c",
-                        HERE / "amd64.S", HERE / "libffi.c", "-lffi"], check=True)
+        link("amd64", program, [HERE / "libffi.c", "-lffi"])
         self.types = [[kind for signature in signatures for kind in signature.types() if kind != "void"]]
         self.command = [program, listed]
 
 
-def built(target, compiler, signatures, folder):
-    return Libffi(signatures, folder) if compiler == "libffi" else Compiled(target, compiler, signatures, folder)
+def built(target, compiler, signatures, folder, optimised=OPTIMISED):
+    if compiler == "libffi":
+        return Libffi(signatures, folder)
+    return Compiled(target, compiler, signatures, folder, optimised)
+
+
+def optimised_at(index):
+    """How the file is optimised that has a signature, by its number."""
+    return OPTIMISED[index // IN_A_CHUNK % len(OPTIMISED)]
 
 
 def case_lines(target, signatures, plans, layouts, seed, first=0):

@@ -40,7 +40,7 @@ def smaller_signatures(signature):
         yield Signature(result, arguments)
 
 
-def shrunk(program, target, compiler, signature, direction, is_failure, seed, folder):
+def shrunk(program, target, compiler, signature, direction, is_failure, seed, folder, optimised):
     """The smallest signature found that still fails, with its plan, the layouts, the reasons, the program that has it,
     and its number there. Each step compiles all that are one smaller, and goes on with the first that fails.
     `is_failure` says whether a case is no listed difference."""
@@ -51,7 +51,7 @@ def shrunk(program, target, compiler, signature, direction, is_failure, seed, fo
             break
         plans = places.plans(program, target, candidates)
         layouts = places.layouts(program, candidates)
-        built = batch.built(target, compiler, candidates, f"{folder}/{target}-{compiler}-{step}")
+        built = batch.built(target, compiler, candidates, f"{folder}/{target}-{compiler}-{step}", [optimised])
         _, wrong = batch.failures(built, candidates, plans, layouts, seed)
         failing = [(index, way) for index, way in sorted(wrong)
                    if way == direction and is_failure(candidates[index], plans[index], way, wrong[index, way])]
