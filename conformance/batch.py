@@ -103,7 +103,7 @@ class Played:
 
 
 def link(target, program, files):
-    """Links the player and these files by the target's gcc; static, so that an emulator needs no folder of libraries."""
+    """Links the player and these files by the target's gcc; static, so that an emulator needs no libraries."""
     kind = ["-no-pie"] if files[-1] == "-lffi" else ["-static"]
     subprocess.run([*command_of(target, "gcc"), *FLAGS, "-O1", *kind, f"-I{HERE}", "-o", program, HERE / "player.c",
                     HERE / f"{target}.S", *files], check=True)
