@@ -2,8 +2,8 @@
 
 Main makes a closure of each function, in order, so that function k has the slot at 0x10000 + 64k. A function calls only
 closures of functions before it: by that address, by its user data, or by a pointer that is passed to it. One function
-calls itself, as often as its argument says. Where `plain` is set a script has only what docs/FORMATS.md, section 10, says
-that runs today.
+calls itself, as often as its argument says. Where `plain` is set a script has only what docs/FORMATS.md, section 10,
+says that runs today.
 """
 
 import draw
@@ -34,9 +34,9 @@ class Drawn:
         self.main = self.draw_main()
 
     def script(self):
-        return {"version": 1, "signatures": [
-            {"ret": json_of(result), "args": [json_of(kind) for kind in arguments]} for result, arguments in self.signatures
-        ], "functions": self.functions, "main": self.main}
+        signatures = [{"ret": json_of(result), "args": [json_of(kind) for kind in arguments]}
+                      for result, arguments in self.signatures]
+        return {"version": 1, "signatures": signatures, "functions": self.functions, "main": self.main}
 
     def draw_type(self):
         if self.plain or self.random.random() < 0.5:

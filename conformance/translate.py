@@ -1,8 +1,9 @@
 """Writes a script (docs/FORMATS.md, section 1) as a C program for the host, over libffi.
 
 Each signature is prepared by ffi_prep_cif, each make is an ffi_prep_closure_loc, each call an ffi_call. A pointer to a
-closure is the number that ffi3 gives it, 0x10000 + 64 for each slot; a table has the closure of libffi that it means. So
-the program prints what `ffi3 run` prints. The stack of the modelled machine is not modelled: no script here may fill it.
+closure is the number that ffi3 gives it, 0x10000 + 64 for each slot; a table has the closure of libffi that it means.
+So the program prints what `ffi3 run` prints. The stack of the modelled machine has no likeness here: no script may fill
+it.
 """
 
 from emit import C_NAMES
@@ -119,7 +120,8 @@ class Program:
             inner = ", ".join(f"&type_{self.types[element][1]}" for element in kind)
             described = (f"{name} {{ {members} }};\nstatic ffi_type *elements_{number}[] = {{ {inner}, 0 }};\n"
                          f"static ffi_type type_{number} = {{ 0, 0, FFI_TYPE_STRUCT, elements_{number} }};\n")
-            prints = ' putchar(\',\'); '.join(f"print_{self.types[element][1]}(v.m{i});" for i, element in enumerate(kind))
+            prints = [f"print_{self.types[element][1]}(v.m{i});" for i, element in enumerate(kind)]
+            prints = " putchar(','); ".join(prints)
             body = f"putchar('{{'); {prints} putchar('}}');"
         self.types[kind] = name, number
         self.parts.append(f"{described}static void print_{number}({name} v) {{ {body} }}\n")
