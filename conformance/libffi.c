@@ -50,6 +50,7 @@ static ffi_type *read_type(char **text)
             type->elements[count++] = read_type(text);
         }
         ++*text;
+        type->elements = realloc(type->elements, (count + 1) * sizeof *type->elements);
         return type;
     }
     for (unsigned k = 0; k < sizeof scalars / sizeof *scalars; k++) {
@@ -84,8 +85,9 @@ static struct layout layout_of(ffi_type *type)
     unsigned char length[MOST_LEAVES];
     unsigned count = 0;
     add_leaves(type, 0, &count, at, length);
-    return (struct layout){ type->size, type->alignment, count, memcpy(malloc(sizeof at), at, sizeof at),
-                            memcpy(malloc(sizeof length), length, sizeof length) };
+    return (struct layout){ type->size, type->alignment, count,
+                            memcpy(malloc(count * sizeof *at), at, count * sizeof *at),
+                            memcpy(malloc(count), length, count) };
 }
 
 static void *room(size_t size)
@@ -162,7 +164,7 @@ static function *prepare(struct signature *signature, char *text)
 
 static void __attribute__((constructor)) read_signatures(int argc, char **argv)
 {
-    static char text[1 << 16];
+    static char text[1 << 18];
     unsigned room = 1 << 16, types = 0;
     FILE *file = argc > 1 ? fopen(argv[1], "r") : 0;
     if (!file)
