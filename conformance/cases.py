@@ -1,0 +1,135 @@
+"""Turns a signature's plan into the lines that `player.c` plays, in both directions.
+
+`call`: ffi3's places are the caller's, the callee is compiled. `enter`: the caller is compiled, ffi3's places are the
+callee's. What a place holds beside a value's own bytes is docs/RULES.md, sections 5 and 10; all else is random.
+"""
+
+from signature import INTEGERS, SIZES, leaves_of
+
+RETURN_ADDRESS_OF_HIDDEN = {"amd64": "g0", "aapcs64": None, "riscv": None}
+# Targets whose standard, not ffi3's own profile, says how a narrow integer is extended: compiled code must do it too.
+EXTENDED_BY_STANDARD = {"amd64": False, "aapcs64": False, "riscv": True}
+
+
+class Uncovered(Exception):
+    """A byte of a value that stands in no piece, or in two."""
+
+
+def values_for(signature, random):
+    """Random bytes for each leaf of each argument, and for those of the result."""
+    def bytes_of(kind):
+        return [random.randbytes(SIZES[leaf]) for leaf, _ in leaves_of(kind)]
+    return [bytes_of(kind) for kind in signature.arguments], bytes_of(signature.result)
+
+
+def is_narrow(kind):
+    return kind in INTEGERS and SIZES[kind] < 8
+
+
+def extended(target, kind, value):
+    """A lone narrow integer's doubleword: by its sign; on RISC-V by its sign to 32 bits and from there by the sign."""
+    number = int.from_bytes(value, "little", signed=kind.startswith("s"))
+    if target == "riscv" and kind == "uint32":
+        number = int.from_bytes(value, "little", signed=True)
+    return (number % (1 << 64)).to_bytes(8, "little")
+
+
+def leaf_bytes(kind, layout, leaves):
+    """The bytes of a value that are no padding, by offset."""
+    return [(start + k, byte) for start, leaf in zip(layout.offsets, leaves) for k, byte in enumerate(leaf)]
+
+
+def runs(pairs):
+    """Bytes by offset as (first offset, bytes) with no gap inside."""
+    found = []
+    for at, byte in pairs:
+        if found and found[-1][0] + len(found[-1][1]) == at:
+            found[-1][1].append(byte)
+        else:
+            found.append((at, bytearray([byte])))
+    return found
+
+
+def in_pieces(target, kind, layout, leaves, pieces, is_widened):
+    """(place and byte, bytes) for each run of a value's bytes in its pieces, extended as the plan says."""
+    found, covered = [], []
+    if is_narrow(kind) and is_widened:
+        found.append((f"{pieces[0].place}+{SIZES[kind]}", extended(target, kind, leaves[0])[SIZES[kind]:]))
+    for piece in pieces:
+        inside = [(at - piece.offset, byte) for at, byte in leaf_bytes(kind, layout, leaves)
+                  if piece.offset <= at < piece.offset + piece.length]
+        covered += [at + piece.offset for at, _ in inside]
+        found += [(f"{piece.place}+{at}", bytes(run)) for at, run in runs(inside)]
+        if target == "riscv" and piece.place.kind == "f" and piece.length == 4:
+            found.append((f"{piece.place}+4", b"\xff" * 4))
+    if sorted(covered) != [at for at, _ in leaf_bytes(kind, layout, leaves)]:
+        raise Uncovered(f"the pieces do not have each byte of {kind} once")
+    return found
+
+
+def head(direction, index, plan, values, result):
+    """The first lines of a case. A callee has the frame that it finds."""
+    lines = [f"{direction} {index}", f"values {b''.join(sum(values, [])).hex()}", f"result {b''.join(result).hex()}"]
+    return [*lines, f"frame {plan.frame}" if direction == "call" else "begin"]
+
+
+def call_lines(target, index, signature, plan, layouts, values, result):
+    """ffi3 is the caller."""
+    lines = head("call", index, plan, values, result)
+    for kind, stand, leaves in zip(signature.arguments, plan.arguments, values):
+        if stand.reference:
+            lines.append(f"put_address {stand.reference}+0 {stand.copy}")
+            lines += [f"put s{stand.copy + at}+0 {run.hex()}"
+                      for at, run in runs(leaf_bytes(kind, layouts[kind], leaves))]
+        else:
+            lines += [f"put {place} {run.hex()}"
+                      for place, run in in_pieces(target, kind, layouts[kind], leaves, stand.pieces, True)]
+    if plan.vectors is not None:
+        lines.append(f"put g0+0 {plan.vectors.to_bytes(8, 'little').hex()}")
+    kind, stand = signature.result, plan.result
+    if stand.reference:
+        lines.append(f"put_address {stand.reference}+0 {stand.copy}")
+    lines.append("go")
+    if stand.reference:
+        lines += [f"want s{stand.copy + at}+0 {run.hex()}" for at, run in runs(leaf_bytes(kind, layouts[kind], result))]
+        if RETURN_ADDRESS_OF_HIDDEN[target]:
+            lines.append(f"want_address {RETURN_ADDRESS_OF_HIDDEN[target]}+0 {stand.copy}")
+    else:
+        lines += [f"want {place} {run.hex()}" for place, run
+                  in in_pieces(target, kind, layouts[kind], result, stand.pieces, EXTENDED_BY_STANDARD[target])]
+    return [*lines, "end"]
+
+
+def enter_lines(target, index, signature, plan, layouts, values, result):
+    """ffi3 is the callee."""
+    lines = head("enter", index, plan, values, result)
+    for kind, stand, leaves in zip(signature.arguments, plan.arguments, values):
+        if stand.reference:
+            lines.append(f"want_aligned {stand.reference}+0 {layouts[kind].align}")
+            lines += [f"want_at {stand.reference}+0 {at} {run.hex()}"
+                      for at, run in runs(leaf_bytes(kind, layouts[kind], leaves))]
+        else:
+            lines += [f"want {place} {run.hex()}" for place, run
+                      in in_pieces(target, kind, layouts[kind], leaves, stand.pieces, EXTENDED_BY_STANDARD[target])]
+    if plan.vectors is not None and signature.fixed is not None:
+        lines.append(f"want_between g0+0 {plan.vectors} 8")
+    kind, stand = signature.result, plan.result
+    if stand.reference:
+        lines.append(f"want_aligned {stand.reference}+0 {layouts[kind].align}")
+    lines.append("go")
+    if stand.reference:
+        lines += [f"put_at {stand.reference}+0 {at} {run.hex()}"
+                  for at, run in runs(leaf_bytes(kind, layouts[kind], result))]
+        if RETURN_ADDRESS_OF_HIDDEN[target]:
+            lines.append(f"put_copy {RETURN_ADDRESS_OF_HIDDEN[target]}+0 {stand.reference}+0")
+    else:
+        lines += [f"put {place} {run.hex()}"
+                  for place, run in in_pieces(target, kind, layouts[kind], result, stand.pieces, True)]
+    return [*lines, "end"]
+
+
+def lines_of(target, index, signature, plan, layouts, random):
+    """The lines of both directions, or of none and what is wrong with the plan itself."""
+    values, result = values_for(signature, random)
+    return "\n".join(call_lines(target, index, signature, plan, layouts, values, result)
+                     + enter_lines(target, index, signature, plan, layouts, values, result)) + "\n"

@@ -1,0 +1,115 @@
+"""Random signatures, weighted to the edges of the standards' rules. The same seed gives the same signatures."""
+
+from signature import FLOATING, SIZES, Signature, is_variadic_fault
+
+SCALARS = list(SIZES)
+MOST_ARGUMENTS = 64
+LARGEST_ARGUMENTS = 8192
+
+
+def scalar(random):
+    return random.choice(SCALARS)
+
+
+def homogeneous(random):
+    """One to five floats or doubles; one in three is spoilt by another scalar; one in three is nested."""
+    leaves = [random.choice(FLOATING)] * random.randint(1, 5)
+    if random.random() < 0.3:
+        leaves[random.randrange(len(leaves))] = scalar(random)
+    return nested(random, leaves)
+
+
+def mixed_pair(random):
+    """A floating and another leaf, in either order; some with a third."""
+    leaves = [random.choice(FLOATING), scalar(random)]
+    random.shuffle(leaves)
+    if random.random() < 0.2:
+        leaves.append(scalar(random))
+    return nested(random, leaves)
+
+
+def about_16_bytes(random):
+    """Scalars up to 16 bytes; one in three has one more."""
+    leaves, size, limit = [], 0, random.choice([8, 16, 16])
+    while size < limit:
+        leaf = random.choice([leaf for leaf in SCALARS if size + SIZES[leaf] <= limit])
+        leaves.append(leaf)
+        size += SIZES[leaf]
+    if random.random() < 0.3:
+        leaves.append(scalar(random))
+    return nested(random, leaves)
+
+
+def any_struct(random):
+    return nested(random, [scalar(random) for _ in range(random.choice([1, 1, 2, 2, 3, 3, 4, 5, 7, 12]))])
+
+
+def large(random):
+    return nested(random, [scalar(random) for _ in range(random.randint(10, 60))])
+
+
+def nested(random, leaves):
+    """A struct that has these leaves; one in three has structs inside."""
+    if random.random() < 0.67:
+        return tuple(leaves)
+    if len(leaves) == 1:
+        return (nested(random, leaves),)
+    start = random.randrange(len(leaves))
+    end = random.randint(start + 1, len(leaves))
+    if end - start == len(leaves):
+        return tuple(leaves)
+    return (*leaves[:start], nested(random, leaves[start:end]), *leaves[end:])
+
+
+STRUCTS = [homogeneous, mixed_pair, about_16_bytes, any_struct, large]
+WEIGHTS = [6, 6, 6, 4, 1]
+
+
+def struct(random):
+    return random.choices(STRUCTS, WEIGHTS)[0](random)
+
+
+def any_type(random):
+    return scalar(random) if random.random() < 0.5 else struct(random)
+
+
+def result(random):
+    roll = random.random()
+    return "void" if roll < 0.2 else scalar(random) if roll < 0.4 else struct(random)
+
+
+def size_of(kind):
+    """An upper bound of a type's size, to keep frames small."""
+    return 8 if isinstance(kind, str) else sum(map(size_of, kind))
+
+
+def arguments(random):
+    """Some that use registers up, or nearly, and then some of any type."""
+    chosen = []
+    roll = random.random()
+    if roll < 0.35:
+        chosen += [random.choice(["sint64", "uint64", "pointer", "uint8", "sint16"])] * random.choice([4, 5, 6, 7, 8])
+    if 0.2 < roll < 0.55:
+        chosen += [random.choice(FLOATING)] * random.choice([5, 6, 7, 8])
+    if random.random() < 0.5:
+        random.shuffle(chosen)
+    chosen += [any_type(random) for _ in range(random.choice([0, 1, 1, 2, 2, 3, 3, 4, 5, 6, 8]))]
+    if random.random() < 0.01:
+        chosen += [any_type(random) for _ in range(MOST_ARGUMENTS)]
+    while len(chosen) > MOST_ARGUMENTS or sum(map(size_of, chosen)) > LARGEST_ARGUMENTS:
+        chosen.pop()
+    return chosen
+
+
+def signature(random):
+    chosen = arguments(random)
+    fixed = None
+    if chosen and random.random() < 0.25:
+        fixed = random.randint(1, len(chosen))
+        promoted = {"float": "double", "uint8": "uint32", "uint16": "uint32", "sint8": "sint32", "sint16": "sint32"}
+        chosen[fixed:] = [promoted[kind] if is_variadic_fault(kind) else kind for kind in chosen[fixed:]]
+    return Signature(result(random), tuple(chosen), fixed)
+
+
+def signatures(random, count):
+    return [signature(random) for _ in range(count)]

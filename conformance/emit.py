@@ -1,0 +1,102 @@
+"""Writes C for signatures: for each a callee that takes in its arguments, and a caller that passes them.
+
+Neither knows a value: `player.c` has the bytes of the leaves, and puts and looks at them where this compiler says that
+they stand (offsetof). So the C code says only what the signature says.
+"""
+
+from signature import SIZES, leaves_of
+
+C_NAMES = {
+    "void": "void", "uint8": "unsigned char", "sint8": "signed char", "uint16": "unsigned short", "sint16": "short",
+    "uint32": "unsigned int", "sint32": "int", "uint64": "unsigned long", "sint64": "long",
+    "float": "float", "double": "double", "pointer": "void *",
+}
+
+
+class Chunk:
+    """One C file: some signatures, the structs that they use, and one `struct layout` for each type."""
+
+    def __init__(self, number, signatures):
+        self.number = number
+        self.names = {}
+        self.types = []
+        self.parts = ['#include "player.h"\n#include <stdarg.h>\n#include <stddef.h>\n']
+        for index, signature in enumerate(signatures):
+            self.add_signature(index, signature)
+        entries = ", ".join(f"{{callee_{i}, caller_{i}}}" for i in range(len(signatures)))
+        layouts = ", ".join(f"&layout_{i}" for i in range(len(self.types)))
+        self.parts.append(f"const struct entry chunk_{number}[] = {{ {entries} }};\n"
+                          f"const struct layout *const layouts_{number}[] = {{ {layouts}, 0 }};\n")
+
+    def text(self):
+        return "".join(self.parts)
+
+    def name_of(self, kind):
+        """The C name of a type, which is defined, with its layout, at its first use."""
+        if kind not in self.names:
+            if isinstance(kind, str):
+                self.names[kind] = C_NAMES[kind]
+            else:
+                members = " ".join(f"{self.name_of(element)} m{i};" for i, element in enumerate(kind))
+                self.names[kind] = f"struct s{len(self.types)}"
+                self.parts.append(f"{self.names[kind]} {{ {members} }};\n")
+            if kind != "void":
+                self.add_layout(kind)
+        return self.names[kind]
+
+    def add_layout(self, kind):
+        number, name = len(self.types), self.names[kind]
+        self.types.append(kind)
+        leaves = leaves_of(kind)
+        offsets = [f"offsetof({name}, {'.'.join(f'm{i}' for i in path)})" if path else "0" for _, path in leaves]
+        sizes = [str(SIZES[leaf]) for leaf, _ in leaves]
+        self.parts.append(f"static const unsigned short at_{number}[] = {{ {', '.join(offsets)} }};\n"
+                          f"static const unsigned char size_{number}[] = {{ {', '.join(sizes)} }};\n"
+                          f"static const struct layout layout_{number} = {{ sizeof({name}), _Alignof({name}), "
+                          f"{len(leaves)}, at_{number}, size_{number} }};\n")
+
+    def layout_of(self, kind):
+        return f"&layout_{self.types.index(kind)}"
+
+    def add_signature(self, index, signature):
+        result = self.name_of(signature.result)
+        kinds = [self.name_of(kind) for kind in signature.arguments]
+        layouts = [self.layout_of(kind) for kind in signature.arguments]
+        fixed = len(kinds) if signature.fixed is None else signature.fixed
+        parameters = [f"{kind} a{i}" for i, kind in enumerate(kinds[:fixed])]
+        if signature.fixed is not None:
+            parameters.append("...")
+        callee = [f"/* {signature} */", f"static {result} real_callee_{index}({', '.join(parameters) or 'void'}) {{"]
+        caller = [f"static void caller_{index}(function *called) {{"]
+        if signature.fixed is not None:
+            callee += ["va_list rest;", f"va_start(rest, a{fixed - 1});"]
+        for i, (kind, layout) in enumerate(zip(kinds, layouts)):
+            if i >= fixed:
+                callee.append(f"{kind} a{i} = va_arg(rest, {kind});")
+            callee.append(f"argument_in(&a{i}, {layout});")
+            caller += [f"{kind} a{i};", f"argument_out(&a{i}, {layout});"]
+        if signature.fixed is not None:
+            callee.append("va_end(rest);")
+        passed = ", ".join(f"a{i}" for i in range(len(kinds)))
+        prototype = ", ".join(kinds[:fixed] + ["..."] * (signature.fixed is not None)) or "void"
+        call = f"(({result} (*)({prototype}))called)({passed});"
+        if signature.result == "void":
+            caller.append(call)
+        else:
+            layout = self.layout_of(signature.result)
+            callee += [f"{result} result;", f"result_out(&result, {layout});", "return result;"]
+            caller += [f"{result} result = {call}", f"result_in(&result, {layout});"]
+        self.parts.append("\n".join([*callee, "}", *caller, "}",
+                                     f"#define callee_{index} ((function *)real_callee_{index})", ""]))
+
+
+def index_of(counts):
+    """The C file that lists the chunks, whose numbers of signatures are given."""
+    declared = [f"extern const struct entry chunk_{k}[];\nextern const struct layout *const layouts_{k}[];\n"
+                for k in range(len(counts))]
+    listed = [f"{{ chunk_{k}, layouts_{k}, {count} }}" for k, count in enumerate(counts)]
+    return "".join([
+        '#include "player.h"\n', *declared,
+        f"static const struct chunk all[] = {{ {', '.join(listed)} }};\n",
+        f"const struct chunk *chunks = all;\nint chunk_count = {len(counts)};\n",
+    ])

@@ -1,0 +1,164 @@
+"""Planted errors: rules changed in a copy of the printed places. Each must be found, and it is said how soon."""
+
+import copy
+
+from batch import case_lines
+from places import Piece, Place, Stand
+from signature import FLOATING, leaves_of
+
+TRIED = 40
+
+
+def stands(plan):
+    return [*plan.arguments, plan.result]
+
+
+def moved(stand, move):
+    """The stand with each place changed by `move`."""
+    pieces = [Piece(move(piece.place), piece.offset, piece.length) for piece in stand.pieces]
+    return Stand(pieces, stand.reference and move(stand.reference), stand.copy)
+
+
+def exchanged(signature, plan, layouts):
+    """rcx is taken before rdx."""
+    swap = {Place("g", 1): Place("g", 2), Place("g", 2): Place("g", 1)}
+    plan.arguments = [moved(stand, lambda place: swap.get(place, place)) for stand in plan.arguments]
+
+
+def rounded_to_16(signature, plan, layouts):
+    """Each stack argument starts at a multiple of 16."""
+    at = 0
+    for i, (kind, stand) in enumerate(zip(signature.arguments, plan.arguments)):
+        if stand.pieces and stand.pieces[0].place.kind == "s":
+            plan.arguments[i] = moved(stand, lambda place, at=at: Place("s", at))
+            at += -(-layouts[kind].size // 16) * 16
+    plan.frame = max(plan.frame, at)
+
+
+def result_by_eightbyte(signature, plan, layouts):
+    """A result's second eightbyte is in rdx or xmm1, whatever class the first has."""
+    second = {Place("g", 0): Place("g", 2), Place("f", 0): Place("f", 1)}
+    for i, piece in enumerate(plan.result.pieces):
+        if piece.offset:
+            plan.result.pieces[i] = Piece(second.get(piece.place, piece.place), piece.offset, piece.length)
+
+
+def no_vectors_counted(signature, plan, layouts):
+    """al is 0 at a variadic call."""
+    if signature.fixed is not None:
+        plan.vectors = 0
+
+
+def merged_to_sse(signature, plan, layouts):
+    """An eightbyte with an integer and a float has class SSE: of a result, the first one."""
+    leaves = leaves_of(signature.result)
+    if len(leaves) > 1 and plan.result.pieces and plan.result.pieces[0].place == Place("g", 0):
+        if any(leaf in FLOATING and at < 8 for (leaf, _), at in zip(leaves, layouts[signature.result].offsets)):
+            plan.result.pieces[0] = Piece(Place("f", 0), 0, plan.result.pieces[0].length)
+
+
+def floats_packed(signature, plan, layouts):
+    """A homogeneous aggregate of floats is passed in doublewords."""
+    for stand in stands(plan):
+        if len(stand.pieces) > 1 and stand.pieces[0].place.kind == "f" and stand.pieces[1].offset == 4:
+            length = sum(piece.length for piece in stand.pieces)
+            start = stand.pieces[0].place.number
+            stand.pieces = [Piece(Place("f", start + k // 8), k, min(8, length - k)) for k in range(0, length, 8)]
+
+
+def hidden_in_x0(signature, plan, layouts):
+    """The address of a hidden result is in x0."""
+    if plan.result.reference:
+        plan.result.reference = Place("g", 0)
+
+
+def vectors_not_ended(signature, plan, layouts):
+    """After an aggregate that went to the stack a float or double still takes a v register."""
+    used = sum(piece.place.kind == "f" for stand in plan.arguments for piece in stand.pieces)
+    late = [i for i, (kind, stand) in enumerate(zip(signature.arguments, plan.arguments))
+            if kind in FLOATING and stand.pieces[0].place.kind == "s"]
+    if used < 8 and late:
+        plan.arguments[late[0]] = moved(plan.arguments[late[0]], lambda place: Place("f", used))
+
+
+def reference_at_16(signature, plan, layouts):
+    """A struct of 16 bytes is passed by reference: it takes one register, the address of a copy."""
+    for i, (kind, stand) in enumerate(zip(signature.arguments, plan.arguments)):
+        kinds = [piece.place.kind for piece in stand.pieces]
+        if not isinstance(kind, str) and layouts[kind].size == 16 and kinds == ["g", "g"]:
+            plan.arguments[i] = Stand(reference=stand.pieces[0].place, copy=plan.frame)
+            plan.frame += 16
+
+
+def not_split(signature, plan, layouts):
+    """A struct of two words does not take a7 alone: both words are on the stack."""
+    shift = 0
+    for i, stand in enumerate(plan.arguments):
+        if [piece.place.kind for piece in stand.pieces] == ["g", "s"]:
+            length = sum(piece.length for piece in stand.pieces)
+            plan.arguments[i] = Stand([Piece(Place("s", 0), 0, length)])
+            shift = 8
+        elif shift:
+            plan.arguments[i] = moved(stand, lambda place: Place("s", place.number + 8) if place.kind == "s" else place)
+    plan.frame += 16 * (shift > 0)
+    for stand in stands(plan):
+        stand.copy += 16 * (shift > 0 and stand.reference is not None)
+
+
+def variadic_in_fa(signature, plan, layouts):
+    """A variadic double takes a floating register, where one is free."""
+    used = sum(piece.place.kind == "f" for stand in plan.arguments for piece in stand.pieces)
+    for i, kind in enumerate(signature.arguments):
+        if signature.fixed is not None and i >= signature.fixed and kind == "double" and used < 8:
+            plan.arguments[i] = Stand([Piece(Place("f", 10 + used), 0, 8)])
+            return
+
+
+def pointer_is_integer(signature, plan, layouts):
+    """A struct of a float and a pointer is a mixed pair: as a result, in fa0 and a0."""
+    leaves = [leaf for leaf, _ in leaves_of(signature.result)]
+    if len(leaves) == 2 and "pointer" in leaves and set(leaves) & set(FLOATING):
+        plan.result = Stand([Piece(Place("f" if leaf in FLOATING else "g", 10), offset, 8 if leaf != "float" else 4)
+                             for leaf, offset in zip(leaves, layouts[signature.result].offsets)])
+
+
+def two_floats_packed(signature, plan, layouts):
+    """A struct of two floats is one doubleword of one floating register."""
+    for stand in stands(plan):
+        if [(piece.place.kind, piece.offset, piece.length) for piece in stand.pieces] == [("f", 0, 4), ("f", 4, 4)]:
+            stand.pieces = [Piece(stand.pieces[0].place, 0, 8)]
+
+
+def hidden_takes_no_word(signature, plan, layouts):
+    """The address of a hidden result is in a7, and arguments begin with a0."""
+    taken = [piece.place for stand in plan.arguments for piece in stand.pieces]
+    if plan.result.reference and Place("g", 17) not in taken:
+        plan.arguments = [moved(stand, lambda place: Place("g", place.number - 1) if place.kind == "g" else place)
+                          for stand in plan.arguments]
+        plan.result.reference = Place("g", 17)
+
+
+ERRORS = {
+    "amd64": [exchanged, rounded_to_16, result_by_eightbyte, no_vectors_counted, merged_to_sse],
+    "aapcs64": [floats_packed, hidden_in_x0, vectors_not_ended, reference_at_16],
+    "riscv": [not_split, variadic_in_fa, pointer_is_integer, two_floats_packed, hidden_takes_no_word],
+}
+
+
+def found_at(built, signatures, plans, layouts, seed, error):
+    """The number of signatures, from the first, until a case fails with the changed places; None where none does."""
+    parts, tried = [], 0
+    for index, (signature, plan) in enumerate(zip(signatures, plans)):
+        changed = copy.deepcopy(plan)
+        error(signature, changed, layouts)
+        if changed == plan:
+            continue
+        lines, wrong = case_lines(built.target, [signature], [changed], layouts, seed, index)
+        if wrong:
+            continue
+        parts += lines
+        tried += 1
+        if tried == TRIED:
+            break
+    _, failed, _ = built.play("".join(parts))
+    return min((index + 1 for index, _ in failed), default=None)

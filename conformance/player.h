@@ -1,0 +1,38 @@
+/* What the generated C code, the player and its assembly share. */
+#include <stdint.h>
+
+typedef void function(void);
+
+/* A type as this compiler lays it out: where its leaves stand and how long they are. */
+struct layout {
+    unsigned size, align, leaves;
+    const unsigned short *at;
+    const unsigned char *length;
+};
+
+/* One signature: a compiled function that takes its arguments, and one that calls such a function. */
+struct entry {
+    function *callee;
+    void (*caller)(function *called);
+};
+
+struct chunk {
+    const struct entry *entries;
+    const struct layout *const *layouts;
+    int count;
+};
+
+/* The signature whose case is played. */
+extern long current;
+
+/* A compiled callee hands in its arguments, in order, and asks for its result; a compiled caller the other way. */
+void argument_in(const void *value, const struct layout *layout);
+void argument_out(void *value, const struct layout *layout);
+void result_in(const void *value, const struct layout *layout);
+void result_out(void *value, const struct layout *layout);
+
+/* The registers, by the numbers of docs/FORMATS.md, section 5. The assembly files know this order. */
+struct image {
+    uint64_t general[32];
+    uint64_t floating[32];
+};

@@ -1,0 +1,112 @@
+"""Types and signatures as docs/FORMATS.md, section 3, writes them: `struct{sint8,double}`, `sint32(pointer;double)`.
+
+A type is the name of a scalar, "void", or a tuple of types, which is a struct. This module knows no layout and no
+place: sizes and offsets come from compilers, from libffi and from the program, and are compared.
+"""
+
+from dataclasses import dataclass
+
+SIZES = {
+    "uint8": 1, "sint8": 1, "uint16": 2, "sint16": 2, "uint32": 4, "sint32": 4, "uint64": 8, "sint64": 8,
+    "float": 4, "double": 8, "pointer": 8,
+}
+INTEGERS = [name for name in SIZES if "int" in name and name != "pointer"]
+FLOATING = ("float", "double")
+
+
+@dataclass(frozen=True)
+class Signature:
+    """A result, the arguments, and the number of fixed arguments where the signature is variadic (else None)."""
+
+    result: object
+    arguments: tuple
+    fixed: int | None = None
+
+    def __str__(self):
+        texts = [text_of(argument) for argument in self.arguments]
+        if self.fixed is None:
+            return f"{text_of(self.result)}({','.join(texts)})"
+        return f"{text_of(self.result)}({','.join(texts[:self.fixed])};{','.join(texts[self.fixed:])})"
+
+    def types(self):
+        return (self.result, *self.arguments)
+
+
+def text_of(kind):
+    return kind if isinstance(kind, str) else "struct{" + ",".join(map(text_of, kind)) + "}"
+
+
+def leaves_of(kind):
+    """The scalars of a type from the left, each with the path of element numbers that leads to it."""
+    if kind == "void":
+        return []
+    if isinstance(kind, str):
+        return [(kind, ())]
+    return [(leaf, (i, *path)) for i, element in enumerate(kind) for leaf, path in leaves_of(element)]
+
+
+def is_variadic_fault(kind):
+    """C promotes a float and an integer of fewer than 4 bytes, so none is passed after the fixed arguments."""
+    return kind == "float" or (kind in INTEGERS and SIZES[kind] < 4)
+
+
+def signature_of(text):
+    """Reads a signature's text; a ValueError says where it is none."""
+    result, rest = read_type(text, 0)
+    arguments, fixed = [], None
+    at = expect(text, rest, "(")
+    while text[at:at + 1] != ")":
+        if text[at:at + 1] == ";":
+            fixed, at = len(arguments), at + 1
+            continue
+        if arguments and text[at:at + 1] == ",":
+            at += 1
+        argument, at = read_type(text, at)
+        arguments.append(argument)
+    if at + 1 != len(text):
+        raise ValueError(f"{text!r} goes on after its end")
+    if fixed == 0 or any(is_variadic_fault(kind) for kind in arguments[fixed or len(arguments):]):
+        raise ValueError(f"{text!r} is no variadic signature of C")
+    return Signature(result, tuple(arguments), fixed)
+
+
+def expect(text, at, word):
+    if not text.startswith(word, at):
+        raise ValueError(f"{text!r} lacks {word!r} at {at}")
+    return at + len(word)
+
+
+def read_type(text, at):
+    if text.startswith("struct{", at):
+        at, elements = at + len("struct{"), []
+        while True:
+            element, at = read_type(text, at)
+            elements.append(element)
+            if text[at:at + 1] == "}":
+                return tuple(elements), at + 1
+            at = expect(text, at, ",")
+    for name in ("void", *SIZES):
+        if text.startswith(name, at):
+            return name, at + len(name)
+    raise ValueError(f"{text!r} has no type at {at}")
+
+
+def json_of(kind):
+    return kind if isinstance(kind, str) else {"struct": [json_of(element) for element in kind]}
+
+
+def script_of(signatures):
+    """A script (docs/FORMATS.md, section 1) that has these signatures and does nothing."""
+    listed = []
+    for signature in signatures:
+        entry = {"ret": json_of(signature.result), "args": [json_of(kind) for kind in signature.arguments]}
+        if signature.fixed is not None:
+            entry["fixed"] = signature.fixed
+        listed.append(entry)
+    return {"version": 1, "signatures": listed, "functions": [], "main": [{"return": None}]}
+
+
+def table(path):
+    """The signatures of a file: one a line; empty lines, and what follows a #, are for readers."""
+    lines = [line.split("#")[0].strip() for line in path.read_text().splitlines()]
+    return [signature_of(line) for line in lines if line]
