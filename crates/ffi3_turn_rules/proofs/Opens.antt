@@ -1,5 +1,5 @@
 -- Events that answer to traces one after another, and the calls that stay open.
-use Rattle.std.proofs.Common.{◌≡◌, ℕ, ◌+◌, ◌-◌, List, [], ◌∷◌, ◌++◌, length, map, refl, sym, ap, ◌∙◌, subst, append_assoc, length-append, arith}
+use Rattle.std.proofs.Common.{◌≡◌, ℕ, ◌+◌, ◌-◌, List, [], ◌∷◌, ◌++◌, length, map, refl, sym, ap, ◌∙◌, subst, append_assoc, append-nil, length-append, arith}
 use Rattle.ffi3_type_rules.specs.Tree.{Tree}
 use Rattle.ffi3_type_rules.specs.Signature.{Signature, signature_at}
 use Rattle.ffi3_type_rules.specs.Value.{ValueTree}
@@ -25,6 +25,11 @@ pub text-append : (tracing : Tracing) (ss : List Signature) (at : Point) (a b : 
 text-append tracing ss at [] b = refl
 text-append tracing ss at (h ∷ a) b =
     ap (λ (l : List ℕ). item_text tracing ss at h ++ l) (text-append tracing ss (past ss at h) a b) ∙ sym (append_assoc (item_text tracing ss at h) (text tracing ss (past ss at h) a) (text tracing ss (past_all ss (past ss at h) a) b))
+
+-- of one item more
+pub text_one : (tracing : Tracing) (ss : List Signature) (at : Point) (a : List TraceItem) (h : TraceItem) → text tracing ss at (a ++ h ∷ []) ≡ text tracing ss at a ++ item_text tracing ss (past_all ss at a) h
+text_one tracing ss at a h =
+    text-append tracing ss at a (h ∷ []) ∙ ap (λ (l : List ℕ). text tracing ss at a ++ l) (append-nil (item_text tracing ss (past_all ss at a) h))
 
 pub text_by_parts : TextGoesByParts
 text_by_parts = text-append
