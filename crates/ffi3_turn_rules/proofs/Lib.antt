@@ -1,0 +1,9 @@
+mod Rows
+pub mod Steps
+pub mod Depths
+pub mod Opens
+pub mod Cuts
+pub mod Nested
+pub mod Coming
+pub mod Ending
+pub mod TracedCalls

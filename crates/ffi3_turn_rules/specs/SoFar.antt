@@ -1,0 +1,84 @@
+-- How far a run has come: what is done of it, what is seen of that, and what is left.
+use Rattle.std.specs.Prelude.{◌≡◌, ℕ, ◌-◌, Bool, List, [], ◌∷◌, ◌++◌, length}
+use Rattle.ffi3_type_rules.specs.Signature.{Signature, signature_at}
+use Rattle.ffi3_place_rules.specs.declared.Loc.{Loc}
+use Rattle.ffi3_place_rules.specs.Standard.{Standard}
+use Rattle.ffi3_place_rules.specs.Event.{Event}
+use Rattle.ffi3_run_rules.specs.Closures.{Closures}
+use Rattle.ffi3_run_rules.specs.Meaning.{Program, End, stack_size}
+use Rattle.ffi3_run_rules.specs.Trace.{TraceItem}
+use Rattle.ffi3_run_rules.specs.Journal.{Entered, stack_top}
+use Rattle.ffi3_run_rules.specs.Lines.{OpenCall, Point, Tracing}
+use Rattle.ffi3_turn_rules.specs.Left.{Left, before, Suspended, Bottom, as_main, served, Path, rest, awaited}
+use Rattle.ffi3_turn_rules.specs.Depth.{depth_at, depth_of, IsNested}
+use Rattle.ffi3_turn_rules.specs.Open.{unreturned, open_calls, AnswersTo}
+use Rattle.ffi3_turn_rules.specs.Cut.{past_all, WasCut}
+
+-- what a run begins with: the top of its stack and the bytes left below it, what reserved registers hold, the number of events before it, and the entries of the calls that are open
+pub record Base : Type 0 where
+  pub standard : Standard
+  pub top : ℕ
+  pub room : ℕ
+  pub held : Loc → ℕ
+  pub count : ℕ
+  pub bottom : Bottom
+  pub entries : List Event
+
+-- main begins on a new machine
+abbrev pub main_base : Standard → Base
+main_base std = record { standard = std; top = stack_top; room = stack_size; held = λ at. 0; count = 0; bottom = as_main; entries = [] }
+
+-- the calls that are open as a run begins, as its text sees them: the entry of a call that is served came last
+abbrev pub calls_below : List Signature → (count : ℕ) → Bottom → List OpenCall
+calls_below signatures count as_main = []
+calls_below signatures count (served sig) =
+    record { signature = signature_at signatures sig; entry = count - 1 } ∷ []
+
+-- where its text stands as it begins
+abbrev pub text_start : Program → Base → Point
+text_start p b =
+    record { events = b.count; calls = calls_below p.signatures b.count b.bottom }
+
+-- and after this trace
+abbrev pub text_after : Program → Base → List TraceItem → Point
+text_after p b own = past_all p.signatures (text_start p b) own
+
+-- where a run stands between two moves
+pub record Position : Type 0 where
+  pub path : Path
+  pub closures : Closures
+  pub moves : ℕ
+
+abbrev pub left_at_position : Program → Base → Position → Left
+left_at_position p b x = rest p b.bottom x.path x.closures x.moves
+
+-- the open calls, with these activations suspended after these events
+abbrev pub open_at : Program → Base → List Suspended → List Event → List Entered
+open_at p b outer events =
+    open_calls p.signatures (awaited b.bottom outer) (unreturned b.entries events)
+
+-- these events answer to all of this trace
+abbrev pub Answer : Program → Base → List TraceItem → List Event → List Entered → Type 0
+Answer p b trace events left_open = AnswersTo b.standard b.top b.held p.signatures b.count (open_at p b [] []) trace events left_open
+
+-- THE RUN HAS COME TO A POINT: of all that was left this trace is done, these events answer to it, and the path's calls are open, with the entries of the inner ones before those of the beginning.
+pub record HasComeTo (p : Program) (b : Base) (all : Left) (own : List TraceItem) (events : List Event) (x : Position) : Type 0 where
+  pub follows : all ≡ before own (left_at_position p b x)
+  pub answers : Answer p b own events (open_at p b x.path.suspended events)
+  pub inner : List Event
+  pub entries_are : unreturned b.entries events ≡ inner ++ b.entries
+  pub counted : length inner ≡ length x.path.suspended
+  pub depth : depth_at p (depth_of p (awaited b.bottom [])) own ≡ depth_of p (awaited b.bottom x.path.suspended)
+  pub nested : IsNested p b.room x.path.innermost x.path.suspended
+
+-- THE RUN IS OVER: all that was left is done.
+pub record IsOver (p : Program) (b : Base) (all : Left) (end : End) (closures : Closures) (moves : ℕ) (events : List Event) : Type 0 where
+  pub end_is : all.end ≡ end
+  pub closures_are : all.closures ≡ closures
+  pub moves_are : all.moves ≡ moves
+  pub left_open : List Entered
+  pub answers : Answer p b all.trace events left_open
+
+-- THE RUN WAS CUT OFF since it began: of all that was left these bytes are written, and these events are recorded.
+abbrev pub IsCutOff : Tracing → Program → Base → (in_line : Bool) → Left → (written : List ℕ) → List Event → Type 0
+IsCutOff tracing p b in_line all written events = WasCut b.standard b.top b.held tracing p.signatures (text_start p b) b.count (open_at p b [] []) in_line all.trace written events
