@@ -6,7 +6,7 @@ use ffi3_amd64::Amd64;
 use ffi3_cif::{Cif, prep_cif_var};
 use ffi3_place::Abi;
 use ffi3_text::{layout_line, place_line, sig_line};
-use ffi3_types::{At, Bytes, FfiType, Fields, NoMemory, Sig};
+use ffi3_types::{At, Bytes, FfiType, Fields, NoMemory, Sig, check_sig};
 use std::alloc::Global;
 use std::test::Fail;
 
@@ -67,6 +67,9 @@ fn tells_places(rt: HostRuntime) -> Result<(), Fail> {
 fn tells_layouts(rt: HostRuntime) -> Result<(), Fail> {
     let alloc = rt.alloc();
     let sig = Sig::new(FfiType::Void, Fields::new(alloc), None);
+    let Ok(()) = check_sig(&sig) else {
+        return Err("a fault".into());
+    };
     let line = layout_line(alloc, 3, &sig, At::Ret)?;
     assert_eq!(rt; line.as_slice(), b"sig 3 ret void\n".as_slice());
     Ok(())
