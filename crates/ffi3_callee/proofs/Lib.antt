@@ -1,0 +1,9 @@
+mod Reading
+mod Loading
+mod Placing
+mod Copying
+mod SavedWords
+mod Results
+mod Return
+mod Entry
+mod Laws
