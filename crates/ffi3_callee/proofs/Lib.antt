@@ -7,3 +7,4 @@ mod Results
 mod Return
 mod Entry
 mod Laws
+mod Keeping

@@ -1,5 +1,6 @@
 -- What a callee changes of the machine when it gives a result.
 use Rattle.std.specs.Prelude.{◌≡◌, ℕ, ◌+◌, ⊤, List, [], Option, Some, None}
+use Rattle.std.specs.List.{AllByRecursion}
 use Rattle.ffi3_type_rules.specs.declared.Target.{Target}
 use Rattle.ffi3_type_rules.specs.Tree.{Tree}
 use Rattle.ffi3_type_rules.specs.Layout.{size_of}
@@ -32,6 +33,11 @@ IsAddressOf base address (Hidden at buffer) = address ≡ base + buffer
 abbrev pub RegistersStay : List Loc → State → State → Type 0
 RegistersStay locs old new =
     (l : Loc) → IsPlace 0 l → IsNoneOf locs l → word_in STACK_TOP new l ≡ word_in STACK_TOP old l
+
+-- the registers that neither side of a call writes stay
+abbrev pub ReservedStay : Standard → State → State → Type 0
+ReservedStay std old new =
+    AllByRecursion (λ at. word_in STACK_TOP new at ≡ word_in STACK_TOP old at) std.reserved
 
 -- the registers that a result uses
 abbrev pub result_uses : Standard → Res → List Loc

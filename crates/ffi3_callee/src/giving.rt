@@ -14,7 +14,7 @@ ghost use Rattle.ffi3_machine.specs.State.{stack_at};
 ghost use Rattle.ffi3_pieces.specs.Stored.{IsPlace, IsWritable, Stays, WroteWithin};
 ghost use Rattle.ffi3_pieces.specs.Standing.{PiecesStand};
 ghost use Rattle.ffi3_callee.specs.Loaded.{WroteOnly, image_from};
-ghost use Rattle.ffi3_callee.specs.Given.{IsSettable, RegisterHoldsWord, IsAddressOf, RegistersStay, ResultWrites, result_uses};
+ghost use Rattle.ffi3_callee.specs.Given.{IsSettable, RegisterHoldsWord, IsAddressOf, RegistersStay, ReservedStay, ResultWrites, result_uses};
 ghost use Rattle.ffi3_callee.specs.Received.{IsIncoming};
 
 use crate::Incoming;
@@ -131,6 +131,7 @@ pub fn give_result<A: Abi>(
     requires fits { fits cif.now.result_type (value_of value.now) ≡ true }
     ensures holds { HoldsResult A.standard cif.now (value_of value.now) (image_from (incoming.now.entry + A.standard.link) (frame_of A.standard cif.now) machine.new) }
     ensures registers { RegistersStay (result_uses A.standard (plan_of A.standard cif.now).res) machine.old machine.new }
+    ensures reserved { ReservedStay A.standard machine.old machine.new }
     ensures writes { ResultWrites (incoming.now.entry + A.standard.link) cif.now.result_type (plan_of A.standard cif.now).res machine.old machine.new }
     ensures sp { machine.new.sp ≡ machine.old.sp }
 {

@@ -19,6 +19,7 @@ ghost use Rattle.ffi3_body.specs.SeenActivation.{arguments_in, block_offset};
 ghost use Rattle.ffi3_pieces.specs.Stored.{IsPlace, IsWithin, word_in};
 ghost use Rattle.ffi3_pieces.specs.Standing.{PlaceLies};
 ghost use Rattle.ffi3_callee.specs.Loaded.{AreBytesOf, AreFound, AreLoaded, IsFound, IsPieceLoaded, IsRead, WroteOnly, image_from};
+ghost use Rattle.ffi3_callee.specs.Given.{ReservedStay};
 ghost use Rattle.ffi3_callee.specs.Received.{IsIncoming, IsReceived, OwnsAtEntry, hidden_of};
 
 mod giving;
@@ -198,6 +199,7 @@ pub fn receive<A: Abi>(machine: &mut Machine, cif: &Cif<A>) -> Incoming
     requires some { (vs : List ValueTree) × OwnsAtEntry A.standard cif.now machine.old vs }
     ensures received { IsReceived A.standard cif.now machine.old machine.new }
     ensures incoming { IsIncoming A.standard cif.now result }
+    ensures reserved { machine.old.target ≡ A.TARGET → ReservedStay A.standard machine.old machine.new }
     ensures entry { result.entry ≡ machine.old.sp }
     ensures block { result.block ≡ machine.new.sp }
 {

@@ -6,6 +6,7 @@ use Rattle.ffi3_callee.specs.Loaded.{AreFound, image_from}
 use Rattle.ffi3_callee.specs.Received.{hidden_of}
 use Rattle.ffi3_callee.specs.Saved.{AreSaved, HiddenLies}
 use Rattle.ffi3_callee.proofs.Entry.{address_known, all_saveable, found_between, hidden_lies, received}
+use Rattle.ffi3_callee.proofs.Keeping.{reserved_received}
 use Rattle.ffi3_callee.proofs.Laws.{words_saveable}
 use Rattle.ffi3_callee.proofs.receive.Goals as goal
 
@@ -90,6 +91,14 @@ returns-clause-incoming g c =
       high = omega (arith, c.sp-entry.ensures.value, c.requires.frame);
       address = address_known std s m c.requires.some.0 c.sp-entry.result (c.sp-entry.result + c.LINK.result) c.hidden_word-address.result c.hidden_place-hidden.result sound inside c.requires.some.1 c.sp-entry.ensures.value base hidden c.hidden_word-address.ensures;
     }
+
+pub returns-clause-reserved : goal.returns-clause-reserved
+returns-clause-reserved g c = λ target.
+    let std = g.A.Abi.standard in
+    let saves = c.save_words.ensures.only in
+    let copies = c.copy_arguments.ensures.only in
+    let target_is = copies.within.target ∙ ap (λ q. q.target) c.set_sp.ensures ∙ saves.within.target ∙ target ∙ sym g.met.A.Abi.target_is in
+    reserved_received std g.met.A.Abi.agrees (c.sp-entry.result - c.SAVE.result - c.block.result) c.len-number.result c.args.machine.now c.save_words.new.machine c.set_sp.new.self c.copy_arguments.new.machine c.scribble.new.self target_is saves.general saves.floating c.set_sp.ensures copies.general copies.floating c.scribble.ensures
 
 pub returns-clause-block : goal.returns-clause-block
 returns-clause-block g c =

@@ -2,8 +2,9 @@ use Rattle.std.proofs.Common.{◌≡◌, ◌+◌, subst, sym, ◌∙◌, arith}
 use Rattle.ffi3_values.specs.ValueOf.{value_of}
 use Rattle.ffi3_place_rules.specs.Holds.{HoldsResult}
 use Rattle.ffi3_place_rules.specs.Standard.{frame_of, plan_of}
-use Rattle.ffi3_callee.specs.Given.{IsAddressOf, IsSettable, ResultWrites}
+use Rattle.ffi3_callee.specs.Given.{IsAddressOf, IsSettable, ResultWrites, result_uses}
 use Rattle.ffi3_callee.specs.Loaded.{image_from}
+use Rattle.ffi3_callee.proofs.Keeping.{reserved_stay, uses_clear}
 use Rattle.ffi3_callee.proofs.Laws.{result_written, returned_settable}
 use Rattle.ffi3_callee.proofs.giving.give_result.Goals as goal
 
@@ -39,6 +40,13 @@ returns-clause-holds g c =
     let entry = c.args.incoming.now.entry in
     let base : entry + c.LINK.result ≡ entry + std.link = omega (arith, c.LINK.ensures, g.met.A.Abi.link_is) in
     subst (λ n. HoldsResult std s (value_of c.args.value.now) (image_from n (frame_of std s) c.give.new.machine)) base c.give.ensures.holds
+
+pub returns-clause-reserved : goal.returns-clause-reserved
+returns-clause-reserved g c =
+    let std = g.A.Abi.standard in
+    let s = c.args.cif.now in
+    let sound = g.met.A.Abi.sound s c.sig-sig.ensures.faultless in
+    reserved_stay std g.met.A.Abi.agrees (result_uses std (plan_of std s).res) c.args.machine.now c.give.new.machine (uses_clear std g.met.A.Abi.agrees (plan_of std s).res sound.result_allowed) c.give.ensures.registers
 
 pub returns-clause-writes : goal.returns-clause-writes
 returns-clause-writes g c =
