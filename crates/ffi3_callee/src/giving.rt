@@ -120,12 +120,7 @@ fn give<A: Abi>(
 
 /// Gives a result: in registers, extended as the standard says, or in the caller's buffer, whose
 /// address the standard's register for it then tells.
-pub fn give_result<A: Abi>(
-    machine: &mut Machine,
-    cif: &Cif<A>,
-    incoming: &Incoming,
-    value: &Value,
-)
+pub fn give_result<A: Abi>(machine: &mut Machine, cif: &Cif<A>, incoming: &Incoming, value: &Value)
     requires target { machine.old.target ≡ A.TARGET }
     requires incoming { IsIncoming A.standard cif.now incoming.now }
     requires fits { fits cif.now.result_type (value_of value.now) ≡ true }

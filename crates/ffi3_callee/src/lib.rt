@@ -238,12 +238,7 @@ fn offset_of(sig: &Sig, i: u32) -> u64
 }
 
 /// The bytes of argument `i` in a callee's block, padding included.
-pub fn arg<'a, A: Abi>(
-    machine: &'a Machine,
-    cif: &Cif<A>,
-    incoming: &Incoming,
-    i: u32,
-) -> &'a [u8]
+pub fn arg<'a, A: Abi>(machine: &'a Machine, cif: &Cif<A>, incoming: &Incoming, i: u32) -> &'a [u8]
     requires in_range { i < length cif.now.arguments }
     requires incoming { IsIncoming A.standard cif.now incoming.now }
     ensures are { result.now ≡ stack_at (incoming.now.block + block_offset cif.now.arguments i) (size_of (tree_at cif.now.arguments i)) machine.now }
