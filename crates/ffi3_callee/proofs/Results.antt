@@ -1,6 +1,6 @@
 -- A result that was given is held.
 use Rattle.std.specs.Prelude.{true, ◌&&◌, Option, Some, None}
-use Rattle.std.proofs.Common.{◌≡◌, inl, inr, ⊎_elim, ℕ, ◌+◌, ◌-◌, ◌≤◌, List, [], ◌∷◌, take, drop, length, refl, ap, sym, ◌∙◌, subst, arith}
+use Rattle.std.proofs.Common.{◌≡◌, inl, inr, ⊎_elim, ℕ, ◌+◌, ◌-◌, ◌*◌, ◌<◌, ◌≤◌, List, [], ◌∷◌, take, drop, get_or, length, refl, ap, sym, ◌∙◌, subst, arith}
 use Rattle.std.specs.List.{AllByRecursion}
 use Rattle.std.proofs.lemmas.Bool.{cases_lt}
 use Rattle.ffi3_type_rules.specs.declared.Target.{Target}
@@ -31,6 +31,8 @@ use Rattle.ffi3_pieces.proofs.Lawful.{machine_places}
 use Rattle.ffi3_pieces.proofs.Owning.{owned, filled}
 use Rattle.ffi3_pieces.proofs.Stepping.{same_word_in}
 use Rattle.ffi3_callee.specs.Loaded.{image_from}
+use Rattle.ffi3_place_rules.specs.declared.SaveWord.{SaveWord}
+use Rattle.ffi3_callee.specs.Saved.{AreSaved}
 use Rattle.ffi3_callee.specs.Given.{IsSettable, RegisterHoldsWord, RegistersStay, ResultWrites, result_uses}
 use Rattle.ffi3_callee.proofs.Copying.{each_writable, stretch_stays}
 use Rattle.ffi3_callee.proofs.Placing.{stack_inside}
@@ -155,6 +157,17 @@ hidden_held std s base address target a m v at buffer returned low high sized is
       own = record { reaches = frame_reached base frame m low high (quiet_from.size ∙ sized); fitting = fit; stands = subst (λ r. OwnsResult (image_from base frame m) t r v) (sym is) (ap (value_in t) same ∙ value) };
       filled = subst (λ r. FillsResult std (image_from base frame m) t r v) (sym is) (subst (λ o. RegisterHolds (image_from base frame m) o (base + buffer)) returned_is (told_by base frame address (base + buffer) target m returned address_is set told));
     }
+
+-- the stack below the first stack argument stays
+below_stays : (base : ℕ) (t : Tree) (res : Res) (a b : State) → ResultWrites base t res a b → (i : ℕ) → STACK + i < base → get_or b.stack i 0 ≡ get_or a.stack i 0
+below_stays base t Nothing a b w i h = w.outside i (inl h)
+below_stays base t (DirectRes pieces) a b w i h = w.outside i (inl h)
+below_stays base t (Hidden at buffer) a b w i h = w.outside i (inl (omega (arith, h)))
+
+-- and so do words that are saved there
+pub saved_below : (from base start : ℕ) (t : Tree) (res : Res) (hidden : Option Loc) (words : List SaveWord) (entry a b : State) → STACK ≤ from → from + 8 * length words ≤ base → ResultWrites base t res a b → AreSaved from start hidden words entry a → AreSaved from start hidden words entry b
+saved_below from base start t res hidden words entry a b low high writes saved = λ i w below is.
+    same_word_in from (S (8 * i)) a b (λ k h. below_stays base t res a b writes (from + 8 * i + k - STACK) (omega (arith, low, high, below, h))) ∙ saved i w below is
 
 pub hidden_writes : (base address : ℕ) (t : Tree) (res : Res) (at : Loc) (buffer : ℕ) (a b c : State) → address + size_of t ≤ STACK_TOP → res ≡ Hidden at buffer → address ≡ base + buffer → WroteWithin address (address + size_of t) a b → WroteWithin STACK_TOP STACK_TOP b c → ResultWrites base t res a c
 hidden_writes base address t res at buffer a b c high is address_is w q =

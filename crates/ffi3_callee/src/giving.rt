@@ -1,21 +1,23 @@
 // The result that a callee gives.
-ghost use Rattle.std.specs.Prelude.{◌≡◌, ℕ, ◌+◌, ◌-◌, ◌≤◌, length, true};
+ghost use Rattle.std.specs.Prelude.{◌≡◌, ℕ, ◌+◌, ◌-◌, ◌≤◌, Option, length, true};
 ghost use Rattle.std.specs.List.{AllByRecursion};
 ghost use Rattle.ffi3_type_rules.specs.Layout.{size_of};
 ghost use Rattle.ffi3_type_rules.specs.Fault.{IsResultType};
 ghost use Rattle.ffi3_type_rules.specs.Value.{fits, value_in};
 ghost use Rattle.ffi3_types.specs.TreeOf.{tree_of};
 ghost use Rattle.ffi3_values.specs.ValueOf.{value_of};
+ghost use Rattle.ffi3_place_rules.specs.declared.Loc.{Loc};
 ghost use Rattle.ffi3_place_rules.specs.Standard.{frame_of, plan_of};
 ghost use Rattle.ffi3_place_rules.specs.Holds.{HoldsResult};
 ghost use Rattle.ffi3_place_rules.specs.Sound.{AreApart, IsPieceOf, listed, piece_locs, result_locs};
 ghost use Rattle.ffi3_type_rules.specs.declared.limits.TheConstants.{STACK, STACK_TOP};
-ghost use Rattle.ffi3_machine.specs.State.{stack_at};
+ghost use Rattle.ffi3_machine.specs.State.{State, stack_at};
 ghost use Rattle.ffi3_pieces.specs.Stored.{IsPlace, IsWritable, Stays, WroteWithin};
 ghost use Rattle.ffi3_pieces.specs.Standing.{PiecesStand};
 ghost use Rattle.ffi3_callee.specs.Loaded.{WroteOnly, image_from};
 ghost use Rattle.ffi3_callee.specs.Given.{IsSettable, RegisterHoldsWord, IsAddressOf, RegistersStay, ReservedStay, ResultWrites, result_uses};
 ghost use Rattle.ffi3_callee.specs.Received.{IsIncoming};
+ghost use Rattle.ffi3_callee.specs.Saved.{AreSaved};
 
 use crate::Incoming;
 use crate::saving::set_register;
@@ -127,6 +129,7 @@ pub fn give_result<A: Abi>(machine: &mut Machine, cif: &Cif<A>, incoming: &Incom
     ensures holds { HoldsResult A.standard cif.now (value_of value.now) (image_from (incoming.now.entry + A.standard.link) (frame_of A.standard cif.now) machine.new) }
     ensures registers { RegistersStay (result_uses A.standard (plan_of A.standard cif.now).res) machine.old machine.new }
     ensures reserved { ReservedStay A.standard machine.old machine.new }
+    ensures saved { (base : ℕ) (hidden : Option Loc) (entry : State) → AreSaved (incoming.now.entry - A.standard.save) base hidden A.standard.save_area entry machine.old → AreSaved (incoming.now.entry - A.standard.save) base hidden A.standard.save_area entry machine.new }
     ensures writes { ResultWrites (incoming.now.entry + A.standard.link) cif.now.result_type (plan_of A.standard cif.now).res machine.old machine.new }
     ensures sp { machine.new.sp ≡ machine.old.sp }
 {

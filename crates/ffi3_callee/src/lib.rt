@@ -5,6 +5,7 @@ ghost use Rattle.std.specs.Prelude.{◌≡◌, ℕ, ◌+◌, ◌-◌, ◌<◌, �
 ghost use Rattle.std.specs.List.{AllByRecursion};
 ghost use Rattle.std.specs.Int.{w64, to_le_bytes};
 ghost use Rattle.ffi3_type_rules.specs.declared.limits.TheConstants.{STACK, STACK_TOP};
+ghost use Rattle.ffi3_type_rules.specs.Isa.{isa_of};
 ghost use Rattle.ffi3_type_rules.specs.Tree.{tree_at};
 ghost use Rattle.ffi3_type_rules.specs.Layout.{size_of};
 ghost use Rattle.ffi3_type_rules.specs.Fault.{IsResultType};
@@ -14,7 +15,7 @@ ghost use Rattle.ffi3_types.specs.TreeOf.{tree_of};
 ghost use Rattle.ffi3_place_rules.specs.Sound.{PlaceHasAll};
 ghost use Rattle.ffi3_place_rules.specs.Holds.{OwnsArguments};
 ghost use Rattle.ffi3_place_rules.specs.Standard.{block_bytes, frame_of, plan_of};
-ghost use Rattle.ffi3_machine.specs.State.{stack_at};
+ghost use Rattle.ffi3_machine.specs.State.{scribbled_floating, scribbled_general, stack_at};
 ghost use Rattle.ffi3_body.specs.SeenActivation.{arguments_in, block_offset};
 ghost use Rattle.ffi3_pieces.specs.Stored.{IsPlace, IsWithin, word_in};
 ghost use Rattle.ffi3_pieces.specs.Standing.{PlaceLies};
@@ -199,6 +200,8 @@ pub fn receive<A: Abi>(machine: &mut Machine, cif: &Cif<A>) -> Incoming
     requires some { (vs : List ValueTree) × OwnsAtEntry A.standard cif.now machine.old vs }
     ensures received { IsReceived A.standard cif.now machine.old machine.new }
     ensures incoming { IsIncoming A.standard cif.now result }
+    ensures general { machine.new.general ≡ scribbled_general (isa_of machine.old.target) (length machine.old.events) machine.old.general }
+    ensures floating { machine.new.floating ≡ scribbled_floating (length machine.old.events) }
     ensures reserved { machine.old.target ≡ A.TARGET → ReservedStay A.standard machine.old machine.new }
     ensures entry { result.entry ≡ machine.old.sp }
     ensures block { result.block ≡ machine.new.sp }

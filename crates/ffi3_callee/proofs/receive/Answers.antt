@@ -1,7 +1,9 @@
-use Rattle.std.proofs.Common.{◌≡◌, ◌+◌, ◌-◌, ◌≤◌, ap, subst, sym, ◌∙◌, arith}
+use Rattle.std.proofs.Common.{◌≡◌, ◌+◌, ◌-◌, ◌≤◌, length, ap, subst, sym, ◌∙◌, arith}
 use Rattle.ffi3_type_rules.specs.declared.limits.TheConstants.{STACK, STACK_TOP}
+use Rattle.ffi3_type_rules.specs.Isa.{isa_of}
 use Rattle.ffi3_place_rules.specs.Holds.{OwnsArguments}
 use Rattle.ffi3_place_rules.specs.Standard.{block_bytes, frame_of, plan_of}
+use Rattle.ffi3_machine.specs.State.{scribbled_floating, scribbled_general}
 use Rattle.ffi3_callee.specs.Loaded.{AreFound, image_from}
 use Rattle.ffi3_callee.specs.Received.{hidden_of}
 use Rattle.ffi3_callee.specs.Saved.{AreSaved, HiddenLies}
@@ -91,6 +93,26 @@ returns-clause-incoming g c =
       high = omega (arith, c.sp-entry.ensures.value, c.requires.frame);
       address = address_known std s m c.requires.some.0 c.sp-entry.result (c.sp-entry.result + c.LINK.result) c.hidden_word-address.result c.hidden_place-hidden.result sound inside c.requires.some.1 c.sp-entry.ensures.value base hidden c.hidden_word-address.ensures;
     }
+
+pub returns-clause-general : goal.returns-clause-general
+returns-clause-general g c =
+    let m = c.args.machine.now in
+    let saves = c.save_words.ensures.only in
+    let copies = c.copy_arguments.ensures.only in
+    let target_is = copies.within.target ∙ ap (λ q. q.target) c.set_sp.ensures ∙ saves.within.target in
+    let events_are = copies.within.events ∙ ap (λ q. q.events) c.set_sp.ensures ∙ saves.within.events in
+    let number : c.len-number.result ≡ length m.events = c.len-number.ensures ∙ ap (λ j. length j.events) c.events.ensures ∙ ap length events_are in
+    let general = copies.general ∙ ap (λ q. q.general) c.set_sp.ensures ∙ saves.general in
+    ap (λ q. q.general) c.scribble.ensures ∙ ap (λ t. scribbled_general (isa_of t) c.len-number.result c.copy_arguments.new.machine.general) target_is ∙ ap (λ n. scribbled_general (isa_of m.target) n c.copy_arguments.new.machine.general) number ∙ ap (scribbled_general (isa_of m.target) (length m.events)) general
+
+pub returns-clause-floating : goal.returns-clause-floating
+returns-clause-floating g c =
+    let m = c.args.machine.now in
+    let saves = c.save_words.ensures.only in
+    let copies = c.copy_arguments.ensures.only in
+    let events_are = copies.within.events ∙ ap (λ q. q.events) c.set_sp.ensures ∙ saves.within.events in
+    let number : c.len-number.result ≡ length m.events = c.len-number.ensures ∙ ap (λ j. length j.events) c.events.ensures ∙ ap length events_are in
+    ap (λ q. q.floating) c.scribble.ensures ∙ ap scribbled_floating number
 
 pub returns-clause-reserved : goal.returns-clause-reserved
 returns-clause-reserved g c = λ target.

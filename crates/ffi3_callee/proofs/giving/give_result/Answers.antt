@@ -1,10 +1,11 @@
-use Rattle.std.proofs.Common.{◌≡◌, ◌+◌, subst, sym, ◌∙◌, arith}
+use Rattle.std.proofs.Common.{◌≡◌, ◌+◌, ◌-◌, subst, sym, ◌∙◌, arith}
 use Rattle.ffi3_values.specs.ValueOf.{value_of}
 use Rattle.ffi3_place_rules.specs.Holds.{HoldsResult}
 use Rattle.ffi3_place_rules.specs.Standard.{frame_of, plan_of}
 use Rattle.ffi3_callee.specs.Given.{IsAddressOf, IsSettable, ResultWrites, result_uses}
 use Rattle.ffi3_callee.specs.Loaded.{image_from}
 use Rattle.ffi3_callee.proofs.Keeping.{reserved_stay, uses_clear}
+use Rattle.ffi3_callee.proofs.Results.{saved_below}
 use Rattle.ffi3_callee.proofs.Laws.{result_written, returned_settable}
 use Rattle.ffi3_callee.proofs.giving.give_result.Goals as goal
 
@@ -47,6 +48,13 @@ returns-clause-reserved g c =
     let s = c.args.cif.now in
     let sound = g.met.A.Abi.sound s c.sig-sig.ensures.faultless in
     reserved_stay std g.met.A.Abi.agrees (result_uses std (plan_of std s).res) c.args.machine.now c.give.new.machine (uses_clear std g.met.A.Abi.agrees (plan_of std s).res sound.result_allowed) c.give.ensures.registers
+
+pub returns-clause-saved : goal.returns-clause-saved
+returns-clause-saved g c = λ start hidden entry_state saved.
+    let std = g.A.Abi.standard in
+    let s = c.args.cif.now in
+    let incoming = c.requires.incoming in
+    saved_below (c.args.incoming.now.entry - std.save) (c.args.incoming.now.entry + c.LINK.result) start s.result_type (plan_of std s).res hidden std.save_area entry_state c.args.machine.now c.give.new.machine (omega (arith, incoming.low, incoming.entry)) (omega (arith, g.met.A.Abi.agrees.area, incoming.entry)) c.give.ensures.writes saved
 
 pub returns-clause-writes : goal.returns-clause-writes
 returns-clause-writes g c =
