@@ -1,0 +1,209 @@
+-- From the image at an entry to places that count from the end of the return address, and the steps of taking arguments put together.
+use Rattle.std.proofs.Common.{◌≡◌, inr, ℕ, ◌+◌, ◌-◌, ◌*◌, ◌≤◌, List, [], ◌∷◌, ◌++◌, take, drop, get_or, length, refl, ap, sym, ◌∙◌, subst, arith}
+use Rattle.std.specs.Prelude.{Option}
+use Rattle.std.specs.List.{AllByRecursion, flat_map}
+use Rattle.std.specs.Int.{w64, from_le_bytes}
+use Rattle.std.proofs.lemmas.List.{drop-drop, drop-take, get_or-drop}
+use Rattle.ffi3_type_rules.specs.declared.Target.TheVariants.{Amd64}
+use Rattle.ffi3_type_rules.specs.Tree.{Tree}
+use Rattle.ffi3_type_rules.specs.Layout.{Leaf, size_of}
+use Rattle.ffi3_type_rules.specs.Signature.{Signature, SignatureHasNoFault}
+use Rattle.ffi3_type_rules.specs.Value.{ValueTree, value_in}
+use Rattle.ffi3_place_rules.specs.declared.Loc.{Loc}
+use Rattle.ffi3_place_rules.specs.declared.Loc.TheVariants.{G, F, S}
+use Rattle.ffi3_place_rules.specs.declared.Piece.{Piece}
+use Rattle.ffi3_place_rules.specs.declared.Place.{Place}
+use Rattle.ffi3_place_rules.specs.declared.Place.TheVariants.{Direct, ByRef}
+use Rattle.ffi3_place_rules.specs.declared.Res.{Res}
+use Rattle.ffi3_place_rules.specs.declared.Res.TheVariants.{Nothing, Direct as DirectRes, Hidden}
+use Rattle.ffi3_place_rules.specs.Image.{Image, byte_at, word_at}
+use Rattle.ffi3_place_rules.specs.Standard.{Standard, block_bytes, frame_of, plan_of}
+use Rattle.ffi3_place_rules.specs.Holds.{Carries, LeavesStand, OwnsArgument, OwnsArguments, OwnsHidden}
+use Rattle.ffi3_place_rules.specs.Sound.{IsSound, argument_locs, buffer_locs, copy_locs, hidden_locs, place_locs}
+use Rattle.ffi3_type_rules.specs.declared.limits.TheConstants.{STACK, STACK_TOP}
+use Rattle.ffi3_machine.specs.State.{State, image_of, scribbled, stack_at, with_sp}
+use Rattle.ffi3_pieces.specs.Stored.{IsPlace, WroteWithin}
+use Rattle.ffi3_pieces.specs.Standing.{AreReady}
+use Rattle.ffi3_pieces.proofs.Composing.{wrote_then, wrote_wider}
+use Rattle.ffi3_pieces.proofs.Lawful.{all_ready, call_places, each_first}
+use Rattle.ffi3_pieces.proofs.Owning.{image_word}
+use Rattle.ffi3_pieces.proofs.Stepping.{same_word_in}
+use Rattle.ffi3_body.specs.SeenActivation.{arguments_in}
+use Rattle.ffi3_place_rules.specs.declared.SaveWord.{SaveWord}
+use Rattle.ffi3_place_rules.specs.declared.SaveWord.TheVariants.{Register, Hidden as HiddenWord, Spare}
+use Rattle.ffi3_callee.specs.Loaded.{AreFound, WroteOnly, image_from}
+use Rattle.ffi3_callee.specs.Given.{IsAddressOf}
+use Rattle.ffi3_callee.specs.Received.{IsReceived, OwnsAtEntry, hidden_of}
+use Rattle.ffi3_callee.specs.Saved.{AreSaved, HiddenLies, IsSaveable, hidden_word}
+use Rattle.ffi3_callee.proofs.Copying.{each_writable, image_stays, same_image}
+use Rattle.ffi3_callee.proofs.Return.{any_sp}
+
+-- ---- the frame behind the return address
+
+abbrev behind : ℕ → Image → Image
+behind link m = record { general = m.general; floating = m.floating; sp = m.sp + link; stack = drop link m.stack }
+
+module _ (link : ℕ) (m : Image) where
+  behind_byte : (l : Loc) (k : ℕ) → byte_at (behind link m) 0 l k ≡ byte_at m link l k
+  behind_byte (G r) k = refl
+  behind_byte (F r) k = refl
+  behind_byte (S n) k =
+      let there : link + (0 + n + k) ≡ link + n + k = omega arith in
+      get_or-drop link m.stack (0 + n + k) 0 ∙ ap (λ i. get_or m.stack i 0) there
+
+  behind_word : (l : Loc) → word_at (behind link m) 0 l ≡ word_at m link l
+  behind_word (G r) = refl
+  behind_word (F r) = refl
+  behind_word (S n) = λ i. from_le_bytes w64 (behind_byte (S n) 0 i ∷ behind_byte (S n) 1 i ∷ behind_byte (S n) 2 i ∷ behind_byte (S n) 3 i ∷ behind_byte (S n) 4 i ∷ behind_byte (S n) 5 i ∷ behind_byte (S n) 6 i ∷ behind_byte (S n) 7 i ∷ [])
+
+  behind_pieces : (o k x : ℕ) (pieces : List Piece) → AllByRecursion (λ p. Carries o p → byte_at m link p.loc (o - p.off) ≡ x) pieces → AllByRecursion (λ p. Carries o p → byte_at (behind link m) 0 p.loc (o - p.off) ≡ x) pieces
+  behind_pieces o k x [] h = tt
+  behind_pieces o k x (p ∷ ps) h = (λ c. behind_byte p.loc (o - p.off) ∙ h.0 c, behind_pieces o k x ps h.1)
+
+  behind_leaves : (pieces : List Piece) (ls : List Leaf) (bs : List (List ℕ)) → LeavesStand m link pieces ls bs → LeavesStand (behind link m) 0 pieces ls bs
+  behind_leaves pieces [] [] h = tt
+  behind_leaves pieces [] (b ∷ bs) h = absurd h
+  behind_leaves pieces (l ∷ ls) [] h = absurd h
+  behind_leaves pieces (l ∷ ls) (b ∷ bs) h =
+      (λ k below. behind_pieces (l.at + k) k (get_or b k 0) pieces (h.0 k below), behind_leaves pieces ls bs h.1)
+
+  behind_argument : (t : Tree) (p : Place) (v : ValueTree) → OwnsArgument m link t p v → OwnsArgument (behind link m) 0 t p v
+  behind_argument t (Direct pieces) v own = (own.0, behind_leaves pieces _ _ own.1)
+  behind_argument t (ByRef at copy) v own =
+      let address : m.sp + link + copy ≡ m.sp + link + 0 + copy = omega arith in
+      let there : link + (0 + copy) ≡ link + copy = omega arith in
+      (own.0, behind_word at ∙ own.1 ∙ address, ap (λ xs. value_in t (take (size_of t) xs)) (drop-drop (0 + copy) link m.stack ∙ ap (λ n. drop n m.stack) there) ∙ own.2)
+
+  behind_arguments : (ts : List Tree) (ps : List Place) (vs : List ValueTree) → OwnsArguments m link ts ps vs → OwnsArguments (behind link m) 0 ts ps vs
+  behind_arguments [] [] [] h = tt
+  behind_arguments [] [] (v ∷ vs) h = absurd h
+  behind_arguments [] (p ∷ ps) vs h = absurd h
+  behind_arguments (t ∷ ts) [] vs h = absurd h
+  behind_arguments (t ∷ ts) (p ∷ ps) [] h = absurd h
+  behind_arguments (t ∷ ts) (p ∷ ps) (v ∷ vs) h = (behind_argument t p v h.0, behind_arguments ts ps vs h.1)
+
+-- the image behind the return address
+pub image_behind : (link room : ℕ) (m : State) → STACK ≤ m.sp → behind link (image_of (link + room) m) ≡ image_from (m.sp + link) room m
+image_behind link room m low =
+    let there : m.sp - STACK + link ≡ m.sp + link - STACK = omega (arith, low) in
+    let stack : drop link (stack_at m.sp (link + room) m) ≡ stack_at (m.sp + link) room m = drop-take link room (drop (m.sp - STACK) m.stack) ∙ ap (take room) (drop-drop link (m.sp - STACK) m.stack ∙ ap (λ n. drop n m.stack) there) in
+    same_image (behind link (image_of (link + room) m)) (image_from (m.sp + link) room m) refl refl refl stack
+
+-- what an entry owns stands in the frame behind the return address
+pub owned_behind : (std : Standard) (s : Signature) (m : State) (vs : List ValueTree) → STACK ≤ m.sp → OwnsAtEntry std s m vs → OwnsArguments (image_from (m.sp + std.link) (frame_of std s) m) 0 s.arguments (plan_of std s).places vs
+owned_behind std s m vs low own =
+    let link = std.link in
+    let frame = frame_of std s in
+    subst (λ n. OwnsArguments n 0 s.arguments (plan_of std s).places vs) (image_behind link frame m low)
+    (behind_arguments link (image_of (link + frame) m) s.arguments (plan_of std s).places vs own.arguments)
+
+-- ---- addresses that are found
+
+find_all : (base room : ℕ) (m : State) (ts : List Tree) (ps : List Place) (vs : List ValueTree) → STACK ≤ base → AreReady Amd64 room ts ps → OwnsArguments (image_from base room m) 0 ts ps vs → AreFound base m ps
+find_all base room m [] [] vs low ready own = tt
+find_all base room m [] (p ∷ ps) vs low ready own = absurd ready
+find_all base room m (t ∷ ts) [] vs low ready own = tt
+find_all base room m (t ∷ ts) (p ∷ ps) [] low ready own = absurd own
+find_all base room m (t ∷ ts) (Direct pieces ∷ ps) (v ∷ vs) low ready own = (tt, find_all base room m ts ps vs low ready.1 own.1)
+find_all base room m (t ∷ ts) (ByRef at copy ∷ ps) (v ∷ vs) low ready own =
+    let none : base + 0 + copy ≡ base + copy = omega arith in
+    (sym (image_word (with_sp base m) room low at ready.0.lies.0) ∙ own.0.1 ∙ none, find_all base room m ts ps vs low ready.1 own.1)
+
+pub found_where_owned : (std : Standard) (s : Signature) (base : ℕ) (m : State) (vs : List ValueTree) → IsSound std s → SignatureHasNoFault s → STACK ≤ base → OwnsArguments (image_from base (frame_of std s) m) 0 s.arguments (plan_of std s).places vs → AreFound base m (plan_of std s).places
+found_where_owned std s base m vs sound right low own =
+    find_all base (frame_of std s) m s.arguments (plan_of std s).places vs low (all_ready std s sound right Amd64 (each_writable (argument_locs (plan_of std s)))) own
+
+-- ---- places that lie in the stack
+
+lie_more : (n k : ℕ) → n ≤ k → (l : Loc) → IsPlace n l → IsPlace k l
+lie_more n k h (G r) lies = lies
+lie_more n k h (F r) lies = lies
+lie_more n k h (S q) lies = omega (arith, h, lies)
+
+one_saveable : (room : ℕ) (w : SaveWord) → IsSaveable 0 w → IsSaveable room w
+one_saveable room (Register at) h = lie_more 0 room (omega arith) at h
+one_saveable room HiddenWord h = tt
+one_saveable room Spare h = tt
+
+pub all_saveable : (room : ℕ) (ws : List SaveWord) → AllByRecursion (IsSaveable 0) ws → AllByRecursion (IsSaveable room) ws
+all_saveable room [] h = tt
+all_saveable room (w ∷ ws) h = (one_saveable room w h.0, all_saveable room ws h.1)
+
+hidden_in : (n k : ℕ) → n ≤ k → (r : Res) → AllByRecursion (IsPlace n) (hidden_locs r) → HiddenLies k (hidden_of r)
+hidden_in n k h Nothing all = tt
+hidden_in n k h (DirectRes pieces) all = tt
+hidden_in n k h (Hidden at buffer) all = lie_more n k h at all.0
+
+pub hidden_lies : (std : Standard) (s : Signature) (room : ℕ) → IsSound std s → frame_of std s ≤ room → HiddenLies room (hidden_of (plan_of std s).res)
+hidden_lies std s room sound h =
+    let p = plan_of std s in
+    hidden_in (frame_of std s) room h p.res (each_first (IsPlace (frame_of std s)) (hidden_locs p.res) (flat_map place_locs p.places) (each_first (IsPlace (frame_of std s)) (argument_locs p) (copy_locs s.arguments p.places ++ buffer_locs s.result_type p.res) (call_places std s sound)))
+
+-- ---- the address of a hidden result's buffer
+
+address_at : (link room : ℕ) (m : State) (r : Res) → STACK ≤ m.sp → AllByRecursion (IsPlace room) (hidden_locs r) → OwnsHidden (image_of (link + room) m) link r → IsAddressOf (m.sp + link) (hidden_word (m.sp + link) m (hidden_of r)) r
+address_at link room m Nothing low lie own = tt
+address_at link room m (DirectRes pieces) low lie own = tt
+address_at link room m (Hidden at buffer) low lie own =
+    let inside : STACK ≤ m.sp + link = omega (arith, low) in
+    sym (any_sp (m.sp + link) (m.sp + link) m at) ∙ sym (image_word (with_sp (m.sp + link) m) room inside at lie.0) ∙ ap (λ n. word_at n 0 at) (sym (image_behind link room m low)) ∙ behind_word link (image_of (link + room) m) at ∙ own
+
+pub address_owned : (std : Standard) (s : Signature) (m : State) (vs : List ValueTree) → IsSound std s → STACK ≤ m.sp → OwnsAtEntry std s m vs → IsAddressOf (m.sp + std.link) (hidden_word (m.sp + std.link) m (hidden_of (plan_of std s).res)) (plan_of std s).res
+address_owned std s m vs sound low own =
+    let p = plan_of std s in
+    address_at std.link (frame_of std s) m p.res low (each_first (IsPlace (frame_of std s)) (hidden_locs p.res) (flat_map place_locs p.places) (each_first (IsPlace (frame_of std s)) (argument_locs p) (copy_locs s.arguments p.places ++ buffer_locs s.result_type p.res) (call_places std s sound))) own.hidden
+
+pub address_known : (std : Standard) (s : Signature) (m : State) (vs : List ValueTree) (entry base address : ℕ) (hidden : Option Loc) → IsSound std s → STACK ≤ m.sp → OwnsAtEntry std s m vs → entry ≡ m.sp → base ≡ m.sp + std.link → hidden ≡ hidden_of (plan_of std s).res → address ≡ hidden_word base m hidden → IsAddressOf (entry + std.link) address (plan_of std s).res
+address_known std s m vs entry base address hidden sound low own entry_is base_is hidden_is address_is =
+    let there : m.sp + std.link ≡ entry + std.link = omega (arith, entry_is) in
+    let word : address ≡ hidden_word (m.sp + std.link) m (hidden_of (plan_of std s).res) = address_is ∙ ap (λ q. hidden_word q m hidden) base_is ∙ ap (hidden_word (m.sp + std.link) m) hidden_is in
+    subst (λ n. IsAddressOf n address (plan_of std s).res) there (subst (λ n. IsAddressOf (m.sp + std.link) n (plan_of std s).res) (sym word) (address_owned std s m vs sound low own))
+
+-- ---- all steps
+
+moved_within : (low high sp n : ℕ) (a b c d : State) → b ≡ with_sp sp a → WroteWithin low high b c → d ≡ scribbled n c → WroteWithin low high a d
+moved_within low high sp n a b c d b_is w d_is =
+    let v = subst (λ m. WroteWithin low high m c) b_is w in
+    subst (WroteWithin low high a) (sym d_is) (record {
+      size = v.size;
+      outside = v.outside;
+      mark = v.mark;
+      target = v.target;
+      pc = v.pc;
+      code = v.code;
+      events = v.events;
+      spare_events = v.spare_events;
+      spare_bytes = v.spare_bytes;
+    })
+
+module _ (std : Standard) (s : Signature) (area block n : ℕ) (m a b c d : State) (low : STACK + std.save + block_bytes s ≤ m.sp) (high : m.sp + std.link + frame_of std s ≤ STACK_TOP) (counted : 8 * length std.save_area ≡ std.save) (sized : length m.stack ≡ 65536) (area_is : area ≡ m.sp - std.save) (block_is : block + block_bytes s ≡ area) (saves : WroteOnly area (area + 8 * length std.save_area) m a) (b_is : b ≡ with_sp block a) where
+  -- the image in which the arguments are found
+  pub image_between : image_from (m.sp + std.link) (frame_of std s) b ≡ image_from (m.sp + std.link) (frame_of std s) m
+  image_between =
+      ap (image_from (m.sp + std.link) (frame_of std s)) b_is ∙ image_stays area (area + 8 * length std.save_area) (m.sp + std.link) (frame_of std s) m a (omega (arith, low)) (omega (arith, low, high, sized)) (omega (arith, counted, area_is, low)) saves
+
+  pub found_between : (vs : List ValueTree) → IsSound std s → SignatureHasNoFault s → OwnsAtEntry std s m vs → AreFound (m.sp + std.link) b (plan_of std s).places
+  found_between vs sound right own =
+      found_where_owned std s (m.sp + std.link) b vs sound right (omega (arith, low)) (subst (λ i. OwnsArguments i 0 s.arguments (plan_of std s).places vs) (sym image_between) (owned_behind std s m vs (omega (arith, low)) own))
+
+  pub received : AreSaved area (m.sp + std.link) (hidden_of (plan_of std s).res) std.save_area m a → WroteOnly block (block + block_bytes s) b c → d ≡ scribbled n c → ((vs : List ValueTree) → OwnsArguments (image_from (m.sp + std.link) (frame_of std s) b) 0 s.arguments (plan_of std s).places vs → arguments_in s.arguments (stack_at block (block_bytes s) c) ≡ vs) → IsReceived std s m d
+  received saved copies d_is values = record { values = all; saved = kept; sp = sp; within = within }
+    where
+      sp_is : d.sp ≡ block
+      sp_is = ap (λ q. q.sp) d_is ∙ copies.sp ∙ ap (λ q. q.sp) b_is
+
+      all : (vs : List ValueTree) → OwnsAtEntry std s m vs → arguments_in s.arguments (stack_at d.sp (block_bytes s) d) ≡ vs
+      all vs own =
+          ap (λ q. arguments_in s.arguments (stack_at q (block_bytes s) d)) sp_is ∙ ap (λ q. arguments_in s.arguments (stack_at block (block_bytes s) q)) d_is ∙ values vs (subst (λ i. OwnsArguments i 0 s.arguments (plan_of std s).places vs) (sym image_between) (owned_behind std s m vs (omega (arith, low)) own))
+
+      moved : WroteWithin block (block + block_bytes s) a d
+      moved = moved_within block (block + block_bytes s) block n a b c d b_is copies.within d_is
+
+      kept : AreSaved (m.sp - std.save) (m.sp + std.link) (hidden_of (plan_of std s).res) std.save_area m d
+      kept = subst (λ q. AreSaved q (m.sp + std.link) (hidden_of (plan_of std s).res) std.save_area m d) area_is (λ i w below is. same_word_in area (S (8 * i)) a d (λ k h. moved.outside (area + 8 * i + k - STACK) (inr (omega (arith, block_is, low, area_is)))) ∙ saved i w below is)
+
+      sp : d.sp + block_bytes s + std.save ≡ m.sp
+      sp = omega (arith, sp_is, block_is, area_is, low)
+
+      within : WroteWithin d.sp m.sp m d
+      within = subst (λ q. WroteWithin q m.sp m d) (sym sp_is) (wrote_then block m.sp m a d (wrote_wider area (area + 8 * length std.save_area) block m.sp m a (omega (arith, block_is)) (omega (arith, counted, area_is, low)) saves.within) (wrote_wider block (block + block_bytes s) block m.sp a d (omega arith) (omega (arith, block_is, area_is)) moved))

@@ -1,0 +1,126 @@
+-- What the laws of a standard say of the words that a callee saves, and of the registers of a result.
+use Rattle.std.specs.Prelude.{Option, Some, None}
+use Rattle.std.proofs.Common.{◌≡◌, ℕ, zero, suc, List, [], ◌∷◌, ◌++◌, refl, sym, ◌∙◌, subst, arith}
+use Rattle.std.specs.List.{AllByRecursion, Any}
+use Rattle.ffi3_type_rules.specs.declared.Target.{Target}
+use Rattle.ffi3_type_rules.specs.declared.Target.TheVariants.{Amd64, Aapcs64, Riscv}
+use Rattle.ffi3_type_rules.specs.Isa.{isa_of}
+use Rattle.ffi3_type_rules.specs.Signature.{Signature}
+use Rattle.ffi3_place_rules.specs.declared.Loc.{Loc}
+use Rattle.ffi3_place_rules.specs.declared.SaveWord.{SaveWord}
+use Rattle.ffi3_place_rules.specs.declared.SaveWord.TheVariants.{Register, Hidden, Spare}
+use Rattle.ffi3_place_rules.specs.Isa.{link_place}
+use Rattle.ffi3_place_rules.specs.Standard.{Standard, plan_of}
+use Rattle.ffi3_place_rules.specs.Agrees.{AgreesWithMachine, given_back, saved_registers, special}
+use Rattle.ffi3_place_rules.specs.Sound.{Apart, IsNoneOf, IsOneOf, IsSound, LiesIn, closed_to_results, listed, result_locs}
+use Rattle.ffi3_place_rules.proofs.Tests.{each_weaker}
+use Rattle.ffi3_pieces.specs.Stored.{IsPlace, IsWritable}
+use Rattle.ffi3_pieces.proofs.Lawful.{each_first, each_join, each_rest, machine_place}
+use Rattle.ffi3_callee.specs.Given.{IsSettable}
+use Rattle.ffi3_callee.specs.Saved.{IsRestorable, IsSaveable}
+
+-- ---- lists
+
+-- what holds of each of a list holds of one of them
+any_holds : {X : Type 0} (P : X → Type 0) (x : X) (ys : List X) → AllByRecursion P ys → Any (λ y. y ≡ x) ys → P x
+any_holds P x [] all some = absurd (omega (arith, some.2))
+any_holds P x (y ∷ ys) all (zero, q, below, is, same) = subst P (is ∙ same) all.0
+any_holds P x (y ∷ ys) all (suc k, q, below, is, same) =
+    any_holds P x ys all.1 (k, q, omega arith, is, same)
+
+pub each_among : {X : Type 0} (P : X → Type 0) (ys xs : List X) → AllByRecursion (λ x. Any (λ y. y ≡ x) ys) xs → AllByRecursion P ys → AllByRecursion P xs
+each_among P ys [] some all = tt
+each_among P ys (x ∷ xs) some all =
+    (any_holds P x ys all some.0, each_among P ys xs some.1 all)
+
+pub each_both : {X : Type 0} (P Q R : X → Type 0) → ((x : X) → P x → Q x → R x) → (xs : List X) → AllByRecursion P xs → AllByRecursion Q xs → AllByRecursion R xs
+each_both P Q R f [] h k = tt
+each_both P Q R f (x ∷ xs) h k = (f x h.0 k.0, each_both P Q R f xs h.1 k.1)
+
+-- ---- the registers that are given back
+
+abbrev IsRegister : Target → Loc → Type 0
+IsRegister target l = IsPlace 0 l × IsWritable target l
+
+link_is_register : (target : Target) → AllByRecursion (IsRegister target) (listed (link_place (isa_of target)))
+link_is_register Amd64 = tt
+link_is_register Aapcs64 = ((omega arith, refl), tt)
+link_is_register Riscv = ((omega arith, refl), tt)
+
+given_back_are_registers : (std : Standard) → AgreesWithMachine std → AllByRecursion (IsRegister std.target) (given_back std)
+given_back_are_registers std agrees =
+    each_join (IsRegister std.target) std.preserved (listed std.link_register) (each_both (LiesIn (isa_of std.target) 0) (IsNoneOf (special std)) (IsRegister std.target) one std.preserved agrees.preserved_exist agrees.preserved_plain)
+    (subst (λ o. AllByRecursion (IsRegister std.target) (listed o)) (sym agrees.link_register) (link_is_register std.target))
+  where
+    one : (l : Loc) → LiesIn (isa_of std.target) 0 l → IsNoneOf (special std) l → IsRegister std.target l
+    one l lies none = (
+      machine_place (isa_of std.target) 0 l lies,
+      agrees.written l (each_first (Apart l) std.reserved (listed std.link_register ++ (std.trampoline_registers ++ (listed std.vector_count ++ listed std.returned_address))) none.1),
+    )
+
+words_from : (std : Standard) → AgreesWithMachine std → (ws : List SaveWord) → AllByRecursion (IsOneOf (given_back std)) (saved_registers ws) → AllByRecursion (IsRestorable std.target) ws
+words_from std agrees [] h = tt
+words_from std agrees (Register at ∷ ws) h = (
+  any_holds (IsRegister std.target) at (given_back std) (given_back_are_registers std agrees) h.0,
+  words_from std agrees ws h.1,
+)
+words_from std agrees (Hidden ∷ ws) h = (tt, words_from std agrees ws h)
+words_from std agrees (Spare ∷ ws) h = (tt, words_from std agrees ws h)
+
+pub words_restorable : (std : Standard) → AgreesWithMachine std → AllByRecursion (IsRestorable std.target) std.save_area
+words_restorable std agrees = words_from std agrees std.save_area agrees.saves_no_other
+
+word_saveable : (target : Target) (w : SaveWord) → IsRestorable target w → IsSaveable 0 w
+word_saveable target (Register at) h = h.0
+word_saveable target Hidden h = tt
+word_saveable target Spare h = tt
+
+pub words_saveable : (std : Standard) → AgreesWithMachine std → AllByRecursion (IsSaveable 0) std.save_area
+words_saveable std agrees =
+    each_weaker (IsRestorable std.target) (IsSaveable 0) (word_saveable std.target) std.save_area (words_restorable std agrees)
+
+-- by the machine of the standard's target
+pub words_restorable_at : (std : Standard) (target kind : Target) → AgreesWithMachine std → std.target ≡ kind → target ≡ kind → AllByRecursion (IsRestorable target) std.save_area
+words_restorable_at std target kind agrees is same =
+    subst (λ k. AllByRecursion (IsRestorable k) std.save_area) (is ∙ sym same) (words_restorable std agrees)
+
+-- ---- a result's registers are none of these
+
+pub none_saved : (std : Standard) → AgreesWithMachine std → (l : Loc) → IsNoneOf (given_back std) l → IsNoneOf (saved_registers std.save_area) l
+none_saved std agrees l none =
+    each_among (Apart l) (given_back std) (saved_registers std.save_area) agrees.saves_no_other none
+
+pub result_apart : (std : Standard) (s : Signature) → AgreesWithMachine std → IsSound std s → AllByRecursion (IsNoneOf (saved_registers std.save_area)) (result_locs (plan_of std s).res)
+result_apart std s agrees sound =
+    each_weaker (IsNoneOf (closed_to_results std)) (IsNoneOf (saved_registers std.save_area)) one (result_locs (plan_of std s).res) sound.result_allowed
+  where
+    one : (l : Loc) → IsNoneOf (closed_to_results std) l → IsNoneOf (saved_registers std.save_area) l
+    one l none =
+        let rest = each_rest (Apart l) std.preserved (std.reserved ++ listed std.link_register) none.1 in
+        none_saved std agrees l (each_join (Apart l) std.preserved (listed std.link_register) (each_first (Apart l) std.preserved (std.reserved ++ listed std.link_register) none.1) (each_rest (Apart l) std.reserved (listed std.link_register) rest))
+
+pub returned_apart : (std : Standard) → AgreesWithMachine std → AllByRecursion (IsNoneOf (saved_registers std.save_area)) (listed std.returned_address)
+returned_apart std agrees =
+    each_weaker (IsNoneOf (given_back std ++ std.reserved)) (IsNoneOf (saved_registers std.save_area)) (λ l none. none_saved std agrees l (each_first (Apart l) (given_back std) std.reserved none)) (listed std.returned_address) agrees.returned_plain
+
+-- ---- they are written
+
+pub result_written : (std : Standard) (s : Signature) (target kind : Target) → AgreesWithMachine std → IsSound std s → std.target ≡ kind → target ≡ kind → AllByRecursion (IsWritable target) (result_locs (plan_of std s).res)
+result_written std s target kind agrees sound is same =
+    subst (λ k. AllByRecursion (IsWritable k) (result_locs (plan_of std s).res)) (is ∙ sym same) (each_weaker (IsNoneOf (closed_to_results std)) (IsWritable std.target) one (result_locs (plan_of std s).res) sound.result_allowed)
+  where
+    one : (l : Loc) → IsNoneOf (closed_to_results std) l → IsWritable std.target l
+    one l none =
+        let rest = each_rest (Apart l) std.preserved (std.reserved ++ listed std.link_register) none.1 in
+        agrees.written l (each_first (Apart l) std.reserved (listed std.link_register) rest)
+
+settable_from : (std : Standard) → AgreesWithMachine std → (o : Option Loc) → AllByRecursion (LiesIn (isa_of std.target) 0) (listed o) → AllByRecursion (IsNoneOf (given_back std ++ std.reserved)) (listed o) → IsSettable std.target o
+settable_from std agrees (Some at) lies plain = (
+  machine_place (isa_of std.target) 0 at lies.0,
+  agrees.written at (each_rest (Apart at) (given_back std) std.reserved plain.0),
+)
+settable_from std agrees None lies plain = tt
+
+pub returned_settable : (std : Standard) (target kind : Target) → AgreesWithMachine std → std.target ≡ kind → target ≡ kind → IsSettable target std.returned_address
+returned_settable std target kind agrees is same =
+    subst (λ k. IsSettable k std.returned_address) (is ∙ sym same) (settable_from std agrees std.returned_address agrees.returned_exists agrees.returned_plain)

@@ -1,0 +1,10 @@
+mod Reading
+mod Loading
+mod Placing
+mod Copying
+mod SavedWords
+mod Results
+mod Return
+mod Entry
+mod Laws
+mod Keeping

@@ -1,0 +1,174 @@
+-- A result that was given is held.
+use Rattle.std.specs.Prelude.{true, ◌&&◌, Option, Some, None}
+use Rattle.std.proofs.Common.{◌≡◌, inl, inr, ⊎_elim, ℕ, ◌+◌, ◌-◌, ◌*◌, ◌<◌, ◌≤◌, List, [], ◌∷◌, take, drop, get_or, length, refl, ap, sym, ◌∙◌, subst, arith}
+use Rattle.std.specs.List.{AllByRecursion}
+use Rattle.std.proofs.lemmas.Bool.{cases_lt}
+use Rattle.ffi3_type_rules.specs.declared.Target.{Target}
+use Rattle.ffi3_type_rules.specs.declared.Target.TheVariants.{Amd64}
+use Rattle.ffi3_type_rules.specs.Tree.{Tree}
+use Rattle.ffi3_type_rules.specs.Layout.{size_of}
+use Rattle.ffi3_type_rules.specs.Signature.{Signature}
+use Rattle.ffi3_type_rules.specs.Value.{ValueTree, fits, value_in}
+use Rattle.ffi3_type_rules.specs.Isa.{isa_of}
+use Rattle.ffi3_type_rules.proofs.Layouts.{least_multiple-above}
+use Rattle.ffi3_type_rules.proofs.Parts.{length_part}
+use Rattle.ffi3_place_rules.specs.declared.Loc.{Loc}
+use Rattle.ffi3_place_rules.specs.declared.Loc.TheVariants.{G, F, S}
+use Rattle.ffi3_place_rules.specs.declared.Piece.{Piece}
+use Rattle.ffi3_place_rules.specs.declared.Place.TheVariants.{Direct}
+use Rattle.ffi3_place_rules.specs.declared.Res.{Res}
+use Rattle.ffi3_place_rules.specs.declared.Res.TheVariants.{Nothing, Direct as DirectRes, Hidden}
+use Rattle.ffi3_place_rules.specs.Standard.{Standard, ResultSpot, no_result, in_result_pieces, in_buffer, plan_of, frame_of, result_at, buffer_end, frame_copies_end, round8}
+use Rattle.ffi3_place_rules.specs.Holds.{FillsAs, FillsResult, HoldsResult, OwnsResult, RegisterHolds}
+use Rattle.ffi3_place_rules.specs.Sound.{IsSound, ResultHasAll, piece_locs, result_locs}
+use Rattle.ffi3_type_rules.specs.declared.limits.TheConstants.{STACK, STACK_TOP}
+use Rattle.ffi3_machine.specs.State.{State, stack_at, with_sp}
+use Rattle.ffi3_pieces.specs.Stored.{IsPlace, byte_of, word_in, PieceStands, Stays, WroteWithin}
+use Rattle.ffi3_pieces.specs.Standing.{PiecesStand, IsReady}
+use Rattle.ffi3_pieces.proofs.Arguments.{lies_more}
+use Rattle.ffi3_pieces.proofs.Composing.{wrote_then}
+use Rattle.ffi3_pieces.proofs.Lawful.{machine_places}
+use Rattle.ffi3_pieces.proofs.Owning.{owned, filled}
+use Rattle.ffi3_pieces.proofs.Stepping.{same_word_in}
+use Rattle.ffi3_callee.specs.Loaded.{image_from}
+use Rattle.ffi3_place_rules.specs.declared.SaveWord.{SaveWord}
+use Rattle.ffi3_callee.specs.Saved.{AreSaved}
+use Rattle.ffi3_callee.specs.Given.{IsSettable, RegisterHoldsWord, RegistersStay, ResultWrites, result_uses}
+use Rattle.ffi3_callee.proofs.Copying.{each_writable, stretch_stays}
+use Rattle.ffi3_callee.proofs.Placing.{stack_inside}
+
+-- a stack that stays, as a stretch in which nothing is written
+pub quiet : (low high : ℕ) (a b : State) → low ≤ STACK_TOP → WroteWithin STACK_TOP STACK_TOP a b → WroteWithin low high a b
+quiet low high a b h w = record {
+  size = w.size;
+  outside = λ i far. w.outside i (cases_lt (STACK + i) STACK_TOP);
+  mark = ⊎_elim (λ x. inl x) (λ x. inr (omega (arith, h, x))) w.mark;
+  target = w.target;
+  pc = w.pc;
+  code = w.code;
+  events = w.events;
+  spare_events = w.spare_events;
+  spare_bytes = w.spare_bytes;
+}
+
+-- a register's word, wherever stack places count from
+pub register_word : (base from : ℕ) (l : Loc) (m : State) → IsPlace 0 l → word_in base m l ≡ word_in from m l
+register_word base from (G r) m h = refl
+register_word base from (F r) m h = refl
+register_word base from (S n) m h = absurd (omega (arith, h))
+
+pub registers_stay : (base : ℕ) (ls : List Loc) (a b : State) → Stays base ls a b → RegistersStay ls a b
+registers_stay base ls a b s = λ l lies none.
+    register_word STACK_TOP base l b lies ∙ same_word_in base l a b (s.others l none) ∙ register_word base STACK_TOP l a lies
+
+-- the image reaches over the frame
+pub frame_reached : (base frame : ℕ) (m : State) → STACK ≤ base → base + frame ≤ STACK_TOP → length m.stack ≡ 65536 → frame ≤ length (image_from base frame m).stack
+frame_reached base frame m low high sized =
+    let whole : length (image_from base frame m).stack ≡ frame = length_part m.stack (base - STACK) frame (omega (arith, low, high, sized)) in
+    omega (arith, whole)
+
+pub nothing_held : (std : Standard) (s : Signature) (base : ℕ) (m : State) (v : ValueTree) → STACK ≤ base → base + frame_of std s ≤ STACK_TOP → length m.stack ≡ 65536 → (plan_of std s).res ≡ Nothing → fits s.result_type v ≡ true → HoldsResult std s v (image_from base (frame_of std s) m)
+nothing_held std s base m v low high sized is fit =
+    let t = s.result_type in
+    let frame = frame_of std s in
+    record {
+      own = record { reaches = frame_reached base frame m low high sized; fitting = fit; stands = subst (λ r. OwnsResult (image_from base frame m) t r v) (sym is) tt };
+      filled = subst (λ r. FillsResult std (image_from base frame m) t r v) (sym is) tt;
+    }
+
+-- ---- in registers
+
+module _ (base : ℕ) (m : State) (t : Tree) (v : ValueTree) where
+  same_bytes : (l : Loc) (k : ℕ) → byte_of base (with_sp base m) l k ≡ byte_of base m l k
+  same_bytes (G r) k = refl
+  same_bytes (F r) k = refl
+  same_bytes (S n) k = refl
+
+  same_words : (l : Loc) → word_in base m l ≡ word_in base (with_sp base m) l
+  same_words (G r) = refl
+  same_words (F r) = refl
+  same_words (S n) = refl
+
+  stand_there : (bytes : List ℕ) (pieces : List Piece) → AllByRecursion (PieceStands base m t v bytes) pieces → AllByRecursion (PieceStands base (with_sp base m) t v bytes) pieces
+  stand_there bytes [] stand = tt
+  stand_there bytes (p ∷ ps) stand = (
+    (λ k h. same_bytes p.loc k ∙ stand.0.0 k h, subst (λ w. FillsAs p.ext w t v) (same_words p.loc) stand.0.1),
+    stand_there bytes ps stand.1,
+  )
+
+  pieces_there : (pieces : List Piece) → PiecesStand base m t v pieces → PiecesStand base (with_sp base m) t v pieces
+  pieces_there pieces stands = record { bytes = stands.bytes; sized = stands.sized; reads = stands.reads; stand = stand_there stands.bytes pieces stands.stand }
+
+-- its places are registers
+pub direct_places : (std : Standard) (s : Signature) (pieces : List Piece) → IsSound std s → (plan_of std s).res ≡ DirectRes pieces → AllByRecursion (IsPlace 0) (piece_locs pieces)
+direct_places std s pieces sound is =
+    subst (λ r. AllByRecursion (IsPlace 0) (result_locs r)) is (machine_places (isa_of std.target) 0 (result_locs (plan_of std s).res) sound.result_in_registers)
+
+pub direct_held : (std : Standard) (s : Signature) (base : ℕ) (m : State) (v : ValueTree) (pieces : List Piece) → IsSound std s → STACK ≤ base → base + frame_of std s ≤ STACK_TOP → length m.stack ≡ 65536 → (plan_of std s).res ≡ DirectRes pieces → fits s.result_type v ≡ true → PiecesStand base m s.result_type v pieces → HoldsResult std s v (image_from base (frame_of std s) m)
+direct_held std s base m v pieces sound low high sized is fit stands =
+    let t = s.result_type in
+    let frame = frame_of std s in
+    let all = subst (ResultHasAll t) is sound.result_has_all in
+    let lie = direct_places std s pieces sound is in
+    let ready : IsReady Amd64 frame t (Direct pieces) = record { has_all = all; lies = lies_more 0 frame t (Direct pieces) (omega arith) lie; writable = each_writable (piece_locs pieces) } in
+    let fits_alone : (fits t v && true) ≡ true = subst (λ b. (b && true) ≡ true) (sym fit) refl in
+    let own = owned (with_sp base m) frame low Amd64 (t ∷ []) (Direct pieces ∷ []) (v ∷ []) (ready, tt) fits_alone (pieces_there base m t v pieces stands, tt) in
+    let full = filled (with_sp base m) frame low Amd64 (t ∷ []) (Direct pieces ∷ []) (v ∷ []) (ready, tt) (pieces_there base m t v pieces stands, tt) in
+    record {
+      own = record { reaches = frame_reached base frame m low high sized; fitting = fit; stands = subst (λ r. OwnsResult (image_from base frame m) t r v) (sym is) own.0.1 };
+      filled = subst (λ r. FillsResult std (image_from base frame m) t r v) (sym is) full.0;
+    }
+
+pub direct_registers : (std : Standard) (base : ℕ) (res : Res) (pieces : List Piece) (a b : State) → res ≡ DirectRes pieces → Stays base (piece_locs pieces) a b → RegistersStay (result_uses std res) a b
+direct_registers std base res pieces a b is s =
+    subst (λ r. RegistersStay (result_uses std r) a b) (sym is) (registers_stay base (piece_locs pieces) a b s)
+
+-- ---- in the caller's buffer
+
+buffer_is : (start : ℕ → Tree → ℕ) (end : ℕ) (t : Tree) (spot : ResultSpot) (at : Loc) (buffer : ℕ) → result_at start end t spot ≡ Hidden at buffer → buffer_end start end t spot ≡ buffer + round8 (size_of t)
+buffer_is start end t no_result at buffer is = cc
+buffer_is start end t (in_result_pieces pieces) at buffer is = cc
+buffer_is start end t (in_buffer here) at buffer is =
+    let same : start end t ≡ buffer = cc in
+    ap (λ n. n + round8 (size_of t)) same
+
+-- it lies in the frame
+pub buffer_within : (std : Standard) (s : Signature) (at : Loc) (buffer : ℕ) → (plan_of std s).res ≡ Hidden at buffer → buffer + size_of s.result_type ≤ frame_of std s
+buffer_within std s at buffer is =
+    let p = std.placing s in
+    let t = s.result_type in
+    let ends = buffer_is std.copy_start (frame_copies_end std s) t p.result_spot at buffer is in
+    omega (arith, ends, least_multiple-above 8 (size_of t), least_multiple-above 16 (buffer_end std.copy_start (frame_copies_end std s) t p.result_spot))
+
+told_by : (base frame n k : ℕ) (target : Target) (m : State) (returned : Option Loc) → n ≡ k → IsSettable target returned → RegisterHoldsWord m returned n → RegisterHolds (image_from base frame m) returned k
+told_by base frame n k target m (Some (G r)) same set told = told ∙ same
+told_by base frame n k target m (Some (F r)) same set told = told ∙ same
+told_by base frame n k target m (Some (S q)) same set told = absurd (omega (arith, set.0))
+told_by base frame n k target m None same set told = tt
+
+pub hidden_held : (std : Standard) (s : Signature) (base address : ℕ) (target : Target) (a m : State) (v : ValueTree) (at : Loc) (buffer : ℕ) (returned : Option Loc) → STACK ≤ base → base + frame_of std s ≤ STACK_TOP → length a.stack ≡ 65536 → (plan_of std s).res ≡ Hidden at buffer → address ≡ base + buffer → fits s.result_type v ≡ true → returned ≡ std.returned_address → IsSettable target returned → value_in s.result_type (stack_at address (size_of s.result_type) a) ≡ v → WroteWithin STACK_TOP STACK_TOP a m → RegisterHoldsWord m returned address → HoldsResult std s v (image_from base (frame_of std s) m)
+hidden_held std s base address target a m v at buffer returned low high sized is address_is fit returned_is set value quiet_from told =
+    let t = s.result_type in
+    let frame = frame_of std s in
+    let within = buffer_within std s at buffer is in
+    let none : 0 + buffer ≡ buffer = omega arith in
+    let same : take (size_of t) (drop (0 + buffer) (stack_at base frame m)) ≡ stack_at address (size_of t) a = ap (λ n. take (size_of t) (drop n (stack_at base frame m))) none ∙ stack_inside base frame buffer (size_of t) m low within ∙ stretch_stays STACK_TOP STACK_TOP (base + buffer) (size_of t) a m (omega (arith, low)) (omega (arith, low, high, within, sized)) (inl (omega (arith, high, within))) quiet_from ∙ ap (λ n. stack_at n (size_of t) a) (sym address_is) in
+    record {
+      own = record { reaches = frame_reached base frame m low high (quiet_from.size ∙ sized); fitting = fit; stands = subst (λ r. OwnsResult (image_from base frame m) t r v) (sym is) (ap (value_in t) same ∙ value) };
+      filled = subst (λ r. FillsResult std (image_from base frame m) t r v) (sym is) (subst (λ o. RegisterHolds (image_from base frame m) o (base + buffer)) returned_is (told_by base frame address (base + buffer) target m returned address_is set told));
+    }
+
+-- the stack below the first stack argument stays
+below_stays : (base : ℕ) (t : Tree) (res : Res) (a b : State) → ResultWrites base t res a b → (i : ℕ) → STACK + i < base → get_or b.stack i 0 ≡ get_or a.stack i 0
+below_stays base t Nothing a b w i h = w.outside i (inl h)
+below_stays base t (DirectRes pieces) a b w i h = w.outside i (inl h)
+below_stays base t (Hidden at buffer) a b w i h = w.outside i (inl (omega (arith, h)))
+
+-- and so do words that are saved there
+pub saved_below : (from base start : ℕ) (t : Tree) (res : Res) (hidden : Option Loc) (words : List SaveWord) (entry a b : State) → STACK ≤ from → from + 8 * length words ≤ base → ResultWrites base t res a b → AreSaved from start hidden words entry a → AreSaved from start hidden words entry b
+saved_below from base start t res hidden words entry a b low high writes saved = λ i w below is.
+    same_word_in from (S (8 * i)) a b (λ k h. below_stays base t res a b writes (from + 8 * i + k - STACK) (omega (arith, low, high, below, h))) ∙ saved i w below is
+
+pub hidden_writes : (base address : ℕ) (t : Tree) (res : Res) (at : Loc) (buffer : ℕ) (a b c : State) → address + size_of t ≤ STACK_TOP → res ≡ Hidden at buffer → address ≡ base + buffer → WroteWithin address (address + size_of t) a b → WroteWithin STACK_TOP STACK_TOP b c → ResultWrites base t res a c
+hidden_writes base address t res at buffer a b c high is address_is w q =
+    subst (λ r. ResultWrites base t r a c) (sym is) (subst (λ n. WroteWithin n (n + size_of t) a c) address_is (wrote_then address (address + size_of t) a b c w (quiet address (address + size_of t) b c (omega (arith, high)) q)))

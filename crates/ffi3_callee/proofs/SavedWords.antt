@@ -1,0 +1,183 @@
+-- One more word that is saved, or given back.
+use Rattle.std.proofs.Common.{◌≡◌, ◌≢◌, ◌⊎◌, inl, inr, ⊎_elim, ℕ, zero, suc, ◌+◌, ◌-◌, ◌*◌, ◌^◌, ◌<◌, ◌≤◌, List, [], ◌∷◌, get_or, length, refl, ap, sym, ◌∙◌, subst, arith}
+use Rattle.std.specs.Prelude.{Option}
+use Rattle.std.specs.List.{AllByRecursion}
+use Rattle.std.specs.Int.{w64, to_le_bytes}
+use Rattle.std.proofs.lemmas.Bool.{cases_lt}
+use Rattle.ffi3_place_rules.specs.declared.Loc.{Loc}
+use Rattle.ffi3_place_rules.specs.declared.Loc.TheVariants.{G, F, S}
+use Rattle.ffi3_place_rules.specs.Sound.{Apart, IsNoneOf}
+use Rattle.ffi3_place_rules.proofs.Tests.{each_at}
+use Rattle.ffi3_type_rules.specs.declared.limits.TheConstants.{STACK, STACK_TOP}
+use Rattle.ffi3_place_rules.specs.Agrees.{saved_registers}
+use Rattle.ffi3_machine.specs.State.{State, stored}
+use Rattle.ffi3_pieces.specs.Stored.{IsPlace, word_in, SameAt, Stays, WroteWithin}
+use Rattle.ffi3_pieces.proofs.Composing.{same_itself, same_then, wrote_nothing, wrote_then}
+use Rattle.ffi3_pieces.proofs.Putting.{stored_inside, stored_outside, word_there}
+use Rattle.ffi3_pieces.proofs.Stepping.{same_word_in}
+use Rattle.ffi3_place_rules.specs.declared.SaveWord.{SaveWord}
+use Rattle.ffi3_place_rules.specs.declared.SaveWord.TheVariants.{Register, Hidden, Spare}
+use Rattle.ffi3_callee.specs.Loaded.{WroteOnly}
+use Rattle.ffi3_callee.specs.Saved.{AreGivenBack, AreSaved, HoldRegisters, IsRestorable, hidden_word, saved_word, word_to_save}
+use Rattle.ffi3_callee.proofs.Copying.{only_nothing, only_stored, only_then, only_wider, place_above}
+
+-- ---- saving
+
+hidden_above : (low high base : ℕ) (hidden : Option Loc) (a b : State) → STACK ≤ base → high ≤ base → WroteOnly low high a b → hidden_word base b hidden ≡ hidden_word base a hidden
+hidden_above low high base (Option.Some at) a b inside above w = same_word_in base at a b (place_above low high base at a b inside above w)
+hidden_above low high base Option.None a b inside above w = refl
+
+-- what is to be saved does not change while words below it are written
+to_save_above : (low high base : ℕ) (hidden : Option Loc) (word : SaveWord) (a b : State) → STACK ≤ base → high ≤ base → WroteOnly low high a b → word_to_save base b hidden word ≡ word_to_save base a hidden word
+to_save_above low high base hidden (Register at) a b inside above w = same_word_in base at a b (place_above low high base at a b inside above w)
+to_save_above low high base hidden Hidden a b inside above w = hidden_above low high base hidden a b inside above w
+to_save_above low high base hidden Spare a b inside above w = refl
+
+module _ (from base : ℕ) (hidden : Option Loc) (words : List SaveWord) (first : State) where
+  pub record AreSavedTo (i : ℕ) (m : State) : Type 0 where
+    pub only : WroteOnly from (from + 8 * length words) first m
+    pub each : (j : ℕ) (w : SaveWord) → j < i → j < length words → w ≡ get_or words j w → saved_word from j m ≡ word_to_save base first hidden w
+
+  pub none_saved : AreSavedTo 0 first
+  none_saved = record { only = only_nothing from (from + 8 * length words) first; each = λ j w h below is. absurd (omega (arith, h)) }
+
+  pub one_more_saved : (i addr : ℕ) (word : SaveWord) (n : ℕ) (bytes : List ℕ) (a b : State) → STACK ≤ from → from + 8 * length words ≤ base → base ≤ STACK_TOP → length first.stack ≡ 65536 → i < length words → word ≡ get_or words i word → n < 2 ^ 64 → n ≡ word_to_save base a hidden word → bytes ≡ to_le_bytes w64 n → length bytes ≡ 8 → addr ≡ from + 8 * i → b ≡ stored addr bytes a → AreSavedTo i a → AreSavedTo (i + 1) b
+  one_more_saved i addr word n bytes a b low below high sized inside is small n_is bytes_is eight addr_is b_is before =
+      record { only = only_then from (from + 8 * length words) first a b before.only wrote; each = each }
+    where
+      fits : addr - STACK + length bytes ≤ length a.stack
+      fits = omega (arith, eight, addr_is, inside, below, high, low, sized, before.only.within.size)
+
+      start : STACK ≤ addr
+      start = omega (arith, low, addr_is)
+
+      wrote : WroteOnly from (from + 8 * length words) a b
+      wrote = subst (WroteOnly from (from + 8 * length words) a) (sym b_is) (only_wider addr (addr + length bytes) from (from + 8 * length words) a (stored addr bytes a) (omega (arith, addr_is)) (omega (arith, addr_is, eight, inside)) (only_stored addr bytes a start fits))
+
+      here : (j : ℕ) (w : SaveWord) → j ≡ i → j < length words → w ≡ get_or words j w → saved_word from j b ≡ word_to_save base first hidden w
+      here j w at below_j w_is =
+          let same_place : w ≡ word = same_element words j i w word below_j at w_is is in
+          let written : (k : ℕ) → k < 8 → get_or b.stack (from + 8 * j + k - STACK) 0 ≡ get_or (to_le_bytes w64 n) k 0 = λ k h. let there : from + 8 * j + k - STACK ≡ addr + k - STACK = omega (arith, at, addr_is) in
+          ap (λ m. get_or m.stack (from + 8 * j + k - STACK) 0) b_is ∙ ap (λ q. get_or (stored addr bytes a).stack q 0) there ∙ stored_inside addr bytes a start fits k (omega (arith, h, eight)) ∙ ap (λ xs. get_or xs k 0) bytes_is in
+          word_there from (8 * j) n b small written ∙ n_is ∙ to_save_above from (from + 8 * length words) base hidden word first a (omega (arith, low, below)) below before.only ∙ ap (word_to_save base first hidden) (sym same_place)
+        where
+          same_element : (xs : List SaveWord) (j i : ℕ) (w word : SaveWord) → j < length xs → j ≡ i → w ≡ get_or xs j w → word ≡ get_or xs i word → w ≡ word
+          same_element [] j i w word h e w_is is = absurd (omega (arith, h))
+          same_element (x ∷ xs) zero zero w word h e w_is is = w_is ∙ sym is
+          same_element (x ∷ xs) zero (suc i) w word h e w_is is = absurd (omega (arith, e))
+          same_element (x ∷ xs) (suc j) zero w word h e w_is is = absurd (omega (arith, e))
+          same_element (x ∷ xs) (suc j) (suc i) w word h e w_is is = same_element xs j i w word (omega (arith, h)) (omega (arith, e)) w_is is
+
+      kept : (j : ℕ) → j < i → SameAt from (S (8 * j)) a b
+      kept j h = λ k less. ap (λ m. get_or m.stack (from + 8 * j + k - STACK) 0) b_is ∙ stored_outside addr bytes a start fits (from + 8 * j + k - STACK) (inl (omega (arith, low, addr_is, h, less)))
+
+      each : (j : ℕ) (w : SaveWord) → j < i + 1 → j < length words → w ≡ get_or words j w → saved_word from j b ≡ word_to_save base first hidden w
+      each j w h below_j w_is = elim (cases_lt j i) [
+        | inl earlier ↦ same_word_in from (S (8 * j)) a b (kept j earlier) ∙ before.each j w earlier below_j w_is
+        | inr last ↦ here j w (omega (arith, h, last)) below_j w_is
+      ]
+
+  pub all_saved : (i : ℕ) (m : State) → length words ≤ i → AreSavedTo i m → AreSaved from base hidden words first m
+  all_saved i m end saved j w below is = saved.each j w (omega (arith, below, end)) below is
+
+-- ---- giving back
+
+registers_none : (ws : List SaveWord) (i : ℕ) (w : SaveWord) (l : Loc) → i < length ws → w ≡ get_or ws i w → IsNoneOf (saved_registers ws) l → IsNoneOf (saved_registers (w ∷ [])) l
+registers_none [] i w l h is none = absurd (omega (arith, h))
+registers_none (Register at ∷ ws) zero w l h is none = subst (λ u. IsNoneOf (saved_registers (u ∷ [])) l) (sym is) (none.0, tt)
+registers_none (Hidden ∷ ws) zero w l h is none = subst (λ u. IsNoneOf (saved_registers (u ∷ [])) l) (sym is) tt
+registers_none (Spare ∷ ws) zero w l h is none = subst (λ u. IsNoneOf (saved_registers (u ∷ [])) l) (sym is) tt
+registers_none (Register at ∷ ws) (suc i) w l h is none = registers_none ws i w l (omega (arith, h)) is none.1
+registers_none (Hidden ∷ ws) (suc i) w l h is none = registers_none ws i w l (omega (arith, h)) is none
+registers_none (Spare ∷ ws) (suc i) w l h is none = registers_none ws i w l (omega (arith, h)) is none
+
+-- the bytes of words stay where no register's write reaches
+stack_same : (from i : ℕ) (a b : State) → STACK ≤ from → WroteWithin STACK_TOP STACK_TOP a b → saved_word from i b ≡ saved_word from i a
+stack_same from i a b low w = same_word_in from (S (8 * i)) a b (λ k h. w.outside (from + 8 * i + k - STACK) (cases_lt (STACK + (from + 8 * i + k - STACK)) STACK_TOP))
+
+different : (m n : ℕ) → (m < n) ⊎ (n ≤ m) → (n < m) ⊎ (m ≤ n) → (m ≡ n) ⊎ (m ≢ n)
+different m n (inl less) other = inr (λ e. absurd (omega (arith, less, e)))
+different m n (inr most) (inl more) = inr (λ e. absurd (omega (arith, more, e)))
+different m n (inr most) (inr least) = inl (omega (arith, most, least))
+
+same_or_apart : (k l : Loc) → IsPlace 0 k → (k ≡ l) ⊎ Apart l k
+same_or_apart (G a) (G b) h =
+    elim (different b a (cases_lt b a) (cases_lt a b)) [
+      | inl e ↦ inl (ap G (sym e))
+      | inr apart ↦ inr apart
+    ]
+same_or_apart (F a) (F b) h =
+    elim (different b a (cases_lt b a) (cases_lt a b)) [
+      | inl e ↦ inl (ap F (sym e))
+      | inr apart ↦ inr apart
+    ]
+same_or_apart (G a) (F b) h = inr tt
+same_or_apart (G a) (S b) h = inr tt
+same_or_apart (F a) (G b) h = inr tt
+same_or_apart (F a) (S b) h = inr tt
+same_or_apart (S a) l h = absurd (omega (arith, h))
+
+module _ (from : ℕ) (words : List SaveWord) (first : State) where
+  pub record AreBackTo (i : ℕ) (m : State) : Type 0 where
+    pub within : WroteWithin STACK_TOP STACK_TOP first m
+    pub stays : Stays STACK_TOP (saved_registers words) first m
+    pub each : (value : Loc → ℕ) → HoldRegisters from words value first → (j : ℕ) (at : Loc) → j < i → j < length words → Register at ≡ get_or words j (Register at) → word_in STACK_TOP m at ≡ value at
+
+  pub none_back : AreBackTo 0 first
+  none_back = record {
+    within = wrote_nothing STACK_TOP STACK_TOP first;
+    stays = record { sp = refl; size = refl; others = λ l none. same_itself STACK_TOP l first };
+    each = λ value hold j at h below is. absurd (omega (arith, h));
+  }
+
+  pub one_more_back : (i : ℕ) (word : SaveWord) (a b : State) → STACK ≤ from → i < length words → word ≡ get_or words i word → AllByRecursion (IsRestorable first.target) words → ((at : Loc) → word ≡ Register at → word_in STACK_TOP b at ≡ saved_word from i a) → Stays STACK_TOP (saved_registers (word ∷ [])) a b → WroteWithin STACK_TOP STACK_TOP a b → AreBackTo i a → AreBackTo (i + 1) b
+  one_more_back i word a b low inside is registers set stays within before =
+      record { within = wrote_then STACK_TOP STACK_TOP first a b before.within within; stays = stays_all; each = each }
+    where
+      stays_all : Stays STACK_TOP (saved_registers words) first b
+      stays_all = record {
+        sp = stays.sp ∙ before.stays.sp;
+        size = stays.size ∙ before.stays.size;
+        others = λ l none. same_then STACK_TOP l first a b (before.stays.others l none) (stays.others l (registers_none words i word l inside is none));
+      }
+
+      here : (value : Loc → ℕ) → HoldRegisters from words value first → (at : Loc) → word ≡ Register at → word_in STACK_TOP b at ≡ value at
+      here value hold at e =
+          set at e ∙ stack_same from i first a low before.within ∙ hold i at inside (subst (λ w. w ≡ get_or words i w) e is)
+
+      kept : (value : Loc → ℕ) → HoldRegisters from words value first → (w : SaveWord) → word ≡ w → (at : Loc) → IsPlace 0 at → word_in STACK_TOP a at ≡ value at → word_in STACK_TOP b at ≡ value at
+      kept value hold (Register r) e at lies before_at =
+          elim (same_or_apart at r lies) [
+            | inl same ↦ here value hold at (e ∙ ap Register (sym same))
+            | inr clear ↦ same_word_in STACK_TOP at a b (stays.others at (subst (λ u. IsNoneOf (saved_registers (u ∷ [])) at) (sym e) (clear_of r at clear, tt))) ∙ before_at
+          ]
+        where
+          clear_of : (r at : Loc) → Apart r at → Apart at r
+          clear_of (G x) (G y) h = λ e. h (sym e)
+          clear_of (F x) (F y) h = λ e. h (sym e)
+          clear_of (S x) (S y) h = ⊎_elim (λ x. inr x) (λ x. inl x) h
+          clear_of (G x) (F y) h = tt
+          clear_of (G x) (S y) h = tt
+          clear_of (F x) (G y) h = tt
+          clear_of (F x) (S y) h = tt
+          clear_of (S x) (G y) h = tt
+          clear_of (S x) (F y) h = tt
+      kept value hold Hidden e at lies before_at = same_word_in STACK_TOP at a b (stays.others at (subst (λ u. IsNoneOf (saved_registers (u ∷ [])) at) (sym e) tt)) ∙ before_at
+      kept value hold Spare e at lies before_at = same_word_in STACK_TOP at a b (stays.others at (subst (λ u. IsNoneOf (saved_registers (u ∷ [])) at) (sym e) tt)) ∙ before_at
+
+      last : (j : ℕ) (at : Loc) → j ≡ i → Register at ≡ get_or words j (Register at) → word ≡ Register at
+      last j at e at_is = word_same words i word (Register at) inside is (subst (λ k. Register at ≡ get_or words k (Register at)) e at_is)
+        where
+          word_same : (xs : List SaveWord) (i : ℕ) (w v : SaveWord) → i < length xs → w ≡ get_or xs i w → v ≡ get_or xs i v → w ≡ v
+          word_same [] i w v h p q = absurd (omega (arith, h))
+          word_same (x ∷ xs) zero w v h p q = p ∙ sym q
+          word_same (x ∷ xs) (suc i) w v h p q = word_same xs i w v (omega (arith, h)) p q
+
+      each : (value : Loc → ℕ) → HoldRegisters from words value first → (j : ℕ) (at : Loc) → j < i + 1 → j < length words → Register at ≡ get_or words j (Register at) → word_in STACK_TOP b at ≡ value at
+      each value hold j at h below at_is = elim (cases_lt j i) [
+        | inl earlier ↦ kept value hold word refl at (each_at (IsRestorable first.target) words j (Register at) below (sym at_is) registers).0 (before.each value hold j at earlier below at_is)
+        | inr end ↦ here value hold at (last j at (omega (arith, h, end)) at_is)
+      ]
+
+  pub all_back : (i : ℕ) (m : State) → length words ≤ i → AreBackTo i m → (value : Loc → ℕ) → AreGivenBack from words value first m
+  all_back i m end back value hold j at below is = back.each value hold j at (omega (arith, below, end)) below is

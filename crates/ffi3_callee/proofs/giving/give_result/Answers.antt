@@ -1,0 +1,65 @@
+use Rattle.std.proofs.Common.{◌≡◌, ◌+◌, ◌-◌, subst, sym, ◌∙◌, arith}
+use Rattle.ffi3_values.specs.ValueOf.{value_of}
+use Rattle.ffi3_place_rules.specs.Holds.{HoldsResult}
+use Rattle.ffi3_place_rules.specs.Standard.{frame_of, plan_of}
+use Rattle.ffi3_callee.specs.Given.{IsAddressOf, IsSettable, ResultWrites, result_uses}
+use Rattle.ffi3_callee.specs.Loaded.{image_from}
+use Rattle.ffi3_callee.proofs.Keeping.{reserved_stay, uses_clear}
+use Rattle.ffi3_callee.proofs.Results.{saved_below}
+use Rattle.ffi3_callee.proofs.Laws.{result_written, returned_settable}
+use Rattle.ffi3_callee.proofs.giving.give_result.Goals as goal
+
+pub give-requires-clause-low : goal.give-requires-clause-low
+give-requires-clause-low g c =
+    omega (arith, c.requires.incoming.low, c.requires.incoming.entry)
+
+pub give-requires-clause-high : goal.give-requires-clause-high
+give-requires-clause-high g c =
+    omega (arith, c.LINK.ensures, g.met.A.Abi.link_is, c.requires.incoming.high)
+
+pub give-requires-clause-address : goal.give-requires-clause-address
+give-requires-clause-address g c =
+    let std = g.A.Abi.standard in
+    let entry = c.args.incoming.now.entry in
+    let base : entry + std.link ≡ entry + c.LINK.result = omega (arith, c.LINK.ensures, g.met.A.Abi.link_is) in
+    subst (λ n. IsAddressOf n c.args.incoming.now.address (plan_of std c.args.cif.now).res) base c.requires.incoming.address
+
+pub give-requires-clause-returned_settable : goal.give-requires-clause-returned_settable
+give-requires-clause-returned_settable g c =
+    let m = c.args.machine.now in
+    subst (IsSettable m.target) (sym c.returned_address-returned.ensures) (returned_settable g.A.Abi.standard m.target g.A.Abi.TARGET g.met.A.Abi.agrees g.met.A.Abi.target_is c.requires.target)
+
+pub give-requires-clause-result_writable : goal.give-requires-clause-result_writable
+give-requires-clause-result_writable g c =
+    let s = c.args.cif.now in
+    result_written g.A.Abi.standard s c.args.machine.now.target g.A.Abi.TARGET g.met.A.Abi.agrees (g.met.A.Abi.sound s c.sig-sig.ensures.faultless) g.met.A.Abi.target_is c.requires.target
+
+pub returns-clause-holds : goal.returns-clause-holds
+returns-clause-holds g c =
+    let std = g.A.Abi.standard in
+    let s = c.args.cif.now in
+    let entry = c.args.incoming.now.entry in
+    let base : entry + c.LINK.result ≡ entry + std.link = omega (arith, c.LINK.ensures, g.met.A.Abi.link_is) in
+    subst (λ n. HoldsResult std s (value_of c.args.value.now) (image_from n (frame_of std s) c.give.new.machine)) base c.give.ensures.holds
+
+pub returns-clause-reserved : goal.returns-clause-reserved
+returns-clause-reserved g c =
+    let std = g.A.Abi.standard in
+    let s = c.args.cif.now in
+    let sound = g.met.A.Abi.sound s c.sig-sig.ensures.faultless in
+    reserved_stay std g.met.A.Abi.agrees (result_uses std (plan_of std s).res) c.args.machine.now c.give.new.machine (uses_clear std g.met.A.Abi.agrees (plan_of std s).res sound.result_allowed) c.give.ensures.registers
+
+pub returns-clause-saved : goal.returns-clause-saved
+returns-clause-saved g c = λ start hidden entry_state saved.
+    let std = g.A.Abi.standard in
+    let s = c.args.cif.now in
+    let incoming = c.requires.incoming in
+    saved_below (c.args.incoming.now.entry - std.save) (c.args.incoming.now.entry + c.LINK.result) start s.result_type (plan_of std s).res hidden std.save_area entry_state c.args.machine.now c.give.new.machine (omega (arith, incoming.low, incoming.entry)) (omega (arith, g.met.A.Abi.agrees.area, incoming.entry)) c.give.ensures.writes saved
+
+pub returns-clause-writes : goal.returns-clause-writes
+returns-clause-writes g c =
+    let std = g.A.Abi.standard in
+    let s = c.args.cif.now in
+    let entry = c.args.incoming.now.entry in
+    let base : entry + c.LINK.result ≡ entry + std.link = omega (arith, c.LINK.ensures, g.met.A.Abi.link_is) in
+    subst (λ n. ResultWrites n s.result_type (plan_of std s).res c.args.machine.now c.give.new.machine) base c.give.ensures.writes

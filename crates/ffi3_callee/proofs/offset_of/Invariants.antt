@@ -1,0 +1,8 @@
+use Rattle.std.proofs.Common.{◌≡◌}
+use Rattle.ffi3_body.specs.SeenActivation.{block_offset}
+use Rattle.ffi3_callee.proofs.offset_of.Given as goal
+
+abbrev pub invariant-loop-k : goal.invariant-loop-k
+invariant-loop-k l = record {
+  offset_is : l.offset ≡ block_offset l.sig.arguments l.k;
+}

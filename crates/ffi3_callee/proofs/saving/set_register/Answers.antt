@@ -1,0 +1,9 @@
+use Rattle.std.proofs.Common.{◌≡◌, ◌+◌, subst, arith}
+use Rattle.ffi3_type_rules.specs.declared.limits.TheConstants.{STACK_TOP}
+use Rattle.ffi3_pieces.specs.Stored.{WroteWithin}
+use Rattle.ffi3_callee.proofs.saving.set_register.Goals as goal
+
+pub returns-clause-within : goal.returns-clause-within
+returns-clause-within c =
+    let none : STACK_TOP + 0 ≡ STACK_TOP = omega arith in
+    subst (λ n. WroteWithin STACK_TOP n c.args.machine.now c.put_word.new.machine) none (c.put_word.ensures.within 0 c.requires.register.0)

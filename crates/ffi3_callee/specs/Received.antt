@@ -1,0 +1,40 @@
+-- The machine after a callee took its arguments, and what the callee remembers of its entry.
+use Rattle.std.specs.Prelude.{◌≡◌, ◌+◌, ◌-◌, ◌≤◌, List, Option, Some, None}
+use Rattle.ffi3_type_rules.specs.declared.limits.TheConstants.{STACK, STACK_TOP}
+use Rattle.ffi3_type_rules.specs.Signature.{Signature}
+use Rattle.ffi3_type_rules.specs.Value.{ValueTree}
+use Rattle.ffi3_place_rules.specs.declared.Loc.{Loc}
+use Rattle.ffi3_place_rules.specs.declared.Res.{Res}
+use Rattle.ffi3_place_rules.specs.declared.Res.TheVariants.{Nothing, Direct, Hidden}
+use Rattle.ffi3_place_rules.specs.Standard.{Standard, block_bytes, frame_of, plan_of}
+use Rattle.ffi3_place_rules.specs.Holds.{Own}
+use Rattle.ffi3_machine.specs.State.{State, image_of, stack_at}
+use Rattle.ffi3_body.specs.SeenActivation.{arguments_in}
+use Rattle.ffi3_pieces.specs.Stored.{WroteWithin}
+use Rattle.ffi3_callee.specs.declared.Incoming.{Incoming}
+use Rattle.ffi3_callee.specs.Given.{IsAddressOf}
+use Rattle.ffi3_callee.specs.Saved.{AreSaved}
+
+-- where a hidden result's address stands
+abbrev pub hidden_of : Res → Option Loc
+hidden_of Nothing = None
+hidden_of (Direct pieces) = None
+hidden_of (Hidden at buffer) = Some at
+
+-- the image at an entry owns these values
+abbrev pub OwnsAtEntry : Standard → Signature → State → List ValueTree → Type 0
+OwnsAtEntry std s m vs = Own std s vs (image_of (std.link + frame_of std s) m)
+
+-- The block, the save area, the return address and the caller's frame stand one behind the other in the stack, and a hidden result's address is that of its buffer.
+pub record IsIncoming (std : Standard) (s : Signature) (incoming : Incoming) : Type 0 where
+  pub low : STACK ≤ incoming.block
+  pub entry : incoming.block + block_bytes s + std.save ≡ incoming.entry
+  pub high : incoming.entry + std.link + frame_of std s ≤ STACK_TOP
+  pub address : IsAddressOf (incoming.entry + std.link) incoming.address (plan_of std s).res
+
+-- THE BLOCK HAS EVERY VALUES THAT THE ENTRY OWNS, the words are saved above it, and of the stack nothing is written from the entry's sp on
+pub record IsReceived (std : Standard) (s : Signature) (entry m : State) : Type 0 where
+  pub values : (vs : List ValueTree) → OwnsAtEntry std s entry vs → arguments_in s.arguments (stack_at m.sp (block_bytes s) m) ≡ vs
+  pub saved : AreSaved (entry.sp - std.save) (entry.sp + std.link) (hidden_of (plan_of std s).res) std.save_area entry m
+  pub sp : m.sp + block_bytes s + std.save ≡ entry.sp
+  pub within : WroteWithin m.sp entry.sp entry m

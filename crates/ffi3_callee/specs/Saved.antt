@@ -1,0 +1,60 @@
+-- The words of a save area: what each is to hold, and what is given back from it.
+use Rattle.std.specs.Prelude.{◌≡◌, ℕ, ◌*◌, ◌<◌, ⊤, List, get_or, length, Option, Some, None}
+use Rattle.ffi3_type_rules.specs.declared.Target.{Target}
+use Rattle.ffi3_type_rules.specs.declared.limits.TheConstants.{STACK_TOP}
+use Rattle.ffi3_place_rules.specs.declared.Loc.{Loc}
+use Rattle.ffi3_place_rules.specs.declared.Loc.TheVariants.{S}
+use Rattle.ffi3_place_rules.specs.declared.SaveWord.{SaveWord}
+use Rattle.ffi3_place_rules.specs.declared.SaveWord.TheVariants.{Register, Hidden, Spare}
+use Rattle.ffi3_machine.specs.State.{State}
+use Rattle.ffi3_pieces.specs.Stored.{IsPlace, IsWritable, word_in}
+
+-- word i of those that stand one behind the other from an address on
+abbrev pub saved_word : ℕ → ℕ → State → ℕ
+saved_word from i m = word_in from m (S (8 * i))
+
+abbrev pub HiddenLies : ℕ → Option Loc → Type 0
+HiddenLies room (Some at) = IsPlace room at
+HiddenLies room None = ⊤
+
+abbrev pub hidden_word : ℕ → State → Option Loc → ℕ
+hidden_word base m (Some at) = word_in base m at
+hidden_word base m None = 0
+
+-- a register that is saved is one of the machine's
+abbrev pub IsSaveable : ℕ → SaveWord → Type 0
+IsSaveable room (Register at) = IsPlace room at
+IsSaveable room Hidden = ⊤
+IsSaveable room Spare = ⊤
+
+-- what a word is to hold
+abbrev pub word_to_save : ℕ → State → Option Loc → SaveWord → ℕ
+word_to_save base m hidden (Register at) = word_in base m at
+word_to_save base m hidden Hidden = hidden_word base m hidden
+word_to_save base m hidden Spare = 0
+
+-- EACH WORD HOLDS WHAT IT IS TO HOLD of the machine `entry`
+abbrev pub AreSaved : ℕ → ℕ → Option Loc → List SaveWord → State → State → Type 0
+AreSaved from base hidden words entry m =
+    (i : ℕ) (w : SaveWord) → i < length words → w ≡ get_or words i w → saved_word from i m ≡ word_to_save base entry hidden w
+
+-- a register that is given back is a register, and writes to it are not dropped
+abbrev pub IsRestorable : Target → SaveWord → Type 0
+IsRestorable target (Register at) = IsPlace 0 at × IsWritable target at
+IsRestorable target Hidden = ⊤
+IsRestorable target Spare = ⊤
+
+-- the words of registers hold these values
+abbrev pub HoldRegisters : ℕ → List SaveWord → (Loc → ℕ) → State → Type 0
+HoldRegisters from words value m =
+    (i : ℕ) (at : Loc) → i < length words → Register at ≡ get_or words i (Register at) → saved_word from i m ≡ value at
+
+-- EACH REGISTER OF THE WORDS HAS ITS VALUE, where the words hold these values. A register may stand there twice.
+abbrev pub AreGivenBack : ℕ → List SaveWord → (Loc → ℕ) → State → State → Type 0
+AreGivenBack from words value old new =
+    HoldRegisters from words value old → (i : ℕ) (at : Loc) → i < length words → Register at ≡ get_or words i (Register at) → word_in STACK_TOP new at ≡ value at
+
+-- EACH REGISTER OF THE WORDS HAS WHAT IT HAD in the machine `entry`
+abbrev pub HaveRegisters : List SaveWord → ℕ → State → State → Type 0
+HaveRegisters words base entry m =
+    (i : ℕ) (at : Loc) → i < length words → Register at ≡ get_or words i (Register at) → word_in STACK_TOP m at ≡ word_in base entry at

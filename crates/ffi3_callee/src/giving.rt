@@ -1,0 +1,142 @@
+// The result that a callee gives.
+ghost use Rattle.std.specs.Prelude.{◌≡◌, ℕ, ◌+◌, ◌-◌, ◌≤◌, Option, length, true};
+ghost use Rattle.std.specs.List.{AllByRecursion};
+ghost use Rattle.ffi3_type_rules.specs.Layout.{size_of};
+ghost use Rattle.ffi3_type_rules.specs.Fault.{IsResultType};
+ghost use Rattle.ffi3_type_rules.specs.Value.{fits, value_in};
+ghost use Rattle.ffi3_types.specs.TreeOf.{tree_of};
+ghost use Rattle.ffi3_values.specs.ValueOf.{value_of};
+ghost use Rattle.ffi3_place_rules.specs.declared.Loc.{Loc};
+ghost use Rattle.ffi3_place_rules.specs.Standard.{frame_of, plan_of};
+ghost use Rattle.ffi3_place_rules.specs.Holds.{HoldsResult};
+ghost use Rattle.ffi3_place_rules.specs.Sound.{AreApart, IsPieceOf, listed, piece_locs, result_locs};
+ghost use Rattle.ffi3_type_rules.specs.declared.limits.TheConstants.{STACK, STACK_TOP};
+ghost use Rattle.ffi3_machine.specs.State.{State, stack_at};
+ghost use Rattle.ffi3_pieces.specs.Stored.{IsPlace, IsWritable, Stays, WroteWithin};
+ghost use Rattle.ffi3_pieces.specs.Standing.{PiecesStand};
+ghost use Rattle.ffi3_callee.specs.Loaded.{WroteOnly, image_from};
+ghost use Rattle.ffi3_callee.specs.Given.{IsSettable, RegisterHoldsWord, IsAddressOf, RegistersStay, ReservedStay, ResultWrites, result_uses};
+ghost use Rattle.ffi3_callee.specs.Received.{IsIncoming};
+ghost use Rattle.ffi3_callee.specs.Saved.{AreSaved};
+
+use crate::Incoming;
+use crate::saving::set_register;
+use ffi3_cif::Cif;
+use ffi3_machine::Machine;
+use ffi3_pieces::store_pieces;
+use ffi3_place::parts::{result_type, size_of};
+use ffi3_place::{Abi, Loc, Pieces, Res};
+use ffi3_types::FfiType;
+use ffi3_values::{Value, write_bytes};
+
+// Stores a result in registers, and fills the rest of them.
+fn give_pieces(machine: &mut Machine, base: u64, pieces: &Pieces, ty: &FfiType, value: &Value)
+    requires low { STACK ≤ base }
+    requires high { base ≤ STACK_TOP }
+    requires lie { AllByRecursion (IsPlace 0) (piece_locs pieces.now) }
+    requires deep { AllByRecursion (IsPlace (STACK_TOP - base)) (piece_locs pieces.now) }
+    requires writable { AllByRecursion (IsWritable machine.old.target) (piece_locs pieces.now) }
+    requires apart { AreApart (piece_locs pieces.now) }
+    requires parts { AllByRecursion (IsPieceOf (tree_of ty.now)) pieces.now }
+    requires right { IsResultType (tree_of ty.now) }
+    requires fits { fits (tree_of ty.now) (value_of value.now) ≡ true }
+    ensures stand { PiecesStand base machine.new (tree_of ty.now) (value_of value.now) pieces.now }
+    ensures stays { Stays base (piece_locs pieces.now) machine.old machine.new }
+    ensures within { WroteWithin base base machine.old machine.new }
+{
+    let mut room = [0; 1024];
+    let bytes = &mut room[..size_of(ty) as usize];
+    write_bytes(ty, value, bytes);
+    store_pieces(machine, base, pieces, ty, value, bytes);
+}
+
+// Stores a result in the caller's buffer, whose padding keeps what stood there.
+fn give_buffer(machine: &mut Machine, address: u64, ty: &FfiType, value: &Value)
+    requires low { STACK ≤ address }
+    requires high { address + size_of (tree_of ty.now) ≤ STACK_TOP }
+    requires right { IsResultType (tree_of ty.now) }
+    requires fits { fits (tree_of ty.now) (value_of value.now) ≡ true }
+    ensures reads { value_in (tree_of ty.now) (stack_at address (size_of (tree_of ty.now)) machine.new) ≡ value_of value.now }
+    ensures only { WroteOnly address (address + size_of (tree_of ty.now)) machine.old machine.new }
+{
+    // its contract tells what is true of every machine
+    let _m = machine.sp();
+    let size = size_of(ty);
+    let mut room = [0; 1024];
+    let bytes = &mut room[..size as usize];
+    bytes.copy_from_slice(machine.lend_stack(address, size));
+    write_bytes(ty, value, bytes);
+    machine.store_stack(address, bytes);
+}
+
+// RegisterHolds the buffer's address in the standard's register for it, if it has one.
+fn tell_address(machine: &mut Machine, returned: Option<Loc>, address: u64)
+    requires register { IsSettable machine.old.target returned }
+    ensures told { RegisterHoldsWord machine.new returned address }
+    ensures registers { RegistersStay (listed returned) machine.old machine.new }
+    ensures within { WroteWithin STACK_TOP STACK_TOP machine.old machine.new }
+    ensures sp { machine.new.sp ≡ machine.old.sp }
+{
+    // its contract tells what is true of every machine
+    let _m = machine.sp();
+    if let Some(at) = returned {
+        set_register(machine, at, address);
+    }
+}
+
+// Gives a result: in registers, extended as the standard says, or in the caller's buffer at
+// `address`, which the standard's register for it then tells. `base` is the address of the first
+// stack argument.
+fn give<A: Abi>(
+    machine: &mut Machine,
+    cif: &Cif<A>,
+    base: u64,
+    address: u64,
+    returned: Option<Loc>,
+    value: &Value,
+)
+    requires low { STACK ≤ base }
+    requires high { base + frame_of A.standard cif.now ≤ STACK_TOP }
+    requires address { IsAddressOf base address (plan_of A.standard cif.now).res }
+    requires returned { returned ≡ A.standard.returned_address }
+    requires returned_settable { IsSettable machine.old.target returned }
+    requires result_writable { AllByRecursion (IsWritable machine.old.target) (result_locs (plan_of A.standard cif.now).res) }
+    requires fits { fits cif.now.result_type (value_of value.now) ≡ true }
+    ensures holds { HoldsResult A.standard cif.now (value_of value.now) (image_from base (frame_of A.standard cif.now) machine.new) }
+    ensures registers { RegistersStay (result_uses A.standard (plan_of A.standard cif.now).res) machine.old machine.new }
+    ensures writes { ResultWrites base cif.now.result_type (plan_of A.standard cif.now).res machine.old machine.new }
+    ensures sp { machine.new.sp ≡ machine.old.sp }
+{
+    // its contract tells what is true of every machine
+    let _m = machine.sp();
+    let ty = result_type(cif.sig());
+    match cif.result_place() {
+        Res::Nothing => {}
+        Res::Direct(pieces) => give_pieces(machine, base, pieces, ty, value),
+        Res::Hidden { .. } => {
+            give_buffer(machine, address, ty, value);
+            tell_address(machine, returned, address);
+        }
+    }
+}
+
+/// Gives a result: in registers, extended as the standard says, or in the caller's buffer, whose
+/// address the standard's register for it then tells.
+pub fn give_result<A: Abi>(machine: &mut Machine, cif: &Cif<A>, incoming: &Incoming, value: &Value)
+    requires target { machine.old.target ≡ A.TARGET }
+    requires incoming { IsIncoming A.standard cif.now incoming.now }
+    requires fits { fits cif.now.result_type (value_of value.now) ≡ true }
+    ensures holds { HoldsResult A.standard cif.now (value_of value.now) (image_from (incoming.now.entry + A.standard.link) (frame_of A.standard cif.now) machine.new) }
+    ensures registers { RegistersStay (result_uses A.standard (plan_of A.standard cif.now).res) machine.old machine.new }
+    ensures reserved { ReservedStay A.standard machine.old machine.new }
+    ensures saved { (base : ℕ) (hidden : Option Loc) (entry : State) → AreSaved (incoming.now.entry - A.standard.save) base hidden A.standard.save_area entry machine.old → AreSaved (incoming.now.entry - A.standard.save) base hidden A.standard.save_area entry machine.new }
+    ensures writes { ResultWrites (incoming.now.entry + A.standard.link) cif.now.result_type (plan_of A.standard cif.now).res machine.old machine.new }
+    ensures sp { machine.new.sp ≡ machine.old.sp }
+{
+    // its contract tells what is true of every interface
+    let _sig = cif.sig();
+    let base = incoming.entry + A::LINK;
+    let address = incoming.address;
+    let returned = A::returned_address();
+    give(machine, cif, base, address, returned, value);
+}

@@ -1,0 +1,257 @@
+//! The callee's side of a call, by any calling standard.
+#![tactic(auto)]
+
+ghost use Rattle.std.specs.Prelude.{◌≡◌, ℕ, ◌+◌, ◌-◌, ◌<◌, ◌≤◌, List, length, slice_index_or, true};
+ghost use Rattle.std.specs.List.{AllByRecursion};
+ghost use Rattle.std.specs.Int.{w64, to_le_bytes};
+ghost use Rattle.ffi3_type_rules.specs.declared.limits.TheConstants.{STACK, STACK_TOP};
+ghost use Rattle.ffi3_type_rules.specs.Isa.{isa_of};
+ghost use Rattle.ffi3_type_rules.specs.Tree.{tree_at};
+ghost use Rattle.ffi3_type_rules.specs.Layout.{size_of};
+ghost use Rattle.ffi3_type_rules.specs.Fault.{IsResultType};
+ghost use Rattle.ffi3_type_rules.specs.Signature.{SignatureHasNoFault};
+ghost use Rattle.ffi3_type_rules.specs.Value.{ValueTree, value_in, void_value};
+ghost use Rattle.ffi3_types.specs.TreeOf.{tree_of};
+ghost use Rattle.ffi3_place_rules.specs.Sound.{PlaceHasAll};
+ghost use Rattle.ffi3_place_rules.specs.Holds.{OwnsArguments};
+ghost use Rattle.ffi3_place_rules.specs.Standard.{block_bytes, frame_of, plan_of};
+ghost use Rattle.ffi3_machine.specs.State.{scribbled_floating, scribbled_general, stack_at};
+ghost use Rattle.ffi3_body.specs.SeenActivation.{arguments_in, block_offset};
+ghost use Rattle.ffi3_pieces.specs.Stored.{IsPlace, IsWithin, word_in};
+ghost use Rattle.ffi3_pieces.specs.Standing.{PlaceLies};
+ghost use Rattle.ffi3_callee.specs.Loaded.{AreBytesOf, AreFound, AreLoaded, IsFound, IsPieceLoaded, IsRead, WroteOnly, image_from};
+ghost use Rattle.ffi3_callee.specs.Given.{ReservedStay};
+ghost use Rattle.ffi3_callee.specs.Received.{IsIncoming, IsReceived, OwnsAtEntry, hidden_of};
+
+mod giving;
+mod restoring;
+mod saving;
+
+use ffi3_cif::Cif;
+use ffi3_machine::Machine;
+use ffi3_place::parts::{argument, count_of, size_of};
+use ffi3_place::{Abi, Loc, Piece, Pieces, Place, Res};
+use ffi3_type_rules::round_up;
+use ffi3_types::{FfiType, Sig};
+pub use giving::give_result;
+pub use restoring::restore;
+use saving::{hidden_word, save_words};
+
+/// What a callee remembers of its entry until it returns: the addresses of its copy of the arguments and of a hidden result's buffer, and the stack pointer.
+#[derive(Debug, Drop)]
+pub struct Incoming {
+    block: u64,
+    address: u64,
+    entry: u64,
+}
+
+// The number of eight bytes, the lowest first.
+fn word_of(bytes: [u8; 8]) -> u64
+    ensures { to_le_bytes w64 result ≡ bytes }
+{
+    u64::from_le_bytes(bytes)
+}
+
+// The eight bytes of a place. Stack places count from the address `base`.
+fn place_bytes(machine: &Machine, base: u64, at: Loc) -> [u8; 8]
+    requires low { STACK ≤ base }
+    requires high { base ≤ STACK_TOP }
+    requires lies { IsPlace (STACK_TOP - base) at }
+    ensures { AreBytesOf base machine.now at result }
+{
+    // its contract tells what is true of every machine
+    let _m = machine.sp();
+    match at {
+        Loc::G(r) => machine.g(r).to_le_bytes(),
+        Loc::F(r) => machine.f(r).to_le_bytes(),
+        Loc::S(n) => {
+            let mut bytes = [0; 8];
+            bytes.copy_from_slice(machine.lend_stack(base + n as u64, 8));
+            bytes
+        }
+    }
+}
+
+// The number in a place. Stack places count from the address `base`.
+fn place_word(machine: &Machine, base: u64, at: Loc) -> u64
+    requires low { STACK ≤ base }
+    requires high { base ≤ STACK_TOP }
+    requires lies { IsPlace (STACK_TOP - base) at }
+    ensures { result ≡ word_in base machine.now at }
+{
+    match at {
+        Loc::G(r) => machine.g(r),
+        Loc::F(r) => machine.f(r),
+        Loc::S(_) => word_of(place_bytes(machine, base, at)),
+    }
+}
+
+// Reads a piece of a value from its place.
+fn load_piece(machine: &Machine, base: u64, piece: &Piece, out: &mut [u8])
+    requires low { STACK ≤ base }
+    requires high { base ≤ STACK_TOP }
+    requires lies { IsPlace (STACK_TOP - base) piece.now.loc }
+    requires within { IsWithin (length out.old) piece.now }
+    ensures { IsPieceLoaded base machine.now piece.now out.old out.new }
+{
+    let bytes = place_bytes(machine, base, piece.loc);
+    let start = piece.off as usize;
+    let len = piece.len as usize;
+    out[start..start + len].copy_from_slice(&bytes[..len]);
+}
+
+// Reads all pieces of a value.
+fn load_pieces(machine: &Machine, base: u64, pieces: &Pieces, out: &mut [u8])
+    requires low { STACK ≤ base }
+    requires high { base ≤ STACK_TOP }
+    requires lie { AllByRecursion (λ p. IsPlace (STACK_TOP - base) p.loc) pieces.now }
+    requires within { AllByRecursion (IsWithin (length out.old)) pieces.now }
+    ensures sized { length out.new ≡ length out.old }
+    ensures loaded { AreLoaded base machine.now pieces.now out.new }
+{
+    for i in 0..pieces.len() {
+        load_piece(machine, base, pieces.get(i), out);
+    }
+}
+
+// Reads an argument from its place, or from the address that is found there.
+fn load_place(machine: &Machine, base: u64, place: &Place, ty: &FfiType, out: &mut [u8])
+    requires low { STACK ≤ base }
+    requires high { base ≤ STACK_TOP }
+    requires lies { PlaceLies (STACK_TOP - base) (tree_of ty.now) place.now }
+    requires has_all { PlaceHasAll (tree_of ty.now) place.now }
+    requires found { IsFound base machine.now place.now }
+    requires sized { length out.old ≡ size_of (tree_of ty.now) }
+    ensures sized { length out.new ≡ length out.old }
+    ensures read { IsRead base machine.now (tree_of ty.now) place.now out.new }
+{
+    // its contract tells what is true of every machine
+    let _m = machine.sp();
+    let _ty = ty;
+    match place {
+        Place::Direct(pieces) => load_pieces(machine, base, pieces, out),
+        Place::ByRef { at, .. } => {
+            let start = place_word(machine, base, *at);
+            out.copy_from_slice(machine.lend_stack(start, out.len() as u64));
+        }
+    }
+}
+
+// Copies an argument from its place to an address.
+fn copy_argument(machine: &mut Machine, base: u64, place: &Place, ty: &FfiType, to: u64)
+    requires low { STACK ≤ to }
+    requires below { to + size_of (tree_of ty.now) ≤ base }
+    requires high { base ≤ STACK_TOP }
+    requires lies { PlaceLies (STACK_TOP - base) (tree_of ty.now) place.now }
+    requires has_all { PlaceHasAll (tree_of ty.now) place.now }
+    requires found { IsFound base machine.old place.now }
+    requires right { IsResultType (tree_of ty.now) }
+    ensures read { IsRead base machine.old (tree_of ty.now) place.now (stack_at to (size_of (tree_of ty.now)) machine.new) }
+    ensures only { WroteOnly to (to + size_of (tree_of ty.now)) machine.old machine.new }
+{
+    // its contract tells what is true of every machine
+    let _m = machine.sp();
+    let mut room = [0; 1024];
+    let bytes = &mut room[..size_of(ty) as usize];
+    load_place(machine, base, place, ty, bytes);
+    machine.store_stack(to, bytes);
+}
+
+// Copies the arguments into the block at an address, one behind the other, each in whole
+// doublewords. It does not know the values. Stack places count from the address `base`, the end
+// of the return address.
+fn copy_arguments<A: Abi>(machine: &mut Machine, cif: &Cif<A>, base: u64, block: u64)
+    requires low { STACK ≤ block }
+    requires below { block + block_bytes cif.now ≤ base }
+    requires high { base + frame_of A.standard cif.now ≤ STACK_TOP }
+    requires found { AreFound base machine.old (plan_of A.standard cif.now).places }
+    ensures values { (vs : List ValueTree) → OwnsArguments (image_from base (frame_of A.standard cif.now) machine.old) 0 cif.now.arguments (plan_of A.standard cif.now).places vs →
+        arguments_in cif.now.arguments (stack_at block (block_bytes cif.now) machine.new) ≡ vs }
+    ensures only { WroteOnly block (block + block_bytes cif.now) machine.old machine.new }
+{
+    // its contract tells what is true of every machine
+    let _m = machine.sp();
+    let sig = cif.sig();
+    let mut to = block;
+    for i in 0..count_of(sig) {
+        let ty = argument(sig, i);
+        copy_argument(machine, base, cif.place(i), ty, to);
+        to += round_up(size_of(ty), 8);
+    }
+}
+
+// Where a hidden result's address stands.
+fn hidden_place(place: &Res) -> Option<Loc>
+    ensures { result ≡ hidden_of place.now }
+{
+    match place {
+        Res::Nothing => None,
+        Res::Direct(_) => None,
+        Res::Hidden { at, .. } => Some(*at),
+    }
+}
+
+/// At an entry: saves the registers that are to be given back, copies the arguments into the block below them, where sp then is,
+/// and scribbles on all registers. It does not know the values.
+pub fn receive<A: Abi>(machine: &mut Machine, cif: &Cif<A>) -> Incoming
+    requires few { length A.standard.save_area < 256 }
+    requires room { STACK + A.standard.save + block_bytes cif.now ≤ machine.old.sp }
+    requires frame { machine.old.sp + A.standard.link + frame_of A.standard cif.now ≤ STACK_TOP }
+    requires some { (vs : List ValueTree) × OwnsAtEntry A.standard cif.now machine.old vs }
+    ensures received { IsReceived A.standard cif.now machine.old machine.new }
+    ensures incoming { IsIncoming A.standard cif.now result }
+    ensures general { machine.new.general ≡ scribbled_general (isa_of machine.old.target) (length machine.old.events) machine.old.general }
+    ensures floating { machine.new.floating ≡ scribbled_floating (length machine.old.events) }
+    ensures reserved { machine.old.target ≡ A.TARGET → ReservedStay A.standard machine.old machine.new }
+    ensures entry { result.entry ≡ machine.old.sp }
+    ensures block { result.block ≡ machine.new.sp }
+{
+    // its contract tells what is true of every interface
+    let _sig = cif.sig();
+    let entry = machine.sp();
+    let base = entry + A::LINK;
+    let area = entry - A::SAVE;
+    let block = area - cif.block();
+    let hidden = hidden_place(cif.result_place());
+    let address = hidden_word(machine, base, hidden);
+    save_words::<A>(machine, area, base, hidden);
+    machine.set_sp(block);
+    copy_arguments(machine, cif, base, block);
+    let number = machine.events().len() as u64;
+    machine.scribble(number);
+    Incoming {
+        block,
+        address,
+        entry,
+    }
+}
+
+// Where argument `i` begins in a block.
+fn offset_of(sig: &Sig, i: u32) -> u64
+    requires right { SignatureHasNoFault sig.now }
+    requires in_range { i < length sig.now.arguments }
+    ensures { result ≡ block_offset sig.now.arguments i }
+{
+    let mut offset = 0;
+    for k in 0..i {
+        let ty = argument(sig, k);
+        offset += round_up(size_of(ty), 8);
+    }
+    offset
+}
+
+/// The bytes of argument `i` in a callee's block, padding included.
+pub fn arg<'a, A: Abi>(machine: &'a Machine, cif: &Cif<A>, incoming: &Incoming, i: u32) -> &'a [u8]
+    requires in_range { i < length cif.now.arguments }
+    requires incoming { IsIncoming A.standard cif.now incoming.now }
+    ensures are { result.now ≡ stack_at (incoming.now.block + block_offset cif.now.arguments i) (size_of (tree_at cif.now.arguments i)) machine.now }
+    ensures count { length result.now ≡ size_of (tree_at cif.now.arguments i) }
+    ensures value { (vs : List ValueTree) → arguments_in cif.now.arguments (stack_at incoming.now.block (block_bytes cif.now) machine.now) ≡ vs → value_in (tree_at cif.now.arguments i) result.now ≡ slice_index_or vs i void_value }
+{
+    let sig = cif.sig();
+    let ty = argument(sig, i);
+    let offset = offset_of(sig, i);
+    let size = size_of(ty);
+    let from = incoming.block + offset;
+    machine.lend_stack(from, size)
+}

@@ -1,0 +1,126 @@
+-- The copy of an argument by reference.
+use Rattle.std.proofs.Common.{◌≡◌, ◌⊎◌, inl, inr, ℕ, suc, zero, ◌+◌, ◌-◌, ◌*◌, ◌<◌, ◌≤◌, List, [], ◌∷◌, get_or, length, subst, ◌∙◌, ap, refl, arith}
+use Rattle.std.specs.Prelude.{◌/◌}
+use Rattle.std.specs.List.{AllByRecursion}
+use Rattle.std.proofs.lemmas.Bool.{cases_lt}
+use Rattle.std.proofs.lemmas.List.{ext_get_or}
+use Rattle.ffi3_type_rules.specs.Tree.{Tree}
+use Rattle.ffi3_type_rules.specs.Layout.{size_of}
+use Rattle.ffi3_type_rules.specs.Value.{ValueTree, value_in}
+use Rattle.ffi3_type_rules.proofs.Parts.{index_part, length_part, same_part}
+use Rattle.ffi3_place_rules.specs.declared.Loc.{Loc}
+use Rattle.ffi3_place_rules.specs.declared.Loc.TheVariants.{G, F, S}
+use Rattle.ffi3_place_rules.specs.declared.Place.{Place}
+use Rattle.ffi3_place_rules.specs.declared.Place.TheVariants.{Direct, ByRef}
+use Rattle.ffi3_place_rules.specs.Sound.{Apart, IsNoneOf, PlaceHasAll, stack_words, stack_words_for}
+use Rattle.ffi3_type_rules.specs.declared.limits.TheConstants.{STACK}
+use Rattle.ffi3_machine.specs.State.{State, stored, stack_at}
+use Rattle.ffi3_pieces.specs.Stored.{stack_byte, SameAt, Stays, IsWordPut}
+use Rattle.ffi3_pieces.specs.Standing.{place_uses, CopyStands, IsCopied, PlaceStands}
+use Rattle.ffi3_pieces.proofs.Ranges.{range_length}
+use Rattle.ffi3_pieces.proofs.Putting.{stored_inside, stored_outside, stored_within}
+use Rattle.ffi3_pieces.proofs.Composing.{apart_sym, stays_then, wrote_then}
+use Rattle.ffi3_pieces.proofs.Stepping.{all_stand_stays, same_word_in}
+
+-- ---- stack words
+
+-- a place that is none of the stack words lies before or behind them
+clear_of_words : (at n q : ℕ) → IsNoneOf (stack_words at n) (S q) → (n ≡ 0) ⊎ ((q + 8 ≤ at) ⊎ (at + 8 * n ≤ q))
+clear_of_words at zero q h = inl refl
+clear_of_words at (suc n) q h = inr (both h.0 (clear_of_words (at + 8) n q h.1))
+  where
+    both : (q + 8 ≤ at) ⊎ (at + 8 ≤ q) → (n ≡ 0) ⊎ ((q + 8 ≤ at + 8) ⊎ (at + 8 + 8 * n ≤ q)) → (q + 8 ≤ at) ⊎ (at + 8 * suc n ≤ q)
+    both (inl below) rest = inl below
+    both (inr above) (inl none) = inr (omega (arith, above, none))
+    both (inr above) (inr (inl x)) = absurd (omega (arith, above, x))
+    both (inr above) (inr (inr x)) = inr (omega (arith, x))
+
+-- the bytes of stack words that stay
+pub words_same : (base at n : ℕ) (ls : List Loc) (a b : State) → AllByRecursion (IsNoneOf ls) (stack_words at n) → Stays base ls a b → (i : ℕ) → i < 8 * n → stack_byte b (base + at + i) ≡ stack_byte a (base + at + i)
+words_same base at zero ls a b none s i h = absurd (omega (arith, h))
+words_same base at (suc n) ls a b none s i h =
+    elim (cases_lt i 8) [
+      | inl first ↦ s.others (S at) none.0 i first
+      | inr later ↦
+          let there : base + (at + 8) + (i - 8) ≡ base + at + i = omega (arith, later) in
+          subst (λ k. stack_byte b k ≡ stack_byte a k) there (words_same base (at + 8) n ls a b none.1 s (i - 8) (omega (arith, h, later)))
+    ]
+
+pub each_word_apart : (l : Loc) (ls : List Loc) → AllByRecursion (Apart l) ls → AllByRecursion (IsNoneOf (l ∷ [])) ls
+each_word_apart l [] h = tt
+each_word_apart l (k ∷ ls) h = ((apart_sym l k h.0, tt), each_word_apart l ls h.1)
+
+-- ---- a copy that stays
+
+same_copy : (base copy size : ℕ) (ls : List Loc) (a b : State) → STACK ≤ base → AllByRecursion (IsNoneOf ls) (stack_words copy ((size + 7) / 8)) → Stays base ls a b → base + copy - STACK + size ≤ length a.stack → stack_at (base + copy) size b ≡ stack_at (base + copy) size a
+same_copy base copy size ls a b low clear s room =
+    same_part b.stack a.stack (base + copy - STACK) size (omega (arith, room, s.size)) room (λ j from to.
+    let there : base + copy + (j - (base + copy - STACK)) - STACK ≡ j = omega (arith, low, from) in
+    subst (λ k. get_or b.stack k 0 ≡ get_or a.stack k 0) there (words_same base copy ((size + 7) / 8) ls a b clear s (j - (base + copy - STACK)) (omega (arith, from, to))))
+
+pub copy_stays : (base : ℕ) (t : Tree) (v : ValueTree) (at : Loc) (copy : ℕ) (ls : List Loc) (a b : State) → STACK ≤ base → IsNoneOf ls at → AllByRecursion (IsNoneOf ls) (stack_words_for copy t) → Stays base ls a b → CopyStands base a t v at copy → CopyStands base b t v at copy
+copy_stays base t v at copy ls a b low none clear s stands = record {
+  address = same_word_in base at a b (s.others at none) ∙ stands.address;
+  room = omega (arith, stands.room, s.size);
+  reads = ap (value_in t) (same_copy base copy (size_of t) ls a b low clear s stands.room) ∙ stands.reads;
+}
+
+-- an argument that stands still stands after stores elsewhere
+pub place_stays : (base : ℕ) (t : Tree) (v : ValueTree) (p : Place) (ls : List Loc) (a b : State) → STACK ≤ base → PlaceHasAll t p → AllByRecursion (IsNoneOf ls) (place_uses t p) → Stays base ls a b → PlaceStands base a t v p → PlaceStands base b t v p
+place_stays base t v (Direct pieces) ls a b low has_all none s stands = record {
+  bytes = stands.bytes;
+  sized = stands.sized;
+  reads = stands.reads;
+  stand = all_stand_stays base t v stands.bytes ls a b pieces has_all.each none s stands.stand;
+}
+place_stays base t v (ByRef at copy) ls a b low has_all none s stands = copy_stays base t v at copy ls a b low none.0 none.1 s stands
+
+-- ---- the store of a copy
+
+module _ (base copy n : ℕ) (bytes : List ℕ) (old : State) (low : STACK ≤ base) (few : length bytes ≤ 8 * n) (fits : base + copy - STACK + length bytes ≤ length old.stack) where
+  words_stay : Stays base (stack_words copy n) old (stored (base + copy) bytes old)
+  words_stay = record { sp = refl; size = range_length old.stack bytes (base + copy - STACK) (base + copy - STACK + length bytes) refl fits; others = others }
+    where
+      outside : (j : ℕ) → (STACK + j < base + copy) ⊎ (base + copy + length bytes ≤ STACK + j) → get_or (stored (base + copy) bytes old).stack j 0 ≡ get_or old.stack j 0
+      outside = stored_outside (base + copy) bytes old (omega (arith, low)) fits
+
+      clear_byte : (q k : ℕ) → k < 8 → (n ≡ 0) ⊎ ((q + 8 ≤ copy) ⊎ (copy + 8 * n ≤ q)) → get_or (stored (base + copy) bytes old).stack (base + q + k - STACK) 0 ≡ get_or old.stack (base + q + k - STACK) 0
+      clear_byte q k h (inl none) =
+          elim (cases_lt (q + k) copy) [
+            | inl below ↦ outside (base + q + k - STACK) (inl (omega (arith, low, below)))
+            | inr above ↦ outside (base + q + k - STACK) (inr (omega (arith, low, above, few, none)))
+          ]
+      clear_byte q k h (inr (inl below)) = outside (base + q + k - STACK) (inl (omega (arith, low, below, h)))
+      clear_byte q k h (inr (inr above)) = outside (base + q + k - STACK) (inr (omega (arith, low, above, few)))
+
+      others : (l : Loc) → IsNoneOf (stack_words copy n) l → SameAt base l old (stored (base + copy) bytes old)
+      others (G q) none = refl
+      others (F q) none = refl
+      others (S q) none = λ k h. clear_byte q k h (clear_of_words copy n q none)
+
+  copy_reads : stack_at (base + copy) (length bytes) (stored (base + copy) bytes old) ≡ bytes
+  copy_reads =
+      let size : length (stored (base + copy) bytes old).stack ≡ length old.stack = range_length old.stack bytes (base + copy - STACK) (base + copy - STACK + length bytes) refl fits in
+      let many = length_part (stored (base + copy) bytes old).stack (base + copy - STACK) (length bytes) (omega (arith, size, fits)) in
+      ext_get_or 0 (stack_at (base + copy) (length bytes) (stored (base + copy) bytes old)) bytes many (λ k h.
+      let below : k < length bytes = subst (λ m. k < m) many h in
+      let there : base + copy - STACK + k ≡ base + copy + k - STACK = omega (arith, low) in
+      index_part (stored (base + copy) bytes old).stack (base + copy - STACK) (length bytes) k below ∙ ap (λ j. get_or (stored (base + copy) bytes old).stack j 0) there ∙ stored_inside (base + copy) bytes old (omega (arith, low)) fits k below)
+
+pub copied : (base : ℕ) (t : Tree) (v : ValueTree) (l : Loc) (copy : ℕ) (bytes : List ℕ) (old new : State) → STACK ≤ base → length bytes ≡ size_of t → value_in t bytes ≡ v → base + copy - STACK + size_of t ≤ length old.stack → AllByRecursion (Apart l) (stack_words_for copy t) → IsWordPut base l (base + copy) (stored (base + copy) bytes old) new → IsCopied base t v l copy old new
+copied base t v l copy bytes old new low sized reads fits apart put =
+    let fits_bytes : base + copy - STACK + length bytes ≤ length old.stack = omega (arith, fits, sized) in
+    let few : length bytes ≤ 8 * ((size_of t + 7) / 8) = omega (arith, sized) in
+    let first = words_stay base copy ((size_of t + 7) / 8) bytes old low few fits_bytes in
+    let there = subst (λ n. stack_at (base + copy) n (stored (base + copy) bytes old) ≡ bytes) sized (copy_reads base copy ((size_of t + 7) / 8) bytes old low few fits_bytes) in
+    let clear = each_word_apart l (stack_words_for copy t) apart in
+    let same = same_copy base copy (size_of t) (l ∷ []) (stored (base + copy) bytes old) new low clear put.stays (omega (arith, fits, first.size)) in
+    record {
+      stands = record {
+        address = put.word;
+        room = omega (arith, fits, first.size, put.stays.size);
+        reads = ap (value_in t) (same ∙ there) ∙ reads;
+      };
+      stays = stays_then base (stack_words_for copy t) (l ∷ []) old (stored (base + copy) bytes old) new first put.stays;
+      within = λ room lies ends. wrote_then base (base + room) old (stored (base + copy) bytes old) new (stored_within (base + copy) bytes old (omega (arith, low)) fits_bytes base (base + room) (omega arith) (omega (arith, ends, sized))) (put.within room lies);
+    }

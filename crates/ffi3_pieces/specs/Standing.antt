@@ -1,0 +1,78 @@
+-- Arguments that stand at their places in a machine, and the places that they use, the copy of an argument by reference included.
+use Rattle.std.specs.Prelude.{◌≡◌, ℕ, ◌+◌, ◌-◌, ◌≤◌, ⊤, List, [], ◌∷◌, ◌++◌, length}
+use Rattle.std.specs.List.{AllByRecursion}
+use Rattle.ffi3_type_rules.specs.declared.Target.{Target}
+use Rattle.ffi3_type_rules.specs.Tree.{Tree}
+use Rattle.ffi3_type_rules.specs.Layout.{size_of}
+use Rattle.ffi3_type_rules.specs.Value.{ValueTree, value_in}
+use Rattle.ffi3_place_rules.specs.declared.Loc.{Loc}
+use Rattle.ffi3_place_rules.specs.declared.Piece.{Piece}
+use Rattle.ffi3_place_rules.specs.declared.Place.{Place}
+use Rattle.ffi3_place_rules.specs.declared.Place.TheVariants.{Direct, ByRef}
+use Rattle.ffi3_place_rules.specs.declared.Res.{Res}
+use Rattle.ffi3_place_rules.specs.declared.Res.TheVariants.{Nothing, Direct as DirectRes, Hidden}
+use Rattle.ffi3_place_rules.specs.Sound.{PlaceHasAll, piece_locs, place_locs, stack_words_for}
+use Rattle.ffi3_type_rules.specs.declared.limits.TheConstants.{STACK}
+use Rattle.ffi3_machine.specs.State.{State, stack_at}
+use Rattle.ffi3_pieces.specs.Stored.{IsPlace, word_in, IsWritable, PieceStands, Stays, WroteWithin}
+
+-- the registers and the bytes of the stack that an argument uses
+abbrev pub place_uses : Tree → Place → List Loc
+place_uses t (Direct pieces) = piece_locs pieces
+place_uses t (ByRef at copy) = at ∷ stack_words_for copy t
+
+abbrev pub all_uses : List Tree → List Place → List Loc
+all_uses (t ∷ ts) (p ∷ ps) = place_uses t p ++ all_uses ts ps
+all_uses _ _ = []
+
+-- they lie in so many bytes of the stack
+abbrev pub PlaceLies : ℕ → Tree → Place → Type 0
+PlaceLies room t (Direct pieces) = AllByRecursion (IsPlace room) (piece_locs pieces)
+PlaceLies room t (ByRef at copy) = IsPlace room at × (copy + size_of t ≤ room)
+
+-- pieces have the bytes of the value, and what fills the rest of their places is right
+pub record PiecesStand (base : ℕ) (m : State) (t : Tree) (v : ValueTree) (pieces : List Piece) : Type 0 where
+  pub bytes : List ℕ
+  pub sized : length bytes ≡ size_of t
+  pub reads : value_in t bytes ≡ v
+  pub stand : AllByRecursion (PieceStands base m t v bytes) pieces
+
+-- a place has the address of a copy that has the value
+pub record CopyStands (base : ℕ) (m : State) (t : Tree) (v : ValueTree) (l : Loc) (copy : ℕ) : Type 0 where
+  pub address : word_in base m l ≡ base + copy
+  pub room : base + copy - STACK + size_of t ≤ length m.stack
+  pub reads : value_in t (stack_at (base + copy) (size_of t) m) ≡ v
+
+abbrev pub PlaceStands : ℕ → State → Tree → ValueTree → Place → Type 0
+PlaceStands base m t v (Direct pieces) = PiecesStand base m t v pieces
+PlaceStands base m t v (ByRef at copy) = CopyStands base m t v at copy
+
+-- what the two stores of an argument by reference leave
+pub record IsCopied (base : ℕ) (t : Tree) (v : ValueTree) (l : Loc) (copy : ℕ) (old new : State) : Type 0 where
+  pub stands : CopyStands base new t v l copy
+  pub stays : Stays base (l ∷ stack_words_for copy t) old new
+  pub within : (room : ℕ) → IsPlace room l → copy + size_of t ≤ room → WroteWithin base (base + room) old new
+
+-- each argument stands at its place
+abbrev pub AllStand : ℕ → State → List Tree → List Place → List ValueTree → Type 0
+AllStand base m [] [] [] = ⊤
+AllStand base m (t ∷ ts) (p ∷ ps) (v ∷ vs) = PlaceStands base m t v p × AllStand base m ts ps vs
+AllStand base m _ _ _ = ⊥
+
+-- what a store at a place needs: it has all of the argument, lies in the frame, and is written to
+pub record IsReady (target : Target) (room : ℕ) (t : Tree) (p : Place) : Type 0 where
+  pub has_all : PlaceHasAll t p
+  pub lies : PlaceLies room t p
+  pub writable : AllByRecursion (IsWritable target) (place_locs p)
+
+abbrev pub AreReady : Target → ℕ → List Tree → List Place → Type 0
+AreReady target room [] [] = ⊤
+AreReady target room (t ∷ ts) (p ∷ ps) = IsReady target room t p × AreReady target room ts ps
+AreReady target room _ _ = ⊥
+
+-- ---- the hidden result
+
+abbrev pub HiddenStands : ℕ → State → Res → Type 0
+HiddenStands base m (Hidden at buffer) = word_in base m at ≡ base + buffer
+HiddenStands base m Nothing = ⊤
+HiddenStands base m (DirectRes pieces) = ⊤

@@ -1,0 +1,121 @@
+-- The bytes at places of a machine, the places that a store leaves, and the stretch of the stack that it writes.
+use Rattle.std.specs.Prelude.{◌≡◌, ℕ, ◌+◌, ◌-◌, ◌^◌, ◌<◌, ◌≤◌, ◌⊎◌, List, [], ◌∷◌, get_or, length}
+use Rattle.std.specs.Int.{w64, to_le_bytes, from_le_bytes}
+use Rattle.ffi3_type_rules.specs.declared.Target.{Target}
+use Rattle.ffi3_place_rules.specs.declared.Loc.{Loc}
+use Rattle.ffi3_place_rules.specs.declared.Loc.TheVariants.{G, F, S}
+use Rattle.ffi3_place_rules.specs.declared.Piece.{Piece}
+use Rattle.ffi3_type_rules.specs.Tree.{Tree}
+use Rattle.ffi3_type_rules.specs.Value.{ValueTree}
+use Rattle.ffi3_place_rules.specs.Holds.{FillsAs}
+use Rattle.ffi3_place_rules.specs.Sound.{IsNoneOf}
+use Rattle.ffi3_type_rules.specs.declared.limits.TheConstants.{STACK}
+use Rattle.ffi3_type_rules.specs.Isa.{isa_of}
+use Rattle.ffi3_place_rules.specs.Isa.{TakesWrites}
+use Rattle.ffi3_machine.specs.State.{State}
+
+-- the byte of the stack at an address
+abbrev pub stack_byte : State → ℕ → ℕ
+stack_byte m addr = get_or m.stack (addr - STACK) 0
+
+-- byte k of a place; stack places count from the address `base`
+abbrev pub byte_of : ℕ → State → Loc → ℕ → ℕ
+byte_of base m (G r) k = get_or (to_le_bytes w64 (get_or m.general r 0)) k 0
+byte_of base m (F r) k = get_or (to_le_bytes w64 (get_or m.floating r 0)) k 0
+byte_of base m (S n) k = stack_byte m (base + n + k)
+
+-- the number that the eight bytes of a place make
+abbrev pub word_in : ℕ → State → Loc → ℕ
+word_in base m (G r) = get_or m.general r 0
+word_in base m (F r) = get_or m.floating r 0
+word_in base m (S n) =
+    from_le_bytes w64 (byte_of base m (S n) 0 ∷ byte_of base m (S n) 1 ∷ byte_of base m (S n) 2 ∷ byte_of base m (S n) 3 ∷ byte_of base m (S n) 4 ∷ byte_of base m (S n) 5 ∷ byte_of base m (S n) 6 ∷ byte_of base m (S n) 7 ∷ [])
+
+-- the place holds the same in both: a register its word, a place on the stack its eight bytes
+abbrev pub SameAt : ℕ → Loc → State → State → Type 0
+SameAt base (G r) old new = get_or new.general r 0 ≡ get_or old.general r 0
+SameAt base (F r) old new = get_or new.floating r 0 ≡ get_or old.floating r 0
+SameAt base (S n) old new = (k : ℕ) → k < 8 → stack_byte new (base + n + k) ≡ stack_byte old (base + n + k)
+
+-- EVERY PLACE APART FROM THE LIST STAYS, and so does the stack pointer
+pub record Stays (base : ℕ) (locs : List Loc) (old new : State) : Type 0 where
+  pub sp : new.sp ≡ old.sp
+  pub size : length new.stack ≡ length old.stack
+  pub others : (l : Loc) → IsNoneOf locs l → SameAt base l old new
+
+-- THE STACK CHANGES ONLY FROM `low` TO `high`. The mark is at least the lower of the old mark and `low`.
+pub record WroteWithin (low high : ℕ) (old new : State) : Type 0 where
+  pub size : length new.stack ≡ length old.stack
+  pub outside : (i : ℕ) → (STACK + i < low) ⊎ (high ≤ STACK + i) → get_or new.stack i 0 ≡ get_or old.stack i 0
+  pub mark : (old.mark ≤ new.mark) ⊎ (low ≤ new.mark)
+  pub target : new.target ≡ old.target
+  pub pc : new.pc ≡ old.pc
+  pub code : new.code ≡ old.code
+  pub events : new.events ≡ old.events
+  pub spare_events : new.spare_events ≡ old.spare_events
+  pub spare_bytes : new.spare_bytes ≡ old.spare_bytes
+
+-- one of a machine's registers, or eight bytes of so many of the stack
+abbrev pub IsPlace : ℕ → Loc → Type 0
+IsPlace stack (G r) = r < 32
+IsPlace stack (F r) = r < 32
+IsPlace stack (S n) = n + 8 ≤ stack
+
+-- a write to the place is not dropped by the target's machine
+abbrev pub IsWritable : Target → Loc → Type 0
+IsWritable target l = TakesWrites (isa_of target) l
+
+-- the first bytes of the place are these
+abbrev pub HasBytes : ℕ → State → Loc → List ℕ → Type 0
+HasBytes base m l bytes = (k : ℕ) → k < length bytes → byte_of base m l k ≡ get_or bytes k 0
+
+-- the bytes of the place from number n on stay
+abbrev pub KeepsFrom : ℕ → Loc → ℕ → State → State → Type 0
+KeepsFrom base l n old new = (k : ℕ) → n ≤ k → k < 8 → byte_of base new l k ≡ byte_of base old l k
+
+-- the word's low bytes are these, and above them it is the old
+pub record HasLow (bytes : List ℕ) (old new : ℕ) : Type 0 where
+  pub low : (k : ℕ) → k < length bytes → get_or (to_le_bytes w64 new) k 0 ≡ get_or bytes k 0
+  pub high : (k : ℕ) → length bytes ≤ k → k < 8 → get_or (to_le_bytes w64 new) k 0 ≡ get_or (to_le_bytes w64 old) k 0
+  pub below : new < 2 ^ 64
+
+-- THE PLACE HOLDS THE BYTES. Its other bytes stay, and so do all other places.
+pub record IsPut (base : ℕ) (l : Loc) (bytes : List ℕ) (old new : State) : Type 0 where
+  pub here : HasBytes base new l bytes
+  pub kept : KeepsFrom base l (length bytes) old new
+  pub stays : Stays base (l ∷ []) old new
+  pub within : (room : ℕ) → IsPlace room l → WroteWithin base (base + room) old new
+  -- eight bytes are the place's word
+  pub whole : (w : ℕ) → w < 2 ^ 64 → bytes ≡ to_le_bytes w64 w → word_in base new l ≡ w
+
+-- the place holds the number
+pub record IsWordPut (base : ℕ) (l : Loc) (w : ℕ) (old new : State) : Type 0 where
+  pub here : HasBytes base new l (to_le_bytes w64 w)
+  pub word : word_in base new l ≡ w
+  pub stays : Stays base (l ∷ []) old new
+  pub within : (room : ℕ) → IsPlace room l → WroteWithin base (base + room) old new
+
+-- ---- pieces
+
+-- the piece's place has the bytes of the value in memory that it carries
+abbrev pub HasPiece : ℕ → State → List ℕ → Piece → Type 0
+HasPiece base m bytes p = (k : ℕ) → k < p.len → byte_of base m p.loc k ≡ get_or bytes (p.off + k) 0
+
+-- THE PIECE STANDS AT ITS PLACE, and all other places stay
+pub record IsSet (base : ℕ) (p : Piece) (bytes : List ℕ) (old new : State) : Type 0 where
+  pub held : HasPiece base new bytes p
+  pub stays : Stays base (p.loc ∷ []) old new
+  pub within : (room : ℕ) → IsPlace room p.loc → WroteWithin base (base + room) old new
+
+-- the piece lies in so many bytes, and has at most eight
+abbrev pub IsWithin : ℕ → Piece → Type 0
+IsWithin size p = (p.len ≤ 8) × (p.off + p.len ≤ size)
+
+-- the piece stands at its place, and what fills the rest of the place is right
+abbrev pub PieceStands : ℕ → State → Tree → ValueTree → List ℕ → Piece → Type 0
+PieceStands base m t v bytes p = HasPiece base m bytes p × FillsAs p.ext (word_in base m p.loc) t v
+
+pub record IsStored (base : ℕ) (t : Tree) (v : ValueTree) (bytes : List ℕ) (p : Piece) (old new : State) : Type 0 where
+  pub stands : PieceStands base new t v bytes p
+  pub stays : Stays base (p.loc ∷ []) old new
+  pub within : (room : ℕ) → IsPlace room p.loc → WroteWithin base (base + room) old new

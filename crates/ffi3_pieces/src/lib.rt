@@ -1,0 +1,287 @@
+//! Values at the places of a plan: what a caller stores for its callee.
+#![tactic(auto)]
+
+ghost use Rattle.std.specs.Prelude.{◌≡◌, ℕ, ◌+◌, ◌-◌, ◌/◌, ◌^◌, ◌<◌, ◌≤◌, length, get_or, true};
+ghost use Rattle.std.specs.List.{AllByRecursion};
+ghost use Rattle.std.specs.Int.{w64, to_le_bytes};
+ghost use Rattle.ffi3_type_rules.specs.Tree.{trees_of};
+ghost use Rattle.ffi3_type_rules.specs.Layout.{size_of};
+ghost use Rattle.ffi3_type_rules.specs.Fault.{IsResultType};
+ghost use Rattle.ffi3_type_rules.specs.Integer.{is_number_type, scalar_of, widened_from_32};
+ghost use Rattle.ffi3_type_rules.specs.Value.{all_fit, bytes_of, fits, value_in, values_of};
+ghost use Rattle.ffi3_types.specs.TreeOf.{tree_of};
+ghost use Rattle.ffi3_values.specs.ValueOf.{value_of};
+ghost use Rattle.ffi3_place_rules.specs.Standard.{frame_of, plan_of};
+ghost use Rattle.ffi3_place_rules.specs.Holds.{FillArguments, OwnsArguments};
+ghost use Rattle.ffi3_place_rules.specs.Sound.{Apart, AreApart, hidden_locs, IsPieceOf, PlaceHasAll, piece_locs, place_locs, stack_words_for};
+ghost use Rattle.ffi3_type_rules.specs.declared.limits.TheConstants.{STACK, STACK_TOP};
+ghost use Rattle.ffi3_machine.specs.State.{image_of};
+ghost use Rattle.ffi3_pieces.specs.Stored.{IsPlace, HasLow, IsPut, IsSet, IsStored, IsWithin, IsWordPut, IsWritable, PieceStands, Stays, WroteWithin};
+ghost use Rattle.ffi3_pieces.specs.Standing.{AllStand, HiddenStands, IsCopied, PiecesStand, PlaceLies, PlaceStands, all_uses, place_uses};
+
+use ffi3_cif::Cif;
+use ffi3_machine::Machine;
+use ffi3_place::parts::{argument, count_of, size_of};
+use ffi3_place::{Abi, Ext, Loc, Piece, Pieces, Place, Res};
+use ffi3_types::FfiType;
+use ffi3_values::{Value, Values, number, widen, write_bytes};
+
+// The number of eight bytes, the lowest first.
+fn word_of(bytes: [u8; 8]) -> u64
+    ensures { to_le_bytes w64 result ≡ bytes }
+{
+    u64::from_le_bytes(bytes)
+}
+
+// The word with its low bytes replaced.
+fn with_low(word: u64, bytes: &[u8]) -> u64
+    requires { length bytes.now ≤ 8 }
+    ensures { HasLow bytes.now word result }
+{
+    let mut all = word.to_le_bytes();
+    all[..bytes.len()].copy_from_slice(bytes);
+    word_of(all)
+}
+
+/// Puts bytes into a place, whose other bytes stay. Stack places count from the address `base`.
+pub fn put(machine: &mut Machine, base: u64, at: Loc, bytes: &[u8])
+    requires low { STACK ≤ base }
+    requires high { base ≤ STACK_TOP }
+    requires lies { IsPlace (STACK_TOP - base) at }
+    requires writable { IsWritable machine.old.target at }
+    requires few { length bytes.now ≤ 8 }
+    ensures { IsPut base at bytes.now machine.old machine.new }
+{
+    // its contract tells what is true of every machine
+    let _m = machine.sp();
+    match at {
+        Loc::G(r) => {
+            let word = with_low(machine.g(r), bytes);
+            machine.set_g(r, word);
+        }
+        Loc::F(r) => {
+            let word = with_low(machine.f(r), bytes);
+            machine.set_f(r, word);
+        }
+        Loc::S(n) => machine.store_stack(base + n as u64, bytes),
+    }
+}
+
+/// Puts a number into a place. Stack places count from the address `base`.
+pub fn put_word(machine: &mut Machine, base: u64, at: Loc, word: u64)
+    requires low { STACK ≤ base }
+    requires high { base ≤ STACK_TOP }
+    requires lies { IsPlace (STACK_TOP - base) at }
+    requires writable { IsWritable machine.old.target at }
+    ensures { IsWordPut base at word machine.old machine.new }
+{
+    put(machine, base, at, &word.to_le_bytes());
+}
+
+/// Puts the bytes that a piece carries into its place, whose other bytes stay. Stack places count from the address `base`.
+pub fn set_piece(machine: &mut Machine, base: u64, piece: Piece, bytes: &[u8])
+    requires low { STACK ≤ base }
+    requires high { base ≤ STACK_TOP }
+    requires lies { IsPlace (STACK_TOP - base) piece.loc }
+    requires writable { IsWritable machine.old.target piece.loc }
+    requires fits { IsWithin (length bytes.now) piece }
+    ensures { IsSet base piece bytes.now machine.old machine.new }
+{
+    let from = piece.off as usize;
+    put(
+        machine,
+        base,
+        piece.loc,
+        &bytes[from..from + piece.len as usize],
+    );
+}
+
+// The number of four bytes from an offset on, with ones above it.
+fn boxed(bytes: &[u8], from: usize) -> u64
+    requires { from + 4 ≤ length bytes.now }
+    ensures low { (k : ℕ) → k < 4 → get_or (to_le_bytes w64 result) k 0 ≡ get_or bytes.now (from + k) 0 }
+    ensures high { result / 2 ^ 32 ≡ 2 ^ 32 - 1 }
+{
+    word_of([
+        bytes[from],
+        bytes[from + 1],
+        bytes[from + 2],
+        bytes[from + 3],
+        0xFF,
+        0xFF,
+        0xFF,
+        0xFF,
+    ])
+}
+
+// The 8 bytes of an integer in a register, extended by its sign to 32 bits where it is narrower, and from there by the upper bit.
+fn widen_from_32(ty: &FfiType, value: &Value) -> u64
+    requires kind { is_number_type (tree_of ty.now) ≡ true }
+    requires fits { fits (tree_of ty.now) (value_of value.now) ≡ true }
+    ensures { result ≡ widened_from_32 (scalar_of (tree_of ty.now)) (bytes_of (value_of value.now)) }
+{
+    let low = number(ty, value).cast_unsigned() % 0x1_0000_0000;
+    ((low as u32).cast_signed() as i64).cast_unsigned()
+}
+
+/// Stores a piece of a value, of which `bytes` are the bytes in memory, and fills the rest of the piece's place. Stack places count from the address `base`.
+pub fn store_piece(
+    machine: &mut Machine,
+    base: u64,
+    piece: Piece,
+    ty: &FfiType,
+    value: &Value,
+    bytes: &[u8],
+)
+    requires low { STACK ≤ base }
+    requires high { base ≤ STACK_TOP }
+    requires lies { IsPlace (STACK_TOP - base) piece.loc }
+    requires writable { IsWritable machine.old.target piece.loc }
+    requires part { IsPieceOf (tree_of ty.now) piece }
+    requires sized { length bytes.now ≡ size_of (tree_of ty.now) }
+    requires reads { value_in (tree_of ty.now) bytes.now ≡ value_of value.now }
+    requires fits { fits (tree_of ty.now) (value_of value.now) ≡ true }
+    ensures { IsStored base (tree_of ty.now) (value_of value.now) bytes.now piece machine.old machine.new }
+{
+    match piece.ext {
+        Ext::Free => set_piece(machine, base, piece, bytes),
+        Ext::Widen => put_word(machine, base, piece.loc, widen(ty, value)),
+        Ext::Riscv => put_word(machine, base, piece.loc, widen_from_32(ty, value)),
+        Ext::Boxed => put_word(machine, base, piece.loc, boxed(bytes, piece.off as usize)),
+    }
+}
+
+/// Stores all pieces of a value, and fills the rest of their places. Stack places count from the address `base`.
+pub fn store_pieces(
+    machine: &mut Machine,
+    base: u64,
+    pieces: &Pieces,
+    ty: &FfiType,
+    value: &Value,
+    bytes: &[u8],
+)
+    requires low { STACK ≤ base }
+    requires high { base ≤ STACK_TOP }
+    requires lie { AllByRecursion (IsPlace (STACK_TOP - base)) (piece_locs pieces.now) }
+    requires writable { AllByRecursion (IsWritable machine.old.target) (piece_locs pieces.now) }
+    requires apart { AreApart (piece_locs pieces.now) }
+    requires parts { AllByRecursion (IsPieceOf (tree_of ty.now)) pieces.now }
+    requires sized { length bytes.now ≡ size_of (tree_of ty.now) }
+    requires reads { value_in (tree_of ty.now) bytes.now ≡ value_of value.now }
+    requires fits { fits (tree_of ty.now) (value_of value.now) ≡ true }
+    ensures stand { AllByRecursion (PieceStands base machine.new (tree_of ty.now) (value_of value.now) bytes.now) pieces.now }
+    ensures stays { Stays base (piece_locs pieces.now) machine.old machine.new }
+    ensures within { (room : ℕ) → AllByRecursion (IsPlace room) (piece_locs pieces.now) → WroteWithin base (base + room) machine.old machine.new }
+{
+    for j in (0..pieces.len()).rev() {
+        store_piece(machine, base, *pieces.get(j), ty, value, bytes);
+    }
+}
+
+/// Stores an argument by reference: a copy of the value `copy` bytes from `base` on, and the copy's address in a place. The copy's padding keeps what stood there.
+fn store_copy(machine: &mut Machine, base: u64, at: Loc, copy: u32, ty: &FfiType, value: &Value)
+    requires low { STACK ≤ base }
+    requires high { base + copy + size_of (tree_of ty.now) ≤ STACK_TOP }
+    requires lies { IsPlace (STACK_TOP - base) at }
+    requires writable { IsWritable machine.old.target at }
+    requires apart { AllByRecursion (Apart at) (stack_words_for copy (tree_of ty.now)) }
+    requires right { IsResultType (tree_of ty.now) }
+    requires fits { fits (tree_of ty.now) (value_of value.now) ≡ true }
+    ensures { IsCopied base (tree_of ty.now) (value_of value.now) at copy machine.old machine.new }
+{
+    // its contract tells what is true of every machine
+    let _m = machine.sp();
+    let start = base + copy as u64;
+    let size = size_of(ty);
+    let mut room = [0; 1024];
+    let bytes = &mut room[..size as usize];
+    bytes.copy_from_slice(machine.lend_stack(start, size));
+    write_bytes(ty, value, bytes);
+    machine.store_stack(start, bytes);
+    put_word(machine, base, at, start);
+}
+
+/// Stores a value in pieces.
+fn store_direct(machine: &mut Machine, base: u64, pieces: &Pieces, ty: &FfiType, value: &Value)
+    requires low { STACK ≤ base }
+    requires high { base ≤ STACK_TOP }
+    requires lie { AllByRecursion (IsPlace (STACK_TOP - base)) (piece_locs pieces.now) }
+    requires writable { AllByRecursion (IsWritable machine.old.target) (piece_locs pieces.now) }
+    requires apart { AreApart (piece_locs pieces.now) }
+    requires parts { AllByRecursion (IsPieceOf (tree_of ty.now)) pieces.now }
+    requires right { IsResultType (tree_of ty.now) }
+    requires fits { fits (tree_of ty.now) (value_of value.now) ≡ true }
+    ensures stand { PiecesStand base machine.new (tree_of ty.now) (value_of value.now) pieces.now }
+    ensures stays { Stays base (piece_locs pieces.now) machine.old machine.new }
+    ensures within { (room : ℕ) → AllByRecursion (IsPlace room) (piece_locs pieces.now) → WroteWithin base (base + room) machine.old machine.new }
+{
+    let mut room = [0; 1024];
+    let bytes = &mut room[..size_of(ty) as usize];
+    write_bytes(ty, value, bytes);
+    store_pieces(machine, base, pieces, ty, value, bytes);
+}
+
+/// Stores an argument at its place. Stack places count from the address `base`.
+pub fn store_place(machine: &mut Machine, base: u64, place: &Place, ty: &FfiType, value: &Value)
+    requires low { STACK ≤ base }
+    requires high { base ≤ STACK_TOP }
+    requires lies { PlaceLies (STACK_TOP - base) (tree_of ty.now) place.now }
+    requires writable { AllByRecursion (IsWritable machine.old.target) (place_locs place.now) }
+    requires apart { AreApart (place_uses (tree_of ty.now) place.now) }
+    requires has_all { PlaceHasAll (tree_of ty.now) place.now }
+    requires right { IsResultType (tree_of ty.now) }
+    requires fits { fits (tree_of ty.now) (value_of value.now) ≡ true }
+    ensures stands { PlaceStands base machine.new (tree_of ty.now) (value_of value.now) place.now }
+    ensures stays { Stays base (place_uses (tree_of ty.now) place.now) machine.old machine.new }
+    ensures within { (room : ℕ) → PlaceLies room (tree_of ty.now) place.now → WroteWithin base (base + room) machine.old machine.new }
+{
+    match place {
+        Place::Direct(pieces) => store_direct(machine, base, pieces, ty, value),
+        Place::ByRef { at, copy } => store_copy(machine, base, *at, *copy, ty, value),
+    }
+}
+
+/// Stores all arguments in the frame that starts at the stack pointer.
+pub fn store_places<A: Abi>(machine: &mut Machine, cif: &Cif<A>, values: &Values)
+    requires fit { all_fit (trees_of cif.now.arguments) (values_of values.now) ≡ true }
+    requires target { machine.old.target ≡ A.TARGET }
+    requires bottom { STACK ≤ machine.old.sp }
+    requires frame { machine.old.sp + frame_of A.standard cif.now ≤ STACK_TOP }
+    ensures stand { AllStand machine.old.sp machine.new cif.now.arguments (plan_of A.standard cif.now).places values.now }
+    ensures own { OwnsArguments (image_of (frame_of A.standard cif.now) machine.new) 0 cif.now.arguments (plan_of A.standard cif.now).places values.now }
+    ensures filled { FillArguments (image_of (frame_of A.standard cif.now) machine.new) 0 cif.now.arguments (plan_of A.standard cif.now).places values.now }
+    ensures stays { Stays machine.old.sp (all_uses cif.now.arguments (plan_of A.standard cif.now).places) machine.old machine.new }
+    ensures within { WroteWithin machine.old.sp (machine.old.sp + frame_of A.standard cif.now) machine.old machine.new }
+{
+    let sig = cif.sig();
+    let base = machine.sp();
+    for i in (0..count_of(sig)).rev() {
+        store_place(
+            machine,
+            base,
+            cif.place(i),
+            argument(sig, i),
+            values.get(i as usize),
+        );
+    }
+}
+
+/// Stores the address of a hidden result's buffer. Stack places count from the address `base`.
+pub fn store_hidden(machine: &mut Machine, base: u64, res: &Res)
+    requires low { STACK ≤ base }
+    requires high { base ≤ STACK_TOP }
+    requires lie { AllByRecursion (IsPlace (STACK_TOP - base)) (hidden_locs res.now) }
+    requires writable { AllByRecursion (IsWritable machine.old.target) (hidden_locs res.now) }
+    ensures stands { HiddenStands base machine.new res.now }
+    ensures stays { Stays base (hidden_locs res.now) machine.old machine.new }
+    ensures within { (room : ℕ) → AllByRecursion (IsPlace room) (hidden_locs res.now) → WroteWithin base (base + room) machine.old machine.new }
+{
+    match res {
+        Res::Hidden { at, buffer } => {
+            let address = base + *buffer as u64;
+            put_word(machine, base, *at, address);
+        }
+        Res::Nothing => {}
+        Res::Direct(_) => {}
+    }
+}
