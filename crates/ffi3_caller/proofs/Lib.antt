@@ -1,3 +1,5 @@
 mod Reading
 mod Loading
 mod Results
+mod Calling
+mod Pushing

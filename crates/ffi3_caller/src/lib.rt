@@ -1,20 +1,23 @@
 //! The caller's side of a call, by any calling standard: whether the stack has room for it, its
-//! result, and the end of its frame.
+//! arguments, its result, and the end of its frame.
 #![tactic(auto)]
 
-ghost use Rattle.std.specs.Prelude.{◌≡◌, ◌+◌, ◌-◌, ◌<◌, ◌≤◌, IfErr, IfOk, length};
+ghost use Rattle.std.specs.Prelude.{◌≡◌, List, ◌+◌, ◌-◌, ◌<◌, ◌≤◌, IfErr, IfOk, length};
 ghost use Rattle.std.specs.List.{AllByRecursion};
 ghost use Rattle.ffi3_type_rules.specs.Layout.{size_of};
 ghost use Rattle.ffi3_type_rules.specs.Value.{ValueTree, value_in};
-ghost use Rattle.ffi3_place_rules.specs.Holds.{OwnResult};
+ghost use Rattle.ffi3_place_rules.specs.Holds.{FillArguments, Holds, OwnResult, OwnsArguments, OwnsHidden, RegisterHolds};
 ghost use Rattle.ffi3_place_rules.specs.Standard.{plan_of, need_of, frame_of};
 ghost use Rattle.ffi3_type_rules.specs.declared.limits.TheConstants.{STACK, STACK_TOP};
-ghost use Rattle.ffi3_machine.specs.State.{image_of, with_sp};
+ghost use Rattle.ffi3_machine.specs.State.{called, image_of, with_sp, IsSlot};
 ghost use Rattle.ffi3_caller.specs.Loaded.{AreWithin, IsRegister, IsWithin, loaded, with_piece};
+
+mod store;
 
 use ffi3_cif::Cif;
 use ffi3_machine::{Machine, STACK};
 use ffi3_place::{Abi, Loc, Piece, Pieces, Res};
+pub use store::store_args;
 use thiserror::Error;
 
 /// A call takes more bytes of stack than are left.
@@ -42,6 +45,26 @@ pub fn room_for<A: Abi>(machine: &Machine, cif: &Cif<A>) -> Result<(), StackFull
         return Err(StackFull { need, left });
     }
     Ok(())
+}
+
+/// Calls the code at the slot `addr`. Arguments that `store_args` stored stand for the callee behind the return address.
+pub fn call<A: Abi>(machine: &mut Machine, cif: &Cif<A>, addr: u64)
+    requires target { machine.old.target ≡ A.TARGET }
+    requires slot { IsSlot addr }
+    requires room { STACK + A.standard.link ≤ machine.old.sp }
+    requires frame { machine.old.sp + frame_of A.standard cif.now ≤ STACK_TOP }
+    ensures called { machine.new ≡ called addr machine.old }
+    ensures holds { (values : List ValueTree) →
+        OwnsArguments (image_of (frame_of A.standard cif.now) machine.old) 0 cif.now.arguments (plan_of A.standard cif.now).places values →
+        FillArguments (image_of (frame_of A.standard cif.now) machine.old) 0 cif.now.arguments (plan_of A.standard cif.now).places values →
+        OwnsHidden (image_of (frame_of A.standard cif.now) machine.old) 0 (plan_of A.standard cif.now).res →
+        RegisterHolds (image_of (frame_of A.standard cif.now) machine.old) A.standard.vector_count (plan_of A.standard cif.now).vectors →
+        Holds A.standard cif.now values (image_of (A.standard.link + frame_of A.standard cif.now) machine.new) }
+{
+    // their contracts tell what is true of every interface and of every machine
+    let _sig = cif.sig();
+    let _sp = machine.sp();
+    machine.call(addr);
 }
 
 /// The bytes of the result, at a return. Bytes of padding may be any.

@@ -1,0 +1,345 @@
+-- The arguments of a call, then the hidden result's address, then the number of vector registers.
+use Rattle.std.specs.Prelude.{true, Option, Some, None}
+use Rattle.std.proofs.Common.{◌≡◌, ℕ, zero, suc, ◌+◌, ◌-◌, ◌<◌, ◌≤◌, List, [], ◌∷◌, ◌++◌, get_or, length, replicate, inl, subst, sym, ◌∙◌, ap, refl, arith}
+use Rattle.std.specs.List.{AllByRecursion, flat_map, replace_range}
+use Rattle.std.proofs.lemmas.List.{get_or-replicate, length-replicate}
+use Rattle.ffi3_type_rules.specs.declared.Target.{Target}
+use Rattle.ffi3_type_rules.specs.declared.Isa.{Isa}
+use Rattle.ffi3_type_rules.specs.declared.Isa.TheVariants.{Amd64, Aarch64, Riscv}
+use Rattle.ffi3_type_rules.specs.declared.limits.TheConstants.{STACK}
+use Rattle.ffi3_type_rules.specs.Isa.{isa_of}
+use Rattle.ffi3_type_rules.specs.Tree.{Tree, trees_of}
+use Rattle.ffi3_type_rules.specs.Signature.{Signature, SignatureHasNoFault}
+use Rattle.ffi3_type_rules.specs.Value.{ValueTree, all_fit, values_of}
+use Rattle.ffi3_place_rules.specs.declared.Loc.{Loc}
+use Rattle.ffi3_place_rules.specs.declared.Loc.TheVariants.{G, F, S}
+use Rattle.ffi3_place_rules.specs.declared.Place.{Place}
+use Rattle.ffi3_place_rules.specs.declared.Place.TheVariants.{Direct, ByRef}
+use Rattle.ffi3_place_rules.specs.declared.Res.{Res}
+use Rattle.ffi3_place_rules.specs.declared.Res.TheVariants.{Nothing, Direct as DirectRes, Hidden}
+use Rattle.ffi3_place_rules.specs.Isa.{reserved_places}
+use Rattle.ffi3_place_rules.specs.Standard.{Standard, plan_of, frame_of}
+use Rattle.ffi3_place_rules.specs.Agrees.{AgreesWithMachine, given_back, special}
+use Rattle.ffi3_place_rules.specs.Holds.{FillArguments, OwnsArguments, OwnsHidden, RegisterHolds}
+use Rattle.ffi3_place_rules.specs.Sound.{Apart, IsNoneOf, IsSound, PlacesHaveAll, argument_locs, buffer_locs, copy_locs, hidden_locs, listed, closed_to_arguments, closed_to_results, place_locs, stack_words, stack_words_for}
+use Rattle.ffi3_machine.specs.State.{State, image_of, filled, stored, lowered, scribbled, scribbled_general, scribbled_register, with_sp}
+use Rattle.ffi3_machine.specs.Scribbled.{get_or-scribbled_general}
+use Rattle.ffi3_pieces.specs.Stored.{stack_byte, IsPlace, IsWritable, SameAt, Stays, WroteWithin}
+use Rattle.ffi3_pieces.specs.Standing.{AllStand, all_uses, HiddenStands}
+use Rattle.ffi3_pieces.proofs.Composing.{same_then, none_append, wrote_then}
+use Rattle.ffi3_pieces.proofs.Putting.{stored_inside, stored_within}
+use Rattle.ffi3_pieces.proofs.Stepping.{same_word_in}
+use Rattle.ffi3_pieces.proofs.Owning.{image_word, owned, filled as all_filled}
+use Rattle.ffi3_pieces.proofs.Lawful.{each_first, each_rest, each_join, each_map, apart_first, apart_across, across_none, across_first, uses_each, machine_places, call_places, all_ready}
+use Rattle.ffi3_pieces.proofs.Arguments.{all_stay}
+use Rattle.ffi3_caller.specs.Called.{CountStands}
+
+-- ---- the frame
+
+filled_is : (addr len byte : ℕ) (s : State) → filled addr len byte s ≡ stored addr (replicate len byte) s
+filled_is addr len byte s =
+    let n : len ≡ length (replicate len byte) = sym (length-replicate len byte) in
+    ap (λ k. record s {
+      stack = replace_range s.stack (addr - STACK) (addr - STACK + k) (replicate len byte);
+      mark = lowered s.mark addr k;
+    }) n
+
+pub filled_within : (addr len byte : ℕ) (s : State) → STACK ≤ addr → addr - STACK + len ≤ length s.stack → WroteWithin addr (addr + len) s (filled addr len byte s)
+filled_within addr len byte s low fits =
+    let n = length-replicate len byte in
+    subst (WroteWithin addr (addr + len) s) (sym (filled_is addr len byte s)) (stored_within addr (replicate len byte) s low (omega (arith, n, fits)) addr (addr + len) (omega arith) (omega (arith, n)))
+
+pub filled_bytes : (addr len byte : ℕ) (s : State) → STACK ≤ addr → addr - STACK + len ≤ length s.stack → (i : ℕ) → i < len → stack_byte (filled addr len byte s) (addr + i) ≡ byte
+filled_bytes addr len byte s low fits i below =
+    let n = length-replicate len byte in
+    subst (λ m. stack_byte m (addr + i) ≡ byte) (sym (filled_is addr len byte s)) (stored_inside addr (replicate len byte) s low (omega (arith, n, fits)) i (omega (arith, n, below)) ∙ get_or-replicate len i byte 0 below)
+
+-- ---- registers and the stack are apart
+
+register_apart : (l : Loc) (at n : ℕ) → IsPlace 0 l → AllByRecursion (Apart l) (stack_words at n)
+register_apart l at zero h = tt
+register_apart (G r) at (suc n) h = (tt, register_apart (G r) (at + 8) n h)
+register_apart (F r) at (suc n) h = (tt, register_apart (F r) (at + 8) n h)
+register_apart (S k) at (suc n) h = absurd (omega (arith, h))
+
+register_apart_copies : (l : Loc) (ts : List Tree) (ps : List Place) → IsPlace 0 l → AllByRecursion (Apart l) (copy_locs ts ps)
+register_apart_copies l [] ps h = tt
+register_apart_copies l (t ∷ ts) [] h = tt
+register_apart_copies l (t ∷ ts) (Direct pieces ∷ ps) h = register_apart_copies l ts ps h
+register_apart_copies l (t ∷ ts) (ByRef at copy ∷ ps) h =
+    each_join (Apart l) (stack_words_for copy t) (copy_locs ts ps) (register_apart l copy _ h) (register_apart_copies l ts ps h)
+
+-- a register that carries no argument is none of what the arguments use
+pub none_of_uses : (l : Loc) (ts : List Tree) (ps : List Place) → PlacesHaveAll ts ps → IsPlace 0 l → IsNoneOf (flat_map place_locs ps) l → IsNoneOf (all_uses ts ps) l
+none_of_uses l ts ps all h none = uses_each (Apart l) ts ps all none (register_apart_copies l ts ps h)
+
+-- ---- the laws
+
+module _ (std : Standard) (s : Signature) (sound : IsSound std s) where
+  abbrev places : List Place
+  places = (plan_of std s).places
+
+  abbrev hidden : List Loc
+  hidden = hidden_locs (plan_of std s).res
+
+  pub hidden_clear : AllByRecursion (IsNoneOf (hidden_locs (plan_of std s).res)) (all_uses s.arguments (plan_of std s).places)
+  hidden_clear =
+      let copies = copy_locs s.arguments (plan_of std s).places in
+      let buffer = buffer_locs s.result_type (plan_of std s).res in
+      let flat = flat_map place_locs (plan_of std s).places in
+      let across = apart_across (argument_locs (plan_of std s)) (copies ++ buffer) sound.apart in
+      let to_copies = across_first hidden copies buffer (each_first (λ x. AllByRecursion (Apart x) (copies ++ buffer)) hidden flat across) in
+      let to_places = apart_across hidden flat (apart_first (argument_locs (plan_of std s)) (copies ++ buffer) sound.apart) in
+      uses_each (IsNoneOf hidden) s.arguments places sound.has_all (across_none hidden flat to_places) (across_none hidden copies to_copies)
+
+  pub hidden_lies : (room : ℕ) → frame_of std s ≤ room → AllByRecursion (IsPlace room) (hidden_locs (plan_of std s).res)
+  hidden_lies room h = more (frame_of std s) room h (hidden_locs (plan_of std s).res) (each_first (IsPlace (frame_of std s)) (hidden_locs (plan_of std s).res) (flat_map place_locs (plan_of std s).places) (each_first (IsPlace (frame_of std s)) (argument_locs (plan_of std s)) (copy_locs s.arguments (plan_of std s).places ++ buffer_locs s.result_type (plan_of std s).res) (call_places std s sound)))
+    where
+      more : (n m : ℕ) → n ≤ m → (ls : List Loc) → AllByRecursion (IsPlace n) ls → AllByRecursion (IsPlace m) ls
+      more n m h [] all = tt
+      more n m h (G r ∷ ls) all = (all.0, more n m h ls all.1)
+      more n m h (F r ∷ ls) all = (all.0, more n m h ls all.1)
+      more n m h (S k ∷ ls) all = (omega (arith, h, all.0), more n m h ls all.1)
+
+  -- the register that tells the number carries no argument
+  count_free : AllByRecursion (IsNoneOf (listed std.vector_count)) (argument_locs (plan_of std s))
+  count_free =
+      each_of (argument_locs (plan_of std s)) sound.allowed
+    where
+      each_of : (ls : List Loc) → AllByRecursion (IsNoneOf (closed_to_arguments std)) ls → AllByRecursion (IsNoneOf (listed std.vector_count)) ls
+      each_of [] h = tt
+      each_of (l ∷ ls) h = (each_rest (Apart l) std.trampoline_registers (listed std.vector_count) (each_rest (Apart l) (closed_to_results std) (std.trampoline_registers ++ listed std.vector_count) h.0), each_of ls h.1)
+
+  pub count_clear : AllByRecursion (IsPlace 0) (listed std.vector_count) → AllByRecursion (IsNoneOf (listed std.vector_count)) (all_uses s.arguments (plan_of std s).places)
+  count_clear registers =
+      uses_each (IsNoneOf (listed std.vector_count)) s.arguments (plan_of std s).places sound.has_all (each_rest (IsNoneOf (listed std.vector_count)) (hidden_locs (plan_of std s).res) (flat_map place_locs (plan_of std s).places) count_free) (across_none (listed std.vector_count) (copy_locs s.arguments (plan_of std s).places) (each_copies (listed std.vector_count) registers))
+    where
+      each_copies : (ls : List Loc) → AllByRecursion (IsPlace 0) ls → AllByRecursion (λ x. AllByRecursion (Apart x) (copy_locs s.arguments (plan_of std s).places)) ls
+      each_copies [] h = tt
+      each_copies (l ∷ ls) h = (register_apart_copies l s.arguments (plan_of std s).places h.0, each_copies ls h.1)
+
+  pub count_clear_of_hidden : AllByRecursion (IsNoneOf (listed std.vector_count)) (hidden_locs (plan_of std s).res)
+  count_clear_of_hidden = each_first (IsNoneOf (listed std.vector_count)) (hidden_locs (plan_of std s).res) (flat_map place_locs (plan_of std s).places) count_free
+
+hidden_stays : (base : ℕ) (r : Res) (ls : List Loc) (a b : State) → AllByRecursion (IsNoneOf ls) (hidden_locs r) → Stays base ls a b → HiddenStands base a r → HiddenStands base b r
+hidden_stays base (Hidden at buffer) ls a b none stays stands = same_word_in base at a b (stays.others at none.0) ∙ stands
+hidden_stays base Nothing ls a b none stays stands = tt
+hidden_stays base (DirectRes pieces) ls a b none stays stands = tt
+
+pub hidden_owned : (m : State) (len : ℕ) (r : Res) → STACK ≤ m.sp → AllByRecursion (IsPlace len) (hidden_locs r) → HiddenStands m.sp m r → OwnsHidden (image_of len m) 0 r
+hidden_owned m len (Hidden at buffer) low lie stands =
+    let none : m.sp + buffer ≡ m.sp + 0 + buffer = omega arith in
+    image_word m len low at lie.0 ∙ stands ∙ none
+hidden_owned m len Nothing low lie stands = tt
+hidden_owned m len (DirectRes pieces) low lie stands = tt
+
+pub count_told : (m : State) (len : ℕ) (at : Option Loc) (n : ℕ) → STACK ≤ m.sp → AllByRecursion (IsPlace 0) (listed at) → CountStands m.sp m at n → RegisterHolds (image_of len m) at n
+count_told m len None n low registers stands = tt
+count_told m len (Some (G r)) n low registers stands = stands
+count_told m len (Some (F r)) n low registers stands = stands
+count_told m len (Some (S k)) n low registers stands = absurd (omega (arith, registers.0))
+
+-- ---- the three stores together
+
+pub record AreCalled (std : Standard) (s : Signature) (vs : List ValueTree) (base : ℕ) (m : State) : Type 0 where
+  pub stand : AllStand base m s.arguments (plan_of std s).places vs
+  pub hidden : HiddenStands base m (plan_of std s).res
+
+pub called_all : (std : Standard) (s : Signature) → IsSound std s → SignatureHasNoFault s → (vs : List ValueTree) (target : Target) (base : ℕ) (a b c : State) → STACK ≤ base → AllByRecursion (IsWritable target) (argument_locs (plan_of std s)) → AllByRecursion (IsPlace 0) (listed std.vector_count) →
+    AllStand base a s.arguments (plan_of std s).places vs → HiddenStands base b (plan_of std s).res → Stays base (hidden_locs (plan_of std s).res) a b → Stays base (listed std.vector_count) b c → AreCalled std s vs base c
+called_all std s sound right vs target base a b c low write registers stand hidden first second =
+    let ready = all_ready std s sound right target write in
+    let stand_b = all_stay base target (frame_of std s) (hidden_locs (plan_of std s).res) a b s.arguments (plan_of std s).places vs low ready (hidden_clear std s sound) first stand in record {
+      stand = all_stay base target (frame_of std s) (listed std.vector_count) b c s.arguments (plan_of std s).places vs low ready (count_clear std s sound registers) second stand_b;
+      hidden = hidden_stays base (plan_of std s).res (listed std.vector_count) b c (count_clear_of_hidden std s sound) second hidden;
+    }
+
+-- a register is the same whatever the stack's places count from
+register_same : (base other : ℕ) (l : Loc) (a b : State) → IsPlace 0 l → SameAt base l a b → SameAt other l a b
+register_same base other (G r) a b h same = same
+register_same base other (F r) a b h same = same
+register_same base other (S n) a b h same = absurd (omega (arith, h))
+
+-- the other registers, after all stores
+pub others_same : (std : Standard) (s : Signature) → IsSound std s → (base : ℕ) (l : Loc) (z o a b c : State) → IsPlace 0 l → IsNoneOf (argument_locs (plan_of std s) ++ listed std.vector_count) l → SameAt 0 l z o → Stays base (all_uses s.arguments (plan_of std s).places) o a → Stays base (hidden_locs (plan_of std s).res) a b → Stays base (listed std.vector_count) b c → SameAt 0 l z c
+others_same std s sound base l z o a b c h none zero_same first second third =
+    let parts = none_append (argument_locs (plan_of std s)) (listed std.vector_count) l none in
+    let both = none_append (hidden_locs (plan_of std s).res) (flat_map place_locs (plan_of std s).places) l parts.0 in
+    let in_uses = none_of_uses l s.arguments (plan_of std s).places sound.has_all h both.1 in
+    same_then 0 l z o c zero_same (register_same base 0 l o c h (same_then base l o b c (same_then base l o a b (first.others l in_uses) (second.others l both.0)) (third.others l parts.1)))
+
+-- eight bytes of the frame that carry nothing, after all stores
+free_same : (std : Standard) (s : Signature) → IsSound std s → (base at : ℕ) (o a b c : State) → AllByRecursion (IsPlace 0) (listed std.vector_count) → IsNoneOf (argument_locs (plan_of std s) ++ copy_locs s.arguments (plan_of std s).places) (S at) → Stays base (all_uses s.arguments (plan_of std s).places) o a → Stays base (hidden_locs (plan_of std s).res) a b → Stays base (listed std.vector_count) b c → SameAt base (S at) o c
+free_same std s sound base at o a b c registers none first second third =
+    let parts = none_append (argument_locs (plan_of std s)) (copy_locs s.arguments (plan_of std s).places) (S at) none in
+    let both = none_append (hidden_locs (plan_of std s).res) (flat_map place_locs (plan_of std s).places) (S at) parts.0 in
+    let in_uses = uses_each (Apart (S at)) s.arguments (plan_of std s).places sound.has_all both.1 parts.1 in
+    same_then base (S at) o b c (same_then base (S at) o a b (first.others (S at) in_uses) (second.others (S at) both.0)) (third.others (S at) (none_of_registers (listed std.vector_count) registers))
+  where
+    none_of_registers : (ls : List Loc) → AllByRecursion (IsPlace 0) ls → IsNoneOf ls (S at)
+    none_of_registers [] h = tt
+    none_of_registers (G r ∷ ls) h = (tt, none_of_registers ls h.1)
+    none_of_registers (F r ∷ ls) h = (tt, none_of_registers ls h.1)
+    none_of_registers (S k ∷ ls) h = absurd (omega (arith, h.0))
+
+-- ---- the frame that is opened
+
+pub frame_registers : (n sp frame byte : ℕ) (old : State) (l : Loc) → IsPlace 0 l → SameAt 0 l (scribbled n old) (filled sp frame byte (with_sp sp (scribbled n old)))
+frame_registers n sp frame byte old (G r) h = refl
+frame_registers n sp frame byte old (F r) h = refl
+frame_registers n sp frame byte old (S k) h = absurd (omega (arith, h))
+
+scribbled_within : (n sp low high : ℕ) (old : State) → WroteWithin low high old (with_sp sp (scribbled n old))
+scribbled_within n sp low high old = record {
+  size = refl;
+  outside = λ i h. refl;
+  mark = inl (omega arith);
+  target = refl;
+  pc = refl;
+  code = refl;
+  events = refl;
+  spare_events = refl;
+  spare_bytes = refl;
+}
+
+pub frame_within : (n sp frame byte : ℕ) (old : State) → STACK ≤ sp → sp - STACK + frame ≤ length old.stack → WroteWithin sp (sp + frame) old (filled sp frame byte (with_sp sp (scribbled n old)))
+frame_within n sp frame byte old low fits =
+    wrote_then sp (sp + frame) old (with_sp sp (scribbled n old)) (filled sp frame byte (with_sp sp (scribbled n old))) (scribbled_within n sp sp (sp + frame) old) (filled_within sp frame byte (with_sp sp (scribbled n old)) low fits)
+
+pub frame_begun : (n number sp frame byte : ℕ) (old a b d : State) → number ≡ n → a ≡ scribbled number old → b ≡ with_sp sp a → d ≡ filled sp frame byte b → d ≡ filled sp frame byte (with_sp sp (scribbled n old))
+frame_begun n number sp frame byte old a b d number_is first second third =
+    third ∙ ap (filled sp frame byte) (second ∙ ap (with_sp sp) (first ∙ ap (λ k. scribbled k old) number_is))
+
+-- ---- a call's arguments
+
+pub record IsCallStored (std : Standard) (s : Signature) (vs : List ValueTree) (z o d : State) : Type 0 where
+  pub sp : d.sp ≡ o.sp
+  pub own : OwnsArguments (image_of (frame_of std s) d) 0 s.arguments (plan_of std s).places vs
+  pub filled : FillArguments (image_of (frame_of std s) d) 0 s.arguments (plan_of std s).places vs
+  pub hidden : OwnsHidden (image_of (frame_of std s) d) 0 (plan_of std s).res
+  pub vectors : RegisterHolds (image_of (frame_of std s) d) std.vector_count (plan_of std s).vectors
+  pub others : (l : Loc) → IsPlace 0 l → IsNoneOf (argument_locs (plan_of std s) ++ listed std.vector_count) l → SameAt 0 l z d
+  pub free : (at : ℕ) → IsNoneOf (argument_locs (plan_of std s) ++ copy_locs s.arguments (plan_of std s).places) (S at) → SameAt o.sp (S at) o d
+  pub within : WroteWithin o.sp (o.sp + frame_of std s) o d
+
+pub call_stored : (std : Standard) (s : Signature) → IsSound std s → SignatureHasNoFault s → (vs : List ValueTree) (target : Target) (base : ℕ) (r : Res) (k : Option Loc) (n : ℕ) (z o a b d : State) → base ≡ o.sp → STACK ≤ base → r ≡ (plan_of std s).res → k ≡ std.vector_count → n ≡ (plan_of std s).vectors → AllByRecursion (IsWritable target) (argument_locs (plan_of std s)) → AllByRecursion (IsPlace 0) (listed k) → all_fit (trees_of s.arguments) (values_of vs) ≡ true →
+    ((l : Loc) → IsPlace 0 l → SameAt 0 l z o) →
+    AllStand o.sp a s.arguments (plan_of std s).places vs → Stays o.sp (all_uses s.arguments (plan_of std s).places) o a → WroteWithin o.sp (o.sp + frame_of std s) o a →
+    HiddenStands base b r → Stays base (hidden_locs r) a b → ((room : ℕ) → AllByRecursion (IsPlace room) (hidden_locs r) → WroteWithin base (base + room) a b) →
+    CountStands base d k n → Stays base (listed k) b d → ((room : ℕ) → WroteWithin base (base + room) b d) → IsCallStored std s vs z o d
+call_stored std s sound right vs target base r k n z o a b d is low res_is count_is number_is write registers fit opened stand places_stay places_within hidden_stands hidden_stay hidden_within told count_stay count_within =
+    let stand_a = subst (λ x. AllStand x a s.arguments (plan_of std s).places vs) (sym is) stand in
+    let first = subst (λ x. Stays x (all_uses s.arguments (plan_of std s).places) o a) (sym is) places_stay in
+    let hidden_b = subst (HiddenStands base b) res_is hidden_stands in
+    let second = subst (λ q. Stays base (hidden_locs q) a b) res_is hidden_stay in
+    let third = subst (λ q. Stays base (listed q) b d) count_is count_stay in
+    let in_registers = subst (λ q. AllByRecursion (IsPlace 0) (listed q)) count_is registers in
+    let ready = all_ready std s sound right target write in
+    let whole = called_all std s sound right vs target base a b d low write in_registers stand_a hidden_b second third in
+    let sp_is : d.sp ≡ o.sp = third.sp ∙ second.sp ∙ first.sp in
+    let base_is : base ≡ d.sp = is ∙ sym sp_is in
+    let low_d : STACK ≤ d.sp = omega (arith, base_is, low) in
+    let lie = subst (λ q. AllByRecursion (IsPlace (frame_of std s)) (hidden_locs q)) (sym res_is) (hidden_lies std s sound (frame_of std s) (omega arith)) in
+    let later = subst (λ x. WroteWithin x (x + frame_of std s) a d) is (wrote_then base (base + frame_of std s) a b d (hidden_within (frame_of std s) lie) (count_within (frame_of std s))) in
+    let told_d = subst (λ x. CountStands x d std.vector_count (plan_of std s).vectors) base_is (subst (CountStands base d std.vector_count) number_is (subst (λ q. CountStands base d q n) count_is told)) in
+    let stand_d = subst (λ x. AllStand x d s.arguments (plan_of std s).places vs) base_is whole.stand in record {
+      sp = sp_is;
+      own = owned d (frame_of std s) low_d target s.arguments (plan_of std s).places vs ready fit stand_d;
+      filled = all_filled d (frame_of std s) low_d target s.arguments (plan_of std s).places vs ready stand_d;
+      hidden = hidden_owned d (frame_of std s) (plan_of std s).res low_d (hidden_lies std s sound (frame_of std s) (omega arith)) (subst (λ x. HiddenStands x d (plan_of std s).res) base_is whole.hidden);
+      vectors = count_told d (frame_of std s) std.vector_count (plan_of std s).vectors low_d in_registers told_d;
+      others = λ l h none. others_same std s sound base l z o a b d h none (opened l h) first second third;
+      free = λ at none. subst (λ x. SameAt x (S at) o d) is (free_same std s sound base at o a b d in_registers none first second third);
+      within = wrote_then o.sp (o.sp + frame_of std s) o a d places_within later;
+    }
+
+pub register_lies : (room : ℕ) (l : Loc) → IsPlace 0 l → IsPlace room l
+register_lies room (G r) h = h
+register_lies room (F r) h = h
+register_lies room (S k) h = absurd (omega (arith, h))
+
+pub call_within : (frame : ℕ) (x o d : State) → o.sp + frame ≡ x.sp → WroteWithin o.sp (o.sp + frame) x o → d.sp ≡ o.sp → WroteWithin o.sp (o.sp + frame) o d → WroteWithin d.sp x.sp x d
+call_within frame x o d top first same second =
+    subst (λ low. WroteWithin low x.sp x d) (sym same) (subst (λ high. WroteWithin o.sp high x d) top (wrote_then o.sp (o.sp + frame) x o d first second))
+
+-- ---- reserved registers, of which a scribble writes none
+
+scribbled_same : (isa : Isa) (n : ℕ) (m : State) (k : ℕ) → isa_of m.target ≡ isa → k < 32 → get_or (scribbled n m).general k 0 ≡ scribbled_register isa n k (get_or m.general k 0)
+scribbled_same isa n m k is h =
+    ap (λ i. get_or (scribbled_general i n m.general) k 0) is ∙ get_or-scribbled_general isa n m.general k h
+
+scribble_leaves : (isa : Isa) (n : ℕ) (m : State) → isa_of m.target ≡ isa → AllByRecursion (λ l. SameAt 0 l m (scribbled n m)) (reserved_places isa)
+scribble_leaves Amd64 n m is = tt
+scribble_leaves Aarch64 n m is = (scribbled_same Aarch64 n m 18 is (omega arith), tt)
+scribble_leaves Riscv n m is =
+    (scribbled_same Riscv n m 0 is (omega arith), (scribbled_same Riscv n m 3 is (omega arith), (scribbled_same Riscv n m 4 is (omega arith), tt)))
+
+-- ---- the register that tells the number of vector registers
+
+module _ (std : Standard) (agrees : AgreesWithMachine std) where
+  pub count_is_register : AllByRecursion (IsPlace 0) (listed std.vector_count)
+  count_is_register =
+      machine_places (isa_of std.target) 0 (listed std.vector_count) agrees.count_exists
+
+  count_unreserved : AllByRecursion (IsNoneOf std.reserved) (listed std.vector_count)
+  count_unreserved =
+      each_map (IsNoneOf (given_back std ++ (std.reserved ++ std.trampoline_registers))) (IsNoneOf std.reserved) (λ l h. each_first (Apart l) std.reserved std.trampoline_registers (each_rest (Apart l) (given_back std) (std.reserved ++ std.trampoline_registers) h)) (listed std.vector_count) agrees.count_plain
+
+  pub count_is_written : (target kind : Target) → std.target ≡ kind → target ≡ kind → AllByRecursion (IsWritable target) (listed std.vector_count)
+  count_is_written target kind is same =
+      subst (λ k. AllByRecursion (IsWritable k) (listed std.vector_count)) (is ∙ sym same) (each_map (IsNoneOf std.reserved) (IsWritable std.target) agrees.written (listed std.vector_count) count_unreserved)
+
+  -- it is none of the preserved registers
+  count_not_preserved : AllByRecursion (IsNoneOf (listed std.vector_count)) std.preserved
+  count_not_preserved =
+      each_map (IsNoneOf (special std)) (IsNoneOf (listed std.vector_count)) (λ l h. plain l h.1) std.preserved agrees.preserved_plain
+    where
+      plain : (l : Loc) → AllByRecursion (Apart l) (std.reserved ++ (listed std.link_register ++ (std.trampoline_registers ++ (listed std.vector_count ++ listed std.returned_address)))) → IsNoneOf (listed std.vector_count) l
+      plain l h =
+          let link = each_rest (Apart l) std.reserved (listed std.link_register ++ (std.trampoline_registers ++ (listed std.vector_count ++ listed std.returned_address))) h in
+          let trampoline = each_rest (Apart l) (listed std.link_register) (std.trampoline_registers ++ (listed std.vector_count ++ listed std.returned_address)) link in
+          each_first (Apart l) (listed std.vector_count) (listed std.returned_address) (each_rest (Apart l) std.trampoline_registers (listed std.vector_count ++ listed std.returned_address) trampoline)
+
+  -- and none of the reserved ones
+  count_not_reserved : AllByRecursion (IsNoneOf (listed std.vector_count)) std.reserved
+  count_not_reserved = across_none (listed std.vector_count) std.reserved count_unreserved
+
+  reserved_are_registers : AllByRecursion (IsPlace 0) std.reserved
+  reserved_are_registers = subst (AllByRecursion (IsPlace 0)) (sym agrees.reserved) (each (isa_of std.target))
+    where
+      each : (isa : Isa) → AllByRecursion (IsPlace 0) (reserved_places isa)
+      each Amd64 = tt
+      each Aarch64 = (omega arith, tt)
+      each Riscv = (omega arith, (omega arith, (omega arith, tt)))
+
+  -- ---- registers that a callee preserves, and reserved ones
+
+  module _ (s : Signature) (sound : IsSound std s) (z d : State) (others : (l : Loc) → IsPlace 0 l → IsNoneOf (argument_locs (plan_of std s) ++ listed std.vector_count) l → SameAt 0 l z d) where
+    each_same : (ls : List Loc) → AllByRecursion (IsPlace 0) ls → AllByRecursion (IsNoneOf (argument_locs (plan_of std s))) ls → AllByRecursion (IsNoneOf (listed std.vector_count)) ls → AllByRecursion (λ l. SameAt 0 l z d) ls
+    each_same [] lie free none = tt
+    each_same (l ∷ ls) lie free none =
+        (others l lie.0 (each_join (Apart l) (argument_locs (plan_of std s)) (listed std.vector_count) free.0 none.0), each_same ls lie.1 free.1 none.1)
+
+    closed : AllByRecursion (IsNoneOf (argument_locs (plan_of std s))) (std.preserved ++ (std.reserved ++ listed std.link_register))
+    closed =
+        let clear = across_none (argument_locs (plan_of std s)) (closed_to_arguments std) sound.allowed in
+        (each_first (IsNoneOf (argument_locs (plan_of std s))) (closed_to_results std) (std.trampoline_registers ++ listed std.vector_count) clear).1
+
+    pub preserved_same : AllByRecursion (λ l. SameAt 0 l z d) std.preserved
+    preserved_same =
+        each_same std.preserved (machine_places (isa_of std.target) 0 std.preserved agrees.preserved_exist) (each_first (IsNoneOf (argument_locs (plan_of std s))) std.preserved (std.reserved ++ listed std.link_register) closed) count_not_preserved
+
+    reserved_same : AllByRecursion (λ l. SameAt 0 l z d) std.reserved
+    reserved_same =
+        each_same std.reserved reserved_are_registers (each_first (IsNoneOf (argument_locs (plan_of std s))) std.reserved (listed std.link_register) (each_rest (IsNoneOf (argument_locs (plan_of std s))) std.preserved (std.reserved ++ listed std.link_register) closed)) count_not_reserved
+
+    -- a scribble leaves the reserved registers
+    pub reserved_stays : (n : ℕ) (old : State) (kind : Target) → z ≡ scribbled n old → std.target ≡ kind → old.target ≡ kind → AllByRecursion (λ l. SameAt 0 l old d) std.reserved
+    reserved_stays n old kind z_is is same =
+        let isa_is : isa_of old.target ≡ isa_of std.target = ap isa_of (same ∙ sym is) in
+        let kept = subst (AllByRecursion (λ l. SameAt 0 l old (scribbled n old))) (sym agrees.reserved) (scribble_leaves (isa_of std.target) n old isa_is) in
+        both std.reserved (subst (λ x. AllByRecursion (λ l. SameAt 0 l old x) std.reserved) (sym z_is) kept) reserved_same
+      where
+        both : (ls : List Loc) → AllByRecursion (λ l. SameAt 0 l old z) ls → AllByRecursion (λ l. SameAt 0 l z d) ls → AllByRecursion (λ l. SameAt 0 l old d) ls
+        both [] h k = tt
+        both (l ∷ ls) h k = (same_then 0 l old z d h.0 k.0, both ls h.1 k.1)

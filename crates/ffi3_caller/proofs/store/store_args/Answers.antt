@@ -1,0 +1,187 @@
+use Rattle.std.proofs.Common.{◌≡◌, ◌+◌, ◌-◌, ◌<◌, ◌≤◌, ap, length, sym, subst, refl, ◌∙◌, arith}
+use Rattle.std.specs.List.{AllByRecursion, flat_map}
+use Rattle.ffi3_type_rules.specs.declared.limits.TheConstants.{STACK, STACK_TOP}
+use Rattle.ffi3_place_rules.specs.Standard.{plan_of, frame_of}
+use Rattle.ffi3_place_rules.specs.Sound.{hidden_locs, listed, place_locs}
+use Rattle.ffi3_machine.specs.State.{scribbled}
+use Rattle.ffi3_pieces.specs.Stored.{stack_byte, IsPlace, IsWritable, WroteWithin}
+use Rattle.ffi3_pieces.proofs.Lawful.{each_first, written_by_law}
+use Rattle.ffi3_caller.proofs.Calling.{call_stored, call_within, count_is_register, count_is_written, hidden_lies, preserved_same, reserved_stays}
+use Rattle.ffi3_caller.proofs.store.store_args.Goals as goal
+
+pub begin_frame-requires-clause-bottom : goal.begin_frame-requires-clause-bottom
+begin_frame-requires-clause-bottom g c = omega (arith, c.requires.room, c.frame.ensures)
+
+pub store_places-requires-clause-target : goal.store_places-requires-clause-target
+store_places-requires-clause-target g c = c.begin_frame.ensures.within.target ∙ c.requires.target
+
+pub store_places-requires-clause-bottom : goal.store_places-requires-clause-bottom
+store_places-requires-clause-bottom g c =
+    omega (arith, c.begin_frame.ensures.sp, c.frame.ensures, c.requires.room)
+
+pub store_places-requires-clause-frame : goal.store_places-requires-clause-frame
+store_places-requires-clause-frame g c =
+    omega (arith, c.begin_frame.ensures.sp, c.frame.ensures, c.requires.top)
+
+pub store_hidden-requires-clause-low : goal.store_hidden-requires-clause-low
+store_hidden-requires-clause-low g c =
+    omega (arith, c.begin_frame.ensures.sp, c.frame.ensures, c.sp-base.ensures.value, c.requires.room)
+
+pub store_hidden-requires-clause-high : goal.store_hidden-requires-clause-high
+store_hidden-requires-clause-high g c =
+    omega (arith, c.begin_frame.ensures.sp, c.sp-base.ensures.value, c.requires.top)
+
+pub store_hidden-requires-clause-lie : goal.store_hidden-requires-clause-lie
+store_hidden-requires-clause-lie g c =
+    let std = g.A.Abi.standard in
+    let s = c.args.cif.now in
+    let sound = g.met.A.Abi.sound s c.sig-sig.ensures.faultless in
+    subst (λ r. AllByRecursion (IsPlace (STACK_TOP - c.sp-base.result)) (hidden_locs r)) (sym c.result_place.ensures) (hidden_lies std s sound (STACK_TOP - c.sp-base.result) (omega (arith, c.begin_frame.ensures.sp, c.requires.top, c.frame.ensures, c.sp-base.ensures.value)))
+
+pub store_hidden-requires-clause-writable : goal.store_hidden-requires-clause-writable
+store_hidden-requires-clause-writable g c =
+    let std = g.A.Abi.standard in
+    let s = c.args.cif.now in
+    let sound = g.met.A.Abi.sound s c.sig-sig.ensures.faultless in
+    let target = c.store_places.new.machine.target in
+    let write = written_by_law std s sound g.met.A.Abi.agrees c.store_places.new.machine.target _ g.met.A.Abi.target_is (c.store_places.ensures.within.target ∙ c.begin_frame.ensures.within.target ∙ c.requires.target) in
+    subst (λ r. AllByRecursion (IsWritable target) (hidden_locs r)) (sym c.result_place.ensures) (each_first (IsWritable target) (hidden_locs (plan_of std s).res) (flat_map place_locs (plan_of std s).places) write)
+
+pub put_count-requires-clause-registers : goal.put_count-requires-clause-registers
+put_count-requires-clause-registers g c =
+    subst (λ k. AllByRecursion (IsPlace 0) (listed k)) (sym c.vector_count-count.ensures) (count_is_register g.A.Abi.standard g.met.A.Abi.agrees)
+
+pub put_count-requires-clause-writable : goal.put_count-requires-clause-writable
+put_count-requires-clause-writable g c =
+    let std = g.A.Abi.standard in
+    let s = c.args.cif.now in
+    let sound = g.met.A.Abi.sound s c.sig-sig.ensures.faultless in
+    let lie = subst (λ r. AllByRecursion (IsPlace (frame_of std s)) (hidden_locs r)) (sym c.result_place.ensures) (hidden_lies std s sound (frame_of std s) (omega arith)) in
+    let same = (c.store_hidden.ensures.within (frame_of std s) lie).target ∙ c.store_places.ensures.within.target ∙ c.begin_frame.ensures.within.target ∙ c.requires.target in
+    subst (λ k. AllByRecursion (IsWritable c.store_hidden.new.machine.target) (listed k)) (sym c.vector_count-count.ensures) (count_is_written std g.met.A.Abi.agrees c.store_hidden.new.machine.target _ g.met.A.Abi.target_is same)
+
+pub returns-clause-own : goal.returns-clause-own
+returns-clause-own g c =
+    let std = g.A.Abi.standard in
+    let s = c.args.cif.now in
+    let sound = g.met.A.Abi.sound s c.sig-sig.ensures.faultless in
+    let m = c.args.machine.now in
+    let write = written_by_law std s sound g.met.A.Abi.agrees m.target _ g.met.A.Abi.target_is c.requires.target in
+    let registers = subst (λ k. AllByRecursion (IsPlace 0) (listed k)) (sym c.vector_count-count.ensures) (count_is_register std g.met.A.Abi.agrees) in
+    let low : STACK ≤ c.sp-base.result = omega (arith, c.begin_frame.ensures.sp, c.frame.ensures, c.sp-base.ensures.value, c.requires.room) in
+    let all = call_stored std s sound c.sig-sig.ensures.faultless c.args.values.now m.target c.sp-base.result c.result_place.result.now c.vector_count-count.result c.vectors.result (scribbled (length m.events) m) c.begin_frame.new.machine c.store_places.new.machine c.store_hidden.new.machine c.put_count.new.machine c.sp-base.ensures.value low c.result_place.ensures c.vector_count-count.ensures c.vectors.ensures write registers c.requires.fit c.begin_frame.ensures.registers c.store_places.ensures.stand c.store_places.ensures.stays c.store_places.ensures.within c.store_hidden.ensures.stands c.store_hidden.ensures.stays c.store_hidden.ensures.within c.put_count.ensures.told c.put_count.ensures.stays c.put_count.ensures.within in
+    all.own
+
+pub returns-clause-filled : goal.returns-clause-filled
+returns-clause-filled g c =
+    let std = g.A.Abi.standard in
+    let s = c.args.cif.now in
+    let sound = g.met.A.Abi.sound s c.sig-sig.ensures.faultless in
+    let m = c.args.machine.now in
+    let write = written_by_law std s sound g.met.A.Abi.agrees m.target _ g.met.A.Abi.target_is c.requires.target in
+    let registers = subst (λ k. AllByRecursion (IsPlace 0) (listed k)) (sym c.vector_count-count.ensures) (count_is_register std g.met.A.Abi.agrees) in
+    let low : STACK ≤ c.sp-base.result = omega (arith, c.begin_frame.ensures.sp, c.frame.ensures, c.sp-base.ensures.value, c.requires.room) in
+    let all = call_stored std s sound c.sig-sig.ensures.faultless c.args.values.now m.target c.sp-base.result c.result_place.result.now c.vector_count-count.result c.vectors.result (scribbled (length m.events) m) c.begin_frame.new.machine c.store_places.new.machine c.store_hidden.new.machine c.put_count.new.machine c.sp-base.ensures.value low c.result_place.ensures c.vector_count-count.ensures c.vectors.ensures write registers c.requires.fit c.begin_frame.ensures.registers c.store_places.ensures.stand c.store_places.ensures.stays c.store_places.ensures.within c.store_hidden.ensures.stands c.store_hidden.ensures.stays c.store_hidden.ensures.within c.put_count.ensures.told c.put_count.ensures.stays c.put_count.ensures.within in
+    all.filled
+
+pub returns-clause-hidden : goal.returns-clause-hidden
+returns-clause-hidden g c =
+    let std = g.A.Abi.standard in
+    let s = c.args.cif.now in
+    let sound = g.met.A.Abi.sound s c.sig-sig.ensures.faultless in
+    let m = c.args.machine.now in
+    let write = written_by_law std s sound g.met.A.Abi.agrees m.target _ g.met.A.Abi.target_is c.requires.target in
+    let registers = subst (λ k. AllByRecursion (IsPlace 0) (listed k)) (sym c.vector_count-count.ensures) (count_is_register std g.met.A.Abi.agrees) in
+    let low : STACK ≤ c.sp-base.result = omega (arith, c.begin_frame.ensures.sp, c.frame.ensures, c.sp-base.ensures.value, c.requires.room) in
+    let all = call_stored std s sound c.sig-sig.ensures.faultless c.args.values.now m.target c.sp-base.result c.result_place.result.now c.vector_count-count.result c.vectors.result (scribbled (length m.events) m) c.begin_frame.new.machine c.store_places.new.machine c.store_hidden.new.machine c.put_count.new.machine c.sp-base.ensures.value low c.result_place.ensures c.vector_count-count.ensures c.vectors.ensures write registers c.requires.fit c.begin_frame.ensures.registers c.store_places.ensures.stand c.store_places.ensures.stays c.store_places.ensures.within c.store_hidden.ensures.stands c.store_hidden.ensures.stays c.store_hidden.ensures.within c.put_count.ensures.told c.put_count.ensures.stays c.put_count.ensures.within in
+    all.hidden
+
+pub returns-clause-vectors : goal.returns-clause-vectors
+returns-clause-vectors g c =
+    let std = g.A.Abi.standard in
+    let s = c.args.cif.now in
+    let sound = g.met.A.Abi.sound s c.sig-sig.ensures.faultless in
+    let m = c.args.machine.now in
+    let write = written_by_law std s sound g.met.A.Abi.agrees m.target _ g.met.A.Abi.target_is c.requires.target in
+    let registers = subst (λ k. AllByRecursion (IsPlace 0) (listed k)) (sym c.vector_count-count.ensures) (count_is_register std g.met.A.Abi.agrees) in
+    let low : STACK ≤ c.sp-base.result = omega (arith, c.begin_frame.ensures.sp, c.frame.ensures, c.sp-base.ensures.value, c.requires.room) in
+    let all = call_stored std s sound c.sig-sig.ensures.faultless c.args.values.now m.target c.sp-base.result c.result_place.result.now c.vector_count-count.result c.vectors.result (scribbled (length m.events) m) c.begin_frame.new.machine c.store_places.new.machine c.store_hidden.new.machine c.put_count.new.machine c.sp-base.ensures.value low c.result_place.ensures c.vector_count-count.ensures c.vectors.ensures write registers c.requires.fit c.begin_frame.ensures.registers c.store_places.ensures.stand c.store_places.ensures.stays c.store_places.ensures.within c.store_hidden.ensures.stands c.store_hidden.ensures.stays c.store_hidden.ensures.within c.put_count.ensures.told c.put_count.ensures.stays c.put_count.ensures.within in
+    all.vectors
+
+pub returns-clause-others : goal.returns-clause-others
+returns-clause-others g c =
+    let std = g.A.Abi.standard in
+    let s = c.args.cif.now in
+    let sound = g.met.A.Abi.sound s c.sig-sig.ensures.faultless in
+    let m = c.args.machine.now in
+    let write = written_by_law std s sound g.met.A.Abi.agrees m.target _ g.met.A.Abi.target_is c.requires.target in
+    let registers = subst (λ k. AllByRecursion (IsPlace 0) (listed k)) (sym c.vector_count-count.ensures) (count_is_register std g.met.A.Abi.agrees) in
+    let low : STACK ≤ c.sp-base.result = omega (arith, c.begin_frame.ensures.sp, c.frame.ensures, c.sp-base.ensures.value, c.requires.room) in
+    let all = call_stored std s sound c.sig-sig.ensures.faultless c.args.values.now m.target c.sp-base.result c.result_place.result.now c.vector_count-count.result c.vectors.result (scribbled (length m.events) m) c.begin_frame.new.machine c.store_places.new.machine c.store_hidden.new.machine c.put_count.new.machine c.sp-base.ensures.value low c.result_place.ensures c.vector_count-count.ensures c.vectors.ensures write registers c.requires.fit c.begin_frame.ensures.registers c.store_places.ensures.stand c.store_places.ensures.stays c.store_places.ensures.within c.store_hidden.ensures.stands c.store_hidden.ensures.stays c.store_hidden.ensures.within c.put_count.ensures.told c.put_count.ensures.stays c.put_count.ensures.within in
+    all.others
+
+pub returns-clause-free : goal.returns-clause-free
+returns-clause-free g c =
+    let std = g.A.Abi.standard in
+    let s = c.args.cif.now in
+    let sound = g.met.A.Abi.sound s c.sig-sig.ensures.faultless in
+    let m = c.args.machine.now in
+    let write = written_by_law std s sound g.met.A.Abi.agrees m.target _ g.met.A.Abi.target_is c.requires.target in
+    let registers = subst (λ k. AllByRecursion (IsPlace 0) (listed k)) (sym c.vector_count-count.ensures) (count_is_register std g.met.A.Abi.agrees) in
+    let low : STACK ≤ c.sp-base.result = omega (arith, c.begin_frame.ensures.sp, c.frame.ensures, c.sp-base.ensures.value, c.requires.room) in
+    let all = call_stored std s sound c.sig-sig.ensures.faultless c.args.values.now m.target c.sp-base.result c.result_place.result.now c.vector_count-count.result c.vectors.result (scribbled (length m.events) m) c.begin_frame.new.machine c.store_places.new.machine c.store_hidden.new.machine c.put_count.new.machine c.sp-base.ensures.value low c.result_place.ensures c.vector_count-count.ensures c.vectors.ensures write registers c.requires.fit c.begin_frame.ensures.registers c.store_places.ensures.stand c.store_places.ensures.stays c.store_places.ensures.within c.store_hidden.ensures.stands c.store_hidden.ensures.stays c.store_hidden.ensures.within c.put_count.ensures.told c.put_count.ensures.stays c.put_count.ensures.within in
+    λ at k room none below.
+    let o = c.begin_frame.new.machine in
+    let d = c.put_count.new.machine in
+    let there : d.sp + at + k ≡ o.sp + at + k = omega (arith, all.sp) in
+    let within : at + k < c.frame.result = omega (arith, room, below, c.frame.ensures) in
+    let back : o.sp + (at + k) ≡ o.sp + at + k = omega arith in
+    ap (stack_byte d) there ∙ all.free at none k below ∙ ap (stack_byte o) (sym back) ∙ c.begin_frame.ensures.filled (at + k) within
+
+pub returns-clause-sp : goal.returns-clause-sp
+returns-clause-sp g c =
+    let std = g.A.Abi.standard in
+    let s = c.args.cif.now in
+    let sound = g.met.A.Abi.sound s c.sig-sig.ensures.faultless in
+    let m = c.args.machine.now in
+    let write = written_by_law std s sound g.met.A.Abi.agrees m.target _ g.met.A.Abi.target_is c.requires.target in
+    let registers = subst (λ k. AllByRecursion (IsPlace 0) (listed k)) (sym c.vector_count-count.ensures) (count_is_register std g.met.A.Abi.agrees) in
+    let low : STACK ≤ c.sp-base.result = omega (arith, c.begin_frame.ensures.sp, c.frame.ensures, c.sp-base.ensures.value, c.requires.room) in
+    let all = call_stored std s sound c.sig-sig.ensures.faultless c.args.values.now m.target c.sp-base.result c.result_place.result.now c.vector_count-count.result c.vectors.result (scribbled (length m.events) m) c.begin_frame.new.machine c.store_places.new.machine c.store_hidden.new.machine c.put_count.new.machine c.sp-base.ensures.value low c.result_place.ensures c.vector_count-count.ensures c.vectors.ensures write registers c.requires.fit c.begin_frame.ensures.registers c.store_places.ensures.stand c.store_places.ensures.stays c.store_places.ensures.within c.store_hidden.ensures.stands c.store_hidden.ensures.stays c.store_hidden.ensures.within c.put_count.ensures.told c.put_count.ensures.stays c.put_count.ensures.within in
+    omega (arith, all.sp, c.begin_frame.ensures.sp, c.frame.ensures)
+
+pub returns-clause-preserved : goal.returns-clause-preserved
+returns-clause-preserved g c =
+    let std = g.A.Abi.standard in
+    let s = c.args.cif.now in
+    let sound = g.met.A.Abi.sound s c.sig-sig.ensures.faultless in
+    let m = c.args.machine.now in
+    let write = written_by_law std s sound g.met.A.Abi.agrees m.target _ g.met.A.Abi.target_is c.requires.target in
+    let registers = subst (λ k. AllByRecursion (IsPlace 0) (listed k)) (sym c.vector_count-count.ensures) (count_is_register std g.met.A.Abi.agrees) in
+    let low : STACK ≤ c.sp-base.result = omega (arith, c.begin_frame.ensures.sp, c.frame.ensures, c.sp-base.ensures.value, c.requires.room) in
+    let all = call_stored std s sound c.sig-sig.ensures.faultless c.args.values.now m.target c.sp-base.result c.result_place.result.now c.vector_count-count.result c.vectors.result (scribbled (length m.events) m) c.begin_frame.new.machine c.store_places.new.machine c.store_hidden.new.machine c.put_count.new.machine c.sp-base.ensures.value low c.result_place.ensures c.vector_count-count.ensures c.vectors.ensures write registers c.requires.fit c.begin_frame.ensures.registers c.store_places.ensures.stand c.store_places.ensures.stays c.store_places.ensures.within c.store_hidden.ensures.stands c.store_hidden.ensures.stays c.store_hidden.ensures.within c.put_count.ensures.told c.put_count.ensures.stays c.put_count.ensures.within in
+    preserved_same std g.met.A.Abi.agrees s sound (scribbled (length m.events) m) c.put_count.new.machine all.others
+
+pub returns-clause-reserved : goal.returns-clause-reserved
+returns-clause-reserved g c =
+    let std = g.A.Abi.standard in
+    let s = c.args.cif.now in
+    let sound = g.met.A.Abi.sound s c.sig-sig.ensures.faultless in
+    let m = c.args.machine.now in
+    let write = written_by_law std s sound g.met.A.Abi.agrees m.target _ g.met.A.Abi.target_is c.requires.target in
+    let registers = subst (λ k. AllByRecursion (IsPlace 0) (listed k)) (sym c.vector_count-count.ensures) (count_is_register std g.met.A.Abi.agrees) in
+    let low : STACK ≤ c.sp-base.result = omega (arith, c.begin_frame.ensures.sp, c.frame.ensures, c.sp-base.ensures.value, c.requires.room) in
+    let all = call_stored std s sound c.sig-sig.ensures.faultless c.args.values.now m.target c.sp-base.result c.result_place.result.now c.vector_count-count.result c.vectors.result (scribbled (length m.events) m) c.begin_frame.new.machine c.store_places.new.machine c.store_hidden.new.machine c.put_count.new.machine c.sp-base.ensures.value low c.result_place.ensures c.vector_count-count.ensures c.vectors.ensures write registers c.requires.fit c.begin_frame.ensures.registers c.store_places.ensures.stand c.store_places.ensures.stays c.store_places.ensures.within c.store_hidden.ensures.stands c.store_hidden.ensures.stays c.store_hidden.ensures.within c.put_count.ensures.told c.put_count.ensures.stays c.put_count.ensures.within in
+    reserved_stays std g.met.A.Abi.agrees s sound (scribbled (length m.events) m) c.put_count.new.machine all.others (length m.events) m _ refl g.met.A.Abi.target_is c.requires.target
+
+pub returns-clause-within : goal.returns-clause-within
+returns-clause-within g c =
+    let std = g.A.Abi.standard in
+    let s = c.args.cif.now in
+    let sound = g.met.A.Abi.sound s c.sig-sig.ensures.faultless in
+    let m = c.args.machine.now in
+    let write = written_by_law std s sound g.met.A.Abi.agrees m.target _ g.met.A.Abi.target_is c.requires.target in
+    let registers = subst (λ k. AllByRecursion (IsPlace 0) (listed k)) (sym c.vector_count-count.ensures) (count_is_register std g.met.A.Abi.agrees) in
+    let low : STACK ≤ c.sp-base.result = omega (arith, c.begin_frame.ensures.sp, c.frame.ensures, c.sp-base.ensures.value, c.requires.room) in
+    let all = call_stored std s sound c.sig-sig.ensures.faultless c.args.values.now m.target c.sp-base.result c.result_place.result.now c.vector_count-count.result c.vectors.result (scribbled (length m.events) m) c.begin_frame.new.machine c.store_places.new.machine c.store_hidden.new.machine c.put_count.new.machine c.sp-base.ensures.value low c.result_place.ensures c.vector_count-count.ensures c.vectors.ensures write registers c.requires.fit c.begin_frame.ensures.registers c.store_places.ensures.stand c.store_places.ensures.stays c.store_places.ensures.within c.store_hidden.ensures.stands c.store_hidden.ensures.stays c.store_hidden.ensures.within c.put_count.ensures.told c.put_count.ensures.stays c.put_count.ensures.within in
+    call_within (frame_of std s) m c.begin_frame.new.machine c.put_count.new.machine (subst (λ n. c.begin_frame.new.machine.sp + n ≡ m.sp) c.frame.ensures c.begin_frame.ensures.sp) (subst (λ n. WroteWithin c.begin_frame.new.machine.sp (c.begin_frame.new.machine.sp + n) m c.begin_frame.new.machine) c.frame.ensures c.begin_frame.ensures.within) all.sp all.within
