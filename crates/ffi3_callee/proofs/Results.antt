@@ -169,6 +169,11 @@ pub saved_below : (from base start : ℕ) (t : Tree) (res : Res) (hidden : Optio
 saved_below from base start t res hidden words entry a b low high writes saved = λ i w below is.
     same_word_in from (S (8 * i)) a b (λ k h. below_stays base t res a b writes (from + 8 * i + k - STACK) (omega (arith, low, high, below, h))) ∙ saved i w below is
 
+pub written_target : (base : ℕ) (t : Tree) (res : Res) (a b : State) → ResultWrites base t res a b → b.target ≡ a.target
+written_target base t Nothing a b w = w.target
+written_target base t (DirectRes pieces) a b w = w.target
+written_target base t (Hidden at buffer) a b w = w.target
+
 pub hidden_writes : (base address : ℕ) (t : Tree) (res : Res) (at : Loc) (buffer : ℕ) (a b c : State) → address + size_of t ≤ STACK_TOP → res ≡ Hidden at buffer → address ≡ base + buffer → WroteWithin address (address + size_of t) a b → WroteWithin STACK_TOP STACK_TOP b c → ResultWrites base t res a c
 hidden_writes base address t res at buffer a b c high is address_is w q =
     subst (λ r. ResultWrites base t r a c) (sym is) (subst (λ n. WroteWithin n (n + size_of t) a c) address_is (wrote_then address (address + size_of t) a b c w (quiet address (address + size_of t) b c (omega (arith, high)) q)))

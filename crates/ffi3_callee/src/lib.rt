@@ -23,10 +23,12 @@ ghost use Rattle.ffi3_callee.specs.Loaded.{AreBytesOf, AreFound, AreLoaded, IsFo
 ghost use Rattle.ffi3_callee.specs.Given.{ReservedStay};
 ghost use Rattle.ffi3_callee.specs.Received.{IsIncoming, IsReceived, OwnsAtEntry, hidden_of};
 
+mod answering;
 mod giving;
 mod restoring;
 mod saving;
 
+pub use answering::answer;
 use ffi3_cif::Cif;
 use ffi3_machine::Machine;
 use ffi3_place::parts::{argument, count_of, size_of};

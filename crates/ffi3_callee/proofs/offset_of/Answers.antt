@@ -1,6 +1,5 @@
 use Rattle.std.proofs.Common.{◌≡◌, ◌+◌, ◌<◌, ◌≤◌, length, ap, refl, subst, sym, ◌∙◌, arith}
 use Rattle.ffi3_type_rules.specs.Layout.{size_of}
-use Rattle.ffi3_type_rules.specs.Tree.{tree_at}
 use Rattle.ffi3_types.specs.TreeOf.{tree_of}
 use Rattle.ffi3_place_rules.specs.Standard.{block_bytes, round8}
 use Rattle.ffi3_body.specs.SeenActivation.{block_offset}

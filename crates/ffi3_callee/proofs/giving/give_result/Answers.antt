@@ -1,4 +1,4 @@
-use Rattle.std.proofs.Common.{◌≡◌, ◌+◌, ◌-◌, subst, sym, ◌∙◌, arith}
+use Rattle.std.proofs.Common.{◌≡◌, ◌+◌, ◌-◌, subst, sym, arith}
 use Rattle.ffi3_values.specs.ValueOf.{value_of}
 use Rattle.ffi3_place_rules.specs.Holds.{HoldsResult}
 use Rattle.ffi3_place_rules.specs.Standard.{frame_of, plan_of}
