@@ -1,16 +1,6 @@
-//! Tests that cross crates, and of those only what no row of `tests/rows` can say: reads and writes
-//! that fail, what a run leaves in the machine, texts of refused words, and values of public calls.
+//! Tests of the top call, and of those only what no row of `tests/rows` can say: reads and writes that fail, what a run
+//! leaves in the machine, texts of refused words.
 #![tactic(auto)]
 
-#[cfg(test)]
-mod arguments;
-#[cfg(test)]
-mod calls;
-#[cfg(test)]
-mod lines;
-#[cfg(test)]
-mod results;
-#[cfg(test)]
-mod runs;
 #[cfg(test)]
 mod top;

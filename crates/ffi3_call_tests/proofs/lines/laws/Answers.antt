@@ -1,4 +1,4 @@
-use Rattle.ffi3_tests.proofs.lines.laws.Goals as goal
+use Rattle.ffi3_call_tests.proofs.lines.laws.Goals as goal
 
 pub returns-clause-sound : goal.returns-clause-sound
 returns-clause-sound g c = g.met.A.Abi.sound c.args.cif.now c.sig.ensures.faultless

@@ -1,7 +1,7 @@
 use Rattle.std.proofs.Common.{true, ap, sym, subst, ◌∙◌}
 use Rattle.ffi3_type_rules.specs.Fault.{IsResultType}
 use Rattle.ffi3_type_rules.proofs.Right.{result_is_right}
-use Rattle.ffi3_tests.proofs.results.result_text.Goals as goal
+use Rattle.ffi3_call_tests.proofs.results.result_text.Goals as goal
 
 pub value_from_bytes-requires-clause-right : goal.value_from_bytes-requires-clause-right
 value_from_bytes-requires-clause-right g c =
