@@ -19,9 +19,8 @@ use Rattle.ffi3_machine.specs.State.{State, stack_at, with_sp}
 use Rattle.ffi3_pieces.specs.Stored.{IsPlace, word_in, IsWithin}
 use Rattle.ffi3_pieces.proofs.Owning.{image_byte}
 use Rattle.ffi3_pieces.proofs.Putting.{word_there}
-use Rattle.ffi3_pieces.proofs.Reading.{LeavesRead, ReadsLeaf}
+use Rattle.ffi3_pieces.proofs.Reading.{LeavesRead, ReadsLeaf, reads}
 use Rattle.ffi3_callee.specs.Loaded.{AreBytesOf, AreLoaded, HaveByte, IsRead, image_from}
-use Rattle.ffi3_callee.proofs.Reading.{reads}
 
 -- the eight bytes that the stack has from an address on
 pub stack_bytes : (base n : ℕ) (m : State) (bytes : List ℕ) → STACK ≤ base → bytes ≡ stack_at (base + n) 8 m → AreBytesOf base m (S n) bytes

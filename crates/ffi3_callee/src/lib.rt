@@ -196,7 +196,6 @@ fn hidden_place(place: &Res) -> Option<Loc>
 /// At an entry: saves the registers that are to be given back, copies the arguments into the block below them, where sp then is,
 /// and scribbles on all registers. It does not know the values.
 pub fn receive<A: Abi>(machine: &mut Machine, cif: &Cif<A>) -> Incoming
-    requires few { length A.standard.save_area < 256 }
     requires room { STACK + A.standard.save + block_bytes cif.now ≤ machine.old.sp }
     requires frame { machine.old.sp + A.standard.link + frame_of A.standard cif.now ≤ STACK_TOP }
     requires some { (vs : List ValueTree) × OwnsAtEntry A.standard cif.now machine.old vs }

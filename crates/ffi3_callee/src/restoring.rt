@@ -22,7 +22,6 @@ use ffi3_place::Abi;
 /// Gives back the saved registers and the stack: sp is the entry's. A result that was given stays, and after the return the registers are
 /// those that a callee keeps.
 pub fn restore<A: Abi>(machine: &mut Machine, cif: &Cif<A>, incoming: Incoming)
-    requires few { length A.standard.save_area < 256 }
     requires target { machine.old.target ≡ A.TARGET }
     requires incoming { IsIncoming A.standard cif.now incoming }
     ensures given_back { (value : Loc → ℕ) → AreGivenBack (incoming.entry - A.standard.save) A.standard.save_area value machine.old machine.new }

@@ -15,7 +15,6 @@ use ffi3_place::{Abi, Loc, SaveWord};
 
 // How many words the save area has.
 fn count_of_words<A: Abi>() -> u8
-    requires { length A.standard.save_area < 256 }
     ensures { result ≡ length A.standard.save_area }
 {
     (A::SAVE / 8) as u8
@@ -60,7 +59,6 @@ fn word_to_save(machine: &Machine, base: u64, hidden: Option<Loc>, word: SaveWor
 // Saves registers and a hidden result's address, one word behind the other from an address on.
 // Stack places count from the address `base`.
 pub fn save_words<A: Abi>(machine: &mut Machine, from: u64, base: u64, hidden: Option<Loc>)
-    requires few { length A.standard.save_area < 256 }
     requires low { STACK ≤ from }
     requires below { from + 8 * length A.standard.save_area ≤ base }
     requires high { base ≤ STACK_TOP }
@@ -106,7 +104,6 @@ fn restore_word(machine: &mut Machine, from: u64, i: u32, word: SaveWord)
 
 // Gives the saved registers back.
 pub fn restore_words<A: Abi>(machine: &mut Machine, from: u64)
-    requires few { length A.standard.save_area < 256 }
     requires low { STACK ≤ from }
     requires high { from + 8 * length A.standard.save_area ≤ STACK_TOP }
     requires registers { AllByRecursion (IsRestorable machine.old.target) A.standard.save_area }
