@@ -11,7 +11,6 @@ mod tell;
 mod top;
 mod words;
 mod work;
-mod write;
 
 pub use ffi3_machine::Machine;
 pub use limit::{NotYet, run_limit};

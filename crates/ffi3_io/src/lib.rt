@@ -15,7 +15,7 @@ mod tests;
 pub use adapter::{ReadSource, WriteSink};
 pub use mem_sink::MemSink;
 pub use mem_source::MemSource;
-pub use sink::{Sink, write_all};
+pub use sink::{Sink, WriteEnd, write_all, write_line};
 pub use source::{ReadEnd, Source, read_all};
 /// A want of memory: the one answer that no clause ties to a cause.
 pub use std::alloc::AllocError as NoMemory;

@@ -50,9 +50,7 @@ impl MemSource {
 }
 
 impl Source for MemSource {
-    ghost left = { λ s. Some s.left };
-
-    ghost faults = { λ s. s.faults };
+    ghost state = { λ s. record { left = Some s.left; faults = s.faults } };
 
     ghost read_gives = { MemoryGives };
 

@@ -49,9 +49,7 @@ impl SureSink {
 }
 
 impl Sink for SureSink {
-    ghost taken = { λ s. s.taken };
-
-    ghost faults = { λ _. 0 };
+    ghost state = { λ s. record { taken = s.taken; faults = 0 } };
 
     /// Never fails, and takes every piece whole.
     fn write(&mut self, bytes: &[u8]) -> Result<usize, Failed>

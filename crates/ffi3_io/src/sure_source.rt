@@ -34,9 +34,7 @@ impl SureSource {
 }
 
 impl Source for SureSource {
-    ghost left = { λ s. Some s.left };
-
-    ghost faults = { λ _. 0 };
+    ghost state = { λ s. record { left = Some s.left; faults = 0 } };
 
     ghost read_gives = { SureGives };
 
