@@ -13,11 +13,11 @@ use Rattle.ffi3_io.specs.Sink.{SinkState}
 use Rattle.ffi3_io.specs.Written.{TookText}
 use Rattle.ffi3_app.specs.Commands.{standard_of, joined, lines_from, arguments_from, place_text}
 use Rattle.ffi3_io.specs.Written.{IsCause, Wrote}
-use Rattle.ffi3_io.specs.declared.sink.WriteEnd.{WriteEnd}
-use Rattle.ffi3_io.specs.declared.sink.WriteEnd.TheVariants.{NoMemory, Failed}
+use Rattle.ffi3_io.specs.declared.IoError.{IoError}
+use Rattle.ffi3_io.specs.declared.IoError.TheVariants.{NoMemory, Failed}
 
 abbrev Writing : Type 0
-Writing = Result Unit WriteEnd
+Writing = Result Unit IoError
 
 nothing_written : (a : SinkState) → Wrote [] a a (Ok tt)
 nothing_written a = took_nothing a
@@ -28,7 +28,7 @@ written_then x y a b c (Ok u) first second = took_then a b c x y (x ++ y) refl f
 written_then x y a b c (Err e) first second = cut_after a b c x y (x ++ y) e refl first second
 
 -- a piece in which writing ended is part of the whole
-ended_within : (x y : List ℕ) (a b : SinkState) (e : WriteEnd) → Wrote x a b (Err e) → Wrote (x ++ y) a b (Err e)
+ended_within : (x y : List ℕ) (a b : SinkState) (e : IoError) → Wrote x a b (Err e) → Wrote (x ++ y) a b (Err e)
 ended_within x y a b e cut = cut_in a b x y (x ++ y) e refl cut
 
 -- ---- what is left of a text
@@ -45,7 +45,7 @@ module _ (whole rest : List ℕ) (start now : SinkState) (continues : Continues 
   pub continues_on : (piece left : List ℕ) (next : SinkState) → rest ≡ piece ++ left → Wrote piece now next (Ok tt) → Continues whole left start next
   continues_on piece left next is wrote = λ after r h. continues after r (subst (λ t. Wrote t now after r) (sym is) (written_then piece left now next after r wrote h))
 
-  pub continues_ended : (piece left : List ℕ) (next : SinkState) (e : WriteEnd) (r : Writing) → rest ≡ piece ++ left → Wrote piece now next (Err e) → r ≡ Err e → Wrote whole start next r
+  pub continues_ended : (piece left : List ℕ) (next : SinkState) (e : IoError) (r : Writing) → rest ≡ piece ++ left → Wrote piece now next (Err e) → r ≡ Err e → Wrote whole start next r
   continues_ended piece left next e r is wrote same =
       subst (λ q. Wrote whole start next q) (sym same) (continues next (Err e) (subst (λ t. Wrote t now next (Err e)) (sym is) (ended_within piece left now next e wrote)))
 

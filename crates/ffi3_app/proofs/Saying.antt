@@ -17,8 +17,8 @@ use Rattle.ffi3_app.specs.declared.load.Refusal.{Refusal}
 use Rattle.ffi3_app.specs.declared.load.Refusal.TheVariants.{ReadFault, NoMemory, TooLong, BadJson, BadScript, NotYet}
 use Rattle.ffi3_app.specs.Words.{Takes, IsRefused, IsStated, CanDo, IsWordsRefusal as WordsRefusal}
 use Rattle.ffi3_io.specs.Written.{IsCause}
-use Rattle.ffi3_io.specs.declared.sink.WriteEnd.{WriteEnd}
-use Rattle.ffi3_io.specs.declared.sink.WriteEnd.TheVariants as end
+use Rattle.ffi3_io.specs.declared.IoError.{IoError}
+use Rattle.ffi3_io.specs.declared.IoError.TheVariants as end
 use Rattle.ffi3_app.specs.declared.words.WordsFault.{WordsFault}
 use Rattle.ffi3_app.specs.declared.words.WordsFault.TheVariants.{Refused}
 use Rattle.ffi3_app.specs.Commands.{not_yet}
@@ -81,10 +81,10 @@ module _ (natives : List NamedNative) (output output' : SinkState) (machine mach
   done_count (Place t) s status is = is.0.count
   done_count (Run t) s status is = is.0.written.count
 
-pub no_fault_counted : (before after : SinkState) (e : WriteEnd) → e ≡ end.NoMemory → IsCause e before.faults after.faults → after.faults ≡ before.faults
+pub no_fault_counted : (before after : SinkState) (e : IoError) → e ≡ end.NoMemory → IsCause e before.faults after.faults → after.faults ≡ before.faults
 no_fault_counted before after e is cause = subst (λ w. IsCause w before.faults after.faults) is cause
 
-pub fault_counted : (before after : SinkState) (e : WriteEnd) → e ≡ end.Failed → IsCause e before.faults after.faults → Rose before.faults after.faults
+pub fault_counted : (before after : SinkState) (e : IoError) → e ≡ end.Failed → IsCause e before.faults after.faults → Rose before.faults after.faults
 fault_counted before after e is cause =
     let rose = subst (λ w. IsCause w before.faults after.faults) is cause in rose.0
 

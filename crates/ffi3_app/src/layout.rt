@@ -5,14 +5,14 @@ ghost use Rattle.ffi3_script.specs.ScriptOf.{script_of};
 ghost use Rattle.ffi3_app.specs.Commands.{joined, layout_lines, layout_text};
 ghost use Rattle.ffi3_io.specs.Written.{Wrote};
 
-use ffi3_io::{Sink, WriteEnd, write_line};
+use ffi3_io::{IoError, Sink, write_line};
 use ffi3_script::Script;
 use ffi3_text::layout_line;
 use ffi3_types::{At, Sig};
 use std::alloc::Global;
 
 /// Writes the layout of the types of each signature, one line for each type.
-pub fn layout<O: Sink>(alloc: Global, script: &Script, output: &mut O) -> Result<(), WriteEnd>
+pub fn layout<O: Sink>(alloc: Global, script: &Script, output: &mut O) -> Result<(), IoError>
     ensures { Wrote (layout_text (script_of script.now)) (O.state output.old) (O.state output.new) result }
 {
     let sigs = script.sigs();
@@ -23,7 +23,7 @@ pub fn layout<O: Sink>(alloc: Global, script: &Script, output: &mut O) -> Result
 }
 
 // The lines of one signature: of its result, then of its arguments.
-fn layout_of<O: Sink>(alloc: Global, number: u32, sig: &Sig, output: &mut O) -> Result<(), WriteEnd>
+fn layout_of<O: Sink>(alloc: Global, number: u32, sig: &Sig, output: &mut O) -> Result<(), IoError>
     requires { SignatureHasNoFault sig.now }
     ensures { Wrote (joined (layout_lines number sig.now)) (O.state output.old) (O.state output.new) result }
 {

@@ -8,7 +8,7 @@ ghost use Rattle.ffi3_app.specs.Top.{ReadAs, IsAtEnd, IsReadInPart, IsRead};
 
 use crate::limit::run_limit;
 use crate::words::Request;
-use ffi3_io::{ReadEnd, Source, read_all};
+use ffi3_io::{IoError, Source, read_all};
 use ffi3_json::{MAX_LENGTH, Reason, ScriptFault, Where};
 use ffi3_script::{Names, Script, read_script};
 use std::alloc::Global;
@@ -70,8 +70,8 @@ fn read<I: Source>(alloc: Global, natives: &Names, input: &mut I) -> Result<Scri
 {
     match read_all(alloc, input, MAX_LENGTH + 1) {
         Ok(bytes) => judge(alloc, natives, &bytes),
-        Err(ReadEnd::Failed) => Err(Refusal::ReadFault),
-        Err(ReadEnd::NoMemory) => Err(Refusal::NoMemory),
+        Err(IoError::Failed) => Err(Refusal::ReadFault),
+        Err(IoError::NoMemory) => Err(Refusal::NoMemory),
     }
 }
 

@@ -9,7 +9,7 @@ ghost use Rattle.ffi3_io.specs.Written.{Wrote};
 use ffi3_aapcs64::Aapcs64;
 use ffi3_amd64::Amd64;
 use ffi3_cif::{Cif, PrepFault, prep_cif, prep_cif_var};
-use ffi3_io::{Sink, WriteEnd, write_line};
+use ffi3_io::{IoError, Sink, write_line};
 use ffi3_place::Abi;
 use ffi3_riscv::Riscv;
 use ffi3_script::Script;
@@ -24,7 +24,7 @@ pub fn place<O: Sink>(
     target: Target,
     script: &Script,
     output: &mut O,
-) -> Result<(), WriteEnd>
+) -> Result<(), IoError>
     ensures { Wrote (place_text (standard_of target) (script_of script.now)) (O.state output.old) (O.state output.new) result }
 {
     match target {
@@ -35,7 +35,7 @@ pub fn place<O: Sink>(
 }
 
 // The same by a calling standard.
-fn place_by<A: Abi, O: Sink>(alloc: Global, script: &Script, output: &mut O) -> Result<(), WriteEnd>
+fn place_by<A: Abi, O: Sink>(alloc: Global, script: &Script, output: &mut O) -> Result<(), IoError>
     ensures { Wrote (place_text A.standard (script_of script.now)) (O.state output.old) (O.state output.new) result }
 {
     let sigs = script.sigs();
@@ -52,7 +52,7 @@ fn place_of<A: Abi, O: Sink>(
     number: u32,
     cif: &Cif<A>,
     output: &mut O,
-) -> Result<(), WriteEnd>
+) -> Result<(), IoError>
     ensures { Wrote (joined (place_lines A.standard number cif.now)) (O.state output.old) (O.state output.new) result }
 {
     write_line(output, sig_line(alloc, number, cif)?.as_slice())?;

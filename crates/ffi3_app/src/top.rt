@@ -14,7 +14,7 @@ use crate::tell::{tell, tell_refusal};
 use crate::words::{WordsFault, read_words};
 use crate::work::work;
 use ffi3_body::Native;
-use ffi3_io::{Sink, Source, WriteEnd};
+use ffi3_io::{IoError, Sink, Source};
 use ffi3_machine::Machine;
 use ffi3_script::Names;
 use std::alloc::Global;
@@ -107,7 +107,7 @@ fn answer<I: Source, O: Sink, E: Sink>(
     };
     match work(alloc, request, &script, machine, output) {
         Ok(status) => status,
-        Err(WriteEnd::NoMemory) => tell(faults, "ffi3: out of memory\n", 5),
-        Err(WriteEnd::Failed) => tell(faults, "ffi3: write fault\n", 4),
+        Err(IoError::NoMemory) => tell(faults, "ffi3: out of memory\n", 5),
+        Err(IoError::Failed) => tell(faults, "ffi3: write fault\n", 4),
     }
 }

@@ -12,7 +12,7 @@ ghost use Rattle.ffi3_io.specs.Written.{IsCause};
 use crate::layout::layout;
 use crate::place::place;
 use crate::words::Request;
-use ffi3_io::{Sink, WriteEnd};
+use ffi3_io::{IoError, Sink};
 use ffi3_machine::Machine;
 use ffi3_run::{RunEnd, run_main};
 use ffi3_script::Script;
@@ -25,7 +25,7 @@ pub fn work<O: Sink>(
     script: &Script,
     machine: &mut Machine,
     output: &mut O,
-) -> Result<u8, WriteEnd>
+) -> Result<u8, IoError>
     requires can { CanDo request }
     requires done { not_yet request (script_of script.now) ≡ None }
     requires alone { natives_of script.now ≡ 0 }
@@ -54,7 +54,7 @@ fn run<O: Sink>(
     script: &Script,
     machine: &mut Machine,
     output: &mut O,
-) -> Result<u8, WriteEnd>
+) -> Result<u8, IoError>
     requires done { first_not_run (script_of script.now) ≡ None }
     requires alone { natives_of script.now ≡ 0 }
     ensures done { IfOk result (IsDone (Run Amd64) [] (script_of script.now)
@@ -66,7 +66,7 @@ fn run<O: Sink>(
     match run_main(alloc, script, machine, output) {
         RunEnd::Done => Ok(0),
         RunEnd::Stopped(_) => Ok(6),
-        RunEnd::NoMemory => Err(WriteEnd::NoMemory),
-        RunEnd::Failed => Err(WriteEnd::Failed),
+        RunEnd::NoMemory => Err(IoError::NoMemory),
+        RunEnd::Failed => Err(IoError::Failed),
     }
 }

@@ -4,8 +4,8 @@ use Rattle.std.proofs.lemmas.List.{take-append-le}
 use Rattle.std.proofs.Math.Seq.{take-append-add, take-length}
 use Rattle.ffi3_io.specs.Sink.{Adds, SinkState}
 use Rattle.ffi3_io.proofs.Adding.{Adds-then, Adds-along, Adds-none}
-use Rattle.ffi3_io.specs.declared.sink.WriteEnd.{WriteEnd}
-use Rattle.ffi3_io.specs.declared.sink.WriteEnd.TheVariants.{NoMemory}
+use Rattle.ffi3_io.specs.declared.IoError.{IoError}
+use Rattle.ffi3_io.specs.declared.IoError.TheVariants.{NoMemory}
 use Rattle.ffi3_io.specs.Written.{CutOff, IsCause, TookText}
 
 pub took_nothing : (before : SinkState) → TookText [] before before
@@ -20,11 +20,11 @@ took_then a b c x y whole is first second = record {
 pub took_as : (a b : SinkState) (x y : List ℕ) → x ≡ y → TookText x a b → TookText y a b
 took_as a b x y is h = subst (λ (l : List ℕ). TookText l a b) is h
 
-cause_then : (cut : WriteEnd) (a b c : ℕ) → b ≡ a → IsCause cut b c → IsCause cut a c
+cause_then : (cut : IoError) (a b c : ℕ) → b ≡ a → IsCause cut b c → IsCause cut a c
 cause_then cut a b c same h = subst (λ (n : ℕ). IsCause cut n c) same h
 
 -- cut off after the first part was taken whole
-pub cut_after : (a b c : SinkState) (x y whole : List ℕ) (cut : WriteEnd) → whole ≡ x ++ y → TookText x a b → CutOff y b c cut → CutOff whole a c cut
+pub cut_after : (a b c : SinkState) (x y whole : List ℕ) (cut : IoError) → whole ≡ x ++ y → TookText x a b → CutOff y b c cut → CutOff whole a c cut
 cut_after a b c x y whole cut is first second =
     let short : length x + second.part ≤ length whole = omega (arith, ap length is, length-append x y, second.within) in
     let same : x ++ take second.part y ≡ take (length x + second.part) whole = sym (take-append-add x y second.part) ∙ ap (take (length x + second.part)) (sym is) in
@@ -36,7 +36,7 @@ cut_after a b c x y whole cut is first second =
     }
 
 -- cut off in the first part
-pub cut_in : (a b : SinkState) (x y whole : List ℕ) (cut : WriteEnd) → whole ≡ x ++ y → CutOff x a b cut → CutOff whole a b cut
+pub cut_in : (a b : SinkState) (x y whole : List ℕ) (cut : IoError) → whole ≡ x ++ y → CutOff x a b cut → CutOff whole a b cut
 cut_in a b x y whole cut is h =
     let short : h.part ≤ length whole = omega (arith, ap length is, length-append x y, h.within) in
     let same : take h.part x ≡ take h.part whole = sym (take-append-le h.part x y h.within) ∙ ap (take h.part) (sym is) in

@@ -3,7 +3,7 @@ ghost use Rattle.std.specs.Prelude.{◌≡◌, ◌<◌, ◌≤◌, [], take, len
 ghost use Rattle.ffi3_io.specs.Sink.{Adds, AddsSome, Rose, SinkState};
 ghost use Rattle.ffi3_io.specs.Written.{Wrote};
 
-use crate::{Failed, NoMemory};
+use crate::{Failed, IoError};
 
 /// Takes bytes, and counts the writes that failed.
 pub trait Sink {
@@ -42,32 +42,12 @@ pub fn write_all<O: Sink>(output: &mut O, bytes: &[u8]) -> Result<(), Failed>
     Ok(())
 }
 
-/// Why a text was not written to its end.
-#[derive(Clone, Copy, Debug, PartialEq, Eq, Drop)]
-pub enum WriteEnd {
-    /// Memory was refused.
-    NoMemory,
-    /// A write failed.
-    Failed,
-}
-
-impl From<NoMemory> for WriteEnd {
-    ghost use Rattle.std.specs.Prelude.{◌≡◌};
-    ghost use Rattle.ffi3_io.specs.declared.sink.WriteEnd.TheVariants.{NoMemory};
-
-    ghost from_gives = { λ _ e. e ≡ NoMemory };
-
-    fn from(_refused: NoMemory) -> WriteEnd {
-        WriteEnd::NoMemory
-    }
-}
-
 /// Writes a line, with its newline, in one piece.
-pub fn write_line<O: Sink>(output: &mut O, line: &[u8]) -> Result<(), WriteEnd>
+pub fn write_line<O: Sink>(output: &mut O, line: &[u8]) -> Result<(), IoError>
     ensures { Wrote line.now (O.state output.old) (O.state output.new) result }
 {
     match write_all(output, line) {
         Ok(()) => Ok(()),
-        Err(_) => Err(WriteEnd::Failed),
+        Err(_) => Err(IoError::Failed),
     }
 }

@@ -4,7 +4,7 @@
 ghost use Rattle.std.specs.Prelude.{None};
 
 use crate::{
-    Failed, MemSink, MemSource, NoMemory, ReadEnd, ReadSource, Sink, Source, SureSink, SureSource,
+    Failed, MemSink, MemSource, NoMemory, IoError, ReadSource, Sink, Source, SureSink, SureSource,
     WriteSink, read_all, write_all,
 };
 use std::alloc::Global;
@@ -184,7 +184,7 @@ fn input_is_read_to_its_end(rt: HostRuntime) -> Result<(), Fail> {
         match read_all(alloc, &mut source, limit) {
             Ok(got) => assert_eq!(rt; Some(got.as_slice()), want),
             Err(end) => {
-                assert_eq!(rt; end, ReadEnd::Failed);
+                assert_eq!(rt; end, IoError::Failed);
                 assert!(rt; want.is_none());
             }
         }

@@ -20,7 +20,7 @@ use Rattle.ffi3_closures.specs.Slots.{HoldsMap}
 use Rattle.ffi3_call.specs.Calls.{HasBegun, HasEnded}
 use Rattle.ffi3_run.specs.declared.board.Board.{Board}
 use Rattle.ffi3_run.specs.declared.board.Turn.{Turn}
-use Rattle.ffi3_io.specs.declared.sink.WriteEnd.{WriteEnd}
+use Rattle.ffi3_io.specs.declared.IoError.{IoError}
 use Rattle.ffi3_io.specs.Sink.{SinkState}
 use Rattle.ffi3_run.specs.CallTree.{joined, preceded, text_of, Scene, Done, AnswersAfter}
 use Rattle.ffi3_io.specs.Written.{CutOff}
@@ -109,7 +109,7 @@ module _ (p : Program) (x : Moment) (between : IsBetween p (asking x)) (needs : 
       (t.0, ap (λ (z : Outcome). text_of p z.call_tree) (rest_by o refl) ∙ t.1)
 
   -- cut off in the function
-  pub cut_inside : (o : SinkState) (why : WriteEnd) → CutOff (text_of p (act p callee x.closures x.moves).call_tree) x.scene.output o why → CutOff (text_of p (rest_of p (asking x)).call_tree) x.scene.output o why
+  pub cut_inside : (o : SinkState) (why : IoError) → CutOff (text_of p (act p callee x.closures x.moves).call_tree) x.scene.output o why → CutOff (text_of p (rest_of p (asking x)).call_tree) x.scene.output o why
   cut_inside o why h =
       cut_in x.scene.output o (text_of p (act p callee x.closures x.moves).call_tree) text_inside.0 (text_of p (rest_of p (asking x)).call_tree) why text_inside.1 h
 
@@ -195,7 +195,7 @@ module _ (p : Program) (x : Moment) (between : IsBetween p (asking x)) (needs : 
       text_is =
           stopped_text p ptr sig args all_inside ∙ text-joined p came.call_tree last ∙ ap (λ (l : List ℕ). text_of p came.call_tree ++ l) (append-nil stop_words)
 
-      pub stops_inside : (b : Board) (o' : SinkState) (t : Result Turn WriteEnd) → StoppedBy p.signatures MoveLimit o o' t → Turned p (asking x) (moment b m o') t
+      pub stops_inside : (b : Board) (o' : SinkState) (t : Result Turn IoError) → StoppedBy p.signatures MoveLimit o o' t → Turned p (asking x) (moment b m o') t
       stops_inside b o' (Ok t) by =
           let after : Scene = record { machine = m; output = o' } in
           let Q = λ (u : Turn). Turned p (asking x) (moment b m o') (Ok u) in

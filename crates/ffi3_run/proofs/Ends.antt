@@ -16,8 +16,8 @@ use Rattle.ffi3_machine.specs.State.{State, begun, begun_code}
 use Rattle.ffi3_type_rules.specs.declared.limits.TheConstants.{STACK_TOP}
 use Rattle.ffi3_closures.specs.Slots.{HoldsMap}
 use Rattle.ffi3_run.specs.declared.board.Board.{Board}
-use Rattle.ffi3_io.specs.declared.sink.WriteEnd.{WriteEnd}
-use Rattle.ffi3_io.specs.declared.sink.WriteEnd.TheVariants as cut
+use Rattle.ffi3_io.specs.declared.IoError.{IoError}
+use Rattle.ffi3_io.specs.declared.IoError.TheVariants as cut
 use Rattle.ffi3_run.specs.declared.run.RunEnd.{RunEnd}
 use Rattle.ffi3_run.specs.declared.run.RunEnd.TheVariants as run
 use Rattle.ffi3_run.specs.RunMatches.{RunMatches, WrotePart}
@@ -81,7 +81,7 @@ module _ (p : Program) (m : State) (o : SinkState) (last : Moment) (none : m.eve
   part_of_all end came =
       whole_part o.taken last.scene.output.taken (text_of_run untraced p) came.done.lines.added
 
-  part_of_cut : (why : WriteEnd) → CutIn p (start m o) last why → WrotePart untraced p o last.scene.output
+  part_of_cut : (why : IoError) → CutIn p (start m o) last why → WrotePart untraced p o last.scene.output
   part_of_cut why h = (h.part, h.written)
 
   -- what each answer says

@@ -14,8 +14,8 @@ use Rattle.ffi3_run_rules.specs.Meaning.{Program, Activation, CallTree, no_nodes
 use Rattle.ffi3_body.specs.SeenActivation.{arguments_in}
 use Rattle.ffi3_body.specs.Follow.{IsOfType, ResultsFollow}
 use Rattle.ffi3_body.proofs.Follow.{none_follow, one_more_follows}
-use Rattle.ffi3_io.specs.declared.sink.WriteEnd.{WriteEnd}
-use Rattle.ffi3_io.specs.declared.sink.WriteEnd.TheVariants.{NoMemory}
+use Rattle.ffi3_io.specs.declared.IoError.{IoError}
+use Rattle.ffi3_io.specs.declared.IoError.TheVariants.{NoMemory}
 use Rattle.ffi3_io.specs.Sink.{SinkState}
 use Rattle.ffi3_io.specs.Written.{TookText}
 use Rattle.ffi3_run.specs.CallTree.{joined, preceded, text_of}
@@ -107,7 +107,7 @@ module _ (behaviour : Behaviour) (s : Signature) (block : List ℕ) (user : ℕ)
         }
 
         -- cut off in the line
-        pub leaf_cut_in_line : (after : SinkState) (cut : WriteEnd) → CutOff (a_line (value_text_of t v)) now after cut → CutOff (text_of p (act p a c first).call_tree) before after cut
+        pub leaf_cut_in_line : (after : SinkState) (cut : IoError) → CutOff (a_line (value_text_of t v)) now after cut → CutOff (text_of p (act p a c first).call_tree) before after cut
         leaf_cut_in_line after cut h =
             let o = act p (at (results ++ void_value ∷ [])) c left in
             let rest = joined this o.call_tree in
@@ -145,7 +145,7 @@ module _ (signatures : List Signature) (behaviour : Behaviour) (s : Signature) (
       returns_there some v is =
           leaf_returns behaviour s block user p a c begins first before results left (left - 1) now (h.went p a c begins) (one_fewer left some) v is
 
-      pub cut_in_line_there : (left ≡ 0 → ⊥) → (t : Tree) (v : ValueTree) → behaviour (arguments_in s.arguments block) user results ≡ print t v → (after : SinkState) (cut : WriteEnd) → CutOff (a_line (value_text_of t v)) now after cut → CutOff (text_of p (act p a c first).call_tree) before after cut
+      pub cut_in_line_there : (left ≡ 0 → ⊥) → (t : Tree) (v : ValueTree) → behaviour (arguments_in s.arguments block) user results ≡ print t v → (after : SinkState) (cut : IoError) → CutOff (a_line (value_text_of t v)) now after cut → CutOff (text_of p (act p a c first).call_tree) before after cut
       cut_in_line_there some t v is after cut cut_line =
           leaf_cut_in_line behaviour s block user p a c begins first before results left (left - 1) now (h.went p a c begins) (one_fewer left some) t v is after cut cut_line
 

@@ -17,8 +17,8 @@ use Rattle.ffi3_machine.specs.State.{State}
 use Rattle.ffi3_closures.specs.Slots.{HoldsMap}
 use Rattle.ffi3_run.specs.declared.board.Board.{Board}
 use Rattle.ffi3_run.specs.declared.board.Turn.{Turn}
-use Rattle.ffi3_io.specs.declared.sink.WriteEnd.{WriteEnd}
-use Rattle.ffi3_io.specs.declared.sink.WriteEnd.TheVariants as cut
+use Rattle.ffi3_io.specs.declared.IoError.{IoError}
+use Rattle.ffi3_io.specs.declared.IoError.TheVariants as cut
 use Rattle.ffi3_io.specs.Sink.{SinkState}
 use Rattle.ffi3_io.specs.Written.{TookText}
 use Rattle.ffi3_run.specs.CallTree.{preceded, text_of, Scene, Done, AnswersAfter}
@@ -50,14 +50,14 @@ module _ (p : Program) (x : Moment) (between : IsBetween p (asking x)) (asked : 
 -- ---- the end of a move
 
 -- the run goes on from here, or there is no memory for the result
-pub goes : (p : Program) (old : Moment) (b b' : Board) (m : State) (o : SinkState) (r : ValueTree) (t : Result Turn WriteEnd) → GoneOn r b b' t → Went p old (moment (record b { results = b.results ++ r ∷ [] }) m o) → IsBetween p (moment (record b { results = b.results ++ r ∷ [] }) m o) → b.moves < old.moves → Turned p old (moment b' m o) t
+pub goes : (p : Program) (old : Moment) (b b' : Board) (m : State) (o : SinkState) (r : ValueTree) (t : Result Turn IoError) → GoneOn r b b' t → Went p old (moment (record b { results = b.results ++ r ∷ [] }) m o) → IsBetween p (moment (record b { results = b.results ++ r ∷ [] }) m o) → b.moves < old.moves → Turned p old (moment b' m o) t
 goes p old b b' m o r (Ok t) gone went between fewer =
     let P = λ (c : Board). Went p old (moment c m o) × IsBetween p (moment c m o) × (c.moves < old.moves) in
     let Q = λ (u : Turn). Turned p old (moment b' m o) (Ok u) in
     subst Q (sym gone.0) (subst P (sym gone.1) (went, between, fewer))
 goes p old b b' m o r (Err why) gone went between fewer =
     let rest = (rest_of p (moment (record b { results = b.results ++ r ∷ [] }) m o)).call_tree in
-    let P = λ (c : WriteEnd). CutOff (text_of p (rest_of p old).call_tree) old.scene.output o c in
+    let P = λ (c : IoError). CutOff (text_of p (rest_of p old).call_tree) old.scene.output o c in
     subst P (sym gone) (cut_between old.scene.output o (text_of p went.call_tree) (text_of p rest) (text_of p (rest_of p old).call_tree) (ap (λ (x : Outcome). text_of p x.call_tree) went.follows ∙ text-joined p went.call_tree rest) went.done.lines)
 
 -- the text of a stop's line
@@ -65,7 +65,7 @@ stop_text_is : (p : Program) (stop : Stop) → text_of p (node (stop_line stop) 
 stop_text_is p stop = append-nil (a_line (stop_text p.signatures stop))
 
 -- the run stops here
-pub stops_here : (p : Program) (x : Moment) (b : Board) (o : SinkState) (stop : Stop) (k : ℕ) (t : Result Turn WriteEnd) → rest_of p x ≡ stops_with stop x.closures k → x.scene.machine.target ≡ amd64.target → HoldsMap amd64.target x.closures x.scene.machine.code → StoppedBy p.signatures stop x.scene.output o t → Turned p x (moment b x.scene.machine o) t
+pub stops_here : (p : Program) (x : Moment) (b : Board) (o : SinkState) (stop : Stop) (k : ℕ) (t : Result Turn IoError) → rest_of p x ≡ stops_with stop x.closures k → x.scene.machine.target ≡ amd64.target → HoldsMap amd64.target x.closures x.scene.machine.code → StoppedBy p.signatures stop x.scene.output o t → Turned p x (moment b x.scene.machine o) t
 stops_here p x b o stop k (Ok t) is target holds by =
     let this = node (stop_line stop) no_nodes in
     let after : Scene = record { machine = x.scene.machine; output = o } in
@@ -168,7 +168,7 @@ module _ (p : Program) (x : Moment) (between : IsBetween p (asking x)) (t : Tree
     few = still_few p x between (print t v) is void_value refl x.moves (omega arith);
   }
 
-  pub cut_in_print : (why : WriteEnd) → CutOff (a_line (value_text_of t v)) x.scene.output o why → CutOff (text_of p (rest_of p (asking x)).call_tree) x.scene.output o why
+  pub cut_in_print : (why : IoError) → CutOff (a_line (value_text_of t v)) x.scene.output o why → CutOff (text_of p (rest_of p (asking x)).call_tree) x.scene.output o why
   cut_in_print why h =
       let rest = (rest_of p printed).call_tree in
       cut_in x.scene.output o (a_line (value_text_of t v)) (text_of p rest) (text_of p (rest_of p (asking x)).call_tree) why (ap (λ (z : Outcome). text_of p z.call_tree) prints) h

@@ -11,7 +11,7 @@ use Rattle.ffi3_run_rules.specs.Move.{Move, free, print, return, Behaviour}
 use Rattle.ffi3_run_rules.specs.Meaning.{Program, Activation, CallTree, no_nodes, returned, Outcome, stops_with, act, behaviour_of, most_moves}
 use Rattle.ffi3_body.specs.SeenActivation.{arguments_in}
 use Rattle.ffi3_body.specs.Follow.{ResultsFollow}
-use Rattle.ffi3_io.specs.declared.sink.WriteEnd.{WriteEnd}
+use Rattle.ffi3_io.specs.declared.IoError.{IoError}
 use Rattle.ffi3_run.specs.declared.leaf.LeafEnd.{LeafEnd}
 use Rattle.ffi3_run.specs.declared.leaf.LeafEnd.TheVariants as leaf
 use Rattle.ffi3_io.specs.Sink.{SinkState}
@@ -73,7 +73,7 @@ returning v c moves =
     record { end = returned v; closures = c; moves = moves; call_tree = no_nodes }
 
 -- what its run's answer says
-abbrev pub LeafRan : Program → Activation → Closures → (moves left : ℕ) → SinkState → SinkState → Result LeafEnd WriteEnd → Type 0
+abbrev pub LeafRan : Program → Activation → Closures → (moves left : ℕ) → SinkState → SinkState → Result LeafEnd IoError → Type 0
 LeafRan p a c moves left before after (Ok (leaf.Returned v)) =
     LeafCame p a c moves (returning (value_of v) c left) before after
 LeafRan p a c moves left before after (Ok leaf.MoveLimit) =

@@ -27,7 +27,7 @@ use crate::line::{write_print, write_stop};
 use ffi3_body::{Move, NoMemory};
 use ffi3_call::{begin_call, block, end_call, stack_need};
 use ffi3_closures::{Closure, Table};
-use ffi3_io::{Sink, WriteEnd};
+use ffi3_io::{IoError, Sink};
 use ffi3_machine::{Machine, STACK};
 use ffi3_run_rules::Stop;
 use ffi3_script::Script;
@@ -57,7 +57,7 @@ pub enum Turn {
 }
 
 /// Stops the run: writes the line of the stop.
-fn stop<O: Sink>(alloc: Global, output: &mut O, sigs: &Sigs, stop: Stop) -> Result<Turn, WriteEnd>
+fn stop<O: Sink>(alloc: Global, output: &mut O, sigs: &Sigs, stop: Stop) -> Result<Turn, IoError>
     requires right { list_all signature_is_right sigs.now ≡ true }
     requires numbers { IsOfSigs (length sigs.now) stop }
     ensures { StoppedBy sigs.now stop (O.state output.old) (O.state output.new) result }
@@ -77,13 +77,13 @@ fn pointer(alloc: Global, address: u64) -> Result<Value, NoMemory>
 
 impl Board {
     /// Main's move has this result.
-    fn go_on(&mut self, value: Value) -> Result<Turn, WriteEnd>
+    fn go_on(&mut self, value: Value) -> Result<Turn, IoError>
         requires { length self.old.results + 1 < 2 ^ 32 }
         ensures { GoneOn (value_of value) self.old self.new result }
     {
         match self.results.push(value) {
             Ok(()) => Ok(Turn::More),
-            Err(_) => Err(WriteEnd::NoMemory),
+            Err(_) => Err(IoError::NoMemory),
         }
     }
 
@@ -107,7 +107,7 @@ impl Board {
         output: &mut O,
         ty: &FfiType,
         value: &Value,
-    ) -> Result<Turn, WriteEnd>
+    ) -> Result<Turn, IoError>
         requires fits { fits (tree_of ty.now) (value_of value.now) ≡ true }
         requires few { length self.old.results + 1 < 2 ^ 32 }
         ensures { (p : Program) (machine : State) →
@@ -131,7 +131,7 @@ impl Board {
         output: &mut O,
         func: u32,
         user: u64,
-    ) -> Result<Turn, WriteEnd>
+    ) -> Result<Turn, IoError>
         requires below { func < length (script_of script.now).functions }
         requires between { IsBetween (program script.now)
             (asking (moment self.old machine.old (O.state output.old))) }
@@ -146,7 +146,7 @@ impl Board {
         };
         match pointer(alloc, address) {
             Ok(value) => self.go_on(value),
-            Err(_) => Err(WriteEnd::NoMemory),
+            Err(_) => Err(IoError::NoMemory),
         }
     }
 
@@ -198,7 +198,7 @@ impl Board {
         ptr: u64,
         sig: u32,
         args: &Values,
-    ) -> Result<Turn, WriteEnd>
+    ) -> Result<Turn, IoError>
         requires runs { first_not_run (script_of script.now) ≡ None }
         requires no_natives { natives_of script.now ≡ 0 }
         requires below { sig < length (script_of script.now).signatures }
@@ -217,7 +217,7 @@ impl Board {
         };
         let site = script.sigs().get(sig as usize);
         let Ok(()) = begin_call(machine, &self.table, site, args, ptr) else {
-            return Err(WriteEnd::NoMemory);
+            return Err(IoError::NoMemory);
         };
         let body = script.body(closure.func);
         let block = block(machine, site);
@@ -243,7 +243,7 @@ impl Board {
         machine: &mut Machine,
         sig: &Sig,
         value: &Value,
-    ) -> Result<Turn, WriteEnd>
+    ) -> Result<Turn, IoError>
         requires registers { IsInRegisters sig.now }
         requires fits { fits sig.now.result_type (value_of value.now) ≡ true }
         requires called { IsCalled sig.now machine.old }
@@ -253,7 +253,7 @@ impl Board {
     {
         match end_call(alloc, machine, sig, value) {
             Ok(outcome) => self.go_on(outcome),
-            Err(_) => Err(WriteEnd::NoMemory),
+            Err(_) => Err(IoError::NoMemory),
         }
     }
 
@@ -264,7 +264,7 @@ impl Board {
         script: &Script,
         machine: &mut Machine,
         output: &mut O,
-    ) -> Result<Turn, WriteEnd>
+    ) -> Result<Turn, IoError>
         requires runs { first_not_run (script_of script.now) ≡ None }
         requires no_natives { natives_of script.now ≡ 0 }
         requires between { IsBetween (program script.now)
@@ -277,7 +277,7 @@ impl Board {
             return stop(alloc, output, script.sigs(), Stop::MoveLimit);
         }
         let Ok(asked) = self.asked(alloc, script) else {
-            return Err(WriteEnd::NoMemory);
+            return Err(IoError::NoMemory);
         };
         self.moves -= 1;
         match asked {

@@ -12,7 +12,7 @@ ghost use Rattle.ffi3_run.specs.Leaf.{Begins, EndFits, IsLeaf, LeafRan};
 
 use crate::line::{write_print};
 use ffi3_body::{Body, Move, NoMemory, Seen};
-use ffi3_io::{Sink, WriteEnd};
+use ffi3_io::{IoError, Sink};
 use ffi3_types::Sig;
 use ffi3_values::{Value, Values};
 use std::alloc::Global;
@@ -36,7 +36,7 @@ pub fn run_leaf<B: Body, O: Sink>(
     user: u64,
     moves: &mut u32,
     output: &mut O,
-) -> Result<LeafEnd, WriteEnd>
+) -> Result<LeafEnd, IoError>
     requires right { SignatureHasNoFault sig.now }
     requires sized { length block.now ≡ block_bytes sig.now }
     requires own { sig.now ≡ B.signature body.now }
@@ -54,7 +54,7 @@ pub fn run_leaf<B: Body, O: Sink>(
             return Ok(LeafEnd::MoveLimit);
         }
         let Ok(asked) = next_move(alloc, body, sig, block, user, &results) else {
-            return Err(WriteEnd::NoMemory);
+            return Err(IoError::NoMemory);
         };
         *moves -= 1;
         match asked {
@@ -63,7 +63,7 @@ pub fn run_leaf<B: Body, O: Sink>(
                     return Err(cut);
                 }
                 let Ok(()) = results.push(Value::Void) else {
-                    return Err(WriteEnd::NoMemory);
+                    return Err(IoError::NoMemory);
                 };
             }
             Move::Return(value) => return Ok(LeafEnd::Returned(value)),

@@ -13,7 +13,7 @@ ghost use Rattle.ffi3_run_rules.specs.Lines.{a_line, address_text, stop_text};
 ghost use Rattle.ffi3_io.specs.Written.{Wrote};
 ghost use Rattle.ffi3_run.specs.StopSigs.{IsOfSigs};
 
-use ffi3_io::{Sink, WriteEnd, write_line};
+use ffi3_io::{IoError, Sink, write_line};
 use ffi3_run_rules::Stop;
 use ffi3_types::{Bytes, FfiType, NoMemory, Sigs, sig_text};
 use ffi3_values::{Value, value_text};
@@ -25,12 +25,12 @@ pub fn write_print<O: Sink>(
     output: &mut O,
     ty: &FfiType,
     value: &Value,
-) -> Result<(), WriteEnd>
+) -> Result<(), IoError>
     requires { fits (tree_of ty.now) (value_of value.now) ≡ true }
     ensures { Wrote (a_line (value_text_of (tree_of ty.now) (value_of value.now))) (O.state output.old) (O.state output.new) result }
 {
     let Ok(line) = print_line(alloc, ty, value) else {
-        return Err(WriteEnd::NoMemory);
+        return Err(IoError::NoMemory);
     };
     write_line(output, line.as_slice())
 }
@@ -41,13 +41,13 @@ pub fn write_stop<O: Sink>(
     output: &mut O,
     sigs: &Sigs,
     stop: Stop,
-) -> Result<(), WriteEnd>
+) -> Result<(), IoError>
     requires right { list_all signature_is_right sigs.now ≡ true }
     requires numbers { IsOfSigs (length sigs.now) stop }
     ensures { Wrote (a_line (stop_text sigs.now stop)) (O.state output.old) (O.state output.new) result }
 {
     let Ok(line) = stop_line(alloc, sigs, stop) else {
-        return Err(WriteEnd::NoMemory);
+        return Err(IoError::NoMemory);
     };
     write_line(output, line.as_slice())
 }

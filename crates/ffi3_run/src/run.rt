@@ -14,7 +14,7 @@ ghost use Rattle.ffi3_run.specs.Programs.{program};
 
 use crate::board::{Board, Turn};
 use ffi3_closures::Table;
-use ffi3_io::{Sink, WriteEnd};
+use ffi3_io::{IoError, Sink};
 use ffi3_machine::{Machine, Target};
 use ffi3_run_rules::Stop;
 use ffi3_script::Script;
@@ -93,8 +93,8 @@ fn run_on<O: Sink>(
             Ok(Turn::More) => {}
             Ok(Turn::Done) => return RunEnd::Done,
             Ok(Turn::Stopped(stop)) => return RunEnd::Stopped(stop),
-            Err(WriteEnd::NoMemory) => return RunEnd::NoMemory,
-            Err(WriteEnd::Failed) => return RunEnd::Failed,
+            Err(IoError::NoMemory) => return RunEnd::NoMemory,
+            Err(IoError::Failed) => return RunEnd::Failed,
         }
     }
 }

@@ -2,8 +2,8 @@ use Rattle.std.proofs.Common.{Ok, Err, subst}
 use Rattle.ffi3_type_rules.specs.Value.{void_value}
 use Rattle.ffi3_run_rules.specs.Meaning.{returned, stopped}
 use Rattle.ffi3_run.specs.declared.board.Turn.{Turn}
-use Rattle.ffi3_io.specs.declared.sink.WriteEnd.{WriteEnd}
-use Rattle.ffi3_io.specs.declared.sink.WriteEnd.TheVariants as cut
+use Rattle.ffi3_io.specs.declared.IoError.{IoError}
+use Rattle.ffi3_io.specs.declared.IoError.TheVariants as cut
 use Rattle.ffi3_run.specs.Moment.{Turned, moment}
 use Rattle.ffi3_run.specs.Programs.{program}
 use Rattle.ffi3_run.proofs.Going.{went_nowhere, went_then, came_then, cut_then}
@@ -47,7 +47,7 @@ returns-in-Err-NoMemory g c =
     let first = moment c.args.board.now c.args.machine.now (g.O.Sink.state c.args.output.now) in
     let mid = moment c.loop-stop.board c.loop-stop.machine (g.O.Sink.state c.loop-stop.output) in
     let now = moment c.turn.new.self c.turn.new.machine (g.O.Sink.state c.turn.new.output) in
-    let turned = subst (λ (why : WriteEnd). Turned p mid now (Err why)) c.in-Err-NoMemory.field-0-is c.in-Err-NoMemory.ensures in
+    let turned = subst (λ (why : IoError). Turned p mid now (Err why)) c.in-Err-NoMemory.field-0-is c.in-Err-NoMemory.ensures in
     cut_then p first mid now c.loop-stop.invariant.went cut.NoMemory turned
 
 pub returns-in-Err-Failed : goal.returns-in-Err-Failed
@@ -56,5 +56,5 @@ returns-in-Err-Failed g c =
     let first = moment c.args.board.now c.args.machine.now (g.O.Sink.state c.args.output.now) in
     let mid = moment c.loop-stop.board c.loop-stop.machine (g.O.Sink.state c.loop-stop.output) in
     let now = moment c.turn.new.self c.turn.new.machine (g.O.Sink.state c.turn.new.output) in
-    let turned = subst (λ (why : WriteEnd). Turned p mid now (Err why)) c.in-Err-Failed.field-0-is c.in-Err-Failed.ensures in
+    let turned = subst (λ (why : IoError). Turned p mid now (Err why)) c.in-Err-Failed.field-0-is c.in-Err-Failed.ensures in
     cut_then p first mid now c.loop-stop.invariant.went cut.Failed turned
