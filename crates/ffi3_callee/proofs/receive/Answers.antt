@@ -7,7 +7,7 @@ use Rattle.ffi3_machine.specs.State.{scribbled_floating, scribbled_general}
 use Rattle.ffi3_callee.specs.Loaded.{AreFound, image_from}
 use Rattle.ffi3_callee.specs.Received.{hidden_of}
 use Rattle.ffi3_callee.specs.Saved.{AreSaved}
-use Rattle.ffi3_callee.proofs.Entry.{address_known, all_saveable, found_between, hidden_lies, received}
+use Rattle.ffi3_callee.proofs.Entry.{address_known, all_saveable, found_between, hidden_lies, received, stands}
 use Rattle.ffi3_callee.proofs.Keeping.{reserved_received}
 use Rattle.ffi3_callee.proofs.Laws.{words_saveable}
 use Rattle.ffi3_callee.proofs.receive.Goals as goal
