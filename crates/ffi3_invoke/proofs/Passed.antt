@@ -80,15 +80,15 @@ module _ (std : Standard) (s : Signature) (sound : IsSound std s) (agrees : Agre
   same_in b c l lies same =
       register_word STACK_TOP 0 l c lies ∙ same_word_in 0 l b c same ∙ register_word 0 STACK_TOP l b lies
 
-  preserved_there : AllByRecursion (λ l. SameAt 0 l (scribbled (length m.events) m) a) std.preserved → AllByRecursion (λ at. register (image_of 0 there) at ≡ scribble (length m.events) at) std.preserved
+  preserved_there : AllByRecursion (λ l. SameAt 0 l (scribbled (length m.events) m) a) std.preserved → AllByRecursion (λ at. register (image_of (std.link + frame_of std s) there) at ≡ scribble (length m.events) at) std.preserved
   preserved_there same =
-      each_both (IsNoneOf (special std)) (λ l. IsPlace 0 l × SameAt 0 l (scribbled (length m.events) m) a) (λ at. register (image_of 0 there) at ≡ scribble (length m.events) at) one std.preserved agrees.preserved_plain
+      each_both (IsNoneOf (special std)) (λ l. IsPlace 0 l × SameAt 0 l (scribbled (length m.events) m) a) (λ at. register (image_of (std.link + frame_of std s) there) at ≡ scribble (length m.events) at) one std.preserved agrees.preserved_plain
       (each_both (IsPlace 0) (λ l. SameAt 0 l (scribbled (length m.events) m) a) (λ l. IsPlace 0 l × SameAt 0 l (scribbled (length m.events) m) a) (λ l p q. (p, q)) std.preserved (machine_places (isa_of std.target) 0 std.preserved agrees.preserved_exist) same)
     where
       old_target : m.target ≡ std.target
       old_target = sym within.target ∙ target_is
 
-      one : (l : Loc) → IsNoneOf (special std) l → IsPlace 0 l × SameAt 0 l (scribbled (length m.events) m) a → register (image_of 0 there) l ≡ scribble (length m.events) l
+      one : (l : Loc) → IsNoneOf (special std) l → IsPlace 0 l × SameAt 0 l (scribbled (length m.events) m) a → register (image_of (std.link + frame_of std s) there) l ≡ scribble (length m.events) l
       one l none both =
           let after_link = std.trampoline_registers ++ (listed std.vector_count ++ listed std.returned_address) in
           let rest = each_rest (Apart l) std.reserved (listed std.link_register ++ (std.trampoline_registers ++ (listed std.vector_count ++ listed std.returned_address))) none.1 in
@@ -96,7 +96,7 @@ module _ (std : Standard) (s : Signature) (sound : IsSound std s) (agrees : Agre
           let trampoline = each_first (Apart l) std.trampoline_registers (listed std.vector_count ++ listed std.returned_address) (each_rest (Apart l) (listed std.link_register) after_link rest) in
           let reserved = each_first (Apart l) std.reserved (listed std.link_register ++ (std.trampoline_registers ++ (listed std.vector_count ++ listed std.returned_address))) none.1 in
           let free = subst (λ k. IsNoneOf (reserved_places (isa_of k)) l) (sym old_target) (subst (λ ls. IsNoneOf ls l) agrees.reserved reserved) in
-          register_is 0 there l both.0 ∙ stays l both.0 link trampoline ∙ same_in (scribbled (length m.events) m) a l both.0 both.1 ∙ scribbled_there (length m.events) m l both.0 free
+          register_is (std.link + frame_of std s) there l both.0 ∙ stays l both.0 link trampoline ∙ same_in (scribbled (length m.events) m) a l both.0 both.1 ∙ scribbled_there (length m.events) m l both.0 free
 
   reserved_there : AllByRecursion (λ l. SameAt 0 l m a) std.reserved → ReservedStay std m there
   reserved_there same =

@@ -93,8 +93,9 @@ word_below low high from i a b w inside below =
 
 -- ---- the return address
 
-pub return_same : (link : Option ℕ) (general : List ℕ) (sp : ℕ) (xs ys : List ℕ) → take 8 (drop (sp - STACK) ys) ≡ take 8 (drop (sp - STACK) xs) → HasReturnAt link general sp xs → HasReturnAt link general sp ys
-return_same None general sp xs ys same h = (h.0, same ∙ h.1)
+-- its bytes are asked for where a call pushes it
+pub return_same : (link : Option ℕ) (general : List ℕ) (sp : ℕ) (xs ys : List ℕ) → (link ≡ None → take 8 (drop (sp - STACK) ys) ≡ take 8 (drop (sp - STACK) xs)) → HasReturnAt link general sp xs → HasReturnAt link general sp ys
+return_same None general sp xs ys same h = (h.0, same refl ∙ h.1)
 return_same (Some link) general sp xs ys same h = h
 
 -- ---- open calls
@@ -109,7 +110,7 @@ still_open std low high from a b w above entered block here stands =
       bottom = stands.bottom;
       top = stands.top;
       saved = λ i word below is. word_above low high (entered.event.image.sp - std.save) i a b w (omega (arith, place, bottom)) (omega (arith, place, above, here)) ∙ stands.saved i word below is;
-      return_address = return_same (link_register (isa_of std.target)) entered.event.image.general entered.event.image.sp a.stack b.stack (above_stays low high a b w entered.event.image.sp 8 (omega (arith, place, bottom)) (omega (arith, place, above, here))) stands.return_address;
+      return_address = return_same (link_register (isa_of std.target)) entered.event.image.general entered.event.image.sp a.stack b.stack (λ none. above_stays low high a b w entered.event.image.sp 8 (omega (arith, place, bottom)) (omega (arith, place, above, here))) stands.return_address;
     }
 
 -- with the journal and pc of another machine they stand alike

@@ -37,9 +37,9 @@ returns g c =
     let s = c.args.cif.now in
     let m = c.args.machine.now in
     let a = c.store_args.new.machine in
-    let sound = g.met.A.Abi.sound s c.sig-_sig.ensures.faultless in
+    let sound = g.met.A.Abi.sound s c.sig-sig.ensures.faultless in
     let w = c.store_args.ensures.within in
     let target_is = w.target ∙ c.requires.target ∙ sym g.met.A.Abi.target_is in
     let held = c.call.ensures.holds c.args.values.now c.store_args.ensures.own c.store_args.ensures.filled c.store_args.ensures.hidden c.store_args.ensures.vectors in
     let holds = subst (λ x. Holds std s c.args.values.now (image_of (std.link + frame_of std s) x)) c.call.ensures.called held in
-    passed std s sound g.met.A.Abi.agrees c.args.values.now c.args.ptr m a target_is c.sp-_stored.ensures.machine c.requires.room c.requires.top c.store_args.ensures.sp w c.run_trampoline.new.machine (c.run_trampoline.ensures.reached ∙ ap reached c.call.ensures.called) c.store_args.ensures.preserved c.store_args.ensures.reserved holds
+    passed std s sound g.met.A.Abi.agrees c.args.values.now c.args.ptr m a target_is c.sp-stored.ensures.machine c.requires.room c.requires.top c.store_args.ensures.sp w c.run_trampoline.new.machine (c.run_trampoline.ensures.reached ∙ ap reached c.call.ensures.called) c.store_args.ensures.preserved c.store_args.ensures.reserved holds
