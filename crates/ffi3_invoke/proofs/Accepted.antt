@@ -18,7 +18,6 @@ use Rattle.ffi3_place_rules.specs.Image.{register}
 use Rattle.ffi3_place_rules.specs.Event.{Event}
 use Rattle.ffi3_place_rules.specs.Standard.{Standard, block_bytes, frame_of, plan_of}
 use Rattle.ffi3_place_rules.specs.Agrees.{AgreesWithMachine}
-use Rattle.ffi3_place_rules.specs.Holds.{SameIn}
 use Rattle.ffi3_place_rules.specs.Sound.{IsSound}
 use Rattle.ffi3_place_rules.proofs.Tests.{each_at, each_weaker}
 use Rattle.ffi3_machine.specs.State.{State, HasReturnAddress, HasReturnAt, after_enter, image_of, recorded}
@@ -29,14 +28,8 @@ use Rattle.ffi3_callee.specs.Saved.{IsSaveable, hidden_word, word_to_save}
 use Rattle.ffi3_callee.proofs.Entry.{address_owned}
 use Rattle.ffi3_callee.proofs.Laws.{words_saveable}
 use Rattle.ffi3_invoke.specs.Calls.{IsInCallee, Stands, buffer_address, entry_at, saved_of, with_journal_of}
-use Rattle.ffi3_invoke.proofs.Passed.{register_is, reserved_places_lie}
+use Rattle.ffi3_invoke.proofs.Passed.{reserved_places_lie, same_in}
 use Rattle.ffi3_invoke.proofs.Stretches.{above_stays, return_same}
-
--- registers that stay are the image's
-pub same_in : (len n : ℕ) (a b : State) (ls : List Loc) → AllByRecursion (IsPlace 0) ls → AllByRecursion (λ at. word_in STACK_TOP b at ≡ word_in STACK_TOP a at) ls → SameIn ls (image_of len a) (image_of n b)
-same_in len n a b [] lie stay = tt
-same_in len n a b (l ∷ ls) lie stay =
-    (register_is len a l lie.0 ∙ sym stay.0 ∙ sym (register_is n b l lie.0), same_in len n a b ls lie.1 stay.1)
 
 pub counted : (es : List Event) (e : Event) → length (es ++ e ∷ []) ≡ length es + 1
 counted es e = length-append es (e ∷ [])

@@ -6,6 +6,7 @@ use Rattle.ffi3_type_rules.specs.Signature.{Signature}
 use Rattle.ffi3_type_rules.specs.Value.{ValueTree}
 use Rattle.ffi3_type_rules.proofs.Parts.{length_part}
 use Rattle.ffi3_place_rules.specs.declared.Loc.{Loc}
+use Rattle.ffi3_place_rules.specs.declared.Loc.TheVariants.{G, F, S}
 use Rattle.ffi3_place_rules.specs.Image.{register}
 use Rattle.ffi3_place_rules.specs.Standard.{Standard, block_bytes, frame_of, need_of, plan_of}
 use Rattle.ffi3_place_rules.specs.Agrees.{AgreesWithMachine}
@@ -13,14 +14,11 @@ use Rattle.ffi3_place_rules.proofs.Tests.{each_weaker}
 use Rattle.ffi3_run_rules.specs.Journal.{Entered, needs, IsEntry}
 use Rattle.ffi3_run_rules.proofs.Aligned.{entry_is_aligned}
 use Rattle.ffi3_machine.specs.State.{State, HasReturnAddress, after_enter, image_of, stack_at, with_sp}
-use Rattle.ffi3_pieces.specs.Stored.{WroteWithin, word_in}
+use Rattle.ffi3_pieces.specs.Stored.{WroteWithin}
 use Rattle.ffi3_callee.specs.declared.Incoming.{Incoming}
-use Rattle.ffi3_callee.specs.Given.{ReservedStay}
 use Rattle.ffi3_callee.specs.Received.{IsIncoming, IsReceived}
-use Rattle.ffi3_callee.proofs.Keeping.{reserved_then}
-use Rattle.ffi3_callee.proofs.Return.{any_sp}
-use Rattle.ffi3_invoke.specs.Calls.{HasBegun, HasEnded, HasPassed, HasReturned, IsInCallee, IsMade, KeepsOpen, entry_at, return_at, with_journal_of}
-use Rattle.ffi3_invoke.proofs.Passed.{held_still, reserved_places_lie}
+use Rattle.ffi3_invoke.specs.Calls.{HasBegun, HasEnded, HasPassed, HasReturned, IsInCallee, IsMade, KeepsReserved, entry_at, return_at, with_journal_of}
+use Rattle.ffi3_invoke.proofs.Passed.{held_still, reserved_places_lie, same_then}
 use Rattle.ffi3_invoke.proofs.Returned.{result_within}
 use Rattle.ffi3_invoke.proofs.Stretches.{above_stays, below_stays, mark_least, open_aside, still_open, wrote_down}
 
@@ -48,7 +46,7 @@ module _ (std : Standard) (s : Signature) (agrees : AgreesWithMachine std) (vs :
       }
 
   -- A CALL HAS BEGUN, once the callee has accepted it
-  pub begun : r.events ≡ c.events ++ entry_at std s c ∷ [] → IsReceived std s (after_enter (std.link + frame_of std s) c) r → r.pc ≡ ENTRY → r.sp + block_bytes s + std.save ≡ c.sp → WroteWithin r.sp c.sp c (with_journal_of c r) → ReservedStay std c r → r.spare_events + 1 ≡ c.spare_events → r.spare_bytes + (std.link + frame_of std s) ≡ c.spare_bytes → IsInCallee std (record { signature = s; event = entry_at std s c }) r → HasBegun std s vs pointer m r
+  pub begun : r.events ≡ c.events ++ entry_at std s c ∷ [] → IsReceived std s (after_enter (std.link + frame_of std s) c) r → r.pc ≡ ENTRY → r.sp + block_bytes s + std.save ≡ c.sp → WroteWithin r.sp c.sp c (with_journal_of c r) → KeepsReserved std c r → r.spare_events + 1 ≡ c.spare_events → r.spare_bytes + (std.link + frame_of std s) ≡ c.spare_bytes → IsInCallee std (record { signature = s; event = entry_at std s c }) r → HasBegun std s vs pointer m r
   begun events received pc sp within reserved spare_events spare_bytes in_callee =
       let whole = need in
       let passed_sp = passed.sp in
@@ -69,14 +67,20 @@ module _ (std : Standard) (s : Signature) (agrees : AgreesWithMachine std) (vs :
         mark = mark_least r.sp m.mark r.mark w.mark;
         code = w.code;
         target = w.target;
-        reserved = reserved_then std m c r passed.reserved reserved;
+        reserved = same_then std.reserved (image_of 0 m) (image_of 0 c) (image_of 0 r) passed.reserved reserved;
         room = omega (arith, spare_events, before_events);
         bytes = omega (arith, spare_bytes, before_bytes);
       }
 
 -- ---- a call has ended
 
--- where sp moves too
+-- registers where sp moves
+register_moved : (sp : ℕ) (m : State) (l : Loc) → register (image_of 0 (with_sp sp m)) l ≡ register (image_of 0 m) l
+register_moved sp m (G k) = refl
+register_moved sp m (F k) = refl
+register_moved sp m (S k) = refl
+
+-- what was written, where sp moves
 within_moved : (low high sp : ℕ) (a b : State) → WroteWithin low high a (with_journal_of a b) → WroteWithin low high a (with_journal_of a (with_sp sp b))
 within_moved low high sp a b w = record {
   size = w.size;
@@ -110,7 +114,7 @@ module _ (std : Standard) (s : Signature) (v : ValueTree) (m l : State) (bottom 
         mark = omega (arith, least, sp);
         code = w.code;
         target = w.target;
-        reserved = each_weaker (λ at. word_in STACK_TOP l at ≡ word_in STACK_TOP m at) (λ at. word_in STACK_TOP d at ≡ word_in STACK_TOP m at) (λ at h. any_sp STACK_TOP (l.sp + frame_of std s) l at ∙ h) std.reserved returned.reserved;
+        reserved = each_weaker (λ at. register (image_of 0 m) at ≡ register (image_of 0 l) at) (λ at. register (image_of 0 m) at ≡ register (image_of 0 d) at) (λ at h. h ∙ sym (register_moved (l.sp + frame_of std s) l at)) std.reserved returned.reserved;
         room = returned.room;
         bytes = returned.bytes;
       }
@@ -155,7 +159,7 @@ made std s vs pointer v before during after begun ended =
       mark = let lower : during.sp ≡ before.sp - need_of std s = omega (arith, sp_down) in omega (arith, lower, mark_down, mark_up);
       code = ended.code ∙ begun.code;
       target = ended.target ∙ begun.target;
-      reserved = reserved_then std before during after begun.reserved ended.reserved;
+      reserved = same_then std.reserved (image_of 0 before) (image_of 0 during) (image_of 0 after) begun.reserved ended.reserved;
       room = omega (arith, room_down, room_up);
       bytes = omega (arith, bytes_down, bytes_up);
     }

@@ -11,10 +11,10 @@ use Rattle.ffi3_type_rules.specs.Value.{ValueTree}
 use Rattle.ffi3_place_rules.specs.declared.Loc.{Loc}
 use Rattle.ffi3_place_rules.specs.declared.Loc.TheVariants.{G, F, S}
 use Rattle.ffi3_place_rules.specs.Isa.{link_place, link_register, pushed_bytes, reserved_places, scribble, trampoline_registers}
-use Rattle.ffi3_place_rules.specs.Image.{register}
+use Rattle.ffi3_place_rules.specs.Image.{Image, register}
 use Rattle.ffi3_place_rules.specs.Standard.{Standard, frame_of}
 use Rattle.ffi3_place_rules.specs.Agrees.{AgreesWithMachine, special}
-use Rattle.ffi3_place_rules.specs.Holds.{Holds}
+use Rattle.ffi3_place_rules.specs.Holds.{Holds, SameIn}
 use Rattle.ffi3_place_rules.specs.Sound.{Apart, IsNoneOf, IsSound, listed}
 use Rattle.ffi3_machine.specs.State.{State, IsMachine, called, image_of, linked_general, scribbled}
 use Rattle.ffi3_closures.specs.Reaching.{reached}
@@ -45,11 +45,29 @@ pub reserved_places_lie : (std : Standard) → AgreesWithMachine std → AllByRe
 reserved_places_lie std agrees =
     subst (AllByRecursion (IsPlace 0)) (sym agrees.reserved) (reserved_lie (isa_of std.target))
 
--- what a list of registers holds is held where they stay
-pub held_still : (len n : ℕ) (a b : State) (held : Loc → ℕ) (ls : List Loc) → AllByRecursion (IsPlace 0) ls → AllByRecursion (λ at. word_in STACK_TOP b at ≡ word_in STACK_TOP a at) ls → AllByRecursion (λ at. register (image_of len a) at ≡ held at) ls → AllByRecursion (λ at. register (image_of n b) at ≡ held at) ls
-held_still len n a b held [] lie stay h = tt
-held_still len n a b held (l ∷ ls) lie stay h =
-    (register_is n b l lie.0 ∙ stay.0 ∙ sym (register_is len a l lie.0) ∙ h.0, held_still len n a b held ls lie.1 stay.1 h.1)
+-- ---- registers of a list that are the same in two images
+
+-- where they stay in the machine
+pub same_in : (len n : ℕ) (a b : State) (ls : List Loc) → AllByRecursion (IsPlace 0) ls → AllByRecursion (λ at. word_in STACK_TOP b at ≡ word_in STACK_TOP a at) ls → SameIn ls (image_of len a) (image_of n b)
+same_in len n a b [] lie stay = tt
+same_in len n a b (l ∷ ls) lie stay =
+    (register_is len a l lie.0 ∙ sym stay.0 ∙ sym (register_is n b l lie.0), same_in len n a b ls lie.1 stay.1)
+
+pub same_itself : (ls : List Loc) (e : Image) → SameIn ls e e
+same_itself [] e = tt
+same_itself (l ∷ ls) e = (refl, same_itself ls e)
+
+pub same_then : (ls : List Loc) (d e f : Image) → SameIn ls d e → SameIn ls e f → SameIn ls d f
+same_then [] d e f s t = tt
+same_then (l ∷ ls) d e f s t = (s.0 ∙ t.0, same_then ls d e f s.1 t.1)
+
+-- they hold what they held
+pub held_still : (len n : ℕ) (a b : State) (held : Loc → ℕ) (ls : List Loc) → AllByRecursion (IsPlace 0) ls → SameIn ls (image_of len a) (image_of len b) → AllByRecursion (λ at. register (image_of len a) at ≡ held at) ls → AllByRecursion (λ at. register (image_of n b) at ≡ held at) ls
+held_still len n a b held [] lie same h = tt
+held_still len n a b held (l ∷ ls) lie same h =
+    (register_is n b l lie.0 ∙ sym (register_is len b l lie.0) ∙ sym same.0 ∙ h.0, held_still len n a b held ls lie.1 same.1 h.1)
+
+-- ---- the machine at ENTRY
 
 module _ (std : Standard) (s : Signature) (sound : IsSound std s) (agrees : AgreesWithMachine std) (vs : List ValueTree) (pointer : ℕ) (m a : State) (target_is : a.target ≡ std.target) (machine : IsMachine a) (room : STACK + std.link + frame_of std s ≤ m.sp) (top : m.sp ≤ STACK_TOP) (sp : a.sp + frame_of std s ≡ m.sp) (within : WroteWithin a.sp m.sp m a) where
   abbrev there : State
@@ -128,7 +146,7 @@ module _ (std : Standard) (s : Signature) (sound : IsSound std s) (agrees : Agre
     closure = trampoline_tells (isa_of a.target) pointer (linked_general (link_register (isa_of a.target)) a.general) (link_sized (isa_of a.target) a.general ∙ machine.general);
     return_address = return_address_passed pointer a machine.general low fits;
     preserved = preserved_there preserved;
-    reserved = reserved_there reserved;
+    reserved = same_in 0 0 m there std.reserved (reserved_places_lie std agrees) (reserved_there reserved);
     sp = let bytes = pushed in let above = low in omega (arith, bytes, above, sp);
     within = wrote_down (a.sp - pushed_bytes (isa_of a.target)) a.sp m.sp m a there (omega arith) (omega (arith, sp)) (unrecorded a.sp m.sp m a within) (pushed_within pointer a low fits);
     events = within.events;

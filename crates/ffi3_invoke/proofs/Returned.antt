@@ -38,7 +38,7 @@ use Rattle.ffi3_callee.proofs.Keeping.{reserved_not_saved, reserved_stay, reserv
 use Rattle.ffi3_callee.proofs.Laws.{each_among, each_both}
 use Rattle.ffi3_callee.proofs.Results.{buffer_within, quiet}
 use Rattle.ffi3_invoke.specs.Calls.{HasReturned, IsCalled, IsInCallee, return_at, with_journal_of}
-use Rattle.ffi3_invoke.proofs.Passed.{register_is, reserved_places_lie}
+use Rattle.ffi3_invoke.proofs.Passed.{register_is, reserved_places_lie, same_itself}
 use Rattle.ffi3_invoke.proofs.Stretches.{below_stays, return_same, word_below}
 
 -- ---- what a result writes
@@ -221,17 +221,11 @@ module _ (std : Standard) (s : Signature) (agrees : AgreesWithMachine std) (v : 
         is_return = λ entry called. is_return entry called held;
         pc = refl;
         sp = omega (arith, pushes_link, entry_is, sp, block);
-        reserved = reserved_left std.reserved (reserved_places_lie std agrees) reserved_both;
+        reserved = reserved_back 0 (frame_of std s) (image_of 0 m) m r std.reserved (reserved_places_lie std agrees) (same_itself std.reserved (image_of 0 m)) reserved_both;
         writes = subst (λ n. ResultWrites n s.result_type (plan_of std s).res m (with_journal_of m (after_leave (frame_of std s) r))) same (result_left base (frame_of std s) s.result_type (plan_of std s).res m r (result_then std s base (plan_of std s).res m g r refl high writes quietly));
         room = omega (arith, spare_events, room);
         bytes = omega (arith, spare_bytes, bytes);
       }
-    where
-      reserved_left : (ls : List Loc) → AllByRecursion (IsPlace 0) ls → AllByRecursion (λ at. word_in STACK_TOP r at ≡ word_in STACK_TOP m at) ls → AllByRecursion (λ at. word_in STACK_TOP (after_leave (frame_of std s) r) at ≡ word_in STACK_TOP m at) ls
-      reserved_left [] lie stay = tt
-      reserved_left (G k ∷ ls) lie stay = (stay.0, reserved_left ls lie.1 stay.1)
-      reserved_left (F k ∷ ls) lie stay = (stay.0, reserved_left ls lie.1 stay.1)
-      reserved_left (S k ∷ ls) lie stay = absurd (omega (arith, lie.0))
 
   pub returned : (n : ℕ) (l : State) → n ≡ frame_of std s → l ≡ after_leave n r → HoldsResult std s v (image_from (incoming.entry + std.link) (frame_of std s) r) → 1 ≤ m.spare_events → frame_of std s ≤ m.spare_bytes → HasReturned std s v m l
   returned n l n_is l_is held room bytes =

@@ -1,4 +1,4 @@
--- A call from its caller's side to the return, by any calling standard: the machine before, in the callee and after.
+-- A call from its caller's side to the return, by any calling standard: the machine before, in the callee and after. (System V psABI AMD64 3.2; Arm AAPCS64 6; RISC-V ELF psABI, "Integer Calling Convention")
 use Rattle.std.specs.Prelude.{◌≡◌, ℕ, ◌+◌, ◌-◌, ◌<◌, ◌≤◌, min, List, [], ◌∷◌, ◌++◌, length, get_or, slice_index}
 use Rattle.std.specs.List.{AllByRecursion}
 use Rattle.ffi3_type_rules.specs.Isa.{isa_of}
@@ -19,7 +19,7 @@ use Rattle.ffi3_run_rules.specs.Journal.{Entered, needs, IsEntry, IsReturn}
 use Rattle.ffi3_machine.specs.State.{State, HasReturnAddress, HasReturnAt, image_of, stack_at}
 use Rattle.ffi3_body.specs.SeenActivation.{arguments_in}
 use Rattle.ffi3_pieces.specs.Stored.{WroteWithin}
-use Rattle.ffi3_callee.specs.Given.{ReservedStay, ResultWrites}
+use Rattle.ffi3_callee.specs.Given.{ResultWrites}
 use Rattle.ffi3_callee.specs.Saved.{saved_word}
 
 -- ---- an event
@@ -44,6 +44,10 @@ with_journal_of old new = record new {
   spare_events = old.spare_events;
   spare_bytes = old.spare_bytes;
 }
+
+-- the registers that neither side of a call writes are the same
+abbrev pub KeepsReserved : Standard → State → State → Type 0
+KeepsReserved std before after = SameIn std.reserved (image_of 0 before) (image_of 0 after)
 
 -- ---- an open call
 
@@ -93,7 +97,7 @@ pub record HasPassed (std : Standard) (s : Signature) (arguments : List ValueTre
   pub closure : slice_index after.general (closure_register (isa_of after.target)) ≡ pointer
   pub return_address : HasReturnAddress after
   pub preserved : AllByRecursion (λ at. register (image_of (std.link + frame_of std s) after) at ≡ scribble (length before.events) at) std.preserved
-  pub reserved : ReservedStay std before after
+  pub reserved : KeepsReserved std before after
   pub sp : after.sp + std.link + frame_of std s ≡ before.sp
   pub within : WroteWithin after.sp before.sp before (with_journal_of before after)
   pub events : after.events ≡ before.events
@@ -106,7 +110,7 @@ pub record HasReturned (std : Standard) (s : Signature) (outcome : ValueTree) (b
   pub is_return : (entry : Event) → IsInCallee std (record { signature = s; event = entry }) before → IsReturn std (record { signature = s; event = entry }) outcome (return_at std s after)
   pub pc : after.pc ≡ RETURN
   pub sp : after.sp ≡ before.sp + block_bytes s + std.save + std.link
-  pub reserved : ReservedStay std before after
+  pub reserved : KeepsReserved std before after
   pub writes : ResultWrites after.sp s.result_type (plan_of std s).res before (with_journal_of before after)
   pub room : after.spare_events + 1 ≡ before.spare_events
   pub bytes : after.spare_bytes + frame_of std s ≡ before.spare_bytes
@@ -129,7 +133,7 @@ pub record HasBegun (std : Standard) (s : Signature) (arguments : List ValueTree
   pub mark : min before.mark after.sp ≤ after.mark
   pub code : after.code ≡ before.code
   pub target : after.target ≡ before.target
-  pub reserved : ReservedStay std before after
+  pub reserved : KeepsReserved std before after
   pub room : after.spare_events + 1 ≡ before.spare_events
   pub bytes : after.spare_bytes + (std.link + frame_of std s) ≡ before.spare_bytes
 
@@ -146,7 +150,7 @@ pub record HasEnded (std : Standard) (s : Signature) (outcome : ValueTree) (befo
   pub mark : min before.mark before.sp ≤ after.mark
   pub code : after.code ≡ before.code
   pub target : after.target ≡ before.target
-  pub reserved : ReservedStay std before after
+  pub reserved : KeepsReserved std before after
   pub room : after.spare_events + 1 ≡ before.spare_events
   pub bytes : after.spare_bytes + frame_of std s ≡ before.spare_bytes
 
@@ -165,6 +169,6 @@ pub record IsMade (std : Standard) (s : Signature) (arguments : List ValueTree) 
   pub mark : min before.mark (before.sp - need_of std s) ≤ after.mark
   pub code : after.code ≡ before.code
   pub target : after.target ≡ before.target
-  pub reserved : ReservedStay std before after
+  pub reserved : KeepsReserved std before after
   pub room : after.spare_events + 2 ≡ before.spare_events
   pub bytes : after.spare_bytes + (std.link + frame_of std s + frame_of std s) ≡ before.spare_bytes

@@ -6,9 +6,8 @@ ghost use Rattle.ffi3_type_rules.specs.declared.limits.TheConstants.{ENTRY, STAC
 ghost use Rattle.ffi3_place_rules.specs.Standard.{block_bytes, frame_of};
 ghost use Rattle.ffi3_machine.specs.State.{HasReturnAddress, after_enter, scribbled_floating, scribbled_general};
 ghost use Rattle.ffi3_pieces.specs.Stored.{WroteWithin};
-ghost use Rattle.ffi3_callee.specs.Given.{ReservedStay};
 ghost use Rattle.ffi3_callee.specs.Received.{IsIncoming, IsReceived, OwnsAtEntry};
-ghost use Rattle.ffi3_invoke.specs.Calls.{IsInCallee, entry_at, with_journal_of};
+ghost use Rattle.ffi3_invoke.specs.Calls.{IsInCallee, KeepsReserved, entry_at, with_journal_of};
 
 use ffi3_callee::{Incoming, receive};
 use ffi3_cif::Cif;
@@ -31,7 +30,7 @@ pub fn accept<A: Abi>(machine: &mut Machine, cif: &Cif<A>) -> Incoming
     ensures block { result.block ≡ machine.new.sp }
     ensures general { machine.new.general ≡ scribbled_general (isa_of machine.old.target) (length machine.old.events + 1) machine.old.general }
     ensures floating { machine.new.floating ≡ scribbled_floating (length machine.old.events + 1) }
-    ensures reserved { ReservedStay A.standard machine.old machine.new }
+    ensures reserved { KeepsReserved A.standard machine.old machine.new }
     ensures sp { machine.new.sp + block_bytes cif.now + A.standard.save ≡ machine.old.sp }
     ensures pc { machine.new.pc ≡ ENTRY }
     ensures within { WroteWithin machine.new.sp machine.old.sp machine.old (with_journal_of machine.old machine.new) }

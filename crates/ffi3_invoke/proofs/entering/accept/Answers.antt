@@ -7,6 +7,7 @@ use Rattle.ffi3_callee.specs.Given.{ReservedStay}
 use Rattle.ffi3_callee.specs.Received.{IsReceived, OwnsAtEntry}
 use Rattle.ffi3_invoke.specs.Calls.{entry_at}
 use Rattle.ffi3_invoke.proofs.Accepted.{counted, in_callee, reserved_beside, within_beside}
+use Rattle.ffi3_invoke.proofs.Passed.{reserved_places_lie, same_in}
 use Rattle.ffi3_invoke.proofs.entering.accept.Goals as goal
 
 pub overflow_add-bytes : goal.overflow_add-bytes
@@ -99,7 +100,7 @@ returns-clause-reserved g c =
     let e_is = c.enter.ensures ∙ ap (λ k. after_enter k m) sized in
     let received = subst (λ x. IsReceived std s x c.receive.new.machine) e_is c.receive.ensures.received in
     let stay = c.receive.ensures.reserved (ap (λ x. x.target) e_is ∙ c.requires.target) in
-    reserved_beside std s g.met.A.Abi.agrees m c.receive.new.machine received (subst (λ x. ReservedStay std x c.receive.new.machine) e_is stay)
+    same_in 0 0 m c.receive.new.machine std.reserved (reserved_places_lie std g.met.A.Abi.agrees) (reserved_beside std s g.met.A.Abi.agrees m c.receive.new.machine received (subst (λ x. ReservedStay std x c.receive.new.machine) e_is stay))
 
 pub returns-clause-sp : goal.returns-clause-sp
 returns-clause-sp g c =
