@@ -203,6 +203,7 @@ pub piece_set : (base : ℕ) (p : Piece) (bytes : List ℕ) (old new : State) �
 piece_set base p bytes old new fits is =
     let many = length_part bytes p.off p.len fits.1 in record {
       held = λ k h. is.here k (subst (λ n. k < n) (sym many) h) ∙ index_part bytes p.off p.len k h;
+      kept = λ k from below. is.kept k (omega (arith, many, from)) below;
       stays = is.stays;
       within = is.within;
     }

@@ -93,7 +93,7 @@ loop-i-preserved g c =
     let low : STACK ≤ c.sp-base.result = omega (arith, c.sp-base.ensures.value, c.requires.bottom) in
     let back : c.loop-i.i ≡ c.loop-i.i - 1 + 1 = omega arith in
     let before = subst (λ i. AllStored c.sp-base.result c.args.machine.now.target (frame_of std s) s.arguments (plan_of std s).places c.args.values.now i c.args.machine.now c.loop-i.machine) back c.loop-i.invariant in
-    argument_step c.sp-base.result c.args.machine.now.target (frame_of std s) s.arguments (plan_of std s).places c.args.values.now (c.loop-i.i - 1) t c.place.result.now (value_of c.get.result.now) c.args.machine.now c.loop-i.machine c.store_place.new.machine low here c.store_place.ensures.stands c.store_place.ensures.stays (c.store_place.ensures.within (frame_of std s) here.ready.lies) before
+    argument_step c.sp-base.result c.args.machine.now.target (frame_of std s) s.arguments (plan_of std s).places c.args.values.now (c.loop-i.i - 1) t c.place.result.now (value_of c.get.result.now) c.args.machine.now c.loop-i.machine c.store_place.new.machine low here c.store_place.ensures.stands c.store_place.ensures.unused c.store_place.ensures.stays (c.store_place.ensures.within (frame_of std s) here.ready.lies) before
 
 pub returns-clause-own : goal.returns-clause-own
 returns-clause-own g c =
