@@ -3,7 +3,6 @@
 
 ghost use Rattle.std.specs.Prelude.{◌≡◌, ℕ, ◌+◌, ◌-◌, ◌<◌, ◌≤◌, List, length, slice_index_or, true};
 ghost use Rattle.std.specs.List.{AllByRecursion};
-ghost use Rattle.std.specs.Int.{w64, to_le_bytes};
 ghost use Rattle.ffi3_type_rules.specs.declared.limits.TheConstants.{STACK, STACK_TOP};
 ghost use Rattle.ffi3_type_rules.specs.Isa.{isa_of};
 ghost use Rattle.ffi3_type_rules.specs.Tree.{tree_at};
@@ -17,9 +16,9 @@ ghost use Rattle.ffi3_place_rules.specs.Holds.{OwnsArguments};
 ghost use Rattle.ffi3_place_rules.specs.Standard.{block_bytes, frame_of, plan_of};
 ghost use Rattle.ffi3_machine.specs.State.{scribbled_floating, scribbled_general, stack_at};
 ghost use Rattle.ffi3_body.specs.SeenActivation.{arguments_in, block_offset};
-ghost use Rattle.ffi3_pieces.specs.Stored.{IsPlace, IsWithin, word_in};
+ghost use Rattle.ffi3_pieces.specs.Stored.{IsPlace, IsWithin};
 ghost use Rattle.ffi3_pieces.specs.Standing.{PlaceLies};
-ghost use Rattle.ffi3_callee.specs.Loaded.{AreBytesOf, AreFound, AreLoaded, IsFound, IsPieceLoaded, IsRead, WroteOnly, image_from};
+ghost use Rattle.ffi3_callee.specs.Loaded.{AreFound, AreLoaded, IsFound, IsRead, WroteOnly, image_from};
 ghost use Rattle.ffi3_callee.specs.Given.{ReservedStay};
 ghost use Rattle.ffi3_callee.specs.Received.{IsIncoming, IsReceived, OwnsAtEntry, hidden_of};
 
@@ -32,7 +31,8 @@ pub use answering::answer;
 use ffi3_cif::Cif;
 use ffi3_machine::Machine;
 use ffi3_place::parts::{argument, count_of, size_of};
-use ffi3_place::{Abi, Loc, Piece, Pieces, Place, Res};
+use ffi3_pieces::{load_piece, place_word};
+use ffi3_place::{Abi, Loc, Pieces, Place, Res};
 use ffi3_type_rules::round_up;
 use ffi3_types::{FfiType, Sig};
 pub use giving::give_result;
@@ -45,61 +45,6 @@ pub struct Incoming {
     block: u64,
     address: u64,
     entry: u64,
-}
-
-// The number of eight bytes, the lowest first.
-fn word_of(bytes: [u8; 8]) -> u64
-    ensures { to_le_bytes w64 result ≡ bytes }
-{
-    u64::from_le_bytes(bytes)
-}
-
-// The eight bytes of a place. Stack places count from the address `base`.
-fn place_bytes(machine: &Machine, base: u64, at: Loc) -> [u8; 8]
-    requires low { STACK ≤ base }
-    requires high { base ≤ STACK_TOP }
-    requires lies { IsPlace (STACK_TOP - base) at }
-    ensures { AreBytesOf base machine.now at result }
-{
-    // its contract tells what is true of every machine
-    let _m = machine.sp();
-    match at {
-        Loc::G(r) => machine.g(r).to_le_bytes(),
-        Loc::F(r) => machine.f(r).to_le_bytes(),
-        Loc::S(n) => {
-            let mut bytes = [0; 8];
-            bytes.copy_from_slice(machine.lend_stack(base + n as u64, 8));
-            bytes
-        }
-    }
-}
-
-// The number in a place. Stack places count from the address `base`.
-fn place_word(machine: &Machine, base: u64, at: Loc) -> u64
-    requires low { STACK ≤ base }
-    requires high { base ≤ STACK_TOP }
-    requires lies { IsPlace (STACK_TOP - base) at }
-    ensures { result ≡ word_in base machine.now at }
-{
-    match at {
-        Loc::G(r) => machine.g(r),
-        Loc::F(r) => machine.f(r),
-        Loc::S(_) => word_of(place_bytes(machine, base, at)),
-    }
-}
-
-// Reads a piece of a value from its place.
-fn load_piece(machine: &Machine, base: u64, piece: &Piece, out: &mut [u8])
-    requires low { STACK ≤ base }
-    requires high { base ≤ STACK_TOP }
-    requires lies { IsPlace (STACK_TOP - base) piece.now.loc }
-    requires within { IsWithin (length out.old) piece.now }
-    ensures { IsPieceLoaded base machine.now piece.now out.old out.new }
-{
-    let bytes = place_bytes(machine, base, piece.loc);
-    let start = piece.off as usize;
-    let len = piece.len as usize;
-    out[start..start + len].copy_from_slice(&bytes[..len]);
 }
 
 // Reads all pieces of a value.

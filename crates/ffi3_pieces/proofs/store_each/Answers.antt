@@ -1,4 +1,4 @@
-use Rattle.std.proofs.Common.{◌≡◌, ◌+◌, ◌-◌, sym, subst, arith}
+use Rattle.std.proofs.Common.{◌≡◌, ◌+◌, ◌-◌, sym, subst, ◌∙◌, arith}
 use Rattle.ffi3_types.specs.TreeOf.{tree_of}
 use Rattle.ffi3_values.specs.ValueOf.{value_of}
 use Rattle.ffi3_place_rules.specs.Sound.{IsPieceOf}
@@ -8,7 +8,7 @@ use Rattle.ffi3_pieces.proofs.Stepping.{AreStored, each_read, each_loc, piece_st
 use Rattle.ffi3_pieces.proofs.store_each.Goals as goal
 
 pub loop-j-init : goal.loop-j-init
-loop-j-init c = none_stored c.args.base (tree_of c.args.ty.now) (value_of c.args.value.now) c.args.pieces.now c.len-j.result c.args.machine.now (omega arith)
+loop-j-init c = (none_stored c.args.base (tree_of c.args.ty.now) (value_of c.args.value.now) c.args.pieces.now c.len-j.result c.args.machine.now (omega arith), c.requires.sized)
 
 pub store_piece-requires-clause-lies : goal.store_piece-requires-clause-lies
 store_piece-requires-clause-lies c =
@@ -16,7 +16,7 @@ store_piece-requires-clause-lies c =
 
 pub store_piece-requires-clause-writable : goal.store_piece-requires-clause-writable
 store_piece-requires-clause-writable c =
-    let same = (c.loop-j.invariant.stored.within (STACK_TOP - c.args.base) c.requires.lie).target in
+    let same = (c.loop-j.invariant.0.within (STACK_TOP - c.args.base) c.requires.lie).target in
     subst (λ g. IsWritable g c.get.result.now.loc) (sym same)
     (each_read (λ q. IsWritable c.args.machine.now.target q.loc) c.args.pieces.now (c.loop-j.j - 1) c.get.result.now (omega arith) c.get.ensures (each_loc (IsWritable c.args.machine.now.target) c.args.pieces.now c.requires.writable))
 
@@ -24,23 +24,26 @@ pub store_piece-requires-clause-part : goal.store_piece-requires-clause-part
 store_piece-requires-clause-part c =
     each_read (IsPieceOf (tree_of c.args.ty.now)) c.args.pieces.now (c.loop-j.j - 1) c.get.result.now (omega arith) c.get.ensures c.requires.parts
 
+pub store_piece-requires-clause-sized : goal.store_piece-requires-clause-sized
+store_piece-requires-clause-sized c = c.loop-j.invariant.1
+
 pub loop-j-preserved : goal.loop-j-preserved
 loop-j-preserved c =
     let back : c.loop-j.j ≡ c.loop-j.j - 1 + 1 = omega arith in
-    let before = subst (λ i. AreStored c.args.base (tree_of c.args.ty.now) (value_of c.args.value.now) c.args.pieces.now i c.args.machine.now c.loop-j.machine) back c.loop-j.invariant.stored in
-    piece_step c.args.base (tree_of c.args.ty.now) (value_of c.args.value.now) c.args.pieces.now (c.loop-j.j - 1) c.get.result.now c.args.machine.now c.loop-j.machine c.store_piece.new.machine (omega arith) c.get.ensures c.requires.parts c.requires.apart c.store_piece.ensures.stored before
+    let before = subst (λ i. AreStored c.args.base (tree_of c.args.ty.now) (value_of c.args.value.now) c.args.pieces.now i c.args.machine.now c.loop-j.machine) back c.loop-j.invariant.0 in
+    (piece_step c.args.base (tree_of c.args.ty.now) (value_of c.args.value.now) c.args.pieces.now (c.loop-j.j - 1) c.get.result.now c.args.machine.now c.loop-j.machine c.store_piece.new.machine (omega arith) c.get.ensures c.requires.parts c.requires.apart c.store_piece.ensures.stored before, c.store_piece.ensures.sized ∙ c.loop-j.invariant.1)
 
 pub returns-clause-stand : goal.returns-clause-stand
 returns-clause-stand c =
-    (all_stored c.args.base (tree_of c.args.ty.now) (value_of c.args.value.now) c.args.pieces.now c.loop-j.j c.args.machine.now c.loop-j.machine (omega arith) c.loop-j.invariant.stored).stand
+    (all_stored c.args.base (tree_of c.args.ty.now) (value_of c.args.value.now) c.args.pieces.now c.loop-j.j c.args.machine.now c.loop-j.machine (omega arith) c.loop-j.invariant.0).stand
 
 pub returns-clause-unused : goal.returns-clause-unused
 returns-clause-unused c =
-    (all_stored c.args.base (tree_of c.args.ty.now) (value_of c.args.value.now) c.args.pieces.now c.loop-j.j c.args.machine.now c.loop-j.machine (omega arith) c.loop-j.invariant.stored).unused
+    (all_stored c.args.base (tree_of c.args.ty.now) (value_of c.args.value.now) c.args.pieces.now c.loop-j.j c.args.machine.now c.loop-j.machine (omega arith) c.loop-j.invariant.0).unused
 
 pub returns-clause-stays : goal.returns-clause-stays
 returns-clause-stays c =
-    (all_stored c.args.base (tree_of c.args.ty.now) (value_of c.args.value.now) c.args.pieces.now c.loop-j.j c.args.machine.now c.loop-j.machine (omega arith) c.loop-j.invariant.stored).stays
+    (all_stored c.args.base (tree_of c.args.ty.now) (value_of c.args.value.now) c.args.pieces.now c.loop-j.j c.args.machine.now c.loop-j.machine (omega arith) c.loop-j.invariant.0).stays
 
 pub returns-clause-within : goal.returns-clause-within
-returns-clause-within c = c.loop-j.invariant.stored.within
+returns-clause-within c = c.loop-j.invariant.0.within
