@@ -23,7 +23,7 @@ use Rattle.ffi3_place_rules.specs.Holds.{leaf_bytes, FillsAs, FillsResult, Holds
 use Rattle.ffi3_place_rules.specs.Sound.{IsSound, ResultHasAll, piece_locs, result_locs}
 use Rattle.ffi3_type_rules.specs.declared.limits.TheConstants.{STACK, STACK_TOP}
 use Rattle.ffi3_machine.specs.State.{State, stack_at, with_sp}
-use Rattle.ffi3_pieces.specs.Stored.{IsByteOf, IsPlace, byte_of, stack_byte, word_in, KeepsPadding, KeepsUnused, Stays, WroteWithin}
+use Rattle.ffi3_pieces.specs.Stored.{IsByteOf, IsPlace, byte_of, word_in, KeepsPadding, KeepsUnused, Stays, WroteWithin}
 use Rattle.ffi3_pieces.specs.Standing.{PiecesStand, IsReady}
 use Rattle.ffi3_pieces.proofs.Arguments.{lies_more}
 use Rattle.ffi3_pieces.proofs.Composing.{wrote_then}
