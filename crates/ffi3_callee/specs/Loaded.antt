@@ -10,19 +10,12 @@ use Rattle.ffi3_place_rules.specs.Image.{Image}
 use Rattle.ffi3_place_rules.specs.Holds.{Carries, OwnsArgument}
 use Rattle.ffi3_type_rules.specs.declared.limits.TheConstants.{STACK_TOP}
 use Rattle.ffi3_machine.specs.State.{State, image_of, with_sp}
-use Rattle.ffi3_pieces.specs.Stored.{byte_of, word_in, WroteWithin}
+use Rattle.ffi3_pieces.specs.Stored.{byte_of, word_in}
 use Rattle.ffi3_pieces.specs.Standing.{PlaceLies}
 
 -- the machine's registers, and so many bytes of its stack from an address on
 abbrev pub image_from : ℕ → ℕ → State → Image
 image_from base len m = image_of len (with_sp base m)
-
--- THE STACK CHANGES ONLY FROM `low` TO `high`, and registers do not
-pub record WroteOnly (low high : ℕ) (old new : State) : Type 0 where
-  pub within : WroteWithin low high old new
-  pub sp : new.sp ≡ old.sp
-  pub general : new.general ≡ old.general
-  pub floating : new.floating ≡ old.floating
 
 -- the pieces that carry a byte have this one
 abbrev pub HaveByte : ℕ → State → ℕ → ℕ → List Piece → Type 0

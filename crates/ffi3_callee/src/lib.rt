@@ -16,9 +16,9 @@ ghost use Rattle.ffi3_place_rules.specs.Holds.{OwnsArguments};
 ghost use Rattle.ffi3_place_rules.specs.Standard.{block_bytes, frame_of, plan_of};
 ghost use Rattle.ffi3_machine.specs.State.{scribbled_floating, scribbled_general, stack_at};
 ghost use Rattle.ffi3_body.specs.SeenActivation.{arguments_in, block_offset};
-ghost use Rattle.ffi3_pieces.specs.Stored.{IsPlace, IsWithin};
+ghost use Rattle.ffi3_pieces.specs.Stored.{IsPlace, IsWithin, WroteOnly};
 ghost use Rattle.ffi3_pieces.specs.Standing.{PlaceLies};
-ghost use Rattle.ffi3_callee.specs.Loaded.{AreFound, AreLoaded, IsFound, IsRead, WroteOnly, image_from};
+ghost use Rattle.ffi3_callee.specs.Loaded.{AreFound, AreLoaded, IsFound, IsRead, image_from};
 ghost use Rattle.ffi3_callee.specs.Given.{ReservedStay};
 ghost use Rattle.ffi3_callee.specs.Received.{IsIncoming, IsReceived, OwnsAtEntry, hidden_of};
 

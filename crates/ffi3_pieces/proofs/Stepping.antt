@@ -1,5 +1,6 @@
 -- One more piece beside those that stand.
 use Rattle.std.proofs.Common.{◌≡◌, ℕ, suc, zero, ◌+◌, ◌<◌, ◌≤◌, List, [], ◌∷◌, get_or, drop, length, subst, sym, ◌∙◌, arith, lit<}
+use Rattle.std.specs.Prelude.{true}
 use Rattle.std.specs.List.{AllByRecursion}
 use Rattle.std.specs.Int.{w64, from_le_bytes}
 use Rattle.ffi3_type_rules.specs.Tree.{Tree}
@@ -14,6 +15,7 @@ use Rattle.ffi3_place_rules.proofs.Elements.{drop_read}
 use Rattle.ffi3_place_rules.proofs.Tests.{each_at}
 use Rattle.ffi3_machine.specs.State.{State}
 use Rattle.ffi3_pieces.specs.Stored.{IsByteOf, IsPlace, word_in, KeepsUnused, SameAt, Stays, WroteWithin, PieceStands, IsStored}
+use Rattle.ffi3_pieces.specs.Runs.{goes_by_run}
 use Rattle.ffi3_pieces.proofs.Composing.{apart_sym, same_byte, stays_none, stays_then, wrote_nothing, wrote_then}
 use Rattle.std.proofs.lemmas.List.{drop_all}
 
@@ -105,6 +107,14 @@ module _ (base : ℕ) (t : Tree) (v : ValueTree) where
         stays = subst (λ ps. Stays base (piece_locs ps) first b) (sym opened) (stays_then base (piece_locs (drop (j + 1) pieces)) (p.loc ∷ []) first a b before.stays stored.stays);
         within = λ r all. wrote_then base (base + r) first a b (before.within r all) (stored.within r (lies r all));
       }
+
+  -- a piece that stands from the first on still stands before its turn
+  pub given_still : (pieces : List Piece) (j : ℕ) (p : Piece) (first m : State) → j < length pieces → p ≡ get_or pieces j p → AllByRecursion (IsPieceOf t) pieces → AreApart (piece_locs pieces) → AllByRecursion (λ q. goes_by_run q.loc q.ext ≡ true → PieceStands base first t v q) pieces → AreStored pieces (j + 1) first m → goes_by_run p.loc p.ext ≡ true → PieceStands base m t v p
+  given_still pieces j p first m h read parts apart given before by =
+      let opened = drop_read pieces j p h read in
+      let apart_here = subst (λ ps. AreApart (piece_locs ps)) opened (apart_drop j pieces apart) in
+      let part = each_read (IsPieceOf t) pieces j p h read parts in
+      stands_stays (piece_locs (drop (j + 1) pieces)) first m p part.short apart_here.0 before.stays (each_read (λ q. goes_by_run q.loc q.ext ≡ true → PieceStands base first t v q) pieces j p h read given by)
 
   pub none_stored : (pieces : List Piece) (j : ℕ) (m : State) → length pieces ≤ j → AreStored pieces j m m
   none_stored pieces j m h =

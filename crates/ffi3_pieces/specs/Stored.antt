@@ -57,6 +57,13 @@ pub record WroteWithin (low high : ℕ) (old new : State) : Type 0 where
   pub spare_events : new.spare_events ≡ old.spare_events
   pub spare_bytes : new.spare_bytes ≡ old.spare_bytes
 
+-- THE STACK CHANGES ONLY FROM `low` TO `high`, and registers do not
+pub record WroteOnly (low high : ℕ) (old new : State) : Type 0 where
+  pub within : WroteWithin low high old new
+  pub sp : new.sp ≡ old.sp
+  pub general : new.general ≡ old.general
+  pub floating : new.floating ≡ old.floating
+
 -- one of a machine's registers, or eight bytes of so many of the stack
 abbrev pub IsPlace : ℕ → Loc → Type 0
 IsPlace stack (G r) = r < 32

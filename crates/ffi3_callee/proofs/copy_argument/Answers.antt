@@ -3,8 +3,10 @@ use Rattle.ffi3_type_rules.specs.Layout.{size_of}
 use Rattle.ffi3_types.specs.TreeOf.{tree_of}
 use Rattle.ffi3_type_rules.specs.declared.limits.TheConstants.{STACK}
 use Rattle.ffi3_machine.specs.State.{stack_at}
-use Rattle.ffi3_callee.specs.Loaded.{IsRead, WroteOnly}
-use Rattle.ffi3_callee.proofs.Copying.{only_stored, stored_there}
+use Rattle.ffi3_callee.specs.Loaded.{IsRead}
+use Rattle.ffi3_pieces.specs.Stored.{WroteOnly}
+use Rattle.ffi3_pieces.proofs.Putting.{only_stored}
+use Rattle.ffi3_callee.proofs.Copying.{stored_there}
 use Rattle.ffi3_callee.proofs.copy_argument.Goals as goal
 
 pub returns-clause-read : goal.returns-clause-read
