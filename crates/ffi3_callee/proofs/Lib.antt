@@ -1,6 +1,6 @@
-mod Loading
 mod Placing
 mod Copying
+mod Moving
 mod SavedWords
 mod Results
 mod Return

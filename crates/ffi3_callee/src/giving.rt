@@ -34,7 +34,6 @@ fn give_pieces(machine: &mut Machine, base: u64, pieces: &Pieces, ty: &FfiType, 
     requires low { STACK ≤ base }
     requires high { base ≤ STACK_TOP }
     requires lie { AllByRecursion (IsPlace 0) (piece_locs pieces.now) }
-    requires deep { AllByRecursion (IsPlace (STACK_TOP - base)) (piece_locs pieces.now) }
     requires writable { AllByRecursion (IsWritable machine.old.target) (piece_locs pieces.now) }
     requires apart { AreApart (piece_locs pieces.now) }
     requires parts { AllByRecursion (IsPieceOf (tree_of ty.now)) pieces.now }

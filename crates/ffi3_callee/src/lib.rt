@@ -26,6 +26,7 @@ mod answering;
 mod giving;
 mod restoring;
 mod saving;
+mod taking;
 
 pub use answering::answer;
 use ffi3_cif::Cif;
@@ -38,6 +39,7 @@ use ffi3_types::{FfiType, Sig};
 pub use giving::give_result;
 pub use restoring::restore;
 use saving::{hidden_word, save_words};
+use taking::copy_argument;
 
 /// What a callee remembers of its entry until it returns: the addresses of its copy of the arguments and of a hidden result's buffer, and the stack pointer.
 #[derive(Debug, Drop)]
@@ -45,63 +47,6 @@ pub struct Incoming {
     block: u64,
     address: u64,
     entry: u64,
-}
-
-// Reads all pieces of a value.
-fn load_pieces(machine: &Machine, base: u64, pieces: &Pieces, out: &mut [u8])
-    requires low { STACK ≤ base }
-    requires high { base ≤ STACK_TOP }
-    requires lie { AllByRecursion (λ p. IsPlace (STACK_TOP - base) p.loc) pieces.now }
-    requires within { AllByRecursion (IsWithin (length out.old)) pieces.now }
-    ensures sized { length out.new ≡ length out.old }
-    ensures loaded { AreLoaded base machine.now pieces.now out.new }
-{
-    for i in 0..pieces.len() {
-        load_piece(machine, base, pieces.get(i), out);
-    }
-}
-
-// Reads an argument from its place, or from the address that is found there.
-fn load_place(machine: &Machine, base: u64, place: &Place, ty: &FfiType, out: &mut [u8])
-    requires low { STACK ≤ base }
-    requires high { base ≤ STACK_TOP }
-    requires lies { PlaceLies (STACK_TOP - base) (tree_of ty.now) place.now }
-    requires has_all { PlaceHasAll (tree_of ty.now) place.now }
-    requires found { IsFound base machine.now place.now }
-    requires sized { length out.old ≡ size_of (tree_of ty.now) }
-    ensures sized { length out.new ≡ length out.old }
-    ensures read { IsRead base machine.now (tree_of ty.now) place.now out.new }
-{
-    // its contract tells what is true of every machine
-    let _m = machine.sp();
-    let _ty = ty;
-    match place {
-        Place::Direct(pieces) => load_pieces(machine, base, pieces, out),
-        Place::ByRef { at, .. } => {
-            let start = place_word(machine, base, *at);
-            out.copy_from_slice(machine.lend_stack(start, out.len() as u64));
-        }
-    }
-}
-
-// Copies an argument from its place to an address.
-fn copy_argument(machine: &mut Machine, base: u64, place: &Place, ty: &FfiType, to: u64)
-    requires low { STACK ≤ to }
-    requires below { to + size_of (tree_of ty.now) ≤ base }
-    requires high { base ≤ STACK_TOP }
-    requires lies { PlaceLies (STACK_TOP - base) (tree_of ty.now) place.now }
-    requires has_all { PlaceHasAll (tree_of ty.now) place.now }
-    requires found { IsFound base machine.old place.now }
-    requires right { IsResultType (tree_of ty.now) }
-    ensures read { IsRead base machine.old (tree_of ty.now) place.now (stack_at to (size_of (tree_of ty.now)) machine.new) }
-    ensures only { WroteOnly to (to + size_of (tree_of ty.now)) machine.old machine.new }
-{
-    // its contract tells what is true of every machine
-    let _m = machine.sp();
-    let mut room = [0; 1024];
-    let bytes = &mut room[..size_of(ty) as usize];
-    load_place(machine, base, place, ty, bytes);
-    machine.store_stack(to, bytes);
 }
 
 // Copies the arguments into the block at an address, one behind the other, each in whole
@@ -122,7 +67,7 @@ fn copy_arguments<A: Abi>(machine: &mut Machine, cif: &Cif<A>, base: u64, block:
     let mut to = block;
     for i in 0..count_of(sig) {
         let ty = argument(sig, i);
-        copy_argument(machine, base, cif.place(i), ty, to);
+        copy_argument(machine, base, cif.place(i), cif.runs(i), ty, to);
         to += round_up(size_of(ty), 8);
     }
 }

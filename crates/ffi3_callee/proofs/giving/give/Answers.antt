@@ -28,11 +28,6 @@ give_pieces-requires-clause-lie g c =
     let s = c.args.cif.now in
     direct_places g.A.Abi.standard s c.in-Direct.pieces (g.met.A.Abi.sound s c.sig.ensures.faultless) (sym c.result_place.ensures ∙ c.in-Direct.is)
 
-pub give_pieces-requires-clause-deep : goal.give_pieces-requires-clause-deep
-give_pieces-requires-clause-deep g c =
-    let s = c.args.cif.now in
-    lies_more 0 (STACK_TOP - c.args.base) s.result_type (Direct c.in-Direct.pieces) (omega arith) (direct_places g.A.Abi.standard s c.in-Direct.pieces (g.met.A.Abi.sound s c.sig.ensures.faultless) (sym c.result_place.ensures ∙ c.in-Direct.is))
-
 pub returns-in-Nothing-clause-holds : goal.returns-in-Nothing-clause-holds
 returns-in-Nothing-clause-holds g c =
     nothing_held g.A.Abi.standard c.args.cif.now c.args.base c.args.machine.now (value_of c.args.value.now) c.requires.low c.requires.high c.sp-m.ensures.machine.stack (sym c.result_place.ensures ∙ c.in-Nothing.is) c.requires.fits
