@@ -22,7 +22,7 @@ use Rattle.ffi3_place_rules.specs.Holds.{Carries, LeavesStand, OwnsArgument, Own
 use Rattle.ffi3_place_rules.specs.Sound.{IsSound, argument_locs, buffer_locs, copy_locs, hidden_locs, place_locs}
 use Rattle.ffi3_type_rules.specs.declared.limits.TheConstants.{STACK, STACK_TOP}
 use Rattle.ffi3_machine.specs.State.{State, image_of, scribbled, stack_at, with_sp}
-use Rattle.ffi3_pieces.specs.Stored.{IsPlace, WroteWithin}
+use Rattle.ffi3_pieces.specs.Stored.{IsPlace, WroteOnly, WroteWithin}
 use Rattle.ffi3_pieces.specs.Standing.{AreReady}
 use Rattle.ffi3_pieces.proofs.Composing.{wrote_then, wrote_wider}
 use Rattle.ffi3_pieces.proofs.Lawful.{all_ready, call_places, each_first}
@@ -31,7 +31,7 @@ use Rattle.ffi3_pieces.proofs.Stepping.{same_word_in}
 use Rattle.ffi3_body.specs.SeenActivation.{arguments_in}
 use Rattle.ffi3_place_rules.specs.declared.SaveWord.{SaveWord}
 use Rattle.ffi3_place_rules.specs.declared.SaveWord.TheVariants.{Register, Hidden as HiddenWord, Spare}
-use Rattle.ffi3_callee.specs.Loaded.{AreFound, WroteOnly, image_from}
+use Rattle.ffi3_callee.specs.Loaded.{AreFound, image_from}
 use Rattle.ffi3_callee.specs.Given.{IsAddressOf}
 use Rattle.ffi3_callee.specs.Received.{IsReceived, OwnsAtEntry, hidden_of}
 use Rattle.ffi3_callee.specs.Saved.{AreSaved, HiddenLies, IsSaveable, hidden_word}

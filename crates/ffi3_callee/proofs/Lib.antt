@@ -1,6 +1,6 @@
-pub mod Loading
 pub mod Placing
 pub mod Copying
+pub mod Moving
 pub mod SavedWords
 pub mod Results
 pub mod Return

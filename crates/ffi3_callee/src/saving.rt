@@ -4,13 +4,11 @@ ghost use Rattle.std.specs.List.{AllByRecursion};
 ghost use Rattle.ffi3_type_rules.specs.declared.limits.TheConstants.{STACK, STACK_TOP};
 ghost use Rattle.ffi3_place_rules.specs.declared.Loc.{Loc};
 ghost use Rattle.ffi3_place_rules.specs.Agrees.{saved_registers};
-ghost use Rattle.ffi3_pieces.specs.Stored.{IsPlace, Stays, WroteWithin, word_in};
-ghost use Rattle.ffi3_callee.specs.Loaded.{WroteOnly};
+ghost use Rattle.ffi3_pieces.specs.Stored.{IsPlace, Stays, WroteOnly, WroteWithin, word_in};
 ghost use Rattle.ffi3_callee.specs.Saved.{AreGivenBack, AreSaved, HiddenLies, IsRestorable, IsSaveable, hidden_word, saved_word, word_to_save};
 
-use crate::place_word;
 use ffi3_machine::{Machine, STACK_TOP};
-use ffi3_pieces::put_word;
+use ffi3_pieces::{place_word, put_word};
 use ffi3_place::{Abi, Loc, SaveWord};
 
 // How many words the save area has.
