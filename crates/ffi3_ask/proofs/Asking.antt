@@ -1,7 +1,8 @@
 -- From a body's own numbers to those of the run.
-use Rattle.std.proofs.Common.{◌≡◌, ℕ, ◌+◌, ◌-◌, ◌<◌, ◌≤◌, List, [], ◌∷◌, ◌++◌, length, Result, Ok, Err, IfOk, Some, refl, ap, sym, ◌∙◌, subst, arith}
+use Rattle.std.proofs.Common.{◌≡◌, ℕ, ◌+◌, ◌-◌, ◌^◌, ◌<◌, ◌≤◌, List, [], ◌∷◌, ◌++◌, length, map, Result, Ok, Err, IfOk, Some, refl, ap, sym, ◌∙◌, subst, arith}
 use Rattle.std.specs.Prelude.{slice_get, option_map}
-use Rattle.std.proofs.lemmas.Option.{same_Some, slice_get-map}
+use Rattle.std.proofs.lemmas.List.{length-map}
+use Rattle.std.proofs.lemmas.Option.{same_Some, slice_get-map, slice_get_within}
 use Rattle.ffi3_type_rules.specs.Tree.{Tree}
 use Rattle.ffi3_type_rules.specs.Signature.{Signature, signature_at}
 use Rattle.ffi3_type_rules.specs.Value.{ValueTree}
@@ -19,11 +20,11 @@ use Rattle.ffi3_script_body.specs.BodyOf.{moves_of, signatures_of, functions_of,
 use Rattle.ffi3_script_body.specs.declared.body.ScriptBody.{ScriptBody}
 use Rattle.ffi3_script_body.specs.declared.cursor.Cursor.{Cursor}
 use Rattle.ffi3_script.specs.ScriptOf as read
-use Rattle.ffi3_ask.specs.Handed.{natives_in, signatures_before}
+use Rattle.ffi3_ask.specs.Handed.{natives_in, signatures_in, signatures_before, HasRoom}
 use Rattle.ffi3_script.specs.declared.script.Script.{Script}
 use Rattle.ffi3_ask.specs.Stands.{IsInBody, IsInNative, IsInHanded}
 use Rattle.ffi3_ask.specs.Asked.{IsAsked, IsNext, own_signature}
-use Rattle.ffi3_ask.proofs.Numbers.{script_fits, script_type, own_of_script, function_of_script, function_of_native, own_of_native, native_fits, native_type}
+use Rattle.ffi3_ask.proofs.Numbers.{has_room, handed_within, script_fits, script_type, own_of_script, function_of_script, function_of_native, own_of_native, native_fits, native_type}
 
 -- what follows of an answer from two of its clauses
 pub ok_both : {T E : Type 0} (r : Result T E) (P Q R : T → Type 0) → IfOk r P → IfOk r Q → ((x : T) → P x → Q x → R x) → IfOk r R
@@ -131,14 +132,32 @@ handed_stands std ns s k first j n a j_is above at begins some own none =
       };
     }
 
--- a native's move, where it stands in it
-pub handed_asked : (std : Standard) (ns : List NamedNative) (s : Script) (k first : ℕ) (n : NamedNative) (a : SeenActivation) (m asked : Move) (stands : IsInHanded s ns k first a) → slice_get ns (k - length (read.script_of s).functions) ≡ Some n → m ≡ n.native.behaviour (arguments_of a) a.user a.results → MoveFits n.native.signatures 1 a.signature.result_type m → asked ≡ renumbered first k m → IsAsked (program_beside std ns (read.script_of s)) (function k) a (λ r. IsInHanded s ns k first (one_more a r)) asked
-handed_asked std ns s k first n a m asked stands here is fits asked_is =
-    let same : stands.native ≡ n = same_Some stands.native n (sym stands.is.is ∙ here) in
-    let inside = subst (λ x. IsInNative x.native a) same stands.stands in
-    let found = native_asked std ns (read.script_of s) k first n.native a m stands.is.above (native_here ns (k - length (read.script_of s).functions) n here) stands.is.begins inside is fits in
-    asked_as (program_beside std ns (read.script_of s)) (function k) a (λ r. IsInNative n.native (one_more a r)) (λ r. IsInHanded s ns k first (one_more a r)) (renumbered first k m) asked found asked_is (λ r later. record {
-      native = n;
-      is = record { above = stands.is.above; is = here; begins = stands.is.begins };
-      stands = later;
-    })
+-- ---- in a native that is handed in
+
+-- a number of a list that was made of another
+pub mapped_below : {A B : Type 0} (f : A → B) (xs : List A) (k : ℕ) (x : B) → slice_get (map f xs) k ≡ Some x → k < length xs
+mapped_below f xs k x is =
+    omega (arith, slice_get_within (map f xs) k x is, length-map xs f)
+
+module _ (ns : List NamedNative) (s : Script) (k first : ℕ) (a : SeenActivation) (stands : IsInHanded s ns k first a) (j : ℕ) (n : NamedNative) (j_is : j ≡ k - length (read.script_of s).functions) (at : slice_get ns j ≡ Some n) where
+  here : slice_get ns (k - length (read.script_of s).functions) ≡ Some n
+  here = subst (λ i. slice_get ns i ≡ Some n) j_is at
+
+  pub handed_inside : IsInNative n.native a
+  handed_inside =
+      subst (λ x. IsInNative x.native a) (same_Some stands.native n (sym stands.is.is ∙ here)) stands.stands
+
+  pub handed_room : (m : Move) → MoveFits n.native.signatures 1 a.signature.result_type m → length (read.script_of s).signatures < 2 ^ 31 → length (signatures_in ns) < 2 ^ 31 → k < 2 ^ 32 → HasRoom first k m
+  handed_room m fits few_own few small =
+      let within : first + length n.native.signatures ≤ length (read.script_of s).signatures + length (signatures_in ns) = handed_within ns (read.script_of s) k first n.native (native_here ns (k - length (read.script_of s).functions) n here) stands.is.begins in
+      has_room n.native first k a.signature.result_type m fits (omega (arith, within, few_own, few)) small
+
+  -- its move
+  pub handed_asked : (std : Standard) (m asked : Move) → m ≡ n.native.behaviour (arguments_of a) a.user a.results → MoveFits n.native.signatures 1 a.signature.result_type m → asked ≡ renumbered first k m → IsAsked (program_beside std ns (read.script_of s)) (function k) a (λ r. IsInHanded s ns k first (one_more a r)) asked
+  handed_asked std m asked is fits asked_is =
+      let found = native_asked std ns (read.script_of s) k first n.native a m stands.is.above (native_here ns (k - length (read.script_of s).functions) n here) stands.is.begins handed_inside is fits in
+      asked_as (program_beside std ns (read.script_of s)) (function k) a (λ r. IsInNative n.native (one_more a r)) (λ r. IsInHanded s ns k first (one_more a r)) (renumbered first k m) asked found asked_is (λ r later. record {
+        native = n;
+        is = record { above = stands.is.above; is = here; begins = stands.is.begins };
+        stands = later;
+      })

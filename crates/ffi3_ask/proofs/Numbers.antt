@@ -182,3 +182,44 @@ module _ (std : Standard) (ns : List NamedNative) (s : Script) where
     native_type t (free ptr) fits = refl
     native_type t (print u v) fits = refl
     native_type t (return v) fits = refl
+
+-- signature i of native j is one of all
+pub signature_here : (ns : List NamedNative) (j i number : ℕ) (n : NamedNative) → slice_get ns j ≡ Some n → i < length n.native.signatures → i + signatures_before (natives_in ns) j ≡ number → signature_at n.native.signatures i ≡ signature_at (signatures_in ns) number
+signature_here ns j i number n is below at =
+    let here = slice_get-map (λ x. x.native) ns j ∙ ap (option_map (λ x. x.native)) is in
+    let same : signatures_before (natives_in ns) j + i ≡ number = omega (arith, at) in
+    sym (native_signature_at (natives_in ns) j n.native i _ here below) ∙ ap (signature_at (signatures_in ns)) same
+
+-- as many stand before none as there are
+pub before_none : (ns : List NamedNative) (j : ℕ) → j ≡ length ns → signatures_before (natives_in ns) j ≡ length (signatures_in ns)
+before_none ns j at = before_all (natives_in ns) j (omega (arith, at, length-map ns (λ n. n.native)))
+
+module _ (std : Standard) (ns : List NamedNative) (s : Script) where
+  pub all_before : (j first : ℕ) → j ≡ length ns → first ≡ length s.signatures + signatures_before (natives_in ns) j → first ≡ length (program_beside std ns s).signatures
+  all_before j first at begins =
+      omega (arith, before_none ns j at, begins, signatures_count std ns s)
+
+  -- native j is function k of the run
+  module _ (k first j : ℕ) (n : NamedNative) (here : k ≡ length s.functions + j) (is : slice_get ns j ≡ Some n) (begins : first ≡ length s.signatures + signatures_before (natives_in ns) j) where
+    j_is : j ≡ k - length s.functions
+    j_is = omega (arith, here)
+
+    is_at : slice_get (natives_in ns) (k - length s.functions) ≡ Some n.native
+    is_at =
+        subst (λ i. slice_get (natives_in ns) i ≡ Some n.native) j_is (slice_get-map (λ x. x.native) ns j ∙ ap (option_map (λ x. x.native)) is)
+
+    begins_at : first ≡ length s.signatures + signatures_before (natives_in ns) (k - length s.functions)
+    begins_at = subst (λ i. first ≡ length s.signatures + signatures_before (natives_in ns) i) j_is begins
+
+    pub sig_of_native : first ≡ (function_at (program_beside std ns s) k).signature
+    sig_of_native =
+        sym (ap (λ f. f.signature) (function_of_native std ns s k first n.native (omega (arith, here)) is_at begins_at))
+
+    pub sig_of_native_below : 0 < length n.native.signatures → first < length (program_beside std ns s).signatures
+    sig_of_native_below some =
+        omega (arith, some, signatures_within std ns s k first n.native (omega (arith, here)) is_at begins_at, signatures_count std ns s)
+
+-- its signatures lie within those of the run
+pub handed_within : (ns : List NamedNative) (s : Script) (k first : ℕ) (n : Native) → slice_get (natives_in ns) (k - length s.functions) ≡ Some n → first ≡ length s.signatures + signatures_before (natives_in ns) (k - length s.functions) → first + length n.signatures ≤ length s.signatures + length (signatures_in ns)
+handed_within ns s k first n is begins =
+    omega (arith, begins, native_within (natives_in ns) (k - length s.functions) n is)

@@ -1,5 +1,5 @@
 // What a function of a run asks for next.
-ghost use Rattle.std.specs.Prelude.{◌≡◌, ◌≤◌, IfOk, List, length};
+ghost use Rattle.std.specs.Prelude.{◌≡◌, ◌<◌, ◌≤◌, ◌^◌, IfOk, List, length, map};
 ghost use Rattle.ffi3_place_rules.specs.Standard.{Standard};
 ghost use Rattle.ffi3_run_rules.specs.Meaning.{main, function};
 ghost use Rattle.ffi3_body.specs.MoveOf.{move_of};
@@ -7,12 +7,13 @@ ghost use Rattle.ffi3_script_rules.specs.Natives.{NamedNative, program_beside};
 ghost use Rattle.ffi3_script_body.specs.Agrees.{one_more};
 ghost use Rattle.ffi3_script_body.specs.BodyOf.{signatures_of, functions_of, meaning_of};
 ghost use Rattle.ffi3_script.specs.ScriptOf.{script_of, natives_of, main_body};
+ghost use Rattle.ffi3_ask.specs.Handed.{handed_in, signatures_in};
 ghost use Rattle.ffi3_ask.specs.Asked.{IsAsked, IsNext};
 ghost use Rattle.ffi3_ask.specs.Stands.{who_of, StandingAgrees, IsInBody, IsInFunction, IsInHanded};
 
-use crate::natives::{next_of, renumbered};
-use crate::{Natives, Standing};
-use ffi3_body::{Move, Seen};
+use crate::natives::{native_at, next_of, renumbered};
+use crate::Standing;
+use ffi3_body::{Move, Native, Seen};
 use ffi3_script::Script;
 use ffi3_script_body::{Cursor, ScriptBody};
 use ffi3_types::NoMemory;
@@ -24,17 +25,19 @@ use std::alloc::Global;
 pub fn ask(
     alloc: Global,
     script: &Script,
-    natives: &Natives,
+    natives: &Vec<Box<dyn Native>>,
     standing: &mut Standing,
     seen: &Seen,
 ) -> Result<Move, NoMemory>
-    requires beside { natives_of script.now ≤ length natives.now }
-    requires agrees { StandingAgrees script.now natives.now seen.now standing.old }
-    ensures asked { (std : Standard) → IfOk result
-        (λ m. IsAsked (program_beside std natives.now (script_of script.now)) (who_of standing.old) seen.now
-        (λ r. StandingAgrees script.now natives.now (one_more seen.now r) standing.new) (move_of m)) }
+    requires beside { natives_of script.now ≤ length natives.now.items }
+    requires few_signatures { length (signatures_in (map (λ b. handed_in (title b) (meaning b) (signatures b)) natives.now.items)) < 2 ^ 31 }
+    requires agrees { StandingAgrees script.now (map (λ b. handed_in (title b) (meaning b) (signatures b)) natives.now.items) seen.now standing.old }
+    ensures asked { let handed : List NamedNative = map (λ b. handed_in (title b) (meaning b) (signatures b)) natives.now.items in
+        (std : Standard) → IfOk result
+        (λ m. IsAsked (program_beside std handed (script_of script.now)) (who_of standing.old) seen.now
+        (λ r. StandingAgrees script.now handed (one_more seen.now r) standing.new) (move_of m)) }
     ensures who { who_of standing.new ≡ who_of standing.old }
-    ensures agrees { StandingAgrees script.now natives.now seen.now standing.new }
+    ensures agrees { StandingAgrees script.now (map (λ b. handed_in (title b) (meaning b) (signatures b)) natives.now.items) seen.now standing.new }
 {
     match standing {
         Standing::InMain(cursor) => ask_main(alloc, script, cursor, seen),
@@ -98,20 +101,21 @@ fn ask_body(
 fn ask_native(
     alloc: Global,
     script: &Script,
-    natives: &Natives,
+    natives: &Vec<Box<dyn Native>>,
     number: u32,
     first: u32,
     seen: &Seen,
 ) -> Result<Move, NoMemory>
-    requires { IsInHanded script.now natives.now number first seen.now }
-    ensures { (std : Standard) → IfOk result
-        (λ m. IsAsked (program_beside std natives.now (script_of script.now)) (function number) seen.now
-        (λ r. IsInHanded script.now natives.now number first (one_more seen.now r)) (move_of m)) }
+    requires few_signatures { length (signatures_in (map (λ b. handed_in (title b) (meaning b) (signatures b)) natives.now.items)) < 2 ^ 31 }
+    requires stands { IsInHanded script.now (map (λ b. handed_in (title b) (meaning b) (signatures b)) natives.now.items) number first seen.now }
+    ensures { let handed : List NamedNative = map (λ b. handed_in (title b) (meaning b) (signatures b)) natives.now.items in
+        (std : Standard) → IfOk result
+        (λ m. IsAsked (program_beside std handed (script_of script.now)) (function number) seen.now
+        (λ r. IsInHanded script.now handed number first (one_more seen.now r)) (move_of m)) }
 {
     // by which there is room for its numbers
     script.sigs();
-    natives.len();
-    let native = natives.get(number - script.functions());
+    let native = native_at(natives, number - script.functions());
     let asked = next_of(alloc, native, seen)?;
     Ok(renumbered(asked, first, number))
 }

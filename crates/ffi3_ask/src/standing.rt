@@ -1,5 +1,5 @@
 // Whose body an activation runs, and where it stands in it.
-ghost use Rattle.std.specs.Prelude.{◌≡◌, ◌<◌, ◌≤◌, ◌+◌, [], List, length};
+ghost use Rattle.std.specs.Prelude.{◌≡◌, ◌<◌, ◌≤◌, ◌+◌, ◌^◌, [], List, length, map};
 ghost use Rattle.ffi3_place_rules.specs.Standard.{Standard};
 ghost use Rattle.ffi3_run_rules.specs.Move.{no_signature};
 ghost use Rattle.ffi3_run_rules.specs.Meaning.{main, function};
@@ -8,11 +8,12 @@ ghost use Rattle.ffi3_script_rules.specs.Natives.{NamedNative, program_beside};
 ghost use Rattle.ffi3_script_body.specs.BodyOf.{signature_of};
 ghost use Rattle.ffi3_script.specs.ScriptOf.{script_of};
 ghost use Rattle.ffi3_ask.specs.Asked.{own_signature};
+ghost use Rattle.ffi3_ask.specs.Handed.{handed_in, signatures_in};
 ghost use Rattle.ffi3_ask.specs.Stands.{who_of, StandingAgrees, IsInBody};
 
-use crate::Natives;
-use crate::natives::sigs_of;
+use crate::natives::{native_at, sigs_of};
 use crate::numbers::first_of;
+use ffi3_body::Native;
 use ffi3_script::Script;
 use ffi3_script_body::{Cursor, ScriptBody};
 use std::alloc::Global;
@@ -45,12 +46,14 @@ pub fn in_main(alloc: Global, script: &Script) -> Standing
 }
 
 /// Function `number` of the run before its first move.
-pub fn in_function(alloc: Global, script: &Script, natives: &Natives, number: u32) -> Standing
-    requires { number < length (script_of script.now).functions + length natives.now }
+pub fn in_function(alloc: Global, script: &Script, natives: &Vec<Box<dyn Native>>, number: u32) -> Standing
+    requires below { number < length (script_of script.now).functions + length natives.now.items }
+    requires few_signatures { length (signatures_in (map (λ b. handed_in (title b) (meaning b) (signatures b)) natives.now.items)) < 2 ^ 31 }
     ensures who { who_of result ≡ function number }
-    ensures agrees { (std : Standard) (a : SeenActivation) →
-        a.signature ≡ own_signature (program_beside std natives.now (script_of script.now)) (function number) →
-        a.results ≡ [] → StandingAgrees script.now natives.now a result }
+    ensures agrees { let handed : List NamedNative = map (λ b. handed_in (title b) (meaning b) (signatures b)) natives.now.items in
+        (std : Standard) (a : SeenActivation) →
+        a.signature ≡ own_signature (program_beside std handed (script_of script.now)) (function number) →
+        a.results ≡ [] → StandingAgrees script.now handed a result }
 {
     let count = script.functions();
     if number < count {
@@ -74,16 +77,18 @@ fn in_script(alloc: Global, script: &Script, number: u32) -> Standing
 }
 
 // A native before its first move.
-fn in_native(script: &Script, natives: &Natives, number: u32) -> Standing
+fn in_native(script: &Script, natives: &Vec<Box<dyn Native>>, number: u32) -> Standing
     requires above { length (script_of script.now).functions ≤ number }
-    requires below { number < length (script_of script.now).functions + length natives.now }
+    requires below { number < length (script_of script.now).functions + length natives.now.items }
+    requires few_signatures { length (signatures_in (map (λ b. handed_in (title b) (meaning b) (signatures b)) natives.now.items)) < 2 ^ 31 }
     ensures who { who_of result ≡ function number }
-    ensures agrees { (std : Standard) (a : SeenActivation) →
-        a.signature ≡ own_signature (program_beside std natives.now (script_of script.now)) (function number) →
-        a.results ≡ [] → StandingAgrees script.now natives.now a result }
+    ensures agrees { let handed : List NamedNative = map (λ b. handed_in (title b) (meaning b) (signatures b)) natives.now.items in
+        (std : Standard) (a : SeenActivation) →
+        a.signature ≡ own_signature (program_beside std handed (script_of script.now)) (function number) →
+        a.results ≡ [] → StandingAgrees script.now handed a result }
 {
     let j = number - script.functions();
     // by which it has a signature of its own
-    sigs_of(natives.get(j));
+    sigs_of(native_at(natives, j));
     Standing::InNative(number, first_of(script, natives, j))
 }
