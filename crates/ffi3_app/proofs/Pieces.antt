@@ -31,6 +31,10 @@ written_then x y a b c (Err e) first second = cut_after a b c x y (x ++ y) e ref
 ended_within : (x y : List ℕ) (a b : SinkState) (e : IoError) → Wrote x a b (Err e) → Wrote (x ++ y) a b (Err e)
 ended_within x y a b e cut = cut_in a b x y (x ++ y) e refl cut
 
+-- a piece by another name
+pub wrote_as : (x y : List ℕ) (a b : SinkState) (r : Writing) → x ≡ y → Wrote x a b r → Wrote y a b r
+wrote_as x y a b r is wrote = subst (λ t. Wrote t a b r) is wrote
+
 -- ---- what is left of a text
 
 -- what comes of the rest comes of the whole

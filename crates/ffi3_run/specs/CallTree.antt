@@ -1,4 +1,4 @@
--- CallTree that are done, one after another, and what they leave: events, lines, and the mark.
+-- Call trees that are done, one after another, and what they leave: events, lines, and the mark.
 use Rattle.std.specs.Prelude.{◌≡◌, ℕ, ◌+◌, ◌≤◌, ◌⊎◌, List, [], ◌++◌, length}
 use Rattle.ffi3_place_rules.specs.Event.{Event}
 use Rattle.ffi3_amd64_rules.specs.Amd64.{amd64}
