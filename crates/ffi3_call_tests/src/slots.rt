@@ -103,7 +103,9 @@ fn sent_and_came<A: Abi>(alloc: Global, cif: &Cif<A>) -> Result<(Bytes, Bytes), 
     let mut came = Bytes::new(alloc);
     for i in 0..cif.sig().count() {
         let ty = argument(cif.sig(), i);
-        write_value(alloc, ty, args.get(i as usize), &mut sent)?;
+        if (i as usize) < args.len() {
+            write_value(alloc, ty, args.get(i as usize), &mut sent)?;
+        }
         let value = value_from_bytes(alloc, ty, arg(&machine, cif, &incoming, i))?;
         write_value(alloc, ty, &value, &mut came)?;
     }
