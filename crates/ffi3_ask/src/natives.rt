@@ -26,6 +26,8 @@ pub(crate) fn native_at(natives: &Vec<Box<dyn Native>>, j: u32) -> &Box<dyn Nati
 pub(crate) fn sigs_of(native: &Box<dyn Native>) -> &Sigs
     ensures are { result.now ≡ signatures native.now }
     ensures some { 0 < length (signatures native.now) }
+    ensures own { signature native.now ≡ signature_at (signatures native.now) 0 }
+    ensures itself { functions native.now ≡ 1 }
     ensures right { All SignatureHasNoFault (signatures native.now) }
 {
     native.sigs()
@@ -45,7 +47,7 @@ pub(crate) fn next_of(
         (λ m. MoveFits (signatures native.now) 1 seen.now.signature.result_type (move_of m)) }
 {
     // by which it is called by the first of its signatures, and makes only itself
-    native.sigs();
+    sigs_of(native);
     native.next(alloc, seen)
 }
 

@@ -46,7 +46,12 @@ pub fn in_main(alloc: Global, script: &Script) -> Standing
 }
 
 /// Function `number` of the run before its first move.
-pub fn in_function(alloc: Global, script: &Script, natives: &Vec<Box<dyn Native>>, number: u32) -> Standing
+pub fn in_function(
+    alloc: Global,
+    script: &Script,
+    natives: &Vec<Box<dyn Native>>,
+    number: u32,
+) -> Standing
     requires below { number < length (script_of script.now).functions + length natives.now.items }
     requires few_signatures { length (signatures_in (map (λ b. handed_in (title b) (meaning b) (signatures b)) natives.now.items)) < 2 ^ 31 }
     ensures who { who_of result ≡ function number }

@@ -100,8 +100,12 @@ module _ (std : Standard) (ns : List NamedNative) (s : Script) where
   pub functions_count : length (program_beside std ns s).functions ≡ length s.functions + length ns
   functions_count =
       let own = map (script.function_of s.signatures) s.functions in
-      let others = functions_from (length s.signatures) (length s.functions) (natives_in ns) in
-      omega (arith, length-append own others, length-map s.functions (script.function_of s.signatures), length-functions_from (length s.signatures) (length s.functions) (natives_in ns), length-map ns (λ n. n.native))
+      let others = functions_from (length s.signatures) (length own) (natives_in ns) in
+      let split : length (program_beside std ns s).functions ≡ length own + length others = length-append own others in
+      let first : length own ≡ length s.functions = length-map s.functions (script.function_of s.signatures) in
+      let rest : length others ≡ length (natives_in ns) = length-functions_from (length s.signatures) (length own) (natives_in ns) in
+      let handed : length (natives_in ns) ≡ length ns = length-map ns (λ n. n.native) in
+      omega (arith, split, first, rest, handed)
 
   -- a signature of the script
   pub own_of_script : (i : ℕ) → i < length s.signatures → signature_at (program_beside std ns s).signatures i ≡ signature_at s.signatures i
@@ -145,10 +149,11 @@ module _ (std : Standard) (ns : List NamedNative) (s : Script) where
     function_of_native =
         let j = k - length s.functions in
         let own = map (script.function_of s.signatures) s.functions in
-        let others = functions_from (length s.signatures) (length s.functions) (natives_in ns) in
+        let others = functions_from (length s.signatures) (length own) (natives_in ns) in
         let count : length own ≡ length s.functions = length-map s.functions (script.function_of s.signatures) in
-        let here : length s.functions + j ≡ k = omega (arith, above) in
-        get_or-append_right own others (length s.functions) k idle count above ∙ native_function (length s.signatures) (length s.functions) (natives_in ns) j n idle is ∙ ap (λ f. function_of f (length s.functions + j) n) (sym begins) ∙ ap (λ o. function_of first o n) here
+        let here : length own + j ≡ k = omega (arith, above, count) in
+        let past : function_at (program_beside std ns s) k ≡ slice_index_or others j idle = get_or-append_right own others (length s.functions) k idle count above in
+        past ∙ native_function (length s.signatures) (length own) (natives_in ns) j n idle is ∙ ap (λ f. function_of f (length own + j) n) (sym begins) ∙ ap (λ o. function_of first o n) here
 
     pub own_of_native : (i : ℕ) → i < length n.signatures → signature_at (program_beside std ns s).signatures (first + i) ≡ signature_at n.signatures i
     own_of_native i below =
