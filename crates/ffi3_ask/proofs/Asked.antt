@@ -1,14 +1,13 @@
 -- From a body's own numbers to those of the run.
-use Rattle.std.proofs.Common.{◌≡◌, ℕ, ◌+◌, ◌-◌, ◌^◌, ◌<◌, ◌≤◌, List, [], ◌∷◌, ◌++◌, length, map, Result, Ok, Err, IfOk, Some, All, refl, ap, sym, ◌∙◌, subst, arith}
+use Rattle.std.proofs.Common.{◌≡◌, ℕ, ◌+◌, ◌-◌, ◌^◌, ◌<◌, ◌≤◌, List, [], length, map, Result, Ok, Err, IfOk, Some, All, ap, sym, ◌∙◌, subst, arith}
 use Rattle.std.specs.Prelude.{slice_get, option_map}
 use Rattle.std.proofs.lemmas.List.{length-map}
 use Rattle.std.proofs.lemmas.Option.{same_Some, slice_get-map, slice_get_within}
-use Rattle.ffi3_type_rules.specs.Tree.{Tree}
 use Rattle.ffi3_type_rules.specs.Signature.{Signature, signature_at, SignatureHasNoFault}
 use Rattle.ffi3_type_rules.specs.Value.{ValueTree}
 use Rattle.ffi3_place_rules.specs.Standard.{Standard}
 use Rattle.ffi3_run_rules.specs.Move.{Move, Behaviour, MoveFits, result_type_of}
-use Rattle.ffi3_run_rules.specs.Meaning.{Program, Native, renumbered, Who, main, function, function_at, behaviour_of}
+use Rattle.ffi3_run_rules.specs.Meaning.{Program, Native, renumbered, Who, main, function, behaviour_of}
 use Rattle.ffi3_body.specs.SeenActivation.{SeenActivation, arguments_of}
 use Rattle.ffi3_body.specs.Follow.{IsOfType, ResultsFollow}
 use Rattle.ffi3_body.proofs.Follow.{one_more_follows, none_follow}

@@ -1,15 +1,15 @@
 -- The numbers of a run's functions and signatures.
-use Rattle.std.proofs.Common.{◌≡◌, ℕ, zero, suc, ◌+◌, ◌-◌, ◌<◌, ◌≤◌, ◌^◌, true, List, [], ◌∷◌, ◌++◌, length, take, map, Option, Some, None, refl, ap, sym, ◌∙◌, subst, arith, length-append}
+use Rattle.std.proofs.Common.{◌≡◌, ℕ, zero, suc, ◌+◌, ◌-◌, ◌<◌, ◌≤◌, ◌^◌, true, List, [], ◌∷◌, ◌++◌, length, take, map, Some, refl, ap, sym, ◌∙◌, subst, arith, length-append}
 use Rattle.std.specs.Prelude.{slice_index_or, slice_get, option_map}
 use Rattle.std.proofs.lemmas.List.{length-map, get_or_append_left, get_or-append-add, get_or-append_right, get_or-map}
 use Rattle.std.proofs.lemmas.Option.{same_Some, slice_get-map, slice_get_within}
 use Rattle.ffi3_type_rules.specs.Tree.{Tree, trees_of}
 use Rattle.ffi3_type_rules.specs.Signature.{Signature, signature_at}
-use Rattle.ffi3_type_rules.specs.Value.{ValueTree, all_fit, values_of}
+use Rattle.ffi3_type_rules.specs.Value.{all_fit, values_of}
 use Rattle.ffi3_place_rules.specs.Standard.{Standard}
-use Rattle.ffi3_run_rules.specs.Move.{Move, call, make, free, print, return, Behaviour, MoveFits, result_type_of}
-use Rattle.ffi3_run_rules.specs.Meaning.{Program, Function, idle, function_at, Native, renumbered, function_of, functions_from, all_signatures, Who, main, function, behaviour_of}
-use Rattle.ffi3_script_rules.specs.Script.{Script, ScriptFunction}
+use Rattle.ffi3_run_rules.specs.Move.{Move, call, make, free, print, return, MoveFits, result_type_of}
+use Rattle.ffi3_run_rules.specs.Meaning.{Program, Function, idle, function_at, Native, renumbered, function_of, functions_from, all_signatures}
+use Rattle.ffi3_script_rules.specs.Script.{Script}
 use Rattle.ffi3_script_rules.specs.Meaning as script
 use Rattle.ffi3_script_rules.specs.Natives.{NamedNative, program_beside}
 use Rattle.ffi3_script.specs.ScriptOf as read

@@ -48,6 +48,18 @@ pub(crate) fn next_of(
 {
     // by which it is called by the first of its signatures, and makes only itself
     sigs_of(native);
+    next_in(alloc, native, seen)
+}
+
+// The same in the words of the trait.
+fn next_in(alloc: Global, native: &Box<dyn Native>, seen: &Seen) -> Result<Move, NoMemory>
+    requires own { seen.now.signature ≡ signature native.now }
+    requires follow { ResultsFollow (signatures native.now) (meaning native.now) (arguments_of seen.now) seen.now.user seen.now.results }
+    ensures is { IfOk result
+        (λ m. move_of m ≡ meaning native.now (arguments_of seen.now) seen.now.user seen.now.results) }
+    ensures fits { IfOk result
+        (λ m. MoveFits (signatures native.now) (functions native.now) (signature native.now).result_type (move_of m)) }
+{
     native.next(alloc, seen)
 }
 

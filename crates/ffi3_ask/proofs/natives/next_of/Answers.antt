@@ -5,4 +5,4 @@ use Rattle.ffi3_ask.proofs.natives.next_of.Goals as goal
 
 pub returns-clause-fits : goal.returns-clause-fits
 returns-clause-fits g c =
-    IfOk-weaker c.next.result _ _ (λ m fits. fits_as _ _ _ _ _ _ c.sigs_of.ensures.itself (c.requires.own ∙ sym c.sigs_of.ensures.own) fits) c.next.ensures.1
+    IfOk-weaker c.next_in.result _ _ (λ m fits. fits_as _ _ _ _ _ _ c.sigs_of.ensures.itself (c.requires.own ∙ sym c.sigs_of.ensures.own) fits) c.next_in.ensures.fits
