@@ -1,2 +1,2 @@
-pub mod Numbers
-pub mod Asking
+pub mod Numbering
+pub mod Asked

@@ -1,6 +1,6 @@
 -- Whose body an activation runs, and that where it stands agrees with what it has seen.
 use Rattle.std.specs.Prelude.{◌≡◌, ℕ, ◌+◌, ◌-◌, ◌<◌, ◌≤◌, List, length, Some, slice_get}
-use Rattle.ffi3_type_rules.specs.Signature.{Signature, signature_at}
+use Rattle.ffi3_type_rules.specs.Signature.{signature_at}
 use Rattle.ffi3_run_rules.specs.Meaning.{Who, main, function, Native}
 use Rattle.ffi3_body.specs.SeenActivation.{SeenActivation, arguments_of}
 use Rattle.ffi3_body.specs.Follow.{ResultsFollow}

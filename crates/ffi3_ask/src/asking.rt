@@ -11,8 +11,8 @@ ghost use Rattle.ffi3_ask.specs.Handed.{handed_in, signatures_in};
 ghost use Rattle.ffi3_ask.specs.Asked.{IsAsked, IsNext};
 ghost use Rattle.ffi3_ask.specs.Stands.{who_of, StandingAgrees, IsInBody, IsInFunction, IsInHanded};
 
-use crate::natives::{native_at, next_of, renumbered};
 use crate::Standing;
+use crate::natives::{native_at, next_of, renumbered};
 use ffi3_body::{Move, Native, Seen};
 use ffi3_script::Script;
 use ffi3_script_body::{Cursor, ScriptBody};

@@ -12,4 +12,4 @@ pub use ffi3_body::{Move, Native, Seen};
 /// A want of memory: the one answer that no clause ties to a cause.
 pub use ffi3_types::NoMemory;
 pub use numbers::{sig_of, signature, signatures};
-pub use standing::{Standing, in_function, in_main};
+pub use standing::Standing;

@@ -26,6 +26,8 @@ pub(crate) fn native_at(natives: &Vec<Box<dyn Native>>, j: u32) -> &Box<dyn Nati
 pub(crate) fn sigs_of(native: &Box<dyn Native>) -> &Sigs
     ensures are { result.now ≡ signatures native.now }
     ensures some { 0 < length (signatures native.now) }
+    ensures own { signature native.now ≡ signature_at (signatures native.now) 0 }
+    ensures itself { functions native.now ≡ 1 }
     ensures right { All SignatureHasNoFault (signatures native.now) }
 {
     native.sigs()
@@ -45,7 +47,19 @@ pub(crate) fn next_of(
         (λ m. MoveFits (signatures native.now) 1 seen.now.signature.result_type (move_of m)) }
 {
     // by which it is called by the first of its signatures, and makes only itself
-    native.sigs();
+    sigs_of(native);
+    next_in(alloc, native, seen)
+}
+
+// The same in the words of the trait.
+fn next_in(alloc: Global, native: &Box<dyn Native>, seen: &Seen) -> Result<Move, NoMemory>
+    requires own { seen.now.signature ≡ signature native.now }
+    requires follow { ResultsFollow (signatures native.now) (meaning native.now) (arguments_of seen.now) seen.now.user seen.now.results }
+    ensures is { IfOk result
+        (λ m. move_of m ≡ meaning native.now (arguments_of seen.now) seen.now.user seen.now.results) }
+    ensures fits { IfOk result
+        (λ m. MoveFits (signatures native.now) (functions native.now) (signature native.now).result_type (move_of m)) }
+{
     native.next(alloc, seen)
 }
 

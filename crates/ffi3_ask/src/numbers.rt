@@ -1,9 +1,9 @@
 // The numbers of a run's signatures and functions.
-ghost use Rattle.std.specs.Prelude.{◌≡◌, ◌<◌, ◌≤◌, ◌+◌, ◌^◌, length, map};
+ghost use Rattle.std.specs.Prelude.{◌≡◌, ◌<◌, ◌≤◌, ◌+◌, ◌^◌, List, Some, length, map, slice_get};
 ghost use Rattle.ffi3_type_rules.specs.Signature.{signature_at, SignatureHasNoFault};
 ghost use Rattle.ffi3_place_rules.specs.Standard.{Standard};
 ghost use Rattle.ffi3_run_rules.specs.Meaning.{function_at};
-ghost use Rattle.ffi3_script_rules.specs.Natives.{program_beside};
+ghost use Rattle.ffi3_script_rules.specs.Natives.{NamedNative, program_beside};
 ghost use Rattle.ffi3_script.specs.ScriptOf.{script_of};
 ghost use Rattle.ffi3_ask.specs.Handed.{handed_in, natives_in, signatures_in, signatures_before};
 
@@ -15,11 +15,12 @@ use ffi3_types::Sig;
 // How many signatures native `j` has.
 fn count_of(natives: &Vec<Box<dyn Native>>, j: u32) -> u32
     requires { j < length natives.now.items }
+    ensures is { (n : NamedNative) → slice_get (map (λ b. handed_in (title b) (meaning b) (signatures b)) natives.now.items) j ≡ Some n →
+        result ≡ length n.native.signatures }
     ensures more { let all = natives_in (map (λ b. handed_in (title b) (meaning b) (signatures b)) natives.now.items) in
         signatures_before all (j + 1) ≡ signatures_before all j + result }
     ensures within { let all = (map (λ b. handed_in (title b) (meaning b) (signatures b)) natives.now.items) in
         signatures_before (natives_in all) j + result ≤ length (signatures_in all) }
-    ensures some { 0 < result }
 {
     sigs_of(native_at(natives, j)).len() as u32
 }
@@ -76,11 +77,7 @@ fn native_sig(script: &Script, natives: &Vec<Box<dyn Native>>, number: u32, j: u
 }
 
 /// Signature `number` of the run. It has no fault.
-pub fn signature<'a>(
-    script: &'a Script,
-    natives: &'a Vec<Box<dyn Native>>,
-    number: u32,
-) -> &'a Sig
+pub fn signature<'a>(script: &'a Script, natives: &'a Vec<Box<dyn Native>>, number: u32) -> &'a Sig
     requires below { number < length (script_of script.now).signatures + length (signatures_in (map (λ b. handed_in (title b) (meaning b) (signatures b)) natives.now.items)) }
     requires few { length natives.now.items < 2 ^ 31 }
     ensures is { (std : Standard) → result.now ≡ signature_at (program_beside std (map (λ b. handed_in (title b) (meaning b) (signatures b)) natives.now.items) (script_of script.now)).signatures number }

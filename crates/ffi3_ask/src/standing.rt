@@ -36,30 +36,37 @@ fn before_moves(alloc: Global, body: &ScriptBody) -> Cursor
     body.cursor(alloc)
 }
 
-/// Main before its first move.
-pub fn in_main(alloc: Global, script: &Script) -> Standing
-    ensures who { who_of result ≡ main }
-    ensures agrees { (natives : List NamedNative) (a : SeenActivation) →
-        a.signature ≡ no_signature → a.results ≡ [] → StandingAgrees script.now natives a result }
-{
-    Standing::InMain(before_moves(alloc, script.main()))
-}
+impl Standing {
+    /// Main before its first move.
+    pub fn in_main(alloc: Global, script: &Script) -> Standing
+        ensures who { who_of result ≡ main }
+        ensures agrees { (natives : List NamedNative) (a : SeenActivation) →
+            a.signature ≡ no_signature → a.results ≡ [] → StandingAgrees script.now natives a result }
+    {
+        Standing::InMain(before_moves(alloc, script.main()))
+    }
 
-/// Function `number` of the run before its first move.
-pub fn in_function(alloc: Global, script: &Script, natives: &Vec<Box<dyn Native>>, number: u32) -> Standing
-    requires below { number < length (script_of script.now).functions + length natives.now.items }
-    requires few_signatures { length (signatures_in (map (λ b. handed_in (title b) (meaning b) (signatures b)) natives.now.items)) < 2 ^ 31 }
-    ensures who { who_of result ≡ function number }
-    ensures agrees { let handed : List NamedNative = map (λ b. handed_in (title b) (meaning b) (signatures b)) natives.now.items in
-        (std : Standard) (a : SeenActivation) →
-        a.signature ≡ own_signature (program_beside std handed (script_of script.now)) (function number) →
-        a.results ≡ [] → StandingAgrees script.now handed a result }
-{
-    let count = script.functions();
-    if number < count {
-        in_script(alloc, script, number)
-    } else {
-        in_native(script, natives, number)
+    /// Function `number` of the run before its first move.
+    pub fn in_function(
+        alloc: Global,
+        script: &Script,
+        natives: &Vec<Box<dyn Native>>,
+        number: u32,
+    ) -> Standing
+        requires below { number < length (script_of script.now).functions + length natives.now.items }
+        requires few_signatures { length (signatures_in (map (λ b. handed_in (title b) (meaning b) (signatures b)) natives.now.items)) < 2 ^ 31 }
+        ensures who { who_of result ≡ function number }
+        ensures agrees { let handed : List NamedNative = map (λ b. handed_in (title b) (meaning b) (signatures b)) natives.now.items in
+            (std : Standard) (a : SeenActivation) →
+            a.signature ≡ own_signature (program_beside std handed (script_of script.now)) (function number) →
+            a.results ≡ [] → StandingAgrees script.now handed a result }
+    {
+        let count = script.functions();
+        if number < count {
+            in_script(alloc, script, number)
+        } else {
+            in_native(script, natives, number)
+        }
     }
 }
 

@@ -2,7 +2,7 @@ use Rattle.std.proofs.Common.{sym, subst}
 use Rattle.ffi3_run_rules.specs.Move.{MoveFits}
 use Rattle.ffi3_body.specs.MoveOf.{move_of}
 use Rattle.ffi3_script_body.specs.BodyOf.{signatures_of, functions_of}
-use Rattle.ffi3_ask.proofs.Asking.{ok_both, body_after}
+use Rattle.ffi3_ask.proofs.Asked.{ok_both, body_after}
 use Rattle.ffi3_ask.proofs.asking.ask_body.Goals as goal
 
 pub next_at-requires : goal.next_at-requires

@@ -7,7 +7,7 @@ use Rattle.ffi3_script_rules.specs.Natives.{program_beside}
 use Rattle.ffi3_script_body.specs.Agrees.{one_more}
 use Rattle.ffi3_script.specs.ScriptOf.{script_of, natives_of}
 use Rattle.ffi3_ask.specs.Stands.{IsInBody, IsInFunction}
-use Rattle.ffi3_ask.proofs.Asking.{asked_as, function_asked}
+use Rattle.ffi3_ask.proofs.Asked.{asked_as, function_asked}
 use Rattle.ffi3_ask.proofs.asking.ask_function.Goals as goal
 
 pub body-requires : goal.body-requires

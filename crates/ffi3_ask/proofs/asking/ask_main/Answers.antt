@@ -6,7 +6,7 @@ use Rattle.ffi3_script_rules.specs.Natives.{program_beside}
 use Rattle.ffi3_script_body.specs.Agrees.{one_more}
 use Rattle.ffi3_script.specs.ScriptOf.{script_of, natives_of, main_body}
 use Rattle.ffi3_ask.specs.Stands.{IsInBody}
-use Rattle.ffi3_ask.proofs.Asking.{asked_as, main_asked}
+use Rattle.ffi3_ask.proofs.Asked.{asked_as, main_asked}
 use Rattle.ffi3_ask.proofs.asking.ask_main.Goals as goal
 
 pub ask_body-requires : goal.ask_body-requires

@@ -1,7 +1,12 @@
-use Rattle.std.proofs.Common.{length, ap, arith}
-use Rattle.ffi3_ask.proofs.Numbers.{before_more, native_within}
-use Rattle.ffi3_ask.proofs.Asking.{native_here}
+use Rattle.std.proofs.Common.{length, ap, sym, ◌∙◌, arith}
+use Rattle.std.proofs.lemmas.Option.{same_Some}
+use Rattle.ffi3_ask.proofs.Numbering.{before_more, native_within}
+use Rattle.ffi3_ask.proofs.Asked.{native_here}
 use Rattle.ffi3_ask.proofs.numbers.count_of.Goals as goal
+
+pub returns-clause-is : goal.returns-clause-is
+returns-clause-is g c n at =
+    c.len.ensures.count ∙ ap length c.sigs_of.ensures.are ∙ ap (λ x. length x.native.signatures) (same_Some _ n (sym c.native_at.ensures ∙ at))
 
 pub returns-clause-more : goal.returns-clause-more
 returns-clause-more g c =

@@ -1,6 +1,5 @@
 use Rattle.ffi3_script.specs.ScriptOf.{script_of}
-use Rattle.ffi3_ask.proofs.Numbers.{sig_of_native, sig_of_native_below}
-use Rattle.ffi3_ask.proofs.Asking.{native_here}
+use Rattle.ffi3_ask.proofs.Numbering.{sig_of_native, sig_of_native_below}
 use Rattle.ffi3_ask.proofs.numbers.native_sig.Goals as goal
 
 pub returns-clause-is : goal.returns-clause-is

@@ -1,5 +1,5 @@
 use Rattle.ffi3_script_body.specs.BodyOf.{signatures_of, meaning_of}
-use Rattle.ffi3_ask.proofs.Asking.{no_results_follow}
+use Rattle.ffi3_ask.proofs.Asked.{no_results_follow}
 use Rattle.ffi3_ask.proofs.standing.before_moves.Goals as goal
 
 pub returns : goal.returns

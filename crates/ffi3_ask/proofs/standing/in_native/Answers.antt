@@ -1,6 +1,6 @@
 use Rattle.std.proofs.Common.{◌≡◌, ◌-◌, length, arith}
 use Rattle.ffi3_script.specs.ScriptOf.{script_of}
-use Rattle.ffi3_ask.proofs.Asking.{handed_stands}
+use Rattle.ffi3_ask.proofs.Asked.{handed_stands}
 use Rattle.ffi3_ask.proofs.standing.in_native.Goals as goal
 
 pub returns-clause-agrees : goal.returns-clause-agrees

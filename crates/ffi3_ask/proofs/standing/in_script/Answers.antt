@@ -1,6 +1,6 @@
 use Rattle.std.proofs.Common.{◌<◌, length, sym, ◌∙◌, arith}
 use Rattle.ffi3_script.specs.ScriptOf.{script_of, function_at}
-use Rattle.ffi3_ask.proofs.Asking.{script_own}
+use Rattle.ffi3_ask.proofs.Asked.{script_own}
 use Rattle.ffi3_ask.proofs.standing.in_script.Goals as goal
 
 pub returns-clause-agrees : goal.returns-clause-agrees

@@ -1,6 +1,6 @@
 use Rattle.std.proofs.Common.{sym, ◌∙◌, subst}
 use Rattle.ffi3_ask.specs.Stands.{IsInBody}
-use Rattle.ffi3_ask.proofs.standing.in_main.Goals as goal
+use Rattle.ffi3_ask.proofs.standing.Standing.in_main.Goals as goal
 
 pub returns-clause-agrees : goal.returns-clause-agrees
 returns-clause-agrees c natives a own none =

@@ -1,14 +1,13 @@
 -- From a body's own numbers to those of the run.
-use Rattle.std.proofs.Common.{◌≡◌, ℕ, ◌+◌, ◌-◌, ◌^◌, ◌<◌, ◌≤◌, List, [], ◌∷◌, ◌++◌, length, map, Result, Ok, Err, IfOk, Some, refl, ap, sym, ◌∙◌, subst, arith}
+use Rattle.std.proofs.Common.{◌≡◌, ℕ, ◌+◌, ◌-◌, ◌^◌, ◌<◌, ◌≤◌, List, [], length, map, Result, Ok, Err, IfOk, Some, All, ap, sym, ◌∙◌, subst, arith}
 use Rattle.std.specs.Prelude.{slice_get, option_map}
 use Rattle.std.proofs.lemmas.List.{length-map}
 use Rattle.std.proofs.lemmas.Option.{same_Some, slice_get-map, slice_get_within}
-use Rattle.ffi3_type_rules.specs.Tree.{Tree}
-use Rattle.ffi3_type_rules.specs.Signature.{Signature, signature_at}
+use Rattle.ffi3_type_rules.specs.Signature.{Signature, signature_at, SignatureHasNoFault}
 use Rattle.ffi3_type_rules.specs.Value.{ValueTree}
 use Rattle.ffi3_place_rules.specs.Standard.{Standard}
 use Rattle.ffi3_run_rules.specs.Move.{Move, Behaviour, MoveFits, result_type_of}
-use Rattle.ffi3_run_rules.specs.Meaning.{Program, Native, renumbered, Who, main, function, function_at, behaviour_of}
+use Rattle.ffi3_run_rules.specs.Meaning.{Program, Native, renumbered, Who, main, function, behaviour_of}
 use Rattle.ffi3_body.specs.SeenActivation.{SeenActivation, arguments_of}
 use Rattle.ffi3_body.specs.Follow.{IsOfType, ResultsFollow}
 use Rattle.ffi3_body.proofs.Follow.{one_more_follows, none_follow}
@@ -24,12 +23,17 @@ use Rattle.ffi3_ask.specs.Handed.{natives_in, signatures_in, signatures_before, 
 use Rattle.ffi3_script.specs.declared.script.Script.{Script}
 use Rattle.ffi3_ask.specs.Stands.{IsInBody, IsInNative, IsInHanded}
 use Rattle.ffi3_ask.specs.Asked.{IsAsked, IsNext, own_signature}
-use Rattle.ffi3_ask.proofs.Numbers.{has_room, handed_within, script_fits, script_type, own_of_script, function_of_script, function_of_native, own_of_native, native_fits, native_type}
+use Rattle.ffi3_ask.proofs.Numbering.{has_room, handed_within, script_fits, script_type, own_of_script, function_of_script, function_of_native, own_of_native, native_fits, native_type}
 
 -- what follows of an answer from two of its clauses
 pub ok_both : {T E : Type 0} (r : Result T E) (P Q R : T → Type 0) → IfOk r P → IfOk r Q → ((x : T) → P x → Q x → R x) → IfOk r R
 ok_both (Ok x) P Q R p q both = both x p q
 ok_both (Err e) P Q R p q both = p
+
+-- the same of a function that is the same
+pub who_same : {T E : Type 0} (r : Result T E) (p : Program) (who other : Who) (a : SeenActivation) (Holds : ValueTree → Type 0) (f : T → Move) → other ≡ who → IfOk r (λ m. IsAsked p who a Holds (f m)) → IfOk r (λ m. IsAsked p other a Holds (f m))
+who_same r p who other a Holds f same asked =
+    subst (λ w. IfOk r (λ m. IsAsked p w a Holds (f m))) (sym same) asked
 
 -- a move that is the same, after which something follows
 pub asked_as : (p : Program) (who : Who) (a : SeenActivation) (Holds Then : ValueTree → Type 0) (m n : Move) → IsAsked p who a Holds m → n ≡ m → ((r : ValueTree) → Holds r → Then r) → IsAsked p who a Then n
@@ -138,6 +142,18 @@ handed_stands std ns s k first j n a j_is above at begins some own none =
 pub mapped_below : {A B : Type 0} (f : A → B) (xs : List A) (k : ℕ) (x : B) → slice_get (map f xs) k ≡ Some x → k < length xs
 mapped_below f xs k x is =
     omega (arith, slice_get_within (map f xs) k x is, length-map xs f)
+
+-- as many as there were
+pub mapped_few : {A B : Type 0} (f : A → B) (xs : List A) (n : ℕ) → n ≤ length xs → n ≤ length (map f xs)
+mapped_few f xs n few = omega (arith, few, length-map xs f)
+
+pub mapped_count : {A B : Type 0} (f : A → B) (xs : List A) (n : ℕ) → n ≡ length xs → n ≡ length (map f xs)
+mapped_count f xs n count = omega (arith, count, length-map xs f)
+
+-- one of a list without fault
+pub faultless_at : (ss ts : List Signature) (i : ℕ) (s : Signature) → All SignatureHasNoFault ts → ss ≡ ts → i < length ts → s ≡ signature_at ss i → SignatureHasNoFault s
+faultless_at ss ts i s each same below is =
+    subst SignatureHasNoFault (sym (is ∙ ap (λ us. signature_at us i) same)) (each i _ below)
 
 module _ (ns : List NamedNative) (s : Script) (k first : ℕ) (a : SeenActivation) (stands : IsInHanded s ns k first a) (j : ℕ) (n : NamedNative) (j_is : j ≡ k - length (read.script_of s).functions) (at : slice_get ns j ≡ Some n) where
   here : slice_get ns (k - length (read.script_of s).functions) ≡ Some n

@@ -1,15 +1,15 @@
 -- The numbers of a run's functions and signatures.
-use Rattle.std.proofs.Common.{◌≡◌, ℕ, zero, suc, ◌+◌, ◌-◌, ◌<◌, ◌≤◌, ◌^◌, true, List, [], ◌∷◌, ◌++◌, length, take, map, Option, Some, None, refl, ap, sym, ◌∙◌, subst, arith, length-append}
+use Rattle.std.proofs.Common.{◌≡◌, ℕ, zero, suc, ◌+◌, ◌-◌, ◌<◌, ◌≤◌, ◌^◌, true, List, [], ◌∷◌, ◌++◌, length, take, map, Some, refl, ap, sym, ◌∙◌, subst, arith, length-append}
 use Rattle.std.specs.Prelude.{slice_index_or, slice_get, option_map}
 use Rattle.std.proofs.lemmas.List.{length-map, get_or_append_left, get_or-append-add, get_or-append_right, get_or-map}
 use Rattle.std.proofs.lemmas.Option.{same_Some, slice_get-map, slice_get_within}
 use Rattle.ffi3_type_rules.specs.Tree.{Tree, trees_of}
 use Rattle.ffi3_type_rules.specs.Signature.{Signature, signature_at}
-use Rattle.ffi3_type_rules.specs.Value.{ValueTree, all_fit, values_of}
+use Rattle.ffi3_type_rules.specs.Value.{all_fit, values_of}
 use Rattle.ffi3_place_rules.specs.Standard.{Standard}
-use Rattle.ffi3_run_rules.specs.Move.{Move, call, make, free, print, return, Behaviour, MoveFits, result_type_of}
-use Rattle.ffi3_run_rules.specs.Meaning.{Program, Function, idle, function_at, Native, renumbered, function_of, functions_from, all_signatures, Who, main, function, behaviour_of}
-use Rattle.ffi3_script_rules.specs.Script.{Script, ScriptFunction}
+use Rattle.ffi3_run_rules.specs.Move.{Move, call, make, free, print, return, MoveFits, result_type_of}
+use Rattle.ffi3_run_rules.specs.Meaning.{Program, Function, idle, function_at, Native, renumbered, function_of, functions_from, all_signatures}
+use Rattle.ffi3_script_rules.specs.Script.{Script}
 use Rattle.ffi3_script_rules.specs.Meaning as script
 use Rattle.ffi3_script_rules.specs.Natives.{NamedNative, program_beside}
 use Rattle.ffi3_script.specs.ScriptOf as read
@@ -100,8 +100,12 @@ module _ (std : Standard) (ns : List NamedNative) (s : Script) where
   pub functions_count : length (program_beside std ns s).functions ≡ length s.functions + length ns
   functions_count =
       let own = map (script.function_of s.signatures) s.functions in
-      let others = functions_from (length s.signatures) (length s.functions) (natives_in ns) in
-      omega (arith, length-append own others, length-map s.functions (script.function_of s.signatures), length-functions_from (length s.signatures) (length s.functions) (natives_in ns), length-map ns (λ n. n.native))
+      let others = functions_from (length s.signatures) (length own) (natives_in ns) in
+      let split : length (program_beside std ns s).functions ≡ length own + length others = length-append own others in
+      let first : length own ≡ length s.functions = length-map s.functions (script.function_of s.signatures) in
+      let rest : length others ≡ length (natives_in ns) = length-functions_from (length s.signatures) (length own) (natives_in ns) in
+      let handed : length (natives_in ns) ≡ length ns = length-map ns (λ n. n.native) in
+      omega (arith, split, first, rest, handed)
 
   -- a signature of the script
   pub own_of_script : (i : ℕ) → i < length s.signatures → signature_at (program_beside std ns s).signatures i ≡ signature_at s.signatures i
@@ -145,10 +149,11 @@ module _ (std : Standard) (ns : List NamedNative) (s : Script) where
     function_of_native =
         let j = k - length s.functions in
         let own = map (script.function_of s.signatures) s.functions in
-        let others = functions_from (length s.signatures) (length s.functions) (natives_in ns) in
+        let others = functions_from (length s.signatures) (length own) (natives_in ns) in
         let count : length own ≡ length s.functions = length-map s.functions (script.function_of s.signatures) in
-        let here : length s.functions + j ≡ k = omega (arith, above) in
-        get_or-append_right own others (length s.functions) k idle count above ∙ native_function (length s.signatures) (length s.functions) (natives_in ns) j n idle is ∙ ap (λ f. function_of f (length s.functions + j) n) (sym begins) ∙ ap (λ o. function_of first o n) here
+        let here : length own + j ≡ k = omega (arith, above, count) in
+        let past : function_at (program_beside std ns s) k ≡ slice_index_or others j idle = get_or-append_right own others (length s.functions) k idle count above in
+        past ∙ native_function (length s.signatures) (length own) (natives_in ns) j n idle is ∙ ap (λ f. function_of f (length own + j) n) (sym begins) ∙ ap (λ o. function_of first o n) here
 
     pub own_of_native : (i : ℕ) → i < length n.signatures → signature_at (program_beside std ns s).signatures (first + i) ≡ signature_at n.signatures i
     own_of_native i below =
