@@ -32,10 +32,7 @@ leave_text_of s e r =
 abbrev pub register_text : Event → Loc → List ℕ
 register_text e at = codes " " ++ word_text (register e.image at)
 
--- the preserved registers, in the standard's order
-abbrev pub kept_texts : Standard → Event → List ℕ
-kept_texts std e = concat (map (register_text e) std.preserved)
-
--- THE LINE OF THE PRESERVED REGISTERS of an entry or a return
+-- THE LINE OF THE PRESERVED REGISTERS of an entry or a return, in the standard's order
 abbrev pub keep_text_of : Standard → Event → List ℕ
-keep_text_of std e = a_line (codes "keep" ++ kept_texts std e)
+keep_text_of std e =
+    a_line (codes "keep" ++ concat (map (register_text e) std.preserved))

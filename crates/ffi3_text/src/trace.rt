@@ -1,6 +1,6 @@
 // Lines of a trace.
-ghost use Rattle.std.specs.Prelude.{◌≡◌, ℕ, ◌++◌, List, IfOk, OnOk, codes, true};
-ghost use Rattle.std.specs.List.{join_with_byte};
+ghost use Rattle.std.specs.Prelude.{◌≡◌, ℕ, ◌++◌, List, IfOk, OnOk, codes, map, true};
+ghost use Rattle.std.specs.List.{concat, join_with_byte};
 ghost use Rattle.ffi3_type_rules.specs.Tree.{trees_of};
 ghost use Rattle.ffi3_type_rules.specs.Value.{fits, all_fit, values_of};
 ghost use Rattle.ffi3_type_rules.specs.ValueText.{value_text_of, value_texts_of};
@@ -9,7 +9,7 @@ ghost use Rattle.ffi3_values.specs.ValueOf.{value_of};
 ghost use Rattle.ffi3_place_rules.specs.Image.{register};
 ghost use Rattle.ffi3_machine.specs.Entries.{event_of};
 ghost use Rattle.ffi3_run_rules.specs.Lines.{address_text, word_text};
-ghost use Rattle.ffi3_text.specs.TraceLines.{IsRegister, enter_text_of, leave_text_of, keep_text_of, kept_texts, register_text};
+ghost use Rattle.ffi3_text.specs.TraceLines.{IsRegister, enter_text_of, leave_text_of, keep_text_of, register_text};
 
 use ffi3_cif::Cif;
 use ffi3_machine::Event;
@@ -111,7 +111,7 @@ fn write_value(
 
 /// The registers that a callee preserves, in the standard's order.
 fn write_kept<A: Abi>(alloc: Global, event: &Event, text: &mut Bytes) -> Result<(), NoMemory>
-    ensures { (stack : List ℕ) → OnOk result (text.new ≡ text.old ++ kept_texts A.standard (event_of event.now stack)) }
+    ensures { (stack : List ℕ) → OnOk result (text.new ≡ text.old ++ concat (map (register_text (event_of event.now stack)) A.standard.preserved)) }
 {
     for k in 0..A::KEPT {
         write_register(alloc, event, A::kept_register(k), text)?;
