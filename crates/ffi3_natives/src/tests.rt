@@ -94,12 +94,6 @@ fn twice_calls_on_its_result(rt: HostRuntime) {
     let seen = Seen::new(&sig, &BLOCK, 0, &results);
     let second = ask(alloc, &native, &seen).expect(&rt, "memory");
     assert!(rt; calls_on(&second, b"\x0f\x00\x00\x00\x00\x00\x00\x00".as_slice()));
-    results
-        .push(integer(alloc, &FfiType::S64, 20).expect(&rt, "memory"))
-        .expect(&rt, "memory");
-    let seen = Seen::new(&sig, &BLOCK, 0, &results);
-    let last = ask(alloc, &native, &seen).expect(&rt, "memory");
-    assert!(rt; returns(&last, b"\x14\x00\x00\x00\x00\x00\x00\x00".as_slice()));
 }
 
 #[test]
