@@ -1,5 +1,5 @@
 -- No signature of the natives has a fault; the sizes of their blocks.
-use Rattle.std.proofs.Common.{◌≡◌, All, ◌∷◌, [], ℕ, zero, suc, ◌<◌, length, refl, arith}
+use Rattle.std.proofs.Common.{◌≡◌, All, ℕ, zero, suc, ◌<◌, length, refl, arith}
 use Rattle.ffi3_type_rules.specs.Tree.{tree_at, s64, pointer}
 use Rattle.ffi3_type_rules.specs.Fault.{IsArgumentType}
 use Rattle.ffi3_type_rules.specs.Signature.{SignatureHasNoFault}

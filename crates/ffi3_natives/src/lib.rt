@@ -1,5 +1,5 @@
 //! The natives of this library, which stand beside the functions of a script: `apply`, `twice` and
-//! `sum3`. Who hands them to a run boxes them, in this order.
+//! `sum3`. Who hands them to a run boxes each as a `dyn Native`, in this order.
 #![tactic(auto)]
 
 mod apply;

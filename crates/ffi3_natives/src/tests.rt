@@ -114,3 +114,26 @@ fn sum3_wraps(rt: HostRuntime) {
     let last = ask(alloc, &native, &seen).expect(&rt, "memory");
     assert!(rt; returns(&last, b"\x05\x00\x00\x00\x00\x00\x00\x80".as_slice()));
 }
+
+// What hands natives to a run boxes each.
+#[test]
+fn three_in_a_list(rt: HostRuntime) {
+    let alloc = rt.alloc();
+    let mut natives: Vec<Box<dyn Native>> = Vec::new(alloc);
+    let apply = Apply::new(alloc).expect(&rt, "memory");
+    natives
+        .push(Box::new(alloc, apply).expect(&rt, "memory"))
+        .expect(&rt, "memory");
+    let twice = Twice::new(alloc).expect(&rt, "memory");
+    natives
+        .push(Box::new(alloc, twice).expect(&rt, "memory"))
+        .expect(&rt, "memory");
+    let sum3 = Sum3::new(alloc).expect(&rt, "memory");
+    natives
+        .push(Box::new(alloc, sum3).expect(&rt, "memory"))
+        .expect(&rt, "memory");
+    assert_eq!(rt; natives.len(), 3);
+    assert_eq!(rt; natives[0].name(), "apply");
+    assert_eq!(rt; natives[1].name(), "twice");
+    assert_eq!(rt; natives[2].name(), "sum3");
+}
