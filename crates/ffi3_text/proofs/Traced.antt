@@ -1,7 +1,7 @@
 -- For callers: the lines that recorded events tell are those of the text of a run, which knows no events.
-use Rattle.std.proofs.Common.{◌≡◌, ℕ, ◌-◌, List, [], ◌∷◌, ◌++◌, refl, ap, ap₂, sym, ◌∙◌}
+use Rattle.std.proofs.Common.{◌≡◌, ℕ, List, [], ◌∷◌, ◌++◌, refl, ap, ap₂, sym, ◌∙◌}
 use Rattle.std.specs.Prelude.{codes}
-use Rattle.std.specs.List.{AllByRecursion, concat, join_with_byte}
+use Rattle.std.specs.List.{AllByRecursion, join_with_byte}
 use Rattle.ffi3_type_rules.specs.Tree.{trees_of}
 use Rattle.ffi3_type_rules.specs.Signature.{Signature}
 use Rattle.ffi3_type_rules.specs.Value.{ValueTree, values_of}
@@ -12,7 +12,7 @@ use Rattle.ffi3_place_rules.specs.Isa.{scribble}
 use Rattle.ffi3_place_rules.specs.Standard.{Standard}
 use Rattle.ffi3_place_rules.specs.Event.{Event}
 use Rattle.ffi3_run_rules.specs.Journal.{Entered, IsEntry, IsReturn}
-use Rattle.ffi3_run_rules.specs.Lines.{OpenCall, Point, traced, a_line, address_text, word_text, sp_at_call, enter_text, leave_text, keep_text, enter_lines, leave_lines}
+use Rattle.ffi3_run_rules.specs.Lines.{OpenCall, Point, traced, a_line, address_text, word_text, enter_text, leave_text, keep_text, enter_lines, leave_lines}
 use Rattle.ffi3_run_rules.proofs.Texts.{AreSameCalls, registers_text, registers_are_told, sp_is_told, sp_is_told_at_return}
 use Rattle.ffi3_text.specs.TraceLines.{enter_text_of, leave_text_of, keep_text_of}
 

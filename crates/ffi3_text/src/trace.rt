@@ -97,12 +97,7 @@ fn write_values(
     Ok(())
 }
 
-fn write_value(
-    alloc: Global,
-    ty: &FfiType,
-    value: &Value,
-    text: &mut Bytes,
-) -> Result<(), NoMemory>
+fn write_value(alloc: Global, ty: &FfiType, value: &Value, text: &mut Bytes) -> Result<(), NoMemory>
     requires { fits (tree_of ty.now) (value_of value.now) ≡ true }
     ensures { OnOk result (text.new ≡ text.old ++ value_text_of (tree_of ty.now) (value_of value.now)) }
 {
@@ -119,12 +114,7 @@ fn write_kept<A: Abi>(alloc: Global, event: &Event, text: &mut Bytes) -> Result<
     Ok(())
 }
 
-fn write_register(
-    alloc: Global,
-    event: &Event,
-    at: Loc,
-    text: &mut Bytes,
-) -> Result<(), NoMemory>
+fn write_register(alloc: Global, event: &Event, at: Loc, text: &mut Bytes) -> Result<(), NoMemory>
     requires { IsRegister at }
     ensures { (stack : List ℕ) → OnOk result (text.new ≡ text.old ++ register_text (event_of event.now stack) at) }
 {
