@@ -98,7 +98,10 @@ fn tells_a_trace(rt: HostRuntime) -> Result<(), Fail> {
     let mut args = Values::new(alloc);
     args.push(integer(alloc, &FfiType::S32, -7)?)?;
     let entry = enter_line(alloc, &cif, &event, &args)?;
-    assert_eq!(rt; entry.as_slice(), b"enter 0x10000 sp 0x7ffefff8 (-7)\n".as_slice());
+    assert_eq!(rt;
+        entry.as_slice(),
+        b"enter 0x10000 sp 0x7ffefff8 (-7)\n".as_slice()
+    );
     let kept = keep_line::<Amd64>(alloc, &event)?;
     let wanted = "keep 000000000000001b 0000000000000000 0000000000000000 0000000000000000 \
         0000000000000000 ffffffffffffffff\n";
