@@ -29,7 +29,10 @@ fn layout_of<O: Sink>(alloc: Global, number: u32, sig: &Sig, output: &mut O) -> 
 {
     write_line(output, layout_line(alloc, number, sig, At::Ret)?.as_slice())?;
     for j in 0..sig.count() {
-        write_line(output, layout_line(alloc, number, sig, At::Arg(j))?.as_slice())?;
+        write_line(
+            output,
+            layout_line(alloc, number, sig, At::Arg(j))?.as_slice(),
+        )?;
     }
     Ok(())
 }

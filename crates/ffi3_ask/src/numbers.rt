@@ -1,5 +1,5 @@
 // The numbers of a run's signatures and functions.
-ghost use Rattle.std.specs.Prelude.{◌≡◌, ◌<◌, ◌≤◌, ◌+◌, ◌^◌, List, Some, length, map, slice_get};
+ghost use Rattle.std.specs.Prelude.{◌≡◌, ◌<◌, ◌≤◌, ◌+◌, ◌^◌, Some, length, map, slice_get};
 ghost use Rattle.ffi3_type_rules.specs.Signature.{signature_at, SignatureHasNoFault};
 ghost use Rattle.ffi3_place_rules.specs.Standard.{Standard};
 ghost use Rattle.ffi3_run_rules.specs.Meaning.{function_at};

@@ -1,5 +1,5 @@
 //! Sources and sinks over std's readers and writers: the edge to the world outside.
-ghost use Rattle.std.specs.Prelude.{◌≡◌, ◌<◌, ◌≤◌, [], ℕ, List, Option, None, Some, take, length, IfOk, OnOk, OnErr};
+ghost use Rattle.std.specs.Prelude.{◌≡◌, ◌<◌, ◌≤◌, None, Some, take, length, IfOk, OnOk, OnErr};
 ghost use Rattle.ffi3_io.specs.Count.{next_count};
 ghost use Rattle.std.specs.Io.KnownBytes.{Appends, Consumes, IsAtEnd, Keeps};
 ghost use Rattle.ffi3_io.specs.Adapter.{ReaderGives};

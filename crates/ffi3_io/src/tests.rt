@@ -4,7 +4,7 @@
 ghost use Rattle.std.specs.Prelude.{None};
 
 use crate::{
-    Failed, MemSink, MemSource, NoMemory, IoError, ReadSource, Sink, Source, SureSink, SureSource,
+    Failed, IoError, MemSink, MemSource, NoMemory, ReadSource, Sink, Source, SureSink, SureSource,
     WriteSink, read_all, write_all,
 };
 use std::alloc::Global;

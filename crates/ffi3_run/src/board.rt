@@ -1,14 +1,14 @@
 //! Main's moves, one by one.
-ghost use Rattle.std.specs.Prelude.{◌≡◌, ◌+◌, ◌<◌, ◌^◌, ◌∷◌, [], ℕ, List, IfOk, IfErr, MatchResult, length, true};
+ghost use Rattle.std.specs.Prelude.{◌≡◌, ◌+◌, ◌<◌, ◌^◌, [], List, IfOk, IfErr, length, true};
 ghost use Rattle.std.specs.List.{list_all};
 ghost use Rattle.ffi3_type_rules.specs.Tree.{trees_of, void};
 ghost use Rattle.ffi3_type_rules.specs.Signature.{signature_at};
-ghost use Rattle.ffi3_type_rules.specs.Value.{ValueTree, all_fit, fits, values_of, void_value};
+ghost use Rattle.ffi3_type_rules.specs.Value.{ValueTree, all_fit, fits, values_of};
 ghost use Rattle.ffi3_types.specs.TreeOf.{tree_of};
 ghost use Rattle.ffi3_values.specs.ValueOf.{value_of};
 ghost use Rattle.ffi3_run_rules.specs.Move.{MoveFits};
 ghost use Rattle.ffi3_run_rules.specs.Move as asks;
-ghost use Rattle.ffi3_run_rules.specs.Meaning.{Program, Effect, callee_of, effect_of, enters, pointer_value, stops};
+ghost use Rattle.ffi3_run_rules.specs.Meaning.{Program, enters, pointer_value, stops};
 ghost use Rattle.ffi3_script_rules.specs.RunLimit.{first_not_run};
 ghost use Rattle.ffi3_script_rules.specs.Typed.{signature_is_right};
 ghost use Rattle.ffi3_body.specs.Follow.{ResultsFollow};

@@ -1,5 +1,5 @@
 //! A function that calls nothing.
-ghost use Rattle.std.specs.Prelude.{◌≡◌, ◌≤◌, [], IfOk, length};
+ghost use Rattle.std.specs.Prelude.{◌≡◌, ◌≤◌, IfOk, length};
 ghost use Rattle.ffi3_type_rules.specs.Signature.{SignatureHasNoFault};
 ghost use Rattle.ffi3_place_rules.specs.Standard.{block_bytes};
 ghost use Rattle.ffi3_run_rules.specs.Move.{MoveFits};
@@ -10,7 +10,7 @@ ghost use Rattle.ffi3_body.specs.Follow.{ResultsFollow};
 ghost use Rattle.ffi3_body.specs.MoveOf.{move_of};
 ghost use Rattle.ffi3_run.specs.Leaf.{Begins, EndFits, IsLeaf, LeafRan};
 
-use crate::line::{write_print};
+use crate::line::write_print;
 use ffi3_body::{Body, Move, NoMemory, Seen};
 use ffi3_io::{IoError, Sink};
 use ffi3_types::Sig;

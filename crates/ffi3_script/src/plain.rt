@@ -6,7 +6,7 @@ ghost use Rattle.ffi3_type_rules.specs.Integer.{is_number_type, scalar_of};
 ghost use Rattle.ffi3_types.specs.TreeOf.{tree_of};
 ghost use Rattle.ffi3_script_rules.specs.Language.{read, fault, at_item, HasShortArrays};
 ghost use Rattle.ffi3_script_rules.specs.Script as script;
-ghost use Rattle.ffi3_script_rules.specs.Values.{typed, in_range, is_integer_type, read_number, read_text};
+ghost use Rattle.ffi3_script_rules.specs.Values.{typed, in_range, read_number, read_text};
 ghost use Rattle.ffi3_script_rules.specs.Values.{argument_of, result_of, user_of, element_of, against, cast_of};
 ghost use Rattle.ffi3_script_rules.specs.Values.{read_right_type};
 ghost use Rattle.ffi3_json.specs.Reports.{Reports};

@@ -11,8 +11,8 @@ ghost use Rattle.ffi3_script.specs.Shapes.{typed_form_of, typed_under, value_und
 
 use crate::forms::{Form, TypedForm, form_named, is_untyped, only_member, two_items};
 use crate::plain::{
-    against, argument_of, cast_of, difference, element_of, push,
-    read_first_type, read_number, read_text, result_of, sum, typed_as, user_of,
+    against, argument_of, cast_of, difference, element_of, push, read_first_type, read_number,
+    read_text, result_of, sum, typed_as, user_of,
 };
 use crate::scope::Scope;
 use crate::{Expr, TypedExpr};

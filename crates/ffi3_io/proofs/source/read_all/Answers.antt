@@ -1,4 +1,4 @@
-use Rattle.std.proofs.Common.{◌≡◌, ◌≤◌, ◌∙◌, ap, List, ℕ, length, vec_len, refl, sym, subst, arith}
+use Rattle.std.proofs.Common.{◌≡◌, ◌∙◌, ap, List, ℕ, length, refl, sym, subst, arith}
 use Rattle.std.proofs.lemmas.Grind.{common_steps}
 use Rattle.ffi3_io.specs.Source.{Gives, HasRead, not_yet, at_limit}
 use Rattle.ffi3_io.proofs.Giving.{LosesSome-then, Gives-none, Gives-then}
