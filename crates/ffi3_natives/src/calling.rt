@@ -1,9 +1,9 @@
-// What the natives that call a closure share: their signatures, and a call of the closure.
-ghost use Rattle.std.specs.Prelude.{◌≡◌, IfOk, true};
+// What the natives that call a closure share: their signatures, calls of the closure, and their end.
+ghost use Rattle.std.specs.Prelude.{◌≡◌, ◌<◌, IfOk, length, slice_index_or, true};
 ghost use Rattle.ffi3_type_rules.specs.Tree.{scalar, s64};
-ghost use Rattle.ffi3_type_rules.specs.Value.{fits};
+ghost use Rattle.ffi3_type_rules.specs.Value.{fits, void_value};
 ghost use Rattle.ffi3_values.specs.ValueOf.{value_of};
-ghost use Rattle.ffi3_run_rules.specs.Move.{MoveFits};
+ghost use Rattle.ffi3_run_rules.specs.Move.{MoveFits, return};
 ghost use Rattle.ffi3_body.specs.MoveOf.{move_of};
 ghost use Rattle.ffi3_body.specs.SeenActivation.{arguments_of};
 ghost use Rattle.ffi3_natives.specs.Natives.{call_on, calling_signatures, closure_signature, number_signature};
@@ -57,4 +57,14 @@ pub(crate) fn call_on(alloc: Global, seen: &Seen, value: Value) -> Result<Move, 
         sig: 1,
         args,
     })
+}
+
+// The end with result `i`.
+pub(crate) fn return_result(alloc: Global, seen: &Seen, i: u32) -> Result<Move, NoMemory>
+    requires there { i < length seen.now.results }
+    requires number { fits (scalar s64) (slice_index_or seen.now.results i void_value) ≡ true }
+    ensures is { IfOk result (λ m. move_of m ≡ return (slice_index_or seen.now.results i void_value)) }
+    ensures fits { IfOk result (λ m. MoveFits calling_signatures 1 (scalar s64) (move_of m)) }
+{
+    Ok(Move::Return(seen.result(i).copy(alloc)?))
 }

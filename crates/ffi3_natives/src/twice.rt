@@ -2,7 +2,7 @@
 ghost use Rattle.std.specs.Prelude.{◌≡◌, IfOk};
 ghost use Rattle.ffi3_natives.specs.Natives.{calling_signatures};
 
-use crate::calling::{call_on, calling_sigs};
+use crate::calling::{call_on, calling_sigs, return_result};
 use ffi3_body::{Body, Move, Native, Seen};
 use ffi3_types::{NoMemory, Sigs};
 use std::alloc::Global;
@@ -55,7 +55,7 @@ impl Body for Twice {
         match seen.results() {
             0 => call_on(alloc, seen, seen.arg(alloc, 1)?),
             1 => call_on(alloc, seen, seen.result(0).copy(alloc)?),
-            _ => Ok(Move::Return(seen.result(1).copy(alloc)?)),
+            _ => return_result(alloc, seen, 1),
         }
     }
 }

@@ -1,8 +1,7 @@
-use Rattle.std.proofs.Common.{◌≡◌, ℕ, ◌≤◌, true, List, [], ◌∷◌, length, ap, ◌∙◌, arith}
+use Rattle.std.proofs.Common.{◌≡◌, ℕ, ◌≤◌, true, List, [], ◌∷◌, length, arith}
 use Rattle.std.specs.Prelude.{slice_index_or}
 use Rattle.ffi3_type_rules.specs.Tree.{scalar, s64}
 use Rattle.ffi3_type_rules.specs.Value.{ValueTree, void_value, fits}
-use Rattle.ffi3_values.specs.ValueOf.{value_of}
 use Rattle.ffi3_body.specs.SeenActivation.{arguments_of}
 use Rattle.ffi3_body.specs.Follow.{ResultsFollow}
 use Rattle.ffi3_natives.specs.Natives.{calling_signatures, twice_behaviour}
@@ -14,9 +13,6 @@ second_fits arguments user [] follow two = absurd (omega arith)
 second_fits arguments user (r ∷ []) follow two = absurd (omega arith)
 second_fits arguments user (r ∷ s ∷ rs) follow two = follow 1 (omega arith)
 
-pub returns-in_ok-copy-in_default-clause-fits : goal.returns-in_ok-copy-in_default-clause-fits
-returns-in_ok-copy-in_default-clause-fits c =
-    let rs = c.args.seen.now.results in
-    let two : 2 ≤ length rs = omega arith in
-    let is : value_of c.in_ok-copy-in_default.field-0 ≡ slice_index_or rs 1 void_value = ap value_of c.in_ok-copy-in_default.ensures ∙ c.result-in_default.ensures in
-    rw is (second_fits (arguments_of c.args.seen.now) c.args.seen.now.user rs c.requires.follow two)
+pub return_result-requires-clause-number : goal.return_result-requires-clause-number
+return_result-requires-clause-number c =
+    second_fits (arguments_of c.args.seen.now) c.args.seen.now.user c.args.seen.now.results c.requires.follow (omega arith)
