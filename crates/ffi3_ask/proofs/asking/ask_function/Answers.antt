@@ -1,4 +1,4 @@
-use Rattle.std.proofs.Common.{◌≡◌, refl, sym, ◌∙◌, subst}
+use Rattle.std.proofs.Common.{◌≡◌, refl, sym, ◌∙◌, subst, arith}
 use Rattle.std.proofs.lemmas.Option.{same_Some}
 use Rattle.std.proofs.lemmas.Result.{IfOk-weaker}
 use Rattle.ffi3_run_rules.specs.Meaning.{function}
@@ -11,7 +11,7 @@ use Rattle.ffi3_ask.proofs.Asked.{asked_as, function_asked}
 use Rattle.ffi3_ask.proofs.asking.ask_function.Goals as goal
 
 pub body-requires : goal.body-requires
-body-requires c = c.requires.below
+body-requires c = omega (arith, c.requires.below)
 
 pub ask_body-requires : goal.ask_body-requires
 ask_body-requires c =
