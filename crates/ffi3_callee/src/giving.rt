@@ -1,5 +1,5 @@
 // The result that a callee gives.
-ghost use Rattle.std.specs.Prelude.{◌≡◌, ℕ, ◌+◌, ◌-◌, ◌≤◌, Option, length, true};
+ghost use Rattle.std.specs.Prelude.{◌≡◌, ℕ, ◌+◌, ◌-◌, ◌≤◌, Option, true};
 ghost use Rattle.std.specs.List.{AllByRecursion};
 ghost use Rattle.ffi3_type_rules.specs.Layout.{size_of};
 ghost use Rattle.ffi3_type_rules.specs.Fault.{IsResultType};

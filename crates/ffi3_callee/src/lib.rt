@@ -1,24 +1,19 @@
 //! The callee's side of a call, by any calling standard.
 #![tactic(auto)]
 
-ghost use Rattle.std.specs.Prelude.{◌≡◌, ℕ, ◌+◌, ◌-◌, ◌<◌, ◌≤◌, List, length, slice_index_or, true};
-ghost use Rattle.std.specs.List.{AllByRecursion};
+ghost use Rattle.std.specs.Prelude.{◌≡◌, ◌+◌, ◌-◌, ◌<◌, ◌≤◌, List, length, slice_index_or, true};
 ghost use Rattle.ffi3_type_rules.specs.declared.limits.TheConstants.{STACK, STACK_TOP};
 ghost use Rattle.ffi3_type_rules.specs.Isa.{isa_of};
 ghost use Rattle.ffi3_type_rules.specs.Tree.{tree_at};
 ghost use Rattle.ffi3_type_rules.specs.Layout.{size_of};
-ghost use Rattle.ffi3_type_rules.specs.Fault.{IsResultType};
 ghost use Rattle.ffi3_type_rules.specs.Signature.{SignatureHasNoFault};
 ghost use Rattle.ffi3_type_rules.specs.Value.{ValueTree, value_in, void_value};
-ghost use Rattle.ffi3_types.specs.TreeOf.{tree_of};
-ghost use Rattle.ffi3_place_rules.specs.Sound.{PlaceHasAll};
 ghost use Rattle.ffi3_place_rules.specs.Holds.{OwnsArguments};
 ghost use Rattle.ffi3_place_rules.specs.Standard.{block_bytes, frame_of, plan_of};
 ghost use Rattle.ffi3_machine.specs.State.{scribbled_floating, scribbled_general, stack_at};
 ghost use Rattle.ffi3_body.specs.SeenActivation.{arguments_in, block_offset};
-ghost use Rattle.ffi3_pieces.specs.Stored.{IsPlace, IsWithin, WroteOnly};
-ghost use Rattle.ffi3_pieces.specs.Standing.{PlaceLies};
-ghost use Rattle.ffi3_callee.specs.Loaded.{AreFound, AreLoaded, IsFound, IsRead, image_from};
+ghost use Rattle.ffi3_pieces.specs.Stored.{WroteOnly};
+ghost use Rattle.ffi3_callee.specs.Loaded.{AreFound, image_from};
 ghost use Rattle.ffi3_callee.specs.Given.{ReservedStay};
 ghost use Rattle.ffi3_callee.specs.Received.{IsIncoming, IsReceived, OwnsAtEntry, hidden_of};
 
@@ -31,11 +26,10 @@ mod taking;
 pub use answering::answer;
 use ffi3_cif::Cif;
 use ffi3_machine::Machine;
-use ffi3_pieces::{load_piece, place_word};
 use ffi3_place::parts::{argument, count_of, size_of};
-use ffi3_place::{Abi, Loc, Pieces, Place, Res};
+use ffi3_place::{Abi, Loc, Res};
 use ffi3_type_rules::round_up;
-use ffi3_types::{FfiType, Sig};
+use ffi3_types::Sig;
 pub use giving::give_result;
 pub use restoring::restore;
 use saving::{hidden_word, save_words};

@@ -1,5 +1,5 @@
 // The end of a callee's activation, before its return.
-ghost use Rattle.std.specs.Prelude.{◌≡◌, ℕ, ◌+◌, ◌-◌, ◌<◌, Option, length};
+ghost use Rattle.std.specs.Prelude.{◌≡◌, ℕ, ◌+◌, ◌-◌, ◌<◌, Option};
 ghost use Rattle.ffi3_type_rules.specs.declared.limits.TheConstants.{STACK_TOP};
 ghost use Rattle.ffi3_type_rules.specs.Value.{ValueTree};
 ghost use Rattle.ffi3_place_rules.specs.declared.Loc.{Loc};

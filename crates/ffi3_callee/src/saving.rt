@@ -4,7 +4,7 @@ ghost use Rattle.std.specs.List.{AllByRecursion};
 ghost use Rattle.ffi3_type_rules.specs.declared.limits.TheConstants.{STACK, STACK_TOP};
 ghost use Rattle.ffi3_place_rules.specs.declared.Loc.{Loc};
 ghost use Rattle.ffi3_place_rules.specs.Agrees.{saved_registers};
-ghost use Rattle.ffi3_pieces.specs.Stored.{IsPlace, Stays, WroteOnly, WroteWithin, word_in};
+ghost use Rattle.ffi3_pieces.specs.Stored.{Stays, WroteOnly, WroteWithin, word_in};
 ghost use Rattle.ffi3_callee.specs.Saved.{AreGivenBack, AreSaved, HiddenLies, IsRestorable, IsSaveable, hidden_word, saved_word, word_to_save};
 
 use ffi3_machine::{Machine, STACK_TOP};

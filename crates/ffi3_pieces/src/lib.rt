@@ -21,18 +21,18 @@ ghost use Rattle.ffi3_cif.specs.Runs.{AreRunsOf, pieces_of};
 ghost use Rattle.ffi3_pieces.specs.Runs.{goes_by_run};
 ghost use Rattle.ffi3_pieces.specs.Standing.{AllKeepUnused, AllStand, HiddenStands, IsCopied, PiecesStand, PlaceKeepsUnused, PlaceLies, PlaceStands, all_uses, place_uses};
 
+mod by_runs;
 mod load;
-mod running;
 
+use by_runs::store_runs;
 use ffi3_cif::{Cif, Runs};
 use ffi3_machine::Machine;
 use ffi3_place::parts::{argument, count_of, size_of};
 use ffi3_place::{Abi, Ext, Loc, Piece, Pieces, Place, Res};
 use ffi3_types::FfiType;
 use ffi3_values::{Value, Values, number, widen, write_bytes};
-use load::word_of;
-pub use load::{load_piece, place_bytes, place_word};
-use running::store_runs;
+pub use load::{place_bytes, place_word};
+use load::{load_piece, word_of};
 
 // The word with its low bytes replaced.
 fn with_low(word: u64, bytes: &[u8]) -> u64

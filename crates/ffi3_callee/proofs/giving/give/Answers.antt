@@ -1,14 +1,12 @@
 use Rattle.std.specs.List.{AllByRecursion}
-use Rattle.std.proofs.Common.{◌≡◌, ◌+◌, ◌-◌, ◌≤◌, ap, subst, sym, ◌∙◌, arith}
+use Rattle.std.proofs.Common.{◌≡◌, ◌+◌, ◌≤◌, ap, subst, sym, ◌∙◌, arith}
 use Rattle.ffi3_type_rules.specs.Layout.{size_of}
 use Rattle.ffi3_type_rules.specs.Value.{value_in}
 use Rattle.ffi3_values.specs.ValueOf.{value_of}
 use Rattle.ffi3_place_rules.specs.Standard.{plan_of}
 use Rattle.ffi3_machine.specs.State.{stack_at}
 use Rattle.ffi3_type_rules.specs.declared.limits.TheConstants.{STACK_TOP}
-use Rattle.ffi3_place_rules.specs.declared.Place.TheVariants.{Direct}
 use Rattle.ffi3_pieces.specs.Standing.{PiecesStand}
-use Rattle.ffi3_pieces.proofs.Arguments.{lies_more}
 use Rattle.ffi3_pieces.specs.Stored.{KeepsPadding, KeepsUnused, WroteWithin}
 use Rattle.ffi3_callee.specs.Given.{IsAddressOf}
 use Rattle.ffi3_callee.proofs.Results.{buffer_within, direct_held, direct_places, direct_keeps, direct_registers, hidden_held, hidden_keeps, hidden_writes, nothing_held, nothing_keeps}

@@ -7,7 +7,7 @@ use Rattle.ffi3_values.specs.ValueOf.{value_of}
 use Rattle.ffi3_machine.specs.State.{stored}
 use Rattle.ffi3_pieces.specs.Runs.{IsRunStored}
 use Rattle.ffi3_pieces.proofs.RunStoring.{run_stored}
-use Rattle.ffi3_pieces.proofs.running.store_run.Goals as goal
+use Rattle.ffi3_pieces.proofs.by_runs.store_run.Goals as goal
 
 pub returns-clause-stored : goal.returns-clause-stored
 returns-clause-stored c =

@@ -6,7 +6,7 @@ use Rattle.ffi3_type_rules.specs.declared.limits.TheConstants.{STACK_TOP}
 use Rattle.ffi3_pieces.specs.Runs.{AreRunsStored, RunLies}
 use Rattle.ffi3_pieces.proofs.RunStoring.{all_runs_stored, no_run, run_step}
 use Rattle.ffi3_pieces.proofs.Stepping.{each_read}
-use Rattle.ffi3_pieces.proofs.running.store_runs.Goals as goal
+use Rattle.ffi3_pieces.proofs.by_runs.store_runs.Goals as goal
 
 pub loop-i-init : goal.loop-i-init
 loop-i-init c = (no_run c.args.base (tree_of c.args.ty.now) (value_of c.args.value.now) c.requires.low c.args.runs.now c.len-i.result c.args.machine.now (omega arith), c.requires.sized)
