@@ -1,4 +1,4 @@
--- Arguments that are read from their places, and what stays of the machine.
+-- Arguments that are read from their places.
 use Rattle.std.specs.Prelude.{◌≡◌, ℕ, ◌+◌, ◌-◌, ◌≤◌, ⊤, List, get_or}
 use Rattle.std.specs.List.{AllByRecursion, Any}
 use Rattle.ffi3_type_rules.specs.Tree.{Tree}

@@ -1,4 +1,4 @@
--- The bytes at places of a machine, the places that a store leaves, and the stretch of the stack that it writes.
+-- The bytes at places of a machine, the places that a store leaves, what keeps what stood there, and the stretch of the stack that a store writes.
 use Rattle.std.specs.Prelude.{◌≡◌, ℕ, ◌+◌, ◌-◌, ◌*◌, ◌/◌, ◌^◌, ◌<◌, ◌≤◌, ◌⊎◌, ⊤, List, [], ◌∷◌, get_or, length}
 use Rattle.std.specs.Int.{w64, to_le_bytes, from_le_bytes}
 use Rattle.ffi3_type_rules.specs.declared.Target.{Target}
@@ -129,7 +129,7 @@ pub record IsSetAndFilled (base : ℕ) (t : Tree) (v : ValueTree) (bytes : List 
   pub stays : Stays base (p.loc ∷ []) old new
   pub within : (room : ℕ) → IsPlace room p.loc → WroteWithin base (base + room) old new
 
--- the number is byte `o` of the leaf that has one there, if there is such a leaf
+-- the number is the value's byte at offset `o`, if a leaf has that byte
 abbrev pub IsByteOf : List Leaf → List (List ℕ) → ℕ → ℕ → Type 0
 IsByteOf (l ∷ ls) (b ∷ bs) o x =
     ((k : ℕ) → k < scalar_size l.kind → l.at + k ≡ o → x ≡ get_or b k 0) × IsByteOf ls bs o x
@@ -155,7 +155,7 @@ abbrev pub KeepsUnused : ℕ → Tree → State → State → Piece → Type 0
 KeepsUnused base t old new p =
     p.ext ≡ Free → (k : ℕ) → k < 8 → IsUnused t p k → byte_of base new p.loc k ≡ byte_of base old p.loc k
 
--- the same of the words of a value in memory at an address
+-- the same of a value in memory at an address, over its whole doublewords
 abbrev pub KeepsPadding : ℕ → Tree → State → State → Type 0
 KeepsPadding addr t old new =
     (i : ℕ) → i < 8 * ((size_of t + 7) / 8) → IsPadding t i → stack_byte new (addr + i) ≡ stack_byte old (addr + i)
