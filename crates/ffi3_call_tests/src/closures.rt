@@ -36,7 +36,8 @@ fn write_argument<A: Abi>(
     requires within { i < length cif.now.arguments }
     requires incoming { IsIncoming A.standard cif.now incoming.now }
 {
-    let ty = argument(cif.sig(), i);
+    let sig = cif.sig();
+    let ty = argument(sig, i);
     let bytes = arg(machine, cif, incoming, i);
     let value = value_from_bytes(alloc, ty, bytes)?;
     text.extend(value_text(alloc, ty, &value)?.as_slice())?;
@@ -53,7 +54,8 @@ fn write_arguments<A: Abi>(
 ) -> Result<(), NoMemory>
     requires { IsIncoming A.standard cif.now incoming.now }
 {
-    for i in 0..count_of(cif.sig()) {
+    let sig = cif.sig();
+    for i in 0..count_of(sig) {
         write_argument(alloc, machine, cif, incoming, i, text)?;
     }
     Ok(())
@@ -87,7 +89,8 @@ fn told<A: Abi>(
     let incoming = begin_call(&mut machine, &table, cif, args, ptr);
     let mut text = Bytes::new(alloc);
     write_arguments(alloc, &machine, cif, &incoming, &mut text)?;
-    let ty = result_type(cif.sig());
+    let sig = cif.sig();
+    let ty = result_type(sig);
     let mut room = [0; 1024];
     let out = &mut room[..size_of(ty) as usize];
     end_call(&mut machine, cif, incoming, outcome, out);
