@@ -1,6 +1,6 @@
 -- What is read of an input: its first bytes, one more than a script may have.
 use Rattle.std.proofs.Common.{◌≡◌, ℕ, ◌+◌, ◌≤◌, List, [], length, take, drop, refl, ap, ◌∙◌, subst, arith, length-take, lit≤}
-use Rattle.std.specs.Prelude.{Option, Some, Result, Ok, Err, IfErr}
+use Rattle.std.specs.Prelude.{Some, Result, Ok, Err, IfErr}
 use Rattle.std.proofs.Math.ListN.{drop_of_length-le}
 use Rattle.std.proofs.Math.Nat.{le_trans}
 use Rattle.std.proofs.lemmas.List.{take_all}

@@ -1,5 +1,5 @@
 -- What a refusal of the input says: its line, its status and its cause.
-use Rattle.std.specs.Prelude.{◌≡◌, ◌⊎◌, ℕ, List, [], codes, Some}
+use Rattle.std.specs.Prelude.{◌≡◌, ◌⊎◌, ℕ, List, codes, Some}
 use Rattle.ffi3_io.specs.Sink.{Rose}
 use Rattle.ffi3_run_rules.specs.Lines.{a_line}
 use Rattle.ffi3_script_rules.specs.ReasonText.{text_of_reason}

@@ -1,7 +1,7 @@
 -- WHAT THE TOP CALL SAYS, by its status.
 use Rattle.std.specs.Prelude.{◌≡◌, ℕ, ◌+◌, ◌⊎◌, List, [], ◌++◌, take, drop, Option, Some, None, codes}
 use Rattle.ffi3_io.specs.Sink.{Adds, AddsSome, Rose}
-use Rattle.ffi3_io.specs.Source.{LosesSome}
+use Rattle.ffi3_io.specs.Source.{LosesSome, SourceState}
 use Rattle.ffi3_type_rules.specs.Signature.{Signature}
 use Rattle.ffi3_run_rules.specs.Move.{Behaviour}
 use Rattle.ffi3_run_rules.specs.Meaning.{End, returned, stopped, meaning_of}

@@ -1,11 +1,12 @@
 //! The lines of layout.
-ghost use Rattle.std.specs.Prelude.{◌≡◌, ◌<◌, length, true};
+ghost use Rattle.std.specs.Prelude.{◌<◌};
 ghost use Rattle.ffi3_type_rules.specs.Signature.{SignatureHasNoFault};
 ghost use Rattle.ffi3_script.specs.ScriptOf.{script_of};
 ghost use Rattle.ffi3_app.specs.Commands.{joined, layout_lines, layout_text};
 ghost use Rattle.ffi3_io.specs.Written.{Wrote};
 
-use ffi3_io::{IoError, Sink, write_line};
+use crate::write::write_made_line;
+use ffi3_io::{IoError, Sink};
 use ffi3_script::Script;
 use ffi3_text::layout_line;
 use ffi3_types::{At, Sig};
@@ -27,12 +28,9 @@ fn layout_of<O: Sink>(alloc: Global, number: u32, sig: &Sig, output: &mut O) -> 
     requires { SignatureHasNoFault sig.now }
     ensures { Wrote (joined (layout_lines number sig.now)) (O.state output.old) (O.state output.new) result }
 {
-    write_line(output, layout_line(alloc, number, sig, At::Ret)?.as_slice())?;
+    write_made_line(output, layout_line(alloc, number, sig, At::Ret))?;
     for j in 0..sig.count() {
-        write_line(
-            output,
-            layout_line(alloc, number, sig, At::Arg(j))?.as_slice(),
-        )?;
+        write_made_line(output, layout_line(alloc, number, sig, At::Arg(j)))?;
     }
     Ok(())
 }

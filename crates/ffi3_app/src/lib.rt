@@ -11,6 +11,7 @@ mod tell;
 mod top;
 mod words;
 mod work;
+mod write;
 
 pub use ffi3_machine::Machine;
 pub use limit::{NotYet, run_limit};

@@ -6,10 +6,11 @@ ghost use Rattle.ffi3_script.specs.ScriptOf.{script_of};
 ghost use Rattle.ffi3_app.specs.Commands.{joined, place_lines, place_text, standard_of};
 ghost use Rattle.ffi3_io.specs.Written.{Wrote};
 
+use crate::write::write_made_line;
 use ffi3_aapcs64::Aapcs64;
 use ffi3_amd64::Amd64;
 use ffi3_cif::{Cif, PrepFault, prep_cif, prep_cif_var};
-use ffi3_io::{IoError, Sink, write_line};
+use ffi3_io::{IoError, Sink};
 use ffi3_place::Abi;
 use ffi3_riscv::Riscv;
 use ffi3_script::Script;
@@ -55,11 +56,11 @@ fn place_of<A: Abi, O: Sink>(
 ) -> Result<(), IoError>
     ensures { Wrote (joined (place_lines A.standard number cif.now)) (O.state output.old) (O.state output.new) result }
 {
-    write_line(output, sig_line(alloc, number, cif)?.as_slice())?;
+    write_made_line(output, sig_line(alloc, number, cif))?;
     for j in 0..cif.sig().count() {
-        write_line(output, place_line(alloc, cif, At::Arg(j))?.as_slice())?;
+        write_made_line(output, place_line(alloc, cif, At::Arg(j)))?;
     }
-    write_line(output, place_line(alloc, cif, At::Ret)?.as_slice())
+    write_made_line(output, place_line(alloc, cif, At::Ret))
 }
 
 // The signature prepared for calls.
