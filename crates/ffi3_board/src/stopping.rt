@@ -1,0 +1,56 @@
+//! Stops.
+ghost use Rattle.std.specs.Prelude.{◌≡◌, List, length};
+ghost use Rattle.ffi3_place_rules.specs.Event.{Event};
+ghost use Rattle.ffi3_run_rules.specs.Meaning.{Program};
+ghost use Rattle.ffi3_run_rules.specs.Trace.{TraceItem};
+ghost use Rattle.ffi3_turn_rules.specs.Left.{Left};
+ghost use Rattle.ffi3_turn_rules.specs.SoFar.{Base};
+ghost use Rattle.ffi3_machine.specs.State.{State};
+ghost use Rattle.ffi3_board.specs.Between.{Beginning, IsBetween, moment};
+ghost use Rattle.ffi3_board.specs.Going.{StoppedBy};
+ghost use Rattle.ffi3_board.specs.StopSigs.{IsOfSigs};
+ghost use Rattle.ffi3_board.specs.Turned.{Turned};
+
+use crate::line::write_stop;
+use crate::{Activation, Board, Cifs, Turn};
+use ffi3_io::{Sink, WriteEnd};
+use ffi3_place::Abi;
+use ffi3_run_rules::Stop;
+use std::alloc::Global;
+
+/// Stops the run: writes the line of the stop.
+pub(crate) fn stop<A: Abi, O: Sink>(
+    alloc: Global,
+    output: &mut O,
+    cifs: &Cifs<A>,
+    why: Stop,
+) -> Turn
+    requires { IsOfSigs (length cifs.now) why }
+    ensures { StoppedBy cifs.now why (O.state output.old) (O.state output.new) result }
+{
+    match write_stop(alloc, output, cifs, why) {
+        Ok(()) => Turn::Stopped(why),
+        Err(WriteEnd::NoMemory) => Turn::NoMemory,
+        Err(WriteEnd::Failed) => Turn::Failed,
+    }
+}
+
+impl<S: Drop> Board<S> {
+    /// Stops the run before a move, where none is left.
+    pub fn stop_at_limit<A: Abi, O: Sink>(
+        &mut self,
+        alloc: Global,
+        output: &mut O,
+        cifs: &Cifs<A>,
+        current: Activation<S>,
+    ) -> Turn
+        requires { self.old.moves ≡ 0 }
+        ensures { (p : Program) (base : Base) (all : Left) (first : Beginning) (own : List TraceItem) (events : List Event) (machine : State) →
+            p.signatures ≡ cifs.now →
+            IsBetween p base all first own events (moment p.signatures current self.old machine (O.state output.old)) →
+            Turned p base all first own 0 self.new machine (O.state output.new) result }
+    {
+        let _ended = current;
+        stop(alloc, output, cifs, Stop::MoveLimit)
+    }
+}
