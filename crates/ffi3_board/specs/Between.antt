@@ -1,5 +1,5 @@
 -- A run between two moves.
-use Rattle.std.specs.Prelude.{◌≡◌, ℕ, suc, ◌+◌, ◌≤◌, ◌⊎◌, ⊤, List, [], ◌∷◌, ◌++◌, length, reverse}
+use Rattle.std.specs.Prelude.{◌≡◌, ℕ, suc, ◌+◌, ◌≤◌, ◌⊎◌, ⊤, List, [], ◌∷◌, ◌++◌, length, reverse, Option}
 use Rattle.ffi3_type_rules.specs.declared.limits.TheConstants.{STACK, STACK_TOP}
 use Rattle.ffi3_type_rules.specs.Signature.{Signature}
 use Rattle.ffi3_place_rules.specs.Event.{Event}
@@ -97,14 +97,19 @@ pub record IsAsking (p : Program) (base : Base) (all : Left) (first : Beginning)
   pub asks : next_move p x.innermost ≡ asked
 
 module _ {S : Type 0} where
-  -- the moment of a board, inside whose activations this one is the innermost
-  abbrev pub moment : List Signature → Activation S → Board S → State → SinkState → Moment
-  moment signatures a b machine output = record {
-    innermost = acting signatures machine (call_inside b.served (reverse b.suspended.items)) a;
-    suspended = suspended_at signatures machine b.served (reverse b.suspended.items);
-    calls = calls_of b.served (reverse b.suspended.items);
-    closures = b.table;
-    moves = b.moves;
+  -- the moment at which this activation is the innermost, inside those that wait
+  abbrev pub moment_with : List Signature → Option OpenCall → List (Waiting S) → Closures → ℕ → State → SinkState → Activation S → Moment
+  moment_with signatures served outer closures moves machine output a = record {
+    innermost = acting signatures machine (call_inside served outer) a;
+    suspended = suspended_at signatures machine served outer;
+    calls = calls_of served outer;
+    closures = closures;
+    moves = moves;
     machine = machine;
     output = output;
   }
+
+  -- the moment of a board, inside whose activations this one is the innermost
+  abbrev pub moment : List Signature → Activation S → Board S → State → SinkState → Moment
+  moment signatures a b machine output =
+      moment_with signatures b.served (reverse b.suspended.items) b.table b.moves machine output a

@@ -1,0 +1,11 @@
+mod Tests
+mod Spelling
+mod Acts
+mod Closed
+mod Marks
+mod Opened
+mod Moving
+mod Blocks
+mod Entering
+mod Leaving
+mod Boarding
