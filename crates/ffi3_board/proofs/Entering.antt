@@ -49,7 +49,7 @@ module _ (p : Program) (base : Base) (all : Left) (first : Beginning) (own : Lis
     abbrev opened : OpenCall
     opened = record { sig = sig; incoming = incoming }
 
-    abbrev entered : Moment
+    abbrev pub entered : Moment
     entered = record {
       innermost = callee;
       suspended = record { activation = x.innermost; signature = sig } ∷ x.suspended;

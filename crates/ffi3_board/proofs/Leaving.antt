@@ -31,7 +31,7 @@ use Rattle.ffi3_board.proofs.Opened.{caller_above, in_callee, open_kept, same_th
 
 -- the innermost activation, the one that waits for its call, and those around it
 module _ (p : Program) (base : Base) (all : Left) (first : Beginning) (own : List TraceItem) (events : List Event) (a caller : Activation) (c : OpenCall) (outer : List Suspended) (calls : List OpenCall) (closures : Closures) (moves : ℕ) (m : State) (output : SinkState) where
-  abbrev inside_call : Moment
+  abbrev pub inside_call : Moment
   inside_call = record {
     innermost = a;
     suspended = record { activation = caller; signature = c.sig } ∷ outer;
@@ -49,7 +49,7 @@ module _ (p : Program) (base : Base) (all : Left) (first : Beginning) (own : Lis
     abbrev waiting : Suspended
     waiting = record { activation = caller; signature = c.sig }
 
-    abbrev back : Moment
+    abbrev pub back : Moment
     back = record {
       innermost = with_result caller v;
       suspended = outer;
@@ -118,7 +118,7 @@ module _ (p : Program) (base : Base) (all : Left) (first : Beginning) (own : Lis
         let at : m.sp + depth ≡ base.top = h.deep in
         let left : a.left + STACK ≡ m.sp = h.left in
         let nested : a.left + need_at p c.sig ≡ caller.left = h.come.nested.0 in
-        let room : 1 + length still_open ≤ m.spare_events = held.room in
+        let room : length (newest ∷ still_open) ≤ m.spare_events = held.room in
         let bytes : frame_of base.standard site + frames base.standard still_open ≤ m.spare_bytes = held.bytes in
         let few : length caller.results + suc moves ≤ most_moves = h.others_few.0 in
         record {

@@ -9,3 +9,5 @@ mod Blocks
 mod Entering
 mod Leaving
 mod Boarding
+mod Made
+mod Transports

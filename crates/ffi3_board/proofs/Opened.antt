@@ -1,5 +1,5 @@
 -- Open calls that stand on a machine's stack, from one machine to the next.
-use Rattle.std.proofs.Common.{◌≡◌, ℕ, ◌+◌, ◌≤◌, List, [], ◌∷◌, length, refl, sym, ap, ◌∙◌, subst, arith}
+use Rattle.std.proofs.Common.{◌≡◌, ℕ, ◌+◌, ◌<◌, ◌≤◌, List, [], ◌∷◌, length, refl, sym, ap, ◌∙◌, subst, arith}
 use Rattle.std.specs.List.{AllByRecursion}
 use Rattle.ffi3_type_rules.specs.Signature.{Signature, signature_at}
 use Rattle.ffi3_place_rules.specs.declared.Loc.{Loc}
@@ -9,6 +9,7 @@ use Rattle.ffi3_place_rules.specs.Image.{Image, register}
 use Rattle.ffi3_place_rules.specs.Standard.{Standard, frame_of, need_of, block_bytes}
 use Rattle.ffi3_run_rules.specs.Journal.{Entered, needs}
 use Rattle.ffi3_machine.specs.State.{State, image_of, with_code, with_room}
+use Rattle.ffi3_callee.specs.Received.{IsIncoming}
 use Rattle.ffi3_invoke.specs.Calls.{Stands, IsInCallee, IsCalled, KeepsOpen}
 use Rattle.ffi3_board.specs.declared.activation.OpenCall.{OpenCall}
 use Rattle.ffi3_board.specs.Stack.{caller_sp, IsOpen, OpenStand, frames, HoldsCalls}
@@ -101,7 +102,7 @@ module _ (std : Standard) (ss : List Signature) (held : Loc → ℕ) (top : ℕ)
         target = h.target;
         stands = is_open.stands;
         reserved = held_both std.reserved e.event.image (image_of 0 m) held is_open.reserved h.reserved;
-        room = let k : 1 + length outer ≤ m.spare_events = h.room in omega (arith, k);
+        room = let k : length (e ∷ outer) ≤ m.spare_events = h.room in omega (arith, k);
         bytes = let k : frame_of std e.signature + frames std outer ≤ m.spare_bytes = h.bytes in omega (arith, k);
       }))
 
@@ -112,6 +113,19 @@ module _ (std : Standard) (ss : List Signature) (held : Loc → ℕ) (top : ℕ)
         target = h.target;
         stands = is_open.stands;
         reserved = held_both std.reserved e.event.image (image_of 0 m) held is_open.reserved h.reserved;
-        room = let k : 1 + length outer ≤ m.spare_events = h.room in omega (arith, k);
+        room = let k : length (e ∷ outer) ≤ m.spare_events = h.room in omega (arith, k);
         bytes = let k : frame_of std e.signature + frames std outer ≤ m.spare_bytes = h.bytes in omega (arith, k);
       }
+
+  pub sig_below : (entered : List Entered) → HoldsCalls std ss held top m (c ∷ calls) entered → c.sig < length ss
+  sig_below [] h = elim h.stand [ ]
+  sig_below (e ∷ outer) h = h.stand.0.below
+
+  pub is_incoming : (entered : List Entered) → HoldsCalls std ss held top m (c ∷ calls) entered → IsIncoming std (signature_at ss c.sig) c.incoming
+  is_incoming [] h = elim h.stand [ ]
+  is_incoming (e ∷ outer) h =
+      subst (λ (s : Signature). IsIncoming std s c.incoming) h.stand.0.signature h.stand.0.incoming
+
+  pub block_at : (entered : List Entered) → HoldsCalls std ss held top m (c ∷ calls) entered → c.incoming.block ≡ m.sp
+  block_at [] h = elim h.stand [ ]
+  block_at (e ∷ outer) h = h.stand.0.block

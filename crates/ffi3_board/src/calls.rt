@@ -13,6 +13,7 @@ ghost use Rattle.ffi3_run_rules.specs.Move as asks;
 ghost use Rattle.ffi3_run_rules.specs.Trace.{TraceItem};
 ghost use Rattle.ffi3_turn_rules.specs.Left.{Left, as_main};
 ghost use Rattle.ffi3_turn_rules.specs.SoFar.{Base};
+ghost use Rattle.ffi3_machine.specs.State.{stack_at};
 ghost use Rattle.ffi3_closures.specs.Slots.{HoldsMap};
 ghost use Rattle.ffi3_io.specs.Sink.{SinkState};
 ghost use Rattle.ffi3_callee.specs.Received.{IsIncoming};
@@ -81,6 +82,8 @@ impl<S: Drop> Board<S> {
         requires top { machine.old.sp ≤ STACK_TOP }
         requires holds { HoldsMap machine.old.target self.old.table machine.old.code }
         ensures goes { result ≡ Turn.More → HasGoneIn closure standing sig current self.old self.new }
+        ensures above { result ≡ Turn.More →
+            (address count : ℕ) → machine.old.sp ≤ address → stack_at address count machine.new ≡ stack_at address count machine.old }
         ensures turned { (p : Program) (base : Base) (all : Left) (first : Beginning) (own : List TraceItem) (events : List Event) (output : SinkState) →
             base.standard ≡ A.standard → p.signatures ≡ cifs.now →
             IsAsking p base all first own events (moment p.signatures current self.old machine.old output) (asks.call ptr sig args.now) →
@@ -123,6 +126,8 @@ impl<S: Drop> Board<S> {
         requires fits { fits (result_type_at cifs.now (call_inside self.old.served (reverse self.old.suspended.items))) (value_of value.now) ≡ true }
         requires few { AreShort (reverse self.old.suspended.items) }
         ensures goes { result ≡ Turn.More → HasGoneBack (value_of value.now) self.old self.new }
+        ensures above { result ≡ Turn.More →
+            (address count : ℕ) → machine.new.sp ≤ address → stack_at address count machine.new ≡ stack_at address count machine.old }
         ensures turned { (p : Program) (base : Base) (all : Left) (first : Beginning) (own : List TraceItem) (events : List Event) (output : SinkState) (current : Activation S) →
             base.standard ≡ A.standard → base.bottom ≡ as_main → self.old.served ≡ None → p.signatures ≡ cifs.now →
             IsAsking p base all first own events (moment p.signatures current self.old machine.old output) (asks.return (value_of value.now)) →

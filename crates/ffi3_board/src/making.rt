@@ -47,6 +47,7 @@ impl<S: Drop> Board<S> {
         requires holds { HoldsMap machine.old.target self.old.table machine.old.code }
         ensures goes { result ≡ Turn.More →
             (address : ℕ) × (self.new ≡ record self.old { innermost = Some (and_result current (pointer_value address)); table = self.new.table }) }
+        ensures stack { machine.new.stack ≡ machine.old.stack }
         ensures turned { (p : Program) (base : Base) (all : Left) (first : Beginning) (own : List TraceItem) (events : List Event) →
             p.signatures ≡ cifs.now → func < length p.functions → sig < length p.signatures → sig ≡ (function_at p func).signature →
             IsAsking p base all first own events (moment p.signatures current self.old machine.old (O.state output.old)) (asks.make func user) →
@@ -75,6 +76,7 @@ impl<S: Drop> Board<S> {
         requires holds { HoldsMap machine.old.target self.old.table machine.old.code }
         ensures goes { result ≡ Turn.More →
             self.new ≡ record self.old { innermost = Some (and_result current void_value); table = self.new.table } }
+        ensures stack { machine.new.stack ≡ machine.old.stack }
         ensures turned { (p : Program) (base : Base) (all : Left) (first : Beginning) (own : List TraceItem) (events : List Event) →
             p.signatures ≡ cifs.now →
             IsAsking p base all first own events (moment p.signatures current self.old machine.old (O.state output.old)) (asks.free ptr) →

@@ -7,7 +7,7 @@ use Rattle.ffi3_machine.specs.State.{scribbled_floating, scribbled_general}
 use Rattle.ffi3_callee.specs.Loaded.{AreFound, image_from}
 use Rattle.ffi3_callee.specs.Received.{hidden_of}
 use Rattle.ffi3_callee.specs.Saved.{AreSaved}
-use Rattle.ffi3_callee.proofs.Entry.{address_known, all_saveable, found_between, hidden_lies, received}
+use Rattle.ffi3_callee.proofs.Entry.{address_known, all_saveable, found_between, hidden_lies, received, stands}
 use Rattle.ffi3_callee.proofs.Keeping.{reserved_received}
 use Rattle.ffi3_callee.proofs.Laws.{words_saveable}
 use Rattle.ffi3_callee.proofs.receive.Goals as goal
@@ -46,7 +46,7 @@ copy_arguments-requires-clause-found g c =
     let sound = g.met.A.Abi.sound s c.sig-sig.ensures.faultless in
     let area = c.sp-entry.result - c.SAVE.result in
     let block = c.sp-entry.result - c.SAVE.result - c.block.result in
-    let there = stands std s m c.sp-entry.result c.LINK.result c.SAVE.result c.block.result c.hidden_place-hidden.result c.result_place.result c.sp-entry.ensures.value (c.LINK.ensures ∙ sym g.met.A.Abi.link_is) (c.SAVE.ensures ∙ sym g.met.A.Abi.save_is) c.block.ensures c.hidden_place-hidden.ensures c.result_place.ensures c.requires.room in
+    let there = stands std s m c.sp-entry.result c.LINK.result c.SAVE.result c.block.result c.hidden_place-hidden.result c.result_place.result.now c.sp-entry.ensures.value (c.LINK.ensures ∙ sym g.met.A.Abi.link_is) (c.SAVE.ensures ∙ sym g.met.A.Abi.save_is) c.block.ensures c.hidden_place-hidden.ensures c.result_place.ensures c.requires.room in
     subst (λ q. AreFound q c.set_sp.new.self (plan_of std s).places) (sym there.base_is)
     (found_between std s area block 0 m c.save_words.new.machine c.set_sp.new.self c.set_sp.new.self c.set_sp.new.self c.requires.room c.requires.frame g.met.A.Abi.agrees.area c.sp-entry.ensures.machine.stack there.area_is there.block_is c.save_words.ensures.only c.set_sp.ensures c.requires.some.0 sound c.sig-sig.ensures.faultless c.requires.some.1)
 
@@ -58,7 +58,7 @@ returns-clause-received g c =
     let sound = g.met.A.Abi.sound s c.sig-sig.ensures.faultless in
     let area = c.sp-entry.result - c.SAVE.result in
     let block = c.sp-entry.result - c.SAVE.result - c.block.result in
-    let there = stands std s m c.sp-entry.result c.LINK.result c.SAVE.result c.block.result c.hidden_place-hidden.result c.result_place.result c.sp-entry.ensures.value (c.LINK.ensures ∙ sym g.met.A.Abi.link_is) (c.SAVE.ensures ∙ sym g.met.A.Abi.save_is) c.block.ensures c.hidden_place-hidden.ensures c.result_place.ensures c.requires.room in
+    let there = stands std s m c.sp-entry.result c.LINK.result c.SAVE.result c.block.result c.hidden_place-hidden.result c.result_place.result.now c.sp-entry.ensures.value (c.LINK.ensures ∙ sym g.met.A.Abi.link_is) (c.SAVE.ensures ∙ sym g.met.A.Abi.save_is) c.block.ensures c.hidden_place-hidden.ensures c.result_place.ensures c.requires.room in
     let b = c.set_sp.new.self in
     let after = c.copy_arguments.new.machine in
     received std s area block c.len-number.result m c.save_words.new.machine b after c.scribble.new.self c.requires.room c.requires.frame g.met.A.Abi.agrees.area c.sp-entry.ensures.machine.stack there.area_is there.block_is c.save_words.ensures.only c.set_sp.ensures
@@ -74,7 +74,7 @@ returns-clause-incoming g c =
     let sound = g.met.A.Abi.sound s c.sig-sig.ensures.faultless in
     let area = c.sp-entry.result - c.SAVE.result in
     let block = c.sp-entry.result - c.SAVE.result - c.block.result in
-    let there = stands std s m c.sp-entry.result c.LINK.result c.SAVE.result c.block.result c.hidden_place-hidden.result c.result_place.result c.sp-entry.ensures.value (c.LINK.ensures ∙ sym g.met.A.Abi.link_is) (c.SAVE.ensures ∙ sym g.met.A.Abi.save_is) c.block.ensures c.hidden_place-hidden.ensures c.result_place.ensures c.requires.room in
+    let there = stands std s m c.sp-entry.result c.LINK.result c.SAVE.result c.block.result c.hidden_place-hidden.result c.result_place.result.now c.sp-entry.ensures.value (c.LINK.ensures ∙ sym g.met.A.Abi.link_is) (c.SAVE.ensures ∙ sym g.met.A.Abi.save_is) c.block.ensures c.hidden_place-hidden.ensures c.result_place.ensures c.requires.room in
     let inside : STACK ≤ m.sp = omega (arith, c.requires.room) in
     record {
       low = omega (arith, there.block_is, there.area_is, c.requires.room);

@@ -1,0 +1,11 @@
+//! The run of a script beside natives, by any calling standard: main's moves, and those of the
+//! functions that are called, to any nesting. It is untraced.
+#![tactic(auto)]
+
+mod prepare;
+mod run;
+mod runner;
+
+pub use ffi3_board::{Stop, Turn};
+pub use run::RunEnd;
+pub use runner::Runner;
