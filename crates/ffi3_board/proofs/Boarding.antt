@@ -1,11 +1,15 @@
 -- What each kind of move leads to on a board.
-use Rattle.std.proofs.Common.{◌≡◌, ℕ, suc, ◌+◌, ◌-◌, ◌<◌, ◌≤◌, List, [], ◌∷◌, ◌++◌, length, Option, Some, None, refl, sym, ap, ◌∙◌, subst, arith, reverse}
+use Rattle.std.proofs.Common.{◌≡◌, ℕ, suc, true, ◌+◌, ◌-◌, ◌<◌, ◌≤◌, List, [], ◌∷◌, ◌++◌, length, Option, Some, None, refl, sym, ap, ◌∙◌, subst, arith, reverse}
 use Rattle.std.proofs.lemmas.List.{reverse-append}
 use Rattle.ffi3_type_rules.specs.declared.limits.TheConstants.{STACK}
 use Rattle.ffi3_type_rules.specs.Signature.{Signature, signature_at}
-use Rattle.ffi3_type_rules.specs.Value.{ValueTree, void_value}
+use Rattle.ffi3_type_rules.specs.Tree.{void}
+use Rattle.ffi3_type_rules.specs.Value.{ValueTree, void_value, leaf_value, struct_value, fits}
+use Rattle.ffi3_place_rules.specs.declared.Loc.{Loc}
+use Rattle.ffi3_run_rules.specs.Journal.{Entered}
+use Rattle.ffi3_board.specs.Stack.{HoldsCalls}
 use Rattle.ffi3_place_rules.specs.Event.{Event}
-use Rattle.ffi3_place_rules.specs.Standard.{block_bytes, frame_of, need_of}
+use Rattle.ffi3_place_rules.specs.Standard.{Standard, block_bytes, frame_of, need_of}
 use Rattle.ffi3_run_rules.specs.declared.Closure.{Closure}
 use Rattle.ffi3_run_rules.specs.declared.Stop.{Stop}
 use Rattle.ffi3_run_rules.specs.declared.Stop.TheVariants.{MoveLimit}
@@ -31,7 +35,7 @@ use Rattle.ffi3_board.specs.declared.board.Board.{Board}
 use Rattle.ffi3_board.specs.declared.board.Turn.{Turn}
 use Rattle.ffi3_board.specs.declared.board.Turn.TheVariants as turn
 use Rattle.ffi3_board.specs.Between.{Beginning, Moment, asking, IsBetween, IsAsking, moment, moment_with, open_calls_at}
-use Rattle.ffi3_board.specs.Going.{StoppedBy, GoneOn, and_result}
+use Rattle.ffi3_board.specs.Going.{StoppedBy, GoneOn, HasGoneBack, and_result}
 use Rattle.ffi3_board.specs.Path.{acting, arguments_at, call_inside, suspended_at, calls_of}
 use Rattle.ffi3_board.specs.Turned.{IsEnded, WasCutOff, WentOn, Turned}
 use Rattle.ffi3_board.proofs.Blocks.{AreAbove, StaysFrom, blocks_above, acting_kept, suspended_kept}
@@ -42,11 +46,31 @@ use Rattle.ffi3_board.proofs.Leaving.{inside_call, back, returns_on, others_abov
 pub reverse-last : {X : Type 0} (xs : List X) (x : X) → reverse (xs ++ x ∷ []) ≡ x ∷ reverse xs
 reverse-last xs x = reverse-append xs (x ∷ [])
 
-module _ {S : Type 0} (p : Program) (base : Base) (all : Left) (first : Beginning) (own : List TraceItem) where
+-- what returns nothing returns void
+pub void_is : (v : ValueTree) → fits void v ≡ true → v ≡ void_value
+void_is void_value h = refl
+void_is (leaf_value bytes) h = cc
+void_is (struct_value vs) h = cc
+
+module _ {S : Type 0} where
+  -- the machine holds the call of the one that waits last
+  pub popped_holds : (std : Standard) (ss : List Signature) (held : Loc → ℕ) (top : ℕ) (m : State) (entered : List Entered) (served : Option OpenCall) (items items' : List (Waiting S)) (w : Waiting S) → items ≡ items' ++ w ∷ [] → HoldsCalls std ss held top m (calls_of served (reverse items)) entered → HoldsCalls std ss held top m (w.call ∷ calls_of served (reverse items')) entered
+  popped_holds std ss held top m entered served items items' w is h =
+      let turned : reverse items ≡ w ∷ reverse items' = ap (λ (l : List (Waiting S)). reverse l) is ∙ reverse-last items' w in
+      subst (λ (l : List (Waiting S)). HoldsCalls std ss held top m (calls_of served l) entered) turned h
+
   -- a board that goes on has its activation with one result more
   pub gone_more : (r : ValueTree) (a : Activation S) (b b' : Board S) (t : Turn) → GoneOn r a b b' t → t ≡ turn.More → b' ≡ record b { innermost = Some (and_result a r) }
   gone_more r a b b' t gone is = subst (λ (u : Turn). GoneOn r a b b' u) is gone
 
+  -- the one that waited acts on
+  pub gone_back : (r : ValueTree) (w : Waiting S) (b mid b' : Board S) (t : Turn) → b.suspended.items ≡ mid.suspended.items ++ w ∷ [] → mid.served ≡ b.served → mid.table ≡ b.table → mid.moves ≡ b.moves → GoneOn r w.activation mid b' t → t ≡ turn.More → HasGoneBack r b b'
+  gone_back r w b mid b' t items served table moves gone is =
+      let P = λ (z : Board S). HasGoneBack r b z in
+      let here : P (record mid { innermost = Some (and_result w.activation r) }) = record { waited = w; suspended = items; innermost = refl; served = served; table = table; moves = moves } in
+      subst P (sym (gone_more r w.activation mid b' t gone is)) here
+
+module _ {S : Type 0} (p : Program) (base : Base) (all : Left) (first : Beginning) (own : List TraceItem) where
   -- THE RUN GOES ON FROM HERE, or there is no memory for the result
   pub goes : (b b' : Board S) (a : Activation S) (m : State) (output : SinkState) (r : ValueTree) (more : List TraceItem) (events : List Event) (t : Turn) → GoneOn r a b b' t → IsBetween p base all first (own ++ more) events (moment p.signatures (and_result a r) b m output) → Turned p base all first own (suc b.moves) b' m output t
   goes b b' a m output r more events turn.More gone between =

@@ -6,6 +6,7 @@ use Rattle.ffi3_place_rules.specs.Standard.{Standard, need_of}
 use Rattle.ffi3_run_rules.specs.declared.Stop.TheVariants.{StackFull}
 use Rattle.ffi3_run_rules.specs.Meaning.{Program, Activation, stops, need_at, effect_of}
 use Rattle.ffi3_run_rules.specs.Move.{call}
+use Rattle.ffi3_caller.specs.declared.StackFull as caller
 use Rattle.ffi3_board.proofs.Acts.{call_is_wrong, call_has_no_room, call_enters}
 use Rattle.ffi3_board.proofs.Tests.{same_signatures, other_signatures}
 use Rattle.ffi3_board.proofs.board.Board.callee.Goals as goal
@@ -39,15 +40,27 @@ returns-then-not-same_sig-clause-does g c = λ p a args signatures needs left.
 pub returns-in-Err-clause-does : goal.returns-in-Err-clause-does
 returns-in-Err-clause-does g c = λ p a args signatures needs left.
     let live = sym c.find.ensures.value ∙ c.in-Some.is in
+    let cif = numbered p c.args.cifs.now c.args.sig c.get-cif.result.now signatures c.get-cif.ensures in
     let site = numbered p c.args.cifs.now c.args.sig c.sig.result.now signatures (c.sig.ensures.value ∙ c.get-cif.ensures) in
     let found = numbered p c.args.cifs.now c.in-Some.closure.sig c.sig-2.result.now signatures (c.sig-2.ensures.value ∙ c.get.ensures) in
     let same = sym site ∙ c.same_sig.ensures.0 c.if-not-same_sig.false ∙ found in
-    ?
+    let need : need_at p c.args.sig ≡ need_of g.A.Abi.standard c.get-cif.result.now = need_is p g.A.Abi.standard c.args.sig c.get-cif.result.now needs cif in
+    let lacks : c.args.machine.now.sp < STACK + need_of g.A.Abi.standard c.get-cif.result.now = c.in-Err.ensures.full in
+    let full = lt-ltb a.left (need_at p c.args.sig) (omega (arith, need, lacks, left)) in
+    let numbers = c.in-Err.ensures.numbers in
+    let needed : need_at p c.args.sig ≡ c.in-Err.full.need = need ∙ sym (ap (λ (f : caller.StackFull). f.need) numbers) in
+    let had : c.in-Err.full.left ≡ c.args.machine.now.sp - STACK = ap (λ (f : caller.StackFull). f.left) numbers in
+    call_has_no_room p a c.args.self.now.table c.args.ptr c.args.sig args c.in-Some.closure live (same_signatures (signature_at p.signatures c.args.sig) (signature_at p.signatures c.in-Some.closure.sig) same) full
+    ∙ full_is (need_at p c.args.sig) c.in-Err.full.need a.left c.in-Err.full.left needed (omega (arith, left, had))
 
 pub returns-clause-does : goal.returns-clause-does
 returns-clause-does g c = λ p a args signatures needs left.
     let live = sym c.find.ensures.value ∙ c.in-Some.is in
+    let cif = numbered p c.args.cifs.now c.args.sig c.get-cif.result.now signatures c.get-cif.ensures in
     let site = numbered p c.args.cifs.now c.args.sig c.sig.result.now signatures (c.sig.ensures.value ∙ c.get-cif.ensures) in
     let found = numbered p c.args.cifs.now c.in-Some.closure.sig c.sig-2.result.now signatures (c.sig-2.ensures.value ∙ c.get.ensures) in
     let same = sym site ∙ c.same_sig.ensures.0 c.if-not-same_sig.false ∙ found in
-    ?
+    let need : need_at p c.args.sig ≡ need_of g.A.Abi.standard c.get-cif.result.now = need_is p g.A.Abi.standard c.args.sig c.get-cif.result.now needs cif in
+    let has : STACK + need_of g.A.Abi.standard c.get-cif.result.now ≤ c.args.machine.now.sp = c.in_default-room_for.ensures.ok in
+    let room = le-ltb a.left (need_at p c.args.sig) (omega (arith, need, has, left)) in
+    call_enters p a c.args.self.now.table c.args.ptr c.args.sig args c.in-Some.closure live (same_signatures (signature_at p.signatures c.args.sig) (signature_at p.signatures c.in-Some.closure.sig) same) room

@@ -22,7 +22,7 @@ returns-in_default-clause-turned g c = λ p base all first own events output sta
 pub returns-in_default-journal_room-clause-turned : goal.returns-in_default-journal_room-clause-turned
 returns-in_default-journal_room-clause-turned g c = λ p base all first own events output standard signatures is does.
     let same = ap (λ (s : State). s.events) c.in_default-journal_room.ensures.err in
-    refused p base all first own events c.args.self.now c.args.current c.args.machine.now output output (call c.args.ptr c.args.sig c.args.args.now) c.journal_room.new.machine same is
+    refused p base all first own events c.args.self.now c.args.current c.args.machine.now output output (call c.args.ptr c.args.sig c.args.args.now) c.journal_room.new.self same is
 
 pub begin_call-incoming-requires-clause-never : goal.begin_call-incoming-requires-clause-never
 begin_call-incoming-requires-clause-never g c = ?
@@ -43,12 +43,12 @@ returns-clause-turned g c = λ p base all first own events output standard signa
     let sized : n ≡ base.standard.link + frame_of base.standard (signature_at p.signatures sig) =
     ap (λ (k : ℕ). k + c.frame.result) (c.LINK.ensures ∙ sym g.met.A.Abi.link_is ∙ ap (λ (s : Standard). s.link) (sym standard))
     ∙ ap (λ (k : ℕ). base.standard.link + k) (c.frame.ensures ∙ ap (frame_of std) site ∙ ap (λ (s : Standard). frame_of s (signature_at p.signatures sig)) (sym standard)) in
-    let room : c.journal_room.new.machine ≡ with_room n m = c.in-Ok-journal_room.ensures.ok in
-    let begun = begun_as std base.standard c.get-cif.result.now (signature_at p.signatures sig) args ptr c.journal_room.new.machine (with_room n m) m' (sym standard) site room c.begin_call-incoming.ensures.begun in
+    let room : c.journal_room.new.self ≡ with_room n m = c.in-Ok-journal_room.ensures.ok in
+    let begun = begun_as std base.standard c.get-cif.result.now (signature_at p.signatures sig) args ptr c.journal_room.new.self (with_room n m) m' (sym standard) site room c.begin_call-incoming.ensures.begun in
     let received = incoming_as std base.standard c.get-cif.result.now (signature_at p.signatures sig) incoming (sym standard) site c.begin_call-incoming.ensures.incoming in
     let below : sig < length p.signatures = subst (λ (l : List Signature). sig < length l) (sym signatures) c.requires.site in
     let entered = call_entered p base all first own events b.served outer b.table b.moves m output c.args.current ptr sig args is c.args.closure does n m' incoming sized begun received c.begin_call-incoming.ensures.block below c.args.standing c.new.result c.new.ensures in
-    let items = c.push_reserved.ensures.items ∙ ap (λ (l : List (Waiting g.S)). l ++ record { activation = c.args.current; call = record { sig = sig; incoming = incoming } } ∷ []) c.in-Ok.ensures.items in
-    let turned = ap (λ (l : List (Waiting g.S)). reverse l) items ∙ reverse-last b.suspended.items (record { activation = c.args.current; call = record { sig = sig; incoming = incoming } }) in
-    let P = λ (l : List (Waiting g.S)). IsBetween p base all first (own ++ Enter ptr sig args ∷ []) (events ++ begun.entry ∷ []) (moment_with p.signatures b.served l b.table b.moves m' output (record { who = Function c.args.closure.func; standing = c.args.standing; user = c.args.closure.user; results = c.new.result })) in
+    let items = c.push_reserved.ensures.items ∙ ap (λ (l : List (Waiting g.row.S.Denot)). l ++ record { activation = c.args.current; call = record { sig = sig; incoming = incoming } } ∷ []) c.in-Ok.ensures.items in
+    let turned = ap (λ (l : List (Waiting g.row.S.Denot)). reverse l) items ∙ reverse-last b.suspended.items (record { activation = c.args.current; call = record { sig = sig; incoming = incoming } }) in
+    let P = λ (l : List (Waiting g.row.S.Denot)). IsBetween p base all first (own ++ Enter ptr sig args ∷ []) (events ++ begun.entry ∷ []) (moment_with p.signatures b.served l b.table b.moves m' output (record { who = Function c.args.closure.func; standing = c.args.standing; user = c.args.closure.user; results = c.new.result })) in
     record { more = Enter ptr sig args ∷ []; events = events ++ begun.entry ∷ []; stands = subst P (sym turned) entered; counted = refl }

@@ -5,7 +5,11 @@ use Rattle.ffi3_values.specs.ValueOf.{value_of}
 use Rattle.ffi3_run_rules.specs.Move.{print}
 use Rattle.ffi3_run_rules.specs.Trace.{Line}
 use Rattle.ffi3_io.specs.Sink.{SinkState}
+use Rattle.ffi3_io.specs.declared.sink.WriteEnd.{WriteEnd}
 use Rattle.ffi3_io.specs.declared.sink.WriteEnd.TheVariants as cut
+use Rattle.ffi3_type_rules.specs.ValueText.{value_text_of}
+use Rattle.ffi3_run_rules.specs.Lines.{a_line}
+use Rattle.ffi3_board.specs.WroteLine.{LineCut}
 use Rattle.ffi3_board.specs.Between.{moment}
 use Rattle.ffi3_board.specs.Turned.{WasCutOff}
 use Rattle.ffi3_board.proofs.Boarding.{goes, refused}
@@ -29,7 +33,8 @@ returns-in-Err-NoMemory-clause-turned g c = λ p base all first own events machi
     let v = value_of c.args.value.now in
     let t = tree_of c.args.ty.now in
     let P = λ (s : SinkState). WasCutOff p base all first cut.NoMemory machine s in
-    subst P (sym c.in-Err-NoMemory.ensures) (refused p base all first own events c.args.self.now c.args.current machine o o' (print t v) machine refl is)
+    let same = subst (λ (why : WriteEnd). LineCut (a_line (value_text_of t v)) o o' why) c.in-Err-NoMemory.field-0-is c.in-Err-NoMemory.ensures in
+    subst P (sym same) (refused p base all first own events c.args.self.now c.args.current machine o o' (print t v) machine refl is)
 
 pub returns-clause-turned : goal.returns-clause-turned
 returns-clause-turned g c = λ p base all first own events machine is.
@@ -38,4 +43,5 @@ returns-clause-turned g c = λ p base all first own events machine is.
     let t = tree_of c.args.ty.now in
     let v = value_of c.args.value.now in
     let x = moment p.signatures c.args.current c.args.self.now machine o in
-    print_failed p base all first own events x (print t v) is t v refl o' c.in-Err-Failed.ensures
+    let failed = subst (λ (why : WriteEnd). LineCut (a_line (value_text_of t v)) o o' why) c.in-Err-Failed.field-0-is c.in-Err-Failed.ensures in
+    print_failed p base all first own events x (print t v) is t v refl o' failed
