@@ -7,6 +7,8 @@ mod arguments;
 #[cfg(test)]
 mod calls;
 #[cfg(test)]
+mod closures;
+#[cfg(test)]
 mod lines;
 #[cfg(test)]
 mod results;

@@ -16,7 +16,7 @@ use std::alloc::Global;
 use std::test::Fail;
 
 /// The type that the word names, or a struct of the names between `+`.
-fn type_of(alloc: Global, word: &str) -> Result<FfiType, Fail> {
+pub fn type_of(alloc: Global, word: &str) -> Result<FfiType, Fail> {
     if let Some(ty) = FfiType::from_name(word) {
         return Ok(ty);
     }

@@ -1,7 +1,5 @@
 -- The callee has recorded its entry and taken its arguments.
-use Rattle.std.specs.Prelude.{Option, None}
-use Rattle.std.proofs.Common.{◌≡◌, ℕ, ◌+◌, ◌-◌, ◌≤◌, ◌<◌, List, [], ◌∷◌, ◌++◌, get_or, length, refl, ap, sym, ◌∙◌, subst, arith}
-use Rattle.std.specs.List.{AllByRecursion}
+use Rattle.std.proofs.Common.{◌≡◌, ℕ, ◌+◌, ◌-◌, ◌≤◌, List, [], ◌∷◌, ◌++◌, length, refl, ap, sym, ◌∙◌, subst, arith}
 use Rattle.std.proofs.lemmas.List.{length-append}
 use Rattle.ffi3_type_rules.specs.declared.limits.TheConstants.{STACK, STACK_TOP}
 use Rattle.ffi3_type_rules.specs.Isa.{isa_of}
@@ -14,20 +12,19 @@ use Rattle.ffi3_place_rules.specs.declared.Res.TheVariants.{Nothing, Direct, Hid
 use Rattle.ffi3_place_rules.specs.declared.SaveWord.{SaveWord}
 use Rattle.ffi3_place_rules.specs.declared.SaveWord.TheVariants.{Register, Hidden as HiddenWord, Spare}
 use Rattle.ffi3_place_rules.specs.Isa.{link_register}
-use Rattle.ffi3_place_rules.specs.Image.{register}
 use Rattle.ffi3_place_rules.specs.Event.{Event}
 use Rattle.ffi3_place_rules.specs.Standard.{Standard, block_bytes, frame_of, plan_of}
 use Rattle.ffi3_place_rules.specs.Agrees.{AgreesWithMachine}
 use Rattle.ffi3_place_rules.specs.Sound.{IsSound}
 use Rattle.ffi3_place_rules.proofs.Tests.{each_at, each_weaker}
-use Rattle.ffi3_machine.specs.State.{State, HasReturnAddress, HasReturnAt, after_enter, image_of, recorded}
-use Rattle.ffi3_pieces.specs.Stored.{IsPlace, WroteWithin, word_in}
+use Rattle.ffi3_machine.specs.State.{State, HasReturnAddress, HasReturnAt, after_enter, image_of}
+use Rattle.ffi3_pieces.specs.Stored.{WroteWithin, word_in}
 use Rattle.ffi3_callee.specs.Given.{IsAddressOf, ReservedStay}
 use Rattle.ffi3_callee.specs.Received.{IsReceived, OwnsAtEntry, hidden_of}
 use Rattle.ffi3_callee.specs.Saved.{IsSaveable, hidden_word, word_to_save}
 use Rattle.ffi3_callee.proofs.Entry.{address_owned}
 use Rattle.ffi3_callee.proofs.Laws.{words_saveable}
-use Rattle.ffi3_invoke.specs.Calls.{IsInCallee, Stands, buffer_address, entry_at, saved_of, with_journal_of}
+use Rattle.ffi3_invoke.specs.Calls.{IsInCallee, buffer_address, entry_at, saved_of, with_journal_of}
 use Rattle.ffi3_invoke.proofs.Passed.{reserved_places_lie, same_in}
 use Rattle.ffi3_invoke.proofs.Stretches.{above_stays, return_same}
 

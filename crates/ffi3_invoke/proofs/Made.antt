@@ -1,5 +1,5 @@
 -- A call that has begun, that has ended, and the whole of it.
-use Rattle.std.proofs.Common.{◌≡◌, ℕ, ◌+◌, ◌-◌, ◌≤◌, min, List, [], ◌∷◌, ◌++◌, length, refl, ap, sym, ◌∙◌, subst, append_assoc, arith}
+use Rattle.std.proofs.Common.{◌≡◌, ℕ, ◌+◌, ◌-◌, ◌≤◌, List, [], ◌∷◌, ◌++◌, length, refl, ap, sym, ◌∙◌, subst, append_assoc, arith}
 use Rattle.std.specs.List.{AllByRecursion}
 use Rattle.ffi3_type_rules.specs.declared.limits.TheConstants.{ENTRY, STACK, STACK_TOP}
 use Rattle.ffi3_type_rules.specs.Signature.{Signature}
@@ -13,7 +13,7 @@ use Rattle.ffi3_place_rules.specs.Agrees.{AgreesWithMachine}
 use Rattle.ffi3_place_rules.proofs.Tests.{each_weaker}
 use Rattle.ffi3_run_rules.specs.Journal.{Entered, needs, IsEntry}
 use Rattle.ffi3_run_rules.proofs.Aligned.{entry_is_aligned}
-use Rattle.ffi3_machine.specs.State.{State, HasReturnAddress, after_enter, image_of, stack_at, with_sp}
+use Rattle.ffi3_machine.specs.State.{State, after_enter, image_of, with_sp}
 use Rattle.ffi3_pieces.specs.Stored.{WroteWithin}
 use Rattle.ffi3_callee.specs.declared.Incoming.{Incoming}
 use Rattle.ffi3_callee.specs.Received.{IsIncoming, IsReceived}

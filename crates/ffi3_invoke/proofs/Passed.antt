@@ -1,10 +1,9 @@
 -- The machine at ENTRY, once the arguments are stored, the slot is called and its trampoline has run.
-use Rattle.std.proofs.Common.{◌≡◌, ℕ, ◌+◌, ◌-◌, ◌≤◌, List, [], ◌∷◌, ◌++◌, get_or, length, refl, ap, sym, ◌∙◌, subst, arith}
+use Rattle.std.proofs.Common.{◌≡◌, ℕ, ◌+◌, ◌-◌, ◌≤◌, List, [], ◌∷◌, ◌++◌, length, refl, ap, sym, ◌∙◌, subst, arith}
 use Rattle.std.specs.List.{AllByRecursion}
 use Rattle.ffi3_type_rules.specs.declared.Isa.{Isa}
 use Rattle.ffi3_type_rules.specs.declared.Isa.TheVariants.{Amd64, Aarch64, Riscv}
-use Rattle.ffi3_type_rules.specs.declared.Target.{Target}
-use Rattle.ffi3_type_rules.specs.declared.limits.TheConstants.{ENTRY, STACK, STACK_TOP}
+use Rattle.ffi3_type_rules.specs.declared.limits.TheConstants.{STACK, STACK_TOP}
 use Rattle.ffi3_type_rules.specs.Isa.{isa_of}
 use Rattle.ffi3_type_rules.specs.Signature.{Signature}
 use Rattle.ffi3_type_rules.specs.Value.{ValueTree}
@@ -19,7 +18,7 @@ use Rattle.ffi3_place_rules.specs.Sound.{Apart, IsNoneOf, IsSound, listed}
 use Rattle.ffi3_machine.specs.State.{State, IsMachine, called, image_of, linked_general, scribbled}
 use Rattle.ffi3_closures.specs.Reaching.{reached}
 use Rattle.ffi3_pieces.specs.Stored.{IsPlace, SameAt, WroteWithin, word_in}
-use Rattle.ffi3_pieces.proofs.Lawful.{each_first, each_map, each_rest, machine_places}
+use Rattle.ffi3_pieces.proofs.Lawful.{each_first, each_rest, machine_places}
 use Rattle.ffi3_pieces.proofs.Stepping.{same_word_in}
 use Rattle.ffi3_callee.specs.Given.{ReservedStay}
 use Rattle.ffi3_callee.proofs.Laws.{each_both}
@@ -94,8 +93,8 @@ module _ (std : Standard) (s : Signature) (sound : IsSound std s) (agrees : Agre
   stays l lies link trampoline =
       passes pointer a l lies (subst (λ o. IsNoneOf (listed o) l) linked link) (subst (λ ls. IsNoneOf ls l) written trampoline)
 
-  same_in : (b c : State) (l : Loc) → IsPlace 0 l → SameAt 0 l b c → word_in STACK_TOP c l ≡ word_in STACK_TOP b l
-  same_in b c l lies same =
+  word_kept : (b c : State) (l : Loc) → IsPlace 0 l → SameAt 0 l b c → word_in STACK_TOP c l ≡ word_in STACK_TOP b l
+  word_kept b c l lies same =
       register_word STACK_TOP 0 l c lies ∙ same_word_in 0 l b c same ∙ register_word 0 STACK_TOP l b lies
 
   preserved_there : AllByRecursion (λ l. SameAt 0 l (scribbled (length m.events) m) a) std.preserved → AllByRecursion (λ at. register (image_of (std.link + frame_of std s) there) at ≡ scribble (length m.events) at) std.preserved
@@ -114,11 +113,11 @@ module _ (std : Standard) (s : Signature) (sound : IsSound std s) (agrees : Agre
           let trampoline = each_first (Apart l) std.trampoline_registers (listed std.vector_count ++ listed std.returned_address) (each_rest (Apart l) (listed std.link_register) after_link rest) in
           let reserved = each_first (Apart l) std.reserved (listed std.link_register ++ (std.trampoline_registers ++ (listed std.vector_count ++ listed std.returned_address))) none.1 in
           let free = subst (λ k. IsNoneOf (reserved_places (isa_of k)) l) (sym old_target) (subst (λ ls. IsNoneOf ls l) agrees.reserved reserved) in
-          register_is (std.link + frame_of std s) there l both.0 ∙ stays l both.0 link trampoline ∙ same_in (scribbled (length m.events) m) a l both.0 both.1 ∙ scribbled_there (length m.events) m l both.0 free
+          register_is (std.link + frame_of std s) there l both.0 ∙ stays l both.0 link trampoline ∙ word_kept (scribbled (length m.events) m) a l both.0 both.1 ∙ scribbled_there (length m.events) m l both.0 free
 
   reserved_there : AllByRecursion (λ l. SameAt 0 l m a) std.reserved → ReservedStay std m there
   reserved_there same =
-      each_both (λ l. IsPlace 0 l × SameAt 0 l m a) (λ l. IsNoneOf (listed std.link_register) l × IsNoneOf std.trampoline_registers l) (λ at. word_in STACK_TOP there at ≡ word_in STACK_TOP m at) (λ l p q. stays l p.0 q.0 q.1 ∙ same_in m a l p.0 p.1) std.reserved
+      each_both (λ l. IsPlace 0 l × SameAt 0 l m a) (λ l. IsNoneOf (listed std.link_register) l × IsNoneOf std.trampoline_registers l) (λ at. word_in STACK_TOP there at ≡ word_in STACK_TOP m at) (λ l p q. stays l p.0 q.0 q.1 ∙ word_kept m a l p.0 p.1) std.reserved
       (each_both (IsPlace 0) (λ l. SameAt 0 l m a) (λ l. IsPlace 0 l × SameAt 0 l m a) (λ l p q. (p, q)) std.reserved (reserved_places_lie std agrees) same)
       (each_both (IsNoneOf (listed std.link_register)) (IsNoneOf std.trampoline_registers) (λ l. IsNoneOf (listed std.link_register) l × IsNoneOf std.trampoline_registers l) (λ l p q. (p, q)) std.reserved link trampoline)
     where

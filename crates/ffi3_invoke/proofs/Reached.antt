@@ -1,7 +1,7 @@
 -- A call and a trampoline: the registers that they write, the return address, and what is written of the stack.
 use Rattle.std.specs.Prelude.{None, true, false, if◌then◌else◌, ◌==◌, ◌||◌, slice_set}
-use Rattle.std.proofs.Common.{◌≡◌, ◌⊎◌, inl, inr, ℕ, ◌+◌, ◌-◌, ◌<◌, ◌≤◌, Bool, List, [], ◌∷◌, ◌++◌, take, drop, get_or, length, refl, ap, sym, ◌∙◌, subst, arith}
-use Rattle.std.specs.List.{AllByRecursion, replace_range}
+use Rattle.std.proofs.Common.{◌≡◌, ◌⊎◌, inl, inr, ℕ, ◌+◌, ◌-◌, ◌<◌, ◌≤◌, Bool, List, take, drop, get_or, length, refl, ap, sym, ◌∙◌, arith}
+use Rattle.std.specs.List.{AllByRecursion}
 use Rattle.std.specs.Int.{w64, to_le_bytes}
 use Rattle.std.proofs.lemmas.Bool.{ne_eqb}
 use Rattle.std.proofs.lemmas.List.{ext_get_or, get_or-set_same, get_or-set_other, length-set}
@@ -15,7 +15,7 @@ use Rattle.ffi3_place_rules.specs.declared.Loc.TheVariants.{G, F, S}
 use Rattle.ffi3_place_rules.specs.Isa.{closure_register, is_reserved, jump_register, link_place, link_register, pushed_bytes, reserved_places, scribble, trampoline_registers}
 use Rattle.ffi3_place_rules.specs.Sound.{IsNoneOf, listed}
 use Rattle.ffi3_place_rules.proofs.Forbidden.{each_none_of, none_of}
-use Rattle.ffi3_machine.specs.State.{State, HasReturnAddress, HasReturnAt, called, linked_general, linked_stack, lowered, scribbled, scribbled_register, stack_at}
+use Rattle.ffi3_machine.specs.State.{State, HasReturnAddress, HasReturnAt, called, linked_general, linked_stack, scribbled}
 use Rattle.ffi3_machine.specs.Scribbled.{get_or-scribbled_floating, get_or-scribbled_general}
 use Rattle.ffi3_closures.specs.Reaching.{jumped_through, reached}
 use Rattle.ffi3_pieces.specs.Stored.{IsPlace, word_in, WroteWithin}

@@ -1,6 +1,6 @@
 -- The callee has given its result and all else back, and has returned.
 use Rattle.std.specs.Prelude.{Option, Some, None, option_map}
-use Rattle.std.proofs.Common.{◌≡◌, ℕ, suc, ◌+◌, ◌-◌, ◌*◌, ◌<◌, ◌≤◌, List, [], ◌∷◌, ◌++◌, take, drop, get_or, length, refl, ap, sym, ◌∙◌, subst, arith}
+use Rattle.std.proofs.Common.{◌≡◌, ℕ, suc, ◌+◌, ◌-◌, ◌<◌, ◌≤◌, List, [], ◌∷◌, ◌++◌, get_or, length, refl, ap, sym, ◌∙◌, subst, arith}
 use Rattle.std.specs.List.{AllByRecursion}
 use Rattle.ffi3_type_rules.specs.declared.Isa.{Isa}
 use Rattle.ffi3_type_rules.specs.declared.Isa.TheVariants.{Amd64, Aarch64, Riscv}
@@ -37,7 +37,7 @@ use Rattle.ffi3_callee.specs.Saved.{AreGivenBack, HoldRegisters, saved_word}
 use Rattle.ffi3_callee.proofs.Keeping.{reserved_not_saved, reserved_stay, reserved_then}
 use Rattle.ffi3_callee.proofs.Laws.{each_among, each_both}
 use Rattle.ffi3_callee.proofs.Results.{buffer_within, quiet}
-use Rattle.ffi3_invoke.specs.Calls.{HasReturned, IsCalled, IsInCallee, return_at, with_journal_of}
+use Rattle.ffi3_invoke.specs.Calls.{HasReturned, IsInCallee, return_at, with_journal_of}
 use Rattle.ffi3_invoke.proofs.Passed.{register_is, reserved_places_lie, same_itself}
 use Rattle.ffi3_invoke.proofs.Stretches.{below_stays, return_same, word_below}
 

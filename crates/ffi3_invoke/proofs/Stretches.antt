@@ -1,19 +1,17 @@
 -- Stretches of the stack in steps that record events, and the open calls that stand above them.
 use Rattle.std.specs.Prelude.{Option, Some, None}
-use Rattle.std.proofs.Common.{◌≡◌, ◌⊎◌, inl, inr, ⊎_elim, ℕ, ◌+◌, ◌-◌, ◌*◌, ◌<◌, ◌≤◌, min, List, take, drop, get_or, length, refl, ap, sym, ◌∙◌, subst, arith}
-use Rattle.std.specs.Int.{w64, to_le_bytes}
+use Rattle.std.proofs.Common.{◌≡◌, ◌⊎◌, inl, inr, ℕ, ◌+◌, ◌-◌, ◌*◌, ◌<◌, ◌≤◌, min, List, take, drop, get_or, length, refl, ap, sym, ◌∙◌, arith}
 use Rattle.std.proofs.lemmas.List.{ext_get_or, get_or-take, get_or-drop, length-take, length-drop}
 use Rattle.ffi3_type_rules.specs.Isa.{isa_of}
-use Rattle.ffi3_type_rules.specs.declared.limits.TheConstants.{RETURN, STACK, STACK_TOP}
+use Rattle.ffi3_type_rules.specs.declared.limits.TheConstants.{STACK}
 use Rattle.ffi3_place_rules.specs.declared.Loc.TheVariants.{S}
 use Rattle.ffi3_place_rules.specs.Isa.{link_register}
-use Rattle.ffi3_place_rules.specs.Standard.{Standard, block_bytes}
-use Rattle.ffi3_run_rules.specs.Journal.{Entered}
+use Rattle.ffi3_place_rules.specs.Standard.{Standard}
 use Rattle.ffi3_machine.specs.State.{State, HasReturnAt, stack_at}
-use Rattle.ffi3_pieces.specs.Stored.{SameAt, WroteWithin}
+use Rattle.ffi3_pieces.specs.Stored.{WroteWithin}
 use Rattle.ffi3_pieces.proofs.Stepping.{same_word_in}
 use Rattle.ffi3_callee.specs.Saved.{saved_word}
-use Rattle.ffi3_invoke.specs.Calls.{KeepsOpen, Stands, with_journal_of}
+use Rattle.ffi3_invoke.specs.Calls.{KeepsOpen, with_journal_of}
 
 -- ---- steps one after another
 

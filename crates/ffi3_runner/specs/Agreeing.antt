@@ -1,5 +1,5 @@
 -- Where the activations of a run stand in their bodies.
-use Rattle.std.specs.Prelude.{◌≡◌, ℕ, ⊤, true, List, [], ◌∷◌, Option, Some, None}
+use Rattle.std.specs.Prelude.{◌≡◌, ℕ, ⊤, true, List, [], ◌∷◌, reverse, Option, Some, None}
 use Rattle.ffi3_type_rules.specs.Signature.{Signature, signature_at}
 use Rattle.ffi3_type_rules.specs.Value.{ValueTree, fits}
 use Rattle.ffi3_place_rules.specs.Standard.{block_bytes}
@@ -7,7 +7,7 @@ use Rattle.ffi3_run_rules.specs.Move.{no_signature}
 use Rattle.ffi3_script_rules.specs.Natives.{NamedNative}
 use Rattle.ffi3_machine.specs.State.{State, stack_at}
 use Rattle.ffi3_body.specs.SeenActivation.{SeenActivation}
-use Rattle.ffi3_script_body.specs.Agrees.{one_more}
+use Rattle.ffi3_ask.specs.Stands.{one_more}
 use Rattle.ffi3_script.specs.declared.script.Script.{Script}
 use Rattle.ffi3_ask.specs.Stands as ask
 use Rattle.ffi3_ask.specs.Stands.{StandingAgrees}
@@ -15,6 +15,7 @@ use Rattle.ffi3_ask.specs.declared.standing.Standing.{Standing}
 use Rattle.ffi3_board.specs.declared.activation.Activation.{Activation}
 use Rattle.ffi3_board.specs.declared.activation.OpenCall.{OpenCall}
 use Rattle.ffi3_board.specs.declared.activation.Waiting.{Waiting}
+use Rattle.ffi3_board.specs.declared.board.Board.{Board}
 use Rattle.ffi3_board.specs.Path.{who_of, call_inside}
 
 -- what an activation has seen that answers to this call, or to none, as main
@@ -42,3 +43,12 @@ abbrev pub AllWillStand : Script → List NamedNative → List Signature → Sta
 AllWillStand s natives signatures m served [] = ⊤
 AllWillStand s natives signatures m served (w ∷ outer) =
     WillStand s natives signatures m (call_inside served outer) w.activation (signature_at signatures w.call.sig) × AllWillStand s natives signatures m served outer
+
+abbrev pub InnermostStands : Script → List NamedNative → List Signature → State → Option OpenCall → Option (Activation Standing) → Type 0
+InnermostStands s natives signatures m call None = ⊥
+InnermostStands s natives signatures m call (Some a) = IsStanding s natives signatures m call a
+
+-- ALL ACTIVATIONS STAND IN THEIR BODIES: the innermost where its next move is asked for, those around it where the move after their call's result is.
+pub record AllStand (s : Script) (natives : List NamedNative) (signatures : List Signature) (m : State) (b : Board Standing) : Type 0 where
+  pub innermost : InnermostStands s natives signatures m (call_inside b.served (reverse b.suspended.items)) b.innermost
+  pub others : AllWillStand s natives signatures m b.served (reverse b.suspended.items)

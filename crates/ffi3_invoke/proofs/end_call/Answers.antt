@@ -1,4 +1,4 @@
-use Rattle.std.proofs.Common.{◌≡◌, ◌+◌, ◌≤◌, ap, sym, ◌∙◌, subst, arith}
+use Rattle.std.proofs.Common.{◌≤◌, arith}
 use Rattle.ffi3_type_rules.specs.declared.limits.TheConstants.{STACK}
 use Rattle.ffi3_values.specs.ValueOf.{value_of}
 use Rattle.ffi3_invoke.proofs.Made.{callee_low, ended, frame_fits}
@@ -13,9 +13,10 @@ pub load_result-requires-clause-frame : goal.load_result-requires-clause-frame
 load_result-requires-clause-frame g c =
     frame_fits g.A.Abi.standard c.args.cif.now (value_of c.args.value.now) c.args.incoming c.args.machine.now c.give_back.new.machine c.requires.incoming c.requires.block c.give_back.ensures
 
-pub drop_frame-requires-clause-frame : goal.drop_frame-requires-clause-frame
-drop_frame-requires-clause-frame g c =
-    frame_fits g.A.Abi.standard c.args.cif.now (value_of c.args.value.now) c.args.incoming c.args.machine.now c.give_back.new.machine c.requires.incoming c.requires.block c.give_back.ensures
+pub drop_frame-requires : goal.drop_frame-requires
+drop_frame-requires g c = record {
+  frame = frame_fits g.A.Abi.standard c.args.cif.now (value_of c.args.value.now) c.args.incoming c.args.machine.now c.give_back.new.machine c.requires.incoming c.requires.block c.give_back.ensures;
+}
 
 pub returns-clause-ended : goal.returns-clause-ended
 returns-clause-ended g c =

@@ -10,9 +10,6 @@ size_of-requires g c =
     let right = result_is_right c.get-cif.result.now c.sig.ensures.faultless in
     subst (λ (t : Tree). IsResultType t) (sym (c.ret-ty.ensures ∙ ap (λ (s : Signature). s.result_type) c.sig.ensures.value)) right
 
-pub end_call-requires-clause-never : goal.end_call-requires-clause-never
-end_call-requires-clause-never g c = ?
-
 pub value_from_bytes-requires-clause-right : goal.value_from_bytes-requires-clause-right
 value_from_bytes-requires-clause-right g c =
     let right = result_is_right c.get-cif.result.now c.sig.ensures.faultless in

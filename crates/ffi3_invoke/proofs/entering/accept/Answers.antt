@@ -1,5 +1,4 @@
-use Rattle.std.proofs.Common.{◌≡◌, ◌+◌, ◌-◌, ◌≤◌, length, ap, sym, ◌∙◌, subst, arith}
-use Rattle.ffi3_type_rules.specs.declared.limits.TheConstants.{STACK}
+use Rattle.std.proofs.Common.{◌≡◌, ◌+◌, length, ap, sym, ◌∙◌, subst, arith}
 use Rattle.ffi3_type_rules.specs.Isa.{isa_of}
 use Rattle.ffi3_place_rules.specs.Standard.{frame_of}
 use Rattle.ffi3_machine.specs.State.{after_enter, scribbled_floating, scribbled_general}

@@ -1,4 +1,4 @@
-use Rattle.std.proofs.Common.{◌≡◌, ◌+◌, ◌-◌, ◌≤◌, ap, sym, ◌∙◌, subst, arith}
+use Rattle.std.proofs.Common.{◌+◌, ap, sym, ◌∙◌, subst, arith}
 use Rattle.std.specs.Prelude.{IsSome}
 use Rattle.ffi3_place_rules.specs.Standard.{frame_of}
 use Rattle.ffi3_place_rules.specs.Holds.{Holds}

@@ -1,7 +1,7 @@
-use Rattle.std.proofs.Common.{◌≡◌, ◌+◌, ◌≤◌, ap, sym, ◌∙◌, subst, arith}
+use Rattle.std.proofs.Common.{◌+◌, sym, ◌∙◌, subst, arith}
 use Rattle.ffi3_type_rules.specs.Isa.{isa_of}
 use Rattle.ffi3_place_rules.specs.Isa.{pushed_bytes}
-use Rattle.ffi3_place_rules.specs.Standard.{frame_of, plan_of}
+use Rattle.ffi3_place_rules.specs.Standard.{plan_of}
 use Rattle.ffi3_values.specs.ValueOf.{value_of}
 use Rattle.ffi3_machine.specs.State.{LieInStack}
 use Rattle.ffi3_callee.proofs.Results.{written_target}

@@ -24,9 +24,6 @@ returns-in_default-journal_room-clause-turned g c = λ p base all first own even
     let same = ap (λ (s : State). s.events) c.in_default-journal_room.ensures.err in
     refused p base all first own events c.args.self.now c.args.current c.args.machine.now output output (call c.args.ptr c.args.sig c.args.args.now) c.journal_room.new.self same is
 
-pub begin_call-incoming-requires-clause-never : goal.begin_call-incoming-requires-clause-never
-begin_call-incoming-requires-clause-never g c = ?
-
 pub returns-clause-turned : goal.returns-clause-turned
 returns-clause-turned g c = λ p base all first own events output standard signatures is does.
     let std = g.A.Abi.standard in
