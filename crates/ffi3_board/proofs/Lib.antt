@@ -1,13 +1,13 @@
 mod Tests
 mod Spelling
 mod Acts
-mod Closed
+pub mod Closed
 mod Marks
-mod Opened
+pub mod Opened
 mod Moving
-mod Blocks
+pub mod Blocks
 mod Entering
 mod Leaving
-mod Boarding
+pub mod Boarding
 mod Made
 mod Transports

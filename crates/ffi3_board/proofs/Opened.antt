@@ -71,12 +71,12 @@ module _ (std : Standard) (ss : List Signature) (held : Loc → ℕ) (top : ℕ)
 -- room that is made in the journal
 pub keeps_room : (std : Standard) (low n : ℕ) (m m' : State) → KeepsOpen std low (with_room n m) m' → KeepsOpen std low m m'
 keeps_room std low n m m' keeps = λ e block above h. keeps e block above (record {
-    place = h.place;
-    bottom = h.bottom;
-    top = h.top;
-    saved = h.saved;
-    return_address = h.return_address;
-  })
+  place = h.place;
+  bottom = h.bottom;
+  top = h.top;
+  saved = h.saved;
+  return_address = h.return_address;
+})
 
 -- ---- registers that hold what they held
 
@@ -97,14 +97,16 @@ module _ (std : Standard) (ss : List Signature) (held : Loc → ℕ) (top : ℕ)
   is_called [] h = elim h.stand [ ]
   is_called (e ∷ outer) h =
       let is_open = h.stand.0 in
-      let P = λ (s : Signature). IsInCallee std (record { signature = s; event = e.event }) m in
-      (e.event, subst P is_open.signature (record {
-        target = h.target;
-        stands = is_open.stands;
-        reserved = held_both std.reserved e.event.image (image_of 0 m) held is_open.reserved h.reserved;
-        room = let k : length (e ∷ outer) ≤ m.spare_events = h.room in omega (arith, k);
-        bytes = let k : frame_of std e.signature + frames std outer ≤ m.spare_bytes = h.bytes in omega (arith, k);
-      }))
+      let P = λ (s : Signature). IsInCallee std (record { signature = s; event = e.event }) m in (
+        e.event,
+        subst P is_open.signature (record {
+          target = h.target;
+          stands = is_open.stands;
+          reserved = held_both std.reserved e.event.image (image_of 0 m) held is_open.reserved h.reserved;
+          room = let k : length (e ∷ outer) ≤ m.spare_events = h.room in omega (arith, k);
+          bytes = let k : frame_of std e.signature + frames std outer ≤ m.spare_bytes = h.bytes in omega (arith, k);
+        }),
+      )
 
   pub in_callee : (e : Entered) (outer : List Entered) → HoldsCalls std ss held top m (c ∷ calls) (e ∷ outer) → IsInCallee std e m
   in_callee e outer h =

@@ -18,16 +18,24 @@ use Rattle.ffi3_board.specs.declared.activation.Waiting.{Waiting}
 use Rattle.ffi3_board.specs.declared.board.Board.{Board}
 use Rattle.ffi3_board.specs.Path.{who_of, call_inside}
 
--- what an activation has seen that answers to this call, or to none, as main
-abbrev pub seen_by : List Signature → State → Option OpenCall → Activation Standing → SeenActivation
-seen_by signatures m None a =
+-- what main's activation has seen
+abbrev pub seen_by_main : Activation Standing → SeenActivation
+seen_by_main a =
     record { signature = no_signature; block = []; user = a.user; results = a.results }
-seen_by signatures m (Some c) a = record {
+
+-- and one that answers to a call, whose block has its arguments
+abbrev pub seen_by_callee : List Signature → State → OpenCall → Activation Standing → SeenActivation
+seen_by_callee signatures m c a = record {
   signature = signature_at signatures c.sig;
   block = stack_at c.incoming.block (block_bytes (signature_at signatures c.sig)) m;
   user = a.user;
   results = a.results;
 }
+
+-- what an activation has seen that answers to this call, or to none, as main
+abbrev pub seen_by : List Signature → State → Option OpenCall → Activation Standing → SeenActivation
+seen_by signatures m None a = seen_by_main a
+seen_by signatures m (Some c) a = seen_by_callee signatures m c a
 
 -- The activation stands in the body that it runs, where it agrees with what it has seen.
 pub record IsStanding (s : Script) (natives : List NamedNative) (signatures : List Signature) (m : State) (call : Option OpenCall) (a : Activation Standing) : Type 0 where

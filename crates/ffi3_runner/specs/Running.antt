@@ -1,12 +1,15 @@
 -- The program that a runner runs.
-use Rattle.std.specs.Prelude.{◌≡◌, ℕ, ◌^◌, ◌<◌, ◌≤◌, List, length}
+use Rattle.std.specs.Prelude.{◌≡◌, ℕ, ◌^◌, ◌<◌, ◌≤◌, List, [], length, None}
 use Rattle.ffi3_type_rules.specs.Signature.{Signature}
 use Rattle.ffi3_place_rules.specs.Standard.{Standard}
-use Rattle.ffi3_run_rules.specs.Meaning.{Program}
 use Rattle.ffi3_script_rules.specs.Natives.{NamedNative, program_beside}
 use Rattle.ffi3_script.specs.ScriptOf.{script_of, natives_of}
 use Rattle.ffi3_script.specs.declared.script.Script.{Script}
+use Rattle.ffi3_run_rules.specs.Closures.{no_closures}
+use Rattle.ffi3_run_rules.specs.Meaning.{Program, most_moves}
 use Rattle.ffi3_ask.specs.Handed.{signatures_in}
+use Rattle.ffi3_ask.specs.declared.standing.Standing.{Standing}
+use Rattle.ffi3_board.specs.declared.board.Board.{Board}
 
 -- the program of a script beside natives
 abbrev pub program : Standard → Script → List NamedNative → Program
@@ -18,3 +21,11 @@ pub record IsPrepared (std : Standard) (s : Script) (natives : List NamedNative)
   pub beside : natives_of s ≤ length natives
   pub few_natives : length natives < 2 ^ 31
   pub few_signatures : length (signatures_in natives) < 2 ^ 31
+
+-- a board on which nothing has begun
+pub record IsNew (b : Board Standing) : Type 0 where
+  pub innermost : b.innermost ≡ None
+  pub suspended : b.suspended.items ≡ []
+  pub served : b.served ≡ None
+  pub closures : b.table ≡ no_closures
+  pub moves : b.moves ≡ most_moves

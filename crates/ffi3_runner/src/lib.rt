@@ -2,10 +2,9 @@
 //! functions that are called, to any nesting. It is untraced.
 #![tactic(auto)]
 
+mod asked;
 mod prepare;
-mod run;
 mod runner;
 
 pub use ffi3_board::{Stop, Turn};
-pub use run::RunEnd;
 pub use runner::Runner;

@@ -1,14 +1,40 @@
-//! The runner.
+//! The runner: script and natives are borrowed, and the board goes from move to move.
+ghost use Rattle.std.specs.Prelude.{◌≡◌, ℕ, ◌+◌, ◌<◌, ◌≤◌, ◌^◌, IfOk, List, None, Some, length, map, reverse, suc, true};
+ghost use Rattle.ffi3_type_rules.specs.Signature.{signature_at};
+ghost use Rattle.ffi3_type_rules.specs.Tree.{trees_of};
+ghost use Rattle.ffi3_type_rules.specs.Value.{all_fit, values_of};
+ghost use Rattle.ffi3_place_rules.specs.declared.Loc.{Loc};
+ghost use Rattle.ffi3_place_rules.specs.Event.{Event};
+ghost use Rattle.ffi3_run_rules.specs.Journal.{Entered};
+ghost use Rattle.ffi3_run_rules.specs.Move as asks;
+ghost use Rattle.ffi3_run_rules.specs.Trace.{TraceItem};
+ghost use Rattle.ffi3_turn_rules.specs.Left.{Left, as_main};
+ghost use Rattle.ffi3_turn_rules.specs.SoFar.{Base};
+ghost use Rattle.ffi3_script_rules.specs.Natives.{NamedNative};
+ghost use Rattle.ffi3_script.specs.ScriptOf.{natives_of};
+ghost use Rattle.ffi3_body.specs.MoveOf.{move_of};
+ghost use Rattle.ffi3_ask.specs.Asked.{IsAsked};
+ghost use Rattle.ffi3_ask.specs.Handed.{handed_in, signatures_in};
+ghost use Rattle.ffi3_ask.specs.Stands.{StandingAgrees, one_more};
+ghost use Rattle.ffi3_ask.specs.Stands as ask;
+ghost use Rattle.ffi3_board.specs.Between.{Beginning, IsAsking, moment};
+ghost use Rattle.ffi3_board.specs.Path.{call_inside, calls_of};
+ghost use Rattle.ffi3_board.specs.Stack.{HoldsCalls};
+ghost use Rattle.ffi3_board.specs.Turned.{StandsAt, Turned};
+ghost use Rattle.ffi3_runner.specs.Agreeing.{AllStand, AllWillStand, IsStanding, WillStand, seen_by};
+ghost use Rattle.ffi3_runner.specs.Running.{IsNew, IsPrepared, program};
+
+use crate::asked::{asked_by_callee, asked_by_main};
 use crate::prepare::prepare_all;
-use ffi3_ask::{Move, Native, Seen, Standing, ask, in_function, in_main, sig_of};
-use ffi3_board::{Activation, Board, Cifs, Table, Turn, Who};
+use ffi3_ask::{Move, Native, Standing, in_function, sig_of};
+use ffi3_board::{Activation, Board, Cifs, Table, Turn};
 use ffi3_io::Sink;
 use ffi3_machine::Machine;
 use ffi3_place::Abi;
 use ffi3_script::Script;
 use ffi3_type_rules::limits::MOST_MOVES;
-use ffi3_types::{FfiType, Fields, NoMemory, Sig};
-use ffi3_values::{Value, Values};
+use ffi3_types::NoMemory;
+use ffi3_values::Values;
 use std::alloc::Global;
 
 /// A run of a script beside natives, by the calling standard `A`, one move at a time.
@@ -27,7 +53,15 @@ impl<'a, A: Abi> Runner<'a, A> {
         alloc: Global,
         script: &'a Script,
         natives: &'a Vec<Box<dyn Native>>,
-    ) -> Result<Self, NoMemory> {
+    ) -> Result<Self, NoMemory>
+        requires beside { natives_of script.now ≤ length natives.now.items }
+        requires few_natives { length natives.now.items < 2 ^ 31 }
+        requires few_signatures { length (signatures_in (map (λ b. handed_in (title b) (meaning b) (signatures b)) natives.now.items)) < 2 ^ 31 }
+        ensures prepared { IfOk result (λ r. IsPrepared A.standard script.now (map (λ b. handed_in (title b) (meaning b) (signatures b)) natives.now.items) r.cifs) }
+        ensures new { IfOk result (λ r. IsNew r.board) }
+        ensures script { IfOk result (λ r. r.script.now ≡ script.now) }
+        ensures natives { IfOk result (λ r. r.natives.now ≡ natives.now) }
+    {
         Ok(Runner {
             alloc,
             script,
@@ -43,23 +77,15 @@ impl<'a, A: Abi> Runner<'a, A> {
         })
     }
 
-    /// Main begins: its first move is next.
-    pub fn start(&mut self) {
-        self.board.innermost = Some(Activation {
-            who: Who::Main,
-            standing: in_main(self.alloc, self.script),
-            user: 0,
-            results: Values::new(self.alloc),
-        });
-    }
-
-    /// Whether no activation is left, before a start or at the end.
+    /// Whether no activation is left: before a start, and at the end.
     pub fn ended(&self) -> bool {
         self.board.innermost.is_none()
     }
 
     /// How many moves are left.
-    pub fn moves_left(&self) -> u32 {
+    pub fn moves_left(&self) -> u32
+        ensures { result ≡ self.now.board.moves }
+    {
         self.board.moves
     }
 
@@ -68,35 +94,36 @@ impl<'a, A: Abi> Runner<'a, A> {
         &self,
         machine: &Machine,
         current: &mut Activation<Standing>,
-    ) -> Result<Move, NoMemory> {
+    ) -> Result<Move, NoMemory>
+        requires prepared { IsPrepared A.standard self.now.script.now (map (λ b. handed_in (title b) (meaning b) (signatures b)) self.now.natives.now.items) self.now.cifs }
+        requires main { self.now.board.served ≡ None }
+        requires holds { (held : Loc → ℕ) × (top : ℕ) × (entered : List Entered) ×
+            HoldsCalls A.standard self.now.cifs held top machine.now (calls_of self.now.board.served (reverse self.now.board.suspended.items)) entered }
+        requires stands { IsStanding self.now.script.now (map (λ b. handed_in (title b) (meaning b) (signatures b)) self.now.natives.now.items) self.now.cifs machine.now
+            (call_inside self.now.board.served (reverse self.now.board.suspended.items)) current.old }
+        ensures asked { let handed : List NamedNative = map (λ b. handed_in (title b) (meaning b) (signatures b)) self.now.natives.now.items in
+            let call = call_inside self.now.board.served (reverse self.now.board.suspended.items) in
+            IfOk result
+            (λ m. IsAsked (program A.standard self.now.script.now handed) (ask.who_of current.old.standing) (seen_by self.now.cifs machine.now call current.old)
+            (λ r. StandingAgrees self.now.script.now handed (one_more (seen_by self.now.cifs machine.now call current.old) r) current.new.standing) (move_of m)) }
+        ensures who { ask.who_of current.new.standing ≡ ask.who_of current.old.standing }
+        ensures same { current.new ≡ record current.old { standing = current.new.standing } }
+    {
         match self.board.suspended.last() {
-            None => {
-                let sig = Sig::new(FfiType::Void, Fields::new(self.alloc), None);
-                let seen = Seen::new(&sig, &[], current.user, &current.results);
-                ask(
-                    self.alloc,
-                    self.script,
-                    self.natives,
-                    &mut current.standing,
-                    &seen,
-                )
-            }
-            Some(waiting) => {
-                let cif = self.cifs.get(waiting.call.sig);
-                let block = machine.lend_stack(machine.sp(), cif.block());
-                let seen = Seen::new(cif.sig(), block, current.user, &current.results);
-                ask(
-                    self.alloc,
-                    self.script,
-                    self.natives,
-                    &mut current.standing,
-                    &seen,
-                )
-            }
+            None => asked_by_main(self.alloc, self.script, self.natives, current),
+            Some(waiting) => asked_by_callee(
+                self.alloc,
+                self.script,
+                self.natives,
+                machine,
+                &self.cifs,
+                &waiting.call,
+                current,
+            ),
         }
     }
 
-    // Calls a closure, or stops the run.
+    // Calls a closure, or stops the run there.
     fn call<O: Sink>(
         &mut self,
         machine: &mut Machine,
@@ -105,57 +132,41 @@ impl<'a, A: Abi> Runner<'a, A> {
         ptr: u64,
         sig: u32,
         args: &Values,
-    ) -> Turn {
+    ) -> Turn
+        requires prepared { IsPrepared A.standard self.old.script.now (map (λ b. handed_in (title b) (meaning b) (signatures b)) self.old.natives.now.items) self.old.cifs }
+        requires site { sig < length self.old.cifs }
+        requires fit { all_fit (trees_of (signature_at self.old.cifs sig).arguments) (values_of args.now) ≡ true }
+        requires others { AllWillStand self.old.script.now (map (λ b. handed_in (title b) (meaning b) (signatures b)) self.old.natives.now.items) self.old.cifs machine.old
+            self.old.board.served (reverse self.old.board.suspended.items) }
+        requires will { WillStand self.old.script.now (map (λ b. handed_in (title b) (meaning b) (signatures b)) self.old.natives.now.items) self.old.cifs machine.old
+            (call_inside self.old.board.served (reverse self.old.board.suspended.items)) current (signature_at self.old.cifs sig) }
+        requires asking { let p = program A.standard self.old.script.now (map (λ b. handed_in (title b) (meaning b) (signatures b)) self.old.natives.now.items) in
+            (base : Base) × (all : Left) × (first : Beginning) × (own : List TraceItem) × (events : List Event) ×
+            (base.standard ≡ A.standard) ×
+            IsAsking p base all first own events (moment p.signatures current self.old.board machine.old (O.state output.old)) (asks.call ptr sig args.now) }
+        ensures turned { let p = program A.standard self.old.script.now (map (λ b. handed_in (title b) (meaning b) (signatures b)) self.old.natives.now.items) in
+            (base : Base) (all : Left) (first : Beginning) (own : List TraceItem) (events : List Event) →
+            base.standard ≡ A.standard →
+            IsAsking p base all first own events (moment p.signatures current self.old.board machine.old (O.state output.old)) (asks.call ptr sig args.now) →
+            Turned p base all first own (suc self.old.board.moves) self.new.board machine.new (O.state output.new) result }
+        ensures standing { result ≡ Turn.More →
+            AllStand self.old.script.now (map (λ b. handed_in (title b) (meaning b) (signatures b)) self.old.natives.now.items) self.old.cifs machine.new self.new.board }
+        ensures main { self.old.board.served ≡ None → self.new.board.served ≡ None }
+        ensures script { self.new.script.now ≡ self.old.script.now }
+        ensures natives { self.new.natives.now ≡ self.old.natives.now }
+        ensures cifs { self.new.cifs ≡ self.old.cifs }
+    {
         let closure = match self.board.callee(machine, &self.cifs, ptr, sig) {
             Ok(closure) => closure,
             Err(why) => {
-                return self.board.stop_for(self.alloc, output, &self.cifs, current, why);
+                let alloc = self.alloc;
+                return self.board.stop_for(alloc, output, &self.cifs, current, why);
             }
         };
         let standing = in_function(self.alloc, self.script, self.natives, closure.func);
-        self.board.enter(
-            self.alloc,
-            machine,
-            &self.cifs,
-            current,
-            closure,
-            standing,
-            ptr,
-            sig,
-            args,
-        )
-    }
-
-    /// Does one move of the innermost activation. It is counted, and none is asked for where none
-    /// is left.
-    pub fn turn<O: Sink>(&mut self, machine: &mut Machine, output: &mut O) -> Turn {
-        let Some(mut current) = self.board.innermost.take() else {
-            return Turn::Done;
-        };
-        if self.board.moves == 0 {
-            return self.board.stop_at_limit(self.alloc, output, &self.cifs, current);
-        }
-        let Ok(asked) = self.asked(machine, &mut current) else {
-            return Turn::NoMemory;
-        };
-        self.board.moves -= 1;
         let alloc = self.alloc;
-        match asked {
-            Move::Print { ty, value } => self.board.print(alloc, output, current, &ty, &value),
-            Move::Make { func, user } => {
-                let sig = sig_of(self.script, self.natives, func);
-                let cifs = &self.cifs;
-                self.board
-                    .make(alloc, machine, output, cifs, current, func, sig, user)
-            }
-            Move::Free { ptr } => {
-                self.board
-                    .free(alloc, machine, output, &self.cifs, current, ptr)
-            }
-            Move::Call { ptr, sig, args } => {
-                self.call(machine, output, current, ptr, sig, &args)
-            }
-            Move::Return(value) => self.board.leave(alloc, machine, &self.cifs, &value),
-        }
+        self.board.enter(
+            alloc, machine, &self.cifs, current, closure, standing, ptr, sig, args,
+        )
     }
 }
