@@ -1,6 +1,10 @@
 -- The program that a runner runs.
 use Rattle.std.specs.Prelude.{◌≡◌, ℕ, ◌^◌, ◌<◌, ◌≤◌, List, [], length, None}
+use Rattle.ffi3_type_rules.specs.declared.Target.{Target}
+use Rattle.ffi3_type_rules.specs.Isa.{isa_of}
 use Rattle.ffi3_type_rules.specs.Signature.{Signature}
+use Rattle.ffi3_machine.specs.State.{begun_code}
+use Rattle.ffi3_closures.specs.Slots.{HoldsMap}
 use Rattle.ffi3_place_rules.specs.Standard.{Standard}
 use Rattle.ffi3_script_rules.specs.Natives.{NamedNative, program_beside}
 use Rattle.ffi3_script.specs.ScriptOf.{script_of, natives_of}
@@ -28,4 +32,6 @@ pub record IsNew (b : Board Standing) : Type 0 where
   pub suspended : b.suspended.items ≡ []
   pub served : b.served ≡ None
   pub closures : b.table ≡ no_closures
+  -- the code of a machine that begins is that of no closures
+  pub begins : (target : Target) → HoldsMap target b.table (begun_code (isa_of target))
   pub moves : b.moves ≡ most_moves

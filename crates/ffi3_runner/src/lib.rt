@@ -4,7 +4,10 @@
 
 mod asked;
 mod prepare;
+mod run;
 mod runner;
+mod turn;
 
 pub use ffi3_board::{Stop, Turn};
+pub use run::RunEnd;
 pub use runner::Runner;

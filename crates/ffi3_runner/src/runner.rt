@@ -26,7 +26,7 @@ ghost use Rattle.ffi3_runner.specs.Running.{IsNew, IsPrepared, program};
 
 use crate::asked::{asked_by_callee, asked_by_main};
 use crate::prepare::prepare_all;
-use ffi3_ask::{Move, Native, Standing, in_function, sig_of};
+use ffi3_ask::{Move, Native, Standing, in_function};
 use ffi3_board::{Activation, Board, Cifs, Table, Turn};
 use ffi3_io::Sink;
 use ffi3_machine::Machine;
