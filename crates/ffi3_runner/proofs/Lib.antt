@@ -1,3 +1,6 @@
 mod Seen
 mod Turning
 mod Agreed
+mod Starting
+mod Ending
+mod Numbers

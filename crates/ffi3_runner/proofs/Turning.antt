@@ -8,7 +8,9 @@ use Rattle.ffi3_place_rules.specs.Event.{Event}
 use Rattle.ffi3_place_rules.specs.Standard.{Standard}
 use Rattle.ffi3_run_rules.specs.Meaning as meaning
 use Rattle.ffi3_run_rules.specs.Meaning.{Program, Native, behaviour_of, functions_from, most_moves, next_move, function_of}
-use Rattle.ffi3_run_rules.specs.Move.{Move}
+use Rattle.ffi3_run_rules.specs.Move.{Move, MoveFits, result_type_of}
+use Rattle.ffi3_body.specs.Follow.{IsOfType}
+use Rattle.ffi3_ask.specs.Asked.{IsAsked}
 use Rattle.ffi3_run_rules.specs.Trace.{TraceItem}
 use Rattle.ffi3_turn_rules.specs.Left.{Left}
 use Rattle.ffi3_turn_rules.specs.SoFar.{Base}
@@ -31,7 +33,7 @@ use Rattle.ffi3_board.specs.Going.{and_result}
 use Rattle.ffi3_board.specs.Path.{who_of, acting, arguments_at, call_inside, suspended_at, result_type_at, AreShort}
 use Rattle.ffi3_board.specs.Turned.{StandsAt, StandsWith}
 use Rattle.ffi3_runner.specs.Agreeing.{seen_by, InnermostStands, IsStanding, AllStand}
-use Rattle.ffi3_runner.specs.Running.{program}
+use Rattle.ffi3_runner.specs.Running.{program, IsPrepared}
 use Rattle.ffi3_runner.proofs.Seen.{seen_more, seen_still}
 
 -- what its body sees is what the direct meaning sees
@@ -95,3 +97,26 @@ count_of_functions std s natives =
     let scripts = length-map script.functions (rules.function_of script.signatures) in
     let others = length_functions (length script.signatures) (length (map (rules.function_of script.signatures) script.functions)) (map (λ n. n.native) natives) ∙ length-map natives (λ n. n.native) in
     omega (arith, all, scripts, others)
+
+-- ---- the whole of it, by what a runner has
+
+module _ (std : Standard) (s : Script) (natives : List NamedNative) (cifs : List Signature) (prepared : IsPrepared std s natives cifs) (b : Board Standing) (m : State) (output : SinkState) (a z : Activation Standing) (i : Option (Activation Standing)) (k : ℕ) (is : b.innermost ≡ Some a) (counted : b.moves ≡ suc k) (stand : AllStand s natives cifs m b) (same : z ≡ record a { standing = z.standing }) (Later : ValueTree → Type 0) (asked mv : Move) (it : IsAsked (program std s natives) (ask.who_of a.standing) (seen_by cifs m (call_inside b.served (reverse b.suspended.items)) a) Later asked) (what : asked ≡ mv) where
+  next_is : next_move (program std s natives) (acting (program std s natives).signatures m (call_inside b.served (reverse b.suspended.items)) a) ≡ mv
+  next_is =
+      let p = program std s natives in
+      let call = call_inside b.served (reverse b.suspended.items) in
+      let stands = innermost_stands s natives cifs m b a is stand in
+      let next = asks_for p cifs m call a asked stands.who it.is in
+      subst (λ (ss : List Signature). next_move p (acting ss m call a) ≡ asked) prepared.are next ∙ what
+
+  pub asks_move : (base : Base) (all : Left) (first : Beginning) (own : List TraceItem) (events : List Event) → StandsAt (program std s natives) base all first own events b m output → IsAsking (program std s natives) base all first own events (moment (program std s natives).signatures z (record b { innermost = i; moves = k }) m output) mv
+  asks_move base all first own events h =
+      is_asking (program std s natives) base all first own events b a m output i k z mv is counted same h next_is
+
+  pub move_fits : MoveFits (program std s natives).signatures (length (program std s natives).functions) (seen_by cifs m (call_inside b.served (reverse b.suspended.items)) a).signature.result_type mv
+  move_fits =
+      subst (λ (x : Move). MoveFits (program std s natives).signatures (length (program std s natives).functions) (seen_by cifs m (call_inside b.served (reverse b.suspended.items)) a).signature.result_type x) what it.fits
+
+  pub later : (r : ValueTree) → IsOfType r (result_type_of (program std s natives).signatures mv) → Later r
+  later r typed =
+      it.after r (subst (λ (x : Move). IsOfType r (result_type_of (program std s natives).signatures x)) (sym what) typed)

@@ -90,7 +90,7 @@ impl<'a, A: Abi> Runner<'a, A> {
     }
 
     // The move that the innermost activation asks for.
-    fn asked(
+    pub(crate) fn asked(
         &self,
         machine: &Machine,
         current: &mut Activation<Standing>,
@@ -124,7 +124,7 @@ impl<'a, A: Abi> Runner<'a, A> {
     }
 
     // Calls a closure, or stops the run there.
-    fn call<O: Sink>(
+    pub(crate) fn call<O: Sink>(
         &mut self,
         machine: &mut Machine,
         output: &mut O,
@@ -151,7 +151,7 @@ impl<'a, A: Abi> Runner<'a, A> {
             Turned p base all first own (suc self.old.board.moves) self.new.board machine.new (O.state output.new) result }
         ensures standing { result ≡ Turn.More →
             AllStand self.old.script.now (map (λ b. handed_in (title b) (meaning b) (signatures b)) self.old.natives.now.items) self.old.cifs machine.new self.new.board }
-        ensures main { self.old.board.served ≡ None → self.new.board.served ≡ None }
+        ensures main { result ≡ Turn.More → self.new.board.served ≡ self.old.board.served }
         ensures script { self.new.script.now ≡ self.old.script.now }
         ensures natives { self.new.natives.now ≡ self.old.natives.now }
         ensures cifs { self.new.cifs ≡ self.old.cifs }

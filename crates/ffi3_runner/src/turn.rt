@@ -34,7 +34,7 @@ impl<'a, A: Abi> Runner<'a, A> {
             Turned p base all first own self.old.board.moves self.new.board machine.new (O.state output.new) result }
         ensures standing { result ≡ Turn.More →
             AllStand self.old.script.now (map (λ b. handed_in (title b) (meaning b) (signatures b)) self.old.natives.now.items) self.old.cifs machine.new self.new.board }
-        ensures main { self.new.board.served ≡ None }
+        ensures main { result ≡ Turn.More → self.new.board.served ≡ None }
         ensures script { self.new.script.now ≡ self.old.script.now }
         ensures natives { self.new.natives.now ≡ self.old.natives.now }
         ensures cifs { self.new.cifs ≡ self.old.cifs }
