@@ -11,7 +11,8 @@ use Rattle.ffi3_script_rules.specs.Natives.{NamedNative}
 use Rattle.ffi3_script.specs.ScriptOf.{script_of}
 use Rattle.ffi3_script.specs.declared.script.Script.{Script}
 use Rattle.ffi3_ask.specs.Asked.{IsAsked}
-use Rattle.ffi3_ask.specs.Stands.{StandingAgrees, one_more}
+use Rattle.ffi3_ask.specs.Stands.{StandingAgrees}
+use Rattle.ffi3_script_body.specs.Agrees.{one_more}
 use Rattle.ffi3_ask.specs.declared.standing.Standing.{Standing}
 use Rattle.ffi3_runner.specs.Running.{program}
 use Rattle.ffi3_runner.proofs.Turning.{count_of_functions}

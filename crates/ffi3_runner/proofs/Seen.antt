@@ -9,7 +9,8 @@ use Rattle.ffi3_script_rules.specs.Natives.{NamedNative}
 use Rattle.ffi3_body.specs.SeenActivation.{SeenActivation}
 use Rattle.ffi3_script.specs.declared.script.Script.{Script}
 use Rattle.ffi3_ask.specs.Stands as ask
-use Rattle.ffi3_ask.specs.Stands.{StandingAgrees, one_more}
+use Rattle.ffi3_ask.specs.Stands.{StandingAgrees}
+use Rattle.ffi3_script_body.specs.Agrees.{one_more}
 use Rattle.ffi3_ask.specs.declared.standing.Standing.{Standing}
 use Rattle.ffi3_board.specs.declared.activation.Activation.{Activation}
 use Rattle.ffi3_board.specs.declared.activation.OpenCall.{OpenCall}

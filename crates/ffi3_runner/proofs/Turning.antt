@@ -22,7 +22,8 @@ use Rattle.ffi3_script_rules.specs.Natives.{NamedNative}
 use Rattle.ffi3_script.specs.ScriptOf.{script_of}
 use Rattle.ffi3_script.specs.declared.script.Script.{Script}
 use Rattle.ffi3_ask.specs.Stands as ask
-use Rattle.ffi3_ask.specs.Stands.{StandingAgrees, one_more}
+use Rattle.ffi3_ask.specs.Stands.{StandingAgrees}
+use Rattle.ffi3_script_body.specs.Agrees.{one_more}
 use Rattle.ffi3_ask.specs.declared.standing.Standing.{Standing}
 use Rattle.ffi3_board.specs.declared.activation.Activation.{Activation}
 use Rattle.ffi3_board.specs.declared.activation.OpenCall.{OpenCall}
@@ -87,7 +88,7 @@ short_by_few ss m served (w ∷ outer) moves h =
 length_functions : (first own : ℕ) (ns : List Native) → length (functions_from first own ns) ≡ length ns
 length_functions first own [] = refl
 length_functions first own (n ∷ ns) =
-    ap (λ (l : ℕ). length (function_of first own n ∷ []) + l) (length_functions (first + length n.signatures) (own + 1) ns)
+    ap (λ (l : ℕ). suc l) (length_functions (first + length n.signatures) (own + 1) ns)
 
 -- the functions of a run are the script's and the natives
 pub count_of_functions : (std : Standard) (s : Script) (natives : List NamedNative) → length (program std s natives).functions ≡ length (script_of s).functions + length natives
