@@ -4,7 +4,7 @@ mod Acts
 pub mod Closed
 mod Marks
 pub mod Opened
-mod Moving
+pub mod Moving
 pub mod Blocks
 mod Entering
 mod Leaving

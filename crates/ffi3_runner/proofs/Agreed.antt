@@ -22,7 +22,7 @@ use Rattle.ffi3_board.specs.Going.{and_result, HasGoneIn, HasGoneBack}
 use Rattle.ffi3_board.specs.Path.{call_inside, calls_of, result_type_at}
 use Rattle.ffi3_board.proofs.Blocks.{AreAbove, StaysFrom}
 use Rattle.ffi3_runner.specs.Agreeing.{seen_by, InnermostStands, IsStanding, WillStand, AllWillStand, AllStand}
-use Rattle.ffi3_runner.proofs.Seen.{will_kept, all_will_kept, now_stands}
+use Rattle.ffi3_runner.proofs.Seen.{standing_kept, will_kept, all_will_kept, now_stands, stays_equal, all_above}
 
 last_first : {X : Type 0} (xs : List X) (x : X) → reverse (xs ++ x ∷ []) ≡ x ∷ reverse xs
 last_first xs x = reverse-append xs (x ∷ [])
@@ -68,3 +68,19 @@ module _ (s : Script) (natives : List NamedNative) (ss : List Signature) (m m' :
         innermost = subst Q (sym gone.innermost) (now_stands s natives ss m' (call_inside b'.served left) w.activation (signature_at ss w.call.sig) r fitting will);
         others = all_will_kept ss m m' low stays s natives b'.served left above those.1;
       }
+
+-- THE INNERMOST ACTIVATION GOES ON, on a stack that is the same
+pub went_stands : (s : Script) (natives : List NamedNative) (ss : List Signature) (m m' : State) (b b' : Board Standing) (x : Activation Standing) → m'.stack ≡ m.stack → b'.innermost ≡ Some x → b'.served ≡ b.served → b'.suspended.items ≡ b.suspended.items → IsStanding s natives ss m (call_inside b.served (reverse b.suspended.items)) x → AllWillStand s natives ss m b.served (reverse b.suspended.items) → AllStand s natives ss m' b'
+went_stands s natives ss m m' b b' x stack innermost served items stands others =
+    let outer = reverse b.suspended.items in
+    let stays = stays_equal m m' stack in
+    let above = all_above (calls_of b.served outer) in
+    let Q = λ (i : Option (Activation Standing)). InnermostStands s natives ss m' (call_inside b'.served (reverse b'.suspended.items)) i in
+    let R = λ (o : Option OpenCall). InnermostStands s natives ss m' (call_inside o (reverse b'.suspended.items)) (Some x) in
+    let P = λ (l : List (Waiting Standing)). InnermostStands s natives ss m' (call_inside b.served (reverse l)) (Some x) in
+    let T = λ (l : List (Waiting Standing)). AllWillStand s natives ss m' b.served (reverse l) in
+    let U = λ (o : Option OpenCall). AllWillStand s natives ss m' o (reverse b'.suspended.items) in
+    record {
+      innermost = subst Q (sym innermost) (subst R (sym served) (subst P (sym items) (standing_kept ss m m' 0 stays s natives b.served outer x above stands)));
+      others = subst U (sym served) (subst T (sym items) (all_will_kept ss m m' 0 stays s natives b.served outer above others));
+    }

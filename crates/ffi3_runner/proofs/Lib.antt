@@ -4,3 +4,5 @@ mod Agreed
 mod Starting
 mod Ending
 mod Numbers
+mod Last
+mod Running

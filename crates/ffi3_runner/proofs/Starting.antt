@@ -37,7 +37,7 @@ none_reserved : (isa : Isa) (floating : List ℕ) (sp : ℕ) (stack : List ℕ) 
 unfolding begun_general scribbled_general
 none_reserved Amd64 floating sp stack = tt
 none_reserved Aarch64 floating sp stack = (refl, tt)
-none_reserved Riscv floating sp stack = (refl, refl, refl, tt)
+none_reserved Riscv floating sp stack = (refl, (refl, (refl, tt)))
 
 -- what a run of main finds
 abbrev pub main_beginning : SinkState → Beginning

@@ -32,7 +32,9 @@ use Rattle.ffi3_board.specs.declared.board.Board.{Board}
 use Rattle.ffi3_board.specs.Between.{Beginning, AreFew, IsBetween, IsAsking, moment}
 use Rattle.ffi3_board.specs.Going.{and_result}
 use Rattle.ffi3_board.specs.Path.{who_of, acting, arguments_at, call_inside, suspended_at, result_type_at, AreShort}
-use Rattle.ffi3_board.specs.Turned.{StandsAt, StandsWith}
+use Rattle.ffi3_board.specs.Turned.{StandsAt, StandsWith, Turned, WentOn}
+use Rattle.ffi3_board.specs.declared.board.Turn.{Turn}
+use Rattle.ffi3_board.specs.declared.board.Turn.TheVariants as turn
 use Rattle.ffi3_runner.specs.Agreeing.{seen_by, InnermostStands, IsStanding, AllStand}
 use Rattle.ffi3_runner.specs.Running.{program, IsPrepared}
 use Rattle.ffi3_runner.proofs.Seen.{seen_more, seen_still}
@@ -121,3 +123,20 @@ module _ (std : Standard) (s : Script) (natives : List NamedNative) (cifs : List
   pub later : (r : ValueTree) → IsOfType r (result_type_of (program std s natives).signatures mv) → Later r
   later r typed =
       it.after r (subst (λ (x : Move). IsOfType r (result_type_of (program std s natives).signatures x)) (sym what) typed)
+
+-- the same with an equal number of moves
+pub turned_as : {S : Type 0} (p : Program) (base : Base) (all : Left) (first : Beginning) (own : List TraceItem) (n n' : ℕ) (b : Board S) (m : State) (o : SinkState) (t : Turn) → n ≡ n' → Turned p base all first own n b m o t → Turned p base all first own n' b m o t
+turned_as p base all first own n n' b m o t same h =
+    subst (λ (k : ℕ). Turned p base all first own k b m o t) same h
+
+-- where no move is left the run does not go on
+pub never_more : {S : Type 0} (p : Program) (base : Base) (all : Left) (first : Beginning) (own : List TraceItem) (b : Board S) (m : State) (o : SinkState) (t : Turn) → Turned p base all first own 0 b m o t → t ≡ turn.More → ⊥
+never_more p base all first own b m o t h more =
+    let went = subst (λ (u : Turn). Turned p base all first own 0 b m o u) more h in
+    let counted : 0 ≡ suc b.moves = went.counted in
+    omega (arith, counted)
+
+-- where it goes on
+pub went_on : {S : Type 0} (p : Program) (base : Base) (all : Left) (first : Beginning) (own : List TraceItem) (n : ℕ) (b : Board S) (m : State) (o : SinkState) (t : Turn) → Turned p base all first own n b m o t → t ≡ turn.More → WentOn p base all first own n b m o
+went_on p base all first own n b m o t h more =
+    subst (λ (u : Turn). Turned p base all first own n b m o u) more h

@@ -34,7 +34,8 @@ pub fn prepare_all<A: Abi>(
     script: &Script,
     natives: &Vec<Box<dyn Native>>,
 ) -> Result<Cifs<A>, NoMemory>
-    requires few { length (signatures_in (map (λ b. handed_in (title b) (meaning b) (signatures b)) natives.now.items)) < 2 ^ 31 }
+    requires few { length natives.now.items < 2 ^ 31 }
+    requires few_signatures { length (signatures_in (map (λ b. handed_in (title b) (meaning b) (signatures b)) natives.now.items)) < 2 ^ 31 }
     ensures { (std : Standard) → IfOk result (λ cifs. cifs ≡
         (program_beside std (map (λ b. handed_in (title b) (meaning b) (signatures b)) natives.now.items) (script_of script.now)).signatures) }
 {

@@ -18,7 +18,7 @@ ghost use Rattle.ffi3_runner.specs.RunMatches.{RunMatches, WrotePart};
 ghost use Rattle.ffi3_runner.specs.Running.{IsNew, IsPrepared, program};
 
 use crate::Runner;
-use ffi3_ask::in_main;
+use ffi3_ask::Standing;
 use ffi3_board::{Activation, Stop, Turn, Who};
 use ffi3_io::Sink;
 use ffi3_machine::Machine;
@@ -64,7 +64,7 @@ impl<'a, A: Abi> Runner<'a, A> {
         let alloc = self.alloc;
         self.board.innermost = Some(Activation {
             who: Who::Main,
-            standing: in_main(alloc, self.script),
+            standing: Standing::in_main(alloc, self.script),
             user: 0,
             results: Values::new(alloc),
         });

@@ -27,7 +27,7 @@ ghost use Rattle.ffi3_runner.specs.Running.{IsNew, IsPrepared, program};
 
 use crate::asked::{asked_by_callee, asked_by_main};
 use crate::prepare::prepare_all;
-use ffi3_ask::{Move, Native, Standing, in_function};
+use ffi3_ask::{Move, Native, Standing};
 use ffi3_board::{Activation, Board, Cifs, Table, Turn};
 use ffi3_io::Sink;
 use ffi3_machine::Machine;
@@ -164,7 +164,7 @@ impl<'a, A: Abi> Runner<'a, A> {
                 return self.board.stop_for(alloc, output, &self.cifs, current, why);
             }
         };
-        let standing = in_function(self.alloc, self.script, self.natives, closure.func);
+        let standing = Standing::in_function(self.alloc, self.script, self.natives, closure.func);
         let alloc = self.alloc;
         self.board.enter(
             alloc, machine, &self.cifs, current, closure, standing, ptr, sig, args,
