@@ -6,3 +6,4 @@ mod Ending
 mod Numbers
 mod Last
 mod Running
+mod Main

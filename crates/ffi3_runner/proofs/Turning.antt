@@ -35,7 +35,7 @@ use Rattle.ffi3_board.specs.Path.{who_of, acting, arguments_at, call_inside, sus
 use Rattle.ffi3_board.specs.Turned.{StandsAt, StandsWith, Turned, WentOn}
 use Rattle.ffi3_board.specs.declared.board.Turn.{Turn}
 use Rattle.ffi3_board.specs.declared.board.Turn.TheVariants as turn
-use Rattle.ffi3_runner.specs.Agreeing.{seen_by, InnermostStands, IsStanding, AllStand}
+use Rattle.ffi3_runner.specs.Agreeing.{seen_by, InnermostStands, IsStanding, WillStand, AllStand}
 use Rattle.ffi3_runner.specs.Running.{program, IsPrepared}
 use Rattle.ffi3_runner.proofs.Seen.{seen_more, seen_still}
 
@@ -140,3 +140,12 @@ never_more p base all first own b m o t h more =
 pub went_on : {S : Type 0} (p : Program) (base : Base) (all : Left) (first : Beginning) (own : List TraceItem) (n : ℕ) (b : Board S) (m : State) (o : SinkState) (t : Turn) → Turned p base all first own n b m o t → t ≡ turn.More → WentOn p base all first own n b m o
 went_on p base all first own n b m o t h more =
     subst (λ (u : Turn). Turned p base all first own n b m o u) more h
+
+-- the activation once the call that it makes returns
+pub will_stand : (s : Script) (natives : List NamedNative) (ss : List Signature) (m : State) (call : Option OpenCall) (a b : Activation Standing) (site : Signature) → b ≡ record a { standing = b.standing } → who_of a.who ≡ ask.who_of a.standing → ask.who_of b.standing ≡ ask.who_of a.standing → ((r : ValueTree) → fits site.result_type r ≡ true → StandingAgrees s natives (one_more (seen_by ss m call a) r) b.standing) → WillStand s natives ss m call b site
+will_stand s natives ss m call a b site same who who' later =
+    let seen : seen_by ss m call b ≡ seen_by ss m call a = ap (seen_by ss m call) same ∙ seen_still ss m call a b.standing in
+    record {
+      who = ap (λ (z : Activation Standing). who_of z.who) same ∙ who ∙ sym who';
+      agrees = λ r it. subst (λ (z : SeenActivation). StandingAgrees s natives (one_more z r) b.standing) (sym seen) (later r it);
+    }

@@ -3,6 +3,7 @@
 #![tactic(auto)]
 
 mod asked;
+mod calling;
 mod prepare;
 mod run;
 mod runner;

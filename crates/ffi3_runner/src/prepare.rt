@@ -1,4 +1,4 @@
-//! The call interfaces of a run.
+//! What a run is prepared with.
 ghost use Rattle.std.specs.Prelude.{◌≡◌, ◌<◌, ◌+◌, ◌^◌, IfOk, length, map};
 ghost use Rattle.ffi3_place_rules.specs.Standard.{Standard};
 ghost use Rattle.ffi3_script_rules.specs.Natives.{program_beside};
@@ -13,6 +13,15 @@ use ffi3_place::Abi;
 use ffi3_script::Script;
 use ffi3_types::{NoMemory, Sig};
 use std::alloc::Global;
+
+/// What a run is prepared with: a script, natives, and an interface for each of their signatures.
+#[derive(Drop)]
+pub(crate) struct Prepared<'a, A: Abi> {
+    pub(crate) alloc: Global,
+    pub(crate) script: &'a Script,
+    pub(crate) natives: &'a Vec<Box<dyn Native>>,
+    pub(crate) cifs: Cifs<A>,
+}
 
 /// Prepares calls by a signature that has no fault.
 fn prepare<A: Abi>(alloc: Global, sig: &Sig) -> Result<Cif<A>, NoMemory>

@@ -1,34 +1,26 @@
-//! The runner: script and natives are borrowed, and the board goes from move to move.
-ghost use Rattle.std.specs.Prelude.{◌≡◌, ℕ, ◌+◌, ◌<◌, ◌≤◌, ◌^◌, IfOk, List, None, Some, length, map, reverse, suc, true};
-ghost use Rattle.ffi3_type_rules.specs.Signature.{signature_at};
-ghost use Rattle.ffi3_type_rules.specs.Tree.{trees_of};
-ghost use Rattle.ffi3_type_rules.specs.Value.{all_fit, values_of};
-ghost use Rattle.ffi3_place_rules.specs.declared.Loc.{Loc};
+//! The runner: what a run is prepared with, and its board.
+ghost use Rattle.std.specs.Prelude.{◌≡◌, ◌<◌, ◌≤◌, ◌^◌, IfOk, List, None, length, map};
+ghost use Rattle.ffi3_type_rules.specs.Value.{void_value};
 ghost use Rattle.ffi3_place_rules.specs.Event.{Event};
-ghost use Rattle.ffi3_run_rules.specs.Journal.{Entered};
-ghost use Rattle.ffi3_run_rules.specs.Move as asks;
+ghost use Rattle.ffi3_run_rules.specs.Lines.{untraced};
+ghost use Rattle.ffi3_run_rules.specs.Meaning.{meaning_of, returned, stopped};
 ghost use Rattle.ffi3_run_rules.specs.Trace.{TraceItem};
 ghost use Rattle.ffi3_turn_rules.specs.Left.{Left, as_main};
 ghost use Rattle.ffi3_turn_rules.specs.SoFar.{Base};
-ghost use Rattle.ffi3_script_rules.specs.Natives.{NamedNative};
 ghost use Rattle.ffi3_script.specs.ScriptOf.{natives_of};
-ghost use Rattle.ffi3_body.specs.MoveOf.{move_of};
-ghost use Rattle.ffi3_ask.specs.Asked.{IsAsked};
+ghost use Rattle.ffi3_machine.specs.State.{begun};
+ghost use Rattle.ffi3_io.specs.Sink.{Rose};
 ghost use Rattle.ffi3_ask.specs.Handed.{handed_in, signatures_in};
-ghost use Rattle.ffi3_ask.specs.Stands.{StandingAgrees};
-ghost use Rattle.ffi3_script_body.specs.Agrees.{one_more};
-ghost use Rattle.ffi3_ask.specs.Stands as ask;
-ghost use Rattle.ffi3_board.specs.Between.{Beginning, IsAsking, moment};
-ghost use Rattle.ffi3_board.specs.Path.{call_inside, calls_of};
-ghost use Rattle.ffi3_board.specs.Stack.{HoldsCalls};
+ghost use Rattle.ffi3_board.specs.Between.{Beginning};
 ghost use Rattle.ffi3_board.specs.Turned.{StandsAt, Turned};
-ghost use Rattle.ffi3_runner.specs.Agreeing.{AllStand, AllWillStand, IsStanding, WillStand, seen_by};
+ghost use Rattle.ffi3_runner.specs.Agreeing.{AllStand};
+ghost use Rattle.ffi3_runner.specs.RunMatches.{RunMatches, WrotePart};
 ghost use Rattle.ffi3_runner.specs.Running.{IsNew, IsPrepared, program};
 
-use crate::asked::{asked_by_callee, asked_by_main};
-use crate::prepare::prepare_all;
-use ffi3_ask::{Move, Native, Standing};
-use ffi3_board::{Activation, Board, Cifs, Table, Turn};
+use crate::prepare::{Prepared, prepare_all};
+use crate::run::RunEnd;
+use ffi3_ask::{Native, Standing};
+use ffi3_board::{Activation, Board, Table, Turn, Who};
 use ffi3_io::Sink;
 use ffi3_machine::Machine;
 use ffi3_place::Abi;
@@ -41,10 +33,7 @@ use std::alloc::Global;
 /// A run of a script beside natives, by the calling standard `A`, one move at a time.
 #[derive(Drop)]
 pub struct Runner<'a, A: Abi> {
-    pub(crate) alloc: Global,
-    pub(crate) script: &'a Script,
-    pub(crate) natives: &'a Vec<Box<dyn Native>>,
-    pub(crate) cifs: Cifs<A>,
+    pub(crate) prepared: Prepared<'a, A>,
     pub(crate) board: Board<Standing>,
 }
 
@@ -58,16 +47,18 @@ impl<'a, A: Abi> Runner<'a, A> {
         requires beside { natives_of script.now ≤ length natives.now.items }
         requires few_natives { length natives.now.items < 2 ^ 31 }
         requires few_signatures { length (signatures_in (map (λ b. handed_in (title b) (meaning b) (signatures b)) natives.now.items)) < 2 ^ 31 }
-        ensures prepared { IfOk result (λ r. IsPrepared A.standard script.now (map (λ b. handed_in (title b) (meaning b) (signatures b)) natives.now.items) r.cifs) }
+        ensures prepared { IfOk result (λ r. IsPrepared A.standard script.now (map (λ b. handed_in (title b) (meaning b) (signatures b)) natives.now.items) r.prepared.cifs) }
         ensures new { IfOk result (λ r. IsNew r.board) }
-        ensures script { IfOk result (λ r. r.script.now ≡ script.now) }
-        ensures natives { IfOk result (λ r. r.natives.now ≡ natives.now) }
+        ensures script { IfOk result (λ r. r.prepared.script.now ≡ script.now) }
+        ensures natives { IfOk result (λ r. r.prepared.natives.now ≡ natives.now) }
     {
         Ok(Runner {
-            alloc,
-            script,
-            natives,
-            cifs: prepare_all::<A>(alloc, script, natives)?,
+            prepared: Prepared {
+                alloc,
+                script,
+                natives,
+                cifs: prepare_all::<A>(alloc, script, natives)?,
+            },
             board: Board {
                 innermost: None,
                 suspended: Vec::new(alloc),
@@ -90,84 +81,57 @@ impl<'a, A: Abi> Runner<'a, A> {
         self.board.moves
     }
 
-    // The move that the innermost activation asks for.
-    pub(crate) fn asked(
-        &self,
-        machine: &Machine,
-        current: &mut Activation<Standing>,
-    ) -> Result<Move, NoMemory>
-        requires prepared { IsPrepared A.standard self.now.script.now (map (λ b. handed_in (title b) (meaning b) (signatures b)) self.now.natives.now.items) self.now.cifs }
-        requires main { self.now.board.served ≡ None }
-        requires holds { (held : Loc → ℕ) × (top : ℕ) × (entered : List Entered) ×
-            HoldsCalls A.standard self.now.cifs held top machine.now (calls_of self.now.board.served (reverse self.now.board.suspended.items)) entered }
-        requires stands { IsStanding self.now.script.now (map (λ b. handed_in (title b) (meaning b) (signatures b)) self.now.natives.now.items) self.now.cifs machine.now
-            (call_inside self.now.board.served (reverse self.now.board.suspended.items)) current.old }
-        ensures asked { let handed : List NamedNative = map (λ b. handed_in (title b) (meaning b) (signatures b)) self.now.natives.now.items in
-            let call = call_inside self.now.board.served (reverse self.now.board.suspended.items) in
-            IfOk result
-            (λ m. IsAsked (program A.standard self.now.script.now handed) (ask.who_of current.old.standing) (seen_by self.now.cifs machine.now call current.old)
-            (λ r. StandingAgrees self.now.script.now handed (one_more (seen_by self.now.cifs machine.now call current.old) r) current.new.standing) (move_of m)) }
-        ensures who { ask.who_of current.new.standing ≡ ask.who_of current.old.standing }
-        ensures same { current.new ≡ record current.old { standing = current.new.standing } }
+    /// Does one move of the innermost activation. It is counted, and none is asked for where none
+    /// is left.
+    pub fn turn<O: Sink>(&mut self, machine: &mut Machine, output: &mut O) -> Turn
+        requires prepared { IsPrepared A.standard self.old.prepared.script.now (map (λ b. handed_in (title b) (meaning b) (signatures b)) self.old.prepared.natives.now.items) self.old.prepared.cifs }
+        requires main { self.old.board.served ≡ None }
+        requires standing { AllStand self.old.prepared.script.now (map (λ b. handed_in (title b) (meaning b) (signatures b)) self.old.prepared.natives.now.items) self.old.prepared.cifs machine.old self.old.board }
+        requires between { (base : Base) × (all : Left) × (first : Beginning) × (own : List TraceItem) × (events : List Event) ×
+            (base.standard ≡ A.standard) × (base.bottom ≡ as_main) ×
+            StandsAt (program A.standard self.old.prepared.script.now (map (λ b. handed_in (title b) (meaning b) (signatures b)) self.old.prepared.natives.now.items)) base all first own events self.old.board machine.old (O.state output.old) }
+        ensures turned { let p = program A.standard self.old.prepared.script.now (map (λ b. handed_in (title b) (meaning b) (signatures b)) self.old.prepared.natives.now.items) in
+            (base : Base) (all : Left) (first : Beginning) (own : List TraceItem) (events : List Event) →
+            base.standard ≡ A.standard → base.bottom ≡ as_main →
+            StandsAt p base all first own events self.old.board machine.old (O.state output.old) →
+            Turned p base all first own self.old.board.moves self.new.board machine.new (O.state output.new) result }
+        ensures standing { result ≡ Turn.More →
+            AllStand self.old.prepared.script.now (map (λ b. handed_in (title b) (meaning b) (signatures b)) self.old.prepared.natives.now.items) self.old.prepared.cifs machine.new self.new.board }
+        ensures main { result ≡ Turn.More → self.new.board.served ≡ None }
+        ensures prepared { self.new.prepared ≡ self.old.prepared }
     {
-        match self.board.suspended.last() {
-            None => asked_by_main(self.alloc, self.script, self.natives, current),
-            Some(waiting) => asked_by_callee(
-                self.alloc,
-                self.script,
-                self.natives,
-                machine,
-                &self.cifs,
-                &waiting.call,
-                current,
-            ),
-        }
+        self.prepared.turn(&mut self.board, machine, output)
     }
 
-    // Calls a closure, or stops the run there.
-    pub(crate) fn call<O: Sink>(
-        &mut self,
-        machine: &mut Machine,
-        output: &mut O,
-        current: Activation<Standing>,
-        ptr: u64,
-        sig: u32,
-        args: &Values,
-    ) -> Turn
-        requires prepared { IsPrepared A.standard self.old.script.now (map (λ b. handed_in (title b) (meaning b) (signatures b)) self.old.natives.now.items) self.old.cifs }
-        requires site { sig < length self.old.cifs }
-        requires fit { all_fit (trees_of (signature_at self.old.cifs sig).arguments) (values_of args.now) ≡ true }
-        requires others { AllWillStand self.old.script.now (map (λ b. handed_in (title b) (meaning b) (signatures b)) self.old.natives.now.items) self.old.cifs machine.old
-            self.old.board.served (reverse self.old.board.suspended.items) }
-        requires will { WillStand self.old.script.now (map (λ b. handed_in (title b) (meaning b) (signatures b)) self.old.natives.now.items) self.old.cifs machine.old
-            (call_inside self.old.board.served (reverse self.old.board.suspended.items)) current (signature_at self.old.cifs sig) }
-        requires asking { let p = program A.standard self.old.script.now (map (λ b. handed_in (title b) (meaning b) (signatures b)) self.old.natives.now.items) in
-            (base : Base) × (all : Left) × (first : Beginning) × (own : List TraceItem) × (events : List Event) ×
-            (base.standard ≡ A.standard) ×
-            IsAsking p base all first own events (moment p.signatures current self.old.board machine.old (O.state output.old)) (asks.call ptr sig args.now) }
-        ensures turned { let p = program A.standard self.old.script.now (map (λ b. handed_in (title b) (meaning b) (signatures b)) self.old.natives.now.items) in
-            (base : Base) (all : Left) (first : Beginning) (own : List TraceItem) (events : List Event) →
-            base.standard ≡ A.standard →
-            IsAsking p base all first own events (moment p.signatures current self.old.board machine.old (O.state output.old)) (asks.call ptr sig args.now) →
-            Turned p base all first own (suc self.old.board.moves) self.new.board machine.new (O.state output.new) result }
-        ensures standing { result ≡ Turn.More →
-            AllStand self.old.script.now (map (λ b. handed_in (title b) (meaning b) (signatures b)) self.old.natives.now.items) self.old.cifs machine.new self.new.board }
-        ensures main { result ≡ Turn.More → self.new.board.served ≡ self.old.board.served }
-        ensures script { self.new.script.now ≡ self.old.script.now }
-        ensures natives { self.new.natives.now ≡ self.old.natives.now }
-        ensures cifs { self.new.cifs ≡ self.old.cifs }
+    /// Runs main to its end, on a machine as it begins for the standard's target. Each line is
+    /// handed to the output before the next move.
+    pub fn run_main<O: Sink>(&mut self, machine: &mut Machine, output: &mut O) -> RunEnd
+        requires prepared { IsPrepared A.standard self.old.prepared.script.now (map (λ b. handed_in (title b) (meaning b) (signatures b)) self.old.prepared.natives.now.items) self.old.prepared.cifs }
+        requires new { IsNew self.old.board }
+        requires begun { machine.old ≡ begun A.TARGET machine.old.spare_events machine.old.spare_bytes }
+        ensures done { result ≡ RunEnd.Done →
+            RunMatches untraced A.standard (program A.standard self.old.prepared.script.now (map (λ b. handed_in (title b) (meaning b) (signatures b)) self.old.prepared.natives.now.items))
+            (O.state output.old) (O.state output.new) machine.new }
+        ensures returns { result ≡ RunEnd.Done →
+            (meaning_of (program A.standard self.old.prepared.script.now (map (λ b. handed_in (title b) (meaning b) (signatures b)) self.old.prepared.natives.now.items))).end ≡ returned void_value }
+        ensures stopped { (stop : Stop) → result ≡ RunEnd.Stopped stop →
+            RunMatches untraced A.standard (program A.standard self.old.prepared.script.now (map (λ b. handed_in (title b) (meaning b) (signatures b)) self.old.prepared.natives.now.items))
+            (O.state output.old) (O.state output.new) machine.new }
+        ensures stops { (stop : Stop) → result ≡ RunEnd.Stopped stop →
+            (meaning_of (program A.standard self.old.prepared.script.now (map (λ b. handed_in (title b) (meaning b) (signatures b)) self.old.prepared.natives.now.items))).end ≡ stopped stop }
+        ensures no_memory { result ≡ RunEnd.NoMemory → (O.state output.new).faults ≡ (O.state output.old).faults }
+        ensures failed { result ≡ RunEnd.Failed → Rose (O.state output.old).faults (O.state output.new).faults }
+        ensures never_falls { (O.state output.old).faults ≤ (O.state output.new).faults }
+        ensures part { WrotePart untraced (program A.standard self.old.prepared.script.now (map (λ b. handed_in (title b) (meaning b) (signatures b)) self.old.prepared.natives.now.items))
+            (O.state output.old) (O.state output.new) }
     {
-        let closure = match self.board.callee(machine, &self.cifs, ptr, sig) {
-            Ok(closure) => closure,
-            Err(why) => {
-                let alloc = self.alloc;
-                return self.board.stop_for(alloc, output, &self.cifs, current, why);
-            }
-        };
-        let standing = Standing::in_function(self.alloc, self.script, self.natives, closure.func);
-        let alloc = self.alloc;
-        self.board.enter(
-            alloc, machine, &self.cifs, current, closure, standing, ptr, sig, args,
-        )
+        let alloc = self.prepared.alloc;
+        self.board.innermost = Some(Activation {
+            who: Who::Main,
+            standing: Standing::in_main(alloc, self.prepared.script),
+            user: 0,
+            results: Values::new(alloc),
+        });
+        self.prepared.run_on(&mut self.board, machine, output)
     }
 }

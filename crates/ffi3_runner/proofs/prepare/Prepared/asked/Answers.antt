@@ -7,11 +7,11 @@ use Rattle.ffi3_board.specs.Path.{call_inside}
 use Rattle.ffi3_runner.specs.Agreeing.{seen_by, seen_by_callee, seen_by_main}
 use Rattle.ffi3_runner.proofs.Last.{block_high, block_low, last_call, last_none}
 use Rattle.ffi3_runner.proofs.Numbers.{asked_as}
-use Rattle.ffi3_runner.proofs.runner.Runner.asked.Goals as goal
+use Rattle.ffi3_runner.proofs.prepare.Prepared.asked.Goals as goal
 
 pub asked_by_callee-requires-clause-below : goal.asked_by_callee-requires-clause-below
 asked_by_callee-requires-clause-below g c =
-    let b = c.args.self.now.board in
+    let b = c.args.board.now in
     let w = c.in-Some.waiting.now in
     let t = c.requires.holds in
     let last = last_call g.A.Abi.standard c.args.self.now.cifs t.0 t.1 c.args.machine.now t.2 b.served c.deref.result.now b.suspended.items w c.deref.ensures.value c.in-Some.ensures.value t.3 in
@@ -19,7 +19,7 @@ asked_by_callee-requires-clause-below g c =
 
 pub asked_by_callee-requires-clause-block : goal.asked_by_callee-requires-clause-block
 asked_by_callee-requires-clause-block g c =
-    let b = c.args.self.now.board in
+    let b = c.args.board.now in
     let w = c.in-Some.waiting.now in
     let t = c.requires.holds in
     let last = last_call g.A.Abi.standard c.args.self.now.cifs t.0 t.1 c.args.machine.now t.2 b.served c.deref.result.now b.suspended.items w c.deref.ensures.value c.in-Some.ensures.value t.3 in
@@ -27,7 +27,7 @@ asked_by_callee-requires-clause-block g c =
 
 pub asked_by_callee-requires-clause-low : goal.asked_by_callee-requires-clause-low
 asked_by_callee-requires-clause-low g c =
-    let b = c.args.self.now.board in
+    let b = c.args.board.now in
     let w = c.in-Some.waiting.now in
     let t = c.requires.holds in
     let last = last_call g.A.Abi.standard c.args.self.now.cifs t.0 t.1 c.args.machine.now t.2 b.served c.deref.result.now b.suspended.items w c.deref.ensures.value c.in-Some.ensures.value t.3 in
@@ -35,7 +35,7 @@ asked_by_callee-requires-clause-low g c =
 
 pub asked_by_callee-requires-clause-high : goal.asked_by_callee-requires-clause-high
 asked_by_callee-requires-clause-high g c =
-    let b = c.args.self.now.board in
+    let b = c.args.board.now in
     let w = c.in-Some.waiting.now in
     let t = c.requires.holds in
     let last = last_call g.A.Abi.standard c.args.self.now.cifs t.0 t.1 c.args.machine.now t.2 b.served c.deref.result.now b.suspended.items w c.deref.ensures.value c.in-Some.ensures.value t.3 in
@@ -43,7 +43,7 @@ asked_by_callee-requires-clause-high g c =
 
 pub returns-in-None-clause-asked : goal.returns-in-None-clause-asked
 returns-in-None-clause-asked g c =
-    let b = c.args.self.now.board in
+    let b = c.args.board.now in
     let a = c.args.current.now in
     let cifs = c.args.self.now.cifs in
     let m = c.args.machine.now in
@@ -53,7 +53,7 @@ returns-in-None-clause-asked g c =
 
 pub returns-in-Some-clause-asked : goal.returns-in-Some-clause-asked
 returns-in-Some-clause-asked g c =
-    let b = c.args.self.now.board in
+    let b = c.args.board.now in
     let a = c.args.current.now in
     let cifs = c.args.self.now.cifs in
     let m = c.args.machine.now in

@@ -1,6 +1,6 @@
 use Rattle.std.proofs.Common.{◌≡◌, ℕ, suc, ◌-◌, ◌++◌, ◌<◌, true, List, length, reverse, Option, Some, refl, sym, ap, ◌∙◌, subst, rules, arith}
 use Rattle.std.proofs.lemmas.List.{length-map}
-use Rattle.ffi3_type_rules.specs.Signature.{Signature}
+use Rattle.ffi3_type_rules.specs.Signature.{Signature, signature_at}
 use Rattle.ffi3_type_rules.specs.Tree.{Tree}
 use Rattle.ffi3_type_rules.specs.Value.{ValueTree, void_value, fits}
 use Rattle.ffi3_types.specs.TreeOf.{tree_of}
@@ -17,12 +17,12 @@ use Rattle.ffi3_board.proofs.Blocks.{blocks_above}
 use Rattle.ffi3_board.proofs.Moving.{cut_between}
 use Rattle.ffi3_runner.proofs.Agreed.{went_stands, returned_stands}
 use Rattle.ffi3_runner.proofs.Numbers.{func_below}
-use Rattle.ffi3_runner.proofs.Turning.{after_stands, asks_move, between_of, innermost_stands, later, move_fits, never_more, returns_type, short_by_few, turned_as, went_on}
-use Rattle.ffi3_runner.proofs.runner.Runner.turn.Goals as goal
+use Rattle.ffi3_runner.proofs.Turning.{after_stands, asks_move, between_of, innermost_stands, later, move_fits, never_more, returns_type, short_by_few, turned_as, went_on, will_stand}
+use Rattle.ffi3_runner.proofs.prepare.Prepared.turn.Goals as goal
 
 pub returns-then-self-eq0-clause-turned : goal.returns-then-self-eq0-clause-turned
 returns-then-self-eq0-clause-turned g c = λ base all first own events standard main h.
-    let b = c.args.self.now.board in
+    let b = c.args.board.now in
     let a = c.in-Some.current in
     let m = c.args.machine.now in
     let is : b.innermost ≡ Some a = search rules in
@@ -31,7 +31,7 @@ returns-then-self-eq0-clause-turned g c = λ base all first own events standard 
 
 pub returns-then-self-eq0-clause-standing : goal.returns-then-self-eq0-clause-standing
 returns-then-self-eq0-clause-standing g c = λ more.
-    let b = c.args.self.now.board in
+    let b = c.args.board.now in
     let a = c.in-Some.current in
     let m = c.args.machine.now in
     let t = c.requires.between in
@@ -41,7 +41,7 @@ returns-then-self-eq0-clause-standing g c = λ more.
 
 pub returns-then-self-eq0-clause-main : goal.returns-then-self-eq0-clause-main
 returns-then-self-eq0-clause-main g c = λ more.
-    let b = c.args.self.now.board in
+    let b = c.args.board.now in
     let a = c.in-Some.current in
     let m = c.args.machine.now in
     let t = c.requires.between in
@@ -51,7 +51,7 @@ returns-then-self-eq0-clause-main g c = λ more.
 
 pub returns-in_default-asked-clause-turned : goal.returns-in_default-asked-clause-turned
 returns-in_default-asked-clause-turned g c = λ base all first own events standard main h.
-    let b = c.args.self.now.board in
+    let b = c.args.board.now in
     let a = c.in-Some.current in
     let m = c.args.machine.now in
     let o = g.O.Sink.state c.args.output.now in
@@ -60,7 +60,7 @@ returns-in_default-asked-clause-turned g c = λ base all first own events standa
 
 pub sig_of-sig-requires-clause-below : goal.sig_of-sig-requires-clause-below
 sig_of-sig-requires-clause-below g c =
-    let b = c.args.self.now.board in
+    let b = c.args.board.now in
     let a = c.in-Some.current in
     let z = c.asked.new.current in
     let m = c.args.machine.now in
@@ -71,7 +71,7 @@ sig_of-sig-requires-clause-below g c =
 
 pub call-requires-clause-asking : goal.call-requires-clause-asking
 call-requires-clause-asking g c =
-    let b = c.args.self.now.board in
+    let b = c.args.board.now in
     let a = c.in-Some.current in
     let z = c.asked.new.current in
     let m = c.args.machine.now in
@@ -86,7 +86,7 @@ call-requires-clause-asking g c =
 
 pub leave-requires-clause-few : goal.leave-requires-clause-few
 leave-requires-clause-few g c =
-    let b = c.args.self.now.board in
+    let b = c.args.board.now in
     let a = c.in-Some.current in
     let m = c.args.machine.now in
     let t = c.requires.between in
@@ -96,7 +96,7 @@ leave-requires-clause-few g c =
 
 pub returns-in-Print-clause-turned : goal.returns-in-Print-clause-turned
 returns-in-Print-clause-turned g c = λ base all first own events standard main h.
-    let b = c.args.self.now.board in
+    let b = c.args.board.now in
     let a = c.in-Some.current in
     let z = c.asked.new.current in
     let m = c.args.machine.now in
@@ -115,7 +115,7 @@ returns-in-Print-clause-main g c = λ more.
 
 pub returns-in-Make-clause-turned : goal.returns-in-Make-clause-turned
 returns-in-Make-clause-turned g c = λ base all first own events standard main h.
-    let b = c.args.self.now.board in
+    let b = c.args.board.now in
     let a = c.in-Some.current in
     let z = c.asked.new.current in
     let m = c.args.machine.now in
@@ -131,7 +131,7 @@ returns-in-Make-clause-turned g c = λ base all first own events standard main h
 
 pub returns-in-Make-clause-standing : goal.returns-in-Make-clause-standing
 returns-in-Make-clause-standing g c = λ more.
-    let b = c.args.self.now.board in
+    let b = c.args.board.now in
     let a = c.in-Some.current in
     let z = c.asked.new.current in
     let m = c.args.machine.now in
@@ -153,7 +153,7 @@ returns-in-Make-clause-main g c = λ more.
 
 pub returns-in-Free-clause-turned : goal.returns-in-Free-clause-turned
 returns-in-Free-clause-turned g c = λ base all first own events standard main h.
-    let b = c.args.self.now.board in
+    let b = c.args.board.now in
     let a = c.in-Some.current in
     let z = c.asked.new.current in
     let m = c.args.machine.now in
@@ -168,7 +168,7 @@ returns-in-Free-clause-turned g c = λ base all first own events standard main h
 
 pub returns-in-Free-clause-standing : goal.returns-in-Free-clause-standing
 returns-in-Free-clause-standing g c = λ more.
-    let b = c.args.self.now.board in
+    let b = c.args.board.now in
     let a = c.in-Some.current in
     let z = c.asked.new.current in
     let m = c.args.machine.now in
@@ -189,7 +189,7 @@ returns-in-Free-clause-main g c = λ more.
 
 pub returns-in-Call-clause-turned : goal.returns-in-Call-clause-turned
 returns-in-Call-clause-turned g c = λ base all first own events standard main h.
-    let b = c.args.self.now.board in
+    let b = c.args.board.now in
     let a = c.in-Some.current in
     let z = c.asked.new.current in
     let m = c.args.machine.now in
@@ -200,11 +200,11 @@ returns-in-Call-clause-turned g c = λ base all first own events standard main h
     let is : b.innermost ≡ Some a = search rules in
     let counted : b.moves ≡ suc (b.moves - 1) = omega arith in
     let asking = asks_move std s _ cifs c.requires.prepared b m o a z c.take.new.self (b.moves - 1) is counted c.requires.standing c.asked.ensures.same _ (move_of c.in-Ok.asked) (call c.in-Call.ptr c.in-Call.sig c.in-Call.args) c.in-Ok.ensures.asked (ap move_of c.in-Call.is) base all first own events h in
-    turned_as _ base all first own (suc (b.moves - 1)) b.moves c.call.new.self.board c.call.new.machine (g.O.Sink.state c.call.new.output) c.call.result (sym counted) (c.call.ensures.turned base all first own events standard asking)
+    turned_as _ base all first own (suc (b.moves - 1)) b.moves c.call.new.board c.call.new.machine (g.O.Sink.state c.call.new.output) c.call.result (sym counted) (c.call.ensures.turned base all first own events standard asking)
 
 pub returns-in-Return-clause-turned : goal.returns-in-Return-clause-turned
 returns-in-Return-clause-turned g c = λ base all first own events standard main h.
-    let b = c.args.self.now.board in
+    let b = c.args.board.now in
     let a = c.in-Some.current in
     let z = c.asked.new.current in
     let m = c.args.machine.now in
@@ -214,12 +214,12 @@ returns-in-Return-clause-turned g c = λ base all first own events standard main
     let cifs = c.args.self.now.cifs in
     let is : b.innermost ≡ Some a = search rules in
     let counted : b.moves ≡ suc (b.moves - 1) = omega arith in
-    let asking = asks_move std s _ cifs c.requires.prepared b m o a z c.take.new.self (b.moves - 1) is counted c.requires.standing c.asked.ensures.same _ (move_of c.in-Ok.asked) (return (value_of c.in-Return.field-0)) c.in-Ok.ensures.asked (ap move_of c.in-Return.is) base all first own events h in
+    let asking = asks_move std s _ cifs c.requires.prepared b m o a z c.take.new.self (b.moves - 1) is counted c.requires.standing c.asked.ensures.same _ (move_of c.in-Ok.asked) (return (value_of c.in-Return.value)) c.in-Ok.ensures.asked (ap move_of c.in-Return.is) base all first own events h in
     turned_as _ base all first own (suc (b.moves - 1)) b.moves c.leave.new.self c.leave.new.machine o c.leave.result (sym counted) (c.leave.ensures.turned _ base all first own events o z standard main c.requires.main (sym c.requires.prepared.are) asking)
 
 pub returns-in-Return-clause-standing : goal.returns-in-Return-clause-standing
 returns-in-Return-clause-standing g c = λ more.
-    let b = c.args.self.now.board in
+    let b = c.args.board.now in
     let a = c.in-Some.current in
     let z = c.asked.new.current in
     let m = c.args.machine.now in
@@ -229,18 +229,50 @@ returns-in-Return-clause-standing g c = λ more.
     let cifs = c.args.self.now.cifs in
     let is : b.innermost ≡ Some a = search rules in
     let counted : b.moves ≡ suc (b.moves - 1) = omega arith in
-    let v = value_of c.in-Return.field-0 in
+    let v = value_of c.in-Return.value in
     let t = c.requires.between in
-    let asking = asks_move std s _ cifs c.requires.prepared b m o a z c.take.new.self (b.moves - 1) is counted c.requires.standing c.asked.ensures.same _ (move_of c.in-Ok.asked) (return (value_of c.in-Return.field-0)) c.in-Ok.ensures.asked (ap move_of c.in-Return.is) t.0 t.1 t.2 t.3 t.4 t.7 in
+    let asking = asks_move std s _ cifs c.requires.prepared b m o a z c.take.new.self (b.moves - 1) is counted c.requires.standing c.asked.ensures.same _ (move_of c.in-Ok.asked) (return (value_of c.in-Return.value)) c.in-Ok.ensures.asked (ap move_of c.in-Return.is) t.0 t.1 t.2 t.3 t.4 t.7 in
     let turned = c.leave.ensures.turned _ t.0 t.1 t.2 t.3 t.4 o z t.5 t.6 c.requires.main (sym c.requires.prepared.are) asking in
     let went = went_on _ t.0 t.1 t.2 t.3 (suc (b.moves - 1)) c.leave.new.self c.leave.new.machine o c.leave.result turned more in
     let gone = c.leave.ensures.goes more in
     let between = between_of _ t.0 t.1 t.2 (t.3 ++ went.more) went.events c.leave.new.self (and_result gone.waited.activation v) c.leave.new.machine o gone.innermost went.stands in
     let above = blocks_above t.0.standard _ t.0.held t.0.top c.leave.new.machine c.leave.new.machine.sp _ _ c.leave.new.machine.sp (omega arith) between.calls.stand in
-    let it = move_fits std s _ cifs c.requires.prepared b m o a z c.take.new.self (b.moves - 1) is counted c.requires.standing c.asked.ensures.same _ (move_of c.in-Ok.asked) (return (value_of c.in-Return.field-0)) c.in-Ok.ensures.asked (ap move_of c.in-Return.is) in
+    let it = move_fits std s _ cifs c.requires.prepared b m o a z c.take.new.self (b.moves - 1) is counted c.requires.standing c.asked.ensures.same _ (move_of c.in-Ok.asked) (return (value_of c.in-Return.value)) c.in-Ok.ensures.asked (ap move_of c.in-Return.is) in
     let typed = subst (λ (x : Tree). fits x v ≡ true) (returns_type cifs m (call_inside b.served (reverse b.suspended.items)) a) it in
     returned_stands s _ cifs m c.leave.new.machine c.leave.new.machine.sp (c.leave.ensures.above more) (record b { innermost = c.take.new.self; moves = b.moves - 1 }) c.leave.new.self v gone above c.requires.standing.others typed
 
 pub returns-in-Return-clause-main : goal.returns-in-Return-clause-main
 returns-in-Return-clause-main g c = λ more.
     (c.leave.ensures.goes more).served ∙ c.requires.main
+
+pub call-requires-clause-will : goal.call-requires-clause-will
+call-requires-clause-will g c =
+    let b = c.args.board.now in
+    let a = c.in-Some.current in
+    let z = c.asked.new.current in
+    let m = c.args.machine.now in
+    let o = g.O.Sink.state c.args.output.now in
+    let std = g.A.Abi.standard in
+    let s = c.args.self.now.script.now in
+    let cifs = c.args.self.now.cifs in
+    let is : b.innermost ≡ Some a = search rules in
+    let counted : b.moves ≡ suc (b.moves - 1) = omega arith in
+    let stood = innermost_stands s _ cifs m b a is c.requires.standing in
+    will_stand s _ cifs m (call_inside b.served (reverse b.suspended.items)) a z (signature_at cifs c.in-Call.sig) c.asked.ensures.same stood.who c.asked.ensures.who (λ r it. later std s _ cifs c.requires.prepared b m o a z c.take.new.self (b.moves - 1) is counted c.requires.standing c.asked.ensures.same _ (move_of c.in-Ok.asked) (call c.in-Call.ptr c.in-Call.sig c.in-Call.args) c.in-Ok.ensures.asked (ap move_of c.in-Call.is) r (subst (λ (l : List Signature). fits (signature_at l c.in-Call.sig).result_type r ≡ true) c.requires.prepared.are it))
+
+pub returns-in-Print-clause-standing : goal.returns-in-Print-clause-standing
+returns-in-Print-clause-standing g c = λ more.
+    let b = c.args.board.now in
+    let a = c.in-Some.current in
+    let z = c.asked.new.current in
+    let m = c.args.machine.now in
+    let o = g.O.Sink.state c.args.output.now in
+    let std = g.A.Abi.standard in
+    let s = c.args.self.now.script.now in
+    let cifs = c.args.self.now.cifs in
+    let is : b.innermost ≡ Some a = search rules in
+    let counted : b.moves ≡ suc (b.moves - 1) = omega arith in
+    let goes = c.print.ensures.goes more in
+    let stood = innermost_stands s _ cifs m b a is c.requires.standing in
+    let stands = after_stands s _ cifs m (call_inside b.served (reverse b.suspended.items)) a z void_value c.asked.ensures.same stood.who c.asked.ensures.who (later std s _ cifs c.requires.prepared b m o a z c.take.new.self (b.moves - 1) is counted c.requires.standing c.asked.ensures.same _ (move_of c.in-Ok.asked) (print (tree_of c.in-Print.ty) (value_of c.in-Print.value)) c.in-Ok.ensures.asked (ap move_of c.in-Print.is) void_value refl) in
+    went_stands s _ cifs m m b c.print.new.self (and_result z void_value) refl (ap (λ (x : Board Standing). x.innermost) goes) (ap (λ (x : Board Standing). x.served) goes) (ap (λ (x : Board Standing). x.suspended.items) goes) stands c.requires.standing.others
