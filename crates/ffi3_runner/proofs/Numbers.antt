@@ -1,7 +1,7 @@
 -- Moves that are asked for, by what is seen; and numbers of functions.
-use Rattle.std.proofs.lemmas.List.{take_more}
+use Rattle.std.proofs.lemmas.List.{take_all, take_more}
 use Rattle.ffi3_run_rules.specs.Move.{no_signature}
-use Rattle.std.proofs.Common.{◌≡◌, ℕ, ◌+◌, ◌<◌, List, [], ◌∷◌, ◌++◌, take, length, IfOk, Result, refl, sym, ap, ◌∙◌, subst, arith}
+use Rattle.std.proofs.Common.{◌≡◌, ℕ, ◌+◌, ◌<◌, ◌≤◌, List, [], ◌∷◌, ◌++◌, take, length, IfOk, Result, refl, sym, ap, ◌∙◌, subst, arith, length-append}
 use Rattle.std.specs.declared.alloc.AllocError.{AllocError}
 use Rattle.ffi3_type_rules.specs.Signature.{Signature, signature_at}
 use Rattle.ffi3_place_rules.specs.Standard.{Standard, need_of}
@@ -28,6 +28,7 @@ use Rattle.ffi3_turn_rules.specs.Left.{Left}
 use Rattle.ffi3_turn_rules.specs.SoFar.{Base}
 use Rattle.ffi3_board.specs.Between.{Beginning, Moment, IsAsking}
 use Rattle.ffi3_board.specs.Known.{LeadsTo}
+use Rattle.ffi3_ask.specs.Handed.{signatures_in}
 use Rattle.ffi3_runner.specs.Running.{program, IsPrepared}
 use Rattle.ffi3_runner.proofs.Turning.{count_of_functions}
 
@@ -59,3 +60,18 @@ prepared_more xs n cifs cifs' s below is same pushed =
 pub own_at : (std : Standard) (s : Script) (natives : List NamedNative) (cifs : List Signature) (prepared : IsPrepared std s natives cifs) (func sig own : ℕ) (z : SeenActivation) → own ≡ (function_at (program std s natives) func).signature → signature_at cifs sig ≡ signature_at cifs own → z.signature ≡ signature_at cifs sig → z.signature ≡ signature_at (program std s natives).signatures (function_at (program std s natives) func).signature
 own_at std s natives cifs prepared func sig own z known same site =
     own_is (program std s natives) cifs func sig own z prepared.are known same site
+
+-- an interface for each signature of a run
+module _ (std : Standard) (s : Script) (natives : List NamedNative) (n end : ℕ) (counted : end ≡ length (program std s natives).signatures) where
+  pub one_of_all : n < end → n < length (script_of s).signatures + length (signatures_in natives)
+  one_of_all below =
+      let sum : length (program std s natives).signatures ≡ length (script_of s).signatures + length (signatures_in natives) = length-append (script_of s).signatures (signatures_in natives) in
+      omega (arith, counted, sum, below)
+
+  pub more_cifs : (cifs cifs' : List Signature) (sig : Signature) → n < end → cifs ≡ take n ((script_of s).signatures ++ signatures_in natives) → sig ≡ signature_at (program std s natives).signatures n → cifs' ≡ cifs ++ sig ∷ [] → cifs' ≡ take (n + 1) ((script_of s).signatures ++ signatures_in natives)
+  more_cifs cifs cifs' sig below is same pushed =
+      prepared_more (program std s natives).signatures n cifs cifs' sig (subst (λ (k : ℕ). n < k) counted below) is same pushed
+
+  pub all_cifs : (cifs : List Signature) → end ≤ n → cifs ≡ take n ((script_of s).signatures ++ signatures_in natives) → cifs ≡ (program std s natives).signatures
+  all_cifs cifs past is =
+      is ∙ take_all n (program std s natives).signatures (subst (λ (k : ℕ). k ≤ n) counted past)

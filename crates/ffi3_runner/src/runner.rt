@@ -4,6 +4,7 @@ ghost use Rattle.ffi3_type_rules.specs.Value.{void_value};
 ghost use Rattle.ffi3_place_rules.specs.Event.{Event};
 ghost use Rattle.ffi3_run_rules.specs.Lines.{untraced};
 ghost use Rattle.ffi3_run_rules.specs.Meaning.{meaning_of, returned, stopped};
+ghost use Rattle.ffi3_run_rules.specs.declared.Stop.{Stop};
 ghost use Rattle.ffi3_run_rules.specs.Trace.{TraceItem};
 ghost use Rattle.ffi3_turn_rules.specs.Left.{Left, as_main};
 ghost use Rattle.ffi3_turn_rules.specs.SoFar.{Base};

@@ -20,17 +20,17 @@ use Rattle.ffi3_runner.proofs.Numbers.{func_below}
 use Rattle.ffi3_runner.proofs.Turning.{after_stands, asks_move, between_of, innermost_stands, later, move_fits, never_more, returns_type, short_by_few, turned_as, went_on, will_stand}
 use Rattle.ffi3_runner.proofs.prepare.Prepared.turn.Goals as goal
 
-pub returns-then-self-eq0-clause-turned : goal.returns-then-self-eq0-clause-turned
-returns-then-self-eq0-clause-turned g c = λ base all first own events standard main h.
+pub returns-then-board-eq0-clause-turned : goal.returns-then-board-eq0-clause-turned
+returns-then-board-eq0-clause-turned g c = λ base all first own events standard main h.
     let b = c.args.board.now in
     let a = c.in-Some.current in
     let m = c.args.machine.now in
     let is : b.innermost ≡ Some a = search rules in
     let between = between_of _ base all first own events b a m (g.O.Sink.state c.args.output.now) is h in
-    turned_as _ base all first own 0 b.moves c.stop_at_limit.new.self m (g.O.Sink.state c.stop_at_limit.new.output) c.stop_at_limit.result (sym c.if-self-eq0.true) (c.stop_at_limit.ensures _ base all first own events m (sym c.requires.prepared.are) between)
+    turned_as _ base all first own 0 b.moves c.stop_at_limit.new.self m (g.O.Sink.state c.stop_at_limit.new.output) c.stop_at_limit.result (sym c.if-board-eq0.true) (c.stop_at_limit.ensures _ base all first own events m (sym c.requires.prepared.are) between)
 
-pub returns-then-self-eq0-clause-standing : goal.returns-then-self-eq0-clause-standing
-returns-then-self-eq0-clause-standing g c = λ more.
+pub returns-then-board-eq0-clause-standing : goal.returns-then-board-eq0-clause-standing
+returns-then-board-eq0-clause-standing g c = λ more.
     let b = c.args.board.now in
     let a = c.in-Some.current in
     let m = c.args.machine.now in
@@ -39,8 +39,8 @@ returns-then-self-eq0-clause-standing g c = λ more.
     let between = between_of _ t.0 t.1 t.2 t.3 t.4 b a m (g.O.Sink.state c.args.output.now) is t.7 in
     absurd (never_more _ t.0 t.1 t.2 t.3 c.stop_at_limit.new.self m (g.O.Sink.state c.stop_at_limit.new.output) c.stop_at_limit.result (c.stop_at_limit.ensures _ t.0 t.1 t.2 t.3 t.4 m (sym c.requires.prepared.are) between) more)
 
-pub returns-then-self-eq0-clause-main : goal.returns-then-self-eq0-clause-main
-returns-then-self-eq0-clause-main g c = λ more.
+pub returns-then-board-eq0-clause-main : goal.returns-then-board-eq0-clause-main
+returns-then-board-eq0-clause-main g c = λ more.
     let b = c.args.board.now in
     let a = c.in-Some.current in
     let m = c.args.machine.now in
