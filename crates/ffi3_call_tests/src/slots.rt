@@ -1,14 +1,14 @@
 //! Calls of closures through their slots, on each target: what the callee has and what the caller loads is what was sent.
-ghost use Rattle.std.specs.Prelude.{◌≡◌, ◌+◌, IfOk, true};
-ghost use Rattle.ffi3_type_rules.specs.Layout.{size_of};
+ghost use Rattle.std.specs.Prelude.{◌≡◌, ◌<◌, IfOk, length, true};
 ghost use Rattle.ffi3_type_rules.specs.Tree.{trees_of};
 ghost use Rattle.ffi3_type_rules.specs.Value.{all_fit, fits, values_of};
 ghost use Rattle.ffi3_types.specs.TreeOf.{tree_of};
 ghost use Rattle.ffi3_values.specs.ValueOf.{value_of};
+ghost use Rattle.ffi3_callee.specs.Received.{IsIncoming};
 
 use ffi3_aapcs64::Aapcs64;
 use ffi3_amd64::Amd64;
-use ffi3_callee::arg;
+use ffi3_callee::{Incoming, arg};
 use ffi3_caller::room_for;
 use ffi3_cif::{Cif, prep_cif, prep_cif_var};
 use ffi3_closures::Table;
@@ -16,37 +16,118 @@ use ffi3_invoke::{begin_call, end_call};
 use ffi3_json::{Where, parse, read_signature};
 use ffi3_machine::{Machine, NoMemory};
 use ffi3_place::Abi;
-use ffi3_place::parts::{argument, result_type, size_of};
+use ffi3_place::parts::{argument, count_of, result_type, size_of};
 use ffi3_riscv::Riscv;
-use ffi3_types::{Bytes, FfiType, Sig, check_type};
+use ffi3_types::{Bytes, FfiType, Fields, Sig, check_type};
 use ffi3_values::{Value, Values, fits, value_from_bytes, value_text};
 use std::alloc::Global;
 use std::test::Fail;
 
-/// The interface of a signature, written as in a script.
-fn interface<A: Abi>(alloc: Global, text: &str) -> Result<Cif<A>, Fail> {
+/// Writes the argument that the callee has, with a space behind it.
+fn write_argument<A: Abi>(
+    alloc: Global,
+    machine: &Machine,
+    cif: &Cif<A>,
+    incoming: &Incoming,
+    i: u32,
+    text: &mut Bytes,
+) -> Result<(), NoMemory>
+    requires within { i < length cif.now.arguments }
+    requires incoming { IsIncoming A.standard cif.now incoming.now }
+{
+    let sig = cif.sig();
+    let ty = argument(sig, i);
+    let bytes = arg(machine, cif, incoming, i);
+    let value = value_from_bytes(alloc, ty, bytes)?;
+    text.extend(value_text(alloc, ty, &value)?.as_slice())?;
+    text.push(b' ')
+}
+
+/// Writes all of them.
+fn write_arguments<A: Abi>(
+    alloc: Global,
+    machine: &Machine,
+    cif: &Cif<A>,
+    incoming: &Incoming,
+    text: &mut Bytes,
+) -> Result<(), NoMemory>
+    requires { IsIncoming A.standard cif.now incoming.now }
+{
+    let sig = cif.sig();
+    for i in 0..count_of(sig) {
+        write_argument(alloc, machine, cif, incoming, i, text)?;
+    }
+    Ok(())
+}
+
+/// A call of a closure from a machine that begins: the texts of the arguments that the callee has, and of the result.
+fn told<A: Abi>(alloc: Global, cif: &Cif<A>, args: &Values, outcome: &Value) -> Result<Bytes, Fail>
+    requires fit { all_fit (trees_of cif.now.arguments) (values_of args.now) ≡ true }
+    requires fits { fits cif.now.result_type (value_of outcome.now) ≡ true }
+{
+    let mut machine = Machine::new(alloc)?;
+    machine.begin(A::TARGET);
+    let mut table = Table::new();
+    let Ok(ptr) = table.make(&mut machine, 0, 0, 7) else {
+        return Err("no slot".into());
+    };
+    let Some(_) = table.find(ptr) else {
+        return Err("no closure".into());
+    };
+    if let Err(_) = room_for(&machine, cif) {
+        return Err("no room".into());
+    }
+    let bytes = A::LINK + cif.frame();
+    machine.journal_room(bytes)?;
+    let sp = machine.sp();
+    let incoming = begin_call(&mut machine, &table, cif, args, ptr);
+    let mut text = Bytes::new(alloc);
+    write_arguments(alloc, &machine, cif, &incoming, &mut text)?;
+    let sig = cif.sig();
+    let ty = result_type(sig);
+    let mut room = [0; 1024];
+    let out = &mut room[..size_of(ty) as usize];
+    end_call(&mut machine, cif, incoming, outcome, out);
+    if machine.sp() != sp || machine.events().len() != 2 {
+        return Err("not back".into());
+    }
+    let value = value_from_bytes(alloc, ty, out)?;
+    text.extend(value_text(alloc, ty, &value)?.as_slice())?;
+    Ok(text)
+}
+
+/// The signature that a script would write so.
+fn signature(alloc: Global, text: &str) -> Result<Sig, Fail> {
     let Ok(json) = parse(alloc, text.as_bytes()) else {
         return Err("no JSON".into());
     };
     let Ok(sig) = read_signature(alloc, &json, &Where::new(alloc)) else {
         return Err("no signature".into());
     };
-    let ret = sig.ret().copy(alloc)?;
-    let args = sig.args().copy(alloc)?;
-    let cif = match sig.fixed() {
-        None => prep_cif::<A>(alloc, ret, args),
-        Some(fixed) => prep_cif_var::<A>(alloc, ret, args, fixed),
+    Ok(sig)
+}
+
+/// The interface of a signature of these types.
+fn interface<A: Abi>(
+    alloc: Global,
+    ret: FfiType,
+    types: Fields,
+    fixed: Option<u32>,
+) -> Result<Cif<A>, Fail>
+    ensures { IfOk result (λ c. c ≡ record { result_type = tree_of ret; arguments = types; fixed = fixed }) }
+{
+    let prepared = match fixed {
+        None => prep_cif::<A>(alloc, ret, types),
+        Some(fixed) => prep_cif_var::<A>(alloc, ret, types, fixed),
     };
-    match cif {
-        Ok(cif) => Ok(cif),
-        Err(_) => Err("a fault".into()),
-    }
+    let Ok(cif) = prepared else {
+        return Err("a fault".into());
+    };
+    Ok(cif)
 }
 
 /// A value of the type, in whose bytes a number and those after it stand.
-fn some_value(alloc: Global, ty: &FfiType, first: u8) -> Result<Value, Fail>
-    ensures { IfOk result (λ v. fits (tree_of ty.now) (value_of v) ≡ true) }
-{
+fn some_value(alloc: Global, ty: &FfiType, first: u8) -> Result<Value, Fail> {
     let Ok(()) = check_type(ty, true) else {
         return Err("a fault".into());
     };
@@ -57,66 +138,56 @@ fn some_value(alloc: Global, ty: &FfiType, first: u8) -> Result<Value, Fail>
     Ok(value_from_bytes(alloc, ty, bytes.as_slice())?)
 }
 
-/// Values of a signature's arguments.
-fn some_arguments(alloc: Global, sig: &Sig) -> Result<Values, Fail>
-    ensures { IfOk result (λ vs. all_fit (trees_of sig.now.arguments) (values_of vs) ≡ true) }
-{
-    if sig.count() == 0 {
-        return Ok(Values::new(alloc));
+/// Values of these types.
+fn some_values(alloc: Global, types: &Fields) -> Result<Values, Fail> {
+    let mut values = Values::new(alloc);
+    for i in 0..types.len() {
+        if values.len() < 64 {
+            values.push(some_value(alloc, types.get(i), 16)?)?;
+        }
     }
-    let types = FfiType::Struct(sig.args().copy(alloc)?);
-    match some_value(alloc, &types, 1)? {
-        Value::List(values) => Ok(values),
-        _ => Err("no list".into()),
-    }
+    Ok(values)
 }
 
-/// The text of a value that fits its type, with a space behind it.
-fn write_value(alloc: Global, ty: &FfiType, value: &Value, text: &mut Bytes) -> Result<(), Fail> {
-    if !fits(value, ty) {
+/// The texts of arguments, each with a space behind it, and of a result.
+fn sent(
+    alloc: Global,
+    types: &Fields,
+    args: &Values,
+    ret: &FfiType,
+    outcome: &Value,
+) -> Result<Bytes, Fail> {
+    let mut text = Bytes::new(alloc);
+    for i in 0..types.len() {
+        if i < args.len() && fits(args.get(i), types.get(i)) {
+            text.extend(value_text(alloc, types.get(i), args.get(i))?.as_slice())?;
+            text.push(b' ')?;
+        }
+    }
+    if !fits(outcome, ret) {
         return Err("no fit".into());
     }
-    text.extend(value_text(alloc, ty, value)?.as_slice())?;
-    Ok(text.push(b' ')?)
+    text.extend(value_text(alloc, ret, outcome)?.as_slice())?;
+    Ok(text)
 }
 
-/// Calls a closure by its slot, from a machine that begins. The callee gives a value at once. Tells the arguments and the result
-/// that were sent, and those that came.
-fn sent_and_came<A: Abi>(alloc: Global, cif: &Cif<A>) -> Result<(Bytes, Bytes), Fail> {
-    let args = &some_arguments(alloc, cif.sig())?;
-    let outcome = some_value(alloc, cif.sig().ret(), 100)?;
-    let mut machine = Machine::new(alloc)?;
-    machine.begin(A::TARGET);
-    let mut table = Table::new();
-    let Ok(ptr) = table.make(&mut machine, 0, 0, 7) else {
-        return Err("no slot".into());
-    };
-    let Some(_) = table.find(ptr) else {
-        return Err("no closure".into());
-    };
-    let Ok(()) = room_for(&machine, cif) else {
-        return Err("no stack".into());
-    };
-    machine.journal_room(A::LINK + cif.frame())?;
-    let incoming = begin_call(&mut machine, &table, cif, args, ptr);
-    let mut sent = Bytes::new(alloc);
-    let mut came = Bytes::new(alloc);
-    for i in 0..cif.sig().count() {
-        let ty = argument(cif.sig(), i);
-        if (i as usize) < args.len() {
-            write_value(alloc, ty, args.get(i as usize), &mut sent)?;
-        }
-        let value = value_from_bytes(alloc, ty, arg(&machine, cif, &incoming, i))?;
-        write_value(alloc, ty, &value, &mut came)?;
+/// Calls a closure of a signature: the texts of what was sent, and of what came.
+fn sent_and_came<A: Abi>(alloc: Global, sig: &Sig) -> Result<(Bytes, Bytes), Fail> {
+    let ret = sig.ret().copy(alloc)?;
+    let types = sig.args().copy(alloc)?;
+    let all = FfiType::Struct(types.copy(alloc)?);
+    let values = Value::List(some_values(alloc, &types)?);
+    let outcome = some_value(alloc, &ret, 100)?;
+    if !fits(&values, &all) || !fits(&outcome, &ret) {
+        return Err("no fit".into());
     }
-    let ret = result_type(cif.sig());
-    let mut room = [0u8; 1024];
-    let out = &mut room[..size_of(ret) as usize];
-    end_call(&mut machine, cif, incoming, &outcome, out);
-    write_value(alloc, ret, &outcome, &mut sent)?;
-    let value = value_from_bytes(alloc, ret, out)?;
-    write_value(alloc, ret, &value, &mut came)?;
-    Ok((sent, came))
+    let Value::List(args) = &values else {
+        return Err("no list".into());
+    };
+    let wanted = sent(alloc, &types, args, &ret, &outcome)?;
+    let cif = interface::<A>(alloc, ret, types, sig.fixed())?;
+    let came = told(alloc, &cif, args, &outcome)?;
+    Ok((wanted, came))
 }
 
 /// Signatures with every scalar, and structs of each shape: nested, in mixed registers, homogeneous, by reference, hidden, variadic,
@@ -146,8 +217,8 @@ const SIGNATURES: [&str; 18] = [
 fn count_of_right<A: Abi>(alloc: Global) -> Result<usize, Fail> {
     let mut right = 0usize;
     for text in SIGNATURES {
-        let cif = interface::<A>(alloc, text)?;
-        let (sent, came) = sent_and_came(alloc, &cif)?;
+        let sig = signature(alloc, text)?;
+        let (sent, came) = sent_and_came::<A>(alloc, &sig)?;
         if sent.as_slice() == came.as_slice() && right < SIGNATURES.len() {
             right += 1;
         }
