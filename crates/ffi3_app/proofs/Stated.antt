@@ -7,7 +7,7 @@ use Rattle.ffi3_type_rules.specs.declared.Target.TheVariants.{Amd64, Aapcs64, Ri
 use Rattle.ffi3_app.specs.declared.words.Request.{Request}
 use Rattle.ffi3_app.specs.declared.words.Request.TheVariants.{Layout, Place, Run}
 use Rattle.ffi3_app.specs.WordCommands.{Addresses, asked, program}
-use Rattle.ffi3_app.specs.Words.{IsStated, StatesAfterName, Takes}
+use Rattle.ffi3_app.specs.Words.{IsStated, StatesAfterName, Takes, target_word}
 
 module _ (at at' : Addresses) (name : Text) where
   -- clap takes the words after the name, and reads them as this
