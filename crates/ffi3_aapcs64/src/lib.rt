@@ -552,6 +552,7 @@ impl Abi for Aapcs64 {
     }
 
     ghost use Rattle.std.specs.Prelude.{refl};
+    ghost use Rattle.std.proofs.lemmas.Bool.{ltb-true};
     ghost use Rattle.ffi3_aapcs64_rules.proofs.Agrees.{agrees as agrees_with_machine};
     ghost use Rattle.ffi3_aapcs64_rules.proofs.Sound.{sound as every_law, determines};
 
@@ -562,6 +563,8 @@ impl Abi for Aapcs64 {
     ghost target_is = { refl };
 
     ghost kept_all = { refl };
+
+    ghost words_few = { ltb-true (length aapcs64.save_area) 256 refl };
 
     ghost agrees = { agrees_with_machine };
 

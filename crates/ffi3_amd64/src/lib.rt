@@ -308,6 +308,7 @@ impl Abi for Amd64 {
     }
 
     ghost use Rattle.std.specs.Prelude.{refl};
+    ghost use Rattle.std.proofs.lemmas.Bool.{ltb-true};
     ghost use Rattle.ffi3_amd64_rules.proofs.Agrees.{agrees as with_machine};
     ghost use Rattle.ffi3_amd64_rules.proofs.Sound.{sound as every_law, determines};
 
@@ -318,6 +319,8 @@ impl Abi for Amd64 {
     ghost target_is = { refl };
 
     ghost kept_all = { refl };
+
+    ghost words_few = { ltb-true (length amd64.save_area) 256 refl };
 
     ghost agrees = { with_machine };
 

@@ -1,5 +1,5 @@
 -- A run beside no natives.
-use Rattle.std.proofs.Common.{◌≡◌, ℕ, List, [], sym, subst}
+use Rattle.std.proofs.Common.{◌≡◌, ℕ, [], sym, subst}
 use Rattle.ffi3_amd64_rules.specs.Amd64.{amd64}
 use Rattle.ffi3_type_rules.specs.declared.Target.TheVariants.{Amd64}
 use Rattle.ffi3_run_rules.specs.Meaning.{Program, meaning_of}
@@ -8,11 +8,12 @@ use Rattle.ffi3_script_rules.specs.Script.{Script}
 use Rattle.ffi3_script_rules.specs.Meaning.{program_of}
 use Rattle.ffi3_script_rules.proofs.Natives.{beside_none}
 use Rattle.ffi3_machine.specs.State.{State}
-use Rattle.ffi3_run.specs.RunMatches.{Took, RunMatches, WrotePart}
+use Rattle.ffi3_run.specs.RunMatches.{RunMatches, WrotePart}
+use Rattle.ffi3_io.specs.Sink.{SinkState}
 use Rattle.ffi3_app.specs.declared.words.Request.TheVariants.{Run}
 use Rattle.ffi3_app.specs.Top.{IsDone, IsDoneInPart, status_of}
 
-module _ (s : Script) (output output' : Took) (machine machine' : State) where
+module _ (s : Script) (output output' : SinkState) (machine machine' : State) where
   pub done_alone : (status : ℕ) → RunMatches untraced amd64 (program_of amd64 s) output output' machine' → status ≡ status_of (meaning_of (program_of amd64 s)).end → IsDone (Run Amd64) [] s output output' machine machine' status
   done_alone status told is =
       let P = λ (p : Program). RunMatches untraced amd64 p output output' machine' × (status ≡ status_of (meaning_of p).end) in

@@ -1,6 +1,6 @@
 -- What is read of an input: its first bytes, one more than a script may have.
 use Rattle.std.proofs.Common.{◌≡◌, ℕ, ◌+◌, ◌≤◌, List, [], length, take, drop, refl, ap, ◌∙◌, subst, arith, length-take, lit≤}
-use Rattle.std.specs.Prelude.{Option, Some, Result, Ok, Err, IfErr}
+use Rattle.std.specs.Prelude.{Some, Result, Ok, Err, IfErr}
 use Rattle.std.proofs.Math.ListN.{drop_of_length-le}
 use Rattle.std.proofs.Math.Nat.{le_trans}
 use Rattle.std.proofs.lemmas.List.{take_all}
@@ -8,7 +8,8 @@ use Rattle.ffi3_io.specs.Source.{GivesFirst}
 use Rattle.ffi3_script_rules.specs.Reading.{Reading, too_long, not_json, bad_script, script, IsReading}
 use Rattle.ffi3_script_rules.specs.Script.{Script}
 use Rattle.ffi3_json.specs.ReasonOf.{reason_of}
-use Rattle.ffi3_app.specs.Top.{ReadAs, IsRead, IsReadInPart, IsAtEnd, Given, given, limit_line}
+use Rattle.ffi3_io.specs.Source.{SourceState}
+use Rattle.ffi3_app.specs.Top.{ReadAs, IsRead, IsReadInPart, IsAtEnd, limit_line}
 use Rattle.ffi3_app.specs.Refusals.{IsJudged, IsLimit, IsInputRefusal}
 use Rattle.ffi3_app.specs.declared.words.Request.{Request}
 use Rattle.ffi3_app.specs.declared.words.Request.TheVariants.{Layout, Place, Run}
@@ -39,28 +40,28 @@ reading_of_all names all (bad_script path reason) (d, json, is) =
 reading_of_all names all (script s) (d, json, is) =
     let P = λ (bytes : List ℕ). IsReading names bytes (script s) in subst P (all_taken all json.short) (d, json, is)
 
-module _ (names : List (List ℕ)) (left left' : Option (List ℕ)) (count count' : ℕ) (bytes lent : List ℕ) (gives : GivesFirst 1048577 left bytes left') (same : lent ≡ bytes) where
-  pub read_as : (r : Reading) → IsReading names lent r → ReadAs names (given left count) r
+module _ (names : List (List ℕ)) (input input' : SourceState) (bytes lent : List ℕ) (gives : GivesFirst 1048577 input.left bytes input'.left) (same : lent ≡ bytes) where
+  pub read_as : (r : Reading) → IsReading names lent r → ReadAs names input r
   read_as r reading all is =
       let P = λ (b : List ℕ). IsReading names b r in
       reading_of_all names all r (subst P (same ∙ (gives all is).0) reading)
 
-  pub at_end : (s : Script) → IsReading names lent (script s) → IsAtEnd (given left count) (given left' count')
+  pub at_end : (s : Script) → IsReading names lent (script s) → IsAtEnd input input'
   at_end s (d, json, is) all known =
       let P = λ (b : List ℕ). length b ≤ 1048576 in
       let taken : length (take 1048577 all) ≤ 1048576 = subst P (same ∙ (gives all known).0) json.short in
       (gives all known).1 ∙ ap Some (none_dropped all taken)
 
   -- all that may be read was read
-  pub all_read : IsRead (given left count) (given left' count')
+  pub all_read : IsRead input input'
   all_read all is = (gives all is).1
 
-  pub read_in_part : IsReadInPart (given left count) (given left' count')
+  pub read_in_part : IsReadInPart input input'
   read_in_part =
       let limit : 1048577 ≤ 1048577 = lit≤ tt in (1048577, limit, (λ all is. (gives all is).1))
 
   -- what was judged of the bytes refuses the input
-  pub judged_refused : (request : Request) (r : Refusal) → count' ≡ count → IsJudged names lent r → IsInputRefusal names request (given left count) (given left' count') r
+  pub judged_refused : (request : Request) (r : Refusal) → input'.faults ≡ input.faults → IsJudged names lent r → IsInputRefusal names request input input' r
   judged_refused request ReadFault counted judged = absurd judged
   judged_refused request NoMemory counted judged = (counted, read_in_part)
   judged_refused request TooLong counted judged =
@@ -72,7 +73,7 @@ module _ (names : List (List ℕ)) (left left' : Option (List ℕ)) (count count
   judged_refused request (NotYet path) counted judged = absurd judged
 
 -- a script of which a command does not do all refuses the input
-pub limit_refused : (names : List (List ℕ)) (request : Request) (input input' : Given) (s : Script) (r : Refusal) → ReadAs names input (script s) → IsRead input input' → IsReadInPart input input' → input'.faults ≡ input.faults → IsLimit request s r → IsInputRefusal names request input input' r
+pub limit_refused : (names : List (List ℕ)) (request : Request) (input input' : SourceState) (s : Script) (r : Refusal) → ReadAs names input (script s) → IsRead input input' → IsReadInPart input input' → input'.faults ≡ input.faults → IsLimit request s r → IsInputRefusal names request input input' r
 limit_refused names Layout input input' s r read all part counted limit = absurd limit
 limit_refused names (Place t) input input' s r read all part counted limit = absurd limit
 limit_refused names (Run t) input input' s NoMemory read all part counted limit = (counted, part)

@@ -1,80 +1,68 @@
 -- What came of pieces that were written one after another.
-use Rattle.std.proofs.Common.{◌≡◌, ℕ, ◌+◌, ◌≤◌, List, [], ◌∷◌, ◌++◌, map, take, drop, length, refl, sym, ap, ◌∙◌, subst, arith, append_assoc}
+use Rattle.std.proofs.Common.{◌≡◌, ℕ, ◌+◌, ◌≤◌, List, [], ◌∷◌, ◌++◌, map, drop, length, refl, sym, ap, ◌∙◌, subst, append_assoc}
 use Rattle.std.specs.Prelude.{Result, Ok, Err, ◌<◌, get_or}
-use Rattle.std.proofs.lemmas.List.{append-nil, length-append, take-append-le, drop_more}
-use Rattle.std.proofs.Math.Seq.{take-append-add}
+use Rattle.std.proofs.lemmas.List.{drop_more}
 use Rattle.std.proofs.Math.ListN.{drop_of_length-le}
-use Rattle.ffi3_io.specs.Sink.{Adds, Rose}
-use Rattle.ffi3_io.proofs.Adding.{Adds-then, Adds-none}
+use Rattle.ffi3_io.proofs.Writing.{took_nothing, took_then, cut_after, cut_at_once, cut_in}
 use Rattle.ffi3_type_rules.specs.Signature.{Signature, signature_at, Position, at_argument}
 use Rattle.ffi3_type_rules.specs.Tree.{Tree}
 use Rattle.ffi3_type_rules.specs.declared.Target.{Target}
 use Rattle.ffi3_script_rules.specs.Script.{Script}
-use Rattle.ffi3_run.specs.RunMatches.{Took, TookLine}
+use Rattle.ffi3_io.specs.Sink.{SinkState}
+use Rattle.ffi3_io.specs.Written.{TookText}
 use Rattle.ffi3_app.specs.Commands.{standard_of, joined, lines_from, arguments_from, place_text}
-use Rattle.ffi3_app.specs.Wrote.{Ended, Wrote}
-use Rattle.ffi3_app.specs.declared.write.WriteEnd.{WriteEnd}
-use Rattle.ffi3_app.specs.declared.write.WriteEnd.TheVariants.{NoMemory, Failed}
+use Rattle.ffi3_io.specs.Written.{Wrote}
+use Rattle.ffi3_io.specs.declared.IoError.{IoError}
+use Rattle.ffi3_io.specs.declared.IoError.TheVariants.{NoMemory}
 
 abbrev Writing : Type 0
-Writing = Result Unit WriteEnd
+Writing = Result Unit IoError
 
-nothing_written : (a : Took) → Wrote [] a a (Ok tt)
-nothing_written a =
-    record { added = λ all is. (all, is, sym (append-nil all)); count = refl }
+-- what came of a text
+abbrev pub Came : List ℕ → SinkState → SinkState → Writing → Type 0
+Came text a b r = Wrote text a b r
 
-ended_after : (a b c : Took) (e : WriteEnd) → b.faults ≡ a.faults → Ended b c e → Ended a c e
-ended_after a b c NoMemory same ended = ended ∙ same
-ended_after a b c Failed same ended = subst (λ n. Rose n c.faults) same ended
+nothing_written : (a : SinkState) → Came [] a a (Ok tt)
+nothing_written a = took_nothing a
 
 -- a piece that was written, and what came of the pieces after it
-written_then : (x y : List ℕ) (a b c : Took) (r : Writing) → TookLine x a b → Wrote y b c r → Wrote (x ++ y) a c r
-written_then x y a b c (Ok u) first second =
-    record { added = Adds-then a.taken b.taken c.taken x y first.added second.added; count = second.count ∙ first.count }
-written_then x y a b c (Err e) first (part, ended) =
-    let taken : x ++ take part.0 y ≡ take (length x + part.0) (x ++ y) = sym (take-append-add x y part.0) in
-    let within : length x + part.0 ≤ length (x ++ y) = omega (arith, part.1, length-append x y) in (
-      (length x + part.0, within, subst (λ t. Adds a.taken t c.taken) taken (Adds-then a.taken b.taken c.taken x (take part.0 y) first.added part.2)),
-      ended_after a b c e first.count ended,
-    )
+written_then : (x y : List ℕ) (a b c : SinkState) (r : Writing) → TookText x a b → Came y b c r → Came (x ++ y) a c r
+written_then x y a b c (Ok u) first second = took_then a b c x y (x ++ y) refl first second
+written_then x y a b c (Err e) first second = cut_after a b c x y (x ++ y) e refl first second
 
 -- a piece in which writing ended is part of the whole
-ended_within : (x y : List ℕ) (a b : Took) (e : WriteEnd) → Wrote x a b (Err e) → Wrote (x ++ y) a b (Err e)
-ended_within x y a b e (part, ended) =
-    let within : part.0 ≤ length (x ++ y) = omega (arith, part.1, length-append x y) in (
-      (part.0, within, subst (λ t. Adds a.taken t b.taken) (sym (take-append-le part.0 x y part.1)) part.2),
-      ended,
-    )
+ended_within : (x y : List ℕ) (a b : SinkState) (e : IoError) → Came x a b (Err e) → Came (x ++ y) a b (Err e)
+ended_within x y a b e cut = cut_in a b x y (x ++ y) e refl cut
 
 -- ---- what is left of a text
 
 -- what comes of the rest comes of the whole
-abbrev pub Continues : List ℕ → List ℕ → Took → Took → Type 0
+abbrev pub Continues : List ℕ → List ℕ → SinkState → SinkState → Type 0
 Continues whole rest start now =
-    (after : Took) (r : Writing) → Wrote rest now after r → Wrote whole start after r
+    (after : SinkState) (r : Writing) → Came rest now after r → Came whole start after r
 
-pub continues_from : (whole : List ℕ) (start : Took) → Continues whole whole start start
+pub continues_from : (whole : List ℕ) (start : SinkState) → Continues whole whole start start
 continues_from whole start = λ after r h. h
 
-module _ (whole rest : List ℕ) (start now : Took) (continues : Continues whole rest start now) where
-  pub continues_on : (piece left : List ℕ) (next : Took) → rest ≡ piece ++ left → Wrote piece now next (Ok tt) → Continues whole left start next
-  continues_on piece left next is wrote = λ after r h. continues after r (subst (λ t. Wrote t now after r) (sym is) (written_then piece left now next after r wrote h))
+module _ (whole rest : List ℕ) (start now : SinkState) (continues : Continues whole rest start now) where
+  pub continues_on : (piece left : List ℕ) (next : SinkState) → rest ≡ piece ++ left → Came piece now next (Ok tt) → Continues whole left start next
+  continues_on piece left next is wrote = λ after r h. continues after r (subst (λ t. Came t now after r) (sym is) (written_then piece left now next after r wrote h))
 
-  pub continues_ended : (piece left : List ℕ) (next : Took) (e : WriteEnd) (r : Writing) → rest ≡ piece ++ left → Wrote piece now next (Err e) → r ≡ Err e → Wrote whole start next r
+  pub continues_ended : (piece left : List ℕ) (next : SinkState) (e : IoError) (r : Writing) → rest ≡ piece ++ left → Came piece now next (Err e) → r ≡ Err e → Came whole start next r
   continues_ended piece left next e r is wrote same =
-      subst (λ q. Wrote whole start next q) (sym same) (continues next (Err e) (subst (λ t. Wrote t now next (Err e)) (sym is) (ended_within piece left now next e wrote)))
+      subst (λ q. Came whole start next q) (sym same) (continues next (Err e) (subst (λ t. Came t now next (Err e)) (sym is) (ended_within piece left now next e wrote)))
 
-  pub continues_no_memory : Wrote whole start now (Err NoMemory)
+  pub continues_no_memory : Came whole start now (Err NoMemory)
   continues_no_memory =
-      continues now (Err NoMemory) ((0, omega arith, Adds-none now.taken), refl)
+      continues now (Err NoMemory) (cut_at_once now rest)
 
-  pub continues_done : rest ≡ [] → Wrote whole start now (Ok tt)
+  pub continues_done : rest ≡ [] → Came whole start now (Ok tt)
   continues_done is =
-      continues now (Ok tt) (subst (λ t. Wrote t now now (Ok tt)) (sym is) (nothing_written now))
+      continues now (Ok tt) (subst (λ t. Came t now now (Ok tt)) (sym is) (nothing_written now))
 
   -- the last piece
-  pub continues_last : (piece : List ℕ) (after : Took) (r : Writing) → rest ≡ piece → Wrote piece now after r → Wrote whole start after r
-  continues_last piece after r is wrote = continues after r (subst (λ t. Wrote t now after r) (sym is) wrote)
+  pub continues_last : (piece : List ℕ) (after : SinkState) (r : Writing) → rest ≡ piece → Came piece now after r → Came whole start after r
+  continues_last piece after r is wrote = continues after r (subst (λ t. Came t now after r) (sym is) wrote)
 
 -- ---- lines
 
@@ -109,6 +97,6 @@ module _ (line : Position → List ℕ) (ts : List Tree) (last : List (List ℕ)
   arguments_end j end =
       ap (λ rest. joined (map line (arguments_from j rest) ++ last)) (drop_of_length-le ts {i = j} end)
 
-pub placed_by : (t u : Target) (s : Script) (a b : Took) (r : Writing) → t ≡ u → Wrote (place_text (standard_of u) s) a b r → Wrote (place_text (standard_of t) s) a b r
+pub placed_by : (t u : Target) (s : Script) (a b : SinkState) (r : Writing) → t ≡ u → Came (place_text (standard_of u) s) a b r → Came (place_text (standard_of t) s) a b r
 placed_by t u s a b r is wrote =
-    subst (λ v. Wrote (place_text (standard_of v) s) a b r) (sym is) wrote
+    subst (λ v. Came (place_text (standard_of v) s) a b r) (sym is) wrote

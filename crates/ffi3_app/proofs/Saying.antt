@@ -10,20 +10,21 @@ use Rattle.ffi3_script_rules.specs.Reading.{Reading, script, IsReading, max_leng
 use Rattle.ffi3_script_rules.proofs.Readings.{one_reading}
 use Rattle.ffi3_machine.specs.State.{State}
 use Rattle.ffi3_run_rules.specs.Meaning.{End, returned, stopped}
-use Rattle.ffi3_run.specs.RunMatches.{Took}
+use Rattle.ffi3_io.specs.Sink.{SinkState}
 use Rattle.ffi3_app.specs.declared.words.Request.{Request}
 use Rattle.ffi3_app.specs.declared.words.Request.TheVariants.{Layout, Place, Run}
 use Rattle.ffi3_app.specs.declared.load.Refusal.{Refusal}
 use Rattle.ffi3_app.specs.declared.load.Refusal.TheVariants.{ReadFault, NoMemory, TooLong, BadJson, BadScript, NotYet}
 use Rattle.ffi3_app.specs.Words.{Takes, IsRefused, IsStated, CanDo, IsWordsRefusal as WordsRefusal}
-use Rattle.ffi3_app.specs.Wrote.{Ended}
-use Rattle.ffi3_app.specs.declared.write.WriteEnd.{WriteEnd}
-use Rattle.ffi3_app.specs.declared.write.WriteEnd.TheVariants as end
+use Rattle.ffi3_io.specs.Written.{IsCause}
+use Rattle.ffi3_io.specs.declared.IoError.{IoError}
+use Rattle.ffi3_io.specs.declared.IoError.TheVariants as end
 use Rattle.ffi3_app.specs.declared.words.WordsFault.{WordsFault}
 use Rattle.ffi3_app.specs.declared.words.WordsFault.TheVariants.{Refused}
 use Rattle.ffi3_app.specs.Commands.{not_yet}
 use Rattle.ffi3_app.specs.Refusals.{IsInputRefusal, IsRefusedWith, refusal_line, refusal_status, HasPlace, TellsRefusal}
-use Rattle.ffi3_app.specs.Top.{Given, ReadAs, IsReadInPart, ReportsFault, whole, cut, IsDone, Fails, refused, bad_words, read_failed, write_failed, no_memory_for_words, no_memory, Says, done, failed, refusal_of, limit_line, status_of, status_when_done, no_memory_line}
+use Rattle.ffi3_io.specs.Source.{SourceState}
+use Rattle.ffi3_app.specs.Top.{ReadAs, IsReadInPart, ReportsFault, whole, cut, IsDone, Fails, refused, bad_words, read_failed, write_failed, no_memory_for_words, no_memory, Says, done, failed, refusal_of, limit_line, status_of, status_when_done, no_memory_line}
 use Rattle.ffi3_app.specs.WordCommands.{Addresses}
 use Rattle.ffi3_app.proofs.Stated.{stated_is_taken}
 
@@ -69,7 +70,7 @@ on_amd64 P (Run u) t is can p = subst (λ (v : Target). P (Run v)) (sym can) p
 
 -- ---- work that is done
 
-module _ (natives : List NamedNative) (output output' : Took) (machine machine' : State) where
+module _ (natives : List NamedNative) (output output' : SinkState) (machine machine' : State) where
   done_status : (q : Request) (s : Script) (status : ℕ) → IsDone q natives s output output' machine machine' status → status ≡ status_when_done q natives s
   done_status Layout s status is = is.2
   done_status (Place t) s status is = is.2
@@ -80,11 +81,12 @@ module _ (natives : List NamedNative) (output output' : Took) (machine machine' 
   done_count (Place t) s status is = is.0.count
   done_count (Run t) s status is = is.0.written.count
 
-pub no_fault_counted : (before after : Took) (e : WriteEnd) → e ≡ end.NoMemory → Ended before after e → after.faults ≡ before.faults
-no_fault_counted before after e is ended = subst (Ended before after) is ended
+pub no_fault_counted : (before after : SinkState) (e : IoError) → e ≡ end.NoMemory → IsCause e before.faults after.faults → after.faults ≡ before.faults
+no_fault_counted before after e is cause = subst (λ w. IsCause w before.faults after.faults) is cause
 
-pub fault_counted : (before after : Took) (e : WriteEnd) → e ≡ end.Failed → Ended before after e → Rose before.faults after.faults
-fault_counted before after e is ended = subst (Ended before after) is ended
+pub fault_counted : (before after : SinkState) (e : IoError) → e ≡ end.Failed → IsCause e before.faults after.faults → Rose before.faults after.faults
+fault_counted before after e is cause =
+    let rose = subst (λ w. IsCause w before.faults after.faults) is cause in rose.0
 
 not_two : (e : End) → status_of e ≡ 2 → ⊥
 not_two (returned v) is = cc
@@ -95,12 +97,12 @@ done_not_two Layout natives s is = cc
 done_not_two (Place t) natives s is = cc
 done_not_two (Run t) natives s is = not_two _ is
 
-pub work_not_two : (q : Request) (natives : List NamedNative) (s : Script) (output output' : Took) (machine machine' : State) (status : ℕ) → IsDone q natives s output output' machine machine' status → status ≡ 2 → ⊥
+pub work_not_two : (q : Request) (natives : List NamedNative) (s : Script) (output output' : SinkState) (machine machine' : State) (status : ℕ) → IsDone q natives s output output' machine machine' status → status ≡ 2 → ⊥
 work_not_two q natives s output output' machine machine' status is two =
     done_not_two q natives s (sym (done_status natives output output' machine machine' q s status is) ∙ two)
 
 -- a line was told with another status
-pub told_not_two : (line : List ℕ) (status answer : ℕ) (before after : Took) → (status ≡ 2 → ⊥) → ReportsFault line status before after answer → answer ≡ 2 → ⊥
+pub told_not_two : (line : List ℕ) (status answer : ℕ) (before after : SinkState) → (status ≡ 2 → ⊥) → ReportsFault line status before after answer → answer ≡ 2 → ⊥
 told_not_two line status _ before after other (whole took) is = other is
 told_not_two line status _ before after other (cut part rose) is = cc
 
@@ -118,13 +120,13 @@ five_not_two is = cc
 pub four_not_two : ◌≡◌ {A = ℕ} 4 2 → ⊥
 four_not_two is = cc
 
-pub refused_not_two : (r : Refusal) (answer : ℕ) (before after : Took) → TellsRefusal r before after answer → answer ≡ 2 → ⊥
+pub refused_not_two : (r : Refusal) (answer : ℕ) (before after : SinkState) → TellsRefusal r before after answer → answer ≡ 2 → ⊥
 refused_not_two r answer before after (inl tells) = told_not_two _ _ answer before after (refusal_not_two r) tells
 refused_not_two r answer before after (inr told) = told_not_two _ _ answer before after five_not_two told.1
 
 -- ---- refusals
 
-module _ (words : List (List ℕ)) (natives : List NamedNative) (input input' : Given) (output output' : Took) (machine machine' : State) (request : Request) (takes : Takes words request) (same_output : output' ≡ output) (same_machine : machine' ≡ machine) where
+module _ (words : List (List ℕ)) (natives : List NamedNative) (input input' : SourceState) (output output' : SinkState) (machine machine' : State) (request : Request) (takes : Takes words request) (same_output : output' ≡ output) (same_machine : machine' ≡ machine) where
   out_of_memory : input'.faults ≡ input.faults → IsReadInPart input input' → Fails words natives input input' output output' machine machine' 5 no_memory_line
   out_of_memory count part =
       let same : output'.faults ≡ output.faults = ap (λ t. t.faults) same_output in
@@ -155,7 +157,7 @@ module _ (words : List (List ℕ)) (natives : List NamedNative) (input input' : 
   no_line (BadScript path why) place is = out_of_memory is.count (in_part _ is)
   no_line (NotYet path) place is = out_of_memory is.count (in_part _ is)
 
-  pub says_refusal : (told told' : Took) (answer : ℕ) (r : Refusal) → IsInputRefusal (names_of natives) request input input' r → TellsRefusal r told told' answer → Says words natives input input' output output' told told' machine machine' answer
+  pub says_refusal : (told told' : SinkState) (answer : ℕ) (r : Refusal) → IsInputRefusal (names_of natives) request input input' r → TellsRefusal r told told' answer → Says words natives input input' output output' told told' machine machine' answer
   says_refusal told told' answer r is (inl tells) = failed (fails_by r is) tells
   says_refusal told told' answer r is (inr (place, tells)) = failed (no_line r place is) tells
 
@@ -169,7 +171,7 @@ not_limited q r s line same does tells =
 same_script : (r s : Script) → script r ≡ script s → r ≡ s
 same_script r s e = cc
 
-module _ (words : List (List ℕ)) (natives : List NamedNative) (input input' : Given) (output output' told told' : Took) (machine machine' : State) where
+module _ (words : List (List ℕ)) (natives : List NamedNative) (input input' : SourceState) (output output' told told' : SinkState) (machine machine' : State) where
   pub completes : (status : ℕ) → Says words natives input input' output output' told told' machine machine' status → (r : Request) → IsStated words r → (all : List ℕ) → input.left ≡ Some all → (s : Script) → IsReading (names_of natives) all (script s) → not_yet r s ≡ None → (Rose input.faults input'.faults → ⊥) → (Rose output.faults output'.faults → ⊥) → (Rose told.faults told'.faults → ⊥) → (status ≡ status_when_done r natives s) ⊎ (status ≡ 5)
   completes status (done {request = q} takes s' read does' end count is same) r stated all known s reading does no_read no_write no_tell =
       inl (done_status natives output output' machine machine' q s' status is ∙ ap₂ (λ p t. status_when_done p natives t) (same_request words q r takes stated) (same_script s' s (one_reading (names_of natives) all (script s') (script s) (read all known) reading)))
@@ -254,7 +256,7 @@ module _ (words : List (List ℕ)) (natives : List NamedNative) (input input' : 
       let same_count : told'.faults ≡ told.faults = line.count in absurd (omega (arith, same_count))
 
 -- what is said beside no natives is said beside a list that is empty
-pub says_beside : (words : List (List ℕ)) (natives : List NamedNative) (input input' : Given) (output output' told told' : Took) (machine machine' : State) (status : ℕ) → natives ≡ [] → Says words [] input input' output output' told told' machine machine' status → Says words natives input input' output output' told told' machine machine' status
+pub says_beside : (words : List (List ℕ)) (natives : List NamedNative) (input input' : SourceState) (output output' told told' : SinkState) (machine machine' : State) (status : ℕ) → natives ≡ [] → Says words [] input input' output output' told told' machine machine' status → Says words natives input input' output output' told told' machine machine' status
 says_beside words natives input input' output output' told told' machine machine' status none says =
     let P = λ (ns : List NamedNative). Says words ns input input' output output' told told' machine machine' status in
     subst P (sym none) says
@@ -263,10 +265,10 @@ pub mapped_none : {A B : Type 0} (f : A → B) (xs : List A) → xs ≡ [] → m
 mapped_none f xs none = ap (map f) none
 
 -- what is read beside names that are none
-pub read_alone : (names : List (List ℕ)) (input : Given) (r : Reading) → names ≡ [] → ReadAs names input r → ReadAs [] input r
+pub read_alone : (names : List (List ℕ)) (input : SourceState) (r : Reading) → names ≡ [] → ReadAs names input r → ReadAs [] input r
 read_alone names input r none read =
     let P = λ (ns : List (List ℕ)). ReadAs ns input r in subst P none read
 
-pub refused_alone : (names : List (List ℕ)) (request : Request) (input input' : Given) (r : Refusal) → names ≡ [] → IsInputRefusal names request input input' r → IsInputRefusal [] request input input' r
+pub refused_alone : (names : List (List ℕ)) (request : Request) (input input' : SourceState) (r : Refusal) → names ≡ [] → IsInputRefusal names request input input' r → IsInputRefusal [] request input input' r
 refused_alone names request input input' r none refuses =
     let P = λ (ns : List (List ℕ)). IsInputRefusal ns request input input' r in subst P none refuses

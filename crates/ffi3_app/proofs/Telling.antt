@@ -6,7 +6,7 @@ use Rattle.std.proofs.lemmas.Option.{get_or_from_slice_get}
 use Rattle.ffi3_script_rules.specs.Step.{PathStep}
 use Rattle.ffi3_script_rules.specs.Language.{Path}
 use Rattle.ffi3_script_rules.specs.ReasonText.{text_of_step, text_of_steps}
-use Rattle.ffi3_run.specs.RunMatches.{Took}
+use Rattle.ffi3_io.specs.Sink.{SinkState}
 use Rattle.ffi3_app.specs.Top.{ReportsFault}
 use Rattle.ffi3_app.specs.Refusals.{refusal_line, refusal_status, HasPlace, TellsRefusal, TellsPlace}
 use Rattle.ffi3_app.specs.declared.load.Refusal.{Refusal}
@@ -18,7 +18,7 @@ step_on path i s text text' all below is before on =
     let here : text_of_steps (drop i path) ≡ text_of_step s ++ text_of_steps (drop (i + 1) path) = ap text_of_steps (drop_more path i s below) ∙ ap (λ t. text_of_step t ++ text_of_steps (drop (i + 1) path)) (sym there) in
     ap (λ t. t ++ text_of_steps (drop (i + 1) path)) on ∙ append_assoc text (text_of_step s) (text_of_steps (drop (i + 1) path)) ∙ ap (λ t. text ++ t) (sym here) ∙ before
 
-module _ (before after : Took) (answer : ℕ) where
+module _ (before after : SinkState) (answer : ℕ) where
   pub told_as : (r s : Refusal) → r ≡ s → ReportsFault (refusal_line s) (refusal_status s) before after answer → TellsRefusal r before after answer
   told_as r s is tells =
       let P = λ (q : Refusal). TellsRefusal q before after answer in subst P (sym is) (inl tells)

@@ -4,4 +4,3 @@ pub mod Refusals
 pub mod Top
 pub mod WordCommands
 pub mod Words
-pub mod Wrote

@@ -1,18 +1,19 @@
 -- What a refusal of the input says: its line, its status and its cause.
-use Rattle.std.specs.Prelude.{◌≡◌, ◌⊎◌, ℕ, List, [], codes, Some}
+use Rattle.std.specs.Prelude.{◌≡◌, ◌⊎◌, ℕ, List, codes, Some}
 use Rattle.ffi3_io.specs.Sink.{Rose}
 use Rattle.ffi3_run_rules.specs.Lines.{a_line}
 use Rattle.ffi3_script_rules.specs.ReasonText.{text_of_reason}
 use Rattle.ffi3_script_rules.specs.Reading.{Reading, too_long, not_json, bad_script, IsReading}
 use Rattle.ffi3_script_rules.specs.Script.{Script}
 use Rattle.ffi3_script_rules.specs.RunLimit.{first_not_run}
-use Rattle.ffi3_run.specs.RunMatches.{Took}
+use Rattle.ffi3_io.specs.Sink.{SinkState}
 use Rattle.ffi3_json.specs.ReasonOf.{reason_of}
 use Rattle.ffi3_app.specs.declared.words.Request.{Request}
 use Rattle.ffi3_app.specs.declared.words.Request.TheVariants.{Run}
 use Rattle.ffi3_app.specs.declared.load.Refusal.{Refusal}
 use Rattle.ffi3_app.specs.declared.load.Refusal.TheVariants.{ReadFault, NoMemory, TooLong, BadJson, BadScript, NotYet}
-use Rattle.ffi3_app.specs.Top.{ReportsFault, Given, ReadAs, IsRead, IsReadInPart, refusal_of, located_line, read_fault_line, no_memory_line}
+use Rattle.ffi3_io.specs.Source.{SourceState}
+use Rattle.ffi3_app.specs.Top.{ReportsFault, ReadAs, IsRead, IsReadInPart, refusal_of, located_line, read_fault_line, no_memory_line}
 
 abbrev pub refusal_line : Refusal → List ℕ
 refusal_line ReadFault = read_fault_line
@@ -48,7 +49,7 @@ IsLimit (Run t) s refusal = IsRunLimit s refusal
 IsLimit _ s refusal = ⊥
 
 -- what the input is read as is refused with this line, and no read failed
-pub record IsRefusedWith (names : List (List ℕ)) (request : Request) (input input' : Given) (line : List ℕ) : Type 0 where
+pub record IsRefusedWith (names : List (List ℕ)) (request : Request) (input input' : SourceState) (line : List ℕ) : Type 0 where
   pub reading : Reading
   pub tells : refusal_of request reading ≡ Some line
   pub read_as : ReadAs names input reading
@@ -56,7 +57,7 @@ pub record IsRefusedWith (names : List (List ℕ)) (request : Request) (input in
   pub count : input'.faults ≡ input.faults
 
 -- the input is refused
-abbrev pub IsInputRefusal : (names : List (List ℕ)) → Request → Given → Given → Refusal → Type 0
+abbrev pub IsInputRefusal : (names : List (List ℕ)) → Request → SourceState → SourceState → Refusal → Type 0
 IsInputRefusal names request input input' ReadFault =
     Rose input.faults input'.faults × IsReadInPart input input'
 IsInputRefusal names request input input' NoMemory =
@@ -77,11 +78,11 @@ HasPlace (NotYet path) = Unit {0}
 HasPlace _ = ⊥
 
 -- a refusal was told, or want of memory for the line of its place
-abbrev pub TellsRefusal : Refusal → Took → Took → ℕ → Type 0
+abbrev pub TellsRefusal : Refusal → SinkState → SinkState → ℕ → Type 0
 TellsRefusal refusal before after answer =
     ReportsFault (refusal_line refusal) (refusal_status refusal) before after answer ⊎ (HasPlace refusal × ReportsFault no_memory_line 5 before after answer)
 
 -- the line of a place was told, or want of memory for it
-abbrev pub TellsPlace : List ℕ → Took → Took → ℕ → Type 0
+abbrev pub TellsPlace : List ℕ → SinkState → SinkState → ℕ → Type 0
 TellsPlace line before after answer =
     ReportsFault line 1 before after answer ⊎ ReportsFault no_memory_line 5 before after answer

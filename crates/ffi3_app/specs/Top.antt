@@ -1,7 +1,7 @@
 -- WHAT THE TOP CALL SAYS, by its status.
 use Rattle.std.specs.Prelude.{◌≡◌, ℕ, ◌+◌, ◌⊎◌, List, [], ◌++◌, take, drop, Option, Some, None, codes}
 use Rattle.ffi3_io.specs.Sink.{Adds, AddsSome, Rose}
-use Rattle.ffi3_io.specs.Source.{LosesSome}
+use Rattle.ffi3_io.specs.Source.{LosesSome, SourceState}
 use Rattle.ffi3_type_rules.specs.Signature.{Signature}
 use Rattle.ffi3_run_rules.specs.Move.{Behaviour}
 use Rattle.ffi3_run_rules.specs.Meaning.{End, returned, stopped, meaning_of}
@@ -12,7 +12,9 @@ use Rattle.ffi3_script_rules.specs.Script.{Script}
 use Rattle.ffi3_script_rules.specs.Reading.{Reading, too_long, not_json, bad_script, script, IsReading, max_length}
 use Rattle.ffi3_script_rules.specs.Natives.{NamedNative, names_of, program_beside}
 use Rattle.ffi3_machine.specs.State.{State}
-use Rattle.ffi3_run.specs.RunMatches.{Took, TookLine, RunMatches}
+use Rattle.ffi3_run.specs.RunMatches.{RunMatches}
+use Rattle.ffi3_io.specs.Sink.{SinkState}
+use Rattle.ffi3_io.specs.Written.{TookText}
 use Rattle.ffi3_app.specs.declared.words.Request.{Request}
 use Rattle.ffi3_app.specs.declared.words.Request.TheVariants.{Layout, Place, Run}
 use Rattle.ffi3_app.specs.Words.{Takes, IsRefused}
@@ -52,30 +54,22 @@ handed_in name behaviour signatures =
 
 -- ---- what the world around shows, before the call and after it
 
--- a source: the bytes that it has left, where it tells, and its count of faults
-pub record Given : Type 0 where
-  pub left : Option (List ℕ)
-  pub faults : ℕ
-
 -- THE INPUT IS READ AS THIS, beside natives of these names: what the source had left, where it told that
-abbrev pub ReadAs : (names : List (List ℕ)) → Given → Reading → Type 0
+abbrev pub ReadAs : (names : List (List ℕ)) → SourceState → Reading → Type 0
 ReadAs names input r =
     (all : List ℕ) → input.left ≡ Some all → IsReading names all r
 
-abbrev pub given : Option (List ℕ) → ℕ → Given
-given left faults = record { left = left; faults = faults }
-
 -- a source that tells has no byte left
-abbrev pub IsAtEnd : Given → Given → Type 0
+abbrev pub IsAtEnd : SourceState → SourceState → Type 0
 IsAtEnd before after = (all : List ℕ) → before.left ≡ Some all → after.left ≡ Some []
 
 -- a source that tells gave all that it had, as far as one byte more than a script may have
-abbrev pub IsRead : Given → Given → Type 0
+abbrev pub IsRead : SourceState → SourceState → Type 0
 IsRead before after =
     (all : List ℕ) → before.left ≡ Some all → after.left ≡ Some (drop (max_length + 1) all)
 
 -- no more than that was read
-abbrev pub IsReadInPart : Given → Given → Type 0
+abbrev pub IsReadInPart : SourceState → SourceState → Type 0
 IsReadInPart before after = LosesSome (max_length + 1) before.left after.left
 
 -- ---- work
@@ -93,11 +87,11 @@ status_when_done (Run t) natives s =
     status_of (meaning_of (program_beside (standard_of t) natives s)).end
 
 -- THE WORK IS DONE: the text is written whole; a run is told whole, and what stops it is status 6; the other commands leave the machine as it was
-abbrev pub IsDone : Request → List NamedNative → Script → Took → Took → State → State → ℕ → Type 0
+abbrev pub IsDone : Request → List NamedNative → Script → SinkState → SinkState → State → State → ℕ → Type 0
 IsDone Layout natives s output output' machine machine' status =
-    TookLine (command_text Layout natives s) output output' × (machine' ≡ machine) × (status ≡ 0)
+    TookText (command_text Layout natives s) output output' × (machine' ≡ machine) × (status ≡ 0)
 IsDone (Place t) natives s output output' machine machine' status =
-    TookLine (command_text (Place t) natives s) output output' × (machine' ≡ machine) × (status ≡ 0)
+    TookText (command_text (Place t) natives s) output output' × (machine' ≡ machine) × (status ≡ 0)
 IsDone (Run t) natives s output output' machine machine' status =
     RunMatches untraced (standard_of t) (program_beside (standard_of t) natives s) output output' machine' × (status ≡ status_when_done (Run t) natives s)
 
@@ -106,24 +100,24 @@ abbrev pub KeepsMachine : Request → State → State → Type 0
 KeepsMachine (Run t) machine machine' = Unit {0}
 KeepsMachine _ machine machine' = machine' ≡ machine
 
-abbrev pub IsDoneInPart : Request → List NamedNative → Script → Took → Took → State → State → Type 0
+abbrev pub IsDoneInPart : Request → List NamedNative → Script → SinkState → SinkState → State → State → Type 0
 IsDoneInPart request natives s output output' machine machine' =
     ((part : ℕ) × Adds output.taken (take part (command_text request natives s)) output'.taken) × KeepsMachine request machine machine'
 
 -- ---- statuses
 
 -- a line was handed to the sink of faults: it took the line whole, or it failed in it, which is status 4 whatever the status was before
-pub data ReportsFault (line : List ℕ) (status : ℕ) (before after : Took) : ℕ → Type 0 where
-  whole : TookLine line before after → ReportsFault line status before after status
+pub data ReportsFault (line : List ℕ) (status : ℕ) (before after : SinkState) : ℕ → Type 0 where
+  whole : TookText line before after → ReportsFault line status before after status
   cut : AddsSome before.taken line after.taken → Rose before.faults after.faults → ReportsFault line status before after 4
 
 -- nothing was written, and the machine is as it was; or what the input is read as was begun
-abbrev pub BeganOrNot : Request → List NamedNative → Given → Given → Took → Took → State → State → Type 0
+abbrev pub BeganOrNot : Request → List NamedNative → SourceState → SourceState → SinkState → SinkState → State → State → Type 0
 BeganOrNot request natives input input' output output' machine machine' =
     ((output' ≡ output) × (machine' ≡ machine)) ⊎ ((s : Script) × ReadAs (names_of natives) input (script s) × (not_yet request s ≡ None) × IsAtEnd input input' × IsDoneInPart request natives s output output' machine machine')
 
 -- WHAT GOES WRONG, with the status and the line that tell it: its cause, what was written, and what stayed as it was
-pub data Fails (words : List (List ℕ)) (natives : List NamedNative) (input input' : Given) (output output' : Took) (machine machine' : State) : ℕ → List ℕ → Type 0 where
+pub data Fails (words : List (List ℕ)) (natives : List NamedNative) (input input' : SourceState) (output output' : SinkState) (machine machine' : State) : ℕ → List ℕ → Type 0 where
   refused : {request : Request} → Takes words request → (r : Reading) → {line : List ℕ} → refusal_of request r ≡ Some line → ReadAs (names_of natives) input r → IsRead input input' → input'.faults ≡ input.faults → output' ≡ output → machine' ≡ machine → Fails words natives input input' output output' machine machine' 1 line
   bad_words : {line : List ℕ} → IsRefused words → input' ≡ input → output' ≡ output → machine' ≡ machine → Fails words natives input input' output output' machine machine' 2 line
   read_failed : {request : Request} → Takes words request → Rose input.faults input'.faults → IsReadInPart input input' → output' ≡ output → machine' ≡ machine → Fails words natives input input' output output' machine machine' 3 read_fault_line
@@ -132,6 +126,6 @@ pub data Fails (words : List (List ℕ)) (natives : List NamedNative) (input inp
   no_memory : {request : Request} → Takes words request → IsReadInPart input input' → input'.faults ≡ input.faults → BeganOrNot request natives input input' output output' machine machine' → output'.faults ≡ output.faults → Fails words natives input input' output output' machine machine' 5 no_memory_line
 
 -- WHAT EACH STATUS SAYS: the work is done whole, or what goes wrong is told, and then 4 in place of its status where that failed
-pub data Says (words : List (List ℕ)) (natives : List NamedNative) (input input' : Given) (output output' told told' : Took) (machine machine' : State) : ℕ → Type 0 where
+pub data Says (words : List (List ℕ)) (natives : List NamedNative) (input input' : SourceState) (output output' told told' : SinkState) (machine machine' : State) : ℕ → Type 0 where
   done : {request : Request} {status : ℕ} → Takes words request → (s : Script) → ReadAs (names_of natives) input (script s) → not_yet request s ≡ None → IsAtEnd input input' → input'.faults ≡ input.faults → IsDone request natives s output output' machine machine' status → told' ≡ told → Says words natives input input' output output' told told' machine machine' status
   failed : {status : ℕ} {line : List ℕ} {answer : ℕ} → Fails words natives input input' output output' machine machine' status line → ReportsFault line status told told' answer → Says words natives input input' output output' told told' machine machine' answer

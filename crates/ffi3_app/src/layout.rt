@@ -1,22 +1,20 @@
 //! The lines of layout.
-ghost use Rattle.std.specs.Prelude.{◌≡◌, ◌<◌, length, true};
+ghost use Rattle.std.specs.Prelude.{◌<◌};
 ghost use Rattle.ffi3_type_rules.specs.Signature.{SignatureHasNoFault};
 ghost use Rattle.ffi3_script.specs.ScriptOf.{script_of};
-ghost use Rattle.ffi3_run.specs.RunMatches.{took};
 ghost use Rattle.ffi3_app.specs.Commands.{joined, layout_lines, layout_text};
-ghost use Rattle.ffi3_app.specs.Wrote.{Wrote};
+ghost use Rattle.ffi3_io.specs.Written.{Wrote};
 
-use crate::write::{WriteEnd, write_line};
-use ffi3_io::Sink;
+use crate::write::write_made_line;
+use ffi3_io::{IoError, Sink};
 use ffi3_script::Script;
 use ffi3_text::layout_line;
 use ffi3_types::{At, Sig};
 use std::alloc::Global;
 
 /// Writes the layout of the types of each signature, one line for each type.
-pub fn layout<O: Sink>(alloc: Global, script: &Script, output: &mut O) -> Result<(), WriteEnd>
-    ensures { Wrote (layout_text (script_of script.now)) (took (O.taken output.old) (O.faults output.old))
-        (took (O.taken output.new) (O.faults output.new)) result }
+pub fn layout<O: Sink>(alloc: Global, script: &Script, output: &mut O) -> Result<(), IoError>
+    ensures { Wrote (layout_text (script_of script.now)) (O.state output.old) (O.state output.new) result }
 {
     let sigs = script.sigs();
     for i in 0..sigs.len() {
@@ -26,14 +24,13 @@ pub fn layout<O: Sink>(alloc: Global, script: &Script, output: &mut O) -> Result
 }
 
 // The lines of one signature: of its result, then of its arguments.
-fn layout_of<O: Sink>(alloc: Global, number: u32, sig: &Sig, output: &mut O) -> Result<(), WriteEnd>
+fn layout_of<O: Sink>(alloc: Global, number: u32, sig: &Sig, output: &mut O) -> Result<(), IoError>
     requires { SignatureHasNoFault sig.now }
-    ensures { Wrote (joined (layout_lines number sig.now)) (took (O.taken output.old) (O.faults output.old))
-        (took (O.taken output.new) (O.faults output.new)) result }
+    ensures { Wrote (joined (layout_lines number sig.now)) (O.state output.old) (O.state output.new) result }
 {
-    write_line(output, layout_line(alloc, number, sig, At::Ret))?;
+    write_made_line(output, layout_line(alloc, number, sig, At::Ret))?;
     for j in 0..sig.count() {
-        write_line(output, layout_line(alloc, number, sig, At::Arg(j)))?;
+        write_made_line(output, layout_line(alloc, number, sig, At::Arg(j)))?;
     }
     Ok(())
 }

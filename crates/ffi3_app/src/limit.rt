@@ -1,5 +1,5 @@
 //! What a run does not do yet.
-ghost use Rattle.std.specs.Prelude.{◌≡◌, ◌<◌, [], IfOk, length, option_map, codes};
+ghost use Rattle.std.specs.Prelude.{◌≡◌, ◌<◌, [], IfOk, option_map, codes};
 ghost use Rattle.std.specs.List.{list_all};
 ghost use Rattle.ffi3_script_rules.specs.Language.{under, at_item};
 ghost use Rattle.ffi3_script_rules.specs.RunLimit.{is_plain, is_plain_result, is_run, is_run_in_function, is_run_in_main, first_not, first_in_functions, first_not_run};

@@ -4,11 +4,11 @@ ghost use Rattle.ffi3_script_rules.specs.Reading.{IsReading, script};
 ghost use Rattle.ffi3_script_rules.specs.RunLimit.{first_not_run};
 ghost use Rattle.ffi3_script.specs.ScriptOf.{script_of, natives_of};
 ghost use Rattle.ffi3_app.specs.Commands.{not_yet};
-ghost use Rattle.ffi3_app.specs.Top.{ReadAs, IsAtEnd, IsReadInPart, IsRead, given};
+ghost use Rattle.ffi3_app.specs.Top.{ReadAs, IsAtEnd, IsReadInPart, IsRead};
 
 use crate::limit::run_limit;
 use crate::words::Request;
-use ffi3_io::{ReadEnd, Source, read_all};
+use ffi3_io::{IoError, Source, read_all};
 use ffi3_json::{MAX_LENGTH, Reason, ScriptFault, Where};
 use ffi3_script::{Names, Script, read_script};
 use std::alloc::Global;
@@ -40,13 +40,13 @@ pub fn load<I: Source>(
     input: &mut I,
 ) -> Result<Script, Refusal>
     requires { length natives.now < 2 ^ 31 }
-    ensures script { IfOk result (λ s. ReadAs natives.now (given (I.left input.old) (I.faults input.old)) (script (script_of s))) }
+    ensures script { IfOk result (λ s. ReadAs natives.now (I.state input.old) (script (script_of s))) }
     ensures alone { IfOk result (λ s. natives_of s ≡ length natives.now) }
     ensures done { IfOk result (λ s. not_yet request (script_of s) ≡ None) }
-    ensures end { OnOk result (IsAtEnd (given (I.left input.old) (I.faults input.old)) (given (I.left input.new) (I.faults input.new))) }
-    ensures same { OnOk result (I.faults input.new ≡ I.faults input.old) }
-    ensures part { IsReadInPart (given (I.left input.old) (I.faults input.old)) (given (I.left input.new) (I.faults input.new)) }
-    ensures refused { IfErr result (IsInputRefusal natives.now request (given (I.left input.old) (I.faults input.old)) (given (I.left input.new) (I.faults input.new))) }
+    ensures end { OnOk result (IsAtEnd (I.state input.old) (I.state input.new)) }
+    ensures same { OnOk result ((I.state input.new).faults ≡ (I.state input.old).faults) }
+    ensures part { IsReadInPart (I.state input.old) (I.state input.new) }
+    ensures refused { IfErr result (IsInputRefusal natives.now request (I.state input.old) (I.state input.new)) }
 {
     match read(alloc, natives, input) {
         Ok(script) => match limit(alloc, request, &script) {
@@ -60,18 +60,18 @@ pub fn load<I: Source>(
 // The same, whatever the command.
 fn read<I: Source>(alloc: Global, natives: &Names, input: &mut I) -> Result<Script, Refusal>
     requires { length natives.now < 2 ^ 31 }
-    ensures script { IfOk result (λ s. ReadAs natives.now (given (I.left input.old) (I.faults input.old)) (script (script_of s))) }
+    ensures script { IfOk result (λ s. ReadAs natives.now (I.state input.old) (script (script_of s))) }
     ensures alone { IfOk result (λ s. natives_of s ≡ length natives.now) }
-    ensures end { OnOk result (IsAtEnd (given (I.left input.old) (I.faults input.old)) (given (I.left input.new) (I.faults input.new))) }
-    ensures all { OnOk result (IsRead (given (I.left input.old) (I.faults input.old)) (given (I.left input.new) (I.faults input.new))) }
-    ensures same { OnOk result (I.faults input.new ≡ I.faults input.old) }
-    ensures part { IsReadInPart (given (I.left input.old) (I.faults input.old)) (given (I.left input.new) (I.faults input.new)) }
-    ensures refused { (r : Request) → IfErr result (IsInputRefusal natives.now r (given (I.left input.old) (I.faults input.old)) (given (I.left input.new) (I.faults input.new))) }
+    ensures end { OnOk result (IsAtEnd (I.state input.old) (I.state input.new)) }
+    ensures all { OnOk result (IsRead (I.state input.old) (I.state input.new)) }
+    ensures same { OnOk result ((I.state input.new).faults ≡ (I.state input.old).faults) }
+    ensures part { IsReadInPart (I.state input.old) (I.state input.new) }
+    ensures refused { (r : Request) → IfErr result (IsInputRefusal natives.now r (I.state input.old) (I.state input.new)) }
 {
     match read_all(alloc, input, MAX_LENGTH + 1) {
         Ok(bytes) => judge(alloc, natives, &bytes),
-        Err(ReadEnd::Failed) => Err(Refusal::ReadFault),
-        Err(ReadEnd::NoMemory) => Err(Refusal::NoMemory),
+        Err(IoError::Failed) => Err(Refusal::ReadFault),
+        Err(IoError::NoMemory) => Err(Refusal::NoMemory),
     }
 }
 

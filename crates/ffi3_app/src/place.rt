@@ -3,15 +3,14 @@ ghost use Rattle.std.specs.Prelude.{◌≡◌, IfOk, IfErr};
 ghost use Rattle.ffi3_type_rules.specs.Signature.{SignatureHasNoFault};
 ghost use Rattle.ffi3_cif.specs.Prepared.{IsPrepRefusal};
 ghost use Rattle.ffi3_script.specs.ScriptOf.{script_of};
-ghost use Rattle.ffi3_run.specs.RunMatches.{took};
 ghost use Rattle.ffi3_app.specs.Commands.{joined, place_lines, place_text, standard_of};
-ghost use Rattle.ffi3_app.specs.Wrote.{Wrote};
+ghost use Rattle.ffi3_io.specs.Written.{Wrote};
 
-use crate::write::{WriteEnd, write_line};
+use crate::write::write_made_line;
 use ffi3_aapcs64::Aapcs64;
 use ffi3_amd64::Amd64;
 use ffi3_cif::{Cif, PrepFault, prep_cif, prep_cif_var};
-use ffi3_io::Sink;
+use ffi3_io::{IoError, Sink};
 use ffi3_place::Abi;
 use ffi3_riscv::Riscv;
 use ffi3_script::Script;
@@ -26,9 +25,8 @@ pub fn place<O: Sink>(
     target: Target,
     script: &Script,
     output: &mut O,
-) -> Result<(), WriteEnd>
-    ensures { Wrote (place_text (standard_of target) (script_of script.now)) (took (O.taken output.old) (O.faults output.old))
-        (took (O.taken output.new) (O.faults output.new)) result }
+) -> Result<(), IoError>
+    ensures { Wrote (place_text (standard_of target) (script_of script.now)) (O.state output.old) (O.state output.new) result }
 {
     match target {
         Target::Amd64 => place_by::<Amd64, O>(alloc, script, output),
@@ -38,9 +36,8 @@ pub fn place<O: Sink>(
 }
 
 // The same by a calling standard.
-fn place_by<A: Abi, O: Sink>(alloc: Global, script: &Script, output: &mut O) -> Result<(), WriteEnd>
-    ensures { Wrote (place_text A.standard (script_of script.now)) (took (O.taken output.old) (O.faults output.old))
-        (took (O.taken output.new) (O.faults output.new)) result }
+fn place_by<A: Abi, O: Sink>(alloc: Global, script: &Script, output: &mut O) -> Result<(), IoError>
+    ensures { Wrote (place_text A.standard (script_of script.now)) (O.state output.old) (O.state output.new) result }
 {
     let sigs = script.sigs();
     for i in 0..sigs.len() {
@@ -56,15 +53,14 @@ fn place_of<A: Abi, O: Sink>(
     number: u32,
     cif: &Cif<A>,
     output: &mut O,
-) -> Result<(), WriteEnd>
-    ensures { Wrote (joined (place_lines A.standard number cif.now)) (took (O.taken output.old) (O.faults output.old))
-        (took (O.taken output.new) (O.faults output.new)) result }
+) -> Result<(), IoError>
+    ensures { Wrote (joined (place_lines A.standard number cif.now)) (O.state output.old) (O.state output.new) result }
 {
-    write_line(output, sig_line(alloc, number, cif))?;
+    write_made_line(output, sig_line(alloc, number, cif))?;
     for j in 0..cif.sig().count() {
-        write_line(output, place_line(alloc, cif, At::Arg(j)))?;
+        write_made_line(output, place_line(alloc, cif, At::Arg(j)))?;
     }
-    write_line(output, place_line(alloc, cif, At::Ret))
+    write_made_line(output, place_line(alloc, cif, At::Ret))
 }
 
 // The signature prepared for calls.

@@ -1,6 +1,5 @@
 //! Lines to the sink of faults.
 ghost use Rattle.std.specs.Prelude.{◌≡◌, ◌++◌, IfOk, OnOk, ℕ, List};
-ghost use Rattle.ffi3_run.specs.RunMatches.{took};
 ghost use Rattle.ffi3_script_rules.specs.ReasonText.{text_of_path, text_of_step};
 ghost use Rattle.ffi3_json.specs.StepOf.{step_of};
 ghost use Rattle.ffi3_app.specs.Top.{ReportsFault, located_line};
@@ -15,13 +14,13 @@ use std::alloc::Global;
 /// Writes a line to the sink of faults, and says the status: the one handed in, or 4 where the line
 /// could not be written.
 pub fn tell<E: Sink>(faults: &mut E, line: &str, status: u8) -> u8
-    ensures { ReportsFault line.now status (took (E.taken faults.old) (E.faults faults.old)) (took (E.taken faults.new) (E.faults faults.new)) result }
+    ensures { ReportsFault line.now status (E.state faults.old) (E.state faults.new) result }
 {
     tell_bytes(faults, line.as_bytes(), status)
 }
 
 fn tell_bytes<E: Sink>(faults: &mut E, line: &[u8], status: u8) -> u8
-    ensures { ReportsFault line.now status (took (E.taken faults.old) (E.faults faults.old)) (took (E.taken faults.new) (E.faults faults.new)) result }
+    ensures { ReportsFault line.now status (E.state faults.old) (E.state faults.new) result }
 {
     match write_all(faults, line) {
         Ok(()) => status,
@@ -29,9 +28,9 @@ fn tell_bytes<E: Sink>(faults: &mut E, line: &[u8], status: u8) -> u8
     }
 }
 
-/// ReportsFault why there is no script, and says the status.
+/// Tells why there is no script, and says the status.
 pub fn tell_refusal<E: Sink>(alloc: Global, refusal: &Refusal, faults: &mut E) -> u8
-    ensures { TellsRefusal refusal.now (took (E.taken faults.old) (E.faults faults.old)) (took (E.taken faults.new) (E.faults faults.new)) result }
+    ensures { TellsRefusal refusal.now (E.state faults.old) (E.state faults.new) result }
 {
     match refusal {
         Refusal::ReadFault => tell(faults, "ffi3: read fault\n", 3),
@@ -55,7 +54,7 @@ pub fn tell_refusal<E: Sink>(alloc: Global, refusal: &Refusal, faults: &mut E) -
     }
 }
 
-// ReportsFault what is said of a place, where there was memory for the words.
+// Tells what is said of a place, where there was memory for the words.
 fn tell_place<E: Sink>(
     alloc: Global,
     path: &Where,
@@ -63,7 +62,7 @@ fn tell_place<E: Sink>(
     faults: &mut E,
 ) -> u8
     ensures { (text : List ℕ) → IfOk words (λ w. w ≡ text) → TellsPlace (located_line path.now text)
-        (took (E.taken faults.old) (E.faults faults.old)) (took (E.taken faults.new) (E.faults faults.new)) result }
+        (E.state faults.old) (E.state faults.new) result }
 {
     let Ok(words) = words else {
         return tell(faults, "ffi3: out of memory\n", 5);

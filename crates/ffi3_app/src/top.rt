@@ -4,19 +4,17 @@ ghost use Rattle.ffi3_io.specs.Sink.{Rose};
 ghost use Rattle.ffi3_script_rules.specs.Reading.{Reading, IsReading, script};
 ghost use Rattle.ffi3_script_rules.specs.Script.{Script as RulesScript};
 ghost use Rattle.ffi3_script_rules.specs.Natives.{NamedNative, names_of};
-ghost use Rattle.ffi3_run.specs.RunMatches.{took};
 ghost use Rattle.ffi3_app.specs.declared.words.Request.{Request};
 ghost use Rattle.ffi3_app.specs.Words.{IsStated, Takes};
 ghost use Rattle.ffi3_app.specs.Commands.{not_yet};
-ghost use Rattle.ffi3_app.specs.Top.{Says, given, handed_in, refusal_of, status_when_done};
+ghost use Rattle.ffi3_app.specs.Top.{Says, handed_in, refusal_of, status_when_done};
 
 use crate::load::load;
 use crate::tell::{tell, tell_refusal};
 use crate::words::{WordsFault, read_words};
 use crate::work::work;
-use crate::write::WriteEnd;
 use ffi3_body::Native;
-use ffi3_io::{Sink, Source};
+use ffi3_io::{IoError, Sink, Source};
 use ffi3_machine::Machine;
 use ffi3_script::Names;
 use std::alloc::Global;
@@ -50,22 +48,22 @@ pub fn ffi3<I: Source, O: Sink, E: Sink>(
     // What each status says, for scripts beside these natives: its cause, what was written, and what stayed as it was.
     ensures says { let handed : List NamedNative = map (λ b. handed_in (title b) (meaning b) (signatures b)) natives.now.items in
         Says (map string_bytes words.items) handed
-        (given (I.left input.old) (I.faults input.old)) (given (I.left input.new) (I.faults input.new))
-        (took (O.taken output.old) (O.faults output.old)) (took (O.taken output.new) (O.faults output.new))
-        (took (E.taken faults.old) (E.faults faults.old)) (took (E.taken faults.new) (E.faults faults.new))
+        (I.state input.old) (I.state input.new)
+        (O.state output.old) (O.state output.new)
+        (E.state faults.old) (E.state faults.new)
         machine.old machine.new result }
 
     // Where nothing fails, what stated words ask for is done with a script, and what is none is refused; want of memory alone is free.
     ensures complete { let handed : List NamedNative = map (λ b. handed_in (title b) (meaning b) (signatures b)) natives.now.items in
-        (r : Request) → IsStated (map string_bytes words.items) r → (all : List ℕ) → I.left input.old ≡ Some all →
+        (r : Request) → IsStated (map string_bytes words.items) r → (all : List ℕ) → (I.state input.old).left ≡ Some all →
         (s : RulesScript) → IsReading (names_of handed) all (script s) → not_yet r s ≡ None →
-        (Rose (I.faults input.old) (I.faults input.new) → ⊥) → (Rose (O.faults output.old) (O.faults output.new) → ⊥) →
-        (Rose (E.faults faults.old) (E.faults faults.new) → ⊥) → (result ≡ status_when_done r handed s) ⊎ (result ≡ 5) }
+        (Rose (I.state input.old).faults (I.state input.new).faults → ⊥) → (Rose (O.state output.old).faults (O.state output.new).faults → ⊥) →
+        (Rose (E.state faults.old).faults (E.state faults.new).faults → ⊥) → (result ≡ status_when_done r handed s) ⊎ (result ≡ 5) }
     ensures refuses { let handed : List NamedNative = map (λ b. handed_in (title b) (meaning b) (signatures b)) natives.now.items in
-        (r : Request) → IsStated (map string_bytes words.items) r → (all : List ℕ) → I.left input.old ≡ Some all →
+        (r : Request) → IsStated (map string_bytes words.items) r → (all : List ℕ) → (I.state input.old).left ≡ Some all →
         (reading : Reading) → IsReading (names_of handed) all reading → (line : List ℕ) → refusal_of r reading ≡ Some line →
-        (Rose (I.faults input.old) (I.faults input.new) → ⊥) → (Rose (O.faults output.old) (O.faults output.new) → ⊥) →
-        (Rose (E.faults faults.old) (E.faults faults.new) → ⊥) → (result ≡ 1) ⊎ (result ≡ 5) }
+        (Rose (I.state input.old).faults (I.state input.new).faults → ⊥) → (Rose (O.state output.old).faults (O.state output.new).faults → ⊥) →
+        (Rose (E.state faults.old).faults (E.state faults.new).faults → ⊥) → (result ≡ 1) ⊎ (result ≡ 5) }
     ensures knows_words { (r : Request) → IsStated (map string_bytes words.items) r → result ≡ 2 → ⊥ }
 
     // Words that are refused ask for nothing, and no words ask for two things.
@@ -73,9 +71,9 @@ pub fn ffi3<I: Source, O: Sink, E: Sink>(
     ensures ask_one { (q r : Request) → Takes (map string_bytes words.items) q → Takes (map string_bytes words.items) r → q ≡ r }
 
     // A count that is higher than before shows in the status.
-    ensures read_counted { I.faults input.old < I.faults input.new → (result ≡ 3) ⊎ (result ≡ 4) }
-    ensures write_counted { O.faults output.old < O.faults output.new → result ≡ 4 }
-    ensures telling_counted { E.faults faults.old < E.faults faults.new → result ≡ 4 }
+    ensures read_counted { (I.state input.old).faults < (I.state input.new).faults → (result ≡ 3) ⊎ (result ≡ 4) }
+    ensures write_counted { (O.state output.old).faults < (O.state output.new).faults → result ≡ 4 }
+    ensures telling_counted { (E.state faults.old).faults < (E.state faults.new).faults → result ≡ 4 }
 {
     let _natives = natives;
     answer(alloc, words, input, output, faults, machine)
@@ -91,9 +89,9 @@ fn answer<I: Source, O: Sink, E: Sink>(
     machine: &mut Machine,
 ) -> u8
     ensures says { Says (map string_bytes words.items) []
-        (given (I.left input.old) (I.faults input.old)) (given (I.left input.new) (I.faults input.new))
-        (took (O.taken output.old) (O.faults output.old)) (took (O.taken output.new) (O.faults output.new))
-        (took (E.taken faults.old) (E.faults faults.old)) (took (E.taken faults.new) (E.faults faults.new))
+        (I.state input.old) (I.state input.new)
+        (O.state output.old) (O.state output.new)
+        (E.state faults.old) (E.state faults.new)
         machine.old machine.new result }
     ensures knows_words { (r : Request) → IsStated (map string_bytes words.items) r → result ≡ 2 → ⊥ }
 {
@@ -109,7 +107,7 @@ fn answer<I: Source, O: Sink, E: Sink>(
     };
     match work(alloc, request, &script, machine, output) {
         Ok(status) => status,
-        Err(WriteEnd::NoMemory) => tell(faults, "ffi3: out of memory\n", 5),
-        Err(WriteEnd::Failed) => tell(faults, "ffi3: write fault\n", 4),
+        Err(IoError::NoMemory) => tell(faults, "ffi3: out of memory\n", 5),
+        Err(IoError::Failed) => tell(faults, "ffi3: write fault\n", 4),
     }
 }

@@ -12,3 +12,5 @@ mod lines;
 mod results;
 #[cfg(test)]
 mod runs;
+#[cfg(test)]
+mod slots;

@@ -3,10 +3,12 @@ ghost use Rattle.std.specs.Prelude.{◌≡◌, length};
 ghost use Rattle.ffi3_place_rules.specs.Sound.{IsSound, IsDetermined};
 
 use ffi3_amd64::Amd64;
-use ffi3_cif::{Cif, prep_cif_var};
+use ffi3_cif::{Cif, prep_cif, prep_cif_var};
+use ffi3_machine::{Event, EventKind};
 use ffi3_place::Abi;
-use ffi3_text::{layout_line, place_line, sig_line};
+use ffi3_text::{enter_line, keep_line, layout_line, leave_line, place_line, sig_line};
 use ffi3_types::{At, Bytes, FfiType, Fields, NoMemory, Sig, check_sig};
+use ffi3_values::{Values, integer};
 use std::alloc::Global;
 use std::test::Fail;
 
@@ -72,5 +74,40 @@ fn tells_layouts(rt: HostRuntime) -> Result<(), Fail> {
     };
     let line = layout_line(alloc, 3, &sig, At::Ret)?;
     assert_eq!(rt; line.as_slice(), b"sig 3 ret void\n".as_slice());
+    Ok(())
+}
+
+#[test]
+fn tells_a_trace(rt: HostRuntime) -> Result<(), Fail> {
+    let alloc = rt.alloc();
+    let mut types = Fields::new(alloc);
+    types.push(FfiType::S32)?;
+    let Ok(cif) = prep_cif::<Amd64>(alloc, FfiType::Pointer, types) else {
+        return Err("a fault".into());
+    };
+    let mut general = [0; 32];
+    general[3] = 0x1b;
+    general[15] = u64::MAX;
+    let event = Event {
+        kind: EventKind::Enter,
+        closure: 0x1_0000,
+        general,
+        floating: [0; 32],
+        sp: 0x7FFE_FFF8,
+    };
+    let mut args = Values::new(alloc);
+    args.push(integer(alloc, &FfiType::S32, -7)?)?;
+    let entry = enter_line(alloc, &cif, &event, &args)?;
+    assert_eq!(rt;
+        entry.as_slice(),
+        b"enter 0x10000 sp 0x7ffefff8 (-7)\n".as_slice()
+    );
+    let kept = keep_line::<Amd64>(alloc, &event)?;
+    let wanted = "keep 000000000000001b 0000000000000000 0000000000000000 0000000000000000 \
+        0000000000000000 ffffffffffffffff\n";
+    assert_eq!(rt; kept.as_slice(), wanted.as_bytes());
+    let value = integer(alloc, &FfiType::Pointer, 0xbef)?;
+    let back = leave_line(alloc, &cif, &event, &value)?;
+    assert_eq!(rt; back.as_slice(), b"leave sp 0x7ffefff8 0xbef\n".as_slice());
     Ok(())
 }

@@ -23,41 +23,17 @@ use Rattle.ffi3_place_rules.specs.Sound.{IsSound, argument_locs}
 use Rattle.ffi3_place_rules.proofs.Elements.{argument_read}
 use Rattle.ffi3_type_rules.specs.declared.limits.TheConstants.{STACK, STACK_TOP}
 use Rattle.ffi3_machine.specs.State.{State, stack_at, stored}
-use Rattle.ffi3_pieces.specs.Stored.{IsWritable, SameAt, WroteWithin}
+use Rattle.ffi3_pieces.specs.Stored.{IsWritable, SameAt, WroteOnly, WroteWithin}
 use Rattle.ffi3_pieces.specs.Standing.{IsReady, AreReady}
 use Rattle.ffi3_pieces.proofs.Arguments.{place_read}
-use Rattle.ffi3_pieces.proofs.Composing.{wrote_nothing, wrote_then, wrote_wider}
+use Rattle.ffi3_pieces.proofs.Composing.{only_nothing, only_then, only_wider}
 use Rattle.ffi3_pieces.proofs.Lawful.{all_ready}
 use Rattle.ffi3_pieces.proofs.Stepping.{same_word_in}
 use Rattle.ffi3_pieces.proofs.Putting.{stored_inside, stored_within}
 use Rattle.ffi3_body.specs.SeenActivation.{block_offset, arguments_in}
 use Rattle.ffi3_body.proofs.Blocks.{offset-turn, whole_within, arguments_by_each}
-use Rattle.ffi3_callee.specs.Loaded.{AreFound, IsFound, IsRead, WroteOnly, image_from}
+use Rattle.ffi3_callee.specs.Loaded.{AreFound, IsFound, IsRead, image_from}
 use Rattle.ffi3_callee.proofs.Placing.{stack_inside}
-
--- ---- writes to the stack alone
-
-pub only_nothing : (low high : ℕ) (m : State) → WroteOnly low high m m
-only_nothing low high m = record { within = wrote_nothing low high m; sp = refl; general = refl; floating = refl }
-
-pub only_then : (low high : ℕ) (a b c : State) → WroteOnly low high a b → WroteOnly low high b c → WroteOnly low high a c
-only_then low high a b c s t = record {
-  within = wrote_then low high a b c s.within t.within;
-  sp = t.sp ∙ s.sp;
-  general = t.general ∙ s.general;
-  floating = t.floating ∙ s.floating;
-}
-
-pub only_wider : (low high from to : ℕ) (a b : State) → from ≤ low → high ≤ to → WroteOnly low high a b → WroteOnly from to a b
-only_wider low high from to a b h k s = record { within = wrote_wider low high from to a b h k s.within; sp = s.sp; general = s.general; floating = s.floating }
-
-pub only_stored : (to : ℕ) (bytes : List ℕ) (old : State) → STACK ≤ to → to - STACK + length bytes ≤ length old.stack → WroteOnly to (to + length bytes) old (stored to bytes old)
-only_stored to bytes old low fits = record {
-  within = stored_within to bytes old low fits to (to + length bytes) (omega arith) (omega arith);
-  sp = refl;
-  general = refl;
-  floating = refl;
-}
 
 -- what was stored stands there
 pub stored_there : (to : ℕ) (bytes : List ℕ) (old : State) → STACK ≤ to → to - STACK + length bytes ≤ length old.stack → stack_at to (length bytes) (stored to bytes old) ≡ bytes

@@ -22,7 +22,7 @@ use Rattle.ffi3_place_rules.specs.Holds.{Carries, LeavesStand, OwnsArgument, Own
 use Rattle.ffi3_place_rules.specs.Sound.{IsSound, argument_locs, buffer_locs, copy_locs, hidden_locs, place_locs}
 use Rattle.ffi3_type_rules.specs.declared.limits.TheConstants.{STACK, STACK_TOP}
 use Rattle.ffi3_machine.specs.State.{State, image_of, scribbled, stack_at, with_sp}
-use Rattle.ffi3_pieces.specs.Stored.{IsPlace, WroteWithin}
+use Rattle.ffi3_pieces.specs.Stored.{IsPlace, WroteOnly, WroteWithin}
 use Rattle.ffi3_pieces.specs.Standing.{AreReady}
 use Rattle.ffi3_pieces.proofs.Composing.{wrote_then, wrote_wider}
 use Rattle.ffi3_pieces.proofs.Lawful.{all_ready, call_places, each_first}
@@ -31,7 +31,7 @@ use Rattle.ffi3_pieces.proofs.Stepping.{same_word_in}
 use Rattle.ffi3_body.specs.SeenActivation.{arguments_in}
 use Rattle.ffi3_place_rules.specs.declared.SaveWord.{SaveWord}
 use Rattle.ffi3_place_rules.specs.declared.SaveWord.TheVariants.{Register, Hidden as HiddenWord, Spare}
-use Rattle.ffi3_callee.specs.Loaded.{AreFound, WroteOnly, image_from}
+use Rattle.ffi3_callee.specs.Loaded.{AreFound, image_from}
 use Rattle.ffi3_callee.specs.Given.{IsAddressOf}
 use Rattle.ffi3_callee.specs.Received.{IsReceived, OwnsAtEntry, hidden_of}
 use Rattle.ffi3_callee.specs.Saved.{AreSaved, HiddenLies, IsSaveable, hidden_word}
@@ -134,10 +134,31 @@ hidden_in n k h Nothing all = tt
 hidden_in n k h (DirectRes pieces) all = tt
 hidden_in n k h (Hidden at buffer) all = lie_more n k h at all.0
 
-pub hidden_lies : (std : Standard) (s : Signature) (room : ℕ) → IsSound std s → frame_of std s ≤ room → HiddenLies room (hidden_of (plan_of std s).res)
-hidden_lies std s room sound h =
+hidden_in_frame : (std : Standard) (s : Signature) → IsSound std s → AllByRecursion (IsPlace (frame_of std s)) (hidden_locs (plan_of std s).res)
+hidden_in_frame std s sound =
     let p = plan_of std s in
-    hidden_in (frame_of std s) room h p.res (each_first (IsPlace (frame_of std s)) (hidden_locs p.res) (flat_map place_locs p.places) (each_first (IsPlace (frame_of std s)) (argument_locs p) (copy_locs s.arguments p.places ++ buffer_locs s.result_type p.res) (call_places std s sound)))
+    each_first (IsPlace (frame_of std s)) (hidden_locs p.res) (flat_map place_locs p.places) (each_first (IsPlace (frame_of std s)) (argument_locs p) (copy_locs s.arguments p.places ++ buffer_locs s.result_type p.res) (call_places std s sound))
+
+-- ---- where a callee's parts stand below an entry
+
+-- the numbers that the code has are the frame's start, the save area, the block and the place of a hidden result's address
+pub record Stands (std : Standard) (s : Signature) (m : State) (base area block : ℕ) (hidden : Option Loc) : Type 0 where
+  pub base_is : base ≡ m.sp + std.link
+  pub area_is : area ≡ m.sp - std.save
+  pub block_is : block + block_bytes s ≡ area
+  pub hidden_is : hidden ≡ hidden_of (plan_of std s).res
+
+pub stands : (std : Standard) (s : Signature) (m : State) (entry link save count : ℕ) (hidden : Option Loc) (r : Res) → entry ≡ m.sp → link ≡ std.link → save ≡ std.save → count ≡ block_bytes s → hidden ≡ hidden_of r → r ≡ (plan_of std s).res → STACK + std.save + block_bytes s ≤ m.sp → Stands std s m (entry + link) (entry - save) (entry - save - count) hidden
+stands std s m entry link save count hidden r entry_is link_is save_is count_is hidden_is r_is room = record {
+  base_is = omega (arith, entry_is, link_is);
+  area_is = omega (arith, entry_is, save_is);
+  block_is = omega (arith, entry_is, save_is, count_is, room);
+  hidden_is = hidden_is ∙ ap hidden_of r_is;
+}
+
+pub hidden_lies : (std : Standard) (s : Signature) (m : State) (base : ℕ) (hidden : Option Loc) → IsSound std s → base ≡ m.sp + std.link → hidden ≡ hidden_of (plan_of std s).res → m.sp + std.link + frame_of std s ≤ STACK_TOP → HiddenLies (STACK_TOP - base) hidden
+hidden_lies std s m base hidden sound base_is hidden_is high =
+    subst (HiddenLies (STACK_TOP - base)) (sym hidden_is) (hidden_in (frame_of std s) (STACK_TOP - base) (omega (arith, base_is, high)) (plan_of std s).res (hidden_in_frame std s sound))
 
 -- ---- the address of a hidden result's buffer
 
@@ -150,8 +171,7 @@ address_at link room m (Hidden at buffer) low lie own =
 
 pub address_owned : (std : Standard) (s : Signature) (m : State) (vs : List ValueTree) → IsSound std s → STACK ≤ m.sp → OwnsAtEntry std s m vs → IsAddressOf (m.sp + std.link) (hidden_word (m.sp + std.link) m (hidden_of (plan_of std s).res)) (plan_of std s).res
 address_owned std s m vs sound low own =
-    let p = plan_of std s in
-    address_at std.link (frame_of std s) m p.res low (each_first (IsPlace (frame_of std s)) (hidden_locs p.res) (flat_map place_locs p.places) (each_first (IsPlace (frame_of std s)) (argument_locs p) (copy_locs s.arguments p.places ++ buffer_locs s.result_type p.res) (call_places std s sound))) own.hidden
+    address_at std.link (frame_of std s) m (plan_of std s).res low (hidden_in_frame std s sound) own.hidden
 
 pub address_known : (std : Standard) (s : Signature) (m : State) (vs : List ValueTree) (entry base address : ℕ) (hidden : Option Loc) → IsSound std s → STACK ≤ m.sp → OwnsAtEntry std s m vs → entry ≡ m.sp → base ≡ m.sp + std.link → hidden ≡ hidden_of (plan_of std s).res → address ≡ hidden_word base m hidden → IsAddressOf (entry + std.link) address (plan_of std s).res
 address_known std s m vs entry base address hidden sound low own entry_is base_is hidden_is address_is =

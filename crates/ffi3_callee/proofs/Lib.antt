@@ -1,10 +1,9 @@
-mod Reading
-mod Loading
-mod Placing
-mod Copying
-mod SavedWords
-mod Results
-mod Return
-mod Entry
-mod Laws
-mod Keeping
+pub mod Placing
+pub mod Copying
+pub mod Moving
+pub mod SavedWords
+pub mod Results
+pub mod Return
+pub mod Entry
+pub mod Laws
+pub mod Keeping

@@ -1,13 +1,11 @@
 -- What is read from a place has the value that an image owns there.
-use Rattle.std.proofs.Common.{◌≡◌, ℕ, ◌+◌, ◌-◌, ◌^◌, ◌<◌, ◌≤◌, List, [], ◌∷◌, take, drop, get_or, length, ap, sym, ◌∙◌, arith}
+use Rattle.std.proofs.Common.{◌≡◌, ℕ, ◌+◌, ◌-◌, ◌≤◌, List, [], ◌∷◌, take, drop, get_or, length, ap, sym, ◌∙◌, arith}
 use Rattle.std.specs.List.{AllByRecursion}
-use Rattle.std.specs.Int.{w64, to_le_bytes}
-use Rattle.std.proofs.lemmas.List.{drop-drop, drop-take, take-take, get_or-take, get_or-drop}
+use Rattle.std.proofs.lemmas.List.{drop-drop, drop-take, take-take}
 use Rattle.ffi3_type_rules.specs.Tree.{Tree}
 use Rattle.ffi3_type_rules.specs.Layout.{Leaf, size_of, leaves_of}
 use Rattle.ffi3_type_rules.specs.Value.{value_in}
 use Rattle.ffi3_place_rules.specs.declared.Loc.{Loc}
-use Rattle.ffi3_place_rules.specs.declared.Loc.TheVariants.{S}
 use Rattle.ffi3_place_rules.specs.declared.Piece.{Piece}
 use Rattle.ffi3_place_rules.specs.declared.Place.TheVariants.{Direct, ByRef}
 use Rattle.ffi3_place_rules.specs.Image.{byte_at}
@@ -18,20 +16,8 @@ use Rattle.ffi3_type_rules.specs.declared.limits.TheConstants.{STACK}
 use Rattle.ffi3_machine.specs.State.{State, stack_at, with_sp}
 use Rattle.ffi3_pieces.specs.Stored.{IsPlace, word_in, IsWithin}
 use Rattle.ffi3_pieces.proofs.Owning.{image_byte}
-use Rattle.ffi3_pieces.proofs.Putting.{word_there}
-use Rattle.ffi3_pieces.proofs.Reading.{LeavesRead, ReadsLeaf}
-use Rattle.ffi3_callee.specs.Loaded.{AreBytesOf, AreLoaded, HaveByte, IsRead, image_from}
-use Rattle.ffi3_callee.proofs.Reading.{reads}
-
--- the eight bytes that the stack has from an address on
-pub stack_bytes : (base n : ℕ) (m : State) (bytes : List ℕ) → STACK ≤ base → bytes ≡ stack_at (base + n) 8 m → AreBytesOf base m (S n) bytes
-stack_bytes base n m bytes low is k h =
-    let there : base + n - STACK + k ≡ base + n + k - STACK = omega (arith, low) in
-    ap (λ b. get_or b k 0) is ∙ get_or-take 8 (drop (base + n - STACK) m.stack) k 0 h ∙ get_or-drop (base + n - STACK) m.stack k 0 ∙ ap (λ i. get_or m.stack i 0) there
-
-pub stack_word : (base n w : ℕ) (m : State) (bytes : List ℕ) → w < 2 ^ 64 → AreBytesOf base m (S n) bytes → to_le_bytes w64 w ≡ bytes → w ≡ word_in base m (S n)
-stack_word base n w m bytes small are is =
-    sym (word_there base n w m small (λ k h. sym (are k h) ∙ ap (λ b. get_or b k 0) (sym is)))
+use Rattle.ffi3_pieces.proofs.Reading.{LeavesRead, ReadsLeaf, reads}
+use Rattle.ffi3_callee.specs.Loaded.{AreLoaded, HaveByte, IsRead, image_from}
 
 pub parts_within : (t : Tree) (pieces : List Piece) (size : ℕ) → size ≡ size_of t → HaveAll t pieces → AllByRecursion (IsWithin size) pieces
 parts_within t pieces size is all =

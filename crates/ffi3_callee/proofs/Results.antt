@@ -6,7 +6,7 @@ use Rattle.std.proofs.lemmas.Bool.{cases_lt}
 use Rattle.ffi3_type_rules.specs.declared.Target.{Target}
 use Rattle.ffi3_type_rules.specs.declared.Target.TheVariants.{Amd64}
 use Rattle.ffi3_type_rules.specs.Tree.{Tree}
-use Rattle.ffi3_type_rules.specs.Layout.{size_of}
+use Rattle.ffi3_type_rules.specs.Layout.{leaves_of, size_of}
 use Rattle.ffi3_type_rules.specs.Signature.{Signature}
 use Rattle.ffi3_type_rules.specs.Value.{ValueTree, fits, value_in}
 use Rattle.ffi3_type_rules.specs.Isa.{isa_of}
@@ -19,11 +19,11 @@ use Rattle.ffi3_place_rules.specs.declared.Place.TheVariants.{Direct}
 use Rattle.ffi3_place_rules.specs.declared.Res.{Res}
 use Rattle.ffi3_place_rules.specs.declared.Res.TheVariants.{Nothing, Direct as DirectRes, Hidden}
 use Rattle.ffi3_place_rules.specs.Standard.{Standard, ResultSpot, no_result, in_result_pieces, in_buffer, plan_of, frame_of, result_at, buffer_end, frame_copies_end, round8}
-use Rattle.ffi3_place_rules.specs.Holds.{FillsAs, FillsResult, HoldsResult, OwnsResult, RegisterHolds}
+use Rattle.ffi3_place_rules.specs.Holds.{leaf_bytes, FillsAs, FillsResult, HoldsResult, OwnsResult, RegisterHolds}
 use Rattle.ffi3_place_rules.specs.Sound.{IsSound, ResultHasAll, piece_locs, result_locs}
 use Rattle.ffi3_type_rules.specs.declared.limits.TheConstants.{STACK, STACK_TOP}
 use Rattle.ffi3_machine.specs.State.{State, stack_at, with_sp}
-use Rattle.ffi3_pieces.specs.Stored.{IsPlace, byte_of, word_in, PieceStands, Stays, WroteWithin}
+use Rattle.ffi3_pieces.specs.Stored.{IsByteOf, IsPlace, byte_of, word_in, KeepsPadding, KeepsUnused, Stays, WroteWithin}
 use Rattle.ffi3_pieces.specs.Standing.{PiecesStand, IsReady}
 use Rattle.ffi3_pieces.proofs.Arguments.{lies_more}
 use Rattle.ffi3_pieces.proofs.Composing.{wrote_then}
@@ -33,7 +33,7 @@ use Rattle.ffi3_pieces.proofs.Stepping.{same_word_in}
 use Rattle.ffi3_callee.specs.Loaded.{image_from}
 use Rattle.ffi3_place_rules.specs.declared.SaveWord.{SaveWord}
 use Rattle.ffi3_callee.specs.Saved.{AreSaved}
-use Rattle.ffi3_callee.specs.Given.{IsSettable, RegisterHoldsWord, RegistersStay, ResultWrites, result_uses}
+use Rattle.ffi3_callee.specs.Given.{IsSettable, RegisterHoldsWord, RegistersStay, ResultKeepsUnused, ResultWrites, result_uses}
 use Rattle.ffi3_callee.proofs.Copying.{each_writable, stretch_stays}
 use Rattle.ffi3_callee.proofs.Placing.{stack_inside}
 
@@ -89,15 +89,15 @@ module _ (base : ℕ) (m : State) (t : Tree) (v : ValueTree) where
   same_words (F r) = refl
   same_words (S n) = refl
 
-  stand_there : (bytes : List ℕ) (pieces : List Piece) → AllByRecursion (PieceStands base m t v bytes) pieces → AllByRecursion (PieceStands base (with_sp base m) t v bytes) pieces
-  stand_there bytes [] stand = tt
-  stand_there bytes (p ∷ ps) stand = (
-    (λ k h. same_bytes p.loc k ∙ stand.0.0 k h, subst (λ w. FillsAs p.ext w t v) (same_words p.loc) stand.0.1),
-    stand_there bytes ps stand.1,
-  )
-
   pieces_there : (pieces : List Piece) → PiecesStand base m t v pieces → PiecesStand base (with_sp base m) t v pieces
-  pieces_there pieces stands = record { bytes = stands.bytes; sized = stands.sized; reads = stands.reads; stand = stand_there stands.bytes pieces stands.stand }
+  pieces_there [] stand = tt
+  pieces_there (p ∷ ps) stand = (
+    (
+      λ k h. subst (IsByteOf (leaves_of t) (leaf_bytes v) (p.off + k)) (sym (same_bytes p.loc k)) (stand.0.0 k h),
+      subst (λ w. FillsAs p.ext w t v) (same_words p.loc) stand.0.1,
+    ),
+    pieces_there ps stand.1,
+  )
 
 -- its places are registers
 pub direct_places : (std : Standard) (s : Signature) (pieces : List Piece) → IsSound std s → (plan_of std s).res ≡ DirectRes pieces → AllByRecursion (IsPlace 0) (piece_locs pieces)
@@ -177,3 +177,19 @@ written_target base t (Hidden at buffer) a b w = w.target
 pub hidden_writes : (base address : ℕ) (t : Tree) (res : Res) (at : Loc) (buffer : ℕ) (a b c : State) → address + size_of t ≤ STACK_TOP → res ≡ Hidden at buffer → address ≡ base + buffer → WroteWithin address (address + size_of t) a b → WroteWithin STACK_TOP STACK_TOP b c → ResultWrites base t res a c
 hidden_writes base address t res at buffer a b c high is address_is w q =
     subst (λ r. ResultWrites base t r a c) (sym is) (subst (λ n. WroteWithin n (n + size_of t) a c) address_is (wrote_then address (address + size_of t) a b c w (quiet address (address + size_of t) b c (omega (arith, high)) q)))
+
+-- ---- what no leaf has
+
+pub nothing_keeps : (base : ℕ) (t : Tree) (res : Res) (a b : State) → res ≡ Nothing → ResultKeepsUnused base t res a b
+nothing_keeps base t res a b is = subst (λ r. ResultKeepsUnused base t r a b) (sym is) tt
+
+pub direct_keeps : (base : ℕ) (t : Tree) (res : Res) (pieces : List Piece) (a b : State) → res ≡ DirectRes pieces → AllByRecursion (KeepsUnused base t a b) pieces → ResultKeepsUnused base t res a b
+direct_keeps base t res pieces a b is keep = subst (λ r. ResultKeepsUnused base t r a b) (sym is) keep
+
+-- the buffer, with a register set after it
+pub hidden_keeps : (base address : ℕ) (t : Tree) (res : Res) (at : Loc) (buffer : ℕ) (a b c : State) → res ≡ Hidden at buffer → address ≡ base + buffer → KeepsPadding address t a b → WroteWithin STACK_TOP STACK_TOP b c → ResultKeepsUnused base t res a c
+hidden_keeps base address t res at buffer a b c is address_is keep q =
+    subst (λ r. ResultKeepsUnused base t r a c) (sym is) (subst (λ n. KeepsPadding n t a c) address_is (λ i below pad. q.outside (address + i - STACK) (cases_lt (STACK + (address + i - STACK)) STACK_TOP) ∙ keep i below pad))
+
+pub keeps_from : (base other : ℕ) (t : Tree) (res : Res) (a b : State) → base ≡ other → ResultKeepsUnused base t res a b → ResultKeepsUnused other t res a b
+keeps_from base other t res a b is keep = subst (λ n. ResultKeepsUnused n t res a b) is keep

@@ -11,15 +11,14 @@ use Rattle.ffi3_place_rules.proofs.Tests.{each_at}
 use Rattle.ffi3_type_rules.specs.declared.limits.TheConstants.{STACK, STACK_TOP}
 use Rattle.ffi3_place_rules.specs.Agrees.{saved_registers}
 use Rattle.ffi3_machine.specs.State.{State, stored}
-use Rattle.ffi3_pieces.specs.Stored.{IsPlace, word_in, SameAt, Stays, WroteWithin}
-use Rattle.ffi3_pieces.proofs.Composing.{same_itself, same_then, wrote_nothing, wrote_then}
-use Rattle.ffi3_pieces.proofs.Putting.{stored_inside, stored_outside, word_there}
+use Rattle.ffi3_pieces.specs.Stored.{IsPlace, SameAt, Stays, WroteOnly, WroteWithin, word_in}
+use Rattle.ffi3_pieces.proofs.Composing.{only_nothing, only_then, only_wider, same_itself, same_then, wrote_nothing, wrote_then}
+use Rattle.ffi3_pieces.proofs.Putting.{only_stored, stored_inside, stored_outside, word_there}
 use Rattle.ffi3_pieces.proofs.Stepping.{same_word_in}
 use Rattle.ffi3_place_rules.specs.declared.SaveWord.{SaveWord}
 use Rattle.ffi3_place_rules.specs.declared.SaveWord.TheVariants.{Register, Hidden, Spare}
-use Rattle.ffi3_callee.specs.Loaded.{WroteOnly}
 use Rattle.ffi3_callee.specs.Saved.{AreGivenBack, AreSaved, HoldRegisters, IsRestorable, hidden_word, saved_word, word_to_save}
-use Rattle.ffi3_callee.proofs.Copying.{only_nothing, only_stored, only_then, only_wider, place_above}
+use Rattle.ffi3_callee.proofs.Copying.{place_above}
 
 -- ---- saving
 

@@ -11,7 +11,7 @@ use Rattle.ffi3_place_rules.specs.Standard.{Standard}
 use Rattle.ffi3_place_rules.specs.Sound.{IsNoneOf, listed, piece_locs}
 use Rattle.ffi3_type_rules.specs.declared.limits.TheConstants.{STACK_TOP}
 use Rattle.ffi3_machine.specs.State.{State}
-use Rattle.ffi3_pieces.specs.Stored.{IsPlace, word_in, IsWritable, WroteWithin}
+use Rattle.ffi3_pieces.specs.Stored.{IsPlace, word_in, IsWritable, KeepsPadding, KeepsUnused, WroteWithin}
 
 -- where there is such a register, it is one of 32 to which writes are not dropped
 abbrev pub IsSettable : Target → Option Loc → Type 0
@@ -50,3 +50,9 @@ abbrev pub ResultWrites : ℕ → Tree → Res → State → State → Type 0
 ResultWrites base t Nothing old new = WroteWithin base base old new
 ResultWrites base t (Direct pieces) old new = WroteWithin base base old new
 ResultWrites base t (Hidden at buffer) old new = WroteWithin (base + buffer) (base + buffer + size_of t) old new
+
+-- WHAT NO LEAF OF A RESULT HAS KEEPS WHAT STOOD THERE, in its registers or in its buffer
+abbrev pub ResultKeepsUnused : ℕ → Tree → Res → State → State → Type 0
+ResultKeepsUnused base t Nothing old new = ⊤
+ResultKeepsUnused base t (Direct pieces) old new = AllByRecursion (KeepsUnused base t old new) pieces
+ResultKeepsUnused base t (Hidden at buffer) old new = KeepsPadding (base + buffer) t old new

@@ -1,9 +1,8 @@
 -- Arguments that are read from their places, and what stays of the machine.
-use Rattle.std.specs.Prelude.{◌≡◌, ℕ, ◌+◌, ◌-◌, ◌<◌, ◌≤◌, ◌⊎◌, ⊤, List, get_or, length}
+use Rattle.std.specs.Prelude.{◌≡◌, ℕ, ◌+◌, ◌-◌, ◌≤◌, ⊤, List, get_or}
 use Rattle.std.specs.List.{AllByRecursion, Any}
 use Rattle.ffi3_type_rules.specs.Tree.{Tree}
 use Rattle.ffi3_type_rules.specs.Value.{ValueTree, value_in}
-use Rattle.ffi3_place_rules.specs.declared.Loc.{Loc}
 use Rattle.ffi3_place_rules.specs.declared.Piece.{Piece}
 use Rattle.ffi3_place_rules.specs.declared.Place.{Place}
 use Rattle.ffi3_place_rules.specs.declared.Place.TheVariants.{Direct, ByRef}
@@ -11,29 +10,12 @@ use Rattle.ffi3_place_rules.specs.Image.{Image}
 use Rattle.ffi3_place_rules.specs.Holds.{Carries, OwnsArgument}
 use Rattle.ffi3_type_rules.specs.declared.limits.TheConstants.{STACK_TOP}
 use Rattle.ffi3_machine.specs.State.{State, image_of, with_sp}
-use Rattle.ffi3_pieces.specs.Stored.{byte_of, word_in, WroteWithin}
+use Rattle.ffi3_pieces.specs.Stored.{byte_of, word_in}
 use Rattle.ffi3_pieces.specs.Standing.{PlaceLies}
 
 -- the machine's registers, and so many bytes of its stack from an address on
 abbrev pub image_from : ℕ → ℕ → State → Image
 image_from base len m = image_of len (with_sp base m)
-
--- THE STACK CHANGES ONLY FROM `low` TO `high`, and registers do not
-pub record WroteOnly (low high : ℕ) (old new : State) : Type 0 where
-  pub within : WroteWithin low high old new
-  pub sp : new.sp ≡ old.sp
-  pub general : new.general ≡ old.general
-  pub floating : new.floating ≡ old.floating
-
--- these are the eight bytes of a place
-abbrev pub AreBytesOf : ℕ → State → Loc → List ℕ → Type 0
-AreBytesOf base m l bytes = (k : ℕ) → k < 8 → get_or bytes k 0 ≡ byte_of base m l k
-
--- the bytes that a piece carries are those of its place, and the others stay
-pub record IsPieceLoaded (base : ℕ) (m : State) (p : Piece) (old new : List ℕ) : Type 0 where
-  pub sized : length new ≡ length old
-  pub here : (o : ℕ) → Carries o p → get_or new o 0 ≡ byte_of base m p.loc (o - p.off)
-  pub others : (o : ℕ) → (Carries o p) ⊎ (get_or new o 0 ≡ get_or old o 0)
 
 -- the pieces that carry a byte have this one
 abbrev pub HaveByte : ℕ → State → ℕ → ℕ → List Piece → Type 0

@@ -1,5 +1,5 @@
 // A whole activation of a callee that takes its arguments and gives a value.
-ghost use Rattle.std.specs.Prelude.{◌≡◌, ℕ, ◌+◌, ◌<◌, ◌≤◌, List, length, true};
+ghost use Rattle.std.specs.Prelude.{◌≡◌, ℕ, ◌+◌, ◌<◌, ◌≤◌, List, true};
 ghost use Rattle.ffi3_type_rules.specs.declared.limits.TheConstants.{STACK, STACK_TOP};
 ghost use Rattle.ffi3_type_rules.specs.Value.{ValueTree, fits};
 ghost use Rattle.ffi3_values.specs.ValueOf.{value_of};
@@ -18,7 +18,6 @@ use ffi3_values::Value;
 /// From an entry up to its return: takes the arguments, gives the value, and gives all else back. After the return the registers and the
 /// stack pointer are the entry's, as far as a callee keeps them, and the result stands where the caller looks for it.
 pub fn answer<A: Abi>(machine: &mut Machine, cif: &Cif<A>, value: &Value)
-    requires few { length A.standard.save_area < 256 }
     requires target { machine.old.target ≡ A.TARGET }
     requires room { STACK + A.standard.save + block_bytes cif.now ≤ machine.old.sp }
     requires frame { machine.old.sp + A.standard.link + frame_of A.standard cif.now ≤ STACK_TOP }

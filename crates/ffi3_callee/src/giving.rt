@@ -1,5 +1,5 @@
 // The result that a callee gives.
-ghost use Rattle.std.specs.Prelude.{◌≡◌, ℕ, ◌+◌, ◌-◌, ◌≤◌, Option, length, true};
+ghost use Rattle.std.specs.Prelude.{◌≡◌, ℕ, ◌+◌, ◌-◌, ◌≤◌, Option, true};
 ghost use Rattle.std.specs.List.{AllByRecursion};
 ghost use Rattle.ffi3_type_rules.specs.Layout.{size_of};
 ghost use Rattle.ffi3_type_rules.specs.Fault.{IsResultType};
@@ -12,10 +12,10 @@ ghost use Rattle.ffi3_place_rules.specs.Holds.{HoldsResult};
 ghost use Rattle.ffi3_place_rules.specs.Sound.{AreApart, IsPieceOf, listed, piece_locs, result_locs};
 ghost use Rattle.ffi3_type_rules.specs.declared.limits.TheConstants.{STACK, STACK_TOP};
 ghost use Rattle.ffi3_machine.specs.State.{State, stack_at};
-ghost use Rattle.ffi3_pieces.specs.Stored.{IsPlace, IsWritable, Stays, WroteWithin};
+ghost use Rattle.ffi3_pieces.specs.Stored.{IsPlace, IsWritable, KeepsPadding, KeepsUnused, Stays, WroteOnly, WroteWithin};
 ghost use Rattle.ffi3_pieces.specs.Standing.{PiecesStand};
-ghost use Rattle.ffi3_callee.specs.Loaded.{WroteOnly, image_from};
-ghost use Rattle.ffi3_callee.specs.Given.{IsSettable, RegisterHoldsWord, IsAddressOf, RegistersStay, ReservedStay, ResultWrites, result_uses};
+ghost use Rattle.ffi3_callee.specs.Loaded.{image_from};
+ghost use Rattle.ffi3_callee.specs.Given.{IsSettable, RegisterHoldsWord, IsAddressOf, RegistersStay, ReservedStay, ResultKeepsUnused, ResultWrites, result_uses};
 ghost use Rattle.ffi3_callee.specs.Received.{IsIncoming};
 ghost use Rattle.ffi3_callee.specs.Saved.{AreSaved};
 
@@ -29,25 +29,22 @@ use ffi3_place::{Abi, Loc, Pieces, Res};
 use ffi3_types::FfiType;
 use ffi3_values::{Value, write_bytes};
 
-// Stores a result in registers, and fills the rest of them.
+// Stores a result in registers, and fills the rest of them. What no leaf has keeps what stood there.
 fn give_pieces(machine: &mut Machine, base: u64, pieces: &Pieces, ty: &FfiType, value: &Value)
     requires low { STACK ≤ base }
     requires high { base ≤ STACK_TOP }
     requires lie { AllByRecursion (IsPlace 0) (piece_locs pieces.now) }
-    requires deep { AllByRecursion (IsPlace (STACK_TOP - base)) (piece_locs pieces.now) }
     requires writable { AllByRecursion (IsWritable machine.old.target) (piece_locs pieces.now) }
     requires apart { AreApart (piece_locs pieces.now) }
     requires parts { AllByRecursion (IsPieceOf (tree_of ty.now)) pieces.now }
     requires right { IsResultType (tree_of ty.now) }
     requires fits { fits (tree_of ty.now) (value_of value.now) ≡ true }
     ensures stand { PiecesStand base machine.new (tree_of ty.now) (value_of value.now) pieces.now }
+    ensures unused { AllByRecursion (KeepsUnused base (tree_of ty.now) machine.old machine.new) pieces.now }
     ensures stays { Stays base (piece_locs pieces.now) machine.old machine.new }
     ensures within { WroteWithin base base machine.old machine.new }
 {
-    let mut room = [0; 1024];
-    let bytes = &mut room[..size_of(ty) as usize];
-    write_bytes(ty, value, bytes);
-    store_pieces(machine, base, pieces, ty, value, bytes);
+    store_pieces(machine, base, pieces, ty, value);
 }
 
 // Stores a result in the caller's buffer, whose padding keeps what stood there.
@@ -57,6 +54,7 @@ fn give_buffer(machine: &mut Machine, address: u64, ty: &FfiType, value: &Value)
     requires right { IsResultType (tree_of ty.now) }
     requires fits { fits (tree_of ty.now) (value_of value.now) ≡ true }
     ensures reads { value_in (tree_of ty.now) (stack_at address (size_of (tree_of ty.now)) machine.new) ≡ value_of value.now }
+    ensures unused { KeepsPadding address (tree_of ty.now) machine.old machine.new }
     ensures only { WroteOnly address (address + size_of (tree_of ty.now)) machine.old machine.new }
 {
     // its contract tells what is true of every machine
@@ -103,6 +101,7 @@ fn give<A: Abi>(
     requires result_writable { AllByRecursion (IsWritable machine.old.target) (result_locs (plan_of A.standard cif.now).res) }
     requires fits { fits cif.now.result_type (value_of value.now) ≡ true }
     ensures holds { HoldsResult A.standard cif.now (value_of value.now) (image_from base (frame_of A.standard cif.now) machine.new) }
+    ensures unused { ResultKeepsUnused base cif.now.result_type (plan_of A.standard cif.now).res machine.old machine.new }
     ensures registers { RegistersStay (result_uses A.standard (plan_of A.standard cif.now).res) machine.old machine.new }
     ensures writes { ResultWrites base cif.now.result_type (plan_of A.standard cif.now).res machine.old machine.new }
     ensures sp { machine.new.sp ≡ machine.old.sp }
@@ -121,12 +120,13 @@ fn give<A: Abi>(
 }
 
 /// Gives a result: in registers, extended as the standard says, or in the caller's buffer, whose
-/// address the standard's register for it then tells.
+/// address the standard's register for it then tells. What no leaf of it has keeps what stood there.
 pub fn give_result<A: Abi>(machine: &mut Machine, cif: &Cif<A>, incoming: &Incoming, value: &Value)
     requires target { machine.old.target ≡ A.TARGET }
     requires incoming { IsIncoming A.standard cif.now incoming.now }
     requires fits { fits cif.now.result_type (value_of value.now) ≡ true }
     ensures holds { HoldsResult A.standard cif.now (value_of value.now) (image_from (incoming.now.entry + A.standard.link) (frame_of A.standard cif.now) machine.new) }
+    ensures unused { ResultKeepsUnused (incoming.now.entry + A.standard.link) cif.now.result_type (plan_of A.standard cif.now).res machine.old machine.new }
     ensures registers { RegistersStay (result_uses A.standard (plan_of A.standard cif.now).res) machine.old machine.new }
     ensures reserved { ReservedStay A.standard machine.old machine.new }
     ensures saved { (base : ℕ) (hidden : Option Loc) (entry : State) → AreSaved (incoming.now.entry - A.standard.save) base hidden A.standard.save_area entry machine.old → AreSaved (incoming.now.entry - A.standard.save) base hidden A.standard.save_area entry machine.new }

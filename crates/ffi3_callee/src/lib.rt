@@ -1,25 +1,19 @@
 //! The callee's side of a call, by any calling standard.
 #![tactic(auto)]
 
-ghost use Rattle.std.specs.Prelude.{◌≡◌, ℕ, ◌+◌, ◌-◌, ◌<◌, ◌≤◌, List, length, slice_index_or, true};
-ghost use Rattle.std.specs.List.{AllByRecursion};
-ghost use Rattle.std.specs.Int.{w64, to_le_bytes};
+ghost use Rattle.std.specs.Prelude.{◌≡◌, ◌+◌, ◌-◌, ◌<◌, ◌≤◌, List, length, slice_index_or, true};
 ghost use Rattle.ffi3_type_rules.specs.declared.limits.TheConstants.{STACK, STACK_TOP};
 ghost use Rattle.ffi3_type_rules.specs.Isa.{isa_of};
 ghost use Rattle.ffi3_type_rules.specs.Tree.{tree_at};
 ghost use Rattle.ffi3_type_rules.specs.Layout.{size_of};
-ghost use Rattle.ffi3_type_rules.specs.Fault.{IsResultType};
 ghost use Rattle.ffi3_type_rules.specs.Signature.{SignatureHasNoFault};
 ghost use Rattle.ffi3_type_rules.specs.Value.{ValueTree, value_in, void_value};
-ghost use Rattle.ffi3_types.specs.TreeOf.{tree_of};
-ghost use Rattle.ffi3_place_rules.specs.Sound.{PlaceHasAll};
 ghost use Rattle.ffi3_place_rules.specs.Holds.{OwnsArguments};
 ghost use Rattle.ffi3_place_rules.specs.Standard.{block_bytes, frame_of, plan_of};
 ghost use Rattle.ffi3_machine.specs.State.{scribbled_floating, scribbled_general, stack_at};
 ghost use Rattle.ffi3_body.specs.SeenActivation.{arguments_in, block_offset};
-ghost use Rattle.ffi3_pieces.specs.Stored.{IsPlace, IsWithin, word_in};
-ghost use Rattle.ffi3_pieces.specs.Standing.{PlaceLies};
-ghost use Rattle.ffi3_callee.specs.Loaded.{AreBytesOf, AreFound, AreLoaded, IsFound, IsPieceLoaded, IsRead, WroteOnly, image_from};
+ghost use Rattle.ffi3_pieces.specs.Stored.{WroteOnly};
+ghost use Rattle.ffi3_callee.specs.Loaded.{AreFound, image_from};
 ghost use Rattle.ffi3_callee.specs.Given.{ReservedStay};
 ghost use Rattle.ffi3_callee.specs.Received.{IsIncoming, IsReceived, OwnsAtEntry, hidden_of};
 
@@ -27,17 +21,20 @@ mod answering;
 mod giving;
 mod restoring;
 mod saving;
+mod taking;
 
 pub use answering::answer;
 use ffi3_cif::Cif;
 use ffi3_machine::Machine;
+use ffi3_pieces::{load_piece, place_word};
 use ffi3_place::parts::{argument, count_of, size_of};
-use ffi3_place::{Abi, Loc, Piece, Pieces, Place, Res};
+use ffi3_place::{Abi, Loc, Pieces, Place, Res};
 use ffi3_type_rules::round_up;
 use ffi3_types::{FfiType, Sig};
 pub use giving::give_result;
 pub use restoring::restore;
 use saving::{hidden_word, save_words};
+use taking::copy_argument;
 
 /// What a callee remembers of its entry until it returns: the addresses of its copy of the arguments and of a hidden result's buffer, and the stack pointer.
 #[derive(Debug, Drop)]
@@ -45,118 +42,6 @@ pub struct Incoming {
     block: u64,
     address: u64,
     entry: u64,
-}
-
-// The number of eight bytes, the lowest first.
-fn word_of(bytes: [u8; 8]) -> u64
-    ensures { to_le_bytes w64 result ≡ bytes }
-{
-    u64::from_le_bytes(bytes)
-}
-
-// The eight bytes of a place. Stack places count from the address `base`.
-fn place_bytes(machine: &Machine, base: u64, at: Loc) -> [u8; 8]
-    requires low { STACK ≤ base }
-    requires high { base ≤ STACK_TOP }
-    requires lies { IsPlace (STACK_TOP - base) at }
-    ensures { AreBytesOf base machine.now at result }
-{
-    // its contract tells what is true of every machine
-    let _m = machine.sp();
-    match at {
-        Loc::G(r) => machine.g(r).to_le_bytes(),
-        Loc::F(r) => machine.f(r).to_le_bytes(),
-        Loc::S(n) => {
-            let mut bytes = [0; 8];
-            bytes.copy_from_slice(machine.lend_stack(base + n as u64, 8));
-            bytes
-        }
-    }
-}
-
-// The number in a place. Stack places count from the address `base`.
-fn place_word(machine: &Machine, base: u64, at: Loc) -> u64
-    requires low { STACK ≤ base }
-    requires high { base ≤ STACK_TOP }
-    requires lies { IsPlace (STACK_TOP - base) at }
-    ensures { result ≡ word_in base machine.now at }
-{
-    match at {
-        Loc::G(r) => machine.g(r),
-        Loc::F(r) => machine.f(r),
-        Loc::S(_) => word_of(place_bytes(machine, base, at)),
-    }
-}
-
-// Reads a piece of a value from its place.
-fn load_piece(machine: &Machine, base: u64, piece: &Piece, out: &mut [u8])
-    requires low { STACK ≤ base }
-    requires high { base ≤ STACK_TOP }
-    requires lies { IsPlace (STACK_TOP - base) piece.now.loc }
-    requires within { IsWithin (length out.old) piece.now }
-    ensures { IsPieceLoaded base machine.now piece.now out.old out.new }
-{
-    let bytes = place_bytes(machine, base, piece.loc);
-    let start = piece.off as usize;
-    let len = piece.len as usize;
-    out[start..start + len].copy_from_slice(&bytes[..len]);
-}
-
-// Reads all pieces of a value.
-fn load_pieces(machine: &Machine, base: u64, pieces: &Pieces, out: &mut [u8])
-    requires low { STACK ≤ base }
-    requires high { base ≤ STACK_TOP }
-    requires lie { AllByRecursion (λ p. IsPlace (STACK_TOP - base) p.loc) pieces.now }
-    requires within { AllByRecursion (IsWithin (length out.old)) pieces.now }
-    ensures sized { length out.new ≡ length out.old }
-    ensures loaded { AreLoaded base machine.now pieces.now out.new }
-{
-    for i in 0..pieces.len() {
-        load_piece(machine, base, pieces.get(i), out);
-    }
-}
-
-// Reads an argument from its place, or from the address that is found there.
-fn load_place(machine: &Machine, base: u64, place: &Place, ty: &FfiType, out: &mut [u8])
-    requires low { STACK ≤ base }
-    requires high { base ≤ STACK_TOP }
-    requires lies { PlaceLies (STACK_TOP - base) (tree_of ty.now) place.now }
-    requires has_all { PlaceHasAll (tree_of ty.now) place.now }
-    requires found { IsFound base machine.now place.now }
-    requires sized { length out.old ≡ size_of (tree_of ty.now) }
-    ensures sized { length out.new ≡ length out.old }
-    ensures read { IsRead base machine.now (tree_of ty.now) place.now out.new }
-{
-    // its contract tells what is true of every machine
-    let _m = machine.sp();
-    let _ty = ty;
-    match place {
-        Place::Direct(pieces) => load_pieces(machine, base, pieces, out),
-        Place::ByRef { at, .. } => {
-            let start = place_word(machine, base, *at);
-            out.copy_from_slice(machine.lend_stack(start, out.len() as u64));
-        }
-    }
-}
-
-// Copies an argument from its place to an address.
-fn copy_argument(machine: &mut Machine, base: u64, place: &Place, ty: &FfiType, to: u64)
-    requires low { STACK ≤ to }
-    requires below { to + size_of (tree_of ty.now) ≤ base }
-    requires high { base ≤ STACK_TOP }
-    requires lies { PlaceLies (STACK_TOP - base) (tree_of ty.now) place.now }
-    requires has_all { PlaceHasAll (tree_of ty.now) place.now }
-    requires found { IsFound base machine.old place.now }
-    requires right { IsResultType (tree_of ty.now) }
-    ensures read { IsRead base machine.old (tree_of ty.now) place.now (stack_at to (size_of (tree_of ty.now)) machine.new) }
-    ensures only { WroteOnly to (to + size_of (tree_of ty.now)) machine.old machine.new }
-{
-    // its contract tells what is true of every machine
-    let _m = machine.sp();
-    let mut room = [0; 1024];
-    let bytes = &mut room[..size_of(ty) as usize];
-    load_place(machine, base, place, ty, bytes);
-    machine.store_stack(to, bytes);
 }
 
 // Copies the arguments into the block at an address, one behind the other, each in whole
@@ -177,7 +62,7 @@ fn copy_arguments<A: Abi>(machine: &mut Machine, cif: &Cif<A>, base: u64, block:
     let mut to = block;
     for i in 0..count_of(sig) {
         let ty = argument(sig, i);
-        copy_argument(machine, base, cif.place(i), ty, to);
+        copy_argument(machine, base, cif.place(i), cif.runs(i), ty, to);
         to += round_up(size_of(ty), 8);
     }
 }
@@ -196,7 +81,6 @@ fn hidden_place(place: &Res) -> Option<Loc>
 /// At an entry: saves the registers that are to be given back, copies the arguments into the block below them, where sp then is,
 /// and scribbles on all registers. It does not know the values.
 pub fn receive<A: Abi>(machine: &mut Machine, cif: &Cif<A>) -> Incoming
-    requires few { length A.standard.save_area < 256 }
     requires room { STACK + A.standard.save + block_bytes cif.now ≤ machine.old.sp }
     requires frame { machine.old.sp + A.standard.link + frame_of A.standard cif.now ≤ STACK_TOP }
     requires some { (vs : List ValueTree) × OwnsAtEntry A.standard cif.now machine.old vs }

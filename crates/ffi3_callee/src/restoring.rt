@@ -1,5 +1,5 @@
 // The end of a callee's activation, before its return.
-ghost use Rattle.std.specs.Prelude.{◌≡◌, ℕ, ◌+◌, ◌-◌, ◌<◌, Option, length};
+ghost use Rattle.std.specs.Prelude.{◌≡◌, ℕ, ◌-◌, ◌<◌, Option};
 ghost use Rattle.ffi3_type_rules.specs.declared.limits.TheConstants.{STACK_TOP};
 ghost use Rattle.ffi3_type_rules.specs.Value.{ValueTree};
 ghost use Rattle.ffi3_place_rules.specs.declared.Loc.{Loc};
@@ -22,7 +22,6 @@ use ffi3_place::Abi;
 /// Gives back the saved registers and the stack: sp is the entry's. A result that was given stays, and after the return the registers are
 /// those that a callee keeps.
 pub fn restore<A: Abi>(machine: &mut Machine, cif: &Cif<A>, incoming: Incoming)
-    requires few { length A.standard.save_area < 256 }
     requires target { machine.old.target ≡ A.TARGET }
     requires incoming { IsIncoming A.standard cif.now incoming }
     ensures given_back { (value : Loc → ℕ) → AreGivenBack (incoming.entry - A.standard.save) A.standard.save_area value machine.old machine.new }

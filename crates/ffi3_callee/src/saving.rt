@@ -4,18 +4,15 @@ ghost use Rattle.std.specs.List.{AllByRecursion};
 ghost use Rattle.ffi3_type_rules.specs.declared.limits.TheConstants.{STACK, STACK_TOP};
 ghost use Rattle.ffi3_place_rules.specs.declared.Loc.{Loc};
 ghost use Rattle.ffi3_place_rules.specs.Agrees.{saved_registers};
-ghost use Rattle.ffi3_pieces.specs.Stored.{IsPlace, Stays, WroteWithin, word_in};
-ghost use Rattle.ffi3_callee.specs.Loaded.{WroteOnly};
+ghost use Rattle.ffi3_pieces.specs.Stored.{Stays, WroteOnly, WroteWithin, word_in};
 ghost use Rattle.ffi3_callee.specs.Saved.{AreGivenBack, AreSaved, HiddenLies, IsRestorable, IsSaveable, hidden_word, saved_word, word_to_save};
 
-use crate::place_word;
 use ffi3_machine::{Machine, STACK_TOP};
-use ffi3_pieces::put_word;
+use ffi3_pieces::{place_word, put_word};
 use ffi3_place::{Abi, Loc, SaveWord};
 
 // How many words the save area has.
 fn count_of_words<A: Abi>() -> u8
-    requires { length A.standard.save_area < 256 }
     ensures { result ≡ length A.standard.save_area }
 {
     (A::SAVE / 8) as u8
@@ -60,7 +57,6 @@ fn word_to_save(machine: &Machine, base: u64, hidden: Option<Loc>, word: SaveWor
 // Saves registers and a hidden result's address, one word behind the other from an address on.
 // Stack places count from the address `base`.
 pub fn save_words<A: Abi>(machine: &mut Machine, from: u64, base: u64, hidden: Option<Loc>)
-    requires few { length A.standard.save_area < 256 }
     requires low { STACK ≤ from }
     requires below { from + 8 * length A.standard.save_area ≤ base }
     requires high { base ≤ STACK_TOP }
@@ -106,7 +102,6 @@ fn restore_word(machine: &mut Machine, from: u64, i: u32, word: SaveWord)
 
 // Gives the saved registers back.
 pub fn restore_words<A: Abi>(machine: &mut Machine, from: u64)
-    requires few { length A.standard.save_area < 256 }
     requires low { STACK ≤ from }
     requires high { from + 8 * length A.standard.save_area ≤ STACK_TOP }
     requires registers { AllByRecursion (IsRestorable machine.old.target) A.standard.save_area }

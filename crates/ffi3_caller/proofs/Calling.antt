@@ -25,13 +25,13 @@ use Rattle.ffi3_place_rules.specs.Sound.{Apart, IsNoneOf, IsSound, PlacesHaveAll
 use Rattle.ffi3_machine.specs.State.{State, image_of, filled, stored, lowered, scribbled, scribbled_general, scribbled_register, with_sp}
 use Rattle.ffi3_machine.specs.Scribbled.{get_or-scribbled_general}
 use Rattle.ffi3_pieces.specs.Stored.{stack_byte, IsPlace, IsWritable, SameAt, Stays, WroteWithin}
-use Rattle.ffi3_pieces.specs.Standing.{AllStand, all_uses, HiddenStands}
+use Rattle.ffi3_pieces.specs.Standing.{AllKeepUnused, AllStand, all_uses, HiddenStands}
 use Rattle.ffi3_pieces.proofs.Composing.{same_then, none_append, wrote_then}
 use Rattle.ffi3_pieces.proofs.Putting.{stored_inside, stored_within}
 use Rattle.ffi3_pieces.proofs.Stepping.{same_word_in}
 use Rattle.ffi3_pieces.proofs.Owning.{image_word, owned, filled as all_filled}
 use Rattle.ffi3_pieces.proofs.Lawful.{each_first, each_rest, each_join, each_map, apart_first, apart_across, across_none, across_first, uses_each, machine_places, call_places, all_ready}
-use Rattle.ffi3_pieces.proofs.Arguments.{all_stay}
+use Rattle.ffi3_pieces.proofs.Arguments.{all_keep_stay, all_stay}
 use Rattle.ffi3_caller.specs.Called.{CountStands}
 
 -- ---- the frame
@@ -219,15 +219,16 @@ pub record IsCallStored (std : Standard) (s : Signature) (vs : List ValueTree) (
   pub hidden : OwnsHidden (image_of (frame_of std s) d) 0 (plan_of std s).res
   pub vectors : RegisterHolds (image_of (frame_of std s) d) std.vector_count (plan_of std s).vectors
   pub others : (l : Loc) → IsPlace 0 l → IsNoneOf (argument_locs (plan_of std s) ++ listed std.vector_count) l → SameAt 0 l z d
+  pub unused : AllKeepUnused o.sp o d s.arguments (plan_of std s).places
   pub free : (at : ℕ) → IsNoneOf (argument_locs (plan_of std s) ++ copy_locs s.arguments (plan_of std s).places) (S at) → SameAt o.sp (S at) o d
   pub within : WroteWithin o.sp (o.sp + frame_of std s) o d
 
 pub call_stored : (std : Standard) (s : Signature) → IsSound std s → SignatureHasNoFault s → (vs : List ValueTree) (target : Target) (base : ℕ) (r : Res) (k : Option Loc) (n : ℕ) (z o a b d : State) → base ≡ o.sp → STACK ≤ base → r ≡ (plan_of std s).res → k ≡ std.vector_count → n ≡ (plan_of std s).vectors → AllByRecursion (IsWritable target) (argument_locs (plan_of std s)) → AllByRecursion (IsPlace 0) (listed k) → all_fit (trees_of s.arguments) (values_of vs) ≡ true →
     ((l : Loc) → IsPlace 0 l → SameAt 0 l z o) →
-    AllStand o.sp a s.arguments (plan_of std s).places vs → Stays o.sp (all_uses s.arguments (plan_of std s).places) o a → WroteWithin o.sp (o.sp + frame_of std s) o a →
+    AllStand o.sp a s.arguments (plan_of std s).places vs → Stays o.sp (all_uses s.arguments (plan_of std s).places) o a → WroteWithin o.sp (o.sp + frame_of std s) o a → AllKeepUnused o.sp o a s.arguments (plan_of std s).places →
     HiddenStands base b r → Stays base (hidden_locs r) a b → ((room : ℕ) → AllByRecursion (IsPlace room) (hidden_locs r) → WroteWithin base (base + room) a b) →
     CountStands base d k n → Stays base (listed k) b d → ((room : ℕ) → WroteWithin base (base + room) b d) → IsCallStored std s vs z o d
-call_stored std s sound right vs target base r k n z o a b d is low res_is count_is number_is write registers fit opened stand places_stay places_within hidden_stands hidden_stay hidden_within told count_stay count_within =
+call_stored std s sound right vs target base r k n z o a b d is low res_is count_is number_is write registers fit opened stand places_stay places_within places_keep hidden_stands hidden_stay hidden_within told count_stay count_within =
     let stand_a = subst (λ x. AllStand x a s.arguments (plan_of std s).places vs) (sym is) stand in
     let first = subst (λ x. Stays x (all_uses s.arguments (plan_of std s).places) o a) (sym is) places_stay in
     let hidden_b = subst (HiddenStands base b) res_is hidden_stands in
@@ -249,6 +250,10 @@ call_stored std s sound right vs target base r k n z o a b d is low res_is count
       hidden = hidden_owned d (frame_of std s) (plan_of std s).res low_d (hidden_lies std s sound (frame_of std s) (omega arith)) (subst (λ x. HiddenStands x d (plan_of std s).res) base_is whole.hidden);
       vectors = count_told d (frame_of std s) std.vector_count (plan_of std s).vectors low_d in_registers told_d;
       others = λ l h none. others_same std s sound base l z o a b d h none (opened l h) first second third;
+      unused = subst (λ x. AllKeepUnused x o d s.arguments (plan_of std s).places) is
+          (all_keep_stay base (listed std.vector_count) o b d s.arguments (plan_of std s).places (count_clear std s sound in_registers) third
+          (all_keep_stay base (hidden_locs (plan_of std s).res) o a b s.arguments (plan_of std s).places (hidden_clear std s sound) second
+          (subst (λ x. AllKeepUnused x o a s.arguments (plan_of std s).places) (sym is) places_keep)));
       free = λ at none. subst (λ x. SameAt x (S at) o d) is (free_same std s sound base at o a b d in_registers none first second third);
       within = wrote_then o.sp (o.sp + frame_of std s) o a d places_within later;
     }

@@ -1,4 +1,3 @@
-mod Reading
 mod Loading
 mod Results
 mod Calling

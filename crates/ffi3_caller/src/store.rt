@@ -11,7 +11,8 @@ ghost use Rattle.ffi3_place_rules.specs.Holds.{FillArguments, OwnsArguments, Own
 ghost use Rattle.ffi3_place_rules.specs.Sound.{argument_locs, copy_locs, listed, IsNoneOf};
 ghost use Rattle.ffi3_machine.specs.State.{image_of, scribbled};
 ghost use Rattle.ffi3_pieces.specs.Stored.{stack_byte, IsPlace, IsWritable, SameAt, Stays, WroteWithin};
-ghost use Rattle.ffi3_caller.specs.Called.{CountStands};
+ghost use Rattle.ffi3_pieces.specs.Standing.{AllKeepUnused};
+ghost use Rattle.ffi3_caller.specs.Called.{CountStands, with_frame};
 
 use ffi3_cif::Cif;
 use ffi3_machine::Machine;
@@ -38,6 +39,7 @@ fn put_count(machine: &mut Machine, base: u64, at: Option<Loc>, count: u64)
 fn begin_frame(machine: &mut Machine, frame: u64)
     requires bottom { STACK + frame ≤ machine.old.sp }
     requires top { machine.old.sp ≤ STACK_TOP }
+    ensures opened { machine.new ≡ with_frame frame machine.old }
     ensures sp { machine.new.sp + frame ≡ machine.old.sp }
     ensures registers { (l : Loc) → IsPlace 0 l → SameAt 0 l (scribbled (length machine.old.events) machine.old) machine.new }
     ensures filled { (i : ℕ) → i < frame → stack_byte machine.new (machine.new.sp + i) ≡ 0xA5 }
@@ -70,6 +72,8 @@ pub fn store_args<A: Abi>(machine: &mut Machine, cif: &Cif<A>, values: &Values)
     ensures reserved { AllByRecursion (λ l. SameAt 0 l machine.old machine.new) A.standard.reserved }
     // eight bytes of the frame that carry nothing are A5
     ensures free { (at k : ℕ) → at + 8 ≤ frame_of A.standard cif.now → IsNoneOf (argument_locs (plan_of A.standard cif.now) ++ copy_locs cif.now.arguments (plan_of A.standard cif.now).places) (S at) → k < 8 → stack_byte machine.new (machine.new.sp + at + k) ≡ 0xA5 }
+    // what no leaf of an argument has is as the scribble and the A5 bytes left it
+    ensures unused { AllKeepUnused machine.new.sp (with_frame (frame_of A.standard cif.now) machine.old) machine.new cif.now.arguments (plan_of A.standard cif.now).places }
     // below the new and at or above the old stack pointer nothing is written
     ensures within { WroteWithin machine.new.sp machine.old.sp machine.old machine.new }
 {

@@ -2,6 +2,11 @@
 use Rattle.std.specs.Prelude.{◌≡◌, ℕ, ◌<◌, List, ◌++◌, take, length, Option, Some}
 pub use Rattle.ffi3_io.specs.Count.{Rose}
 
+-- A SINK: the bytes that it took, where it tells them, and its count of faults
+pub record SinkState : Type 0 where
+  pub taken : Option (List ℕ)
+  pub faults : ℕ
+
 -- what tells after told before, and has these bytes added
 abbrev pub Adds : Option (List ℕ) → List ℕ → Option (List ℕ) → Type 0
 Adds before bytes after =

@@ -2,6 +2,11 @@
 use Rattle.std.specs.Prelude.{◌≡◌, ℕ, ◌+◌, ◌<◌, ◌≤◌, ◌↔◌, List, [], ◌++◌, take, drop, length, Option, Some, None}
 pub use Rattle.ffi3_io.specs.Count.{Rose}
 
+-- A SOURCE: the bytes that it has left, where it tells them, and its count of faults
+pub record SourceState : Type 0 where
+  pub left : Option (List ℕ)
+  pub faults : ℕ
+
 -- what tells before tells after: these bytes stood first, and the others are left
 abbrev pub Gives : Option (List ℕ) → List ℕ → Option (List ℕ) → Type 0
 Gives before bytes after =

@@ -1,5 +1,5 @@
 //! Sources and sinks over std's readers and writers: the edge to the world outside.
-ghost use Rattle.std.specs.Prelude.{◌≡◌, ◌<◌, ◌≤◌, [], ℕ, List, Option, None, Some, take, length, IfOk, OnOk, OnErr};
+ghost use Rattle.std.specs.Prelude.{◌≡◌, ◌<◌, ◌≤◌, None, Some, take, length, IfOk, OnOk, OnErr};
 ghost use Rattle.ffi3_io.specs.Count.{next_count};
 ghost use Rattle.std.specs.Io.KnownBytes.{Appends, Consumes, IsAtEnd, Keeps};
 ghost use Rattle.ffi3_io.specs.Adapter.{ReaderGives};
@@ -35,9 +35,7 @@ impl<R> ReadSource<R> {
 }
 
 impl<R: Read> Source for ReadSource<R> {
-    ghost left = { λ _. None };
-
-    ghost faults = { λ s. s.faults };
+    ghost state = { λ s. record { left = None; faults = s.faults } };
 
     ghost read_gives = { λ s room given t. ReaderGives (R.remaining s.inner) room given (R.remaining t.inner) };
 
@@ -89,9 +87,7 @@ impl<W> WriteSink<W> {
 }
 
 impl<W: Write> Sink for WriteSink<W> {
-    ghost taken = { λ _. None };
-
-    ghost faults = { λ s. s.faults };
+    ghost state = { λ s. record { taken = None; faults = s.faults } };
 
     /// One write of the writer. Each of its errors is a fault, and so is that it takes nothing of a
     /// piece that is not empty.

@@ -58,9 +58,7 @@ impl MemSink {
 }
 
 impl Sink for MemSink {
-    ghost taken = { λ s. Some s.taken };
-
-    ghost faults = { λ s. s.faults };
+    ghost state = { λ s. record { taken = Some s.taken; faults = s.faults } };
 
     /// Fails exactly where the call's number is one of those that fail, or no room is left for a piece
     /// that is not empty. Takes as much as fits.

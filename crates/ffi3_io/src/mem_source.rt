@@ -1,5 +1,5 @@
 //! A source in memory that fails at chosen calls.
-ghost use Rattle.std.specs.Prelude.{◌≡◌, ◌<◌, ◌≤◌, ◌++◌, [], Some, take, drop, min, length, Contains, IfOk, OnOk, OnErr};
+ghost use Rattle.std.specs.Prelude.{◌≡◌, ◌<◌, ◌≤◌, ◌++◌, Some, take, drop, min, length, Contains, IfOk, OnOk, OnErr};
 ghost use Rattle.ffi3_io.specs.Count.{next_count};
 ghost use Rattle.ffi3_io.specs.Memory.{MemoryGives};
 ghost use Rattle.ffi3_io.specs.Source.{Gives, IsEndAtZero, Rose};
@@ -50,9 +50,7 @@ impl MemSource {
 }
 
 impl Source for MemSource {
-    ghost left = { λ s. Some s.left };
-
-    ghost faults = { λ s. s.faults };
+    ghost state = { λ s. record { left = Some s.left; faults = s.faults } };
 
     ghost read_gives = { MemoryGives };
 

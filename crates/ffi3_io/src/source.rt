@@ -1,17 +1,14 @@
 //! Where bytes come from.
 ghost use Rattle.std.specs.Prelude.{◌≡◌, ◌<◌, ◌≤◌, ◌+◌, ◌-◌, List, ℕ, Option, Some, None, ⊤, take, length, vec_len, IfOk, IfErr, OnOk, OnErr};
-ghost use Rattle.ffi3_io.specs.Source.{Gives, GivesAfter, GivesFirst, HasRead, HasReadAll, HasFailed, HasOneMore, FailsNext, IsEndAtZero, LosesSome, Rose};
+ghost use Rattle.ffi3_io.specs.Source.{Gives, GivesAfter, GivesFirst, HasRead, HasReadAll, HasFailed, HasOneMore, FailsNext, IsEndAtZero, LosesSome, Rose, SourceState};
 
-use crate::Failed;
+use crate::{Failed, IoError};
 use std::alloc::Global;
 
 /// Gives bytes, and counts the reads that failed.
 pub trait Source {
-    /// The bytes left, where the source tells them.
-    ghost left: { Self → Option (List ℕ) };
-
-    /// How many reads failed. The count never falls.
-    ghost faults: { Self → ℕ };
+    /// The bytes left, where the source tells them, and how many reads failed. The count never falls.
+    ghost state: { Self → SourceState };
 
     /// What a read gives, told or not: from one state of the source, into room for so many bytes,
     /// these bytes, or none at all where it fails, and the state after that.
@@ -24,23 +21,14 @@ pub trait Source {
     /// are then as they were.
     fn read(&mut self, buf: &mut [u8]) -> Result<usize, Failed>
         ensures within { IfOk result (λ n. n ≤ length buf.old) }
-        ensures gives { IfOk result (λ n. Gives (left self.old) (take n buf.new) (left self.new)) }
-        ensures end { IfOk result (λ n. 0 < length buf.old → IsEndAtZero (left self.old) n) }
-        ensures same { OnOk result (faults self.new ≡ faults self.old) }
-        ensures failed { OnErr result (Rose (faults self.old) (faults self.new)) }
-        ensures never_falls { faults self.old ≤ faults self.new }
-        ensures kept { OnErr result (left self.new ≡ left self.old) }
+        ensures gives { IfOk result (λ n. Gives (state self.old).left (take n buf.new) (state self.new).left) }
+        ensures end { IfOk result (λ n. 0 < length buf.old → IsEndAtZero (state self.old).left n) }
+        ensures same { OnOk result ((state self.new).faults ≡ (state self.old).faults) }
+        ensures failed { OnErr result (Rose (state self.old).faults (state self.new).faults) }
+        ensures never_falls { (state self.old).faults ≤ (state self.new).faults }
+        ensures kept { OnErr result ((state self.new).left ≡ (state self.old).left) }
         ensures gave { IfOk result (λ n. read_gives self.old (length buf.old) (Some (take n buf.new)) self.new) }
         ensures broke { OnErr result (read_gives self.old (length buf.old) None self.new) };
-}
-
-/// Why reading ended before its end.
-#[derive(Clone, Copy, Debug, PartialEq, Eq, Drop)]
-pub enum ReadEnd {
-    /// A read failed.
-    Failed,
-    /// Memory was refused.
-    NoMemory,
 }
 
 /// Reads until a read gives nothing, or until this many bytes were taken. Every read before that
@@ -49,17 +37,17 @@ pub enum ReadEnd {
 ///
 /// At `Failed` a read failed, and the count of faults rose, or stands at 2^64 - 1; at `NoMemory` it
 /// is as it was. The bytes taken until then are lost.
-pub fn read_all<I: Source>(alloc: Global, input: &mut I, limit: usize) -> Result<Vec<u8>, ReadEnd>
+pub fn read_all<I: Source>(alloc: Global, input: &mut I, limit: usize) -> Result<Vec<u8>, IoError>
     ensures within { IfOk result (λ v. length v.items ≤ limit) }
-    ensures first { IfOk result (λ v. GivesFirst limit (I.left input.old) v.items (I.left input.new)) }
-    ensures same { OnOk result (I.faults input.new ≡ I.faults input.old) }
-    ensures failed { IfErr result (λ e. e ≡ ReadEnd.Failed → Rose (I.faults input.old) (I.faults input.new)) }
-    ensures no_memory { IfErr result (λ e. e ≡ ReadEnd.NoMemory → I.faults input.new ≡ I.faults input.old) }
-    ensures never_falls { I.faults input.old ≤ I.faults input.new }
-    ensures lost { OnErr result (LosesSome limit (I.left input.old) (I.left input.new)) }
+    ensures first { IfOk result (λ v. GivesFirst limit (I.state input.old).left v.items (I.state input.new).left) }
+    ensures same { OnOk result ((I.state input.new).faults ≡ (I.state input.old).faults) }
+    ensures failed { IfErr result (λ e. e ≡ IoError.Failed → Rose (I.state input.old).faults (I.state input.new).faults) }
+    ensures no_memory { IfErr result (λ e. e ≡ IoError.NoMemory → (I.state input.new).faults ≡ (I.state input.old).faults) }
+    ensures never_falls { (I.state input.old).faults ≤ (I.state input.new).faults }
+    ensures lost { OnErr result (LosesSome limit (I.state input.old).left (I.state input.new).left) }
     ensures read { IfOk result (λ v. HasReadAll I.read_gives limit input.old v.items input.new) }
-    ensures broke { IfErr result (λ e. e ≡ ReadEnd.Failed → HasFailed I.read_gives limit input.old input.new) }
-    ensures until { IfErr result (λ e. e ≡ ReadEnd.NoMemory →
+    ensures broke { IfErr result (λ e. e ≡ IoError.Failed → HasFailed I.read_gives limit input.old input.new) }
+    ensures until { IfErr result (λ e. e ≡ IoError.NoMemory →
         (bytes : List ℕ) × HasRead I.read_gives limit input.old bytes input.new) }
 {
     let mut bytes = Vec::new(alloc);
@@ -81,31 +69,31 @@ fn read_on<I: Source>(
     buf: &mut [u8],
     bytes: &mut Vec<u8>,
     limit: usize,
-) -> Result<usize, ReadEnd>
+) -> Result<usize, IoError>
     requires room { 0 < length buf.old }
     requires wanted { vec_len bytes.old < limit }
     ensures within { IfOk result (λ n. vec_len bytes.old + n ≤ limit) }
-    ensures gives { IfOk result (λ n. GivesAfter n (I.left input.old) bytes.old.items bytes.new.items (I.left input.new)) }
-    ensures end { IfOk result (λ n. IsEndAtZero (I.left input.old) n) }
-    ensures same { OnOk result (I.faults input.new ≡ I.faults input.old) }
-    ensures failed { IfErr result (λ e. e ≡ ReadEnd.Failed → Rose (I.faults input.old) (I.faults input.new)) }
-    ensures no_memory { IfErr result (λ e. e ≡ ReadEnd.NoMemory → I.faults input.new ≡ I.faults input.old) }
-    ensures never_falls { I.faults input.old ≤ I.faults input.new }
-    ensures lost { OnErr result (LosesSome (limit - vec_len bytes.old) (I.left input.old) (I.left input.new)) }
+    ensures gives { IfOk result (λ n. GivesAfter n (I.state input.old).left bytes.old.items bytes.new.items (I.state input.new).left) }
+    ensures end { IfOk result (λ n. IsEndAtZero (I.state input.old).left n) }
+    ensures same { OnOk result ((I.state input.new).faults ≡ (I.state input.old).faults) }
+    ensures failed { IfErr result (λ e. e ≡ IoError.Failed → Rose (I.state input.old).faults (I.state input.new).faults) }
+    ensures no_memory { IfErr result (λ e. e ≡ IoError.NoMemory → (I.state input.new).faults ≡ (I.state input.old).faults) }
+    ensures never_falls { (I.state input.old).faults ≤ (I.state input.new).faults }
+    ensures lost { OnErr result (LosesSome (limit - vec_len bytes.old) (I.state input.old).left (I.state input.new).left) }
     ensures one { IfOk result (λ n. HasOneMore I.read_gives limit input.old bytes.old.items n bytes.new.items input.new) }
-    ensures broke { IfErr result (λ e. e ≡ ReadEnd.Failed → FailsNext I.read_gives limit input.old bytes.old.items input.new) }
-    ensures until { IfErr result (λ e. e ≡ ReadEnd.NoMemory →
+    ensures broke { IfErr result (λ e. e ≡ IoError.Failed → FailsNext I.read_gives limit input.old bytes.old.items input.new) }
+    ensures until { IfErr result (λ e. e ≡ IoError.NoMemory →
         (n : ℕ) × (0 < n) × (after : List ℕ) × HasOneMore I.read_gives limit input.old bytes.old.items n after input.new) }
 {
     let most = buf.len().min(limit - bytes.len());
     let Ok(n) = input.read(&mut buf[..most]) else {
-        return Err(ReadEnd::Failed);
+        return Err(IoError::Failed);
     };
     if n == 0 {
         return Ok(0);
     }
     if bytes.extend_from_slice(&buf[..n]).is_err() {
-        return Err(ReadEnd::NoMemory);
+        return Err(IoError::NoMemory);
     }
     Ok(n)
 }

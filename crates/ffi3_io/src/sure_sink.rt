@@ -1,5 +1,5 @@
 //! A sink in memory that never fails, and tells what it took while that fits its room.
-ghost use Rattle.std.specs.Prelude.{◌≡◌, ◌<◌, ◌≤◌, ◌+◌, ◌++◌, [], Ok, Some, take, length, vec_len, vec_capacity, IsSome, IfOk};
+ghost use Rattle.std.specs.Prelude.{◌≡◌, ◌<◌, ◌≤◌, ◌+◌, ◌++◌, [], Ok, Some, length, vec_len, vec_capacity, IsSome, IfOk};
 ghost use Rattle.ffi3_io.specs.Memory.{fitting};
 ghost use Rattle.ffi3_io.specs.Sink.{Adds};
 
@@ -49,9 +49,7 @@ impl SureSink {
 }
 
 impl Sink for SureSink {
-    ghost taken = { λ s. s.taken };
-
-    ghost faults = { λ _. 0 };
+    ghost state = { λ s. record { taken = s.taken; faults = 0 } };
 
     /// Never fails, and takes every piece whole.
     fn write(&mut self, bytes: &[u8]) -> Result<usize, Failed>

@@ -1,7 +1,7 @@
 //! A source in memory that never fails.
-ghost use Rattle.std.specs.Prelude.{◌≡◌, ◌<◌, ◌≤◌, ◌++◌, [], Some, take, drop, min, length, IsOk, IfOk, OnOk, OnErr};
+ghost use Rattle.std.specs.Prelude.{◌≡◌, ◌<◌, ◌≤◌, ◌++◌, Some, take, drop, min, length, IsOk, IfOk};
 ghost use Rattle.ffi3_io.specs.Memory.{SureGives};
-ghost use Rattle.ffi3_io.specs.Source.{Gives, IsEndAtZero, Rose};
+ghost use Rattle.ffi3_io.specs.Source.{Gives, IsEndAtZero};
 
 use crate::{Failed, Source};
 use std::marker::Model;
@@ -34,9 +34,7 @@ impl SureSource {
 }
 
 impl Source for SureSource {
-    ghost left = { λ s. Some s.left };
-
-    ghost faults = { λ _. 0 };
+    ghost state = { λ s. record { left = Some s.left; faults = 0 } };
 
     ghost read_gives = { SureGives };
 

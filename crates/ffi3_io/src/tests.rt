@@ -4,7 +4,7 @@
 ghost use Rattle.std.specs.Prelude.{None};
 
 use crate::{
-    Failed, MemSink, MemSource, NoMemory, ReadEnd, ReadSource, Sink, Source, SureSink, SureSource,
+    Failed, IoError, MemSink, MemSource, NoMemory, ReadSource, Sink, Source, SureSink, SureSource,
     WriteSink, read_all, write_all,
 };
 use std::alloc::Global;
@@ -19,9 +19,7 @@ struct OneByteSource {
 }
 
 impl Source for OneByteSource {
-    ghost left = { λ _. None };
-
-    ghost faults = { λ s. s.inner.faults };
+    ghost state = { λ s. record { left = None; faults = s.inner.faults } };
 
     fn read(&mut self, buf: &mut [u8]) -> Result<usize, Failed> {
         let n = buf.len().min(1);
@@ -36,9 +34,7 @@ struct OneByteSink {
 }
 
 impl Sink for OneByteSink {
-    ghost taken = { λ _. None };
-
-    ghost faults = { λ s. s.inner.faults };
+    ghost state = { λ s. record { taken = None; faults = s.inner.faults } };
 
     fn write(&mut self, bytes: &[u8]) -> Result<usize, Failed> {
         let n = bytes.len().min(1);
@@ -188,7 +184,7 @@ fn input_is_read_to_its_end(rt: HostRuntime) -> Result<(), Fail> {
         match read_all(alloc, &mut source, limit) {
             Ok(got) => assert_eq!(rt; Some(got.as_slice()), want),
             Err(end) => {
-                assert_eq!(rt; end, ReadEnd::Failed);
+                assert_eq!(rt; end, IoError::Failed);
                 assert!(rt; want.is_none());
             }
         }

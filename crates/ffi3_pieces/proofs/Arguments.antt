@@ -19,9 +19,9 @@ use Rattle.ffi3_place_rules.proofs.Elements.{drop_read, argument_read}
 use Rattle.ffi3_type_rules.specs.declared.limits.TheConstants.{STACK}
 use Rattle.ffi3_machine.specs.State.{State}
 use Rattle.ffi3_pieces.specs.Stored.{IsPlace, IsWritable, Stays, WroteWithin}
-use Rattle.ffi3_pieces.specs.Standing.{place_uses, all_uses, PlaceLies, PlaceStands, AllStand, IsReady, AreReady}
+use Rattle.ffi3_pieces.specs.Standing.{place_uses, all_uses, PlaceKeepsUnused, PlaceLies, PlaceStands, AllKeepUnused, AllStand, IsReady, AreReady}
 use Rattle.ffi3_pieces.proofs.Composing.{stays_none, stays_then, wrote_nothing, wrote_then}
-use Rattle.ffi3_pieces.proofs.Copying.{place_stays}
+use Rattle.ffi3_pieces.proofs.Copying.{place_keeps_after, place_keeps_then, place_stays}
 use Rattle.ffi3_pieces.proofs.Lawful.{each_first, each_rest, apart_rest, apart_across, across_none, all_ready, all_apart}
 
 pub place_read : {X : Type 0} (xs : List X) (i : ℕ) (x : X) → slice_get xs i ≡ Some x → drop i xs ≡ x ∷ drop (i + 1) xs
@@ -58,10 +58,21 @@ all_stay base target room ls a b (t ∷ ts) (p ∷ ps) (v ∷ vs) low ready none
   all_stay base target room ls a b ts ps vs low ready.1 (each_rest (IsNoneOf ls) (place_uses t p) (all_uses ts ps) none) s stand.1,
 )
 
+-- what their places keep, with other places stored after
+pub all_keep_stay : (base : ℕ) (ls : List Loc) (a b c : State) (ts : List Tree) (ps : List Place) → AllByRecursion (IsNoneOf ls) (all_uses ts ps) → Stays base ls b c → AllKeepUnused base a b ts ps → AllKeepUnused base a c ts ps
+all_keep_stay base ls a b c [] [] none s keep = tt
+all_keep_stay base ls a b c [] (p ∷ ps) none s keep = absurd keep
+all_keep_stay base ls a b c (t ∷ ts) [] none s keep = absurd keep
+all_keep_stay base ls a b c (t ∷ ts) (p ∷ ps) none s keep = (
+  place_keeps_then base t p ls a b c (each_first (IsNoneOf ls) (place_uses t p) (all_uses ts ps) none) s keep.0,
+  all_keep_stay base ls a b c ts ps (each_rest (IsNoneOf ls) (place_uses t p) (all_uses ts ps) none) s keep.1,
+)
+
 module _ (base : ℕ) (target : Target) (room : ℕ) (ts : List Tree) (ps : List Place) (vs : List ValueTree) where
   -- what is so before the argument at j - 1 is stored
   pub record AllStored (j : ℕ) (first m : State) : Type 0 where
     pub stand : AllStand base m (drop j ts) (drop j ps) (drop j vs)
+    pub unused : AllKeepUnused base first m (drop j ts) (drop j ps)
     pub stays : Stays base (all_uses (drop j ts) (drop j ps)) first m
     pub within : WroteWithin base (base + room) first m
 
@@ -72,6 +83,7 @@ module _ (base : ℕ) (target : Target) (room : ℕ) (ts : List Tree) (ps : List
       let no_value = drop_all j vs (omega (arith, at_end, counted)) in
       record {
         stand = rw (no_type, no_place, no_value) tt;
+        unused = rw (no_type, no_place) tt;
         stays = rw no_type (stays_none base m);
         within = wrote_nothing base (base + room) m;
       }
@@ -91,15 +103,19 @@ module _ (base : ℕ) (target : Target) (room : ℕ) (ts : List Tree) (ps : List
       let apart_here = subst (λ us. AreApart (all_uses us (p ∷ drop (j + 1) ps))) types (subst (λ qs. AreApart (all_uses (drop j ts) qs)) places (uses_drop target room j ts ps ready apart)) in
       record { types = types; places = places; values = values; ready = ready_here.0; rest_ready = ready_here.1; apart = apart_here }
 
-  pub argument_step : (j : ℕ) (t : Tree) (p : Place) (v : ValueTree) (first a b : State) → STACK ≤ base → AtArgument j t p v → PlaceStands base b t v p → Stays base (place_uses t p) a b → WroteWithin base (base + room) a b → AllStored (j + 1) first a → AllStored j first b
-  argument_step j t p v first a b low here stands stays within before =
-      let clear = across_none (place_uses t p) (all_uses (drop (j + 1) ts) (drop (j + 1) ps)) (apart_across (place_uses t p) (all_uses (drop (j + 1) ts) (drop (j + 1) ps)) here.apart) in
+  pub argument_step : (j : ℕ) (t : Tree) (p : Place) (v : ValueTree) (first a b : State) → STACK ≤ base → AtArgument j t p v → PlaceStands base b t v p → PlaceKeepsUnused base t a b p → Stays base (place_uses t p) a b → WroteWithin base (base + room) a b → AllStored (j + 1) first a → AllStored j first b
+  argument_step j t p v first a b low here stands keeps stays within before =
+      let across = apart_across (place_uses t p) (all_uses (drop (j + 1) ts) (drop (j + 1) ps)) here.apart in
+      let clear = across_none (place_uses t p) (all_uses (drop (j + 1) ts) (drop (j + 1) ps)) across in
       let kept = all_stay base target room (place_uses t p) a b (drop (j + 1) ts) (drop (j + 1) ps) (drop (j + 1) vs) low here.rest_ready clear stays before.stand in
+      let kept_here = place_keeps_after base t p (all_uses (drop (j + 1) ts) (drop (j + 1) ps)) first a b across before.stays keeps in
+      let kept_rest = all_keep_stay base (place_uses t p) first a b (drop (j + 1) ts) (drop (j + 1) ps) clear stays before.unused in
       let types = here.types in
       let places = here.places in
       let values = here.values in
       record {
         stand = subst (λ us. AllStand base b us (drop j ps) (drop j vs)) (sym types) (subst (λ qs. AllStand base b (t ∷ drop (j + 1) ts) qs (drop j vs)) (sym places) (subst (λ ws. AllStand base b (t ∷ drop (j + 1) ts) (p ∷ drop (j + 1) ps) ws) (sym values) (stands, kept)));
+        unused = subst (λ us. AllKeepUnused base first b us (drop j ps)) (sym types) (subst (λ qs. AllKeepUnused base first b (t ∷ drop (j + 1) ts) qs) (sym places) (kept_here, kept_rest));
         stays = subst (λ us. Stays base (all_uses us (drop j ps)) first b) (sym types) (subst (λ qs. Stays base (all_uses (t ∷ drop (j + 1) ts) qs) first b) (sym places) (stays_then base (all_uses (drop (j + 1) ts) (drop (j + 1) ps)) (place_uses t p) first a b before.stays stays));
         within = wrote_then base (base + room) first a b before.within within;
       }

@@ -6,7 +6,7 @@ use Rattle.std.proofs.lemmas.Bool.{cases_lt}
 use Rattle.std.proofs.lemmas.List.{ext_get_or}
 use Rattle.ffi3_type_rules.specs.Tree.{Tree}
 use Rattle.ffi3_type_rules.specs.Layout.{size_of}
-use Rattle.ffi3_type_rules.specs.Value.{ValueTree, value_in}
+use Rattle.ffi3_type_rules.specs.Value.{ValueTree, value_in, IsWritten}
 use Rattle.ffi3_type_rules.proofs.Parts.{index_part, length_part, same_part}
 use Rattle.ffi3_place_rules.specs.declared.Loc.{Loc}
 use Rattle.ffi3_place_rules.specs.declared.Loc.TheVariants.{G, F, S}
@@ -15,12 +15,12 @@ use Rattle.ffi3_place_rules.specs.declared.Place.TheVariants.{Direct, ByRef}
 use Rattle.ffi3_place_rules.specs.Sound.{Apart, IsNoneOf, PlaceHasAll, stack_words, stack_words_for}
 use Rattle.ffi3_type_rules.specs.declared.limits.TheConstants.{STACK}
 use Rattle.ffi3_machine.specs.State.{State, stored, stack_at}
-use Rattle.ffi3_pieces.specs.Stored.{stack_byte, SameAt, Stays, IsWordPut}
-use Rattle.ffi3_pieces.specs.Standing.{place_uses, CopyStands, IsCopied, PlaceStands}
+use Rattle.ffi3_pieces.specs.Stored.{stack_byte, KeepsPadding, SameAt, Stays, IsWordPut}
+use Rattle.ffi3_pieces.specs.Standing.{place_uses, CopyStands, IsCopied, PlaceKeepsUnused, PlaceStands}
 use Rattle.ffi3_pieces.proofs.Ranges.{range_length}
 use Rattle.ffi3_pieces.proofs.Putting.{stored_inside, stored_outside, stored_within}
 use Rattle.ffi3_pieces.proofs.Composing.{apart_sym, stays_then, wrote_then}
-use Rattle.ffi3_pieces.proofs.Stepping.{all_stand_stays, same_word_in}
+use Rattle.ffi3_pieces.proofs.Stepping.{all_keep_after, all_keep_then, all_stand_stays, same_word_in}
 
 -- ---- stack words
 
@@ -67,13 +67,30 @@ copy_stays base t v at copy ls a b low none clear s stands = record {
 
 -- an argument that stands still stands after stores elsewhere
 pub place_stays : (base : ℕ) (t : Tree) (v : ValueTree) (p : Place) (ls : List Loc) (a b : State) → STACK ≤ base → PlaceHasAll t p → AllByRecursion (IsNoneOf ls) (place_uses t p) → Stays base ls a b → PlaceStands base a t v p → PlaceStands base b t v p
-place_stays base t v (Direct pieces) ls a b low has_all none s stands = record {
-  bytes = stands.bytes;
-  sized = stands.sized;
-  reads = stands.reads;
-  stand = all_stand_stays base t v stands.bytes ls a b pieces has_all.each none s stands.stand;
-}
+place_stays base t v (Direct pieces) ls a b low has_all none s stands = all_stand_stays base t v ls a b pieces has_all.each none s stands
 place_stays base t v (ByRef at copy) ls a b low has_all none s stands = copy_stays base t v at copy ls a b low none.0 none.1 s stands
+
+-- what its place keeps, with other places stored after or before
+pub place_keeps_then : (base : ℕ) (t : Tree) (p : Place) (ls : List Loc) (a b c : State) → AllByRecursion (IsNoneOf ls) (place_uses t p) → Stays base ls b c → PlaceKeepsUnused base t a b p → PlaceKeepsUnused base t a c p
+place_keeps_then base t (Direct pieces) ls a b c none s keeps = all_keep_then base t ls a b c pieces none s keeps
+place_keeps_then base t (ByRef at copy) ls a b c none s keeps = λ i below pad. words_same base copy ((size_of t + 7) / 8) ls b c none.1 s i below ∙ keeps i below pad
+
+pub place_keeps_after : (base : ℕ) (t : Tree) (p : Place) (ls : List Loc) (a b c : State) → AllByRecursion (IsNoneOf ls) (place_uses t p) → Stays base ls a b → PlaceKeepsUnused base t b c p → PlaceKeepsUnused base t a c p
+place_keeps_after base t (Direct pieces) ls a b c none s keeps = all_keep_after base t ls a b c pieces none s keeps
+place_keeps_after base t (ByRef at copy) ls a b c none s keeps = λ i below pad. keeps i below pad ∙ words_same base copy ((size_of t + 7) / 8) ls a b none.1 s i below
+
+-- a value that is written over what stands at an address keeps its padding
+pub padding_kept : (addr : ℕ) (t : Tree) (v : ValueTree) (loaded bytes : List ℕ) (old : State) → STACK ≤ addr → addr - STACK + size_of t ≤ length old.stack → length bytes ≡ size_of t → loaded ≡ stack_at addr (size_of t) old → IsWritten t v loaded bytes → KeepsPadding addr t old (stored addr bytes old)
+padding_kept addr t v loaded bytes old low fits sized is written i below pad =
+    let fits_bytes : addr - STACK + length bytes ≤ length old.stack = omega (arith, fits, sized) in
+    let many : length loaded ≡ size_of t = ap length is ∙ length_part old.stack (addr - STACK) (size_of t) fits in
+    elim (cases_lt i (length bytes)) [
+      | inl inside ↦
+          let there : addr - STACK + i ≡ addr + i - STACK = omega (arith, low) in
+          let small : i < size_of t = omega (arith, inside, sized) in
+          stored_inside addr bytes old low fits_bytes i inside ∙ written.padding_stays i (omega (arith, small, many)) pad ∙ ap (λ xs. get_or xs i 0) is ∙ index_part old.stack (addr - STACK) (size_of t) i small ∙ ap (λ j. get_or old.stack j 0) there
+      | inr behind ↦ stored_outside addr bytes old low fits_bytes (addr + i - STACK) (inr (omega (arith, low, behind)))
+    ]
 
 -- ---- the store of a copy
 
@@ -107,8 +124,8 @@ module _ (base copy n : ℕ) (bytes : List ℕ) (old : State) (low : STACK ≤ b
       let there : base + copy - STACK + k ≡ base + copy + k - STACK = omega (arith, low) in
       index_part (stored (base + copy) bytes old).stack (base + copy - STACK) (length bytes) k below ∙ ap (λ j. get_or (stored (base + copy) bytes old).stack j 0) there ∙ stored_inside (base + copy) bytes old (omega (arith, low)) fits k below)
 
-pub copied : (base : ℕ) (t : Tree) (v : ValueTree) (l : Loc) (copy : ℕ) (bytes : List ℕ) (old new : State) → STACK ≤ base → length bytes ≡ size_of t → value_in t bytes ≡ v → base + copy - STACK + size_of t ≤ length old.stack → AllByRecursion (Apart l) (stack_words_for copy t) → IsWordPut base l (base + copy) (stored (base + copy) bytes old) new → IsCopied base t v l copy old new
-copied base t v l copy bytes old new low sized reads fits apart put =
+pub copied : (base : ℕ) (t : Tree) (v : ValueTree) (l : Loc) (copy : ℕ) (loaded bytes : List ℕ) (old new : State) → STACK ≤ base → length bytes ≡ size_of t → loaded ≡ stack_at (base + copy) (size_of t) old → IsWritten t v loaded bytes → base + copy - STACK + size_of t ≤ length old.stack → AllByRecursion (Apart l) (stack_words_for copy t) → IsWordPut base l (base + copy) (stored (base + copy) bytes old) new → IsCopied base t v l copy old new
+copied base t v l copy loaded bytes old new low sized is written fits apart put =
     let fits_bytes : base + copy - STACK + length bytes ≤ length old.stack = omega (arith, fits, sized) in
     let few : length bytes ≤ 8 * ((size_of t + 7) / 8) = omega (arith, sized) in
     let first = words_stay base copy ((size_of t + 7) / 8) bytes old low few fits_bytes in
@@ -119,8 +136,9 @@ copied base t v l copy bytes old new low sized reads fits apart put =
       stands = record {
         address = put.word;
         room = omega (arith, fits, first.size, put.stays.size);
-        reads = ap (value_in t) (same ∙ there) ∙ reads;
+        reads = ap (value_in t) (same ∙ there) ∙ written.reads_back;
       };
+      unused = λ i below pad. words_same base copy ((size_of t + 7) / 8) (l ∷ []) (stored (base + copy) bytes old) new clear put.stays i below ∙ padding_kept (base + copy) t v loaded bytes old (omega (arith, low)) fits sized is written i below pad;
       stays = stays_then base (stack_words_for copy t) (l ∷ []) old (stored (base + copy) bytes old) new first put.stays;
       within = λ room lies ends. wrote_then base (base + room) old (stored (base + copy) bytes old) new (stored_within (base + copy) bytes old (omega (arith, low)) fits_bytes base (base + room) (omega arith) (omega (arith, ends, sized))) (put.within room lies);
     }

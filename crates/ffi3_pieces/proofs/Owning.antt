@@ -1,12 +1,12 @@
 -- Arguments that stand at their places in a machine are owned by its image.
 use Rattle.std.specs.Prelude.{true}
-use Rattle.std.proofs.Common.{◌≡◌, ℕ, ◌+◌, ◌-◌, ◌<◌, ◌≤◌, List, [], ◌∷◌, take, drop, get_or, refl, ap, sym, ◌∙◌, subst, arith, lit<}
+use Rattle.std.proofs.Common.{◌≡◌, ℕ, ◌+◌, ◌-◌, ◌<◌, ◌≤◌, List, [], ◌∷◌, take, drop, get_or, length, refl, ap, sym, ◌∙◌, subst, arith, lit<}
 use Rattle.std.specs.List.{AllByRecursion}
 use Rattle.std.specs.Int.{w64, from_le_bytes}
 use Rattle.std.proofs.lemmas.List.{drop-drop, drop-take, take-take, get_or-take, get_or-drop}
 use Rattle.ffi3_type_rules.specs.declared.Target.{Target}
 use Rattle.ffi3_type_rules.specs.Tree.{Tree, trees_of}
-use Rattle.ffi3_type_rules.specs.Layout.{Leaf, leaves_of, size_of}
+use Rattle.ffi3_type_rules.specs.Layout.{Leaf, leaves_of, scalar_size, size_of}
 use Rattle.ffi3_type_rules.specs.Value.{ValueTree, value_in, values_of, fits, all_fit}
 use Rattle.ffi3_place_rules.specs.declared.Loc.{Loc}
 use Rattle.ffi3_place_rules.specs.declared.Loc.TheVariants.{G, F, S}
@@ -19,9 +19,9 @@ use Rattle.ffi3_place_rules.specs.Sound.{IsPieceOf, piece_locs}
 use Rattle.ffi3_place_rules.proofs.Tests.{and_left, and_right}
 use Rattle.ffi3_type_rules.specs.declared.limits.TheConstants.{STACK}
 use Rattle.ffi3_machine.specs.State.{State, image_of, stack_at}
-use Rattle.ffi3_pieces.specs.Stored.{IsPlace, byte_of, word_in, PieceStands}
+use Rattle.ffi3_pieces.specs.Stored.{IsByteOf, IsPlace, byte_of, word_in, PieceStands}
 use Rattle.ffi3_pieces.specs.Standing.{CopyStands, PlaceStands, AllStand, IsReady, AreReady}
-use Rattle.ffi3_pieces.proofs.Reading.{LeavesRead, leaves_read}
+use Rattle.ffi3_pieces.proofs.Reading.{counted}
 
 part_of_frame : (xs : List ℕ) (n at size : ℕ) → at + size ≤ n → take size (drop at (take n xs)) ≡ take size (drop at xs)
 part_of_frame xs n at size room =
@@ -55,26 +55,40 @@ module _ (m : State) (len : ℕ) (low : STACK ≤ m.sp) where
 
   -- ---- pieces
 
-  module _ (t : Tree) (v : ValueTree) (bytes : List ℕ) where
-    owned_byte : (pieces : List Piece) (b : List ℕ) (at k : ℕ) → get_or bytes (at + k) 0 ≡ get_or b k 0 → AllByRecursion (IsPieceOf t) pieces → AllByRecursion (IsPlace len) (piece_locs pieces) → AllByRecursion (PieceStands m.sp m t v bytes) pieces →
-        AllByRecursion (λ p. Carries (at + k) p → byte_at (image_of len m) 0 p.loc (at + k - p.off) ≡ get_or b k 0) pieces
-    owned_byte [] b at k same parts lie stand = tt
-    owned_byte (p ∷ pieces) b at k same parts lie stand = (one, owned_byte pieces b at k same parts.1 lie.1 stand.1)
+  -- the piece has the bytes of these leaves
+  abbrev HasEach : List Leaf → List (List ℕ) → Piece → Type 0
+  HasEach ls bs p = (k : ℕ) → k < p.len → IsByteOf ls bs (p.off + k) (byte_of m.sp m p.loc k)
+
+  module _ (t : Tree) where
+    owned_byte : (l : Leaf) (b : List ℕ) (ls : List Leaf) (bs : List (List ℕ)) (pieces : List Piece) (k : ℕ) → k < scalar_size l.kind → AllByRecursion (IsPieceOf t) pieces → AllByRecursion (IsPlace len) (piece_locs pieces) → AllByRecursion (HasEach (l ∷ ls) (b ∷ bs)) pieces →
+        AllByRecursion (λ p. Carries (l.at + k) p → byte_at (image_of len m) 0 p.loc (l.at + k - p.off) ≡ get_or b k 0) pieces
+    owned_byte l b ls bs [] k h parts lie stand = tt
+    owned_byte l b ls bs (p ∷ pieces) k h parts lie stand = (one, owned_byte l b ls bs pieces k h parts.1 lie.1 stand.1)
       where
-        one : Carries (at + k) p → byte_at (image_of len m) 0 p.loc (at + k - p.off) ≡ get_or b k 0
+        one : Carries (l.at + k) p → byte_at (image_of len m) 0 p.loc (l.at + k - p.off) ≡ get_or b k 0
         one c =
-            let index : p.off + (at + k - p.off) ≡ at + k = omega (arith, c.0) in
+            let index : l.at + k ≡ p.off + (l.at + k - p.off) = omega (arith, c.0) in
             let short = parts.0.short in
-            image_byte p.loc (at + k - p.off) lie.0 (omega (arith, c.0, c.1, short)) ∙ stand.0.0 (at + k - p.off) (omega (arith, c.0, c.1)) ∙ ap (λ i. get_or bytes i 0) index ∙ same
+            image_byte p.loc (l.at + k - p.off) lie.0 (omega (arith, c.0, c.1, short)) ∙ (stand.0 (l.at + k - p.off) (omega (arith, c.0, c.1))).0 k h index
 
-    owned_leaves : (pieces : List Piece) (ls : List Leaf) (bs : List (List ℕ)) → LeavesRead bytes ls bs → AllByRecursion (IsPieceOf t) pieces → AllByRecursion (IsPlace len) (piece_locs pieces) → AllByRecursion (PieceStands m.sp m t v bytes) pieces → LeavesStand (image_of len m) 0 pieces ls bs
-    owned_leaves pieces [] [] read parts lie stand = tt
-    owned_leaves pieces [] (b ∷ bs) read parts lie stand = absurd read
-    owned_leaves pieces (l ∷ ls) [] read parts lie stand = absurd read
-    owned_leaves pieces (l ∷ ls) (b ∷ bs) read parts lie stand =
-        (λ k h. owned_byte pieces b l.at k (read.0 k h) parts lie stand, owned_leaves pieces ls bs read.1 parts lie stand)
+    later_leaves : (l : Leaf) (b : List ℕ) (ls : List Leaf) (bs : List (List ℕ)) (pieces : List Piece) → AllByRecursion (HasEach (l ∷ ls) (b ∷ bs)) pieces → AllByRecursion (HasEach ls bs) pieces
+    later_leaves l b ls bs [] stand = tt
+    later_leaves l b ls bs (p ∷ pieces) stand =
+        (λ k h. (stand.0 k h).1, later_leaves l b ls bs pieces stand.1)
 
-    filled_pieces : (pieces : List Piece) → AllByRecursion (IsPlace len) (piece_locs pieces) → AllByRecursion (PieceStands m.sp m t v bytes) pieces → FillPieces (image_of len m) 0 t pieces v
+    owned_leaves : (pieces : List Piece) (ls : List Leaf) (bs : List (List ℕ)) → length bs ≡ length ls → AllByRecursion (IsPieceOf t) pieces → AllByRecursion (IsPlace len) (piece_locs pieces) → AllByRecursion (HasEach ls bs) pieces → LeavesStand (image_of len m) 0 pieces ls bs
+    owned_leaves pieces [] [] n parts lie stand = tt
+    owned_leaves pieces [] (b ∷ bs) n parts lie stand = absurd (omega (arith, n))
+    owned_leaves pieces (l ∷ ls) [] n parts lie stand = absurd (omega (arith, n))
+    owned_leaves pieces (l ∷ ls) (b ∷ bs) n parts lie stand =
+        (λ k h. owned_byte l b ls bs pieces k h parts lie stand, owned_leaves pieces ls bs (omega (arith, n)) parts lie (later_leaves l b ls bs pieces stand))
+
+  module _ (t : Tree) (v : ValueTree) where
+    have_leaves : (pieces : List Piece) → AllByRecursion (PieceStands m.sp m t v) pieces → AllByRecursion (HasEach (leaves_of t) (leaf_bytes v)) pieces
+    have_leaves [] stand = tt
+    have_leaves (p ∷ pieces) stand = (stand.0.0, have_leaves pieces stand.1)
+
+    filled_pieces : (pieces : List Piece) → AllByRecursion (IsPlace len) (piece_locs pieces) → AllByRecursion (PieceStands m.sp m t v) pieces → FillPieces (image_of len m) 0 t pieces v
     filled_pieces [] lie stand = tt
     filled_pieces (p ∷ pieces) lie stand =
         (subst (λ w. FillsAs p.ext w t v) (sym (image_word p.loc lie.0)) stand.0.1, filled_pieces pieces lie.1 stand.1)
@@ -91,11 +105,11 @@ module _ (m : State) (len : ℕ) (low : STACK ≤ m.sp) where
 
   argument_owned : (target : Target) (t : Tree) (v : ValueTree) (p : Place) → IsReady target len t p → fits t v ≡ true → PlaceStands m.sp m t v p → OwnsArgument (image_of len m) 0 t p v
   argument_owned target t v (Direct pieces) ready fit stands =
-      (fit, owned_leaves t v stands.bytes pieces (leaves_of t) (leaf_bytes v) (subst (λ u. LeavesRead stands.bytes (leaves_of t) (leaf_bytes u)) stands.reads (leaves_read t stands.bytes)) ready.has_all.each ready.lies stands.stand)
+      (fit, owned_leaves t pieces (leaves_of t) (leaf_bytes v) (counted t v fit) ready.has_all.each ready.lies (have_leaves t v pieces stands))
   argument_owned target t v (ByRef at copy) ready fit stands = copy_owned t v at copy ready.lies.0 ready.lies.1 fit stands
 
   argument_filled : (target : Target) (t : Tree) (v : ValueTree) (p : Place) → IsReady target len t p → PlaceStands m.sp m t v p → FillsArgument (image_of len m) 0 t p v
-  argument_filled target t v (Direct pieces) ready stands = filled_pieces t v stands.bytes pieces ready.lies stands.stand
+  argument_filled target t v (Direct pieces) ready stands = filled_pieces t v pieces ready.lies stands
   argument_filled target t v (ByRef at copy) ready stands = tt
 
   -- ---- all arguments

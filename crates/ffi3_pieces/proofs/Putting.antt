@@ -12,7 +12,7 @@ use Rattle.ffi3_type_rules.specs.declared.limits.TheConstants.{STACK}
 use Rattle.ffi3_type_rules.specs.Isa.{isa_of}
 use Rattle.ffi3_place_rules.specs.Isa.{is_zero_register}
 use Rattle.ffi3_machine.specs.State.{State, with_general, with_floating, stored, lowered}
-use Rattle.ffi3_pieces.specs.Stored.{stack_byte, byte_of, SameAt, Stays, WroteWithin, HasBytes, HasLow, IsPut, IsSet, IsWithin, IsWordPut, word_in}
+use Rattle.ffi3_pieces.specs.Stored.{stack_byte, byte_of, SameAt, Stays, WroteOnly, WroteWithin, HasBytes, HasLow, IsPut, IsSet, IsWithin, IsWordPut, word_in}
 use Rattle.ffi3_place_rules.specs.declared.Piece.{Piece}
 use Rattle.ffi3_type_rules.proofs.Parts.{index_part, length_part}
 use Rattle.ffi3_pieces.proofs.Ranges.{in_range, below_range, above_range, range_length}
@@ -169,6 +169,14 @@ module _ (addr : ℕ) (bytes : List ℕ) (old : State) (low : STACK ≤ addr) (f
       outside i (inl below) = stored_outside i (inl (omega (arith, h, below)))
       outside i (inr above) = stored_outside i (inr (omega (arith, k, above)))
 
+pub only_stored : (to : ℕ) (bytes : List ℕ) (old : State) → STACK ≤ to → to - STACK + length bytes ≤ length old.stack → WroteOnly to (to + length bytes) old (stored to bytes old)
+only_stored to bytes old low fits = record {
+  within = stored_within to bytes old low fits to (to + length bytes) (omega arith) (omega arith);
+  sp = refl;
+  general = refl;
+  floating = refl;
+}
+
 module _ (base n : ℕ) (bytes : List ℕ) (old : State) (low : STACK ≤ base) (few : length bytes ≤ 8) (fits : base + n - STACK + length bytes ≤ length old.stack) where
   stack_stays : Stays base (S n ∷ []) old (stored (base + n) bytes old)
   stack_stays = record { sp = refl; size = range_length old.stack bytes (base + n - STACK) (base + n - STACK + length bytes) refl fits; others = others }
@@ -203,6 +211,7 @@ pub piece_set : (base : ℕ) (p : Piece) (bytes : List ℕ) (old new : State) �
 piece_set base p bytes old new fits is =
     let many = length_part bytes p.off p.len fits.1 in record {
       held = λ k h. is.here k (subst (λ n. k < n) (sym many) h) ∙ index_part bytes p.off p.len k h;
+      kept = λ k from below. is.kept k (omega (arith, many, from)) below;
       stays = is.stays;
       within = is.within;
     }

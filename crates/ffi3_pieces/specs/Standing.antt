@@ -14,7 +14,7 @@ use Rattle.ffi3_place_rules.specs.declared.Res.TheVariants.{Nothing, Direct as D
 use Rattle.ffi3_place_rules.specs.Sound.{PlaceHasAll, piece_locs, place_locs, stack_words_for}
 use Rattle.ffi3_type_rules.specs.declared.limits.TheConstants.{STACK}
 use Rattle.ffi3_machine.specs.State.{State, stack_at}
-use Rattle.ffi3_pieces.specs.Stored.{IsPlace, word_in, IsWritable, PieceStands, Stays, WroteWithin}
+use Rattle.ffi3_pieces.specs.Stored.{IsPlace, word_in, IsWritable, KeepsPadding, KeepsUnused, PieceStands, Stays, WroteWithin}
 
 -- the registers and the bytes of the stack that an argument uses
 abbrev pub place_uses : Tree → Place → List Loc
@@ -30,12 +30,9 @@ abbrev pub PlaceLies : ℕ → Tree → Place → Type 0
 PlaceLies room t (Direct pieces) = AllByRecursion (IsPlace room) (piece_locs pieces)
 PlaceLies room t (ByRef at copy) = IsPlace room at × (copy + size_of t ≤ room)
 
--- pieces have the bytes of the value, and what fills the rest of their places is right
-pub record PiecesStand (base : ℕ) (m : State) (t : Tree) (v : ValueTree) (pieces : List Piece) : Type 0 where
-  pub bytes : List ℕ
-  pub sized : length bytes ≡ size_of t
-  pub reads : value_in t bytes ≡ v
-  pub stand : AllByRecursion (PieceStands base m t v bytes) pieces
+-- pieces have the leaves of the value, and what fills the rest of their places is right
+abbrev pub PiecesStand : ℕ → State → Tree → ValueTree → List Piece → Type 0
+PiecesStand base m t v pieces = AllByRecursion (PieceStands base m t v) pieces
 
 -- a place has the address of a copy that has the value
 pub record CopyStands (base : ℕ) (m : State) (t : Tree) (v : ValueTree) (l : Loc) (copy : ℕ) : Type 0 where
@@ -47,9 +44,15 @@ abbrev pub PlaceStands : ℕ → State → Tree → ValueTree → Place → Type
 PlaceStands base m t v (Direct pieces) = PiecesStand base m t v pieces
 PlaceStands base m t v (ByRef at copy) = CopyStands base m t v at copy
 
+-- what no leaf of the argument has keeps what stood there, in the places of its pieces or in its copy
+abbrev pub PlaceKeepsUnused : ℕ → Tree → State → State → Place → Type 0
+PlaceKeepsUnused base t old new (Direct pieces) = AllByRecursion (KeepsUnused base t old new) pieces
+PlaceKeepsUnused base t old new (ByRef at copy) = KeepsPadding (base + copy) t old new
+
 -- what the two stores of an argument by reference leave
 pub record IsCopied (base : ℕ) (t : Tree) (v : ValueTree) (l : Loc) (copy : ℕ) (old new : State) : Type 0 where
   pub stands : CopyStands base new t v l copy
+  pub unused : KeepsPadding (base + copy) t old new
   pub stays : Stays base (l ∷ stack_words_for copy t) old new
   pub within : (room : ℕ) → IsPlace room l → copy + size_of t ≤ room → WroteWithin base (base + room) old new
 
@@ -58,6 +61,12 @@ abbrev pub AllStand : ℕ → State → List Tree → List Place → List ValueT
 AllStand base m [] [] [] = ⊤
 AllStand base m (t ∷ ts) (p ∷ ps) (v ∷ vs) = PlaceStands base m t v p × AllStand base m ts ps vs
 AllStand base m _ _ _ = ⊥
+
+-- WHAT NO LEAF OF AN ARGUMENT HAS KEEPS WHAT STOOD THERE
+abbrev pub AllKeepUnused : ℕ → State → State → List Tree → List Place → Type 0
+AllKeepUnused base old new [] [] = ⊤
+AllKeepUnused base old new (t ∷ ts) (p ∷ ps) = PlaceKeepsUnused base t old new p × AllKeepUnused base old new ts ps
+AllKeepUnused base old new _ _ = ⊥
 
 -- what a store at a place needs: it has all of the argument, lies in the frame, and is written to
 pub record IsReady (target : Target) (room : ℕ) (t : Tree) (p : Place) : Type 0 where

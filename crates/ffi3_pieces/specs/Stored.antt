@@ -1,13 +1,15 @@
 -- The bytes at places of a machine, the places that a store leaves, and the stretch of the stack that it writes.
-use Rattle.std.specs.Prelude.{◌≡◌, ℕ, ◌+◌, ◌-◌, ◌^◌, ◌<◌, ◌≤◌, ◌⊎◌, List, [], ◌∷◌, get_or, length}
+use Rattle.std.specs.Prelude.{◌≡◌, ℕ, ◌+◌, ◌-◌, ◌*◌, ◌/◌, ◌^◌, ◌<◌, ◌≤◌, ◌⊎◌, ⊤, List, [], ◌∷◌, get_or, length}
 use Rattle.std.specs.Int.{w64, to_le_bytes, from_le_bytes}
 use Rattle.ffi3_type_rules.specs.declared.Target.{Target}
 use Rattle.ffi3_place_rules.specs.declared.Loc.{Loc}
 use Rattle.ffi3_place_rules.specs.declared.Loc.TheVariants.{G, F, S}
+use Rattle.ffi3_place_rules.specs.declared.Ext.TheVariants.{Free}
 use Rattle.ffi3_place_rules.specs.declared.Piece.{Piece}
 use Rattle.ffi3_type_rules.specs.Tree.{Tree}
-use Rattle.ffi3_type_rules.specs.Value.{ValueTree}
-use Rattle.ffi3_place_rules.specs.Holds.{FillsAs}
+use Rattle.ffi3_type_rules.specs.Layout.{Leaf, leaves_of, scalar_size, size_of}
+use Rattle.ffi3_type_rules.specs.Value.{ValueTree, IsPadding}
+use Rattle.ffi3_place_rules.specs.Holds.{Carries, FillsAs, leaf_bytes}
 use Rattle.ffi3_place_rules.specs.Sound.{IsNoneOf}
 use Rattle.ffi3_type_rules.specs.declared.limits.TheConstants.{STACK}
 use Rattle.ffi3_type_rules.specs.Isa.{isa_of}
@@ -55,6 +57,13 @@ pub record WroteWithin (low high : ℕ) (old new : State) : Type 0 where
   pub spare_events : new.spare_events ≡ old.spare_events
   pub spare_bytes : new.spare_bytes ≡ old.spare_bytes
 
+-- THE STACK CHANGES ONLY FROM `low` TO `high`, and registers do not
+pub record WroteOnly (low high : ℕ) (old new : State) : Type 0 where
+  pub within : WroteWithin low high old new
+  pub sp : new.sp ≡ old.sp
+  pub general : new.general ≡ old.general
+  pub floating : new.floating ≡ old.floating
+
 -- one of a machine's registers, or eight bytes of so many of the stack
 abbrev pub IsPlace : ℕ → Loc → Type 0
 IsPlace stack (G r) = r < 32
@@ -101,21 +110,71 @@ pub record IsWordPut (base : ℕ) (l : Loc) (w : ℕ) (old new : State) : Type 0
 abbrev pub HasPiece : ℕ → State → List ℕ → Piece → Type 0
 HasPiece base m bytes p = (k : ℕ) → k < p.len → byte_of base m p.loc k ≡ get_or bytes (p.off + k) 0
 
--- THE PIECE STANDS AT ITS PLACE, and all other places stay
-pub record IsSet (base : ℕ) (p : Piece) (bytes : List ℕ) (old new : State) : Type 0 where
-  pub held : HasPiece base new bytes p
-  pub stays : Stays base (p.loc ∷ []) old new
-  pub within : (room : ℕ) → IsPlace room p.loc → WroteWithin base (base + room) old new
-
 -- the piece lies in so many bytes, and has at most eight
 abbrev pub IsWithin : ℕ → Piece → Type 0
 IsWithin size p = (p.len ≤ 8) × (p.off + p.len ≤ size)
 
--- the piece stands at its place, and what fills the rest of the place is right
-abbrev pub PieceStands : ℕ → State → Tree → ValueTree → List ℕ → Piece → Type 0
-PieceStands base m t v bytes p = HasPiece base m bytes p × FillsAs p.ext (word_in base m p.loc) t v
-
-pub record IsStored (base : ℕ) (t : Tree) (v : ValueTree) (bytes : List ℕ) (p : Piece) (old new : State) : Type 0 where
-  pub stands : PieceStands base new t v bytes p
+-- THE PIECE'S BYTES ARE PUT INTO ITS PLACE. The place's other bytes stay, and so do all other places.
+pub record IsSet (base : ℕ) (p : Piece) (bytes : List ℕ) (old new : State) : Type 0 where
+  pub held : HasPiece base new bytes p
+  pub kept : KeepsFrom base p.loc p.len old new
   pub stays : Stays base (p.loc ∷ []) old new
   pub within : (room : ℕ) → IsPlace room p.loc → WroteWithin base (base + room) old new
+
+-- the same, and what fills the rest of the place is right. Where nothing fills it, it stays.
+pub record IsSetAndFilled (base : ℕ) (t : Tree) (v : ValueTree) (bytes : List ℕ) (p : Piece) (old new : State) : Type 0 where
+  pub held : HasPiece base new bytes p
+  pub filled : FillsAs p.ext (word_in base new p.loc) t v
+  pub kept : p.ext ≡ Free → KeepsFrom base p.loc p.len old new
+  pub stays : Stays base (p.loc ∷ []) old new
+  pub within : (room : ℕ) → IsPlace room p.loc → WroteWithin base (base + room) old new
+
+-- the number is byte `o` of the leaf that has one there, if there is such a leaf
+abbrev pub IsByteOf : List Leaf → List (List ℕ) → ℕ → ℕ → Type 0
+IsByteOf (l ∷ ls) (b ∷ bs) o x =
+    ((k : ℕ) → k < scalar_size l.kind → l.at + k ≡ o → x ≡ get_or b k 0) × IsByteOf ls bs o x
+IsByteOf _ _ o x = ⊤
+
+-- each byte of a leaf that the piece carries stands at its place
+abbrev pub HasLeaves : ℕ → State → Tree → ValueTree → Piece → Type 0
+HasLeaves base m t v p =
+    (k : ℕ) → k < p.len → IsByteOf (leaves_of t) (leaf_bytes v) (p.off + k) (byte_of base m p.loc k)
+
+-- the piece stands at its place, and what fills the rest of the place is right
+abbrev pub PieceStands : ℕ → State → Tree → ValueTree → Piece → Type 0
+PieceStands base m t v p = HasLeaves base m t v p × FillsAs p.ext (word_in base m p.loc) t v
+
+-- ---- bytes of a place that no leaf has
+
+-- byte k of the piece's place is padding, or stands above the piece
+abbrev pub IsUnused : Tree → Piece → ℕ → Type 0
+IsUnused t p k = k < p.len → IsPadding t (p.off + k)
+
+-- WHAT NO LEAF HAS KEEPS WHAT STOOD THERE, where nothing fills the rest of the place (the standards leave such bits unspecified: System V psABI AMD64, "Parameter Passing"; AAPCS64, "Parameter passing"; RISC-V psABI, "Integer Calling Convention")
+abbrev pub KeepsUnused : ℕ → Tree → State → State → Piece → Type 0
+KeepsUnused base t old new p =
+    p.ext ≡ Free → (k : ℕ) → k < 8 → IsUnused t p k → byte_of base new p.loc k ≡ byte_of base old p.loc k
+
+-- the same of the words of a value in memory at an address
+abbrev pub KeepsPadding : ℕ → Tree → State → State → Type 0
+KeepsPadding addr t old new =
+    (i : ℕ) → i < 8 * ((size_of t + 7) / 8) → IsPadding t i → stack_byte new (addr + i) ≡ stack_byte old (addr + i)
+
+-- THE PIECE OF A VALUE IS STORED, and all other places stay
+pub record IsStored (base : ℕ) (t : Tree) (v : ValueTree) (p : Piece) (old new : State) : Type 0 where
+  pub stands : PieceStands base new t v p
+  pub unused : KeepsUnused base t old new p
+  pub stays : Stays base (p.loc ∷ []) old new
+  pub within : (room : ℕ) → IsPlace room p.loc → WroteWithin base (base + room) old new
+
+-- ---- what is read from places
+
+-- these are the eight bytes of a place
+abbrev pub AreBytesOf : ℕ → State → Loc → List ℕ → Type 0
+AreBytesOf base m l bytes = (k : ℕ) → k < 8 → get_or bytes k 0 ≡ byte_of base m l k
+
+-- the bytes that a piece carries are those of its place, and the others stay
+pub record IsPieceLoaded (base : ℕ) (m : State) (p : Piece) (old new : List ℕ) : Type 0 where
+  pub sized : length new ≡ length old
+  pub here : (o : ℕ) → Carries o p → get_or new o 0 ≡ byte_of base m p.loc (o - p.off)
+  pub others : (o : ℕ) → (Carries o p) ⊎ (get_or new o 0 ≡ get_or old o 0)

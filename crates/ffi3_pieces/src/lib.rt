@@ -16,22 +16,23 @@ ghost use Rattle.ffi3_place_rules.specs.Holds.{FillArguments, OwnsArguments};
 ghost use Rattle.ffi3_place_rules.specs.Sound.{Apart, AreApart, hidden_locs, IsPieceOf, PlaceHasAll, piece_locs, place_locs, stack_words_for};
 ghost use Rattle.ffi3_type_rules.specs.declared.limits.TheConstants.{STACK, STACK_TOP};
 ghost use Rattle.ffi3_machine.specs.State.{image_of};
-ghost use Rattle.ffi3_pieces.specs.Stored.{IsPlace, HasLow, IsPut, IsSet, IsStored, IsWithin, IsWordPut, IsWritable, PieceStands, Stays, WroteWithin};
-ghost use Rattle.ffi3_pieces.specs.Standing.{AllStand, HiddenStands, IsCopied, PiecesStand, PlaceLies, PlaceStands, all_uses, place_uses};
+ghost use Rattle.ffi3_pieces.specs.Stored.{IsPlace, HasLow, IsPut, IsSet, IsSetAndFilled, IsStored, IsWithin, IsWordPut, IsWritable, KeepsUnused, PieceStands, Stays, WroteWithin};
+ghost use Rattle.ffi3_cif.specs.Runs.{AreRunsOf, pieces_of};
+ghost use Rattle.ffi3_pieces.specs.Runs.{goes_by_run};
+ghost use Rattle.ffi3_pieces.specs.Standing.{AllKeepUnused, AllStand, HiddenStands, IsCopied, PiecesStand, PlaceKeepsUnused, PlaceLies, PlaceStands, all_uses, place_uses};
 
-use ffi3_cif::Cif;
+mod load;
+mod running;
+
+use ffi3_cif::{Cif, Runs};
 use ffi3_machine::Machine;
 use ffi3_place::parts::{argument, count_of, size_of};
 use ffi3_place::{Abi, Ext, Loc, Piece, Pieces, Place, Res};
 use ffi3_types::FfiType;
 use ffi3_values::{Value, Values, number, widen, write_bytes};
-
-// The number of eight bytes, the lowest first.
-fn word_of(bytes: [u8; 8]) -> u64
-    ensures { to_le_bytes w64 result ≡ bytes }
-{
-    u64::from_le_bytes(bytes)
-}
+use load::word_of;
+pub use load::{load_piece, place_bytes, place_word};
+use running::store_runs;
 
 // The word with its low bytes replaced.
 fn with_low(word: u64, bytes: &[u8]) -> u64
@@ -124,8 +125,8 @@ fn widen_from_32(ty: &FfiType, value: &Value) -> u64
     ((low as u32).cast_signed() as i64).cast_unsigned()
 }
 
-/// Stores a piece of a value, of which `bytes` are the bytes in memory, and fills the rest of the piece's place. Stack places count from the address `base`.
-pub fn store_piece(
+// Puts the bytes that a piece of a value carries into its place, and fills the rest of the place. `bytes` are the value's bytes in memory.
+fn fill_piece(
     machine: &mut Machine,
     base: u64,
     piece: Piece,
@@ -141,7 +142,7 @@ pub fn store_piece(
     requires sized { length bytes.now ≡ size_of (tree_of ty.now) }
     requires reads { value_in (tree_of ty.now) bytes.now ≡ value_of value.now }
     requires fits { fits (tree_of ty.now) (value_of value.now) ≡ true }
-    ensures { IsStored base (tree_of ty.now) (value_of value.now) bytes.now piece machine.old machine.new }
+    ensures { IsSetAndFilled base (tree_of ty.now) (value_of value.now) bytes.now piece machine.old machine.new }
 {
     match piece.ext {
         Ext::Free => set_piece(machine, base, piece, bytes),
@@ -151,14 +152,82 @@ pub fn store_piece(
     }
 }
 
-/// Stores all pieces of a value, and fills the rest of their places. Stack places count from the address `base`.
-pub fn store_pieces(
+/// Stores a piece of a value, and fills the rest of the piece's place. Padding keeps what stood there, and so does the rest of the place where nothing fills it.
+/// `bytes` are as many as the value has, whatever they hold. Stack places count from the address `base`.
+pub fn store_piece(
+    machine: &mut Machine,
+    base: u64,
+    piece: Piece,
+    ty: &FfiType,
+    value: &Value,
+    bytes: &mut [u8],
+)
+    requires low { STACK ≤ base }
+    requires high { base ≤ STACK_TOP }
+    requires lies { IsPlace (STACK_TOP - base) piece.loc }
+    requires writable { IsWritable machine.old.target piece.loc }
+    requires part { IsPieceOf (tree_of ty.now) piece }
+    requires right { IsResultType (tree_of ty.now) }
+    requires fits { fits (tree_of ty.now) (value_of value.now) ≡ true }
+    requires sized { length bytes.old ≡ size_of (tree_of ty.now) }
+    ensures stored { IsStored base (tree_of ty.now) (value_of value.now) piece machine.old machine.new }
+    ensures sized { length bytes.new ≡ length bytes.old }
+{
+    load_piece(machine, base, &piece, bytes);
+    write_bytes(ty, value, bytes);
+    fill_piece(machine, base, piece, ty, value, bytes);
+}
+
+// Whether a piece is whole once the runs are stored.
+fn goes_by_run(piece: &Piece) -> bool
+    ensures { result ≡ goes_by_run piece.now.loc piece.now.ext }
+{
+    match piece.loc {
+        Loc::S(_) => match piece.ext {
+            Ext::Free => true,
+            Ext::Widen => false,
+            Ext::Riscv => false,
+            Ext::Boxed => false,
+        },
+        Loc::G(_) => false,
+        Loc::F(_) => false,
+    }
+}
+
+// Stores a piece of a value that does not go by a run.
+fn store_other(
+    machine: &mut Machine,
+    base: u64,
+    piece: Piece,
+    ty: &FfiType,
+    value: &Value,
+    bytes: &mut [u8],
+)
+    requires low { STACK ≤ base }
+    requires high { base ≤ STACK_TOP }
+    requires lies { IsPlace (STACK_TOP - base) piece.loc }
+    requires writable { IsWritable machine.old.target piece.loc }
+    requires part { IsPieceOf (tree_of ty.now) piece }
+    requires right { IsResultType (tree_of ty.now) }
+    requires fits { fits (tree_of ty.now) (value_of value.now) ≡ true }
+    requires sized { length bytes.old ≡ size_of (tree_of ty.now) }
+    requires given { goes_by_run piece.loc piece.ext ≡ true → PieceStands base machine.old (tree_of ty.now) (value_of value.now) piece }
+    ensures stored { IsStored base (tree_of ty.now) (value_of value.now) piece machine.old machine.new }
+    ensures sized { length bytes.new ≡ length bytes.old }
+{
+    if !goes_by_run(&piece) {
+        store_piece(machine, base, piece, ty, value, bytes);
+    }
+}
+
+// Stores all pieces of a value that do not go by runs, by way of `bytes`, which are as many as it has.
+fn store_each(
     machine: &mut Machine,
     base: u64,
     pieces: &Pieces,
     ty: &FfiType,
     value: &Value,
-    bytes: &[u8],
+    bytes: &mut [u8],
 )
     requires low { STACK ≤ base }
     requires high { base ≤ STACK_TOP }
@@ -166,16 +235,67 @@ pub fn store_pieces(
     requires writable { AllByRecursion (IsWritable machine.old.target) (piece_locs pieces.now) }
     requires apart { AreApart (piece_locs pieces.now) }
     requires parts { AllByRecursion (IsPieceOf (tree_of ty.now)) pieces.now }
-    requires sized { length bytes.now ≡ size_of (tree_of ty.now) }
-    requires reads { value_in (tree_of ty.now) bytes.now ≡ value_of value.now }
+    requires right { IsResultType (tree_of ty.now) }
     requires fits { fits (tree_of ty.now) (value_of value.now) ≡ true }
-    ensures stand { AllByRecursion (PieceStands base machine.new (tree_of ty.now) (value_of value.now) bytes.now) pieces.now }
+    requires sized { length bytes.old ≡ size_of (tree_of ty.now) }
+    requires given { AllByRecursion (λ p. goes_by_run p.loc p.ext ≡ true → PieceStands base machine.old (tree_of ty.now) (value_of value.now) p) pieces.now }
+    ensures stand { PiecesStand base machine.new (tree_of ty.now) (value_of value.now) pieces.now }
+    ensures unused { AllByRecursion (KeepsUnused base (tree_of ty.now) machine.old machine.new) pieces.now }
     ensures stays { Stays base (piece_locs pieces.now) machine.old machine.new }
     ensures within { (room : ℕ) → AllByRecursion (IsPlace room) (piece_locs pieces.now) → WroteWithin base (base + room) machine.old machine.new }
 {
     for j in (0..pieces.len()).rev() {
-        store_piece(machine, base, *pieces.get(j), ty, value, bytes);
+        store_other(machine, base, *pieces.get(j), ty, value, bytes);
     }
+}
+
+/// Stores all pieces of a value that stands in registers, and fills the rest of them. Padding keeps what stood there, and so does the rest of a register where nothing fills it.
+pub fn store_pieces(machine: &mut Machine, base: u64, pieces: &Pieces, ty: &FfiType, value: &Value)
+    requires low { STACK ≤ base }
+    requires high { base ≤ STACK_TOP }
+    requires registers { AllByRecursion (IsPlace 0) (piece_locs pieces.now) }
+    requires writable { AllByRecursion (IsWritable machine.old.target) (piece_locs pieces.now) }
+    requires apart { AreApart (piece_locs pieces.now) }
+    requires parts { AllByRecursion (IsPieceOf (tree_of ty.now)) pieces.now }
+    requires right { IsResultType (tree_of ty.now) }
+    requires fits { fits (tree_of ty.now) (value_of value.now) ≡ true }
+    ensures stand { PiecesStand base machine.new (tree_of ty.now) (value_of value.now) pieces.now }
+    ensures unused { AllByRecursion (KeepsUnused base (tree_of ty.now) machine.old machine.new) pieces.now }
+    ensures stays { Stays base (piece_locs pieces.now) machine.old machine.new }
+    ensures within { (room : ℕ) → AllByRecursion (IsPlace room) (piece_locs pieces.now) → WroteWithin base (base + room) machine.old machine.new }
+{
+    let mut room = [0; 1024];
+    let bytes = &mut room[..size_of(ty) as usize];
+    store_each(machine, base, pieces, ty, value, bytes);
+}
+
+// Stores a value in pieces. What stands on the stack goes by runs, but where something fills the rest of a place.
+fn store_direct(
+    machine: &mut Machine,
+    base: u64,
+    pieces: &Pieces,
+    runs: &Runs,
+    ty: &FfiType,
+    value: &Value,
+)
+    requires low { STACK ≤ base }
+    requires high { base ≤ STACK_TOP }
+    requires lie { AllByRecursion (IsPlace (STACK_TOP - base)) (piece_locs pieces.now) }
+    requires writable { AllByRecursion (IsWritable machine.old.target) (piece_locs pieces.now) }
+    requires apart { AreApart (piece_locs pieces.now) }
+    requires runs { AreRunsOf pieces.now runs.now }
+    requires parts { AllByRecursion (IsPieceOf (tree_of ty.now)) pieces.now }
+    requires right { IsResultType (tree_of ty.now) }
+    requires fits { fits (tree_of ty.now) (value_of value.now) ≡ true }
+    ensures stand { PiecesStand base machine.new (tree_of ty.now) (value_of value.now) pieces.now }
+    ensures unused { AllByRecursion (KeepsUnused base (tree_of ty.now) machine.old machine.new) pieces.now }
+    ensures stays { Stays base (piece_locs pieces.now) machine.old machine.new }
+    ensures within { (room : ℕ) → AllByRecursion (IsPlace room) (piece_locs pieces.now) → WroteWithin base (base + room) machine.old machine.new }
+{
+    let mut room = [0; 1024];
+    let bytes = &mut room[..size_of(ty) as usize];
+    store_runs(machine, base, runs, ty, value, bytes);
+    store_each(machine, base, pieces, ty, value, bytes);
 }
 
 /// Stores an argument by reference: a copy of the value `copy` bytes from `base` on, and the copy's address in a place. The copy's padding keeps what stood there.
@@ -201,53 +321,43 @@ fn store_copy(machine: &mut Machine, base: u64, at: Loc, copy: u32, ty: &FfiType
     put_word(machine, base, at, start);
 }
 
-/// Stores a value in pieces.
-fn store_direct(machine: &mut Machine, base: u64, pieces: &Pieces, ty: &FfiType, value: &Value)
-    requires low { STACK ≤ base }
-    requires high { base ≤ STACK_TOP }
-    requires lie { AllByRecursion (IsPlace (STACK_TOP - base)) (piece_locs pieces.now) }
-    requires writable { AllByRecursion (IsWritable machine.old.target) (piece_locs pieces.now) }
-    requires apart { AreApart (piece_locs pieces.now) }
-    requires parts { AllByRecursion (IsPieceOf (tree_of ty.now)) pieces.now }
-    requires right { IsResultType (tree_of ty.now) }
-    requires fits { fits (tree_of ty.now) (value_of value.now) ≡ true }
-    ensures stand { PiecesStand base machine.new (tree_of ty.now) (value_of value.now) pieces.now }
-    ensures stays { Stays base (piece_locs pieces.now) machine.old machine.new }
-    ensures within { (room : ℕ) → AllByRecursion (IsPlace room) (piece_locs pieces.now) → WroteWithin base (base + room) machine.old machine.new }
-{
-    let mut room = [0; 1024];
-    let bytes = &mut room[..size_of(ty) as usize];
-    write_bytes(ty, value, bytes);
-    store_pieces(machine, base, pieces, ty, value, bytes);
-}
-
-/// Stores an argument at its place. Stack places count from the address `base`.
-pub fn store_place(machine: &mut Machine, base: u64, place: &Place, ty: &FfiType, value: &Value)
+/// Stores an argument at its place. What no leaf of it has keeps what stood there. Stack places count from the address `base`.
+pub fn store_place(
+    machine: &mut Machine,
+    base: u64,
+    place: &Place,
+    runs: &Runs,
+    ty: &FfiType,
+    value: &Value,
+)
     requires low { STACK ≤ base }
     requires high { base ≤ STACK_TOP }
     requires lies { PlaceLies (STACK_TOP - base) (tree_of ty.now) place.now }
     requires writable { AllByRecursion (IsWritable machine.old.target) (place_locs place.now) }
     requires apart { AreApart (place_uses (tree_of ty.now) place.now) }
     requires has_all { PlaceHasAll (tree_of ty.now) place.now }
+    requires runs { AreRunsOf (pieces_of place.now) runs.now }
     requires right { IsResultType (tree_of ty.now) }
     requires fits { fits (tree_of ty.now) (value_of value.now) ≡ true }
     ensures stands { PlaceStands base machine.new (tree_of ty.now) (value_of value.now) place.now }
+    ensures unused { PlaceKeepsUnused base (tree_of ty.now) machine.old machine.new place.now }
     ensures stays { Stays base (place_uses (tree_of ty.now) place.now) machine.old machine.new }
     ensures within { (room : ℕ) → PlaceLies room (tree_of ty.now) place.now → WroteWithin base (base + room) machine.old machine.new }
 {
     match place {
-        Place::Direct(pieces) => store_direct(machine, base, pieces, ty, value),
+        Place::Direct(pieces) => store_direct(machine, base, pieces, runs, ty, value),
         Place::ByRef { at, copy } => store_copy(machine, base, *at, *copy, ty, value),
     }
 }
 
-/// Stores all arguments in the frame that starts at the stack pointer.
+/// Stores all arguments in the frame that starts at the stack pointer. What no leaf of an argument has keeps what stood there.
 pub fn store_places<A: Abi>(machine: &mut Machine, cif: &Cif<A>, values: &Values)
     requires fit { all_fit (trees_of cif.now.arguments) (values_of values.now) ≡ true }
     requires target { machine.old.target ≡ A.TARGET }
     requires bottom { STACK ≤ machine.old.sp }
     requires frame { machine.old.sp + frame_of A.standard cif.now ≤ STACK_TOP }
     ensures stand { AllStand machine.old.sp machine.new cif.now.arguments (plan_of A.standard cif.now).places values.now }
+    ensures unused { AllKeepUnused machine.old.sp machine.old machine.new cif.now.arguments (plan_of A.standard cif.now).places }
     ensures own { OwnsArguments (image_of (frame_of A.standard cif.now) machine.new) 0 cif.now.arguments (plan_of A.standard cif.now).places values.now }
     ensures filled { FillArguments (image_of (frame_of A.standard cif.now) machine.new) 0 cif.now.arguments (plan_of A.standard cif.now).places values.now }
     ensures stays { Stays machine.old.sp (all_uses cif.now.arguments (plan_of A.standard cif.now).places) machine.old machine.new }
@@ -260,6 +370,7 @@ pub fn store_places<A: Abi>(machine: &mut Machine, cif: &Cif<A>, values: &Values
             machine,
             base,
             cif.place(i),
+            cif.runs(i),
             argument(sig, i),
             values.get(i as usize),
         );

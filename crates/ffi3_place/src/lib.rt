@@ -71,6 +71,9 @@ pub trait Abi {
 
     ghost kept_all: { length standard.preserved ≡ KEPT };
 
+    // A number of eight bits names each word of the save area.
+    ghost words_few: { length standard.save_area < 256 };
+
     // What the standard names of its target's machine is what the machine has.
     ghost agrees: { AgreesWithMachine standard };
 

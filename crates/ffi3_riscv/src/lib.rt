@@ -520,6 +520,7 @@ impl Abi for Riscv {
     }
 
     ghost use Rattle.std.specs.Prelude.{refl};
+    ghost use Rattle.std.proofs.lemmas.Bool.{ltb-true};
     ghost use Rattle.ffi3_riscv_rules.proofs.Agrees.{agrees as with_machine};
     ghost use Rattle.ffi3_riscv_rules.proofs.Sound.{sound as every_law, determines};
 
@@ -530,6 +531,8 @@ impl Abi for Riscv {
     ghost target_is = { refl };
 
     ghost kept_all = { refl };
+
+    ghost words_few = { ltb-true (length riscv.save_area) 256 refl };
 
     ghost agrees = { with_machine };
 

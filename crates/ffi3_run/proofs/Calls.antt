@@ -20,16 +20,16 @@ use Rattle.ffi3_closures.specs.Slots.{HoldsMap}
 use Rattle.ffi3_call.specs.Calls.{HasBegun, HasEnded}
 use Rattle.ffi3_run.specs.declared.board.Board.{Board}
 use Rattle.ffi3_run.specs.declared.board.Turn.{Turn}
-use Rattle.ffi3_run.specs.declared.line.Cut.{Cut}
-use Rattle.ffi3_run.specs.RunMatches.{Took}
+use Rattle.ffi3_io.specs.declared.IoError.{IoError}
+use Rattle.ffi3_io.specs.Sink.{SinkState}
 use Rattle.ffi3_run.specs.CallTree.{joined, preceded, text_of, Scene, Done, AnswersAfter}
-use Rattle.ffi3_run.specs.Cuts.{CutOff}
+use Rattle.ffi3_io.specs.Written.{CutOff}
 use Rattle.ffi3_run.specs.Moment.{Moment, moment, main_after, rest_of, asking, IsBetween, Went, Turned, StoppedBy}
 use Rattle.ffi3_run.specs.Leaf.{LeafCame, returning}
 use Rattle.ffi3_run.proofs.Acts.{act_enters}
 use Rattle.ffi3_run.proofs.Answering.{called_answers, stopped_answers}
 use Rattle.ffi3_run.proofs.Joining.{text-joined, events_in-append, events_in-joined, joined_none}
-use Rattle.ffi3_run.proofs.Lines.{took_then, took_as, cut_after, cut_in}
+use Rattle.ffi3_io.proofs.Writing.{took_then, took_as, cut_after, cut_in}
 use Rattle.ffi3_run.proofs.Turns.{more_follow, still_few}
 
 -- ---- what is written out of a call that is the whole tree
@@ -109,7 +109,7 @@ module _ (p : Program) (x : Moment) (between : IsBetween p (asking x)) (needs : 
       (t.0, ap (λ (z : Outcome). text_of p z.call_tree) (rest_by o refl) ∙ t.1)
 
   -- cut off in the function
-  pub cut_inside : (o : Took) (why : Cut) → CutOff (text_of p (act p callee x.closures x.moves).call_tree) x.scene.output o why → CutOff (text_of p (rest_of p (asking x)).call_tree) x.scene.output o why
+  pub cut_inside : (o : SinkState) (why : IoError) → CutOff (text_of p (act p callee x.closures x.moves).call_tree) x.scene.output o why → CutOff (text_of p (rest_of p (asking x)).call_tree) x.scene.output o why
   cut_inside o why h =
       cut_in x.scene.output o (text_of p (act p callee x.closures x.moves).call_tree) text_inside.0 (text_of p (rest_of p (asking x)).call_tree) why text_inside.1 h
 
@@ -121,7 +121,7 @@ module _ (p : Program) (x : Moment) (between : IsBetween p (asking x)) (needs : 
     need_is = ap (λ (f : Signature → ℕ). f site) (sym needs)
 
     -- the function returned
-    module _ (r : ValueTree) (left : ℕ) (o : Took) (came : LeafCame p callee x.closures x.moves (returning r x.closures left) x.scene.output o) where
+    module _ (r : ValueTree) (left : ℕ) (o : SinkState) (came : LeafCame p callee x.closures x.moves (returning r x.closures left) x.scene.output o) where
       abbrev inside : CallTree
       inside = joined came.call_tree no_nodes
 
@@ -170,7 +170,7 @@ module _ (p : Program) (x : Moment) (between : IsBetween p (asking x)) (needs : 
         }
 
     -- the moves were used up in the function
-    module _ (o : Took) (came : LeafCame p callee x.closures x.moves (stops_with MoveLimit x.closures 0) x.scene.output o) where
+    module _ (o : SinkState) (came : LeafCame p callee x.closures x.moves (stops_with MoveLimit x.closures 0) x.scene.output o) where
       abbrev last : CallTree
       last = node (stop_line MoveLimit) no_nodes
 
@@ -195,7 +195,7 @@ module _ (p : Program) (x : Moment) (between : IsBetween p (asking x)) (needs : 
       text_is =
           stopped_text p ptr sig args all_inside ∙ text-joined p came.call_tree last ∙ ap (λ (l : List ℕ). text_of p came.call_tree ++ l) (append-nil stop_words)
 
-      pub stops_inside : (b : Board) (o' : Took) (t : Result Turn Cut) → StoppedBy p.signatures MoveLimit o o' t → Turned p (asking x) (moment b m o') t
+      pub stops_inside : (b : Board) (o' : SinkState) (t : Result Turn IoError) → StoppedBy p.signatures MoveLimit o o' t → Turned p (asking x) (moment b m o') t
       stops_inside b o' (Ok t) by =
           let after : Scene = record { machine = m; output = o' } in
           let Q = λ (u : Turn). Turned p (asking x) (moment b m o') (Ok u) in

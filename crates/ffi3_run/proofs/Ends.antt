@@ -16,20 +16,21 @@ use Rattle.ffi3_machine.specs.State.{State, begun, begun_code}
 use Rattle.ffi3_type_rules.specs.declared.limits.TheConstants.{STACK_TOP}
 use Rattle.ffi3_closures.specs.Slots.{HoldsMap}
 use Rattle.ffi3_run.specs.declared.board.Board.{Board}
-use Rattle.ffi3_run.specs.declared.line.Cut.{Cut}
-use Rattle.ffi3_run.specs.declared.line.Cut.TheVariants as cut
+use Rattle.ffi3_io.specs.declared.IoError.{IoError}
+use Rattle.ffi3_io.specs.declared.IoError.TheVariants as cut
 use Rattle.ffi3_run.specs.declared.run.RunEnd.{RunEnd}
 use Rattle.ffi3_run.specs.declared.run.RunEnd.TheVariants as run
-use Rattle.ffi3_run.specs.RunMatches.{Took, RunMatches, WrotePart}
+use Rattle.ffi3_run.specs.RunMatches.{RunMatches, WrotePart}
+use Rattle.ffi3_io.specs.Sink.{SinkState}
 use Rattle.ffi3_run_rules.specs.Lines.{untraced, text_of_run}
 use Rattle.ffi3_run.specs.CallTree.{AnswersAfter}
 use Rattle.ffi3_run.specs.Moment.{Moment, moment, IsBetween, Came, CutIn, Ran}
-use Rattle.ffi3_run.proofs.Lines.{whole_part}
+use Rattle.ffi3_io.proofs.Writing.{whole_part}
 use Rattle.ffi3_run.proofs.Makes.{none_known}
 
 -- ---- the beginning
 
-abbrev pub start : State → Took → Moment
+abbrev pub start : State → SinkState → Moment
 start m o = record {
   results = [];
   closures = no_closures;
@@ -37,7 +38,7 @@ start m o = record {
   scene = record { machine = m; output = o };
 }
 
-pub starts : (b : Board) (m : State) (o : Took) → b.table ≡ no_closures → b.moves ≡ most_moves → b.results ≡ [] → moment b m o ≡ start m o
+pub starts : (b : Board) (m : State) (o : SinkState) → b.table ≡ no_closures → b.moves ≡ most_moves → b.results ≡ [] → moment b m o ≡ start m o
 starts b m o closures moves results = λ i. record {
   results = results i;
   closures = closures i;
@@ -45,7 +46,7 @@ starts b m o closures moves results = λ i. record {
   scene = record { machine = m; output = o };
 }
 
-pub between_at_start : (p : Program) (m : State) (o : Took) (a b : ℕ) → m ≡ begun Amd64 a b → HoldsMap Amd64 no_closures (begun_code isa.Amd64) → IsBetween p (start m o)
+pub between_at_start : (p : Program) (m : State) (o : SinkState) (a b : ℕ) → m ≡ begun Amd64 a b → HoldsMap Amd64 no_closures (begun_code isa.Amd64) → IsBetween p (start m o)
 between_at_start p m o a b is holds = record {
   target = ap (λ (s : State). s.target) is;
   sp = ap (λ (s : State). s.sp) is;
@@ -61,7 +62,7 @@ reaches : (top first last peak : ℕ) → first ≡ top → (first ≤ last) ⊎
 reaches top first last peak is (inl h) = omega arith
 reaches top first last peak is (inr h) = h
 
-module _ (p : Program) (m : State) (o : Took) (last : Moment) (none : m.events ≡ []) (mark : m.mark ≡ STACK_TOP) where
+module _ (p : Program) (m : State) (o : SinkState) (last : Moment) (none : m.events ≡ []) (mark : m.mark ≡ STACK_TOP) where
   pub told : (end : End) → Came p end (start m o) last → RunMatches untraced amd64 p o last.scene.output last.scene.machine
   told end came =
       let added : last.scene.machine.events ≡ came.done.events = came.done.added ∙ ap (λ (l : List Event). l ++ came.done.events) none in
@@ -80,7 +81,7 @@ module _ (p : Program) (m : State) (o : Took) (last : Moment) (none : m.events �
   part_of_all end came =
       whole_part o.taken last.scene.output.taken (text_of_run untraced p) came.done.lines.added
 
-  part_of_cut : (why : Cut) → CutIn p (start m o) last why → WrotePart untraced p o last.scene.output
+  part_of_cut : (why : IoError) → CutIn p (start m o) last why → WrotePart untraced p o last.scene.output
   part_of_cut why h = (h.part, h.written)
 
   -- what each answer says

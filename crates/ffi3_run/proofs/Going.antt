@@ -7,11 +7,11 @@ use Rattle.ffi3_run_rules.specs.Trace.{written_out}
 use Rattle.ffi3_run_rules.specs.Journal.{events_in, stack_top}
 use Rattle.ffi3_run_rules.specs.Meaning.{Program, CallTree, no_nodes, End, Outcome, peak_of}
 use Rattle.ffi3_closures.specs.Slots.{HoldsMap}
-use Rattle.ffi3_run.specs.declared.line.Cut.{Cut}
+use Rattle.ffi3_io.specs.declared.IoError.{IoError}
 use Rattle.ffi3_run.specs.CallTree.{joined, preceded, text_of, Scene, Done, AnswersAfter, AnswersFirst}
 use Rattle.ffi3_run.specs.Moment.{Moment, rest_of, Went, Came, CutIn}
 use Rattle.ffi3_run.proofs.Joining.{text-joined, events_in-joined, peak_of-joined, preceded_twice, answers_then, answers_last}
-use Rattle.ffi3_run.proofs.Lines.{took_nothing, took_then, cut_after}
+use Rattle.ffi3_io.proofs.Writing.{took_nothing, took_then, cut_after}
 
 marked : (top a b c x y z : ℕ) → z ≡ max x y → (a ≤ b) ⊎ (top ≤ b + x) → (b ≤ c) ⊎ (top ≤ c + y) → (a ≤ c) ⊎ (top ≤ c + z)
 marked top a b c x y z is (inl h) (inl k) = inl (omega arith)
@@ -97,6 +97,6 @@ module _ (p : Program) (a b c : Moment) (first : Went p a b) where
         holds = subst R (sym (ap (λ (o : Outcome). o.closures) first.follows)) came.holds;
       }
 
-  pub cut_then : (why : Cut) → CutIn p b c why → CutIn p a c why
+  pub cut_then : (why : IoError) → CutIn p b c why → CutIn p a c why
   cut_then why h =
       cut_after a.scene.output b.scene.output c.scene.output (text_of p first.call_tree) (text_of p (rest_of p b).call_tree) (text_of p (rest_of p a).call_tree) why (ap (text_of p) trees_are ∙ text-joined p first.call_tree (rest_of p b).call_tree) first.done.lines h

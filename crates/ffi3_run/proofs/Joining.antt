@@ -1,6 +1,5 @@
 -- CallTree one after another: what is written out, the events, the text, the peak.
 use Rattle.std.proofs.Common.{◌≡◌, ℕ, ◌+◌, max, List, [], ◌∷◌, ◌++◌, length, refl, sym, ap, ◌∙◌, subst, arith, append_assoc, append-nil, length-append}
-use Rattle.ffi3_type_rules.specs.Signature.{Signature}
 use Rattle.ffi3_place_rules.specs.Event.{Event}
 use Rattle.ffi3_run_rules.specs.Trace.{TraceItem, Enter, Line, Leave, StopLine, written_out, written_out_one}
 use Rattle.ffi3_run_rules.specs.Journal.{events_in}

@@ -14,15 +14,16 @@ use Rattle.ffi3_run_rules.specs.Meaning.{Program, Activation, CallTree, no_nodes
 use Rattle.ffi3_body.specs.SeenActivation.{arguments_in}
 use Rattle.ffi3_body.specs.Follow.{IsOfType, ResultsFollow}
 use Rattle.ffi3_body.proofs.Follow.{none_follow, one_more_follows}
-use Rattle.ffi3_run.specs.declared.line.Cut.{Cut}
-use Rattle.ffi3_run.specs.declared.line.Cut.TheVariants.{NoMemory}
-use Rattle.ffi3_run.specs.RunMatches.{Took, TookLine}
+use Rattle.ffi3_io.specs.declared.IoError.{IoError}
+use Rattle.ffi3_io.specs.declared.IoError.TheVariants.{NoMemory}
+use Rattle.ffi3_io.specs.Sink.{SinkState}
+use Rattle.ffi3_io.specs.Written.{TookText}
 use Rattle.ffi3_run.specs.CallTree.{joined, preceded, text_of}
-use Rattle.ffi3_run.specs.Cuts.{CutOff}
+use Rattle.ffi3_io.specs.Written.{CutOff}
 use Rattle.ffi3_run.specs.Leaf.{IsKept, Begins, LeafWent, LeafBetween, LeafCame, returning}
 use Rattle.ffi3_run.proofs.Acts.{at_limit, act_returns, act_prints}
 use Rattle.ffi3_run.proofs.Joining.{text-joined, events_in-joined, preceded_twice}
-use Rattle.ffi3_run.proofs.Lines.{took_nothing, took_then, cut_after, cut_in, cut_between}
+use Rattle.ffi3_io.proofs.Writing.{took_nothing, took_then, cut_after, cut_in, cut_between}
 
 -- the text of one line
 pub one_line : (p : Program) (t : Tree) (v : ValueTree) → text_of p (node (line t v) no_nodes) ≡ a_line (value_text_of t v)
@@ -39,7 +40,7 @@ print_follows signatures behaviour arguments user results t v is before =
     let this : P (print t v) = refl in
     one_more_follows signatures behaviour arguments user results void_value before (subst P (sym is) this)
 
-module _ (behaviour : Behaviour) (s : Signature) (block : List ℕ) (user : ℕ) (p : Program) (a : Activation) (c : Closures) (begins : Begins behaviour s block user p a) (first : ℕ) (before : Took) where
+module _ (behaviour : Behaviour) (s : Signature) (block : List ℕ) (user : ℕ) (p : Program) (a : Activation) (c : Closures) (begins : Begins behaviour s block user p a) (first : ℕ) (before : SinkState) where
   abbrev at : List ValueTree → Activation
   at results = record a { results = results }
 
@@ -62,7 +63,7 @@ module _ (behaviour : Behaviour) (s : Signature) (block : List ℕ) (user : ℕ)
         lines = took_nothing before;
       }
 
-  module _ (results : List ValueTree) (moves left : ℕ) (now : Took) (went : LeafWent p a c first results moves before now) where
+  module _ (results : List ValueTree) (moves left : ℕ) (now : SinkState) (went : LeafWent p a c first results moves before now) where
     -- cut off between two moves
     pub leaf_cut_now : CutOff (text_of p (act p a c first).call_tree) before now NoMemory
     leaf_cut_now =
@@ -95,7 +96,7 @@ module _ (behaviour : Behaviour) (s : Signature) (block : List ℕ) (user : ℕ)
             went.follows ∙ ap (preceded went.call_tree) (ap (act p (at results) c) counts ∙ act_prints p (at results) c left t v (asks results ∙ is))
 
         -- the line is taken
-        pub leaf_prints : (after : Took) → TookLine (a_line (value_text_of t v)) now after → LeafWent p a c first (results ++ void_value ∷ []) left before after
+        pub leaf_prints : (after : SinkState) → TookText (a_line (value_text_of t v)) now after → LeafWent p a c first (results ++ void_value ∷ []) left before after
         leaf_prints after took = record {
           call_tree = joined went.call_tree this;
           quiet =
@@ -106,7 +107,7 @@ module _ (behaviour : Behaviour) (s : Signature) (block : List ℕ) (user : ℕ)
         }
 
         -- cut off in the line
-        pub leaf_cut_in_line : (after : Took) (cut : Cut) → CutOff (a_line (value_text_of t v)) now after cut → CutOff (text_of p (act p a c first).call_tree) before after cut
+        pub leaf_cut_in_line : (after : SinkState) (cut : IoError) → CutOff (a_line (value_text_of t v)) now after cut → CutOff (text_of p (act p a c first).call_tree) before after cut
         leaf_cut_in_line after cut h =
             let o = act p (at (results ++ void_value ∷ [])) c left in
             let rest = joined this o.call_tree in
@@ -118,7 +119,7 @@ module _ (behaviour : Behaviour) (s : Signature) (block : List ℕ) (user : ℕ)
 one_fewer : (n : ℕ) → (n ≡ 0 → ⊥) → n ≡ suc (n - 1)
 one_fewer n some = omega arith
 
-module _ (signatures : List Signature) (behaviour : Behaviour) (s : Signature) (block : List ℕ) (user first : ℕ) (before : Took) where
+module _ (signatures : List Signature) (behaviour : Behaviour) (s : Signature) (block : List ℕ) (user first : ℕ) (before : SinkState) where
   pub leaf_starts : (results : List ValueTree) → results ≡ [] → first ≤ most_moves → LeafBetween signatures behaviour s block user first results first before before
   leaf_starts results none few =
       let P = λ (rs : List ValueTree). LeafBetween signatures behaviour s block user first rs first before before in
@@ -130,7 +131,7 @@ module _ (signatures : List Signature) (behaviour : Behaviour) (s : Signature) (
       } in
       subst P (sym none) start
 
-  module _ (results : List ValueTree) (left : ℕ) (now : Took) (h : LeafBetween signatures behaviour s block user first results left before now) where
+  module _ (results : List ValueTree) (left : ℕ) (now : SinkState) (h : LeafBetween signatures behaviour s block user first results left before now) where
     module _ (p : Program) (a : Activation) (c : Closures) (begins : Begins behaviour s block user p a) where
       pub limit_there : left ≡ 0 → LeafCame p a c first (stops_with MoveLimit c 0) before now
       limit_there none =
@@ -144,11 +145,11 @@ module _ (signatures : List Signature) (behaviour : Behaviour) (s : Signature) (
       returns_there some v is =
           leaf_returns behaviour s block user p a c begins first before results left (left - 1) now (h.went p a c begins) (one_fewer left some) v is
 
-      pub cut_in_line_there : (left ≡ 0 → ⊥) → (t : Tree) (v : ValueTree) → behaviour (arguments_in s.arguments block) user results ≡ print t v → (after : Took) (cut : Cut) → CutOff (a_line (value_text_of t v)) now after cut → CutOff (text_of p (act p a c first).call_tree) before after cut
+      pub cut_in_line_there : (left ≡ 0 → ⊥) → (t : Tree) (v : ValueTree) → behaviour (arguments_in s.arguments block) user results ≡ print t v → (after : SinkState) (cut : IoError) → CutOff (a_line (value_text_of t v)) now after cut → CutOff (text_of p (act p a c first).call_tree) before after cut
       cut_in_line_there some t v is after cut cut_line =
           leaf_cut_in_line behaviour s block user p a c begins first before results left (left - 1) now (h.went p a c begins) (one_fewer left some) t v is after cut cut_line
 
-    pub leaf_keeps : (left ≡ 0 → ⊥) → (t : Tree) (v : ValueTree) → behaviour (arguments_in s.arguments block) user results ≡ print t v → (after : Took) → TookLine (a_line (value_text_of t v)) now after → (pushed : List ValueTree) → pushed ≡ results ++ void_value ∷ [] → LeafBetween signatures behaviour s block user first pushed (left - 1) before after
+    pub leaf_keeps : (left ≡ 0 → ⊥) → (t : Tree) (v : ValueTree) → behaviour (arguments_in s.arguments block) user results ≡ print t v → (after : SinkState) → TookText (a_line (value_text_of t v)) now after → (pushed : List ValueTree) → pushed ≡ results ++ void_value ∷ [] → LeafBetween signatures behaviour s block user first pushed (left - 1) before after
     leaf_keeps some t v is after took pushed same =
         let P = λ (rs : List ValueTree). LeafBetween signatures behaviour s block user first rs (left - 1) before after in
         let next : P (results ++ void_value ∷ []) = record {

@@ -4,7 +4,6 @@ pub mod Spelling
 pub mod Acts
 pub mod Answering
 pub mod Joining
-pub mod Lines
 pub mod Going
 pub mod Leaves
 pub mod Limits

@@ -12,7 +12,7 @@ use Rattle.ffi3_closures.specs.Slots.{HoldsMap}
 use Rattle.ffi3_run.specs.Moment.{Moment, main_after, rest_of, asking, IsKnown, AreKnown, IsBetween, Went}
 use Rattle.ffi3_run.proofs.Acts.{by_doing, make_goes_on}
 use Rattle.ffi3_run.proofs.Answering.{quiet_answers}
-use Rattle.ffi3_run.proofs.Lines.{took_nothing}
+use Rattle.ffi3_io.proofs.Writing.{took_nothing}
 use Rattle.ffi3_run.proofs.Turns.{more_follow, still_few}
 
 -- ---- what is known of the closures

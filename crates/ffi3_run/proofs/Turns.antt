@@ -17,16 +17,17 @@ use Rattle.ffi3_machine.specs.State.{State}
 use Rattle.ffi3_closures.specs.Slots.{HoldsMap}
 use Rattle.ffi3_run.specs.declared.board.Board.{Board}
 use Rattle.ffi3_run.specs.declared.board.Turn.{Turn}
-use Rattle.ffi3_run.specs.declared.line.Cut.{Cut}
-use Rattle.ffi3_run.specs.declared.line.Cut.TheVariants as cut
-use Rattle.ffi3_run.specs.RunMatches.{Took, TookLine}
+use Rattle.ffi3_io.specs.declared.IoError.{IoError}
+use Rattle.ffi3_io.specs.declared.IoError.TheVariants as cut
+use Rattle.ffi3_io.specs.Sink.{SinkState}
+use Rattle.ffi3_io.specs.Written.{TookText}
 use Rattle.ffi3_run.specs.CallTree.{preceded, text_of, Scene, Done, AnswersAfter}
-use Rattle.ffi3_run.specs.Cuts.{CutOff}
+use Rattle.ffi3_io.specs.Written.{CutOff}
 use Rattle.ffi3_run.specs.Moment.{Moment, moment, main_after, rest_of, asking, IsBetween, Went, Came, CutIn, Turned, GoneOn, StoppedBy}
 use Rattle.ffi3_run.proofs.Acts.{by_doing, at_limit, act_returns, act_prints}
 use Rattle.ffi3_run.proofs.Answering.{quiet_answers}
 use Rattle.ffi3_run.proofs.Joining.{text-joined}
-use Rattle.ffi3_run.proofs.Lines.{took_nothing, took_as, cut_at_once, cut_in, cut_between}
+use Rattle.ffi3_io.proofs.Writing.{took_nothing, took_as, cut_at_once, cut_in, cut_between}
 use Rattle.ffi3_run.proofs.Leaves.{one_line}
 
 void_is : (v : ValueTree) → fits void v ≡ true → v ≡ void_value
@@ -49,14 +50,14 @@ module _ (p : Program) (x : Moment) (between : IsBetween p (asking x)) (asked : 
 -- ---- the end of a move
 
 -- the run goes on from here, or there is no memory for the result
-pub goes : (p : Program) (old : Moment) (b b' : Board) (m : State) (o : Took) (r : ValueTree) (t : Result Turn Cut) → GoneOn r b b' t → Went p old (moment (record b { results = b.results ++ r ∷ [] }) m o) → IsBetween p (moment (record b { results = b.results ++ r ∷ [] }) m o) → b.moves < old.moves → Turned p old (moment b' m o) t
+pub goes : (p : Program) (old : Moment) (b b' : Board) (m : State) (o : SinkState) (r : ValueTree) (t : Result Turn IoError) → GoneOn r b b' t → Went p old (moment (record b { results = b.results ++ r ∷ [] }) m o) → IsBetween p (moment (record b { results = b.results ++ r ∷ [] }) m o) → b.moves < old.moves → Turned p old (moment b' m o) t
 goes p old b b' m o r (Ok t) gone went between fewer =
     let P = λ (c : Board). Went p old (moment c m o) × IsBetween p (moment c m o) × (c.moves < old.moves) in
     let Q = λ (u : Turn). Turned p old (moment b' m o) (Ok u) in
     subst Q (sym gone.0) (subst P (sym gone.1) (went, between, fewer))
 goes p old b b' m o r (Err why) gone went between fewer =
     let rest = (rest_of p (moment (record b { results = b.results ++ r ∷ [] }) m o)).call_tree in
-    let P = λ (c : Cut). CutOff (text_of p (rest_of p old).call_tree) old.scene.output o c in
+    let P = λ (c : IoError). CutOff (text_of p (rest_of p old).call_tree) old.scene.output o c in
     subst P (sym gone) (cut_between old.scene.output o (text_of p went.call_tree) (text_of p rest) (text_of p (rest_of p old).call_tree) (ap (λ (x : Outcome). text_of p x.call_tree) went.follows ∙ text-joined p went.call_tree rest) went.done.lines)
 
 -- the text of a stop's line
@@ -64,7 +65,7 @@ stop_text_is : (p : Program) (stop : Stop) → text_of p (node (stop_line stop) 
 stop_text_is p stop = append-nil (a_line (stop_text p.signatures stop))
 
 -- the run stops here
-pub stops_here : (p : Program) (x : Moment) (b : Board) (o : Took) (stop : Stop) (k : ℕ) (t : Result Turn Cut) → rest_of p x ≡ stops_with stop x.closures k → x.scene.machine.target ≡ amd64.target → HoldsMap amd64.target x.closures x.scene.machine.code → StoppedBy p.signatures stop x.scene.output o t → Turned p x (moment b x.scene.machine o) t
+pub stops_here : (p : Program) (x : Moment) (b : Board) (o : SinkState) (stop : Stop) (k : ℕ) (t : Result Turn IoError) → rest_of p x ≡ stops_with stop x.closures k → x.scene.machine.target ≡ amd64.target → HoldsMap amd64.target x.closures x.scene.machine.code → StoppedBy p.signatures stop x.scene.output o t → Turned p x (moment b x.scene.machine o) t
 stops_here p x b o stop k (Ok t) is target holds by =
     let this = node (stop_line stop) no_nodes in
     let after : Scene = record { machine = x.scene.machine; output = o } in
@@ -131,19 +132,19 @@ move_stops p x asked stop is does =
 -- nothing of what follows is written, for want of memory
 pub cut_here : (p : Program) (x y : Moment) → y.scene.output ≡ x.scene.output → CutIn p x y cut.NoMemory
 cut_here p x y same =
-    let P = λ (o : Took). CutOff (text_of p (rest_of p x).call_tree) x.scene.output o cut.NoMemory in
+    let P = λ (o : SinkState). CutOff (text_of p (rest_of p x).call_tree) x.scene.output o cut.NoMemory in
     subst P (sym same) (cut_at_once x.scene.output (text_of p (rest_of p x).call_tree))
 
 -- ---- a print
 
-module _ (p : Program) (x : Moment) (between : IsBetween p (asking x)) (t : Tree) (v : ValueTree) (is : p.main [] 0 x.results ≡ print t v) (o : Took) where
+module _ (p : Program) (x : Moment) (between : IsBetween p (asking x)) (t : Tree) (v : ValueTree) (is : p.main [] 0 x.results ≡ print t v) (o : SinkState) where
   abbrev printed : Moment
   printed = record x { results = x.results ++ void_value ∷ []; scene = record { machine = x.scene.machine; output = o } }
 
   prints : rest_of p (asking x) ≡ preceded (node (line t v) no_nodes) (rest_of p printed)
   prints = act_prints p (main_after x.results) x.closures x.moves t v is
 
-  pub went_line : TookLine (a_line (value_text_of t v)) x.scene.output o → Went p (asking x) printed
+  pub went_line : TookText (a_line (value_text_of t v)) x.scene.output o → Went p (asking x) printed
   went_line took = record {
     call_tree = node (line t v) no_nodes;
     follows = prints;
@@ -167,7 +168,7 @@ module _ (p : Program) (x : Moment) (between : IsBetween p (asking x)) (t : Tree
     few = still_few p x between (print t v) is void_value refl x.moves (omega arith);
   }
 
-  pub cut_in_print : (why : Cut) → CutOff (a_line (value_text_of t v)) x.scene.output o why → CutOff (text_of p (rest_of p (asking x)).call_tree) x.scene.output o why
+  pub cut_in_print : (why : IoError) → CutOff (a_line (value_text_of t v)) x.scene.output o why → CutOff (text_of p (rest_of p (asking x)).call_tree) x.scene.output o why
   cut_in_print why h =
       let rest = (rest_of p printed).call_tree in
       cut_in x.scene.output o (a_line (value_text_of t v)) (text_of p rest) (text_of p (rest_of p (asking x)).call_tree) why (ap (λ (z : Outcome). text_of p z.call_tree) prints) h

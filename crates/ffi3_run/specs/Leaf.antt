@@ -11,12 +11,13 @@ use Rattle.ffi3_run_rules.specs.Move.{Move, free, print, return, Behaviour}
 use Rattle.ffi3_run_rules.specs.Meaning.{Program, Activation, CallTree, no_nodes, returned, Outcome, stops_with, act, behaviour_of, most_moves}
 use Rattle.ffi3_body.specs.SeenActivation.{arguments_in}
 use Rattle.ffi3_body.specs.Follow.{ResultsFollow}
-use Rattle.ffi3_run.specs.declared.line.Cut.{Cut}
+use Rattle.ffi3_io.specs.declared.IoError.{IoError}
 use Rattle.ffi3_run.specs.declared.leaf.LeafEnd.{LeafEnd}
 use Rattle.ffi3_run.specs.declared.leaf.LeafEnd.TheVariants as leaf
-use Rattle.ffi3_run.specs.RunMatches.{Took, TookLine}
+use Rattle.ffi3_io.specs.Sink.{SinkState}
+use Rattle.ffi3_io.specs.Written.{TookText}
 use Rattle.ffi3_run.specs.CallTree.{text_of, preceded}
-use Rattle.ffi3_run.specs.Cuts.{CutOff}
+use Rattle.ffi3_io.specs.Written.{CutOff}
 
 abbrev pub IsLeafMove : Move → Type 0
 IsLeafMove (print t v) = Unit {0}
@@ -46,25 +47,25 @@ pub record Begins (behaviour : Behaviour) (s : Signature) (block : List ℕ) (us
   pub no_results : a.results ≡ []
 
 -- what it did so far: lines alone, and what follows is what followed at first without them
-pub record LeafWent (p : Program) (a : Activation) (c : Closures) (moves : ℕ) (results : List ValueTree) (left : ℕ) (before after : Took) : Type 0 where
+pub record LeafWent (p : Program) (a : Activation) (c : Closures) (moves : ℕ) (results : List ValueTree) (left : ℕ) (before after : SinkState) : Type 0 where
   pub call_tree : CallTree
   pub quiet : events_in (written_out call_tree) ≡ 0
   pub follows : act p a c moves ≡ preceded call_tree (act p (record a { results = results }) c left)
-  pub lines : TookLine (text_of p call_tree) before after
+  pub lines : TookText (text_of p call_tree) before after
 
 -- WHAT HOLDS BETWEEN TWO OF ITS MOVES
-pub record LeafBetween (signatures : List Signature) (behaviour : Behaviour) (s : Signature) (block : List ℕ) (user moves : ℕ) (results : List ValueTree) (left : ℕ) (before after : Took) : Type 0 where
+pub record LeafBetween (signatures : List Signature) (behaviour : Behaviour) (s : Signature) (block : List ℕ) (user moves : ℕ) (results : List ValueTree) (left : ℕ) (before after : SinkState) : Type 0 where
   pub went : (p : Program) (a : Activation) (c : Closures) → Begins behaviour s block user p a → LeafWent p a c moves results left before after
   pub follow : ResultsFollow signatures behaviour (arguments_in s.arguments block) user results
   pub few : length results + left ≤ most_moves
   pub falls : left ≤ moves
 
 -- it did this call tree, and no more is done by it: its lines are taken
-pub record LeafCame (p : Program) (a : Activation) (c : Closures) (moves : ℕ) (rest : Outcome) (before after : Took) : Type 0 where
+pub record LeafCame (p : Program) (a : Activation) (c : Closures) (moves : ℕ) (rest : Outcome) (before after : SinkState) : Type 0 where
   pub call_tree : CallTree
   pub quiet : events_in (written_out call_tree) ≡ 0
   pub is : act p a c moves ≡ preceded call_tree rest
-  pub lines : TookLine (text_of p call_tree) before after
+  pub lines : TookText (text_of p call_tree) before after
 
 -- a return
 abbrev pub returning : ValueTree → Closures → ℕ → Outcome
@@ -72,7 +73,7 @@ returning v c moves =
     record { end = returned v; closures = c; moves = moves; call_tree = no_nodes }
 
 -- what its run's answer says
-abbrev pub LeafRan : Program → Activation → Closures → (moves left : ℕ) → Took → Took → Result LeafEnd Cut → Type 0
+abbrev pub LeafRan : Program → Activation → Closures → (moves left : ℕ) → SinkState → SinkState → Result LeafEnd IoError → Type 0
 LeafRan p a c moves left before after (Ok (leaf.Returned v)) =
     LeafCame p a c moves (returning (value_of v) c left) before after
 LeafRan p a c moves left before after (Ok leaf.MoveLimit) =

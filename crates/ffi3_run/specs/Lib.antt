@@ -1,6 +1,6 @@
 pub mod RunMatches
 pub mod CallTree
-pub mod Cuts
+pub mod StopSigs
 pub mod Moment
 pub mod Leaf
 pub mod Programs

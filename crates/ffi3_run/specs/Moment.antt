@@ -16,13 +16,14 @@ use Rattle.ffi3_closures.specs.Slots.{HoldsMap}
 use Rattle.ffi3_run.specs.declared.board.Board.{Board}
 use Rattle.ffi3_run.specs.declared.board.Turn.{Turn}
 use Rattle.ffi3_run.specs.declared.board.Turn.TheVariants as turn
-use Rattle.ffi3_run.specs.declared.line.Cut.{Cut}
-use Rattle.ffi3_run.specs.declared.line.Cut.TheVariants as cut
+use Rattle.ffi3_io.specs.declared.IoError.{IoError}
+use Rattle.ffi3_io.specs.declared.IoError.TheVariants as cut
 use Rattle.ffi3_run.specs.declared.run.RunEnd.{RunEnd}
 use Rattle.ffi3_run.specs.declared.run.RunEnd.TheVariants as run
-use Rattle.ffi3_run.specs.RunMatches.{Took, TookLine}
+use Rattle.ffi3_io.specs.Sink.{SinkState}
+use Rattle.ffi3_io.specs.Written.{TookText}
 use Rattle.ffi3_run.specs.CallTree.{preceded, text_of, Scene, Done, AnswersAfter, AnswersFirst}
-use Rattle.ffi3_run.specs.Cuts.{CutOff}
+use Rattle.ffi3_io.specs.Written.{CutOff}
 
 -- main, after moves with these results
 abbrev pub main_after : List ValueTree → Activation
@@ -35,7 +36,7 @@ pub record Moment : Type 0 where
   pub moves : ℕ
   pub scene : Scene
 
-abbrev pub moment : Board → State → Took → Moment
+abbrev pub moment : Board → State → SinkState → Moment
 moment b machine output = record {
   results = b.results;
   closures = b.table;
@@ -86,12 +87,12 @@ pub record Came (p : Program) (end : End) (old new : Moment) : Type 0 where
   pub holds : HoldsMap amd64.target (rest_of p old).closures new.scene.machine.code
 
 -- the run was cut off in what follows
-abbrev pub CutIn : Program → Moment → Moment → Cut → Type 0
+abbrev pub CutIn : Program → Moment → Moment → IoError → Type 0
 CutIn p old new cut =
     CutOff (text_of p (rest_of p old).call_tree) old.scene.output new.scene.output cut
 
 -- what a move's answer says
-abbrev pub Turned : Program → Moment → Moment → Result Turn Cut → Type 0
+abbrev pub Turned : Program → Moment → Moment → Result Turn IoError → Type 0
 Turned p old new (Ok turn.More) =
     Went p old new × IsBetween p new × (new.moves < old.moves)
 Turned p old new (Ok turn.Done) = Came p (returned void_value) old new
@@ -99,14 +100,14 @@ Turned p old new (Ok (turn.Stopped stop)) = Came p (stopped stop) old new
 Turned p old new (Err cut) = CutIn p old new cut
 
 -- the result of a move is kept, or there is no memory for it
-abbrev pub GoneOn : ValueTree → Board → Board → Result Turn Cut → Type 0
+abbrev pub GoneOn : ValueTree → Board → Board → Result Turn IoError → Type 0
 GoneOn r old new (Ok t) = (t ≡ turn.More) × (new ≡ record old { results = old.results ++ r ∷ [] })
 GoneOn r old new (Err why) = why ≡ cut.NoMemory
 
 -- the line of a stop is written, or cut off
-abbrev pub StoppedBy : List Signature → Stop → Took → Took → Result Turn Cut → Type 0
+abbrev pub StoppedBy : List Signature → Stop → SinkState → SinkState → Result Turn IoError → Type 0
 StoppedBy signatures stop before after (Ok t) =
-    (t ≡ turn.Stopped stop) × TookLine (a_line (stop_text signatures stop)) before after
+    (t ≡ turn.Stopped stop) × TookText (a_line (stop_text signatures stop)) before after
 StoppedBy signatures stop before after (Err why) =
     CutOff (a_line (stop_text signatures stop)) before after why
 

@@ -1,6 +1,7 @@
 -- WHAT A RUN TELLS: the text that its output takes and the machine that it leaves, against the direct meaning of its program.
-use Rattle.std.specs.Prelude.{◌≡◌, ℕ, ◌+◌, ◌≤◌, List, take, Option}
-use Rattle.ffi3_io.specs.Sink.{Adds}
+use Rattle.std.specs.Prelude.{◌≡◌, ℕ, ◌+◌, ◌≤◌, take}
+use Rattle.ffi3_io.specs.Sink.{Adds, SinkState}
+use Rattle.ffi3_io.specs.Written.{TookText}
 use Rattle.ffi3_place_rules.specs.Standard.{Standard}
 use Rattle.ffi3_run_rules.specs.Meaning.{Program, meaning_of, peak_of}
 use Rattle.ffi3_run_rules.specs.Trace.{trace_of}
@@ -9,22 +10,9 @@ use Rattle.ffi3_run_rules.specs.Journal.{JournalOf, IsWhole, stack_top}
 use Rattle.ffi3_machine.specs.State.{State}
 use Rattle.ffi3_closures.specs.Slots.{HoldsMap}
 
--- a sink: the bytes that it took, where it tells, and its count of faults
-pub record Took : Type 0 where
-  pub taken : Option (List ℕ)
-  pub faults : ℕ
-
-abbrev pub took : Option (List ℕ) → ℕ → Took
-took taken faults = record { taken = taken; faults = faults }
-
--- a text was taken whole, and no fault counted
-pub record TookLine (line : List ℕ) (before after : Took) : Type 0 where
-  pub added : Adds before.taken line after.taken
-  pub count : after.faults ≡ before.faults
-
 -- THE RUN IS TOLD WHOLE: the output took exactly the text of the direct meaning, the journal is that meaning's call tree, the code region holds the bytes of the closures that are live, and no byte was written beyond the stack that the tree's calls take.
-pub record RunMatches (tracing : Tracing) (std : Standard) (p : Program) (before after : Took) (machine : State) : Type 0 where
-  pub written : TookLine (text_of_run tracing p) before after
+pub record RunMatches (tracing : Tracing) (std : Standard) (p : Program) (before after : SinkState) (machine : State) : Type 0 where
+  pub written : TookText (text_of_run tracing p) before after
   pub target : machine.target ≡ std.target
   pub journal : JournalOf std p.signatures (trace_of p) machine.events
   pub whole : IsWhole (trace_of p) machine.events
@@ -32,6 +20,6 @@ pub record RunMatches (tracing : Tracing) (std : Standard) (p : Program) (before
   pub mark : stack_top ≤ machine.mark + peak_of p (meaning_of p).call_tree
 
 -- a first part of the text of the direct meaning was written
-abbrev pub WrotePart : Tracing → Program → Took → Took → Type 0
+abbrev pub WrotePart : Tracing → Program → SinkState → SinkState → Type 0
 WrotePart tracing p before after =
     (part : ℕ) × Adds before.taken (take part (text_of_run tracing p)) after.taken

@@ -1,14 +1,14 @@
 //! Main's moves, one by one.
-ghost use Rattle.std.specs.Prelude.{◌≡◌, ◌+◌, ◌<◌, ◌^◌, ◌∷◌, [], ℕ, List, IfOk, IfErr, MatchResult, length, true};
+ghost use Rattle.std.specs.Prelude.{◌≡◌, ◌+◌, ◌<◌, ◌^◌, [], List, IfOk, IfErr, length, true};
 ghost use Rattle.std.specs.List.{list_all};
 ghost use Rattle.ffi3_type_rules.specs.Tree.{trees_of, void};
 ghost use Rattle.ffi3_type_rules.specs.Signature.{signature_at};
-ghost use Rattle.ffi3_type_rules.specs.Value.{ValueTree, all_fit, fits, values_of, void_value};
+ghost use Rattle.ffi3_type_rules.specs.Value.{ValueTree, all_fit, fits, values_of};
 ghost use Rattle.ffi3_types.specs.TreeOf.{tree_of};
 ghost use Rattle.ffi3_values.specs.ValueOf.{value_of};
 ghost use Rattle.ffi3_run_rules.specs.Move.{MoveFits};
 ghost use Rattle.ffi3_run_rules.specs.Move as asks;
-ghost use Rattle.ffi3_run_rules.specs.Meaning.{Program, Effect, callee_of, effect_of, enters, pointer_value, stops};
+ghost use Rattle.ffi3_run_rules.specs.Meaning.{Program, enters, pointer_value, stops};
 ghost use Rattle.ffi3_script_rules.specs.RunLimit.{first_not_run};
 ghost use Rattle.ffi3_script_rules.specs.Typed.{signature_is_right};
 ghost use Rattle.ffi3_body.specs.Follow.{ResultsFollow};
@@ -18,17 +18,16 @@ ghost use Rattle.ffi3_type_rules.specs.declared.limits.TheConstants.{STACK_TOP};
 ghost use Rattle.ffi3_script.specs.ScriptOf.{natives_of, script_of};
 ghost use Rattle.ffi3_call.specs.Calls.{HasEnded, IsCalled};
 ghost use Rattle.ffi3_call.specs.Registers.{IsInRegisters};
-ghost use Rattle.ffi3_run.specs.RunMatches.{took};
-ghost use Rattle.ffi3_run.specs.Cuts.{IsOfSigs};
+ghost use Rattle.ffi3_run.specs.StopSigs.{IsOfSigs};
 ghost use Rattle.ffi3_run.specs.Moment.{AreKnown, GoneOn, IsBetween, StoppedBy, Turned, asking, main_after, moment};
 ghost use Rattle.ffi3_run.specs.Programs.{CanEnter, LeadsTo, program};
 
 use crate::leaf::{LeafEnd, next_move, run_leaf};
-use crate::line::{Cut, write_print, write_stop};
+use crate::line::{write_print, write_stop};
 use ffi3_body::{Move, NoMemory};
 use ffi3_call::{begin_call, block, end_call, stack_need};
 use ffi3_closures::{Closure, Table};
-use ffi3_io::Sink;
+use ffi3_io::{IoError, Sink};
 use ffi3_machine::{Machine, STACK};
 use ffi3_run_rules::Stop;
 use ffi3_script::Script;
@@ -58,11 +57,10 @@ pub enum Turn {
 }
 
 /// Stops the run: writes the line of the stop.
-fn stop<O: Sink>(alloc: Global, output: &mut O, sigs: &Sigs, stop: Stop) -> Result<Turn, Cut>
+fn stop<O: Sink>(alloc: Global, output: &mut O, sigs: &Sigs, stop: Stop) -> Result<Turn, IoError>
     requires right { list_all signature_is_right sigs.now ≡ true }
     requires numbers { IsOfSigs (length sigs.now) stop }
-    ensures { StoppedBy sigs.now stop
-        (took (O.taken output.old) (O.faults output.old)) (took (O.taken output.new) (O.faults output.new)) result }
+    ensures { StoppedBy sigs.now stop (O.state output.old) (O.state output.new) result }
 {
     match write_stop(alloc, output, sigs, stop) {
         Ok(()) => Ok(Turn::Stopped(stop)),
@@ -79,13 +77,13 @@ fn pointer(alloc: Global, address: u64) -> Result<Value, NoMemory>
 
 impl Board {
     /// Main's move has this result.
-    fn go_on(&mut self, value: Value) -> Result<Turn, Cut>
+    fn go_on(&mut self, value: Value) -> Result<Turn, IoError>
         requires { length self.old.results + 1 < 2 ^ 32 }
         ensures { GoneOn (value_of value) self.old self.new result }
     {
         match self.results.push(value) {
             Ok(()) => Ok(Turn::More),
-            Err(_) => Err(Cut::NoMemory),
+            Err(_) => Err(IoError::NoMemory),
         }
     }
 
@@ -109,14 +107,14 @@ impl Board {
         output: &mut O,
         ty: &FfiType,
         value: &Value,
-    ) -> Result<Turn, Cut>
+    ) -> Result<Turn, IoError>
         requires fits { fits (tree_of ty.now) (value_of value.now) ≡ true }
         requires few { length self.old.results + 1 < 2 ^ 32 }
         ensures { (p : Program) (machine : State) →
-            IsBetween p (asking (moment self.old machine (took (O.taken output.old) (O.faults output.old)))) →
+            IsBetween p (asking (moment self.old machine (O.state output.old))) →
             p.main [] 0 self.old.results ≡ asks.print (tree_of ty.now) (value_of value.now) →
-            Turned p (asking (moment self.old machine (took (O.taken output.old) (O.faults output.old))))
-            (moment self.new machine (took (O.taken output.new) (O.faults output.new))) result }
+            Turned p (asking (moment self.old machine (O.state output.old)))
+            (moment self.new machine (O.state output.new)) result }
     {
         if let Err(cut) = write_print(alloc, output, ty, value) {
             return Err(cut);
@@ -133,14 +131,14 @@ impl Board {
         output: &mut O,
         func: u32,
         user: u64,
-    ) -> Result<Turn, Cut>
+    ) -> Result<Turn, IoError>
         requires below { func < length (script_of script.now).functions }
         requires between { IsBetween (program script.now)
-            (asking (moment self.old machine.old (took (O.taken output.old) (O.faults output.old)))) }
+            (asking (moment self.old machine.old (O.state output.old))) }
         requires asked { (program script.now).main [] 0 self.old.results ≡ asks.make func user }
         ensures { Turned (program script.now)
-            (asking (moment self.old machine.old (took (O.taken output.old) (O.faults output.old))))
-            (moment self.new machine.new (took (O.taken output.new) (O.faults output.new))) result }
+            (asking (moment self.old machine.old (O.state output.old)))
+            (moment self.new machine.new (O.state output.new)) result }
     {
         let sig = script.sig_of(func);
         let Ok(address) = self.table.make(machine, func, sig, user) else {
@@ -148,7 +146,7 @@ impl Board {
         };
         match pointer(alloc, address) {
             Ok(value) => self.go_on(value),
-            Err(_) => Err(Cut::NoMemory),
+            Err(_) => Err(IoError::NoMemory),
         }
     }
 
@@ -200,18 +198,18 @@ impl Board {
         ptr: u64,
         sig: u32,
         args: &Values,
-    ) -> Result<Turn, Cut>
+    ) -> Result<Turn, IoError>
         requires runs { first_not_run (script_of script.now) ≡ None }
         requires no_natives { natives_of script.now ≡ 0 }
         requires below { sig < length (script_of script.now).signatures }
         requires fit { all_fit
             (trees_of (signature_at (script_of script.now).signatures sig).arguments) (values_of args.now) ≡ true }
         requires between { IsBetween (program script.now)
-            (asking (moment self.old machine.old (took (O.taken output.old) (O.faults output.old)))) }
+            (asking (moment self.old machine.old (O.state output.old))) }
         requires asked { (program script.now).main [] 0 self.old.results ≡ asks.call ptr sig args.now }
         ensures { Turned (program script.now)
-            (asking (moment self.old machine.old (took (O.taken output.old) (O.faults output.old))))
-            (moment self.new machine.new (took (O.taken output.new) (O.faults output.new))) result }
+            (asking (moment self.old machine.old (O.state output.old)))
+            (moment self.new machine.new (O.state output.new)) result }
     {
         let closure = match self.callee(script, machine, ptr, sig) {
             Ok(closure) => closure,
@@ -219,7 +217,7 @@ impl Board {
         };
         let site = script.sigs().get(sig as usize);
         let Ok(()) = begin_call(machine, &self.table, site, args, ptr) else {
-            return Err(Cut::NoMemory);
+            return Err(IoError::NoMemory);
         };
         let body = script.body(closure.func);
         let block = block(machine, site);
@@ -245,7 +243,7 @@ impl Board {
         machine: &mut Machine,
         sig: &Sig,
         value: &Value,
-    ) -> Result<Turn, Cut>
+    ) -> Result<Turn, IoError>
         requires registers { IsInRegisters sig.now }
         requires fits { fits sig.now.result_type (value_of value.now) ≡ true }
         requires called { IsCalled sig.now machine.old }
@@ -255,7 +253,7 @@ impl Board {
     {
         match end_call(alloc, machine, sig, value) {
             Ok(outcome) => self.go_on(outcome),
-            Err(_) => Err(Cut::NoMemory),
+            Err(_) => Err(IoError::NoMemory),
         }
     }
 
@@ -266,20 +264,20 @@ impl Board {
         script: &Script,
         machine: &mut Machine,
         output: &mut O,
-    ) -> Result<Turn, Cut>
+    ) -> Result<Turn, IoError>
         requires runs { first_not_run (script_of script.now) ≡ None }
         requires no_natives { natives_of script.now ≡ 0 }
         requires between { IsBetween (program script.now)
-            (moment self.old machine.old (took (O.taken output.old) (O.faults output.old))) }
+            (moment self.old machine.old (O.state output.old)) }
         ensures { Turned (program script.now)
-            (moment self.old machine.old (took (O.taken output.old) (O.faults output.old)))
-            (moment self.new machine.new (took (O.taken output.new) (O.faults output.new))) result }
+            (moment self.old machine.old (O.state output.old))
+            (moment self.new machine.new (O.state output.new)) result }
     {
         if self.moves == 0 {
             return stop(alloc, output, script.sigs(), Stop::MoveLimit);
         }
         let Ok(asked) = self.asked(alloc, script) else {
-            return Err(Cut::NoMemory);
+            return Err(IoError::NoMemory);
         };
         self.moves -= 1;
         match asked {

@@ -1,5 +1,5 @@
 //! A function that calls nothing.
-ghost use Rattle.std.specs.Prelude.{◌≡◌, ◌≤◌, [], IfOk, length};
+ghost use Rattle.std.specs.Prelude.{◌≡◌, ◌≤◌, IfOk, length};
 ghost use Rattle.ffi3_type_rules.specs.Signature.{SignatureHasNoFault};
 ghost use Rattle.ffi3_place_rules.specs.Standard.{block_bytes};
 ghost use Rattle.ffi3_run_rules.specs.Move.{MoveFits};
@@ -8,12 +8,11 @@ ghost use Rattle.ffi3_run_rules.specs.Meaning.{Activation, Program, most_moves};
 ghost use Rattle.ffi3_body.specs.SeenActivation.{arguments_in};
 ghost use Rattle.ffi3_body.specs.Follow.{ResultsFollow};
 ghost use Rattle.ffi3_body.specs.MoveOf.{move_of};
-ghost use Rattle.ffi3_run.specs.RunMatches.{took};
 ghost use Rattle.ffi3_run.specs.Leaf.{Begins, EndFits, IsLeaf, LeafRan};
 
-use crate::line::{Cut, write_print};
+use crate::line::write_print;
 use ffi3_body::{Body, Move, NoMemory, Seen};
-use ffi3_io::Sink;
+use ffi3_io::{IoError, Sink};
 use ffi3_types::Sig;
 use ffi3_values::{Value, Values};
 use std::alloc::Global;
@@ -37,7 +36,7 @@ pub fn run_leaf<B: Body, O: Sink>(
     user: u64,
     moves: &mut u32,
     output: &mut O,
-) -> Result<LeafEnd, Cut>
+) -> Result<LeafEnd, IoError>
     requires right { SignatureHasNoFault sig.now }
     requires sized { length block.now ≡ block_bytes sig.now }
     requires own { sig.now ≡ B.signature body.now }
@@ -45,8 +44,7 @@ pub fn run_leaf<B: Body, O: Sink>(
     requires few { moves.old ≤ most_moves }
     ensures ran { (p : Program) (a : Activation) (c : Closures) →
         Begins (B.meaning body.now) sig.now block.now user p a →
-        LeafRan p a c moves.old moves.new
-        (took (O.taken output.old) (O.faults output.old)) (took (O.taken output.new) (O.faults output.new)) result }
+        LeafRan p a c moves.old moves.new (O.state output.old) (O.state output.new) result }
     ensures fits { IfOk result (λ end. EndFits sig.now end) }
     ensures falls { moves.new ≤ moves.old }
 {
@@ -56,7 +54,7 @@ pub fn run_leaf<B: Body, O: Sink>(
             return Ok(LeafEnd::MoveLimit);
         }
         let Ok(asked) = next_move(alloc, body, sig, block, user, &results) else {
-            return Err(Cut::NoMemory);
+            return Err(IoError::NoMemory);
         };
         *moves -= 1;
         match asked {
@@ -65,7 +63,7 @@ pub fn run_leaf<B: Body, O: Sink>(
                     return Err(cut);
                 }
                 let Ok(()) = results.push(Value::Void) else {
-                    return Err(Cut::NoMemory);
+                    return Err(IoError::NoMemory);
                 };
             }
             Move::Return(value) => return Ok(LeafEnd::Returned(value)),

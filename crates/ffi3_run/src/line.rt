@@ -10,23 +10,14 @@ ghost use Rattle.ffi3_types.specs.TreeOf.{tree_of};
 ghost use Rattle.ffi3_values.specs.ValueOf.{value_of};
 ghost use Rattle.ffi3_script_rules.specs.Typed.{signature_is_right};
 ghost use Rattle.ffi3_run_rules.specs.Lines.{a_line, address_text, stop_text};
-ghost use Rattle.ffi3_run.specs.RunMatches.{took};
-ghost use Rattle.ffi3_run.specs.Cuts.{IsOfSigs, Wrote};
+ghost use Rattle.ffi3_io.specs.Written.{Wrote};
+ghost use Rattle.ffi3_run.specs.StopSigs.{IsOfSigs};
 
-use ffi3_io::{Sink, write_all};
+use ffi3_io::{IoError, Sink, write_line};
 use ffi3_run_rules::Stop;
 use ffi3_types::{Bytes, FfiType, NoMemory, Sigs, sig_text};
 use ffi3_values::{Value, value_text};
 use std::alloc::Global;
-
-/// Why a run is cut off.
-#[derive(Clone, Copy, Debug, PartialEq, Eq)]
-pub enum Cut {
-    /// Memory was refused.
-    NoMemory,
-    /// A write failed.
-    Failed,
-}
 
 /// Writes the line of a print.
 pub fn write_print<O: Sink>(
@@ -34,15 +25,14 @@ pub fn write_print<O: Sink>(
     output: &mut O,
     ty: &FfiType,
     value: &Value,
-) -> Result<(), Cut>
+) -> Result<(), IoError>
     requires { fits (tree_of ty.now) (value_of value.now) ≡ true }
-    ensures { Wrote (a_line (value_text_of (tree_of ty.now) (value_of value.now)))
-        (took (O.taken output.old) (O.faults output.old)) (took (O.taken output.new) (O.faults output.new)) result }
+    ensures { Wrote (a_line (value_text_of (tree_of ty.now) (value_of value.now))) (O.state output.old) (O.state output.new) result }
 {
     let Ok(line) = print_line(alloc, ty, value) else {
-        return Err(Cut::NoMemory);
+        return Err(IoError::NoMemory);
     };
-    write_line(output, &line)
+    write_line(output, line.as_slice())
 }
 
 /// Writes the line of a stop.
@@ -51,26 +41,15 @@ pub fn write_stop<O: Sink>(
     output: &mut O,
     sigs: &Sigs,
     stop: Stop,
-) -> Result<(), Cut>
+) -> Result<(), IoError>
     requires right { list_all signature_is_right sigs.now ≡ true }
     requires numbers { IsOfSigs (length sigs.now) stop }
-    ensures { Wrote (a_line (stop_text sigs.now stop))
-        (took (O.taken output.old) (O.faults output.old)) (took (O.taken output.new) (O.faults output.new)) result }
+    ensures { Wrote (a_line (stop_text sigs.now stop)) (O.state output.old) (O.state output.new) result }
 {
     let Ok(line) = stop_line(alloc, sigs, stop) else {
-        return Err(Cut::NoMemory);
+        return Err(IoError::NoMemory);
     };
-    write_line(output, &line)
-}
-
-fn write_line<O: Sink>(output: &mut O, line: &Bytes) -> Result<(), Cut>
-    ensures { Wrote line.now
-        (took (O.taken output.old) (O.faults output.old)) (took (O.taken output.new) (O.faults output.new)) result }
-{
-    match write_all(output, line.as_slice()) {
-        Ok(()) => Ok(()),
-        Err(_) => Err(Cut::Failed),
-    }
+    write_line(output, line.as_slice())
 }
 
 /// The line of a print: the value's text, and a newline.

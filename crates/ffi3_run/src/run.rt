@@ -8,14 +8,13 @@ ghost use Rattle.ffi3_script_rules.specs.Meaning.{program_of};
 ghost use Rattle.ffi3_script_rules.specs.RunLimit.{first_not_run};
 ghost use Rattle.ffi3_script.specs.ScriptOf.{natives_of, script_of};
 ghost use Rattle.ffi3_run_rules.specs.Lines.{untraced};
-ghost use Rattle.ffi3_run.specs.RunMatches.{RunMatches, WrotePart, took};
+ghost use Rattle.ffi3_run.specs.RunMatches.{RunMatches, WrotePart};
 ghost use Rattle.ffi3_run.specs.Moment.{IsBetween, Ran, moment};
 ghost use Rattle.ffi3_run.specs.Programs.{program};
 
 use crate::board::{Board, Turn};
-use crate::line::Cut;
 use ffi3_closures::Table;
-use ffi3_io::Sink;
+use ffi3_io::{IoError, Sink};
 use ffi3_machine::{Machine, Target};
 use ffi3_run_rules::Stop;
 use ffi3_script::Script;
@@ -48,21 +47,21 @@ pub fn run_main<O: Sink>(
     requires no_natives { natives_of script.now ≡ 0 }
     ensures done { result ≡ RunEnd.Done →
         RunMatches untraced amd64 (program_of amd64 (script_of script.now))
-        (took (O.taken output.old) (O.faults output.old)) (took (O.taken output.new) (O.faults output.new))
+        (O.state output.old) (O.state output.new)
         machine.new }
     ensures returns { result ≡ RunEnd.Done →
         (meaning_of (program_of amd64 (script_of script.now))).end ≡ returned void_value }
     ensures stopped { (stop : Stop) → result ≡ RunEnd.Stopped stop →
         RunMatches untraced amd64 (program_of amd64 (script_of script.now))
-        (took (O.taken output.old) (O.faults output.old)) (took (O.taken output.new) (O.faults output.new))
+        (O.state output.old) (O.state output.new)
         machine.new }
     ensures stops { (stop : Stop) → result ≡ RunEnd.Stopped stop →
         (meaning_of (program_of amd64 (script_of script.now))).end ≡ stopped stop }
-    ensures no_memory { result ≡ RunEnd.NoMemory → O.faults output.new ≡ O.faults output.old }
-    ensures failed { result ≡ RunEnd.Failed → Rose (O.faults output.old) (O.faults output.new) }
-    ensures never_falls { O.faults output.old ≤ O.faults output.new }
+    ensures no_memory { result ≡ RunEnd.NoMemory → (O.state output.new).faults ≡ (O.state output.old).faults }
+    ensures failed { result ≡ RunEnd.Failed → Rose (O.state output.old).faults (O.state output.new).faults }
+    ensures never_falls { (O.state output.old).faults ≤ (O.state output.new).faults }
     ensures part { WrotePart untraced (program_of amd64 (script_of script.now))
-        (took (O.taken output.old) (O.faults output.old)) (took (O.taken output.new) (O.faults output.new)) }
+        (O.state output.old) (O.state output.new) }
 {
     machine.begin(Target::Amd64);
     let mut board = Board {
@@ -84,18 +83,18 @@ fn run_on<O: Sink>(
     requires runs { first_not_run (script_of script.now) ≡ None }
     requires no_natives { natives_of script.now ≡ 0 }
     requires between { IsBetween (program script.now)
-        (moment board.old machine.old (took (O.taken output.old) (O.faults output.old))) }
+        (moment board.old machine.old (O.state output.old)) }
     ensures { Ran (program script.now)
-        (moment board.old machine.old (took (O.taken output.old) (O.faults output.old)))
-        (moment board.new machine.new (took (O.taken output.new) (O.faults output.new))) result }
+        (moment board.old machine.old (O.state output.old))
+        (moment board.new machine.new (O.state output.new)) result }
 {
     loop {
         match board.turn(alloc, script, machine, output) {
             Ok(Turn::More) => {}
             Ok(Turn::Done) => return RunEnd::Done,
             Ok(Turn::Stopped(stop)) => return RunEnd::Stopped(stop),
-            Err(Cut::NoMemory) => return RunEnd::NoMemory,
-            Err(Cut::Failed) => return RunEnd::Failed,
+            Err(IoError::NoMemory) => return RunEnd::NoMemory,
+            Err(IoError::Failed) => return RunEnd::Failed,
         }
     }
 }

@@ -15,7 +15,7 @@ use Rattle.ffi3_types.specs.TreeOf.{tree_of}
 use Rattle.ffi3_script_rules.specs.Language.{Path, Reason, Read, read, fault, and_then, read_map, at_item, under, wrong_count, wrong_type}
 use Rattle.ffi3_script_rules.specs.Script.{Expression, composed, typed_as, Expressions, no_expressions, expression, expressions_of, Typed}
 use Rattle.ffi3_script_rules.specs.Values as values
-use Rattle.ffi3_script_rules.specs.Values.{Scope, Pair, is_integer_type, if_integer, cast_form, composed_of, cast_of, element_of, form_named, own_by, read_number, read_text, read_value, read_values, read_typed, read_two, read_field, read_of, read_right_type, field_of, typed}
+use Rattle.ffi3_script_rules.specs.Values.{Scope, Pair, is_integer_type, composed_of, element_of, form_named, own_by, read_number, read_value, read_values, read_typed, read_two, read_field, read_of, read_right_type, field_of, typed}
 use Rattle.ffi3_json.proofs.Objects.{array_is, next, none_left}
 use Rattle.ffi3_script.proofs.ReadTypes.{not_so}
 use Rattle.ffi3_script.specs.Shapes.{only_member, two_items, typed_under, value_under_form, read_terms}

@@ -1,6 +1,7 @@
 -- Which script one of the code is.
-use Rattle.std.specs.Prelude.{ℕ, [], slice_index_or}
+use Rattle.std.specs.Prelude.{ℕ, [], slice_index_or, Option, option_map, slice_get}
 use Rattle.ffi3_script_rules.specs.Script.{ScriptFunction, Script as RulesScript}
+use Rattle.ffi3_script_body.specs.declared.body.ScriptBody.{ScriptBody}
 use Rattle.ffi3_script.specs.FunctionOf.{script_from}
 use Rattle.ffi3_script.specs.declared.script.Script.{Script}
 
@@ -15,3 +16,11 @@ natives_of s = s.natives
 abbrev pub function_at : RulesScript → ℕ → ScriptFunction
 function_at script i =
     slice_index_or script.functions i (record { name = []; signature = 0; body = [] })
+
+-- the body of main, in which a cursor stands
+abbrev pub main_body : Script → ScriptBody
+main_body s = s.main
+
+-- and that of function i
+abbrev pub body_at : Script → ℕ → Option ScriptBody
+body_at s i = option_map (λ f. f.body) (slice_get s.functions.items i)

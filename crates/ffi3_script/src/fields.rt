@@ -1,5 +1,5 @@
 // The fields of moves.
-ghost use Rattle.std.specs.Prelude.{◌≡◌, ℕ, IfOk, IfErr, OnOk, length, codes, string_bytes, option_map};
+ghost use Rattle.std.specs.Prelude.{◌≡◌, ℕ, IfOk, IfErr, OnOk, codes, string_bytes, option_map};
 ghost use Rattle.serde_json.specs.Find.{get};
 ghost use Rattle.serde_json.specs.View.{view};
 ghost use Rattle.ffi3_types.specs.TreeOf.{tree_of};
@@ -14,7 +14,6 @@ ghost use Rattle.ffi3_script.specs.Numbers.{CallsWithin};
 ghost use Rattle.ffi3_script.specs.ScopeOf.{scope_of, given_in, IsEven};
 
 use crate::heads::new_name;
-use crate::plain::is_number;
 use crate::scope::Scope;
 use crate::values::{read_typed, read_value, read_values};
 use crate::{Act, Expr, TypedExpr};
@@ -79,7 +78,7 @@ pub(crate) fn read_condition(
         Ok(condition) => condition,
         Err(fault) => return Err(fault),
     };
-    if !is_number(&condition.ty) {
+    if !condition.ty.is_number() {
         return Err(bad(alloc, at, Reason::WrongType));
     }
     at.pop();
@@ -169,17 +168,11 @@ pub(crate) fn read_user(
         (Reports (λ p r. read_user (scope_of scope.now) (get (codes "user") (view value.now))
         (under at.old (codes "user")) ≡ language.fault p r)) }
 {
-    let Some(user) = value.get("user") else {
+    let Some(_) = value.get("user") else {
         let zero = [0; 8];
         return Ok(Expr::Constant(Bytes::from_slice(alloc, &zero)?));
     };
-    at.push_key(alloc, "user")?;
-    let data = match read_value(alloc, scope, &FfiType::Pointer, user, at) {
-        Ok(data) => data,
-        Err(fault) => return Err(fault),
-    };
-    at.pop();
-    Ok(data)
+    read_pointer(alloc, scope, "user", value, at)
 }
 
 /// The value that a move prints.

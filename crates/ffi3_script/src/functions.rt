@@ -1,5 +1,5 @@
 // The names of functions.
-ghost use Rattle.std.specs.Prelude.{◌≡◌, ◌++◌, ◌∷◌, [], OnOk, Some, length, map, position, bytes_eq};
+ghost use Rattle.std.specs.Prelude.{◌≡◌, ◌++◌, ◌∷◌, [], OnOk, Some, map, position, bytes_eq};
 
 use crate::NoMemory;
 use crate::index::NameIndex;

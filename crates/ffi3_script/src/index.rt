@@ -1,6 +1,6 @@
 // Names by number, and numbers by name.
 ghost use Rattle.std.specs.Prelude.{◌≡◌, ℕ, ◌<◌, ◌++◌, ◌∷◌, [], List, OnOk, OnErr};
-ghost use Rattle.std.specs.Prelude.{Some, None, length, position, bytes_eq};
+ghost use Rattle.std.specs.Prelude.{Some, None, position, bytes_eq};
 ghost use Rattle.std.specs.BTreeMap.{get_by_text};
 ghost use Rattle.ffi3_script_rules.specs.Values.{is_name_of};
 ghost use Rattle.ffi3_script.specs.Finds.{first_or};

@@ -6,7 +6,7 @@ ghost use Rattle.ffi3_type_rules.specs.Integer.{is_number_type, scalar_of};
 ghost use Rattle.ffi3_types.specs.TreeOf.{tree_of};
 ghost use Rattle.ffi3_script_rules.specs.Language.{read, fault, at_item, HasShortArrays};
 ghost use Rattle.ffi3_script_rules.specs.Script as script;
-ghost use Rattle.ffi3_script_rules.specs.Values.{typed, in_range, is_integer_type, read_number, read_text};
+ghost use Rattle.ffi3_script_rules.specs.Values.{typed, in_range, read_number, read_text};
 ghost use Rattle.ffi3_script_rules.specs.Values.{argument_of, result_of, user_of, element_of, against, cast_of};
 ghost use Rattle.ffi3_script_rules.specs.Values.{read_right_type};
 ghost use Rattle.ffi3_json.specs.Reports.{Reports};
@@ -67,33 +67,6 @@ pub(crate) fn typed_as(alloc: Global, ty: FfiType, value: Expr) -> Result<TypedE
     })
 }
 
-/// Whether the type is one of the eight integer types.
-pub(crate) fn is_integer(ty: &FfiType) -> bool
-    ensures { result ≡ is_integer_type (tree_of ty.now) }
-{
-    matches!(
-        ty,
-        FfiType::U8
-            | FfiType::S8
-            | FfiType::U16
-            | FfiType::S16
-            | FfiType::U32
-            | FfiType::S32
-            | FfiType::U64
-            | FfiType::S64
-    )
-}
-
-/// Whether the type is an integer type or the pointer.
-pub(crate) fn is_number(ty: &FfiType) -> bool
-    ensures { result ≡ is_number_type (tree_of ty.now) }
-{
-    match ty {
-        FfiType::Pointer => true,
-        _ => is_integer(ty),
-    }
-}
-
 // Whether an integer or pointer of the type can be the number.
 fn in_range(ty: &FfiType, n: i128) -> bool
     requires { is_number_type (tree_of ty.now) ≡ true }
@@ -122,7 +95,7 @@ pub(crate) fn read_number(
     ensures ok { IfOk result (λ e. read_number (tree_of ty.now) (number_view n.now) at.now ≡ read (expression_of e)) }
     ensures err { IfErr result (Reports (λ p r. read_number (tree_of ty.now) (number_view n.now) at.now ≡ fault p r)) }
 {
-    if !is_number(ty) {
+    if !ty.is_number() {
         return Err(bad(alloc, at, Reason::WrongType));
     }
     let Some(n) = n.as_i128() else {
@@ -285,7 +258,7 @@ pub(crate) fn cast_of(
     ensures err { IfErr result
         (Reports (λ p r. cast_of (scalar_of (tree_of to.now)) at.now (typed_of value) ≡ fault p r)) }
 {
-    if !is_number(&value.ty) {
+    if !value.ty.is_number() {
         return Err(bad(alloc, at, Reason::WrongType));
     }
     let TypedExpr { ty, value } = value;

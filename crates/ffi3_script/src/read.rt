@@ -1,8 +1,7 @@
 // From bytes to a script.
-ghost use Rattle.std.specs.Prelude.{◌≡◌, ◌+◌, ◌<◌, ◌≤◌, ◌^◌, ◌++◌, ◌∷◌, [], All, IfOk};
+ghost use Rattle.std.specs.Prelude.{◌≡◌, ◌+◌, ◌<◌, ◌^◌, ◌++◌, ◌∷◌, [], All, IfOk};
 ghost use Rattle.std.specs.Prelude.{IfErr, OnOk, true, length, map};
 ghost use Rattle.std.specs.List.{list_all};
-ghost use Rattle.serde_json.specs.View.{view};
 ghost use Rattle.ffi3_type_rules.specs.Signature.{signature_at};
 ghost use Rattle.ffi3_script_rules.specs.Reading.{IsTheReading, script};
 ghost use Rattle.ffi3_script_rules.specs.Typed.{script_is_typed, function_is_typed, signature_is_right};

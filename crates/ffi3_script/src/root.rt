@@ -1,5 +1,5 @@
 // The whole of a script.
-ghost use Rattle.std.specs.Prelude.{◌≡◌, ◌<◌, ◌≤◌, ◌^◌, ◌++◌, ◌∷◌, [], All, IfOk, IfErr};
+ghost use Rattle.std.specs.Prelude.{◌≡◌, ◌<◌, ◌≤◌, ◌^◌, ◌++◌, [], All, IfOk, IfErr};
 ghost use Rattle.std.specs.Prelude.{OnOk, length, map, codes, option_and_then};
 ghost use Rattle.serde_json.specs.Find.{as_number, as_u64};
 ghost use Rattle.serde_json.specs.View.{view, items_view};

@@ -46,7 +46,8 @@ impl Script {
     ghost use Rattle.ffi3_script_rules.specs.Typed.{script_is_typed, signature_is_right};
     ghost use Rattle.ffi3_script_body.specs.BodyOf.{moves_of, signatures_of, functions_of, signature_of};
     ghost use Rattle.ffi3_script.specs.FunctionOf.{script_from, StandsIn};
-    ghost use Rattle.ffi3_script.specs.ScriptOf.{script_of, natives_of, function_at};
+    ghost use Rattle.std.specs.Prelude.{Some};
+    ghost use Rattle.ffi3_script.specs.ScriptOf.{script_of, natives_of, function_at, main_body, body_at};
 
     /// The script of these signatures, functions and main, beside so many natives.
     pub(crate) fn new(
@@ -119,6 +120,7 @@ impl Script {
     /// The body of function `i`.
     pub fn body(&self, i: u32) -> &ScriptBody
         requires { i < length (script_of self.now).functions }
+        ensures is { body_at self.now i ≡ Some result.now }
         ensures moves_are { moves_of result.now ≡ (function_at (script_of self.now) i).body }
         ensures signatures_are { signatures_of result.now ≡ (script_of self.now).signatures }
         ensures own_is { signature_of result.now ≡
@@ -130,6 +132,7 @@ impl Script {
 
     /// The body of main.
     pub fn main(&self) -> &ScriptBody
+        ensures is { result.now ≡ main_body self.now }
         ensures moves_are { moves_of result.now ≡ (script_of self.now).main }
         ensures signatures_are { signatures_of result.now ≡ (script_of self.now).signatures }
         ensures own_is { signature_of result.now ≡ no_signature }

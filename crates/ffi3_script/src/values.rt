@@ -11,8 +11,8 @@ ghost use Rattle.ffi3_script.specs.Shapes.{typed_form_of, typed_under, value_und
 
 use crate::forms::{Form, TypedForm, form_named, is_untyped, only_member, two_items};
 use crate::plain::{
-    against, argument_of, cast_of, difference, element_of, is_integer, is_number, push,
-    read_first_type, read_number, read_text, result_of, sum, typed_as, user_of,
+    against, argument_of, cast_of, difference, element_of, push, read_first_type, read_number,
+    read_text, result_of, sum, typed_as, user_of,
 };
 use crate::scope::Scope;
 use crate::{Expr, TypedExpr};
@@ -155,7 +155,7 @@ fn read_form(
             Err(fault) => Err(fault),
         },
         Form::Cast => {
-            if !is_number(ty) {
+            if !ty.is_number() {
                 return Err(bad(alloc, at, Reason::WrongType));
             }
             at.push_key(alloc, name)?;
@@ -194,7 +194,7 @@ fn read_terms(
         (Reports (λ p r. read_terms (scope_of scope.now) (tree_of ty.now) name.now (view inside.now) at.old
         ≡ fault p r)) }
 {
-    if !is_integer(ty) {
+    if !ty.is_integer() {
         return Err(bad(alloc, at, Reason::WrongType));
     }
     at.push_key(alloc, name)?;

@@ -4,7 +4,7 @@ use Rattle.std.specs.Prelude.{slice_index_or, nat_lt}
 use Rattle.std.proofs.lemmas.Bool.{ltb-true}
 use Rattle.ffi3_type_rules.specs.Tree.{Tree, void, scalar, left_out, structure, tree_at, list_of, elements_of, trees_of-list_of, pointer, Scalar}
 use Rattle.ffi3_type_rules.specs.Integer.{is_number_type, scalar_of}
-use Rattle.ffi3_type_rules.specs.Value.{ValueTree, struct_value, void_value, fits, list_of_values}
+use Rattle.ffi3_type_rules.specs.Value.{ValueTree, struct_value, void_value, fits}
 use Rattle.ffi3_type_rules.specs.Value as values
 use Rattle.ffi3_type_rules.proofs.ValueElements.{fitting_lengths}
 use Rattle.ffi3_script_rules.specs.Script.{Expression, constant, composed, argument, outcome, user_data, element, typed_as, sum, difference, cast}

@@ -2,4 +2,5 @@ pub mod Rows
 pub mod Evaluated
 pub mod Parts
 mod Walked
+mod Agreed
 mod Pasts

@@ -3,7 +3,7 @@ use Rattle.std.proofs.Common.{◌≡◌, ℕ, zero, suc, ◌+◌, ◌<◌, ◌�
 use Rattle.ffi3_type_rules.specs.Tree.{Tree, trees_of, tree_at}
 use Rattle.ffi3_type_rules.specs.Value.{ValueTree, ValueTrees, no_values, value, list_of_values}
 use Rattle.ffi3_type_rules.specs.Value as values
-use Rattle.ffi3_script_rules.specs.Script.{Expression, expression}
+use Rattle.ffi3_script_rules.specs.Script.{expression}
 use Rattle.ffi3_script_rules.specs.Script as script
 use Rattle.ffi3_script_rules.specs.Meaning.{Known, value_of, values_of}
 use Rattle.ffi3_script_rules.specs.Typed.{Kinds, has_type, have_types}

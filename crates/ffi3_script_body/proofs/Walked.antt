@@ -1,5 +1,5 @@
 -- A walk along the moves of a body of the code, up to its next move.
-use Rattle.std.proofs.Common.{◌≡◌, ℕ, zero, suc, ◌+◌, ◌<◌, ◌≤◌, Bool, true, false, List, [], ◌∷◌, ◌++◌, length, take, drop, map, Some, None, refl, ap, sym, ◌∙◌, subst, append_assoc, append-nil, arith, get_or}
+use Rattle.std.proofs.Common.{◌≡◌, ℕ, zero, suc, ◌+◌, ◌<◌, ◌≤◌, Bool, true, false, List, [], ◌∷◌, ◌++◌, length, take, drop, map, Option, Some, None, refl, ap, sym, ◌∙◌, subst, append_assoc, append-nil, arith, get_or}
 use Rattle.std.specs.Prelude.{slice_index_or, nat_lt, is_none, option_map}
 use Rattle.std.specs.List.{list_all}
 use Rattle.std.proofs.lemmas.Bool.{lt-ltb}
@@ -17,12 +17,12 @@ use Rattle.ffi3_script_rules.specs.Typed.{Kinds, Setting, IsOfType, act_is_typed
 use Rattle.ffi3_script_rules.proofs.Tests.{and_left, and_right, both}
 use Rattle.ffi3_script_rules.proofs.RightTypes.{is_none-none}
 use Rattle.ffi3_script_rules.proofs.Fits.{one_more_fits, unfinished_fits}
+use Rattle.ffi3_script_body.specs.Walked.{Walked}
 use Rattle.ffi3_script_rules.proofs.BodyRules.{IsLeft, left_done, left_undone, taken_fits, ends_after_done, ends_after_undone, act_typed, later_typed}
 use Rattle.ffi3_script_body.specs.ExprOf.{act_of, typed_of, script_move_of, script_moves_of}
 use Rattle.ffi3_script_body.specs.Own.{is_below}
-use Rattle.ffi3_script_body.specs.KnownOf.{Past, past_of, done_from, pasts_of, value_by, past_type, past_value, calls_below, is_there, kinds_from, known_from}
+use Rattle.ffi3_script_body.specs.KnownOf.{Past, done_from, marked, pasts_of, value_by, past_type, past_value, calls_below, is_there, kinds_from, known_from}
 use Rattle.ffi3_script_body.specs.Always.{is_unconditional}
-use Rattle.ffi3_script_body.specs.declared.known.Outcome.{Outcome}
 use Rattle.ffi3_script_body.specs.declared.moves.ScriptMove.{ScriptMove}
 
 -- the moves from number i on, of which the first is this
@@ -56,15 +56,6 @@ calls_typed s k (free to) h = refl
 calls_typed s k (print v) h = refl
 calls_typed s k (return e) h = refl
 calls_typed s k return_void h = refl
-
--- After these moves, which took so many results, these moves are left.
-pub record Walked (s : Setting) (a : SeenActivation) (next : List ValueTree → Move) (pasts : List Past) (taken : ℕ) (ms : List script.ScriptMove) : Type 0 where
-  pub typed : moves_are_typed s (kinds_from s.signatures a pasts) ms ≡ true
-  pub ended : ends ms ≡ true
-  pub there : list_all (is_there (length s.signatures) (length a.results)) pasts ≡ true
-  pub fit : all_fit (trees_of (map (past_type s.signatures) pasts)) (values_of (map (past_value s.signatures a.results) pasts)) ≡ true
-  pub within : taken ≤ length a.results
-  pub left : IsLeft s next a.results taken ms (known_from s.signatures a pasts)
 
 abbrev pub setting : List Signature → ℕ → Signature → Setting
 setting signatures functions own =
@@ -153,14 +144,32 @@ module _ (s : Setting) (a : SeenActivation) (next : List ValueTree → Move) (ri
   fewer_always (m ∷ ms) (suc n) (suc k) few always =
       both (is_none m.condition) _ (and_left (is_none m.condition) _ always) (fewer_always ms n k (omega arith) (and_right (is_none m.condition) _ always))
 
-  pub walked_always : (ms done : List ScriptMove) (always n : ℕ) → Walked s a next [] 0 (script_moves_of ms) → list_all is_unconditional (take always ms) ≡ true → n ≤ always → n ≤ length a.results → done ≡ take n ms → Walked s a next (pasts_of done []) n (drop n (script_moves_of ms))
-  walked_always ms done always n walked all few within is =
+  pub walked_always : (ms done later : List ScriptMove) (always n : ℕ) → Walked s a next [] 0 (script_moves_of ms) → list_all is_unconditional (take always ms) ≡ true → n ≤ always → n ≤ length a.results → done ≡ take n ms → Walked s a next (pasts_of done later []) n (drop n (script_moves_of ms))
+  walked_always ms done later always n walked all few within is =
       let start : 0 + n ≤ length a.results = omega (arith, within) in
       let same : 0 + n ≡ n = omega arith in
       let on = subst (λ i. Walked s a next (done_from 0 (script_moves_of (take n ms))) i (drop n (script_moves_of ms))) same (walked_on [] 0 ms n walked (fewer_always ms always n few all) start) in
-      subst (λ ps. Walked s a next ps n (drop n (script_moves_of ms))) (sym (append-nil (done_from 0 (script_moves_of (take n ms)))) ∙ ap (λ ds. pasts_of ds []) (sym is)) on
+      subst (λ ps. Walked s a next ps n (drop n (script_moves_of ms))) (sym (append-nil (done_from 0 (script_moves_of (take n ms)))) ∙ ap (λ ds. pasts_of ds later []) (sym is)) on
+
+-- one move more that is marked
+marked_more : (rs : List (Option ℕ)) (ms : List ScriptMove) (r : Option ℕ) (m : ScriptMove) → length rs < length ms → m ≡ get_or ms (length rs) m → marked (rs ++ r ∷ []) (script_moves_of ms) ≡ marked rs (script_moves_of ms) ++ record { act = act_of m.act; result = r } ∷ []
+marked_more [] [] r m below is = absurd (omega arith)
+marked_more [] (x ∷ ms) r m below is =
+    ap (λ y. record { act = act_of y.act; result = r } ∷ []) (sym is)
+marked_more (q ∷ rs) [] r m below is = absurd (omega arith)
+marked_more (q ∷ rs) (x ∷ ms) r m below is =
+    ap (λ ps. record { act = act_of x.act; result = q } ∷ ps) (marked_more rs ms r m (omega arith) is)
 
 -- one past move more
-pub pasts_more : (done : List ScriptMove) (os more : List Outcome) (o : Outcome) → more ≡ os ++ o ∷ [] → pasts_of done more ≡ pasts_of done os ++ past_of o ∷ []
-pasts_more done os more o is =
-    ap (pasts_of done) is ∙ ap (λ ps. done_from 0 (script_moves_of done) ++ ps) (map-append past_of os (o ∷ [])) ∙ sym (append_assoc (done_from 0 (script_moves_of done)) (map past_of os) (past_of o ∷ []))
+pub pasts_more : (done later : List ScriptMove) (marks more : List (Option ℕ)) (r : Option ℕ) (m : ScriptMove) → more ≡ marks ++ r ∷ [] → length marks < length later → m ≡ get_or later (length marks) m → pasts_of done later more ≡ pasts_of done later marks ++ record { act = act_of m.act; result = r } ∷ []
+pasts_more done later marks more r m is below m_is =
+    ap (pasts_of done later) is ∙ ap (λ ps. done_from 0 (script_moves_of done) ++ ps) (marked_more marks later r m below m_is) ∙ sym (append_assoc (done_from 0 (script_moves_of done)) (marked marks (script_moves_of later)) (record { act = act_of m.act; result = r } ∷ []))
+
+-- where something ends, something is left
+pub left_below : (ms : List ScriptMove) (i : ℕ) → ends (drop i (script_moves_of ms)) ≡ true → i < length ms
+left_below [] zero ended = cc
+left_below [] (suc i) ended = cc
+left_below (m ∷ ms) zero ended = omega arith
+left_below (m ∷ ms) (suc i) ended =
+    let below = left_below ms i ended in
+    omega (arith, below)

@@ -26,14 +26,21 @@ pub record Past : Type 0 where
 abbrev pub past_of : Outcome → Past
 past_of o = record { act = act_of o.act.now; result = o.result }
 
+-- moves, of which the first have these numbers of results, or none where one was not done
+abbrev pub marked : List (Option ℕ) → List ScriptMove → List Past
+marked [] ms = []
+marked (r ∷ marks) [] = []
+marked (r ∷ marks) (m ∷ ms) = record { act = m.act; result = r } ∷ marked marks ms
+
 -- moves that were all done, of which the first has result i
 abbrev pub done_from : ℕ → List ScriptMove → List Past
 done_from i [] = []
 done_from i (m ∷ ms) = record { act = m.act; result = Some i } ∷ done_from (i + 1) ms
 
 -- the first moves, which were all done, and those after them
-abbrev pub pasts_of : List code.ScriptMove → List Outcome → List Past
-pasts_of done outcomes = done_from 0 (script_moves_of done) ++ map past_of outcomes
+abbrev pub pasts_of : List code.ScriptMove → List code.ScriptMove → List (Option ℕ) → List Past
+pasts_of done later marks =
+    done_from 0 (script_moves_of done) ++ marked marks (script_moves_of later)
 
 abbrev pub past_type : List Signature → Past → Tree
 past_type signatures p = type_of_act signatures p.act

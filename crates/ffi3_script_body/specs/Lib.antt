@@ -5,3 +5,5 @@ pub mod KindOf
 pub mod BodyOf
 pub mod KnownOf
 pub mod KnownAt
+pub mod Walked
+pub mod Agrees

@@ -6,9 +6,10 @@ ghost use Rattle.ffi3_script_body.specs.ExprOf.{script_moves_of};
 ghost use Rattle.ffi3_script_body.specs.Own.{own_of, is_below};
 ghost use Rattle.ffi3_script_body.specs.Always.{is_unconditional};
 
-use crate::doing::{address, is_done};
+use crate::cursor::Cursor;
+use crate::doing::{address, is_ready};
 use crate::eval::{eval, eval_all};
-use crate::known::{Known, Outcome};
+use crate::known::Known;
 use crate::{Act, NoMemory, ScriptMove};
 use ffi3_body::{Body, Move, Seen};
 use ffi3_types::{FfiType, Sigs};
@@ -70,8 +71,13 @@ impl ScriptBody {
     ghost use Rattle.ffi3_script_body.specs.ExprOf.{script_moves_of};
     ghost use Rattle.ffi3_script_body.specs.Own.{own_of, is_below};
     ghost use Rattle.ffi3_script_body.specs.KindOf.{kind_of_act, act_at};
-    ghost use Rattle.ffi3_script_body.specs.BodyOf.{moves_of, signatures_of, functions_of, signature_of, setting_of};
-    ghost use Rattle.std.specs.Prelude.{IfOk};
+    ghost use Rattle.ffi3_script_body.specs.BodyOf.{moves_of, signatures_of, functions_of, signature_of, setting_of, meaning_of};
+    ghost use Rattle.ffi3_script_body.specs.Agrees.{Agrees, passed, taken_by, one_more};
+    ghost use Rattle.std.specs.Prelude.{◌+◌, IfOk, IfSome, None};
+    ghost use Rattle.ffi3_type_rules.specs.Value.{ValueTree};
+    ghost use Rattle.ffi3_run_rules.specs.Move.{MoveFits};
+    ghost use Rattle.ffi3_body.specs.SeenActivation.{SeenActivation, arguments_of};
+    ghost use Rattle.ffi3_body.specs.Follow.{ResultsFollow};
     ghost use Rattle.ffi3_body.specs.MoveOf as code;
     ghost use Rattle.ffi3_script_rules.specs.Meaning as meaning;
     ghost use Rattle.ffi3_script_rules.specs.Typed.{act_is_typed};
@@ -136,6 +142,100 @@ impl ScriptBody {
         })
     }
 
+    /// A cursor before the first move of any activation of this body.
+    pub fn cursor(&self, alloc: Global) -> Cursor
+        ensures { (a : SeenActivation) → a.signature ≡ signature_of self.now → Agrees self.now a result }
+    {
+        Cursor {
+            first: 0,
+            marks: Vec::new(alloc),
+            taken: 0,
+            ready: false,
+        }
+    }
+
+    // Passes the moves that are always done and whose results are there, if none after those is
+    // passed.
+    fn skip(&self, cursor: &mut Cursor, seen: &Seen)
+        requires own { seen.now.signature ≡ signature_of self.now }
+        requires follow { ResultsFollow (signatures_of self.now) (meaning_of self.now) (arguments_of seen.now) seen.now.user seen.now.results }
+        requires agrees { Agrees self.now seen.now cursor.old }
+        ensures agrees { Agrees self.now seen.now cursor.new }
+    {
+        if cursor.marks.is_empty() {
+            if cursor.first < self.always {
+                let first = self.always.min(seen.results());
+                cursor.first = first;
+                cursor.taken = first;
+                cursor.ready = false;
+            }
+        }
+    }
+
+    // One move: it is the next one, where it is done and has no result yet; or else it is passed.
+    fn step(
+        &self,
+        alloc: Global,
+        cursor: &mut Cursor,
+        seen: &Seen,
+    ) -> Result<Option<Move>, NoMemory>
+        requires own { seen.now.signature ≡ signature_of self.now }
+        requires follow { ResultsFollow (signatures_of self.now) (meaning_of self.now) (arguments_of seen.now) seen.now.user seen.now.results }
+        requires agrees { Agrees self.now seen.now cursor.old }
+        ensures is { IfOk result (λ o. IfSome o
+            (λ m. code.move_of m ≡ meaning_of self.now (arguments_of seen.now) seen.now.user seen.now.results)) }
+        ensures fits { IfOk result (λ o. IfSome o
+            (λ m. MoveFits (signatures_of self.now) (functions_of self.now) (signature_of self.now).result_type (code.move_of m))) }
+        ensures taken { IfOk result (λ o. IfSome o (λ m. taken_by cursor.new ≡ length seen.now.results)) }
+        ensures agrees { Agrees self.now seen.now cursor.new }
+        ensures on { IfOk result (λ o. o ≡ None → passed cursor.new ≡ passed cursor.old + 1) }
+    {
+        let first = cursor.first as usize;
+        let m = &self.moves[first + cursor.marks.len()];
+        let done = &self.moves[..first];
+        let later = &self.moves[first..];
+        let known = Known::new(&self.sigs, done, later, cursor.marks.as_slice(), seen);
+        if is_ready(alloc, cursor.ready, &known, &m.condition)? {
+            if cursor.taken == seen.results() {
+                let next = self.move_of(alloc, &known, &m.act)?;
+                cursor.ready = true;
+                return Ok(Some(next));
+            }
+            cursor.marks.push(Some(cursor.taken))?;
+            cursor.taken += 1;
+            cursor.ready = false;
+        } else {
+            cursor.marks.push(None)?;
+        }
+        Ok(None)
+    }
+
+    /// The next move of an activation of this body, as `next` gives it, from where the cursor
+    /// stands: it then has passed the moves of all results that are seen. It agrees with what is
+    /// seen as before, and after any result of this move too; also where memory was refused. So
+    /// all calls in an activation pass each move once, and evaluate each condition once.
+    pub fn next_at(&self, alloc: Global, cursor: &mut Cursor, seen: &Seen) -> Result<Move, NoMemory>
+        requires own { seen.now.signature ≡ signature_of self.now }
+        requires follow { ResultsFollow (signatures_of self.now) (meaning_of self.now) (arguments_of seen.now) seen.now.user seen.now.results }
+        requires agrees { Agrees self.now seen.now cursor.old }
+        ensures is { IfOk result
+            (λ m. code.move_of m ≡ meaning_of self.now (arguments_of seen.now) seen.now.user seen.now.results) }
+        ensures fits { IfOk result
+            (λ m. MoveFits (signatures_of self.now) (functions_of self.now) (signature_of self.now).result_type (code.move_of m)) }
+        ensures taken { IfOk result (λ m. taken_by cursor.new ≡ length seen.now.results) }
+        ensures agrees { Agrees self.now seen.now cursor.new }
+        ensures after { (r : ValueTree) → Agrees self.now (one_more seen.now r) cursor.new }
+    {
+        self.skip(cursor, seen);
+        for _ in cursor.first as usize + cursor.marks.len()..self.moves.len() {
+            if let Some(m) = self.step(alloc, cursor, seen)? {
+                return Ok(m);
+            }
+        }
+        // the last move is a return, which takes no result
+        unreachable!()
+    }
+
     /// How many moves there are.
     pub fn moves(&self) -> u32
         ensures are { result ≡ length (moves_of self.now) }
@@ -172,29 +272,7 @@ impl Body for ScriptBody {
     ghost functions = { functions_of };
 
     fn next(&self, alloc: Global, seen: &Seen) -> Result<Move, NoMemory> {
-        // each of the first moves has a result, and none of them a condition
-        let first = self.always.min(seen.results());
-        let done = &self.moves[..first as usize];
-        let mut outcomes = Vec::new(alloc);
-        // how many results the moves before take
-        let mut taken = first;
-        for i in first as usize..self.moves.len() {
-            let m = &self.moves[i];
-            let known = Known::new(&self.sigs, done, outcomes.as_slice(), seen);
-            let mut result = None;
-            if is_done(alloc, &known, &m.condition)? {
-                if taken == seen.results() {
-                    return self.move_of(alloc, &known, &m.act);
-                }
-                result = Some(taken);
-                taken += 1;
-            }
-            outcomes.push(Outcome {
-                act: &m.act,
-                result,
-            })?;
-        }
-        // the last move is a return, which takes no result
-        unreachable!()
+        let mut cursor = self.cursor(alloc);
+        self.next_at(alloc, &mut cursor, seen)
     }
 }

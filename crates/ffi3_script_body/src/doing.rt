@@ -37,3 +37,20 @@ pub(crate) fn is_done(
     let value = eval(alloc, known, &condition.ty, &condition.value)?;
     Ok(number(&condition.ty, &value) != 0)
 }
+
+/// The same, where this may be known already.
+pub(crate) fn is_ready(
+    alloc: Global,
+    ready: bool,
+    known: &Known,
+    condition: &Option<TypedExpr>,
+) -> Result<bool, NoMemory>
+    requires typed { is_condition (kinds_of known.now) (option_map typed_of condition.now) ≡ true }
+    requires done { ready ≡ true → meaning.is_done (known_of known.now) (option_map typed_of condition.now) ≡ true }
+    ensures { IfOk result (λ b. b ≡ meaning.is_done (known_of known.now) (option_map typed_of condition.now)) }
+{
+    if ready {
+        return Ok(true);
+    }
+    is_done(alloc, known, condition)
+}

@@ -16,9 +16,9 @@ use std::alloc::Global;
 /// A move before the next one: what it does, and the number of its result, or None where it was
 /// not done.
 #[derive(Clone, Copy)]
-pub(crate) struct Outcome<'a> {
-    pub(crate) act: &'a Act,
-    pub(crate) result: Option<u32>,
+struct Outcome<'a> {
+    act: &'a Act,
+    result: Option<u32>,
 }
 
 /// What an activation has seen, and the moves before the next one.
@@ -28,13 +28,15 @@ pub(crate) struct Known<'a, 'b, 'c> {
     // the first moves, which were all done: move `i` of them has result `i`
     done: &'a [ScriptMove],
     // the moves after those
-    outcomes: &'a [Outcome<'a>],
+    later: &'a [ScriptMove],
+    // the numbers of the results of the first of these, or None where one was not done
+    marks: &'b [Option<u32>],
     seen: &'b Seen<'c>,
     ghost right: { list_all signature_is_right sigs.now ≡ true },
     ghost arguments_fit: { all_fit (trees_of seen.now.signature.arguments) (values_of (arguments_of seen.now)) ≡ true },
-    ghost there: { list_all (is_there (length sigs.now) (length seen.now.results)) (pasts_of done.now outcomes.now) ≡ true },
-    ghost outcomes_fit: { all_fit (trees_of (map (past_type sigs.now) (pasts_of done.now outcomes.now)))
-        (values_of (map (past_value sigs.now seen.now.results) (pasts_of done.now outcomes.now))) ≡ true },
+    ghost there: { list_all (is_there (length sigs.now) (length seen.now.results)) (pasts_of done.now later.now marks.now) ≡ true },
+    ghost outcomes_fit: { all_fit (trees_of (map (past_type sigs.now) (pasts_of done.now later.now marks.now)))
+        (values_of (map (past_value sigs.now seen.now.results) (pasts_of done.now later.now marks.now))) ≡ true },
 }
 
 impl<'a, 'b, 'c> Known<'a, 'b, 'c> {
@@ -47,26 +49,29 @@ impl<'a, 'b, 'c> Known<'a, 'b, 'c> {
     ghost use Rattle.ffi3_script_body.specs.KnownOf.{is_there, past_of, past_type, past_value, pasts_of, kinds_from, known_from};
     ghost use Rattle.ffi3_script_body.specs.KnownAt.{kinds_of, known_of};
 
-    /// What is known after these moves: those that were all done, and then the others.
+    /// What is known after these moves: those that were all done, and then as many of the later
+    /// ones as are marked.
     pub(crate) fn new(
         sigs: &'a Sigs,
         done: &'a [ScriptMove],
-        outcomes: &'a [Outcome<'a>],
+        later: &'a [ScriptMove],
+        marks: &'b [Option<u32>],
         seen: &'b Seen<'c>,
     ) -> Known<'a, 'b, 'c>
         requires right { list_all signature_is_right sigs.now ≡ true }
-        requires there { list_all (is_there (length sigs.now) (length seen.now.results)) (pasts_of done.now outcomes.now) ≡ true }
-        requires fit { all_fit (trees_of (map (past_type sigs.now) (pasts_of done.now outcomes.now)))
-            (values_of (map (past_value sigs.now seen.now.results) (pasts_of done.now outcomes.now))) ≡ true }
-        ensures kinds { kinds_of result ≡ kinds_from sigs.now seen.now (pasts_of done.now outcomes.now) }
-        ensures is { known_of result ≡ known_from sigs.now seen.now (pasts_of done.now outcomes.now) }
+        requires there { list_all (is_there (length sigs.now) (length seen.now.results)) (pasts_of done.now later.now marks.now) ≡ true }
+        requires fit { all_fit (trees_of (map (past_type sigs.now) (pasts_of done.now later.now marks.now)))
+            (values_of (map (past_value sigs.now seen.now.results) (pasts_of done.now later.now marks.now))) ≡ true }
+        ensures kinds { kinds_of result ≡ kinds_from sigs.now seen.now (pasts_of done.now later.now marks.now) }
+        ensures is { known_of result ≡ known_from sigs.now seen.now (pasts_of done.now later.now marks.now) }
     {
         // by which the arguments are known to fit
         seen.count();
         Known {
             sigs,
             done,
-            outcomes,
+            later,
+            marks,
             seen,
         }
     }
@@ -100,7 +105,11 @@ impl<'a, 'b, 'c> Known<'a, 'b, 'c> {
                 result: Some(i as u32),
             }
         } else {
-            self.outcomes[i - self.done.len()]
+            let j = i - self.done.len();
+            Outcome {
+                act: &self.later[j].act,
+                result: self.marks[j],
+            }
         }
     }
 

@@ -2,6 +2,7 @@
 #![tactic(auto)]
 
 mod body;
+mod cursor;
 mod doing;
 mod eval;
 mod expr;
@@ -9,6 +10,7 @@ mod known;
 mod moves;
 
 pub use body::{MoveKind, ScriptBody};
+pub use cursor::Cursor;
 pub use expr::Expr;
 /// A want of memory: the one answer that no clause ties to a cause.
 pub use ffi3_types::NoMemory;

@@ -3,7 +3,7 @@ use Rattle.std.specs.Prelude.{ℕ, ◌+◌, ◌<◌, ◌^◌, ◌||◌, ◌&&◌
 use Rattle.serde_json.specs.Data.{Data, null, boolean, number, string, array, object, Items, no_items, item, Members, no_members, member}
 use Rattle.serde_json.specs.Find.{get, as_number, as_u64}
 use Rattle.serde_json.specs.Events.{items_len}
-use Rattle.ffi3_type_rules.specs.Tree.{Tree, left_out, struct_of, long_double, complex}
+use Rattle.ffi3_type_rules.specs.Tree.{Tree, void, scalar, left_out, structure, struct_of, long_double, complex, vector}
 use Rattle.ffi3_type_rules.specs.Names.{type_named}
 use Rattle.ffi3_type_rules.specs.Fault as type_fault
 use Rattle.ffi3_type_rules.specs.Signature.{Signature, SignatureFault, too_many, bad_type, bad_argument_type, Position, at_result, at_argument}
@@ -194,11 +194,14 @@ place_of_fault path (bad_type position way f) = inside_type (place_of_type path 
 place_of_fault path (signature.bad_fixed n count) = under path (codes "fixed")
 place_of_fault path (bad_argument_type i) = place_of_type path (at_argument i)
 
--- the kinds that are left out are the three that a fault tells of
+-- The kinds that are left out are three. A fault tells of no other type, for which nothing depends on the reason here.
 abbrev pub left_out_reason : Tree → Reason
 left_out_reason (left_out long_double) = left_out_long_double
 left_out_reason (left_out complex) = left_out_complex
-left_out_reason _ = left_out_vector
+left_out_reason (left_out vector) = left_out_vector
+left_out_reason void = left_out_vector
+left_out_reason (scalar s) = left_out_vector
+left_out_reason (structure ts) = left_out_vector
 
 abbrev pub reason_of_type_fault : type_fault.Fault → Reason
 reason_of_type_fault type_fault.bad_typedef = bad_typedef

@@ -192,9 +192,7 @@ struct OneByteSource {
 }
 
 impl Source for OneByteSource {
-    ghost left = { λ _. None };
-
-    ghost faults = { λ s. s.inner.faults };
+    ghost state = { λ s. record { left = None; faults = s.inner.faults } };
 
     fn read(&mut self, buf: &mut [u8]) -> Result<usize, Failed> {
         let n = buf.len().min(1);
@@ -209,9 +207,7 @@ struct OneByteSink {
 }
 
 impl Sink for OneByteSink {
-    ghost taken = { λ _. None };
-
-    ghost faults = { λ s. s.inner.faults };
+    ghost state = { λ s. record { taken = None; faults = s.inner.faults } };
 
     fn write(&mut self, bytes: &[u8]) -> Result<usize, Failed> {
         let n = bytes.len().min(1);

@@ -1,1 +1,4 @@
+pub mod Words
+pub mod Kept
+pub mod Traced
 mod Rows

@@ -2,9 +2,11 @@
 use Rattle.std.specs.Prelude.{◌≡◌, ℕ, List, [], ◌∷◌, ◌++◌, refl, None, codes}
 use Rattle.std.specs.Fmt.{digits}
 use Rattle.ffi3_type_rules.specs.declared.Target.TheVariants.{Aapcs64, Riscv}
-use Rattle.ffi3_type_rules.specs.Tree.{Tree, void, scalar, struct_of, u8, s8, u16, s16, u32, s32, float, double}
+use Rattle.ffi3_type_rules.specs.Tree.{Tree, void, scalar, struct_of, u8, s8, u16, s16, u32, s32, float, double, pointer}
 use Rattle.ffi3_type_rules.specs.Layout.{least_multiple}
 use Rattle.ffi3_type_rules.specs.Signature.{Signature, at_result, at_argument}
+use Rattle.ffi3_type_rules.specs.Value.{leaf_value}
+use Rattle.ffi3_place_rules.specs.Event.{Event, enters}
 use Rattle.ffi3_place_rules.specs.declared.Loc.{Loc}
 use Rattle.ffi3_place_rules.specs.declared.Loc.TheVariants.{G, F, S}
 use Rattle.ffi3_place_rules.specs.declared.Ext.TheVariants.{Free}
@@ -13,6 +15,7 @@ use Rattle.ffi3_place_rules.specs.declared.Place.TheVariants.{Direct, ByRef}
 use Rattle.ffi3_place_rules.specs.declared.Res.TheVariants.{Hidden}
 use Rattle.ffi3_text.specs.LayoutLines.{layout_text_of}
 use Rattle.ffi3_text.specs.PlaceLines.{argument_text, result_text}
+use Rattle.ffi3_text.specs.TraceLines.{enter_text_of, leave_text_of, register_text}
 
 abbrev sig_of : Tree → List Tree → Signature
 sig_of r a = record { result_type = r; arguments = a; fixed = None }
@@ -73,3 +76,29 @@ integer_and_floating = refl
 pub four_floats : argument_text Aapcs64 (Direct (piece (F 0) 0 4 ∷ piece (F 1) 4 4 ∷ piece (F 2) 8 4 ∷ piece (F 3) 12 4 ∷ [])) ≡ codes " v0:0+4 v1:4+4 v2:8+4 v3:12+4"
 unfolding digits
 four_floats = refl
+
+-- ---- lines of a trace
+
+-- an entry of a closure in the first slot, with a5a5000000000003 in register 3
+abbrev entry : Event
+entry = record {
+  kind = enters;
+  closure = 0x10000;
+  image = record { general = 0 ∷ 0 ∷ 0 ∷ 0xa5a5000000000003 ∷ 0x1b ∷ []; floating = []; sp = 0x7ffefff8; stack = [] };
+}
+
+pub entered : enter_text_of (sig_of (scalar s32) (scalar s32 ∷ scalar pointer ∷ [])) entry (leaf_value (0xd6 ∷ 0xff ∷ 0xff ∷ 0xff ∷ []) ∷ leaf_value (0xef ∷ 0x0b ∷ 0 ∷ 0 ∷ 0 ∷ 0 ∷ 0 ∷ 0 ∷ []) ∷ []) ≡ a_line (codes "enter 0x10000 sp 0x7ffefff8 (-42,0xbef)")
+unfolding digits
+entered = refl
+
+pub left : leave_text_of (sig_of (scalar s32) []) entry (leaf_value (42 ∷ 0 ∷ 0 ∷ 0 ∷ [])) ≡ a_line (codes "leave sp 0x7ffefff8 42")
+unfolding digits
+left = refl
+
+pub a_full_register : register_text entry (G 3) ≡ codes " a5a5000000000003"
+unfolding digits
+a_full_register = refl
+
+pub a_padded_register : register_text entry (G 4) ≡ codes " 000000000000001b"
+unfolding digits
+a_padded_register = refl

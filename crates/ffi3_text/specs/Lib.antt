@@ -1,3 +1,4 @@
 pub mod Registers
 pub mod LayoutLines
 pub mod PlaceLines
+pub mod TraceLines

@@ -3,7 +3,7 @@ use Rattle.std.specs.Prelude.{ℕ, Bool, true, false, cond, List, [], ◌∷◌,
 use Rattle.std.specs.List.{flat_map, find, sum_by}
 use Rattle.std.specs.Fmt.{decimal}
 use Rattle.ffi3_type_rules.specs.declared.Target.{Target}
-use Rattle.ffi3_type_rules.specs.declared.Target.TheVariants.{Amd64}
+use Rattle.ffi3_type_rules.specs.declared.Target.TheVariants.{Amd64, Aapcs64, Riscv}
 use Rattle.ffi3_type_rules.specs.Signature.{Signature, Position, at_result, at_argument}
 use Rattle.ffi3_place_rules.specs.declared.Loc.{Loc}
 use Rattle.ffi3_place_rules.specs.declared.Loc.TheVariants.{S}
@@ -75,7 +75,8 @@ place_text_of std s (at_argument j) =
 -- the number of vector registers that arguments use, which a call tells on AMD64 alone
 abbrev pub vectors_text : Target → ℕ → List ℕ
 vectors_text Amd64 n = codes " rax " ++ decimal n
-vectors_text _ n = []
+vectors_text Aapcs64 n = []
+vectors_text Riscv n = []
 
 -- THE LINE OF SIGNATURE i: the bytes of stack that a call takes
 abbrev pub sig_text_of : ℕ → Standard → Signature → List ℕ

@@ -1,3 +1,5 @@
+use Rattle.std.specs.Prelude.{IsSomeAnd}
+use Rattle.ffi3_cif.specs.Runs.{AreRunsOf, pieces_of}
 use Rattle.std.proofs.Common.{◌≡◌, ◌+◌, ◌-◌, ◌<◌, ◌≤◌, length, ap, subst, sym, ◌∙◌, arith}
 use Rattle.ffi3_type_rules.specs.Tree.{tree_at}
 use Rattle.ffi3_type_rules.specs.Layout.{size_of}
@@ -43,6 +45,13 @@ copy_argument-requires-clause-has_all g c =
     let type_is = c.argument-ty.ensures.element ∙ ap (λ r. tree_at r.arguments c.loop-i.i) c.sig-sig.ensures.value in
     let ready = ready_at std s sound c.sig-sig.ensures.faultless c.loop-i.i t c.place.result.now below type_is c.place.ensures in
     ready.has_all
+
+pub runs-requires : goal.runs-requires
+runs-requires g c = omega (arith, c.loop-i-test.true, c.count_of-i-end.ensures.value, ap (λ r. length r.arguments) c.sig-sig.ensures.value)
+
+pub copy_argument-requires-clause-runs : goal.copy_argument-requires-clause-runs
+copy_argument-requires-clause-runs g c =
+    subst (λ o. IsSomeAnd o (λ p. AreRunsOf (pieces_of p) c.runs.result.now)) c.place.ensures c.runs.ensures
 
 pub copy_argument-requires-clause-found : goal.copy_argument-requires-clause-found
 copy_argument-requires-clause-found g c =

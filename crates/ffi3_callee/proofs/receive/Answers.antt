@@ -2,12 +2,12 @@ use Rattle.std.proofs.Common.{◌≡◌, ◌+◌, ◌-◌, ◌≤◌, length, ap
 use Rattle.ffi3_type_rules.specs.declared.limits.TheConstants.{STACK, STACK_TOP}
 use Rattle.ffi3_type_rules.specs.Isa.{isa_of}
 use Rattle.ffi3_place_rules.specs.Holds.{OwnsArguments}
-use Rattle.ffi3_place_rules.specs.Standard.{block_bytes, frame_of, plan_of}
+use Rattle.ffi3_place_rules.specs.Standard.{frame_of, plan_of}
 use Rattle.ffi3_machine.specs.State.{scribbled_floating, scribbled_general}
 use Rattle.ffi3_callee.specs.Loaded.{AreFound, image_from}
 use Rattle.ffi3_callee.specs.Received.{hidden_of}
-use Rattle.ffi3_callee.specs.Saved.{AreSaved, HiddenLies}
-use Rattle.ffi3_callee.proofs.Entry.{address_known, all_saveable, found_between, hidden_lies, received}
+use Rattle.ffi3_callee.specs.Saved.{AreSaved}
+use Rattle.ffi3_callee.proofs.Entry.{address_known, all_saveable, found_between, hidden_lies, received, stands}
 use Rattle.ffi3_callee.proofs.Keeping.{reserved_received}
 use Rattle.ffi3_callee.proofs.Laws.{words_saveable}
 use Rattle.ffi3_callee.proofs.receive.Goals as goal
@@ -19,8 +19,7 @@ hidden_word-address-requires-clause-lies g c =
     let m = c.args.machine.now in
     let sound = g.met.A.Abi.sound s c.sig-sig.ensures.faultless in
     let base : c.sp-entry.result + c.LINK.result ≡ m.sp + std.link = omega (arith, c.LINK.ensures, g.met.A.Abi.link_is, c.sp-entry.ensures.value) in
-    let hidden : c.hidden_place-hidden.result ≡ hidden_of (plan_of std s).res = c.hidden_place-hidden.ensures ∙ ap hidden_of c.result_place.ensures in
-    subst (HiddenLies (STACK_TOP - (c.sp-entry.result + c.LINK.result))) (sym hidden) (hidden_lies std s (STACK_TOP - (c.sp-entry.result + c.LINK.result)) sound (omega (arith, base, c.requires.frame)))
+    hidden_lies std s m (c.sp-entry.result + c.LINK.result) c.hidden_place-hidden.result sound base (c.hidden_place-hidden.ensures ∙ ap hidden_of c.result_place.ensures) c.requires.frame
 
 pub save_words-requires-clause-hidden : goal.save_words-requires-clause-hidden
 save_words-requires-clause-hidden g c =
@@ -29,8 +28,7 @@ save_words-requires-clause-hidden g c =
     let m = c.args.machine.now in
     let sound = g.met.A.Abi.sound s c.sig-sig.ensures.faultless in
     let base : c.sp-entry.result + c.LINK.result ≡ m.sp + std.link = omega (arith, c.LINK.ensures, g.met.A.Abi.link_is, c.sp-entry.ensures.value) in
-    let hidden : c.hidden_place-hidden.result ≡ hidden_of (plan_of std s).res = c.hidden_place-hidden.ensures ∙ ap hidden_of c.result_place.ensures in
-    subst (HiddenLies (STACK_TOP - (c.sp-entry.result + c.LINK.result))) (sym hidden) (hidden_lies std s (STACK_TOP - (c.sp-entry.result + c.LINK.result)) sound (omega (arith, base, c.requires.frame)))
+    hidden_lies std s m (c.sp-entry.result + c.LINK.result) c.hidden_place-hidden.result sound base (c.hidden_place-hidden.ensures ∙ ap hidden_of c.result_place.ensures) c.requires.frame
 
 pub save_words-requires-clause-below : goal.save_words-requires-clause-below
 save_words-requires-clause-below g c =
@@ -46,14 +44,11 @@ copy_arguments-requires-clause-found g c =
     let s = c.args.cif.now in
     let m = c.args.machine.now in
     let sound = g.met.A.Abi.sound s c.sig-sig.ensures.faultless in
-    let base : c.sp-entry.result + c.LINK.result ≡ m.sp + std.link = omega (arith, c.LINK.ensures, g.met.A.Abi.link_is, c.sp-entry.ensures.value) in
-    let hidden : c.hidden_place-hidden.result ≡ hidden_of (plan_of std s).res = c.hidden_place-hidden.ensures ∙ ap hidden_of c.result_place.ensures in
     let area = c.sp-entry.result - c.SAVE.result in
     let block = c.sp-entry.result - c.SAVE.result - c.block.result in
-    let area_is : area ≡ m.sp - std.save = omega (arith, c.SAVE.ensures, g.met.A.Abi.save_is, c.sp-entry.ensures.value) in
-    let block_is : block + block_bytes s ≡ area = omega (arith, c.SAVE.ensures, g.met.A.Abi.save_is, c.sp-entry.ensures.value, c.block.ensures, c.requires.room) in
-    subst (λ q. AreFound q c.set_sp.new.self (plan_of std s).places) (sym base)
-    (found_between std s area block 0 m c.save_words.new.machine c.set_sp.new.self c.set_sp.new.self c.set_sp.new.self c.requires.room c.requires.frame g.met.A.Abi.agrees.area c.sp-entry.ensures.machine.stack area_is block_is c.save_words.ensures.only c.set_sp.ensures c.requires.some.0 sound c.sig-sig.ensures.faultless c.requires.some.1)
+    let there = stands std s m c.sp-entry.result c.LINK.result c.SAVE.result c.block.result c.hidden_place-hidden.result c.result_place.result.now c.sp-entry.ensures.value (c.LINK.ensures ∙ sym g.met.A.Abi.link_is) (c.SAVE.ensures ∙ sym g.met.A.Abi.save_is) c.block.ensures c.hidden_place-hidden.ensures c.result_place.ensures c.requires.room in
+    subst (λ q. AreFound q c.set_sp.new.self (plan_of std s).places) (sym there.base_is)
+    (found_between std s area block 0 m c.save_words.new.machine c.set_sp.new.self c.set_sp.new.self c.set_sp.new.self c.requires.room c.requires.frame g.met.A.Abi.agrees.area c.sp-entry.ensures.machine.stack there.area_is there.block_is c.save_words.ensures.only c.set_sp.ensures c.requires.some.0 sound c.sig-sig.ensures.faultless c.requires.some.1)
 
 pub returns-clause-received : goal.returns-clause-received
 returns-clause-received g c =
@@ -61,18 +56,15 @@ returns-clause-received g c =
     let s = c.args.cif.now in
     let m = c.args.machine.now in
     let sound = g.met.A.Abi.sound s c.sig-sig.ensures.faultless in
-    let base : c.sp-entry.result + c.LINK.result ≡ m.sp + std.link = omega (arith, c.LINK.ensures, g.met.A.Abi.link_is, c.sp-entry.ensures.value) in
-    let hidden : c.hidden_place-hidden.result ≡ hidden_of (plan_of std s).res = c.hidden_place-hidden.ensures ∙ ap hidden_of c.result_place.ensures in
     let area = c.sp-entry.result - c.SAVE.result in
     let block = c.sp-entry.result - c.SAVE.result - c.block.result in
-    let area_is : area ≡ m.sp - std.save = omega (arith, c.SAVE.ensures, g.met.A.Abi.save_is, c.sp-entry.ensures.value) in
-    let block_is : block + block_bytes s ≡ area = omega (arith, c.SAVE.ensures, g.met.A.Abi.save_is, c.sp-entry.ensures.value, c.block.ensures, c.requires.room) in
+    let there = stands std s m c.sp-entry.result c.LINK.result c.SAVE.result c.block.result c.hidden_place-hidden.result c.result_place.result.now c.sp-entry.ensures.value (c.LINK.ensures ∙ sym g.met.A.Abi.link_is) (c.SAVE.ensures ∙ sym g.met.A.Abi.save_is) c.block.ensures c.hidden_place-hidden.ensures c.result_place.ensures c.requires.room in
     let b = c.set_sp.new.self in
     let after = c.copy_arguments.new.machine in
-    received std s area block c.len-number.result m c.save_words.new.machine b after c.scribble.new.self c.requires.room c.requires.frame g.met.A.Abi.agrees.area c.sp-entry.ensures.machine.stack area_is block_is c.save_words.ensures.only c.set_sp.ensures
-    (subst (λ h. AreSaved area (m.sp + std.link) h std.save_area m c.save_words.new.machine) hidden (subst (λ q. AreSaved area q c.hidden_place-hidden.result std.save_area m c.save_words.new.machine) base c.save_words.ensures.saved))
+    received std s area block c.len-number.result m c.save_words.new.machine b after c.scribble.new.self c.requires.room c.requires.frame g.met.A.Abi.agrees.area c.sp-entry.ensures.machine.stack there.area_is there.block_is c.save_words.ensures.only c.set_sp.ensures
+    (subst (λ h. AreSaved area (m.sp + std.link) h std.save_area m c.save_words.new.machine) there.hidden_is (subst (λ q. AreSaved area q c.hidden_place-hidden.result std.save_area m c.save_words.new.machine) there.base_is c.save_words.ensures.saved))
     c.copy_arguments.ensures.only c.scribble.ensures
-    (λ vs own. c.copy_arguments.ensures.values vs (subst (λ q. OwnsArguments (image_from q (frame_of std s) b) 0 s.arguments (plan_of std s).places vs) (sym base) own))
+    (λ vs own. c.copy_arguments.ensures.values vs (subst (λ q. OwnsArguments (image_from q (frame_of std s) b) 0 s.arguments (plan_of std s).places vs) (sym there.base_is) own))
 
 pub returns-clause-incoming : goal.returns-clause-incoming
 returns-clause-incoming g c =
@@ -80,18 +72,15 @@ returns-clause-incoming g c =
     let s = c.args.cif.now in
     let m = c.args.machine.now in
     let sound = g.met.A.Abi.sound s c.sig-sig.ensures.faultless in
-    let base : c.sp-entry.result + c.LINK.result ≡ m.sp + std.link = omega (arith, c.LINK.ensures, g.met.A.Abi.link_is, c.sp-entry.ensures.value) in
-    let hidden : c.hidden_place-hidden.result ≡ hidden_of (plan_of std s).res = c.hidden_place-hidden.ensures ∙ ap hidden_of c.result_place.ensures in
     let area = c.sp-entry.result - c.SAVE.result in
     let block = c.sp-entry.result - c.SAVE.result - c.block.result in
-    let area_is : area ≡ m.sp - std.save = omega (arith, c.SAVE.ensures, g.met.A.Abi.save_is, c.sp-entry.ensures.value) in
-    let block_is : block + block_bytes s ≡ area = omega (arith, c.SAVE.ensures, g.met.A.Abi.save_is, c.sp-entry.ensures.value, c.block.ensures, c.requires.room) in
+    let there = stands std s m c.sp-entry.result c.LINK.result c.SAVE.result c.block.result c.hidden_place-hidden.result c.result_place.result.now c.sp-entry.ensures.value (c.LINK.ensures ∙ sym g.met.A.Abi.link_is) (c.SAVE.ensures ∙ sym g.met.A.Abi.save_is) c.block.ensures c.hidden_place-hidden.ensures c.result_place.ensures c.requires.room in
     let inside : STACK ≤ m.sp = omega (arith, c.requires.room) in
     record {
-      low = omega (arith, block_is, area_is, c.requires.room);
-      entry = omega (arith, block_is, area_is, c.requires.room, c.sp-entry.ensures.value);
+      low = omega (arith, there.block_is, there.area_is, c.requires.room);
+      entry = omega (arith, there.block_is, there.area_is, c.requires.room, c.sp-entry.ensures.value);
       high = omega (arith, c.sp-entry.ensures.value, c.requires.frame);
-      address = address_known std s m c.requires.some.0 c.sp-entry.result (c.sp-entry.result + c.LINK.result) c.hidden_word-address.result c.hidden_place-hidden.result sound inside c.requires.some.1 c.sp-entry.ensures.value base hidden c.hidden_word-address.ensures;
+      address = address_known std s m c.requires.some.0 c.sp-entry.result (c.sp-entry.result + c.LINK.result) c.hidden_word-address.result c.hidden_place-hidden.result sound inside c.requires.some.1 c.sp-entry.ensures.value there.base_is there.hidden_is c.hidden_word-address.ensures;
     }
 
 pub returns-clause-general : goal.returns-clause-general

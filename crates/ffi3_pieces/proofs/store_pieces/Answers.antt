@@ -1,42 +1,14 @@
-use Rattle.std.proofs.Common.{◌≡◌, ◌+◌, ◌-◌, sym, subst, arith}
+use Rattle.std.proofs.Common.{◌-◌, arith}
 use Rattle.ffi3_types.specs.TreeOf.{tree_of}
 use Rattle.ffi3_values.specs.ValueOf.{value_of}
-use Rattle.ffi3_place_rules.specs.Sound.{IsPieceOf}
+use Rattle.ffi3_place_rules.specs.declared.Place.TheVariants.{Direct}
 use Rattle.ffi3_type_rules.specs.declared.limits.TheConstants.{STACK_TOP}
-use Rattle.ffi3_pieces.specs.Stored.{IsPlace, IsWritable}
-use Rattle.ffi3_pieces.proofs.Stepping.{AreStored, each_read, each_loc, piece_step, none_stored, all_stored}
+use Rattle.ffi3_pieces.proofs.Arguments.{lies_more}
+use Rattle.ffi3_pieces.proofs.RunStoring.{registers_given}
 use Rattle.ffi3_pieces.proofs.store_pieces.Goals as goal
 
-pub loop-j-init : goal.loop-j-init
-loop-j-init c = none_stored c.args.base (tree_of c.args.ty.now) (value_of c.args.value.now) c.args.bytes.now c.args.pieces.now c.len-j.result c.args.machine.now (omega arith)
+pub store_each-requires-clause-lie : goal.store_each-requires-clause-lie
+store_each-requires-clause-lie c = lies_more 0 (STACK_TOP - c.args.base) (tree_of c.args.ty.now) (Direct c.args.pieces.now) (omega arith) c.requires.registers
 
-pub store_piece-requires-clause-lies : goal.store_piece-requires-clause-lies
-store_piece-requires-clause-lies c =
-    each_read (λ q. IsPlace (STACK_TOP - c.args.base) q.loc) c.args.pieces.now (c.loop-j.j - 1) c.get.result.now (omega arith) c.get.ensures (each_loc (IsPlace (STACK_TOP - c.args.base)) c.args.pieces.now c.requires.lie)
-
-pub store_piece-requires-clause-writable : goal.store_piece-requires-clause-writable
-store_piece-requires-clause-writable c =
-    let same = (c.loop-j.invariant.within (STACK_TOP - c.args.base) c.requires.lie).target in
-    subst (λ g. IsWritable g c.get.result.now.loc) (sym same)
-    (each_read (λ q. IsWritable c.args.machine.now.target q.loc) c.args.pieces.now (c.loop-j.j - 1) c.get.result.now (omega arith) c.get.ensures (each_loc (IsWritable c.args.machine.now.target) c.args.pieces.now c.requires.writable))
-
-pub store_piece-requires-clause-part : goal.store_piece-requires-clause-part
-store_piece-requires-clause-part c =
-    each_read (IsPieceOf (tree_of c.args.ty.now)) c.args.pieces.now (c.loop-j.j - 1) c.get.result.now (omega arith) c.get.ensures c.requires.parts
-
-pub loop-j-preserved : goal.loop-j-preserved
-loop-j-preserved c =
-    let back : c.loop-j.j ≡ c.loop-j.j - 1 + 1 = omega arith in
-    let before = subst (λ i. AreStored c.args.base (tree_of c.args.ty.now) (value_of c.args.value.now) c.args.bytes.now c.args.pieces.now i c.args.machine.now c.loop-j.machine) back c.loop-j.invariant in
-    piece_step c.args.base (tree_of c.args.ty.now) (value_of c.args.value.now) c.args.bytes.now c.args.pieces.now (c.loop-j.j - 1) c.get.result.now c.args.machine.now c.loop-j.machine c.store_piece.new.machine (omega arith) c.get.ensures c.requires.parts c.requires.apart c.store_piece.ensures before
-
-pub returns-clause-stand : goal.returns-clause-stand
-returns-clause-stand c =
-    (all_stored c.args.base (tree_of c.args.ty.now) (value_of c.args.value.now) c.args.bytes.now c.args.pieces.now c.loop-j.j c.args.machine.now c.loop-j.machine (omega arith) c.loop-j.invariant).stand
-
-pub returns-clause-stays : goal.returns-clause-stays
-returns-clause-stays c =
-    (all_stored c.args.base (tree_of c.args.ty.now) (value_of c.args.value.now) c.args.bytes.now c.args.pieces.now c.loop-j.j c.args.machine.now c.loop-j.machine (omega arith) c.loop-j.invariant).stays
-
-pub returns-clause-within : goal.returns-clause-within
-returns-clause-within c = c.loop-j.invariant.within
+pub store_each-requires-clause-given : goal.store_each-requires-clause-given
+store_each-requires-clause-given c = registers_given c.args.base (tree_of c.args.ty.now) (value_of c.args.value.now) c.args.machine.now c.args.pieces.now c.requires.registers

@@ -1,4 +1,4 @@
-use Rattle.std.specs.Prelude.{true}
+use Rattle.std.specs.Prelude.{true, IsSomeAnd}
 use Rattle.std.proofs.Common.{◌≡◌, ◌+◌, ◌-◌, ◌<◌, ◌≤◌, length, sym, subst, ap, ◌∙◌, arith}
 use Rattle.std.specs.List.{AllByRecursion}
 use Rattle.ffi3_type_rules.specs.Tree.{tree_at}
@@ -9,6 +9,7 @@ use Rattle.ffi3_values.specs.ValueOf.{value_of}
 use Rattle.ffi3_place_rules.specs.Standard.{plan_of, frame_of}
 use Rattle.ffi3_place_rules.specs.Sound.{place_locs}
 use Rattle.ffi3_type_rules.specs.declared.limits.TheConstants.{STACK, STACK_TOP}
+use Rattle.ffi3_cif.specs.Runs.{AreRunsOf, pieces_of}
 use Rattle.ffi3_pieces.specs.Stored.{IsWritable}
 use Rattle.ffi3_pieces.specs.Standing.{AllStand, place_uses}
 use Rattle.ffi3_pieces.proofs.Lawful.{all_ready, apart_first, written_by_law}
@@ -81,6 +82,14 @@ store_place-requires-clause-fits g c =
     (subst (λ v. fits (tree_at s.arguments (c.loop-i.i - 1)) v ≡ true) (sym c.get.ensures.element)
     (fitting_element s.arguments c.args.values.now (c.loop-i.i - 1) c.requires.fit below))
 
+pub runs-requires : goal.runs-requires
+runs-requires g c =
+    omega (arith, c.count_of-i.ensures.value, ap (λ r. length r.arguments) c.sig-sig.ensures.value)
+
+pub store_place-requires-clause-runs : goal.store_place-requires-clause-runs
+store_place-requires-clause-runs g c =
+    subst (λ o. IsSomeAnd o (λ p. AreRunsOf (pieces_of p) c.runs.result.now)) c.place.ensures c.runs.ensures
+
 pub loop-i-preserved : goal.loop-i-preserved
 loop-i-preserved g c =
     let std = g.A.Abi.standard in
@@ -93,7 +102,7 @@ loop-i-preserved g c =
     let low : STACK ≤ c.sp-base.result = omega (arith, c.sp-base.ensures.value, c.requires.bottom) in
     let back : c.loop-i.i ≡ c.loop-i.i - 1 + 1 = omega arith in
     let before = subst (λ i. AllStored c.sp-base.result c.args.machine.now.target (frame_of std s) s.arguments (plan_of std s).places c.args.values.now i c.args.machine.now c.loop-i.machine) back c.loop-i.invariant in
-    argument_step c.sp-base.result c.args.machine.now.target (frame_of std s) s.arguments (plan_of std s).places c.args.values.now (c.loop-i.i - 1) t c.place.result.now (value_of c.get.result.now) c.args.machine.now c.loop-i.machine c.store_place.new.machine low here c.store_place.ensures.stands c.store_place.ensures.stays (c.store_place.ensures.within (frame_of std s) here.ready.lies) before
+    argument_step c.sp-base.result c.args.machine.now.target (frame_of std s) s.arguments (plan_of std s).places c.args.values.now (c.loop-i.i - 1) t c.place.result.now (value_of c.get.result.now) c.args.machine.now c.loop-i.machine c.store_place.new.machine low here c.store_place.ensures.stands c.store_place.ensures.unused c.store_place.ensures.stays (c.store_place.ensures.within (frame_of std s) here.ready.lies) before
 
 pub returns-clause-own : goal.returns-clause-own
 returns-clause-own g c =

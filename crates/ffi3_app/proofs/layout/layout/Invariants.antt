@@ -1,5 +1,4 @@
 use Rattle.std.proofs.Common.{drop}
-use Rattle.ffi3_run.specs.RunMatches.{took}
 use Rattle.ffi3_script.specs.ScriptOf.{script_of}
 use Rattle.ffi3_app.specs.Commands.{joined, lines_from, layout_lines, layout_text}
 use Rattle.ffi3_app.proofs.Pieces.{Continues}
@@ -7,4 +6,4 @@ use Rattle.ffi3_app.proofs.layout.layout.Given as goal
 
 abbrev pub invariant-loop-i : goal.invariant-loop-i
 invariant-loop-i g l =
-    Continues (layout_text (script_of l.script)) (joined (lines_from layout_lines l.i (drop l.i (script_of l.script).signatures))) (took (g.O.Sink.taken l.fn.output) (g.O.Sink.faults l.fn.output)) (took (g.O.Sink.taken l.output) (g.O.Sink.faults l.output))
+    Continues (layout_text (script_of l.script)) (joined (lines_from layout_lines l.i (drop l.i (script_of l.script).signatures))) (g.O.Sink.state l.fn.output) (g.O.Sink.state l.output)

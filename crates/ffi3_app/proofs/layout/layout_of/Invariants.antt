@@ -1,5 +1,4 @@
 use Rattle.std.proofs.Common.{drop, [], map, ◌++◌}
-use Rattle.ffi3_run.specs.RunMatches.{took}
 use Rattle.ffi3_text.specs.LayoutLines.{layout_text_of}
 use Rattle.ffi3_app.specs.Commands.{joined, layout_lines, arguments_from}
 use Rattle.ffi3_app.proofs.Pieces.{Continues}
@@ -7,4 +6,4 @@ use Rattle.ffi3_app.proofs.layout.layout_of.Given as goal
 
 abbrev pub invariant-loop-j : goal.invariant-loop-j
 invariant-loop-j g l =
-    Continues (joined (layout_lines l.number l.sig)) (joined (map (layout_text_of l.number l.sig) (arguments_from l.j (drop l.j l.sig.arguments)) ++ [])) (took (g.O.Sink.taken l.fn.output) (g.O.Sink.faults l.fn.output)) (took (g.O.Sink.taken l.output) (g.O.Sink.faults l.output))
+    Continues (joined (layout_lines l.number l.sig)) (joined (map (layout_text_of l.number l.sig) (arguments_from l.j (drop l.j l.sig.arguments)) ++ [])) (g.O.Sink.state l.fn.output) (g.O.Sink.state l.output)

@@ -1,5 +1,4 @@
 use Rattle.std.proofs.Common.{drop}
-use Rattle.ffi3_run.specs.RunMatches.{took}
 use Rattle.ffi3_script.specs.ScriptOf.{script_of}
 use Rattle.ffi3_app.specs.Commands.{joined, lines_from, place_lines, place_text}
 use Rattle.ffi3_app.proofs.Pieces.{Continues}
@@ -8,4 +7,4 @@ use Rattle.ffi3_app.proofs.place.place_by.Given as goal
 abbrev pub invariant-loop-i : goal.invariant-loop-i
 invariant-loop-i g l =
     let std = g.A.Abi.standard in
-    Continues (place_text std (script_of l.script)) (joined (lines_from (place_lines std) l.i (drop l.i (script_of l.script).signatures))) (took (g.O.Sink.taken l.fn.output) (g.O.Sink.faults l.fn.output)) (took (g.O.Sink.taken l.output) (g.O.Sink.faults l.output))
+    Continues (place_text std (script_of l.script)) (joined (lines_from (place_lines std) l.i (drop l.i (script_of l.script).signatures))) (g.O.Sink.state l.fn.output) (g.O.Sink.state l.output)

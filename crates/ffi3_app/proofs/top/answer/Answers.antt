@@ -1,8 +1,7 @@
 use Rattle.std.proofs.Common.{[], refl, inr}
 use Rattle.ffi3_script.specs.ScriptOf.{script_of}
 use Rattle.ffi3_script_rules.specs.Reading.{script}
-use Rattle.ffi3_run.specs.RunMatches.{took}
-use Rattle.ffi3_app.specs.Top.{given, bad_words, no_memory_for_words, write_failed, no_memory, done, failed}
+use Rattle.ffi3_app.specs.Top.{bad_words, no_memory_for_words, write_failed, no_memory, done, failed}
 use Rattle.ffi3_app.proofs.Saying.{read_alone, refused_alone, is_refused, says_refusal, no_fault_counted, fault_counted, refused_not_two, told_not_two, work_not_two, five_not_two, four_not_two}
 use Rattle.ffi3_app.proofs.top.answer.Goals as goal
 
@@ -24,7 +23,7 @@ returns-in-Err-clause-knows_words g c r stated =
 
 pub returns-in-Ok-work-clause-says : goal.returns-in-Ok-work-clause-says
 returns-in-Ok-work-clause-says g c =
-    done c.in-Ok.ensures.takes (script_of c.in-Ok-load.script) (read_alone _ (given (g.I.Source.left c.args.input.now) (g.I.Source.faults c.args.input.now)) (script (script_of c.in-Ok-load.script)) c.new-natives.ensures c.in-Ok-load.ensures.script) c.in-Ok-load.ensures.done c.in-Ok-load.ensures.end c.in-Ok-load.ensures.same c.in-Ok-work.ensures.done refl
+    done c.in-Ok.ensures.takes (script_of c.in-Ok-load.script) (read_alone _ (g.I.Source.state c.args.input.now) (script (script_of c.in-Ok-load.script)) c.new-natives.ensures c.in-Ok-load.ensures.script) c.in-Ok-load.ensures.done c.in-Ok-load.ensures.end c.in-Ok-load.ensures.same c.in-Ok-work.ensures.done refl
 
 pub returns-in-Ok-work-clause-knows_words : goal.returns-in-Ok-work-clause-knows_words
 returns-in-Ok-work-clause-knows_words g c r stated =
@@ -32,7 +31,7 @@ returns-in-Ok-work-clause-knows_words g c r stated =
 
 pub returns-in-Err-NoMemory-work-clause-says : goal.returns-in-Err-NoMemory-work-clause-says
 returns-in-Err-NoMemory-work-clause-says g c =
-    failed (no_memory c.in-Ok.ensures.takes c.in-Ok-load.ensures.part c.in-Ok-load.ensures.same (inr (script_of c.in-Ok-load.script, (read_alone _ (given (g.I.Source.left c.args.input.now) (g.I.Source.faults c.args.input.now)) (script (script_of c.in-Ok-load.script)) c.new-natives.ensures c.in-Ok-load.ensures.script), c.in-Ok-load.ensures.done, c.in-Ok-load.ensures.end, c.in-Err-NoMemory-work.ensures.part)) (no_fault_counted (took (g.O.Sink.taken c.args.output.now) (g.O.Sink.faults c.args.output.now)) (took (g.O.Sink.taken c.work.new.output) (g.O.Sink.faults c.work.new.output)) c.in-Err-NoMemory-work.field-0 c.in-Err-NoMemory-work.field-0-is c.in-Err-NoMemory-work.ensures.ended)) c.tell-in-Err-NoMemory-work.ensures
+    failed (no_memory c.in-Ok.ensures.takes c.in-Ok-load.ensures.part c.in-Ok-load.ensures.same (inr (script_of c.in-Ok-load.script, (read_alone _ (g.I.Source.state c.args.input.now) (script (script_of c.in-Ok-load.script)) c.new-natives.ensures c.in-Ok-load.ensures.script), c.in-Ok-load.ensures.done, c.in-Ok-load.ensures.end, c.in-Err-NoMemory-work.ensures.part)) (no_fault_counted (g.O.Sink.state c.args.output.now) (g.O.Sink.state c.work.new.output) c.in-Err-NoMemory-work.field-0 c.in-Err-NoMemory-work.field-0-is c.in-Err-NoMemory-work.ensures.ended)) c.tell-in-Err-NoMemory-work.ensures
 
 pub returns-in-Err-NoMemory-work-clause-knows_words : goal.returns-in-Err-NoMemory-work-clause-knows_words
 returns-in-Err-NoMemory-work-clause-knows_words g c r stated =
@@ -40,7 +39,7 @@ returns-in-Err-NoMemory-work-clause-knows_words g c r stated =
 
 pub returns-clause-says : goal.returns-clause-says
 returns-clause-says g c =
-    failed (write_failed c.in-Ok.ensures.takes (script_of c.in-Ok-load.script) (read_alone _ (given (g.I.Source.left c.args.input.now) (g.I.Source.faults c.args.input.now)) (script (script_of c.in-Ok-load.script)) c.new-natives.ensures c.in-Ok-load.ensures.script) c.in-Ok-load.ensures.done c.in-Ok-load.ensures.end c.in-Ok-load.ensures.same c.in-Err-Failed.ensures.part (fault_counted (took (g.O.Sink.taken c.args.output.now) (g.O.Sink.faults c.args.output.now)) (took (g.O.Sink.taken c.work.new.output) (g.O.Sink.faults c.work.new.output)) c.in-Err-Failed.field-0 c.in-Err-Failed.field-0-is c.in-Err-Failed.ensures.ended)) c.tell-in-Err-Failed.ensures
+    failed (write_failed c.in-Ok.ensures.takes (script_of c.in-Ok-load.script) (read_alone _ (g.I.Source.state c.args.input.now) (script (script_of c.in-Ok-load.script)) c.new-natives.ensures c.in-Ok-load.ensures.script) c.in-Ok-load.ensures.done c.in-Ok-load.ensures.end c.in-Ok-load.ensures.same c.in-Err-Failed.ensures.part (fault_counted (g.O.Sink.state c.args.output.now) (g.O.Sink.state c.work.new.output) c.in-Err-Failed.field-0 c.in-Err-Failed.field-0-is c.in-Err-Failed.ensures.ended)) c.tell-in-Err-Failed.ensures
 
 pub returns-clause-knows_words : goal.returns-clause-knows_words
 returns-clause-knows_words g c r stated =

@@ -1,4 +1,4 @@
-use Rattle.std.proofs.Common.{true, ap, sym, subst, ◌∙◌}
+use Rattle.std.proofs.Common.{ap, sym, subst, ◌∙◌}
 use Rattle.ffi3_type_rules.specs.Fault.{IsResultType}
 use Rattle.ffi3_type_rules.proofs.Right.{result_is_right}
 use Rattle.ffi3_call_tests.proofs.results.result_text.Goals as goal

@@ -1,3 +1,4 @@
+use Rattle.std.specs.List.{AllByRecursion}
 use Rattle.std.proofs.Common.{◌≡◌, ◌+◌, ◌-◌, ◌≤◌, ap, subst, sym, ◌∙◌, arith}
 use Rattle.ffi3_type_rules.specs.Layout.{size_of}
 use Rattle.ffi3_type_rules.specs.Value.{value_in}
@@ -5,12 +6,10 @@ use Rattle.ffi3_values.specs.ValueOf.{value_of}
 use Rattle.ffi3_place_rules.specs.Standard.{plan_of}
 use Rattle.ffi3_machine.specs.State.{stack_at}
 use Rattle.ffi3_type_rules.specs.declared.limits.TheConstants.{STACK_TOP}
-use Rattle.ffi3_place_rules.specs.declared.Place.TheVariants.{Direct}
 use Rattle.ffi3_pieces.specs.Standing.{PiecesStand}
-use Rattle.ffi3_pieces.proofs.Arguments.{lies_more}
-use Rattle.ffi3_pieces.specs.Stored.{WroteWithin}
+use Rattle.ffi3_pieces.specs.Stored.{KeepsPadding, KeepsUnused, WroteWithin}
 use Rattle.ffi3_callee.specs.Given.{IsAddressOf}
-use Rattle.ffi3_callee.proofs.Results.{buffer_within, direct_held, direct_places, direct_registers, hidden_held, hidden_writes, nothing_held}
+use Rattle.ffi3_callee.proofs.Results.{buffer_within, direct_held, direct_places, direct_keeps, direct_registers, hidden_held, hidden_keeps, hidden_writes, nothing_held, nothing_keeps}
 use Rattle.ffi3_callee.proofs.giving.give.Goals as goal
 
 pub give_buffer-requires-clause-high : goal.give_buffer-requires-clause-high
@@ -27,11 +26,6 @@ give_pieces-requires-clause-lie g c =
     let s = c.args.cif.now in
     direct_places g.A.Abi.standard s c.in-Direct.pieces (g.met.A.Abi.sound s c.sig.ensures.faultless) (sym c.result_place.ensures ∙ c.in-Direct.is)
 
-pub give_pieces-requires-clause-deep : goal.give_pieces-requires-clause-deep
-give_pieces-requires-clause-deep g c =
-    let s = c.args.cif.now in
-    lies_more 0 (STACK_TOP - c.args.base) s.result_type (Direct c.in-Direct.pieces) (omega arith) (direct_places g.A.Abi.standard s c.in-Direct.pieces (g.met.A.Abi.sound s c.sig.ensures.faultless) (sym c.result_place.ensures ∙ c.in-Direct.is))
-
 pub returns-in-Nothing-clause-holds : goal.returns-in-Nothing-clause-holds
 returns-in-Nothing-clause-holds g c =
     nothing_held g.A.Abi.standard c.args.cif.now c.args.base c.args.machine.now (value_of c.args.value.now) c.requires.low c.requires.high c.sp-m.ensures.machine.stack (sym c.result_place.ensures ∙ c.in-Nothing.is) c.requires.fits
@@ -43,6 +37,25 @@ returns-in-Direct-clause-holds g c =
     let type_is = c.result_type-ty.ensures.element ∙ ap (λ r. r.result_type) c.sig.ensures.value in
     direct_held std s c.args.base c.give_pieces.new.machine (value_of c.args.value.now) c.in-Direct.pieces (g.met.A.Abi.sound s c.sig.ensures.faultless) c.requires.low c.requires.high (c.give_pieces.ensures.within.size ∙ c.sp-m.ensures.machine.stack) (sym c.result_place.ensures ∙ c.in-Direct.is) c.requires.fits
     (subst (λ t. PiecesStand c.args.base c.give_pieces.new.machine t (value_of c.args.value.now) c.in-Direct.pieces) type_is c.give_pieces.ensures.stand)
+
+pub returns-in-Nothing-clause-unused : goal.returns-in-Nothing-clause-unused
+returns-in-Nothing-clause-unused g c =
+    nothing_keeps c.args.base c.args.cif.now.result_type (plan_of g.A.Abi.standard c.args.cif.now).res c.args.machine.now c.args.machine.now (sym c.result_place.ensures ∙ c.in-Nothing.is)
+
+pub returns-in-Direct-clause-unused : goal.returns-in-Direct-clause-unused
+returns-in-Direct-clause-unused g c =
+    let type_is = c.result_type-ty.ensures.element ∙ ap (λ r. r.result_type) c.sig.ensures.value in
+    direct_keeps c.args.base c.args.cif.now.result_type (plan_of g.A.Abi.standard c.args.cif.now).res c.in-Direct.pieces c.args.machine.now c.give_pieces.new.machine (sym c.result_place.ensures ∙ c.in-Direct.is)
+    (subst (λ t. AllByRecursion (KeepsUnused c.args.base t c.args.machine.now c.give_pieces.new.machine) c.in-Direct.pieces) type_is c.give_pieces.ensures.unused)
+
+pub returns-in-Hidden-clause-unused : goal.returns-in-Hidden-clause-unused
+returns-in-Hidden-clause-unused g c =
+    let s = c.args.cif.now in
+    let type_is = c.result_type-ty.ensures.element ∙ ap (λ r. r.result_type) c.sig.ensures.value in
+    let is = sym c.result_place.ensures ∙ c.in-Hidden.is in
+    let address_is = subst (IsAddressOf c.args.base c.args.address) is c.requires.address in
+    hidden_keeps c.args.base c.args.address s.result_type (plan_of g.A.Abi.standard s).res c.in-Hidden.at c.in-Hidden.buffer c.args.machine.now c.give_buffer.new.machine c.tell_address.new.machine is address_is
+    (subst (λ t. KeepsPadding c.args.address t c.args.machine.now c.give_buffer.new.machine) type_is c.give_buffer.ensures.unused) c.tell_address.ensures.within
 
 pub returns-in-Direct-clause-registers : goal.returns-in-Direct-clause-registers
 returns-in-Direct-clause-registers g c =

@@ -5,7 +5,7 @@ use Rattle.ffi3_place_rules.specs.Standard.{frame_of, plan_of}
 use Rattle.ffi3_callee.specs.Given.{IsAddressOf, IsSettable, ResultWrites, result_uses}
 use Rattle.ffi3_callee.specs.Loaded.{image_from}
 use Rattle.ffi3_callee.proofs.Keeping.{reserved_stay, uses_clear}
-use Rattle.ffi3_callee.proofs.Results.{saved_below}
+use Rattle.ffi3_callee.proofs.Results.{keeps_from, saved_below}
 use Rattle.ffi3_callee.proofs.Laws.{result_written, returned_settable}
 use Rattle.ffi3_callee.proofs.giving.give_result.Goals as goal
 
@@ -48,6 +48,13 @@ returns-clause-reserved g c =
     let s = c.args.cif.now in
     let sound = g.met.A.Abi.sound s c.sig-sig.ensures.faultless in
     reserved_stay std g.met.A.Abi.agrees (result_uses std (plan_of std s).res) c.args.machine.now c.give.new.machine (uses_clear std g.met.A.Abi.agrees (plan_of std s).res sound.result_allowed) c.give.ensures.registers
+
+pub returns-clause-unused : goal.returns-clause-unused
+returns-clause-unused g c =
+    let std = g.A.Abi.standard in
+    let s = c.args.cif.now in
+    let entry = c.args.incoming.now.entry in
+    keeps_from (entry + c.LINK.result) (entry + std.link) s.result_type (plan_of std s).res c.args.machine.now c.give.new.machine (omega (arith, c.LINK.ensures, g.met.A.Abi.link_is)) c.give.ensures.unused
 
 pub returns-clause-saved : goal.returns-clause-saved
 returns-clause-saved g c = λ start hidden entry_state saved.

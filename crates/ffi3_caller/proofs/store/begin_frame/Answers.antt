@@ -1,10 +1,17 @@
 use Rattle.std.proofs.Common.{◌≡◌, ℕ, ◌+◌, ◌-◌, ◌<◌, ◌≤◌, length, ap, sym, subst, ◌∙◌, arith}
 use Rattle.ffi3_type_rules.specs.declared.limits.TheConstants.{STACK}
 use Rattle.ffi3_place_rules.specs.declared.Loc.{Loc}
-use Rattle.ffi3_machine.specs.State.{scribbled, with_sp}
+use Rattle.ffi3_machine.specs.State.{filled, scribbled, with_sp}
 use Rattle.ffi3_pieces.specs.Stored.{stack_byte, IsPlace, SameAt, WroteWithin}
 use Rattle.ffi3_caller.proofs.Calling.{filled_bytes, frame_begun, frame_registers, frame_within}
 use Rattle.ffi3_caller.proofs.store.begin_frame.Goals as goal
+
+pub returns-clause-opened : goal.returns-clause-opened
+returns-clause-opened c =
+    let old = c.args.machine.now in
+    let n = length c.args.machine.now.events in
+    let whole = frame_begun (length c.args.machine.now.events) c.len-number.result (c.sp.result - c.args.frame) c.args.frame 0xA5 c.args.machine.now c.scribble.new.self c.set_sp.new.self c.fill_stack.new.self (c.len-number.ensures ∙ ap (λ j. length j.events) c.events.ensures) c.scribble.ensures c.set_sp.ensures c.fill_stack.ensures in
+    whole ∙ ap (λ p. filled (p - c.args.frame) c.args.frame 0xA5 (with_sp (p - c.args.frame) (scribbled n old))) c.sp.ensures.value
 
 pub returns-clause-sp : goal.returns-clause-sp
 returns-clause-sp c =

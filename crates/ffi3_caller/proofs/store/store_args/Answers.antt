@@ -5,6 +5,8 @@ use Rattle.ffi3_place_rules.specs.Standard.{plan_of, frame_of}
 use Rattle.ffi3_place_rules.specs.Sound.{hidden_locs, listed, place_locs}
 use Rattle.ffi3_machine.specs.State.{scribbled}
 use Rattle.ffi3_pieces.specs.Stored.{stack_byte, IsPlace, IsWritable, WroteWithin}
+use Rattle.ffi3_pieces.specs.Standing.{AllKeepUnused}
+use Rattle.ffi3_caller.specs.Called.{with_frame}
 use Rattle.ffi3_pieces.proofs.Lawful.{each_first, written_by_law}
 use Rattle.ffi3_caller.proofs.Calling.{call_stored, call_within, count_is_register, count_is_written, hidden_lies, preserved_same, reserved_stays}
 use Rattle.ffi3_caller.proofs.store.store_args.Goals as goal
@@ -69,7 +71,7 @@ returns-clause-own g c =
     let write = written_by_law std s sound g.met.A.Abi.agrees m.target _ g.met.A.Abi.target_is c.requires.target in
     let registers = subst (λ k. AllByRecursion (IsPlace 0) (listed k)) (sym c.vector_count-count.ensures) (count_is_register std g.met.A.Abi.agrees) in
     let low : STACK ≤ c.sp-base.result = omega (arith, c.begin_frame.ensures.sp, c.frame.ensures, c.sp-base.ensures.value, c.requires.room) in
-    let all = call_stored std s sound c.sig-sig.ensures.faultless c.args.values.now m.target c.sp-base.result c.result_place.result.now c.vector_count-count.result c.vectors.result (scribbled (length m.events) m) c.begin_frame.new.machine c.store_places.new.machine c.store_hidden.new.machine c.put_count.new.machine c.sp-base.ensures.value low c.result_place.ensures c.vector_count-count.ensures c.vectors.ensures write registers c.requires.fit c.begin_frame.ensures.registers c.store_places.ensures.stand c.store_places.ensures.stays c.store_places.ensures.within c.store_hidden.ensures.stands c.store_hidden.ensures.stays c.store_hidden.ensures.within c.put_count.ensures.told c.put_count.ensures.stays c.put_count.ensures.within in
+    let all = call_stored std s sound c.sig-sig.ensures.faultless c.args.values.now m.target c.sp-base.result c.result_place.result.now c.vector_count-count.result c.vectors.result (scribbled (length m.events) m) c.begin_frame.new.machine c.store_places.new.machine c.store_hidden.new.machine c.put_count.new.machine c.sp-base.ensures.value low c.result_place.ensures c.vector_count-count.ensures c.vectors.ensures write registers c.requires.fit c.begin_frame.ensures.registers c.store_places.ensures.stand c.store_places.ensures.stays c.store_places.ensures.within c.store_places.ensures.unused c.store_hidden.ensures.stands c.store_hidden.ensures.stays c.store_hidden.ensures.within c.put_count.ensures.told c.put_count.ensures.stays c.put_count.ensures.within in
     all.own
 
 pub returns-clause-filled : goal.returns-clause-filled
@@ -81,7 +83,7 @@ returns-clause-filled g c =
     let write = written_by_law std s sound g.met.A.Abi.agrees m.target _ g.met.A.Abi.target_is c.requires.target in
     let registers = subst (λ k. AllByRecursion (IsPlace 0) (listed k)) (sym c.vector_count-count.ensures) (count_is_register std g.met.A.Abi.agrees) in
     let low : STACK ≤ c.sp-base.result = omega (arith, c.begin_frame.ensures.sp, c.frame.ensures, c.sp-base.ensures.value, c.requires.room) in
-    let all = call_stored std s sound c.sig-sig.ensures.faultless c.args.values.now m.target c.sp-base.result c.result_place.result.now c.vector_count-count.result c.vectors.result (scribbled (length m.events) m) c.begin_frame.new.machine c.store_places.new.machine c.store_hidden.new.machine c.put_count.new.machine c.sp-base.ensures.value low c.result_place.ensures c.vector_count-count.ensures c.vectors.ensures write registers c.requires.fit c.begin_frame.ensures.registers c.store_places.ensures.stand c.store_places.ensures.stays c.store_places.ensures.within c.store_hidden.ensures.stands c.store_hidden.ensures.stays c.store_hidden.ensures.within c.put_count.ensures.told c.put_count.ensures.stays c.put_count.ensures.within in
+    let all = call_stored std s sound c.sig-sig.ensures.faultless c.args.values.now m.target c.sp-base.result c.result_place.result.now c.vector_count-count.result c.vectors.result (scribbled (length m.events) m) c.begin_frame.new.machine c.store_places.new.machine c.store_hidden.new.machine c.put_count.new.machine c.sp-base.ensures.value low c.result_place.ensures c.vector_count-count.ensures c.vectors.ensures write registers c.requires.fit c.begin_frame.ensures.registers c.store_places.ensures.stand c.store_places.ensures.stays c.store_places.ensures.within c.store_places.ensures.unused c.store_hidden.ensures.stands c.store_hidden.ensures.stays c.store_hidden.ensures.within c.put_count.ensures.told c.put_count.ensures.stays c.put_count.ensures.within in
     all.filled
 
 pub returns-clause-hidden : goal.returns-clause-hidden
@@ -93,7 +95,7 @@ returns-clause-hidden g c =
     let write = written_by_law std s sound g.met.A.Abi.agrees m.target _ g.met.A.Abi.target_is c.requires.target in
     let registers = subst (λ k. AllByRecursion (IsPlace 0) (listed k)) (sym c.vector_count-count.ensures) (count_is_register std g.met.A.Abi.agrees) in
     let low : STACK ≤ c.sp-base.result = omega (arith, c.begin_frame.ensures.sp, c.frame.ensures, c.sp-base.ensures.value, c.requires.room) in
-    let all = call_stored std s sound c.sig-sig.ensures.faultless c.args.values.now m.target c.sp-base.result c.result_place.result.now c.vector_count-count.result c.vectors.result (scribbled (length m.events) m) c.begin_frame.new.machine c.store_places.new.machine c.store_hidden.new.machine c.put_count.new.machine c.sp-base.ensures.value low c.result_place.ensures c.vector_count-count.ensures c.vectors.ensures write registers c.requires.fit c.begin_frame.ensures.registers c.store_places.ensures.stand c.store_places.ensures.stays c.store_places.ensures.within c.store_hidden.ensures.stands c.store_hidden.ensures.stays c.store_hidden.ensures.within c.put_count.ensures.told c.put_count.ensures.stays c.put_count.ensures.within in
+    let all = call_stored std s sound c.sig-sig.ensures.faultless c.args.values.now m.target c.sp-base.result c.result_place.result.now c.vector_count-count.result c.vectors.result (scribbled (length m.events) m) c.begin_frame.new.machine c.store_places.new.machine c.store_hidden.new.machine c.put_count.new.machine c.sp-base.ensures.value low c.result_place.ensures c.vector_count-count.ensures c.vectors.ensures write registers c.requires.fit c.begin_frame.ensures.registers c.store_places.ensures.stand c.store_places.ensures.stays c.store_places.ensures.within c.store_places.ensures.unused c.store_hidden.ensures.stands c.store_hidden.ensures.stays c.store_hidden.ensures.within c.put_count.ensures.told c.put_count.ensures.stays c.put_count.ensures.within in
     all.hidden
 
 pub returns-clause-vectors : goal.returns-clause-vectors
@@ -105,8 +107,23 @@ returns-clause-vectors g c =
     let write = written_by_law std s sound g.met.A.Abi.agrees m.target _ g.met.A.Abi.target_is c.requires.target in
     let registers = subst (λ k. AllByRecursion (IsPlace 0) (listed k)) (sym c.vector_count-count.ensures) (count_is_register std g.met.A.Abi.agrees) in
     let low : STACK ≤ c.sp-base.result = omega (arith, c.begin_frame.ensures.sp, c.frame.ensures, c.sp-base.ensures.value, c.requires.room) in
-    let all = call_stored std s sound c.sig-sig.ensures.faultless c.args.values.now m.target c.sp-base.result c.result_place.result.now c.vector_count-count.result c.vectors.result (scribbled (length m.events) m) c.begin_frame.new.machine c.store_places.new.machine c.store_hidden.new.machine c.put_count.new.machine c.sp-base.ensures.value low c.result_place.ensures c.vector_count-count.ensures c.vectors.ensures write registers c.requires.fit c.begin_frame.ensures.registers c.store_places.ensures.stand c.store_places.ensures.stays c.store_places.ensures.within c.store_hidden.ensures.stands c.store_hidden.ensures.stays c.store_hidden.ensures.within c.put_count.ensures.told c.put_count.ensures.stays c.put_count.ensures.within in
+    let all = call_stored std s sound c.sig-sig.ensures.faultless c.args.values.now m.target c.sp-base.result c.result_place.result.now c.vector_count-count.result c.vectors.result (scribbled (length m.events) m) c.begin_frame.new.machine c.store_places.new.machine c.store_hidden.new.machine c.put_count.new.machine c.sp-base.ensures.value low c.result_place.ensures c.vector_count-count.ensures c.vectors.ensures write registers c.requires.fit c.begin_frame.ensures.registers c.store_places.ensures.stand c.store_places.ensures.stays c.store_places.ensures.within c.store_places.ensures.unused c.store_hidden.ensures.stands c.store_hidden.ensures.stays c.store_hidden.ensures.within c.put_count.ensures.told c.put_count.ensures.stays c.put_count.ensures.within in
     all.vectors
+
+pub returns-clause-unused : goal.returns-clause-unused
+returns-clause-unused g c =
+    let std = g.A.Abi.standard in
+    let s = c.args.cif.now in
+    let sound = g.met.A.Abi.sound s c.sig-sig.ensures.faultless in
+    let m = c.args.machine.now in
+    let write = written_by_law std s sound g.met.A.Abi.agrees m.target _ g.met.A.Abi.target_is c.requires.target in
+    let registers = subst (λ k. AllByRecursion (IsPlace 0) (listed k)) (sym c.vector_count-count.ensures) (count_is_register std g.met.A.Abi.agrees) in
+    let low : STACK ≤ c.sp-base.result = omega (arith, c.begin_frame.ensures.sp, c.frame.ensures, c.sp-base.ensures.value, c.requires.room) in
+    let all = call_stored std s sound c.sig-sig.ensures.faultless c.args.values.now m.target c.sp-base.result c.result_place.result.now c.vector_count-count.result c.vectors.result (scribbled (length m.events) m) c.begin_frame.new.machine c.store_places.new.machine c.store_hidden.new.machine c.put_count.new.machine c.sp-base.ensures.value low c.result_place.ensures c.vector_count-count.ensures c.vectors.ensures write registers c.requires.fit c.begin_frame.ensures.registers c.store_places.ensures.stand c.store_places.ensures.stays c.store_places.ensures.within c.store_places.ensures.unused c.store_hidden.ensures.stands c.store_hidden.ensures.stays c.store_hidden.ensures.within c.put_count.ensures.told c.put_count.ensures.stays c.put_count.ensures.within in
+    let o = c.begin_frame.new.machine in
+    let d = c.put_count.new.machine in
+    subst (λ low. AllKeepUnused low (with_frame (frame_of std s) m) d s.arguments (plan_of std s).places) (sym all.sp)
+    (subst (λ x. AllKeepUnused o.sp x d s.arguments (plan_of std s).places) (c.begin_frame.ensures.opened ∙ ap (λ n. with_frame n m) c.frame.ensures) all.unused)
 
 pub returns-clause-others : goal.returns-clause-others
 returns-clause-others g c =
@@ -117,7 +134,7 @@ returns-clause-others g c =
     let write = written_by_law std s sound g.met.A.Abi.agrees m.target _ g.met.A.Abi.target_is c.requires.target in
     let registers = subst (λ k. AllByRecursion (IsPlace 0) (listed k)) (sym c.vector_count-count.ensures) (count_is_register std g.met.A.Abi.agrees) in
     let low : STACK ≤ c.sp-base.result = omega (arith, c.begin_frame.ensures.sp, c.frame.ensures, c.sp-base.ensures.value, c.requires.room) in
-    let all = call_stored std s sound c.sig-sig.ensures.faultless c.args.values.now m.target c.sp-base.result c.result_place.result.now c.vector_count-count.result c.vectors.result (scribbled (length m.events) m) c.begin_frame.new.machine c.store_places.new.machine c.store_hidden.new.machine c.put_count.new.machine c.sp-base.ensures.value low c.result_place.ensures c.vector_count-count.ensures c.vectors.ensures write registers c.requires.fit c.begin_frame.ensures.registers c.store_places.ensures.stand c.store_places.ensures.stays c.store_places.ensures.within c.store_hidden.ensures.stands c.store_hidden.ensures.stays c.store_hidden.ensures.within c.put_count.ensures.told c.put_count.ensures.stays c.put_count.ensures.within in
+    let all = call_stored std s sound c.sig-sig.ensures.faultless c.args.values.now m.target c.sp-base.result c.result_place.result.now c.vector_count-count.result c.vectors.result (scribbled (length m.events) m) c.begin_frame.new.machine c.store_places.new.machine c.store_hidden.new.machine c.put_count.new.machine c.sp-base.ensures.value low c.result_place.ensures c.vector_count-count.ensures c.vectors.ensures write registers c.requires.fit c.begin_frame.ensures.registers c.store_places.ensures.stand c.store_places.ensures.stays c.store_places.ensures.within c.store_places.ensures.unused c.store_hidden.ensures.stands c.store_hidden.ensures.stays c.store_hidden.ensures.within c.put_count.ensures.told c.put_count.ensures.stays c.put_count.ensures.within in
     all.others
 
 pub returns-clause-free : goal.returns-clause-free
@@ -129,7 +146,7 @@ returns-clause-free g c =
     let write = written_by_law std s sound g.met.A.Abi.agrees m.target _ g.met.A.Abi.target_is c.requires.target in
     let registers = subst (λ k. AllByRecursion (IsPlace 0) (listed k)) (sym c.vector_count-count.ensures) (count_is_register std g.met.A.Abi.agrees) in
     let low : STACK ≤ c.sp-base.result = omega (arith, c.begin_frame.ensures.sp, c.frame.ensures, c.sp-base.ensures.value, c.requires.room) in
-    let all = call_stored std s sound c.sig-sig.ensures.faultless c.args.values.now m.target c.sp-base.result c.result_place.result.now c.vector_count-count.result c.vectors.result (scribbled (length m.events) m) c.begin_frame.new.machine c.store_places.new.machine c.store_hidden.new.machine c.put_count.new.machine c.sp-base.ensures.value low c.result_place.ensures c.vector_count-count.ensures c.vectors.ensures write registers c.requires.fit c.begin_frame.ensures.registers c.store_places.ensures.stand c.store_places.ensures.stays c.store_places.ensures.within c.store_hidden.ensures.stands c.store_hidden.ensures.stays c.store_hidden.ensures.within c.put_count.ensures.told c.put_count.ensures.stays c.put_count.ensures.within in
+    let all = call_stored std s sound c.sig-sig.ensures.faultless c.args.values.now m.target c.sp-base.result c.result_place.result.now c.vector_count-count.result c.vectors.result (scribbled (length m.events) m) c.begin_frame.new.machine c.store_places.new.machine c.store_hidden.new.machine c.put_count.new.machine c.sp-base.ensures.value low c.result_place.ensures c.vector_count-count.ensures c.vectors.ensures write registers c.requires.fit c.begin_frame.ensures.registers c.store_places.ensures.stand c.store_places.ensures.stays c.store_places.ensures.within c.store_places.ensures.unused c.store_hidden.ensures.stands c.store_hidden.ensures.stays c.store_hidden.ensures.within c.put_count.ensures.told c.put_count.ensures.stays c.put_count.ensures.within in
     λ at k room none below.
     let o = c.begin_frame.new.machine in
     let d = c.put_count.new.machine in
@@ -147,7 +164,7 @@ returns-clause-sp g c =
     let write = written_by_law std s sound g.met.A.Abi.agrees m.target _ g.met.A.Abi.target_is c.requires.target in
     let registers = subst (λ k. AllByRecursion (IsPlace 0) (listed k)) (sym c.vector_count-count.ensures) (count_is_register std g.met.A.Abi.agrees) in
     let low : STACK ≤ c.sp-base.result = omega (arith, c.begin_frame.ensures.sp, c.frame.ensures, c.sp-base.ensures.value, c.requires.room) in
-    let all = call_stored std s sound c.sig-sig.ensures.faultless c.args.values.now m.target c.sp-base.result c.result_place.result.now c.vector_count-count.result c.vectors.result (scribbled (length m.events) m) c.begin_frame.new.machine c.store_places.new.machine c.store_hidden.new.machine c.put_count.new.machine c.sp-base.ensures.value low c.result_place.ensures c.vector_count-count.ensures c.vectors.ensures write registers c.requires.fit c.begin_frame.ensures.registers c.store_places.ensures.stand c.store_places.ensures.stays c.store_places.ensures.within c.store_hidden.ensures.stands c.store_hidden.ensures.stays c.store_hidden.ensures.within c.put_count.ensures.told c.put_count.ensures.stays c.put_count.ensures.within in
+    let all = call_stored std s sound c.sig-sig.ensures.faultless c.args.values.now m.target c.sp-base.result c.result_place.result.now c.vector_count-count.result c.vectors.result (scribbled (length m.events) m) c.begin_frame.new.machine c.store_places.new.machine c.store_hidden.new.machine c.put_count.new.machine c.sp-base.ensures.value low c.result_place.ensures c.vector_count-count.ensures c.vectors.ensures write registers c.requires.fit c.begin_frame.ensures.registers c.store_places.ensures.stand c.store_places.ensures.stays c.store_places.ensures.within c.store_places.ensures.unused c.store_hidden.ensures.stands c.store_hidden.ensures.stays c.store_hidden.ensures.within c.put_count.ensures.told c.put_count.ensures.stays c.put_count.ensures.within in
     omega (arith, all.sp, c.begin_frame.ensures.sp, c.frame.ensures)
 
 pub returns-clause-preserved : goal.returns-clause-preserved
@@ -159,7 +176,7 @@ returns-clause-preserved g c =
     let write = written_by_law std s sound g.met.A.Abi.agrees m.target _ g.met.A.Abi.target_is c.requires.target in
     let registers = subst (λ k. AllByRecursion (IsPlace 0) (listed k)) (sym c.vector_count-count.ensures) (count_is_register std g.met.A.Abi.agrees) in
     let low : STACK ≤ c.sp-base.result = omega (arith, c.begin_frame.ensures.sp, c.frame.ensures, c.sp-base.ensures.value, c.requires.room) in
-    let all = call_stored std s sound c.sig-sig.ensures.faultless c.args.values.now m.target c.sp-base.result c.result_place.result.now c.vector_count-count.result c.vectors.result (scribbled (length m.events) m) c.begin_frame.new.machine c.store_places.new.machine c.store_hidden.new.machine c.put_count.new.machine c.sp-base.ensures.value low c.result_place.ensures c.vector_count-count.ensures c.vectors.ensures write registers c.requires.fit c.begin_frame.ensures.registers c.store_places.ensures.stand c.store_places.ensures.stays c.store_places.ensures.within c.store_hidden.ensures.stands c.store_hidden.ensures.stays c.store_hidden.ensures.within c.put_count.ensures.told c.put_count.ensures.stays c.put_count.ensures.within in
+    let all = call_stored std s sound c.sig-sig.ensures.faultless c.args.values.now m.target c.sp-base.result c.result_place.result.now c.vector_count-count.result c.vectors.result (scribbled (length m.events) m) c.begin_frame.new.machine c.store_places.new.machine c.store_hidden.new.machine c.put_count.new.machine c.sp-base.ensures.value low c.result_place.ensures c.vector_count-count.ensures c.vectors.ensures write registers c.requires.fit c.begin_frame.ensures.registers c.store_places.ensures.stand c.store_places.ensures.stays c.store_places.ensures.within c.store_places.ensures.unused c.store_hidden.ensures.stands c.store_hidden.ensures.stays c.store_hidden.ensures.within c.put_count.ensures.told c.put_count.ensures.stays c.put_count.ensures.within in
     preserved_same std g.met.A.Abi.agrees s sound (scribbled (length m.events) m) c.put_count.new.machine all.others
 
 pub returns-clause-reserved : goal.returns-clause-reserved
@@ -171,7 +188,7 @@ returns-clause-reserved g c =
     let write = written_by_law std s sound g.met.A.Abi.agrees m.target _ g.met.A.Abi.target_is c.requires.target in
     let registers = subst (λ k. AllByRecursion (IsPlace 0) (listed k)) (sym c.vector_count-count.ensures) (count_is_register std g.met.A.Abi.agrees) in
     let low : STACK ≤ c.sp-base.result = omega (arith, c.begin_frame.ensures.sp, c.frame.ensures, c.sp-base.ensures.value, c.requires.room) in
-    let all = call_stored std s sound c.sig-sig.ensures.faultless c.args.values.now m.target c.sp-base.result c.result_place.result.now c.vector_count-count.result c.vectors.result (scribbled (length m.events) m) c.begin_frame.new.machine c.store_places.new.machine c.store_hidden.new.machine c.put_count.new.machine c.sp-base.ensures.value low c.result_place.ensures c.vector_count-count.ensures c.vectors.ensures write registers c.requires.fit c.begin_frame.ensures.registers c.store_places.ensures.stand c.store_places.ensures.stays c.store_places.ensures.within c.store_hidden.ensures.stands c.store_hidden.ensures.stays c.store_hidden.ensures.within c.put_count.ensures.told c.put_count.ensures.stays c.put_count.ensures.within in
+    let all = call_stored std s sound c.sig-sig.ensures.faultless c.args.values.now m.target c.sp-base.result c.result_place.result.now c.vector_count-count.result c.vectors.result (scribbled (length m.events) m) c.begin_frame.new.machine c.store_places.new.machine c.store_hidden.new.machine c.put_count.new.machine c.sp-base.ensures.value low c.result_place.ensures c.vector_count-count.ensures c.vectors.ensures write registers c.requires.fit c.begin_frame.ensures.registers c.store_places.ensures.stand c.store_places.ensures.stays c.store_places.ensures.within c.store_places.ensures.unused c.store_hidden.ensures.stands c.store_hidden.ensures.stays c.store_hidden.ensures.within c.put_count.ensures.told c.put_count.ensures.stays c.put_count.ensures.within in
     reserved_stays std g.met.A.Abi.agrees s sound (scribbled (length m.events) m) c.put_count.new.machine all.others (length m.events) m _ refl g.met.A.Abi.target_is c.requires.target
 
 pub returns-clause-within : goal.returns-clause-within
@@ -183,5 +200,5 @@ returns-clause-within g c =
     let write = written_by_law std s sound g.met.A.Abi.agrees m.target _ g.met.A.Abi.target_is c.requires.target in
     let registers = subst (λ k. AllByRecursion (IsPlace 0) (listed k)) (sym c.vector_count-count.ensures) (count_is_register std g.met.A.Abi.agrees) in
     let low : STACK ≤ c.sp-base.result = omega (arith, c.begin_frame.ensures.sp, c.frame.ensures, c.sp-base.ensures.value, c.requires.room) in
-    let all = call_stored std s sound c.sig-sig.ensures.faultless c.args.values.now m.target c.sp-base.result c.result_place.result.now c.vector_count-count.result c.vectors.result (scribbled (length m.events) m) c.begin_frame.new.machine c.store_places.new.machine c.store_hidden.new.machine c.put_count.new.machine c.sp-base.ensures.value low c.result_place.ensures c.vector_count-count.ensures c.vectors.ensures write registers c.requires.fit c.begin_frame.ensures.registers c.store_places.ensures.stand c.store_places.ensures.stays c.store_places.ensures.within c.store_hidden.ensures.stands c.store_hidden.ensures.stays c.store_hidden.ensures.within c.put_count.ensures.told c.put_count.ensures.stays c.put_count.ensures.within in
+    let all = call_stored std s sound c.sig-sig.ensures.faultless c.args.values.now m.target c.sp-base.result c.result_place.result.now c.vector_count-count.result c.vectors.result (scribbled (length m.events) m) c.begin_frame.new.machine c.store_places.new.machine c.store_hidden.new.machine c.put_count.new.machine c.sp-base.ensures.value low c.result_place.ensures c.vector_count-count.ensures c.vectors.ensures write registers c.requires.fit c.begin_frame.ensures.registers c.store_places.ensures.stand c.store_places.ensures.stays c.store_places.ensures.within c.store_places.ensures.unused c.store_hidden.ensures.stands c.store_hidden.ensures.stays c.store_hidden.ensures.within c.put_count.ensures.told c.put_count.ensures.stays c.put_count.ensures.within in
     call_within (frame_of std s) m c.begin_frame.new.machine c.put_count.new.machine (subst (λ n. c.begin_frame.new.machine.sp + n ≡ m.sp) c.frame.ensures c.begin_frame.ensures.sp) (subst (λ n. WroteWithin c.begin_frame.new.machine.sp (c.begin_frame.new.machine.sp + n) m c.begin_frame.new.machine) c.frame.ensures c.begin_frame.ensures.within) all.sp all.within

@@ -5,8 +5,8 @@ use Rattle.ffi3_io.proofs.sink.write_all.Given as goal
 abbrev pub invariant-loop-done : goal.invariant-loop-done
 invariant-loop-done g l = record {
   within : l.done ≤ length l.bytes;
-  adds : Adds (g.O.Sink.taken l.fn.output) (take l.done l.bytes) (g.O.Sink.taken l.output);
-  same : g.O.Sink.faults l.output ≡ g.O.Sink.faults l.fn.output;
+  adds : Adds (g.O.Sink.state l.fn.output).taken (take l.done l.bytes) (g.O.Sink.state l.output).taken;
+  same : (g.O.Sink.state l.output).faults ≡ (g.O.Sink.state l.fn.output).faults;
 }
 
 abbrev pub decreases-loop-done : goal.decreases-loop-done

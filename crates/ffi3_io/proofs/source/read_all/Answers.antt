@@ -1,4 +1,4 @@
-use Rattle.std.proofs.Common.{◌≡◌, ◌≤◌, ◌∙◌, ap, List, ℕ, length, vec_len, refl, sym, subst, arith}
+use Rattle.std.proofs.Common.{◌≡◌, ◌∙◌, ap, List, ℕ, length, refl, sym, subst, arith}
 use Rattle.std.proofs.lemmas.Grind.{common_steps}
 use Rattle.ffi3_io.specs.Source.{Gives, HasRead, not_yet, at_limit}
 use Rattle.ffi3_io.proofs.Giving.{LosesSome-then, Gives-none, Gives-then}
@@ -9,7 +9,7 @@ use Rattle.ffi3_io.proofs.source.read_all.Goals.{else-loop-buf-test, then-loop-b
 pub loop-buf-init : goal.loop-buf-init
 loop-buf-init g c =
     let input = c.args.input.now in
-    let left = g.I.Source.left input in
+    let left = (g.I.Source.state input).left in
     let none = sym c.new-bytes.ensures.items in
     record {
       within = omega (arith, c.new-bytes.ensures.len);
@@ -27,7 +27,7 @@ loop-buf-preserved g c =
       within = grind (arith, common_steps);
       room = grind (arith, common_steps);
       reads = one_more_read g.I.Source.read_gives _ _ _ _ _ _ c.loop-buf.invariant.reads c.in-Ok.field-0 (omega (arith, some)) c.in-Ok.ensures.one;
-      gives = subst (λ (l : List ℕ). Gives (g.I.Source.left c.args.input.now) l (g.I.Source.left c.read_on.new.input)) (sym more.2) (Gives-then _ _ _ _ _ c.loop-buf.invariant.gives more.3);
+      gives = subst (λ (l : List ℕ). Gives (g.I.Source.state c.args.input.now).left l (g.I.Source.state c.read_on.new.input).left) (sym more.2) (Gives-then _ _ _ _ _ c.loop-buf.invariant.gives more.3);
       same = c.in-Ok.ensures.same ∙ c.loop-buf.invariant.same;
     }
 

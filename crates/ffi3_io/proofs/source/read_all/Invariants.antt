@@ -7,8 +7,8 @@ invariant-loop-buf g l = record {
   within : vec_len l.bytes ≤ l.limit;
   room : length l.buf ≡ 4096;
   reads : HasRead g.I.Source.read_gives l.limit l.fn.input l.bytes.items l.input;
-  gives : Gives (g.I.Source.left l.fn.input) l.bytes.items (g.I.Source.left l.input);
-  same : g.I.Source.faults l.input ≡ g.I.Source.faults l.fn.input;
+  gives : Gives (g.I.Source.state l.fn.input).left l.bytes.items (g.I.Source.state l.input).left;
+  same : (g.I.Source.state l.input).faults ≡ (g.I.Source.state l.fn.input).faults;
 }
 
 abbrev pub decreases-loop-buf : goal.decreases-loop-buf

@@ -10,7 +10,6 @@ use Rattle.ffi3_call.specs.Calls.{HasBegun, HasEnded}
 use Rattle.ffi3_call.specs.Registers.{IsInRegisters}
 use Rattle.ffi3_script.specs.ScriptOf.{script_of}
 use Rattle.ffi3_run.specs.declared.leaf.LeafEnd.{LeafEnd}
-use Rattle.ffi3_run.specs.RunMatches.{took}
 use Rattle.ffi3_run.specs.Leaf.{EndFits, LeafRan}
 use Rattle.ffi3_run.specs.Moment.{StoppedBy, asking, main_after, moment}
 use Rattle.ffi3_run.specs.Programs.{program}
@@ -24,8 +23,8 @@ use Rattle.ffi3_run.proofs.board.Board.call.Goals as goal
 pub returns-in-Err : goal.returns-in-Err
 returns-in-Err g c =
     let p = program c.args.script.now in
-    let x = moment c.args.self.now c.args.machine.now (took (g.O.Sink.taken c.args.output.now) (g.O.Sink.faults c.args.output.now)) in
-    let o = took (g.O.Sink.taken c.stop.new.output) (g.O.Sink.faults c.stop.new.output) in
+    let x = moment c.args.self.now c.args.machine.now (g.O.Sink.state c.args.output.now) in
+    let o = g.O.Sink.state c.stop.new.output in
     let is = move_stops p x (call c.args.ptr c.args.sig c.args.args.now) c.in-Err.why c.requires.asked (c.in-Err.ensures.does c.args.args.now) in
     let by = subst (λ (ss : List Signature). StoppedBy ss c.in-Err.why x.scene.output o c.stop.result) c.sigs.ensures.are c.stop.ensures in
     stops_here p (asking x) c.args.self.now o c.in-Err.why x.moves c.stop.result is c.requires.between.target c.requires.between.holds by
@@ -64,8 +63,8 @@ returns-in-Ok-Returned g c =
     let p = program c.args.script.now in
     let s = script_of c.args.script.now in
     let b = c.args.self.now in
-    let x = moment b c.args.machine.now (took (g.O.Sink.taken c.args.output.now) (g.O.Sink.faults c.args.output.now)) in
-    let o = took (g.O.Sink.taken c.run_leaf.new.output) (g.O.Sink.faults c.run_leaf.new.output) in
+    let x = moment b c.args.machine.now (g.O.Sink.state c.args.output.now) in
+    let o = g.O.Sink.state c.run_leaf.new.output in
     let m = c.begin_call.new.machine in
     let m' = c.leave.new.machine in
     let closure = c.in-Ok.closure in
@@ -97,9 +96,9 @@ returns-in-Ok-MoveLimit g c =
     let p = program c.args.script.now in
     let s = script_of c.args.script.now in
     let b = c.args.self.now in
-    let x = moment b c.args.machine.now (took (g.O.Sink.taken c.args.output.now) (g.O.Sink.faults c.args.output.now)) in
-    let o = took (g.O.Sink.taken c.run_leaf.new.output) (g.O.Sink.faults c.run_leaf.new.output) in
-    let o' = took (g.O.Sink.taken c.stop-in-Ok-MoveLimit.new.output) (g.O.Sink.faults c.stop-in-Ok-MoveLimit.new.output) in
+    let x = moment b c.args.machine.now (g.O.Sink.state c.args.output.now) in
+    let o = g.O.Sink.state c.run_leaf.new.output in
+    let o' = g.O.Sink.state c.stop-in-Ok-MoveLimit.new.output in
     let m = c.begin_call.new.machine in
     let closure = c.in-Ok.closure in
     let args = c.args.args.now in
@@ -124,8 +123,8 @@ pub returns-in-Err-run_leaf : goal.returns-in-Err-run_leaf
 returns-in-Err-run_leaf g c =
     let p = program c.args.script.now in
     let s = script_of c.args.script.now in
-    let x = moment c.args.self.now c.args.machine.now (took (g.O.Sink.taken c.args.output.now) (g.O.Sink.faults c.args.output.now)) in
-    let o = took (g.O.Sink.taken c.run_leaf.new.output) (g.O.Sink.faults c.run_leaf.new.output) in
+    let x = moment c.args.self.now c.args.machine.now (g.O.Sink.state c.args.output.now) in
+    let o = g.O.Sink.state c.run_leaf.new.output in
     let closure = c.in-Ok.closure in
     let args = c.args.args.now in
     let callee = callee_of p (main_after x.results) c.args.sig args closure in

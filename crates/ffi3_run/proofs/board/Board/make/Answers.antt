@@ -12,7 +12,6 @@ use Rattle.ffi3_run_rules.specs.Meaning.{pointer_value}
 use Rattle.ffi3_machine.specs.State.{State}
 use Rattle.ffi3_closures.specs.Slots.{HoldsMap}
 use Rattle.ffi3_script.specs.ScriptOf.{script_of}
-use Rattle.ffi3_run.specs.RunMatches.{took}
 use Rattle.ffi3_run.specs.Moment.{GoneOn, StoppedBy, Turned, asking, main_after, moment}
 use Rattle.ffi3_run.specs.Programs.{program}
 use Rattle.ffi3_run.proofs.Acts.{make_is_full}
@@ -24,8 +23,8 @@ use Rattle.ffi3_run.proofs.board.Board.make.Goals as goal
 pub returns-in_default : goal.returns-in_default
 returns-in_default g c =
     let p = program c.args.script.now in
-    let x = moment c.args.self.now c.args.machine.now (took (g.O.Sink.taken c.args.output.now) (g.O.Sink.faults c.args.output.now)) in
-    let o = took (g.O.Sink.taken c.stop.new.output) (g.O.Sink.faults c.stop.new.output) in
+    let x = moment c.args.self.now c.args.machine.now (g.O.Sink.state c.args.output.now) in
+    let o = g.O.Sink.state c.stop.new.output in
     let b = record c.args.self.now { table = c.make.new.self } in
     let full = le-ltb (first_free x.closures) slots (omega (arith, c.in_default.ensures.full)) in
     let does = make_is_full p (main_after x.results) x.closures x.moves c.args.func c.args.user full in
@@ -38,7 +37,7 @@ pub returns-in-Ok-pointer : goal.returns-in-Ok-pointer
 returns-in-Ok-pointer g c =
     let p = program c.args.script.now in
     let s = script_of c.args.script.now in
-    let o = took (g.O.Sink.taken c.args.output.now) (g.O.Sink.faults c.args.output.now) in
+    let o = g.O.Sink.state c.args.output.now in
     let b = c.args.self.now in
     let x = moment b c.args.machine.now o in
     let m = c.make.new.machine in

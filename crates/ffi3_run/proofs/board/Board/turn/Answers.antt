@@ -6,7 +6,6 @@ use Rattle.ffi3_run_rules.specs.declared.Stop.TheVariants.{MoveLimit}
 use Rattle.ffi3_run_rules.specs.Move.{Move, MoveFits}
 use Rattle.ffi3_body.specs.MoveOf.{move_of}
 use Rattle.ffi3_script.specs.ScriptOf.{script_of}
-use Rattle.ffi3_run.specs.RunMatches.{took}
 use Rattle.ffi3_run.specs.Moment.{IsBetween, StoppedBy, Turned, Came, moment}
 use Rattle.ffi3_run.specs.Programs.{program}
 use Rattle.ffi3_run_rules.specs.Meaning.{returned}
@@ -22,41 +21,41 @@ one_fewer n some = omega arith
 pub returns-then-self-eq0 : goal.returns-then-self-eq0
 returns-then-self-eq0 g c =
     let p = program c.args.script.now in
-    let x = moment c.args.self.now c.args.machine.now (took (g.O.Sink.taken c.args.output.now) (g.O.Sink.faults c.args.output.now)) in
-    let o = took (g.O.Sink.taken c.stop.new.output) (g.O.Sink.faults c.stop.new.output) in
+    let x = moment c.args.self.now c.args.machine.now (g.O.Sink.state c.args.output.now) in
+    let o = g.O.Sink.state c.stop.new.output in
     let by = subst (λ (ss : List Signature). StoppedBy ss MoveLimit x.scene.output o c.stop.result) c.sigs.ensures.are c.stop.ensures in
     stops_here p x c.args.self.now o MoveLimit 0 c.stop.result (limit_here p x c.if-self-eq0.true) c.requires.between.target c.requires.between.holds by
 
 pub returns-in-Print : goal.returns-in-Print
 returns-in-Print g c =
     let p = program c.args.script.now in
-    let x = moment c.args.self.now c.args.machine.now (took (g.O.Sink.taken c.args.output.now) (g.O.Sink.faults c.args.output.now)) in
+    let x = moment c.args.self.now c.args.machine.now (g.O.Sink.state c.args.output.now) in
     let counts = one_fewer x.moves c.if-self-eq0.false in
     let between = subst (λ (n : ℕ). IsBetween p (record x { moves = n })) counts c.requires.between in
     let is = c.in-Ok.ensures.is ∙ ap move_of c.in-Print.is in
-    let now = moment c.print.new.self c.args.machine.now (took (g.O.Sink.taken c.print.new.output) (g.O.Sink.faults c.print.new.output)) in
+    let now = moment c.print.new.self c.args.machine.now (g.O.Sink.state c.print.new.output) in
     subst (λ (n : ℕ). Turned p (record x { moves = n }) now c.print.result) (sym counts) (c.print.ensures p c.args.machine.now between is)
 
 pub returns-in-Make : goal.returns-in-Make
 returns-in-Make g c =
     let p = program c.args.script.now in
-    let x = moment c.args.self.now c.args.machine.now (took (g.O.Sink.taken c.args.output.now) (g.O.Sink.faults c.args.output.now)) in
+    let x = moment c.args.self.now c.args.machine.now (g.O.Sink.state c.args.output.now) in
     let counts = one_fewer x.moves c.if-self-eq0.false in
-    let now = moment c.make.new.self c.make.new.machine (took (g.O.Sink.taken c.make.new.output) (g.O.Sink.faults c.make.new.output)) in
+    let now = moment c.make.new.self c.make.new.machine (g.O.Sink.state c.make.new.output) in
     subst (λ (n : ℕ). Turned p (record x { moves = n }) now c.make.result) (sym counts) c.make.ensures
 
 pub returns-in-Call : goal.returns-in-Call
 returns-in-Call g c =
     let p = program c.args.script.now in
-    let x = moment c.args.self.now c.args.machine.now (took (g.O.Sink.taken c.args.output.now) (g.O.Sink.faults c.args.output.now)) in
+    let x = moment c.args.self.now c.args.machine.now (g.O.Sink.state c.args.output.now) in
     let counts = one_fewer x.moves c.if-self-eq0.false in
-    let now = moment c.call.new.self c.call.new.machine (took (g.O.Sink.taken c.call.new.output) (g.O.Sink.faults c.call.new.output)) in
+    let now = moment c.call.new.self c.call.new.machine (g.O.Sink.state c.call.new.output) in
     subst (λ (n : ℕ). Turned p (record x { moves = n }) now c.call.result) (sym counts) c.call.ensures
 
 pub returns-in-Return : goal.returns-in-Return
 returns-in-Return g c =
     let p = program c.args.script.now in
-    let x = moment c.args.self.now c.args.machine.now (took (g.O.Sink.taken c.args.output.now) (g.O.Sink.faults c.args.output.now)) in
+    let x = moment c.args.self.now c.args.machine.now (g.O.Sink.state c.args.output.now) in
     let counts = one_fewer x.moves c.if-self-eq0.false in
     let between = subst (λ (n : ℕ). IsBetween p (record x { moves = n })) counts c.requires.between in
     let v = value_of c.in-Return.field-0 in

@@ -1,4 +1,6 @@
-use Rattle.std.proofs.Common.{◌+◌, ◌<◌, length, ap, ◌∙◌, sym, arith}
+use Rattle.std.proofs.Common.{◌+◌, ◌<◌, length, refl, ap, ◌∙◌, sym, arith}
+use Rattle.std.specs.Prelude.{option_map}
+use Rattle.std.proofs.lemmas.Option.{slice_get_read}
 use Rattle.std.proofs.lemmas.List.{length-map}
 use Rattle.std.proofs.Math.Logic.{∥∥₁_elim}
 use base.Stored.{Coded-set, coded_ℕ}
@@ -6,6 +8,13 @@ use Rattle.ffi3_type_rules.specs.Signature.{signature_at, signature_code, signat
 use Rattle.ffi3_script.specs.FunctionOf.{function_of}
 use Rattle.ffi3_script.proofs.Standing.{function_is, stands}
 use Rattle.ffi3_script.proofs.script.Script.body.Goals as goal
+
+pub returns-clause-is : goal.returns-clause-is
+returns-clause-is c =
+    let s = c.args.self.now in
+    let all = length-map s.functions.items function_of in
+    let below : c.args.i < length s.functions.items = omega (arith, c.requires, all) in
+    ap (option_map (λ f. f.body)) (slice_get_read s.functions.items _ c.args.i c.index.result.now refl below c.index.ensures)
 
 pub returns-clause-signatures_are : goal.returns-clause-signatures_are
 returns-clause-signatures_are c =

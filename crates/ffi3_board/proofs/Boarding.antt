@@ -1,0 +1,198 @@
+-- What each kind of move leads to on a board.
+use Rattle.std.proofs.Common.{◌≡◌, ℕ, suc, true, ◌+◌, ◌-◌, ◌<◌, ◌≤◌, List, [], ◌∷◌, ◌++◌, length, Option, Some, None, refl, sym, ap, ◌∙◌, subst, arith, reverse}
+use Rattle.std.proofs.lemmas.List.{reverse-append}
+use Rattle.ffi3_type_rules.specs.declared.limits.TheConstants.{STACK}
+use Rattle.ffi3_type_rules.specs.Signature.{Signature, signature_at}
+use Rattle.ffi3_type_rules.specs.Tree.{void}
+use Rattle.ffi3_type_rules.specs.Value.{ValueTree, void_value, leaf_value, struct_value, fits}
+use Rattle.ffi3_place_rules.specs.declared.Loc.{Loc}
+use Rattle.ffi3_run_rules.specs.Journal.{Entered}
+use Rattle.ffi3_board.specs.Stack.{HoldsCalls}
+use Rattle.ffi3_place_rules.specs.Event.{Event}
+use Rattle.ffi3_place_rules.specs.Standard.{Standard, block_bytes, frame_of, need_of}
+use Rattle.ffi3_run_rules.specs.declared.Closure.{Closure}
+use Rattle.ffi3_run_rules.specs.declared.Stop.{Stop}
+use Rattle.ffi3_run_rules.specs.declared.Stop.TheVariants.{MoveLimit}
+use Rattle.ffi3_run_rules.specs.Closures.{Closures}
+use Rattle.ffi3_run_rules.specs.Meaning as meaning
+use Rattle.ffi3_run_rules.specs.Meaning.{Program, stops, enters, stopped, function, callee_of, effect_of, need_at, ends, returned}
+use Rattle.ffi3_run_rules.specs.Move.{Move, call, return}
+use Rattle.ffi3_run_rules.specs.Trace.{TraceItem, Enter, Leave}
+use Rattle.ffi3_turn_rules.specs.Left.{Left, Suspended}
+use Rattle.ffi3_turn_rules.specs.SoFar.{Base}
+use Rattle.ffi3_machine.specs.State.{State, with_room, stack_at}
+use Rattle.ffi3_body.specs.SeenActivation.{arguments_in}
+use Rattle.ffi3_io.specs.Sink.{SinkState}
+use Rattle.ffi3_io.specs.declared.IoError.TheVariants as cut
+use Rattle.ffi3_callee.specs.declared.Incoming.{Incoming}
+use Rattle.ffi3_callee.specs.Received.{IsIncoming}
+use Rattle.ffi3_invoke.specs.Calls.{HasBegun, HasEnded}
+use Rattle.ffi3_board.specs.declared.activation.Activation.{Activation}
+use Rattle.ffi3_board.specs.declared.activation.OpenCall.{OpenCall}
+use Rattle.ffi3_board.specs.declared.activation.Waiting.{Waiting}
+use Rattle.ffi3_board.specs.declared.activation.Who.TheVariants.{Function}
+use Rattle.ffi3_board.specs.declared.board.Board.{Board}
+use Rattle.ffi3_board.specs.declared.board.Turn.{Turn}
+use Rattle.ffi3_board.specs.declared.board.Turn.TheVariants as turn
+use Rattle.ffi3_board.specs.Between.{Beginning, Moment, asking, IsBetween, IsAsking, moment, moment_with, open_calls_at}
+use Rattle.ffi3_board.specs.Going.{StoppedBy, GoneOn, HasGoneBack, and_result}
+use Rattle.ffi3_board.specs.Path.{acting, arguments_at, call_inside, suspended_at, calls_of}
+use Rattle.ffi3_board.specs.Turned.{IsEnded, WasCutOff, WentOn, Turned}
+use Rattle.ffi3_board.proofs.Blocks.{AreAbove, StaysFrom, blocks_above, acting_kept, suspended_kept}
+use Rattle.ffi3_board.proofs.Moving.{cut_between, limit_ends, limit_failed, stop_ends, stop_failed}
+use Rattle.ffi3_board.proofs.Entering.{entered, enters_on, lower}
+use Rattle.ffi3_board.proofs.Leaving.{inside_call, back, returns_on, others_above}
+
+pub reverse-last : {X : Type 0} (xs : List X) (x : X) → reverse (xs ++ x ∷ []) ≡ x ∷ reverse xs
+reverse-last xs x = reverse-append xs (x ∷ [])
+
+-- what returns nothing returns void
+pub void_is : (v : ValueTree) → fits void v ≡ true → v ≡ void_value
+void_is void_value h = refl
+void_is (leaf_value bytes) h = cc
+void_is (struct_value vs) h = cc
+
+module _ {S : Type 0} where
+  -- the machine holds the call of the one that waits last
+  pub popped_holds : (std : Standard) (ss : List Signature) (held : Loc → ℕ) (top : ℕ) (m : State) (entered : List Entered) (served : Option OpenCall) (items items' : List (Waiting S)) (w : Waiting S) → items ≡ items' ++ w ∷ [] → HoldsCalls std ss held top m (calls_of served (reverse items)) entered → HoldsCalls std ss held top m (w.call ∷ calls_of served (reverse items')) entered
+  popped_holds std ss held top m entered served items items' w is h =
+      let turned : reverse items ≡ w ∷ reverse items' = ap (λ (l : List (Waiting S)). reverse l) is ∙ reverse-last items' w in
+      subst (λ (l : List (Waiting S)). HoldsCalls std ss held top m (calls_of served l) entered) turned h
+
+  -- a board that goes on has its activation with one result more
+  pub gone_more : (r : ValueTree) (a : Activation S) (b b' : Board S) (t : Turn) → GoneOn r a b b' t → t ≡ turn.More → b' ≡ record b { innermost = Some (and_result a r) }
+  gone_more r a b b' t gone is = subst (λ (u : Turn). GoneOn r a b b' u) is gone
+
+  -- the one that waited acts on
+  pub gone_back : (r : ValueTree) (w : Waiting S) (b mid b' : Board S) (t : Turn) → b.suspended.items ≡ mid.suspended.items ++ w ∷ [] → mid.served ≡ b.served → mid.table ≡ b.table → mid.moves ≡ b.moves → GoneOn r w.activation mid b' t → t ≡ turn.More → HasGoneBack r b b'
+  gone_back r w b mid b' t items served table moves gone is =
+      let P = λ (z : Board S). HasGoneBack r b z in
+      let here : P (record mid { innermost = Some (and_result w.activation r) }) = record { waited = w; suspended = items; innermost = refl; served = served; table = table; moves = moves } in
+      subst P (sym (gone_more r w.activation mid b' t gone is)) here
+
+module _ {S : Type 0} (p : Program) (base : Base) (all : Left) (first : Beginning) (own : List TraceItem) where
+  -- THE RUN GOES ON FROM HERE, or there is no memory for the result
+  pub goes : (b b' : Board S) (a : Activation S) (m : State) (output : SinkState) (r : ValueTree) (more : List TraceItem) (events : List Event) (t : Turn) → GoneOn r a b b' t → IsBetween p base all first (own ++ more) events (moment p.signatures (and_result a r) b m output) → Turned p base all first own (suc b.moves) b' m output t
+  goes b b' a m output r more events turn.More gone between =
+      let P = λ (c : Board S). WentOn p base all first own (suc b.moves) c m output in
+      let here : P (record b { innermost = Some (and_result a r) }) = record { more = more; events = events; stands = between; counted = refl } in
+      subst P (sym gone) here
+  goes b b' a m output r more events turn.Done gone between = elim gone [ ]
+  goes b b' a m output r more events (turn.Stopped stop) gone between = elim gone [ ]
+  goes b b' a m output r more events turn.NoMemory gone between =
+      cut_between p base all first (own ++ more) events (moment p.signatures (and_result a r) b m output) m refl between
+  goes b b' a m output r more events turn.Failed gone between = elim gone [ ]
+
+  module _ (events : List Event) (b : Board S) (a : Activation S) (m : State) (output output' : SinkState) where
+    abbrev here : Moment
+    here = moment p.signatures a b m output
+
+    -- for want of memory, before the move
+    pub refused : (asked : Move) (m' : State) → m'.events ≡ m.events → IsAsking p base all first own events here asked → WasCutOff p base all first cut.NoMemory m' output
+    refused asked m' same is = cut_between p base all first own events (asking here) m' same is.between
+
+    -- THE MOVE STOPS THE RUN
+    pub stops_at : (asked : Move) → IsAsking p base all first own events here asked → (stop : Stop) → effect_of p here.innermost here.closures asked ≡ stops stop → (t : Turn) → StoppedBy p.signatures stop output output' t → Turned p base all first own (suc b.moves) b m output' t
+    stops_at asked is stop does turn.More by = elim by [ ]
+    stops_at asked is stop does turn.Done by = elim by [ ]
+    stops_at asked is stop does (turn.Stopped s) by =
+        let P = λ (z : Stop). IsEnded p base all first (stopped z) b.table b.moves m output' in
+        subst P (sym by.0) (stop_ends p base all first own events here asked is stop does output' by.1)
+    stops_at asked is stop does turn.NoMemory by =
+        let P = λ (o : SinkState). WasCutOff p base all first cut.NoMemory m o in
+        subst P (sym by) (cut_between p base all first own events (asking here) m refl is.between)
+    stops_at asked is stop does turn.Failed by =
+        stop_failed p base all first own events here asked is stop does output' by
+
+    -- NO MOVE IS LEFT
+    pub stops_at_limit : b.moves ≡ 0 → IsBetween p base all first own events here → (t : Turn) → StoppedBy p.signatures MoveLimit output output' t → Turned p base all first own 0 b m output' t
+    stops_at_limit none h turn.More by = elim by [ ]
+    stops_at_limit none h turn.Done by = elim by [ ]
+    stops_at_limit none h (turn.Stopped s) by =
+        let P = λ (z : Stop). IsEnded p base all first (stopped z) b.table b.moves m output' in
+        subst P (sym by.0) (limit_ends p base all first own events here none h output' by.1)
+    stops_at_limit none h turn.NoMemory by =
+        let P = λ (o : SinkState). WasCutOff p base all first cut.NoMemory m o in
+        subst P (sym by) (cut_between p base all first own events here m refl h)
+    stops_at_limit none h turn.Failed by = limit_failed p base all first own events here none h output' by
+
+-- ---- a call
+
+module _ {S : Type 0} (p : Program) (base : Base) (all : Left) (first : Beginning) (own : List TraceItem) (events : List Event) (served : Option OpenCall) (outer : List (Waiting S)) (closures : Closures) (moves : ℕ) (m : State) (output : SinkState) (current : Activation S) (ptr sig : ℕ) (args : List ValueTree) where
+  abbrev before_call : Moment
+  before_call = moment_with p.signatures served outer closures moves m output current
+
+  module _ (is : IsAsking p base all first own events before_call (call ptr sig args)) (closure : Closure) (does : effect_of p before_call.innermost closures (call ptr sig args) ≡ enters ptr sig (callee_of p before_call.innermost sig args closure)) (n : ℕ) (m' : State) (incoming : Incoming) (sized : n ≡ base.standard.link + frame_of base.standard (signature_at p.signatures sig)) (begun : HasBegun base.standard (signature_at p.signatures sig) args ptr (with_room n m) m') (incoming_is : IsIncoming base.standard (signature_at p.signatures sig) incoming) (block_is : incoming.block ≡ m'.sp) (below : sig < length p.signatures) (standing : S) (results : List ValueTree) (none : results ≡ []) where
+    abbrev new_call : OpenCall
+    new_call = record { sig = sig; incoming = incoming }
+
+    abbrev new_one : Activation S
+    new_one = record { who = Function closure.func; standing = standing; user = closure.user; results = results }
+
+    abbrev in_call : Moment
+    in_call =
+        moment_with p.signatures served (record { activation = current; call = new_call } ∷ outer) closures moves m' output new_one
+
+    above : AreAbove m.sp (calls_of served outer)
+    above =
+        blocks_above base.standard p.signatures base.held base.top m m.sp (calls_of served outer) (open_calls_at p base events before_call) m.sp (omega arith) is.between.calls.stand
+
+    stays : StaysFrom m.sp m m'
+    stays = begun.above
+
+    innermost_is : in_call.innermost ≡ callee_of p before_call.innermost sig args closure
+    innermost_is =
+        let site = signature_at p.signatures sig in
+        let arguments : arguments_at p.signatures m' (Some new_call) ≡ args = ap (λ (k : ℕ). arguments_in site.arguments (stack_at k (block_bytes site) m')) block_is ∙ begun.arguments_stand in
+        let low : m'.sp + need_at p sig ≡ m.sp = lower p base all first own events before_call ptr sig args is closure does n m' incoming sized begun incoming_is block_is below in
+        let had : before_call.innermost.left + STACK ≡ m.sp = is.between.left in
+        let left : incoming.block - STACK ≡ before_call.innermost.left - need_at p sig = omega (arith, low, had, block_is) in
+        λ i. record { who = function closure.func; arguments = arguments i; user = closure.user; left = left i; results = none i }
+
+    suspended_is : in_call.suspended ≡ record { activation = before_call.innermost; signature = sig } ∷ before_call.suspended
+    suspended_is =
+        ap (λ (a : meaning.Activation). record { activation = a; signature = sig } ∷ suspended_at p.signatures m' served outer) (acting_kept p.signatures m m' m.sp stays served current outer above)
+        ∙ ap (λ (l : List Suspended). record { activation = before_call.innermost; signature = sig } ∷ l) (suspended_kept p.signatures m m' m.sp stays served outer above)
+
+    pub call_entered : IsBetween p base all first (own ++ Enter ptr sig args ∷ []) (events ++ begun.entry ∷ []) in_call
+    call_entered =
+        let there = enters_on p base all first own events before_call ptr sig args is closure does n m' incoming sized begun incoming_is block_is below in
+        let same : in_call ≡ entered p base all first own events before_call ptr sig args is closure does n m' incoming sized begun incoming_is block_is below =
+        λ i. record { innermost = innermost_is i; suspended = suspended_is i; calls = new_call ∷ calls_of served outer; closures = closures; moves = moves; machine = m'; output = output } in
+        subst (λ (x : Moment). IsBetween p base all first (own ++ Enter ptr sig args ∷ []) (events ++ begun.entry ∷ []) x) (sym same) there
+
+-- ---- a return
+
+module _ {S : Type 0} (p : Program) (base : Base) (all : Left) (first : Beginning) (own : List TraceItem) (events : List Event) (served : Option OpenCall) (w : Waiting S) (outer : List (Waiting S)) (closures : Closures) (moves : ℕ) (m : State) (output : SinkState) (current : Activation S) (v : ValueTree) where
+  abbrev before_return : Moment
+  before_return = moment_with p.signatures served (w ∷ outer) closures moves m output current
+
+  module _ (is : IsAsking p base all first own events before_return (return v)) (m' : State) (ended : HasEnded base.standard (signature_at p.signatures w.call.sig) v m m') where
+    abbrev a : meaning.Activation
+    a = before_return.innermost
+
+    abbrev caller : meaning.Activation
+    caller = acting p.signatures m (call_inside served outer) w.activation
+
+    abbrev others : List Suspended
+    others = suspended_at p.signatures m served outer
+
+    abbrev after_return : Moment
+    after_return =
+        moment_with p.signatures served outer closures moves m' output (and_result w.activation v)
+
+    above_return : AreAbove m'.sp (calls_of served outer)
+    above_return =
+        others_above p base all first own events a caller w.call others (calls_of served outer) closures moves m output v is m' ended
+
+    stays_return : StaysFrom m'.sp m m'
+    stays_return = ended.above
+
+    pub call_returned : IsBetween p base all first (own ++ Leave w.call.sig v ∷ []) (events ++ ended.return ∷ []) after_return
+    call_returned =
+        let there = returns_on p base all first own events a caller w.call others (calls_of served outer) closures moves m output v is m' ended in
+        let innermost = acting_kept p.signatures m m' m'.sp stays_return served (and_result w.activation v) outer above_return in
+        let suspended = suspended_kept p.signatures m m' m'.sp stays_return served outer above_return in
+        let same : after_return ≡ back p base all first own events a caller w.call others (calls_of served outer) closures moves m output v is m' ended =
+        λ i. record { innermost = innermost i; suspended = suspended i; calls = calls_of served outer; closures = closures; moves = moves; machine = m'; output = output } in
+        subst (λ (x : Moment). IsBetween p base all first (own ++ Leave w.call.sig v ∷ []) (events ++ ended.return ∷ []) x) (sym same) there

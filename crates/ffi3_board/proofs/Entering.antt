@@ -1,0 +1,134 @@
+-- A call that is entered: what holds in its callee.
+use Rattle.std.proofs.Common.{◌≡◌, ℕ, suc, ◌+◌, ◌-◌, ◌*◌, ◌<◌, ◌≤◌, max, List, [], ◌∷◌, ◌++◌, length, refl, sym, ap, ◌∙◌, subst, arith, append_assoc, length-append}
+use Rattle.ffi3_type_rules.specs.declared.limits.TheConstants.{STACK}
+use Rattle.ffi3_type_rules.specs.Signature.{Signature, signature_at}
+use Rattle.ffi3_type_rules.specs.Value.{ValueTree}
+use Rattle.ffi3_place_rules.specs.Event.{Event}
+use Rattle.ffi3_place_rules.specs.Standard.{frame_of, need_of}
+use Rattle.ffi3_run_rules.specs.declared.Closure.{Closure}
+use Rattle.ffi3_run_rules.specs.Journal.{Entered, IsEntry, needs}
+use Rattle.ffi3_run_rules.specs.Meaning.{Program, Activation, enters, callee_of, effect_of, next_move, need_at}
+use Rattle.ffi3_run_rules.specs.Move.{call}
+use Rattle.ffi3_run_rules.specs.Trace.{TraceItem, Enter}
+use Rattle.ffi3_turn_rules.specs.Left.{Left, Suspended, awaited}
+use Rattle.ffi3_turn_rules.specs.Depth.{deepest, depth_at}
+use Rattle.ffi3_turn_rules.specs.SoFar.{Base}
+use Rattle.ffi3_turn_rules.proofs.Depths.{depth_at-append}
+use Rattle.ffi3_turn_rules.proofs.Coming.{comes_in, deepest_enter}
+use Rattle.ffi3_turn_rules.proofs.Opens.{opens_enter}
+use Rattle.ffi3_machine.specs.State.{State, image_of, with_room}
+use Rattle.ffi3_closures.specs.Slots.{HoldsMap}
+use Rattle.ffi3_io.specs.Sink.{SinkState}
+use Rattle.ffi3_io.proofs.Writing.{took_as}
+use Rattle.ffi3_callee.specs.declared.Incoming.{Incoming}
+use Rattle.ffi3_callee.specs.Received.{IsIncoming}
+use Rattle.ffi3_invoke.specs.Calls.{HasBegun, KeepsOpen, Stands}
+use Rattle.ffi3_board.specs.declared.activation.OpenCall.{OpenCall}
+use Rattle.ffi3_board.specs.Between.{Beginning, Moment, text_of, depth_below, open_calls_at, IsBetween, IsAsking}
+use Rattle.ffi3_board.specs.Stack.{caller_sp, IsOpen, OpenStand, frames}
+use Rattle.ffi3_board.proofs.Marks.{mark_enter, fewer, text_still}
+use Rattle.ffi3_board.proofs.Opened.{caller_above, open_needs, open_kept, keeps_room, same_then_held}
+
+module _ (p : Program) (base : Base) (all : Left) (first : Beginning) (own : List TraceItem) (events : List Event) (x : Moment) (ptr sig : ℕ) (args : List ValueTree) (is : IsAsking p base all first own events x (call ptr sig args)) (closure : Closure) (does : effect_of p x.innermost x.closures (call ptr sig args) ≡ enters ptr sig (callee_of p x.innermost sig args closure)) where
+  abbrev site : Signature
+  site = signature_at p.signatures sig
+
+  abbrev callee : Activation
+  callee = callee_of p x.innermost sig args closure
+
+  abbrev calls_open : List Entered
+  calls_open = open_calls_at p base events x
+
+  abbrev depth : ℕ
+  depth = depth_at p (depth_below p base) own
+
+  does_so : effect_of p x.innermost x.closures (next_move p x.innermost) ≡ enters ptr sig callee
+  does_so = ap (effect_of p x.innermost x.closures) is.asks ∙ does
+
+  module _ (n : ℕ) (m : State) (incoming : Incoming) (sized : n ≡ base.standard.link + frame_of base.standard site) (begun : HasBegun base.standard site args ptr (with_room n x.machine) m) (incoming_is : IsIncoming base.standard site incoming) (block_is : incoming.block ≡ m.sp) (below : sig < length p.signatures) where
+    abbrev opened : OpenCall
+    opened = record { sig = sig; incoming = incoming }
+
+    abbrev pub entered : Moment
+    entered = record {
+      innermost = callee;
+      suspended = record { activation = x.innermost; signature = sig } ∷ x.suspended;
+      calls = opened ∷ x.calls;
+      closures = x.closures;
+      moves = x.moves;
+      machine = m;
+      output = x.output;
+    }
+
+    abbrev newest : Entered
+    newest = record { signature = site; event = begun.entry }
+
+    entry_is : IsEntry base.standard base.top base.held calls_open (base.count + length events) ptr site args begun.entry
+    entry_is =
+        let h = is.between in
+        let full : x.machine.sp + needs base.standard calls_open ≡ base.top = open_needs base.standard p.signatures base.held base.top x.machine x.calls calls_open x.machine.sp h.calls.stand in
+        let number : length x.machine.events ≡ base.count + length events = ap (λ (l : List Event). length l) h.journal ∙ length-append first.events events ∙ ap (λ (k : ℕ). k + length events) (sym h.count) in
+        subst (λ (k : ℕ). IsEntry base.standard base.top base.held calls_open k ptr site args begun.entry) number (begun.is_entry base.top base.held calls_open full h.calls.reserved)
+
+    opens : open_calls_at p base (events ++ begun.entry ∷ []) entered ≡ newest ∷ calls_open
+    opens =
+        opens_enter base.standard base.top base.held p.signatures sig (awaited base.bottom x.suspended) base.entries events begun.entry entry_is.kind
+
+    need_is : need_at p sig ≡ need_of base.standard site
+    need_is = ap (λ (f : Signature → ℕ). f site) is.between.needs
+
+    pub lower : m.sp + need_at p sig ≡ x.machine.sp
+    lower = ap (λ (k : ℕ). m.sp + k) need_is ∙ begun.sp
+
+    stands : Stands base.standard newest m.sp m
+    stands = begun.in_callee.stands
+
+    -- the stack pointer where the innermost call was made is that of its caller
+    caller_at : x.machine.sp ≡ caller_sp base.standard newest
+    caller_at = sym begun.sp ∙ caller_above base.standard newest m.sp m stands
+
+    others_stand : OpenStand base.standard p.signatures base.held base.top m x.calls calls_open (caller_sp base.standard newest)
+    others_stand =
+        let keeps : KeepsOpen base.standard x.machine.sp x.machine m = keeps_room base.standard x.machine.sp n x.machine m begun.keeps_open in
+        let P = λ (sp : ℕ). OpenStand base.standard p.signatures base.held base.top m x.calls calls_open sp in
+        subst P caller_at (open_kept base.standard p.signatures base.held base.top x.machine m x.machine.sp keeps x.calls calls_open x.machine.sp (omega arith) is.between.calls.stand)
+
+    newest_stands : IsOpen base.standard p.signatures base.held m opened newest m.sp
+    newest_stands =
+        record { below = below; signature = refl; stands = stands; reserved = entry_is.reserved; incoming = incoming_is; block = block_is }
+
+    -- THE CALLEE'S ACTIVATION IS THE INNERMOST
+    pub enters_on : IsBetween p base all first (own ++ Enter ptr sig args ∷ []) (events ++ begun.entry ∷ []) entered
+    enters_on =
+        let h = is.between in
+        let deeper : depth_at p (depth_below p base) (own ++ Enter ptr sig args ∷ []) ≡ depth + need_at p sig = depth_at-append p (depth_below p base) own (Enter ptr sig args ∷ []) in
+        let at : x.machine.sp + depth ≡ base.top = h.deep in
+        let left : x.innermost.left + STACK ≡ x.machine.sp = h.left in
+        let bottom : STACK ≤ m.sp = stands.bottom in
+        let stand : OpenStand base.standard p.signatures base.held base.top m (opened ∷ x.calls) (newest ∷ calls_open) m.sp = (newest_stands, others_stand) in
+        let room : length calls_open ≤ x.machine.spare_events = h.calls.room in
+        let bytes : frames base.standard calls_open ≤ x.machine.spare_bytes = h.calls.bytes in
+        let room_then : m.spare_events + 1 ≡ x.machine.spare_events + 2 = begun.room in
+        let bytes_then : m.spare_bytes + (base.standard.link + frame_of base.standard site) ≡ x.machine.spare_bytes + 2 * n = begun.bytes in
+        record {
+          needs = h.needs;
+          count = h.count;
+          top = h.top;
+          come = comes_in p base all own events x.innermost x.closures x.moves x.suspended ptr sig callee begun.entry h.come does_so entry_is;
+          journal = begun.events ∙ ap (λ (l : List Event). l ++ begun.entry ∷ []) h.journal ∙ append_assoc first.events events (begun.entry ∷ []);
+          written = took_as first.output x.output (text_of p base own) (text_of p base (own ++ Enter ptr sig args ∷ [])) (text_still p base own (Enter ptr sig args) refl) h.written;
+          mark = mark_enter base.top first.mark (deepest p (depth_below p base) own) x.machine.mark x.machine.sp m.sp m.mark depth (need_at p sig) (deepest p (depth_below p base) (own ++ Enter ptr sig args ∷ [])) lower at begun.mark (deepest_enter p (depth_below p base) own ptr sig args) h.mark;
+          deep = omega (arith, deeper, lower, at);
+          left = omega (arith, left, lower, bottom);
+          calls = record {
+            target = begun.in_callee.target;
+            stand = subst (λ (l : List Entered). OpenStand base.standard p.signatures base.held base.top m (opened ∷ x.calls) l m.sp) (sym opens) stand;
+            reserved = same_then_held base.standard.reserved begun.entry.image (image_of 0 m) base.held begun.in_callee.reserved entry_is.reserved;
+            room = subst (λ (l : List Entered). length l ≤ m.spare_events) (sym opens) (omega (arith, room, room_then));
+            bytes = subst (λ (l : List Entered). frames base.standard l ≤ m.spare_bytes) (sym opens) (omega (arith, bytes, bytes_then, sized));
+          };
+          holds = subst (λ (code : List ℕ). HoldsMap base.standard.target x.closures code) (sym begun.code) h.holds;
+          known = h.known;
+          few = omega (arith, h.few);
+          others_few = (omega (arith, h.few), fewer x.moves x.suspended h.others_few);
+        }

@@ -1,0 +1,13 @@
+mod Tests
+mod Spelling
+mod Acts
+pub mod Closed
+mod Marks
+pub mod Opened
+pub mod Moving
+pub mod Blocks
+mod Entering
+mod Leaving
+pub mod Boarding
+mod Made
+mod Transports

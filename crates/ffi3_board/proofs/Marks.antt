@@ -1,0 +1,58 @@
+-- The mark's bound as calls begin and end, the results that there is room for, and texts of one item more.
+use Rattle.std.proofs.Common.{◌≡◌, ℕ, suc, ◌+◌, ◌-◌, ◌≤◌, min, max, inl, inr, List, [], ◌∷◌, ◌++◌, length, refl, sym, ap, ◌∙◌, subst, arith, append-nil}
+use Rattle.std.proofs.lemmas.Bool.{cases_lt}
+use Rattle.ffi3_run_rules.specs.Lines.{untraced, item_text}
+use Rattle.ffi3_run_rules.specs.Meaning.{Program}
+use Rattle.ffi3_run_rules.specs.Trace.{TraceItem}
+use Rattle.ffi3_turn_rules.specs.Left.{Suspended}
+use Rattle.ffi3_turn_rules.specs.SoFar.{Base, text_start, text_after}
+use Rattle.ffi3_turn_rules.proofs.Opens.{text_one}
+use Rattle.ffi3_board.specs.Between.{IsMarkOf, AreFew, text_of}
+
+pub mark_same : (top first deep deep' mark mark' : ℕ) → deep' ≡ deep → mark' ≡ mark → IsMarkOf top first deep mark → IsMarkOf top first deep' mark'
+mark_same top first deep deep' mark mark' same is (inl h) = inl (omega (arith, is, h))
+mark_same top first deep deep' mark mark' same is (inr h) = inr (omega (arith, is, same, h))
+
+-- a call begins
+pub mark_enter : (top first deep mark sp sp' mark' depth need deep' : ℕ) → sp' + need ≡ sp → sp + depth ≡ top → min mark sp' ≤ mark' → deep' ≡ max deep (depth + need) → IsMarkOf top first deep mark → IsMarkOf top first deep' mark'
+mark_enter top first deep mark sp sp' mark' depth need deep' lower at low is (inl h) =
+    elim (cases_lt mark sp') [
+      | inl above ↦ inl (omega (arith, low, h, above))
+      | inr below ↦ inr (omega (arith, low, lower, at, is, below))
+    ]
+mark_enter top first deep mark sp sp' mark' depth need deep' lower at low is (inr h) =
+    elim (cases_lt mark sp') [
+      | inl above ↦ inr (omega (arith, low, h, is, above))
+      | inr below ↦ inr (omega (arith, low, lower, at, is, below))
+    ]
+
+-- a call ends
+pub mark_leave : (top first deep deep' mark sp mark' depth : ℕ) → sp + depth ≡ top → depth ≤ deep → min mark sp ≤ mark' → deep' ≡ deep → IsMarkOf top first deep mark → IsMarkOf top first deep' mark'
+mark_leave top first deep deep' mark sp mark' depth at within low same (inl h) =
+    elim (cases_lt mark sp) [
+      | inl above ↦ inl (omega (arith, low, h, above))
+      | inr below ↦ inr (omega (arith, low, at, within, same, below))
+    ]
+mark_leave top first deep deep' mark sp mark' depth at within low same (inr h) =
+    elim (cases_lt mark sp) [
+      | inl above ↦ inr (omega (arith, low, h, same, above))
+      | inr below ↦ inr (omega (arith, low, at, within, same, below))
+    ]
+
+-- ---- results
+
+pub fewer : (moves : ℕ) (outer : List Suspended) → AreFew (suc moves) outer → AreFew moves outer
+fewer moves [] h = tt
+fewer moves (s ∷ outer) h = (omega (arith, h.0), fewer moves outer h.1)
+
+-- ---- texts
+
+pub text_then : (p : Program) (base : Base) (own : List TraceItem) (h : TraceItem) → text_of p base (own ++ h ∷ []) ≡ text_of p base own ++ item_text untraced p.signatures (text_after p base own) h
+text_then p base own h = text_one untraced p.signatures (text_start p base) own h
+
+-- an item without text
+pub text_still : (p : Program) (base : Base) (own : List TraceItem) (h : TraceItem) → item_text untraced p.signatures (text_after p base own) h ≡ [] → text_of p base own ≡ text_of p base (own ++ h ∷ [])
+text_still p base own h none =
+    sym (append-nil (text_of p base own))
+    ∙ ap (λ (l : List ℕ). text_of p base own ++ l) (sym none)
+    ∙ sym (text_then p base own h)

@@ -1,0 +1,232 @@
+-- What each kind of move of a run leads to, from one moment to the next.
+use Rattle.std.proofs.Common.{◌≡◌, ℕ, suc, ◌+◌, ◌<◌, ◌≤◌, min, List, [], ◌∷◌, ◌++◌, length, take, refl, sym, ap, ◌∙◌, subst, arith, append_assoc, append-nil, length-append}
+use Rattle.ffi3_type_rules.specs.declared.limits.TheConstants.{STACK}
+use Rattle.ffi3_type_rules.specs.Tree.{Tree}
+use Rattle.ffi3_type_rules.specs.Value.{ValueTree, void_value}
+use Rattle.ffi3_type_rules.specs.ValueText.{value_text_of}
+use Rattle.ffi3_place_rules.specs.Event.{Event}
+use Rattle.ffi3_run_rules.specs.declared.Stop.{Stop}
+use Rattle.ffi3_run_rules.specs.declared.Stop.TheVariants.{MoveLimit}
+use Rattle.ffi3_run_rules.specs.Closures.{Closures}
+use Rattle.ffi3_run_rules.specs.Lines.{untraced, a_line, stop_text, text}
+use Rattle.ffi3_run_rules.specs.Meaning.{Program, Activation, Effect, ends, stops, prints, goes_on, returned, stopped, effect_of, next_move, with_result}
+use Rattle.ffi3_run_rules.specs.Move.{Move, print, return}
+use Rattle.ffi3_run_rules.specs.Trace.{TraceItem, Line, StopLine}
+use Rattle.ffi3_turn_rules.specs.Left.{Left, Suspended, Bottom, before, only, only_stops, as_main, rest, alone}
+use Rattle.ffi3_turn_rules.specs.Depth.{deepest, depth_at}
+use Rattle.ffi3_turn_rules.specs.SoFar.{Base, Position, left_at_position, text_after, HasComeTo, IsOver}
+use Rattle.ffi3_turn_rules.proofs.Steps.{rest_at_limit, rest_stops, rest_ends}
+use Rattle.ffi3_turn_rules.proofs.Depths.{depth_at-append}
+use Rattle.ffi3_turn_rules.proofs.Coming.{comes_on, comes_by_print, deepest_same}
+use Rattle.ffi3_turn_rules.proofs.Ending as ending
+use Rattle.ffi3_machine.specs.State.{State, with_code}
+use Rattle.ffi3_closures.specs.Slots.{HoldsMap}
+use Rattle.ffi3_io.specs.Sink.{Adds, AddsSome, Rose, SinkState}
+use Rattle.ffi3_io.specs.Written.{TookText}
+use Rattle.ffi3_io.specs.declared.IoError.TheVariants as cut
+use Rattle.ffi3_io.proofs.Adding.{Adds-then}
+use Rattle.ffi3_io.proofs.Writing.{took_then}
+use Rattle.ffi3_board.specs.Known.{AreKnown}
+use Rattle.ffi3_board.specs.WroteLine.{LineFailed}
+use Rattle.ffi3_board.specs.Between.{Beginning, Moment, asking, position, text_of, depth_below, open_calls_at, IsBetween, IsAsking}
+use Rattle.ffi3_board.specs.Turned.{IsEnded, WasCutOff}
+use Rattle.ffi3_board.proofs.Marks.{mark_same, fewer, text_then}
+use Rattle.ffi3_board.proofs.Opened.{holds_by_code}
+
+-- the same from an equal number
+fault_from : (a b c : ℕ) → b ≡ a → Rose b c × (b ≤ c) → Rose a c × (a ≤ c)
+fault_from a b c is h = subst (λ (n : ℕ). Rose n c × (n ≤ c)) is h
+
+module _ (p : Program) (base : Base) (all : Left) (first : Beginning) (own : List TraceItem) (events : List Event) where
+  -- ---- cut off
+
+  -- FOR WANT OF MEMORY, between two moves
+  pub cut_between : (x : Moment) (m : State) → m.events ≡ x.machine.events → IsBetween p base all first own events x → WasCutOff p base all first cut.NoMemory m x.output
+  cut_between x m same h = record {
+    events = events;
+    text = text_of p base own;
+    cut = ending.cut_here p base all own events untraced (position x) h.come;
+    journal = same ∙ h.journal;
+    written = h.written.added;
+    cause = h.written.count;
+  }
+
+  module _ (x : Moment) (h : IsBetween p base all first own events x) (output : SinkState) (line : List ℕ) (failed : LineFailed line x.output output) where
+    -- the bytes that are written then
+    part_written : Adds first.output.taken (text_of p base own ++ take failed.part.0 line) output.taken
+    part_written =
+        Adds-then first.output.taken x.output.taken output.taken (text_of p base own) (take failed.part.0 line) h.written.added failed.part.2
+
+    part_cause : Rose first.output.faults output.faults × (first.output.faults ≤ output.faults)
+    part_cause =
+        fault_from first.output.faults x.output.faults output.faults h.written.count (failed.rose, failed.never_falls)
+
+  -- ---- no move is left
+
+  module _ (x : Moment) (none : x.moves ≡ 0) (h : IsBetween p base all first own events x) where
+    at_limit : HasComeTo p base all own events (record { path = (position x).path; closures = x.closures; moves = 0 })
+    at_limit =
+        let P = λ (n : ℕ). HasComeTo p base all own events (record { path = (position x).path; closures = x.closures; moves = n }) in
+        subst P none h.come
+
+    limit_left : left_at_position p base (position x) ≡ only_stops MoveLimit x.closures 0
+    limit_left =
+        ap (λ (n : ℕ). rest p base.bottom (position x).path x.closures n) none ∙ rest_at_limit p base.bottom (position x).path x.closures
+
+    pub limit_ends : (output : SinkState) → TookText (a_line (stop_text p.signatures MoveLimit)) x.output output → IsEnded p base all first (stopped MoveLimit) x.closures x.moves x.machine output
+    limit_ends output took =
+        let done : all ≡ before own (only_stops MoveLimit x.closures 0) = h.come.follows ∙ ap (before own) limit_left in
+        let trace : all.trace ≡ own ++ StopLine MoveLimit ∷ [] = ap (λ (l : Left). l.trace) done in
+        let line = a_line (stop_text p.signatures MoveLimit) in
+        let O = λ (n : ℕ). IsOver p base all (stopped MoveLimit) x.closures n events in
+        record {
+          events = events;
+          over = subst O (sym none) (ending.limit_here p base all own events (position x).path x.closures at_limit);
+          journal = h.journal;
+          written = took_then first.output x.output output (text_of p base own) line (text_of p base all.trace) (ap (text_of p base) trace ∙ text_then p base own (StopLine MoveLimit)) h.written took;
+          mark = mark_same base.top first.mark (deepest p (depth_below p base) own) (deepest p (depth_below p base) all.trace) x.machine.mark x.machine.mark (ap (deepest p (depth_below p base)) trace ∙ deepest_same p (depth_below p base) own (StopLine MoveLimit) (omega arith)) refl h.mark;
+          target = h.calls.target;
+          holds = h.holds;
+        }
+
+    pub limit_failed : (output : SinkState) → LineFailed (a_line (stop_text p.signatures MoveLimit)) x.output output → WasCutOff p base all first cut.Failed x.machine output
+    limit_failed output failed =
+        let line = a_line (stop_text p.signatures MoveLimit) in
+        record {
+          events = events;
+          text = text_of p base own ++ take failed.part.0 line;
+          cut = ending.cut_in_limit p base all own events untraced (position x).path x.closures failed.part.0 at_limit failed.part.1;
+          journal = h.journal;
+          written = part_written x h output line failed;
+          cause = part_cause x h output line failed;
+        }
+
+  -- ---- a move that is asked for
+
+  module _ (x : Moment) (asked : Move) (is : IsAsking p base all first own events x asked) where
+    abbrev a : Activation
+    a = x.innermost
+
+    abbrev outer : List Suspended
+    outer = x.suspended
+
+    does_so : (d : Effect) → effect_of p x.innermost x.closures asked ≡ d → effect_of p x.innermost x.closures (next_move p x.innermost) ≡ d
+    does_so d does = ap (effect_of p x.innermost x.closures) is.asks ∙ does
+
+    -- THE RUN STOPS
+    module _ (stop : Stop) (does : effect_of p x.innermost x.closures asked ≡ stops stop) where
+      stop_left : left_at_position p base (position (asking x)) ≡ only_stops stop x.closures x.moves
+      stop_left = rest_stops p base.bottom a outer x.closures x.moves stop (does_so (stops stop) does)
+
+      pub stop_ends : (output : SinkState) → TookText (a_line (stop_text p.signatures stop)) x.output output → IsEnded p base all first (stopped stop) x.closures x.moves x.machine output
+      stop_ends output took =
+          let h = is.between in
+          let done : all ≡ before own (only_stops stop x.closures x.moves) = h.come.follows ∙ ap (before own) stop_left in
+          let trace : all.trace ≡ own ++ StopLine stop ∷ [] = ap (λ (l : Left). l.trace) done in
+          let line = a_line (stop_text p.signatures stop) in
+          record {
+            events = events;
+            over = ending.stops_here p base all own events a outer x.closures x.moves h.come stop (does_so (stops stop) does);
+            journal = h.journal;
+            written = took_then first.output x.output output (text_of p base own) line (text_of p base all.trace) (ap (text_of p base) trace ∙ text_then p base own (StopLine stop)) h.written took;
+            mark = mark_same base.top first.mark (deepest p (depth_below p base) own) (deepest p (depth_below p base) all.trace) x.machine.mark x.machine.mark (ap (deepest p (depth_below p base)) trace ∙ deepest_same p (depth_below p base) own (StopLine stop) (omega arith)) refl h.mark;
+            target = h.calls.target;
+            holds = h.holds;
+          }
+
+      pub stop_failed : (output : SinkState) → LineFailed (a_line (stop_text p.signatures stop)) x.output output → WasCutOff p base all first cut.Failed x.machine output
+      stop_failed output failed =
+          let h = is.between in
+          let line = a_line (stop_text p.signatures stop) in
+          record {
+            events = events;
+            text = text_of p base own ++ take failed.part.0 line;
+            cut = ending.cut_in_stop p base all own events a outer x.closures x.moves h.come untraced stop failed.part.0 (does_so (stops stop) does) failed.part.1;
+            journal = h.journal;
+            written = part_written (asking x) h output line failed;
+            cause = part_cause (asking x) h output line failed;
+          }
+
+    -- MAIN RETURNS
+    pub main_ends : (v : ValueTree) → effect_of p x.innermost x.closures asked ≡ ends v → x.suspended ≡ [] → base.bottom ≡ as_main → IsEnded p base all first (returned v) x.closures x.moves x.machine x.output
+    main_ends v does none main =
+        let h = is.between in
+        let P = λ (l : List Suspended). HasComeTo p base all own events (record { path = record { innermost = a; suspended = l }; closures = x.closures; moves = suc x.moves }) in
+        let come = subst P none h.come in
+        let Q = λ (bottom : Bottom). rest p bottom (alone a) x.closures (suc x.moves) ≡ only [] (returned v) x.closures x.moves in
+        let left : rest p base.bottom (alone a) x.closures (suc x.moves) ≡ only [] (returned v) x.closures x.moves = subst Q (sym main) (rest_ends p a x.closures x.moves v (does_so (ends v) does)) in
+        let done : all ≡ before own (only [] (returned v) x.closures x.moves) = come.follows ∙ ap (before own) left in
+        let trace : all.trace ≡ own = ap (λ (l : Left). l.trace) done ∙ append-nil own in
+        let T = λ (l : List TraceItem). TookText (text_of p base l) first.output x.output in
+        record {
+          events = events;
+          over = ending.main_ends p base all own events a x.closures x.moves v come (does_so (ends v) does) main;
+          journal = h.journal;
+          written = subst T (sym trace) h.written;
+          mark = mark_same base.top first.mark (deepest p (depth_below p base) own) (deepest p (depth_below p base) all.trace) x.machine.mark x.machine.mark (ap (deepest p (depth_below p base)) trace) refl h.mark;
+          target = h.calls.target;
+          holds = h.holds;
+        }
+
+    -- A LINE IS PRINTED
+    module _ (t : Tree) (v : ValueTree) (does : effect_of p x.innermost x.closures asked ≡ prints t v) where
+      abbrev printed : SinkState → Moment
+      printed output = record x { innermost = with_result x.innermost void_value; output = output }
+
+      pub print_on : (output : SinkState) → TookText (a_line (value_text_of t v)) x.output output → IsBetween p base all first (own ++ Line t v ∷ []) events (printed output)
+      print_on output took =
+          let h = is.between in
+          record {
+            needs = h.needs;
+            count = h.count;
+            top = h.top;
+            come = comes_by_print p base all own events a x.closures x.moves outer t v h.come (does_so (prints t v) does);
+            journal = h.journal;
+            written = took_then first.output x.output output (text_of p base own) (a_line (value_text_of t v)) (text_of p base (own ++ Line t v ∷ [])) (text_then p base own (Line t v)) h.written took;
+            mark = mark_same base.top first.mark (deepest p (depth_below p base) own) (deepest p (depth_below p base) (own ++ Line t v ∷ [])) x.machine.mark x.machine.mark (deepest_same p (depth_below p base) own (Line t v) (omega arith)) refl h.mark;
+            deep = ap (λ (n : ℕ). x.machine.sp + n) (depth_at-append p (depth_below p base) own (Line t v ∷ [])) ∙ h.deep;
+            left = h.left;
+            calls = h.calls;
+            holds = h.holds;
+            known = h.known;
+            few = omega (arith, length-append x.innermost.results (void_value ∷ []), h.few);
+            others_few = fewer x.moves outer h.others_few;
+          }
+
+      pub print_failed : (output : SinkState) → LineFailed (a_line (value_text_of t v)) x.output output → WasCutOff p base all first cut.Failed x.machine output
+      print_failed output failed =
+          let h = is.between in
+          let line = a_line (value_text_of t v) in
+          record {
+            events = events;
+            text = text_of p base own ++ take failed.part.0 line;
+            cut = ending.cut_in_print p base all own events a outer x.closures x.moves h.come untraced t v failed.part.0 (does_so (prints t v) does) failed.part.1;
+            journal = h.journal;
+            written = part_written (asking x) h output line failed;
+            cause = part_cause (asking x) h output line failed;
+          }
+
+    -- THE CLOSURES CHANGE, and code is written
+    module _ (r : ValueTree) (closures : Closures) (does : effect_of p x.innermost x.closures asked ≡ goes_on r closures) (address : ℕ) (bytes : List ℕ) where
+      abbrev changed : Moment
+      changed = record x { innermost = with_result x.innermost r; closures = closures; machine = with_code address bytes x.machine }
+
+      pub change_on : HoldsMap base.standard.target closures (with_code address bytes x.machine).code → AreKnown p closures → IsBetween p base all first own events changed
+      change_on holds known =
+          let h = is.between in
+          record {
+            needs = h.needs;
+            count = h.count;
+            top = h.top;
+            come = comes_on p base all own events a x.closures x.moves outer r closures h.come (does_so (goes_on r closures) does);
+            journal = h.journal;
+            written = h.written;
+            mark = h.mark;
+            deep = h.deep;
+            left = h.left;
+            calls = holds_by_code base.standard p.signatures base.held base.top address bytes x.machine x.calls (open_calls_at p base events x) h.calls;
+            holds = holds;
+            known = known;
+            few = omega (arith, length-append x.innermost.results (r ∷ []), h.few);
+            others_few = fewer x.moves outer h.others_few;
+          }

@@ -1,0 +1,115 @@
+-- A run between two moves.
+use Rattle.std.specs.Prelude.{◌≡◌, ℕ, suc, ◌+◌, ◌≤◌, ◌⊎◌, ⊤, List, [], ◌∷◌, ◌++◌, length, reverse, Option}
+use Rattle.ffi3_type_rules.specs.declared.limits.TheConstants.{STACK, STACK_TOP}
+use Rattle.ffi3_type_rules.specs.Signature.{Signature}
+use Rattle.ffi3_place_rules.specs.Event.{Event}
+use Rattle.ffi3_place_rules.specs.Standard.{Standard, need_of}
+use Rattle.ffi3_run_rules.specs.Closures.{Closures}
+use Rattle.ffi3_run_rules.specs.Journal.{Entered}
+use Rattle.ffi3_run_rules.specs.Lines.{untraced, text}
+use Rattle.ffi3_run_rules.specs.Meaning as meaning
+use Rattle.ffi3_run_rules.specs.Meaning.{Program, most_moves, next_move}
+use Rattle.ffi3_run_rules.specs.Move.{Move}
+use Rattle.ffi3_run_rules.specs.Trace.{TraceItem}
+use Rattle.ffi3_turn_rules.specs.Left.{Left, Suspended, awaited}
+use Rattle.ffi3_turn_rules.specs.Depth.{depth_at, deepest, depth_of}
+use Rattle.ffi3_turn_rules.specs.SoFar.{Base, text_start, Position, open_at, HasComeTo}
+use Rattle.ffi3_machine.specs.State.{State}
+use Rattle.ffi3_closures.specs.Slots.{HoldsMap}
+use Rattle.ffi3_io.specs.Sink.{SinkState}
+use Rattle.ffi3_io.specs.Written.{TookText}
+use Rattle.ffi3_board.specs.declared.activation.OpenCall.{OpenCall}
+use Rattle.ffi3_board.specs.declared.activation.Activation.{Activation}
+use Rattle.ffi3_board.specs.declared.activation.Waiting.{Waiting}
+use Rattle.ffi3_board.specs.declared.board.Board.{Board}
+use Rattle.ffi3_board.specs.Known.{AreKnown}
+use Rattle.ffi3_board.specs.Path.{acting, call_inside, suspended_at, calls_of}
+use Rattle.ffi3_board.specs.Stack.{HoldsCalls}
+
+-- what a run found as it began: the journal, the mark, and what the output had taken
+pub record Beginning : Type 0 where
+  pub events : List Event
+  pub mark : ℕ
+  pub output : SinkState
+
+-- what stands between two moves
+pub record Moment : Type 0 where
+  pub innermost : meaning.Activation
+  pub suspended : List Suspended
+  pub calls : List OpenCall
+  pub closures : Closures
+  pub moves : ℕ
+  pub machine : State
+  pub output : SinkState
+
+-- before the move that was counted last
+abbrev pub asking : Moment → Moment
+asking x = record x { moves = suc x.moves }
+
+abbrev pub position : Moment → Position
+position x = record {
+  path = record { innermost = x.innermost; suspended = x.suspended };
+  closures = x.closures;
+  moves = x.moves;
+}
+
+-- what is done of a run's text
+abbrev pub text_of : Program → Base → List TraceItem → List ℕ
+text_of p base own = text untraced p.signatures (text_start p base) own
+
+-- the calls that were open as the run began take so many bytes
+abbrev pub depth_below : Program → Base → ℕ
+depth_below p base = depth_of p (awaited base.bottom [])
+
+-- no byte was written below the stack that calls took, this deep
+abbrev pub IsMarkOf : (top first deep mark : ℕ) → Type 0
+IsMarkOf top first deep mark = (first ≤ mark) ⊎ (top ≤ mark + deep)
+
+-- each activation that waits has no more results than moves were done
+abbrev pub AreFew : ℕ → List Suspended → Type 0
+AreFew moves [] = ⊤
+AreFew moves (s ∷ outer) = (length s.activation.results + moves ≤ most_moves) × AreFew moves outer
+
+-- the calls that are open at this moment, after these events of the run
+abbrev pub open_calls_at : Program → Base → List Event → Moment → List Entered
+open_calls_at p base events x = open_at p base x.suspended events
+
+-- WHAT HOLDS BETWEEN TWO MOVES of a run with this base, of which all this was left as it began: this trace is done of it, these events answer to it, and the path's calls stand on the machine's stack.
+pub record IsBetween (p : Program) (base : Base) (all : Left) (first : Beginning) (own : List TraceItem) (events : List Event) (x : Moment) : Type 0 where
+  pub needs : p.need ≡ need_of base.standard
+  pub count : base.count ≡ length first.events
+  pub top : base.top ≤ STACK_TOP
+  pub come : HasComeTo p base all own events (position x)
+  pub journal : x.machine.events ≡ first.events ++ events
+  pub written : TookText (text_of p base own) first.output x.output
+  pub mark : IsMarkOf base.top first.mark (deepest p (depth_below p base) own) x.machine.mark
+  pub deep : x.machine.sp + depth_at p (depth_below p base) own ≡ base.top
+  pub left : x.innermost.left + STACK ≡ x.machine.sp
+  pub calls : HoldsCalls base.standard p.signatures base.held base.top x.machine x.calls (open_calls_at p base events x)
+  pub holds : HoldsMap base.standard.target x.closures x.machine.code
+  pub known : AreKnown p x.closures
+  pub few : length x.innermost.results + x.moves ≤ most_moves
+  pub others_few : AreFew x.moves x.suspended
+
+-- the innermost activation asks for this move, which was counted
+pub record IsAsking (p : Program) (base : Base) (all : Left) (first : Beginning) (own : List TraceItem) (events : List Event) (x : Moment) (asked : Move) : Type 0 where
+  pub between : IsBetween p base all first own events (asking x)
+  pub asks : next_move p x.innermost ≡ asked
+
+module _ {S : Type 0} where
+  -- the moment at which this activation is the innermost, inside those that wait
+  abbrev pub moment_with : List Signature → Option OpenCall → List (Waiting S) → Closures → ℕ → State → SinkState → Activation S → Moment
+  moment_with signatures served outer closures moves machine output a = record {
+    innermost = acting signatures machine (call_inside served outer) a;
+    suspended = suspended_at signatures machine served outer;
+    calls = calls_of served outer;
+    closures = closures;
+    moves = moves;
+    machine = machine;
+    output = output;
+  }
+
+  -- the moment of a board, inside whose activations this one is the innermost
+  abbrev pub moment : List Signature → Activation S → Board S → State → SinkState → Moment
+  moment signatures a b machine output =
+      moment_with signatures b.served (reverse b.suspended.items) b.table b.moves machine output a

@@ -1,0 +1,20 @@
+//! What a run keeps between two moves, and what each kind of move does to it, to the machine and
+//! to the output: of any nesting of calls, by any calling standard. Which move is next is not
+//! known here.
+#![tactic(auto)]
+
+mod activation;
+mod board;
+mod callee;
+mod calls;
+mod cifs;
+mod line;
+mod making;
+mod printing;
+mod stopping;
+
+pub use activation::{Activation, OpenCall, Waiting, Who};
+pub use board::{Board, Turn};
+pub use cifs::Cifs;
+pub use ffi3_closures::{Closure, Table};
+pub use ffi3_run_rules::Stop;

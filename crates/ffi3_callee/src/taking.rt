@@ -1,0 +1,114 @@
+// How a callee takes an argument: from its place straight into the block, without a buffer between.
+ghost use Rattle.std.specs.Prelude.{◌≡◌, ◌+◌, ◌-◌, ◌≤◌};
+ghost use Rattle.std.specs.List.{AllByRecursion};
+ghost use Rattle.ffi3_type_rules.specs.declared.limits.TheConstants.{STACK, STACK_TOP};
+ghost use Rattle.ffi3_type_rules.specs.Layout.{size_of};
+ghost use Rattle.ffi3_type_rules.specs.Fault.{IsResultType};
+ghost use Rattle.ffi3_types.specs.TreeOf.{tree_of};
+ghost use Rattle.ffi3_place_rules.specs.Sound.{PlaceHasAll};
+ghost use Rattle.ffi3_cif.specs.Runs.{AreRunsOf, Neighbours, Rises, pieces_of};
+ghost use Rattle.ffi3_machine.specs.State.{stack_at};
+ghost use Rattle.ffi3_pieces.specs.Stored.{IsPlace, IsWithin, WroteOnly};
+ghost use Rattle.ffi3_pieces.specs.Runs.{RunLies};
+ghost use Rattle.ffi3_pieces.specs.Standing.{PlaceLies};
+ghost use Rattle.ffi3_callee.specs.Loaded.{IsFound, IsRead};
+ghost use Rattle.ffi3_callee.specs.Moved.{ArePiecesMoved, AreRunsMoved, IsPieceMoved, is_on_stack};
+
+use ffi3_cif::Runs;
+use ffi3_machine::Machine;
+use ffi3_pieces::{place_bytes, place_word};
+use ffi3_place::parts::size_of;
+use ffi3_place::{Loc, Piece, Pieces, Place};
+use ffi3_types::FfiType;
+
+// Copies an argument's bytes that stand on the stack, run by run, to the argument's copy at `to`. Stack places count from the address `base`.
+fn copy_runs(machine: &mut Machine, base: u64, runs: &Runs, to: u64)
+    requires low { STACK ≤ to }
+    requires below { to ≤ base }
+    requires high { base ≤ STACK_TOP }
+    requires lie { AllByRecursion (RunLies (STACK_TOP - base) (base - to)) runs.now }
+    requires rising { Neighbours Rises runs.now }
+    ensures { AreRunsMoved base to runs.now machine.old machine.new }
+{
+    // its contract tells what is true of every machine
+    let _m = machine.sp();
+    for i in (0..runs.len()).rev() {
+        let run = runs.get(i);
+        machine.copy_stack(base + run.at as u64, to + run.off as u64, run.len as u64);
+    }
+}
+
+fn is_on_stack(at: Loc) -> bool
+    ensures { result ≡ is_on_stack at }
+{
+    match at {
+        Loc::S(_) => true,
+        Loc::G(_) => false,
+        Loc::F(_) => false,
+    }
+}
+
+// Copies the bytes of a piece in a register to the argument's copy at `to`. A piece on the stack is left to the runs.
+fn copy_register(machine: &mut Machine, base: u64, piece: &Piece, to: u64)
+    requires low { STACK ≤ to }
+    requires below { to ≤ base }
+    requires high { base ≤ STACK_TOP }
+    requires lies { IsPlace (STACK_TOP - base) piece.now.loc }
+    requires within { IsWithin (base - to) piece.now }
+    ensures { IsPieceMoved base to piece.now machine.old machine.new }
+{
+    // its contract tells what is true of every machine
+    let _m = machine.sp();
+    if !is_on_stack(piece.loc) {
+        let bytes = place_bytes(machine, base, piece.loc);
+        machine.store_stack(to + piece.off as u64, &bytes[..piece.len as usize]);
+    }
+}
+
+// Copies the bytes of all pieces in registers to the argument's copy at `to`.
+fn copy_registers(machine: &mut Machine, base: u64, pieces: &Pieces, to: u64)
+    requires low { STACK ≤ to }
+    requires below { to ≤ base }
+    requires high { base ≤ STACK_TOP }
+    requires lie { AllByRecursion (λ p. IsPlace (STACK_TOP - base) p.loc) pieces.now }
+    requires within { AllByRecursion (IsWithin (base - to)) pieces.now }
+    ensures { ArePiecesMoved base to pieces.now machine.old machine.new }
+{
+    for i in 0..pieces.len() {
+        copy_register(machine, base, pieces.get(i), to);
+    }
+}
+
+// Copies an argument from its place to an address: what stands on the stack by runs, a copy by reference from the address that is found. Stack places count from the address `base`.
+pub fn copy_argument(
+    machine: &mut Machine,
+    base: u64,
+    place: &Place,
+    runs: &Runs,
+    ty: &FfiType,
+    to: u64,
+)
+    requires low { STACK ≤ to }
+    requires below { to + size_of (tree_of ty.now) ≤ base }
+    requires high { base ≤ STACK_TOP }
+    requires lies { PlaceLies (STACK_TOP - base) (tree_of ty.now) place.now }
+    requires has_all { PlaceHasAll (tree_of ty.now) place.now }
+    requires runs { AreRunsOf (pieces_of place.now) runs.now }
+    requires found { IsFound base machine.old place.now }
+    requires right { IsResultType (tree_of ty.now) }
+    ensures read { IsRead base machine.old (tree_of ty.now) place.now (stack_at to (size_of (tree_of ty.now)) machine.new) }
+    ensures only { WroteOnly to (to + size_of (tree_of ty.now)) machine.old machine.new }
+{
+    // its contract tells what is true of every machine
+    let _m = machine.sp();
+    match place {
+        Place::Direct(pieces) => {
+            copy_runs(machine, base, runs, to);
+            copy_registers(machine, base, pieces, to);
+        }
+        Place::ByRef { at, .. } => {
+            let start = place_word(machine, base, *at);
+            machine.copy_stack(start, to, size_of(ty));
+        }
+    }
+}

@@ -1,0 +1,98 @@
+-- The callee has recorded its entry and taken its arguments.
+use Rattle.std.proofs.Common.{◌≡◌, ℕ, ◌+◌, ◌-◌, ◌≤◌, List, [], ◌∷◌, ◌++◌, length, refl, ap, sym, ◌∙◌, subst, arith}
+use Rattle.std.proofs.lemmas.List.{length-append}
+use Rattle.ffi3_type_rules.specs.declared.limits.TheConstants.{STACK, STACK_TOP}
+use Rattle.ffi3_type_rules.specs.Isa.{isa_of}
+use Rattle.ffi3_type_rules.specs.Signature.{Signature}
+use Rattle.ffi3_type_rules.specs.Value.{ValueTree}
+use Rattle.ffi3_place_rules.specs.declared.Loc.{Loc}
+use Rattle.ffi3_place_rules.specs.declared.Loc.TheVariants.{G, F, S}
+use Rattle.ffi3_place_rules.specs.declared.Res.{Res}
+use Rattle.ffi3_place_rules.specs.declared.Res.TheVariants.{Nothing, Direct, Hidden}
+use Rattle.ffi3_place_rules.specs.declared.SaveWord.{SaveWord}
+use Rattle.ffi3_place_rules.specs.declared.SaveWord.TheVariants.{Register, Hidden as HiddenWord, Spare}
+use Rattle.ffi3_place_rules.specs.Isa.{link_register}
+use Rattle.ffi3_place_rules.specs.Event.{Event}
+use Rattle.ffi3_place_rules.specs.Standard.{Standard, block_bytes, frame_of, plan_of}
+use Rattle.ffi3_place_rules.specs.Agrees.{AgreesWithMachine}
+use Rattle.ffi3_place_rules.specs.Sound.{IsSound}
+use Rattle.ffi3_place_rules.proofs.Tests.{each_at, each_weaker}
+use Rattle.ffi3_machine.specs.State.{State, HasReturnAddress, HasReturnAt, after_enter, image_of}
+use Rattle.ffi3_pieces.specs.Stored.{WroteWithin, word_in}
+use Rattle.ffi3_callee.specs.Given.{IsAddressOf, ReservedStay}
+use Rattle.ffi3_callee.specs.Received.{IsReceived, OwnsAtEntry, hidden_of}
+use Rattle.ffi3_callee.specs.Saved.{IsSaveable, hidden_word, word_to_save}
+use Rattle.ffi3_callee.proofs.Entry.{address_owned}
+use Rattle.ffi3_callee.proofs.Laws.{words_saveable}
+use Rattle.ffi3_invoke.specs.Calls.{IsInCallee, buffer_address, entry_at, saved_of, with_journal_of}
+use Rattle.ffi3_invoke.proofs.Passed.{reserved_places_lie, same_in}
+use Rattle.ffi3_invoke.proofs.Stretches.{above_stays, return_same}
+
+pub counted : (es : List Event) (e : Event) → length (es ++ e ∷ []) ≡ length es + 1
+counted es e = length-append es (e ∷ [])
+
+module _ (std : Standard) (s : Signature) (agrees : AgreesWithMachine std) (m r : State) (received : IsReceived std s (after_enter (std.link + frame_of std s) m) r) where
+  abbrev entered : State
+  entered = after_enter (std.link + frame_of std s) m
+
+  -- an event is recorded beside the registers and the stack
+  word_beside : (base : ℕ) (l : Loc) → word_in base entered l ≡ word_in base m l
+  word_beside base (G k) = refl
+  word_beside base (F k) = refl
+  word_beside base (S k) = refl
+
+  pub reserved_beside : ReservedStay std entered r → ReservedStay std m r
+  reserved_beside stay =
+      each_weaker (λ at. word_in STACK_TOP r at ≡ word_in STACK_TOP entered at) (λ at. word_in STACK_TOP r at ≡ word_in STACK_TOP m at) (λ at h. h ∙ word_beside STACK_TOP at) std.reserved stay
+
+  pub within_beside : WroteWithin r.sp m.sp m (with_journal_of m r)
+  within_beside =
+      let w = received.within in record {
+        size = w.size;
+        outside = w.outside;
+        mark = w.mark;
+        target = w.target;
+        pc = refl;
+        code = w.code;
+        events = refl;
+        spare_events = refl;
+        spare_bytes = refl;
+      }
+
+  -- ---- what stands in the save area
+
+  hidden_is : (base n : ℕ) (res : Res) → base ≡ (image_of n m).sp + std.link → IsAddressOf base (hidden_word base entered (hidden_of res)) res → hidden_word base entered (hidden_of res) ≡ buffer_address std (image_of n m) res
+  hidden_is base n Nothing is h = refl
+  hidden_is base n (Direct pieces) is h = refl
+  hidden_is base n (Hidden at buffer) is h = h ∙ ap (λ k. k + buffer) is
+
+  word_is : (vs : List ValueTree) → IsSound std s → STACK ≤ m.sp → OwnsAtEntry std s m vs → (w : SaveWord) → IsSaveable 0 w → word_to_save (m.sp + std.link) entered (hidden_of (plan_of std s).res) w ≡ saved_of std s (image_of (std.link + frame_of std s) m) w
+  word_is vs sound low own (Register (G k)) lies = refl
+  word_is vs sound low own (Register (F k)) lies = refl
+  word_is vs sound low own (Register (S k)) lies = absurd (omega (arith, lies))
+  word_is vs sound low own HiddenWord lies =
+      hidden_is (m.sp + std.link) (std.link + frame_of std s) (plan_of std s).res refl (address_owned std s entered vs sound low own)
+  word_is vs sound low own Spare lies = refl
+
+  -- THE CALLEE OF AN OPEN CALL RUNS
+  pub in_callee : (vs : List ValueTree) → IsSound std s → m.target ≡ std.target → STACK + std.save + block_bytes s ≤ m.sp → m.sp + std.link + frame_of std s ≤ STACK_TOP → OwnsAtEntry std s m vs → ReservedStay std m r → HasReturnAddress m → 2 ≤ m.spare_events → std.link + frame_of std s + frame_of std s ≤ m.spare_bytes → IsInCallee std (record { signature = s; event = entry_at std s m }) r
+  in_callee vs sound target room frame own stay back events bytes =
+      let w = received.within in
+      let sp = received.sp in
+      let low : STACK ≤ m.sp = omega (arith, room) in
+      let at_standard = subst (λ k. HasReturnAt (link_register (isa_of k)) m.general m.sp m.stack) target back in
+      let spare_events : r.spare_events ≡ m.spare_events - 1 = w.spare_events in
+      let spare_bytes : r.spare_bytes ≡ m.spare_bytes - (std.link + frame_of std s) = w.spare_bytes in
+      record {
+        target = w.target ∙ target;
+        stands = record {
+          place = received.sp;
+          bottom = omega (arith, sp, room);
+          top = frame;
+          saved = λ i word below is. received.saved i word below is ∙ word_is vs sound low own word (each_at (IsSaveable 0) std.save_area i word below (sym is) (words_saveable std agrees));
+          return_address = return_same (link_register (isa_of std.target)) m.general m.sp m.stack r.stack (λ none. above_stays r.sp m.sp entered r w m.sp 8 low (omega arith)) at_standard;
+        };
+        reserved = same_in (std.link + frame_of std s) 0 m r std.reserved (reserved_places_lie std agrees) stay;
+        room = omega (arith, spare_events, events);
+        bytes = omega (arith, spare_bytes, bytes);
+      }

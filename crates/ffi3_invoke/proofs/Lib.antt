@@ -1,0 +1,7 @@
+pub mod Stretches
+pub mod Reached
+pub mod Changed
+pub mod Passed
+pub mod Accepted
+pub mod Returned
+pub mod Made

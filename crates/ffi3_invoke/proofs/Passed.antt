@@ -1,0 +1,159 @@
+-- The machine at ENTRY, once the arguments are stored, the slot is called and its trampoline has run.
+use Rattle.std.proofs.Common.{◌≡◌, ℕ, ◌+◌, ◌-◌, ◌≤◌, List, [], ◌∷◌, ◌++◌, length, refl, ap, sym, ◌∙◌, subst, arith}
+use Rattle.std.specs.List.{AllByRecursion}
+use Rattle.ffi3_type_rules.specs.declared.Isa.{Isa}
+use Rattle.ffi3_type_rules.specs.declared.Isa.TheVariants.{Amd64, Aarch64, Riscv}
+use Rattle.ffi3_type_rules.specs.declared.limits.TheConstants.{STACK, STACK_TOP}
+use Rattle.ffi3_type_rules.specs.Isa.{isa_of}
+use Rattle.ffi3_type_rules.specs.Signature.{Signature}
+use Rattle.ffi3_type_rules.specs.Value.{ValueTree}
+use Rattle.ffi3_place_rules.specs.declared.Loc.{Loc}
+use Rattle.ffi3_place_rules.specs.declared.Loc.TheVariants.{G, F, S}
+use Rattle.ffi3_place_rules.specs.Isa.{link_place, link_register, pushed_bytes, reserved_places, scribble, trampoline_registers}
+use Rattle.ffi3_place_rules.specs.Image.{Image, register}
+use Rattle.ffi3_place_rules.specs.Standard.{Standard, frame_of}
+use Rattle.ffi3_place_rules.specs.Agrees.{AgreesWithMachine, special}
+use Rattle.ffi3_place_rules.specs.Holds.{Holds, SameIn}
+use Rattle.ffi3_place_rules.specs.Sound.{Apart, IsNoneOf, IsSound, listed}
+use Rattle.ffi3_machine.specs.State.{State, IsMachine, called, image_of, linked_general, scribbled}
+use Rattle.ffi3_closures.specs.Reaching.{reached}
+use Rattle.ffi3_pieces.specs.Stored.{IsPlace, SameAt, WroteWithin, word_in}
+use Rattle.ffi3_pieces.proofs.Lawful.{each_first, each_rest, machine_places}
+use Rattle.ffi3_pieces.proofs.Stepping.{same_word_in}
+use Rattle.ffi3_callee.specs.Given.{ReservedStay}
+use Rattle.ffi3_callee.proofs.Laws.{each_both}
+use Rattle.ffi3_callee.proofs.Results.{register_word}
+use Rattle.ffi3_invoke.specs.Calls.{HasPassed}
+use Rattle.ffi3_invoke.proofs.Changed.{IsChanged, holds_changed}
+use Rattle.ffi3_invoke.proofs.Reached.{link_sized, passes, pushed_within, reserved_clear_of_link, reserved_clear_of_trampoline, return_address_passed, scribbled_there, trampoline_leaves, trampoline_tells}
+use Rattle.ffi3_invoke.proofs.Stretches.{unrecorded, wrote_down}
+
+-- a register of an image is the machine's
+pub register_is : (len : ℕ) (m : State) (l : Loc) → IsPlace 0 l → register (image_of len m) l ≡ word_in STACK_TOP m l
+register_is len m (G r) lies = refl
+register_is len m (F r) lies = refl
+register_is len m (S n) lies = absurd (omega (arith, lies))
+
+-- reserved registers are registers
+reserved_lie : (isa : Isa) → AllByRecursion (IsPlace 0) (reserved_places isa)
+reserved_lie Amd64 = tt
+reserved_lie Aarch64 = (omega arith, tt)
+reserved_lie Riscv = (omega arith, (omega arith, (omega arith, tt)))
+
+pub reserved_places_lie : (std : Standard) → AgreesWithMachine std → AllByRecursion (IsPlace 0) std.reserved
+reserved_places_lie std agrees =
+    subst (AllByRecursion (IsPlace 0)) (sym agrees.reserved) (reserved_lie (isa_of std.target))
+
+-- ---- registers of a list that are the same in two images
+
+-- where they stay in the machine
+pub same_in : (len n : ℕ) (a b : State) (ls : List Loc) → AllByRecursion (IsPlace 0) ls → AllByRecursion (λ at. word_in STACK_TOP b at ≡ word_in STACK_TOP a at) ls → SameIn ls (image_of len a) (image_of n b)
+same_in len n a b [] lie stay = tt
+same_in len n a b (l ∷ ls) lie stay =
+    (register_is len a l lie.0 ∙ sym stay.0 ∙ sym (register_is n b l lie.0), same_in len n a b ls lie.1 stay.1)
+
+pub same_itself : (ls : List Loc) (e : Image) → SameIn ls e e
+same_itself [] e = tt
+same_itself (l ∷ ls) e = (refl, same_itself ls e)
+
+pub same_then : (ls : List Loc) (d e f : Image) → SameIn ls d e → SameIn ls e f → SameIn ls d f
+same_then [] d e f s t = tt
+same_then (l ∷ ls) d e f s t = (s.0 ∙ t.0, same_then ls d e f s.1 t.1)
+
+-- they hold what they held
+pub held_still : (len n : ℕ) (a b : State) (held : Loc → ℕ) (ls : List Loc) → AllByRecursion (IsPlace 0) ls → SameIn ls (image_of len a) (image_of len b) → AllByRecursion (λ at. register (image_of len a) at ≡ held at) ls → AllByRecursion (λ at. register (image_of n b) at ≡ held at) ls
+held_still len n a b held [] lie same h = tt
+held_still len n a b held (l ∷ ls) lie same h =
+    (register_is n b l lie.0 ∙ sym (register_is len b l lie.0) ∙ sym same.0 ∙ h.0, held_still len n a b held ls lie.1 same.1 h.1)
+
+-- ---- the machine at ENTRY
+
+module _ (std : Standard) (s : Signature) (sound : IsSound std s) (agrees : AgreesWithMachine std) (vs : List ValueTree) (pointer : ℕ) (m a : State) (target_is : a.target ≡ std.target) (machine : IsMachine a) (room : STACK + std.link + frame_of std s ≤ m.sp) (top : m.sp ≤ STACK_TOP) (sp : a.sp + frame_of std s ≡ m.sp) (within : WroteWithin a.sp m.sp m a) where
+  abbrev there : State
+  there = reached (called pointer a)
+
+  pushed : std.link ≡ pushed_bytes (isa_of a.target)
+  pushed = agrees.link ∙ ap (λ k. pushed_bytes (isa_of k)) (sym target_is)
+
+  low : STACK + pushed_bytes (isa_of a.target) ≤ a.sp
+  low = let bytes = pushed in omega (arith, bytes, room, sp)
+
+  fits : a.sp - STACK ≤ length a.stack
+  fits = let sized = machine.stack in omega (arith, sized, room, sp, top)
+
+  linked : std.link_register ≡ link_place (isa_of a.target)
+  linked = agrees.link_register ∙ ap (λ k. link_place (isa_of k)) (sym target_is)
+
+  written : std.trampoline_registers ≡ trampoline_registers (isa_of a.target)
+  written = agrees.trampoline ∙ ap (λ k. trampoline_registers (isa_of k)) (sym target_is)
+
+  -- ---- registers
+
+  stays : (l : Loc) → IsPlace 0 l → IsNoneOf (listed std.link_register) l → IsNoneOf std.trampoline_registers l → word_in STACK_TOP there l ≡ word_in STACK_TOP a l
+  stays l lies link trampoline =
+      passes pointer a l lies (subst (λ o. IsNoneOf (listed o) l) linked link) (subst (λ ls. IsNoneOf ls l) written trampoline)
+
+  word_kept : (b c : State) (l : Loc) → IsPlace 0 l → SameAt 0 l b c → word_in STACK_TOP c l ≡ word_in STACK_TOP b l
+  word_kept b c l lies same =
+      register_word STACK_TOP 0 l c lies ∙ same_word_in 0 l b c same ∙ register_word 0 STACK_TOP l b lies
+
+  preserved_there : AllByRecursion (λ l. SameAt 0 l (scribbled (length m.events) m) a) std.preserved → AllByRecursion (λ at. register (image_of (std.link + frame_of std s) there) at ≡ scribble (length m.events) at) std.preserved
+  preserved_there same =
+      each_both (IsNoneOf (special std)) (λ l. IsPlace 0 l × SameAt 0 l (scribbled (length m.events) m) a) (λ at. register (image_of (std.link + frame_of std s) there) at ≡ scribble (length m.events) at) one std.preserved agrees.preserved_plain
+      (each_both (IsPlace 0) (λ l. SameAt 0 l (scribbled (length m.events) m) a) (λ l. IsPlace 0 l × SameAt 0 l (scribbled (length m.events) m) a) (λ l p q. (p, q)) std.preserved (machine_places (isa_of std.target) 0 std.preserved agrees.preserved_exist) same)
+    where
+      old_target : m.target ≡ std.target
+      old_target = sym within.target ∙ target_is
+
+      one : (l : Loc) → IsNoneOf (special std) l → IsPlace 0 l × SameAt 0 l (scribbled (length m.events) m) a → register (image_of (std.link + frame_of std s) there) l ≡ scribble (length m.events) l
+      one l none both =
+          let after_link = std.trampoline_registers ++ (listed std.vector_count ++ listed std.returned_address) in
+          let rest = each_rest (Apart l) std.reserved (listed std.link_register ++ (std.trampoline_registers ++ (listed std.vector_count ++ listed std.returned_address))) none.1 in
+          let link = each_first (Apart l) (listed std.link_register) after_link rest in
+          let trampoline = each_first (Apart l) std.trampoline_registers (listed std.vector_count ++ listed std.returned_address) (each_rest (Apart l) (listed std.link_register) after_link rest) in
+          let reserved = each_first (Apart l) std.reserved (listed std.link_register ++ (std.trampoline_registers ++ (listed std.vector_count ++ listed std.returned_address))) none.1 in
+          let free = subst (λ k. IsNoneOf (reserved_places (isa_of k)) l) (sym old_target) (subst (λ ls. IsNoneOf ls l) agrees.reserved reserved) in
+          register_is (std.link + frame_of std s) there l both.0 ∙ stays l both.0 link trampoline ∙ word_kept (scribbled (length m.events) m) a l both.0 both.1 ∙ scribbled_there (length m.events) m l both.0 free
+
+  reserved_there : AllByRecursion (λ l. SameAt 0 l m a) std.reserved → ReservedStay std m there
+  reserved_there same =
+      each_both (λ l. IsPlace 0 l × SameAt 0 l m a) (λ l. IsNoneOf (listed std.link_register) l × IsNoneOf std.trampoline_registers l) (λ at. word_in STACK_TOP there at ≡ word_in STACK_TOP m at) (λ l p q. stays l p.0 q.0 q.1 ∙ word_kept m a l p.0 p.1) std.reserved
+      (each_both (IsPlace 0) (λ l. SameAt 0 l m a) (λ l. IsPlace 0 l × SameAt 0 l m a) (λ l p q. (p, q)) std.reserved (reserved_places_lie std agrees) same)
+      (each_both (IsNoneOf (listed std.link_register)) (IsNoneOf std.trampoline_registers) (λ l. IsNoneOf (listed std.link_register) l × IsNoneOf std.trampoline_registers l) (λ l p q. (p, q)) std.reserved link trampoline)
+    where
+      link : AllByRecursion (IsNoneOf (listed std.link_register)) std.reserved
+      link = subst (λ o. AllByRecursion (IsNoneOf (listed o)) std.reserved) (sym agrees.link_register) (subst (AllByRecursion (IsNoneOf (listed (link_place (isa_of std.target))))) (sym agrees.reserved) (reserved_clear_of_link (isa_of std.target)))
+
+      trampoline : AllByRecursion (IsNoneOf std.trampoline_registers) std.reserved
+      trampoline = subst (λ ls. AllByRecursion (IsNoneOf ls) std.reserved) (sym agrees.trampoline) (subst (AllByRecursion (IsNoneOf (trampoline_registers (isa_of std.target)))) (sym agrees.reserved) (reserved_clear_of_trampoline (isa_of std.target)))
+
+  -- ---- all together
+
+  changed : IsChanged std.trampoline_registers (image_of (std.link + frame_of std s) (called pointer a)) (image_of (std.link + frame_of std s) there)
+  changed =
+      subst (λ ls. IsChanged ls (image_of (std.link + frame_of std s) (called pointer a)) (image_of (std.link + frame_of std s) there)) (sym written) (record {
+        sp = refl;
+        stack = refl;
+        general = λ r none. trampoline_leaves (isa_of a.target) pointer (linked_general (link_register (isa_of a.target)) a.general) r none;
+        floating = refl;
+      })
+
+  passed_there : AllByRecursion (λ l. SameAt 0 l (scribbled (length m.events) m) a) std.preserved → AllByRecursion (λ l. SameAt 0 l m a) std.reserved → Holds std s vs (image_of (std.link + frame_of std s) (called pointer a)) → HasPassed std s vs pointer m there
+  passed_there preserved reserved holds = record {
+    holds = holds_changed std s sound agrees (image_of (std.link + frame_of std s) (called pointer a)) (image_of (std.link + frame_of std s) there) changed vs holds;
+    pc = refl;
+    closure = trampoline_tells (isa_of a.target) pointer (linked_general (link_register (isa_of a.target)) a.general) (link_sized (isa_of a.target) a.general ∙ machine.general);
+    return_address = return_address_passed pointer a machine.general low fits;
+    preserved = preserved_there preserved;
+    reserved = same_in 0 0 m there std.reserved (reserved_places_lie std agrees) (reserved_there reserved);
+    sp = let bytes = pushed in let above = low in omega (arith, bytes, above, sp);
+    within = wrote_down (a.sp - pushed_bytes (isa_of a.target)) a.sp m.sp m a there (omega arith) (omega (arith, sp)) (unrecorded a.sp m.sp m a within) (pushed_within pointer a low fits);
+    events = within.events;
+    spare_events = within.spare_events;
+    spare_bytes = within.spare_bytes;
+  }
+
+  -- THE ARGUMENTS ARE PASSED
+  pub passed : (c : State) → c ≡ reached (called pointer a) → AllByRecursion (λ l. SameAt 0 l (scribbled (length m.events) m) a) std.preserved → AllByRecursion (λ l. SameAt 0 l m a) std.reserved → Holds std s vs (image_of (std.link + frame_of std s) (called pointer a)) → HasPassed std s vs pointer m c
+  passed c is preserved reserved holds =
+      subst (HasPassed std s vs pointer m) (sym is) (passed_there preserved reserved holds)

@@ -1,0 +1,124 @@
+-- Stretches of the stack in steps that record events, and the open calls that stand above them.
+use Rattle.std.specs.Prelude.{Option, Some, None}
+use Rattle.std.proofs.Common.{◌≡◌, ◌⊎◌, inl, inr, ℕ, ◌+◌, ◌-◌, ◌*◌, ◌<◌, ◌≤◌, min, List, take, drop, get_or, length, refl, ap, sym, ◌∙◌, arith}
+use Rattle.std.proofs.lemmas.List.{ext_get_or, get_or-take, get_or-drop, length-take, length-drop}
+use Rattle.ffi3_type_rules.specs.Isa.{isa_of}
+use Rattle.ffi3_type_rules.specs.declared.limits.TheConstants.{STACK}
+use Rattle.ffi3_place_rules.specs.declared.Loc.TheVariants.{S}
+use Rattle.ffi3_place_rules.specs.Isa.{link_register}
+use Rattle.ffi3_place_rules.specs.Standard.{Standard}
+use Rattle.ffi3_machine.specs.State.{State, HasReturnAt, stack_at}
+use Rattle.ffi3_pieces.specs.Stored.{WroteWithin}
+use Rattle.ffi3_pieces.proofs.Stepping.{same_word_in}
+use Rattle.ffi3_callee.specs.Saved.{saved_word}
+use Rattle.ffi3_invoke.specs.Calls.{KeepsOpen, with_journal_of}
+
+-- ---- steps one after another
+
+-- a step that records nothing
+pub unrecorded : (low high : ℕ) (a b : State) → WroteWithin low high a b → WroteWithin low high a (with_journal_of a b)
+unrecorded low high a b w = record {
+  size = w.size;
+  outside = w.outside;
+  mark = w.mark;
+  target = w.target;
+  pc = refl;
+  code = w.code;
+  events = refl;
+  spare_events = refl;
+  spare_bytes = refl;
+}
+
+-- first a stretch from `mid` to `high`, then one from `low` to `mid`
+pub wrote_down : (low mid high : ℕ) (a b c : State) → low ≤ mid → mid ≤ high → WroteWithin mid high a (with_journal_of a b) → WroteWithin low mid b (with_journal_of b c) → WroteWithin low high a (with_journal_of a c)
+wrote_down low mid high a b c below above s t = record {
+  size = t.size ∙ s.size;
+  outside = λ i far. t.outside i (first i far) ∙ s.outside i (second i far);
+  mark = falls s.mark t.mark;
+  target = t.target ∙ s.target;
+  pc = refl;
+  code = t.code ∙ s.code;
+  events = refl;
+  spare_events = refl;
+  spare_bytes = refl;
+}
+  where
+    first : (i : ℕ) → (STACK + i < low) ⊎ (high ≤ STACK + i) → (STACK + i < low) ⊎ (mid ≤ STACK + i)
+    first i (inl far) = inl far
+    first i (inr far) = inr (omega (arith, above, far))
+
+    second : (i : ℕ) → (STACK + i < low) ⊎ (high ≤ STACK + i) → (STACK + i < mid) ⊎ (high ≤ STACK + i)
+    second i (inl far) = inl (omega (arith, below, far))
+    second i (inr far) = inr far
+
+    falls : (a.mark ≤ b.mark) ⊎ (mid ≤ b.mark) → (b.mark ≤ c.mark) ⊎ (low ≤ c.mark) → (a.mark ≤ c.mark) ⊎ (low ≤ c.mark)
+    falls x (inr h) = inr h
+    falls (inl h) (inl k) = inl (omega (arith, h, k))
+    falls (inr h) (inl k) = inr (omega (arith, below, h, k))
+
+-- the mark is no lower than it may be
+pub mark_least : (low : ℕ) (old new : ℕ) → (old ≤ new) ⊎ (low ≤ new) → min old low ≤ new
+mark_least low old new (inl h) = omega (arith, h)
+mark_least low old new (inr h) = omega (arith, h)
+
+-- ---- what lies outside
+
+-- a part of two lists is the same where the bytes are
+part_same : (xs ys : List ℕ) (from count : ℕ) → length ys ≡ length xs → ((i : ℕ) → from ≤ i → i < from + count → get_or ys i 0 ≡ get_or xs i 0) → take count (drop from ys) ≡ take count (drop from xs)
+part_same xs ys from count sized same =
+    let long : length (take count (drop from ys)) ≡ length (take count (drop from xs)) = length-take count (drop from ys) ∙ ap (min count) (length-drop from ys ∙ ap (λ n. n - from) sized ∙ sym (length-drop from xs)) ∙ sym (length-take count (drop from xs)) in
+    ext_get_or 0 (take count (drop from ys)) (take count (drop from xs)) long (λ i h.
+    let small : i < count = omega (arith, h, length-take count (drop from ys)) in
+    get_or-take count (drop from ys) i 0 small ∙ get_or-drop from ys i 0 ∙ same (from + i) (omega arith) (omega (arith, small)) ∙ sym (get_or-drop from xs i 0) ∙ sym (get_or-take count (drop from xs) i 0 small))
+
+pub above_stays : (low high : ℕ) (a b : State) → WroteWithin low high a b → (address count : ℕ) → STACK ≤ address → high ≤ address → stack_at address count b ≡ stack_at address count a
+above_stays low high a b w address count inside above =
+    part_same a.stack b.stack (address - STACK) count w.size (λ i from to. w.outside i (inr (omega (arith, inside, above, from))))
+
+pub below_stays : (low high : ℕ) (a b : State) → WroteWithin low high a b → (address count : ℕ) → STACK ≤ address → address + count ≤ low → stack_at address count b ≡ stack_at address count a
+below_stays low high a b w address count inside below =
+    part_same a.stack b.stack (address - STACK) count w.size (λ i from to. w.outside i (inl (omega (arith, inside, below, from, to))))
+
+-- a word of a save area that lies above
+pub word_above : (low high from i : ℕ) (a b : State) → WroteWithin low high a b → STACK ≤ from → high ≤ from → saved_word from i b ≡ saved_word from i a
+word_above low high from i a b w inside above =
+    same_word_in from (S (8 * i)) a b (λ k h. w.outside (from + 8 * i + k - STACK) (inr (omega (arith, inside, above))))
+
+-- and one that lies below
+pub word_below : (low high from i : ℕ) (a b : State) → WroteWithin low high a b → STACK ≤ from → from + 8 * i + 8 ≤ low → saved_word from i b ≡ saved_word from i a
+word_below low high from i a b w inside below =
+    same_word_in from (S (8 * i)) a b (λ k h. w.outside (from + 8 * i + k - STACK) (inl (omega (arith, inside, below, h))))
+
+-- ---- the return address
+
+-- its bytes are asked for where a call pushes it
+pub return_same : (link : Option ℕ) (general : List ℕ) (sp : ℕ) (xs ys : List ℕ) → (link ≡ None → take 8 (drop (sp - STACK) ys) ≡ take 8 (drop (sp - STACK) xs)) → HasReturnAt link general sp xs → HasReturnAt link general sp ys
+return_same None general sp xs ys same h = (h.0, same refl ∙ h.1)
+return_same (Some link) general sp xs ys same h = h
+
+-- ---- open calls
+
+-- calls that stand above what is written still stand
+pub still_open : (std : Standard) (low high from : ℕ) (a b : State) → WroteWithin low high a b → high ≤ from → KeepsOpen std from a b
+still_open std low high from a b w above entered block here stands =
+    let place = stands.place in
+    let bottom = stands.bottom in
+    record {
+      place = stands.place;
+      bottom = stands.bottom;
+      top = stands.top;
+      saved = λ i word below is. word_above low high (entered.event.image.sp - std.save) i a b w (omega (arith, place, bottom)) (omega (arith, place, above, here)) ∙ stands.saved i word below is;
+      return_address = return_same (link_register (isa_of std.target)) entered.event.image.general entered.event.image.sp a.stack b.stack (λ none. above_stays low high a b w entered.event.image.sp 8 (omega (arith, place, bottom)) (omega (arith, place, above, here))) stands.return_address;
+    }
+
+-- with the journal and pc of another machine they stand alike
+pub open_aside : (std : Standard) (from : ℕ) (a b : State) → KeepsOpen std from a (with_journal_of a b) → KeepsOpen std from a b
+open_aside std from a b keeps entered block here stands =
+    let still = keeps entered block here stands in
+    record {
+      place = still.place;
+      bottom = still.bottom;
+      top = still.top;
+      saved = still.saved;
+      return_address = still.return_address;
+    }

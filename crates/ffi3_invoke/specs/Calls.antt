@@ -1,0 +1,174 @@
+-- A call from its caller's side to the return, by any calling standard: the machine before, in the callee and after. (System V psABI AMD64 3.2; Arm AAPCS64 6; RISC-V ELF psABI, "Integer Calling Convention")
+use Rattle.std.specs.Prelude.{◌≡◌, ℕ, ◌+◌, ◌-◌, ◌<◌, ◌≤◌, min, List, [], ◌∷◌, ◌++◌, length, get_or, slice_index}
+use Rattle.std.specs.List.{AllByRecursion}
+use Rattle.ffi3_type_rules.specs.Isa.{isa_of}
+use Rattle.ffi3_type_rules.specs.Signature.{Signature}
+use Rattle.ffi3_type_rules.specs.Value.{ValueTree}
+use Rattle.ffi3_type_rules.specs.declared.limits.TheConstants.{ENTRY, RETURN, STACK, STACK_TOP}
+use Rattle.ffi3_place_rules.specs.declared.Loc.{Loc}
+use Rattle.ffi3_place_rules.specs.declared.Res.{Res}
+use Rattle.ffi3_place_rules.specs.declared.Res.TheVariants.{Nothing, Direct, Hidden}
+use Rattle.ffi3_place_rules.specs.declared.SaveWord.{SaveWord}
+use Rattle.ffi3_place_rules.specs.declared.SaveWord.TheVariants.{Register, Hidden as HiddenWord, Spare}
+use Rattle.ffi3_place_rules.specs.Isa.{closure_register, link_register, scribble}
+use Rattle.ffi3_place_rules.specs.Image.{Image, register}
+use Rattle.ffi3_place_rules.specs.Event.{Event, enters, leaves}
+use Rattle.ffi3_place_rules.specs.Standard.{Standard, block_bytes, frame_of, need_of, plan_of}
+use Rattle.ffi3_place_rules.specs.Holds.{Holds, SameIn}
+use Rattle.ffi3_run_rules.specs.Journal.{Entered, needs, IsEntry, IsReturn}
+use Rattle.ffi3_machine.specs.State.{State, HasReturnAddress, HasReturnAt, image_of, stack_at}
+use Rattle.ffi3_body.specs.SeenActivation.{arguments_in}
+use Rattle.ffi3_pieces.specs.Stored.{WroteWithin}
+use Rattle.ffi3_callee.specs.Given.{ResultWrites}
+use Rattle.ffi3_callee.specs.Saved.{saved_word}
+
+-- ---- an event
+
+-- the entry that the machine records of a call by the signature
+abbrev pub entry_at : Standard → Signature → State → Event
+entry_at std s m = record {
+  kind = enters;
+  closure = slice_index m.general (closure_register (isa_of m.target));
+  image = image_of (std.link + frame_of std s) m;
+}
+
+-- and the return, as the machine is after it
+abbrev pub return_at : Standard → Signature → State → Event
+return_at std s m = record { kind = leaves; closure = 0; image = image_of (frame_of std s) m }
+
+-- the machine `new` with the pc and the journal of `old`, to say what else has changed
+abbrev pub with_journal_of : State → State → State
+with_journal_of old new = record new {
+  pc = old.pc;
+  events = old.events;
+  spare_events = old.spare_events;
+  spare_bytes = old.spare_bytes;
+}
+
+-- the registers that neither side of a call writes are the same
+abbrev pub KeepsReserved : Standard → State → State → Type 0
+KeepsReserved std before after = SameIn std.reserved (image_of 0 before) (image_of 0 after)
+
+-- ---- an open call
+
+-- the address of a hidden result's buffer, behind the return address
+abbrev pub buffer_address : Standard → Image → Res → ℕ
+buffer_address std m Nothing = 0
+buffer_address std m (Direct pieces) = 0
+buffer_address std m (Hidden at buffer) = m.sp + std.link + buffer
+
+-- what a word of the save area is to hold of the image at the entry
+abbrev pub saved_of : Standard → Signature → Image → SaveWord → ℕ
+saved_of std s m (Register at) = register m at
+saved_of std s m HiddenWord = buffer_address std m (plan_of std s).res
+saved_of std s m Spare = 0
+
+-- AN OPEN CALL STANDS, whose callee's block begins at an address: above the block stand the words that the callee saved, and RETURN is the return address. No byte below the block is spoken of, so that calls nested in it keep it.
+pub record Stands (std : Standard) (entered : Entered) (block : ℕ) (m : State) : Type 0 where
+  pub place : block + block_bytes entered.signature + std.save ≡ entered.event.image.sp
+  pub bottom : STACK ≤ block
+  pub top : entered.event.image.sp + std.link + frame_of std entered.signature ≤ STACK_TOP
+  pub saved : (i : ℕ) (w : SaveWord) → i < length std.save_area → w ≡ get_or std.save_area i w → saved_word (entered.event.image.sp - std.save) i m ≡ saved_of std entered.signature entered.event.image w
+  pub return_address : HasReturnAt (link_register (isa_of std.target)) entered.event.image.general entered.event.image.sp m.stack
+
+-- The callee of an open call runs: its block begins at sp, the reserved registers are those of the entry, and the journal has room for the return.
+pub record IsInCallee (std : Standard) (entered : Entered) (m : State) : Type 0 where
+  pub target : m.target ≡ std.target
+  pub stands : Stands std entered m.sp m
+  pub reserved : SameIn std.reserved entered.event.image (image_of 0 m)
+  pub room : 1 ≤ m.spare_events
+  pub bytes : frame_of std entered.signature ≤ m.spare_bytes
+
+-- the callee of some open call by this signature runs
+abbrev pub IsCalled : Standard → Signature → State → Type 0
+IsCalled std s m = (entry : Event) × IsInCallee std (record { signature = s; event = entry }) m
+
+-- what stood above an address in the machine before stands there after
+abbrev pub KeepsOpen : Standard → ℕ → State → State → Type 0
+KeepsOpen std from before after =
+    (entered : Entered) (block : ℕ) → from ≤ block → Stands std entered block before → Stands std entered block after
+
+-- ---- the steps of a call
+
+-- THE ARGUMENTS ARE PASSED: the machine is at ENTRY, its image holds the values, and of the stack only the frame and the return address are written.
+pub record HasPassed (std : Standard) (s : Signature) (arguments : List ValueTree) (pointer : ℕ) (before after : State) : Type 0 where
+  pub holds : Holds std s arguments (image_of (std.link + frame_of std s) after)
+  pub pc : after.pc ≡ ENTRY
+  pub closure : slice_index after.general (closure_register (isa_of after.target)) ≡ pointer
+  pub return_address : HasReturnAddress after
+  pub preserved : AllByRecursion (λ at. register (image_of (std.link + frame_of std s) after) at ≡ scribble (length before.events) at) std.preserved
+  pub reserved : KeepsReserved std before after
+  pub sp : after.sp + std.link + frame_of std s ≡ before.sp
+  pub within : WroteWithin after.sp before.sp before (with_journal_of before after)
+  pub events : after.events ≡ before.events
+  pub spare_events : after.spare_events ≡ before.spare_events
+  pub spare_bytes : after.spare_bytes ≡ before.spare_bytes
+
+-- THE CALLEE HAS RETURNED: the return is in the journal, whatever open call by the signature it was, and of the stack only a hidden result's buffer is written.
+pub record HasReturned (std : Standard) (s : Signature) (outcome : ValueTree) (before after : State) : Type 0 where
+  pub events : after.events ≡ before.events ++ return_at std s after ∷ []
+  pub is_return : (entry : Event) → IsInCallee std (record { signature = s; event = entry }) before → IsReturn std (record { signature = s; event = entry }) outcome (return_at std s after)
+  pub pc : after.pc ≡ RETURN
+  pub sp : after.sp ≡ before.sp + block_bytes s + std.save + std.link
+  pub reserved : KeepsReserved std before after
+  pub writes : ResultWrites after.sp s.result_type (plan_of std s).res before (with_journal_of before after)
+  pub room : after.spare_events + 1 ≡ before.spare_events
+  pub bytes : after.spare_bytes + frame_of std s ≡ before.spare_bytes
+
+-- ---- a call
+
+-- A CALL HAS BEGUN: its entry is in the journal, and its callee has the arguments. It stands below the unfinished calls: of the stack it writes its own need, from sp down, and nothing else.
+pub record HasBegun (std : Standard) (s : Signature) (arguments : List ValueTree) (pointer : ℕ) (before after : State) : Type 0 where
+  pub entry : Event
+  pub events : after.events ≡ before.events ++ entry ∷ []
+  pub is_entry : (top : ℕ) (held : Loc → ℕ) (outer : List Entered) → before.sp + needs std outer ≡ top → AllByRecursion (λ at. register (image_of 0 before) at ≡ held at) std.reserved → IsEntry std top held outer (length before.events) pointer s arguments entry
+  pub in_callee : IsInCallee std (record { signature = s; event = entry }) after
+  pub arguments_stand : arguments_in s.arguments (stack_at after.sp (block_bytes s) after) ≡ arguments
+  pub pc : after.pc ≡ ENTRY
+  pub sp : after.sp + need_of std s ≡ before.sp
+  pub above : (address count : ℕ) → before.sp ≤ address → stack_at address count after ≡ stack_at address count before
+  -- also where the mark was lower before
+  pub below : (address count : ℕ) → STACK ≤ address → address + count ≤ after.sp → stack_at address count after ≡ stack_at address count before
+  pub keeps_open : KeepsOpen std before.sp before after
+  pub mark : min before.mark after.sp ≤ after.mark
+  pub code : after.code ≡ before.code
+  pub target : after.target ≡ before.target
+  pub reserved : KeepsReserved std before after
+  pub room : after.spare_events + 1 ≡ before.spare_events
+  pub bytes : after.spare_bytes + (std.link + frame_of std s) ≡ before.spare_bytes
+
+-- A CALL HAS ENDED: its return is in the journal, whatever open call by the signature it was, and all its stack is free again.
+pub record HasEnded (std : Standard) (s : Signature) (outcome : ValueTree) (before after : State) : Type 0 where
+  pub return : Event
+  pub events : after.events ≡ before.events ++ return ∷ []
+  pub is_return : (entry : Event) → IsInCallee std (record { signature = s; event = entry }) before → IsReturn std (record { signature = s; event = entry }) outcome return
+  pub pc : after.pc ≡ RETURN
+  pub sp : after.sp ≡ before.sp + need_of std s
+  pub above : (address count : ℕ) → after.sp ≤ address → stack_at address count after ≡ stack_at address count before
+  pub below : (address count : ℕ) → STACK ≤ address → address + count ≤ before.sp → stack_at address count after ≡ stack_at address count before
+  pub keeps_open : KeepsOpen std after.sp before after
+  pub mark : min before.mark before.sp ≤ after.mark
+  pub code : after.code ≡ before.code
+  pub target : after.target ≡ before.target
+  pub reserved : KeepsReserved std before after
+  pub room : after.spare_events + 1 ≡ before.spare_events
+  pub bytes : after.spare_bytes + frame_of std s ≡ before.spare_bytes
+
+-- THE WHOLE CALL: entry and return stand in the journal one behind the other, and the machine's stack above sp and below the call's need, its code, target and reserved registers are as before.
+pub record IsMade (std : Standard) (s : Signature) (arguments : List ValueTree) (pointer : ℕ) (outcome : ValueTree) (before after : State) : Type 0 where
+  pub entry : Event
+  pub return : Event
+  pub events : after.events ≡ before.events ++ entry ∷ return ∷ []
+  pub is_entry : (top : ℕ) (held : Loc → ℕ) (outer : List Entered) → before.sp + needs std outer ≡ top → AllByRecursion (λ at. register (image_of 0 before) at ≡ held at) std.reserved → IsEntry std top held outer (length before.events) pointer s arguments entry
+  pub is_return : IsReturn std (record { signature = s; event = entry }) outcome return
+  pub pc : after.pc ≡ RETURN
+  pub sp : after.sp ≡ before.sp
+  pub above : (address count : ℕ) → before.sp ≤ address → stack_at address count after ≡ stack_at address count before
+  pub below : (address count : ℕ) → STACK ≤ address → address + count + need_of std s ≤ before.sp → stack_at address count after ≡ stack_at address count before
+  pub keeps_open : KeepsOpen std before.sp before after
+  pub mark : min before.mark (before.sp - need_of std s) ≤ after.mark
+  pub code : after.code ≡ before.code
+  pub target : after.target ≡ before.target
+  pub reserved : KeepsReserved std before after
+  pub room : after.spare_events + 2 ≡ before.spare_events
+  pub bytes : after.spare_bytes + (std.link + frame_of std s + frame_of std s) ≡ before.spare_bytes

@@ -1,0 +1,27 @@
+-- What came of a text that was handed to a sink, in one piece or in several.
+use Rattle.std.specs.Prelude.{◌≡◌, ℕ, ◌≤◌, List, take, length, Result, Ok, Err}
+use Rattle.ffi3_io.specs.Sink.{Adds, Rose, SinkState}
+use Rattle.ffi3_io.specs.declared.IoError.{IoError}
+use Rattle.ffi3_io.specs.declared.IoError.TheVariants.{NoMemory, Failed}
+
+-- the text was taken whole, and no fault counted
+pub record TookText (text : List ℕ) (before after : SinkState) : Type 0 where
+  pub added : Adds before.taken text after.taken
+  pub count : after.faults ≡ before.faults
+
+-- where memory was refused no fault was counted
+abbrev pub IsCause : IoError → ℕ → ℕ → Type 0
+IsCause NoMemory before after = after ≡ before
+IsCause Failed before after = Rose before after × (before ≤ after)
+
+-- a first part of the text was taken
+pub record CutOff (text : List ℕ) (before after : SinkState) (end : IoError) : Type 0 where
+  pub part : ℕ
+  pub within : part ≤ length text
+  pub written : Adds before.taken (take part text) after.taken
+  pub cause : IsCause end before.faults after.faults
+
+-- THE TEXT WAS WRITTEN, or a first part of it where writing ended before
+abbrev pub Wrote : {A : Type 0} → List ℕ → SinkState → SinkState → Result A IoError → Type 0
+Wrote text before after (Ok done) = TookText text before after
+Wrote text before after (Err end) = CutOff text before after end

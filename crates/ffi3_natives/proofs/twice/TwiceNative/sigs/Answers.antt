@@ -1,0 +1,5 @@
+use Rattle.ffi3_natives.proofs.Signatures.{calling_right}
+use Rattle.ffi3_natives.proofs.twice.TwiceNative.sigs.Goals as goal
+
+pub returns-clause-right : goal.returns-clause-right
+returns-clause-right c = calling_right

@@ -1,0 +1,75 @@
+// A native that calls a closure twice.
+ghost use Rattle.std.specs.Prelude.{◌≡◌, IfOk};
+ghost use Rattle.ffi3_natives.specs.Natives.{calling_signatures};
+
+use crate::calling::{call_on, calling_sigs, return_result};
+use ffi3_body::{Body, Move, Native, Seen};
+use ffi3_types::{NoMemory, Sigs};
+use std::alloc::Global;
+use std::marker::Model;
+
+/// Calls the closure at its first argument on the second one, then on that result, and returns the
+/// second result: `sint64(pointer,sint64)`. The closure is called as `sint64(sint64)`.
+#[derive(Debug, Drop)]
+pub struct Twice {
+    sigs: Sigs,
+}
+
+impl Model for Twice {
+    ghost use Rattle.std.specs.Prelude.{◌≡◌, List};
+    ghost use Rattle.ffi3_type_rules.specs.Signature.{Signature, signature_list_code};
+    ghost use Rattle.ffi3_natives.specs.Natives.{calling_signatures};
+
+    ghost Value = { List Signature };
+
+    ghost coded = { signature_list_code };
+
+    ghost view = { λ a. a.sigs };
+
+    ghost invariant = { λ a. a.sigs ≡ calling_signatures };
+}
+
+impl Twice {
+    /// The native. It takes memory for its signatures.
+    pub fn new(alloc: Global) -> Result<Twice, NoMemory>
+        ensures { IfOk result (λ a. a ≡ calling_signatures) }
+    {
+        Ok(Twice {
+            sigs: calling_sigs(alloc)?,
+        })
+    }
+}
+
+impl Body for Twice {
+    ghost use Rattle.ffi3_natives.specs.Natives.{calling_signatures, closure_signature, twice_behaviour};
+
+    ghost meaning = { λ a. twice_behaviour };
+
+    ghost signature = { λ a. closure_signature };
+
+    ghost signatures = { λ a. calling_signatures };
+
+    ghost functions = { λ a. 1 };
+
+    fn next(&self, alloc: Global, seen: &Seen) -> Result<Move, NoMemory> {
+        match seen.results() {
+            0 => call_on(alloc, seen, seen.arg(alloc, 1)?),
+            1 => call_on(alloc, seen, seen.result(0).copy(alloc)?),
+            _ => return_result(alloc, seen, 1),
+        }
+    }
+}
+
+impl Native for Twice {
+    ghost use Rattle.std.specs.Prelude.{codes};
+
+    ghost title = { λ a. codes "twice" };
+
+    fn name(&self) -> &str {
+        "twice"
+    }
+
+    fn sigs(&self) -> &Sigs {
+        &self.sigs
+    }
+}

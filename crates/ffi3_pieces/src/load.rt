@@ -1,0 +1,63 @@
+// What stands at places, read from a machine.
+ghost use Rattle.std.specs.Prelude.{◌≡◌, ◌-◌, ◌≤◌, length};
+ghost use Rattle.std.specs.Int.{w64, to_le_bytes};
+ghost use Rattle.ffi3_type_rules.specs.declared.limits.TheConstants.{STACK, STACK_TOP};
+ghost use Rattle.ffi3_pieces.specs.Stored.{AreBytesOf, IsPieceLoaded, IsPlace, IsWithin, word_in};
+
+use ffi3_machine::Machine;
+use ffi3_place::{Loc, Piece};
+
+// The number of eight bytes, the lowest first.
+pub fn word_of(bytes: [u8; 8]) -> u64
+    ensures { to_le_bytes w64 result ≡ bytes }
+{
+    u64::from_le_bytes(bytes)
+}
+
+/// The eight bytes of a place. Stack places count from the address `base`.
+pub fn place_bytes(machine: &Machine, base: u64, at: Loc) -> [u8; 8]
+    requires low { STACK ≤ base }
+    requires high { base ≤ STACK_TOP }
+    requires lies { IsPlace (STACK_TOP - base) at }
+    ensures { AreBytesOf base machine.now at result }
+{
+    // its contract tells what is true of every machine
+    let _m = machine.sp();
+    match at {
+        Loc::G(r) => machine.g(r).to_le_bytes(),
+        Loc::F(r) => machine.f(r).to_le_bytes(),
+        Loc::S(n) => {
+            let mut bytes = [0; 8];
+            bytes.copy_from_slice(machine.lend_stack(base + n as u64, 8));
+            bytes
+        }
+    }
+}
+
+/// The number in a place. Stack places count from the address `base`.
+pub fn place_word(machine: &Machine, base: u64, at: Loc) -> u64
+    requires low { STACK ≤ base }
+    requires high { base ≤ STACK_TOP }
+    requires lies { IsPlace (STACK_TOP - base) at }
+    ensures { result ≡ word_in base machine.now at }
+{
+    match at {
+        Loc::G(r) => machine.g(r),
+        Loc::F(r) => machine.f(r),
+        Loc::S(_) => word_of(place_bytes(machine, base, at)),
+    }
+}
+
+/// Reads a piece of a value from its place. Stack places count from the address `base`.
+pub fn load_piece(machine: &Machine, base: u64, piece: &Piece, out: &mut [u8])
+    requires low { STACK ≤ base }
+    requires high { base ≤ STACK_TOP }
+    requires lies { IsPlace (STACK_TOP - base) piece.now.loc }
+    requires within { IsWithin (length out.old) piece.now }
+    ensures { IsPieceLoaded base machine.now piece.now out.old out.new }
+{
+    let bytes = place_bytes(machine, base, piece.loc);
+    let start = piece.off as usize;
+    let len = piece.len as usize;
+    out[start..start + len].copy_from_slice(&bytes[..len]);
+}

@@ -1,0 +1,86 @@
+-- All activations stand in their bodies, after each kind of move.
+use Rattle.std.proofs.Common.{◌≡◌, ℕ, ◌≤◌, true, List, [], ◌∷◌, ◌++◌, Option, Some, None, reverse, refl, sym, ap, ◌∙◌, subst}
+use Rattle.std.proofs.lemmas.List.{reverse-append}
+use Rattle.ffi3_type_rules.specs.Signature.{Signature, signature_at}
+use Rattle.ffi3_type_rules.specs.Tree.{Tree}
+use Rattle.ffi3_type_rules.specs.Value.{ValueTree, fits}
+use Rattle.ffi3_run_rules.specs.declared.Closure.{Closure}
+use Rattle.ffi3_run_rules.specs.Meaning.{function}
+use Rattle.ffi3_machine.specs.State.{State}
+use Rattle.ffi3_script_rules.specs.Natives.{NamedNative}
+use Rattle.ffi3_body.specs.SeenActivation.{SeenActivation}
+use Rattle.ffi3_script.specs.declared.script.Script.{Script}
+use Rattle.ffi3_ask.specs.Stands as ask
+use Rattle.ffi3_ask.specs.Stands.{StandingAgrees}
+use Rattle.ffi3_ask.specs.declared.standing.Standing.{Standing}
+use Rattle.ffi3_board.specs.declared.activation.Activation.{Activation}
+use Rattle.ffi3_board.specs.declared.activation.OpenCall.{OpenCall}
+use Rattle.ffi3_board.specs.declared.activation.Waiting.{Waiting}
+use Rattle.ffi3_board.specs.declared.activation.Who.TheVariants.{Function}
+use Rattle.ffi3_board.specs.declared.board.Board.{Board}
+use Rattle.ffi3_board.specs.Going.{and_result, HasGoneIn, HasGoneBack}
+use Rattle.ffi3_board.specs.Path.{call_inside, calls_of, result_type_at}
+use Rattle.ffi3_board.proofs.Blocks.{AreAbove, StaysFrom}
+use Rattle.ffi3_runner.specs.Agreeing.{seen_by, InnermostStands, IsStanding, WillStand, AllWillStand, AllStand}
+use Rattle.ffi3_runner.proofs.Seen.{standing_kept, will_kept, all_will_kept, now_stands, stays_equal, all_above}
+
+last_first : {X : Type 0} (xs : List X) (x : X) → reverse (xs ++ x ∷ []) ≡ x ∷ reverse xs
+last_first xs x = reverse-append xs (x ∷ [])
+
+module _ (s : Script) (natives : List NamedNative) (ss : List Signature) (m m' : State) (low : ℕ) (stays : StaysFrom low m m') (b b' : Board Standing) where
+  abbrev outer : List (Waiting Standing)
+  outer = reverse b.suspended.items
+
+  -- A CALL WAS ENTERED
+  pub entered_stands : (closure : Closure) (standing : Standing) (sig : ℕ) (a : Activation Standing) → HasGoneIn closure standing sig a b b' → AreAbove low (calls_of b.served outer) → AllWillStand s natives ss m b.served outer → WillStand s natives ss m (call_inside b.served outer) a (signature_at ss sig) → ask.who_of standing ≡ function closure.func → ((z : SeenActivation) → z.signature ≡ signature_at ss sig → z.results ≡ [] → StandingAgrees s natives z standing) → AllStand s natives ss m' b'
+  entered_stands closure standing sig a gone above others will who agrees =
+      let w : Waiting Standing = record { activation = a; call = gone.call } in
+      let new : Activation Standing = record { who = Function closure.func; standing = standing; user = closure.user; results = [] } in
+      let turned : reverse b'.suspended.items ≡ w ∷ outer = ap (λ (l : List (Waiting Standing)). reverse l) gone.suspended ∙ last_first b.suspended.items w in
+      let site : signature_at ss gone.call.sig ≡ signature_at ss sig = ap (signature_at ss) gone.signature in
+      let P = λ (l : List (Waiting Standing)). InnermostStands s natives ss m' (call_inside b.served l) (Some new) in
+      let here : P (w ∷ outer) = record { who = sym who; agrees = agrees (seen_by ss m' (Some gone.call) new) site refl } in
+      let Q = λ (i : Option (Activation Standing)). InnermostStands s natives ss m' (call_inside b'.served (reverse b'.suspended.items)) i in
+      let R = λ (o : Option OpenCall). InnermostStands s natives ss m' (call_inside o (reverse b'.suspended.items)) (Some new) in
+      let T = λ (l : List (Waiting Standing)). AllWillStand s natives ss m' b.served l in
+      let U = λ (o : Option OpenCall). AllWillStand s natives ss m' o (reverse b'.suspended.items) in
+      let awaits = subst (λ (t : Signature). WillStand s natives ss m' (call_inside b.served outer) a t) (sym site) (will_kept ss m m' low stays s natives b.served outer a (signature_at ss sig) above will) in
+      let those : T (w ∷ outer) = (awaits, all_will_kept ss m m' low stays s natives b.served outer above others) in
+      record {
+        innermost = subst Q (sym gone.innermost) (subst R (sym gone.served) (subst P (sym turned) here));
+        others = subst U (sym gone.served) (subst T (sym turned) those);
+      }
+
+  -- A CALL RETURNED
+  pub returned_stands : (r : ValueTree) → HasGoneBack r b b' → AreAbove low (calls_of b'.served (reverse b'.suspended.items)) → AllWillStand s natives ss m b.served outer → fits (result_type_at ss (call_inside b.served outer)) r ≡ true → AllStand s natives ss m' b'
+  returned_stands r gone above others it =
+      let w = gone.waited in
+      let left = reverse b'.suspended.items in
+      let turned : outer ≡ w ∷ left = ap (λ (l : List (Waiting Standing)). reverse l) gone.suspended ∙ last_first b'.suspended.items w in
+      let T = λ (l : List (Waiting Standing)). AllWillStand s natives ss m b.served l in
+      let U = λ (o : Option OpenCall). AllWillStand s natives ss m o (w ∷ left) in
+      let those : AllWillStand s natives ss m b'.served (w ∷ left) = subst U (sym gone.served) (subst T turned others) in
+      let F = λ (l : List (Waiting Standing)). fits (result_type_at ss (call_inside b.served l)) r ≡ true in
+      let fitting : fits (signature_at ss w.call.sig).result_type r ≡ true = subst F turned it in
+      let will = will_kept ss m m' low stays s natives b'.served left w.activation (signature_at ss w.call.sig) above those.0 in
+      let Q = λ (i : Option (Activation Standing)). InnermostStands s natives ss m' (call_inside b'.served left) i in
+      record {
+        innermost = subst Q (sym gone.innermost) (now_stands s natives ss m' (call_inside b'.served left) w.activation (signature_at ss w.call.sig) r fitting will);
+        others = all_will_kept ss m m' low stays s natives b'.served left above those.1;
+      }
+
+-- THE INNERMOST ACTIVATION GOES ON, on a stack that is the same
+pub went_stands : (s : Script) (natives : List NamedNative) (ss : List Signature) (m m' : State) (b b' : Board Standing) (x : Activation Standing) → m'.stack ≡ m.stack → b'.innermost ≡ Some x → b'.served ≡ b.served → b'.suspended.items ≡ b.suspended.items → IsStanding s natives ss m (call_inside b.served (reverse b.suspended.items)) x → AllWillStand s natives ss m b.served (reverse b.suspended.items) → AllStand s natives ss m' b'
+went_stands s natives ss m m' b b' x stack innermost served items stands others =
+    let outer = reverse b.suspended.items in
+    let stays = stays_equal m m' stack in
+    let above = all_above (calls_of b.served outer) in
+    let Q = λ (i : Option (Activation Standing)). InnermostStands s natives ss m' (call_inside b'.served (reverse b'.suspended.items)) i in
+    let R = λ (o : Option OpenCall). InnermostStands s natives ss m' (call_inside o (reverse b'.suspended.items)) (Some x) in
+    let P = λ (l : List (Waiting Standing)). InnermostStands s natives ss m' (call_inside b.served (reverse l)) (Some x) in
+    let T = λ (l : List (Waiting Standing)). AllWillStand s natives ss m' b.served (reverse l) in
+    let U = λ (o : Option OpenCall). AllWillStand s natives ss m' o (reverse b'.suspended.items) in
+    record {
+      innermost = subst Q (sym innermost) (subst R (sym served) (subst P (sym items) (standing_kept ss m m' 0 stays s natives b.served outer x above stands)));
+      others = subst U (sym served) (subst T (sym items) (all_will_kept ss m m' 0 stays s natives b.served outer above others));
+    }

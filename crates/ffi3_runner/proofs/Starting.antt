@@ -1,0 +1,102 @@
+-- Main begins, on a machine that begins.
+use Rattle.std.proofs.Common.{◌≡◌, ℕ, ◌+◌, ◌≤◌, inl, List, [], ◌∷◌, Option, Some, None, reverse, refl, sym, ap, ◌∙◌, subst, arith}
+use Rattle.std.specs.List.{AllByRecursion}
+use Rattle.ffi3_type_rules.specs.declared.Isa.{Isa}
+use Rattle.ffi3_type_rules.specs.declared.Isa.TheVariants.{Amd64, Aarch64, Riscv}
+use Rattle.ffi3_type_rules.specs.Isa.{isa_of}
+use Rattle.ffi3_type_rules.specs.declared.limits.TheConstants.{STACK_TOP}
+use Rattle.ffi3_type_rules.specs.Value.{ValueTree}
+use Rattle.ffi3_place_rules.specs.declared.Loc.{Loc}
+use Rattle.ffi3_place_rules.specs.Agrees.{AgreesWithMachine}
+use Rattle.ffi3_place_rules.specs.Image.{register}
+use Rattle.ffi3_place_rules.specs.Isa.{reserved_places}
+use Rattle.ffi3_place_rules.specs.Standard.{Standard, need_of}
+use Rattle.ffi3_run_rules.specs.Closures.{Closures, no_closures}
+use Rattle.ffi3_run_rules.specs.Meaning.{Program, meaning_of, main_call, most_moves, stack_size}
+use Rattle.ffi3_turn_rules.specs.Left.{left_of}
+use Rattle.ffi3_turn_rules.specs.SoFar.{main_base}
+use Rattle.ffi3_turn_rules.proofs.Coming.{comes_from}
+use Rattle.ffi3_machine.specs.State.{State, begun, begun_code, begun_general, image_of, scribbled_general}
+use Rattle.ffi3_closures.specs.Slots.{HoldsMap}
+use Rattle.ffi3_io.specs.Sink.{SinkState}
+use Rattle.ffi3_io.proofs.Writing.{took_nothing}
+use Rattle.ffi3_ask.specs.declared.standing.Standing.{Standing}
+use Rattle.ffi3_board.specs.declared.activation.Activation.{Activation}
+use Rattle.ffi3_board.specs.declared.activation.OpenCall.{OpenCall}
+use Rattle.ffi3_board.specs.declared.activation.Waiting.{Waiting}
+use Rattle.ffi3_board.specs.declared.activation.Who.TheVariants.{Main}
+use Rattle.ffi3_board.specs.declared.board.Board.{Board}
+use Rattle.ffi3_board.specs.Between.{Beginning, Moment, IsBetween, moment, moment_with}
+use Rattle.ffi3_board.specs.Path.{acting, who_of}
+use Rattle.ffi3_board.specs.Turned.{StandsAt}
+use Rattle.ffi3_board.proofs.Closed.{none_known}
+use Rattle.ffi3_runner.specs.Running.{IsNew}
+
+-- reserved registers hold 0 where a machine begins
+none_reserved : (isa : Isa) (floating : List ℕ) (sp : ℕ) (stack : List ℕ) → AllByRecursion (λ at. register (record { general = begun_general isa; floating = floating; sp = sp; stack = stack }) at ≡ 0) (reserved_places isa)
+unfolding begun_general scribbled_general
+none_reserved Amd64 floating sp stack = tt
+none_reserved Aarch64 floating sp stack = (refl, tt)
+none_reserved Riscv floating sp stack = (refl, (refl, (refl, tt)))
+
+-- what a run of main finds
+abbrev pub main_beginning : SinkState → Beginning
+main_beginning o = record { events = []; mark = STACK_TOP; output = o }
+
+module _ (p : Program) (std : Standard) (needs : p.need ≡ need_of std) (agrees : AgreesWithMachine std) (k l : ℕ) (o : SinkState) where
+  abbrev machine : State
+  machine = begun std.target k l
+
+  abbrev start : Moment
+  start = record {
+    innermost = main_call;
+    suspended = [];
+    calls = [];
+    closures = no_closures;
+    moves = most_moves;
+    machine = machine;
+    output = o;
+  }
+
+  reserved_hold : AllByRecursion (λ at. register (image_of 0 machine) at ≡ 0) std.reserved
+  reserved_hold =
+      let P = λ (locs : List Loc). AllByRecursion (λ at. register (image_of 0 machine) at ≡ 0) locs in
+      subst P (sym agrees.reserved) (none_reserved (isa_of std.target) machine.floating machine.sp (image_of 0 machine).stack)
+
+  pub starts : HoldsMap std.target no_closures (begun_code (isa_of std.target)) → IsBetween p (main_base std) (left_of (meaning_of p)) (main_beginning o) [] [] start
+  starts holds = record {
+    needs = needs;
+    count = refl;
+    top = omega arith;
+    come = comes_from p (main_base std) main_call no_closures most_moves refl;
+    journal = refl;
+    written = took_nothing o;
+    mark = inl (omega arith);
+    deep = omega arith;
+    left = refl;
+    calls = record { target = refl; stand = refl; reserved = reserved_hold; room = omega arith; bytes = omega arith };
+    holds = holds;
+    known = none_known p;
+    few = omega arith;
+    others_few = tt;
+  }
+
+  -- THE RUN STANDS at main's first move
+  module _ (b : Board Standing) (new : IsNew b) (a : Activation Standing) (who : a.who ≡ Main) (user : a.user ≡ 0) (results : a.results ≡ []) where
+    acts : acting p.signatures machine None a ≡ main_call
+    acts =
+        λ i. record { who = who_of (who i); arguments = []; user = user i; left = stack_size; results = results i }
+
+    moment_is : moment p.signatures a b machine o ≡ start
+    moment_is =
+        ap (λ (s : Option OpenCall). moment_with p.signatures s (reverse b.suspended.items) b.table b.moves machine o a) new.served
+        ∙ ap (λ (w : List (Waiting Standing)). moment_with p.signatures None (reverse w) b.table b.moves machine o a) new.suspended
+        ∙ ap (λ (c : Closures). moment_with p.signatures None [] c b.moves machine o a) new.closures
+        ∙ ap (λ (n : ℕ). moment_with p.signatures None [] no_closures n machine o a) new.moves
+        ∙ (λ i. record { innermost = acts i; suspended = []; calls = []; closures = no_closures; moves = most_moves; machine = machine; output = o })
+
+    pub stands_at_start : StandsAt p (main_base std) (left_of (meaning_of p)) (main_beginning o) [] [] (record b { innermost = Some a }) machine o
+    stands_at_start =
+        let P = λ (c : Closures). HoldsMap std.target c (begun_code (isa_of std.target)) in
+        let holds = subst P new.closures (new.begins std.target) in
+        subst (λ (x : Moment). IsBetween p (main_base std) (left_of (meaning_of p)) (main_beginning o) [] [] x) (sym moment_is) (starts holds)

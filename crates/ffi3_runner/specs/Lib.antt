@@ -1,0 +1,4 @@
+pub mod Agreeing
+pub mod Running
+pub mod RunMatches
+pub mod Ran

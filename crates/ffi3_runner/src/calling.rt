@@ -1,0 +1,118 @@
+//! What the innermost activation asks for, and a call.
+ghost use Rattle.std.specs.Prelude.{◌≡◌, ℕ, ◌+◌, ◌<◌, ◌≤◌, ◌^◌, IfOk, List, None, Some, length, map, reverse, suc, true};
+ghost use Rattle.ffi3_type_rules.specs.Signature.{signature_at};
+ghost use Rattle.ffi3_type_rules.specs.Tree.{trees_of};
+ghost use Rattle.ffi3_type_rules.specs.Value.{all_fit, values_of};
+ghost use Rattle.ffi3_place_rules.specs.declared.Loc.{Loc};
+ghost use Rattle.ffi3_place_rules.specs.Event.{Event};
+ghost use Rattle.ffi3_run_rules.specs.Journal.{Entered};
+ghost use Rattle.ffi3_run_rules.specs.Move as asks;
+ghost use Rattle.ffi3_run_rules.specs.Trace.{TraceItem};
+ghost use Rattle.ffi3_turn_rules.specs.Left.{Left, as_main};
+ghost use Rattle.ffi3_turn_rules.specs.SoFar.{Base};
+ghost use Rattle.ffi3_script_rules.specs.Natives.{NamedNative};
+ghost use Rattle.ffi3_script.specs.ScriptOf.{natives_of};
+ghost use Rattle.ffi3_body.specs.MoveOf.{move_of};
+ghost use Rattle.ffi3_ask.specs.Asked.{IsAsked};
+ghost use Rattle.ffi3_ask.specs.Handed.{handed_in, signatures_in};
+ghost use Rattle.ffi3_ask.specs.Stands.{StandingAgrees};
+ghost use Rattle.ffi3_script_body.specs.Agrees.{one_more};
+ghost use Rattle.ffi3_ask.specs.Stands as ask;
+ghost use Rattle.ffi3_board.specs.Between.{Beginning, IsAsking, moment};
+ghost use Rattle.ffi3_board.specs.Path.{call_inside, calls_of};
+ghost use Rattle.ffi3_board.specs.Stack.{HoldsCalls};
+ghost use Rattle.ffi3_board.specs.Turned.{StandsAt, Turned};
+ghost use Rattle.ffi3_runner.specs.Agreeing.{AllStand, AllWillStand, IsStanding, WillStand, seen_by};
+ghost use Rattle.ffi3_runner.specs.Running.{IsPrepared, program};
+
+use crate::asked::{asked_by_callee, asked_by_main};
+use crate::prepare::Prepared;
+use ffi3_ask::{Move, Standing};
+use ffi3_board::{Activation, Board, Turn};
+use ffi3_io::Sink;
+use ffi3_machine::Machine;
+use ffi3_place::Abi;
+use ffi3_types::NoMemory;
+use ffi3_values::Values;
+
+impl<'a, A: Abi> Prepared<'a, A> {
+    // The move that the innermost activation asks for.
+    pub(crate) fn asked(
+        &self,
+        board: &Board<Standing>,
+        machine: &Machine,
+        current: &mut Activation<Standing>,
+    ) -> Result<Move, NoMemory>
+        requires prepared { IsPrepared A.standard self.now.script.now (map (λ b. handed_in (title b) (meaning b) (signatures b)) self.now.natives.now.items) self.now.cifs }
+        requires main { board.now.served ≡ None }
+        requires holds { (held : Loc → ℕ) × (top : ℕ) × (entered : List Entered) ×
+            HoldsCalls A.standard self.now.cifs held top machine.now (calls_of board.now.served (reverse board.now.suspended.items)) entered }
+        requires stands { IsStanding self.now.script.now (map (λ b. handed_in (title b) (meaning b) (signatures b)) self.now.natives.now.items) self.now.cifs machine.now
+            (call_inside board.now.served (reverse board.now.suspended.items)) current.old }
+        ensures asked { let handed : List NamedNative = map (λ b. handed_in (title b) (meaning b) (signatures b)) self.now.natives.now.items in
+            let call = call_inside board.now.served (reverse board.now.suspended.items) in
+            IfOk result
+            (λ m. IsAsked (program A.standard self.now.script.now handed) (ask.who_of current.old.standing) (seen_by self.now.cifs machine.now call current.old)
+            (λ r. StandingAgrees self.now.script.now handed (one_more (seen_by self.now.cifs machine.now call current.old) r) current.new.standing) (move_of m)) }
+        ensures who { ask.who_of current.new.standing ≡ ask.who_of current.old.standing }
+        ensures same { current.new ≡ record current.old { standing = current.new.standing } }
+    {
+        match board.suspended.last() {
+            None => asked_by_main(self.alloc, self.script, self.natives, current),
+            Some(waiting) => asked_by_callee(
+                self.alloc,
+                self.script,
+                self.natives,
+                machine,
+                &self.cifs,
+                &waiting.call,
+                current,
+            ),
+        }
+    }
+
+    // Calls a closure, or stops the run there.
+    pub(crate) fn call<O: Sink>(
+        &self,
+        board: &mut Board<Standing>,
+        machine: &mut Machine,
+        output: &mut O,
+        current: Activation<Standing>,
+        ptr: u64,
+        sig: u32,
+        args: &Values,
+    ) -> Turn
+        requires prepared { IsPrepared A.standard self.now.script.now (map (λ b. handed_in (title b) (meaning b) (signatures b)) self.now.natives.now.items) self.now.cifs }
+        requires site { sig < length self.now.cifs }
+        requires fit { all_fit (trees_of (signature_at self.now.cifs sig).arguments) (values_of args.now) ≡ true }
+        requires others { AllWillStand self.now.script.now (map (λ b. handed_in (title b) (meaning b) (signatures b)) self.now.natives.now.items) self.now.cifs machine.old
+            board.old.served (reverse board.old.suspended.items) }
+        requires will { WillStand self.now.script.now (map (λ b. handed_in (title b) (meaning b) (signatures b)) self.now.natives.now.items) self.now.cifs machine.old
+            (call_inside board.old.served (reverse board.old.suspended.items)) current (signature_at self.now.cifs sig) }
+        requires asking { let p = program A.standard self.now.script.now (map (λ b. handed_in (title b) (meaning b) (signatures b)) self.now.natives.now.items) in
+            (base : Base) × (all : Left) × (first : Beginning) × (own : List TraceItem) × (events : List Event) ×
+            (base.standard ≡ A.standard) ×
+            IsAsking p base all first own events (moment p.signatures current board.old machine.old (O.state output.old)) (asks.call ptr sig args.now) }
+        ensures turned { let p = program A.standard self.now.script.now (map (λ b. handed_in (title b) (meaning b) (signatures b)) self.now.natives.now.items) in
+            (base : Base) (all : Left) (first : Beginning) (own : List TraceItem) (events : List Event) →
+            base.standard ≡ A.standard →
+            IsAsking p base all first own events (moment p.signatures current board.old machine.old (O.state output.old)) (asks.call ptr sig args.now) →
+            Turned p base all first own (suc board.old.moves) board.new machine.new (O.state output.new) result }
+        ensures standing { result ≡ Turn.More →
+            AllStand self.now.script.now (map (λ b. handed_in (title b) (meaning b) (signatures b)) self.now.natives.now.items) self.now.cifs machine.new board.new }
+        ensures main { result ≡ Turn.More → board.new.served ≡ board.old.served }
+    {
+        let closure = match board.callee(machine, &self.cifs, ptr, sig) {
+            Ok(closure) => closure,
+            Err(why) => {
+                let alloc = self.alloc;
+                return board.stop_for(alloc, output, &self.cifs, current, why);
+            }
+        };
+        let standing = Standing::in_function(self.alloc, self.script, self.natives, closure.func);
+        let alloc = self.alloc;
+        board.enter(
+            alloc, machine, &self.cifs, current, closure, standing, ptr, sig, args,
+        )
+    }
+}

@@ -1,0 +1,14 @@
+//! The run of a script beside natives, by any calling standard: main's moves, and those of the
+//! functions that are called, to any nesting. It is untraced.
+#![tactic(auto)]
+
+mod asked;
+mod calling;
+mod prepare;
+mod run;
+mod runner;
+mod turn;
+
+pub use ffi3_board::{Stop, Turn};
+pub use run::RunEnd;
+pub use runner::Runner;

@@ -1,0 +1,56 @@
+//! What a run is prepared with.
+ghost use Rattle.std.specs.Prelude.{◌≡◌, ◌<◌, ◌+◌, ◌^◌, IfOk, length, map};
+ghost use Rattle.ffi3_place_rules.specs.Standard.{Standard};
+ghost use Rattle.ffi3_script_rules.specs.Natives.{program_beside};
+ghost use Rattle.ffi3_script.specs.ScriptOf.{script_of};
+ghost use Rattle.ffi3_ask.specs.Handed.{handed_in, signatures_in};
+ghost use Rattle.ffi3_type_rules.specs.Signature.{SignatureHasNoFault};
+
+use ffi3_ask::{Native, signature, signatures};
+use ffi3_board::Cifs;
+use ffi3_cif::{Cif, prep_cif, prep_cif_var};
+use ffi3_place::Abi;
+use ffi3_script::Script;
+use ffi3_types::{NoMemory, Sig};
+use std::alloc::Global;
+
+/// What a run is prepared with: a script, natives, and an interface for each of their signatures.
+#[derive(Drop)]
+pub(crate) struct Prepared<'a, A: Abi> {
+    pub(crate) alloc: Global,
+    pub(crate) script: &'a Script,
+    pub(crate) natives: &'a Vec<Box<dyn Native>>,
+    pub(crate) cifs: Cifs<A>,
+}
+
+/// Prepares calls by a signature that has no fault.
+fn prepare<A: Abi>(alloc: Global, sig: &Sig) -> Result<Cif<A>, NoMemory>
+    requires { SignatureHasNoFault sig.now }
+    ensures { IfOk result (λ c. c ≡ sig.now) }
+{
+    let ret = sig.ret().copy(alloc)?;
+    let args = sig.args().copy(alloc)?;
+    let prepared = match sig.fixed() {
+        Some(fixed) => prep_cif_var::<A>(alloc, ret, args, fixed),
+        None => prep_cif::<A>(alloc, ret, args),
+    };
+    prepared.map_err(|_| NoMemory)
+}
+
+/// An interface for each signature of the run: the script's, and then those of each native.
+pub fn prepare_all<A: Abi>(
+    alloc: Global,
+    script: &Script,
+    natives: &Vec<Box<dyn Native>>,
+) -> Result<Cifs<A>, NoMemory>
+    requires few { length natives.now.items < 2 ^ 31 }
+    requires few_signatures { length (signatures_in (map (λ b. handed_in (title b) (meaning b) (signatures b)) natives.now.items)) < 2 ^ 31 }
+    ensures { (std : Standard) → IfOk result (λ cifs. cifs ≡
+        (program_beside std (map (λ b. handed_in (title b) (meaning b) (signatures b)) natives.now.items) (script_of script.now)).signatures) }
+{
+    let mut cifs = Cifs::new(alloc);
+    for number in 0..signatures(script, natives) {
+        cifs.push(prepare(alloc, signature(script, natives, number))?)?;
+    }
+    Ok(cifs)
+}

@@ -1,0 +1,68 @@
+//! One move of a run.
+ghost use Rattle.std.specs.Prelude.{◌≡◌, List, None, length, map};
+ghost use Rattle.ffi3_place_rules.specs.Event.{Event};
+ghost use Rattle.ffi3_run_rules.specs.Trace.{TraceItem};
+ghost use Rattle.ffi3_turn_rules.specs.Left.{Left, as_main};
+ghost use Rattle.ffi3_turn_rules.specs.SoFar.{Base};
+ghost use Rattle.ffi3_ask.specs.Handed.{handed_in};
+ghost use Rattle.ffi3_board.specs.Between.{Beginning};
+ghost use Rattle.ffi3_board.specs.Turned.{StandsAt, Turned};
+ghost use Rattle.ffi3_runner.specs.Agreeing.{AllStand};
+ghost use Rattle.ffi3_runner.specs.Running.{IsPrepared, program};
+
+use crate::prepare::Prepared;
+use ffi3_ask::{Move, Standing, sig_of};
+use ffi3_board::{Board, Turn};
+use ffi3_io::Sink;
+use ffi3_machine::Machine;
+use ffi3_place::Abi;
+
+impl<'a, A: Abi> Prepared<'a, A> {
+    /// Does one move of the innermost activation. It is counted, and none is asked for where none
+    /// is left.
+    pub(crate) fn turn<O: Sink>(
+        &self,
+        board: &mut Board<Standing>,
+        machine: &mut Machine,
+        output: &mut O,
+    ) -> Turn
+        requires prepared { IsPrepared A.standard self.now.script.now (map (λ b. handed_in (title b) (meaning b) (signatures b)) self.now.natives.now.items) self.now.cifs }
+        requires main { board.old.served ≡ None }
+        requires standing { AllStand self.now.script.now (map (λ b. handed_in (title b) (meaning b) (signatures b)) self.now.natives.now.items) self.now.cifs machine.old board.old }
+        requires between { (base : Base) × (all : Left) × (first : Beginning) × (own : List TraceItem) × (events : List Event) ×
+            (base.standard ≡ A.standard) × (base.bottom ≡ as_main) ×
+            StandsAt (program A.standard self.now.script.now (map (λ b. handed_in (title b) (meaning b) (signatures b)) self.now.natives.now.items)) base all first own events board.old machine.old (O.state output.old) }
+        ensures turned { let p = program A.standard self.now.script.now (map (λ b. handed_in (title b) (meaning b) (signatures b)) self.now.natives.now.items) in
+            (base : Base) (all : Left) (first : Beginning) (own : List TraceItem) (events : List Event) →
+            base.standard ≡ A.standard → base.bottom ≡ as_main →
+            StandsAt p base all first own events board.old machine.old (O.state output.old) →
+            Turned p base all first own board.old.moves board.new machine.new (O.state output.new) result }
+        ensures standing { result ≡ Turn.More →
+            AllStand self.now.script.now (map (λ b. handed_in (title b) (meaning b) (signatures b)) self.now.natives.now.items) self.now.cifs machine.new board.new }
+        ensures main { result ≡ Turn.More → board.new.served ≡ None }
+    {
+        let Some(mut current) = board.innermost.take() else {
+            unreachable!()
+        };
+        let alloc = self.alloc;
+        if board.moves == 0 {
+            return board.stop_at_limit(alloc, output, &self.cifs, current);
+        }
+        let Ok(asked) = self.asked(board, machine, &mut current) else {
+            return Turn::NoMemory;
+        };
+        board.moves -= 1;
+        match asked {
+            Move::Print { ty, value } => board.print(alloc, output, current, &ty, &value),
+            Move::Make { func, user } => {
+                let sig = sig_of(self.script, self.natives, func);
+                board.make(alloc, machine, output, &self.cifs, current, func, sig, user)
+            }
+            Move::Free { ptr } => board.free(alloc, machine, output, &self.cifs, current, ptr),
+            Move::Call { ptr, sig, args } => {
+                self.call(board, machine, output, current, ptr, sig, &args)
+            }
+            Move::Return(value) => board.leave(alloc, machine, &self.cifs, &value),
+        }
+    }
+}
