@@ -27,7 +27,7 @@ use Rattle.ffi3_io.specs.declared.IoError.TheVariants as cut
 use Rattle.ffi3_io.proofs.Adding.{Adds-then}
 use Rattle.ffi3_io.proofs.Writing.{took_then}
 use Rattle.ffi3_board.specs.Known.{AreKnown}
-use Rattle.ffi3_board.specs.WroteLine.{LineFailed}
+use Rattle.ffi3_io.specs.Written.{LineFailed}
 use Rattle.ffi3_board.specs.Between.{Beginning, Moment, asking, position, text_of, depth_below, open_calls_at, IsBetween, IsAsking}
 use Rattle.ffi3_board.specs.Turned.{IsEnded, WasCutOff}
 use Rattle.ffi3_board.proofs.Marks.{mark_same, fewer, text_then}

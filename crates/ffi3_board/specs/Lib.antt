@@ -1,5 +1,4 @@
 pub mod StopSigs
-pub mod WroteLine
 pub mod Known
 pub mod Path
 pub mod Stack

@@ -9,7 +9,7 @@ use Rattle.ffi3_io.specs.declared.IoError.{IoError}
 use Rattle.ffi3_io.specs.declared.IoError.TheVariants as cut
 use Rattle.ffi3_type_rules.specs.ValueText.{value_text_of}
 use Rattle.ffi3_run_rules.specs.Lines.{a_line}
-use Rattle.ffi3_board.specs.WroteLine.{LineCut}
+use Rattle.ffi3_io.specs.Written.{LineCut}
 use Rattle.ffi3_board.specs.Between.{moment}
 use Rattle.ffi3_board.specs.Turned.{WasCutOff}
 use Rattle.ffi3_board.proofs.Boarding.{goes, refused}
