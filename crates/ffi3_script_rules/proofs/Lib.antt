@@ -9,6 +9,7 @@ mod MeaningRows
 mod ComputedValueRows
 mod TypedRows
 mod RunLimitRows
+mod MadeRows
 pub mod Tests
 pub mod RightTypes
 pub mod Fits
