@@ -9,6 +9,7 @@ mod MeaningRows
 mod ComputedValueRows
 mod TypedRows
 mod RunLimitRows
+mod MadeRows
 pub mod Tests
 pub mod RightTypes
 pub mod Fits
@@ -17,3 +18,4 @@ pub mod TypedValues
 pub mod WellTyped
 pub mod BodyRules
 pub mod Natives
+pub mod Made
