@@ -10,7 +10,7 @@ use Rattle.ffi3_script_rules.proofs.Natives.{beside_none}
 use Rattle.ffi3_machine.specs.State.{State}
 use Rattle.ffi3_run.specs.RunMatches.{RunMatches, WrotePart}
 use Rattle.ffi3_io.specs.Sink.{SinkState}
-use Rattle.ffi3_app.specs.declared.words.Request.TheVariants.{Run}
+use Rattle.ffi3_words.specs.declared.words.Request.TheVariants.{Run}
 use Rattle.ffi3_app.specs.Top.{IsDone, IsDoneInPart, status_of}
 
 module _ (s : Script) (output output' : SinkState) (machine machine' : State) where

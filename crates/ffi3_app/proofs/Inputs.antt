@@ -11,8 +11,8 @@ use Rattle.ffi3_json.specs.ReasonOf.{reason_of}
 use Rattle.ffi3_io.specs.Source.{SourceState}
 use Rattle.ffi3_app.specs.Top.{ReadAs, IsRead, IsReadInPart, IsAtEnd, limit_line}
 use Rattle.ffi3_app.specs.Refusals.{IsJudged, IsLimit, IsInputRefusal}
-use Rattle.ffi3_app.specs.declared.words.Request.{Request}
-use Rattle.ffi3_app.specs.declared.words.Request.TheVariants.{Layout, Place, Run}
+use Rattle.ffi3_words.specs.declared.words.Request.{Request}
+use Rattle.ffi3_words.specs.declared.words.Request.TheVariants.{Layout, Place, Run}
 use Rattle.ffi3_app.specs.declared.load.Refusal.{Refusal}
 use Rattle.ffi3_app.specs.declared.load.Refusal.TheVariants.{ReadFault, NoMemory, TooLong, BadJson, BadScript, NotYet}
 

@@ -1,6 +1,5 @@
 pub mod Commands
+pub mod Doable
 pub mod Kinds
 pub mod Refusals
 pub mod Top
-pub mod WordCommands
-pub mod Words

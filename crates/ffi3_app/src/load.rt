@@ -7,7 +7,7 @@ ghost use Rattle.ffi3_app.specs.Commands.{not_yet};
 ghost use Rattle.ffi3_app.specs.Top.{ReadAs, IsAtEnd, IsReadInPart, IsRead};
 
 use crate::limit::run_limit;
-use crate::words::Request;
+use ffi3_words::Request;
 use ffi3_io::{IoError, Source, read_all};
 use ffi3_json::{MAX_LENGTH, Reason, ScriptFault, Where};
 use ffi3_script::{Names, Script, read_script};

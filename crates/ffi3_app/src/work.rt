@@ -3,15 +3,15 @@ ghost use Rattle.std.specs.Prelude.{◌≡◌, [], IfOk, IfErr, OnErr, None};
 ghost use Rattle.ffi3_type_rules.specs.declared.Target.TheVariants.{Amd64};
 ghost use Rattle.ffi3_script_rules.specs.RunLimit.{first_not_run};
 ghost use Rattle.ffi3_script.specs.ScriptOf.{script_of, natives_of};
-ghost use Rattle.ffi3_app.specs.declared.words.Request.TheVariants.{Run};
-ghost use Rattle.ffi3_app.specs.Words.{CanDo};
+ghost use Rattle.ffi3_words.specs.declared.words.Request.TheVariants.{Run};
+ghost use Rattle.ffi3_app.specs.Doable.{CanDo};
 ghost use Rattle.ffi3_app.specs.Commands.{not_yet};
 ghost use Rattle.ffi3_app.specs.Top.{IsDone, IsDoneInPart};
 ghost use Rattle.ffi3_io.specs.Written.{IsCause};
 
 use crate::layout::layout;
 use crate::place::place;
-use crate::words::Request;
+use ffi3_words::Request;
 use ffi3_io::{IoError, Sink};
 use ffi3_machine::Machine;
 use ffi3_run::{RunEnd, run_main};

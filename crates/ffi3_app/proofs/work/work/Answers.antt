@@ -1,6 +1,6 @@
 use Rattle.std.specs.Prelude.{[], OnErr}
 use Rattle.ffi3_script.specs.ScriptOf.{script_of}
-use Rattle.ffi3_app.specs.declared.words.Request.{Request}
+use Rattle.ffi3_words.specs.declared.words.Request.{Request}
 use Rattle.ffi3_app.specs.Top.{IsDoneInPart}
 use Rattle.ffi3_app.proofs.Saying.{on_amd64}
 use Rattle.ffi3_app.proofs.work.work.Goals as goal
