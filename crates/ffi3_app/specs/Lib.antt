@@ -1,5 +1,4 @@
 pub mod Commands
-pub mod Kinds
 pub mod Refusals
 pub mod Top
 pub mod WordCommands

@@ -4,8 +4,8 @@
 mod command;
 mod help;
 mod layout;
-mod limit;
 mod load;
+mod names;
 mod place;
 mod tell;
 mod top;
@@ -14,5 +14,4 @@ mod work;
 mod write;
 
 pub use ffi3_machine::Machine;
-pub use limit::{NotYet, run_limit};
 pub use top::ffi3;
