@@ -9,21 +9,21 @@ use Rattle.ffi3_script_rules.proofs.Readings.{one_reading}
 use Rattle.ffi3_machine.specs.State.{State}
 use Rattle.ffi3_run_rules.specs.Meaning.{End, returned, stopped}
 use Rattle.ffi3_io.specs.Sink.{SinkState}
-use Rattle.ffi3_app.specs.declared.words.Request.{Request}
-use Rattle.ffi3_app.specs.declared.words.Request.TheVariants.{Layout, Place, Run}
+use Rattle.ffi3_words.specs.declared.words.Request.{Request}
+use Rattle.ffi3_words.specs.declared.words.Request.TheVariants.{Layout, Place, Run}
 use Rattle.ffi3_app.specs.declared.load.Refusal.{Refusal}
 use Rattle.ffi3_app.specs.declared.load.Refusal.TheVariants.{ReadFault, NoMemory, TooLong, BadJson, BadScript}
-use Rattle.ffi3_app.specs.Words.{Takes, IsRefused, IsStated, IsWordsRefusal as WordsRefusal}
+use Rattle.ffi3_words.specs.Words.{Takes, IsRefused, IsStated, IsWordsRefusal as WordsRefusal}
 use Rattle.ffi3_io.specs.Written.{IsCause}
 use Rattle.ffi3_io.specs.declared.IoError.{IoError}
 use Rattle.ffi3_io.specs.declared.IoError.TheVariants as end
-use Rattle.ffi3_app.specs.declared.words.WordsFault.{WordsFault}
-use Rattle.ffi3_app.specs.declared.words.WordsFault.TheVariants.{Refused}
+use Rattle.ffi3_words.specs.declared.words.WordsFault.{WordsFault}
+use Rattle.ffi3_words.specs.declared.words.WordsFault.TheVariants.{Refused}
 use Rattle.ffi3_app.specs.Refusals.{IsInputRefusal, IsRefusedWith, refusal_line, refusal_status, HasPlace, TellsRefusal}
 use Rattle.ffi3_io.specs.Source.{SourceState}
 use Rattle.ffi3_app.specs.Top.{ReadAs, IsReadInPart, ReportsFault, whole, cut, IsDone, Fails, refused, bad_words, read_failed, write_failed, no_memory_for_words, no_memory, Says, done, failed, refusal_of, status_of, status_when_done, no_memory_line}
-use Rattle.ffi3_app.specs.WordCommands.{Addresses}
-use Rattle.ffi3_app.proofs.Stated.{stated_is_taken}
+use Rattle.ffi3_words.specs.WordCommands.{Addresses}
+use Rattle.ffi3_words.proofs.Stated.{stated_is_taken}
 
 -- ---- words
 

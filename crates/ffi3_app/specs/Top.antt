@@ -14,9 +14,9 @@ use Rattle.ffi3_machine.specs.State.{State}
 use Rattle.ffi3_runner.specs.RunMatches.{RunMatches}
 use Rattle.ffi3_io.specs.Sink.{SinkState}
 use Rattle.ffi3_io.specs.Written.{TookText}
-use Rattle.ffi3_app.specs.declared.words.Request.{Request}
-use Rattle.ffi3_app.specs.declared.words.Request.TheVariants.{Layout, Place, Run}
-use Rattle.ffi3_app.specs.Words.{Takes, IsRefused}
+use Rattle.ffi3_words.specs.declared.words.Request.{Request}
+use Rattle.ffi3_words.specs.declared.words.Request.TheVariants.{Layout, Place, Run}
+use Rattle.ffi3_words.specs.Words.{Takes, IsRefused}
 use Rattle.ffi3_app.specs.Commands.{standard_of, command_text}
 
 -- ---- the lines of faults

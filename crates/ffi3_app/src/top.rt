@@ -4,15 +4,15 @@ ghost use Rattle.ffi3_io.specs.Sink.{Rose};
 ghost use Rattle.ffi3_script_rules.specs.Reading.{Reading, IsReading, script};
 ghost use Rattle.ffi3_script_rules.specs.Script.{Script as RulesScript};
 ghost use Rattle.ffi3_script_rules.specs.Natives.{NamedNative, names_of};
-ghost use Rattle.ffi3_app.specs.declared.words.Request.{Request};
-ghost use Rattle.ffi3_app.specs.Words.{IsStated, Takes};
+ghost use Rattle.ffi3_words.specs.declared.words.Request.{Request};
+ghost use Rattle.ffi3_words.specs.Words.{IsStated, Takes};
 ghost use Rattle.ffi3_ask.specs.Handed.{handed_in, signatures_in};
 ghost use Rattle.ffi3_app.specs.Top.{Says, refusal_of, status_when_done};
 
 use crate::load::load;
 use crate::names::names_of_natives;
 use crate::tell::{tell, tell_refusal};
-use crate::words::{WordsFault, read_words};
+use ffi3_words::{WordsFault, read_words};
 use crate::work::work;
 use ffi3_body::Native;
 use ffi3_io::{IoError, Sink, Source};

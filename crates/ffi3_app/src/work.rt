@@ -11,7 +11,7 @@ ghost use Rattle.ffi3_app.specs.Top.{IsDone, IsDoneInPart, IsRun};
 
 use crate::layout::layout;
 use crate::place::place;
-use crate::words::Request;
+use ffi3_words::Request;
 use ffi3_aapcs64::Aapcs64;
 use ffi3_amd64::Amd64;
 use ffi3_body::Native;

@@ -8,16 +8,13 @@ use Rattle.clap.specs.declared.builder.value_parser.ValueParser.{ValueParser}
 use Rattle.clap.specs.declared.builder.value_parser.ValueParser.TheVariants as vp
 use Rattle.ffi3_type_rules.specs.declared.Target.{Target}
 use Rattle.ffi3_type_rules.specs.declared.Target.TheVariants.{Amd64, Aapcs64, Riscv}
-use Rattle.ffi3_app.specs.declared.words.Request.{Request}
-use Rattle.ffi3_app.specs.declared.words.Request.TheVariants.{Layout, Place, Run}
+use Rattle.ffi3_words.specs.declared.words.Request.{Request}
+use Rattle.ffi3_words.specs.declared.words.Request.TheVariants.{Layout, Place, Run}
 
 -- ---- the words of a target
 
-abbrev pub place_targets : List Text
-place_targets = codes "amd64" ∷ codes "aapcs64" ∷ codes "riscv" ∷ []
-
-abbrev pub run_targets : List Text
-run_targets = codes "amd64" ∷ []
+abbrev pub targets : List Text
+targets = codes "amd64" ∷ codes "aapcs64" ∷ codes "riscv" ∷ []
 
 abbrev pub target_of : Text → Option Target
 target_of word =
@@ -65,7 +62,7 @@ program_with placing running =
 
 -- THE PROGRAM, with its texts at these addresses
 abbrev pub program : Addresses → Addresses → App
-program at at' = program_with (one_of_words at place_targets) (one_of_words at' run_targets)
+program at at' = program_with (one_of_words at targets) (one_of_words at' targets)
 
 pub record IsProgram (a : App) : Type 0 where
   pub placing : Addresses

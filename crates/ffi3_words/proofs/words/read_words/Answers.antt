@@ -1,7 +1,7 @@
 use Rattle.std.proofs.Common.{◌≡◌, ◌∙◌, List, [], map, string_bytes, sym, ap, subst}
 use Rattle.clap.specs.Words.{HasKind, Text, app_of, fault_of, subcommand_of, subcommand_rows_of}
-use Rattle.ffi3_app.proofs.Answering.{asks_something, can_as, free, one_as, refused_as, simple, stated_as, stated_fails, taken_as, taken_fails}
-use Rattle.ffi3_app.proofs.words.read_words.Goals as goal
+use Rattle.ffi3_words.proofs.Answering.{asks_something, free, one_as, refused_as, simple, stated_as, stated_fails, taken_as, taken_fails}
+use Rattle.ffi3_words.proofs.words.read_words.Goals as goal
 
 pub returns-in-Some-clause-takes : goal.returns-in-Some-clause-takes
 returns-in-Some-clause-takes c =
@@ -13,17 +13,6 @@ returns-in-Some-clause-takes c =
     let fine : fault_of a words ≡ [] = ap (fault_of a) (sym same) ∙ parsed.kinds (free a c.in-Ok.ensures) in
     let met : subcommand_rows_of m ≡ subcommand_of a words = (parsed.matches (simple a c.in-Ok.ensures)).1 ∙ ap (subcommand_of a) same in
     taken_as a c.in-Ok.ensures words m fine met c.in-Some.request (sym c.request_of.ensures ∙ c.in-Some.is)
-
-pub returns-in-Some-clause-can : goal.returns-in-Some-clause-can
-returns-in-Some-clause-can c =
-    let a = app_of c.in-Ok.command in
-    let m = c.in-Ok-try_get_matches_from.matches in
-    let words : List Text = map string_bytes c.args.words.items in
-    let same : map string_bytes c.as_slice.result.now ≡ words = ap (map string_bytes) c.as_slice.ensures.value in
-    let parsed = c.in-Ok-try_get_matches_from.ensures in
-    let fine : fault_of a words ≡ [] = ap (fault_of a) (sym same) ∙ parsed.kinds (free a c.in-Ok.ensures) in
-    let met : subcommand_rows_of m ≡ subcommand_of a words = (parsed.matches (simple a c.in-Ok.ensures)).1 ∙ ap (subcommand_of a) same in
-    can_as a c.in-Ok.ensures words m fine met c.in-Some.request (sym c.request_of.ensures ∙ c.in-Some.is)
 
 pub returns-in-Some-clause-stated : goal.returns-in-Some-clause-stated
 returns-in-Some-clause-stated c r stated =

@@ -1,8 +1,8 @@
 use Rattle.std.proofs.Common.{◌≡◌, ◌∙◌, Some, option_map, sym, codes}
 use Rattle.clap.specs.Words.{found_of, rows_of, subcommand_rows_of}
 use Rattle.clap.proofs.WalkLemmas.{first_value-rows}
-use Rattle.ffi3_app.proofs.Asks.{asks, name_met}
-use Rattle.ffi3_app.proofs.words.request_of.Goals as goal
+use Rattle.ffi3_words.proofs.Asks.{asks, name_met}
+use Rattle.ffi3_words.proofs.words.request_of.Goals as goal
 
 pub returns : goal.returns
 returns c =

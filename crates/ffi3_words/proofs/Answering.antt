@@ -3,15 +3,15 @@ use Rattle.std.proofs.Common.{◌≡◌, ◌∙◌, List, [], Some, None, inl, i
 use Rattle.clap.specs.Words.{App, HasKind, IsAmong, Text, fault_of, kind_of, is_simple, is_simple_and_free, subcommand_of, subcommand_rows_of}
 use Rattle.clap.specs.declared.error.Error.{Error}
 use Rattle.clap.specs.declared.parser.matches.ArgMatches.{ArgMatches}
-use Rattle.ffi3_app.specs.declared.words.Request.{Request}
-use Rattle.ffi3_app.specs.declared.words.WordsFault.{WordsFault}
-use Rattle.ffi3_app.specs.declared.words.WordsFault.TheVariants.{Refused, NoMemory}
-use Rattle.ffi3_app.specs.WordCommands.{IsProgram, asked, program}
-use Rattle.ffi3_app.specs.Words.{CanDo, IsWordsRefusal, IsStated, IsToldAs, Takes}
-use Rattle.ffi3_app.proofs.Asked.{something_asked}
-use Rattle.ffi3_app.proofs.Program.{is_free, is_plain}
-use Rattle.ffi3_app.proofs.Anywhere.{same_fault, same_command}
-use Rattle.ffi3_app.proofs.Stated.{stated_is_read, stated_is_taken}
+use Rattle.ffi3_words.specs.declared.words.Request.{Request}
+use Rattle.ffi3_words.specs.declared.words.WordsFault.{WordsFault}
+use Rattle.ffi3_words.specs.declared.words.WordsFault.TheVariants.{Refused, NoMemory}
+use Rattle.ffi3_words.specs.WordCommands.{IsProgram, asked, program}
+use Rattle.ffi3_words.specs.Words.{IsWordsRefusal, IsStated, IsToldAs, Takes}
+use Rattle.ffi3_words.proofs.Asked.{something_asked}
+use Rattle.ffi3_words.proofs.Program.{is_free, is_plain}
+use Rattle.ffi3_words.proofs.Anywhere.{same_fault, same_command}
+use Rattle.ffi3_words.proofs.Stated.{stated_is_read, stated_is_taken}
 
 some_is : {X : Type 0} (x y : X) → Some x ≡ Some y → x ≡ y
 some_is x y e = cc
@@ -40,11 +40,6 @@ module _ (a : App) (is : IsProgram a) where
             passes = λ at at'. same_fault at at' is.placing is.running words ∙ told fine;
             means = λ at at'. ap asked (same_command at at' is.placing is.running words ∙ sym met_in) ∙ asks;
           }
-
-      pub can_as : (r : Request) → asked (subcommand_rows_of m) ≡ Some r → CanDo r
-      can_as r asks =
-          let read = something_asked is.placing is.running words (told fine) in
-          subst CanDo (some_is read.0 r (sym read.1 ∙ ap asked (sym met_in) ∙ asks)) read.2
 
       pub one_as : (q r : Request) → asked (subcommand_rows_of m) ≡ Some q → Takes words r → q ≡ r
       one_as q r asks takes =

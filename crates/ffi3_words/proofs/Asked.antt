@@ -13,11 +13,10 @@ use Rattle.clap.specs.Faults.{check_fault, defaults_fault, entered_fault, other_
 use Rattle.clap.specs.declared.error.kind.ErrorKind.TheVariants.{DisplayHelpOnMissingArgumentOrSubcommand, MissingSubcommand}
 use Rattle.ffi3_type_rules.specs.declared.Target.{Target}
 use Rattle.ffi3_type_rules.specs.declared.Target.TheVariants.{Amd64, Aapcs64, Riscv}
-use Rattle.ffi3_app.specs.declared.words.Request.{Request}
-use Rattle.ffi3_app.specs.declared.words.Request.TheVariants.{Layout, Place, Run}
-use Rattle.ffi3_app.specs.Words.{CanDo}
-use Rattle.ffi3_app.specs.WordCommands.{Addresses, asked, one_of_words, place_targets, program, run_targets, target_of, with_target_of}
-use Rattle.ffi3_app.proofs.Level.{has_target, never, or_none}
+use Rattle.ffi3_words.specs.declared.words.Request.{Request}
+use Rattle.ffi3_words.specs.declared.words.Request.TheVariants.{Layout, Place, Run}
+use Rattle.ffi3_words.specs.WordCommands.{Addresses, asked, one_of_words, targets, program, target_of, with_target_of}
+use Rattle.ffi3_words.proofs.Level.{has_target, never, or_none}
 
 -- ---- a step at which no command is met
 
@@ -147,32 +146,28 @@ module _ (at at' : Addresses) where
   abbrev IsTarget : Text → Type 0
   IsTarget v = (t : Target) × (target_of v ≡ Some t)
 
-  is_place_target : (v : Text) (is_amd64 is_aapcs64 is_riscv : Bool) → bytes_eq (codes "amd64") v ≡ is_amd64 → bytes_eq (codes "aapcs64") v ≡ is_aapcs64 → bytes_eq (codes "riscv") v ≡ is_riscv → (is_amd64 || (is_aapcs64 || (is_riscv || false))) ≡ true → IsTarget v
-  is_place_target v true b2 b3 e1 e2 e3 one = subst IsTarget ((bytes_eq-Decides (codes "amd64") v).0 e1) (Amd64, refl)
-  is_place_target v false true b3 e1 e2 e3 one = subst IsTarget ((bytes_eq-Decides (codes "aapcs64") v).0 e2) (Aapcs64, refl)
-  is_place_target v false false true e1 e2 e3 one = subst IsTarget ((bytes_eq-Decides (codes "riscv") v).0 e3) (Riscv, refl)
-  is_place_target v false false false e1 e2 e3 one = absurd (true≢false (sym one))
-
-  is_run_target : (v : Text) (is_amd64 : Bool) → bytes_eq (codes "amd64") v ≡ is_amd64 → (is_amd64 || false) ≡ true → target_of v ≡ Some Amd64
-  is_run_target v true e one = subst (λ (w : Text). target_of w ≡ Some Amd64) ((bytes_eq-Decides (codes "amd64") v).0 e) refl
-  is_run_target v false e one = absurd (true≢false (sym one))
+  is_target : (v : Text) (is_amd64 is_aapcs64 is_riscv : Bool) → bytes_eq (codes "amd64") v ≡ is_amd64 → bytes_eq (codes "aapcs64") v ≡ is_aapcs64 → bytes_eq (codes "riscv") v ≡ is_riscv → (is_amd64 || (is_aapcs64 || (is_riscv || false))) ≡ true → IsTarget v
+  is_target v true b2 b3 e1 e2 e3 one = subst IsTarget ((bytes_eq-Decides (codes "amd64") v).0 e1) (Amd64, refl)
+  is_target v false true b3 e1 e2 e3 one = subst IsTarget ((bytes_eq-Decides (codes "aapcs64") v).0 e2) (Aapcs64, refl)
+  is_target v false false true e1 e2 e3 one = subst IsTarget ((bytes_eq-Decides (codes "riscv") v).0 e3) (Riscv, refl)
+  is_target v false false false e1 e2 e3 one = absurd (true≢false (sym one))
 
   -- ---- the command that was met
 
   abbrev Asks : Option (Text × List Text) → Type 0
-  Asks stop = (r : Request) × (asked (entered app stop) ≡ Some r) × CanDo r
+  Asks stop = (r : Request) × (asked (entered app stop) ≡ Some r)
 
   asks_place : (rest : List Text) → entered_fault app (Some (codes "place", rest)) ≡ [] → Asks (Some (codes "place", rest))
   asks_place rest fine =
-      let got = has_target (codes "place") (one_of_words at place_targets) rest fine in
-      let is = is_place_target got.0 _ _ _ refl refl refl got.1 in
-      (Place is.0, ap (λ o. with_target_of o (λ t. Place t)) got.2 ∙ ap (option_map (λ t. Place t)) is.1, tt)
+      let got = has_target (codes "place") (one_of_words at targets) rest fine in
+      let is = is_target got.0 _ _ _ refl refl refl got.1 in
+      (Place is.0, ap (λ o. with_target_of o (λ t. Place t)) got.2 ∙ ap (option_map (λ t. Place t)) is.1)
 
   asks_run : (rest : List Text) → entered_fault app (Some (codes "run", rest)) ≡ [] → Asks (Some (codes "run", rest))
   asks_run rest fine =
-      let got = has_target (codes "run") (one_of_words at' run_targets) rest fine in
-      let is = is_run_target got.0 _ refl got.1 in
-      (Run Amd64, ap (λ o. with_target_of o (λ t. Run t)) got.2 ∙ ap (option_map (λ t. Run t)) is, refl)
+      let got = has_target (codes "run") (one_of_words at' targets) rest fine in
+      let is = is_target got.0 _ _ _ refl refl refl got.1 in
+      (Run is.0, ap (λ o. with_target_of o (λ t. Run t)) got.2 ∙ ap (option_map (λ t. Run t)) is.1)
 
   wants : (wants_help : Bool) → cond wants_help (DisplayHelpOnMissingArgumentOrSubcommand ∷ []) (MissingSubcommand ∷ []) ≡ [] → ⊥
   wants true fine = never fine
@@ -182,7 +177,7 @@ module _ (at at' : Addresses) where
   asks rs None known fine checked = absurd (wants (not (list_any (λ (r : Row). explicit_source r.source) rs)) checked)
   asks rs (Some p) (inl is) fine checked =
       let P : Text → Type 0 = λ name. Asks (Some (name, p.1)) in
-      subst P (sym is) (Layout, refl, tt)
+      subst P (sym is) (Layout, refl)
   asks rs (Some p) (inr (inl is)) fine checked =
       let P : Text → Type 0 = λ name. entered_fault app (Some (name, p.1)) ≡ [] → Asks (Some (name, p.1)) in
       subst P (sym is) (asks_place p.1) fine
@@ -193,7 +188,7 @@ module _ (at at' : Addresses) where
   abbrev at_end : List Text → Walk
   at_end words = walk top.rules names nothing_held (argument_words (program at at') words)
 
-  pub something_asked : (words : List Text) → fault_of (program at at') words ≡ [] → (r : Request) × (asked (subcommand_of (program at at') words) ≡ Some r) × CanDo r
+  pub something_asked : (words : List Text) → fault_of (program at at') words ≡ [] → (r : Request) × (asked (subcommand_of (program at at') words) ≡ Some r)
   something_asked words fine =
       let end = at_end words in
       let walked_well = or_none _ _ fine in

@@ -2,16 +2,14 @@
 ghost use Rattle.std.specs.Prelude.{◌≡◌, IfOk, false, codes};
 ghost use Rattle.clap.specs.Words.{app_of, rule_of, shape_of};
 ghost use Rattle.clap.specs.declared.builder.command.Command.TheViews.{out-Command};
-ghost use Rattle.ffi3_app.specs.WordCommands.{IsProgram, IsTargetRule, HasTarget, layout_shape, place_targets, run_targets};
+ghost use Rattle.ffi3_words.specs.WordCommands.{IsProgram, IsTargetRule, HasTarget, layout_shape, targets};
 
 use crate::help;
 use clap::{Arg, Command};
 use std::alloc::{AllocError, Global};
 
-/// The targets of `place`.
-static PLACE_TARGETS: [&str; 3] = ["amd64", "aapcs64", "riscv"];
-/// The targets of `run`.
-static RUN_TARGETS: [&str; 1] = ["amd64"];
+/// The words of the targets.
+static TARGETS: [&str; 3] = ["amd64", "aapcs64", "riscv"];
 
 /// The program, its commands and their options.
 pub fn program<'a>(alloc: Global) -> Result<Command<'a>, AllocError>
@@ -40,25 +38,25 @@ fn layout<'a>(alloc: Global) -> Command<'a>
 }
 
 fn place<'a>(alloc: Global) -> Result<Command<'a>, AllocError>
-    ensures shape { IfOk result (λ c. HasTarget (codes "place") place_targets (shape_of c)) }
+    ensures shape { IfOk result (λ c. HasTarget (codes "place") targets (shape_of c)) }
     ensures local { IfOk result (λ c. (out-Command c).has_globals ≡ false) }
 {
     Command::new(alloc, "place")
         .about(help::PLACE_ABOUT)
         .long_about(help::PLACE_LONG_ABOUT)
         .after_help(help::PLACE_AFTER_HELP)
-        .arg(target(alloc, PLACE_TARGETS.as_slice()))
+        .arg(target(alloc, TARGETS.as_slice()))
 }
 
 fn run<'a>(alloc: Global) -> Result<Command<'a>, AllocError>
-    ensures shape { IfOk result (λ c. HasTarget (codes "run") run_targets (shape_of c)) }
+    ensures shape { IfOk result (λ c. HasTarget (codes "run") targets (shape_of c)) }
     ensures local { IfOk result (λ c. (out-Command c).has_globals ≡ false) }
 {
     Command::new(alloc, "run")
         .about(help::RUN_ABOUT)
         .long_about(help::RUN_LONG_ABOUT)
         .after_help(help::RUN_AFTER_HELP)
-        .arg(target(alloc, RUN_TARGETS.as_slice()))
+        .arg(target(alloc, TARGETS.as_slice()))
 }
 
 // The option `--target`, which has to be one of these words.

@@ -1,8 +1,8 @@
 //! What the words of the program ask for.
 ghost use Rattle.std.specs.Prelude.{◌≡◌, IfOk, IfErr, Some, map, option_map, string_bytes};
 ghost use Rattle.clap.specs.Words.{subcommand_rows_of};
-ghost use Rattle.ffi3_app.specs.WordCommands.{asked, request_of, target_of};
-ghost use Rattle.ffi3_app.specs.Words.{CanDo, IsStated, IsWordsRefusal, IsToldAs, Takes};
+ghost use Rattle.ffi3_words.specs.WordCommands.{asked, request_of, target_of};
+ghost use Rattle.ffi3_words.specs.Words.{IsStated, IsWordsRefusal, IsToldAs, Takes};
 
 use crate::command::program;
 use clap::error::ErrorKind;
@@ -33,7 +33,6 @@ pub enum WordsFault {
 /// Reads the words, of which the first is the program's name.
 pub fn read_words(alloc: Global, words: Vec<String>) -> Result<Request, WordsFault>
     ensures takes { IfOk result (Takes (map string_bytes words.items)) }
-    ensures can { IfOk result CanDo }
     ensures refused { IfErr result (IsWordsRefusal (map string_bytes words.items)) }
     ensures one { (r : Request) → Takes (map string_bytes words.items) r →
         IfOk result (λ q. q ≡ r) × IfErr result (λ e. e ≡ WordsFault.NoMemory) }

@@ -4,10 +4,10 @@ use Rattle.clap.specs.Words.{Text, fault_of, subcommand_of}
 use Rattle.clap.proofs.OnLiterals.{clap_on_literals}
 use Rattle.ffi3_type_rules.specs.declared.Target.{Target}
 use Rattle.ffi3_type_rules.specs.declared.Target.TheVariants.{Amd64, Aapcs64, Riscv}
-use Rattle.ffi3_app.specs.declared.words.Request.{Request}
-use Rattle.ffi3_app.specs.declared.words.Request.TheVariants.{Layout, Place, Run}
-use Rattle.ffi3_app.specs.WordCommands.{Addresses, asked, program}
-use Rattle.ffi3_app.specs.Words.{IsStated, StatesAfterName, Takes, target_word}
+use Rattle.ffi3_words.specs.declared.words.Request.{Request}
+use Rattle.ffi3_words.specs.declared.words.Request.TheVariants.{Layout, Place, Run}
+use Rattle.ffi3_words.specs.WordCommands.{Addresses, asked, program}
+use Rattle.ffi3_words.specs.Words.{IsStated, StatesAfterName, Takes, target_word}
 
 module _ (at at' : Addresses) (name : Text) where
   -- clap takes the words after the name, and reads them as this
@@ -25,16 +25,16 @@ module _ (at at' : Addresses) (name : Text) where
   places Aapcs64 = (refl, refl)
   places Riscv = (refl, refl)
 
-  runs : Reads (codes "run" ∷ codes "--target" ∷ codes "amd64" ∷ []) (Run Amd64)
+  runs : (t : Target) → Reads (codes "run" ∷ codes "--target" ∷ target_word t ∷ []) (Run t)
   unfolding clap_on_literals
-  runs = (refl, refl)
+  runs Amd64 = (refl, refl)
+  runs Aapcs64 = (refl, refl)
+  runs Riscv = (refl, refl)
 
   states : (rest : List Text) (r : Request) → StatesAfterName rest r → Reads rest r
   states rest Layout is = subst (λ ws. Reads ws Layout) (sym is) lays
   states rest (Place t) is = subst (λ ws. Reads ws (Place t)) (sym is) (places t)
-  states rest (Run Amd64) is = subst (λ ws. Reads ws (Run Amd64)) (sym is.0) runs
-  states rest (Run Aapcs64) is = cc
-  states rest (Run Riscv) is = cc
+  states rest (Run t) is = subst (λ ws. Reads ws (Run t)) (sym is) (runs t)
 
 -- STATED WORDS ARE TAKEN, and read as what they state
 pub stated_is_read : (at at' : Addresses) (words : List Text) (r : Request) → IsStated words r → (fault_of (program at at') words ≡ []) × (asked (subcommand_of (program at at') words) ≡ Some r)

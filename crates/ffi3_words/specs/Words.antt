@@ -5,32 +5,22 @@ use Rattle.clap.specs.declared.error.Error.{Error}
 use Rattle.clap.specs.declared.error.kind.ErrorKind.TheVariants.{OutOfMemory}
 use Rattle.ffi3_type_rules.specs.declared.Target.{Target}
 use Rattle.ffi3_type_rules.specs.declared.Target.TheVariants.{Amd64, Aapcs64, Riscv}
-use Rattle.ffi3_app.specs.declared.words.Request.{Request}
-use Rattle.ffi3_app.specs.declared.words.Request.TheVariants.{Layout, Place, Run}
-use Rattle.ffi3_app.specs.declared.words.WordsFault.{WordsFault}
-use Rattle.ffi3_app.specs.declared.words.WordsFault.TheVariants.{Refused, NoMemory}
-use Rattle.ffi3_app.specs.WordCommands.{Addresses, program, asked}
+use Rattle.ffi3_words.specs.declared.words.Request.{Request}
+use Rattle.ffi3_words.specs.declared.words.Request.TheVariants.{Layout, Place, Run}
+use Rattle.ffi3_words.specs.declared.words.WordsFault.{WordsFault}
+use Rattle.ffi3_words.specs.declared.words.WordsFault.TheVariants.{Refused, NoMemory}
+use Rattle.ffi3_words.specs.WordCommands.{Addresses, program, asked}
 
 abbrev pub target_word : Target → Text
 target_word Amd64 = codes "amd64"
 target_word Aapcs64 = codes "aapcs64"
 target_word Riscv = codes "riscv"
 
--- the machine of a target is modelled
-abbrev pub CanRun : Target → Type 0
-CanRun t = t ≡ Amd64
-
--- what is asked for can be done
-abbrev pub CanDo : Request → Type 0
-CanDo Layout = Unit {0}
-CanDo (Place t) = Unit {0}
-CanDo (Run t) = CanRun t
-
 -- the words after the program's name ask for this
 abbrev pub StatesAfterName : List Text → Request → Type 0
 StatesAfterName rest Layout = rest ≡ codes "layout" ∷ []
 StatesAfterName rest (Place t) = rest ≡ codes "place" ∷ codes "--target" ∷ target_word t ∷ []
-StatesAfterName rest (Run t) = (rest ≡ codes "run" ∷ codes "--target" ∷ target_word t ∷ []) × CanRun t
+StatesAfterName rest (Run t) = rest ≡ codes "run" ∷ codes "--target" ∷ target_word t ∷ []
 
 -- THE STATED WORDS of what is asked for: the program's name, and then `layout`, `place --target T` or `run --target T`
 abbrev pub IsStated : List Text → Request → Type 0

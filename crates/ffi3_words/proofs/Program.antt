@@ -6,7 +6,7 @@ use Rattle.clap.specs.declared.builder.command.Command.{Command}
 use Rattle.clap.specs.declared.builder.value_parser.ValueParser.{ValueParser}
 use Rattle.clap.specs.declared.builder.value_parser.ValueParser.TheVariants as vp
 use Rattle.clap.proofs.OnLiterals.{clap_on_literals}
-use Rattle.ffi3_app.specs.WordCommands.{Addresses, lent, one_of_words, place_targets, run_targets, target_rule, layout_shape, program_alone, program, IsProgram, IsTargetRule, HasTarget}
+use Rattle.ffi3_words.specs.WordCommands.{Addresses, lent, one_of_words, targets, target_rule, layout_shape, program_alone, program, IsProgram, IsTargetRule, HasTarget}
 
 -- where texts lie
 abbrev addresses : List (Bor Text) → Addresses
@@ -31,7 +31,7 @@ has_target name ts xs c before rule new is words added =
     added ∙ ap₂ with_rule new (is.same ∙ ap target_rule same_parser) in
     record { at = all_addresses is.list xs; same = ap (λ (a : App). a.top) same_app }
 
-pub is_program : (a b c d : App) (l p r : Shape) → a ≡ program_alone → l ≡ layout_shape → HasTarget (codes "place") place_targets p → HasTarget (codes "run") run_targets r → b ≡ with_subcommand a l → c ≡ with_subcommand b p → d ≡ with_subcommand c r → IsProgram d
+pub is_program : (a b c d : App) (l p r : Shape) → a ≡ program_alone → l ≡ layout_shape → HasTarget (codes "place") targets p → HasTarget (codes "run") targets r → b ≡ with_subcommand a l → c ≡ with_subcommand b p → d ≡ with_subcommand c r → IsProgram d
 is_program a b c d l p r alone lays places runs first second third =
     record {
       placing = places.at;

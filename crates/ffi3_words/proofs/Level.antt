@@ -16,7 +16,7 @@ use Rattle.clap.specs.declared.builder.value_parser.ValueParser.{ValueParser}
 use Rattle.clap.specs.declared.error.kind.ErrorKind.{ErrorKind}
 use Rattle.clap.specs.declared.error.kind.ErrorKind.TheVariants.{InvalidValue, WrongNumberOfValues}
 use Rattle.clap.specs.declared.parser.matches.ValueSource.TheVariants.{CommandLine}
-use Rattle.ffi3_app.specs.WordCommands.{program_alone, target_rule, with_target}
+use Rattle.ffi3_words.specs.WordCommands.{program_alone, target_rule, with_target}
 
 -- what the program hands down to its commands
 abbrev pub above : Shape

@@ -11,8 +11,8 @@ use Rattle.clap.specs.Simple.{argument_words, built_leaf, inherited, entered, na
 use Rattle.std.specs.Option.{option_map, option_map_or}
 use Rattle.clap.specs.Faults.{bundle_fault, bundle_step_fault, defaults_fault, check_fault, flag_word_fault, flags_fault, level_fault, long_fault, react_fault, settle_fault, short_fault, step_fault, turn_fault, use_fault, walk_fault, entered_fault, word_fault}
 use Rattle.clap.specs.declared.builder.value_parser.ValueParser.{ValueParser}
-use Rattle.ffi3_app.specs.WordCommands.{Addresses, program, one_of_words, place_targets, run_targets, layout_shape}
-use Rattle.ffi3_app.proofs.Level.{above, built_with, built_target, built_help}
+use Rattle.ffi3_words.specs.WordCommands.{Addresses, program, one_of_words, targets, layout_shape}
+use Rattle.ffi3_words.proofs.Level.{above, built_with, built_target, built_help}
 
 -- two parsers of a target that refuse the same values, and are read alike
 module _ (called : Text) (p q : ValueParser) (same_use : (vs : List Text) (rows : List Row) → use_fault false (built_target p) vs rows ≡ use_fault false (built_target q) vs rows) (same_used : (vs : List Text) (rows : List Row) → used (built_target p) vs rows ≡ used (built_target q) vs rows) where
@@ -261,19 +261,12 @@ module _ (called : Text) (p q : ValueParser) (same_use : (vs : List Text) (rows 
 -- ---- the two commands with a target
 
 module _ (called : Text) (at bt : Addresses) where
-  same_place_level : (words : List Text) → level_fault (built_with called (one_of_words at place_targets)) [] nothing_held words false [] ≡ level_fault (built_with called (one_of_words bt place_targets)) [] nothing_held words false []
-  same_place_level = same_level called (one_of_words at place_targets) (one_of_words bt place_targets) (λ vs rows. refl) (λ vs rows. refl)
+  same_target_level : (words : List Text) → level_fault (built_with called (one_of_words at targets)) [] nothing_held words false [] ≡ level_fault (built_with called (one_of_words bt targets)) [] nothing_held words false []
+  same_target_level = same_level called (one_of_words at targets) (one_of_words bt targets) (λ vs rows. refl) (λ vs rows. refl)
 
-  same_place_rows : (words : List Text) → rows_at (built_with called (one_of_words at place_targets)) words ≡ rows_at (built_with called (one_of_words bt place_targets)) words
-  same_place_rows words =
-      ap (λ (rows : List Row). (called, rows)) (same_rows_after called (one_of_words at place_targets) (one_of_words bt place_targets) (λ vs rows. refl) (λ vs rows. refl) words)
-
-  same_run_level : (words : List Text) → level_fault (built_with called (one_of_words at run_targets)) [] nothing_held words false [] ≡ level_fault (built_with called (one_of_words bt run_targets)) [] nothing_held words false []
-  same_run_level = same_level called (one_of_words at run_targets) (one_of_words bt run_targets) (λ vs rows. refl) (λ vs rows. refl)
-
-  same_run_rows : (words : List Text) → rows_at (built_with called (one_of_words at run_targets)) words ≡ rows_at (built_with called (one_of_words bt run_targets)) words
-  same_run_rows words =
-      ap (λ (rows : List Row). (called, rows)) (same_rows_after called (one_of_words at run_targets) (one_of_words bt run_targets) (λ vs rows. refl) (λ vs rows. refl) words)
+  same_target_rows : (words : List Text) → rows_at (built_with called (one_of_words at targets)) words ≡ rows_at (built_with called (one_of_words bt targets)) words
+  same_target_rows words =
+      ap (λ (rows : List Row). (called, rows)) (same_rows_after called (one_of_words at targets) (one_of_words bt targets) (λ vs rows. refl) (λ vs rows. refl) words)
 
 -- ---- the program
 
@@ -286,15 +279,15 @@ module _ (at at' bt bt' : Addresses) where
 
   abbrev command : Addresses → Addresses → Bool → Bool → Bool → Bool → Option Shape
   command x y is_layout is_place is_run is_help =
-      cond is_layout (Some (built_leaf (inherited above layout_shape))) (cond is_place (Some (built_with (codes "place") (one_of_words x place_targets))) (cond is_run (Some (built_with (codes "run") (one_of_words y run_targets))) (cond is_help (Some (built_leaf help_shape)) None)))
+      cond is_layout (Some (built_leaf (inherited above layout_shape))) (cond is_place (Some (built_with (codes "place") (one_of_words x targets))) (cond is_run (Some (built_with (codes "run") (one_of_words y targets))) (cond is_help (Some (built_leaf help_shape)) None)))
 
   abbrev level : List Text → Shape → Kinds
   level words s = level_fault s [] nothing_held words false []
 
   command_fault : (is_layout is_place is_run is_help : Bool) (words : List Text) → option_map_or (level words) (command at at' is_layout is_place is_run is_help) [] ≡ option_map_or (level words) (command bt bt' is_layout is_place is_run is_help) []
   command_fault true b2 b3 b4 words = refl
-  command_fault false true b3 b4 words = same_place_level (codes "place") at bt words
-  command_fault false false true b4 words = same_run_level (codes "run") at' bt' words
+  command_fault false true b3 b4 words = same_target_level (codes "place") at bt words
+  command_fault false false true b4 words = same_target_level (codes "run") at' bt' words
   command_fault false false false true words = refl
   command_fault false false false false words = refl
 
@@ -311,8 +304,8 @@ module _ (at at' bt bt' : Addresses) where
 
   command_rows : (is_layout is_place is_run is_help : Bool) (words : List Text) → option_map (rows_in words) (command at at' is_layout is_place is_run is_help) ≡ option_map (rows_in words) (command bt bt' is_layout is_place is_run is_help)
   command_rows true b2 b3 b4 words = refl
-  command_rows false true b3 b4 words = ap (λ (x : Text × List Row). Some x) (same_place_rows (codes "place") at bt words)
-  command_rows false false true b4 words = ap (λ (x : Text × List Row). Some x) (same_run_rows (codes "run") at' bt' words)
+  command_rows false true b3 b4 words = ap (λ (x : Text × List Row). Some x) (same_target_rows (codes "place") at bt words)
+  command_rows false false true b4 words = ap (λ (x : Text × List Row). Some x) (same_target_rows (codes "run") at' bt' words)
   command_rows false false false true words = refl
   command_rows false false false false words = refl
 

@@ -1,9 +1,9 @@
 use Rattle.std.proofs.Common.{rules, ◌≡◌}
 use Rattle.std.proofs.lemmas.Result.{IfOk-weaker}
 use Rattle.clap.specs.Words.{app_of, shape_of}
-use Rattle.ffi3_app.specs.WordCommands.{program_alone}
-use Rattle.ffi3_app.proofs.Program.{is_program}
-use Rattle.ffi3_app.proofs.command.program.Goals as goal
+use Rattle.ffi3_words.specs.WordCommands.{program_alone}
+use Rattle.ffi3_words.proofs.Program.{is_program}
+use Rattle.ffi3_words.proofs.command.program.Goals as goal
 
 pub returns : goal.returns
 returns c =

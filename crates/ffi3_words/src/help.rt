@@ -100,9 +100,15 @@ pub const RUN_LONG_ABOUT: &str = "Run the script on a modelled machine.
 Reads a script of at most 1,048,576 bytes from standard input. Does what its
 main function says: makes closures, calls them by the calling convention of
 the target, and writes the lines that the script prints. Registers, stack and
-closure code are modelled in software: no code of the host is called.";
+closure code are modelled in software, for each of the three targets alike: no
+code of the host is called.";
 
-pub const RUN_AFTER_HELP: &str = "Exit status:
+pub const RUN_AFTER_HELP: &str = "Targets:
+  amd64    System V psABI for AMD64
+  aapcs64  procedure call standard for the Arm 64-bit architecture
+  riscv    RISC-V psABI, LP64D
+
+Exit status:
   0  done
   1  the script was refused: standard error has `ffi3: PATH: REASON`
   2  the words of the call were refused, or asked for help
