@@ -1,7 +1,7 @@
-pub mod Firsts
 pub mod Inputs
+pub mod Naming
 pub mod Pieces
 pub mod Right
+pub mod Running
 pub mod Saying
 pub mod Telling
-mod Alone

@@ -1,5 +1,5 @@
 -- WHAT EACH COMMAND WRITES OF A SCRIPT.
-use Rattle.std.specs.Prelude.{ℕ, ◌+◌, List, [], ◌∷◌, ◌++◌, map, Option, None}
+use Rattle.std.specs.Prelude.{ℕ, ◌+◌, List, [], ◌∷◌, ◌++◌, map}
 use Rattle.ffi3_type_rules.specs.declared.Target.{Target}
 use Rattle.ffi3_type_rules.specs.declared.Target.TheVariants.{Amd64, Aapcs64, Riscv}
 use Rattle.ffi3_type_rules.specs.Tree.{Tree}
@@ -8,10 +8,8 @@ use Rattle.ffi3_place_rules.specs.Standard.{Standard}
 use Rattle.ffi3_amd64_rules.specs.Amd64.{amd64}
 use Rattle.ffi3_aapcs64_rules.specs.Aapcs64.{aapcs64}
 use Rattle.ffi3_riscv_rules.specs.Riscv.{riscv}
-use Rattle.ffi3_script_rules.specs.Language.{Path}
 use Rattle.ffi3_script_rules.specs.Script.{Script}
 use Rattle.ffi3_script_rules.specs.Natives.{NamedNative, program_beside}
-use Rattle.ffi3_script_rules.specs.RunLimit.{first_not_run}
 use Rattle.ffi3_run_rules.specs.Lines.{untraced, text_of_run}
 use Rattle.ffi3_text.specs.LayoutLines.{layout_text_of}
 use Rattle.ffi3_text.specs.PlaceLines.{sig_text_of, place_text_of}
@@ -62,8 +60,3 @@ command_text Layout natives script = layout_text script
 command_text (Place t) natives script = place_text (standard_of t) script
 command_text (Run t) natives script =
     text_of_run untraced (program_beside (standard_of t) natives script)
-
--- the place of a script, if there is one, that the command does not do yet
-abbrev pub not_yet : Request → Script → Option Path
-not_yet (Run t) script = first_not_run script
-not_yet _ script = None

@@ -2,8 +2,8 @@
 #![tactic(auto)]
 
 mod layout;
-mod limit;
 mod load;
+mod names;
 mod place;
 mod tell;
 mod top;
@@ -11,5 +11,4 @@ mod work;
 mod write;
 
 pub use ffi3_machine::Machine;
-pub use limit::{NotYet, run_limit};
 pub use top::ffi3;

@@ -8,7 +8,6 @@ mod ValueRows
 mod MeaningRows
 mod ComputedValueRows
 mod TypedRows
-mod RunLimitRows
 mod MadeRows
 pub mod Tests
 pub mod RightTypes

@@ -11,4 +11,3 @@ pub mod Natives
 pub mod Typed
 pub mod Made
 pub mod Reading
-pub mod RunLimit

@@ -169,8 +169,8 @@ fn says_why_words_are_refused(rt: HostRuntime) -> Result<(), Fail> {
             "[possible values: amd64, aapcs64, riscv]",
         ),
         (
-            &["ffi3", "run", "--target", "aapcs64"],
-            "[possible values: amd64]",
+            &["ffi3", "run", "--target", "i386"],
+            "[possible values: amd64, aapcs64, riscv]",
         ),
         (&["ffi3", "layout", "extra"], "unexpected argument 'extra'"),
         (
