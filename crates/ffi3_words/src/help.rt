@@ -121,3 +121,5 @@ Example:
   ffi3 run --target amd64 < examples/increment.json";
 
 pub const TARGET_HELP: &str = "Follow the calling convention of this target";
+
+pub const TRACE_HELP: &str = "Write lines of each call's entry and return too";
