@@ -16,7 +16,7 @@ use Rattle.ffi3_place_rules.specs.Event.{Event}
 use Rattle.ffi3_run_rules.specs.Meaning.{Program}
 use Rattle.ffi3_run_rules.specs.Trace.{TraceItem, Enter, Line, Leave, StopLine}
 use Rattle.ffi3_run_rules.specs.Journal.{Entered, needs, Answers, IsEntry, IsReturn, events_in}
-use Rattle.ffi3_run_rules.specs.Lines.{OpenCall, Point, past, traced, a_line, address_text, word_text, sp_at_call, enter_text, keep_text, leave_text, enter_lines, leave_lines}
+use Rattle.ffi3_run_rules.specs.Lines.{OpenCall, Point, past, traced, a_line, address_text, word_text, sp_at_call, keep_text, leave_text, enter_lines, leave_lines}
 use Rattle.ffi3_run_rules.proofs.Texts.{registers_text}
 use Rattle.ffi3_turn_rules.specs.Left.{Left}
 use Rattle.ffi3_turn_rules.specs.Open.{open_after}
