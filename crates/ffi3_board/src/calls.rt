@@ -147,8 +147,9 @@ impl<S: Drop> Board<S> {
             return Turn::Done;
         };
         let sig = call.sig;
-        let Ok(outcome) = end_with(alloc, machine, cifs, call, value) else {
-            return Turn::NoMemory;
+        let outcome = match end_with(alloc, machine, cifs, call, value) {
+            Ok(outcome) => outcome,
+            Err(_) => return Turn::NoMemory,
         };
         if let Err(why) = tell_return(alloc, machine, output, cifs.get(sig), value, trace) {
             return Turn::cut_off(why);

@@ -52,7 +52,7 @@ pub fn write_stop<A: Abi, O: Sink>(
 }
 
 /// Hands a line in.
-pub(crate) fn write_line<O: Sink>(output: &mut O, line: &[u8]) -> Result<(), IoError>
+fn write_line<O: Sink>(output: &mut O, line: &[u8]) -> Result<(), IoError>
     ensures { WroteLine line.now (O.state output.old) (O.state output.new) result }
 {
     match write_all(output, line) {

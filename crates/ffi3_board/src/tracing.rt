@@ -12,10 +12,9 @@ ghost use Rattle.ffi3_text.specs.TraceLines.{keep_text_of};
 ghost use Rattle.ffi3_board.specs.TraceLines.{entry_lines, last_event, return_lines};
 ghost use Rattle.ffi3_board.specs.WroteLine.{WroteLine};
 
-use crate::line::write_line;
 use ffi3_body::Seen;
 use ffi3_cif::Cif;
-use ffi3_io::{IoError, Sink};
+use ffi3_io::{IoError, Sink, write_all};
 use ffi3_machine::{Event, Machine};
 use ffi3_place::Abi;
 use ffi3_text::{enter_line, keep_line, leave_line};
@@ -122,8 +121,11 @@ fn write_event<A: Abi, O: Sink>(
     let Ok(kept) = keep_line::<A>(alloc, event) else {
         return Err(IoError::NoMemory);
     };
-    if let Err(why) = write_line(output, line) {
-        return Err(why);
-    }
-    write_line(output, kept.as_slice())
+    let Ok(()) = write_all(output, line) else {
+        return Err(IoError::Failed);
+    };
+    let Ok(()) = write_all(output, kept.as_slice()) else {
+        return Err(IoError::Failed);
+    };
+    Ok(())
 }
