@@ -1,6 +1,6 @@
 -- What a whole run of main says, by how it ended.
 use Rattle.std.proofs.Common.{◌≡◌, ℕ, ◌+◌, ◌≤◌, inl, inr, ◌⊎◌, List, [], ◌++◌, length, take, refl, sym, ap, ◌∙◌, subst, arith}
-use Rattle.std.specs.Prelude.{Bool}
+use Rattle.std.specs.Prelude.{Bool, true, false}
 use Rattle.std.proofs.lemmas.List.{take-append-le}
 use Rattle.std.proofs.Math.Seq.{take-length}
 use Rattle.ffi3_type_rules.specs.declared.limits.TheConstants.{STACK_TOP}
@@ -72,7 +72,7 @@ module _ (p : Program) (std : Standard) (trace : Bool) (b : Board Standing) (m :
       (length h.text, Adds-along o.taken o'.taken h.text (take (length h.text) (text_of_run (main_tracing trace std) p)) (sym first) h.written)
 
   -- what is told of a run that was cut off
-  cut_off : (why : IoError) → WasCutOff p (main_base std) (left_of (meaning_of p)) (main_beginning trace std o) why m o' → RunWasCut (main_tracing trace std) std p why o o' m
+  cut_off : (why : IoError) → WasCutOff p (main_base std) (left_of (meaning_of p)) (main_beginning trace std o) why m o' → RunWasCut (main_tracing trace std) std p (is_in_line why) o o' m
   cut_off why h =
       let k = h.cut in
       let P = λ (l : List Event). JournalOf std p.signatures (k.done ++ begun k.recorded k.later) l in
@@ -86,7 +86,6 @@ module _ (p : Program) (std : Standard) (trace : Bool) (b : Board Standing) (m :
         part = k.part;
         proper = k.proper;
         written = Adds-along o.taken o'.taken h.text (text (main_tracing trace std) p.signatures at_start k.done ++ take k.part (next_text (main_tracing trace std) p.signatures (past_all p.signatures at_start k.done) k.later)) k.text_is h.written;
-        cause = h.cause;
         recorded = k.recorded;
         its_event = k.its_event;
         journal = subst P (sym h.journal) (subst R k.happened_is k.answers.answers);
@@ -137,13 +136,13 @@ module _ (p : Program) (std : Standard) (trace : Bool) (b : Board Standing) (m :
   ran_failed run.NoMemory ran is = cc
   ran_failed run.Failed ran is = ran.cause.0
 
-  pub ran_cut_by_memory : (t : RunEnd) → Answer t → t ≡ run.NoMemory → RunWasCut (main_tracing trace std) std p cut.NoMemory o o' m
+  pub ran_cut_by_memory : (t : RunEnd) → Answer t → t ≡ run.NoMemory → RunWasCut (main_tracing trace std) std p false o o' m
   ran_cut_by_memory run.Done ran is = cc
   ran_cut_by_memory (run.Stopped stop) ran is = cc
   ran_cut_by_memory run.NoMemory ran is = cut_off cut.NoMemory ran
   ran_cut_by_memory run.Failed ran is = cc
 
-  pub ran_cut_by_write : (t : RunEnd) → Answer t → t ≡ run.Failed → RunWasCut (main_tracing trace std) std p cut.Failed o o' m
+  pub ran_cut_by_write : (t : RunEnd) → Answer t → t ≡ run.Failed → RunWasCut (main_tracing trace std) std p true o o' m
   ran_cut_by_write run.Done ran is = cc
   ran_cut_by_write (run.Stopped stop) ran is = cc
   ran_cut_by_write run.NoMemory ran is = cc

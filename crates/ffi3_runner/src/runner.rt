@@ -1,5 +1,5 @@
 //! The runner: what a run is prepared with, and its board.
-ghost use Rattle.std.specs.Prelude.{◌≡◌, ◌<◌, ◌≤◌, ◌^◌, IfOk, List, None, length, map};
+ghost use Rattle.std.specs.Prelude.{◌≡◌, ◌<◌, ◌≤◌, ◌^◌, IfOk, List, None, false, length, map, true};
 ghost use Rattle.ffi3_type_rules.specs.Value.{void_value};
 ghost use Rattle.ffi3_place_rules.specs.Event.{Event};
 ghost use Rattle.ffi3_run_rules.specs.Meaning.{meaning_of, returned, stopped};
@@ -24,7 +24,7 @@ use crate::prepare::{Prepared, prepare_all};
 use crate::run::RunEnd;
 use ffi3_ask::{Native, Standing};
 use ffi3_board::{Activation, Board, Table, Turn, Who};
-use ffi3_io::{IoError, Sink};
+use ffi3_io::Sink;
 use ffi3_machine::Machine;
 use ffi3_place::Abi;
 use ffi3_script::Script;
@@ -132,10 +132,10 @@ impl<'a, A: Abi> Runner<'a, A> {
         ensures no_memory { result ≡ RunEnd.NoMemory → (O.state output.new).faults ≡ (O.state output.old).faults }
         ensures failed { result ≡ RunEnd.Failed → Rose (O.state output.old).faults (O.state output.new).faults }
         ensures cut_by_memory { result ≡ RunEnd.NoMemory →
-            RunWasCut (main_tracing trace A.standard) A.standard (program A.standard self.old.prepared.script.now (map (λ b. handed_in (title b) (meaning b) (signatures b)) self.old.prepared.natives.now.items)) IoError.NoMemory
+            RunWasCut (main_tracing trace A.standard) A.standard (program A.standard self.old.prepared.script.now (map (λ b. handed_in (title b) (meaning b) (signatures b)) self.old.prepared.natives.now.items)) false
             (O.state output.old) (O.state output.new) machine.new }
         ensures cut_by_write { result ≡ RunEnd.Failed →
-            RunWasCut (main_tracing trace A.standard) A.standard (program A.standard self.old.prepared.script.now (map (λ b. handed_in (title b) (meaning b) (signatures b)) self.old.prepared.natives.now.items)) IoError.Failed
+            RunWasCut (main_tracing trace A.standard) A.standard (program A.standard self.old.prepared.script.now (map (λ b. handed_in (title b) (meaning b) (signatures b)) self.old.prepared.natives.now.items)) true
             (O.state output.old) (O.state output.new) machine.new }
         ensures never_falls { (O.state output.old).faults ≤ (O.state output.new).faults }
         ensures part { WrotePart (main_tracing trace A.standard) (program A.standard self.old.prepared.script.now (map (λ b. handed_in (title b) (meaning b) (signatures b)) self.old.prepared.natives.now.items))
