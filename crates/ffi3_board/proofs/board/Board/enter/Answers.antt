@@ -51,7 +51,7 @@ returns-in-Err-clause-turned g c = λ p base all first own events standard signa
     let lines = call_lines p base all first own events b.served outer b.table b.moves m o c.args.current ptr sig args is c.args.closure does n m' incoming sized begun received c.begin_call-incoming.ensures.block below c.args.standing [] refl c.args.trace tracing in
     let told = entry_told_as c.args.trace std base.standard c.get-cif.result.now (signature_at p.signatures sig) m' _ (sym standard) site lines in
     let cut_off = cut_as _ _ o o' c.in-Err.why told c.in-Err.ensures in
-    goes_off p base all first own (suc b.moves) b m' o' c.in-Err.why c.cut_off.result c.cut_off.ensures.is (call_cut_off p base all first own events b.served outer b.table b.moves m o c.args.current ptr sig args is c.args.closure does n m' incoming sized begun received c.begin_call-incoming.ensures.block below c.args.standing [] refl c.in-Err.why o' cut_off)
+    goes_off p base all first own (suc b.moves) (record b { suspended = c.reserve.new.self }) m' o' c.in-Err.why c.cut_off.result c.cut_off.ensures.is (call_cut_off p base all first own events b.served outer b.table b.moves m o c.args.current ptr sig args is c.args.closure does n m' incoming sized begun received c.begin_call-incoming.ensures.block below c.args.standing [] refl c.in-Err.why o' cut_off)
 
 pub returns-clause-turned : goal.returns-clause-turned
 returns-clause-turned g c = λ p base all first own events standard signatures tracing is does.
