@@ -1,4 +1,4 @@
-use Rattle.std.proofs.Common.{◌≡◌, ◌+◌, ◌∷◌, [], true, List, length, refl, sym, ap, ◌∙◌, subst, arith, length-append}
+use Rattle.std.proofs.Common.{◌≡◌, ◌<◌, ◌∷◌, [], true, List, length, sym, ap, subst, arith, length-append}
 use Rattle.ffi3_type_rules.specs.Tree.{trees_of}
 use Rattle.ffi3_type_rules.specs.Value.{ValueTree, all_fit, values_of}
 use Rattle.ffi3_values.specs.ValueOf.{value_of}
@@ -11,7 +11,7 @@ push-requires c = omega (arith, c.loop-i.invariant.counted)
 pub loop-i-preserved : goal.loop-i-preserved
 loop-i-preserved c =
     let seen = c.args.seen.now in
-    let below = omega (arith, c.loop-i-test.true, c.count-i-end.ensures.is) in
+    let below : c.loop-i.i < length seen.signature.arguments = omega (arith, c.loop-i-test.true, c.count-i-end.ensures.is) in
     let longer = length-append c.loop-i.args (value_of c.in_ok-arg.field-0 ∷ []) in
     record {
       so_far = one_argument seen.signature.arguments seen.block c.loop-i.args c.push.new.self c.loop-i.i (value_of c.in_ok-arg.field-0) below c.loop-i.invariant.so_far c.in_ok-arg.ensures.is c.in_ok-push.ensures.ok;

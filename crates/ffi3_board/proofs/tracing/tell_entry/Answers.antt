@@ -1,5 +1,4 @@
-use Rattle.std.proofs.Common.{ℕ, List, ◌++◌, ◌∙◌, ap, subst}
-use Rattle.ffi3_type_rules.specs.Value.{ValueTree}
+use Rattle.std.proofs.Common.{◌++◌, ◌∙◌, ap, subst}
 use Rattle.ffi3_place_rules.specs.Event.{Event}
 use Rattle.ffi3_text.specs.TraceLines.{enter_text_of, keep_text_of}
 use Rattle.ffi3_board.specs.TraceLines.{last_event}

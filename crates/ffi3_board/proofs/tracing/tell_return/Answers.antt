@@ -1,4 +1,4 @@
-use Rattle.std.proofs.Common.{ℕ, List, ◌++◌, ◌∙◌, ap, subst}
+use Rattle.std.proofs.Common.{◌++◌, ◌∙◌, ap, subst}
 use Rattle.ffi3_place_rules.specs.Event.{Event}
 use Rattle.ffi3_values.specs.ValueOf.{value_of}
 use Rattle.ffi3_text.specs.TraceLines.{keep_text_of, leave_text_of}

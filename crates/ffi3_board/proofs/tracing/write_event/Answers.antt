@@ -1,5 +1,4 @@
-use Rattle.std.proofs.Common.{ℕ, List, ◌++◌, ◌∙◌, ap, subst}
-use Rattle.ffi3_text.specs.TraceLines.{keep_text_of}
+use Rattle.std.proofs.Common.{ℕ, List, ◌++◌, ◌∙◌, subst}
 use Rattle.ffi3_board.specs.WroteLine.{LineFailed}
 use Rattle.ffi3_board.proofs.Telling.{failed_first, failed_then, took_both}
 use Rattle.ffi3_io.specs.Written.{TookText}
