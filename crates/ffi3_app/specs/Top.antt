@@ -1,10 +1,11 @@
 -- WHAT THE TOP CALL SAYS, by its status.
-use Rattle.std.specs.Prelude.{◌≡◌, ℕ, ◌+◌, ◌⊎◌, List, [], ◌++◌, take, drop, Option, Some, None, codes}
+use Rattle.std.specs.Prelude.{Bool, ◌≡◌, ℕ, ◌+◌, ◌⊎◌, List, [], ◌++◌, take, drop, Option, Some, None, codes}
 use Rattle.ffi3_io.specs.Sink.{Adds, AddsSome, Rose}
 use Rattle.ffi3_io.specs.Source.{LosesSome, SourceState}
 use Rattle.ffi3_place_rules.specs.Standard.{Standard}
 use Rattle.ffi3_run_rules.specs.Meaning.{End, returned, stopped, meaning_of}
-use Rattle.ffi3_run_rules.specs.Lines.{a_line, untraced}
+use Rattle.ffi3_run_rules.specs.Lines.{a_line}
+use Rattle.ffi3_turn_rules.specs.MainTracing.{main_tracing}
 use Rattle.ffi3_script_rules.specs.Language.{Path}
 use Rattle.ffi3_script_rules.specs.ReasonText.{text_of_path, text_of_reason}
 use Rattle.ffi3_script_rules.specs.Script.{Script}
@@ -72,13 +73,13 @@ status_of (stopped stop) = 6
 abbrev pub status_when_done : Request → List NamedNative → Script → ℕ
 status_when_done Layout natives s = 0
 status_when_done (Place t) natives s = 0
-status_when_done (Run t) natives s =
+status_when_done (Run t trace) natives s =
     status_of (meaning_of (program_beside (standard_of t) natives s)).end
 
--- A RUN IS DONE, by a calling standard: it is told whole, and its status says how it ended
-abbrev pub IsRun : Standard → List NamedNative → Script → SinkState → SinkState → State → ℕ → Type 0
-IsRun std natives s output output' machine' status =
-    RunMatches untraced std (program_beside std natives s) output output' machine' × (status ≡ status_of (meaning_of (program_beside std natives s)).end)
+-- A RUN IS DONE, traced or not, by a calling standard: it is told whole, and its status says how it ended
+abbrev pub IsRun : Bool → Standard → List NamedNative → Script → SinkState → SinkState → State → ℕ → Type 0
+IsRun trace std natives s output output' machine' status =
+    RunMatches (main_tracing trace std) std (program_beside std natives s) output output' machine' × (status ≡ status_of (meaning_of (program_beside std natives s)).end)
 
 -- THE WORK IS DONE: the text is written whole; a run is told whole, and what stops it is status 6; the other commands leave the machine as it was
 abbrev pub IsDone : Request → List NamedNative → Script → SinkState → SinkState → State → State → ℕ → Type 0
@@ -86,12 +87,12 @@ IsDone Layout natives s output output' machine machine' status =
     TookText (command_text Layout natives s) output output' × (machine' ≡ machine) × (status ≡ 0)
 IsDone (Place t) natives s output output' machine machine' status =
     TookText (command_text (Place t) natives s) output output' × (machine' ≡ machine) × (status ≡ 0)
-IsDone (Run t) natives s output output' machine machine' status =
-    IsRun (standard_of t) natives s output output' machine' status
+IsDone (Run t trace) natives s output output' machine machine' status =
+    IsRun trace (standard_of t) natives s output output' machine' status
 
 -- a first part of the text was written, and only a run changes the machine
 abbrev pub KeepsMachine : Request → State → State → Type 0
-KeepsMachine (Run t) machine machine' = Unit {0}
+KeepsMachine (Run t trace) machine machine' = Unit {0}
 KeepsMachine _ machine machine' = machine' ≡ machine
 
 abbrev pub IsDoneInPart : Request → List NamedNative → Script → SinkState → SinkState → State → State → Type 0

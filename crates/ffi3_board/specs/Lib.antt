@@ -1,4 +1,5 @@
 pub mod StopSigs
+pub mod TraceLines
 pub mod Known
 pub mod Path
 pub mod Stack

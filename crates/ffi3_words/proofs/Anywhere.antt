@@ -1,5 +1,5 @@
 -- What clap makes of words does not depend on where the program's texts lie in memory.
-use Rattle.std.proofs.Common.{◌≡◌, ◌∙◌, ◌||◌, ◌==◌, ℕ, zero, suc, Bool, false, true, cond, List, [], ◌∷◌, drop, length, codes, Option, Some, None, is_some, refl, ap, ap₂}
+use Rattle.std.proofs.Common.{◌≡◌, ◌∙◌, ◌||◌, ℕ, zero, suc, Bool, false, true, cond, List, [], ◌∷◌, drop, length, codes, Option, Some, None, is_some, refl, ap, ap₂}
 use Rattle.std.specs.Prelude.{encode_utf8, slice_get}
 use Rattle.std.specs.List.{fold}
 use Rattle.std.specs.Str.{bytes_eq, chars}
@@ -13,7 +13,7 @@ use Rattle.clap.specs.Faults.{bundle_fault, bundle_step_fault, defaults_fault, c
 use Rattle.clap.specs.declared.builder.value_parser.ValueParser.{ValueParser}
 use Rattle.clap.specs.declared.error.kind.ErrorKind.TheVariants.{TooManyValues}
 use Rattle.ffi3_words.specs.WordCommands.{Addresses, program, one_of_words, targets, layout_shape}
-use Rattle.ffi3_words.proofs.Level.{above, built_beside, built_help, built_target, built_traced, built_with, help_alone, none_beside_help, none_beside_trace, trace_and_help}
+use Rattle.ffi3_words.proofs.Level.{above, built_beside, built_target, built_traced, built_with, help_alone, none_beside_help, none_beside_trace, trace_and_help}
 
 -- a rule that no position names
 to_alike : (c d : List Rule) (o : Option Rule) → o ≡ None → (word : Text) (w : Walk) (h : Held) → to_positional c o word w h ≡ to_positional d o word w h

@@ -1,5 +1,5 @@
 -- A command with a required target beside flags: where clap finds no fault in its words, they give the target one value, which is one of the target's words.
-use Rattle.std.proofs.Common.{◌≡◌, ◌∙◌, ◌||◌, ◌==◌, nat_lt, arith, eqb-true, ◌++◌, ℕ, zero, suc, Bool, true, false, cond, List, [], ◌∷◌, length, drop, codes, Option, Some, None, refl, sym, ap, subst, is_some, true≢false}
+use Rattle.std.proofs.Common.{◌≡◌, ◌||◌, ◌==◌, nat_lt, arith, eqb-true, ◌++◌, ℕ, zero, suc, Bool, true, false, cond, List, [], ◌∷◌, length, drop, codes, Option, Some, None, refl, sym, ap, subst, is_some, true≢false}
 use Rattle.std.specs.Prelude.{encode_utf8, slice_get, find}
 use Rattle.std.specs.List.{fold}
 use Rattle.std.specs.Str.{bytes_eq, chars}
