@@ -72,7 +72,7 @@ class Drawn:
         arguments = [self.draw_type() for _ in range(random.choice([0, 1, 2, 3, 4, 5, 6, 7, 9]))]
         if has(random, 0.2):
             arguments = draw.arguments(random)
-        while sum(map(size_of, arguments)) > ALL_ARGUMENTS:
+        while len(arguments) >= draw.MOST_ARGUMENTS or sum(map(size_of, arguments)) > ALL_ARGUMENTS:
             arguments.pop()
         fixed = None
         if arguments and has(random, 0.2):
@@ -137,7 +137,7 @@ class Drawn:
         counter = random.choice(INTEGERS)
         others = [self.draw_type() for _ in range(random.randint(0, 4))]
         signature = self.draw_result(), ["pointer", "pointer", counter, *others], None
-        count = random.choice([1, 1, 1, 2])
+        count = random.choice([1, 1, 2])
         numbers = []
         for _ in range(2):
             body = Moves(self, signature[1], signature[0])
@@ -151,7 +151,7 @@ class Drawn:
             body.add_return()
             numbers.append(self.add(signature, body.moves))
         times = random.randint(0, 20 if count == 1 else 4)
-        if has(random, 0.15):
+        if has(random, 0.2):
             times = min(1000 if count == 1 else 13, (1 << 8 * SIZES[counter] - counter.startswith("s")) - 1)
 
         def start(main):

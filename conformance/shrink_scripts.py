@@ -1,4 +1,4 @@
-"""A script that two programs run differently, in a smaller form from which no single part can be left out."""
+"""A script that two programs run differently, in a smaller form: nothing can be left out, or the tries are used up."""
 
 import copy
 
