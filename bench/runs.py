@@ -1,9 +1,12 @@
-"""Scripts that bench/moves and bench/raw_memory time: each does exactly so many moves, up to the limit of 10,000."""
+"""What bench/moves and bench/raw_memory time: scripts that do exactly so many moves, up to the limit of 10,000, and how
+long a process takes for one."""
 
 import json
+import os
 import subprocess
 
 STACK = 65536
+ROUNDS = 25
 FLAT = {"ret": "sint32", "args": ["sint32"]}
 NESTED = {"ret": "uint64", "args": ["uint64"] * 7}
 
@@ -44,3 +47,21 @@ def depth(program, target):
                            capture_output=True, check=True)
     words = ended.stdout.split()
     return STACK // int(words[words.index("need") + 1])
+
+
+def seconds(words, script):
+    """The processor time of a process that is given the script: other work on the machine matters less to it."""
+    running = subprocess.Popen(words, stdin=subprocess.PIPE, stdout=subprocess.DEVNULL)
+    running.stdin.write(script.encode())
+    running.stdin.close()
+    _, status, used = os.wait4(running.pid, 0)
+    running.returncode = os.waitstatus_to_exitcode(status)
+    if running.returncode:
+        raise subprocess.CalledProcessError(running.returncode, words)
+    return used.ru_utime + used.ru_stime
+
+
+def times_of(work):
+    """The least time of each of these, the words and the script of a process. Each round does all of them in turn."""
+    rounds = [{name: seconds(words, script) for name, (words, script) in work.items()} for _ in range(ROUNDS)]
+    return {name: min(each[name] for each in rounds) for name in work}
