@@ -43,9 +43,9 @@ def nested(moves, deepest):
 
 def depth(program, target):
     """How many calls of `nested` one inside another fill the stack."""
-    ended = subprocess.run([program, "place", "--target", target], input=text_of(NESTED, [{"return": 0}], []), text=True,
-                           capture_output=True, check=True)
-    words = ended.stdout.split()
+    script = text_of(NESTED, [{"return": 0}], [])
+    words = [program, "place", "--target", target]
+    words = subprocess.run(words, input=script, text=True, stdout=subprocess.PIPE, check=True).stdout.split()
     return STACK // int(words[words.index("need") + 1])
 
 

@@ -128,8 +128,8 @@ class Drawn:
             body.add_call(self.random.randrange(self.plain))
         body.add_return()
         number = self.add(UNARY, body.moves)
-        for native, signature in (("apply", APPLY), ("twice", APPLY), ("sum3", SUM3)):
-            self.starts.append(lambda main, native=native, signature=signature: main.call_native(native, signature, number))
+        for native, of in (("apply", APPLY), ("twice", APPLY), ("sum3", SUM3)):
+            self.starts.append(lambda main, native=native, of=of: main.call_native(native, of, number))
 
     def add_recursion(self):
         """Two functions that have both pointers as arguments and call each other, or themselves, by these."""

@@ -151,9 +151,23 @@ static void write_long(void *result)
     printf("%ld", *(long *)result);
 }
 
-static struct signature of_one = {"sint64(sint64)", {80, 192, 224}, 0, write_long, {0}};
-static struct signature of_pointer = {"sint64(pointer,sint64)", {80, 192, 224}, write_pointer_and_long, write_long, {0}};
-static struct signature of_three = {"sint64(sint64,sint64,sint64)", {96, 208, 240}, write_three_longs, write_long, {0}};
+static struct signature of_one = {
+    .text = "sint64(sint64)",
+    .need = {80, 192, 224},
+    .write_result = write_long,
+};
+static struct signature of_pointer = {
+    .text = "sint64(pointer,sint64)",
+    .need = {80, 192, 224},
+    .write_arguments = write_pointer_and_long,
+    .write_result = write_long,
+};
+static struct signature of_three = {
+    .text = "sint64(sint64,sint64,sint64)",
+    .need = {96, 208, 240},
+    .write_arguments = write_three_longs,
+    .write_result = write_long,
+};
 
 static long call_of_one(address at, long value)
 {

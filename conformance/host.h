@@ -1,4 +1,4 @@
-/* What the programs that translate.py writes have in common: libffi's closures in numbered slots, calls, stops, lines. */
+/* What all programs that translate.py writes have: closures of libffi in numbered slots, calls, stops, lines. */
 #ifndef HOST_H
 #define HOST_H
 

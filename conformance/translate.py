@@ -94,8 +94,8 @@ class Program:
         types = [self.ffi_type(kind) for kind in signature.arguments]
         result = self.ffi_type(signature.result)
         fixed = "" if signature.fixed is None else f"{signature.fixed}, "
-        prepare = (f"ffi_prep_cif{'_var' if fixed else ''}(&signature_{number}.cif, FFI_DEFAULT_ABI, {fixed}{len(types)}, "
-                   f"{result}, types_{number})")
+        prepare = (f"ffi_prep_cif{'_var' if fixed else ''}(&signature_{number}.cif, FFI_DEFAULT_ABI, {fixed}"
+                   f"{len(types)}, {result}, types_{number})")
         arguments = " putchar(','); ".join(f"write_{self.number(kind)}(*({self.c_type(kind)} *)arguments[{i}]);"
                                            for i, kind in enumerate(signature.arguments))
         written = 'printf("void");' if signature.result == "void" else \
