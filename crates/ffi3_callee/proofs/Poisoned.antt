@@ -23,19 +23,19 @@ use Rattle.ffi3_place_rules.specs.declared.Place.TheVariants.{Direct, ByRef}
 use Rattle.ffi3_place_rules.specs.declared.Res.{Res}
 use Rattle.ffi3_place_rules.specs.declared.Res.TheVariants.{Nothing, Direct as DirectRes, Hidden}
 use Rattle.ffi3_place_rules.specs.Image.{byte_at, word_at}
-use Rattle.ffi3_place_rules.specs.Isa.{link_place, reserved_places, stack_pointer, trampoline_registers}
+use Rattle.ffi3_place_rules.specs.Isa.{link_place, link_register, pushed_bytes, reserved_places, stack_pointer, trampoline_registers}
 use Rattle.ffi3_place_rules.specs.Standard.{Standard, frame_of, plan_of}
 use Rattle.ffi3_place_rules.specs.Agrees.{AgreesWithMachine}
 use Rattle.ffi3_place_rules.specs.Sound.{Apart, IsSound, argument_locs, closed_to_arguments, closed_to_results, hidden_locs, listed, piece_locs, place_locs}
 use Rattle.ffi3_place_rules.proofs.Tests.{and_right}
-use Rattle.ffi3_machine.specs.State.{State, image_of, stack_at}
+use Rattle.ffi3_machine.specs.State.{HasReturnAddress, HasReturnAt, State, image_of, stack_at}
 use Rattle.ffi3_pieces.specs.Stored.{IsPlace, IsWritable, byte_of, stack_byte, word_in}
 use Rattle.ffi3_pieces.proofs.Composing.{wrote_then, wrote_wider}
 use Rattle.ffi3_pieces.proofs.Lawful.{across_none, all_ready, each_first, each_join, each_rest, machine_places}
 use Rattle.ffi3_callee.specs.Poison.{IsPoisoned, MarkFalls, carries, hidden_has, hidden_names, is_free, is_named, is_register, place_names, places_have}
 use Rattle.ffi3_callee.specs.Overwritten.{AreRegistersDone, IsFrameDone, register_number}
 use Rattle.ffi3_callee.specs.Received.{OwnsAtEntry}
-use Rattle.ffi3_callee.proofs.Copying.{each_writable}
+use Rattle.ffi3_callee.proofs.Copying.{each_writable, stretch_stays}
 use Rattle.ffi3_callee.proofs.Entry.{hidden_in_frame}
 use Rattle.ffi3_callee.proofs.Laws.{each_both}
 use Rattle.ffi3_callee.proofs.Overwriting.{carries_not_free, free_in_frame, frame_tested, unnamed_not_free}
@@ -257,3 +257,23 @@ module _ (std : Standard) (s : Signature) (byte : ℕ) (a b : State) (low : STAC
         arguments = arguments_same std.link (frame_of std s) (carries std s) old new agree ForAmd64 s.arguments p.places vs (all_ready std s sound right ForAmd64 (each_writable (argument_locs (plan_of std s)))) (λ m j has. or_right (hidden_has m j p.res) (places_have m j s.arguments p.places) has) own.arguments;
         hidden = hidden_same std.link (frame_of std s) (carries std s) old new agree p.res (hidden_in_frame std s sound) (λ m j has. or_left (hidden_has m j p.res) (places_have m j s.arguments p.places) has) own.hidden;
       }
+
+-- ---- the return address
+
+return_at : (isa : Isa) (base high : ℕ) (a b : State) → base ≡ a.sp + pushed_bytes isa → base ≤ STACK_TOP → length a.stack ≡ 65536 → b.sp ≡ a.sp → WroteWithin base high a b → AllByRecursion (λ l. word_in base b l ≡ word_in base a l) (listed (link_place isa)) → HasReturnAt (link_register isa) a.general a.sp a.stack → HasReturnAt (link_register isa) b.general b.sp b.stack
+return_at Amd64 base high a b base_is top sized same w words h =
+    let still = stretch_stays base high a.sp 8 a b h.0 (omega (arith, base_is, top, sized, h.0)) (inl (omega (arith, base_is))) w in
+    (omega (arith, same, h.0), ap (λ n. stack_at n 8 b) same ∙ still ∙ h.1)
+return_at Aarch64 base high a b base_is top sized same w words h = words.0 ∙ h
+return_at Riscv base high a b base_is top sized same w words h = words.0 ∙ h
+
+pub return_still : (std : Standard) (s : Signature) (byte : ℕ) (a b : State) → AgreesWithMachine std → a.target ≡ std.target → a.sp + std.link + frame_of std s ≤ STACK_TOP → length a.stack ≡ 65536 → IsPoisoned std s (a.sp + std.link) byte a b → HasReturnAddress a → HasReturnAddress b
+return_still std s byte a b agrees target_is high sized is h =
+    let base = a.sp + std.link in
+    let isa = isa_of std.target in
+    let Same : Loc → Type 0 = λ l. word_in (a.sp + std.link) b l ≡ word_in (a.sp + std.link) a l in
+    let closed = each_first Same (closed_to_results std) (std.trampoline_registers ++ listed std.vector_count) is.closed in
+    let links = each_rest Same std.reserved (listed std.link_register) (each_rest Same std.preserved (std.reserved ++ listed std.link_register) closed.1) in
+    let base_is : a.sp + std.link ≡ a.sp + pushed_bytes (isa_of std.target) = ap (λ n. a.sp + n) agrees.link in
+    subst (λ t. HasReturnAt (link_register (isa_of t)) b.general b.sp b.stack) (sym (is.within.target ∙ target_is))
+    (return_at isa base (base + frame_of std s) a b base_is (omega (arith, high)) sized is.sp is.within (subst (λ o. AllByRecursion Same (listed o)) agrees.link_register links) (subst (λ t. HasReturnAt (link_register (isa_of t)) a.general a.sp a.stack) target_is h))

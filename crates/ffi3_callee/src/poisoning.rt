@@ -7,6 +7,7 @@ ghost use Rattle.ffi3_type_rules.specs.Fault.{IsResultType};
 ghost use Rattle.ffi3_type_rules.specs.Value.{ValueTree};
 ghost use Rattle.ffi3_types.specs.TreeOf.{tree_of};
 ghost use Rattle.ffi3_place_rules.specs.Standard.{frame_of};
+ghost use Rattle.ffi3_machine.specs.State.{HasReturnAddress};
 ghost use Rattle.ffi3_pieces.specs.Stored.{IsPlace, IsWordPut, IsWritable};
 ghost use Rattle.ffi3_callee.specs.Poison.{IsPoisoned, address_has, belongs, byte_number, carries, copy_has, hidden_has, hidden_names, is_free, is_leaf_byte, is_named, is_register, piece_has, place_has, place_names};
 ghost use Rattle.ffi3_callee.specs.Received.{OwnsAtEntry};
@@ -299,6 +300,7 @@ pub fn poison<A: Abi>(machine: &mut Machine, cif: &Cif<A>, byte: u8)
     requires some { (vs : List ValueTree) × OwnsAtEntry A.standard cif.now machine.old vs }
     ensures poisoned { IsPoisoned A.standard cif.now (machine.old.sp + A.standard.link) byte machine.old machine.new }
     ensures own { (vs : List ValueTree) → OwnsAtEntry A.standard cif.now machine.old vs → OwnsAtEntry A.standard cif.now machine.new vs }
+    ensures return_address { HasReturnAddress machine.old → HasReturnAddress machine.new }
 {
     // its contract tells what is true of every interface
     let _sig = cif.sig();
