@@ -1,10 +1,12 @@
 -- What carries nothing is overwritten: one register after another, then the frame byte by byte.
-use Rattle.std.specs.Prelude.{◌≢◌, ◌/◌, ◌%◌, nat_lt, if◌then◌else◌, min, Bool, true, false, not, ◌&&◌}
-use Rattle.std.proofs.Common.{◌≡◌, ◌⊎◌, inl, inr, ℕ, ◌+◌, ◌-◌, ◌<◌, ◌≤◌, List, [], ◌∷◌, get_or, length, refl, ap, sym, ◌∙◌, subst, arith}
+use Rattle.std.specs.Prelude.{◌≢◌, ◌/◌, ◌%◌, nat_lt, if◌then◌else◌, min, Bool, true, false, not, ◌&&◌, ◌||◌}
+use Rattle.std.proofs.Common.{◌≡◌, ◌⊎◌, inl, inr, ℕ, ◌+◌, ◌-◌, ◌<◌, ◌≤◌, List, [], ◌∷◌, take, get_or, length, refl, ap, sym, ◌∙◌, subst, arith}
 use Rattle.std.specs.Int.{w64, to_le_bytes, from_le_bytes}
-use Rattle.std.proofs.lemmas.Bool.{cases_eq, cases_lt}
+use Rattle.std.proofs.lemmas.Bool.{cases_eq, cases_lt, eqb-true}
 use Rattle.std.proofs.lemmas.Bool.Decides.{nat_tests}
 use Rattle.std.proofs.lemmas.List.{get_or_past}
+use Rattle.std.proofs.lemmas.List.Folds.{list_any_more}
+use Rattle.std.specs.List.{list_any}
 use Rattle.std.proofs.lemmas.Nat.{le_bytes_8}
 use Rattle.ffi3_type_rules.specs.Signature.{Signature}
 use Rattle.ffi3_type_rules.specs.declared.limits.TheConstants.{STACK, STACK_TOP}
@@ -18,8 +20,8 @@ use Rattle.ffi3_pieces.specs.Stored.{IsPlace, IsWordPut, WroteOnly, byte_of, sta
 use Rattle.ffi3_pieces.proofs.Composing.{only_nothing, only_then, only_wider, same_byte, wrote_nothing, wrote_then, wrote_wider}
 use Rattle.ffi3_pieces.proofs.Putting.{only_stored, stored_inside, stored_outside}
 use Rattle.ffi3_pieces.proofs.Stepping.{same_word_in}
-use Rattle.ffi3_callee.specs.Poison.{belongs, carries, is_free, is_named}
-use Rattle.ffi3_callee.specs.Overwritten.{AreRegistersDone, IsFrameDone, IsLeftOrFree, IsRegisterDone, RegistersKeep, register_number}
+use Rattle.ffi3_callee.specs.Poison.{belongs, carries, is_argument_register, is_free, is_register}
+use Rattle.ffi3_callee.specs.Overwritten.{AreRegistersDone, IsFrameDone, IsLeftOrFree, IsRegisterDone, RegistersKeep}
 
 -- ---- tests
 
@@ -48,7 +50,21 @@ if_false : (b : Bool) (x y : ℕ) → b ≡ false → (if b then x else y) ≡ y
 if_false true x y h = cc
 if_false false x y h = refl
 
+either : (a b : Bool) → (a || b) ≡ true → (a ≡ true) ⊎ (b ≡ true)
+either true b h = inl refl
+either false b h = inr h
+
 -- ---- registers
+
+-- what holds of a register holds of the same one
+pub same_register : (P : Loc → Type 0) (l m : Loc) → is_register l m ≡ true → P m → P l
+same_register P (G a) (G b) is h = subst (λ n. P (G n)) (sym (eqb-true a b is)) h
+same_register P (F a) (F b) is h = subst (λ n. P (F n)) (sym (eqb-true a b is)) h
+same_register P (G a) (F b) is h = cc
+same_register P (G a) (S b) is h = cc
+same_register P (F a) (G b) is h = cc
+same_register P (F a) (S b) is h = cc
+same_register P (S n) m is h = cc
 
 same_or_apart : (at l : Loc) → IsPlace 0 at → IsPlace 0 l → (l ≡ at) ⊎ IsNoneOf (at ∷ []) l
 same_or_apart (G a) (G b) h k =
@@ -73,15 +89,15 @@ word_byte base m (F r) k h = refl
 word_byte base m (S n) k h = absurd (omega (arith, h))
 
 module _ (std : Standard) (s : Signature) where
-  named_belongs : (l : Loc) (k : ℕ) → IsPlace 0 l → is_named std s l ≡ true → belongs std s l k ≡ true
-  named_belongs (G r) k h named = named
-  named_belongs (F r) k h named = named
-  named_belongs (S n) k h named = absurd (omega (arith, h))
+  passing_belongs : (l : Loc) (k : ℕ) → IsPlace 0 l → is_argument_register std l ≡ true → belongs std s l k ≡ true
+  passing_belongs (G r) k h passing = passing
+  passing_belongs (F r) k h passing = passing
+  passing_belongs (S n) k h passing = absurd (omega (arith, h))
 
-  pub unnamed_not_free : (l : Loc) (k : ℕ) → IsPlace 0 l → is_named std s l ≡ false → is_free std s l k ≡ false
-  unnamed_not_free (G r) k h named = and_false (is_named std s (G r)) (not (carries std s (G r) k)) named
-  unnamed_not_free (F r) k h named = and_false (is_named std s (F r)) (not (carries std s (F r) k)) named
-  unnamed_not_free (S n) k h named = absurd (omega (arith, h))
+  pub other_not_free : (l : Loc) (k : ℕ) → IsPlace 0 l → is_argument_register std l ≡ false → is_free std s l k ≡ false
+  other_not_free (G r) k h other = and_false (is_argument_register std (G r)) (not (carries std s (G r) k)) other
+  other_not_free (F r) k h other = and_false (is_argument_register std (F r)) (not (carries std s (F r) k)) other
+  other_not_free (S n) k h passing = absurd (omega (arith, h))
 
   pub free_carries : (l : Loc) (k : ℕ) → is_free std s l k ≡ true → carries std s l k ≡ false
   free_carries l k free =
@@ -141,14 +157,7 @@ module _ (std : Standard) (s : Signature) (base byte : ℕ) where
         | inr free ↦ free.1
       ]
 
-  -- a register that the plan does not name has nothing to overwrite
-  pub unnamed_done : (at : Loc) (m : State) → IsPlace 0 at → is_named std s at ≡ false → IsRegisterDone std s base byte at m m
-  unnamed_done at m lies named = record {
-    free = λ k h free. absurd (cc (free, unnamed_not_free std s at k lies named));
-    keep = keep_nothing m;
-  }
-
-  module _ (at : Loc) (old new : State) (word next : ℕ) (lies : IsPlace 0 at) (named : is_named std s at ≡ true) (word_is : word ≡ word_in base old at) (bytes : (k : ℕ) → k < 8 → get_or (to_le_bytes w64 next) k 0 ≡ (if carries std s at k then get_or (to_le_bytes w64 word) k 0 else byte)) (put : IsWordPut base at next old new) where
+  module _ (at : Loc) (old new : State) (word next : ℕ) (lies : IsPlace 0 at) (passing : is_argument_register std at ≡ true) (word_is : word ≡ word_in base old at) (bytes : (k : ℕ) → k < 8 → get_or (to_le_bytes w64 next) k 0 ≡ (if carries std s at k then get_or (to_le_bytes w64 word) k 0 else byte)) (put : IsWordPut base at next old new) where
     overwritten : (k : ℕ) → k < 8 → carries std s at k ≡ false → byte_of base new at k ≡ byte
     overwritten k h has =
         put.here k h ∙ bytes k h ∙ if_false (carries std s at k) (get_or (to_le_bytes w64 word) k 0) byte has
@@ -159,15 +168,15 @@ module _ (std : Standard) (s : Signature) (base byte : ℕ) where
 
     at_itself : (k : ℕ) → k < 8 → (b : Bool) → carries std s at k ≡ b → IsLeftOrFree std s base byte old new at k
     at_itself k h true has = inl (left k h has)
-    at_itself k h false has = inr (belongs_free std s at k (named_belongs std s at k lies named) has, overwritten k h has)
+    at_itself k h false has = inr (belongs_free std s at k (passing_belongs std s at k lies passing) has, overwritten k h has)
 
     none_free : (k : ℕ) → is_free std s at k ≡ false → (b : Bool) → carries std s at k ≡ b → carries std s at k ≡ true
     none_free k free true has = has
     none_free k free false has =
-        absurd (cc (free, belongs_free std s at k (named_belongs std s at k lies named) has))
+        absurd (cc (free, belongs_free std s at k (passing_belongs std s at k lies passing) has))
 
-    pub named_done : (((k : ℕ) → k < 8 → carries std s at k ≡ true) → next ≡ word) → new.mark ≡ old.mark → IsRegisterDone std s base byte at old new
-    named_done whole mark = record {
+    pub passing_done : (((k : ℕ) → k < 8 → carries std s at k ≡ true) → next ≡ word) → new.mark ≡ old.mark → IsRegisterDone std s base byte at old new
+    passing_done whole mark = record {
       free = λ k h free. overwritten k h (free_carries std s at k free);
       keep = record { each = each; whole = all; sp = put.stays.sp; mark = mark; within = wrote_wider base (base + 0) base base old new (omega arith) (omega arith) (put.within 0 lies) };
     }
@@ -190,38 +199,22 @@ module _ (std : Standard) (s : Signature) (base byte : ℕ) where
 
   pub no_register_done : (m : State) → AreRegistersDone std s base byte 0 m m
   no_register_done m = record {
-    free = λ l k lies below h free. absurd (omega (arith, below));
+    free = λ l k lies found h free. cc;
     keep = keep_nothing m;
   }
 
-  pub one_more_done : (r : ℕ) (first a b c : State) → AreRegistersDone std s base byte r first a → IsRegisterDone std s base byte (G r) a b → IsRegisterDone std s base byte (F r) b c → AreRegistersDone std s base byte (r + 1) first c
-  one_more_done r first a b c before general floating = record {
+  pub one_more_done : (i : ℕ) (at : Loc) (first a b : State) → i < length std.argument_registers → at ≡ get_or std.argument_registers i at → AreRegistersDone std s base byte i first a → IsRegisterDone std s base byte at a b → AreRegistersDone std s base byte (i + 1) first b
+  one_more_done i at first a b below read before done = record {
     free = free;
-    keep = keep_then first b c (keep_then first a b before.keep general.keep) floating.keep;
+    keep = keep_then first a b before.keep done.keep;
   }
     where
-      earlier : (l : Loc) (k : ℕ) → IsPlace 0 l → register_number l < r → k < 8 → is_free std s l k ≡ true → byte_of base c l k ≡ byte
-      earlier l k lies below h is =
-          free_still b c l k floating.keep lies h (free_still a b l k general.keep lies h (before.free l k lies below h is))
-
-      free : (l : Loc) (k : ℕ) → IsPlace 0 l → register_number l < r + 1 → k < 8 → is_free std s l k ≡ true → byte_of base c l k ≡ byte
-      free (G q) k lies below h is =
-          elim (cases_lt q r) [
-            | inl less ↦ earlier (G q) k lies less h is
-            | inr more ↦ (
-                let here : q ≡ r = omega (arith, below, more) in
-                free_still b c (G q) k floating.keep lies h (subst (λ n. is_free std s (G n) k ≡ true → byte_of base b (G n) k ≡ byte) (sym here) (general.free k h) is)
-                )
+      free : (l : Loc) (k : ℕ) → IsPlace 0 l → list_any (is_register l) (take (i + 1) std.argument_registers) ≡ true → k < 8 → is_free std s l k ≡ true → byte_of base b l k ≡ byte
+      free l k lies found h is =
+          elim (either (list_any (is_register l) (take i std.argument_registers)) (is_register l at) (sym (list_any_more (is_register l) std.argument_registers i at below ∙ ap (λ m. list_any (is_register l) (take i std.argument_registers) || is_register l m) (sym read)) ∙ found)) [
+            | inl earlier ↦ free_still a b l k done.keep lies h (before.free l k lies earlier h is)
+            | inr here ↦ same_register (λ m. is_free std s m k ≡ true → byte_of base b m k ≡ byte) l at here (done.free k h) is
           ]
-      free (F q) k lies below h is =
-          elim (cases_lt q r) [
-            | inl less ↦ earlier (F q) k lies less h is
-            | inr more ↦ (
-                let here : q ≡ r = omega (arith, below, more) in
-                subst (λ n. is_free std s (F n) k ≡ true → byte_of base c (F n) k ≡ byte) (sym here) (floating.free k h) is
-                )
-          ]
-      free (S n) k lies below h is = absurd (omega (arith, lies))
 
   -- ---- the frame
 

@@ -1,11 +1,11 @@
 -- Registers and frame together: each free byte is overwritten, all else stays, and the image still owns its values.
-use Rattle.std.specs.Prelude.{◌≢◌, ◌==◌, nat_lt, Bool, true, false, ◌||◌}
-use Rattle.std.proofs.Common.{◌≡◌, ◌⊎◌, inl, inr, ℕ, ◌+◌, ◌-◌, ◌<◌, ◌≤◌, List, [], ◌∷◌, ◌++◌, drop, get_or, length, refl, ap, sym, ◌∙◌, subst, arith}
-use Rattle.std.specs.List.{AllByRecursion, flat_map, list_any}
+use Rattle.std.specs.Prelude.{◌≢◌, ◌==◌, nat_lt, Bool, true, false, not, ◌||◌}
+use Rattle.std.proofs.Common.{◌≡◌, ◌⊎◌, inl, inr, ℕ, ◌+◌, ◌-◌, ◌<◌, ◌≤◌, List, [], ◌∷◌, ◌++◌, take, drop, get_or, length, refl, ap, sym, ◌∙◌, subst, arith, eq-eqb}
+use Rattle.std.specs.List.{AllByRecursion, list_any}
 use Rattle.std.specs.Int.{w64, to_le_bytes}
-use Rattle.std.proofs.lemmas.Bool.{eqb-true}
+use Rattle.std.proofs.lemmas.List.Folds.{list_any_at}
 use Rattle.std.proofs.lemmas.Bool.Decides.{nat_tests}
-use Rattle.std.proofs.lemmas.List.{get_or-take, get_or-drop}
+use Rattle.std.proofs.lemmas.List.{get_or-take, get_or-drop, take_all}
 use Rattle.ffi3_type_rules.specs.declared.Target.{Target}
 use Rattle.ffi3_type_rules.specs.declared.Target.TheVariants.{Amd64 as ForAmd64}
 use Rattle.ffi3_type_rules.specs.declared.Isa.{Isa}
@@ -17,31 +17,27 @@ use Rattle.ffi3_type_rules.specs.declared.limits.TheConstants.{STACK, STACK_TOP}
 use Rattle.ffi3_type_rules.proofs.Parts.{length_part}
 use Rattle.ffi3_place_rules.specs.declared.Loc.{Loc}
 use Rattle.ffi3_place_rules.specs.declared.Loc.TheVariants.{G, F, S}
-use Rattle.ffi3_place_rules.specs.declared.Piece.{Piece}
-use Rattle.ffi3_place_rules.specs.declared.Place.{Place}
-use Rattle.ffi3_place_rules.specs.declared.Place.TheVariants.{Direct, ByRef}
-use Rattle.ffi3_place_rules.specs.declared.Res.{Res}
-use Rattle.ffi3_place_rules.specs.declared.Res.TheVariants.{Nothing, Direct as DirectRes, Hidden}
 use Rattle.ffi3_place_rules.specs.Image.{byte_at, word_at}
 use Rattle.ffi3_place_rules.specs.Isa.{link_place, link_register, pushed_bytes, reserved_places, stack_pointer, trampoline_registers}
 use Rattle.ffi3_place_rules.specs.Standard.{Standard, frame_of, plan_of}
 use Rattle.ffi3_place_rules.specs.Agrees.{AgreesWithMachine}
-use Rattle.ffi3_place_rules.specs.Sound.{Apart, IsSound, argument_locs, closed_to_arguments, closed_to_results, hidden_locs, listed, piece_locs, place_locs}
-use Rattle.ffi3_place_rules.proofs.Tests.{and_right}
+use Rattle.ffi3_place_rules.specs.Sound.{Apart, IsSound, argument_locs, closed_to_arguments, closed_to_results, listed}
+use Rattle.ffi3_place_rules.proofs.Tests.{and_left, and_right}
 use Rattle.ffi3_machine.specs.State.{HasReturnAddress, HasReturnAt, State, image_of, stack_at}
-use Rattle.ffi3_pieces.specs.Stored.{IsPlace, IsWritable, byte_of, stack_byte, word_in}
+use Rattle.ffi3_pieces.specs.Stored.{IsPlace, IsWritable, WroteWithin, byte_of, stack_byte, word_in}
 use Rattle.ffi3_pieces.proofs.Composing.{wrote_then, wrote_wider}
+use Rattle.ffi3_pieces.proofs.Stepping.{each_read}
 use Rattle.ffi3_pieces.proofs.Lawful.{across_none, all_ready, each_first, each_join, each_rest, machine_places}
-use Rattle.ffi3_callee.specs.Poison.{IsPoisoned, MarkFalls, carries, hidden_has, hidden_names, is_free, is_named, is_register, place_names, places_have}
-use Rattle.ffi3_callee.specs.Overwritten.{AreRegistersDone, IsFrameDone, register_number}
+use Rattle.ffi3_callee.specs.Poison.{IsPoisoned, MarkFalls, carries, hidden_has, is_argument_register, is_free, is_register, places_have}
+use Rattle.ffi3_callee.specs.Overwritten.{AreRegistersDone, IsFrameDone}
 use Rattle.ffi3_callee.specs.Received.{OwnsAtEntry}
 use Rattle.ffi3_callee.proofs.Copying.{each_writable, stretch_stays}
 use Rattle.ffi3_callee.proofs.Entry.{hidden_in_frame}
 use Rattle.ffi3_callee.proofs.Laws.{each_both}
-use Rattle.ffi3_callee.proofs.Overwriting.{carries_not_free, free_in_frame, frame_tested, unnamed_not_free}
+use Rattle.ffi3_callee.proofs.Overwriting.{carries_not_free, free_in_frame, frame_tested, other_not_free}
 use Rattle.ffi3_callee.proofs.StillOwned.{AgreeWhere, arguments_same, hidden_same, or_left, or_right}
 
--- ---- registers in which no argument stands are not named
+-- ---- registers that are closed to arguments are no argument registers
 
 not_equal : (a b : ℕ) → a ≢ b → (a == b) ≡ false
 not_equal a b h = grind (arith, nat_tests, h)
@@ -59,80 +55,32 @@ other_register (F a) (G b) h apart = refl
 other_register (F a) (S b) h apart = refl
 other_register (S n) m h apart = absurd (omega (arith, h))
 
-module _ (l : Loc) (register : IsPlace 0 l) where
-  pieces_do_not : (ps : List Piece) → AllByRecursion (Apart l) (piece_locs ps) → list_any (λ p. is_register l p.loc) ps ≡ false
-  pieces_do_not [] h = refl
-  pieces_do_not (p ∷ ps) h =
-      both_false (is_register l p.loc) (list_any (λ p. is_register l p.loc) ps) (other_register l p.loc register h.0) (pieces_do_not ps h.1)
+other_registers : (l : Loc) → IsPlace 0 l → (ls : List Loc) → AllByRecursion (Apart l) ls → list_any (is_register l) ls ≡ false
+other_registers l register [] h = refl
+other_registers l register (m ∷ ls) h =
+    both_false (is_register l m) (list_any (is_register l) ls) (other_register l m register h.0) (other_registers l register ls h.1)
 
-  place_does_not : (p : Place) → AllByRecursion (Apart l) (place_locs p) → place_names l p ≡ false
-  place_does_not (Direct pieces) h = pieces_do_not pieces h
-  place_does_not (ByRef at copy) h = other_register l at register h.0
+-- ---- argument registers are registers that are written
 
-  places_do_not : (ps : List Place) → AllByRecursion (Apart l) (flat_map place_locs ps) → list_any (place_names l) ps ≡ false
-  places_do_not [] h = refl
-  places_do_not (p ∷ ps) h =
-      both_false (place_names l p) (list_any (place_names l) ps) (place_does_not p (each_first (Apart l) (place_locs p) (flat_map place_locs ps) h)) (places_do_not ps (each_rest (Apart l) (place_locs p) (flat_map place_locs ps) h))
+pub passing_place : (std : Standard) → AgreesWithMachine std → (i : ℕ) (at : Loc) → i < length std.argument_registers → at ≡ get_or std.argument_registers i at → IsPlace 0 at
+passing_place std agrees i at below read =
+    each_read (IsPlace 0) std.argument_registers i at below read (machine_places (isa_of std.target) 0 std.argument_registers agrees.arguments_exist)
 
-  hidden_does_not : (r : Res) → AllByRecursion (Apart l) (hidden_locs r) → hidden_names l r ≡ false
-  hidden_does_not Nothing h = refl
-  hidden_does_not (DirectRes pieces) h = refl
-  hidden_does_not (Hidden at buffer) h = other_register l at register h.0
+pub passing_written : (std : Standard) → AgreesWithMachine std → (target kind : Target) → std.target ≡ kind → target ≡ kind → (i : ℕ) (at : Loc) → i < length std.argument_registers → at ≡ get_or std.argument_registers i at → IsWritable target at
+passing_written std agrees target kind is same i at below read =
+    let plain = each_read (λ l. AllByRecursion (Apart l) (closed_to_arguments std)) std.argument_registers i at below read agrees.arguments_plain in
+    let closed = each_first (Apart at) (closed_to_results std) (std.trampoline_registers ++ listed std.vector_count) plain in
+    let rest = each_rest (Apart at) std.preserved (std.reserved ++ listed std.link_register) closed.1 in
+    subst (λ t. IsWritable t at) (is ∙ sym same) (agrees.written at (each_first (Apart at) std.reserved (listed std.link_register) rest))
 
-not_named : (std : Standard) (s : Signature) (l : Loc) → IsPlace 0 l → AllByRecursion (Apart l) (argument_locs (plan_of std s)) → is_named std s l ≡ false
-not_named std s l register apart =
-    let p = plan_of std s in
-    both_false (hidden_names l p.res) (list_any (place_names l) p.places) (hidden_does_not l register p.res (each_first (Apart l) (hidden_locs p.res) (flat_map place_locs p.places) apart)) (places_do_not l register p.places (each_rest (Apart l) (hidden_locs p.res) (flat_map place_locs p.places) apart))
-
--- ---- a register that is named is an argument's
-
-true_of : (a b : Bool) → (a || b) ≡ true → (a ≡ true) ⊎ (b ≡ true)
-true_of true b h = inl refl
-true_of false b h = inr h
-
-same_register : (P : Loc → Type 0) (l m : Loc) → is_register l m ≡ true → P m → P l
-same_register P (G a) (G b) is h = subst (λ n. P (G n)) (sym (eqb-true a b is)) h
-same_register P (F a) (F b) is h = subst (λ n. P (F n)) (sym (eqb-true a b is)) h
-same_register P (G a) (F b) is h = cc
-same_register P (G a) (S b) is h = cc
-same_register P (F a) (G b) is h = cc
-same_register P (F a) (S b) is h = cc
-same_register P (S n) m is h = cc
-
-module _ (P : Loc → Type 0) (l : Loc) where
-  by_piece : (ps : List Piece) → list_any (λ p. is_register l p.loc) ps ≡ true → AllByRecursion P (piece_locs ps) → P l
-  by_piece [] is h = cc
-  by_piece (p ∷ ps) is h =
-      elim (true_of (is_register l p.loc) (list_any (λ p. is_register l p.loc) ps) is) [
-        | inl here ↦ same_register P l p.loc here h.0
-        | inr later ↦ by_piece ps later h.1
-      ]
-
-  by_place : (p : Place) → place_names l p ≡ true → AllByRecursion P (place_locs p) → P l
-  by_place (Direct pieces) is h = by_piece pieces is h
-  by_place (ByRef at copy) is h = same_register P l at is h.0
-
-  by_places : (ps : List Place) → list_any (place_names l) ps ≡ true → AllByRecursion P (flat_map place_locs ps) → P l
-  by_places [] is h = cc
-  by_places (p ∷ ps) is h =
-      elim (true_of (place_names l p) (list_any (place_names l) ps) is) [
-        | inl here ↦ by_place p here (each_first P (place_locs p) (flat_map place_locs ps) h)
-        | inr later ↦ by_places ps later (each_rest P (place_locs p) (flat_map place_locs ps) h)
-      ]
-
-  by_hidden : (r : Res) → hidden_names l r ≡ true → AllByRecursion P (hidden_locs r) → P l
-  by_hidden Nothing is h = cc
-  by_hidden (DirectRes pieces) is h = cc
-  by_hidden (Hidden at buffer) is h = same_register P l at is h.0
-
--- what holds of each place of an argument holds of a register that is named
-pub named_written : (std : Standard) (s : Signature) (target : Target) (l : Loc) → IsPlace 0 l → is_named std s l ≡ true → AllByRecursion (IsWritable target) (argument_locs (plan_of std s)) → IsWritable target l
-named_written std s target l register named all =
-    let p = plan_of std s in
-    elim (true_of (hidden_names l p.res) (list_any (place_names l) p.places) named) [
-      | inl here ↦ by_hidden (IsWritable target) l p.res here (each_first (IsWritable target) (hidden_locs p.res) (flat_map place_locs p.places) all)
-      | inr later ↦ by_places (IsWritable target) l p.places later (each_rest (IsWritable target) (hidden_locs p.res) (flat_map place_locs p.places) all)
-    ]
+pub is_passing : (std : Standard) (i : ℕ) (at : Loc) → IsPlace 0 at → i < length std.argument_registers → at ≡ get_or std.argument_registers i at → is_argument_register std at ≡ true
+is_passing std i at lies below read =
+    list_any_at (is_register at) std.argument_registers i at below (ap (is_register at) (sym read) ∙ itself at lies)
+  where
+    itself : (l : Loc) → IsPlace 0 l → is_register l l ≡ true
+    itself (G r) h = eq-eqb r r refl
+    itself (F r) h = eq-eqb r r refl
+    itself (S n) h = absurd (omega (arith, h))
 
 -- ---- what is closed to arguments are registers
 
@@ -168,10 +116,11 @@ closed_are std agrees =
 
 -- ---- registers, then the frame
 
-register_below : (l : Loc) → IsPlace 0 l → register_number l < 32
-register_below (G r) h = h
-register_below (F r) h = h
-register_below (S n) h = absurd (omega (arith, h))
+-- a byte of a register that is free is an argument register's
+free_passing : (std : Standard) (s : Signature) (l : Loc) (k : ℕ) → IsPlace 0 l → is_free std s l k ≡ true → is_argument_register std l ≡ true
+free_passing std s (G r) k h free = and_left (is_argument_register std (G r)) (not (carries std s (G r) k)) free
+free_passing std s (F r) k h free = and_left (is_argument_register std (F r)) (not (carries std s (F r) k)) free
+free_passing std s (S n) k h free = absurd (omega (arith, h))
 
 register_still : (base : ℕ) (a b : State) (l : Loc) (k : ℕ) → IsPlace 0 l → b.general ≡ a.general → b.floating ≡ a.floating → byte_of base b l k ≡ byte_of base a l k
 register_still base a b (G r) k h general floating = ap (λ xs. get_or (to_le_bytes w64 (get_or xs r 0)) k 0) general
@@ -183,20 +132,24 @@ word_still base a b (G r) h general floating = ap (λ xs. get_or xs r 0) general
 word_still base a b (F r) h general floating = ap (λ xs. get_or xs r 0) floating
 word_still base a b (S n) h general floating = absurd (omega (arith, h))
 
-pub poisoned : (std : Standard) (s : Signature) (base byte : ℕ) (first a b : State) → IsSound std s → AgreesWithMachine std → STACK ≤ base → AreRegistersDone std s base byte 32 first a → IsFrameDone std s base byte (frame_of std s) a b → IsPoisoned std s base byte first b
-poisoned std s base byte first a b sound agrees low registers frame = record {
-  register_free = λ l k lies h free. still l k lies ∙ registers.free l k lies (register_below l lies) h free;
+pub poisoned : (std : Standard) (s : Signature) (base byte : ℕ) (first a b : State) → AgreesWithMachine std → STACK ≤ base → AreRegistersDone std s base byte (length std.argument_registers) first a → IsFrameDone std s base byte (frame_of std s) a b → IsPoisoned std s base byte first b
+poisoned std s base byte first a b agrees low registers frame = record {
+  register_free = λ l k lies h free. still l k lies ∙ registers.free l k lies (among l k lies free) h free;
   register_kept = λ l k lies h taken. still l k lies ∙ left l k taken (registers.keep.each l k lies h);
   frame_free = λ n free. frame.free n (free_in_frame std s n free) free;
   frame_kept = λ n taken. frame.kept n taken ∙ registers.keep.within.outside (base + n - STACK) (inr (omega (arith, low)));
   whole = whole;
-  unnamed = unnamed;
-  closed = each_both (IsPlace 0) (λ l. AllByRecursion (Apart l) (argument_locs (plan_of std s))) (λ l. word_in base b l ≡ word_in base first l) (λ l lies apart. unnamed l lies (not_named std s l lies apart)) (closed_to_arguments std) (closed_are std agrees) (across_none (argument_locs (plan_of std s)) (closed_to_arguments std) sound.allowed);
+  others = others;
+  closed = each_both (IsPlace 0) (λ l. AllByRecursion (Apart l) std.argument_registers) (λ l. word_in base b l ≡ word_in base first l) (λ l lies apart. others l lies (other_registers l lies std.argument_registers apart)) (closed_to_arguments std) (closed_are std agrees) (across_none std.argument_registers (closed_to_arguments std) agrees.arguments_plain);
   sp = frame.only.sp ∙ registers.keep.sp;
   within = wrote_then base (base + frame_of std s) first a b (wrote_wider base base base (base + frame_of std s) first a (omega arith) (omega arith) registers.keep.within) frame.only.within;
   mark = subst (λ m. MarkFalls (λ n. is_free std s (S n) 0) base m b.mark) registers.keep.mark marked;
 }
   where
+    among : (l : Loc) (k : ℕ) → IsPlace 0 l → is_free std s l k ≡ true → list_any (is_register l) (take (length std.argument_registers) std.argument_registers) ≡ true
+    among l k lies free =
+        ap (list_any (is_register l)) (take_all (length std.argument_registers) std.argument_registers (omega arith)) ∙ free_passing std s l k lies free
+
     still : (l : Loc) (k : ℕ) → IsPlace 0 l → byte_of base b l k ≡ byte_of base a l k
     still l k lies = register_still base a b l k lies frame.only.general frame.only.floating
 
@@ -208,8 +161,8 @@ poisoned std s base byte first a b sound agrees low registers frame = record {
     whole l lies none =
         word_still base a b l lies frame.only.general frame.only.floating ∙ registers.keep.whole l lies none
 
-    unnamed : (l : Loc) → IsPlace 0 l → is_named std s l ≡ false → word_in base b l ≡ word_in base first l
-    unnamed l lies named = whole l lies (λ k h. unnamed_not_free std s l k lies named)
+    others : (l : Loc) → IsPlace 0 l → is_argument_register std l ≡ false → word_in base b l ≡ word_in base first l
+    others l lies other = whole l lies (λ k h. other_not_free std s l k lies other)
 
     marked : MarkFalls (λ n. is_free std s (S n) 0) base a.mark b.mark
     marked = record {

@@ -1,17 +1,13 @@
 -- What stands so far while what carries nothing is overwritten: register by register, then the frame byte by byte.
-use Rattle.std.specs.Prelude.{◌≡◌, ℕ, ◌+◌, ◌<◌, ◌⊎◌, true, false, nat_lt, ◌&&◌}
+use Rattle.std.specs.Prelude.{◌≡◌, ℕ, ◌+◌, ◌<◌, ◌⊎◌, true, false, nat_lt, ◌&&◌, take}
+use Rattle.std.specs.List.{list_any}
 use Rattle.ffi3_type_rules.specs.Signature.{Signature}
 use Rattle.ffi3_place_rules.specs.declared.Loc.{Loc}
-use Rattle.ffi3_place_rules.specs.declared.Loc.TheVariants.{G, F, S}
+use Rattle.ffi3_place_rules.specs.declared.Loc.TheVariants.{S}
 use Rattle.ffi3_place_rules.specs.Standard.{Standard, frame_of}
 use Rattle.ffi3_machine.specs.State.{State}
 use Rattle.ffi3_pieces.specs.Stored.{IsPlace, WroteOnly, WroteWithin, byte_of, stack_byte, word_in}
-use Rattle.ffi3_callee.specs.Poison.{MarkFalls, is_free}
-
-abbrev pub register_number : Loc → ℕ
-register_number (G r) = r
-register_number (F r) = r
-register_number (S n) = n
+use Rattle.ffi3_callee.specs.Poison.{MarkFalls, is_free, is_register}
 
 -- a register's byte stays, or it is free and becomes `byte`
 abbrev pub IsLeftOrFree : Standard → Signature → ℕ → ℕ → State → State → Loc → ℕ → Type 0
@@ -31,9 +27,9 @@ pub record IsRegisterDone (std : Standard) (s : Signature) (base byte : ℕ) (at
   pub free : (k : ℕ) → k < 8 → is_free std s at k ≡ true → byte_of base new at k ≡ byte
   pub keep : RegistersKeep std s base byte old new
 
--- those of the registers of the first numbers are
+-- those of the first argument registers are
 pub record AreRegistersDone (std : Standard) (s : Signature) (base byte count : ℕ) (old new : State) : Type 0 where
-  pub free : (l : Loc) (k : ℕ) → IsPlace 0 l → register_number l < count → k < 8 → is_free std s l k ≡ true → byte_of base new l k ≡ byte
+  pub free : (l : Loc) (k : ℕ) → IsPlace 0 l → list_any (is_register l) (take count std.argument_registers) ≡ true → k < 8 → is_free std s l k ≡ true → byte_of base new l k ≡ byte
   pub keep : RegistersKeep std s base byte old new
 
 -- those of the first bytes of the frame are

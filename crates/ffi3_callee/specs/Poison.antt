@@ -78,24 +78,14 @@ is_register (G a) (G b) = a == b
 is_register (F a) (F b) = a == b
 is_register _ _ = false
 
-abbrev pub place_names : Loc → Place → Bool
-place_names l (Direct pieces) = list_any (λ p. is_register l p.loc) pieces
-place_names l (ByRef at copy) = is_register l at
-
-abbrev pub hidden_names : Loc → Res → Bool
-hidden_names l (Hidden at buffer) = is_register l at
-hidden_names l Nothing = false
-hidden_names l (DirectRes pieces) = false
-
--- the plan of the call's arguments names the register
-abbrev pub is_named : Standard → Signature → Loc → Bool
-is_named std s l =
-    hidden_names l (plan_of std s).res || list_any (place_names l) (plan_of std s).places
+-- arguments, or the address of a hidden result, are passed in the register
+abbrev pub is_argument_register : Standard → Loc → Bool
+is_argument_register std l = list_any (is_register l) std.argument_registers
 
 -- the byte is of such a register or of the frame
 abbrev pub belongs : Standard → Signature → Loc → ℕ → Bool
-belongs std s (G r) k = is_named std s (G r)
-belongs std s (F r) k = is_named std s (F r)
+belongs std s (G r) k = is_argument_register std (G r)
+belongs std s (F r) k = is_argument_register std (F r)
 belongs std s (S n) k = nat_lt (n + k) (frame_of std s)
 
 -- it is, and carries nothing
@@ -116,9 +106,9 @@ pub record IsPoisoned (std : Standard) (s : Signature) (base byte : ℕ) (old ne
   pub register_kept : (l : Loc) (k : ℕ) → IsPlace 0 l → k < 8 → is_free std s l k ≡ false → byte_of base new l k ≡ byte_of base old l k
   pub frame_free : (n : ℕ) → is_free std s (S n) 0 ≡ true → stack_byte new (base + n) ≡ byte
   pub frame_kept : (n : ℕ) → is_free std s (S n) 0 ≡ false → stack_byte new (base + n) ≡ stack_byte old (base + n)
-  -- a register without a free byte, whole; those that the plan does not name and those that are closed to arguments are among them
+  -- a register without a free byte, whole; those that are no argument registers are among them, and so those that are closed to arguments
   pub whole : (l : Loc) → IsPlace 0 l → ((k : ℕ) → k < 8 → is_free std s l k ≡ false) → word_in base new l ≡ word_in base old l
-  pub unnamed : (l : Loc) → IsPlace 0 l → is_named std s l ≡ false → word_in base new l ≡ word_in base old l
+  pub others : (l : Loc) → IsPlace 0 l → is_argument_register std l ≡ false → word_in base new l ≡ word_in base old l
   pub closed : AllByRecursion (λ l. word_in base new l ≡ word_in base old l) (closed_to_arguments std)
   pub sp : new.sp ≡ old.sp
   -- of the stack the frame alone, and nothing of pc, code, journal and target

@@ -1,5 +1,5 @@
 // Overwrites what a callee must not look at.
-ghost use Rattle.std.specs.Prelude.{◌≡◌, ℕ, ◌+◌, ◌<◌, ◌≤◌, List, get_or, if◌then◌else◌, true};
+ghost use Rattle.std.specs.Prelude.{◌≡◌, ℕ, ◌+◌, ◌<◌, ◌≤◌, List, get_or, length, if◌then◌else◌, true};
 ghost use Rattle.std.specs.List.{list_any};
 ghost use Rattle.std.specs.Int.{w64, to_le_bytes};
 ghost use Rattle.ffi3_type_rules.specs.declared.limits.TheConstants.{ENTRY, STACK, STACK_TOP};
@@ -9,7 +9,7 @@ ghost use Rattle.ffi3_types.specs.TreeOf.{tree_of};
 ghost use Rattle.ffi3_place_rules.specs.Standard.{frame_of};
 ghost use Rattle.ffi3_machine.specs.State.{HasReturnAddress};
 ghost use Rattle.ffi3_pieces.specs.Stored.{IsPlace, IsWordPut, IsWritable};
-ghost use Rattle.ffi3_callee.specs.Poison.{IsPoisoned, address_has, belongs, byte_number, carries, copy_has, hidden_has, hidden_names, is_free, is_leaf_byte, is_named, is_register, piece_has, place_has, place_names};
+ghost use Rattle.ffi3_callee.specs.Poison.{IsPoisoned, address_has, byte_number, carries, copy_has, hidden_has, is_argument_register, is_leaf_byte, piece_has, place_has};
 ghost use Rattle.ffi3_callee.specs.Received.{OwnsAtEntry};
 ghost use Rattle.ffi3_callee.specs.Overwritten.{AreRegistersDone, IsFrameDone, IsRegisterDone};
 
@@ -149,73 +149,6 @@ fn carries<A: Abi>(cif: &Cif<A>, at: Loc, k: u64) -> bool
     false
 }
 
-// Whether both are the same register.
-fn is_register(at: Loc, other: Loc) -> bool
-    ensures { result ≡ is_register at other }
-{
-    match at {
-        Loc::G(a) => match other {
-            Loc::G(b) => a == b,
-            Loc::F(_) => false,
-            Loc::S(_) => false,
-        },
-        Loc::F(a) => match other {
-            Loc::G(_) => false,
-            Loc::F(b) => a == b,
-            Loc::S(_) => false,
-        },
-        Loc::S(_) => false,
-    }
-}
-
-// Whether a piece stands in the register.
-fn pieces_name(at: Loc, pieces: &Pieces) -> bool
-    ensures { result ≡ list_any (λ p. is_register at p.loc) pieces.now }
-{
-    for i in 0..pieces.len() {
-        if is_register(at, pieces.get(i).loc) {
-            return true;
-        }
-    }
-    false
-}
-
-// Whether an argument's place names the register.
-fn place_names(at: Loc, place: &Place) -> bool
-    ensures { result ≡ place_names at place.now }
-{
-    match place {
-        Place::Direct(pieces) => pieces_name(at, pieces),
-        Place::ByRef { at: address, .. } => is_register(at, *address),
-    }
-}
-
-// Whether a hidden result's address stands in the register.
-fn hidden_names(at: Loc, res: &Res) -> bool
-    ensures { result ≡ hidden_names at res.now }
-{
-    match res {
-        Res::Hidden { at: address, .. } => is_register(at, *address),
-        Res::Nothing => false,
-        Res::Direct(_) => false,
-    }
-}
-
-// Whether the plan of the arguments names the register.
-fn is_named<A: Abi>(cif: &Cif<A>, at: Loc) -> bool
-    ensures { result ≡ is_named A.standard cif.now at }
-{
-    if hidden_names(at, cif.result_place()) {
-        return true;
-    }
-    for i in 0..count_of(cif.sig()) {
-        if place_names(at, cif.place(i)) {
-            return true;
-        }
-    }
-    false
-}
-
 // The word of a register, each byte overwritten that carries nothing.
 fn poisoned<A: Abi>(cif: &Cif<A>, at: Loc, word: u64, byte: u8) -> u64
     ensures bytes { (k : ℕ) → k < 8 → get_or (to_le_bytes w64 result) k 0 ≡ (if carries A.standard cif.now at k then get_or (to_le_bytes w64 word) k 0 else byte) }
@@ -246,32 +179,29 @@ fn set_register(machine: &mut Machine, at: Loc, word: u64)
     }
 }
 
-// Overwrites what carries nothing of a register, if the plan names it.
+// Overwrites what carries nothing of an argument register.
 fn poison_register<A: Abi>(machine: &mut Machine, cif: &Cif<A>, base: u64, at: Loc, byte: u8)
     requires low { STACK ≤ base }
     requires high { base ≤ STACK_TOP }
-    requires target { machine.old.target ≡ A.TARGET }
     requires register { IsPlace 0 at }
+    requires writable { IsWritable machine.old.target at }
+    requires passing { is_argument_register A.standard at ≡ true }
     ensures { IsRegisterDone A.standard cif.now base byte at machine.old machine.new }
 {
-    // its contract tells what is true of every interface
-    let _sig = cif.sig();
-    if is_named(cif, at) {
-        let word = poisoned(cif, at, place_word(machine, base, at), byte);
-        set_register(machine, at, word);
-    }
+    let word = poisoned(cif, at, place_word(machine, base, at), byte);
+    set_register(machine, at, word);
 }
 
-// Overwrites what carries nothing of each register that the plan names.
+// Overwrites what carries nothing of each argument register.
 fn poison_registers<A: Abi>(machine: &mut Machine, cif: &Cif<A>, base: u64, byte: u8)
     requires low { STACK ≤ base }
     requires high { base ≤ STACK_TOP }
     requires target { machine.old.target ≡ A.TARGET }
-    ensures { AreRegistersDone A.standard cif.now base byte 32 machine.old machine.new }
+    ensures { AreRegistersDone A.standard cif.now base byte (length A.standard.argument_registers) machine.old machine.new }
 {
-    for r in 0..32u8 {
-        poison_register(machine, cif, base, Loc::G(r), byte);
-        poison_register(machine, cif, base, Loc::F(r), byte);
+    for k in 0..A::PASSING {
+        let at = A::passing_register(k);
+        poison_register(machine, cif, base, at, byte);
     }
 }
 
@@ -290,7 +220,7 @@ fn poison_frame<A: Abi>(machine: &mut Machine, cif: &Cif<A>, base: u64, byte: u8
     }
 }
 
-/// At an entry: writes a byte over all that a callee must not look at, each byte of the arguments' registers and of the
+/// At an entry: writes a byte over all that a callee must not look at, each byte of the argument registers and of the
 /// frame that is no leaf's and no address's. The image still owns the values, so a callee takes the same from it.
 pub fn poison<A: Abi>(machine: &mut Machine, cif: &Cif<A>, byte: u8)
     requires entry { machine.old.pc ≡ ENTRY }
