@@ -1,5 +1,5 @@
 -- One turn of each loop, over plain variables.
-use Rattle.std.proofs.Common.{◌≡◌, ℕ, zero, suc, ◌+◌, ◌-◌, ◌<◌, List, [], ◌∷◌, ◌++◌, length, map, refl, sym, ap, subst, ◌∙◌, append_assoc, append-nil, arith}
+use Rattle.std.proofs.Common.{◌≡◌, ℕ, zero, suc, ◌+◌, ◌-◌, ◌<◌, ◌≤◌, List, [], ◌∷◌, ◌++◌, length, map, refl, sym, ap, subst, ◌∙◌, append_assoc, append-nil, arith}
 use Rattle.std.proofs.lemmas.List.{map-append}
 use Rattle.ffi3_type_rules.specs.Tree.{Tree, scalar, u64}
 use Rattle.ffi3_script_rules.specs.Script.{Expression, outcome, sum, return, print, return_void}
@@ -36,10 +36,10 @@ state-turn count counter x y s so_far below moved =
 
 -- ---- bodies
 
-pub body-first : (types : List (List Tree)) (s : ℕ) (moves : List ScriptMove) (one : ScriptMove) (start value : Expression) → (0 < s → ⊥) → moves ≡ one ∷ [] → script_move_of one ≡ does (return value) → value ≡ with_arguments start 0 (types_at types s) → start ≡ own_total (types_at types s) → script_moves_of moves ≡ made_body types s
+pub body-first : (types : List (List Tree)) (s : ℕ) (moves : List ScriptMove) (one : ScriptMove) (start value : Expression) → s ≤ 0 → moves ≡ one ∷ [] → script_move_of one ≡ does (return value) → value ≡ with_arguments start 0 (types_at types s) → start ≡ own_total (types_at types s) → script_moves_of moves ≡ made_body types s
 body-first types zero moves one start value low are is value_is start_is =
     ap script_moves_of are ∙ ap (λ m. m ∷ []) (is ∙ ap (λ e. does (return e)) (value_is ∙ ap (λ e. with_arguments e 0 (types_at types 0)) start_is))
-body-first types (suc s) moves one start value low are is value_is start_is = absurd (low (omega arith))
+body-first types (suc s) moves one start value low are is value_is start_is = absurd (omega (arith, low))
 
 pub body-later : (types : List (List Tree)) (s : ℕ) (moves : List ScriptMove) (call one : ScriptMove) (start value : Expression) → 0 < s → moves ≡ call ∷ one ∷ [] → script_move_of call ≡ made_call types (s - 1) 0 (own_total (types_at types s)) → script_move_of one ≡ does (return value) → value ≡ with_arguments start 0 (types_at types s) → start ≡ sum u64 (own_total (types_at types s)) (outcome 0) → script_moves_of moves ≡ made_body types s
 body-later types zero moves call one start value some are call_is is value_is start_is = absurd (omega (arith, some))
