@@ -18,3 +18,4 @@ pub mod WellTyped
 pub mod BodyRules
 pub mod Natives
 pub mod Made
+pub mod MadeRuns
