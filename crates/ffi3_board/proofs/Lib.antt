@@ -10,4 +10,6 @@ mod Entering
 mod Leaving
 pub mod Boarding
 mod Made
+mod Served
+mod Accepting
 mod Transports

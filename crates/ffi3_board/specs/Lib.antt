@@ -5,4 +5,5 @@ pub mod Path
 pub mod Stack
 pub mod Going
 pub mod Between
+pub mod Served
 pub mod Turned

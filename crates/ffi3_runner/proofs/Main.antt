@@ -9,7 +9,7 @@ use Rattle.ffi3_place_rules.specs.Standard.{Standard}
 use Rattle.ffi3_run_rules.specs.Meaning.{main, meaning_of}
 use Rattle.ffi3_run_rules.specs.Move.{no_signature}
 use Rattle.ffi3_run_rules.specs.Trace.{TraceItem}
-use Rattle.ffi3_turn_rules.specs.Left.{Left, as_main, left_of}
+use Rattle.ffi3_turn_rules.specs.Left.{Left, left_of}
 use Rattle.ffi3_turn_rules.specs.SoFar.{Base, main_base}
 use Rattle.ffi3_machine.specs.State.{State, begun}
 use Rattle.ffi3_io.specs.Sink.{SinkState}
@@ -30,8 +30,9 @@ use Rattle.ffi3_board.specs.Turned.{StandsAt}
 use Rattle.ffi3_runner.specs.Agreeing.{seen_by_main, InnermostStands, IsStanding, AllWillStand, AllStand}
 use Rattle.ffi3_runner.specs.Ran.{Ran}
 use Rattle.ffi3_runner.specs.Running.{IsNew, IsPrepared, program}
+use Rattle.ffi3_runner.specs.Started.{main_beginning}
 use Rattle.ffi3_runner.specs.declared.run.RunEnd.{RunEnd}
-use Rattle.ffi3_runner.proofs.Starting.{main_beginning, stands_at_start}
+use Rattle.ffi3_runner.proofs.Starting.{stands_at_start}
 
 -- main stands before its first move
 pub main_stands : (s : Script) (natives : List NamedNative) (ss : List Signature) (m : State) (b : Board Standing) → IsNew b → (a : Activation Standing) → a.who ≡ Main → a.results ≡ [] → ask.who_of a.standing ≡ main → ((z : SeenActivation) → z.signature ≡ no_signature → z.results ≡ [] → StandingAgrees s natives z a.standing) → AllStand s natives ss m (record b { innermost = Some a })
@@ -49,10 +50,10 @@ module _ (std : Standard) (s : Script) (natives : List NamedNative) (cifs : List
       let same : begun std.target k l ≡ m = ap (λ (t : Target). begun t k l) target_is ∙ sym begins in
       subst P same (stands_at_start (program std s natives) std refl agrees k l o b new a who user results)
 
-  pub start_between : (base : Base) × (all : Left) × (first : Beginning) × (own : List TraceItem) × (events : List Event) × (base.standard ≡ std) × (base.bottom ≡ as_main) × StandsAt (program std s natives) base all first own events (record b { innermost = Some a }) m o
+  pub start_between : (base : Base) × (all : Left) × (first : Beginning) × (own : List TraceItem) × (events : List Event) × (base.standard ≡ std) × StandsAt (program std s natives) base all first own events (record b { innermost = Some a }) m o
   start_between =
-      (main_base std, left_of (meaning_of (program std s natives)), main_beginning o, [], [], refl, refl, starts_here)
+      (main_base std, left_of (meaning_of (program std s natives)), main_beginning o, [], [], refl, starts_here)
 
-  pub main_ran : (b' : Board Standing) (m' : State) (o' : SinkState) (t : RunEnd) → ((base : Base) (all : Left) (first : Beginning) (own : List TraceItem) (events : List Event) → base.standard ≡ std → base.bottom ≡ as_main → StandsAt (program std s natives) base all first own events (record b { innermost = Some a }) m o → Ran (program std s natives) base all first b' m' o' t) → Ran (program std s natives) (main_base std) (left_of (meaning_of (program std s natives))) (main_beginning o) b' m' o' t
+  pub main_ran : (b' : Board Standing) (m' : State) (o' : SinkState) (t : RunEnd) → ((base : Base) (all : Left) (first : Beginning) (own : List TraceItem) (events : List Event) → base.standard ≡ std → StandsAt (program std s natives) base all first own events (record b { innermost = Some a }) m o → Ran (program std s natives) base all first b' m' o' t) → Ran (program std s natives) (main_base std) (left_of (meaning_of (program std s natives))) (main_beginning o) b' m' o' t
   main_ran b' m' o' t ran =
-      ran (main_base std) (left_of (meaning_of (program std s natives))) (main_beginning o) [] [] refl refl starts_here
+      ran (main_base std) (left_of (meaning_of (program std s natives))) (main_beginning o) [] [] refl starts_here

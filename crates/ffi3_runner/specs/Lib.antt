@@ -2,3 +2,5 @@ pub mod Agreeing
 pub mod Running
 pub mod RunMatches
 pub mod Ran
+pub mod Started
+pub mod Serving

@@ -1,0 +1,88 @@
+//! A call that is served: accepted from what a machine shows at an entry, and left.
+ghost use Rattle.std.specs.Prelude.{◌≡◌, ℕ, ◌<◌, ◌≤◌, List, None, Some, [], length, true};
+ghost use Rattle.ffi3_type_rules.specs.Signature.{signature_at};
+ghost use Rattle.ffi3_type_rules.specs.Value.{ValueTree, fits};
+ghost use Rattle.ffi3_values.specs.ValueOf.{value_of};
+ghost use Rattle.ffi3_place_rules.specs.declared.Loc.{Loc};
+ghost use Rattle.ffi3_place_rules.specs.Event.{Event};
+ghost use Rattle.ffi3_place_rules.specs.Standard.{need_of};
+ghost use Rattle.ffi3_run_rules.specs.Journal.{Entered};
+ghost use Rattle.ffi3_run_rules.specs.Meaning.{Program, most_moves};
+ghost use Rattle.ffi3_run_rules.specs.Move as asks;
+ghost use Rattle.ffi3_run_rules.specs.Trace.{TraceItem};
+ghost use Rattle.ffi3_turn_rules.specs.Left.{Left};
+ghost use Rattle.ffi3_turn_rules.specs.SoFar.{Base};
+ghost use Rattle.ffi3_closures.specs.Slots.{HoldsMap};
+ghost use Rattle.ffi3_io.specs.Sink.{SinkState};
+ghost use Rattle.ffi3_board.specs.Between.{Beginning, IsAsking, moment};
+ghost use Rattle.ffi3_board.specs.Known.{AreKnown};
+ghost use Rattle.ffi3_board.specs.Path.{calls_below, result_type_at};
+ghost use Rattle.ffi3_board.specs.Served.{HasAccepted, ShowsCall, served_base, served_beginning, served_left};
+ghost use Rattle.ffi3_board.specs.Stack.{HoldsCalls};
+ghost use Rattle.ffi3_board.specs.Turned.{IsDone, StandsAt};
+
+use crate::{Activation, Board, Cifs, OpenCall, Who};
+use ffi3_invoke::{accept, give_back};
+use ffi3_machine::Machine;
+use ffi3_place::Abi;
+use ffi3_run_rules::Closure;
+use ffi3_values::{Value, Values};
+use std::alloc::Global;
+
+impl<S: Drop> Board<S> {
+    /// Accepts the call of a closure that the machine shows at its entry: the activation of the
+    /// closure's function, which stands here before its first move, is then the only one.
+    pub fn accept_call<A: Abi>(
+        &mut self,
+        alloc: Global,
+        machine: &mut Machine,
+        cifs: &Cifs<A>,
+        closure: Closure,
+        standing: S,
+    )
+        requires below { closure.sig < length cifs.now }
+        requires shows { (arguments : List ValueTree) × ShowsCall A.standard (signature_at cifs.now closure.sig) arguments machine.old }
+        requires alone { self.old.suspended.items ≡ [] }
+        ensures accepted { HasAccepted closure standing self.old self.new }
+        ensures begins { (p : Program) (arguments : List ValueTree) (output : SinkState) →
+            p.signatures ≡ cifs.now → p.need ≡ need_of A.standard →
+            ShowsCall A.standard (signature_at cifs.now closure.sig) arguments machine.old →
+            HoldsMap machine.old.target self.old.table machine.old.code → AreKnown p self.old.table → self.old.moves ≤ most_moves →
+            StandsAt p (served_base A.standard p.signatures closure.sig machine.old)
+            (served_left A.standard p closure arguments machine.old self.old.table self.old.moves)
+            (served_beginning A.standard (signature_at p.signatures closure.sig) machine.old output) [] [] self.new machine.new output }
+    {
+        let sig = closure.sig;
+        let incoming = accept(machine, cifs.get(sig));
+        self.served = Some(OpenCall { sig, incoming });
+        self.innermost = Some(Activation {
+            who: Who::Function(closure.func),
+            standing,
+            user: closure.user,
+            results: Values::new(alloc),
+        });
+    }
+
+    /// Returns from the outermost activation, once it was taken from the board: out of the call that
+    /// it answers to, or, where that is none, as main.
+    pub(crate) fn leave_run<A: Abi>(
+        &mut self,
+        machine: &mut Machine,
+        cifs: &Cifs<A>,
+        value: &Value,
+    )
+        requires taken { self.old.innermost ≡ None }
+        requires alone { self.old.suspended.items ≡ [] }
+        requires stand { (held : Loc → ℕ) × (top : ℕ) × (entered : List Entered) ×
+            HoldsCalls A.standard cifs.now held top machine.old (calls_below self.old.served) entered }
+        requires fits { fits (result_type_at cifs.now self.old.served) (value_of value.now) ≡ true }
+        ensures { (p : Program) (base : Base) (all : Left) (first : Beginning) (own : List TraceItem) (events : List Event) (output : SinkState) (current : Activation S) →
+            base.standard ≡ A.standard → p.signatures ≡ cifs.now →
+            IsAsking p base all first own events (moment p.signatures current self.old machine.old output) (asks.return (value_of value.now)) →
+            IsDone p base all first self.new machine.new output }
+    {
+        if let Some(OpenCall { sig, incoming }) = self.served.take() {
+            give_back(machine, cifs.get(sig), incoming, value);
+        }
+    }
+}
