@@ -1,19 +1,17 @@
 -- A call that a machine shows is accepted: its run begins.
-use Rattle.std.proofs.Common.{◌≡◌, ℕ, ◌+◌, ◌-◌, ◌<◌, ◌≤◌, ◌⊎◌, inl, inr, List, [], ◌∷◌, ◌++◌, length, Option, Some, None, reverse, refl, sym, ap, ◌∙◌, subst, arith, append-nil}
+use Rattle.std.proofs.Common.{◌≡◌, ℕ, ◌+◌, ◌-◌, ◌<◌, ◌≤◌, ◌⊎◌, inl, inr, List, [], ◌∷◌, ◌++◌, length, Some, refl, sym, ap, ◌∙◌, subst, arith, append-nil}
 use Rattle.std.specs.List.{AllByRecursion}
 use Rattle.ffi3_type_rules.specs.declared.limits.TheConstants.{STACK}
 use Rattle.ffi3_type_rules.specs.declared.Target.{Target}
 use Rattle.ffi3_type_rules.specs.Signature.{Signature, signature_at}
 use Rattle.ffi3_type_rules.specs.Value.{ValueTree}
 use Rattle.ffi3_place_rules.specs.declared.Loc.{Loc}
-use Rattle.ffi3_place_rules.specs.Event.{Event}
 use Rattle.ffi3_place_rules.specs.Image.{Image, register}
 use Rattle.ffi3_place_rules.specs.Standard.{Standard, block_bytes, frame_of, need_of}
 use Rattle.ffi3_run_rules.specs.declared.Closure.{Closure}
 use Rattle.ffi3_run_rules.specs.Closures.{Closures}
 use Rattle.ffi3_run_rules.specs.Journal.{Entered}
-use Rattle.ffi3_run_rules.specs.Meaning as meaning
-use Rattle.ffi3_run_rules.specs.Meaning.{Program, function, need_at, most_moves}
+use Rattle.ffi3_run_rules.specs.Meaning.{Program, need_at, most_moves}
 use Rattle.ffi3_turn_rules.specs.Left.{Left}
 use Rattle.ffi3_turn_rules.specs.SoFar.{Base}
 use Rattle.ffi3_turn_rules.proofs.Coming.{comes_from}
@@ -30,7 +28,6 @@ use Rattle.ffi3_invoke.proofs.Accepted.{counted}
 use Rattle.ffi3_invoke.proofs.Stretches.{above_stays}
 use Rattle.ffi3_board.specs.declared.activation.Activation.{Activation}
 use Rattle.ffi3_board.specs.declared.activation.OpenCall.{OpenCall}
-use Rattle.ffi3_board.specs.declared.activation.Waiting.{Waiting}
 use Rattle.ffi3_board.specs.declared.activation.Who.TheVariants.{Function}
 use Rattle.ffi3_board.specs.Known.{AreKnown}
 use Rattle.ffi3_board.specs.Between.{Beginning, Moment, IsMarkOf, IsBetween, moment_with}

@@ -1,5 +1,5 @@
 -- The outermost activation returns: out of the call that is served, or as main.
-use Rattle.std.proofs.Common.{◌≡◌, ℕ, suc, true, ◌+◌, ◌-◌, ◌<◌, ◌≤◌, ◌×◌, ◌⊎◌, inl, inr, List, [], ◌∷◌, ◌++◌, length, take, drop, get_or, Option, Some, None, refl, sym, ap, ◌∙◌, subst, arith, append_assoc}
+use Rattle.std.proofs.Common.{◌≡◌, ℕ, suc, true, ◌+◌, ◌-◌, ◌<◌, ◌≤◌, ◌⊎◌, inl, inr, List, [], ◌∷◌, ◌++◌, length, drop, get_or, Some, None, refl, sym, ap, ◌∙◌, subst, arith, append_assoc}
 use Rattle.std.proofs.lemmas.Bool.{cases_lt}
 use Rattle.std.proofs.lemmas.List.{get_or-take, get_or-drop}
 use Rattle.ffi3_type_rules.specs.declared.limits.TheConstants.{STACK}
@@ -14,14 +14,13 @@ use Rattle.ffi3_place_rules.specs.Event.{Event}
 use Rattle.ffi3_place_rules.specs.Standard.{Standard, block_bytes, frame_of, plan_of}
 use Rattle.ffi3_run_rules.specs.Closures.{Closures}
 use Rattle.ffi3_run_rules.specs.Journal.{Entered, IsReturn}
-use Rattle.ffi3_run_rules.specs.Meaning as meaning
 use Rattle.ffi3_run_rules.specs.Meaning.{Program, ends, returned, effect_of, next_move, most_moves}
 use Rattle.ffi3_run_rules.specs.Move.{return}
 use Rattle.ffi3_run_rules.specs.Trace.{TraceItem, Leave}
 use Rattle.ffi3_turn_rules.specs.Left.{Left, Bottom, as_main, served, before, only, rest, alone, awaited, awaited_below}
 use Rattle.ffi3_turn_rules.specs.Depth.{deepest, depth_at}
 use Rattle.ffi3_turn_rules.specs.Open.{open_calls}
-use Rattle.ffi3_turn_rules.specs.SoFar.{Base, Position, open_at}
+use Rattle.ffi3_turn_rules.specs.SoFar.{Base, open_at}
 use Rattle.ffi3_turn_rules.proofs.Steps.{rest_leaves}
 use Rattle.ffi3_turn_rules.proofs.Depths.{ends_below}
 use Rattle.ffi3_turn_rules.proofs.Coming.{deepest_same, open_alone}
@@ -39,9 +38,10 @@ use Rattle.ffi3_board.specs.declared.activation.Activation.{Activation}
 use Rattle.ffi3_board.specs.declared.activation.OpenCall.{OpenCall}
 use Rattle.ffi3_board.specs.declared.board.Board.{Board}
 use Rattle.ffi3_board.specs.Known.{AreKnown}
-use Rattle.ffi3_board.specs.Between.{Beginning, Moment, asking, position, text_of, depth_below, AreEntriesOf, KeepsFound, IsAsking, moment_with}
-use Rattle.ffi3_board.specs.Served.{IsOutsideBuffer, HasServed, HasLeft, IsIdle}
-use Rattle.ffi3_board.specs.Stack.{caller_sp, IsOpen, OpenStand, frames, HoldsCalls}
+use Rattle.ffi3_board.specs.Between.{Beginning, Moment, asking, position, text_of, depth_below, KeepsFound, IsAsking, moment_with}
+use Rattle.ffi3_board.specs.Outermost.{AreEntriesOf}
+use Rattle.ffi3_board.specs.Served.{IsOutsideBuffer, HasServed, HasLeft}
+use Rattle.ffi3_board.specs.Stack.{caller_sp, IsOpen, OpenStand, HoldsCalls}
 use Rattle.ffi3_board.specs.Turned.{IsEnded, IsDone}
 use Rattle.ffi3_board.proofs.Boarding.{void_is}
 use Rattle.ffi3_board.proofs.Marks.{mark_leave, text_still}

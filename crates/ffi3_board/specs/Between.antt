@@ -3,7 +3,7 @@ use Rattle.std.specs.Prelude.{◌≡◌, ℕ, suc, ◌+◌, ◌-◌, ◌≤◌, 
 use Rattle.ffi3_type_rules.specs.declared.limits.TheConstants.{STACK, STACK_TOP}
 use Rattle.ffi3_type_rules.specs.Signature.{Signature}
 use Rattle.ffi3_place_rules.specs.Event.{Event}
-use Rattle.ffi3_place_rules.specs.Standard.{Standard, need_of}
+use Rattle.ffi3_place_rules.specs.Standard.{need_of}
 use Rattle.ffi3_run_rules.specs.Closures.{Closures}
 use Rattle.ffi3_run_rules.specs.Journal.{Entered}
 use Rattle.ffi3_run_rules.specs.Lines.{untraced, text}
@@ -11,7 +11,7 @@ use Rattle.ffi3_run_rules.specs.Meaning as meaning
 use Rattle.ffi3_run_rules.specs.Meaning.{Program, most_moves, next_move}
 use Rattle.ffi3_run_rules.specs.Move.{Move}
 use Rattle.ffi3_run_rules.specs.Trace.{TraceItem}
-use Rattle.ffi3_turn_rules.specs.Left.{Left, Suspended, Bottom, as_main, served, awaited}
+use Rattle.ffi3_turn_rules.specs.Left.{Left, Suspended, awaited}
 use Rattle.ffi3_turn_rules.specs.Depth.{depth_at, deepest, depth_of}
 use Rattle.ffi3_turn_rules.specs.SoFar.{Base, text_start, Position, open_at, HasComeTo}
 use Rattle.ffi3_machine.specs.State.{State, stack_at}
@@ -23,6 +23,7 @@ use Rattle.ffi3_board.specs.declared.activation.Activation.{Activation}
 use Rattle.ffi3_board.specs.declared.activation.Waiting.{Waiting}
 use Rattle.ffi3_board.specs.declared.board.Board.{Board}
 use Rattle.ffi3_board.specs.Known.{AreKnown}
+use Rattle.ffi3_board.specs.Outermost.{AreEntriesOf}
 use Rattle.ffi3_board.specs.Path.{acting, call_inside, suspended_at, calls_of}
 use Rattle.ffi3_board.specs.Stack.{HoldsCalls, frames}
 
@@ -82,11 +83,6 @@ pub record KeepsFound (base : Base) (first : Beginning) (entered : List Entered)
   pub above : (address count : ℕ) → base.top ≤ address → stack_at address count m ≡ take count (drop (address - STACK) first.stack)
   pub events : first.spare_events + length entered ≤ m.spare_events
   pub bytes : first.spare_bytes + frames base.standard entered ≤ m.spare_bytes
-
--- the entries of the calls that were open as a run began: that of the call that is served, and none where main runs
-abbrev pub AreEntriesOf : Bottom → List Event → Type 0
-AreEntriesOf as_main entries = entries ≡ []
-AreEntriesOf (served sig) entries = (entry : Event) × (entries ≡ entry ∷ [])
 
 -- WHAT HOLDS BETWEEN TWO MOVES of a run with this base, of which all this was left as it began: this trace is done of it, these events answer to it, and the path's calls stand on the machine's stack.
 pub record IsBetween (p : Program) (base : Base) (all : Left) (first : Beginning) (own : List TraceItem) (events : List Event) (x : Moment) : Type 0 where

@@ -4,6 +4,7 @@ pub mod Known
 pub mod Path
 pub mod Stack
 pub mod Going
+pub mod Outermost
 pub mod Between
 pub mod Served
 pub mod Turned

@@ -65,12 +65,7 @@ impl<S: Drop> Board<S> {
 
     /// Returns from the outermost activation, once it was taken from the board: out of the call that
     /// it answers to, or, where that is none, as main.
-    pub(crate) fn leave_run<A: Abi>(
-        &mut self,
-        machine: &mut Machine,
-        cifs: &Cifs<A>,
-        value: &Value,
-    )
+    pub(crate) fn leave_run<A: Abi>(&mut self, machine: &mut Machine, cifs: &Cifs<A>, value: &Value)
         requires taken { self.old.innermost ≡ None }
         requires alone { self.old.suspended.items ≡ [] }
         requires stand { (held : Loc → ℕ) × (top : ℕ) × (entered : List Entered) ×

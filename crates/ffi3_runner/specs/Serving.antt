@@ -1,5 +1,5 @@
 -- A call that a runner serves.
-use Rattle.std.specs.Prelude.{◌≡◌, ◌×◌, List, Some}
+use Rattle.std.specs.Prelude.{◌≡◌, List, Some}
 use Rattle.ffi3_type_rules.specs.Signature.{signature_at}
 use Rattle.ffi3_type_rules.specs.Value.{ValueTree}
 use Rattle.ffi3_place_rules.specs.Standard.{Standard}

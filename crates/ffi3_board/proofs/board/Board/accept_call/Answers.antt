@@ -1,8 +1,7 @@
-use Rattle.std.proofs.Common.{◌≡◌, ◌+◌, ◌≤◌, List, [], reverse, refl, sym, ap, ◌∙◌, subst, arith}
+use Rattle.std.proofs.Common.{◌≡◌, ◌+◌, ◌<◌, ◌≤◌, length, Some, List, [], ◌∷◌, ◌++◌, reverse, refl, sym, ap, ◌∙◌, subst, arith}
 use Rattle.ffi3_type_rules.specs.Signature.{Signature, signature_at}
-use Rattle.ffi3_type_rules.specs.Value.{ValueTree}
-use Rattle.ffi3_place_rules.specs.Standard.{frame_of}
-use Rattle.ffi3_machine.specs.State.{State, after_enter}
+use Rattle.ffi3_place_rules.specs.Standard.{block_bytes, frame_of}
+use Rattle.ffi3_machine.specs.State.{after_enter}
 use Rattle.ffi3_callee.specs.Received.{IsIncoming, IsReceived}
 use Rattle.ffi3_invoke.specs.Calls.{IsInCallee, entry_at}
 use Rattle.ffi3_board.specs.declared.activation.Activation.{Activation}
@@ -14,33 +13,33 @@ use Rattle.ffi3_board.specs.Served.{ShowsCall, served_base, served_beginning, se
 use Rattle.ffi3_board.proofs.Accepting.{served_begins}
 use Rattle.ffi3_board.proofs.board.Board.accept_call.Goals as goal
 
-pub accept-requires-clause-target : goal.accept-requires-clause-target
-accept-requires-clause-target g c = c.requires.shows.1.target ∙ g.met.A.Abi.target_is
+pub accept-incoming-requires-clause-target : goal.accept-incoming-requires-clause-target
+accept-incoming-requires-clause-target g c = c.requires.shows.1.target ∙ g.met.A.Abi.target_is
 
-pub accept-requires-clause-entry : goal.accept-requires-clause-entry
-accept-requires-clause-entry g c = c.requires.shows.1.entry
+pub accept-incoming-requires-clause-entry : goal.accept-incoming-requires-clause-entry
+accept-incoming-requires-clause-entry g c = c.requires.shows.1.entry
 
-pub accept-requires-clause-room : goal.accept-requires-clause-room
-accept-requires-clause-room g c =
+pub accept-incoming-requires-clause-room : goal.accept-incoming-requires-clause-room
+accept-incoming-requires-clause-room g c =
     let shows = subst (λ (s : Signature). ShowsCall g.A.Abi.standard s c.requires.shows.0 c.args.machine.now) (sym c.get.ensures) c.requires.shows.1 in
     shows.room
 
-pub accept-requires-clause-frame : goal.accept-requires-clause-frame
-accept-requires-clause-frame g c =
+pub accept-incoming-requires-clause-frame : goal.accept-incoming-requires-clause-frame
+accept-incoming-requires-clause-frame g c =
     let shows = subst (λ (s : Signature). ShowsCall g.A.Abi.standard s c.requires.shows.0 c.args.machine.now) (sym c.get.ensures) c.requires.shows.1 in
     shows.frame
 
-pub accept-requires-clause-some : goal.accept-requires-clause-some
-accept-requires-clause-some g c =
+pub accept-incoming-requires-clause-some : goal.accept-incoming-requires-clause-some
+accept-incoming-requires-clause-some g c =
     let shows = subst (λ (s : Signature). ShowsCall g.A.Abi.standard s c.requires.shows.0 c.args.machine.now) (sym c.get.ensures) c.requires.shows.1 in
     (c.requires.shows.0, shows.owns)
 
-pub accept-requires-clause-events : goal.accept-requires-clause-events
-accept-requires-clause-events g c =
+pub accept-incoming-requires-clause-events : goal.accept-incoming-requires-clause-events
+accept-incoming-requires-clause-events g c =
     let two = c.requires.shows.1.events in omega (arith, two)
 
-pub accept-requires-clause-bytes : goal.accept-requires-clause-bytes
-accept-requires-clause-bytes g c =
+pub accept-incoming-requires-clause-bytes : goal.accept-incoming-requires-clause-bytes
+accept-incoming-requires-clause-bytes g c =
     let shows = subst (λ (s : Signature). ShowsCall g.A.Abi.standard s c.requires.shows.0 c.args.machine.now) (sym c.get.ensures) c.requires.shows.1 in
     let enough = shows.bytes in
     omega (arith, enough)
@@ -59,8 +58,17 @@ returns-clause-begins g c = λ p arguments output signatures needs shown holds k
     let here : (s : Signature) → s ≡ c.get.result.now → ShowsCall std s arguments m = λ s is. subst (λ (x : Signature). ShowsCall std x arguments m) (sym c.get.ensures ∙ sym is) shown in
     let shows = here (signature_at p.signatures closure.sig) same in
     let callee = e.in_callee shows.return_address shows.events in
-    served_begins p std closure arguments m m' incoming output b.table b.moves needs _ shows holds known few
+    let enough = subst (λ (s : Signature). std.link + frame_of std s + frame_of std s ≤ m.spare_bytes) same shows.bytes in
+    let is_below = subst (λ (l : List Signature). closure.sig < length l) (sym signatures) c.requires.below in
+    let call : OpenCall = record { sig = closure.sig; incoming = incoming } in
+    let P = λ (l : List (Waiting g.row.S.Denot)). IsBetween p (served_base std p.signatures closure.sig m) (served_left std p closure arguments m b.table b.moves) (served_beginning std (signature_at p.signatures closure.sig) m output) [] [] (moment_with p.signatures (Some call) (reverse l) b.table b.moves m' output a) in
+    subst P (sym c.requires.alone) (served_begins p std closure arguments m m' incoming output b.table b.moves needs is_below shows holds known few
     (subst (λ (s : Signature). m'.events ≡ m.events ++ entry_at std s m ∷ []) (sym same) e.events)
     (subst (λ (s : Signature). IsReceived std s (after_enter (std.link + frame_of std s) m) m') (sym same) e.received)
     (subst (λ (s : Signature). IsIncoming std s incoming) (sym same) e.incoming)
-    e.block _ _ _ _ _ a refl refl c.new.ensures
+    e.block
+    (subst (λ (s : Signature). m'.sp + block_bytes s + std.save ≡ m.sp) (sym same) e.sp)
+    e.within e.spare_events
+    (subst (λ (s : Signature). m'.spare_bytes + (std.link + frame_of std s) ≡ m.spare_bytes) (sym same) e.spare_bytes)
+    (subst (λ (s : Signature). IsInCallee std (record { signature = s; event = entry_at std s m }) m') (sym same) (callee enough))
+    a refl refl c.new.ensures)
