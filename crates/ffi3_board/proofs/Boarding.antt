@@ -1,5 +1,5 @@
 -- What each kind of move leads to on a board.
-use Rattle.std.proofs.Common.{◌≡◌, ℕ, suc, true, ◌+◌, ◌-◌, ◌<◌, List, [], ◌∷◌, ◌++◌, length, Option, Some, refl, sym, ap, ◌∙◌, subst, arith, reverse}
+use Rattle.std.proofs.Common.{◌≡◌, ℕ, suc, true, ◌+◌, ◌-◌, ◌<◌, ◌≤◌, List, [], ◌∷◌, ◌++◌, length, Option, Some, None, refl, sym, ap, ◌∙◌, subst, arith, reverse}
 use Rattle.std.proofs.lemmas.List.{reverse-append}
 use Rattle.ffi3_type_rules.specs.declared.limits.TheConstants.{STACK}
 use Rattle.ffi3_type_rules.specs.Signature.{Signature, signature_at}
@@ -9,7 +9,7 @@ use Rattle.ffi3_place_rules.specs.declared.Loc.{Loc}
 use Rattle.ffi3_run_rules.specs.Journal.{Entered}
 use Rattle.ffi3_board.specs.Stack.{HoldsCalls}
 use Rattle.ffi3_place_rules.specs.Event.{Event}
-use Rattle.ffi3_place_rules.specs.Standard.{Standard, block_bytes, frame_of}
+use Rattle.ffi3_place_rules.specs.Standard.{Standard, block_bytes, frame_of, need_of}
 use Rattle.ffi3_run_rules.specs.declared.Closure.{Closure}
 use Rattle.ffi3_run_rules.specs.declared.Stop.{Stop}
 use Rattle.ffi3_run_rules.specs.declared.Stop.TheVariants.{MoveLimit}
@@ -41,7 +41,7 @@ use Rattle.ffi3_board.specs.Turned.{IsEnded, WasCutOff, WentOn, Turned}
 use Rattle.ffi3_board.proofs.Blocks.{AreAbove, StaysFrom, blocks_above, acting_kept, suspended_kept}
 use Rattle.ffi3_board.proofs.Moving.{cut_between, limit_ends, limit_failed, stop_ends, stop_failed}
 use Rattle.ffi3_board.proofs.Entering.{entered, enters_on, lower}
-use Rattle.ffi3_board.proofs.Leaving.{back, returns_on, others_above}
+use Rattle.ffi3_board.proofs.Leaving.{inside_call, back, returns_on, others_above}
 
 pub reverse-last : {X : Type 0} (xs : List X) (x : X) → reverse (xs ++ x ∷ []) ≡ x ∷ reverse xs
 reverse-last xs x = reverse-append xs (x ∷ [])

@@ -1,5 +1,5 @@
 -- A call that is entered: what holds in its callee.
-use Rattle.std.proofs.Common.{◌≡◌, ℕ, ◌+◌, ◌*◌, ◌<◌, ◌≤◌, List, [], ◌∷◌, ◌++◌, length, refl, sym, ap, ◌∙◌, subst, arith, append_assoc, length-append}
+use Rattle.std.proofs.Common.{◌≡◌, ℕ, suc, ◌+◌, ◌-◌, ◌*◌, ◌<◌, ◌≤◌, max, List, [], ◌∷◌, ◌++◌, length, refl, sym, ap, ◌∙◌, subst, arith, append_assoc, length-append}
 use Rattle.ffi3_type_rules.specs.declared.limits.TheConstants.{STACK}
 use Rattle.ffi3_type_rules.specs.Signature.{Signature, signature_at}
 use Rattle.ffi3_type_rules.specs.Value.{ValueTree}
@@ -10,7 +10,7 @@ use Rattle.ffi3_run_rules.specs.Journal.{Entered, IsEntry, needs}
 use Rattle.ffi3_run_rules.specs.Meaning.{Program, Activation, enters, callee_of, effect_of, next_move, need_at}
 use Rattle.ffi3_run_rules.specs.Move.{call}
 use Rattle.ffi3_run_rules.specs.Trace.{TraceItem, Enter}
-use Rattle.ffi3_turn_rules.specs.Left.{Left, awaited}
+use Rattle.ffi3_turn_rules.specs.Left.{Left, Suspended, awaited}
 use Rattle.ffi3_turn_rules.specs.Depth.{deepest, depth_at}
 use Rattle.ffi3_turn_rules.specs.SoFar.{Base}
 use Rattle.ffi3_turn_rules.proofs.Depths.{depth_at-append}
@@ -18,6 +18,7 @@ use Rattle.ffi3_turn_rules.proofs.Coming.{comes_in, deepest_enter}
 use Rattle.ffi3_turn_rules.proofs.Opens.{opens_enter}
 use Rattle.ffi3_machine.specs.State.{State, image_of, with_room}
 use Rattle.ffi3_closures.specs.Slots.{HoldsMap}
+use Rattle.ffi3_io.specs.Sink.{SinkState}
 use Rattle.ffi3_io.proofs.Writing.{took_as}
 use Rattle.ffi3_callee.specs.declared.Incoming.{Incoming}
 use Rattle.ffi3_callee.specs.Received.{IsIncoming}

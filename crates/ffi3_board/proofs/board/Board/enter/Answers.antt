@@ -1,12 +1,16 @@
-use Rattle.std.proofs.Common.{◌≡◌, ℕ, ◌+◌, ◌<◌, ◌++◌, List, [], ◌∷◌, length, reverse, refl, sym, ap, ◌∙◌, subst}
+use Rattle.std.proofs.Common.{◌≡◌, ℕ, suc, ◌+◌, ◌<◌, ◌++◌, List, [], ◌∷◌, length, reverse, refl, sym, ap, ◌∙◌, subst, arith}
 use Rattle.ffi3_type_rules.specs.Signature.{Signature, signature_at}
+use Rattle.ffi3_place_rules.specs.Event.{Event}
 use Rattle.ffi3_place_rules.specs.Standard.{Standard, frame_of}
 use Rattle.ffi3_run_rules.specs.Move.{call}
 use Rattle.ffi3_run_rules.specs.Trace.{Enter}
 use Rattle.ffi3_machine.specs.State.{State, with_room}
+use Rattle.ffi3_callee.specs.Received.{IsIncoming}
+use Rattle.ffi3_invoke.specs.Calls.{HasBegun}
+use Rattle.ffi3_io.specs.declared.IoError.TheVariants as cut
 use Rattle.ffi3_board.specs.declared.activation.Waiting.{Waiting}
 use Rattle.ffi3_board.specs.declared.activation.Who.TheVariants.{Function}
-use Rattle.ffi3_board.specs.Between.{IsBetween, moment_with}
+use Rattle.ffi3_board.specs.Between.{IsBetween, moment, moment_with}
 use Rattle.ffi3_board.proofs.Boarding.{refused, call_entered, reverse-last}
 use Rattle.ffi3_board.proofs.Transports.{begun_as, incoming_as}
 use Rattle.ffi3_board.proofs.board.Board.enter.Goals as goal
