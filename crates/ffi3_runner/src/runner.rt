@@ -26,15 +26,13 @@ ghost use Rattle.ffi3_runner.specs.Running.{IsNew, IsPrepared, program};
 use crate::prepare::{Prepared, prepare_all};
 use crate::run::RunEnd;
 use ffi3_ask::{Native, Standing};
-use ffi3_board::{Activation, Board, Cifs, Table, Turn, Who};
-use ffi3_invoke::entered_closure;
+use ffi3_board::{Board, Cifs, Table, Turn};
 use ffi3_io::Sink;
 use ffi3_machine::Machine;
 use ffi3_place::Abi;
 use ffi3_script::Script;
 use ffi3_type_rules::limits::MOST_MOVES;
 use ffi3_types::NoMemory;
-use ffi3_values::Values;
 use std::alloc::Global;
 
 /// A run of a script beside natives, by the calling standard `A`, one move at a time.
@@ -120,13 +118,7 @@ impl<'a, A: Abi> Runner<'a, A> {
         ensures prepared { self.new.prepared ≡ self.old.prepared }
         ensures going { self.new.over ≡ self.old.over }
     {
-        let alloc = self.prepared.alloc;
-        self.board.innermost = Some(Activation {
-            who: Who::Main,
-            standing: Standing::in_main(alloc, self.prepared.script),
-            user: 0,
-            results: Values::new(alloc),
-        });
+        self.prepared.start(&mut self.board);
     }
 
     /// Does one move of the innermost activation. It is counted, and none is asked for where none
@@ -181,7 +173,7 @@ impl<'a, A: Abi> Runner<'a, A> {
         ensures prepared { self.new.prepared ≡ self.old.prepared }
         ensures over { self.new.over ≡ true }
     {
-        self.start();
+        self.prepared.start(&mut self.board);
         self.over = true;
         self.prepared.run_on(&mut self.board, machine, output)
     }
@@ -201,19 +193,7 @@ impl<'a, A: Abi> Runner<'a, A> {
         ensures going { result ≡ RunEnd.Done → self.new.over ≡ self.old.over }
         ensures over { (result ≡ RunEnd.Done → ⊥) → self.new.over ≡ true }
     {
-        let alloc = self.prepared.alloc;
-        let Some(closure) = self.board.table.find(entered_closure(machine)) else {
-            unreachable!()
-        };
-        let standing = Standing::in_function(
-            alloc,
-            self.prepared.script,
-            self.prepared.natives,
-            closure.func,
-        );
-        self.board
-            .accept_call(alloc, machine, &self.prepared.cifs, closure, standing);
-        let end = self.prepared.run_on(&mut self.board, machine, output);
+        let end = self.prepared.serve(&mut self.board, machine, output);
         if end != RunEnd::Done {
             self.over = true;
         }
