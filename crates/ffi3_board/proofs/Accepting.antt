@@ -11,6 +11,7 @@ use Rattle.ffi3_place_rules.specs.Standard.{Standard, block_bytes, frame_of, nee
 use Rattle.ffi3_run_rules.specs.declared.Closure.{Closure}
 use Rattle.ffi3_run_rules.specs.Closures.{Closures}
 use Rattle.ffi3_run_rules.specs.Journal.{Entered}
+use Rattle.ffi3_run_rules.specs.Lines.{Tracing}
 use Rattle.ffi3_run_rules.specs.Meaning.{Program, need_at, most_moves}
 use Rattle.ffi3_turn_rules.specs.Left.{Left}
 use Rattle.ffi3_turn_rules.specs.SoFar.{Base}
@@ -45,7 +46,7 @@ mark_begins : (top first sp block need mark : ℕ) → block + need ≡ top → 
 mark_begins top first sp block need mark is (inl h) = inl h
 mark_begins top first sp block need mark is (inr h) = inr (omega (arith, is, h))
 
-module _ (p : Program) (std : Standard) (closure : Closure) (arguments : List ValueTree) (m m' : State) (incoming : Incoming) (output : SinkState) (closures : Closures) (moves : ℕ) where
+module _ (p : Program) (std : Standard) (closure : Closure) (arguments : List ValueTree) (m m' : State) (incoming : Incoming) (output : SinkState) (closures : Closures) (moves : ℕ) (tracing : Tracing) where
   abbrev s : Signature
   s = signature_at p.signatures closure.sig
 
@@ -56,7 +57,7 @@ module _ (p : Program) (std : Standard) (closure : Closure) (arguments : List Va
   all = served_left std p closure arguments m closures moves
 
   abbrev first : Beginning
-  first = served_beginning std s m output
+  first = served_beginning std s m output tracing
 
   abbrev call : OpenCall
   call = record { sig = closure.sig; incoming = incoming }

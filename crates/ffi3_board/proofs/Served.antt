@@ -1,5 +1,6 @@
 -- The outermost activation returns: out of the call that is served, or as main.
-use Rattle.std.proofs.Common.{◌≡◌, ℕ, suc, true, ◌+◌, ◌-◌, ◌<◌, ◌≤◌, ◌⊎◌, inl, inr, List, [], ◌∷◌, ◌++◌, length, drop, get_or, Some, None, refl, sym, ap, ◌∙◌, subst, arith, append_assoc}
+use Rattle.std.proofs.Common.{◌≡◌, ℕ, suc, true, ◌+◌, ◌-◌, ◌<◌, ◌≤◌, ◌⊎◌, inl, inr, List, [], ◌∷◌, ◌++◌, length, take, drop, get_or, Some, None, refl, sym, ap, ◌∙◌, subst, arith, append_assoc}
+use Rattle.std.specs.Prelude.{Bool}
 use Rattle.std.proofs.lemmas.Bool.{cases_lt}
 use Rattle.std.proofs.lemmas.List.{get_or-take, get_or-drop}
 use Rattle.ffi3_type_rules.specs.declared.limits.TheConstants.{STACK}
@@ -13,6 +14,7 @@ use Rattle.ffi3_place_rules.specs.declared.Res.TheVariants.{Nothing, Direct, Hid
 use Rattle.ffi3_place_rules.specs.Event.{Event}
 use Rattle.ffi3_place_rules.specs.Standard.{Standard, block_bytes, frame_of, plan_of}
 use Rattle.ffi3_run_rules.specs.Closures.{Closures}
+use Rattle.ffi3_run_rules.specs.Lines.{leave_lines}
 use Rattle.ffi3_run_rules.specs.Journal.{Entered, IsReturn}
 use Rattle.ffi3_run_rules.specs.Meaning.{Program, ends, returned, effect_of, next_move, most_moves}
 use Rattle.ffi3_run_rules.specs.Move.{return}
@@ -20,7 +22,8 @@ use Rattle.ffi3_run_rules.specs.Trace.{TraceItem, Leave}
 use Rattle.ffi3_turn_rules.specs.Left.{Left, Bottom, as_main, served, before, only, rest, alone, awaited, awaited_below}
 use Rattle.ffi3_turn_rules.specs.Depth.{deepest, depth_at}
 use Rattle.ffi3_turn_rules.specs.Open.{open_calls}
-use Rattle.ffi3_turn_rules.specs.SoFar.{Base, open_at}
+use Rattle.ffi3_turn_rules.specs.Told.{IsTracingOf}
+use Rattle.ffi3_turn_rules.specs.SoFar.{Base, text_after, open_at}
 use Rattle.ffi3_turn_rules.proofs.Steps.{rest_leaves}
 use Rattle.ffi3_turn_rules.proofs.Depths.{ends_below}
 use Rattle.ffi3_turn_rules.proofs.Coming.{deepest_same, open_alone}
@@ -28,7 +31,10 @@ use Rattle.ffi3_turn_rules.proofs.Ending as ending
 use Rattle.ffi3_machine.specs.State.{State, image_of, stack_at}
 use Rattle.ffi3_closures.specs.Slots.{HoldsMap}
 use Rattle.ffi3_io.specs.Sink.{SinkState}
-use Rattle.ffi3_io.proofs.Writing.{took_as}
+use Rattle.ffi3_io.specs.Written.{TookText}
+use Rattle.ffi3_io.specs.declared.IoError.{IoError}
+use Rattle.ffi3_io.proofs.Adding.{Adds-then}
+use Rattle.ffi3_io.proofs.Writing.{took_then}
 use Rattle.ffi3_pieces.specs.Stored.{WroteWithin}
 use Rattle.ffi3_callee.specs.Given.{ResultWrites}
 use Rattle.ffi3_invoke.specs.Calls.{HasReturned, IsInCallee, return_at, with_journal_of}
@@ -38,13 +44,16 @@ use Rattle.ffi3_board.specs.declared.activation.Activation.{Activation}
 use Rattle.ffi3_board.specs.declared.activation.OpenCall.{OpenCall}
 use Rattle.ffi3_board.specs.declared.board.Board.{Board}
 use Rattle.ffi3_board.specs.Known.{AreKnown}
-use Rattle.ffi3_board.specs.Between.{Beginning, Moment, asking, position, text_of, depth_below, KeepsFound, IsAsking, moment_with}
+use Rattle.ffi3_board.specs.Between.{Beginning, Moment, asking, position, text_of, depth_below, IsMarkOf, KeepsFound, IsAsking, moment_with}
 use Rattle.ffi3_board.specs.Outermost.{AreEntriesOf}
 use Rattle.ffi3_board.specs.Served.{IsOutsideBuffer, HasServed, HasLeft}
 use Rattle.ffi3_board.specs.Stack.{caller_sp, IsOpen, OpenStand, HoldsCalls}
-use Rattle.ffi3_board.specs.Turned.{IsEnded, IsDone}
+use Rattle.ffi3_board.specs.TraceLines.{last_event, return_lines}
+use Rattle.ffi3_board.specs.Turned.{IsEnded, IsDone, WasCutOff, is_in_line}
+use Rattle.ffi3_board.specs.WroteLine.{LineCut}
 use Rattle.ffi3_board.proofs.Boarding.{void_is}
-use Rattle.ffi3_board.proofs.Marks.{mark_leave, text_still}
+use Rattle.ffi3_board.proofs.Marks.{mark_leave, text_then}
+use Rattle.ffi3_board.proofs.Telling.{cause_from, cut_part, last_is, return_lines_are}
 use Rattle.ffi3_board.proofs.Moving.{main_ends}
 use Rattle.ffi3_board.proofs.Opened.{in_callee, same_then_held}
 
@@ -214,35 +223,77 @@ module _ {S : Type 0} (p : Program) (base : Base) (all : Left) (first : Beginnin
             };
           }
 
-      served_ended : IsEnded p base all first (returned v) closures moves m' output
-      served_ended =
-          let h = asks.between in
-          let depth = depth_at p (depth_below p base) own in
-          let at : m.sp + depth ≡ base.top = h.deep in
+      -- the lines that tell the return, where the run is traced
+      abbrev pub told_lines : List ℕ
+      told_lines = leave_lines first.tracing (text_after p base own).calls v
+
+      pub lines_told : (trace : Bool) → IsTracingOf p base trace first.tracing → return_lines trace base.standard (signature_at p.signatures c.sig) (last_event m'.events) v ≡ told_lines
+      lines_told trace tracing =
+          let same : site ≡ signature_at p.signatures c.sig = below.is_open.signature in
+          let last : last_event m'.events ≡ leaving = ap last_event back.events ∙ last_is m.events leaving in
+          ap (λ (s : Signature). return_lines trace base.standard s (last_event m'.events) v) (sym same)
+          ∙ ap (λ (e : Event). return_lines trace base.standard site e v) last
+          ∙ return_lines_are p base all own events (position (asking x)) asks.between.come first.tracing trace tracing site below.entry [] v leaving calls_are is_return
+
+      journal_then : m'.events ≡ first.events ++ (events ++ leaving ∷ [])
+      journal_then =
+          back.events ∙ ap (λ (l : List Event). l ++ leaving ∷ []) asks.between.journal ∙ append_assoc first.events events (leaving ∷ [])
+
+      mark_then : IsMarkOf base.top first.mark (deepest p (depth_below p base) (own ++ Leave below.sig v ∷ [])) m'.mark
+      mark_then =
           let sp = back.sp in
           let w = within in
           let least = mark_least m'.sp m.mark m'.mark w.mark in
+          mark_leave base.top first.mark (deepest p (depth_below p base) own) (deepest p (depth_below p base) (own ++ Leave below.sig v ∷ [])) m.mark m.sp m'.mark (depth_at p (depth_below p base) own) asks.between.deep (ends_below p (depth_below p base) own) (omega (arith, least, sp)) (deepest_same p (depth_below p base) own (Leave below.sig v) (omega arith)) asks.between.mark
+
+      holds_then : HoldsMap base.standard.target closures m'.code
+      holds_then =
+          subst (λ (code : List ℕ). HoldsMap base.standard.target closures code) (sym within.code) asks.between.holds
+
+      served_ended : (output' : SinkState) → TookText told_lines output output' → IsEnded p base all first (returned v) closures moves m' output'
+      served_ended output' told =
+          let h = asks.between in
+          let M = λ (l : List TraceItem). IsMarkOf base.top first.mark (deepest p (depth_below p base) l) m'.mark in
           record {
             events = events ++ leaving ∷ [];
             over = ending.served_ends p base all own events x.innermost closures moves v h.come does below.sig below.entry leaving below.serving below.first is_return;
-            journal = back.events ∙ ap (λ (l : List Event). l ++ leaving ∷ []) h.journal ∙ append_assoc first.events events (leaving ∷ []);
-            written = took_as first.output output (text_of p base own) (text_of p base all.trace) (text_still p base own (Leave below.sig v) refl ∙ ap (text_of p base) (sym trace_is)) h.written;
-            mark = mark_leave base.top first.mark (deepest p (depth_below p base) own) (deepest p (depth_below p base) all.trace) m.mark m.sp m'.mark depth at (ends_below p (depth_below p base) own) (omega (arith, least, sp)) (ap (deepest p (depth_below p base)) trace_is ∙ deepest_same p (depth_below p base) own (Leave below.sig v) (omega arith)) h.mark;
-            target = w.target ∙ h.calls.target;
+            journal = journal_then;
+            written = took_then first.output output output' (text_of first.tracing p base own) told_lines (text_of first.tracing p base all.trace) (ap (text_of first.tracing p base) trace_is ∙ text_then first.tracing p base own (Leave below.sig v)) h.written told;
+            mark = subst M (sym trace_is) mark_then;
+            target = within.target ∙ h.calls.target;
             reserved = same_then_held base.standard.reserved (image_of 0 m) (image_of 0 m') base.held back.reserved h.calls.reserved;
-            holds = subst (λ (code : List ℕ). HoldsMap base.standard.target closures code) (sym w.code) h.holds;
+            holds = holds_then;
           }
 
-      -- THE SERVED CALL RETURNS
-      pub served_returns : Returns p base all first closures moves output v m'
-      served_returns =
+      -- THE SERVED CALL RETURNS, once the return is told
+      pub served_returns : (output' : SinkState) → TookText told_lines output output' → Returns p base all first closures moves output' v m'
+      served_returns output' told =
           let few : length current.results + suc moves ≤ most_moves = asks.between.few in
           let P = λ (l : List Event). HasLeft p base first (served below.sig) l v m' in
           record {
-            ended = served_ended;
+            ended = served_ended output' told;
             left = subst (λ (b : Bottom). HasLeft p base first b base.entries v m') (sym below.serving) (subst P (sym below.first) call_served);
             known = asks.between.known;
             few = omega (arith, few);
+          }
+
+      -- or the run is cut off there, in those lines or before them
+      pub served_cut : (why : IoError) (output' : SinkState) → LineCut told_lines output output' why → WasCutOff p base all first why m' output'
+      served_cut why output' cut_off =
+          let h = asks.between in
+          let part = cut_part why told_lines output output' cut_off in
+          record {
+            happened = own ++ Leave below.sig v ∷ [];
+            events = events ++ leaving ∷ [];
+            text = text_of first.tracing p base own ++ take part.0 told_lines;
+            cut = ending.cut_in_served_return p base all own events x.innermost closures moves v h.come does below.sig below.entry leaving below.serving below.first is_return (is_in_line why) first.tracing part.0 part.1;
+            journal = journal_then;
+            written = Adds-then first.output.taken output.taken output'.taken (text_of first.tracing p base own) (take part.0 told_lines) h.written.added part.2;
+            cause = cause_from why first.output.faults output.faults output'.faults h.written.count part.3;
+            mark = mark_then;
+            target = within.target ∙ h.calls.target;
+            closures = closures;
+            holds = holds_then;
           }
 
 -- THE RUN IS DONE, on a board that has none of the activations

@@ -13,6 +13,7 @@ use Rattle.ffi3_place_rules.specs.Standard.{Standard, block_bytes, frame_of, pla
 use Rattle.ffi3_run_rules.specs.declared.Closure.{Closure}
 use Rattle.ffi3_run_rules.specs.Closures.{Closures}
 use Rattle.ffi3_run_rules.specs.Journal.{Entered, IsReturn}
+use Rattle.ffi3_run_rules.specs.Lines.{Tracing}
 use Rattle.ffi3_run_rules.specs.Meaning as meaning
 use Rattle.ffi3_run_rules.specs.Meaning.{Program, function, most_moves}
 use Rattle.ffi3_turn_rules.specs.Left.{Left, Bottom, as_main, served, rest, alone}
@@ -52,15 +53,16 @@ served_base std signatures sig m = record {
   entries = entry_at std (signature_at signatures sig) m ∷ [];
 }
 
--- and what it found: its entry is in the journal, and the room there for its entry and its return is its own
-abbrev pub served_beginning : Standard → Signature → State → SinkState → Beginning
-served_beginning std s m output = record {
+-- and what it found: its entry is in the journal, the room there for its entry and its return is its own, and it is traced so
+abbrev pub served_beginning : Standard → Signature → State → SinkState → Tracing → Beginning
+served_beginning std s m output tracing = record {
   events = m.events ++ entry_at std s m ∷ [];
   mark = m.mark;
   output = output;
   stack = m.stack;
   spare_events = m.spare_events - 2;
   spare_bytes = m.spare_bytes - (std.link + frame_of std s + frame_of std s);
+  tracing = tracing;
 }
 
 -- the activation of the closure's function, with the stack below its block

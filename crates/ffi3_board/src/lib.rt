@@ -13,6 +13,7 @@ mod making;
 mod printing;
 mod serving;
 mod stopping;
+mod tracing;
 
 pub use activation::{Activation, OpenCall, Waiting, Who};
 pub use board::{Board, Turn};

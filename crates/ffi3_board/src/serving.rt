@@ -1,5 +1,5 @@
 //! A call that is served: accepted from what a machine shows at an entry, and left.
-ghost use Rattle.std.specs.Prelude.{◌≡◌, ℕ, ◌<◌, ◌≤◌, List, None, Some, [], length, true};
+ghost use Rattle.std.specs.Prelude.{◌≡◌, ℕ, ◌<◌, ◌≤◌, List, None, Some, [], length, suc, true};
 ghost use Rattle.ffi3_type_rules.specs.Signature.{signature_at};
 ghost use Rattle.ffi3_type_rules.specs.Value.{ValueTree, fits};
 ghost use Rattle.ffi3_values.specs.ValueOf.{value_of};
@@ -19,10 +19,14 @@ ghost use Rattle.ffi3_board.specs.Known.{AreKnown};
 ghost use Rattle.ffi3_board.specs.Path.{calls_below, result_type_at};
 ghost use Rattle.ffi3_board.specs.Served.{HasAccepted, ShowsCall, served_base, served_beginning, served_left};
 ghost use Rattle.ffi3_board.specs.Stack.{HoldsCalls};
-ghost use Rattle.ffi3_board.specs.Turned.{IsDone, StandsAt};
+ghost use Rattle.ffi3_board.specs.Turned.{StandsAt, Turned};
+ghost use Rattle.ffi3_run_rules.specs.Lines.{Tracing};
+ghost use Rattle.ffi3_turn_rules.specs.Told.{IsTracingOf};
 
-use crate::{Activation, Board, Cifs, OpenCall, Who};
+use crate::tracing::tell_return;
+use crate::{Activation, Board, Cifs, OpenCall, Turn, Who};
 use ffi3_invoke::{accept, give_back};
+use ffi3_io::Sink;
 use ffi3_machine::Machine;
 use ffi3_place::Abi;
 use ffi3_run_rules::Closure;
@@ -44,13 +48,13 @@ impl<S: Drop> Board<S> {
         requires shows { (arguments : List ValueTree) × ShowsCall A.standard (signature_at cifs.now closure.sig) arguments machine.old }
         requires alone { self.old.suspended.items ≡ [] }
         ensures accepted { HasAccepted closure standing self.old self.new }
-        ensures begins { (p : Program) (arguments : List ValueTree) (output : SinkState) →
+        ensures begins { (p : Program) (arguments : List ValueTree) (output : SinkState) (tracing : Tracing) →
             p.signatures ≡ cifs.now → p.need ≡ need_of A.standard →
             ShowsCall A.standard (signature_at cifs.now closure.sig) arguments machine.old →
             HoldsMap machine.old.target self.old.table machine.old.code → AreKnown p self.old.table → self.old.moves ≤ most_moves →
             StandsAt p (served_base A.standard p.signatures closure.sig machine.old)
             (served_left A.standard p closure arguments machine.old self.old.table self.old.moves)
-            (served_beginning A.standard (signature_at p.signatures closure.sig) machine.old output) [] [] self.new machine.new output }
+            (served_beginning A.standard (signature_at p.signatures closure.sig) machine.old output tracing) [] [] self.new machine.new output }
     {
         let sig = closure.sig;
         let incoming = accept(machine, cifs.get(sig));
@@ -64,20 +68,35 @@ impl<S: Drop> Board<S> {
     }
 
     /// Returns from the outermost activation, once it was taken from the board: out of the call that
-    /// it answers to, or, where that is none, as main.
-    pub(crate) fn leave_run<A: Abi>(&mut self, machine: &mut Machine, cifs: &Cifs<A>, value: &Value)
+    /// it answers to, or, where that is none, as main. Where the run is traced, the return is told.
+    pub(crate) fn leave_run<A: Abi, O: Sink>(
+        &mut self,
+        alloc: Global,
+        machine: &mut Machine,
+        output: &mut O,
+        cifs: &Cifs<A>,
+        value: &Value,
+        trace: bool,
+    ) -> Turn
         requires taken { self.old.innermost ≡ None }
         requires alone { self.old.suspended.items ≡ [] }
         requires stand { (held : Loc → ℕ) × (top : ℕ) × (entered : List Entered) ×
             HoldsCalls A.standard cifs.now held top machine.old (calls_below self.old.served) entered }
         requires fits { fits (result_type_at cifs.now self.old.served) (value_of value.now) ≡ true }
-        ensures { (p : Program) (base : Base) (all : Left) (first : Beginning) (own : List TraceItem) (events : List Event) (output : SinkState) (current : Activation S) →
-            base.standard ≡ A.standard → p.signatures ≡ cifs.now →
-            IsAsking p base all first own events (moment p.signatures current self.old machine.old output) (asks.return (value_of value.now)) →
-            IsDone p base all first self.new machine.new output }
+        ensures over { result ≡ Turn.More → ⊥ }
+        ensures turned { (p : Program) (base : Base) (all : Left) (first : Beginning) (own : List TraceItem) (events : List Event) (current : Activation S) →
+            base.standard ≡ A.standard → p.signatures ≡ cifs.now → IsTracingOf p base trace first.tracing →
+            IsAsking p base all first own events (moment p.signatures current self.old machine.old (O.state output.old)) (asks.return (value_of value.now)) →
+            Turned p base all first own (suc self.old.moves) self.new machine.new (O.state output.new) result }
     {
-        if let Some(OpenCall { sig, incoming }) = self.served.take() {
-            give_back(machine, cifs.get(sig), incoming, value);
+        let Some(OpenCall { sig, incoming }) = self.served.take() else {
+            return Turn::Done;
+        };
+        let cif = cifs.get(sig);
+        give_back(machine, cif, incoming, value);
+        match tell_return(alloc, machine, output, cif, value, trace) {
+            Ok(()) => Turn::Done,
+            Err(why) => Turn::cut_off(why),
         }
     }
 }

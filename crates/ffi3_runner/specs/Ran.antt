@@ -1,11 +1,12 @@
 -- How a run ended.
-use Rattle.std.specs.Prelude.{◌≡◌, List}
+use Rattle.std.specs.Prelude.{◌≡◌, Bool, List}
 use Rattle.ffi3_place_rules.specs.Event.{Event}
 use Rattle.ffi3_place_rules.specs.Standard.{Standard}
 use Rattle.ffi3_run_rules.specs.Trace.{TraceItem}
 use Rattle.ffi3_run_rules.specs.Meaning.{Program, stopped}
 use Rattle.ffi3_turn_rules.specs.Left.{Left}
 use Rattle.ffi3_turn_rules.specs.SoFar.{Base}
+use Rattle.ffi3_turn_rules.specs.Told.{IsTracingOf}
 use Rattle.ffi3_machine.specs.State.{State}
 use Rattle.ffi3_io.specs.Sink.{SinkState}
 use Rattle.ffi3_io.specs.declared.IoError.TheVariants as cut
@@ -23,7 +24,7 @@ Ran p base all first b m output (run.Stopped stop) = IsEnded p base all first (s
 Ran p base all first b m output run.NoMemory = WasCutOff p base all first cut.NoMemory m output
 Ran p base all first b m output run.Failed = WasCutOff p base all first cut.Failed m output
 
--- A RUN COMES FROM one moment to another: where it stands at the first it stands at the second, with more done.
-abbrev pub ComesTo : Standard → Program → Board Standing → State → SinkState → Board Standing → State → SinkState → Type 0
-ComesTo std p b m output b' m' output' =
-    (base : Base) (all : Left) (first : Beginning) (own : List TraceItem) (events : List Event) → base.standard ≡ std → StandsAt p base all first own events b m output → (own' : List TraceItem) × (events' : List Event) × StandsAt p base all first own' events' b' m' output'
+-- A RUN OF MAIN, traced or not, COMES FROM one moment to another: where it stands at the first it stands at the second, with more done.
+abbrev pub ComesTo : Standard → (trace : Bool) → Program → Board Standing → State → SinkState → Board Standing → State → SinkState → Type 0
+ComesTo std trace p b m output b' m' output' =
+    (base : Base) (all : Left) (first : Beginning) (own : List TraceItem) (events : List Event) → base.standard ≡ std → IsTracingOf p base trace first.tracing → StandsAt p base all first own events b m output → (own' : List TraceItem) × (events' : List Event) × StandsAt p base all first own' events' b' m' output'

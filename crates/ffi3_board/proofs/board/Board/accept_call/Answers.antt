@@ -45,7 +45,7 @@ accept-incoming-requires-clause-bytes g c =
     omega (arith, enough)
 
 pub returns-clause-begins : goal.returns-clause-begins
-returns-clause-begins g c = λ p arguments output signatures needs shown holds known few.
+returns-clause-begins g c = λ p arguments output tracing signatures needs shown holds known few.
     let std = g.A.Abi.standard in
     let b = c.args.self.now in
     let m = c.args.machine.now in
@@ -61,8 +61,8 @@ returns-clause-begins g c = λ p arguments output signatures needs shown holds k
     let enough = subst (λ (s : Signature). std.link + frame_of std s + frame_of std s ≤ m.spare_bytes) same shows.bytes in
     let is_below = subst (λ (l : List Signature). closure.sig < length l) (sym signatures) c.requires.below in
     let call : OpenCall = record { sig = closure.sig; incoming = incoming } in
-    let P = λ (l : List (Waiting g.row.S.Denot)). IsBetween p (served_base std p.signatures closure.sig m) (served_left std p closure arguments m b.table b.moves) (served_beginning std (signature_at p.signatures closure.sig) m output) [] [] (moment_with p.signatures (Some call) (reverse l) b.table b.moves m' output a) in
-    subst P (sym c.requires.alone) (served_begins p std closure arguments m m' incoming output b.table b.moves needs is_below shows holds known few
+    let P = λ (l : List (Waiting g.row.S.Denot)). IsBetween p (served_base std p.signatures closure.sig m) (served_left std p closure arguments m b.table b.moves) (served_beginning std (signature_at p.signatures closure.sig) m output tracing) [] [] (moment_with p.signatures (Some call) (reverse l) b.table b.moves m' output a) in
+    subst P (sym c.requires.alone) (served_begins p std closure arguments m m' incoming output b.table b.moves tracing needs is_below shows holds known few
     (subst (λ (s : Signature). m'.events ≡ m.events ++ entry_at std s m ∷ []) (sym same) e.events)
     (subst (λ (s : Signature). IsReceived std s (after_enter (std.link + frame_of std s) m) m') (sym same) e.received)
     (subst (λ (s : Signature). IsIncoming std s incoming) (sym same) e.incoming)

@@ -12,7 +12,7 @@ returns-clause-standing g c = λ m.
     main_stands c.args.self.now.script.now _ c.args.self.now.cifs m b c.requires.new a refl c.new.ensures c.in_main.ensures.who (c.in_main.ensures.agrees _)
 
 pub returns-clause-between : goal.returns-clause-between
-returns-clause-between g c = λ m o begins.
+returns-clause-between g c = λ trace m o begins.
     let b = c.args.board.now in
     let a : Activation Standing = record { who = Main; standing = c.in_main.result; user = 0; results = c.new.result } in
-    starts_here g.A.Abi.standard c.args.self.now.script.now _ c.args.self.now.cifs c.requires.prepared g.met.A.Abi.agrees _ g.met.A.Abi.target_is m.spare_events m.spare_bytes m begins o b c.requires.new a refl refl c.new.ensures
+    starts_here g.A.Abi.standard c.args.self.now.script.now _ c.args.self.now.cifs c.requires.prepared g.met.A.Abi.agrees _ g.met.A.Abi.target_is m.spare_events m.spare_bytes m begins o b c.requires.new a refl refl c.new.ensures trace

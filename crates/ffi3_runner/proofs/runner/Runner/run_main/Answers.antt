@@ -1,4 +1,4 @@
-use Rattle.ffi3_runner.proofs.Ending.{ran_done, ran_failed, ran_left, ran_never_falls, ran_no_memory, ran_part, ran_returned, ran_stopped, ran_stops}
+use Rattle.ffi3_runner.proofs.Ending.{ran_cut_by_memory, ran_cut_by_write, ran_done, ran_failed, ran_left, ran_never_falls, ran_no_memory, ran_part, ran_returned, ran_stopped, ran_stops}
 use Rattle.ffi3_runner.proofs.Main.{main_ran, start_between}
 use Rattle.ffi3_runner.proofs.runner.Runner.run_main.Goals as goal
 
@@ -9,7 +9,7 @@ pub run_on-requires-clause-between : goal.run_on-requires-clause-between
 run_on-requires-clause-between g c =
     let m = c.args.machine.now in
     let o = g.O.Sink.state c.args.output.now in
-    start_between g.A.Abi.standard c.args.self.now.prepared.script.now _ m o c.start.new.board (c.start.ensures.between m o c.requires.begun)
+    start_between g.A.Abi.standard c.args.self.now.prepared.script.now _ c.args.trace m o c.start.new.board (c.start.ensures.between c.args.trace m o c.requires.begun)
 
 pub returns-clause-done : goal.returns-clause-done
 returns-clause-done g c =
@@ -17,8 +17,8 @@ returns-clause-done g c =
     let m = c.args.machine.now in
     let o = g.O.Sink.state c.args.output.now in
     let o' = g.O.Sink.state c.run_on.new.output in
-    let ran = main_ran std c.args.self.now.prepared.script.now _ m o c.start.new.board (c.start.ensures.between m o c.requires.begun) c.run_on.new.board c.run_on.new.machine o' c.run_on.result c.run_on.ensures in
-    ran_done _ std c.run_on.new.board c.run_on.new.machine o o' c.run_on.result ran
+    let ran = main_ran std c.args.self.now.prepared.script.now _ c.args.trace m o c.start.new.board (c.start.ensures.between c.args.trace m o c.requires.begun) c.run_on.new.board c.run_on.new.machine o' c.run_on.result c.run_on.ensures in
+    ran_done _ std c.args.trace c.run_on.new.board c.run_on.new.machine o o' c.run_on.result ran
 
 pub returns-clause-returns : goal.returns-clause-returns
 returns-clause-returns g c =
@@ -26,8 +26,8 @@ returns-clause-returns g c =
     let m = c.args.machine.now in
     let o = g.O.Sink.state c.args.output.now in
     let o' = g.O.Sink.state c.run_on.new.output in
-    let ran = main_ran std c.args.self.now.prepared.script.now _ m o c.start.new.board (c.start.ensures.between m o c.requires.begun) c.run_on.new.board c.run_on.new.machine o' c.run_on.result c.run_on.ensures in
-    ran_returned _ std c.run_on.new.board c.run_on.new.machine o o' c.run_on.result ran
+    let ran = main_ran std c.args.self.now.prepared.script.now _ c.args.trace m o c.start.new.board (c.start.ensures.between c.args.trace m o c.requires.begun) c.run_on.new.board c.run_on.new.machine o' c.run_on.result c.run_on.ensures in
+    ran_returned _ std c.args.trace c.run_on.new.board c.run_on.new.machine o o' c.run_on.result ran
 
 pub returns-clause-stopped : goal.returns-clause-stopped
 returns-clause-stopped g c =
@@ -35,8 +35,8 @@ returns-clause-stopped g c =
     let m = c.args.machine.now in
     let o = g.O.Sink.state c.args.output.now in
     let o' = g.O.Sink.state c.run_on.new.output in
-    let ran = main_ran std c.args.self.now.prepared.script.now _ m o c.start.new.board (c.start.ensures.between m o c.requires.begun) c.run_on.new.board c.run_on.new.machine o' c.run_on.result c.run_on.ensures in
-    ran_stopped _ std c.run_on.new.board c.run_on.new.machine o o' c.run_on.result ran
+    let ran = main_ran std c.args.self.now.prepared.script.now _ c.args.trace m o c.start.new.board (c.start.ensures.between c.args.trace m o c.requires.begun) c.run_on.new.board c.run_on.new.machine o' c.run_on.result c.run_on.ensures in
+    ran_stopped _ std c.args.trace c.run_on.new.board c.run_on.new.machine o o' c.run_on.result ran
 
 pub returns-clause-stops : goal.returns-clause-stops
 returns-clause-stops g c =
@@ -44,8 +44,8 @@ returns-clause-stops g c =
     let m = c.args.machine.now in
     let o = g.O.Sink.state c.args.output.now in
     let o' = g.O.Sink.state c.run_on.new.output in
-    let ran = main_ran std c.args.self.now.prepared.script.now _ m o c.start.new.board (c.start.ensures.between m o c.requires.begun) c.run_on.new.board c.run_on.new.machine o' c.run_on.result c.run_on.ensures in
-    ran_stops _ std c.run_on.new.board c.run_on.new.machine o o' c.run_on.result ran
+    let ran = main_ran std c.args.self.now.prepared.script.now _ c.args.trace m o c.start.new.board (c.start.ensures.between c.args.trace m o c.requires.begun) c.run_on.new.board c.run_on.new.machine o' c.run_on.result c.run_on.ensures in
+    ran_stops _ std c.args.trace c.run_on.new.board c.run_on.new.machine o o' c.run_on.result ran
 
 pub returns-clause-no_memory : goal.returns-clause-no_memory
 returns-clause-no_memory g c =
@@ -53,8 +53,8 @@ returns-clause-no_memory g c =
     let m = c.args.machine.now in
     let o = g.O.Sink.state c.args.output.now in
     let o' = g.O.Sink.state c.run_on.new.output in
-    let ran = main_ran std c.args.self.now.prepared.script.now _ m o c.start.new.board (c.start.ensures.between m o c.requires.begun) c.run_on.new.board c.run_on.new.machine o' c.run_on.result c.run_on.ensures in
-    ran_no_memory _ std c.run_on.new.board c.run_on.new.machine o o' c.run_on.result ran
+    let ran = main_ran std c.args.self.now.prepared.script.now _ c.args.trace m o c.start.new.board (c.start.ensures.between c.args.trace m o c.requires.begun) c.run_on.new.board c.run_on.new.machine o' c.run_on.result c.run_on.ensures in
+    ran_no_memory _ std c.args.trace c.run_on.new.board c.run_on.new.machine o o' c.run_on.result ran
 
 pub returns-clause-failed : goal.returns-clause-failed
 returns-clause-failed g c =
@@ -62,8 +62,26 @@ returns-clause-failed g c =
     let m = c.args.machine.now in
     let o = g.O.Sink.state c.args.output.now in
     let o' = g.O.Sink.state c.run_on.new.output in
-    let ran = main_ran std c.args.self.now.prepared.script.now _ m o c.start.new.board (c.start.ensures.between m o c.requires.begun) c.run_on.new.board c.run_on.new.machine o' c.run_on.result c.run_on.ensures in
-    ran_failed _ std c.run_on.new.board c.run_on.new.machine o o' c.run_on.result ran
+    let ran = main_ran std c.args.self.now.prepared.script.now _ c.args.trace m o c.start.new.board (c.start.ensures.between c.args.trace m o c.requires.begun) c.run_on.new.board c.run_on.new.machine o' c.run_on.result c.run_on.ensures in
+    ran_failed _ std c.args.trace c.run_on.new.board c.run_on.new.machine o o' c.run_on.result ran
+
+pub returns-clause-cut_by_memory : goal.returns-clause-cut_by_memory
+returns-clause-cut_by_memory g c =
+    let std = g.A.Abi.standard in
+    let m = c.args.machine.now in
+    let o = g.O.Sink.state c.args.output.now in
+    let o' = g.O.Sink.state c.run_on.new.output in
+    let ran = main_ran std c.args.self.now.prepared.script.now _ c.args.trace m o c.start.new.board (c.start.ensures.between c.args.trace m o c.requires.begun) c.run_on.new.board c.run_on.new.machine o' c.run_on.result c.run_on.ensures in
+    ran_cut_by_memory _ std c.args.trace c.run_on.new.board c.run_on.new.machine o o' c.run_on.result ran
+
+pub returns-clause-cut_by_write : goal.returns-clause-cut_by_write
+returns-clause-cut_by_write g c =
+    let std = g.A.Abi.standard in
+    let m = c.args.machine.now in
+    let o = g.O.Sink.state c.args.output.now in
+    let o' = g.O.Sink.state c.run_on.new.output in
+    let ran = main_ran std c.args.self.now.prepared.script.now _ c.args.trace m o c.start.new.board (c.start.ensures.between c.args.trace m o c.requires.begun) c.run_on.new.board c.run_on.new.machine o' c.run_on.result c.run_on.ensures in
+    ran_cut_by_write _ std c.args.trace c.run_on.new.board c.run_on.new.machine o o' c.run_on.result ran
 
 pub returns-clause-never_falls : goal.returns-clause-never_falls
 returns-clause-never_falls g c =
@@ -71,8 +89,8 @@ returns-clause-never_falls g c =
     let m = c.args.machine.now in
     let o = g.O.Sink.state c.args.output.now in
     let o' = g.O.Sink.state c.run_on.new.output in
-    let ran = main_ran std c.args.self.now.prepared.script.now _ m o c.start.new.board (c.start.ensures.between m o c.requires.begun) c.run_on.new.board c.run_on.new.machine o' c.run_on.result c.run_on.ensures in
-    ran_never_falls _ std c.run_on.new.board c.run_on.new.machine o o' c.run_on.result ran
+    let ran = main_ran std c.args.self.now.prepared.script.now _ c.args.trace m o c.start.new.board (c.start.ensures.between c.args.trace m o c.requires.begun) c.run_on.new.board c.run_on.new.machine o' c.run_on.result c.run_on.ensures in
+    ran_never_falls _ std c.args.trace c.run_on.new.board c.run_on.new.machine o o' c.run_on.result ran
 
 pub returns-clause-part : goal.returns-clause-part
 returns-clause-part g c =
@@ -80,8 +98,8 @@ returns-clause-part g c =
     let m = c.args.machine.now in
     let o = g.O.Sink.state c.args.output.now in
     let o' = g.O.Sink.state c.run_on.new.output in
-    let ran = main_ran std c.args.self.now.prepared.script.now _ m o c.start.new.board (c.start.ensures.between m o c.requires.begun) c.run_on.new.board c.run_on.new.machine o' c.run_on.result c.run_on.ensures in
-    ran_part _ std c.run_on.new.board c.run_on.new.machine o o' c.run_on.result ran
+    let ran = main_ran std c.args.self.now.prepared.script.now _ c.args.trace m o c.start.new.board (c.start.ensures.between c.args.trace m o c.requires.begun) c.run_on.new.board c.run_on.new.machine o' c.run_on.result c.run_on.ensures in
+    ran_part _ std c.args.trace c.run_on.new.board c.run_on.new.machine o o' c.run_on.result ran
 
 pub returns-clause-left : goal.returns-clause-left
 returns-clause-left g c =
@@ -89,5 +107,5 @@ returns-clause-left g c =
     let m = c.args.machine.now in
     let o = g.O.Sink.state c.args.output.now in
     let o' = g.O.Sink.state c.run_on.new.output in
-    let ran = main_ran std c.args.self.now.prepared.script.now _ m o c.start.new.board (c.start.ensures.between m o c.requires.begun) c.run_on.new.board c.run_on.new.machine o' c.run_on.result c.run_on.ensures in
-    ran_left _ std c.run_on.new.board c.run_on.new.machine o o' c.run_on.result ran
+    let ran = main_ran std c.args.self.now.prepared.script.now _ c.args.trace m o c.start.new.board (c.start.ensures.between c.args.trace m o c.requires.begun) c.run_on.new.board c.run_on.new.machine o' c.run_on.result c.run_on.ensures in
+    ran_left _ std c.args.trace c.run_on.new.board c.run_on.new.machine o o' c.run_on.result ran
