@@ -12,5 +12,5 @@ mod Leaving
 pub mod Boarding
 mod Made
 mod Served
-mod Accepting
+pub mod Accepting
 mod Transports

@@ -9,3 +9,4 @@ pub mod Outermost
 pub mod Between
 pub mod Served
 pub mod Turned
+pub mod Accepted

@@ -1,19 +1,21 @@
 -- A call that is served: what a machine shows of it at its entry, what its run begins with, and what it leaves.
-use Rattle.std.specs.Prelude.{◌≡◌, ℕ, ◌+◌, ◌-◌, ◌<◌, ◌≤◌, ◌⊎◌, ⊤, List, [], ◌∷◌, ◌++◌, length, get_or, Some, None}
+use Rattle.std.specs.Prelude.{◌≡◌, ℕ, ◌+◌, ◌-◌, ◌<◌, ◌≤◌, ◌⊎◌, ⊤, Bool, true, false, if◌then◌else◌, nat_lt, List, [], ◌∷◌, ◌++◌, length, get_or, Some, None}
 use Rattle.ffi3_type_rules.specs.declared.limits.TheConstants.{ENTRY, RETURN, STACK, STACK_TOP}
 use Rattle.ffi3_type_rules.specs.Tree.{Tree}
 use Rattle.ffi3_type_rules.specs.Layout.{size_of}
 use Rattle.ffi3_type_rules.specs.Signature.{Signature, signature_at}
 use Rattle.ffi3_type_rules.specs.Value.{ValueTree, void_value}
+use Rattle.ffi3_place_rules.specs.declared.Loc.{Loc}
 use Rattle.ffi3_place_rules.specs.declared.Res.{Res}
 use Rattle.ffi3_place_rules.specs.declared.Res.TheVariants.{Nothing, Direct, Hidden}
 use Rattle.ffi3_place_rules.specs.Event.{Event}
 use Rattle.ffi3_place_rules.specs.Image.{register}
+use Rattle.ffi3_place_rules.specs.Isa.{scribble}
 use Rattle.ffi3_place_rules.specs.Standard.{Standard, block_bytes, frame_of, plan_of}
 use Rattle.ffi3_run_rules.specs.declared.Closure.{Closure}
 use Rattle.ffi3_run_rules.specs.Closures.{Closures}
 use Rattle.ffi3_run_rules.specs.Journal.{Entered, IsReturn}
-use Rattle.ffi3_run_rules.specs.Lines.{Tracing}
+use Rattle.ffi3_run_rules.specs.Lines.{Tracing, untraced, traced}
 use Rattle.ffi3_run_rules.specs.Meaning as meaning
 use Rattle.ffi3_run_rules.specs.Meaning.{Program, function, most_moves}
 use Rattle.ffi3_turn_rules.specs.Left.{Left, Bottom, as_main, served, rest, alone}
@@ -64,6 +66,16 @@ served_beginning std s m output tracing = record {
   spare_bytes = m.spare_bytes - (std.link + frame_of std s + frame_of std s);
   tracing = tracing;
 }
+
+-- what callers leave in a preserved register, by the number of an entry: of the served call what its entry shows, and later what `scribble` leaves
+abbrev pub served_leaves : Event → ℕ → ℕ → Loc → ℕ
+served_leaves entry count n at =
+    if nat_lt n count then register entry.image at else scribble n at
+
+-- how its run is traced: not at all; or by its standard, from the top of its part of the stack
+abbrev pub served_tracing : (trace : Bool) → Standard → List Signature → ℕ → State → Tracing
+served_tracing false std signatures sig m = untraced
+served_tracing true std signatures sig m = traced std (m.sp + std.link + frame_of std (signature_at signatures sig)) (served_leaves (entry_at std (signature_at signatures sig) m) (length m.events + 1))
 
 -- the activation of the closure's function, with the stack below its block
 abbrev pub served_activation : Standard → List Signature → Closure → List ValueTree → State → meaning.Activation

@@ -1,5 +1,5 @@
 //! A call that is served: accepted from what a machine shows at an entry, and left.
-ghost use Rattle.std.specs.Prelude.{◌≡◌, ℕ, ◌<◌, ◌≤◌, List, None, Some, [], length, suc, true};
+ghost use Rattle.std.specs.Prelude.{◌≡◌, ℕ, ◌<◌, ◌≤◌, List, None, OnOk, Some, [], length, suc, true};
 ghost use Rattle.ffi3_type_rules.specs.Signature.{signature_at};
 ghost use Rattle.ffi3_type_rules.specs.Value.{ValueTree, fits};
 ghost use Rattle.ffi3_values.specs.ValueOf.{value_of};
@@ -13,20 +13,19 @@ ghost use Rattle.ffi3_run_rules.specs.Trace.{TraceItem};
 ghost use Rattle.ffi3_turn_rules.specs.Left.{Left};
 ghost use Rattle.ffi3_turn_rules.specs.SoFar.{Base};
 ghost use Rattle.ffi3_closures.specs.Slots.{HoldsMap};
-ghost use Rattle.ffi3_io.specs.Sink.{SinkState};
+ghost use Rattle.ffi3_board.specs.Accepted.{Accepted};
 ghost use Rattle.ffi3_board.specs.Between.{Beginning, IsAsking, moment};
 ghost use Rattle.ffi3_board.specs.Known.{AreKnown};
 ghost use Rattle.ffi3_board.specs.Path.{calls_below, result_type_at};
-ghost use Rattle.ffi3_board.specs.Served.{HasAccepted, ShowsCall, served_base, served_beginning, served_left};
+ghost use Rattle.ffi3_board.specs.Served.{HasAccepted, ShowsCall};
 ghost use Rattle.ffi3_board.specs.Stack.{HoldsCalls};
-ghost use Rattle.ffi3_board.specs.Turned.{StandsAt, Turned};
-ghost use Rattle.ffi3_run_rules.specs.Lines.{Tracing};
+ghost use Rattle.ffi3_board.specs.Turned.{Turned};
 ghost use Rattle.ffi3_turn_rules.specs.Told.{IsTracingOf};
 
-use crate::tracing::tell_return;
+use crate::tracing::{tell_entry, tell_return};
 use crate::{Activation, Board, Cifs, OpenCall, Turn, Who};
 use ffi3_invoke::{accept, give_back};
-use ffi3_io::Sink;
+use ffi3_io::{IoError, Sink};
 use ffi3_machine::Machine;
 use ffi3_place::Abi;
 use ffi3_run_rules::Closure;
@@ -35,29 +34,34 @@ use std::alloc::Global;
 
 impl<S: Drop> Board<S> {
     /// Accepts the call of a closure that the machine shows at its entry: the activation of the
-    /// closure's function, which stands here before its first move, is then the only one.
-    pub fn accept_call<A: Abi>(
+    /// closure's function, which stands here before its first move, is then the only one. Where the
+    /// run is traced, the entry is told.
+    pub fn accept_call<A: Abi, O: Sink>(
         &mut self,
         alloc: Global,
         machine: &mut Machine,
+        output: &mut O,
         cifs: &Cifs<A>,
         closure: Closure,
         standing: S,
-    )
+        trace: bool,
+    ) -> Result<(), IoError>
         requires below { closure.sig < length cifs.now }
         requires shows { (arguments : List ValueTree) × ShowsCall A.standard (signature_at cifs.now closure.sig) arguments machine.old }
         requires alone { self.old.suspended.items ≡ [] }
-        ensures accepted { HasAccepted closure standing self.old self.new }
-        ensures begins { (p : Program) (arguments : List ValueTree) (output : SinkState) (tracing : Tracing) →
+        ensures goes { OnOk result (HasAccepted closure standing self.old self.new) }
+        ensures accepted { (p : Program) (arguments : List ValueTree) →
             p.signatures ≡ cifs.now → p.need ≡ need_of A.standard →
             ShowsCall A.standard (signature_at cifs.now closure.sig) arguments machine.old →
             HoldsMap machine.old.target self.old.table machine.old.code → AreKnown p self.old.table → self.old.moves ≤ most_moves →
-            StandsAt p (served_base A.standard p.signatures closure.sig machine.old)
-            (served_left A.standard p closure arguments machine.old self.old.table self.old.moves)
-            (served_beginning A.standard (signature_at p.signatures closure.sig) machine.old output tracing) [] [] self.new machine.new output }
+            Accepted A.standard p closure arguments trace self.old machine.old (O.state output.old) self.new machine.new (O.state output.new) result }
     {
         let sig = closure.sig;
-        let incoming = accept(machine, cifs.get(sig));
+        let cif = cifs.get(sig);
+        let incoming = accept(machine, cif);
+        if let Err(why) = tell_entry(alloc, machine, output, cif, trace) {
+            return Err(why);
+        }
         self.served = Some(OpenCall { sig, incoming });
         self.innermost = Some(Activation {
             who: Who::Function(closure.func),
@@ -65,6 +69,7 @@ impl<S: Drop> Board<S> {
             user: closure.user,
             results: Values::new(alloc),
         });
+        Ok(())
     }
 
     /// Returns from the outermost activation, once it was taken from the board: out of the call that

@@ -18,19 +18,21 @@ use ffi3_machine::Machine;
 use ffi3_place::Abi;
 
 impl<'a, A: Abi> Prepared<'a, A> {
-    // Accepts the call that the machine shows, and does moves until its activation has left.
+    // Accepts the call that the machine shows, and does moves until its activation has left. With
+    // `trace` its entry is told first.
     pub(crate) fn serve<O: Sink>(
         &self,
         board: &mut Board<Standing>,
         machine: &mut Machine,
         output: &mut O,
+        trace: bool,
     ) -> RunEnd
         requires prepared { IsPrepared A.standard self.now.script.now (map (λ b. handed_in (title b) (meaning b) (signatures b)) self.now.natives.now.items) self.now.cifs }
         requires idle { IsIdle (program A.standard self.now.script.now (map (λ b. handed_in (title b) (meaning b) (signatures b)) self.now.natives.now.items)) board.old }
         requires holds { HoldsMap machine.old.target board.old.table machine.old.code }
         requires entry { (closure : Closure) × (arguments : List ValueTree) ×
             IsAtEntry A.standard (program A.standard self.now.script.now (map (λ b. handed_in (title b) (meaning b) (signatures b)) self.now.natives.now.items)) board.old.table machine.old closure arguments }
-        ensures { Served A.standard (program A.standard self.now.script.now (map (λ b. handed_in (title b) (meaning b) (signatures b)) self.now.natives.now.items))
+        ensures { Served A.standard trace (program A.standard self.now.script.now (map (λ b. handed_in (title b) (meaning b) (signatures b)) self.now.natives.now.items))
             board.old machine.old (O.state output.old) board.new machine.new (O.state output.new) result }
     {
         let Some(closure) = board.table.find(entered_closure(machine)) else {
@@ -38,7 +40,11 @@ impl<'a, A: Abi> Prepared<'a, A> {
         };
         let alloc = self.alloc;
         let standing = Standing::in_function(alloc, self.script, self.natives, closure.func);
-        board.accept_call(alloc, machine, &self.cifs, closure, standing);
-        self.run_on(board, machine, output)
+        if let Err(why) = board.accept_call(
+            alloc, machine, output, &self.cifs, closure, standing, trace,
+        ) {
+            return RunEnd::cut_off(why);
+        }
+        self.run_on(board, machine, output, trace)
     }
 }

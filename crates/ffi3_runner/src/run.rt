@@ -10,12 +10,13 @@ ghost use Rattle.ffi3_board.specs.Between.{Beginning};
 ghost use Rattle.ffi3_board.specs.Turned.{StandsAt};
 ghost use Rattle.ffi3_runner.specs.Agreeing.{AllStand};
 ghost use Rattle.ffi3_runner.specs.Ran.{Ran};
+ghost use Rattle.ffi3_runner.specs.Serving.{end_of};
 ghost use Rattle.ffi3_runner.specs.Running.{IsPrepared, program};
 
 use crate::prepare::Prepared;
 use ffi3_ask::Standing;
 use ffi3_board::{Board, Stop, Turn};
-use ffi3_io::Sink;
+use ffi3_io::{IoError, Sink};
 use ffi3_machine::Machine;
 use ffi3_place::Abi;
 
@@ -30,6 +31,18 @@ pub enum RunEnd {
     NoMemory,
     /// A write failed.
     Failed,
+}
+
+impl RunEnd {
+    // What a run came to that was cut off.
+    pub(crate) fn cut_off(why: IoError) -> RunEnd
+        ensures { result ≡ end_of why }
+    {
+        match why {
+            IoError::NoMemory => RunEnd::NoMemory,
+            IoError::Failed => RunEnd::Failed,
+        }
+    }
 }
 
 impl<'a, A: Abi> Prepared<'a, A> {

@@ -196,20 +196,20 @@ impl<'a, A: Abi> Runner<'a, A> {
 
     /// Serves the call of a live closure that the machine shows at its entry, by any caller: does
     /// moves until the entered activation has left. Closure and arguments are learned from the machine
-    /// alone.
-    pub fn serve<O: Sink>(&mut self, machine: &mut Machine, output: &mut O) -> RunEnd
+    /// alone. With `trace` entries and returns are told, the entered one's first.
+    pub fn serve<O: Sink>(&mut self, machine: &mut Machine, output: &mut O, trace: bool) -> RunEnd
         requires prepared { IsPrepared A.standard self.old.prepared.script.now (map (λ b. handed_in (title b) (meaning b) (signatures b)) self.old.prepared.natives.now.items) self.old.prepared.cifs }
         requires idle { IsIdle (program A.standard self.old.prepared.script.now (map (λ b. handed_in (title b) (meaning b) (signatures b)) self.old.prepared.natives.now.items)) self.old.board }
         requires holds { HoldsMap machine.old.target self.old.board.table machine.old.code }
         requires entry { (closure : Closure) × (arguments : List ValueTree) ×
             IsAtEntry A.standard (program A.standard self.old.prepared.script.now (map (λ b. handed_in (title b) (meaning b) (signatures b)) self.old.prepared.natives.now.items)) self.old.board.table machine.old closure arguments }
-        ensures served { Served A.standard (program A.standard self.old.prepared.script.now (map (λ b. handed_in (title b) (meaning b) (signatures b)) self.old.prepared.natives.now.items))
+        ensures served { Served A.standard trace (program A.standard self.old.prepared.script.now (map (λ b. handed_in (title b) (meaning b) (signatures b)) self.old.prepared.natives.now.items))
             self.old.board machine.old (O.state output.old) self.new.board machine.new (O.state output.new) result }
         ensures prepared { self.new.prepared ≡ self.old.prepared }
         ensures going { result ≡ RunEnd.Done → self.new.over ≡ self.old.over }
         ensures over { (result ≡ RunEnd.Done → ⊥) → self.new.over ≡ true }
     {
-        let end = self.prepared.serve(&mut self.board, machine, output);
+        let end = self.prepared.serve(&mut self.board, machine, output, trace);
         if end != RunEnd::Done {
             self.over = true;
         }

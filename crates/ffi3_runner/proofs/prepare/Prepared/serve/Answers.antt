@@ -44,23 +44,35 @@ run_on-requires-clause-standing g c =
     let known = known_at _ b.table (entered_closure m) found c.requires.idle.known live in
     let s = c.args.self.now.script.now in
     let cifs = c.args.self.now.cifs in
-    accepted_stands s _ cifs c.accept_call.new.machine b c.accept_call.new.self found c.in_function-standing.result c.accept_call.ensures.accepted c.requires.idle.suspended c.in_function-standing.ensures.who (λ z site none. c.in_function-standing.ensures.agrees g.A.Abi.standard z (own_at g.A.Abi.standard s _ cifs c.requires.prepared found.func found.sig found.sig z known.signature refl site) none)
+    accepted_stands s _ cifs c.accept_call.new.machine b c.accept_call.new.self found c.in_function-standing.result c.in_default-accept_call.ensures.goes c.requires.idle.suspended c.in_function-standing.ensures.who (λ z site none. c.in_function-standing.ensures.agrees g.A.Abi.standard z (own_at g.A.Abi.standard s _ cifs c.requires.prepared found.func found.sig found.sig z known.signature refl site) none)
 
 pub run_on-requires-clause-between : goal.run_on-requires-clause-between
 run_on-requires-clause-between g c =
     let b = c.args.board.now in
     let m = c.args.machine.now in
     let o = g.O.Sink.state c.args.output.now in
+    let o' = g.O.Sink.state c.accept_call.new.output in
     let found = c.in-Some.closure in
     let live : closure_at b.table (entered_closure m) ≡ Some found = search rules in
     let t = c.requires.entry in
-    served_between g.A.Abi.standard _ b c.accept_call.new.self m c.accept_call.new.machine o found c.args.self.now.cifs c.requires.prepared.are live (λ arguments shows. c.accept_call.ensures.begins _ arguments o (sym c.requires.prepared.are) refl shows c.requires.holds c.requires.idle.known c.requires.idle.few) t.0 t.1 t.2
+    served_between g.A.Abi.standard c.args.trace _ b c.accept_call.new.self m c.accept_call.new.machine o o' found c.args.self.now.cifs c.requires.prepared.are live (λ arguments shows. c.in_default-accept_call.ensures.accepted _ arguments (sym c.requires.prepared.are) refl shows c.requires.holds c.requires.idle.known c.requires.idle.few) t.0 t.1 t.2
+
+pub returns-in-Err : goal.returns-in-Err
+returns-in-Err g c =
+    let b = c.args.board.now in
+    let m = c.args.machine.now in
+    let o = g.O.Sink.state c.args.output.now in
+    let o' = g.O.Sink.state c.accept_call.new.output in
+    let found = c.in-Some.closure in
+    let live : closure_at b.table (entered_closure m) ≡ Some found = search rules in
+    call_cut_off g.A.Abi.standard c.args.trace _ b c.accept_call.new.self m c.accept_call.new.machine o o' found c.args.self.now.cifs c.requires.prepared.are live c.in-Err.why c.cut_off.result c.cut_off.ensures (λ arguments shows. c.in-Err.ensures.accepted _ arguments (sym c.requires.prepared.are) refl shows c.requires.holds c.requires.idle.known c.requires.idle.few)
 
 pub returns : goal.returns
 returns g c =
     let b = c.args.board.now in
     let m = c.args.machine.now in
     let o = g.O.Sink.state c.args.output.now in
+    let o' = g.O.Sink.state c.accept_call.new.output in
     let found = c.in-Some.closure in
     let live : closure_at b.table (entered_closure m) ≡ Some found = search rules in
-    call_served g.A.Abi.standard _ b c.accept_call.new.self m c.accept_call.new.machine o found c.args.self.now.cifs c.requires.prepared.are live (λ arguments shows. c.accept_call.ensures.begins _ arguments o (sym c.requires.prepared.are) refl shows c.requires.holds c.requires.idle.known c.requires.idle.few) c.run_on.new.board c.run_on.new.machine (g.O.Sink.state c.run_on.new.output) c.run_on.result c.run_on.ensures
+    call_served g.A.Abi.standard c.args.trace _ b c.accept_call.new.self m c.accept_call.new.machine o o' found c.args.self.now.cifs c.requires.prepared.are live (λ arguments shows. c.in_default-accept_call.ensures.accepted _ arguments (sym c.requires.prepared.are) refl shows c.requires.holds c.requires.idle.known c.requires.idle.few) c.run_on.new.board c.run_on.new.machine (g.O.Sink.state c.run_on.new.output) c.run_on.result c.run_on.ensures
