@@ -139,6 +139,8 @@ module _ (p : Program) (base : Base) (all : Left) (first : Beginning) (own : Lis
         let stand : OpenStand base.standard p.signatures base.held base.top m (opened ∷ x.calls) (newest ∷ calls_open) m.sp = (newest_stands, others_stand) in
         let room : length calls_open ≤ x.machine.spare_events = h.calls.room in
         let bytes : frames base.standard calls_open ≤ x.machine.spare_bytes = h.calls.bytes in
+        let found_events : first.spare_events + length calls_open ≤ x.machine.spare_events = h.found.events in
+        let found_bytes : first.spare_bytes + frames base.standard calls_open ≤ x.machine.spare_bytes = h.found.bytes in
         let room_then : m.spare_events + 1 ≡ x.machine.spare_events + 2 = begun.room in
         let bytes_then : m.spare_bytes + (base.standard.link + frame_of base.standard site) ≡ x.machine.spare_bytes + 2 * n = begun.bytes in
         record {
@@ -162,6 +164,12 @@ module _ (p : Program) (base : Base) (all : Left) (first : Beginning) (own : Lis
           known = h.known;
           few = omega (arith, h.few);
           others_few = (omega (arith, h.few), fewer x.moves x.suspended h.others_few);
+          found = record {
+            above = λ address count over. begun.above address count (omega (arith, at, over)) ∙ h.found.above address count over;
+            events = subst (λ (l : List Entered). first.spare_events + length l ≤ m.spare_events) (sym opens) (omega (arith, found_events, room_then));
+            bytes = subst (λ (l : List Entered). first.spare_bytes + frames base.standard l ≤ m.spare_bytes) (sym opens) (omega (arith, found_bytes, bytes_then, sized));
+          };
+          outermost = h.outermost;
         }
 
     -- or the run is cut off there, in those lines or before them

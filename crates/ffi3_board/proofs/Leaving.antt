@@ -30,7 +30,7 @@ use Rattle.ffi3_io.proofs.Adding.{Adds-then}
 use Rattle.ffi3_io.proofs.Writing.{took_then}
 use Rattle.ffi3_invoke.specs.Calls.{HasEnded}
 use Rattle.ffi3_board.specs.declared.activation.OpenCall.{OpenCall}
-use Rattle.ffi3_board.specs.Between.{Beginning, Moment, asking, position, text_of, depth_below, open_calls_at, IsMarkOf, IsBetween, IsAsking}
+use Rattle.ffi3_board.specs.Between.{Beginning, Moment, asking, position, text_of, depth_below, open_calls_at, IsMarkOf, KeepsFound, IsBetween, IsAsking}
 use Rattle.ffi3_board.specs.Stack.{caller_sp, OpenStand, frames, HoldsCalls}
 use Rattle.ffi3_board.proofs.Blocks.{AreAbove, blocks_above}
 use Rattle.ffi3_board.specs.TraceLines.{return_lines}
@@ -88,6 +88,11 @@ module _ (p : Program) (base : Base) (all : Left) (first : Beginning) (own : Lis
     held =
         let P = λ (l : List Event). HoldsCalls base.standard p.signatures base.held base.top m (c ∷ calls) (open_calls p.signatures (c.sig ∷ awaited base.bottom outer) l) in
         subst P found.2 is.between.calls
+
+    found_held : KeepsFound base first (newest ∷ still_open) m
+    found_held =
+        let P = λ (l : List Event). KeepsFound base first (open_calls p.signatures (c.sig ∷ awaited base.bottom outer) l) m in
+        subst P found.2 is.between.found
 
     returns : IsReturn base.standard newest v ended.return
     returns =
@@ -152,6 +157,9 @@ module _ (p : Program) (base : Base) (all : Left) (first : Beginning) (own : Lis
         let room : length (newest ∷ still_open) ≤ m.spare_events = held.room in
         let bytes : frame_of base.standard site + frames base.standard still_open ≤ m.spare_bytes = held.bytes in
         let few : length caller.results + suc moves ≤ most_moves = h.others_few.0 in
+        let kept = found_held in
+        let found_events : first.spare_events + length (newest ∷ still_open) ≤ m.spare_events = kept.events in
+        let found_bytes : first.spare_bytes + (frame_of base.standard site + frames base.standard still_open) ≤ m.spare_bytes = kept.bytes in
         record {
           needs = h.needs;
           count = h.count;
@@ -173,6 +181,12 @@ module _ (p : Program) (base : Base) (all : Left) (first : Beginning) (own : Lis
           known = h.known;
           few = omega (arith, length-append caller.results (v ∷ []), few);
           others_few = fewer moves outer h.others_few.1;
+          found = record {
+            above = λ address count over. ended.above address count (omega (arith, over, higher, at, taken)) ∙ h.found.above address count over;
+            events = subst (λ (l : List Entered). first.spare_events + length l ≤ m'.spare_events) (sym opens) (omega (arith, found_events, ended.room));
+            bytes = subst (λ (l : List Entered). first.spare_bytes + frames base.standard l ≤ m'.spare_bytes) (sym opens) (omega (arith, found_bytes, ended.bytes));
+          };
+          outermost = h.outermost;
         }
 
     -- or the run is cut off there, in those lines or before them

@@ -11,4 +11,6 @@ mod Entering
 mod Leaving
 pub mod Boarding
 mod Made
+mod Served
+pub mod Accepting
 mod Transports

@@ -96,6 +96,7 @@ module _ (p : Program) (base : Base) (all : Left) (first : Beginning) (own : Lis
           written = took_then first.output x.output output (text_of first.tracing p base own) line (text_of first.tracing p base all.trace) (ap (text_of first.tracing p base) trace ∙ text_then first.tracing p base own (StopLine MoveLimit)) h.written took;
           mark = mark_same base.top first.mark (deepest p (depth_below p base) own) (deepest p (depth_below p base) all.trace) x.machine.mark x.machine.mark (ap (deepest p (depth_below p base)) trace ∙ deepest_same p (depth_below p base) own (StopLine MoveLimit) (omega arith)) refl h.mark;
           target = h.calls.target;
+          reserved = h.calls.reserved;
           holds = h.holds;
         }
 
@@ -146,6 +147,7 @@ module _ (p : Program) (base : Base) (all : Left) (first : Beginning) (own : Lis
             written = took_then first.output x.output output (text_of first.tracing p base own) line (text_of first.tracing p base all.trace) (ap (text_of first.tracing p base) trace ∙ text_then first.tracing p base own (StopLine stop)) h.written took;
             mark = mark_same base.top first.mark (deepest p (depth_below p base) own) (deepest p (depth_below p base) all.trace) x.machine.mark x.machine.mark (ap (deepest p (depth_below p base)) trace ∙ deepest_same p (depth_below p base) own (StopLine stop) (omega arith)) refl h.mark;
             target = h.calls.target;
+            reserved = h.calls.reserved;
             holds = h.holds;
           }
 
@@ -185,6 +187,7 @@ module _ (p : Program) (base : Base) (all : Left) (first : Beginning) (own : Lis
           written = subst T (sym trace) h.written;
           mark = mark_same base.top first.mark (deepest p (depth_below p base) own) (deepest p (depth_below p base) all.trace) x.machine.mark x.machine.mark (ap (deepest p (depth_below p base)) trace) refl h.mark;
           target = h.calls.target;
+          reserved = h.calls.reserved;
           holds = h.holds;
         }
 
@@ -211,6 +214,8 @@ module _ (p : Program) (base : Base) (all : Left) (first : Beginning) (own : Lis
             known = h.known;
             few = omega (arith, length-append x.innermost.results (void_value ∷ []), h.few);
             others_few = fewer x.moves outer h.others_few;
+            found = h.found;
+            outermost = h.outermost;
           }
 
       pub print_failed : (output : SinkState) → LineFailed (a_line (value_text_of t v)) x.output output → WasCutOff p base all first cut.Failed x.machine output
@@ -254,4 +259,6 @@ module _ (p : Program) (base : Base) (all : Left) (first : Beginning) (own : Lis
             known = known;
             few = omega (arith, length-append x.innermost.results (r ∷ []), h.few);
             others_few = fewer x.moves outer h.others_few;
+            found = record { above = h.found.above; events = h.found.events; bytes = h.found.bytes };
+            outermost = h.outermost;
           }

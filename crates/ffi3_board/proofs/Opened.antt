@@ -56,6 +56,7 @@ module _ (std : Standard) (ss : List Signature) (held : Loc → ℕ) (top : ℕ)
     top = h.top;
     saved = h.saved;
     return_address = h.return_address;
+    frame = h.frame;
   }
 
   pub holds_by_code : (address : ℕ) (bytes : List ℕ) (m : State) (calls : List OpenCall) (entered : List Entered) → HoldsCalls std ss held top m calls entered → HoldsCalls std ss held top (with_code address bytes m) calls entered
@@ -75,6 +76,7 @@ keeps_room std low n m m' keeps = λ e block above h. keeps e block above (recor
   top = h.top;
   saved = h.saved;
   return_address = h.return_address;
+  frame = h.frame;
 })
 
 -- ---- registers that hold what they held

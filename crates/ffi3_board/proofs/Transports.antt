@@ -11,7 +11,7 @@ use Rattle.ffi3_io.specs.Sink.{SinkState}
 use Rattle.ffi3_io.specs.declared.IoError.{IoError}
 use Rattle.ffi3_callee.specs.declared.Incoming.{Incoming}
 use Rattle.ffi3_callee.specs.Received.{IsIncoming}
-use Rattle.ffi3_invoke.specs.Calls.{HasBegun, HasEnded}
+use Rattle.ffi3_invoke.specs.Calls.{HasBegun, HasEnded, HasReturned}
 use Rattle.ffi3_board.specs.TraceLines.{last_event, entry_lines, return_lines}
 use Rattle.ffi3_io.specs.Written.{LineCut}
 
@@ -32,6 +32,12 @@ pub ended_as : (std std' : Standard) (s s' : Signature) (v : ValueTree) (m m' : 
 ended_as std std' s s' v m m' a b h =
     let P = λ (x : Standard). HasEnded x s' v m m' in
     let Q = λ (x : Signature). HasEnded std x v m m' in
+    subst P a (subst Q b h)
+
+pub returned_as : (std std' : Standard) (s s' : Signature) (v : ValueTree) (m m' : State) → std ≡ std' → s ≡ s' → HasReturned std s v m m' → HasReturned std' s' v m m'
+returned_as std std' s s' v m m' a b h =
+    let P = λ (x : Standard). HasReturned x s' v m m' in
+    let Q = λ (x : Signature). HasReturned std x v m m' in
     subst P a (subst Q b h)
 
 -- what came of the lines of an entry

@@ -4,5 +4,8 @@ pub mod Known
 pub mod Path
 pub mod Stack
 pub mod Going
+pub mod Outermost
 pub mod Between
+pub mod Served
 pub mod Turned
+pub mod Accepted

@@ -11,7 +11,7 @@ ghost use Rattle.ffi3_run_rules.specs.Journal.{Entered};
 ghost use Rattle.ffi3_run_rules.specs.Meaning.{Program, callee_of, effect_of, enters};
 ghost use Rattle.ffi3_run_rules.specs.Move as asks;
 ghost use Rattle.ffi3_run_rules.specs.Trace.{TraceItem};
-ghost use Rattle.ffi3_turn_rules.specs.Left.{Left, as_main};
+ghost use Rattle.ffi3_turn_rules.specs.Left.{Left};
 ghost use Rattle.ffi3_turn_rules.specs.SoFar.{Base};
 ghost use Rattle.ffi3_turn_rules.specs.Told.{IsTracingOf};
 ghost use Rattle.ffi3_machine.specs.State.{stack_at};
@@ -120,8 +120,8 @@ impl<S: Drop> Board<S> {
         Turn::More
     }
 
-    /// Returns from the innermost activation to the one that waits for it. Where none waits, that
-    /// was main, and the run is done. Where the run is traced, the return is told.
+    /// Returns from the innermost activation, which was taken from the board, to the one that waits
+    /// for it. Where none waits, the run is done. Where the run is traced, the return is told.
     pub fn leave<A: Abi, O: Sink>(
         &mut self,
         alloc: Global,
@@ -131,6 +131,7 @@ impl<S: Drop> Board<S> {
         value: &Value,
         trace: bool,
     ) -> Turn
+        requires taken { self.old.innermost ≡ None }
         requires stand { (held : Loc → ℕ) × (top : ℕ) × (entered : List Entered) ×
             HoldsCalls A.standard cifs.now held top machine.old (calls_of self.old.served (reverse self.old.suspended.items)) entered }
         requires fits { fits (result_type_at cifs.now (call_inside self.old.served (reverse self.old.suspended.items))) (value_of value.now) ≡ true }
@@ -139,12 +140,12 @@ impl<S: Drop> Board<S> {
         ensures above { result ≡ Turn.More →
             (address count : ℕ) → machine.new.sp ≤ address → stack_at address count machine.new ≡ stack_at address count machine.old }
         ensures turned { (p : Program) (base : Base) (all : Left) (first : Beginning) (own : List TraceItem) (events : List Event) (current : Activation S) →
-            base.standard ≡ A.standard → base.bottom ≡ as_main → self.old.served ≡ None → p.signatures ≡ cifs.now → IsTracingOf p base trace first.tracing →
+            base.standard ≡ A.standard → p.signatures ≡ cifs.now → IsTracingOf p base trace first.tracing →
             IsAsking p base all first own events (moment p.signatures current self.old machine.old (O.state output.old)) (asks.return (value_of value.now)) →
             Turned p base all first own (suc self.old.moves) self.new machine.new (O.state output.new) result }
     {
         let Some(Waiting { activation, call }) = self.suspended.pop() else {
-            return Turn::Done;
+            return self.leave_run(alloc, machine, output, cifs, value, trace);
         };
         let sig = call.sig;
         let outcome = match end_with(alloc, machine, cifs, call, value) {

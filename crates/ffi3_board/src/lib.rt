@@ -11,6 +11,7 @@ mod cifs;
 mod line;
 mod making;
 mod printing;
+mod serving;
 mod stopping;
 mod tracing;
 

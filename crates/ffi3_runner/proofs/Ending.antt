@@ -35,7 +35,7 @@ use Rattle.ffi3_runner.specs.RunCut.{RunWasCut}
 use Rattle.ffi3_runner.specs.RunMatches.{RunMatches, WrotePart}
 use Rattle.ffi3_runner.specs.declared.run.RunEnd.{RunEnd}
 use Rattle.ffi3_runner.specs.declared.run.RunEnd.TheVariants as run
-use Rattle.ffi3_runner.proofs.Starting.{main_beginning}
+use Rattle.ffi3_runner.specs.Started.{main_beginning, MainHasReturned}
 
 reaches : (top mark deep peak : ℕ) → deep ≡ peak → (top ≤ mark) ⊎ (top ≤ mark + deep) → top ≤ mark + peak
 reaches top mark deep peak is (inl h) = omega arith
@@ -100,16 +100,22 @@ module _ (p : Program) (std : Standard) (trace : Bool) (b : Board Standing) (m :
   Answer t = Ran p (main_base std) (left_of (meaning_of p)) (main_beginning trace std o) b m o' t
 
   pub ran_done : (t : RunEnd) → Answer t → t ≡ run.Done → RunMatches (main_tracing trace std) std p o o' m
-  ran_done run.Done ran is = ended (returned void_value) b.table b.moves ran
+  ran_done run.Done ran is = ended (returned ran.result) b.table b.moves ran.ended
   ran_done (run.Stopped stop) ran is = cc
   ran_done run.NoMemory ran is = cc
   ran_done run.Failed ran is = cc
 
   pub ran_returned : (t : RunEnd) → Answer t → t ≡ run.Done → (meaning_of p).end ≡ returned void_value
-  ran_returned run.Done ran is = ran.over.end_is
+  ran_returned run.Done ran is = ran.ended.over.end_is ∙ ap returned ran.left.0
   ran_returned (run.Stopped stop) ran is = cc
   ran_returned run.NoMemory ran is = cc
   ran_returned run.Failed ran is = cc
+
+  pub ran_left : (t : RunEnd) → Answer t → t ≡ run.Done → MainHasReturned p b m
+  ran_left run.Done ran is = record { idle = ran.idle; sp = ran.left.1; closures = sym ran.ended.over.closures_are; moves = sym ran.ended.over.moves_are }
+  ran_left (run.Stopped stop) ran is = cc
+  ran_left run.NoMemory ran is = cc
+  ran_left run.Failed ran is = cc
 
   pub ran_stopped : (t : RunEnd) → Answer t → (stop : Stop) → t ≡ run.Stopped stop → RunMatches (main_tracing trace std) std p o o' m
   ran_stopped run.Done ran stop is = cc
@@ -149,13 +155,13 @@ module _ (p : Program) (std : Standard) (trace : Bool) (b : Board Standing) (m :
   ran_cut_by_write run.Failed ran is = cut_off cut.Failed ran
 
   pub ran_never_falls : (t : RunEnd) → Answer t → o.faults ≤ o'.faults
-  ran_never_falls run.Done ran = no_fewer o.faults o'.faults ran.written.count
+  ran_never_falls run.Done ran = no_fewer o.faults o'.faults ran.ended.written.count
   ran_never_falls (run.Stopped stop) ran = no_fewer o.faults o'.faults ran.written.count
   ran_never_falls run.NoMemory ran = no_fewer o.faults o'.faults ran.cause
   ran_never_falls run.Failed ran = ran.cause.1
 
   pub ran_part : (t : RunEnd) → Answer t → WrotePart (main_tracing trace std) p o o'
-  ran_part run.Done ran = whole_written (returned void_value) b.table b.moves ran
+  ran_part run.Done ran = whole_written (returned ran.result) b.table b.moves ran.ended
   ran_part (run.Stopped stop) ran = whole_written (stopped stop) b.table b.moves ran
   ran_part run.NoMemory ran = part_written cut.NoMemory ran
   ran_part run.Failed ran = part_written cut.Failed ran

@@ -6,4 +6,5 @@ mod Ending
 mod Numbers
 mod Last
 mod Running
+mod Serving
 mod Main

@@ -33,6 +33,7 @@ use Rattle.ffi3_board.specs.Path.{acting, who_of}
 use Rattle.ffi3_board.specs.Turned.{StandsAt}
 use Rattle.ffi3_board.proofs.Closed.{none_known}
 use Rattle.ffi3_runner.specs.Running.{IsNew}
+use Rattle.ffi3_runner.specs.Started.{main_beginning}
 
 -- reserved registers hold 0 where a machine begins
 none_reserved : (isa : Isa) (floating : List ℕ) (sp : ℕ) (stack : List ℕ) → AllByRecursion (λ at. register (record { general = begun_general isa; floating = floating; sp = sp; stack = stack }) at ≡ 0) (reserved_places isa)
@@ -40,11 +41,6 @@ unfolding begun_general scribbled_general
 none_reserved Amd64 floating sp stack = tt
 none_reserved Aarch64 floating sp stack = (refl, tt)
 none_reserved Riscv floating sp stack = (refl, (refl, (refl, tt)))
-
--- what a run of main finds
-abbrev pub main_beginning : (trace : Bool) → Standard → SinkState → Beginning
-main_beginning trace std o =
-    record { events = []; mark = STACK_TOP; output = o; tracing = main_tracing trace std }
 
 module _ (p : Program) (std : Standard) (needs : p.need ≡ need_of std) (agrees : AgreesWithMachine std) (k l : ℕ) (o : SinkState) (trace : Bool) where
   abbrev machine : State
@@ -82,6 +78,8 @@ module _ (p : Program) (std : Standard) (needs : p.need ≡ need_of std) (agrees
     known = none_known p;
     few = omega arith;
     others_few = tt;
+    found = record { above = λ address count over. refl; events = omega arith; bytes = omega arith };
+    outermost = refl;
   }
 
   -- THE RUN STANDS at main's first move

@@ -3,3 +3,5 @@ pub mod Running
 pub mod RunMatches
 pub mod RunCut
 pub mod Ran
+pub mod Started
+pub mod Serving

@@ -8,7 +8,7 @@ ghost use Rattle.ffi3_place_rules.specs.Event.{Event};
 ghost use Rattle.ffi3_run_rules.specs.Journal.{Entered};
 ghost use Rattle.ffi3_run_rules.specs.Move as asks;
 ghost use Rattle.ffi3_run_rules.specs.Trace.{TraceItem};
-ghost use Rattle.ffi3_turn_rules.specs.Left.{Left, as_main};
+ghost use Rattle.ffi3_turn_rules.specs.Left.{Left};
 ghost use Rattle.ffi3_turn_rules.specs.SoFar.{Base};
 ghost use Rattle.ffi3_turn_rules.specs.Told.{IsTracingOf};
 ghost use Rattle.ffi3_script_rules.specs.Natives.{NamedNative};
@@ -45,7 +45,6 @@ impl<'a, A: Abi> Prepared<'a, A> {
         current: &mut Activation<Standing>,
     ) -> Result<Move, NoMemory>
         requires prepared { IsPrepared A.standard self.now.script.now (map (λ b. handed_in (title b) (meaning b) (signatures b)) self.now.natives.now.items) self.now.cifs }
-        requires main { board.now.served ≡ None }
         requires holds { (held : Loc → ℕ) × (top : ℕ) × (entered : List Entered) ×
             HoldsCalls A.standard self.now.cifs held top machine.now (calls_of board.now.served (reverse board.now.suspended.items)) entered }
         requires stands { IsStanding self.now.script.now (map (λ b. handed_in (title b) (meaning b) (signatures b)) self.now.natives.now.items) self.now.cifs machine.now
@@ -59,7 +58,6 @@ impl<'a, A: Abi> Prepared<'a, A> {
         ensures same { current.new ≡ record current.old { standing = current.new.standing } }
     {
         match board.suspended.last() {
-            None => asked_by_main(self.alloc, self.script, self.natives, current),
             Some(waiting) => asked_by_callee(
                 self.alloc,
                 self.script,
@@ -69,6 +67,18 @@ impl<'a, A: Abi> Prepared<'a, A> {
                 &waiting.call,
                 current,
             ),
+            None => match &board.served {
+                Some(call) => asked_by_callee(
+                    self.alloc,
+                    self.script,
+                    self.natives,
+                    machine,
+                    &self.cifs,
+                    call,
+                    current,
+                ),
+                None => asked_by_main(self.alloc, self.script, self.natives, current),
+            },
         }
     }
 
@@ -102,7 +112,6 @@ impl<'a, A: Abi> Prepared<'a, A> {
             Turned p base all first own (suc board.old.moves) board.new machine.new (O.state output.new) result }
         ensures standing { result ≡ Turn.More →
             AllStand self.now.script.now (map (λ b. handed_in (title b) (meaning b) (signatures b)) self.now.natives.now.items) self.now.cifs machine.new board.new }
-        ensures main { result ≡ Turn.More → board.new.served ≡ board.old.served }
     {
         let closure = match board.callee(machine, &self.cifs, ptr, sig) {
             Ok(closure) => closure,

@@ -1,8 +1,8 @@
 //! One move of a run.
-ghost use Rattle.std.specs.Prelude.{◌≡◌, List, None, length, map};
+ghost use Rattle.std.specs.Prelude.{◌≡◌, List, length, map};
 ghost use Rattle.ffi3_place_rules.specs.Event.{Event};
 ghost use Rattle.ffi3_run_rules.specs.Trace.{TraceItem};
-ghost use Rattle.ffi3_turn_rules.specs.Left.{Left, as_main};
+ghost use Rattle.ffi3_turn_rules.specs.Left.{Left};
 ghost use Rattle.ffi3_turn_rules.specs.SoFar.{Base};
 ghost use Rattle.ffi3_turn_rules.specs.Told.{IsTracingOf};
 ghost use Rattle.ffi3_ask.specs.Handed.{handed_in};
@@ -29,20 +29,18 @@ impl<'a, A: Abi> Prepared<'a, A> {
         trace: bool,
     ) -> Turn
         requires prepared { IsPrepared A.standard self.now.script.now (map (λ b. handed_in (title b) (meaning b) (signatures b)) self.now.natives.now.items) self.now.cifs }
-        requires main { board.old.served ≡ None }
         requires standing { AllStand self.now.script.now (map (λ b. handed_in (title b) (meaning b) (signatures b)) self.now.natives.now.items) self.now.cifs machine.old board.old }
         requires between { (base : Base) × (all : Left) × (first : Beginning) × (own : List TraceItem) × (events : List Event) ×
-            (base.standard ≡ A.standard) × (base.bottom ≡ as_main) ×
+            (base.standard ≡ A.standard) ×
             IsTracingOf (program A.standard self.now.script.now (map (λ b. handed_in (title b) (meaning b) (signatures b)) self.now.natives.now.items)) base trace first.tracing ×
             StandsAt (program A.standard self.now.script.now (map (λ b. handed_in (title b) (meaning b) (signatures b)) self.now.natives.now.items)) base all first own events board.old machine.old (O.state output.old) }
         ensures turned { let p = program A.standard self.now.script.now (map (λ b. handed_in (title b) (meaning b) (signatures b)) self.now.natives.now.items) in
             (base : Base) (all : Left) (first : Beginning) (own : List TraceItem) (events : List Event) →
-            base.standard ≡ A.standard → base.bottom ≡ as_main → IsTracingOf p base trace first.tracing →
+            base.standard ≡ A.standard → IsTracingOf p base trace first.tracing →
             StandsAt p base all first own events board.old machine.old (O.state output.old) →
             Turned p base all first own board.old.moves board.new machine.new (O.state output.new) result }
         ensures standing { result ≡ Turn.More →
             AllStand self.now.script.now (map (λ b. handed_in (title b) (meaning b) (signatures b)) self.now.natives.now.items) self.now.cifs machine.new board.new }
-        ensures main { result ≡ Turn.More → board.new.served ≡ None }
     {
         let Some(mut current) = board.innermost.take() else {
             unreachable!()

@@ -21,7 +21,7 @@ use Rattle.ffi3_runner.proofs.Turning.{after_stands, asks_move, between_of, inne
 use Rattle.ffi3_runner.proofs.prepare.Prepared.turn.Goals as goal
 
 pub returns-then-board-eq0-clause-turned : goal.returns-then-board-eq0-clause-turned
-returns-then-board-eq0-clause-turned g c = λ base all first own events standard main tracing h.
+returns-then-board-eq0-clause-turned g c = λ base all first own events standard tracing h.
     let b = c.args.board.now in
     let a = c.in-Some.current in
     let m = c.args.machine.now in
@@ -36,21 +36,11 @@ returns-then-board-eq0-clause-standing g c = λ more.
     let m = c.args.machine.now in
     let t = c.requires.between in
     let is : b.innermost ≡ Some a = search rules in
-    let between = between_of _ t.0 t.1 t.2 t.3 t.4 b a m (g.O.Sink.state c.args.output.now) is t.8 in
-    absurd (never_more _ t.0 t.1 t.2 t.3 c.stop_at_limit.new.self m (g.O.Sink.state c.stop_at_limit.new.output) c.stop_at_limit.result (c.stop_at_limit.ensures _ t.0 t.1 t.2 t.3 t.4 m (sym c.requires.prepared.are) between) more)
-
-pub returns-then-board-eq0-clause-main : goal.returns-then-board-eq0-clause-main
-returns-then-board-eq0-clause-main g c = λ more.
-    let b = c.args.board.now in
-    let a = c.in-Some.current in
-    let m = c.args.machine.now in
-    let t = c.requires.between in
-    let is : b.innermost ≡ Some a = search rules in
-    let between = between_of _ t.0 t.1 t.2 t.3 t.4 b a m (g.O.Sink.state c.args.output.now) is t.8 in
+    let between = between_of _ t.0 t.1 t.2 t.3 t.4 b a m (g.O.Sink.state c.args.output.now) is t.7 in
     absurd (never_more _ t.0 t.1 t.2 t.3 c.stop_at_limit.new.self m (g.O.Sink.state c.stop_at_limit.new.output) c.stop_at_limit.result (c.stop_at_limit.ensures _ t.0 t.1 t.2 t.3 t.4 m (sym c.requires.prepared.are) between) more)
 
 pub returns-in_default-asked-clause-turned : goal.returns-in_default-asked-clause-turned
-returns-in_default-asked-clause-turned g c = λ base all first own events standard main tracing h.
+returns-in_default-asked-clause-turned g c = λ base all first own events standard tracing h.
     let b = c.args.board.now in
     let a = c.in-Some.current in
     let m = c.args.machine.now in
@@ -82,7 +72,7 @@ call-requires-clause-asking g c =
     let is : b.innermost ≡ Some a = search rules in
     let counted : b.moves ≡ suc (b.moves - 1) = omega arith in
     let t = c.requires.between in
-    (t.0, t.1, t.2, t.3, t.4, t.5, asks_move std s _ cifs c.requires.prepared b m o a z c.take.new.self (b.moves - 1) is counted c.requires.standing c.asked.ensures.same _ (move_of c.in-Ok.asked) (call c.in-Call.ptr c.in-Call.sig c.in-Call.args) c.in-Ok.ensures.asked (ap move_of c.in-Call.is) t.0 t.1 t.2 t.3 t.4 t.8)
+    (t.0, t.1, t.2, t.3, t.4, t.5, asks_move std s _ cifs c.requires.prepared b m o a z c.take.new.self (b.moves - 1) is counted c.requires.standing c.asked.ensures.same _ (move_of c.in-Ok.asked) (call c.in-Call.ptr c.in-Call.sig c.in-Call.args) c.in-Ok.ensures.asked (ap move_of c.in-Call.is) t.0 t.1 t.2 t.3 t.4 t.7)
 
 pub leave-requires-clause-few : goal.leave-requires-clause-few
 leave-requires-clause-few g c =
@@ -91,11 +81,11 @@ leave-requires-clause-few g c =
     let m = c.args.machine.now in
     let t = c.requires.between in
     let is : b.innermost ≡ Some a = search rules in
-    let between = between_of _ t.0 t.1 t.2 t.3 t.4 b a m (g.O.Sink.state c.args.output.now) is t.8 in
+    let between = between_of _ t.0 t.1 t.2 t.3 t.4 b a m (g.O.Sink.state c.args.output.now) is t.7 in
     short_by_few _ m b.served (reverse b.suspended.items) b.moves between.others_few
 
 pub returns-in-Print-clause-turned : goal.returns-in-Print-clause-turned
-returns-in-Print-clause-turned g c = λ base all first own events standard main tracing h.
+returns-in-Print-clause-turned g c = λ base all first own events standard tracing h.
     let b = c.args.board.now in
     let a = c.in-Some.current in
     let z = c.asked.new.current in
@@ -109,12 +99,8 @@ returns-in-Print-clause-turned g c = λ base all first own events standard main 
     let asking = asks_move std s _ cifs c.requires.prepared b m o a z c.take.new.self (b.moves - 1) is counted c.requires.standing c.asked.ensures.same _ (move_of c.in-Ok.asked) (print (tree_of c.in-Print.ty) (value_of c.in-Print.value)) c.in-Ok.ensures.asked (ap move_of c.in-Print.is) base all first own events h in
     turned_as _ base all first own (suc (b.moves - 1)) b.moves c.print.new.self m (g.O.Sink.state c.print.new.output) c.print.result (sym counted) (c.print.ensures.turned _ base all first own events m asking)
 
-pub returns-in-Print-clause-main : goal.returns-in-Print-clause-main
-returns-in-Print-clause-main g c = λ more.
-    ap (λ (x : Board Standing). x.served) (c.print.ensures.goes more) ∙ c.requires.main
-
 pub returns-in-Make-clause-turned : goal.returns-in-Make-clause-turned
-returns-in-Make-clause-turned g c = λ base all first own events standard main tracing h.
+returns-in-Make-clause-turned g c = λ base all first own events standard tracing h.
     let b = c.args.board.now in
     let a = c.in-Some.current in
     let z = c.asked.new.current in
@@ -147,12 +133,8 @@ returns-in-Make-clause-standing g c = λ more.
     let stands = after_stands s _ cifs m (call_inside b.served (reverse b.suspended.items)) a z r c.asked.ensures.same stood.who c.asked.ensures.who (later std s _ cifs c.requires.prepared b m o a z c.take.new.self (b.moves - 1) is counted c.requires.standing c.asked.ensures.same _ (move_of c.in-Ok.asked) (make c.in-Make.func c.in-Make.user) c.in-Ok.ensures.asked (ap move_of c.in-Make.is) r refl) in
     went_stands s _ cifs m c.make.new.machine b c.make.new.self (and_result z r) c.make.ensures.stack (ap (λ (x : Board Standing). x.innermost) goes.1) (ap (λ (x : Board Standing). x.served) goes.1) (ap (λ (x : Board Standing). x.suspended.items) goes.1) stands c.requires.standing.others
 
-pub returns-in-Make-clause-main : goal.returns-in-Make-clause-main
-returns-in-Make-clause-main g c = λ more.
-    ap (λ (x : Board Standing). x.served) (c.make.ensures.goes more).1 ∙ c.requires.main
-
 pub returns-in-Free-clause-turned : goal.returns-in-Free-clause-turned
-returns-in-Free-clause-turned g c = λ base all first own events standard main tracing h.
+returns-in-Free-clause-turned g c = λ base all first own events standard tracing h.
     let b = c.args.board.now in
     let a = c.in-Some.current in
     let z = c.asked.new.current in
@@ -183,12 +165,8 @@ returns-in-Free-clause-standing g c = λ more.
     let stands = after_stands s _ cifs m (call_inside b.served (reverse b.suspended.items)) a z void_value c.asked.ensures.same stood.who c.asked.ensures.who (later std s _ cifs c.requires.prepared b m o a z c.take.new.self (b.moves - 1) is counted c.requires.standing c.asked.ensures.same _ (move_of c.in-Ok.asked) (free c.in-Free.ptr) c.in-Ok.ensures.asked (ap move_of c.in-Free.is) void_value refl) in
     went_stands s _ cifs m c.free.new.machine b c.free.new.self (and_result z void_value) c.free.ensures.stack (ap (λ (x : Board Standing). x.innermost) goes) (ap (λ (x : Board Standing). x.served) goes) (ap (λ (x : Board Standing). x.suspended.items) goes) stands c.requires.standing.others
 
-pub returns-in-Free-clause-main : goal.returns-in-Free-clause-main
-returns-in-Free-clause-main g c = λ more.
-    ap (λ (x : Board Standing). x.served) (c.free.ensures.goes more) ∙ c.requires.main
-
 pub returns-in-Call-clause-turned : goal.returns-in-Call-clause-turned
-returns-in-Call-clause-turned g c = λ base all first own events standard main tracing h.
+returns-in-Call-clause-turned g c = λ base all first own events standard tracing h.
     let b = c.args.board.now in
     let a = c.in-Some.current in
     let z = c.asked.new.current in
@@ -203,7 +181,7 @@ returns-in-Call-clause-turned g c = λ base all first own events standard main t
     turned_as _ base all first own (suc (b.moves - 1)) b.moves c.call.new.board c.call.new.machine (g.O.Sink.state c.call.new.output) c.call.result (sym counted) (c.call.ensures.turned base all first own events standard tracing asking)
 
 pub returns-in-Return-clause-turned : goal.returns-in-Return-clause-turned
-returns-in-Return-clause-turned g c = λ base all first own events standard main tracing h.
+returns-in-Return-clause-turned g c = λ base all first own events standard tracing h.
     let b = c.args.board.now in
     let a = c.in-Some.current in
     let z = c.asked.new.current in
@@ -215,7 +193,7 @@ returns-in-Return-clause-turned g c = λ base all first own events standard main
     let is : b.innermost ≡ Some a = search rules in
     let counted : b.moves ≡ suc (b.moves - 1) = omega arith in
     let asking = asks_move std s _ cifs c.requires.prepared b m o a z c.take.new.self (b.moves - 1) is counted c.requires.standing c.asked.ensures.same _ (move_of c.in-Ok.asked) (return (value_of c.in-Return.value)) c.in-Ok.ensures.asked (ap move_of c.in-Return.is) base all first own events h in
-    turned_as _ base all first own (suc (b.moves - 1)) b.moves c.leave.new.self c.leave.new.machine (g.O.Sink.state c.leave.new.output) c.leave.result (sym counted) (c.leave.ensures.turned _ base all first own events z standard main c.requires.main (sym c.requires.prepared.are) tracing asking)
+    turned_as _ base all first own (suc (b.moves - 1)) b.moves c.leave.new.self c.leave.new.machine (g.O.Sink.state c.leave.new.output) c.leave.result (sym counted) (c.leave.ensures.turned _ base all first own events z standard (sym c.requires.prepared.are) tracing asking)
 
 pub returns-in-Return-clause-standing : goal.returns-in-Return-clause-standing
 returns-in-Return-clause-standing g c = λ more.
@@ -231,8 +209,8 @@ returns-in-Return-clause-standing g c = λ more.
     let counted : b.moves ≡ suc (b.moves - 1) = omega arith in
     let v = value_of c.in-Return.value in
     let t = c.requires.between in
-    let asking = asks_move std s _ cifs c.requires.prepared b m o a z c.take.new.self (b.moves - 1) is counted c.requires.standing c.asked.ensures.same _ (move_of c.in-Ok.asked) (return (value_of c.in-Return.value)) c.in-Ok.ensures.asked (ap move_of c.in-Return.is) t.0 t.1 t.2 t.3 t.4 t.8 in
-    let turned = c.leave.ensures.turned _ t.0 t.1 t.2 t.3 t.4 z t.5 t.6 c.requires.main (sym c.requires.prepared.are) t.7 asking in
+    let asking = asks_move std s _ cifs c.requires.prepared b m o a z c.take.new.self (b.moves - 1) is counted c.requires.standing c.asked.ensures.same _ (move_of c.in-Ok.asked) (return (value_of c.in-Return.value)) c.in-Ok.ensures.asked (ap move_of c.in-Return.is) t.0 t.1 t.2 t.3 t.4 t.7 in
+    let turned = c.leave.ensures.turned _ t.0 t.1 t.2 t.3 t.4 z t.5 (sym c.requires.prepared.are) t.6 asking in
     let went = went_on _ t.0 t.1 t.2 t.3 (suc (b.moves - 1)) c.leave.new.self c.leave.new.machine (g.O.Sink.state c.leave.new.output) c.leave.result turned more in
     let gone = c.leave.ensures.goes more in
     let between = between_of _ t.0 t.1 t.2 (t.3 ++ went.more) went.events c.leave.new.self (and_result gone.waited.activation v) c.leave.new.machine (g.O.Sink.state c.leave.new.output) gone.innermost went.stands in
@@ -240,10 +218,6 @@ returns-in-Return-clause-standing g c = λ more.
     let it = move_fits std s _ cifs c.requires.prepared b m o a z c.take.new.self (b.moves - 1) is counted c.requires.standing c.asked.ensures.same _ (move_of c.in-Ok.asked) (return (value_of c.in-Return.value)) c.in-Ok.ensures.asked (ap move_of c.in-Return.is) in
     let typed = subst (λ (x : Tree). fits x v ≡ true) (returns_type cifs m (call_inside b.served (reverse b.suspended.items)) a) it in
     returned_stands s _ cifs m c.leave.new.machine c.leave.new.machine.sp (c.leave.ensures.above more) (record b { innermost = c.take.new.self; moves = b.moves - 1 }) c.leave.new.self v gone above c.requires.standing.others typed
-
-pub returns-in-Return-clause-main : goal.returns-in-Return-clause-main
-returns-in-Return-clause-main g c = λ more.
-    (c.leave.ensures.goes more).served ∙ c.requires.main
 
 pub call-requires-clause-will : goal.call-requires-clause-will
 call-requires-clause-will g c =
