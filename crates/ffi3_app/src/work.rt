@@ -11,7 +11,6 @@ ghost use Rattle.ffi3_app.specs.Top.{IsDone, IsDoneInPart, IsRun};
 
 use crate::layout::layout;
 use crate::place::place;
-use ffi3_words::Request;
 use ffi3_aapcs64::Aapcs64;
 use ffi3_amd64::Amd64;
 use ffi3_body::Native;
@@ -22,6 +21,7 @@ use ffi3_riscv::Riscv;
 use ffi3_runner::{RunEnd, Runner};
 use ffi3_script::Script;
 use ffi3_types::Target;
+use ffi3_words::Request;
 use std::alloc::Global;
 
 /// Does what is asked for with a script beside natives, and says the status: 0, or 6 where the run
