@@ -8,3 +8,4 @@ mod Last
 mod Running
 mod Serving
 mod Main
+mod Preparing
