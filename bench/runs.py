@@ -17,8 +17,16 @@ def text_of(signature, body, main):
     return json.dumps(script, separators=(",", ":"))
 
 
-def flat(moves, conditions=False):
-    """One body that makes a closure and calls it: two moves for each call, each with a condition where asked."""
+def prints(moves, conditions=False):
+    """One body that prints: a move each, with a condition where asked."""
+    move = {"print": {"res": "f"}}
+    if conditions:
+        move["when"] = {"res": "f"}
+    return text_of(FLAT, [{"return": 0}], [move] * (moves - 2))
+
+
+def calls(moves, conditions=False):
+    """One body that calls a closure: two moves for each call, each with a condition where asked."""
     call = {"call": {"res": "f"}, "sig": 0, "args": [41]}
     back = {"return": {"add": [{"arg": 0}, 1]}}
     body = [back]
