@@ -1,5 +1,5 @@
 -- A run, move after move.
-use Rattle.std.proofs.Common.{◌≡◌, ℕ, suc, ◌<◌, List, ◌++◌, refl, sym, ap, ◌∙◌, subst, arith}
+use Rattle.std.proofs.Common.{◌≡◌, suc, ◌<◌, List, ◌++◌, subst, arith}
 use Rattle.std.specs.Prelude.{Bool}
 use Rattle.ffi3_place_rules.specs.Event.{Event}
 use Rattle.ffi3_place_rules.specs.Standard.{Standard}
