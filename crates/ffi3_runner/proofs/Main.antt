@@ -51,7 +51,7 @@ module _ (std : Standard) (s : Script) (natives : List NamedNative) (cifs : List
       subst P same (stands_at_start (program std s natives) std refl agrees k l o b new a who user results)
 
 -- where a run of main starts
-module _ (std : Standard) (s : Script) (natives : List NamedNative) (m : State) (o : SinkState) (b : Board Standing) (stands : StandsAt (program std s natives) (main_base std) (left_of (meaning_of (program std s natives))) (main_beginning o) [] [] b m o) where
+module _ (std : Standard) (s : Script) (natives : List NamedNative) (cifs : List Signature) (prepared : IsPrepared std s natives cifs) (m : State) (o : SinkState) (b : Board Standing) (stands : StandsAt (program std s natives) (main_base std) (left_of (meaning_of (program std s natives))) (main_beginning o) [] [] b m o) where
   pub start_between : (base : Base) × (all : Left) × (first : Beginning) × (own : List TraceItem) × (events : List Event) × (base.standard ≡ std) × StandsAt (program std s natives) base all first own events b m o
   start_between = (main_base std, left_of (meaning_of (program std s natives)), main_beginning o, [], [], refl, stands)
 

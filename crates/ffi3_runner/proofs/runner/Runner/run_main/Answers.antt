@@ -9,7 +9,7 @@ pub run_on-requires-clause-between : goal.run_on-requires-clause-between
 run_on-requires-clause-between g c =
     let m = c.args.machine.now in
     let o = g.O.Sink.state c.args.output.now in
-    start_between g.A.Abi.standard c.args.self.now.prepared.script.now _ m o c.start.new.board (c.start.ensures.between m o c.requires.begun)
+    start_between g.A.Abi.standard c.args.self.now.prepared.script.now _ c.args.self.now.prepared.cifs c.requires.prepared m o c.start.new.board (c.start.ensures.between m o c.requires.begun)
 
 pub returns-clause-done : goal.returns-clause-done
 returns-clause-done g c =
@@ -17,7 +17,7 @@ returns-clause-done g c =
     let m = c.args.machine.now in
     let o = g.O.Sink.state c.args.output.now in
     let o' = g.O.Sink.state c.run_on.new.output in
-    let ran = main_ran std c.args.self.now.prepared.script.now _ m o c.start.new.board (c.start.ensures.between m o c.requires.begun) c.run_on.new.board c.run_on.new.machine o' c.run_on.result c.run_on.ensures in
+    let ran = main_ran std c.args.self.now.prepared.script.now _ c.args.self.now.prepared.cifs c.requires.prepared m o c.start.new.board (c.start.ensures.between m o c.requires.begun) c.run_on.new.board c.run_on.new.machine o' c.run_on.result c.run_on.ensures in
     ran_done _ std c.run_on.new.board c.run_on.new.machine o o' c.run_on.result ran
 
 pub returns-clause-returns : goal.returns-clause-returns
@@ -26,7 +26,7 @@ returns-clause-returns g c =
     let m = c.args.machine.now in
     let o = g.O.Sink.state c.args.output.now in
     let o' = g.O.Sink.state c.run_on.new.output in
-    let ran = main_ran std c.args.self.now.prepared.script.now _ m o c.start.new.board (c.start.ensures.between m o c.requires.begun) c.run_on.new.board c.run_on.new.machine o' c.run_on.result c.run_on.ensures in
+    let ran = main_ran std c.args.self.now.prepared.script.now _ c.args.self.now.prepared.cifs c.requires.prepared m o c.start.new.board (c.start.ensures.between m o c.requires.begun) c.run_on.new.board c.run_on.new.machine o' c.run_on.result c.run_on.ensures in
     ran_returned _ std c.run_on.new.board c.run_on.new.machine o o' c.run_on.result ran
 
 pub returns-clause-stopped : goal.returns-clause-stopped
@@ -35,7 +35,7 @@ returns-clause-stopped g c =
     let m = c.args.machine.now in
     let o = g.O.Sink.state c.args.output.now in
     let o' = g.O.Sink.state c.run_on.new.output in
-    let ran = main_ran std c.args.self.now.prepared.script.now _ m o c.start.new.board (c.start.ensures.between m o c.requires.begun) c.run_on.new.board c.run_on.new.machine o' c.run_on.result c.run_on.ensures in
+    let ran = main_ran std c.args.self.now.prepared.script.now _ c.args.self.now.prepared.cifs c.requires.prepared m o c.start.new.board (c.start.ensures.between m o c.requires.begun) c.run_on.new.board c.run_on.new.machine o' c.run_on.result c.run_on.ensures in
     ran_stopped _ std c.run_on.new.board c.run_on.new.machine o o' c.run_on.result ran
 
 pub returns-clause-stops : goal.returns-clause-stops
@@ -44,7 +44,7 @@ returns-clause-stops g c =
     let m = c.args.machine.now in
     let o = g.O.Sink.state c.args.output.now in
     let o' = g.O.Sink.state c.run_on.new.output in
-    let ran = main_ran std c.args.self.now.prepared.script.now _ m o c.start.new.board (c.start.ensures.between m o c.requires.begun) c.run_on.new.board c.run_on.new.machine o' c.run_on.result c.run_on.ensures in
+    let ran = main_ran std c.args.self.now.prepared.script.now _ c.args.self.now.prepared.cifs c.requires.prepared m o c.start.new.board (c.start.ensures.between m o c.requires.begun) c.run_on.new.board c.run_on.new.machine o' c.run_on.result c.run_on.ensures in
     ran_stops _ std c.run_on.new.board c.run_on.new.machine o o' c.run_on.result ran
 
 pub returns-clause-no_memory : goal.returns-clause-no_memory
@@ -53,7 +53,7 @@ returns-clause-no_memory g c =
     let m = c.args.machine.now in
     let o = g.O.Sink.state c.args.output.now in
     let o' = g.O.Sink.state c.run_on.new.output in
-    let ran = main_ran std c.args.self.now.prepared.script.now _ m o c.start.new.board (c.start.ensures.between m o c.requires.begun) c.run_on.new.board c.run_on.new.machine o' c.run_on.result c.run_on.ensures in
+    let ran = main_ran std c.args.self.now.prepared.script.now _ c.args.self.now.prepared.cifs c.requires.prepared m o c.start.new.board (c.start.ensures.between m o c.requires.begun) c.run_on.new.board c.run_on.new.machine o' c.run_on.result c.run_on.ensures in
     ran_no_memory _ std c.run_on.new.board c.run_on.new.machine o o' c.run_on.result ran
 
 pub returns-clause-failed : goal.returns-clause-failed
@@ -62,7 +62,7 @@ returns-clause-failed g c =
     let m = c.args.machine.now in
     let o = g.O.Sink.state c.args.output.now in
     let o' = g.O.Sink.state c.run_on.new.output in
-    let ran = main_ran std c.args.self.now.prepared.script.now _ m o c.start.new.board (c.start.ensures.between m o c.requires.begun) c.run_on.new.board c.run_on.new.machine o' c.run_on.result c.run_on.ensures in
+    let ran = main_ran std c.args.self.now.prepared.script.now _ c.args.self.now.prepared.cifs c.requires.prepared m o c.start.new.board (c.start.ensures.between m o c.requires.begun) c.run_on.new.board c.run_on.new.machine o' c.run_on.result c.run_on.ensures in
     ran_failed _ std c.run_on.new.board c.run_on.new.machine o o' c.run_on.result ran
 
 pub returns-clause-never_falls : goal.returns-clause-never_falls
@@ -71,7 +71,7 @@ returns-clause-never_falls g c =
     let m = c.args.machine.now in
     let o = g.O.Sink.state c.args.output.now in
     let o' = g.O.Sink.state c.run_on.new.output in
-    let ran = main_ran std c.args.self.now.prepared.script.now _ m o c.start.new.board (c.start.ensures.between m o c.requires.begun) c.run_on.new.board c.run_on.new.machine o' c.run_on.result c.run_on.ensures in
+    let ran = main_ran std c.args.self.now.prepared.script.now _ c.args.self.now.prepared.cifs c.requires.prepared m o c.start.new.board (c.start.ensures.between m o c.requires.begun) c.run_on.new.board c.run_on.new.machine o' c.run_on.result c.run_on.ensures in
     ran_never_falls _ std c.run_on.new.board c.run_on.new.machine o o' c.run_on.result ran
 
 pub returns-clause-part : goal.returns-clause-part
@@ -80,7 +80,7 @@ returns-clause-part g c =
     let m = c.args.machine.now in
     let o = g.O.Sink.state c.args.output.now in
     let o' = g.O.Sink.state c.run_on.new.output in
-    let ran = main_ran std c.args.self.now.prepared.script.now _ m o c.start.new.board (c.start.ensures.between m o c.requires.begun) c.run_on.new.board c.run_on.new.machine o' c.run_on.result c.run_on.ensures in
+    let ran = main_ran std c.args.self.now.prepared.script.now _ c.args.self.now.prepared.cifs c.requires.prepared m o c.start.new.board (c.start.ensures.between m o c.requires.begun) c.run_on.new.board c.run_on.new.machine o' c.run_on.result c.run_on.ensures in
     ran_part _ std c.run_on.new.board c.run_on.new.machine o o' c.run_on.result ran
 
 pub returns-clause-left : goal.returns-clause-left
@@ -89,5 +89,5 @@ returns-clause-left g c =
     let m = c.args.machine.now in
     let o = g.O.Sink.state c.args.output.now in
     let o' = g.O.Sink.state c.run_on.new.output in
-    let ran = main_ran std c.args.self.now.prepared.script.now _ m o c.start.new.board (c.start.ensures.between m o c.requires.begun) c.run_on.new.board c.run_on.new.machine o' c.run_on.result c.run_on.ensures in
+    let ran = main_ran std c.args.self.now.prepared.script.now _ c.args.self.now.prepared.cifs c.requires.prepared m o c.start.new.board (c.start.ensures.between m o c.requires.begun) c.run_on.new.board c.run_on.new.machine o' c.run_on.result c.run_on.ensures in
     ran_left _ std c.run_on.new.board c.run_on.new.machine o o' c.run_on.result ran
