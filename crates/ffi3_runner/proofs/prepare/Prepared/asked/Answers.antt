@@ -1,4 +1,4 @@
-use Rattle.std.proofs.Common.{◌≡◌, List, [], Option, Some, None, reverse, sym, ap, ◌∙◌}
+use Rattle.std.proofs.Common.{◌≡◌, List, [], Option, Some, None, reverse, sym, ap, ◌∙◌, rules}
 use Rattle.ffi3_type_rules.specs.Signature.{signature_at}
 use Rattle.ffi3_ask.specs.declared.standing.Standing.{Standing}
 use Rattle.ffi3_board.specs.declared.activation.OpenCall.{OpenCall}
@@ -44,7 +44,7 @@ asked_by_callee-requires-clause-high g c =
 pub asked_by_callee-requires-in-Some-served-clause-below : goal.asked_by_callee-requires-in-Some-served-clause-below
 asked_by_callee-requires-in-Some-served-clause-below g c =
     let b = c.args.board.now in
-    let k = c.in-Some-served.call.now in
+    let k = c.in-Some-served.call in
     let none : b.suspended.items ≡ [] = sym c.deref.ensures.value ∙ last_none c.deref.result.now (sym c.in-None.ensures.value) in
     let is : b.served ≡ Some k = search rules in
     let t = c.requires.holds in
@@ -54,7 +54,7 @@ asked_by_callee-requires-in-Some-served-clause-below g c =
 pub asked_by_callee-requires-in-Some-served-clause-block : goal.asked_by_callee-requires-in-Some-served-clause-block
 asked_by_callee-requires-in-Some-served-clause-block g c =
     let b = c.args.board.now in
-    let k = c.in-Some-served.call.now in
+    let k = c.in-Some-served.call in
     let none : b.suspended.items ≡ [] = sym c.deref.ensures.value ∙ last_none c.deref.result.now (sym c.in-None.ensures.value) in
     let is : b.served ≡ Some k = search rules in
     let t = c.requires.holds in
@@ -64,7 +64,7 @@ asked_by_callee-requires-in-Some-served-clause-block g c =
 pub asked_by_callee-requires-in-Some-served-clause-low : goal.asked_by_callee-requires-in-Some-served-clause-low
 asked_by_callee-requires-in-Some-served-clause-low g c =
     let b = c.args.board.now in
-    let k = c.in-Some-served.call.now in
+    let k = c.in-Some-served.call in
     let none : b.suspended.items ≡ [] = sym c.deref.ensures.value ∙ last_none c.deref.result.now (sym c.in-None.ensures.value) in
     let is : b.served ≡ Some k = search rules in
     let t = c.requires.holds in
@@ -74,7 +74,7 @@ asked_by_callee-requires-in-Some-served-clause-low g c =
 pub asked_by_callee-requires-in-Some-served-clause-high : goal.asked_by_callee-requires-in-Some-served-clause-high
 asked_by_callee-requires-in-Some-served-clause-high g c =
     let b = c.args.board.now in
-    let k = c.in-Some-served.call.now in
+    let k = c.in-Some-served.call in
     let none : b.suspended.items ≡ [] = sym c.deref.ensures.value ∙ last_none c.deref.result.now (sym c.in-None.ensures.value) in
     let is : b.served ≡ Some k = search rules in
     let t = c.requires.holds in
@@ -98,7 +98,7 @@ returns-in-Some-served-clause-asked g c =
     let a = c.args.current.now in
     let cifs = c.args.self.now.cifs in
     let m = c.args.machine.now in
-    let k = c.in-Some-served.call.now in
+    let k = c.in-Some-served.call in
     let none : b.suspended.items ≡ [] = sym c.deref.ensures.value ∙ last_none c.deref.result.now (sym c.in-None.ensures.value) in
     let is : b.served ≡ Some k = search rules in
     let call : call_inside b.served (reverse b.suspended.items) ≡ Some k = ap (λ (l : List (Waiting Standing)). call_inside b.served (reverse l)) none ∙ is in
