@@ -94,12 +94,20 @@ impl Shapes {
             let inner = boxed(alloc, Expr::Outcome(0))?;
             start = sum(alloc, start, inner)?;
         }
-        push(&mut moves, returns(with_arguments(alloc, start, self.kinds(s))?))?;
+        push(
+            &mut moves,
+            returns(with_arguments(alloc, start, self.kinds(s))?),
+        )?;
         Ok(moves)
     }
 
     /// The moves of main: so many calls, drawn one after another.
-    pub fn main(&self, alloc: Global, draws: &mut Draws, calls: u32) -> Result<Vec<ScriptMove>, NoMemory>
+    pub fn main(
+        &self,
+        alloc: Global,
+        draws: &mut Draws,
+        calls: u32,
+    ) -> Result<Vec<ScriptMove>, NoMemory>
         requires { calls ≤ 1000 }
         ensures are { IfOk result
             (λ ms. script_moves_of ms.items ≡ made_main (types_in self.now) calls (state_of draws.old)) }

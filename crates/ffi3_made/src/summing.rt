@@ -69,12 +69,7 @@ fn with_element(
 }
 
 // A sum, and all integer leaves of argument `i`, which is of a kind.
-fn with_leaves(
-    alloc: Global,
-    so_far: Box<Expr>,
-    kind: Kind,
-    i: u32,
-) -> Result<Box<Expr>, NoMemory>
+fn with_leaves(alloc: Global, so_far: Box<Expr>, kind: Kind, i: u32) -> Result<Box<Expr>, NoMemory>
     ensures { IfOk result
         (λ e. expression_of e.value ≡ with_leaves (expression_of so_far.value) (type_of kind) (script.argument i)) }
 {
