@@ -1,7 +1,8 @@
 """Wrong runs, to see that a comparison of runs finds them: each has ffi3 run a script that is changed in one way.
 
 What the changed script prints is what a program with that error would print of the script as it is. Each error is a
-function that changes a copy of a script; where it has nothing to change, the script is left as it is.
+function that changes a copy of a script; where it has nothing to change, the script is left as it is. Errors of traces
+change the lines of a traced run.
 """
 
 import copy
@@ -101,6 +102,54 @@ def twice_once(script):
 ERRORS = [sum_with_one_more, arguments_exchanged, element_dropped, freed_closure_called, user_data_of_another,
           condition_left_out, function_of_the_next]
 ERRORS_OF_NATIVES = [twice_once]
+
+
+def starts(lines, word):
+    return [at for at, line in enumerate(lines) if line.startswith(f"{word} ")]
+
+
+def leave_before_the_end(lines):
+    """A leave is told before what the call does."""
+    for at in starts(lines, "leave")[:1]:
+        entered = [before for before in starts(lines, "enter") if before < at][-1]
+        return lines[:entered + 2] + lines[at:at + 2] + lines[entered + 2:at] + lines[at + 2:]
+    return lines
+
+
+def keep_of_another_event(lines):
+    """The last leave has the registers of another event."""
+    for at in starts(lines, "leave")[-1:]:
+        return [*lines[:at + 1], lines[at + 1].replace("a5a5", "a5a6", 1), *lines[at + 2:]]
+    return lines
+
+
+def arguments_of_another_call(lines):
+    """An enter tells the arguments of the one after it."""
+    told = starts(lines, "enter")[:2]
+    if len(told) == 2:
+        arguments = [lines[at].rsplit(" ", 1) for at in told]
+        lines = [*lines[:told[0]], f"{arguments[0][0]} {arguments[1][1]}", *lines[told[0] + 1:]]
+    return lines
+
+
+def stack_pointer_of_the_callee(lines):
+    """A leave tells the stack pointer that its enter tells."""
+    for at in starts(lines, "leave")[:1]:
+        entered = [before for before in starts(lines, "enter") if before < at][-1]
+        words = lines[at].split(" ")
+        words[2] = lines[entered].split(" ")[3]
+        return [*lines[:at], " ".join(words), *lines[at + 1:]]
+    return lines
+
+
+def print_left_out(lines):
+    """A traced run leaves a print out."""
+    prints = [at for at, line in enumerate(lines) if line.split(" ")[0] not in ("enter", "leave", "keep", "stop:")]
+    return [line for at, line in enumerate(lines) if at not in prints[:1]]
+
+
+ERRORS_OF_TRACES = [leave_before_the_end, keep_of_another_event, arguments_of_another_call, stack_pointer_of_the_callee,
+                    print_left_out]
 
 
 def changed(error, script):
