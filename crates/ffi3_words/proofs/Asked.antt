@@ -6,8 +6,8 @@ use Rattle.std.specs.Str.{bytes_eq}
 use Rattle.std.proofs.lemmas.Slice.Eq.{bytes_eq-Decides}
 use Rattle.clap.specs.Facts.{explicit_source}
 use Rattle.clap.specs.Lexer.{long_of, short_of}
-use Rattle.clap.specs.Words.{App, Row, Rule, Shape, Text, fault_of, subcommand_of, built}
-use Rattle.clap.specs.Walk.{Held, Names, Outcome, Step, Waiting, Walk, after_flag, after_step, arg_by_index, done, finished, idle, long_or_other, next, nothing_held, option, plain, plain_word, positional, refused, settled, short_or_plain, subcommand, subcommand_or_other, to_positional, trailing, value, waits, walk, walked, walked_from}
+use Rattle.clap.specs.Words.{App, Row, Rule, Shape, Text, fault_of, first_of, subcommand_of, built}
+use Rattle.clap.specs.Walk.{Held, Names, Outcome, Step, Waiting, Walk, after_flag, after_step, arg_by_index, done, finished, idle, long_or_other, next, nothing_held, option, plain, plain_word, positional, refused, rows_after, settled, short_or_plain, subcommand, subcommand_or_other, to_positional, trailing, value, waits, walk, walked, walked_from}
 use Rattle.clap.specs.Simple.{argument_words, entered, names_of}
 use Rattle.clap.specs.Faults.{check_fault, defaults_fault, entered_fault, other_fault, settle_fault, turn_fault, walk_fault}
 use Rattle.clap.specs.declared.error.kind.ErrorKind.TheVariants.{DisplayHelpOnMissingArgumentOrSubcommand, MissingSubcommand}
@@ -15,8 +15,8 @@ use Rattle.ffi3_type_rules.specs.declared.Target.{Target}
 use Rattle.ffi3_type_rules.specs.declared.Target.TheVariants.{Amd64, Aapcs64, Riscv}
 use Rattle.ffi3_words.specs.declared.words.Request.{Request}
 use Rattle.ffi3_words.specs.declared.words.Request.TheVariants.{Layout, Place, Run}
-use Rattle.ffi3_words.specs.WordCommands.{Addresses, asked, one_of_words, targets, program, target_of, with_target_of}
-use Rattle.ffi3_words.proofs.Level.{has_target, never, or_none}
+use Rattle.ffi3_words.specs.WordCommands.{Addresses, asked, is_set, one_of_words, targets, program, target_of, with_target_of}
+use Rattle.ffi3_words.proofs.Level.{built_target, has_target, has_target_traced, never, or_none, trace_and_help}
 
 -- ---- a step at which no command is met
 
@@ -165,9 +165,11 @@ module _ (at at' : Addresses) where
 
   asks_run : (rest : List Text) → entered_fault app (Some (codes "run", rest)) ≡ [] → Asks (Some (codes "run", rest))
   asks_run rest fine =
-      let got = has_target (codes "run") (one_of_words at' targets) rest fine in
+      let got = has_target_traced (codes "run") (one_of_words at' targets) rest fine in
       let is = is_target got.0 _ _ _ refl refl refl got.1 in
-      (Run is.0, ap (λ o. with_target_of o (λ t. Run t)) got.2 ∙ ap (option_map (λ t. Run t)) is.1)
+      let rules = built_target (one_of_words at' targets) ∷ trace_and_help in
+      let trace : Bool = is_set (first_of (codes "trace") (rows_after rules [] rest)) in
+      (Run is.0 trace, ap (λ o. with_target_of o (λ t. Run t trace)) got.2 ∙ ap (option_map (λ t. Run t trace)) is.1)
 
   wants : (wants_help : Bool) → cond wants_help (DisplayHelpOnMissingArgumentOrSubcommand ∷ []) (MissingSubcommand ∷ []) ≡ [] → ⊥
   wants true fine = never fine

@@ -4,6 +4,7 @@ use Rattle.std.specs.Option.{option_map}
 use Rattle.clap.specs.Words.{Row, Text, first_of, subcommand_name_of, subcommand_rows_of}
 use Rattle.clap.specs.declared.parser.matches.ArgMatches.{ArgMatches}
 use Rattle.clap.specs.declared.parser.matches.ArgMatches.TheViews.{out-ArgMatches}
+use Rattle.ffi3_words.specs.declared.words.Request.{Request}
 use Rattle.ffi3_words.specs.WordCommands.{asked, request_of}
 
 two_maps : {X Y Z : Type 0} (f : Y → Z) (g : X → Y) (o : Option X) → option_map f (option_map g o) ≡ option_map (λ x. f (g x)) o
@@ -14,9 +15,10 @@ two_maps f g (Some x) = refl
 pub name_met : (m : ArgMatches) → option_map (λ p. p.0) (subcommand_rows_of m) ≡ subcommand_name_of m
 name_met m = two_maps _ _ (out-ArgMatches m).subcommand
 
-pub asks : (o : Option (Text × List Row)) (name : Text) (rows : List Row) (target : Option Text) → Some name ≡ option_map (λ p. p.0) o → Some rows ≡ option_map (λ p. p.1) o → target ≡ first_of (codes "target") rows → request_of name target ≡ asked o
-asks None name rows target named with_rows is = cc
-asks (Some p) name rows target named with_rows is =
+pub asks : (o : Option (Text × List Row)) (name : Text) (rows : List Row) (target trace : Option Text) → Some name ≡ option_map (λ p. p.0) o → Some rows ≡ option_map (λ p. p.1) o → target ≡ first_of (codes "target") rows → trace ≡ first_of (codes "trace") rows → request_of name target trace ≡ asked o
+asks None name rows target trace named with_rows is is_traced = cc
+asks (Some p) name rows target trace named with_rows is is_traced =
     let same_name : name ≡ p.0 = cc in
     let same_rows : rows ≡ p.1 = cc in
-    ap₂ request_of same_name (is ∙ ap (first_of (codes "target")) same_rows)
+    let same_options : request_of name target ≡ request_of p.0 (first_of (codes "target") p.1) = ap₂ request_of same_name (is ∙ ap (first_of (codes "target")) same_rows) in
+    ap₂ (λ (f : Option Text → Option Request) (t : Option Text). f t) same_options (is_traced ∙ ap (first_of (codes "trace")) same_rows)

@@ -1,5 +1,5 @@
 -- Stated words are taken, and read as what they state.
-use Rattle.std.proofs.Common.{◌≡◌, List, [], ◌∷◌, codes, Some, refl, sym, subst}
+use Rattle.std.proofs.Common.{◌≡◌, true, false, List, [], ◌∷◌, codes, Some, inl, inr, refl, sym, subst}
 use Rattle.clap.specs.Words.{Text, fault_of, subcommand_of}
 use Rattle.clap.proofs.OnLiterals.{clap_on_literals}
 use Rattle.ffi3_type_rules.specs.declared.Target.{Target}
@@ -25,16 +25,32 @@ module _ (at at' : Addresses) (name : Text) where
   places Aapcs64 = (refl, refl)
   places Riscv = (refl, refl)
 
-  runs : (t : Target) → Reads (codes "run" ∷ codes "--target" ∷ target_word t ∷ []) (Run t)
+  runs : (t : Target) → Reads (codes "run" ∷ codes "--target" ∷ target_word t ∷ []) (Run t false)
   unfolding clap_on_literals
   runs Amd64 = (refl, refl)
   runs Aapcs64 = (refl, refl)
   runs Riscv = (refl, refl)
 
+  traces_first : (t : Target) → Reads (codes "run" ∷ codes "--trace" ∷ codes "--target" ∷ target_word t ∷ []) (Run t true)
+  unfolding clap_on_literals
+  traces_first Amd64 = (refl, refl)
+  traces_first Aapcs64 = (refl, refl)
+  traces_first Riscv = (refl, refl)
+
+  traces_last : (t : Target) → Reads (codes "run" ∷ codes "--target" ∷ target_word t ∷ codes "--trace" ∷ []) (Run t true)
+  unfolding clap_on_literals
+  traces_last Amd64 = (refl, refl)
+  traces_last Aapcs64 = (refl, refl)
+  traces_last Riscv = (refl, refl)
+
   states : (rest : List Text) (r : Request) → StatesAfterName rest r → Reads rest r
   states rest Layout is = subst (λ ws. Reads ws Layout) (sym is) lays
   states rest (Place t) is = subst (λ ws. Reads ws (Place t)) (sym is) (places t)
-  states rest (Run t) is = subst (λ ws. Reads ws (Run t)) (sym is) (runs t)
+  states rest (Run t false) is = subst (λ ws. Reads ws (Run t false)) (sym is) (runs t)
+  states rest (Run t true) (inl is) =
+      subst (λ ws. Reads ws (Run t true)) (sym is) (traces_first t)
+  states rest (Run t true) (inr is) =
+      subst (λ ws. Reads ws (Run t true)) (sym is) (traces_last t)
 
 -- STATED WORDS ARE TAKEN, and read as what they state
 pub stated_is_read : (at at' : Addresses) (words : List Text) (r : Request) → IsStated words r → (fault_of (program at at') words ≡ []) × (asked (subcommand_of (program at at') words) ≡ Some r)

@@ -1,5 +1,5 @@
 -- The words that ask for something, and those that clap takes and refuses.
-use Rattle.std.specs.Prelude.{◌≡◌, List, [], ◌∷◌, codes, Some}
+use Rattle.std.specs.Prelude.{◌≡◌, ◌⊎◌, true, false, List, [], ◌∷◌, codes, Some}
 use Rattle.clap.specs.Words.{Text, fault_of, kind_of, subcommand_of}
 use Rattle.clap.specs.declared.error.Error.{Error}
 use Rattle.clap.specs.declared.error.kind.ErrorKind.TheVariants.{OutOfMemory}
@@ -20,9 +20,11 @@ target_word Riscv = codes "riscv"
 abbrev pub StatesAfterName : List Text → Request → Type 0
 StatesAfterName rest Layout = rest ≡ codes "layout" ∷ []
 StatesAfterName rest (Place t) = rest ≡ codes "place" ∷ codes "--target" ∷ target_word t ∷ []
-StatesAfterName rest (Run t) = rest ≡ codes "run" ∷ codes "--target" ∷ target_word t ∷ []
+StatesAfterName rest (Run t false) = rest ≡ codes "run" ∷ codes "--target" ∷ target_word t ∷ []
+StatesAfterName rest (Run t true) =
+    (rest ≡ codes "run" ∷ codes "--trace" ∷ codes "--target" ∷ target_word t ∷ []) ⊎ (rest ≡ codes "run" ∷ codes "--target" ∷ target_word t ∷ codes "--trace" ∷ [])
 
--- THE STATED WORDS of what is asked for: the program's name, and then `layout`, `place --target T` or `run --target T`
+-- THE STATED WORDS of what is asked for: the program's name, and then `layout`, `place --target T` or `run --target T`, where `--trace` stands before the target or after it
 abbrev pub IsStated : List Text → Request → Type 0
 IsStated [] r = ⊥
 IsStated (name ∷ rest) r = StatesAfterName rest r

@@ -2,10 +2,10 @@
 ghost use Rattle.std.specs.Prelude.{◌≡◌, IfOk, false, codes};
 ghost use Rattle.clap.specs.Words.{app_of, rule_of, shape_of};
 ghost use Rattle.clap.specs.declared.builder.command.Command.TheViews.{out-Command};
-ghost use Rattle.ffi3_words.specs.WordCommands.{IsProgram, IsTargetRule, HasTarget, layout_shape, targets};
+ghost use Rattle.ffi3_words.specs.WordCommands.{IsProgram, IsTargetRule, HasTarget, IsTraceable, layout_shape, targets, trace_rule};
 
 use crate::help;
-use clap::{Arg, Command};
+use clap::{Arg, ArgAction, Command};
 use std::alloc::{AllocError, Global};
 
 /// The words of the targets.
@@ -49,14 +49,15 @@ fn place<'a>(alloc: Global) -> Result<Command<'a>, AllocError>
 }
 
 fn run<'a>(alloc: Global) -> Result<Command<'a>, AllocError>
-    ensures shape { IfOk result (λ c. HasTarget (codes "run") targets (shape_of c)) }
+    ensures shape { IfOk result (λ c. IsTraceable (codes "run") targets (shape_of c)) }
     ensures local { IfOk result (λ c. (out-Command c).has_globals ≡ false) }
 {
     Command::new(alloc, "run")
         .about(help::RUN_ABOUT)
         .long_about(help::RUN_LONG_ABOUT)
         .after_help(help::RUN_AFTER_HELP)
-        .arg(target(alloc, TARGETS.as_slice()))
+        .arg(target(alloc, TARGETS.as_slice()))?
+        .arg(trace(alloc))
 }
 
 // The option `--target`, which has to be one of these words.
@@ -70,4 +71,15 @@ fn target<'a>(alloc: Global, words: &'a [&'a str]) -> Arg<'a>
         .required(true)
         .value_parser(words)
         .help(help::TARGET_HELP)
+}
+
+// The flag `--trace`.
+fn trace<'a>(alloc: Global) -> Arg<'a>
+    ensures rule { rule_of result ≡ trace_rule }
+    ensures local { result.global ≡ false }
+{
+    Arg::new(alloc, "trace")
+        .long("trace")
+        .action(ArgAction::SetTrue)
+        .help(help::TRACE_HELP)
 }

@@ -101,7 +101,21 @@ Reads a script of at most 1,048,576 bytes from standard input. Does what its
 main function says: makes closures, calls them by the calling convention of
 the target, and writes the lines that the script prints. Registers, stack and
 closure code are modelled in software, for each of the three targets alike: no
-code of the host is called.";
+code of the host is called.
+
+With --trace, before the target or after it, each call of a closure writes two
+lines more as it enters, and two as it returns:
+
+  enter 0x10040 sp 0x7ffefff8 (0x10000,40)
+  keep a5a5000000000003 a5a5000000000005 ..
+  leave sp 0x7fff0000 142
+  keep a5a5000000000003 a5a5000000000005 ..
+
+enter shows the address of the closure, the stack pointer as its function
+begins, and the arguments that the function finds; leave shows the stack
+pointer after the return, and the result. keep shows the registers that the
+function has to preserve, so that of the return equals that of the entry.
+Where a function calls, the lines of that call stand between its own.";
 
 pub const RUN_AFTER_HELP: &str = "Targets:
   amd64    System V psABI for AMD64
@@ -117,7 +131,10 @@ Exit status:
   5  out of memory
   6  the run stopped: the last line of output says why
 
-Example:
-  ffi3 run --target amd64 < examples/increment.json";
+Examples:
+  ffi3 run --target amd64 < examples/increment.json
+  ffi3 run --target amd64 --trace < examples/callback.json";
 
 pub const TARGET_HELP: &str = "Follow the calling convention of this target";
+
+pub const TRACE_HELP: &str = "Write lines for each call's entry and return too";

@@ -1,7 +1,7 @@
 //! What the words of the program ask for.
 ghost use Rattle.std.specs.Prelude.{◌≡◌, IfOk, IfErr, Some, map, option_map, string_bytes};
 ghost use Rattle.clap.specs.Words.{subcommand_rows_of};
-ghost use Rattle.ffi3_words.specs.WordCommands.{asked, request_of, target_of};
+ghost use Rattle.ffi3_words.specs.WordCommands.{asked, is_set, request_of, target_of};
 ghost use Rattle.ffi3_words.specs.Words.{IsStated, IsWordsRefusal, IsToldAs, Takes};
 
 use crate::command::program;
@@ -17,8 +17,8 @@ pub enum Request {
     Layout,
     /// The frame and the places of every signature.
     Place { target: Target },
-    /// A run on a modelled machine.
-    Run { target: Target },
+    /// A run on a modelled machine, with the lines of a trace or without.
+    Run { target: Target, trace: bool },
 }
 
 /// Why the words ask for nothing that can be done.
@@ -56,12 +56,12 @@ fn request_of(matches: &ArgMatches<'_>) -> Option<Request>
     ensures { result ≡ asked (subcommand_rows_of matches.now) }
 {
     let (name, options) = matches.subcommand()?;
-    named(name, options.get_str("target"))
+    named(name, options.get_str("target"), options.get_str("trace"))
 }
 
-// What a command asks for, with its target.
-fn named(name: &str, target: Option<&str>) -> Option<Request>
-    ensures { result ≡ request_of name.now (option_map (λ t. t.now) target.entry) }
+// What a command asks for, with its target and its flag.
+fn named(name: &str, target: Option<&str>, trace: Option<&str>) -> Option<Request>
+    ensures { result ≡ request_of name.now (option_map (λ t. t.now) target.entry) (option_map (λ t. t.now) trace.entry) }
 {
     if name == "layout" {
         return Some(Request::Layout);
@@ -71,9 +71,22 @@ fn named(name: &str, target: Option<&str>) -> Option<Request>
         return Some(Request::Place { target });
     }
     if name == "run" {
-        return Some(Request::Run { target });
+        return Some(Request::Run {
+            target,
+            trace: is_set(trace),
+        });
     }
     None
+}
+
+// Whether a flag of this value is set.
+fn is_set(value: Option<&str>) -> bool
+    ensures { result ≡ is_set (option_map (λ t. t.now) value.entry) }
+{
+    match value {
+        Some(word) => word == "true",
+        None => false,
+    }
 }
 
 // The target of this name.
