@@ -65,12 +65,12 @@ module _ (natives : List NamedNative) (output output' : SinkState) (machine mach
   done_status : (q : Request) (s : Script) (status : ℕ) → IsDone q natives s output output' machine machine' status → status ≡ status_when_done q natives s
   done_status Layout s status is = is.2
   done_status (Place t) s status is = is.2
-  done_status (Run t) s status is = is.1
+  done_status (Run t trace) s status is = is.1
 
   done_count : (q : Request) (s : Script) (status : ℕ) → IsDone q natives s output output' machine machine' status → output'.faults ≡ output.faults
   done_count Layout s status is = is.0.count
   done_count (Place t) s status is = is.0.count
-  done_count (Run t) s status is = is.0.written.count
+  done_count (Run t trace) s status is = is.0.written.count
 
 pub no_fault_counted : (before after : SinkState) (e : IoError) → e ≡ end.NoMemory → IsCause e before.faults after.faults → after.faults ≡ before.faults
 no_fault_counted before after e is cause = subst (λ w. IsCause w before.faults after.faults) is cause
@@ -86,7 +86,7 @@ not_two (stopped stop) is = cc
 done_not_two : (q : Request) (natives : List NamedNative) (s : Script) → status_when_done q natives s ≡ 2 → ⊥
 done_not_two Layout natives s is = cc
 done_not_two (Place t) natives s is = cc
-done_not_two (Run t) natives s is = not_two _ is
+done_not_two (Run t trace) natives s is = not_two _ is
 
 pub work_not_two : (q : Request) (natives : List NamedNative) (s : Script) (output output' : SinkState) (machine machine' : State) (status : ℕ) → IsDone q natives s output output' machine machine' status → status ≡ 2 → ⊥
 work_not_two q natives s output output' machine machine' status is two =

@@ -10,7 +10,8 @@ use Rattle.ffi3_aapcs64_rules.specs.Aapcs64.{aapcs64}
 use Rattle.ffi3_riscv_rules.specs.Riscv.{riscv}
 use Rattle.ffi3_script_rules.specs.Script.{Script}
 use Rattle.ffi3_script_rules.specs.Natives.{NamedNative, program_beside}
-use Rattle.ffi3_run_rules.specs.Lines.{untraced, text_of_run}
+use Rattle.ffi3_run_rules.specs.Lines.{text_of_run}
+use Rattle.ffi3_turn_rules.specs.MainTracing.{main_tracing}
 use Rattle.ffi3_text.specs.LayoutLines.{layout_text_of}
 use Rattle.ffi3_text.specs.PlaceLines.{sig_text_of, place_text_of}
 use Rattle.ffi3_words.specs.declared.words.Request.{Request}
@@ -58,5 +59,5 @@ place_text std script = joined (lines_from (place_lines std) 0 script.signatures
 abbrev pub command_text : Request → List NamedNative → Script → List ℕ
 command_text Layout natives script = layout_text script
 command_text (Place t) natives script = place_text (standard_of t) script
-command_text (Run t) natives script =
-    text_of_run untraced (program_beside (standard_of t) natives script)
+command_text (Run t trace) natives script =
+    text_of_run (main_tracing trace (standard_of t)) (program_beside (standard_of t) natives script)

@@ -9,10 +9,7 @@ use ffi3_types::NoMemory;
 use std::alloc::Global;
 
 /// The names that a script is read beside, in the order of the natives.
-pub fn names_of_natives(
-    alloc: Global,
-    natives: &Vec<Box<dyn Native>>,
-) -> Result<Names, NoMemory>
+pub fn names_of_natives(alloc: Global, natives: &Vec<Box<dyn Native>>) -> Result<Names, NoMemory>
     requires { length natives.now.items < 2 ^ 31 }
     ensures { IfOk result (λ names. names ≡ names_of (map (λ b. handed_in (title b) (meaning b) (signatures b)) natives.now.items)) }
 {

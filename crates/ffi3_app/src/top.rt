@@ -12,11 +12,11 @@ ghost use Rattle.ffi3_app.specs.Top.{Says, refusal_of, status_when_done};
 use crate::load::load;
 use crate::names::names_of_natives;
 use crate::tell::{tell, tell_refusal};
-use ffi3_words::{WordsFault, read_words};
 use crate::work::work;
 use ffi3_body::Native;
 use ffi3_io::{IoError, Sink, Source};
 use ffi3_machine::Machine;
+use ffi3_words::{WordsFault, read_words};
 use std::alloc::Global;
 
 /// Does what the words ask for, and answers the status of the program.
