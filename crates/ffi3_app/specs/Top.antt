@@ -1,5 +1,5 @@
 -- WHAT THE TOP CALL SAYS, by its status.
-use Rattle.std.specs.Prelude.{Bool, ◌≡◌, ℕ, ◌+◌, ◌⊎◌, List, [], ◌++◌, take, drop, Option, Some, None, codes}
+use Rattle.std.specs.Prelude.{◌≡◌, ℕ, Bool, true, false, ◌+◌, ◌⊎◌, List, [], ◌++◌, take, drop, Option, Some, None, codes}
 use Rattle.ffi3_io.specs.Sink.{Adds, AddsSome, Rose}
 use Rattle.ffi3_io.specs.Source.{LosesSome, SourceState}
 use Rattle.ffi3_place_rules.specs.Standard.{Standard}
@@ -12,7 +12,8 @@ use Rattle.ffi3_script_rules.specs.Script.{Script}
 use Rattle.ffi3_script_rules.specs.Reading.{Reading, too_long, not_json, bad_script, script, IsReading, max_length}
 use Rattle.ffi3_script_rules.specs.Natives.{NamedNative, names_of, program_beside}
 use Rattle.ffi3_machine.specs.State.{State}
-use Rattle.ffi3_runner.specs.RunMatches.{RunMatches}
+use Rattle.ffi3_runner.specs.RunMatches.{RunMatches, WrotePart}
+use Rattle.ffi3_runner.specs.RunCut.{RunWasCut}
 use Rattle.ffi3_io.specs.Sink.{SinkState}
 use Rattle.ffi3_io.specs.Written.{TookText}
 use Rattle.ffi3_words.specs.declared.words.Request.{Request}
@@ -76,8 +77,8 @@ status_when_done (Place t) natives s = 0
 status_when_done (Run t trace) natives s =
     status_of (meaning_of (program_beside (standard_of t) natives s)).end
 
--- A RUN IS DONE, traced or not, by a calling standard: it is told whole, and its status says how it ended
-abbrev pub IsRun : Bool → Standard → List NamedNative → Script → SinkState → SinkState → State → ℕ → Type 0
+-- A RUN IS DONE, by a calling standard and traced or not: it is told whole, and its status says how it ended
+abbrev pub IsRun : (trace : Bool) → Standard → List NamedNative → Script → SinkState → SinkState → State → ℕ → Type 0
 IsRun trace std natives s output output' machine' status =
     RunMatches (main_tracing trace std) std (program_beside std natives s) output output' machine' × (status ≡ status_of (meaning_of (program_beside std natives s)).end)
 
@@ -90,14 +91,19 @@ IsDone (Place t) natives s output output' machine machine' status =
 IsDone (Run t trace) natives s output output' machine machine' status =
     IsRun trace (standard_of t) natives s output output' machine' status
 
--- a first part of the text was written, and only a run changes the machine
-abbrev pub KeepsMachine : Request → State → State → Type 0
-KeepsMachine (Run t trace) machine machine' = Unit {0}
-KeepsMachine _ machine machine' = machine' ≡ machine
+-- A RUN IS DONE IN PART, cut off in a line or elsewhere: a first part of its text is written, and it is told as far as it came
+abbrev pub IsRunInPart : (in_line trace : Bool) → Standard → List NamedNative → Script → SinkState → SinkState → State → Type 0
+IsRunInPart in_line trace std natives s output output' machine' =
+    WrotePart (main_tracing trace std) (program_beside std natives s) output output' × RunWasCut (main_tracing trace std) std (program_beside std natives s) in_line output output' machine'
 
-abbrev pub IsDoneInPart : Request → List NamedNative → Script → SinkState → SinkState → State → State → Type 0
-IsDoneInPart request natives s output output' machine machine' =
-    ((part : ℕ) × Adds output.taken (take part (command_text request natives s)) output'.taken) × KeepsMachine request machine machine'
+-- THE WORK IS DONE IN PART: a first part of the text is written; the commands that do not run leave the machine as it was
+abbrev pub IsDoneInPart : (in_line : Bool) → Request → List NamedNative → Script → SinkState → SinkState → State → State → Type 0
+IsDoneInPart in_line Layout natives s output output' machine machine' =
+    ((part : ℕ) × Adds output.taken (take part (command_text Layout natives s)) output'.taken) × (machine' ≡ machine)
+IsDoneInPart in_line (Place t) natives s output output' machine machine' =
+    ((part : ℕ) × Adds output.taken (take part (command_text (Place t) natives s)) output'.taken) × (machine' ≡ machine)
+IsDoneInPart in_line (Run t trace) natives s output output' machine machine' =
+    IsRunInPart in_line trace (standard_of t) natives s output output' machine'
 
 -- ---- statuses
 
@@ -109,14 +115,14 @@ pub data ReportsFault (line : List ℕ) (status : ℕ) (before after : SinkState
 -- nothing was written, and the machine is as it was; or what the input is read as was begun
 abbrev pub BeganOrNot : Request → List NamedNative → SourceState → SourceState → SinkState → SinkState → State → State → Type 0
 BeganOrNot request natives input input' output output' machine machine' =
-    ((output' ≡ output) × (machine' ≡ machine)) ⊎ ((s : Script) × ReadAs (names_of natives) input (script s) × IsAtEnd input input' × IsDoneInPart request natives s output output' machine machine')
+    ((output' ≡ output) × (machine' ≡ machine)) ⊎ ((s : Script) × ReadAs (names_of natives) input (script s) × IsAtEnd input input' × IsDoneInPart false request natives s output output' machine machine')
 
 -- WHAT GOES WRONG, with the status and the line that tell it: its cause, what was written, and what stayed as it was
 pub data Fails (words : List (List ℕ)) (natives : List NamedNative) (input input' : SourceState) (output output' : SinkState) (machine machine' : State) : ℕ → List ℕ → Type 0 where
   refused : {request : Request} → Takes words request → (r : Reading) → {line : List ℕ} → refusal_of r ≡ Some line → ReadAs (names_of natives) input r → IsRead input input' → input'.faults ≡ input.faults → output' ≡ output → machine' ≡ machine → Fails words natives input input' output output' machine machine' 1 line
   bad_words : {line : List ℕ} → IsRefused words → input' ≡ input → output' ≡ output → machine' ≡ machine → Fails words natives input input' output output' machine machine' 2 line
   read_failed : {request : Request} → Takes words request → Rose input.faults input'.faults → IsReadInPart input input' → output' ≡ output → machine' ≡ machine → Fails words natives input input' output output' machine machine' 3 read_fault_line
-  write_failed : {request : Request} → Takes words request → (s : Script) → ReadAs (names_of natives) input (script s) → IsAtEnd input input' → input'.faults ≡ input.faults → IsDoneInPart request natives s output output' machine machine' → Rose output.faults output'.faults → Fails words natives input input' output output' machine machine' 4 write_fault_line
+  write_failed : {request : Request} → Takes words request → (s : Script) → ReadAs (names_of natives) input (script s) → IsAtEnd input input' → input'.faults ≡ input.faults → IsDoneInPart true request natives s output output' machine machine' → Rose output.faults output'.faults → Fails words natives input input' output output' machine machine' 4 write_fault_line
   no_memory_for_words : input' ≡ input → output' ≡ output → machine' ≡ machine → Fails words natives input input' output output' machine machine' 5 no_memory_line
   no_memory : {request : Request} → Takes words request → IsReadInPart input input' → input'.faults ≡ input.faults → BeganOrNot request natives input input' output output' machine machine' → output'.faults ≡ output.faults → Fails words natives input input' output output' machine machine' 5 no_memory_line
 

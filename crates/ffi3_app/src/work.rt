@@ -1,13 +1,11 @@
 //! What each command does with a script.
-ghost use Rattle.std.specs.Prelude.{◌<◌, ◌≤◌, ◌^◌, IfOk, IfErr, OnErr, List, length, map};
-ghost use Rattle.ffi3_turn_rules.specs.MainTracing.{main_tracing};
-ghost use Rattle.ffi3_script_rules.specs.Natives.{NamedNative, program_beside};
+ghost use Rattle.std.specs.Prelude.{◌≡◌, ◌<◌, ◌≤◌, ◌^◌, ◌⊎◌, IfOk, IfErr, List, false, length, map, true};
+ghost use Rattle.ffi3_script_rules.specs.Natives.{NamedNative};
 ghost use Rattle.ffi3_script.specs.ScriptOf.{script_of, natives_of};
 ghost use Rattle.ffi3_ask.specs.Handed.{handed_in, signatures_in};
-ghost use Rattle.ffi3_runner.specs.RunMatches.{WrotePart};
 ghost use Rattle.ffi3_io.specs.Written.{IsCause};
 ghost use Rattle.ffi3_app.specs.Commands.{standard_of};
-ghost use Rattle.ffi3_app.specs.Top.{IsDone, IsDoneInPart, IsRun};
+ghost use Rattle.ffi3_app.specs.Top.{IsDone, IsDoneInPart, IsRun, IsRunInPart};
 
 use crate::layout::layout;
 use crate::place::place;
@@ -38,11 +36,12 @@ pub fn work<O: Sink>(
     requires few_natives { length natives.now.items < 2 ^ 31 }
     requires few_signatures { length (signatures_in (map (λ b. handed_in (title b) (meaning b) (signatures b)) natives.now.items)) < 2 ^ 31 }
     ensures done { let handed : List NamedNative = map (λ b. handed_in (title b) (meaning b) (signatures b)) natives.now.items in
-        IfOk result (IsDone request handed (script_of script.now)
-        (O.state output.old) (O.state output.new) machine.old machine.new) }
-    ensures part { let handed : List NamedNative = map (λ b. handed_in (title b) (meaning b) (signatures b)) natives.now.items in
-        OnErr result (IsDoneInPart request handed (script_of script.now)
-        (O.state output.old) (O.state output.new) machine.old machine.new) }
+        IfOk result (IsDone request handed (script_of script.now) (O.state output.old) (O.state output.new) machine.old machine.new) }
+    ensures failed { let handed : List NamedNative = map (λ b. handed_in (title b) (meaning b) (signatures b)) natives.now.items in
+        IfErr result (λ e. e ≡ IoError.Failed → IsDoneInPart true request handed (script_of script.now) (O.state output.old) (O.state output.new) machine.old machine.new) }
+    ensures refused { let handed : List NamedNative = map (λ b. handed_in (title b) (meaning b) (signatures b)) natives.now.items in
+        IfErr result (λ e. e ≡ IoError.NoMemory →
+        ((O.state output.new ≡ O.state output.old) × (machine.new ≡ machine.old)) ⊎ IsDoneInPart false request handed (script_of script.now) (O.state output.old) (O.state output.new) machine.old machine.new) }
     ensures ended { IfErr result (λ e. IsCause e (O.state output.old).faults (O.state output.new).faults) }
 {
     match request {
@@ -54,13 +53,13 @@ pub fn work<O: Sink>(
             place(alloc, target, script, output)?;
             Ok(0)
         }
-        Request::Run { target, trace } => run(
-            alloc, target, trace, script, natives, machine, output,
-        ),
+        Request::Run { target, trace } => {
+            run(alloc, target, trace, script, natives, machine, output)
+        }
     }
 }
 
-// A run on the machine of a target, traced or not.
+// A run on the machine of a target.
 fn run<O: Sink>(
     alloc: Global,
     target: Target,
@@ -75,8 +74,11 @@ fn run<O: Sink>(
     requires few_signatures { length (signatures_in (map (λ b. handed_in (title b) (meaning b) (signatures b)) natives.now.items)) < 2 ^ 31 }
     ensures done { let handed : List NamedNative = map (λ b. handed_in (title b) (meaning b) (signatures b)) natives.now.items in
         IfOk result (IsRun trace (standard_of target) handed (script_of script.now) (O.state output.old) (O.state output.new) machine.new) }
-    ensures part { let handed : List NamedNative = map (λ b. handed_in (title b) (meaning b) (signatures b)) natives.now.items in
-        OnErr result (WrotePart (main_tracing trace (standard_of target)) (program_beside (standard_of target) handed (script_of script.now)) (O.state output.old) (O.state output.new)) }
+    ensures failed { let handed : List NamedNative = map (λ b. handed_in (title b) (meaning b) (signatures b)) natives.now.items in
+        IfErr result (λ e. e ≡ IoError.Failed → IsRunInPart true trace (standard_of target) handed (script_of script.now) (O.state output.old) (O.state output.new) machine.new) }
+    ensures refused { let handed : List NamedNative = map (λ b. handed_in (title b) (meaning b) (signatures b)) natives.now.items in
+        IfErr result (λ e. e ≡ IoError.NoMemory →
+        ((O.state output.new ≡ O.state output.old) × (machine.new ≡ machine.old)) ⊎ IsRunInPart false trace (standard_of target) handed (script_of script.now) (O.state output.old) (O.state output.new) machine.new) }
     ensures ended { IfErr result (λ e. IsCause e (O.state output.old).faults (O.state output.new).faults) }
 {
     match target {
@@ -100,12 +102,15 @@ fn run_by<A: Abi, O: Sink>(
     requires few_signatures { length (signatures_in (map (λ b. handed_in (title b) (meaning b) (signatures b)) natives.now.items)) < 2 ^ 31 }
     ensures done { let handed : List NamedNative = map (λ b. handed_in (title b) (meaning b) (signatures b)) natives.now.items in
         IfOk result (IsRun trace A.standard handed (script_of script.now) (O.state output.old) (O.state output.new) machine.new) }
-    ensures part { let handed : List NamedNative = map (λ b. handed_in (title b) (meaning b) (signatures b)) natives.now.items in
-        OnErr result (WrotePart (main_tracing trace A.standard) (program_beside A.standard handed (script_of script.now)) (O.state output.old) (O.state output.new)) }
+    ensures failed { let handed : List NamedNative = map (λ b. handed_in (title b) (meaning b) (signatures b)) natives.now.items in
+        IfErr result (λ e. e ≡ IoError.Failed → IsRunInPart true trace A.standard handed (script_of script.now) (O.state output.old) (O.state output.new) machine.new) }
+    ensures refused { let handed : List NamedNative = map (λ b. handed_in (title b) (meaning b) (signatures b)) natives.now.items in
+        IfErr result (λ e. e ≡ IoError.NoMemory →
+        ((O.state output.new ≡ O.state output.old) × (machine.new ≡ machine.old)) ⊎ IsRunInPart false trace A.standard handed (script_of script.now) (O.state output.old) (O.state output.new) machine.new) }
     ensures ended { IfErr result (λ e. IsCause e (O.state output.old).faults (O.state output.new).faults) }
 {
-    machine.begin(A::TARGET);
     let mut runner = Runner::<A>::new(alloc, script, natives)?;
+    machine.begin(A::TARGET);
     match runner.run_main(machine, output, trace) {
         RunEnd::Done => Ok(0),
         RunEnd::Stopped(_) => Ok(6),
