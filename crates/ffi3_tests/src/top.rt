@@ -39,7 +39,7 @@ struct World {
     tells_fail: &'static [u64],
 }
 
-fn owned(alloc: Global, words: &[&str]) -> Result<Vec<String>, NoMemory> {
+pub fn owned(alloc: Global, words: &[&str]) -> Result<Vec<String>, NoMemory> {
     let mut all = Vec::new(alloc);
     for word in words {
         all.push(String::from_str(alloc, word)?)?;
