@@ -1,34 +1,41 @@
 -- A run by the standard of its target, and of a program that is the script's beside the natives.
 use Rattle.std.proofs.Common.{◌≡◌, ℕ, sym, subst}
-use Rattle.std.specs.Prelude.{List, Result, IfOk, OnErr}
+use Rattle.std.specs.Prelude.{Bool, List, Result, IfOk, IfErr, ◌⊎◌, true, false}
 use Rattle.ffi3_type_rules.specs.declared.Target.{Target}
 use Rattle.ffi3_place_rules.specs.Standard.{Standard}
-use Rattle.ffi3_run_rules.specs.Lines.{untraced}
 use Rattle.ffi3_run_rules.specs.Meaning.{Program, meaning_of}
+use Rattle.ffi3_turn_rules.specs.MainTracing.{main_tracing}
 use Rattle.ffi3_script_rules.specs.Script.{Script}
 use Rattle.ffi3_script_rules.specs.Natives.{NamedNative, program_beside}
 use Rattle.ffi3_machine.specs.State.{State}
+use Rattle.ffi3_runner.specs.RunCut.{RunWasCut}
 use Rattle.ffi3_runner.specs.RunMatches.{RunMatches, WrotePart}
 use Rattle.ffi3_io.specs.Sink.{SinkState}
 use Rattle.ffi3_io.specs.declared.IoError.{IoError}
+use Rattle.ffi3_io.specs.declared.IoError.TheVariants as end
 use Rattle.ffi3_app.specs.Commands.{standard_of}
-use Rattle.ffi3_app.specs.Top.{IsRun, status_of}
+use Rattle.ffi3_app.specs.Top.{IsRun, IsRunInPart, status_of}
 
-module _ (natives : List NamedNative) (s : Script) (output output' : SinkState) where
-  -- what was run by the standard of a target was run by that of the same target
-  pub run_by_target : (t u : Target) (machine' : State) (r : Result ℕ IoError) → t ≡ u → IfOk r (IsRun (standard_of u) natives s output output' machine') → IfOk r (IsRun (standard_of t) natives s output output' machine')
-  run_by_target t u machine' r same is =
-      subst (λ (v : Target). IfOk r (IsRun (standard_of v) natives s output output' machine')) (sym same) is
+-- what was run by the standard of a target was run by that of the same target
+module _ (natives : List NamedNative) (s : Script) (output output' : SinkState) (machine machine' : State) (trace : Bool) (t u : Target) (r : Result ℕ IoError) (same : t ≡ u) where
+  pub run_by_target : IfOk r (IsRun trace (standard_of u) natives s output output' machine') → IfOk r (IsRun trace (standard_of t) natives s output output' machine')
+  run_by_target is =
+      subst (λ (v : Target). IfOk r (IsRun trace (standard_of v) natives s output output' machine')) (sym same) is
 
-  pub part_by_target : (t u : Target) (r : Result ℕ IoError) → t ≡ u → OnErr r (WrotePart untraced (program_beside (standard_of u) natives s) output output') → OnErr r (WrotePart untraced (program_beside (standard_of t) natives s) output output')
-  part_by_target t u r same is =
-      subst (λ (v : Target). OnErr r (WrotePart untraced (program_beside (standard_of v) natives s) output output')) (sym same) is
+  pub failed_by_target : IfErr r (λ e. e ≡ end.Failed → IsRunInPart true trace (standard_of u) natives s output output' machine') → IfErr r (λ e. e ≡ end.Failed → IsRunInPart true trace (standard_of t) natives s output output' machine')
+  failed_by_target is =
+      subst (λ (v : Target). IfErr r (λ e. e ≡ end.Failed → IsRunInPart true trace (standard_of v) natives s output output' machine')) (sym same) is
 
-module _ (std : Standard) (p q : Program) (same : p ≡ q) (output output' : SinkState) where
-  -- and what was run of a program was run of the same program
-  pub run_of : (machine' : State) (status : ℕ) → RunMatches untraced std p output output' machine' → status ≡ status_of (meaning_of p).end → RunMatches untraced std q output output' machine' × (status ≡ status_of (meaning_of q).end)
-  run_of machine' status told is =
-      subst (λ (x : Program). RunMatches untraced std x output output' machine' × (status ≡ status_of (meaning_of x).end)) same (told, is)
+  pub refused_by_target : IfErr r (λ e. e ≡ end.NoMemory → ((output' ≡ output) × (machine' ≡ machine)) ⊎ IsRunInPart false trace (standard_of u) natives s output output' machine') → IfErr r (λ e. e ≡ end.NoMemory → ((output' ≡ output) × (machine' ≡ machine)) ⊎ IsRunInPart false trace (standard_of t) natives s output output' machine')
+  refused_by_target is =
+      subst (λ (v : Target). IfErr r (λ e. e ≡ end.NoMemory → ((output' ≡ output) × (machine' ≡ machine)) ⊎ IsRunInPart false trace (standard_of v) natives s output output' machine')) (sym same) is
 
-  pub part_of : WrotePart untraced p output output' → WrotePart untraced q output output'
-  part_of part = subst (λ (x : Program). WrotePart untraced x output output') same part
+-- and what was run of a program was run of the same program
+module _ (trace : Bool) (std : Standard) (p q : Program) (same : p ≡ q) (output output' : SinkState) (machine' : State) where
+  pub run_of : (status : ℕ) → RunMatches (main_tracing trace std) std p output output' machine' → status ≡ status_of (meaning_of p).end → RunMatches (main_tracing trace std) std q output output' machine' × (status ≡ status_of (meaning_of q).end)
+  run_of status told is =
+      subst (λ (x : Program). RunMatches (main_tracing trace std) std x output output' machine' × (status ≡ status_of (meaning_of x).end)) same (told, is)
+
+  pub part_of : (in_line : Bool) → WrotePart (main_tracing trace std) p output output' → RunWasCut (main_tracing trace std) std p in_line output output' machine' → WrotePart (main_tracing trace std) q output output' × RunWasCut (main_tracing trace std) std q in_line output output' machine'
+  part_of in_line part told =
+      subst (λ (x : Program). WrotePart (main_tracing trace std) x output output' × RunWasCut (main_tracing trace std) std x in_line output output' machine') same (part, told)

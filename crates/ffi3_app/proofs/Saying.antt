@@ -1,6 +1,6 @@
 -- What the top call says, from what its parts say.
 use Rattle.std.proofs.Common.{◌≡◌, ℕ, ◌+◌, ◌^◌, ◌<◌, ◌≤◌, List, [], length, inl, inr, refl, sym, subst, ap, ap₂, ◌∙◌, arith, lit≤}
-use Rattle.std.specs.Prelude.{◌⊎◌, Some, None, map}
+use Rattle.std.specs.Prelude.{◌⊎◌, Some, None, false, map}
 use Rattle.ffi3_io.specs.Sink.{Rose}
 use Rattle.ffi3_script_rules.specs.Script.{Script}
 use Rattle.ffi3_script_rules.specs.Natives.{NamedNative, names_of}
@@ -21,7 +21,7 @@ use Rattle.ffi3_words.specs.declared.words.WordsFault.{WordsFault}
 use Rattle.ffi3_words.specs.declared.words.WordsFault.TheVariants.{Refused}
 use Rattle.ffi3_app.specs.Refusals.{IsInputRefusal, IsRefusedWith, refusal_line, refusal_status, HasPlace, TellsRefusal}
 use Rattle.ffi3_io.specs.Source.{SourceState}
-use Rattle.ffi3_app.specs.Top.{ReadAs, IsReadInPart, ReportsFault, whole, cut, IsDone, Fails, refused, bad_words, read_failed, write_failed, no_memory_for_words, no_memory, Says, done, failed, refusal_of, status_of, status_when_done, no_memory_line}
+use Rattle.ffi3_app.specs.Top.{ReadAs, IsAtEnd, IsReadInPart, ReportsFault, whole, cut, IsDone, IsDoneInPart, BeganOrNot, Fails, refused, bad_words, read_failed, write_failed, no_memory_for_words, no_memory, Says, done, failed, refusal_of, status_of, status_when_done, no_memory_line}
 use Rattle.ffi3_words.specs.WordCommands.{Addresses}
 use Rattle.ffi3_words.proofs.Stated.{stated_is_taken}
 
@@ -113,6 +113,13 @@ four_not_two is = cc
 pub refused_not_two : (r : Refusal) (answer : ℕ) (before after : SinkState) → TellsRefusal r before after answer → answer ≡ 2 → ⊥
 refused_not_two r answer before after (inl tells) = told_not_two _ _ answer before after (refusal_not_two r) tells
 refused_not_two r answer before after (inr told) = told_not_two _ _ answer before after five_not_two told.1
+
+-- the work on a script found no memory, before it began or later
+pub began : (request : Request) (natives : List NamedNative) (input input' : SourceState) (output output' : SinkState) (machine machine' : State) (s : Script) → ReadAs (names_of natives) input (script s) → IsAtEnd input input' → ((output' ≡ output) × (machine' ≡ machine)) ⊎ IsDoneInPart false request natives s output output' machine machine' → BeganOrNot request natives input input' output output' machine machine'
+began request natives input input' output output' machine machine' s read end (inl same) =
+    inl same
+began request natives input input' output output' machine machine' s read end (inr part) =
+    inr (s, read, end, part)
 
 -- ---- refusals
 

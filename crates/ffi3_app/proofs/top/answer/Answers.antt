@@ -5,7 +5,7 @@ use Rattle.ffi3_script_rules.specs.Natives.{NamedNative}
 use Rattle.ffi3_ask.specs.Handed.{handed_in}
 use Rattle.ffi3_app.specs.Top.{bad_words, no_memory_for_words, write_failed, no_memory, done, failed}
 use Rattle.ffi3_app.proofs.Naming.{count_of_names, mapped_length}
-use Rattle.ffi3_app.proofs.Saying.{nothing_read, read_beside, refused_beside, is_refused, says_refusal, no_fault_counted, fault_counted, refused_not_two, told_not_two, work_not_two, five_not_two, four_not_two}
+use Rattle.ffi3_app.proofs.Saying.{began, nothing_read, read_beside, refused_beside, is_refused, says_refusal, no_fault_counted, fault_counted, refused_not_two, told_not_two, work_not_two, five_not_two, four_not_two}
 use Rattle.ffi3_app.proofs.top.answer.Goals as goal
 
 pub returns-in-Err-Refused-clause-says : goal.returns-in-Err-Refused-clause-says
@@ -34,7 +34,7 @@ returns-in-Ok-work-clause-knows_words g c r stated =
 
 pub returns-in-Err-NoMemory-work-clause-says : goal.returns-in-Err-NoMemory-work-clause-says
 returns-in-Err-NoMemory-work-clause-says g c =
-    failed (no_memory c.in-Ok.ensures.takes c.in-Ok-load.ensures.part c.in-Ok-load.ensures.same (inr (script_of c.in-Ok-load.script, (read_beside _ _ (g.I.Source.state c.args.input.now) (script (script_of c.in-Ok-load.script)) c.in-Ok-names_of_natives.ensures c.in-Ok-load.ensures.script), c.in-Ok-load.ensures.end, c.in-Err-NoMemory-work.ensures.part)) (no_fault_counted (g.O.Sink.state c.args.output.now) (g.O.Sink.state c.work.new.output) c.in-Err-NoMemory-work.field-0 c.in-Err-NoMemory-work.field-0-is c.in-Err-NoMemory-work.ensures.ended)) c.tell-in-Err-NoMemory-work.ensures
+    failed (no_memory c.in-Ok.ensures.takes c.in-Ok-load.ensures.part c.in-Ok-load.ensures.same (began _ _ _ _ _ _ _ _ (script_of c.in-Ok-load.script) (read_beside _ _ (g.I.Source.state c.args.input.now) (script (script_of c.in-Ok-load.script)) c.in-Ok-names_of_natives.ensures c.in-Ok-load.ensures.script) c.in-Ok-load.ensures.end (c.in-Err-NoMemory-work.ensures.refused c.in-Err-NoMemory-work.field-0-is)) (no_fault_counted (g.O.Sink.state c.args.output.now) (g.O.Sink.state c.work.new.output) c.in-Err-NoMemory-work.field-0 c.in-Err-NoMemory-work.field-0-is c.in-Err-NoMemory-work.ensures.ended)) c.tell-in-Err-NoMemory-work.ensures
 
 pub returns-in-Err-NoMemory-work-clause-knows_words : goal.returns-in-Err-NoMemory-work-clause-knows_words
 returns-in-Err-NoMemory-work-clause-knows_words g c r stated =
@@ -42,7 +42,7 @@ returns-in-Err-NoMemory-work-clause-knows_words g c r stated =
 
 pub returns-clause-says : goal.returns-clause-says
 returns-clause-says g c =
-    failed (write_failed c.in-Ok.ensures.takes (script_of c.in-Ok-load.script) (read_beside _ _ (g.I.Source.state c.args.input.now) (script (script_of c.in-Ok-load.script)) c.in-Ok-names_of_natives.ensures c.in-Ok-load.ensures.script) c.in-Ok-load.ensures.end c.in-Ok-load.ensures.same c.in-Err-Failed.ensures.part (fault_counted (g.O.Sink.state c.args.output.now) (g.O.Sink.state c.work.new.output) c.in-Err-Failed.field-0 c.in-Err-Failed.field-0-is c.in-Err-Failed.ensures.ended)) c.tell-in-Err-Failed.ensures
+    failed (write_failed c.in-Ok.ensures.takes (script_of c.in-Ok-load.script) (read_beside _ _ (g.I.Source.state c.args.input.now) (script (script_of c.in-Ok-load.script)) c.in-Ok-names_of_natives.ensures c.in-Ok-load.ensures.script) c.in-Ok-load.ensures.end c.in-Ok-load.ensures.same (c.in-Err-Failed.ensures.failed c.in-Err-Failed.field-0-is) (fault_counted (g.O.Sink.state c.args.output.now) (g.O.Sink.state c.work.new.output) c.in-Err-Failed.field-0 c.in-Err-Failed.field-0-is c.in-Err-Failed.ensures.ended)) c.tell-in-Err-Failed.ensures
 
 pub returns-clause-knows_words : goal.returns-clause-knows_words
 returns-clause-knows_words g c r stated =

@@ -1,28 +1,40 @@
 use Rattle.ffi3_type_rules.specs.declared.Target.TheVariants.{Amd64, Aapcs64, Riscv}
 use Rattle.ffi3_script.specs.ScriptOf.{script_of}
-use Rattle.ffi3_app.proofs.Running.{part_by_target, run_by_target}
+use Rattle.ffi3_app.proofs.Running.{failed_by_target, refused_by_target, run_by_target}
 use Rattle.ffi3_app.proofs.work.run.Goals as goal
 
 pub returns-in-Amd64-clause-done : goal.returns-in-Amd64-clause-done
 returns-in-Amd64-clause-done g c =
-    run_by_target _ (script_of c.args.script.now) _ _ c.args.target Amd64 _ c.run_by.result c.in-Amd64.is c.run_by.ensures.done
+    run_by_target _ (script_of c.args.script.now) _ _ c.args.machine.now _ c.args.trace c.args.target Amd64 c.run_by.result c.in-Amd64.is c.run_by.ensures.done
 
-pub returns-in-Amd64-clause-part : goal.returns-in-Amd64-clause-part
-returns-in-Amd64-clause-part g c =
-    part_by_target _ (script_of c.args.script.now) _ _ c.args.target Amd64 c.run_by.result c.in-Amd64.is c.run_by.ensures.part
+pub returns-in-Amd64-clause-failed : goal.returns-in-Amd64-clause-failed
+returns-in-Amd64-clause-failed g c =
+    failed_by_target _ (script_of c.args.script.now) _ _ c.args.machine.now _ c.args.trace c.args.target Amd64 c.run_by.result c.in-Amd64.is c.run_by.ensures.failed
+
+pub returns-in-Amd64-clause-refused : goal.returns-in-Amd64-clause-refused
+returns-in-Amd64-clause-refused g c =
+    refused_by_target _ (script_of c.args.script.now) _ _ c.args.machine.now _ c.args.trace c.args.target Amd64 c.run_by.result c.in-Amd64.is c.run_by.ensures.refused
 
 pub returns-in-Aapcs64-clause-done : goal.returns-in-Aapcs64-clause-done
 returns-in-Aapcs64-clause-done g c =
-    run_by_target _ (script_of c.args.script.now) _ _ c.args.target Aapcs64 _ c.run_by-in-Aapcs64.result c.in-Aapcs64.is c.run_by-in-Aapcs64.ensures.done
+    run_by_target _ (script_of c.args.script.now) _ _ c.args.machine.now _ c.args.trace c.args.target Aapcs64 c.run_by-in-Aapcs64.result c.in-Aapcs64.is c.run_by-in-Aapcs64.ensures.done
 
-pub returns-in-Aapcs64-clause-part : goal.returns-in-Aapcs64-clause-part
-returns-in-Aapcs64-clause-part g c =
-    part_by_target _ (script_of c.args.script.now) _ _ c.args.target Aapcs64 c.run_by-in-Aapcs64.result c.in-Aapcs64.is c.run_by-in-Aapcs64.ensures.part
+pub returns-in-Aapcs64-clause-failed : goal.returns-in-Aapcs64-clause-failed
+returns-in-Aapcs64-clause-failed g c =
+    failed_by_target _ (script_of c.args.script.now) _ _ c.args.machine.now _ c.args.trace c.args.target Aapcs64 c.run_by-in-Aapcs64.result c.in-Aapcs64.is c.run_by-in-Aapcs64.ensures.failed
+
+pub returns-in-Aapcs64-clause-refused : goal.returns-in-Aapcs64-clause-refused
+returns-in-Aapcs64-clause-refused g c =
+    refused_by_target _ (script_of c.args.script.now) _ _ c.args.machine.now _ c.args.trace c.args.target Aapcs64 c.run_by-in-Aapcs64.result c.in-Aapcs64.is c.run_by-in-Aapcs64.ensures.refused
 
 pub returns-in-Riscv-clause-done : goal.returns-in-Riscv-clause-done
 returns-in-Riscv-clause-done g c =
-    run_by_target _ (script_of c.args.script.now) _ _ c.args.target Riscv _ c.run_by-in-Riscv.result c.in-Riscv.is c.run_by-in-Riscv.ensures.done
+    run_by_target _ (script_of c.args.script.now) _ _ c.args.machine.now _ c.args.trace c.args.target Riscv c.run_by-in-Riscv.result c.in-Riscv.is c.run_by-in-Riscv.ensures.done
 
-pub returns-in-Riscv-clause-part : goal.returns-in-Riscv-clause-part
-returns-in-Riscv-clause-part g c =
-    part_by_target _ (script_of c.args.script.now) _ _ c.args.target Riscv c.run_by-in-Riscv.result c.in-Riscv.is c.run_by-in-Riscv.ensures.part
+pub returns-in-Riscv-clause-failed : goal.returns-in-Riscv-clause-failed
+returns-in-Riscv-clause-failed g c =
+    failed_by_target _ (script_of c.args.script.now) _ _ c.args.machine.now _ c.args.trace c.args.target Riscv c.run_by-in-Riscv.result c.in-Riscv.is c.run_by-in-Riscv.ensures.failed
+
+pub returns-in-Riscv-clause-refused : goal.returns-in-Riscv-clause-refused
+returns-in-Riscv-clause-refused g c =
+    refused_by_target _ (script_of c.args.script.now) _ _ c.args.machine.now _ c.args.trace c.args.target Riscv c.run_by-in-Riscv.result c.in-Riscv.is c.run_by-in-Riscv.ensures.refused
