@@ -13,12 +13,12 @@ module _ (ns : List NamedNative) where
 
   pub all_names : (i : ℕ) (names : List (List ℕ)) → length ns ≤ i → names ≡ take i (names_of ns) → names ≡ names_of ns
   all_names i names past are =
-      let within : length (names_of ns) ≤ i = omega (arith, past, length-map (λ (n : NamedNative). n.name) ns) in
+      let within : length (names_of ns) ≤ i = omega (arith, past, length-map ns (λ (n : NamedNative). n.name)) in
       are ∙ take_all i (names_of ns) within
 
   pub count_of_names : (names : List (List ℕ)) → names ≡ names_of ns → length names ≡ length ns
   count_of_names names are =
-      ap (λ (ms : List (List ℕ)). length ms) are ∙ length-map (λ (n : NamedNative). n.name) ns
+      ap (λ (ms : List (List ℕ)). length ms) are ∙ length-map ns (λ (n : NamedNative). n.name)
 
 pub mapped_length : {A B : Type 0} (f : A → B) (xs : List A) → length (map f xs) ≡ length xs
-mapped_length f xs = length-map f xs
+mapped_length f xs = length-map xs f
