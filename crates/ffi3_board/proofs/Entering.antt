@@ -1,5 +1,5 @@
 -- A call that is entered: what holds in its callee.
-use Rattle.std.proofs.Common.{◌≡◌, ℕ, suc, ◌+◌, ◌-◌, ◌*◌, ◌<◌, ◌≤◌, max, List, [], ◌∷◌, ◌++◌, length, take, refl, sym, ap, ◌∙◌, subst, arith, append_assoc, length-append}
+use Rattle.std.proofs.Common.{◌≡◌, ℕ, ◌+◌, ◌*◌, ◌<◌, ◌≤◌, List, [], ◌∷◌, ◌++◌, length, take, refl, sym, ap, ◌∙◌, subst, arith, append_assoc, length-append}
 use Rattle.std.specs.Prelude.{Bool}
 use Rattle.ffi3_type_rules.specs.declared.limits.TheConstants.{STACK}
 use Rattle.ffi3_type_rules.specs.Signature.{Signature, signature_at}
@@ -12,7 +12,7 @@ use Rattle.ffi3_run_rules.specs.Lines.{enter_lines}
 use Rattle.ffi3_run_rules.specs.Meaning.{Program, Activation, enters, callee_of, effect_of, next_move, need_at}
 use Rattle.ffi3_run_rules.specs.Move.{call}
 use Rattle.ffi3_run_rules.specs.Trace.{TraceItem, Enter}
-use Rattle.ffi3_turn_rules.specs.Left.{Left, Suspended, awaited}
+use Rattle.ffi3_turn_rules.specs.Left.{Left, awaited}
 use Rattle.ffi3_turn_rules.specs.Depth.{deepest, depth_at}
 use Rattle.ffi3_turn_rules.specs.SoFar.{Base, text_after}
 use Rattle.ffi3_turn_rules.specs.Told.{IsTracingOf}

@@ -1,5 +1,5 @@
 -- A call that returns: what holds in its caller.
-use Rattle.std.proofs.Common.{◌≡◌, ℕ, suc, ◌+◌, ◌-◌, ◌<◌, ◌≤◌, List, [], ◌∷◌, ◌++◌, length, take, refl, sym, ap, ◌∙◌, subst, arith, append_assoc, length-append}
+use Rattle.std.proofs.Common.{◌≡◌, ℕ, suc, ◌+◌, ◌-◌, ◌≤◌, List, [], ◌∷◌, ◌++◌, length, take, refl, sym, ap, ◌∙◌, subst, arith, append_assoc, length-append}
 use Rattle.std.specs.Prelude.{Bool}
 use Rattle.ffi3_type_rules.specs.declared.limits.TheConstants.{STACK}
 use Rattle.ffi3_type_rules.specs.Signature.{Signature, signature_at}
@@ -9,7 +9,7 @@ use Rattle.ffi3_place_rules.specs.Standard.{frame_of, need_of}
 use Rattle.ffi3_run_rules.specs.Closures.{Closures}
 use Rattle.ffi3_run_rules.specs.Journal.{Entered, IsReturn}
 use Rattle.ffi3_run_rules.specs.Lines.{leave_lines}
-use Rattle.ffi3_run_rules.specs.Meaning.{Program, Activation, ends, effect_of, next_move, need_at, with_result, most_moves}
+use Rattle.ffi3_run_rules.specs.Meaning.{Program, Activation, effect_of, need_at, with_result, most_moves}
 use Rattle.ffi3_run_rules.specs.Move.{return}
 use Rattle.ffi3_run_rules.specs.Trace.{TraceItem, Leave}
 use Rattle.ffi3_turn_rules.specs.Left.{Left, Suspended, awaited}

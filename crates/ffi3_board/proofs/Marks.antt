@@ -1,5 +1,5 @@
 -- The mark's bound as calls begin and end, the results that there is room for, and texts of one item more.
-use Rattle.std.proofs.Common.{◌≡◌, ℕ, suc, ◌+◌, ◌-◌, ◌≤◌, min, max, inl, inr, List, [], ◌∷◌, ◌++◌, length, refl, sym, ap, ◌∙◌, subst, arith, append-nil}
+use Rattle.std.proofs.Common.{◌≡◌, ℕ, suc, ◌+◌, ◌≤◌, min, max, inl, inr, List, [], ◌∷◌, ◌++◌, arith}
 use Rattle.std.proofs.lemmas.Bool.{cases_lt}
 use Rattle.ffi3_run_rules.specs.Lines.{Tracing, item_text}
 use Rattle.ffi3_run_rules.specs.Meaning.{Program}

@@ -1,15 +1,16 @@
 -- The lines that tell an event: what they are, and what came of them.
-use Rattle.std.proofs.Common.{◌≡◌, ℕ, ◌+◌, ◌-◌, ◌<◌, ◌≤◌, true, false, List, [], ◌∷◌, ◌++◌, length, take, refl, sym, ap, ◌∙◌, subst, arith, length-append}
-use Rattle.std.specs.Prelude.{Bool, codes}
-use Rattle.std.specs.Prelude.{Ok, Err}
+use Rattle.std.proofs.Common.{◌≡◌, ℕ, suc, ◌+◌, ◌-◌, ◌<◌, ◌≤◌, true, false, List, [], ◌∷◌, ◌++◌, length, take, drop, refl, sym, ap, ◌∙◌, subst, arith, length-append}
+use Rattle.std.specs.Prelude.{⊤, Bool, Result, codes, slice_index_or}
 use Rattle.std.specs.List.{join_with_byte}
-use Rattle.std.proofs.lemmas.List.{take-append-le}
-use Rattle.std.proofs.Math.Seq.{take-append-add}
+use Rattle.std.proofs.lemmas.List.{take-append-le, take_all, take_more}
+use Rattle.std.proofs.Math.Seq.{get_or-append_seam, take-append-add}
 use Rattle.ffi3_type_rules.specs.Signature.{Signature}
-use Rattle.ffi3_type_rules.specs.Tree.{trees_of}
-use Rattle.ffi3_type_rules.specs.Value.{ValueTree, values_of}
+use Rattle.ffi3_type_rules.specs.Layout.{size_of}
+use Rattle.ffi3_type_rules.specs.Tree.{Tree, trees_of}
+use Rattle.ffi3_type_rules.specs.Value.{ValueTree, void_value, values_of}
 use Rattle.ffi3_type_rules.specs.ValueText.{value_texts_of}
 use Rattle.ffi3_place_rules.specs.Event.{Event}
+use Rattle.ffi3_place_rules.specs.Standard.{Standard, round8}
 use Rattle.ffi3_run_rules.specs.Journal.{Entered, IsEntry, IsReturn}
 use Rattle.ffi3_run_rules.specs.Lines.{Tracing, a_line, address_text, enter_lines, leave_lines}
 use Rattle.ffi3_run_rules.specs.Meaning.{Program}
@@ -20,24 +21,41 @@ use Rattle.ffi3_turn_rules.specs.SoFar.{Base, text_after, Position, open_at, Has
 use Rattle.ffi3_turn_rules.specs.Told.{IsTracingOf}
 use Rattle.ffi3_turn_rules.proofs.TracedCalls.{enter_lines_are, leave_lines_are}
 use Rattle.ffi3_machine.specs.Recorded.{event_at}
+use Rattle.ffi3_body.specs.SeenActivation.{arguments_in}
 use Rattle.ffi3_io.specs.Sink.{Adds, AddsSome, Rose, SinkState}
 use Rattle.ffi3_io.specs.Written.{TookText, IsCause}
 use Rattle.ffi3_io.specs.declared.IoError.{IoError}
 use Rattle.ffi3_io.specs.declared.IoError.TheVariants as cut
 use Rattle.ffi3_io.proofs.Adding.{Adds-then, Adds-along, Adds-none}
-use Rattle.ffi3_text.specs.TraceLines.{keep_text_of}
+use Rattle.ffi3_text.specs.TraceLines.{enter_text_of, leave_text_of, keep_text_of}
 use Rattle.ffi3_board.specs.TraceLines.{last_event, entry_lines, return_lines}
 use Rattle.ffi3_board.specs.Turned.{is_in_line}
-use Rattle.ffi3_board.specs.WroteLine.{LineFailed, LineCut}
+use Rattle.ffi3_board.specs.WroteLine.{LineFailed, LineCut, WroteLine}
 
 -- the event that was just recorded
 pub last_is : (events : List Event) (e : Event) → last_event (events ++ e ∷ []) ≡ e
-last_is [] e = refl
-last_is (x ∷ events) e =
-    let longer : length (events ++ e ∷ []) ≡ length events + 1 = length-append events (e ∷ []) in
-    let one : length ((x ∷ events) ++ e ∷ []) - 1 ≡ length events + 1 = omega (arith, longer) in
-    let same : length (events ++ e ∷ []) - 1 ≡ length events = omega (arith, longer) in
-    ap (event_at ((x ∷ events) ++ e ∷ [])) one ∙ ap (event_at (events ++ e ∷ [])) (sym same) ∙ last_is events e
+last_is events e =
+    let at : length (events ++ e ∷ []) - 1 ≡ length events = omega (arith, length-append events (e ∷ [])) in
+    ap (event_at (events ++ e ∷ [])) at ∙ get_or-append_seam events e [] _
+
+-- ---- the arguments in a block
+
+pub length_arguments : (ts : List Tree) (block : List ℕ) → length (arguments_in ts block) ≡ length ts
+length_arguments [] block = refl
+length_arguments (t ∷ ts) block =
+    ap (λ (n : ℕ). suc n) (length_arguments ts (drop (round8 (size_of t)) block))
+
+-- one argument more
+pub one_argument : (ts : List Tree) (block : List ℕ) (args args' : List ValueTree) (i : ℕ) (v : ValueTree) → i < length ts → args ≡ take i (arguments_in ts block) → v ≡ slice_index_or (arguments_in ts block) i void_value → args' ≡ args ++ v ∷ [] → args' ≡ take (i + 1) (arguments_in ts block)
+one_argument ts block args args' i v below so_far is pushed =
+    let all = arguments_in ts block in
+    let within : i < length all = omega (arith, below, length_arguments ts block) in
+    pushed ∙ ap (λ (l : List ValueTree). l ++ v ∷ []) so_far ∙ ap (λ (w : ValueTree). take i all ++ w ∷ []) is ∙ sym (take_more all i void_value within)
+
+-- and all
+pub all_arguments : (ts : List Tree) (block : List ℕ) (args : List ValueTree) (i : ℕ) → length ts ≤ i → args ≡ take i (arguments_in ts block) → args ≡ arguments_in ts block
+all_arguments ts block args i past so_far =
+    so_far ∙ take_all i (arguments_in ts block) (omega (arith, past, length_arguments ts block))
 
 -- ---- two lines, one after the other
 
@@ -63,6 +81,17 @@ failed_then a b c x y added same part rose never_falls =
 pub took_both : (a b c : SinkState) (x y : List ℕ) → Adds a.taken x b.taken → b.faults ≡ a.faults → Adds b.taken y c.taken → c.faults ≡ b.faults → TookText (x ++ y) a c
 took_both a b c x y first same second same' =
     record { added = Adds-then a.taken b.taken c.taken x y first second; count = same' ∙ same }
+
+-- the lines that a traced run writes
+pub wrote_entry : (trace : Bool) → trace ≡ true → (std : Standard) (s : Signature) (e : Event) (args : List ValueTree) (line : List ℕ) (o o' : SinkState) (r : Result ⊤ IoError) → line ≡ enter_text_of s e args → WroteLine (line ++ keep_text_of std e) o o' r → WroteLine (entry_lines trace std s e args) o o' r
+wrote_entry true on std s e args line o o' r is h =
+    subst (λ (l : List ℕ). WroteLine (l ++ keep_text_of std e) o o' r) is h
+wrote_entry false on std s e args line o o' r is h = cc
+
+pub wrote_return : (trace : Bool) → trace ≡ true → (std : Standard) (s : Signature) (e : Event) (v : ValueTree) (line : List ℕ) (o o' : SinkState) (r : Result ⊤ IoError) → line ≡ leave_text_of s e v → WroteLine (line ++ keep_text_of std e) o o' r → WroteLine (return_lines trace std s e v) o o' r
+wrote_return true on std s e v line o o' r is h =
+    subst (λ (l : List ℕ). WroteLine (l ++ keep_text_of std e) o o' r) is h
+wrote_return false on std s e v line o o' r is h = cc
 
 -- ---- a line that was cut off
 

@@ -2,13 +2,12 @@
 use Rattle.std.specs.Prelude.{◌≡◌, ℕ, suc, List, ◌++◌, Bool, true, false, Option, Some, None}
 use Rattle.ffi3_type_rules.specs.Value.{ValueTree, void_value}
 use Rattle.ffi3_place_rules.specs.Event.{Event}
-use Rattle.ffi3_run_rules.specs.declared.Stop.{Stop}
 use Rattle.ffi3_run_rules.specs.Closures.{Closures}
 use Rattle.ffi3_run_rules.specs.Meaning.{Program, End, returned, stopped}
 use Rattle.ffi3_run_rules.specs.Trace.{TraceItem}
-use Rattle.ffi3_turn_rules.specs.Left.{Left, before, Bottom, as_main, served}
+use Rattle.ffi3_turn_rules.specs.Left.{Left, as_main}
 use Rattle.ffi3_turn_rules.specs.Depth.{deepest}
-use Rattle.ffi3_turn_rules.specs.SoFar.{Base, left_at_position, IsOver, IsCutOff}
+use Rattle.ffi3_turn_rules.specs.SoFar.{Base, IsOver, IsCutOff}
 use Rattle.ffi3_machine.specs.State.{State}
 use Rattle.ffi3_closures.specs.Slots.{HoldsMap}
 use Rattle.ffi3_io.specs.Sink.{Adds, SinkState}
@@ -19,7 +18,7 @@ use Rattle.ffi3_board.specs.declared.activation.Activation.{Activation}
 use Rattle.ffi3_board.specs.declared.board.Board.{Board}
 use Rattle.ffi3_board.specs.declared.board.Turn.{Turn}
 use Rattle.ffi3_board.specs.declared.board.Turn.TheVariants as turn
-use Rattle.ffi3_board.specs.Between.{Beginning, Moment, position, text_of, depth_below, IsMarkOf, IsBetween, moment}
+use Rattle.ffi3_board.specs.Between.{Beginning, text_of, depth_below, IsMarkOf, IsBetween, moment}
 
 -- THE RUN IS OVER: it came to this end, all that was left is done, and the output took its text.
 pub record IsEnded (p : Program) (base : Base) (all : Left) (first : Beginning) (end : End) (closures : Closures) (moves : ℕ) (m : State) (output : SinkState) : Type 0 where

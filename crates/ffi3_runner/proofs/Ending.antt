@@ -1,9 +1,8 @@
 -- What a whole run of main says, by how it ended.
-use Rattle.std.proofs.Common.{◌≡◌, ℕ, ◌+◌, ◌≤◌, inl, inr, ◌⊎◌, List, [], ◌++◌, length, take, refl, sym, ap, ◌∙◌, subst, arith}
+use Rattle.std.proofs.Common.{◌≡◌, ℕ, ◌+◌, ◌≤◌, inl, inr, ◌⊎◌, List, ◌++◌, length, take, sym, ap, ◌∙◌, subst, arith}
 use Rattle.std.specs.Prelude.{Bool, true, false}
 use Rattle.std.proofs.lemmas.List.{take-append-le}
 use Rattle.std.proofs.Math.Seq.{take-length}
-use Rattle.ffi3_type_rules.specs.declared.limits.TheConstants.{STACK_TOP}
 use Rattle.ffi3_type_rules.specs.Value.{void_value}
 use Rattle.ffi3_place_rules.specs.Event.{Event}
 use Rattle.ffi3_place_rules.specs.Standard.{Standard}
@@ -22,7 +21,7 @@ use Rattle.ffi3_turn_rules.proofs.Coming.{main_is_over, main_was_cut}
 use Rattle.ffi3_turn_rules.proofs.Depths.{deepest_is_peak}
 use Rattle.ffi3_machine.specs.State.{State}
 use Rattle.ffi3_closures.specs.Slots.{HoldsMap}
-use Rattle.ffi3_io.specs.Sink.{Adds, Rose, SinkState}
+use Rattle.ffi3_io.specs.Sink.{Rose, SinkState}
 use Rattle.ffi3_io.specs.declared.IoError.{IoError}
 use Rattle.ffi3_io.specs.declared.IoError.TheVariants as cut
 use Rattle.ffi3_io.proofs.Adding.{Adds-along}

@@ -3,7 +3,6 @@ use Rattle.std.proofs.Common.{◌≡◌, ℕ, List, [], Option, Some, None, reve
 use Rattle.std.specs.Prelude.{Bool}
 use Rattle.ffi3_type_rules.specs.declared.Target.{Target}
 use Rattle.ffi3_type_rules.specs.Signature.{Signature}
-use Rattle.ffi3_type_rules.specs.Value.{ValueTree}
 use Rattle.ffi3_place_rules.specs.Agrees.{AgreesWithMachine}
 use Rattle.ffi3_place_rules.specs.Event.{Event}
 use Rattle.ffi3_place_rules.specs.Standard.{Standard}
@@ -30,7 +29,7 @@ use Rattle.ffi3_board.specs.declared.board.Board.{Board}
 use Rattle.ffi3_board.specs.Between.{Beginning}
 use Rattle.ffi3_board.specs.Path.{call_inside, who_of}
 use Rattle.ffi3_board.specs.Turned.{StandsAt}
-use Rattle.ffi3_runner.specs.Agreeing.{seen_by_main, InnermostStands, IsStanding, AllWillStand, AllStand}
+use Rattle.ffi3_runner.specs.Agreeing.{seen_by_main, IsStanding, AllWillStand, AllStand}
 use Rattle.ffi3_runner.specs.Ran.{Ran}
 use Rattle.ffi3_runner.specs.Running.{IsNew, IsPrepared, program}
 use Rattle.ffi3_runner.specs.declared.run.RunEnd.{RunEnd}

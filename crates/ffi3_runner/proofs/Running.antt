@@ -1,7 +1,6 @@
 -- A run of main, move after move.
-use Rattle.std.proofs.Common.{◌≡◌, ℕ, suc, ◌<◌, List, ◌++◌, refl, sym, ap, ◌∙◌, subst, arith}
+use Rattle.std.proofs.Common.{◌≡◌, suc, ◌<◌, List, ◌++◌, subst, arith}
 use Rattle.std.specs.Prelude.{Bool}
-use Rattle.ffi3_type_rules.specs.Value.{void_value}
 use Rattle.ffi3_place_rules.specs.Event.{Event}
 use Rattle.ffi3_place_rules.specs.Standard.{Standard}
 use Rattle.ffi3_run_rules.specs.declared.Stop.{Stop}

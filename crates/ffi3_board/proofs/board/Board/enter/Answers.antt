@@ -1,16 +1,13 @@
-use Rattle.std.proofs.Common.{◌≡◌, ℕ, suc, ◌+◌, ◌<◌, ◌++◌, List, [], ◌∷◌, length, reverse, refl, sym, ap, ◌∙◌, subst, arith}
+use Rattle.std.proofs.Common.{◌≡◌, ℕ, suc, ◌+◌, ◌<◌, ◌++◌, List, [], ◌∷◌, length, reverse, refl, sym, ap, ◌∙◌, subst}
 use Rattle.ffi3_type_rules.specs.Signature.{Signature, signature_at}
-use Rattle.ffi3_place_rules.specs.Event.{Event}
 use Rattle.ffi3_place_rules.specs.Standard.{Standard, frame_of}
 use Rattle.ffi3_run_rules.specs.Move.{call}
 use Rattle.ffi3_run_rules.specs.Trace.{Enter}
-use Rattle.ffi3_machine.specs.State.{State, with_room}
-use Rattle.ffi3_callee.specs.Received.{IsIncoming}
-use Rattle.ffi3_invoke.specs.Calls.{HasBegun}
+use Rattle.ffi3_machine.specs.State.{with_room}
 use Rattle.ffi3_io.proofs.Writing.{took_as}
 use Rattle.ffi3_board.specs.declared.activation.Waiting.{Waiting}
 use Rattle.ffi3_board.specs.declared.activation.Who.TheVariants.{Function}
-use Rattle.ffi3_board.specs.Between.{IsBetween, moment, moment_with}
+use Rattle.ffi3_board.specs.Between.{IsBetween, moment_with}
 use Rattle.ffi3_board.proofs.Boarding.{refused, call_entered, call_lines, call_cut_off, goes_off, reverse-last}
 use Rattle.ffi3_board.proofs.Moving.{looks_as_itself, looks_same}
 use Rattle.ffi3_board.proofs.Transports.{begun_as, cut_as, entry_told_as, incoming_as}
@@ -51,7 +48,7 @@ returns-in-Err-clause-turned g c = λ p base all first own events standard signa
     let lines = call_lines p base all first own events b.served outer b.table b.moves m o c.args.current ptr sig args is c.args.closure does n m' incoming sized begun received c.begin_call-incoming.ensures.block below c.args.standing [] refl c.args.trace tracing in
     let told = entry_told_as c.args.trace std base.standard c.get-cif.result.now (signature_at p.signatures sig) m' _ (sym standard) site lines in
     let cut_off = cut_as _ _ o o' c.in-Err.why told c.in-Err.ensures in
-    goes_off p base all first own (suc b.moves) b m' o' c.in-Err.why c.cut_off.result c.cut_off.ensures.is (call_cut_off p base all first own events b.served outer b.table b.moves m o c.args.current ptr sig args is c.args.closure does n m' incoming sized begun received c.begin_call-incoming.ensures.block below c.args.standing [] refl c.in-Err.why o' cut_off)
+    goes_off p base all first own (suc b.moves) (record b { suspended = c.reserve.new.self }) m' o' c.in-Err.why c.cut_off.result c.cut_off.ensures.is (call_cut_off p base all first own events b.served outer b.table b.moves m o c.args.current ptr sig args is c.args.closure does n m' incoming sized begun received c.begin_call-incoming.ensures.block below c.args.standing [] refl c.in-Err.why o' cut_off)
 
 pub returns-clause-turned : goal.returns-clause-turned
 returns-clause-turned g c = λ p base all first own events standard signatures tracing is does.

@@ -1,4 +1,4 @@
-use Rattle.std.proofs.Common.{◌≡◌, suc, true, List, [], ◌∷◌, ◌++◌, Option, Some, None, reverse, refl, sym, ap, ◌∙◌, subst, rules}
+use Rattle.std.proofs.Common.{◌≡◌, suc, true, List, [], ◌∷◌, ◌++◌, Option, reverse, refl, sym, ap, ◌∙◌, subst, rules}
 use Rattle.ffi3_type_rules.specs.Tree.{Tree, void}
 use Rattle.ffi3_type_rules.specs.Signature.{Signature, signature_at}
 use Rattle.ffi3_type_rules.specs.Value.{ValueTree, fits}
@@ -11,7 +11,7 @@ use Rattle.ffi3_io.proofs.Writing.{took_as}
 use Rattle.ffi3_io.specs.declared.IoError.TheVariants as cut
 use Rattle.ffi3_board.specs.Between.{IsAsking, moment, moment_with}
 use Rattle.ffi3_board.specs.TraceLines.{last_event}
-use Rattle.ffi3_board.specs.Going.{GoneOn, and_result}
+use Rattle.ffi3_board.specs.Going.{GoneOn}
 use Rattle.ffi3_board.specs.Path.{call_inside, calls_of, result_type_at, suspended_at}
 use Rattle.ffi3_board.proofs.Boarding.{goes, goes_off, gone_back, call_returned, return_cut_off, return_lines_told, popped_holds, reverse-last, void_is}
 use Rattle.ffi3_board.proofs.Moving.{main_ends}

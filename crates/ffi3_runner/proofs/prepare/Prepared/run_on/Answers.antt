@@ -1,4 +1,3 @@
-use Rattle.std.proofs.Common.{refl, sym, ◌∙◌}
 use Rattle.ffi3_runner.proofs.Running.{comes_nowhere, comes_on, ends_done, ends_failed, ends_no_memory, ends_stopped, falls}
 use Rattle.ffi3_runner.proofs.prepare.Prepared.run_on.Goals as goal
 

@@ -1,8 +1,8 @@
-use Rattle.std.proofs.Common.{◌≡◌, ℕ, suc, ◌-◌, ◌++◌, ◌<◌, true, List, length, reverse, Option, Some, refl, sym, ap, ◌∙◌, subst, rules, arith}
+use Rattle.std.proofs.Common.{◌≡◌, suc, ◌-◌, ◌++◌, true, List, length, reverse, Some, refl, sym, ap, ◌∙◌, subst, rules, arith}
 use Rattle.std.proofs.lemmas.List.{length-map}
 use Rattle.ffi3_type_rules.specs.Signature.{Signature, signature_at}
 use Rattle.ffi3_type_rules.specs.Tree.{Tree}
-use Rattle.ffi3_type_rules.specs.Value.{ValueTree, void_value, fits}
+use Rattle.ffi3_type_rules.specs.Value.{void_value, fits}
 use Rattle.ffi3_types.specs.TreeOf.{tree_of}
 use Rattle.ffi3_values.specs.ValueOf.{value_of}
 use Rattle.ffi3_run_rules.specs.Move.{call, make, free, print, return}
