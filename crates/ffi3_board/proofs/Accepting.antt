@@ -74,15 +74,21 @@ served_is_traced p std sig m true =
     let entry = entry_at std s m in
     let count = length m.events + 1 in
     let leaves = served_leaves entry count in
-    let before : (at : Loc) → register entry.image at ≡ leaves (count - 1) at = λ at. sym (chosen_true (nat_lt (count - 1) count) (register entry.image at) (scribble (count - 1) at) (lt-ltb (count - 1) count (omega arith))) in
-    (leaves, refl, record {
-      later = λ n at past. chosen_false (nat_lt n count) (register entry.image at) (scribble n at) (le-ltb n count past);
-      open_calls = (record {
-        signature = refl;
-        sp = omega arith;
-        preserved = all_hold (λ (at : Loc). register entry.image at ≡ leaves (count - 1) at) before std.preserved;
-      }, tt);
-    })
+    let before : (at : Loc) → register entry.image at ≡ leaves (count - 1) at = λ at. sym (chosen_true (nat_lt (count - 1) count) (register entry.image at) (scribble (count - 1) at) (lt-ltb (count - 1) count (omega arith))) in (
+      leaves,
+      refl,
+      record {
+        later = λ n at past. chosen_false (nat_lt n count) (register entry.image at) (scribble n at) (le-ltb n count past);
+        open_calls = (
+          record {
+            signature = refl;
+            sp = omega arith;
+            preserved = all_hold (λ (at : Loc). register entry.image at ≡ leaves (count - 1) at) before std.preserved;
+          },
+          tt,
+        );
+      },
+    )
 
 module _ (p : Program) (std : Standard) (closure : Closure) (arguments : List ValueTree) (m m' : State) (incoming : Incoming) (output : SinkState) (closures : Closures) (moves : ℕ) (tracing : Tracing) where
   abbrev s : Signature

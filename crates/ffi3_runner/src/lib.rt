@@ -1,5 +1,6 @@
 //! The run of a script beside natives, by any calling standard: main's moves, and those of the
-//! functions that are called, to any nesting; and calls that are served from outside. It is untraced.
+//! functions that are called, to any nesting; and calls that are served from outside. Each may be
+//! traced.
 #![tactic(auto)]
 
 mod asked;

@@ -6,7 +6,7 @@ use Rattle.ffi3_invoke.specs.Calls.{entered_closure}
 use Rattle.ffi3_board.proofs.Closed.{known_at}
 use Rattle.ffi3_runner.proofs.Agreed.{accepted_stands}
 use Rattle.ffi3_runner.proofs.Numbers.{func_below, own_at}
-use Rattle.ffi3_runner.proofs.Serving.{call_served, served_between, shows_found}
+use Rattle.ffi3_runner.proofs.Serving.{call_cut_off, call_served, served_between, shows_found}
 use Rattle.ffi3_runner.proofs.prepare.Prepared.serve.Goals as goal
 
 pub in_function-standing-requires-clause-below : goal.in_function-standing-requires-clause-below
