@@ -1,8 +1,8 @@
 -- The names of natives, one after another.
 use Rattle.std.proofs.Common.{◌≡◌, ℕ, ◌+◌, ◌^◌, ◌<◌, ◌≤◌, List, [], ◌∷◌, ◌++◌, length, map, take, Some, get_or, ap, ap₂, ◌∙◌, subst, sym, arith}
-use Rattle.std.specs.Prelude.{slice_get}
+use Rattle.std.specs.Prelude.{slice_get, option_map}
 use Rattle.std.proofs.lemmas.List.{length-map, take_all, take_more}
-use Rattle.std.proofs.lemmas.Option.{get_or_from_slice_get, slice_get_within}
+use Rattle.std.proofs.lemmas.Option.{get_or_from_slice_get, slice_get-map, slice_get_within}
 use Rattle.ffi3_script_rules.specs.Natives.{NamedNative, names_of}
 
 module _ (ns : List NamedNative) where
@@ -10,6 +10,11 @@ module _ (ns : List NamedNative) where
   one_name_more i names names' name name' are at same pushed =
       let here : get_or (names_of ns) i name ≡ name = get_or_from_slice_get (names_of ns) i name name at in
       pushed ∙ ap₂ (λ (ms : List (List ℕ)) (m : List ℕ). ms ++ m ∷ []) are (same ∙ sym here) ∙ sym (take_more (names_of ns) i name (slice_get_within (names_of ns) i name at))
+
+  -- the name of native i
+  pub name_here : (i : ℕ) (n : NamedNative) (name : List ℕ) → slice_get ns i ≡ Some n → name ≡ n.name → slice_get (names_of ns) i ≡ Some name
+  name_here i n name at is =
+      slice_get-map (λ (m : NamedNative). m.name) ns i ∙ ap (option_map (λ (m : NamedNative). m.name)) at ∙ ap (λ (m : List ℕ). Some m) (sym is)
 
   pub all_names : (i : ℕ) (names : List (List ℕ)) → length ns ≤ i → names ≡ take i (names_of ns) → names ≡ names_of ns
   all_names i names past are =
@@ -20,5 +25,6 @@ module _ (ns : List NamedNative) where
   count_of_names names are =
       ap (λ (ms : List (List ℕ)). length ms) are ∙ length-map ns (λ (n : NamedNative). n.name)
 
-pub mapped_length : {A B : Type 0} (f : A → B) (xs : List A) → length (map f xs) ≡ length xs
-mapped_length f xs = length-map xs f
+-- a list that was made of another is no longer
+pub mapped_below : {A B : Type 0} (f : A → B) (xs : List A) (i : ℕ) → length xs ≤ i → length (map f xs) ≤ i
+mapped_below f xs i past = subst (λ (n : ℕ). n ≤ i) (sym (length-map xs f)) past

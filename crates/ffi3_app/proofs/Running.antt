@@ -13,8 +13,10 @@ use Rattle.ffi3_runner.specs.RunMatches.{RunMatches, WrotePart}
 use Rattle.ffi3_io.specs.Sink.{SinkState}
 use Rattle.ffi3_io.specs.declared.IoError.{IoError}
 use Rattle.ffi3_io.specs.declared.IoError.TheVariants as end
+use Rattle.ffi3_words.specs.declared.words.Request.{Request}
+use Rattle.ffi3_words.specs.declared.words.Request.TheVariants.{Run}
 use Rattle.ffi3_app.specs.Commands.{standard_of}
-use Rattle.ffi3_app.specs.Top.{IsRun, IsRunInPart, status_of}
+use Rattle.ffi3_app.specs.Top.{IsDoneInPart, IsRun, IsRunInPart, status_of}
 
 -- what was run by the standard of a target was run by that of the same target
 module _ (natives : List NamedNative) (s : Script) (output output' : SinkState) (machine machine' : State) (trace : Bool) (t u : Target) (r : Result ℕ IoError) (same : t ≡ u) where
@@ -29,6 +31,16 @@ module _ (natives : List NamedNative) (s : Script) (output output' : SinkState) 
   pub refused_by_target : IfErr r (λ e. e ≡ end.NoMemory → ((output' ≡ output) × (machine' ≡ machine)) ⊎ IsRunInPart false trace (standard_of u) natives s output output' machine') → IfErr r (λ e. e ≡ end.NoMemory → ((output' ≡ output) × (machine' ≡ machine)) ⊎ IsRunInPart false trace (standard_of t) natives s output output' machine')
   refused_by_target is =
       subst (λ (v : Target). IfErr r (λ e. e ≡ end.NoMemory → ((output' ≡ output) × (machine' ≡ machine)) ⊎ IsRunInPart false trace (standard_of v) natives s output output' machine')) (sym same) is
+
+-- a run that is done in part is the work that was asked for, done in part
+module _ (natives : List NamedNative) (s : Script) (output output' : SinkState) (machine machine' : State) (trace : Bool) (q : Request) (t : Target) (r : Result ℕ IoError) (asked : q ≡ Run t trace) where
+  pub failed_in_part : IfErr r (λ e. e ≡ end.Failed → IsRunInPart true trace (standard_of t) natives s output output' machine') → IfErr r (λ e. e ≡ end.Failed → IsDoneInPart true q natives s output output' machine machine')
+  failed_in_part is =
+      subst (λ (x : Request). IfErr r (λ e. e ≡ end.Failed → IsDoneInPart true x natives s output output' machine machine')) (sym asked) is
+
+  pub refused_in_part : IfErr r (λ e. e ≡ end.NoMemory → ((output' ≡ output) × (machine' ≡ machine)) ⊎ IsRunInPart false trace (standard_of t) natives s output output' machine') → IfErr r (λ e. e ≡ end.NoMemory → ((output' ≡ output) × (machine' ≡ machine)) ⊎ IsDoneInPart false q natives s output output' machine machine')
+  refused_in_part is =
+      subst (λ (x : Request). IfErr r (λ e. e ≡ end.NoMemory → ((output' ≡ output) × (machine' ≡ machine)) ⊎ IsDoneInPart false x natives s output output' machine machine')) (sym asked) is
 
 -- and what was run of a program was run of the same program
 module _ (trace : Bool) (std : Standard) (p q : Program) (same : p ≡ q) (output output' : SinkState) (machine' : State) where

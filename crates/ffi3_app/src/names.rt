@@ -25,7 +25,16 @@ fn name_at(natives: &Vec<Box<dyn Native>>, i: usize) -> &str
     requires { i < length natives.now.items }
     ensures { slice_get (names_of (map (λ b. handed_in (title b) (meaning b) (signatures b)) natives.now.items)) i ≡ Some result.now }
 {
-    name_of(&natives[i])
+    name_of(native_at(natives, i))
+}
+
+// Native `i`.
+fn native_at(natives: &Vec<Box<dyn Native>>, i: usize) -> &Box<dyn Native>
+    requires { i < length natives.now.items }
+    ensures { slice_get (map (λ b. handed_in (title b) (meaning b) (signatures b)) natives.now.items) i
+        ≡ Some (handed_in (title result.now) (meaning result.now) (signatures result.now)) }
+{
+    &natives[i]
 }
 
 // A box is called here, so that its callers' proofs speak of the box itself.

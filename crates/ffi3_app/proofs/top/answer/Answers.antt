@@ -1,10 +1,9 @@
-use Rattle.std.proofs.Common.{refl, inl, inr, map, sym, ◌∙◌, arith}
+use Rattle.std.proofs.Common.{refl, inl, inr, map}
 use Rattle.ffi3_script.specs.ScriptOf.{script_of}
 use Rattle.ffi3_script_rules.specs.Reading.{script}
 use Rattle.ffi3_script_rules.specs.Natives.{NamedNative}
 use Rattle.ffi3_ask.specs.Handed.{handed_in}
 use Rattle.ffi3_app.specs.Top.{bad_words, no_memory_for_words, write_failed, no_memory, done, failed}
-use Rattle.ffi3_app.proofs.Naming.{count_of_names, mapped_length}
 use Rattle.ffi3_app.proofs.Saying.{began, nothing_read, read_beside, refused_beside, is_refused, says_refusal, no_fault_counted, fault_counted, refused_not_two, told_not_two, work_not_two, five_not_two, four_not_two}
 use Rattle.ffi3_app.proofs.top.answer.Goals as goal
 
@@ -15,6 +14,10 @@ returns-in-Err-Refused-clause-says g c =
 pub returns-in-Err-NoMemory-clause-says : goal.returns-in-Err-NoMemory-clause-says
 returns-in-Err-NoMemory-clause-says g c =
     failed (no_memory_for_words refl refl refl) c.tell-in-Err-NoMemory.ensures
+
+pub returns-in_default-clause-says : goal.returns-in_default-clause-says
+returns-in_default-clause-says g c =
+    failed (no_memory c.in-Ok.ensures.takes (nothing_read (g.I.Source.state c.args.input.now)) refl (inl (refl, refl)) refl) c.tell-in_default.ensures
 
 pub returns-in-Err-clause-says : goal.returns-in-Err-clause-says
 returns-in-Err-clause-says g c =

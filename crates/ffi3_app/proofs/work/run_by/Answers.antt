@@ -12,22 +12,22 @@ pub returns-in-Done-clause-done : goal.returns-in-Done-clause-done
 returns-in-Done-clause-done g c =
     let same : ◌≡◌ {A = Program} _ (program_beside g.A.Abi.standard (map {B = NamedNative} (λ b. handed_in ((goal.Native-dyn g (b.vtable, b.value)).Native.title b.value) ((goal.Native-dyn g (b.vtable, b.value)).Body.meaning b.value) ((goal.Native-dyn g (b.vtable, b.value)).Body.signatures b.value)) c.args.natives.now.items) (script_of c.args.script.now)) =
     λ i. program_beside g.A.Abi.standard (map {B = NamedNative} (λ b. handed_in ((goal.Native-dyn g (b.vtable, b.value)).Native.title b.value) ((goal.Native-dyn g (b.vtable, b.value)).Body.meaning b.value) ((goal.Native-dyn g (b.vtable, b.value)).Body.signatures b.value)) (c.in_ok-runner.ensures.natives i).items) (script_of (c.in_ok-runner.ensures.script i)) in
-    run_of c.args.trace g.A.Abi.standard _ _ same _ _ _ 0 (c.run_main.ensures.done c.in-Done.is) (sym (ap status_of (c.run_main.ensures.returns c.in-Done.is)))
+    run_of c.args.trace g.A.Abi.standard _ _ same (g.O.Sink.state c.args.output.now) (g.O.Sink.state c.run_main.new.output) c.run_main.new.machine 0 (c.run_main.ensures.done c.in-Done.is) (sym (ap status_of (c.run_main.ensures.returns c.in-Done.is)))
 
 pub returns-in-Stopped-clause-done : goal.returns-in-Stopped-clause-done
 returns-in-Stopped-clause-done g c =
     let same : ◌≡◌ {A = Program} _ (program_beside g.A.Abi.standard (map {B = NamedNative} (λ b. handed_in ((goal.Native-dyn g (b.vtable, b.value)).Native.title b.value) ((goal.Native-dyn g (b.vtable, b.value)).Body.meaning b.value) ((goal.Native-dyn g (b.vtable, b.value)).Body.signatures b.value)) c.args.natives.now.items) (script_of c.args.script.now)) =
     λ i. program_beside g.A.Abi.standard (map {B = NamedNative} (λ b. handed_in ((goal.Native-dyn g (b.vtable, b.value)).Native.title b.value) ((goal.Native-dyn g (b.vtable, b.value)).Body.meaning b.value) ((goal.Native-dyn g (b.vtable, b.value)).Body.signatures b.value)) (c.in_ok-runner.ensures.natives i).items) (script_of (c.in_ok-runner.ensures.script i)) in
-    run_of c.args.trace g.A.Abi.standard _ _ same _ _ _ 6 (c.run_main.ensures.stopped c.in-Stopped.field-0 c.in-Stopped.is) (sym (ap status_of (c.run_main.ensures.stops c.in-Stopped.field-0 c.in-Stopped.is)))
+    run_of c.args.trace g.A.Abi.standard _ _ same (g.O.Sink.state c.args.output.now) (g.O.Sink.state c.run_main.new.output) c.run_main.new.machine 6 (c.run_main.ensures.stopped c.in-Stopped.field-0 c.in-Stopped.is) (sym (ap status_of (c.run_main.ensures.stops c.in-Stopped.field-0 c.in-Stopped.is)))
 
 pub returns-in-NoMemory-clause-refused : goal.returns-in-NoMemory-clause-refused
 returns-in-NoMemory-clause-refused g c is =
     let same : ◌≡◌ {A = Program} _ (program_beside g.A.Abi.standard (map {B = NamedNative} (λ b. handed_in ((goal.Native-dyn g (b.vtable, b.value)).Native.title b.value) ((goal.Native-dyn g (b.vtable, b.value)).Body.meaning b.value) ((goal.Native-dyn g (b.vtable, b.value)).Body.signatures b.value)) c.args.natives.now.items) (script_of c.args.script.now)) =
     λ i. program_beside g.A.Abi.standard (map {B = NamedNative} (λ b. handed_in ((goal.Native-dyn g (b.vtable, b.value)).Native.title b.value) ((goal.Native-dyn g (b.vtable, b.value)).Body.meaning b.value) ((goal.Native-dyn g (b.vtable, b.value)).Body.signatures b.value)) (c.in_ok-runner.ensures.natives i).items) (script_of (c.in_ok-runner.ensures.script i)) in
-    inr (part_of c.args.trace g.A.Abi.standard _ _ same _ _ _ false c.run_main.ensures.part (c.run_main.ensures.cut_by_memory c.in-NoMemory.is))
+    inr (part_of c.args.trace g.A.Abi.standard _ _ same (g.O.Sink.state c.args.output.now) (g.O.Sink.state c.run_main.new.output) c.run_main.new.machine false c.run_main.ensures.part (c.run_main.ensures.cut_by_memory c.in-NoMemory.is))
 
 pub returns-in-Failed-clause-failed : goal.returns-in-Failed-clause-failed
 returns-in-Failed-clause-failed g c is =
     let same : ◌≡◌ {A = Program} _ (program_beside g.A.Abi.standard (map {B = NamedNative} (λ b. handed_in ((goal.Native-dyn g (b.vtable, b.value)).Native.title b.value) ((goal.Native-dyn g (b.vtable, b.value)).Body.meaning b.value) ((goal.Native-dyn g (b.vtable, b.value)).Body.signatures b.value)) c.args.natives.now.items) (script_of c.args.script.now)) =
     λ i. program_beside g.A.Abi.standard (map {B = NamedNative} (λ b. handed_in ((goal.Native-dyn g (b.vtable, b.value)).Native.title b.value) ((goal.Native-dyn g (b.vtable, b.value)).Body.meaning b.value) ((goal.Native-dyn g (b.vtable, b.value)).Body.signatures b.value)) (c.in_ok-runner.ensures.natives i).items) (script_of (c.in_ok-runner.ensures.script i)) in
-    part_of c.args.trace g.A.Abi.standard _ _ same _ _ _ true c.run_main.ensures.part (c.run_main.ensures.cut_by_write c.in-Failed.is)
+    part_of c.args.trace g.A.Abi.standard _ _ same (g.O.Sink.state c.args.output.now) (g.O.Sink.state c.run_main.new.output) c.run_main.new.machine true c.run_main.ensures.part (c.run_main.ensures.cut_by_write c.in-Failed.is)
