@@ -26,7 +26,7 @@ returns-in-NoMemory-clause-refused g c is =
     λ i. program_beside g.A.Abi.standard (map {B = NamedNative} (λ b. handed_in ((goal.Native-dyn g (b.vtable, b.value)).Native.title b.value) ((goal.Native-dyn g (b.vtable, b.value)).Body.meaning b.value) ((goal.Native-dyn g (b.vtable, b.value)).Body.signatures b.value)) (c.in_ok-runner.ensures.natives i).items) (script_of (c.in_ok-runner.ensures.script i)) in
     inr (part_of c.args.trace g.A.Abi.standard _ _ same (g.O.Sink.state c.args.output.now) (g.O.Sink.state c.run_main.new.output) c.run_main.new.machine false c.run_main.ensures.part (c.run_main.ensures.cut_by_memory c.in-NoMemory.is))
 
-pub returns-clause-failed : goal.returns-in-Failed-clause-failed
+pub returns-clause-failed : goal.returns-clause-failed
 returns-clause-failed g c is =
     let same : ◌≡◌ {A = Program} _ (program_beside g.A.Abi.standard (map {B = NamedNative} (λ b. handed_in ((goal.Native-dyn g (b.vtable, b.value)).Native.title b.value) ((goal.Native-dyn g (b.vtable, b.value)).Body.meaning b.value) ((goal.Native-dyn g (b.vtable, b.value)).Body.signatures b.value)) c.args.natives.now.items) (script_of c.args.script.now)) =
     λ i. program_beside g.A.Abi.standard (map {B = NamedNative} (λ b. handed_in ((goal.Native-dyn g (b.vtable, b.value)).Native.title b.value) ((goal.Native-dyn g (b.vtable, b.value)).Body.meaning b.value) ((goal.Native-dyn g (b.vtable, b.value)).Body.signatures b.value)) (c.in_ok-runner.ensures.natives i).items) (script_of (c.in_ok-runner.ensures.script i)) in
