@@ -1,4 +1,4 @@
--- Which bytes of a call's places carry something, and the machine once all others are overwritten. What these hold is free. (System V psABI AMD64, "Parameter Passing"; Arm AAPCS64 6.8.2; RISC-V ELF psABI, "Integer Calling Convention")
+-- Which bytes of a call's places carry something, and the machine once all others are overwritten. What these hold is free. (System V psABI AMD64, "Parameter Passing"; Arm AAPCS64, "Parameter passing"; RISC-V ELF psABI, "Integer Calling Convention")
 use Rattle.std.specs.Prelude.{◌≡◌, ℕ, ◌+◌, ◌-◌, ◌<◌, ◌≤◌, ◌⊎◌, ◌==◌, nat_lt, if◌then◌else◌, Bool, true, false, not, ◌&&◌, ◌||◌, List, ◌∷◌, Option, Some, None}
 use Rattle.std.specs.List.{AllByRecursion, list_any}
 use Rattle.ffi3_type_rules.specs.Tree.{Tree}
