@@ -58,7 +58,7 @@ pub fn run_script<A: Abi>(
     machine.begin(A::TARGET);
     let mut output = MemSink::new(alloc, ROOM, Vec::new(alloc))?;
     let mut runner = Runner::<A>::new(alloc, &script, natives)?;
-    let end = runner.run_main(&mut machine, &mut output);
+    let end = runner.run_main(&mut machine, &mut output, false);
     let moves_left = runner.moves_left();
     Ok(Some(Ran {
         end,
