@@ -58,6 +58,30 @@ pub fn read_beside(
     }
 }
 
+// Runs a script.
+fn run<A: Abi>(
+    alloc: Global,
+    natives: &Vec<Box<dyn Native>>,
+    script: &Script,
+) -> Result<Ran, NoMemory>
+    requires beside { natives_of script.now ≤ length natives.now.items }
+    requires few_natives { length natives.now.items < 2 ^ 31 }
+    requires few_signatures { length (signatures_in (map (λ b. handed_in (title b) (meaning b) (signatures b)) natives.now.items)) < 2 ^ 31 }
+{
+    let mut machine = Machine::new(alloc)?;
+    machine.begin(A::TARGET);
+    let mut output = MemSink::new(alloc, ROOM, Vec::new(alloc))?;
+    let mut runner = Runner::<A>::new(alloc, script, natives)?;
+    let end = runner.run_main(&mut machine, &mut output);
+    let moves_left = runner.moves_left();
+    Ok(Ran {
+        end,
+        output,
+        moves_left,
+        machine,
+    })
+}
+
 /// Runs the script that the text is beside the natives, by the standard `A`; none where it is no script.
 pub fn run_script<A: Abi>(
     alloc: Global,
@@ -67,19 +91,8 @@ pub fn run_script<A: Abi>(
     requires few_natives { length natives.now.items < 2 ^ 31 }
     requires few_signatures { length (signatures_in (map (λ b. handed_in (title b) (meaning b) (signatures b)) natives.now.items)) < 2 ^ 31 }
 {
-    let Some(script) = read_beside(alloc, natives, text)? else {
-        return Ok(None);
-    };
-    let mut machine = Machine::new(alloc)?;
-    machine.begin(A::TARGET);
-    let mut output = MemSink::new(alloc, ROOM, Vec::new(alloc))?;
-    let mut runner = Runner::<A>::new(alloc, &script, natives)?;
-    let end = runner.run_main(&mut machine, &mut output);
-    let moves_left = runner.moves_left();
-    Ok(Some(Ran {
-        end,
-        output,
-        moves_left,
-        machine,
-    }))
+    match read_beside(alloc, natives, text)? {
+        Some(script) => Ok(Some(run::<A>(alloc, natives, &script)?)),
+        None => Ok(None),
+    }
 }
