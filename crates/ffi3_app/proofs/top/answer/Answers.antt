@@ -1,4 +1,4 @@
-use Rattle.std.proofs.Common.{refl, inl, inr, map}
+use Rattle.std.proofs.Common.{refl, inl, map}
 use Rattle.ffi3_script.specs.ScriptOf.{script_of}
 use Rattle.ffi3_script_rules.specs.Reading.{script}
 use Rattle.ffi3_script_rules.specs.Natives.{NamedNative}
