@@ -6,6 +6,7 @@ mod Marks
 pub mod Opened
 pub mod Moving
 pub mod Blocks
+mod Telling
 mod Entering
 mod Leaving
 pub mod Boarding

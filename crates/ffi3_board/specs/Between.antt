@@ -3,10 +3,10 @@ use Rattle.std.specs.Prelude.{◌≡◌, ℕ, suc, ◌+◌, ◌≤◌, ◌⊎◌
 use Rattle.ffi3_type_rules.specs.declared.limits.TheConstants.{STACK, STACK_TOP}
 use Rattle.ffi3_type_rules.specs.Signature.{Signature}
 use Rattle.ffi3_place_rules.specs.Event.{Event}
-use Rattle.ffi3_place_rules.specs.Standard.{Standard, need_of}
+use Rattle.ffi3_place_rules.specs.Standard.{need_of}
 use Rattle.ffi3_run_rules.specs.Closures.{Closures}
 use Rattle.ffi3_run_rules.specs.Journal.{Entered}
-use Rattle.ffi3_run_rules.specs.Lines.{untraced, text}
+use Rattle.ffi3_run_rules.specs.Lines.{Tracing, text}
 use Rattle.ffi3_run_rules.specs.Meaning as meaning
 use Rattle.ffi3_run_rules.specs.Meaning.{Program, most_moves, next_move}
 use Rattle.ffi3_run_rules.specs.Move.{Move}
@@ -26,11 +26,12 @@ use Rattle.ffi3_board.specs.Known.{AreKnown}
 use Rattle.ffi3_board.specs.Path.{acting, call_inside, suspended_at, calls_of}
 use Rattle.ffi3_board.specs.Stack.{HoldsCalls}
 
--- what a run found as it began: the journal, the mark, and what the output had taken
+-- what a run found as it began: the journal, the mark, and what the output had taken; and how it is traced
 pub record Beginning : Type 0 where
   pub events : List Event
   pub mark : ℕ
   pub output : SinkState
+  pub tracing : Tracing
 
 -- what stands between two moves
 pub record Moment : Type 0 where
@@ -54,8 +55,8 @@ position x = record {
 }
 
 -- what is done of a run's text
-abbrev pub text_of : Program → Base → List TraceItem → List ℕ
-text_of p base own = text untraced p.signatures (text_start p base) own
+abbrev pub text_of : Tracing → Program → Base → List TraceItem → List ℕ
+text_of tracing p base own = text tracing p.signatures (text_start p base) own
 
 -- the calls that were open as the run began take so many bytes
 abbrev pub depth_below : Program → Base → ℕ
@@ -81,7 +82,7 @@ pub record IsBetween (p : Program) (base : Base) (all : Left) (first : Beginning
   pub top : base.top ≤ STACK_TOP
   pub come : HasComeTo p base all own events (position x)
   pub journal : x.machine.events ≡ first.events ++ events
-  pub written : TookText (text_of p base own) first.output x.output
+  pub written : TookText (text_of first.tracing p base own) first.output x.output
   pub mark : IsMarkOf base.top first.mark (deepest p (depth_below p base) own) x.machine.mark
   pub deep : x.machine.sp + depth_at p (depth_below p base) own ≡ base.top
   pub left : x.innermost.left + STACK ≡ x.machine.sp

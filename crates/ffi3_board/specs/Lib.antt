@@ -1,5 +1,6 @@
 pub mod StopSigs
 pub mod WroteLine
+pub mod TraceLines
 pub mod Known
 pub mod Path
 pub mod Stack

@@ -12,6 +12,7 @@ mod line;
 mod making;
 mod printing;
 mod stopping;
+mod tracing;
 
 pub use activation::{Activation, OpenCall, Waiting, Who};
 pub use board::{Board, Turn};

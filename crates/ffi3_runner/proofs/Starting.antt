@@ -1,11 +1,11 @@
 -- Main begins, on a machine that begins.
-use Rattle.std.proofs.Common.{◌≡◌, ℕ, ◌+◌, ◌≤◌, inl, List, [], ◌∷◌, Option, Some, None, reverse, refl, sym, ap, ◌∙◌, subst, arith}
+use Rattle.std.proofs.Common.{◌≡◌, ℕ, inl, List, [], Option, Some, None, reverse, refl, sym, ap, ◌∙◌, subst, arith}
+use Rattle.std.specs.Prelude.{Bool}
 use Rattle.std.specs.List.{AllByRecursion}
 use Rattle.ffi3_type_rules.specs.declared.Isa.{Isa}
 use Rattle.ffi3_type_rules.specs.declared.Isa.TheVariants.{Amd64, Aarch64, Riscv}
 use Rattle.ffi3_type_rules.specs.Isa.{isa_of}
 use Rattle.ffi3_type_rules.specs.declared.limits.TheConstants.{STACK_TOP}
-use Rattle.ffi3_type_rules.specs.Value.{ValueTree}
 use Rattle.ffi3_place_rules.specs.declared.Loc.{Loc}
 use Rattle.ffi3_place_rules.specs.Agrees.{AgreesWithMachine}
 use Rattle.ffi3_place_rules.specs.Image.{register}
@@ -14,6 +14,7 @@ use Rattle.ffi3_place_rules.specs.Standard.{Standard, need_of}
 use Rattle.ffi3_run_rules.specs.Closures.{Closures, no_closures}
 use Rattle.ffi3_run_rules.specs.Meaning.{Program, meaning_of, main_call, most_moves, stack_size}
 use Rattle.ffi3_turn_rules.specs.Left.{left_of}
+use Rattle.ffi3_turn_rules.specs.MainTracing.{main_tracing}
 use Rattle.ffi3_turn_rules.specs.SoFar.{main_base}
 use Rattle.ffi3_turn_rules.proofs.Coming.{comes_from}
 use Rattle.ffi3_machine.specs.State.{State, begun, begun_code, begun_general, image_of, scribbled_general}
@@ -40,10 +41,11 @@ none_reserved Aarch64 floating sp stack = (refl, tt)
 none_reserved Riscv floating sp stack = (refl, (refl, (refl, tt)))
 
 -- what a run of main finds
-abbrev pub main_beginning : SinkState → Beginning
-main_beginning o = record { events = []; mark = STACK_TOP; output = o }
+abbrev pub main_beginning : (trace : Bool) → Standard → SinkState → Beginning
+main_beginning trace std o =
+    record { events = []; mark = STACK_TOP; output = o; tracing = main_tracing trace std }
 
-module _ (p : Program) (std : Standard) (needs : p.need ≡ need_of std) (agrees : AgreesWithMachine std) (k l : ℕ) (o : SinkState) where
+module _ (p : Program) (std : Standard) (needs : p.need ≡ need_of std) (agrees : AgreesWithMachine std) (k l : ℕ) (o : SinkState) (trace : Bool) where
   abbrev machine : State
   machine = begun std.target k l
 
@@ -63,7 +65,7 @@ module _ (p : Program) (std : Standard) (needs : p.need ≡ need_of std) (agrees
       let P = λ (locs : List Loc). AllByRecursion (λ at. register (image_of 0 machine) at ≡ 0) locs in
       subst P (sym agrees.reserved) (none_reserved (isa_of std.target) machine.floating machine.sp (image_of 0 machine).stack)
 
-  pub starts : HoldsMap std.target no_closures (begun_code (isa_of std.target)) → IsBetween p (main_base std) (left_of (meaning_of p)) (main_beginning o) [] [] start
+  pub starts : HoldsMap std.target no_closures (begun_code (isa_of std.target)) → IsBetween p (main_base std) (left_of (meaning_of p)) (main_beginning trace std o) [] [] start
   starts holds = record {
     needs = needs;
     count = refl;
@@ -95,8 +97,8 @@ module _ (p : Program) (std : Standard) (needs : p.need ≡ need_of std) (agrees
         ∙ ap (λ (n : ℕ). moment_with p.signatures None [] no_closures n machine o a) new.moves
         ∙ (λ i. record { innermost = acts i; suspended = []; calls = []; closures = no_closures; moves = most_moves; machine = machine; output = o })
 
-    pub stands_at_start : StandsAt p (main_base std) (left_of (meaning_of p)) (main_beginning o) [] [] (record b { innermost = Some a }) machine o
+    pub stands_at_start : StandsAt p (main_base std) (left_of (meaning_of p)) (main_beginning trace std o) [] [] (record b { innermost = Some a }) machine o
     stands_at_start =
         let P = λ (c : Closures). HoldsMap std.target c (begun_code (isa_of std.target)) in
         let holds = subst P new.closures (new.begins std.target) in
-        subst (λ (x : Moment). IsBetween p (main_base std) (left_of (meaning_of p)) (main_beginning o) [] [] x) (sym moment_is) (starts holds)
+        subst (λ (x : Moment). IsBetween p (main_base std) (left_of (meaning_of p)) (main_beginning trace std o) [] [] x) (sym moment_is) (starts holds)

@@ -1,4 +1,5 @@
 pub mod Agreeing
 pub mod Running
 pub mod RunMatches
+pub mod RunCut
 pub mod Ran

@@ -10,6 +10,7 @@ ghost use Rattle.ffi3_run_rules.specs.Move as asks;
 ghost use Rattle.ffi3_run_rules.specs.Trace.{TraceItem};
 ghost use Rattle.ffi3_turn_rules.specs.Left.{Left, as_main};
 ghost use Rattle.ffi3_turn_rules.specs.SoFar.{Base};
+ghost use Rattle.ffi3_turn_rules.specs.Told.{IsTracingOf};
 ghost use Rattle.ffi3_script_rules.specs.Natives.{NamedNative};
 ghost use Rattle.ffi3_script.specs.ScriptOf.{natives_of};
 ghost use Rattle.ffi3_body.specs.MoveOf.{move_of};
@@ -81,6 +82,7 @@ impl<'a, A: Abi> Prepared<'a, A> {
         ptr: u64,
         sig: u32,
         args: &Values,
+        trace: bool,
     ) -> Turn
         requires prepared { IsPrepared A.standard self.now.script.now (map (λ b. handed_in (title b) (meaning b) (signatures b)) self.now.natives.now.items) self.now.cifs }
         requires site { sig < length self.now.cifs }
@@ -95,7 +97,7 @@ impl<'a, A: Abi> Prepared<'a, A> {
             IsAsking p base all first own events (moment p.signatures current board.old machine.old (O.state output.old)) (asks.call ptr sig args.now) }
         ensures turned { let p = program A.standard self.now.script.now (map (λ b. handed_in (title b) (meaning b) (signatures b)) self.now.natives.now.items) in
             (base : Base) (all : Left) (first : Beginning) (own : List TraceItem) (events : List Event) →
-            base.standard ≡ A.standard →
+            base.standard ≡ A.standard → IsTracingOf p base trace first.tracing →
             IsAsking p base all first own events (moment p.signatures current board.old machine.old (O.state output.old)) (asks.call ptr sig args.now) →
             Turned p base all first own (suc board.old.moves) board.new machine.new (O.state output.new) result }
         ensures standing { result ≡ Turn.More →
@@ -112,7 +114,7 @@ impl<'a, A: Abi> Prepared<'a, A> {
         let standing = Standing::in_function(self.alloc, self.script, self.natives, closure.func);
         let alloc = self.alloc;
         board.enter(
-            alloc, machine, &self.cifs, current, closure, standing, ptr, sig, args,
+            alloc, machine, output, &self.cifs, current, closure, standing, ptr, sig, args, trace,
         )
     }
 }

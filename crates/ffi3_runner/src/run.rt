@@ -4,6 +4,7 @@ ghost use Rattle.ffi3_place_rules.specs.Event.{Event};
 ghost use Rattle.ffi3_run_rules.specs.Trace.{TraceItem};
 ghost use Rattle.ffi3_turn_rules.specs.Left.{Left, as_main};
 ghost use Rattle.ffi3_turn_rules.specs.SoFar.{Base};
+ghost use Rattle.ffi3_turn_rules.specs.Told.{IsTracingOf};
 ghost use Rattle.ffi3_ask.specs.Handed.{handed_in};
 ghost use Rattle.ffi3_board.specs.Between.{Beginning};
 ghost use Rattle.ffi3_board.specs.Turned.{StandsAt};
@@ -38,21 +39,23 @@ impl<'a, A: Abi> Prepared<'a, A> {
         board: &mut Board<Standing>,
         machine: &mut Machine,
         output: &mut O,
+        trace: bool,
     ) -> RunEnd
         requires prepared { IsPrepared A.standard self.now.script.now (map (λ b. handed_in (title b) (meaning b) (signatures b)) self.now.natives.now.items) self.now.cifs }
         requires main { board.old.served ≡ None }
         requires standing { AllStand self.now.script.now (map (λ b. handed_in (title b) (meaning b) (signatures b)) self.now.natives.now.items) self.now.cifs machine.old board.old }
         requires between { (base : Base) × (all : Left) × (first : Beginning) × (own : List TraceItem) × (events : List Event) ×
             (base.standard ≡ A.standard) × (base.bottom ≡ as_main) ×
+            IsTracingOf (program A.standard self.now.script.now (map (λ b. handed_in (title b) (meaning b) (signatures b)) self.now.natives.now.items)) base trace first.tracing ×
             StandsAt (program A.standard self.now.script.now (map (λ b. handed_in (title b) (meaning b) (signatures b)) self.now.natives.now.items)) base all first own events board.old machine.old (O.state output.old) }
         ensures { let p = program A.standard self.now.script.now (map (λ b. handed_in (title b) (meaning b) (signatures b)) self.now.natives.now.items) in
             (base : Base) (all : Left) (first : Beginning) (own : List TraceItem) (events : List Event) →
-            base.standard ≡ A.standard → base.bottom ≡ as_main →
+            base.standard ≡ A.standard → base.bottom ≡ as_main → IsTracingOf p base trace first.tracing →
             StandsAt p base all first own events board.old machine.old (O.state output.old) →
             Ran p base all first board.new machine.new (O.state output.new) result }
     {
         loop {
-            match self.turn(board, machine, output) {
+            match self.turn(board, machine, output, trace) {
                 Turn::More => {}
                 Turn::Done => return RunEnd::Done,
                 Turn::Stopped(stop) => return RunEnd::Stopped(stop),

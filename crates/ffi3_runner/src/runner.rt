@@ -1,13 +1,14 @@
 //! The runner: what a run is prepared with, and its board.
-ghost use Rattle.std.specs.Prelude.{◌≡◌, ◌<◌, ◌≤◌, ◌^◌, IfOk, List, None, length, map};
+ghost use Rattle.std.specs.Prelude.{◌≡◌, ◌<◌, ◌≤◌, ◌^◌, IfOk, List, None, false, length, map, true};
 ghost use Rattle.ffi3_type_rules.specs.Value.{void_value};
 ghost use Rattle.ffi3_place_rules.specs.Event.{Event};
-ghost use Rattle.ffi3_run_rules.specs.Lines.{untraced};
 ghost use Rattle.ffi3_run_rules.specs.Meaning.{meaning_of, returned, stopped};
 ghost use Rattle.ffi3_run_rules.specs.declared.Stop.{Stop};
 ghost use Rattle.ffi3_run_rules.specs.Trace.{TraceItem};
 ghost use Rattle.ffi3_turn_rules.specs.Left.{Left, as_main};
+ghost use Rattle.ffi3_turn_rules.specs.MainTracing.{main_tracing};
 ghost use Rattle.ffi3_turn_rules.specs.SoFar.{Base};
+ghost use Rattle.ffi3_turn_rules.specs.Told.{IsTracingOf};
 ghost use Rattle.ffi3_script.specs.ScriptOf.{natives_of};
 ghost use Rattle.ffi3_machine.specs.State.{begun};
 ghost use Rattle.ffi3_io.specs.Sink.{Rose};
@@ -15,6 +16,7 @@ ghost use Rattle.ffi3_ask.specs.Handed.{handed_in, signatures_in};
 ghost use Rattle.ffi3_board.specs.Between.{Beginning};
 ghost use Rattle.ffi3_board.specs.Turned.{StandsAt, Turned};
 ghost use Rattle.ffi3_runner.specs.Agreeing.{AllStand};
+ghost use Rattle.ffi3_runner.specs.RunCut.{RunWasCut};
 ghost use Rattle.ffi3_runner.specs.RunMatches.{RunMatches, WrotePart};
 ghost use Rattle.ffi3_runner.specs.Running.{IsNew, IsPrepared, program};
 
@@ -83,17 +85,18 @@ impl<'a, A: Abi> Runner<'a, A> {
     }
 
     /// Does one move of the innermost activation. It is counted, and none is asked for where none
-    /// is left.
-    pub fn turn<O: Sink>(&mut self, machine: &mut Machine, output: &mut O) -> Turn
+    /// is left. With `trace` an entry or a return is told as soon as it is recorded, in two lines.
+    pub fn turn<O: Sink>(&mut self, machine: &mut Machine, output: &mut O, trace: bool) -> Turn
         requires prepared { IsPrepared A.standard self.old.prepared.script.now (map (λ b. handed_in (title b) (meaning b) (signatures b)) self.old.prepared.natives.now.items) self.old.prepared.cifs }
         requires main { self.old.board.served ≡ None }
         requires standing { AllStand self.old.prepared.script.now (map (λ b. handed_in (title b) (meaning b) (signatures b)) self.old.prepared.natives.now.items) self.old.prepared.cifs machine.old self.old.board }
         requires between { (base : Base) × (all : Left) × (first : Beginning) × (own : List TraceItem) × (events : List Event) ×
             (base.standard ≡ A.standard) × (base.bottom ≡ as_main) ×
+            IsTracingOf (program A.standard self.old.prepared.script.now (map (λ b. handed_in (title b) (meaning b) (signatures b)) self.old.prepared.natives.now.items)) base trace first.tracing ×
             StandsAt (program A.standard self.old.prepared.script.now (map (λ b. handed_in (title b) (meaning b) (signatures b)) self.old.prepared.natives.now.items)) base all first own events self.old.board machine.old (O.state output.old) }
         ensures turned { let p = program A.standard self.old.prepared.script.now (map (λ b. handed_in (title b) (meaning b) (signatures b)) self.old.prepared.natives.now.items) in
             (base : Base) (all : Left) (first : Beginning) (own : List TraceItem) (events : List Event) →
-            base.standard ≡ A.standard → base.bottom ≡ as_main →
+            base.standard ≡ A.standard → base.bottom ≡ as_main → IsTracingOf p base trace first.tracing →
             StandsAt p base all first own events self.old.board machine.old (O.state output.old) →
             Turned p base all first own self.old.board.moves self.new.board machine.new (O.state output.new) result }
         ensures standing { result ≡ Turn.More →
@@ -101,29 +104,41 @@ impl<'a, A: Abi> Runner<'a, A> {
         ensures main { result ≡ Turn.More → self.new.board.served ≡ None }
         ensures prepared { self.new.prepared ≡ self.old.prepared }
     {
-        self.prepared.turn(&mut self.board, machine, output)
+        self.prepared.turn(&mut self.board, machine, output, trace)
     }
 
     /// Runs main to its end, on a machine as it begins for the standard's target. Each line is
-    /// handed to the output before the next move.
-    pub fn run_main<O: Sink>(&mut self, machine: &mut Machine, output: &mut O) -> RunEnd
+    /// handed to the output before the next move. With `trace` each entry and each return is told
+    /// as soon as it is recorded, in two lines.
+    pub fn run_main<O: Sink>(
+        &mut self,
+        machine: &mut Machine,
+        output: &mut O,
+        trace: bool,
+    ) -> RunEnd
         requires prepared { IsPrepared A.standard self.old.prepared.script.now (map (λ b. handed_in (title b) (meaning b) (signatures b)) self.old.prepared.natives.now.items) self.old.prepared.cifs }
         requires new { IsNew self.old.board }
         requires begun { machine.old ≡ begun A.TARGET machine.old.spare_events machine.old.spare_bytes }
         ensures done { result ≡ RunEnd.Done →
-            RunMatches untraced A.standard (program A.standard self.old.prepared.script.now (map (λ b. handed_in (title b) (meaning b) (signatures b)) self.old.prepared.natives.now.items))
+            RunMatches (main_tracing trace A.standard) A.standard (program A.standard self.old.prepared.script.now (map (λ b. handed_in (title b) (meaning b) (signatures b)) self.old.prepared.natives.now.items))
             (O.state output.old) (O.state output.new) machine.new }
         ensures returns { result ≡ RunEnd.Done →
             (meaning_of (program A.standard self.old.prepared.script.now (map (λ b. handed_in (title b) (meaning b) (signatures b)) self.old.prepared.natives.now.items))).end ≡ returned void_value }
         ensures stopped { (stop : Stop) → result ≡ RunEnd.Stopped stop →
-            RunMatches untraced A.standard (program A.standard self.old.prepared.script.now (map (λ b. handed_in (title b) (meaning b) (signatures b)) self.old.prepared.natives.now.items))
+            RunMatches (main_tracing trace A.standard) A.standard (program A.standard self.old.prepared.script.now (map (λ b. handed_in (title b) (meaning b) (signatures b)) self.old.prepared.natives.now.items))
             (O.state output.old) (O.state output.new) machine.new }
         ensures stops { (stop : Stop) → result ≡ RunEnd.Stopped stop →
             (meaning_of (program A.standard self.old.prepared.script.now (map (λ b. handed_in (title b) (meaning b) (signatures b)) self.old.prepared.natives.now.items))).end ≡ stopped stop }
         ensures no_memory { result ≡ RunEnd.NoMemory → (O.state output.new).faults ≡ (O.state output.old).faults }
         ensures failed { result ≡ RunEnd.Failed → Rose (O.state output.old).faults (O.state output.new).faults }
+        ensures cut_by_memory { result ≡ RunEnd.NoMemory →
+            RunWasCut (main_tracing trace A.standard) A.standard (program A.standard self.old.prepared.script.now (map (λ b. handed_in (title b) (meaning b) (signatures b)) self.old.prepared.natives.now.items)) false
+            (O.state output.old) (O.state output.new) machine.new }
+        ensures cut_by_write { result ≡ RunEnd.Failed →
+            RunWasCut (main_tracing trace A.standard) A.standard (program A.standard self.old.prepared.script.now (map (λ b. handed_in (title b) (meaning b) (signatures b)) self.old.prepared.natives.now.items)) true
+            (O.state output.old) (O.state output.new) machine.new }
         ensures never_falls { (O.state output.old).faults ≤ (O.state output.new).faults }
-        ensures part { WrotePart untraced (program A.standard self.old.prepared.script.now (map (λ b. handed_in (title b) (meaning b) (signatures b)) self.old.prepared.natives.now.items))
+        ensures part { WrotePart (main_tracing trace A.standard) (program A.standard self.old.prepared.script.now (map (λ b. handed_in (title b) (meaning b) (signatures b)) self.old.prepared.natives.now.items))
             (O.state output.old) (O.state output.new) }
     {
         let alloc = self.prepared.alloc;
@@ -133,6 +148,7 @@ impl<'a, A: Abi> Runner<'a, A> {
             user: 0,
             results: Values::new(alloc),
         });
-        self.prepared.run_on(&mut self.board, machine, output)
+        self.prepared
+            .run_on(&mut self.board, machine, output, trace)
     }
 }

@@ -1,8 +1,8 @@
-use Rattle.std.proofs.Common.{◌≡◌, ℕ, suc, ◌-◌, ◌++◌, ◌<◌, true, List, length, reverse, Option, Some, refl, sym, ap, ◌∙◌, subst, rules, arith}
+use Rattle.std.proofs.Common.{◌≡◌, suc, ◌-◌, ◌++◌, true, List, length, reverse, Some, refl, sym, ap, ◌∙◌, subst, rules, arith}
 use Rattle.std.proofs.lemmas.List.{length-map}
 use Rattle.ffi3_type_rules.specs.Signature.{Signature, signature_at}
 use Rattle.ffi3_type_rules.specs.Tree.{Tree}
-use Rattle.ffi3_type_rules.specs.Value.{ValueTree, void_value, fits}
+use Rattle.ffi3_type_rules.specs.Value.{void_value, fits}
 use Rattle.ffi3_types.specs.TreeOf.{tree_of}
 use Rattle.ffi3_values.specs.ValueOf.{value_of}
 use Rattle.ffi3_run_rules.specs.Move.{call, make, free, print, return}
@@ -14,14 +14,14 @@ use Rattle.ffi3_board.specs.Path.{call_inside}
 use Rattle.ffi3_run_rules.specs.Meaning.{pointer_value}
 use Rattle.ffi3_board.specs.Going.{and_result}
 use Rattle.ffi3_board.proofs.Blocks.{blocks_above}
-use Rattle.ffi3_board.proofs.Moving.{cut_between}
+use Rattle.ffi3_board.proofs.Moving.{cut_between, looks_as_itself}
 use Rattle.ffi3_runner.proofs.Agreed.{went_stands, returned_stands}
 use Rattle.ffi3_runner.proofs.Numbers.{func_below}
 use Rattle.ffi3_runner.proofs.Turning.{after_stands, asks_move, between_of, innermost_stands, later, move_fits, never_more, returns_type, short_by_few, turned_as, went_on, will_stand}
 use Rattle.ffi3_runner.proofs.prepare.Prepared.turn.Goals as goal
 
 pub returns-then-board-eq0-clause-turned : goal.returns-then-board-eq0-clause-turned
-returns-then-board-eq0-clause-turned g c = λ base all first own events standard main h.
+returns-then-board-eq0-clause-turned g c = λ base all first own events standard main tracing h.
     let b = c.args.board.now in
     let a = c.in-Some.current in
     let m = c.args.machine.now in
@@ -36,7 +36,7 @@ returns-then-board-eq0-clause-standing g c = λ more.
     let m = c.args.machine.now in
     let t = c.requires.between in
     let is : b.innermost ≡ Some a = search rules in
-    let between = between_of _ t.0 t.1 t.2 t.3 t.4 b a m (g.O.Sink.state c.args.output.now) is t.7 in
+    let between = between_of _ t.0 t.1 t.2 t.3 t.4 b a m (g.O.Sink.state c.args.output.now) is t.8 in
     absurd (never_more _ t.0 t.1 t.2 t.3 c.stop_at_limit.new.self m (g.O.Sink.state c.stop_at_limit.new.output) c.stop_at_limit.result (c.stop_at_limit.ensures _ t.0 t.1 t.2 t.3 t.4 m (sym c.requires.prepared.are) between) more)
 
 pub returns-then-board-eq0-clause-main : goal.returns-then-board-eq0-clause-main
@@ -46,17 +46,17 @@ returns-then-board-eq0-clause-main g c = λ more.
     let m = c.args.machine.now in
     let t = c.requires.between in
     let is : b.innermost ≡ Some a = search rules in
-    let between = between_of _ t.0 t.1 t.2 t.3 t.4 b a m (g.O.Sink.state c.args.output.now) is t.7 in
+    let between = between_of _ t.0 t.1 t.2 t.3 t.4 b a m (g.O.Sink.state c.args.output.now) is t.8 in
     absurd (never_more _ t.0 t.1 t.2 t.3 c.stop_at_limit.new.self m (g.O.Sink.state c.stop_at_limit.new.output) c.stop_at_limit.result (c.stop_at_limit.ensures _ t.0 t.1 t.2 t.3 t.4 m (sym c.requires.prepared.are) between) more)
 
 pub returns-in_default-asked-clause-turned : goal.returns-in_default-asked-clause-turned
-returns-in_default-asked-clause-turned g c = λ base all first own events standard main h.
+returns-in_default-asked-clause-turned g c = λ base all first own events standard main tracing h.
     let b = c.args.board.now in
     let a = c.in-Some.current in
     let m = c.args.machine.now in
     let o = g.O.Sink.state c.args.output.now in
     let is : b.innermost ≡ Some a = search rules in
-    cut_between _ base all first own events (moment _ a b m o) m refl (between_of _ base all first own events b a m o is h)
+    cut_between _ base all first own events (moment _ a b m o) m (looks_as_itself m) (between_of _ base all first own events b a m o is h)
 
 pub sig_of-sig-requires-clause-below : goal.sig_of-sig-requires-clause-below
 sig_of-sig-requires-clause-below g c =
@@ -82,7 +82,7 @@ call-requires-clause-asking g c =
     let is : b.innermost ≡ Some a = search rules in
     let counted : b.moves ≡ suc (b.moves - 1) = omega arith in
     let t = c.requires.between in
-    (t.0, t.1, t.2, t.3, t.4, t.5, asks_move std s _ cifs c.requires.prepared b m o a z c.take.new.self (b.moves - 1) is counted c.requires.standing c.asked.ensures.same _ (move_of c.in-Ok.asked) (call c.in-Call.ptr c.in-Call.sig c.in-Call.args) c.in-Ok.ensures.asked (ap move_of c.in-Call.is) t.0 t.1 t.2 t.3 t.4 t.7)
+    (t.0, t.1, t.2, t.3, t.4, t.5, asks_move std s _ cifs c.requires.prepared b m o a z c.take.new.self (b.moves - 1) is counted c.requires.standing c.asked.ensures.same _ (move_of c.in-Ok.asked) (call c.in-Call.ptr c.in-Call.sig c.in-Call.args) c.in-Ok.ensures.asked (ap move_of c.in-Call.is) t.0 t.1 t.2 t.3 t.4 t.8)
 
 pub leave-requires-clause-few : goal.leave-requires-clause-few
 leave-requires-clause-few g c =
@@ -91,11 +91,11 @@ leave-requires-clause-few g c =
     let m = c.args.machine.now in
     let t = c.requires.between in
     let is : b.innermost ≡ Some a = search rules in
-    let between = between_of _ t.0 t.1 t.2 t.3 t.4 b a m (g.O.Sink.state c.args.output.now) is t.7 in
+    let between = between_of _ t.0 t.1 t.2 t.3 t.4 b a m (g.O.Sink.state c.args.output.now) is t.8 in
     short_by_few _ m b.served (reverse b.suspended.items) b.moves between.others_few
 
 pub returns-in-Print-clause-turned : goal.returns-in-Print-clause-turned
-returns-in-Print-clause-turned g c = λ base all first own events standard main h.
+returns-in-Print-clause-turned g c = λ base all first own events standard main tracing h.
     let b = c.args.board.now in
     let a = c.in-Some.current in
     let z = c.asked.new.current in
@@ -114,7 +114,7 @@ returns-in-Print-clause-main g c = λ more.
     ap (λ (x : Board Standing). x.served) (c.print.ensures.goes more) ∙ c.requires.main
 
 pub returns-in-Make-clause-turned : goal.returns-in-Make-clause-turned
-returns-in-Make-clause-turned g c = λ base all first own events standard main h.
+returns-in-Make-clause-turned g c = λ base all first own events standard main tracing h.
     let b = c.args.board.now in
     let a = c.in-Some.current in
     let z = c.asked.new.current in
@@ -152,7 +152,7 @@ returns-in-Make-clause-main g c = λ more.
     ap (λ (x : Board Standing). x.served) (c.make.ensures.goes more).1 ∙ c.requires.main
 
 pub returns-in-Free-clause-turned : goal.returns-in-Free-clause-turned
-returns-in-Free-clause-turned g c = λ base all first own events standard main h.
+returns-in-Free-clause-turned g c = λ base all first own events standard main tracing h.
     let b = c.args.board.now in
     let a = c.in-Some.current in
     let z = c.asked.new.current in
@@ -188,7 +188,7 @@ returns-in-Free-clause-main g c = λ more.
     ap (λ (x : Board Standing). x.served) (c.free.ensures.goes more) ∙ c.requires.main
 
 pub returns-in-Call-clause-turned : goal.returns-in-Call-clause-turned
-returns-in-Call-clause-turned g c = λ base all first own events standard main h.
+returns-in-Call-clause-turned g c = λ base all first own events standard main tracing h.
     let b = c.args.board.now in
     let a = c.in-Some.current in
     let z = c.asked.new.current in
@@ -200,10 +200,10 @@ returns-in-Call-clause-turned g c = λ base all first own events standard main h
     let is : b.innermost ≡ Some a = search rules in
     let counted : b.moves ≡ suc (b.moves - 1) = omega arith in
     let asking = asks_move std s _ cifs c.requires.prepared b m o a z c.take.new.self (b.moves - 1) is counted c.requires.standing c.asked.ensures.same _ (move_of c.in-Ok.asked) (call c.in-Call.ptr c.in-Call.sig c.in-Call.args) c.in-Ok.ensures.asked (ap move_of c.in-Call.is) base all first own events h in
-    turned_as _ base all first own (suc (b.moves - 1)) b.moves c.call.new.board c.call.new.machine (g.O.Sink.state c.call.new.output) c.call.result (sym counted) (c.call.ensures.turned base all first own events standard asking)
+    turned_as _ base all first own (suc (b.moves - 1)) b.moves c.call.new.board c.call.new.machine (g.O.Sink.state c.call.new.output) c.call.result (sym counted) (c.call.ensures.turned base all first own events standard tracing asking)
 
 pub returns-in-Return-clause-turned : goal.returns-in-Return-clause-turned
-returns-in-Return-clause-turned g c = λ base all first own events standard main h.
+returns-in-Return-clause-turned g c = λ base all first own events standard main tracing h.
     let b = c.args.board.now in
     let a = c.in-Some.current in
     let z = c.asked.new.current in
@@ -215,7 +215,7 @@ returns-in-Return-clause-turned g c = λ base all first own events standard main
     let is : b.innermost ≡ Some a = search rules in
     let counted : b.moves ≡ suc (b.moves - 1) = omega arith in
     let asking = asks_move std s _ cifs c.requires.prepared b m o a z c.take.new.self (b.moves - 1) is counted c.requires.standing c.asked.ensures.same _ (move_of c.in-Ok.asked) (return (value_of c.in-Return.value)) c.in-Ok.ensures.asked (ap move_of c.in-Return.is) base all first own events h in
-    turned_as _ base all first own (suc (b.moves - 1)) b.moves c.leave.new.self c.leave.new.machine o c.leave.result (sym counted) (c.leave.ensures.turned _ base all first own events o z standard main c.requires.main (sym c.requires.prepared.are) asking)
+    turned_as _ base all first own (suc (b.moves - 1)) b.moves c.leave.new.self c.leave.new.machine (g.O.Sink.state c.leave.new.output) c.leave.result (sym counted) (c.leave.ensures.turned _ base all first own events z standard main c.requires.main (sym c.requires.prepared.are) tracing asking)
 
 pub returns-in-Return-clause-standing : goal.returns-in-Return-clause-standing
 returns-in-Return-clause-standing g c = λ more.
@@ -231,11 +231,11 @@ returns-in-Return-clause-standing g c = λ more.
     let counted : b.moves ≡ suc (b.moves - 1) = omega arith in
     let v = value_of c.in-Return.value in
     let t = c.requires.between in
-    let asking = asks_move std s _ cifs c.requires.prepared b m o a z c.take.new.self (b.moves - 1) is counted c.requires.standing c.asked.ensures.same _ (move_of c.in-Ok.asked) (return (value_of c.in-Return.value)) c.in-Ok.ensures.asked (ap move_of c.in-Return.is) t.0 t.1 t.2 t.3 t.4 t.7 in
-    let turned = c.leave.ensures.turned _ t.0 t.1 t.2 t.3 t.4 o z t.5 t.6 c.requires.main (sym c.requires.prepared.are) asking in
-    let went = went_on _ t.0 t.1 t.2 t.3 (suc (b.moves - 1)) c.leave.new.self c.leave.new.machine o c.leave.result turned more in
+    let asking = asks_move std s _ cifs c.requires.prepared b m o a z c.take.new.self (b.moves - 1) is counted c.requires.standing c.asked.ensures.same _ (move_of c.in-Ok.asked) (return (value_of c.in-Return.value)) c.in-Ok.ensures.asked (ap move_of c.in-Return.is) t.0 t.1 t.2 t.3 t.4 t.8 in
+    let turned = c.leave.ensures.turned _ t.0 t.1 t.2 t.3 t.4 z t.5 t.6 c.requires.main (sym c.requires.prepared.are) t.7 asking in
+    let went = went_on _ t.0 t.1 t.2 t.3 (suc (b.moves - 1)) c.leave.new.self c.leave.new.machine (g.O.Sink.state c.leave.new.output) c.leave.result turned more in
     let gone = c.leave.ensures.goes more in
-    let between = between_of _ t.0 t.1 t.2 (t.3 ++ went.more) went.events c.leave.new.self (and_result gone.waited.activation v) c.leave.new.machine o gone.innermost went.stands in
+    let between = between_of _ t.0 t.1 t.2 (t.3 ++ went.more) went.events c.leave.new.self (and_result gone.waited.activation v) c.leave.new.machine (g.O.Sink.state c.leave.new.output) gone.innermost went.stands in
     let above = blocks_above t.0.standard _ t.0.held t.0.top c.leave.new.machine c.leave.new.machine.sp _ _ c.leave.new.machine.sp (omega arith) between.calls.stand in
     let it = move_fits std s _ cifs c.requires.prepared b m o a z c.take.new.self (b.moves - 1) is counted c.requires.standing c.asked.ensures.same _ (move_of c.in-Ok.asked) (return (value_of c.in-Return.value)) c.in-Ok.ensures.asked (ap move_of c.in-Return.is) in
     let typed = subst (λ (x : Tree). fits x v ≡ true) (returns_type cifs m (call_inside b.served (reverse b.suspended.items)) a) it in
