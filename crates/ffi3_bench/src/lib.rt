@@ -1,0 +1,2 @@
+//! The bench: the made script by three standards.
+#![tactic(auto)]
