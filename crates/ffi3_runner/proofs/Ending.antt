@@ -110,6 +110,12 @@ module _ (p : Program) (std : Standard) (trace : Bool) (b : Board Standing) (m :
   ran_returned run.NoMemory ran is = cc
   ran_returned run.Failed ran is = cc
 
+  pub ran_moves : (t : RunEnd) → Answer t → t ≡ run.Done → b.moves ≡ (meaning_of p).moves
+  ran_moves run.Done ran is = sym ran.over.moves_are
+  ran_moves (run.Stopped stop) ran is = cc
+  ran_moves run.NoMemory ran is = cc
+  ran_moves run.Failed ran is = cc
+
   pub ran_stopped : (t : RunEnd) → Answer t → (stop : Stop) → t ≡ run.Stopped stop → RunMatches (main_tracing trace std) std p o o' m
   ran_stopped run.Done ran stop is = cc
   ran_stopped (run.Stopped other) ran stop is = ended (stopped other) b.table b.moves ran

@@ -23,7 +23,7 @@ ghost use Rattle.ffi3_runner.specs.Running.{IsNew, IsPrepared, program};
 use crate::prepare::{Prepared, prepare_all};
 use crate::run::RunEnd;
 use ffi3_ask::{Native, Standing};
-use ffi3_board::{Activation, Board, Table, Turn, Who};
+use ffi3_board::{Activation, Board, Cifs, Table, Turn, Who};
 use ffi3_io::Sink;
 use ffi3_machine::Machine;
 use ffi3_place::Abi;
@@ -77,6 +77,13 @@ impl<'a, A: Abi> Runner<'a, A> {
         self.board.innermost.is_none()
     }
 
+    /// The call interfaces of the run's signatures.
+    pub fn cifs(&self) -> &Cifs<A>
+        ensures { result.now ≡ self.now.prepared.cifs }
+    {
+        &self.prepared.cifs
+    }
+
     /// How many moves are left.
     pub fn moves_left(&self) -> u32
         ensures { result ≡ self.now.board.moves }
@@ -124,6 +131,9 @@ impl<'a, A: Abi> Runner<'a, A> {
             (O.state output.old) (O.state output.new) machine.new }
         ensures returns { result ≡ RunEnd.Done →
             (meaning_of (program A.standard self.old.prepared.script.now (map (λ b. handed_in (title b) (meaning b) (signatures b)) self.old.prepared.natives.now.items))).end ≡ returned void_value }
+        ensures moves { result ≡ RunEnd.Done →
+            self.new.board.moves ≡ (meaning_of (program A.standard self.old.prepared.script.now (map (λ b. handed_in (title b) (meaning b) (signatures b)) self.old.prepared.natives.now.items))).moves }
+        ensures prepared { self.new.prepared ≡ self.old.prepared }
         ensures stopped { (stop : Stop) → result ≡ RunEnd.Stopped stop →
             RunMatches (main_tracing trace A.standard) A.standard (program A.standard self.old.prepared.script.now (map (λ b. handed_in (title b) (meaning b) (signatures b)) self.old.prepared.natives.now.items))
             (O.state output.old) (O.state output.new) machine.new }

@@ -2,7 +2,7 @@ use Rattle.std.proofs.Common.{refl}
 use Rattle.ffi3_ask.specs.declared.standing.Standing.{Standing}
 use Rattle.ffi3_board.specs.declared.activation.Activation.{Activation}
 use Rattle.ffi3_board.specs.declared.activation.Who.TheVariants.{Main}
-use Rattle.ffi3_runner.proofs.Ending.{ran_cut_by_memory, ran_cut_by_write, ran_done, ran_failed, ran_never_falls, ran_no_memory, ran_part, ran_returned, ran_stopped, ran_stops}
+use Rattle.ffi3_runner.proofs.Ending.{ran_cut_by_memory, ran_cut_by_write, ran_done, ran_failed, ran_moves, ran_never_falls, ran_no_memory, ran_part, ran_returned, ran_stopped, ran_stops}
 use Rattle.ffi3_runner.proofs.Main.{main_ran, main_stands, start_between}
 use Rattle.ffi3_runner.proofs.runner.Runner.run_main.Goals as goal
 
@@ -45,6 +45,17 @@ returns-clause-returns g c =
     let o' = g.O.Sink.state c.run_on.new.output in
     let ran = main_ran std c.args.self.now.prepared.script.now _ c.args.self.now.prepared.cifs c.requires.prepared g.met.A.Abi.agrees _ g.met.A.Abi.target_is m.spare_events m.spare_bytes m c.requires.begun o b c.requires.new a refl refl c.new.ensures c.args.trace c.run_on.new.board c.run_on.new.machine o' c.run_on.result c.run_on.ensures in
     ran_returned _ std c.args.trace c.run_on.new.board c.run_on.new.machine o o' c.run_on.result ran
+
+pub returns-clause-moves : goal.returns-clause-moves
+returns-clause-moves g c =
+    let std = g.A.Abi.standard in
+    let m = c.args.machine.now in
+    let b = c.args.self.now.board in
+    let o = g.O.Sink.state c.args.output.now in
+    let a : Activation Standing = record { who = Main; standing = c.in_main.result; user = 0; results = c.new.result } in
+    let o' = g.O.Sink.state c.run_on.new.output in
+    let ran = main_ran std c.args.self.now.prepared.script.now _ c.args.self.now.prepared.cifs c.requires.prepared g.met.A.Abi.agrees _ g.met.A.Abi.target_is m.spare_events m.spare_bytes m c.requires.begun o b c.requires.new a refl refl c.new.ensures c.args.trace c.run_on.new.board c.run_on.new.machine o' c.run_on.result c.run_on.ensures in
+    ran_moves _ std c.args.trace c.run_on.new.board c.run_on.new.machine o o' c.run_on.result ran
 
 pub returns-clause-stopped : goal.returns-clause-stopped
 returns-clause-stopped g c =
