@@ -1,1 +1,3 @@
 pub mod Needs
+mod Texts
+mod Measuring

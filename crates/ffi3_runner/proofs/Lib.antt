@@ -7,3 +7,4 @@ mod Numbers
 mod Last
 mod Running
 mod Main
+mod Preparing

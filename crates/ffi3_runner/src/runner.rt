@@ -50,7 +50,8 @@ impl<'a, A: Abi> Runner<'a, A> {
         requires beside { natives_of script.now ≤ length natives.now.items }
         requires few_natives { length natives.now.items < 2 ^ 31 }
         requires few_signatures { length (signatures_in (map (λ b. handed_in (title b) (meaning b) (signatures b)) natives.now.items)) < 2 ^ 31 }
-        ensures prepared { IfOk result (λ r. IsPrepared A.standard script.now (map (λ b. handed_in (title b) (meaning b) (signatures b)) natives.now.items) r.prepared.cifs) }
+        ensures prepared { IfOk result (λ r. IsPrepared A.standard r.prepared.script.now
+            (map (λ b. handed_in (title b) (meaning b) (signatures b)) r.prepared.natives.now.items) r.prepared.cifs) }
         ensures new { IfOk result (λ r. IsNew r.board) }
         ensures script { IfOk result (λ r. r.prepared.script.now ≡ script.now) }
         ensures natives { IfOk result (λ r. r.prepared.natives.now ≡ natives.now) }

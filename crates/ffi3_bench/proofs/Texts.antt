@@ -1,0 +1,53 @@
+-- The greatest of a list, one more at a time; and the length of a line that is a number.
+use Rattle.std.proofs.Common.{◌≡◌, ℕ, zero, suc, ◌+◌, ◌^◌, ◌<◌, ◌≤◌, List, [], ◌∷◌, ◌++◌, length, map, refl, sym, ap, ◌∙◌, subst, arith, lit≤, lit<, ◌⊎◌, inl, inr}
+use Rattle.std.specs.Prelude.{max}
+use Rattle.std.specs.Fmt.{decimal, digits}
+use Rattle.std.specs.Int.Digits.{digits_of}
+use Rattle.std.proofs.lemmas.Int.Digits.{length-digits_of-le}
+use Rattle.std.proofs.lemmas.Fmt.{decimal-digits_of}
+use Rattle.std.proofs.lemmas.List.{length-append, length-map}
+use Rattle.std.proofs.Math.Nat.{le-max_left, max-eq_left, max-eq_right}
+use Rattle.ffi3_run_rules.specs.Lines.{a_line}
+use Rattle.ffi3_script_rules.proofs.MadeRuns.{TellsWord}
+use Rattle.ffi3_bench.specs.BenchText.{greatest}
+
+-- a greater one comes
+pub greater : (g n : ℕ) (ns : List ℕ) → g < n → max n (greatest ns) ≡ max g (greatest (n ∷ ns))
+greater g n ns below =
+    let h = le-max_left n (greatest ns) in
+    let most : g ≤ max n (greatest ns) = omega (arith, below, h) in
+    sym (max-eq_right most)
+
+no_greater_by : (g n m : ℕ) → n ≤ g → (n ≤ m) ⊎ (m ≤ n) → max g m ≡ max g (max n m)
+no_greater_by g n m low (inl h) = ap (max g) (sym (max-eq_right h))
+no_greater_by g n m low (inr h) =
+    let under : m ≤ g = omega (arith, low, h) in
+    max-eq_left under ∙ sym (max-eq_left low) ∙ ap (max g) (sym (max-eq_left h))
+
+one_way : (n m : ℕ) → (n ≤ m) ⊎ (m ≤ n)
+one_way zero m = inl (omega arith)
+one_way (suc n) zero = inr (omega arith)
+one_way (suc n) (suc m) = up n m (one_way n m)
+  where
+    up : (n m : ℕ) → (n ≤ m) ⊎ (m ≤ n) → (suc n ≤ suc m) ⊎ (suc m ≤ suc n)
+    up n m (inl h) = inl (omega (arith, h))
+    up n m (inr h) = inr (omega (arith, h))
+
+-- one comes that is not greater
+pub no_greater : (g n : ℕ) (ns : List ℕ) → n ≤ g → max g (greatest ns) ≡ max g (greatest (n ∷ ns))
+no_greater g n ns low = no_greater_by g n (greatest ns) low (one_way n (greatest ns))
+
+decimal_short : (n : ℕ) → n < 2 ^ 64 → length (decimal n) ≤ 20
+unfolding digits
+decimal_short zero small = lit≤ tt
+decimal_short (suc n) small =
+    let some : 0 < suc n = omega arith in
+    let is = ap length (decimal-digits_of (suc n) some small) ∙ length-map (digits_of 10 (suc n)) (λ d. 48 + d) in
+    let ten : 2 ^ 64 ≤ 10 ^ 20 = lit≤ tt in
+    let below : suc n < 10 ^ 20 = omega (arith, small, ten) in
+    omega (arith, is, length-digits_of-le 10 20 (suc n) (lit≤ tt) below)
+
+pub word_short : (text : List ℕ) → TellsWord text → length text ≤ 21
+word_short text says =
+    let n = says.0 in
+    omega (arith, ap length says.2, length-append (decimal n) (10 ∷ []), decimal_short n says.1)
