@@ -1,3 +1,4 @@
 pub mod Needs
 mod Texts
 mod Measuring
+mod ThreeLines

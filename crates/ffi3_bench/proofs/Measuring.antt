@@ -1,11 +1,19 @@
 -- What a sink for a line has taken once a run has ended.
-use Rattle.std.proofs.Common.{◌≡◌, ℕ, zero, suc, ◌-◌, ◌^◌, ◌<◌, ◌≤◌, ◌⊎◌, inl, inr, List, [], ◌∷◌, ◌++◌, length, take, Option, Some, refl, sym, ap, subst, ◌∙◌, arith, lit<}
+use Rattle.std.proofs.Common.{◌≡◌, ℕ, zero, suc, ◌-◌, ◌^◌, ◌<◌, ◌≤◌, ◌⊎◌, inl, inr, List, [], ◌∷◌, ◌++◌, length, map, take, Option, Some, refl, sym, ap, subst, ◌∙◌, arith, lit<}
 use Rattle.std.specs.Prelude.{unwrap_or}
 use Rattle.ffi3_type_rules.specs.Value.{void_value}
 use Rattle.ffi3_place_rules.specs.Standard.{Standard}
 use Rattle.ffi3_run_rules.specs.declared.Stop.{Stop}
 use Rattle.ffi3_run_rules.specs.Lines.{untraced, text_of_run}
-use Rattle.ffi3_run_rules.specs.Meaning.{Program, meaning_of, returned, stopped, most_moves}
+use Rattle.ffi3_run_rules.specs.Meaning.{Program, meaning_of, returned, stopped, most_moves, main_call}
+use Rattle.ffi3_run_rules.specs.Closures.{no_closures}
+use Rattle.ffi3_run_rules.proofs.Recursion.{is_plain_recursion}
+use Rattle.ffi3_script_rules.specs.Meaning.{program_of}
+use Rattle.ffi3_script_rules.specs.Natives.{NamedNative}
+use Rattle.ffi3_script_rules.proofs.Natives.{beside_none}
+use Rattle.ffi3_script.specs.ScriptOf.{script_of}
+use Rattle.ffi3_script.specs.declared.script.Script.{Script}
+use Rattle.ffi3_runner.specs.Running.{program}
 use Rattle.ffi3_io.specs.Sink.{Adds, Rose}
 use Rattle.ffi3_machine.specs.State.{State}
 use Rattle.ffi3_runner.specs.RunMatches.{RunMatches, WrotePart}
@@ -53,3 +61,15 @@ module _ (std : Standard) (q p : Program) (same : q ≡ p) where
   pub moves_are : (left : ℕ) → left ≡ (meaning_of q).moves → most_moves - left ≡ moves_of p
   moves_are left is =
       ap (λ n. most_moves - n) (is ∙ ap (λ (r : Program). (meaning_of r).moves) same)
+
+pub few_left : (q : Program) (left : ℕ) → left ≡ (meaning_of q).moves → left ≤ 10000
+few_left q left is =
+    omega (arith, is, (is_plain_recursion q).never_rise main_call no_closures most_moves)
+
+pub none_mapped : {X Y : Type 0} (f : X → Y) (xs : List X) → xs ≡ [] → map f xs ≡ []
+none_mapped f xs none = ap (map f) none
+
+-- the program of a run beside no natives
+pub alone : (std : Standard) (t s : Script) (natives : List NamedNative) → t ≡ s → natives ≡ [] → program std t natives ≡ program_of std (script_of s)
+alone std t s natives same none =
+    ap (λ (u : Script). program std u natives) same ∙ ap (program std s) none ∙ beside_none std (script_of s)

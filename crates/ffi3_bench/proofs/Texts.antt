@@ -1,12 +1,14 @@
 -- The greatest of a list, one more at a time; and the length of a line that is a number.
-use Rattle.std.proofs.Common.{◌≡◌, ℕ, zero, suc, ◌+◌, ◌^◌, ◌<◌, ◌≤◌, List, [], ◌∷◌, ◌++◌, length, map, refl, sym, ap, ◌∙◌, subst, arith, lit≤, lit<, ◌⊎◌, inl, inr}
+use Rattle.std.proofs.Common.{◌≡◌, ℕ, zero, suc, ◌+◌, ◌^◌, ◌<◌, ◌≤◌, List, [], ◌∷◌, ◌++◌, length, map, drop, refl, sym, ap, ◌∙◌, subst, arith, lit≤, lit<, ◌⊎◌, inl, inr}
 use Rattle.std.specs.Prelude.{max}
 use Rattle.std.specs.Fmt.{decimal, digits}
 use Rattle.std.specs.Int.Digits.{digits_of}
 use Rattle.std.proofs.lemmas.Int.Digits.{length-digits_of-le}
 use Rattle.std.proofs.lemmas.Fmt.{decimal-digits_of}
-use Rattle.std.proofs.lemmas.List.{length-append, length-map}
+use Rattle.std.proofs.lemmas.List.{drop_more, length-append, length-map}
 use Rattle.std.proofs.Math.Nat.{le-max_left, max-eq_left, max-eq_right}
+use Rattle.ffi3_type_rules.specs.Signature.{Signature, signature_at}
+use Rattle.ffi3_place_rules.specs.Standard.{Standard, need_of}
 use Rattle.ffi3_run_rules.specs.Lines.{a_line}
 use Rattle.ffi3_script_rules.proofs.MadeRuns.{TellsWord}
 use Rattle.ffi3_bench.specs.BenchText.{greatest}
@@ -36,6 +38,20 @@ one_way (suc n) (suc m) = up n m (one_way n m)
 -- one comes that is not greater
 pub no_greater : (g n : ℕ) (ns : List ℕ) → n ≤ g → max g (greatest ns) ≡ max g (greatest (n ∷ ns))
 no_greater g n ns low = no_greater_by g n (greatest ns) low (one_way n (greatest ns))
+
+module _ (std : Standard) (cifs : List Signature) (i g : ℕ) (whole : ℕ) (below : i < length cifs) (so_far : max g (greatest (map (need_of std) (drop i cifs))) ≡ whole) where
+  left_is : greatest (map (need_of std) (drop i cifs)) ≡ greatest (need_of std (signature_at cifs i) ∷ map (need_of std) (drop (i + 1) cifs))
+  left_is = ap (λ ss. greatest (map (need_of std) ss)) (drop_more cifs i _ below)
+
+  -- a signature that needs more
+  pub needs_more : g < need_of std (signature_at cifs i) → max (need_of std (signature_at cifs i)) (greatest (map (need_of std) (drop (i + 1) cifs))) ≡ whole
+  needs_more more =
+      greater g (need_of std (signature_at cifs i)) (map (need_of std) (drop (i + 1) cifs)) more ∙ ap (max g) (sym left_is) ∙ so_far
+
+  -- one that does not
+  pub needs_no_more : need_of std (signature_at cifs i) ≤ g → max g (greatest (map (need_of std) (drop (i + 1) cifs))) ≡ whole
+  needs_no_more no_more =
+      no_greater g (need_of std (signature_at cifs i)) (map (need_of std) (drop (i + 1) cifs)) no_more ∙ ap (max g) (sym left_is) ∙ so_far
 
 decimal_short : (n : ℕ) → n < 2 ^ 64 → length (decimal n) ≤ 20
 unfolding digits

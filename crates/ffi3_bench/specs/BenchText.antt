@@ -28,14 +28,14 @@ moves_of p = most_moves - (meaning_of p).moves
 abbrev pub need_of_all : Program → ℕ
 need_of_all p = greatest (map p.need p.signatures)
 
-abbrev pub line_start : (target : List ℕ) → (calls moves need : ℕ) → List ℕ
-line_start target calls moves need =
-    target ++ codes " calls " ++ decimal calls ++ codes " moves " ++ decimal moves ++ codes " need " ++ decimal need ++ codes " result "
+abbrev pub counts_text : (calls moves need : ℕ) → List ℕ
+counts_text calls moves need =
+    codes " calls " ++ decimal calls ++ codes " moves " ++ decimal moves ++ codes " need " ++ decimal need ++ codes " result "
 
 -- The line of a run that returns. It ends with the run's own line.
 abbrev pub line_of : (target : List ℕ) → Program → List ℕ
 line_of target p =
-    line_start target (calls_of p) (moves_of p) (need_of_all p) ++ text_of_run untraced p
+    (target ++ counts_text (calls_of p) (moves_of p) (need_of_all p)) ++ text_of_run untraced p
 
 abbrev pub line_by : (target : List ℕ) → Standard → (seed calls : ℕ) → List ℕ
 line_by target std seed calls = line_of target (program_of std (made seed calls))

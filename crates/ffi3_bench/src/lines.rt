@@ -8,7 +8,7 @@ ghost use Rattle.ffi3_riscv_rules.specs.Riscv.{riscv};
 ghost use Rattle.ffi3_script_rules.specs.Meaning.{program_of};
 ghost use Rattle.ffi3_script_rules.specs.Made.{made};
 ghost use Rattle.ffi3_script.specs.ScriptOf.{script_of, natives_of};
-ghost use Rattle.ffi3_bench.specs.BenchText.{line_start, line_of, bench_text, HasWholeJournal};
+ghost use Rattle.ffi3_bench.specs.BenchText.{counts_text, line_of, bench_text, HasWholeJournal};
 
 use crate::measure::{Measured, measure};
 use ffi3_aapcs64::Aapcs64;
@@ -24,7 +24,7 @@ use std::alloc::Global;
 // The line of what was measured.
 fn line_of(alloc: Global, target: &str, measured: &Measured) -> Result<Bytes, NoMemory>
     ensures { IfOk result
-        (λ l. l ≡ line_start target.now measured.now.calls measured.now.moves measured.now.need ++ measured.now.line.taken) }
+        (λ l. l ≡ (target.now ++ counts_text measured.now.calls measured.now.moves measured.now.need) ++ measured.now.line.taken) }
 {
     let calls = measured.calls;
     let moves = measured.moves;
