@@ -1,13 +1,13 @@
 -- THE MADE SCRIPT RETURNS, by any standard by which no call of its four signatures needs more than a quarter of the stack: it makes at most 8,006 moves, calls are at most four deep, and its text is one line, a number below 2^64.
 use Rattle.std.proofs.Common.{◌≡◌, ℕ, zero, suc, ◌+◌, ◌*◌, ◌<◌, ◌≤◌, ◌^◌, ◌-◌, Bool, true, false, List, [], ◌∷◌, ◌++◌, length, map, Option, Some, None, refl, ap, ◌∙◌, sym, subst, arith, append_assoc, append-nil, lit<, lit≤, take}
-use Rattle.std.specs.Prelude.{◌&&◌, if◌then◌else◌, nat_lt, ℤ, pos, negsuc, ◌+ℤ◌, slice_index_or, replicate, max, ⊤}
-use Rattle.std.specs.Int.{w64, from_le_bytes, to_le_bytes}
+use Rattle.std.specs.Prelude.{if◌then◌else◌, nat_lt, ℤ, pos, negsuc, ◌+ℤ◌, slice_index_or, replicate}
+use Rattle.std.specs.Int.{w64, from_le_bytes}
 use Rattle.std.specs.Fmt.{decimal}
 use Rattle.std.proofs.lemmas.Bool.{le-ltb}
 use Rattle.std.proofs.lemmas.Nat.{from_le_bytes-to_le_bytes_8, mod_below}
 use Rattle.std.proofs.lemmas.List.{length-append}
 use Rattle.ffi3_type_rules.proofs.Values.{get_or-append_at}
-use Rattle.ffi3_type_rules.specs.Tree.{Tree, void, scalar, left_out, structure, Trees, no_trees, tree, Scalar, u8, s8, u16, s16, u32, s32, u64, s64, float, double, pointer}
+use Rattle.ffi3_type_rules.specs.Tree.{Tree, void, scalar, left_out, structure, Trees, no_trees, tree, Scalar, u64, pointer}
 use Rattle.ffi3_type_rules.specs.Integer.{bytes_of_number, number_of, modulo, is_integer}
 use Rattle.ffi3_type_rules.specs.Signature.{Signature, signature_at}
 use Rattle.ffi3_type_rules.specs.Same.{same_tree, same_list, same_signature}
@@ -20,12 +20,12 @@ use Rattle.ffi3_run_rules.specs.Move as run
 use Rattle.ffi3_run_rules.specs.Closures.{Closures, no_closures, slot_address, closure_at}
 use Rattle.ffi3_run_rules.specs.Trace.{TraceItem, Enter, Leave, written_out}
 use Rattle.ffi3_run_rules.specs.Lines.{Point, past, at_start, untraced, text, text_of_run, a_line}
-use Rattle.ffi3_run_rules.specs.Meaning.{Program, Activation, Who, main, function, with_result, next_move, End, returned, Outcome, CallTree, no_nodes, node, line, called, Effect, enters, goes_on, at_closure, call_of, effect_of, follows, resumed, resumed_after, after, act, main_call, meaning_of, pointer_value, stack_size, most_moves, need_at}
+use Rattle.ffi3_run_rules.specs.Meaning.{Program, Activation, main, function, with_result, next_move, returned, Outcome, CallTree, node, called, enters, goes_on, at_closure, call_of, effect_of, follows, resumed, resumed_after, after, act, meaning_of, pointer_value, stack_size, most_moves, need_at}
 use Rattle.ffi3_run_rules.proofs.Recursion.{act-is}
 use Rattle.ffi3_run_rules.proofs.Texts.{untraced-append, untraced_anywhere}
 use Rattle.ffi3_script_rules.specs.Script.{Expression, argument, outcome, element, sum, cast, expressions_of}
 use Rattle.ffi3_script_rules.specs.Meaning.{Known, value_of, values_of, address_of, known, next_of, program_of}
-use Rattle.ffi3_script_rules.specs.Made.{drawn, next_state, made_types, state_before, types_at, made_signature, number, filled, filled_arguments, leaves_in, with_leaves, with_elements, with_arguments, own_total, made_calls, total_of, script_from, made}
+use Rattle.ffi3_script_rules.specs.Made.{drawn, next_state, made_types, state_before, types_at, made_signature, number, filled_arguments, leaves_in, with_leaves, with_elements, with_arguments, own_total, made_calls, total_of, script_from, made}
 use Rattle.ffi3_script_rules.proofs.Tests.{type_is_itself, both}
 use Rattle.ffi3_script_rules.proofs.Made.{drawn_below}
 
