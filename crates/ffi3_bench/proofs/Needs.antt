@@ -1,6 +1,6 @@
 -- NO CALL OF THE MADE SIGNATURES NEEDS MORE THAN A QUARTER OF THE STACK, by each of the three standards.
-use Rattle.std.proofs.Common.{◌≡◌, ℕ, zero, suc, ◌+◌, ◌*◌, ◌-◌, ◌<◌, ◌≤◌, Bool, true, false, cond, List, [], ◌∷◌, ◌++◌, length, refl, ap, arith, lit≤}
-use Rattle.std.specs.Prelude.{◌&&◌, ⊤, Option, None, map}
+use Rattle.std.proofs.Common.{◌≡◌, ℕ, zero, suc, ◌+◌, ◌*◌, ◌<◌, ◌≤◌, Bool, true, false, cond, List, [], ◌∷◌, ◌++◌, length, refl, ap, arith, lit≤}
+use Rattle.std.specs.Prelude.{◌&&◌, ⊤, Option, None}
 use Rattle.std.specs.List.{sum_by}
 use Rattle.std.proofs.lemmas.List.{length-append}
 use Rattle.std.proofs.lemmas.List.Sums.{sum_by-cons}
@@ -9,7 +9,7 @@ use Rattle.ffi3_type_rules.specs.Layout.{size_of, least_multiple}
 use Rattle.ffi3_type_rules.specs.Signature.{Signature}
 use Rattle.ffi3_type_rules.proofs.Layouts.{least_multiple-below}
 use Rattle.ffi3_place_rules.specs.declared.Taken.{Taken}
-use Rattle.ffi3_place_rules.specs.Standard.{Standard, Spot, in_pieces, by_reference, ResultSpot, no_result, in_result_pieces, in_buffer, round8, round16, copies_end, buffer_end, copies_start, frame_copies_end, frame_of, block_bytes, need_of}
+use Rattle.ffi3_place_rules.specs.Standard.{Standard, Spot, in_pieces, by_reference, ResultSpot, no_result, in_result_pieces, in_buffer, round8, copies_end, buffer_end, copies_start, frame_copies_end, need_of}
 use Rattle.ffi3_amd64_rules.specs.Amd64 as amd
 use Rattle.ffi3_aapcs64_rules.specs.Aapcs64 as arm
 use Rattle.ffi3_riscv_rules.specs.declared.Shape.{Shape}
