@@ -6,7 +6,6 @@ use Rattle.ffi3_type_rules.specs.Tree.{scalar, s64}
 use Rattle.ffi3_type_rules.specs.Integer.{widened}
 use Rattle.ffi3_type_rules.specs.Value.{ValueTree, void_value, fits, bytes_of}
 use Rattle.ffi3_run_rules.specs.Move.{result_type_of, return}
-use Rattle.ffi3_body.specs.MoveOf.{move_of}
 use Rattle.ffi3_body.specs.SeenActivation.{arguments_of}
 use Rattle.ffi3_body.specs.Follow.{IsOfType, ResultsFollow}
 use Rattle.ffi3_hostile_tests.specs.Hostile.{again_signature, again_behaviour, argument, once_less}
@@ -32,14 +31,14 @@ pub returns-then-results-eq0-clause-is : goal.returns-then-results-eq0-clause-is
 returns-then-results-eq0-clause-is c =
     let arguments = arguments_of c.args.seen.now in
     let number : c.widen.result ≡ widened s64 (bytes_of (argument arguments 1)) =
-        c.widen.ensures ∙ ap (λ v. widened s64 (bytes_of v)) c.in_ok-n.ensures.is in
+    c.widen.ensures ∙ ap (λ v. widened s64 (bytes_of v)) c.in_ok-n.ensures.is in
     let is_again : once_less arguments ≡ again_behaviour arguments c.args.seen.now.user c.args.seen.now.results =
-        calls arguments c.args.seen.now.user c.args.seen.now.results (sym c.results.ensures ∙ c.if-results-eq0.true) (ne_eqb (widened s64 (bytes_of (argument arguments 1))) 0 (λ zero_now. c.if-widen-eq0.false (number ∙ zero_now))) in
+    calls arguments c.args.seen.now.user c.args.seen.now.results (sym c.results.ensures ∙ c.if-results-eq0.true) (ne_eqb (widened s64 (bytes_of (argument arguments 1))) 0 (λ zero_now. c.if-widen-eq0.false (number ∙ zero_now))) in
     IfOk-weaker c.once_less.result _ _ (λ m h. h ∙ is_again) c.once_less.ensures.is
 
 pub plus-requires : goal.plus-requires
 plus-requires c =
     let arguments = arguments_of c.args.seen.now in
     let first : fits (scalar s64) (slice_index_or c.args.seen.now.results 0 void_value) ≡ true =
-        first_fits arguments c.args.seen.now.user c.args.seen.now.results c.requires.follow (omega (arith, c.results.ensures, c.if-results-eq0.false)) in
+    first_fits arguments c.args.seen.now.user c.args.seen.now.results c.requires.follow (omega (arith, c.results.ensures, c.if-results-eq0.false)) in
     ap (fits (scalar s64)) c.result.ensures ∙ first
