@@ -1,5 +1,5 @@
 -- No signature of the natives has a fault.
-use Rattle.std.proofs.Common.{◌≡◌, All, ℕ, zero, suc, ◌<◌, List, [], ◌∷◌, length, refl, arith}
+use Rattle.std.proofs.Common.{All, ℕ, zero, suc, ◌<◌, [], ◌∷◌, length, refl, arith}
 use Rattle.ffi3_type_rules.specs.Tree.{tree_at, void, s64, pointer}
 use Rattle.ffi3_type_rules.specs.Fault.{IsArgumentType, IsResultType}
 use Rattle.ffi3_type_rules.specs.Signature.{Signature, SignatureHasNoFault}
