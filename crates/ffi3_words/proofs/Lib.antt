@@ -2,6 +2,8 @@ pub mod Answering
 pub mod Anywhere
 pub mod Asked
 pub mod Asks
+pub mod BenchWords
 pub mod Level
+pub mod Numbers
 pub mod Program
 pub mod Stated
