@@ -6,7 +6,7 @@ use Rattle.ffi3_place_rules.specs.Standard.{Standard}
 use Rattle.ffi3_run_rules.specs.Meaning.{Program, meaning_of}
 use Rattle.ffi3_turn_rules.specs.MainTracing.{main_tracing}
 use Rattle.ffi3_script_rules.specs.Script.{Script}
-use Rattle.ffi3_script_rules.specs.Natives.{NamedNative, program_beside}
+use Rattle.ffi3_script_rules.specs.Natives.{NamedNative}
 use Rattle.ffi3_machine.specs.State.{State}
 use Rattle.ffi3_runner.specs.RunCut.{RunWasCut}
 use Rattle.ffi3_runner.specs.RunMatches.{RunMatches, WrotePart}

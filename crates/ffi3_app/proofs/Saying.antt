@@ -1,6 +1,6 @@
 -- What the top call says, from what its parts say.
-use Rattle.std.proofs.Common.{◌≡◌, ℕ, ◌+◌, ◌^◌, ◌<◌, ◌≤◌, List, [], length, inl, inr, refl, sym, subst, ap, ap₂, ◌∙◌, arith, lit≤}
-use Rattle.std.specs.Prelude.{◌⊎◌, Some, None, false, map}
+use Rattle.std.proofs.Common.{◌≡◌, ℕ, ◌+◌, ◌<◌, ◌≤◌, List, inl, inr, refl, sym, subst, ap, ap₂, ◌∙◌, arith, lit≤}
+use Rattle.std.specs.Prelude.{◌⊎◌, Some, None, false}
 use Rattle.ffi3_io.specs.Sink.{Rose}
 use Rattle.ffi3_script_rules.specs.Script.{Script}
 use Rattle.ffi3_script_rules.specs.Natives.{NamedNative, names_of}

@@ -1,8 +1,7 @@
 -- All activations stand in their bodies, after each kind of move.
-use Rattle.std.proofs.Common.{◌≡◌, ℕ, ◌≤◌, true, List, [], ◌∷◌, ◌++◌, Option, Some, None, reverse, refl, sym, ap, ◌∙◌, subst}
+use Rattle.std.proofs.Common.{◌≡◌, ℕ, true, List, [], ◌∷◌, ◌++◌, Option, Some, reverse, refl, sym, ap, ◌∙◌, subst}
 use Rattle.std.proofs.lemmas.List.{reverse-append}
 use Rattle.ffi3_type_rules.specs.Signature.{Signature, signature_at}
-use Rattle.ffi3_type_rules.specs.Tree.{Tree}
 use Rattle.ffi3_type_rules.specs.Value.{ValueTree, fits}
 use Rattle.ffi3_run_rules.specs.declared.Closure.{Closure}
 use Rattle.ffi3_run_rules.specs.Meaning.{function}
@@ -18,7 +17,7 @@ use Rattle.ffi3_board.specs.declared.activation.OpenCall.{OpenCall}
 use Rattle.ffi3_board.specs.declared.activation.Waiting.{Waiting}
 use Rattle.ffi3_board.specs.declared.activation.Who.TheVariants.{Function}
 use Rattle.ffi3_board.specs.declared.board.Board.{Board}
-use Rattle.ffi3_board.specs.Going.{and_result, HasGoneIn, HasGoneBack}
+use Rattle.ffi3_board.specs.Going.{HasGoneIn, HasGoneBack}
 use Rattle.ffi3_board.specs.Path.{call_inside, calls_of, result_type_at}
 use Rattle.ffi3_board.specs.Served.{HasAccepted}
 use Rattle.ffi3_board.proofs.Blocks.{AreAbove, StaysFrom}

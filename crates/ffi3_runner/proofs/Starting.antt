@@ -5,7 +5,6 @@ use Rattle.std.specs.List.{AllByRecursion}
 use Rattle.ffi3_type_rules.specs.declared.Isa.{Isa}
 use Rattle.ffi3_type_rules.specs.declared.Isa.TheVariants.{Amd64, Aarch64, Riscv}
 use Rattle.ffi3_type_rules.specs.Isa.{isa_of}
-use Rattle.ffi3_type_rules.specs.declared.limits.TheConstants.{STACK_TOP}
 use Rattle.ffi3_place_rules.specs.declared.Loc.{Loc}
 use Rattle.ffi3_place_rules.specs.Agrees.{AgreesWithMachine}
 use Rattle.ffi3_place_rules.specs.Image.{register}
@@ -14,7 +13,6 @@ use Rattle.ffi3_place_rules.specs.Standard.{Standard, need_of}
 use Rattle.ffi3_run_rules.specs.Closures.{Closures, no_closures}
 use Rattle.ffi3_run_rules.specs.Meaning.{Program, meaning_of, main_call, most_moves, stack_size}
 use Rattle.ffi3_turn_rules.specs.Left.{left_of}
-use Rattle.ffi3_turn_rules.specs.MainTracing.{main_tracing}
 use Rattle.ffi3_turn_rules.specs.SoFar.{main_base}
 use Rattle.ffi3_turn_rules.proofs.Coming.{comes_from}
 use Rattle.ffi3_machine.specs.State.{State, begun, begun_code, begun_general, image_of, scribbled_general}
@@ -27,7 +25,7 @@ use Rattle.ffi3_board.specs.declared.activation.OpenCall.{OpenCall}
 use Rattle.ffi3_board.specs.declared.activation.Waiting.{Waiting}
 use Rattle.ffi3_board.specs.declared.activation.Who.TheVariants.{Main}
 use Rattle.ffi3_board.specs.declared.board.Board.{Board}
-use Rattle.ffi3_board.specs.Between.{Beginning, Moment, IsBetween, moment, moment_with}
+use Rattle.ffi3_board.specs.Between.{Moment, IsBetween, moment, moment_with}
 use Rattle.ffi3_board.specs.Path.{acting, who_of}
 use Rattle.ffi3_board.specs.Turned.{StandsAt}
 use Rattle.ffi3_board.proofs.Closed.{none_known}

@@ -10,4 +10,4 @@ mod scripts;
 
 pub use ffi3_body::Native;
 pub use ffi3_runner::{RunEnd, Stop};
-pub use running::{Ran, run_script};
+pub use running::{Ran, read_beside, run_script};

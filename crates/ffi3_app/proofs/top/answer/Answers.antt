@@ -1,4 +1,4 @@
-use Rattle.std.proofs.Common.{refl, inl, inr, map}
+use Rattle.std.proofs.Common.{refl, inl, map}
 use Rattle.ffi3_script.specs.ScriptOf.{script_of}
 use Rattle.ffi3_script_rules.specs.Reading.{script}
 use Rattle.ffi3_script_rules.specs.Natives.{NamedNative}
@@ -37,7 +37,7 @@ returns-in-Ok-work-clause-knows_words g c r stated =
 
 pub returns-in-Err-NoMemory-work-clause-says : goal.returns-in-Err-NoMemory-work-clause-says
 returns-in-Err-NoMemory-work-clause-says g c =
-    failed (no_memory c.in-Ok.ensures.takes c.in-Ok-load.ensures.part c.in-Ok-load.ensures.same (began _ _ _ _ _ _ _ _ (script_of c.in-Ok-load.script) (read_beside _ _ (g.I.Source.state c.args.input.now) (script (script_of c.in-Ok-load.script)) c.in-Ok-names_of_natives.ensures c.in-Ok-load.ensures.script) c.in-Ok-load.ensures.end (c.in-Err-NoMemory-work.ensures.refused c.in-Err-NoMemory-work.field-0-is)) (no_fault_counted (g.O.Sink.state c.args.output.now) (g.O.Sink.state c.work.new.output) c.in-Err-NoMemory-work.field-0 c.in-Err-NoMemory-work.field-0-is c.in-Err-NoMemory-work.ensures.ended)) c.tell-in-Err-NoMemory-work.ensures
+    failed (no_memory c.in-Ok.ensures.takes c.in-Ok-load.ensures.part c.in-Ok-load.ensures.same (began _ _ (g.I.Source.state c.args.input.now) (g.I.Source.state c.load.new.input) _ _ _ _ (script_of c.in-Ok-load.script) (read_beside _ _ (g.I.Source.state c.args.input.now) (script (script_of c.in-Ok-load.script)) c.in-Ok-names_of_natives.ensures c.in-Ok-load.ensures.script) c.in-Ok-load.ensures.end (c.in-Err-NoMemory-work.ensures.refused c.in-Err-NoMemory-work.field-0-is)) (no_fault_counted (g.O.Sink.state c.args.output.now) (g.O.Sink.state c.work.new.output) c.in-Err-NoMemory-work.field-0 c.in-Err-NoMemory-work.field-0-is c.in-Err-NoMemory-work.ensures.ended)) c.tell-in-Err-NoMemory-work.ensures
 
 pub returns-in-Err-NoMemory-work-clause-knows_words : goal.returns-in-Err-NoMemory-work-clause-knows_words
 returns-in-Err-NoMemory-work-clause-knows_words g c r stated =

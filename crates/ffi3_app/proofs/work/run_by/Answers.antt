@@ -1,4 +1,4 @@
-use Rattle.std.proofs.Common.{◌≡◌, inl, inr, map, refl, sym, ap}
+use Rattle.std.proofs.Common.{◌≡◌, inr, map, sym, ap}
 use Rattle.std.specs.Prelude.{true, false}
 use Rattle.ffi3_run_rules.specs.Meaning.{Program}
 use Rattle.ffi3_script_rules.specs.Natives.{NamedNative, program_beside}

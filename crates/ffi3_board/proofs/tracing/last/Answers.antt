@@ -1,4 +1,4 @@
-use Rattle.std.proofs.Common.{◌≡◌, ℕ, ◌-◌, List, length, sym, ap, ◌∙◌, subst}
+use Rattle.std.proofs.Common.{◌≡◌, ℕ, ◌-◌, List, length, ap, ◌∙◌, subst}
 use Rattle.ffi3_place_rules.specs.Event.{Event}
 use Rattle.ffi3_machine.specs.Entries.{event_of}
 use Rattle.ffi3_machine.specs.Recorded.{Recorded, event_at}

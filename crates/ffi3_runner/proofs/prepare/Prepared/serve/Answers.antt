@@ -1,4 +1,4 @@
-use Rattle.std.proofs.Common.{◌≡◌, ◌<◌, List, Some, length, refl, sym, ap, ◌∙◌, subst, rules}
+use Rattle.std.proofs.Common.{◌≡◌, ◌<◌, List, Some, length, refl, sym, subst, rules}
 use Rattle.std.proofs.lemmas.List.{length-map}
 use Rattle.ffi3_type_rules.specs.Signature.{Signature}
 use Rattle.ffi3_run_rules.specs.Closures.{closure_at}
