@@ -6,4 +6,5 @@ pub mod BenchWords
 pub mod Level
 pub mod Numbers
 pub mod Program
+pub mod Ranges
 pub mod Stated

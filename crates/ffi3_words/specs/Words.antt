@@ -26,6 +26,13 @@ StatesAfterName rest (Run t true) =
 StatesAfterName rest (Bench seed calls) =
     (seed < 2 ^ 32) × (1 ≤ calls) × (calls ≤ 1000) × ((rest ≡ codes "bench" ∷ codes "--seed" ∷ decimal seed ∷ codes "--calls" ∷ decimal calls ∷ []) ⊎ (rest ≡ codes "bench" ∷ codes "--calls" ∷ decimal calls ∷ codes "--seed" ∷ decimal seed ∷ []))
 
+-- the numbers that are asked for lie in their ranges: a seed has 32 bits by its type
+abbrev pub IsInRange : Request → Type 0
+IsInRange Layout = Unit {0}
+IsInRange (Place t) = Unit {0}
+IsInRange (Run t trace) = Unit {0}
+IsInRange (Bench seed calls) = (1 ≤ calls) × (calls ≤ 1000)
+
 -- THE STATED WORDS of what is asked for: the program's name, and then `layout`, `place --target T`, `run --target T`, where `--trace` stands before the target or after it, or `bench --seed N --calls M` in either order, N below 2 to the 32, M from 1 to 1000
 abbrev pub IsStated : List Text → Request → Type 0
 IsStated [] r = ⊥

@@ -2,7 +2,7 @@
 ghost use Rattle.std.specs.Prelude.{◌≡◌, IfOk, IfErr, Some, map, option_map, string_bytes};
 ghost use Rattle.clap.specs.Words.{subcommand_rows_of};
 ghost use Rattle.ffi3_words.specs.WordCommands.{asked, bench_of, is_set, number_of, request_of, target_of};
-ghost use Rattle.ffi3_words.specs.Words.{IsStated, IsWordsRefusal, IsToldAs, Takes};
+ghost use Rattle.ffi3_words.specs.Words.{IsInRange, IsStated, IsWordsRefusal, IsToldAs, Takes};
 
 use crate::command::program;
 use crate::help;
@@ -38,6 +38,7 @@ pub enum WordsFault {
 /// Reads the words, of which the first is the program's name.
 pub fn read_words(alloc: Global, words: Vec<String>) -> Result<Request, WordsFault>
     ensures takes { IfOk result (Takes (map string_bytes words.items)) }
+    ensures in_range { IfOk result IsInRange }
     ensures refused { IfErr result (IsWordsRefusal (map string_bytes words.items)) }
     ensures one { (r : Request) → Takes (map string_bytes words.items) r →
         IfOk result (λ q. q ≡ r) × IfErr result (λ e. e ≡ WordsFault.NoMemory) }
