@@ -4,7 +4,7 @@ use Rattle.std.specs.Prelude.{Result, Ok, Err}
 use Rattle.ffi3_type_rules.specs.Value.{void_value}
 use Rattle.ffi3_place_rules.specs.Standard.{Standard}
 use Rattle.ffi3_run_rules.specs.Lines.{untraced, text_of_run}
-use Rattle.ffi3_run_rules.specs.Meaning.{meaning_of, returned}
+use Rattle.ffi3_run_rules.specs.Meaning.{Program, meaning_of, returned}
 use Rattle.ffi3_amd64_rules.specs.Amd64.{amd64}
 use Rattle.ffi3_aapcs64_rules.specs.Aapcs64.{aapcs64}
 use Rattle.ffi3_riscv_rules.specs.Riscv.{riscv}
@@ -13,11 +13,11 @@ use Rattle.ffi3_script_rules.specs.Meaning.{program_of}
 use Rattle.ffi3_script_rules.specs.Made.{made, made_types}
 use Rattle.ffi3_script_rules.proofs.MadeRuns.{NeedsLittle, made_returns}
 use Rattle.ffi3_io.specs.Sink.{SinkState}
-use Rattle.ffi3_io.specs.Written.{TookText, Wrote}
+use Rattle.ffi3_io.specs.Written.{TookText, Wrote, WroteLine}
 use Rattle.ffi3_io.specs.declared.IoError.{IoError}
 use Rattle.ffi3_io.specs.declared.IoError.TheVariants.{NoMemory}
-use Rattle.ffi3_io.proofs.Writing.{took_then, cut_after, cut_at_once, cut_in}
-use Rattle.ffi3_bench.specs.BenchText.{line_of, bench_text}
+use Rattle.ffi3_io.proofs.Writing.{took_then, cut_after, cut_at_once, cut_in, wrote_line}
+use Rattle.ffi3_bench.specs.BenchText.{calls_of, moves_of, need_of_all, counts_text, line_of, bench_text}
 use Rattle.ffi3_bench.proofs.Texts.{word_short}
 
 module _ (std : Standard) (seed calls : ℕ) (few : calls ≤ 1000) (little : NeedsLittle std (made_types seed)) (s : Script) (is : s ≡ made seed calls) where
@@ -31,6 +31,12 @@ module _ (std : Standard) (seed calls : ℕ) (few : calls ≤ 1000) (little : Ne
 
 abbrev Writing : Type 0
 Writing = Result Unit IoError
+
+-- the line of what was measured of a program was written, or a part of it
+pub measured_line : (target : List ℕ) (p : Program) (calls moves need : ℕ) (taken line : List ℕ) → line ≡ (target ++ counts_text calls moves need) ++ taken → calls ≡ calls_of p → moves ≡ moves_of p → need ≡ need_of_all p → taken ≡ text_of_run untraced p → (a b : SinkState) (r : Writing) → WroteLine line a b r → Wrote (line_of target p) a b r
+measured_line target p calls moves need taken line is is_calls is_moves is_need is_taken a b r wrote =
+    let same : line ≡ line_of target p = is ∙ (λ i. (target ++ counts_text (is_calls i) (is_moves i) (is_need i)) ++ is_taken i) in
+    subst (λ (l : List ℕ). Wrote l a b r) same (wrote_line line a b r wrote)
 
 -- ---- of three pieces
 
