@@ -1,21 +1,20 @@
 //! The top call.
-ghost use Rattle.std.specs.Prelude.{◌≡◌, ◌<◌, ◌≤◌, ◌⊎◌, ◌^◌, List, ℕ, MatchOption, Some, length, map, string_bytes};
+ghost use Rattle.std.specs.Prelude.{◌≡◌, ◌<◌, ◌⊎◌, ◌^◌, List, ℕ, MatchOption, Some, length, map, string_bytes};
 ghost use Rattle.ffi3_io.specs.Sink.{Rose};
 ghost use Rattle.ffi3_script_rules.specs.Reading.{Reading, IsReading, script};
 ghost use Rattle.ffi3_script_rules.specs.Script.{Script as RulesScript};
 ghost use Rattle.ffi3_script_rules.specs.Natives.{NamedNative, names_of};
 ghost use Rattle.ffi3_words.specs.declared.words.Request.{Request};
 ghost use Rattle.ffi3_words.specs.declared.words.Request.TheVariants.{Bench};
-ghost use Rattle.ffi3_io.specs.Sink.{SinkState};
-ghost use Rattle.ffi3_words.specs.Words.{IsInRange, IsStated, Takes};
+ghost use Rattle.ffi3_words.specs.Words.{IsStated, Takes};
 ghost use Rattle.ffi3_ask.specs.Handed.{handed_in, signatures_in};
-ghost use Rattle.ffi3_app.specs.Top.{ReadsScript, Says, SaysOfBench, refusal_of, status_when_done};
+ghost use Rattle.ffi3_app.specs.Top.{ReadsScript, Says, refusal_of, status_when_done};
 
+use crate::bench::answer_bench;
 use crate::load::load;
 use crate::names::names_of_natives;
 use crate::tell::{tell, tell_refusal};
 use crate::work::work;
-use ffi3_bench::bench;
 use ffi3_body::Native;
 use ffi3_io::{IoError, Sink, Source};
 use ffi3_machine::Machine;
@@ -137,25 +136,5 @@ fn numbers_of(request: Request) -> Option<(u32, u32)>
         Request::Place { .. } => None,
         Request::Run { .. } => None,
         Request::Bench { seed, calls } => Some((seed, calls)),
-    }
-}
-
-// Does the bench, and answers the status of the program.
-fn answer_bench<O: Sink, E: Sink>(
-    alloc: Global,
-    seed: u32,
-    calls: u32,
-    output: &mut O,
-    faults: &mut E,
-    machine: &mut Machine,
-) -> u8
-    requires { calls ≤ 1000 }
-    ensures says { SaysOfBench seed calls (O.state output.old) (O.state output.new) (E.state faults.old) (E.state faults.new) machine.new result }
-    ensures not_two { result ≡ 2 → ⊥ }
-{
-    match bench(alloc, seed, calls, machine, output) {
-        Ok(()) => 0,
-        Err(IoError::NoMemory) => tell(faults, "ffi3: out of memory\n", 5),
-        Err(IoError::Failed) => tell(faults, "ffi3: write fault\n", 4),
     }
 }
