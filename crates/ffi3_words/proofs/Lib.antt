@@ -7,4 +7,5 @@ pub mod Level
 pub mod Numbers
 pub mod Program
 pub mod Ranges
+pub mod Refusals
 pub mod Stated
