@@ -22,8 +22,8 @@ use Rattle.ffi3_words.specs.declared.words.WordsFault.TheVariants.{Refused}
 use Rattle.ffi3_app.specs.Refusals.{IsInputRefusal, IsRefusedWith, refusal_line, refusal_status, HasPlace, TellsRefusal}
 use Rattle.ffi3_io.specs.Source.{SourceState}
 use Rattle.ffi3_app.specs.Top.{ReadAs, IsAtEnd, IsReadInPart, ReportsFault, whole, cut, IsBench, IsBenchInPart, IsDone, IsDoneInPart, BeganOrNot, ReadsScript, TakesScript, Fails, refused, bad_words, read_failed, write_failed, no_memory_for_words, no_memory, bench_write_failed, bench_no_memory, Says, done, bench_done, failed, SaysOfBench, was_done, was_cut, was_short, refusal_of, status_of, status_when_done, no_memory_line}
-use Rattle.ffi3_words.specs.WordCommands.{Addresses, LacksNumbers, asked, program}
-use Rattle.clap.specs.Words.{Row, Text, subcommand_of}
+use Rattle.ffi3_words.specs.WordCommands.{Addresses}
+use Rattle.ffi3_words.proofs.Refusals.{taken_not_refused}
 use Rattle.ffi3_words.proofs.Stated.{stated_is_taken}
 
 -- ---- words
@@ -41,21 +41,6 @@ nowhere n = (0, 0)
 pub one_request : (words : List (List ℕ)) (q r : Request) → Takes words q → Takes words r → q ≡ r
 one_request words q r takes takes' =
     some_is q r (sym (takes.means nowhere nowhere) ∙ takes'.means nowhere nowhere)
-
--- `bench` without its numbers asks for nothing
-lacks_and_asks : (met : Option (Text × List Row)) (r : Request) → LacksNumbers met → asked met ≡ Some r → ⊥
-lacks_and_asks None r lacks asks = absurd lacks
-lacks_and_asks (Some p) r lacks asks =
-    let rows = p.1 in
-    let P : List ℕ → Type 0 = λ name. asked (Some (name, rows)) ≡ Some r in
-    none_is_some r (sym lacks.1 ∙ subst P lacks.0 asks)
-
--- words that are taken are not refused
-pub taken_not_refused : (words : List (List ℕ)) (r : Request) → IsRefused words → Takes words r → ⊥
-taken_not_refused words r (inl by_clap) takes =
-    by_clap.fails nowhere nowhere (takes.passes nowhere nowhere)
-taken_not_refused words r (inr for_numbers) takes =
-    lacks_and_asks (subcommand_of (program nowhere nowhere) words) r (for_numbers.lacks nowhere nowhere) (takes.means nowhere nowhere)
 
 -- words are taken as what they state
 pub same_request : (words : List (List ℕ)) (q r : Request) → Takes words q → IsStated words r → q ≡ r

@@ -129,7 +129,7 @@ fn answer<I: Source, O: Sink, E: Sink>(
 
 // The numbers of `bench`; every other command reads a script.
 fn numbers_of(request: Request) -> Option<(u32, u32)>
-    ensures { MatchOption result (λ n. request ≡ Bench n.0 n.1) (ReadsScript request) }
+    ensures { MatchOption result (ReadsScript request) (λ n. request ≡ Bench n.0 n.1) }
 {
     match request {
         Request::Layout => None,
