@@ -1,6 +1,7 @@
 //! The top call: words, a script, and what a command does with it.
 #![tactic(auto)]
 
+mod bench;
 mod layout;
 mod load;
 mod names;

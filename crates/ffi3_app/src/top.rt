@@ -1,14 +1,16 @@
 //! The top call.
-ghost use Rattle.std.specs.Prelude.{◌≡◌, ◌<◌, ◌⊎◌, ◌^◌, List, ℕ, Some, length, map, string_bytes};
+ghost use Rattle.std.specs.Prelude.{◌≡◌, ◌<◌, ◌⊎◌, ◌^◌, List, ℕ, MatchOption, Some, length, map, string_bytes};
 ghost use Rattle.ffi3_io.specs.Sink.{Rose};
 ghost use Rattle.ffi3_script_rules.specs.Reading.{Reading, IsReading, script};
 ghost use Rattle.ffi3_script_rules.specs.Script.{Script as RulesScript};
 ghost use Rattle.ffi3_script_rules.specs.Natives.{NamedNative, names_of};
 ghost use Rattle.ffi3_words.specs.declared.words.Request.{Request};
+ghost use Rattle.ffi3_words.specs.declared.words.Request.TheVariants.{Bench};
 ghost use Rattle.ffi3_words.specs.Words.{IsStated, Takes};
 ghost use Rattle.ffi3_ask.specs.Handed.{handed_in, signatures_in};
-ghost use Rattle.ffi3_app.specs.Top.{Says, refusal_of, status_when_done};
+ghost use Rattle.ffi3_app.specs.Top.{ReadsScript, Says, refusal_of, status_when_done};
 
+use crate::bench::answer_bench;
 use crate::load::load;
 use crate::names::names_of_natives;
 use crate::tell::{tell, tell_refusal};
@@ -16,14 +18,15 @@ use crate::work::work;
 use ffi3_body::Native;
 use ffi3_io::{IoError, Sink, Source};
 use ffi3_machine::Machine;
-use ffi3_words::{WordsFault, read_words};
+use ffi3_words::{Request, WordsFault, read_words};
 use std::alloc::Global;
 
 /// Does what the words ask for, and answers the status of the program.
 ///
 /// The words hold the program's name first. For `layout`, `place --target TARGET` and `run --target TARGET` the input is read to its
-/// end, or until it is longer than a script may be, and the output takes the lines that the command writes of the script. The line
-/// of a fault goes to `faults`. Scripts are read beside the names of the natives, and run together with them.
+/// end, or until it is longer than a script may be, and the output takes the lines that the command writes of the script. Scripts
+/// are read beside the names of the natives, and run together with them. `bench --seed N --calls M` reads nothing, and the output
+/// takes a line for each target. The line of a fault goes to `faults`.
 ///
 /// | status | when |
 /// |---|---|
@@ -61,10 +64,13 @@ pub fn ffi3<I: Source, O: Sink, E: Sink>(
         (Rose (I.state input.old).faults (I.state input.new).faults → ⊥) → (Rose (O.state output.old).faults (O.state output.new).faults → ⊥) →
         (Rose (E.state faults.old).faults (E.state faults.new).faults → ⊥) → (result ≡ status_when_done r handed s) ⊎ (result ≡ 5) }
     ensures refuses { let handed : List NamedNative = map (λ b. handed_in (title b) (meaning b) (signatures b)) natives.now.items in
-        (r : Request) → IsStated (map string_bytes words.items) r → (all : List ℕ) → (I.state input.old).left ≡ Some all →
+        (r : Request) → ReadsScript r → IsStated (map string_bytes words.items) r → (all : List ℕ) → (I.state input.old).left ≡ Some all →
         (reading : Reading) → IsReading (names_of handed) all reading → (line : List ℕ) → refusal_of reading ≡ Some line →
         (Rose (I.state input.old).faults (I.state input.new).faults → ⊥) → (Rose (O.state output.old).faults (O.state output.new).faults → ⊥) →
         (Rose (E.state faults.old).faults (E.state faults.new).faults → ⊥) → (result ≡ 1) ⊎ (result ≡ 5) }
+    ensures benches { (seed calls : ℕ) → IsStated (map string_bytes words.items) (Bench seed calls) →
+        (Rose (O.state output.old).faults (O.state output.new).faults → ⊥) →
+        (Rose (E.state faults.old).faults (E.state faults.new).faults → ⊥) → (result ≡ 0) ⊎ (result ≡ 5) }
     ensures knows_words { (r : Request) → IsStated (map string_bytes words.items) r → result ≡ 2 → ⊥ }
 
     // Words that are refused ask for nothing, and no words ask for two things.
@@ -104,6 +110,9 @@ fn answer<I: Source, O: Sink, E: Sink>(
         Err(WordsFault::Refused(text)) => return tell(faults, text.as_str(), 2),
         Err(WordsFault::NoMemory) => return tell(faults, "ffi3: out of memory\n", 5),
     };
+    if let Some((seed, calls)) = numbers_of(request) {
+        return answer_bench(alloc, seed, calls, output, faults, machine);
+    }
     let Ok(names) = names_of_natives(alloc, natives) else {
         return tell(faults, "ffi3: out of memory\n", 5);
     };
@@ -115,5 +124,17 @@ fn answer<I: Source, O: Sink, E: Sink>(
         Ok(status) => status,
         Err(IoError::NoMemory) => tell(faults, "ffi3: out of memory\n", 5),
         Err(IoError::Failed) => tell(faults, "ffi3: write fault\n", 4),
+    }
+}
+
+// The numbers of `bench`; every other command reads a script.
+fn numbers_of(request: Request) -> Option<(u32, u32)>
+    ensures { MatchOption result (ReadsScript request) (λ n. request ≡ Bench n.0 n.1) }
+{
+    match request {
+        Request::Layout => None,
+        Request::Place { .. } => None,
+        Request::Run { .. } => None,
+        Request::Bench { seed, calls } => Some((seed, calls)),
     }
 }

@@ -5,7 +5,7 @@ ghost use Rattle.ffi3_script.specs.ScriptOf.{script_of, natives_of};
 ghost use Rattle.ffi3_ask.specs.Handed.{handed_in, signatures_in};
 ghost use Rattle.ffi3_io.specs.Written.{IsCause};
 ghost use Rattle.ffi3_app.specs.Commands.{standard_of};
-ghost use Rattle.ffi3_app.specs.Top.{IsDone, IsDoneInPart, IsRun, IsRunInPart};
+ghost use Rattle.ffi3_app.specs.Top.{IsDone, IsDoneInPart, IsRun, IsRunInPart, ReadsScript};
 
 use crate::layout::layout;
 use crate::place::place;
@@ -22,7 +22,7 @@ use ffi3_types::Target;
 use ffi3_words::Request;
 use std::alloc::Global;
 
-/// Does what is asked for with a script beside natives, and says the status: 0, or 6 where the run
+/// Does what is asked for with a script beside natives, where it reads one, and says the status: 0, or 6 where the run
 /// stopped.
 pub fn work<O: Sink>(
     alloc: Global,
@@ -32,6 +32,7 @@ pub fn work<O: Sink>(
     machine: &mut Machine,
     output: &mut O,
 ) -> Result<u8, IoError>
+    requires reads { ReadsScript request }
     requires beside { natives_of script.now ≤ length natives.now.items }
     requires few_natives { length natives.now.items < 2 ^ 31 }
     requires few_signatures { length (signatures_in (map (λ b. handed_in (title b) (meaning b) (signatures b)) natives.now.items)) < 2 ^ 31 }
@@ -56,6 +57,7 @@ pub fn work<O: Sink>(
         Request::Run { target, trace } => {
             run(alloc, target, trace, script, natives, machine, output)
         }
+        Request::Bench { .. } => unreachable!(),
     }
 }
 

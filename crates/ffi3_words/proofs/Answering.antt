@@ -6,9 +6,9 @@ use Rattle.clap.specs.declared.parser.matches.ArgMatches.{ArgMatches}
 use Rattle.ffi3_words.specs.declared.words.Request.{Request}
 use Rattle.ffi3_words.specs.declared.words.WordsFault.{WordsFault}
 use Rattle.ffi3_words.specs.declared.words.WordsFault.TheVariants.{Refused, NoMemory}
-use Rattle.ffi3_words.specs.WordCommands.{IsProgram, asked, program}
-use Rattle.ffi3_words.specs.Words.{IsWordsRefusal, IsStated, IsToldAs, Takes}
-use Rattle.ffi3_words.proofs.Asked.{something_asked}
+use Rattle.ffi3_words.specs.WordCommands.{IsProgram, LacksNumbers, asked, program}
+use Rattle.ffi3_words.specs.Words.{IsRefusedForNumbers, IsWordsRefusal, IsStated, IsToldAs, Takes}
+use Rattle.ffi3_words.proofs.Asked.{Decides, something_asked}
 use Rattle.ffi3_words.proofs.Program.{is_free, is_plain}
 use Rattle.ffi3_words.proofs.Anywhere.{same_fault, same_command}
 use Rattle.ffi3_words.proofs.Stated.{stated_is_read, stated_is_taken}
@@ -48,10 +48,29 @@ module _ (a : App) (is : IsProgram a) where
       pub stated_as : (q r : Request) → asked (subcommand_rows_of m) ≡ Some q → IsStated words r → q ≡ r
       stated_as q r asks stated = one_as q r asks (stated_is_taken words r stated)
 
-      pub asks_something : asked (subcommand_rows_of m) ≡ None → ⊥
-      asks_something none =
-          let read = something_asked is.placing is.running words (told fine) in
-          none_is_some read.0 (sym none ∙ (ap asked met_in ∙ read.1))
+      pub none_taken : (r : Request) → asked (subcommand_rows_of m) ≡ None → Takes words r → ⊥
+      none_taken r none takes =
+          none_is_some r (sym none ∙ (ap asked met_in ∙ takes.means is.placing is.running))
+
+      lacking : asked (subcommand_of (program is.placing is.running) words) ≡ None → Decides is.placing is.running (subcommand_of (program is.placing is.running) words) → LacksNumbers (subcommand_of (program is.placing is.running) words)
+      lacking none (inl some) = absurd (none_is_some some.0 (sym none ∙ some.1))
+      lacking none (inr lacks) = lacks
+
+      for_numbers : asked (subcommand_rows_of m) ≡ None → IsRefusedForNumbers words
+      for_numbers none =
+          let here = lacking (ap asked (sym met_in) ∙ none) (something_asked is.placing is.running words (told fine)) in
+          record {
+            passes = λ at at'. same_fault at at' is.placing is.running words ∙ told fine;
+            lacks = λ at at'. subst LacksNumbers (sym (same_command at at' is.placing is.running words)) here;
+          }
+
+      pub refused_for_numbers : (f : WordsFault) → asked (subcommand_rows_of m) ≡ None → IsWordsRefusal words f
+      refused_for_numbers NoMemory none = tt
+      refused_for_numbers (Refused text) none =
+          (inr (for_numbers none), λ r stated. none_taken r none (stated_is_taken words r stated))
+
+      pub none_stated : (r : Request) → asked (subcommand_rows_of m) ≡ None → IsStated words r → ⊥
+      none_stated r none stated = none_taken r none (stated_is_taken words r stated)
 
     pub taken_fails : (e : Error) (f : WordsFault) (r : Request) → HasKind (fault_of a words) e → IsToldAs e f → Takes words r → f ≡ NoMemory
     taken_fails e NoMemory r has tells takes = refl
@@ -70,7 +89,7 @@ module _ (a : App) (is : IsProgram a) where
     refused_as e NoMemory has tells = tt
     refused_as e (Refused text) has tells =
         let named = without_memory has in (
-          record { fails = λ at at' none. subst (IsAmong (kind_of e)) (ap (λ (x : App). fault_of x words) is.same ∙ same_fault is.placing is.running at at' words ∙ none) named },
+          inl (record { fails = λ at at' none. subst (IsAmong (kind_of e)) (ap (λ (x : App). fault_of x words) is.same ∙ same_fault is.placing is.running at at' words ∙ none) named }),
           λ r stated. subst (IsAmong (kind_of e)) (ap (λ (x : App). fault_of x words) is.same ∙ (stated_is_read is.placing is.running words r stated).0) named,
         )
       where

@@ -1,4 +1,4 @@
--- Where clap finds no fault in the words, they ask for something.
+-- Where clap finds no fault in the words, they ask for something, or are those of `bench` without its numbers.
 use Rattle.std.proofs.Common.{◌≡◌, ◌∙◌, ◌||◌, ◌⊎◌, ◌++◌, ℕ, Bool, true, false, cond, not, List, [], ◌∷◌, codes, Option, Some, None, inl, inr, refl, sym, ap, subst, is_some, true≢false}
 use Rattle.std.specs.List.{fold, list_any}
 use Rattle.std.specs.Option.{option_map}
@@ -8,15 +8,15 @@ use Rattle.clap.specs.Facts.{explicit_source}
 use Rattle.clap.specs.Lexer.{long_of, short_of}
 use Rattle.clap.specs.Words.{App, Row, Rule, Shape, Text, fault_of, first_of, subcommand_of, built}
 use Rattle.clap.specs.Walk.{Held, Names, Outcome, Step, Waiting, Walk, after_flag, after_step, arg_by_index, done, finished, idle, long_or_other, next, nothing_held, option, plain, plain_word, positional, refused, rows_after, settled, short_or_plain, subcommand, subcommand_or_other, to_positional, trailing, value, waits, walk, walked, walked_from}
-use Rattle.clap.specs.Simple.{argument_words, entered, names_of}
+use Rattle.clap.specs.Simple.{argument_words, built_leaf, entered, inherited, names_of, rows_at}
 use Rattle.clap.specs.Faults.{check_fault, defaults_fault, entered_fault, other_fault, settle_fault, turn_fault, walk_fault}
 use Rattle.clap.specs.declared.error.kind.ErrorKind.TheVariants.{DisplayHelpOnMissingArgumentOrSubcommand, MissingSubcommand}
 use Rattle.ffi3_type_rules.specs.declared.Target.{Target}
 use Rattle.ffi3_type_rules.specs.declared.Target.TheVariants.{Amd64, Aapcs64, Riscv}
 use Rattle.ffi3_words.specs.declared.words.Request.{Request}
 use Rattle.ffi3_words.specs.declared.words.Request.TheVariants.{Layout, Place, Run}
-use Rattle.ffi3_words.specs.WordCommands.{Addresses, asked, is_set, one_of_words, targets, program, target_of, with_target_of}
-use Rattle.ffi3_words.proofs.Level.{built_target, has_target, has_target_traced, never, or_none, trace_and_help}
+use Rattle.ffi3_words.specs.WordCommands.{Addresses, LacksNumbers, asked, bench_shape, is_set, one_of_words, targets, program, target_of, with_target_of}
+use Rattle.ffi3_words.proofs.Level.{above, built_target, has_target, has_target_traced, never, or_none, trace_and_help}
 
 -- ---- a step at which no command is met
 
@@ -71,7 +71,8 @@ stays c names (word ∷ more) w name seen met =
 
 -- a command of the program, but for `help`
 abbrev Known : Text → Type 0
-Known name = (name ≡ codes "layout") ⊎ ((name ≡ codes "place") ⊎ (name ≡ codes "run"))
+Known name =
+    (name ≡ codes "layout") ⊎ ((name ≡ codes "place") ⊎ ((name ≡ codes "run") ⊎ (name ≡ codes "bench")))
 
 abbrev StopsKnown : Option (Text × List Text) → Type 0
 StopsKnown None = Unit {0}
@@ -95,9 +96,9 @@ module _ (at at' : Addresses) where
     abbrev here : Walk
     here = standing h waiting position false
 
-    abbrev first_named : Bool → Bool → Bool → Bool → Option Text
-    first_named is_layout is_place is_run is_help =
-        option_map (λ (n : Text × List Text). n.0) (cond is_layout (Some (codes "layout", [])) (cond is_place (Some (codes "place", [])) (cond is_run (Some (codes "run", [])) (cond is_help (Some (codes "help", [])) None))))
+    abbrev first_named : Bool → Bool → Bool → Bool → Bool → Option Text
+    first_named is_layout is_place is_run is_bench is_help =
+        option_map (λ (n : Text × List Text). n.0) (cond is_layout (Some (codes "layout", [])) (cond is_place (Some (codes "place", [])) (cond is_run (Some (codes "run", [])) (cond is_bench (Some (codes "bench", [])) (cond is_help (Some (codes "help", [])) None)))))
 
     abbrev StopsAt : Option Text → Type 0
     StopsAt met =
@@ -108,18 +109,19 @@ module _ (at at' : Addresses) where
         let meets = other_meets top.rules waiting word (bytes_eq word (45 ∷ 45 ∷ [])) position h in
         subst StopsKnown (sym (goes_on top.rules word here _ _ meets refl)) tt
 
-    stops_named : (is_layout is_place is_run is_help : Bool) → other_fault top (first_named is_layout is_place is_run is_help) word h ≡ [] → StopsAt (first_named is_layout is_place is_run is_help)
-    stops_named true b2 b3 b4 fine = inl refl
-    stops_named false true b3 b4 fine = inr (inl refl)
-    stops_named false false true b4 fine = inr (inr refl)
-    stops_named false false false true fine = absurd (never fine)
-    stops_named false false false false fine = stops_none
+    stops_named : (is_layout is_place is_run is_bench is_help : Bool) → other_fault top (first_named is_layout is_place is_run is_bench is_help) word h ≡ [] → StopsAt (first_named is_layout is_place is_run is_bench is_help)
+    stops_named true b2 b3 b4 b5 fine = inl refl
+    stops_named false true b3 b4 b5 fine = inr (inl refl)
+    stops_named false false true b4 b5 fine = inr (inr (inl refl))
+    stops_named false false false true b5 fine = inr (inr (inr refl))
+    stops_named false false false false true fine = absurd (never fine)
+    stops_named false false false false false fine = stops_none
 
   one_word : (h : Held) (waiting : Waiting) (position : ℕ) (is_trailing : Bool) (word : Text) → turn_fault top names (standing h waiting position is_trailing) word ≡ [] → StopsKnown (walked top.rules names (standing h waiting position is_trailing) word).stopped
   unfolding walked
   one_word h waiting position true word fine = subst StopsKnown (sym (goes_to top.rules (arg_by_index top.rules position) word (standing h waiting position true) h refl)) tt
   one_word h idle position false word fine =
-      stops_named h idle position word (bytes_eq (codes "layout") word || false) (bytes_eq (codes "place") word || false) (bytes_eq (codes "run") word || false) (bytes_eq (codes "help") word || false) (or_none _ _ fine).0
+      stops_named h idle position word (bytes_eq (codes "layout") word || false) (bytes_eq (codes "place") word || false) (bytes_eq (codes "run") word || false) (bytes_eq (codes "bench") word || false) (bytes_eq (codes "help") word || false) (or_none _ _ fine).0
   one_word h (option id) position false word fine = stops_none h (option id) position word
   one_word h positional position false word fine = stops_none h positional position word
 
@@ -154,14 +156,30 @@ module _ (at at' : Addresses) where
 
   -- ---- the command that was met
 
+  -- the command and its rows ask for something, or are those of `bench` without its numbers
+  abbrev pub Decides : Option (Text × List Row) → Type 0
+  Decides met = ((r : Request) × (asked met ≡ Some r)) ⊎ LacksNumbers met
+
   abbrev Asks : Option (Text × List Text) → Type 0
-  Asks stop = (r : Request) × (asked (entered app stop) ≡ Some r)
+  Asks stop = Decides (entered app stop)
+
+  bench_asks : (rows : List Row) (o : Option Request) → asked (Some (codes "bench", rows)) ≡ o → Decides (Some (codes "bench", rows))
+  bench_asks rows None none = inr (refl, none)
+  bench_asks rows (Some r) some = inl (r, some)
+
+  abbrev bench_built : Shape
+  bench_built = built_leaf (inherited above bench_shape)
+
+  asks_bench : (rest : List Text) → Asks (Some (codes "bench", rest))
+  asks_bench rest =
+      let rows = (rows_at bench_built rest).1 in
+      bench_asks rows (asked (Some (codes "bench", rows))) refl
 
   asks_place : (rest : List Text) → entered_fault app (Some (codes "place", rest)) ≡ [] → Asks (Some (codes "place", rest))
   asks_place rest fine =
       let got = has_target (codes "place") (one_of_words at targets) rest fine in
       let is = is_target got.0 _ _ _ refl refl refl got.1 in
-      (Place is.0, ap (λ o. with_target_of o (λ t. Place t)) got.2 ∙ ap (option_map (λ t. Place t)) is.1)
+      inl (Place is.0, ap (λ o. with_target_of o (λ t. Place t)) got.2 ∙ ap (option_map (λ t. Place t)) is.1)
 
   asks_run : (rest : List Text) → entered_fault app (Some (codes "run", rest)) ≡ [] → Asks (Some (codes "run", rest))
   asks_run rest fine =
@@ -169,7 +187,7 @@ module _ (at at' : Addresses) where
       let is = is_target got.0 _ _ _ refl refl refl got.1 in
       let rules = built_target (one_of_words at' targets) ∷ trace_and_help in
       let trace : Bool = is_set (first_of (codes "trace") (rows_after rules [] rest)) in
-      (Run is.0 trace, ap (λ o. with_target_of o (λ t. Run t trace)) got.2 ∙ ap (option_map (λ t. Run t trace)) is.1)
+      inl (Run is.0 trace, ap (λ o. with_target_of o (λ t. Run t trace)) got.2 ∙ ap (option_map (λ t. Run t trace)) is.1)
 
   wants : (wants_help : Bool) → cond wants_help (DisplayHelpOnMissingArgumentOrSubcommand ∷ []) (MissingSubcommand ∷ []) ≡ [] → ⊥
   wants true fine = never fine
@@ -179,18 +197,21 @@ module _ (at at' : Addresses) where
   asks rs None known fine checked = absurd (wants (not (list_any (λ (r : Row). explicit_source r.source) rs)) checked)
   asks rs (Some p) (inl is) fine checked =
       let P : Text → Type 0 = λ name. Asks (Some (name, p.1)) in
-      subst P (sym is) (Layout, refl)
+      subst P (sym is) (inl (Layout, refl))
   asks rs (Some p) (inr (inl is)) fine checked =
       let P : Text → Type 0 = λ name. entered_fault app (Some (name, p.1)) ≡ [] → Asks (Some (name, p.1)) in
       subst P (sym is) (asks_place p.1) fine
-  asks rs (Some p) (inr (inr is)) fine checked =
+  asks rs (Some p) (inr (inr (inr is))) fine checked =
+      let P : Text → Type 0 = λ name. Asks (Some (name, p.1)) in
+      subst P (sym is) (asks_bench p.1)
+  asks rs (Some p) (inr (inr (inl is))) fine checked =
       let P : Text → Type 0 = λ name. entered_fault app (Some (name, p.1)) ≡ [] → Asks (Some (name, p.1)) in
       subst P (sym is) (asks_run p.1) fine
 
   abbrev at_end : List Text → Walk
   at_end words = walk top.rules names nothing_held (argument_words (program at at') words)
 
-  pub something_asked : (words : List Text) → fault_of (program at at') words ≡ [] → (r : Request) × (asked (subcommand_of (program at at') words) ≡ Some r)
+  pub something_asked : (words : List Text) → fault_of (program at at') words ≡ [] → Decides (subcommand_of (program at at') words)
   something_asked words fine =
       let end = at_end words in
       let walked_well = or_none _ _ fine in

@@ -15,10 +15,14 @@ two_maps f g (Some x) = refl
 pub name_met : (m : ArgMatches) → option_map (λ p. p.0) (subcommand_rows_of m) ≡ subcommand_name_of m
 name_met m = two_maps _ _ (out-ArgMatches m).subcommand
 
-pub asks : (o : Option (Text × List Row)) (name : Text) (rows : List Row) (target trace : Option Text) → Some name ≡ option_map (λ p. p.0) o → Some rows ≡ option_map (λ p. p.1) o → target ≡ first_of (codes "target") rows → trace ≡ first_of (codes "trace") rows → request_of name target trace ≡ asked o
-asks None name rows target trace named with_rows is is_traced = cc
-asks (Some p) name rows target trace named with_rows is is_traced =
+pub asks : (o : Option (Text × List Row)) (name : Text) (rows : List Row) (target trace seed calls : Option Text) → Some name ≡ option_map (λ p. p.0) o → Some rows ≡ option_map (λ p. p.1) o → target ≡ first_of (codes "target") rows → trace ≡ first_of (codes "trace") rows → seed ≡ first_of (codes "seed") rows → calls ≡ first_of (codes "calls") rows → request_of name target trace seed calls ≡ asked o
+asks None name rows target trace seed calls named with_rows is_target is_trace is_seed is_calls = cc
+asks (Some p) name rows target trace seed calls named with_rows is_target is_trace is_seed is_calls =
     let same_name : name ≡ p.0 = cc in
     let same_rows : rows ≡ p.1 = cc in
-    let same_options : request_of name target ≡ request_of p.0 (first_of (codes "target") p.1) = ap₂ request_of same_name (is ∙ ap (first_of (codes "target")) same_rows) in
-    ap₂ (λ (f : Option Text → Option Request) (t : Option Text). f t) same_options (is_traced ∙ ap (first_of (codes "trace")) same_rows)
+    let same_target : request_of name target ≡ request_of p.0 (first_of (codes "target") p.1) = ap₂ request_of same_name (is_target ∙ ap (first_of (codes "target")) same_rows) in
+    let same_trace : request_of name target trace ≡ request_of p.0 (first_of (codes "target") p.1) (first_of (codes "trace") p.1) =
+    ap₂ (λ (f : Option Text → Option Text → Option Text → Option Request) (t : Option Text). f t) same_target (is_trace ∙ ap (first_of (codes "trace")) same_rows) in
+    let same_seed : request_of name target trace seed ≡ request_of p.0 (first_of (codes "target") p.1) (first_of (codes "trace") p.1) (first_of (codes "seed") p.1) =
+    ap₂ (λ (f : Option Text → Option Text → Option Request) (t : Option Text). f t) same_trace (is_seed ∙ ap (first_of (codes "seed")) same_rows) in
+    ap₂ (λ (f : Option Text → Option Request) (t : Option Text). f t) same_seed (is_calls ∙ ap (first_of (codes "calls")) same_rows)

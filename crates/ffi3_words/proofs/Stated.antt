@@ -1,12 +1,13 @@
 -- Stated words are taken, and read as what they state.
-use Rattle.std.proofs.Common.{◌≡◌, true, false, List, [], ◌∷◌, codes, Some, inl, inr, refl, sym, subst}
+use Rattle.std.proofs.Common.{◌≡◌, ◌∙◌, ◌<◌, ◌≤◌, ◌^◌, ℕ, decimal, arith, true, false, List, [], ◌∷◌, codes, Some, inl, inr, refl, sym, ap, subst}
 use Rattle.clap.specs.Words.{Text, fault_of, subcommand_of}
 use Rattle.clap.proofs.OnLiterals.{clap_on_literals}
 use Rattle.ffi3_type_rules.specs.declared.Target.{Target}
 use Rattle.ffi3_type_rules.specs.declared.Target.TheVariants.{Amd64, Aapcs64, Riscv}
 use Rattle.ffi3_words.specs.declared.words.Request.{Request}
-use Rattle.ffi3_words.specs.declared.words.Request.TheVariants.{Layout, Place, Run}
+use Rattle.ffi3_words.specs.declared.words.Request.TheVariants.{Layout, Place, Run, Bench}
 use Rattle.ffi3_words.specs.WordCommands.{Addresses, asked, program}
+use Rattle.ffi3_words.proofs.BenchWords.{calls_first, seed_first}
 use Rattle.ffi3_words.specs.Words.{IsStated, StatesAfterName, Takes, target_word}
 
 module _ (at at' : Addresses) (name : Text) where
@@ -51,6 +52,10 @@ module _ (at at' : Addresses) (name : Text) where
       subst (λ ws. Reads ws (Run t true)) (sym is) (traces_first t)
   states rest (Run t true) (inr is) =
       subst (λ ws. Reads ws (Run t true)) (sym is) (traces_last t)
+  states rest (Bench seed calls) (few, some, not_many, inl is) =
+      subst (λ ws. Reads ws (Bench seed calls)) (sym is) (seed_first at at' name seed calls few some not_many)
+  states rest (Bench seed calls) (few, some, not_many, inr is) =
+      subst (λ ws. Reads ws (Bench seed calls)) (sym is) (calls_first at at' name seed calls few some not_many)
 
 -- STATED WORDS ARE TAKEN, and read as what they state
 pub stated_is_read : (at at' : Addresses) (words : List Text) (r : Request) → IsStated words r → (fault_of (program at at') words ≡ []) × (asked (subcommand_of (program at at') words) ≡ Some r)

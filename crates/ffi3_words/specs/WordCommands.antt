@@ -1,7 +1,8 @@
 -- The program as clap reads it: its commands and their options, and what its matches ask for.
-use Rattle.std.specs.Prelude.{◌≡◌, ℕ, suc, Bool, true, false, cond, List, [], ◌∷◌, codes, Option, Some, None}
+use Rattle.std.specs.Prelude.{◌≡◌, ℕ, suc, ◌^◌, ◌&&◌, nat_lt, nat_le, Bool, true, false, cond, List, [], ◌∷◌, codes, decimal, Option, Some, None}
 use Rattle.std.specs.Option.{option_and_then, option_map}
 use Rattle.std.specs.Str.{bytes_eq}
+use Rattle.std.specs.Str.Parse.{digits_value}
 use Rattle.std.specs.Borrow.{Bor}
 use Rattle.clap.specs.Words.{App, Row, Rule, Shape, Text, first_of, new_app, new_rule, with_rule, with_subcommand}
 use Rattle.clap.specs.declared.builder.action.ArgAction.TheVariants.{SetTrue}
@@ -10,7 +11,7 @@ use Rattle.clap.specs.declared.builder.value_parser.ValueParser.TheVariants as v
 use Rattle.ffi3_type_rules.specs.declared.Target.{Target}
 use Rattle.ffi3_type_rules.specs.declared.Target.TheVariants.{Amd64, Aapcs64, Riscv}
 use Rattle.ffi3_words.specs.declared.words.Request.{Request}
-use Rattle.ffi3_words.specs.declared.words.Request.TheVariants.{Layout, Place, Run}
+use Rattle.ffi3_words.specs.declared.words.Request.TheVariants.{Layout, Place, Run, Bench}
 
 -- ---- the words of a target
 
@@ -48,6 +49,16 @@ abbrev pub trace_rule : Rule
 trace_rule =
     record (new_rule (codes "trace")) { long = Some (codes "trace"); action = Some SetTrue }
 
+-- `--seed N` and `--calls M`, which are required, and whose values are any text to clap
+abbrev pub number_rule : Text → Rule
+number_rule name = record (new_rule name) { long = Some name; value_names = 1; required = true }
+
+abbrev pub seed_rule : Rule
+seed_rule = number_rule (codes "seed")
+
+abbrev pub calls_rule : Rule
+calls_rule = number_rule (codes "calls")
+
 abbrev pub layout_shape : Shape
 layout_shape = (new_app (codes "layout")).top
 
@@ -60,6 +71,10 @@ abbrev pub with_trace : Text → ValueParser → Shape
 with_trace name parser =
     (with_rule (with_rule (new_app name) (target_rule parser)) trace_rule).top
 
+-- a command with two numbers
+abbrev pub bench_shape : Shape
+bench_shape = (with_rule (with_rule (new_app (codes "bench")) seed_rule) calls_rule).top
+
 -- the program alone: one of its commands is required
 abbrev pub program_alone : App
 program_alone = record {
@@ -69,7 +84,7 @@ program_alone = record {
 
 abbrev pub program_with : ValueParser → ValueParser → App
 program_with placing running =
-    with_subcommand (with_subcommand (with_subcommand program_alone layout_shape) (with_target (codes "place") placing)) (with_trace (codes "run") running)
+    with_subcommand (with_subcommand (with_subcommand (with_subcommand program_alone layout_shape) (with_target (codes "place") placing)) (with_trace (codes "run") running)) bench_shape
 
 -- THE PROGRAM, with its texts at these addresses
 abbrev pub program : Addresses → Addresses → App
@@ -90,15 +105,36 @@ abbrev pub is_set : Option Text → Bool
 is_set None = false
 is_set (Some value) = bytes_eq value (codes "true")
 
--- a command's name, its target and its flag
-abbrev pub request_of : Text → Option Text → Option Text → Option Request
-request_of name target trace =
-    cond (bytes_eq name (codes "layout")) (Some Layout) (cond (bytes_eq name (codes "place")) (with_target_of target (λ t. Place t)) (cond (bytes_eq name (codes "run")) (with_target_of target (λ t. Run t (is_set trace))) None))
+-- the number of 32 bits whose decimal digits, with no sign and no leading zero, are this text
+abbrev pub number_of : Text → Option ℕ
+number_of word =
+    let n = digits_value 10 word in
+    cond (nat_lt n (2 ^ 32) && bytes_eq (decimal n) word) (Some n) None
+
+abbrev pub with_calls : ℕ → ℕ → Option Request
+with_calls seed calls =
+    cond (nat_le 1 calls && nat_le calls 1000) (Some (Bench seed calls)) None
+
+-- what `bench` asks for: a seed of 32 bits, and 1 to 1000 calls
+abbrev pub bench_of : Option Text → Option Text → Option Request
+bench_of seed calls =
+    option_and_then (λ n. option_and_then (with_calls n) (option_and_then number_of calls)) (option_and_then number_of seed)
+
+-- a command's name, its target, its flag and its numbers
+abbrev pub request_of : Text → Option Text → Option Text → Option Text → Option Text → Option Request
+request_of name target trace seed calls =
+    cond (bytes_eq name (codes "layout")) (Some Layout) (cond (bytes_eq name (codes "bench")) (bench_of seed calls) (cond (bytes_eq name (codes "place")) (with_target_of target (λ t. Place t)) (cond (bytes_eq name (codes "run")) (with_target_of target (λ t. Run t (is_set trace))) None)))
 
 -- the command that was met, with its rows
 abbrev pub asked : Option (Text × List Row) → Option Request
 asked =
-    option_and_then (λ p. request_of p.0 (first_of (codes "target") p.1) (first_of (codes "trace") p.1))
+    option_and_then (λ p. request_of p.0 (first_of (codes "target") p.1) (first_of (codes "trace") p.1) (first_of (codes "seed") p.1) (first_of (codes "calls") p.1))
+
+-- `bench` was met, and its values are no seed and number of calls
+abbrev pub LacksNumbers : Option (Text × List Row) → Type 0
+LacksNumbers None = ⊥
+LacksNumbers (Some p) =
+    (p.0 ≡ codes "bench") × (bench_of (first_of (codes "seed") p.1) (first_of (codes "calls") p.1) ≡ None)
 
 -- ---- what the code states of its parts
 

@@ -2,7 +2,7 @@
 ghost use Rattle.std.specs.Prelude.{◌≡◌, IfOk, false, codes};
 ghost use Rattle.clap.specs.Words.{app_of, rule_of, shape_of};
 ghost use Rattle.clap.specs.declared.builder.command.Command.TheViews.{out-Command};
-ghost use Rattle.ffi3_words.specs.WordCommands.{IsProgram, IsTargetRule, HasTarget, IsTraceable, layout_shape, targets, trace_rule};
+ghost use Rattle.ffi3_words.specs.WordCommands.{IsProgram, IsTargetRule, HasTarget, IsTraceable, bench_shape, calls_rule, layout_shape, seed_rule, targets, trace_rule};
 
 use crate::help;
 use clap::{Arg, ArgAction, Command};
@@ -24,7 +24,8 @@ pub fn program<'a>(alloc: Global) -> Result<Command<'a>, AllocError>
         .arg_required_else_help(true)
         .subcommand(layout(alloc))?
         .subcommand(place(alloc)?)?
-        .subcommand(run(alloc)?)
+        .subcommand(run(alloc)?)?
+        .subcommand(bench(alloc)?)
 }
 
 fn layout<'a>(alloc: Global) -> Command<'a>
@@ -60,6 +61,18 @@ fn run<'a>(alloc: Global) -> Result<Command<'a>, AllocError>
         .arg(trace(alloc))
 }
 
+fn bench<'a>(alloc: Global) -> Result<Command<'a>, AllocError>
+    ensures shape { IfOk result (λ c. shape_of c ≡ bench_shape) }
+    ensures local { IfOk result (λ c. (out-Command c).has_globals ≡ false) }
+{
+    Command::new(alloc, "bench")
+        .about(help::BENCH_ABOUT)
+        .long_about(help::BENCH_LONG_ABOUT)
+        .after_help(help::BENCH_AFTER_HELP)
+        .arg(seed(alloc))?
+        .arg(calls(alloc))
+}
+
 // The option `--target`, which has to be one of these words.
 fn target<'a>(alloc: Global, words: &'a [&'a str]) -> Arg<'a>
     ensures rule { IsTargetRule words.now (rule_of result) }
@@ -82,4 +95,28 @@ fn trace<'a>(alloc: Global) -> Arg<'a>
         .long("trace")
         .action(ArgAction::SetTrue)
         .help(help::TRACE_HELP)
+}
+
+// The option `--seed`, whose value is any text to `clap`.
+fn seed<'a>(alloc: Global) -> Arg<'a>
+    ensures rule { rule_of result ≡ seed_rule }
+    ensures local { result.global ≡ false }
+{
+    Arg::new(alloc, "seed")
+        .long("seed")
+        .value_name("N")
+        .required(true)
+        .help(help::SEED_HELP)
+}
+
+// The option `--calls`, whose value is any text to `clap`.
+fn calls<'a>(alloc: Global) -> Arg<'a>
+    ensures rule { rule_of result ≡ calls_rule }
+    ensures local { result.global ≡ false }
+{
+    Arg::new(alloc, "calls")
+        .long("calls")
+        .value_name("M")
+        .required(true)
+        .help(help::CALLS_HELP)
 }

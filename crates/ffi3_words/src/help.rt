@@ -8,10 +8,10 @@ pub const ABOUT: &str =
 pub const LONG_ABOUT: &str =
     "Show how C values are laid out, passed in calls, and called through closures.
 
-Every command reads one script from standard input: a JSON text of at most
-1,048,576 bytes with C signatures, functions of these signatures, and a main
-function that makes closures of the functions and calls them. What a command
-finds goes to standard output. Calls are made on a modelled machine, in
+Every command but bench reads one script from standard input: a JSON text of at
+most 1,048,576 bytes with C signatures, functions of these signatures, and a
+main function that makes closures of the functions and calls them. What a
+command finds goes to standard output. Calls are made on a modelled machine, in
 software: no code of the host is called.";
 
 pub const AFTER_HELP: &str = "Targets:
@@ -33,7 +33,8 @@ Exit status:
 Examples:
   ffi3 layout < examples/increment.json
   ffi3 place --target riscv < examples/increment.json
-  ffi3 run --target amd64 < examples/increment.json";
+  ffi3 run --target amd64 < examples/increment.json
+  ffi3 bench --seed 1 --calls 2";
 
 pub const LAYOUT_ABOUT: &str = "Print the size, alignment and leaves of every type";
 
@@ -138,3 +139,37 @@ Examples:
 pub const TARGET_HELP: &str = "Follow the calling convention of this target";
 
 pub const TRACE_HELP: &str = "Write lines for each call's entry and return too";
+
+pub const BENCH_ABOUT: &str = "Run a made script on all three targets";
+
+pub const BENCH_LONG_ABOUT: &str = "Run a made script on all three targets.
+
+Reads no input. A script is made from the seed: four signatures with arguments
+of eight types, four functions of which each calls the one before it, and a
+main function that makes that many calls and prints the last result. It is run
+on each target, and a line is written for each:
+
+  amd64 calls 8 moves 22 need 160 result 543
+
+calls counts the calls of closures, moves the moves of the script, need is the
+most bytes of stack that a call of a signature takes, and result is the line
+that the script prints. The numbers are decimal digits without a leading zero.";
+
+pub const BENCH_AFTER_HELP: &str = "Exit status:
+  0  done
+  2  the words of the call were refused, or asked for help
+  4  a write failed
+  5  out of memory
+
+Example:
+  ffi3 bench --seed 1 --calls 2";
+
+pub const SEED_HELP: &str = "Make the script of this seed, from 0 to 4294967295";
+
+pub const CALLS_HELP: &str = "Make this many calls in main, from 1 to 1000";
+
+pub const NO_NUMBERS: &str =
+    "error: `bench` takes a seed from 0 to 4294967295 and calls from 1 to 1000, in digits without a leading zero
+
+For more information, try '--help'.
+";

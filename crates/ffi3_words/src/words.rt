@@ -1,13 +1,15 @@
 //! What the words of the program ask for.
 ghost use Rattle.std.specs.Prelude.{◌≡◌, IfOk, IfErr, Some, map, option_map, string_bytes};
 ghost use Rattle.clap.specs.Words.{subcommand_rows_of};
-ghost use Rattle.ffi3_words.specs.WordCommands.{asked, is_set, request_of, target_of};
-ghost use Rattle.ffi3_words.specs.Words.{IsStated, IsWordsRefusal, IsToldAs, Takes};
+ghost use Rattle.ffi3_words.specs.WordCommands.{asked, bench_of, is_set, number_of, request_of, target_of};
+ghost use Rattle.ffi3_words.specs.Words.{IsInRange, IsStated, IsWordsRefusal, IsToldAs, Takes};
 
 use crate::command::program;
+use crate::help;
 use clap::error::ErrorKind;
 use clap::{ArgMatches, Error};
 use ffi3_types::Target;
+use itoa::Buffer;
 use std::alloc::Global;
 
 /// What the words ask for.
@@ -19,12 +21,15 @@ pub enum Request {
     Place { target: Target },
     /// A run on a modelled machine, with the lines of a trace or without.
     Run { target: Target, trace: bool },
+    /// The made script of a seed and a number of calls, from 1 to 1000, on all three targets.
+    Bench { seed: u32, calls: u32 },
 }
 
 /// Why the words ask for nothing that can be done.
 #[derive(Debug, Drop)]
 pub enum WordsFault {
     /// `clap` refuses the words, or they ask for help or the version: its text for the user, with its last newline.
+    /// Or a number of `bench` is none, or out of its range, and the text says so.
     Refused(String),
     /// Memory was refused.
     NoMemory,
@@ -33,6 +38,7 @@ pub enum WordsFault {
 /// Reads the words, of which the first is the program's name.
 pub fn read_words(alloc: Global, words: Vec<String>) -> Result<Request, WordsFault>
     ensures takes { IfOk result (Takes (map string_bytes words.items)) }
+    ensures in_range { IfOk result IsInRange }
     ensures refused { IfErr result (IsWordsRefusal (map string_bytes words.items)) }
     ensures one { (r : Request) → Takes (map string_bytes words.items) r →
         IfOk result (λ q. q ≡ r) × IfErr result (λ e. e ≡ WordsFault.NoMemory) }
@@ -45,7 +51,7 @@ pub fn read_words(alloc: Global, words: Vec<String>) -> Result<Request, WordsFau
     match command.try_get_matches_from(words.as_slice()) {
         Ok(matches) => match request_of(&matches) {
             Some(request) => Ok(request),
-            None => unreachable!(),
+            None => Err(no_numbers(alloc)),
         },
         Err(error) => Err(refusal(alloc, &error)),
     }
@@ -56,15 +62,30 @@ fn request_of(matches: &ArgMatches<'_>) -> Option<Request>
     ensures { result ≡ asked (subcommand_rows_of matches.now) }
 {
     let (name, options) = matches.subcommand()?;
-    named(name, options.get_str("target"), options.get_str("trace"))
+    named(
+        name,
+        options.get_str("target"),
+        options.get_str("trace"),
+        options.get_str("seed"),
+        options.get_str("calls"),
+    )
 }
 
-// What a command asks for, with its target and its flag.
-fn named(name: &str, target: Option<&str>, trace: Option<&str>) -> Option<Request>
-    ensures { result ≡ request_of name.now (option_map (λ t. t.now) target.entry) (option_map (λ t. t.now) trace.entry) }
+// What a command asks for, with its target, its flag and its numbers.
+fn named(
+    name: &str,
+    target: Option<&str>,
+    trace: Option<&str>,
+    seed: Option<&str>,
+    calls: Option<&str>,
+) -> Option<Request>
+    ensures { result ≡ request_of name.now (option_map (λ t. t.now) target.entry) (option_map (λ t. t.now) trace.entry) (option_map (λ t. t.now) seed.entry) (option_map (λ t. t.now) calls.entry) }
 {
     if name == "layout" {
         return Some(Request::Layout);
+    }
+    if name == "bench" {
+        return bench_of(seed, calls);
     }
     let target = target_of(target?)?;
     if name == "place" {
@@ -75,6 +96,32 @@ fn named(name: &str, target: Option<&str>, trace: Option<&str>) -> Option<Reques
             target,
             trace: is_set(trace),
         });
+    }
+    None
+}
+
+// What `bench` asks for with these numbers.
+fn bench_of(seed: Option<&str>, calls: Option<&str>) -> Option<Request>
+    ensures { result ≡ bench_of (option_map (λ t. t.now) seed.entry) (option_map (λ t. t.now) calls.entry) }
+{
+    let seed = number_of(seed?)?;
+    let calls = number_of(calls?)?;
+    if 1 <= calls && calls <= 1000 {
+        return Some(Request::Bench { seed, calls });
+    }
+    None
+}
+
+// The number of 32 bits that the digits write, with no sign and no leading zero.
+fn number_of(word: &str) -> Option<u32>
+    ensures { result ≡ number_of word.now }
+{
+    let Ok(number) = word.parse::<u32>() else {
+        return None;
+    };
+    let mut buffer = Buffer::new();
+    if buffer.format(number) == word {
+        return Some(number);
     }
     None
 }
@@ -113,6 +160,14 @@ fn refusal(alloc: Global, error: &Error) -> WordsFault
         return WordsFault::NoMemory;
     }
     match format!(in alloc; "{error}") {
+        Ok(text) => WordsFault::Refused(text),
+        Err(_) => WordsFault::NoMemory,
+    }
+}
+
+// The fault of words whose numbers are none, or out of their ranges.
+fn no_numbers(alloc: Global) -> WordsFault {
+    match String::from_str(alloc, help::NO_NUMBERS) {
         Ok(text) => WordsFault::Refused(text),
         Err(_) => WordsFault::NoMemory,
     }

@@ -1,4 +1,4 @@
-use Rattle.ffi3_app.proofs.Saying.{completes, one_request, two_asks_nothing, refuses_all, read_count, write_count, tell_count}
+use Rattle.ffi3_app.proofs.Saying.{benches, completes, one_request, two_asks_nothing, refuses_all, read_count, write_count, tell_count}
 use Rattle.ffi3_app.proofs.top.ffi3.Goals as goal
 
 pub returns-clause-complete : goal.returns-clause-complete
@@ -8,6 +8,10 @@ returns-clause-complete g c =
 pub returns-clause-refuses : goal.returns-clause-refuses
 returns-clause-refuses g c =
     refuses_all _ _ _ _ _ _ _ _ _ _ c.answer.result c.answer.ensures.says
+
+pub returns-clause-benches : goal.returns-clause-benches
+returns-clause-benches g c =
+    benches _ _ _ _ _ _ _ _ _ _ c.answer.result c.answer.ensures.says
 
 pub returns-clause-refused_ask_nothing : goal.returns-clause-refused_ask_nothing
 returns-clause-refused_ask_nothing g c =

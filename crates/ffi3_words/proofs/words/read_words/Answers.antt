@@ -1,6 +1,7 @@
 use Rattle.std.proofs.Common.{◌≡◌, ◌∙◌, List, [], map, string_bytes, sym, ap, subst}
 use Rattle.clap.specs.Words.{HasKind, Text, app_of, fault_of, subcommand_of, subcommand_rows_of}
-use Rattle.ffi3_words.proofs.Answering.{asks_something, free, one_as, refused_as, simple, stated_as, stated_fails, taken_as, taken_fails}
+use Rattle.ffi3_words.proofs.Answering.{free, none_stated, none_taken, one_as, refused_for_numbers, refused_as, simple, stated_as, stated_fails, taken_as, taken_fails}
+use Rattle.ffi3_words.proofs.Ranges.{in_range}
 use Rattle.ffi3_words.proofs.words.read_words.Goals as goal
 
 pub returns-in-Some-clause-takes : goal.returns-in-Some-clause-takes
@@ -13,6 +14,10 @@ returns-in-Some-clause-takes c =
     let fine : fault_of a words ≡ [] = ap (fault_of a) (sym same) ∙ parsed.kinds (free a c.in-Ok.ensures) in
     let met : subcommand_rows_of m ≡ subcommand_of a words = (parsed.matches (simple a c.in-Ok.ensures)).1 ∙ ap (subcommand_of a) same in
     taken_as a c.in-Ok.ensures words m fine met c.in-Some.request (sym c.request_of.ensures ∙ c.in-Some.is)
+
+pub returns-in-Some-clause-in_range : goal.returns-in-Some-clause-in_range
+returns-in-Some-clause-in_range c =
+    in_range (subcommand_rows_of c.in-Ok-try_get_matches_from.matches) c.in-Some.request (sym c.request_of.ensures ∙ c.in-Some.is)
 
 pub returns-in-Some-clause-stated : goal.returns-in-Some-clause-stated
 returns-in-Some-clause-stated c r stated =
@@ -36,8 +41,8 @@ returns-in-Some-clause-one c r takes =
     let met : subcommand_rows_of m ≡ subcommand_of a words = (parsed.matches (simple a c.in-Ok.ensures)).1 ∙ ap (subcommand_of a) same in
     (one_as a c.in-Ok.ensures words m fine met c.in-Some.request r (sym c.request_of.ensures ∙ c.in-Some.is) takes, tt)
 
-pub unreachable-requires : goal.unreachable-requires
-unreachable-requires c =
+pub returns-in-Ok-try_get_matches_from-clause-refused : goal.returns-in-Ok-try_get_matches_from-clause-refused
+returns-in-Ok-try_get_matches_from-clause-refused c =
     let a = app_of c.in-Ok.command in
     let m = c.in-Ok-try_get_matches_from.matches in
     let words : List Text = map string_bytes c.args.words.items in
@@ -45,7 +50,29 @@ unreachable-requires c =
     let parsed = c.in-Ok-try_get_matches_from.ensures in
     let fine : fault_of a words ≡ [] = ap (fault_of a) (sym same) ∙ parsed.kinds (free a c.in-Ok.ensures) in
     let met : subcommand_rows_of m ≡ subcommand_of a words = (parsed.matches (simple a c.in-Ok.ensures)).1 ∙ ap (subcommand_of a) same in
-    asks_something a c.in-Ok.ensures words m fine met (sym c.request_of.ensures ∙ c.in-None.is)
+    refused_for_numbers a c.in-Ok.ensures words m fine met c.no_numbers.result (sym c.request_of.ensures ∙ c.in-None.is)
+
+pub returns-in-Ok-try_get_matches_from-clause-one : goal.returns-in-Ok-try_get_matches_from-clause-one
+returns-in-Ok-try_get_matches_from-clause-one c r takes =
+    let a = app_of c.in-Ok.command in
+    let m = c.in-Ok-try_get_matches_from.matches in
+    let words : List Text = map string_bytes c.args.words.items in
+    let same : map string_bytes c.as_slice.result.now ≡ words = ap (map string_bytes) c.as_slice.ensures.value in
+    let parsed = c.in-Ok-try_get_matches_from.ensures in
+    let fine : fault_of a words ≡ [] = ap (fault_of a) (sym same) ∙ parsed.kinds (free a c.in-Ok.ensures) in
+    let met : subcommand_rows_of m ≡ subcommand_of a words = (parsed.matches (simple a c.in-Ok.ensures)).1 ∙ ap (subcommand_of a) same in
+    absurd (none_taken a c.in-Ok.ensures words m fine met r (sym c.request_of.ensures ∙ c.in-None.is) takes)
+
+pub returns-in-Ok-try_get_matches_from-clause-stated : goal.returns-in-Ok-try_get_matches_from-clause-stated
+returns-in-Ok-try_get_matches_from-clause-stated c r stated =
+    let a = app_of c.in-Ok.command in
+    let m = c.in-Ok-try_get_matches_from.matches in
+    let words : List Text = map string_bytes c.args.words.items in
+    let same : map string_bytes c.as_slice.result.now ≡ words = ap (map string_bytes) c.as_slice.ensures.value in
+    let parsed = c.in-Ok-try_get_matches_from.ensures in
+    let fine : fault_of a words ≡ [] = ap (fault_of a) (sym same) ∙ parsed.kinds (free a c.in-Ok.ensures) in
+    let met : subcommand_rows_of m ≡ subcommand_of a words = (parsed.matches (simple a c.in-Ok.ensures)).1 ∙ ap (subcommand_of a) same in
+    absurd (none_stated a c.in-Ok.ensures words m fine met r (sym c.request_of.ensures ∙ c.in-None.is) stated)
 
 pub returns-clause-refused : goal.returns-clause-refused
 returns-clause-refused c =
