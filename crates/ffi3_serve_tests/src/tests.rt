@@ -1,21 +1,13 @@
 //! Calls of closures that scripts made, with values that stand in no script, so that these come by the machine alone.
-ghost use Rattle.std.specs.Prelude.{◌<◌, ◌≤◌, ◌^◌, List, length, map};
-ghost use Rattle.ffi3_script.specs.ScriptOf.{natives_of};
-ghost use Rattle.ffi3_ask.specs.Handed.{handed_in, signatures_in};
-
-use crate::{serve_shown, show_at};
+use crate::call_after_main;
 use ffi3_aapcs64::Aapcs64;
 use ffi3_amd64::Amd64;
 use ffi3_body::Native;
-use ffi3_io::MemSink;
-use ffi3_machine::Machine;
 use ffi3_natives::{Apply, Sum3, Twice};
 use ffi3_place::Abi;
 use ffi3_riscv::Riscv;
-use ffi3_runner::{RunEnd, Runner};
 use ffi3_runner_tests::read_beside;
-use ffi3_script::Script;
-use ffi3_types::{Bytes, FfiType, NoMemory};
+use ffi3_types::FfiType;
 use ffi3_values::{Value, integer};
 use std::alloc::Global;
 use std::process::Abort;
@@ -28,54 +20,6 @@ const INCREMENT: &str =
 /// `twice` of a function that calls `apply` on another function.
 const TWICE: &str =
     r#"{"version":1,"signatures":[{"ret":"sint64","args":["sint64"]},{"ret":"sint64","args":["pointer","sint64"]}],"functions":[{"name":"h","sig":0,"body":[{"return":{"add":[{"arg":0},5]}}]},{"name":"g","sig":0,"body":[{"call":65600,"sig":1,"args":[65536,{"arg":0}],"as":"r"},{"return":{"res":"r"}}]}],"main":[{"make":"h"},{"make":"apply"},{"make":"g"},{"make":"twice"},{"call":65728,"sig":1,"args":[65664,10],"as":"r"},{"print":{"res":"r"}},{"return":null}]}"#;
-
-/// What a call that was served came to.
-#[derive(Drop)]
-struct Came {
-    text: Bytes,
-    moves_left: u32,
-}
-
-/// Runs the script beside the natives, and serves a call with the value of the closure at `ptr`, with 5A over all that its callee
-/// must not look at.
-fn call_after_main<A: Abi>(
-    alloc: Global,
-    natives: &Vec<Box<dyn Native>>,
-    script: &Script,
-    value: Value,
-    ptr: u64,
-) -> Result<Option<Came>, NoMemory>
-    requires beside { natives_of script.now ≤ length natives.now.items }
-    requires few_natives { length natives.now.items < 2 ^ 31 }
-    requires few_signatures { length (signatures_in (map (λ b. handed_in (title b) (meaning b) (signatures b)) natives.now.items)) < 2 ^ 31 }
-{
-    let mut machine = Machine::new(alloc)?;
-    machine.begin(A::TARGET);
-    let mut output = MemSink::new(alloc, 1_024, Vec::new(alloc))?;
-    let mut runner = Runner::<A>::new(alloc, script, natives)?;
-    if runner.run_main(&mut machine, &mut output, false) != RunEnd::Done {
-        return Ok(None);
-    }
-    let Some(sig) = show_at(
-        alloc,
-        &mut machine,
-        runner.table(),
-        runner.cifs(),
-        value,
-        ptr,
-        0x5A,
-    )?
-    else {
-        return Ok(None);
-    };
-    let Some(text) = serve_shown(alloc, &mut runner, &mut machine, &mut output, sig)? else {
-        return Ok(None);
-    };
-    Ok(Some(Came {
-        text,
-        moves_left: runner.moves_left(),
-    }))
-}
 
 /// After main, a call of the closure at `ptr` with a value gives this text, with so many moves left.
 fn check<A: Abi>(
@@ -94,7 +38,7 @@ fn check<A: Abi>(
     let Some(script) = read_beside(alloc, &natives, script)? else {
         return Err("no script".into());
     };
-    let Some(came) = call_after_main::<A>(alloc, &natives, &script, value, ptr)? else {
+    let Some(came) = call_after_main::<A>(alloc, &natives, &script, value, ptr, 0x5A)? else {
         return Err("not served".into());
     };
     assert_eq!(rt; came.text.as_slice(), text.as_bytes());
