@@ -1,9 +1,7 @@
 -- The stack after a call that was served.
-use Rattle.std.proofs.Common.{◌≡◌, ℕ, ◌+◌, ◌≤◌, ◌⊎◌, inl, inr, Bool, true, false, List, ap, sym, ◌∙◌, subst, arith}
-use Rattle.ffi3_type_rules.specs.declared.limits.TheConstants.{STACK, STACK_TOP}
-use Rattle.ffi3_type_rules.specs.Signature.{signature_at}
+use Rattle.std.proofs.Common.{◌≡◌, ◌+◌, ◌⊎◌, inl, inr, Bool, List, subst}
 use Rattle.ffi3_type_rules.specs.Value.{ValueTree}
-use Rattle.ffi3_place_rules.specs.Standard.{Standard, frame_of}
+use Rattle.ffi3_place_rules.specs.Standard.{Standard}
 use Rattle.ffi3_run_rules.specs.declared.Closure.{Closure}
 use Rattle.ffi3_run_rules.specs.Meaning.{Program}
 use Rattle.ffi3_machine.specs.State.{State}
@@ -12,8 +10,6 @@ use Rattle.ffi3_io.specs.declared.IoError.{IoError}
 use Rattle.ffi3_io.specs.declared.IoError.TheVariants as cut
 use Rattle.ffi3_ask.specs.declared.standing.Standing.{Standing}
 use Rattle.ffi3_board.specs.declared.board.Board.{Board}
-use Rattle.ffi3_board.specs.Served.{ShowsCall, served_base, served_beginning, served_left, served_tracing}
-use Rattle.ffi3_runner.specs.Ran.{Ran}
 use Rattle.ffi3_runner.specs.Serving.{HasNotRun, HasRun, IsAtEntry, Served, end_of}
 use Rattle.ffi3_runner.specs.declared.run.RunEnd.{RunEnd}
 use Rattle.ffi3_runner.specs.declared.run.RunEnd.TheVariants as run

@@ -1,5 +1,5 @@
 -- A call that is shown stands at its closure's entry, and its return leaves room for the result.
-use Rattle.std.proofs.Common.{◌≡◌, ℕ, ◌+◌, ◌≤◌, Bool, false, List, Option, Some, ap, sym, ◌∙◌, subst, arith}
+use Rattle.std.proofs.Common.{◌≡◌, ℕ, ◌+◌, ◌≤◌, false, List, Option, Some, sym, subst, arith}
 use Rattle.std.specs.Prelude.{IfSome}
 use Rattle.ffi3_type_rules.specs.declared.limits.TheConstants.{STACK, STACK_TOP}
 use Rattle.ffi3_type_rules.specs.Signature.{Signature, signature_at}
