@@ -29,13 +29,16 @@ def narrow_on_the_stack(signature, plan, direction, reason):
         for kind, stand in zip(signature.arguments, plan.arguments) for piece in stand.pieces)
 
 
-def last_register_and_a_vector(signature, plan, direction, reason):
+def is_overwritten(plan):
     """An earlier argument's bytes are in xmm0, and a later struct has r9 and then a vector register."""
     first = [i for i, stand in enumerate(plan.arguments) for piece in stand.pieces if str(piece.place) == "f0"]
     last = [i for i, stand in enumerate(plan.arguments)
             if [str(piece.place) for piece in stand.pieces][:1] == ["g9"] and len(stand.pieces) == 2]
-    return direction == "enter" and re.fullmatch(r"other bytes at f0\+\d+", reason) is not None \
-        and any(a < b for a in first for b in last)
+    return any(a < b for a in first for b in last)
+
+
+def last_register_and_a_vector(signature, plan, direction, reason):
+    return direction == "enter" and re.fullmatch(r"other bytes at f0\+\d+", reason) is not None and is_overwritten(plan)
 
 
 DIFFERENCES = [

@@ -1,11 +1,10 @@
 //! The program `ffi3`: the top call over the standard streams.
 #![tactic(auto)]
 
-ghost use Rattle.std.specs.Prelude.{◌≡◌, [], OnOk};
-
 use ffi3_app::{Machine, ffi3};
 use ffi3_body::Native;
 use ffi3_io::{ReadSource, WriteSink};
+use ffi3_natives::{Apply, NoMemory, Sum3, Twice};
 use std::env;
 use std::io::{Error, ErrorKind};
 use std::process::ExitCode;
@@ -23,6 +22,28 @@ fn status_without_words(fault: &Error) -> u8 {
     }
 }
 
+/// The top call on a new machine, with `apply`, `twice` and `sum3` handed in.
+fn call(rt: &HostRuntime, words: Vec<String>) -> Result<u8, NoMemory> {
+    let alloc = rt.alloc();
+    let mut machine = Machine::new(alloc)?;
+    let mut natives: Vec<Box<dyn Native>> = Vec::new(alloc);
+    natives.push(Box::new(alloc, Apply::new(alloc)?)?)?;
+    natives.push(Box::new(alloc, Twice::new(alloc)?)?)?;
+    natives.push(Box::new(alloc, Sum3::new(alloc)?)?)?;
+    let mut input = ReadSource::new(rt.stdin());
+    let mut output = WriteSink::new(rt.stdout());
+    let mut faults = WriteSink::new(rt.stderr());
+    Ok(ffi3(
+        alloc,
+        words,
+        &mut input,
+        &mut output,
+        &mut faults,
+        &natives,
+        &mut machine,
+    ))
+}
+
 fn main(rt: HostRuntime) -> ExitCode {
     let alloc = rt.alloc();
     let args = match env::args(&rt) {
@@ -35,20 +56,8 @@ fn main(rt: HostRuntime) -> ExitCode {
             return ExitCode::from(NO_MEMORY);
         }
     }
-    let Ok(mut machine) = Machine::new(alloc) else {
-        return ExitCode::from(NO_MEMORY);
-    };
-    let natives: Vec<Box<dyn Native>> = Vec::new(alloc);
-    let mut input = ReadSource::new(rt.stdin());
-    let mut output = WriteSink::new(rt.stdout());
-    let mut faults = WriteSink::new(rt.stderr());
-    ExitCode::from(ffi3(
-        alloc,
-        words,
-        &mut input,
-        &mut output,
-        &mut faults,
-        &natives,
-        &mut machine,
-    ))
+    match call(&rt, words) {
+        Ok(status) => ExitCode::from(status),
+        Err(_) => ExitCode::from(NO_MEMORY),
+    }
 }

@@ -498,6 +498,27 @@ const LINK_REGISTER: Loc = Loc::G(30);
 /// The Arm AAPCS64 calling standard. (IHI 0055)
 pub struct Aapcs64;
 
+/// The argument registers: x0 to x7, x8 for the result's address, and v0 to v7.
+const PASSING_REGISTERS: [Loc; 17] = [
+    Loc::G(0),
+    Loc::G(1),
+    Loc::G(2),
+    Loc::G(3),
+    Loc::G(4),
+    Loc::G(5),
+    Loc::G(6),
+    Loc::G(7),
+    Loc::G(8),
+    Loc::F(0),
+    Loc::F(1),
+    Loc::F(2),
+    Loc::F(3),
+    Loc::F(4),
+    Loc::F(5),
+    Loc::F(6),
+    Loc::F(7),
+];
+
 impl Abi for Aapcs64 {
     ghost use Rattle.ffi3_aapcs64_rules.specs.Aapcs64.{aapcs64};
 
@@ -511,6 +532,8 @@ impl Abi for Aapcs64 {
 
     ghost KEPT = { length aapcs64.preserved };
 
+    ghost PASSING = { length aapcs64.argument_registers };
+
     const SAVE: u64 = 176;
 
     const LINK: u64 = 0;
@@ -519,8 +542,14 @@ impl Abi for Aapcs64 {
 
     const KEPT: u8 = 19;
 
+    const PASSING: u8 = 17;
+
     fn kept_register(k: u8) -> Loc {
         CALLEE_SAVED[k as usize]
+    }
+
+    fn passing_register(k: u8) -> Loc {
+        PASSING_REGISTERS[k as usize]
     }
 
     fn saved_word(k: u8) -> SaveWord {
@@ -563,6 +592,8 @@ impl Abi for Aapcs64 {
     ghost target_is = { refl };
 
     ghost kept_all = { refl };
+
+    ghost passing_all = { refl };
 
     ghost words_few = { ltb-true (length aapcs64.save_area) 256 refl };
 

@@ -9,7 +9,7 @@ use Rattle.ffi3_place_rules.specs.declared.Loc.TheVariants.{G, F, S}
 use Rattle.ffi3_place_rules.specs.declared.SaveWord.{SaveWord}
 use Rattle.ffi3_place_rules.specs.declared.SaveWord.TheVariants.{Register, Hidden, Spare}
 use Rattle.ffi3_place_rules.specs.Isa.{general_registers, floating_registers, TakesWrites}
-use Rattle.ffi3_place_rules.specs.Sound.{IsNoneOf, LiesIn}
+use Rattle.ffi3_place_rules.specs.Sound.{IsNoneOf, LiesIn, closed_to_arguments}
 use Rattle.ffi3_place_rules.specs.Agrees.{AgreesWithMachine, saved_registers, given_back, special}
 use Rattle.ffi3_place_rules.proofs.Forbidden.{each_by, each_none_of, each_one_of, apart_all}
 use Rattle.ffi3_aapcs64_rules.specs.Aapcs64.{aapcs64, saved_general, saved_vector}
@@ -43,6 +43,9 @@ agrees = record {
   preserved_exist = each_by (is_register (isa_of aapcs64.target)) (LiesIn (isa_of aapcs64.target) 0) (register_exists (isa_of aapcs64.target)) aapcs64.preserved refl;
   preserved_apart = apart_all aapcs64.preserved refl;
   preserved_plain = each_none_of (special aapcs64) aapcs64.preserved refl;
+  arguments_exist = each_by (is_register (isa_of aapcs64.target)) (LiesIn (isa_of aapcs64.target) 0) (register_exists (isa_of aapcs64.target)) aapcs64.argument_registers refl;
+  arguments_apart = apart_all aapcs64.argument_registers refl;
+  arguments_plain = each_none_of (closed_to_arguments aapcs64) aapcs64.argument_registers refl;
   count_exists = tt;
   count_plain = tt;
   returned_exists = tt;

@@ -12,8 +12,8 @@ use Rattle.ffi3_place_rules.specs.declared.Ext.{Ext}
 use Rattle.ffi3_place_rules.specs.declared.Taken.{Taken}
 use Rattle.ffi3_place_rules.specs.Standard.{Spot, in_pieces, by_reference, ResultSpot, no_result as not_passed, in_result_pieces, in_buffer, place_at, places_from, copy_end, result_at, copies_start, frame_copies_end, frame_of, plan_of, round8}
 use Rattle.ffi3_place_rules.specs.Doublewords.{doublewords, doublewords_at, widening, stack_pieces}
-use Rattle.ffi3_place_rules.specs.Sound.{Apart, AreApart, piece_locs, place_locs, hidden_locs, result_locs, argument_locs, IsNoneOf, LiesIn, copy_locs, buffer_locs, call_locs, closed_to_arguments, closed_to_results, ResultHasAll, ResultIsFilled, IsSound, IsDetermined}
-use Rattle.ffi3_place_rules.proofs.Chain.{AtMost, at_most_self, Chain, chain_append, chain_apart, chain_allowed, chain_lies_in}
+use Rattle.ffi3_place_rules.specs.Sound.{Apart, AreApart, IsOnStackOrIn, piece_locs, place_locs, hidden_locs, result_locs, argument_locs, IsNoneOf, LiesIn, copy_locs, buffer_locs, call_locs, closed_to_arguments, closed_to_results, ResultHasAll, ResultIsFilled, IsSound, IsDetermined}
+use Rattle.ffi3_place_rules.proofs.Chain.{AtMost, at_most_self, Chain, chain_append, chain_apart, chain_allowed, chain_passed, chain_lies_in}
 use Rattle.ffi3_place_rules.proofs.Frame.{up_to, value_chain, frame_chain}
 use Rattle.ffi3_place_rules.proofs.Aligned.{frame_is_aligned, need_is_aligned}
 use Rattle.ffi3_place_rules.proofs.Tests.{each_weaker}
@@ -21,7 +21,7 @@ use Rattle.ffi3_place_rules.proofs.Determines.{determined}
 use Rattle.ffi3_aapcs64_rules.specs.Aapcs64.{aapcs64, in_vectors, is_copied, member_pieces, general_pieces, register_pieces, register_spot, stack_spot, in_registers, taken_with, taken_after, untouched, spot_after, spots_after, result_from, result_spot_of, placing_of}
 use Rattle.ffi3_aapcs64_rules.proofs.Covered.{registers_have_all, arguments_have_all, registers_filled, arguments_filled, copied_not_vectors, few_members, few_doublewords, NeedBy, fits_by, first_fits, pointer_rounded}
 use Rattle.ffi3_aapcs64_rules.proofs.Rising.{arguments_rise}
-use Rattle.ffi3_aapcs64_rules.proofs.Registers.{numbered, all_registers, argument_allowed, vector_allowed, stack_allowed, hidden_allowed, argument_not_hidden, result_allowed_general, result_allowed_vector, result_allowed_stack}
+use Rattle.ffi3_aapcs64_rules.proofs.Registers.{numbered, all_registers, argument_allowed, vector_allowed, stack_allowed, hidden_allowed, argument_passes, vector_passes, hidden_passes, argument_not_hidden, result_allowed_general, result_allowed_vector, result_allowed_stack}
 
 abbrev PlacesChain : Taken → List Loc → Taken → Type 0
 PlacesChain = Chain numbered numbered 8 8
@@ -182,6 +182,11 @@ plan_allowed s =
     let others = chain_allowed numbered numbered 8 8 (closed_to_arguments aapcs64) argument_allowed vector_allowed stack_allowed untouched _ _ (pieces_chain s) in
     hidden_cases (λ hs. AllByRecursion (IsNoneOf (closed_to_arguments aapcs64)) (hs ++ pieces_and_references s)) others (hidden_allowed, others) s
 
+plan_passed : (s : Signature) → AllByRecursion (IsOnStackOrIn aapcs64.argument_registers) (argument_locs (plan_of aapcs64 s))
+plan_passed s =
+    let others = chain_passed numbered numbered 8 8 aapcs64.argument_registers argument_passes vector_passes untouched _ _ (pieces_chain s) in
+    hidden_cases (λ hs. AllByRecursion (IsOnStackOrIn aapcs64.argument_registers) (hs ++ pieces_and_references s)) others (hidden_passes, others) s
+
 -- ---- the result
 
 abbrev all_taken : Taken
@@ -217,6 +222,7 @@ sound s = record {
   in_frame = plan_in_frame s;
   on_stack = plan_on_stack s;
   allowed = plan_allowed s;
+  passed = plan_passed s;
   has_all = arguments_have_all aapcs64.copy_start (copies_start (placing_of s)) untouched s.arguments;
   filled = arguments_filled aapcs64.copy_start (copies_start (placing_of s)) untouched s.arguments;
   rising = arguments_rise aapcs64.copy_start (copies_start (placing_of s)) untouched s.arguments;

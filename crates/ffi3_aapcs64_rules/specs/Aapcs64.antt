@@ -196,6 +196,11 @@ placing_of s = record {
 abbrev machine : Isa
 machine = isa_of target.Aapcs64
 
+-- x0 to x7, x8 for the result's address, and v0 to v7
+abbrev pub passing : List Loc
+passing =
+    G 0 ∷ G 1 ∷ G 2 ∷ G 3 ∷ G 4 ∷ G 5 ∷ G 6 ∷ G 7 ∷ G 8 ∷ F 0 ∷ F 1 ∷ F 2 ∷ F 3 ∷ F 4 ∷ F 5 ∷ F 6 ∷ F 7 ∷ []
+
 -- callee-saved: x19 to x29
 abbrev pub saved_general : List Loc
 saved_general =
@@ -220,6 +225,7 @@ aapcs64 = record {
   preserved = saved_general ++ saved_vector;
   reserved = reserved_places machine;
   link_register = link_place machine;
+  argument_registers = passing;
   save_area = saved_words;
   closure_register = closure_register machine;
   trampoline_registers = trampoline_registers machine;

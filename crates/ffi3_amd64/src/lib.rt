@@ -253,6 +253,24 @@ pub fn placement_laws(_sig: &Sig)
 /// The System V AMD64 calling standard. (psABI AMD64 3.2)
 pub struct Amd64;
 
+/// rdi, rsi, rdx, rcx, r8 and r9, and xmm0 to xmm7
+const PASSING_REGISTERS: [Loc; 14] = [
+    Loc::G(7),
+    Loc::G(6),
+    Loc::G(2),
+    Loc::G(1),
+    Loc::G(8),
+    Loc::G(9),
+    Loc::F(0),
+    Loc::F(1),
+    Loc::F(2),
+    Loc::F(3),
+    Loc::F(4),
+    Loc::F(5),
+    Loc::F(6),
+    Loc::F(7),
+];
+
 impl Abi for Amd64 {
     ghost use Rattle.ffi3_type_rules.specs.declared.Target.TheVariants as target;
     ghost use Rattle.ffi3_amd64_rules.specs.Amd64.{amd64};
@@ -267,6 +285,8 @@ impl Abi for Amd64 {
 
     ghost KEPT = { 6 };
 
+    ghost PASSING = { length amd64.argument_registers };
+
     const SAVE: u64 = 56;
 
     const LINK: u64 = 8;
@@ -275,8 +295,14 @@ impl Abi for Amd64 {
 
     const KEPT: u8 = 6;
 
+    const PASSING: u8 = 14;
+
     fn kept_register(k: u8) -> Loc {
         Loc::G(PRESERVED_REGISTERS[k as usize])
+    }
+
+    fn passing_register(k: u8) -> Loc {
+        PASSING_REGISTERS[k as usize]
     }
 
     fn saved_word(k: u8) -> SaveWord {
@@ -319,6 +345,8 @@ impl Abi for Amd64 {
     ghost target_is = { refl };
 
     ghost kept_all = { refl };
+
+    ghost passing_all = { refl };
 
     ghost words_few = { ltb-true (length amd64.save_area) 256 refl };
 

@@ -3,9 +3,10 @@ use Rattle.std.proofs.Common.{◌≡◌, ℕ, zero, suc, ◌<◌, true, [], ◌�
 use Rattle.ffi3_type_rules.specs.declared.Isa.TheVariants.{Amd64}
 use Rattle.ffi3_place_rules.specs.declared.Loc.TheVariants.{G, F, S}
 use Rattle.ffi3_place_rules.specs.Isa.{general_registers}
-use Rattle.ffi3_place_rules.specs.Sound.{IsNoneOf, closed_to_arguments, closed_to_results}
+use Rattle.ffi3_place_rules.specs.Sound.{IsNoneOf, IsOneOf, closed_to_arguments, closed_to_results}
 use Rattle.ffi3_place_rules.proofs.Chain.{Registers}
-use Rattle.ffi3_place_rules.proofs.Forbidden.{is_none_of, none_of}
+use Rattle.ffi3_place_rules.proofs.Forbidden.{is_none_of, none_of, is_one_of, one_of}
+use Rattle.ffi3_place_rules.proofs.Tests.{each_of_eight}
 use Rattle.ffi3_amd64_rules.specs.Amd64.{amd64, argument_register, result_register, vector_register}
 
 -- what holds at the first numbers
@@ -54,6 +55,14 @@ vector_allowed k h = none_of (closed_to_arguments amd64) (F (vector_register k))
 
 pub stack_allowed : (n : ℕ) → IsNoneOf (closed_to_arguments amd64) (S n)
 stack_allowed n = none_of (closed_to_arguments amd64) (S n) refl
+
+pub argument_passes : (k : ℕ) → k < 6 → IsOneOf amd64.argument_registers (G (argument_register k))
+argument_passes k h =
+    one_of amd64.argument_registers (G (argument_register k)) (each_of_six (λ j. is_one_of amd64.argument_registers (G (argument_register j)) ≡ true) refl refl refl refl refl refl k h)
+
+pub vector_passes : (k : ℕ) → k < 8 → IsOneOf amd64.argument_registers (F (vector_register k))
+vector_passes k h =
+    one_of amd64.argument_registers (F k) (each_of_eight (λ j. is_one_of amd64.argument_registers (F j) ≡ true) refl refl refl refl refl refl refl refl k h)
 
 -- ---- results
 

@@ -10,8 +10,8 @@ use Rattle.ffi3_place_rules.specs.declared.Loc.TheVariants.{G}
 use Rattle.ffi3_place_rules.specs.declared.Taken.{Taken}
 use Rattle.ffi3_place_rules.specs.Standard.{in_result_pieces, in_buffer, plan_of, places_from, result_at, copies_start, frame_copies_end, frame_of, at_once}
 use Rattle.ffi3_place_rules.specs.Doublewords.{stack_pieces}
-use Rattle.ffi3_place_rules.specs.Sound.{AreApart, piece_locs, place_locs, hidden_locs, result_locs, argument_locs, IsNoneOf, LiesIn, call_locs, closed_to_arguments, closed_to_results, ResultHasAll, IsSound, IsDetermined}
-use Rattle.ffi3_place_rules.proofs.Chain.{AtMost, at_most_self, Chain, chain_append, chain_less, chain_apart, chain_allowed, chain_lies_in}
+use Rattle.ffi3_place_rules.specs.Sound.{AreApart, IsOnStackOrIn, piece_locs, place_locs, hidden_locs, result_locs, argument_locs, IsNoneOf, LiesIn, call_locs, closed_to_arguments, closed_to_results, ResultHasAll, IsSound, IsDetermined}
+use Rattle.ffi3_place_rules.proofs.Chain.{AtMost, at_most_self, Chain, chain_append, chain_less, chain_apart, chain_allowed, chain_passed, chain_lies_in}
 use Rattle.ffi3_place_rules.proofs.Frame.{up_to, value_chain, frame_chain}
 use Rattle.ffi3_place_rules.proofs.Aligned.{frame_is_aligned, need_is_aligned}
 use Rattle.ffi3_place_rules.proofs.Determines.{determined}
@@ -21,7 +21,7 @@ use Rattle.ffi3_amd64_rules.specs.Amd64.{amd64, is_integer_class, is_sse_class, 
 use Rattle.ffi3_amd64_rules.proofs.Covered.{fits_registers, integers_few, sses_few, classes_when, registers_have_all, arguments_have_all}
 use Rattle.ffi3_amd64_rules.proofs.Filled.{arguments_filled, result_filled}
 use Rattle.ffi3_amd64_rules.proofs.Rising.{arguments_rise}
-use Rattle.ffi3_amd64_rules.proofs.Registers.{argument_registers, argument_exists, argument_allowed, vector_allowed, stack_allowed, result_registers, result_exists, result_allowed_general, result_allowed_vector, result_allowed_stack}
+use Rattle.ffi3_amd64_rules.proofs.Registers.{argument_registers, argument_exists, argument_allowed, vector_allowed, stack_allowed, argument_passes, vector_passes, result_registers, result_exists, result_allowed_general, result_allowed_vector, result_allowed_stack}
 
 abbrev at_eightbyte : Taken → List Class → Taken
 at_eightbyte a earlier =
@@ -120,6 +120,10 @@ plan_allowed : (s : Signature) → AllByRecursion (IsNoneOf (closed_to_arguments
 plan_allowed s =
     chain_allowed argument_register vector_register 6 8 (closed_to_arguments amd64) argument_allowed vector_allowed stack_allowed untouched _ _ (plan_chain s)
 
+plan_passed : (s : Signature) → AllByRecursion (IsOnStackOrIn amd64.argument_registers) (argument_locs (plan_of amd64 s))
+plan_passed s =
+    chain_passed argument_register vector_register 6 8 amd64.argument_registers argument_passes vector_passes untouched _ _ (plan_chain s)
+
 plan_lies_in : (s : Signature) → AllByRecursion (LiesIn Amd64 (placing_of s).stack_bytes) (argument_locs (plan_of amd64 s))
 plan_lies_in s =
     chain_lies_in argument_register vector_register 6 8 Amd64 argument_exists (λ k h. omega arith) untouched _ _ (placing_of s).stack_bytes (omega arith) (plan_chain s)
@@ -176,6 +180,7 @@ sound s =
       in_frame = plan_in_frame s;
       on_stack = plan_lies_in s;
       allowed = plan_allowed s;
+      passed = plan_passed s;
       has_all = arguments_have_all at_once (copies_start (placing_of s)) (taken_at_first s.result_type) s.arguments;
       result_apart = result_cases AreApart tt s.result_type (chain_apart result_register vector_register 2 2 result_registers (at_eightbyte untouched []) _ _ (result_chain s.result_type)) end;
       result_in_registers = result_cases (AllByRecursion (LiesIn Amd64 0)) tt s.result_type (chain_lies_in result_register vector_register 2 2 Amd64 result_exists (λ k h. omega arith) (at_eightbyte untouched []) _ _ 0 (omega arith) (result_chain s.result_type)) end;

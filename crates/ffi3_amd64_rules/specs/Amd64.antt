@@ -156,7 +156,12 @@ placing_of s = record {
 abbrev pub callee_saved : List Loc
 callee_saved = G 3 ∷ G 5 ∷ G 12 ∷ G 13 ∷ G 14 ∷ G 15 ∷ []
 
--- Each of them, and above them the hidden argument. (Where they stand is this library's rule.)
+-- rdi, rsi, rdx, rcx, r8 and r9, and xmm0 to xmm7 (Passing, steps 2 and 3)
+abbrev pub passing : List Loc
+passing =
+    G 7 ∷ G 6 ∷ G 2 ∷ G 1 ∷ G 8 ∷ G 9 ∷ F 0 ∷ F 1 ∷ F 2 ∷ F 3 ∷ F 4 ∷ F 5 ∷ F 6 ∷ F 7 ∷ []
+
+-- Each callee-saved register, and above them the hidden argument. (Where they stand is this library's rule.)
 abbrev pub saved_words : List SaveWord
 saved_words = map Register callee_saved ++ Hidden ∷ []
 
@@ -170,6 +175,7 @@ amd64 = record {
   preserved = callee_saved;
   reserved = reserved_places isa.Amd64;
   link_register = link_place isa.Amd64;
+  argument_registers = passing;
   save_area = saved_words;
   closure_register = closure_register isa.Amd64;
   trampoline_registers = trampoline_registers isa.Amd64;

@@ -9,12 +9,10 @@ use Rattle.ffi3_script_rules.specs.Reading.{Reading, too_long, not_json, bad_scr
 use Rattle.ffi3_script_rules.specs.Script.{Script}
 use Rattle.ffi3_json.specs.ReasonOf.{reason_of}
 use Rattle.ffi3_io.specs.Source.{SourceState}
-use Rattle.ffi3_app.specs.Top.{ReadAs, IsRead, IsReadInPart, IsAtEnd, limit_line}
-use Rattle.ffi3_app.specs.Refusals.{IsJudged, IsLimit, IsInputRefusal}
-use Rattle.ffi3_app.specs.declared.words.Request.{Request}
-use Rattle.ffi3_app.specs.declared.words.Request.TheVariants.{Layout, Place, Run}
+use Rattle.ffi3_app.specs.Top.{ReadAs, IsRead, IsReadInPart, IsAtEnd}
+use Rattle.ffi3_app.specs.Refusals.{IsJudged, IsInputRefusal}
 use Rattle.ffi3_app.specs.declared.load.Refusal.{Refusal}
-use Rattle.ffi3_app.specs.declared.load.Refusal.TheVariants.{ReadFault, NoMemory, TooLong, BadJson, BadScript, NotYet}
+use Rattle.ffi3_app.specs.declared.load.Refusal.TheVariants.{ReadFault, NoMemory, TooLong, BadJson, BadScript}
 
 -- what is short was all there was
 taken_whole : (n : ℕ) (all : List ℕ) → length (take (n + 1) all) ≤ n → length all ≤ n
@@ -61,28 +59,15 @@ module _ (names : List (List ℕ)) (input input' : SourceState) (bytes lent : Li
       let limit : 1048577 ≤ 1048577 = lit≤ tt in (1048577, limit, (λ all is. (gives all is).1))
 
   -- what was judged of the bytes refuses the input
-  pub judged_refused : (request : Request) (r : Refusal) → input'.faults ≡ input.faults → IsJudged names lent r → IsInputRefusal names request input input' r
-  judged_refused request ReadFault counted judged = absurd judged
-  judged_refused request NoMemory counted judged = (counted, read_in_part)
-  judged_refused request TooLong counted judged =
+  pub judged_refused : (r : Refusal) → input'.faults ≡ input.faults → IsJudged names lent r → IsInputRefusal names input input' r
+  judged_refused ReadFault counted judged = absurd judged
+  judged_refused NoMemory counted judged = (counted, read_in_part)
+  judged_refused TooLong counted judged =
       record { reading = too_long; tells = refl; read_as = read_as too_long judged; all_read = all_read; count = counted }
-  judged_refused request BadJson counted judged =
+  judged_refused BadJson counted judged =
       record { reading = not_json; tells = refl; read_as = read_as not_json judged; all_read = all_read; count = counted }
-  judged_refused request (BadScript path why) counted judged =
+  judged_refused (BadScript path why) counted judged =
       record { reading = bad_script path (reason_of why); tells = refl; read_as = read_as (bad_script path (reason_of why)) judged; all_read = all_read; count = counted }
-  judged_refused request (NotYet path) counted judged = absurd judged
-
--- a script of which a command does not do all refuses the input
-pub limit_refused : (names : List (List ℕ)) (request : Request) (input input' : SourceState) (s : Script) (r : Refusal) → ReadAs names input (script s) → IsRead input input' → IsReadInPart input input' → input'.faults ≡ input.faults → IsLimit request s r → IsInputRefusal names request input input' r
-limit_refused names Layout input input' s r read all part counted limit = absurd limit
-limit_refused names (Place t) input input' s r read all part counted limit = absurd limit
-limit_refused names (Run t) input input' s NoMemory read all part counted limit = (counted, part)
-limit_refused names (Run t) input input' s (NotYet path) read all part counted limit =
-    record { reading = script s; tells = ap limit_line limit; read_as = read; all_read = all; count = counted }
-limit_refused names (Run t) input input' s ReadFault read all part counted limit = absurd limit
-limit_refused names (Run t) input input' s TooLong read all part counted limit = absurd limit
-limit_refused names (Run t) input input' s BadJson read all part counted limit = absurd limit
-limit_refused names (Run t) input input' s (BadScript path why) read all part counted limit = absurd limit
 
 pub IfErr-weaker : {X Y : Type 0} (r : Result X Y) (P Q : Y → Type 0) → ((y : Y) → P y → Q y) → IfErr r P → IfErr r Q
 IfErr-weaker (Ok x) P Q weaker is = tt

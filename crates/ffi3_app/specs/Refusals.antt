@@ -4,14 +4,10 @@ use Rattle.ffi3_io.specs.Sink.{Rose}
 use Rattle.ffi3_run_rules.specs.Lines.{a_line}
 use Rattle.ffi3_script_rules.specs.ReasonText.{text_of_reason}
 use Rattle.ffi3_script_rules.specs.Reading.{Reading, too_long, not_json, bad_script, IsReading}
-use Rattle.ffi3_script_rules.specs.Script.{Script}
-use Rattle.ffi3_script_rules.specs.RunLimit.{first_not_run}
 use Rattle.ffi3_io.specs.Sink.{SinkState}
 use Rattle.ffi3_json.specs.ReasonOf.{reason_of}
-use Rattle.ffi3_app.specs.declared.words.Request.{Request}
-use Rattle.ffi3_app.specs.declared.words.Request.TheVariants.{Run}
 use Rattle.ffi3_app.specs.declared.load.Refusal.{Refusal}
-use Rattle.ffi3_app.specs.declared.load.Refusal.TheVariants.{ReadFault, NoMemory, TooLong, BadJson, BadScript, NotYet}
+use Rattle.ffi3_app.specs.declared.load.Refusal.TheVariants.{ReadFault, NoMemory, TooLong, BadJson, BadScript}
 use Rattle.ffi3_io.specs.Source.{SourceState}
 use Rattle.ffi3_app.specs.Top.{ReportsFault, ReadAs, IsRead, IsReadInPart, refusal_of, located_line, read_fault_line, no_memory_line}
 
@@ -21,7 +17,6 @@ refusal_line NoMemory = no_memory_line
 refusal_line TooLong = a_line (codes "ffi3: script too long")
 refusal_line BadJson = a_line (codes "ffi3: not JSON")
 refusal_line (BadScript path why) = located_line path (text_of_reason (reason_of why))
-refusal_line (NotYet path) = located_line path (codes "not yet")
 
 abbrev pub refusal_status : Refusal → ℕ
 refusal_status ReadFault = 3
@@ -35,46 +30,32 @@ IsJudged names bytes BadJson = IsReading names bytes not_json
 IsJudged names bytes (BadScript path why) =
     IsReading names bytes (bad_script path (reason_of why))
 IsJudged names bytes NoMemory = Unit {0}
-IsJudged names bytes _ = ⊥
-
--- a script asks for what a run does not do yet
-abbrev pub IsRunLimit : Script → Refusal → Type 0
-IsRunLimit s (NotYet path) = first_not_run s ≡ Some path
-IsRunLimit s NoMemory = Unit {0}
-IsRunLimit s _ = ⊥
-
--- for what the command does not do yet
-abbrev pub IsLimit : Request → Script → Refusal → Type 0
-IsLimit (Run t) s refusal = IsRunLimit s refusal
-IsLimit _ s refusal = ⊥
+IsJudged names bytes ReadFault = ⊥
 
 -- what the input is read as is refused with this line, and no read failed
-pub record IsRefusedWith (names : List (List ℕ)) (request : Request) (input input' : SourceState) (line : List ℕ) : Type 0 where
+pub record IsRefusedWith (names : List (List ℕ)) (input input' : SourceState) (line : List ℕ) : Type 0 where
   pub reading : Reading
-  pub tells : refusal_of request reading ≡ Some line
+  pub tells : refusal_of reading ≡ Some line
   pub read_as : ReadAs names input reading
   pub all_read : IsRead input input'
   pub count : input'.faults ≡ input.faults
 
 -- the input is refused
-abbrev pub IsInputRefusal : (names : List (List ℕ)) → Request → SourceState → SourceState → Refusal → Type 0
-IsInputRefusal names request input input' ReadFault =
+abbrev pub IsInputRefusal : (names : List (List ℕ)) → SourceState → SourceState → Refusal → Type 0
+IsInputRefusal names input input' ReadFault =
     Rose input.faults input'.faults × IsReadInPart input input'
-IsInputRefusal names request input input' NoMemory =
+IsInputRefusal names input input' NoMemory =
     (input'.faults ≡ input.faults) × IsReadInPart input input'
-IsInputRefusal names request input input' TooLong =
-    IsRefusedWith names request input input' (refusal_line TooLong)
-IsInputRefusal names request input input' BadJson =
-    IsRefusedWith names request input input' (refusal_line BadJson)
-IsInputRefusal names request input input' (BadScript path why) =
-    IsRefusedWith names request input input' (refusal_line (BadScript path why))
-IsInputRefusal names request input input' (NotYet path) =
-    IsRefusedWith names request input input' (refusal_line (NotYet path))
+IsInputRefusal names input input' TooLong =
+    IsRefusedWith names input input' (refusal_line TooLong)
+IsInputRefusal names input input' BadJson =
+    IsRefusedWith names input input' (refusal_line BadJson)
+IsInputRefusal names input input' (BadScript path why) =
+    IsRefusedWith names input input' (refusal_line (BadScript path why))
 
 -- the refusal has the place of a value
 abbrev pub HasPlace : Refusal → Type 0
 HasPlace (BadScript path why) = Unit {0}
-HasPlace (NotYet path) = Unit {0}
 HasPlace _ = ⊥
 
 -- a refusal was told, or want of memory for the line of its place

@@ -37,19 +37,8 @@ pub fn tell_refusal<E: Sink>(alloc: Global, refusal: &Refusal, faults: &mut E) -
         Refusal::NoMemory => tell(faults, "ffi3: out of memory\n", 5),
         Refusal::TooLong => tell(faults, "ffi3: script too long\n", 1),
         Refusal::BadJson => tell(faults, "ffi3: not JSON\n", 1),
-        Refusal::BadScript { path, why } => tell_place(
-            alloc,
-            path,
-            reason_text(alloc, why),
-            faults,
-        ),
-        Refusal::NotYet { path } => {
-            tell_place(
-                alloc,
-                path,
-                Bytes::from_slice(alloc, "not yet".as_bytes()),
-                faults,
-            )
+        Refusal::BadScript { path, why } => {
+            tell_place(alloc, path, reason_text(alloc, why), faults)
         }
     }
 }

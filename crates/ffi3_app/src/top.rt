@@ -1,34 +1,37 @@
 //! The top call.
-ghost use Rattle.std.specs.Prelude.{◌≡◌, ◌<◌, ◌⊎◌, [], List, ℕ, Some, None, map, string_bytes};
+ghost use Rattle.std.specs.Prelude.{◌≡◌, ◌<◌, ◌⊎◌, ◌^◌, List, ℕ, MatchOption, Some, length, map, string_bytes};
 ghost use Rattle.ffi3_io.specs.Sink.{Rose};
 ghost use Rattle.ffi3_script_rules.specs.Reading.{Reading, IsReading, script};
 ghost use Rattle.ffi3_script_rules.specs.Script.{Script as RulesScript};
 ghost use Rattle.ffi3_script_rules.specs.Natives.{NamedNative, names_of};
-ghost use Rattle.ffi3_app.specs.declared.words.Request.{Request};
-ghost use Rattle.ffi3_app.specs.Words.{IsStated, Takes};
-ghost use Rattle.ffi3_app.specs.Commands.{not_yet};
-ghost use Rattle.ffi3_app.specs.Top.{Says, handed_in, refusal_of, status_when_done};
+ghost use Rattle.ffi3_words.specs.declared.words.Request.{Request};
+ghost use Rattle.ffi3_words.specs.declared.words.Request.TheVariants.{Bench};
+ghost use Rattle.ffi3_words.specs.Words.{IsStated, Takes};
+ghost use Rattle.ffi3_ask.specs.Handed.{handed_in, signatures_in};
+ghost use Rattle.ffi3_app.specs.Top.{ReadsScript, Says, refusal_of, status_when_done};
 
+use crate::bench::answer_bench;
 use crate::load::load;
+use crate::names::names_of_natives;
 use crate::tell::{tell, tell_refusal};
-use crate::words::{WordsFault, read_words};
 use crate::work::work;
 use ffi3_body::Native;
 use ffi3_io::{IoError, Sink, Source};
 use ffi3_machine::Machine;
-use ffi3_script::Names;
+use ffi3_words::{Request, WordsFault, read_words};
 use std::alloc::Global;
 
 /// Does what the words ask for, and answers the status of the program.
 ///
-/// The words hold the program's name first. For `layout`, `place --target TARGET` and `run --target amd64` the input is read to its
-/// end, or until it is longer than a script may be, and the output takes the lines that the command writes of the script. The line
-/// of a fault goes to `faults`. The list of natives is empty for now; scripts are read beside their names, and run together with them.
+/// The words hold the program's name first. For `layout`, `place --target TARGET` and `run --target TARGET` the input is read to its
+/// end, or until it is longer than a script may be, and the output takes the lines that the command writes of the script. Scripts
+/// are read beside the names of the natives, and run together with them. `bench --seed N --calls M` reads nothing, and the output
+/// takes a line for each target. The line of a fault goes to `faults`.
 ///
 /// | status | when |
 /// |---|---|
 /// | 0 | the text is written; after a run the machine's journal is its call tree |
-/// | 1 | the input is no script, or one that the command does not do yet |
+/// | 1 | the input is no script |
 /// | 2 | the words are refused, or ask for help |
 /// | 3 | a read failed |
 /// | 4 | a write failed |
@@ -43,7 +46,8 @@ pub fn ffi3<I: Source, O: Sink, E: Sink>(
     natives: &Vec<Box<dyn Native>>,
     machine: &mut Machine,
 ) -> u8
-    requires { natives.now.items ≡ [] }
+    requires few_natives { length natives.now.items < 2 ^ 31 }
+    requires few_signatures { length (signatures_in (map (λ b. handed_in (title b) (meaning b) (signatures b)) natives.now.items)) < 2 ^ 31 }
 
     // What each status says, for scripts beside these natives: its cause, what was written, and what stayed as it was.
     ensures says { let handed : List NamedNative = map (λ b. handed_in (title b) (meaning b) (signatures b)) natives.now.items in
@@ -56,14 +60,17 @@ pub fn ffi3<I: Source, O: Sink, E: Sink>(
     // Where nothing fails, what stated words ask for is done with a script, and what is none is refused; want of memory alone is free.
     ensures complete { let handed : List NamedNative = map (λ b. handed_in (title b) (meaning b) (signatures b)) natives.now.items in
         (r : Request) → IsStated (map string_bytes words.items) r → (all : List ℕ) → (I.state input.old).left ≡ Some all →
-        (s : RulesScript) → IsReading (names_of handed) all (script s) → not_yet r s ≡ None →
+        (s : RulesScript) → IsReading (names_of handed) all (script s) →
         (Rose (I.state input.old).faults (I.state input.new).faults → ⊥) → (Rose (O.state output.old).faults (O.state output.new).faults → ⊥) →
         (Rose (E.state faults.old).faults (E.state faults.new).faults → ⊥) → (result ≡ status_when_done r handed s) ⊎ (result ≡ 5) }
     ensures refuses { let handed : List NamedNative = map (λ b. handed_in (title b) (meaning b) (signatures b)) natives.now.items in
-        (r : Request) → IsStated (map string_bytes words.items) r → (all : List ℕ) → (I.state input.old).left ≡ Some all →
-        (reading : Reading) → IsReading (names_of handed) all reading → (line : List ℕ) → refusal_of r reading ≡ Some line →
+        (r : Request) → ReadsScript r → IsStated (map string_bytes words.items) r → (all : List ℕ) → (I.state input.old).left ≡ Some all →
+        (reading : Reading) → IsReading (names_of handed) all reading → (line : List ℕ) → refusal_of reading ≡ Some line →
         (Rose (I.state input.old).faults (I.state input.new).faults → ⊥) → (Rose (O.state output.old).faults (O.state output.new).faults → ⊥) →
         (Rose (E.state faults.old).faults (E.state faults.new).faults → ⊥) → (result ≡ 1) ⊎ (result ≡ 5) }
+    ensures benches { (seed calls : ℕ) → IsStated (map string_bytes words.items) (Bench seed calls) →
+        (Rose (O.state output.old).faults (O.state output.new).faults → ⊥) →
+        (Rose (E.state faults.old).faults (E.state faults.new).faults → ⊥) → (result ≡ 0) ⊎ (result ≡ 5) }
     ensures knows_words { (r : Request) → IsStated (map string_bytes words.items) r → result ≡ 2 → ⊥ }
 
     // Words that are refused ask for nothing, and no words ask for two things.
@@ -75,20 +82,23 @@ pub fn ffi3<I: Source, O: Sink, E: Sink>(
     ensures write_counted { (O.state output.old).faults < (O.state output.new).faults → result ≡ 4 }
     ensures telling_counted { (E.state faults.old).faults < (E.state faults.new).faults → result ≡ 4 }
 {
-    let _natives = natives;
-    answer(alloc, words, input, output, faults, machine)
+    answer(alloc, words, input, output, faults, natives, machine)
 }
 
-// The same beside no natives, from which the clauses above follow.
+// The same, from which the clauses above follow.
 fn answer<I: Source, O: Sink, E: Sink>(
     alloc: Global,
     words: Vec<String>,
     input: &mut I,
     output: &mut O,
     faults: &mut E,
+    natives: &Vec<Box<dyn Native>>,
     machine: &mut Machine,
 ) -> u8
-    ensures says { Says (map string_bytes words.items) []
+    requires few_natives { length natives.now.items < 2 ^ 31 }
+    requires few_signatures { length (signatures_in (map (λ b. handed_in (title b) (meaning b) (signatures b)) natives.now.items)) < 2 ^ 31 }
+    ensures says { let handed : List NamedNative = map (λ b. handed_in (title b) (meaning b) (signatures b)) natives.now.items in
+        Says (map string_bytes words.items) handed
         (I.state input.old) (I.state input.new)
         (O.state output.old) (O.state output.new)
         (E.state faults.old) (E.state faults.new)
@@ -100,14 +110,31 @@ fn answer<I: Source, O: Sink, E: Sink>(
         Err(WordsFault::Refused(text)) => return tell(faults, text.as_str(), 2),
         Err(WordsFault::NoMemory) => return tell(faults, "ffi3: out of memory\n", 5),
     };
-    let natives = Names::new(alloc);
-    let script = match load(alloc, request, &natives, input) {
+    if let Some((seed, calls)) = numbers_of(request) {
+        return answer_bench(alloc, seed, calls, output, faults, machine);
+    }
+    let Ok(names) = names_of_natives(alloc, natives) else {
+        return tell(faults, "ffi3: out of memory\n", 5);
+    };
+    let script = match load(alloc, &names, input) {
         Ok(script) => script,
         Err(refusal) => return tell_refusal(alloc, &refusal, faults),
     };
-    match work(alloc, request, &script, machine, output) {
+    match work(alloc, request, &script, natives, machine, output) {
         Ok(status) => status,
         Err(IoError::NoMemory) => tell(faults, "ffi3: out of memory\n", 5),
         Err(IoError::Failed) => tell(faults, "ffi3: write fault\n", 4),
+    }
+}
+
+// The numbers of `bench`; every other command reads a script.
+fn numbers_of(request: Request) -> Option<(u32, u32)>
+    ensures { MatchOption result (ReadsScript request) (λ n. request ≡ Bench n.0 n.1) }
+{
+    match request {
+        Request::Layout => None,
+        Request::Place { .. } => None,
+        Request::Run { .. } => None,
+        Request::Bench { seed, calls } => Some((seed, calls)),
     }
 }

@@ -1,38 +1,48 @@
 //! What each command does with a script.
-ghost use Rattle.std.specs.Prelude.{◌≡◌, [], IfOk, IfErr, OnErr, None};
-ghost use Rattle.ffi3_type_rules.specs.declared.Target.TheVariants.{Amd64};
-ghost use Rattle.ffi3_script_rules.specs.RunLimit.{first_not_run};
+ghost use Rattle.std.specs.Prelude.{◌≡◌, ◌<◌, ◌≤◌, ◌^◌, ◌⊎◌, IfOk, IfErr, List, false, length, map, true};
+ghost use Rattle.ffi3_script_rules.specs.Natives.{NamedNative};
 ghost use Rattle.ffi3_script.specs.ScriptOf.{script_of, natives_of};
-ghost use Rattle.ffi3_app.specs.declared.words.Request.TheVariants.{Run};
-ghost use Rattle.ffi3_app.specs.Words.{CanDo};
-ghost use Rattle.ffi3_app.specs.Commands.{not_yet};
-ghost use Rattle.ffi3_app.specs.Top.{IsDone, IsDoneInPart};
+ghost use Rattle.ffi3_ask.specs.Handed.{handed_in, signatures_in};
 ghost use Rattle.ffi3_io.specs.Written.{IsCause};
+ghost use Rattle.ffi3_app.specs.Commands.{standard_of};
+ghost use Rattle.ffi3_app.specs.Top.{IsDone, IsDoneInPart, IsRun, IsRunInPart, ReadsScript};
 
 use crate::layout::layout;
 use crate::place::place;
-use crate::words::Request;
+use ffi3_aapcs64::Aapcs64;
+use ffi3_amd64::Amd64;
+use ffi3_body::Native;
 use ffi3_io::{IoError, Sink};
 use ffi3_machine::Machine;
-use ffi3_run::{RunEnd, run_main};
+use ffi3_place::Abi;
+use ffi3_riscv::Riscv;
+use ffi3_runner::{RunEnd, Runner};
 use ffi3_script::Script;
+use ffi3_types::Target;
+use ffi3_words::Request;
 use std::alloc::Global;
 
-/// Does what is asked for with a script beside no natives, and says the status: 0, or 6 where the run stopped.
+/// Does what is asked for with a script beside natives, where it reads one, and says the status: 0, or 6 where the run
+/// stopped.
 pub fn work<O: Sink>(
     alloc: Global,
     request: Request,
     script: &Script,
+    natives: &Vec<Box<dyn Native>>,
     machine: &mut Machine,
     output: &mut O,
 ) -> Result<u8, IoError>
-    requires can { CanDo request }
-    requires done { not_yet request (script_of script.now) ≡ None }
-    requires alone { natives_of script.now ≡ 0 }
-    ensures done { IfOk result (IsDone request [] (script_of script.now)
-        (O.state output.old) (O.state output.new) machine.old machine.new) }
-    ensures part { OnErr result (IsDoneInPart request [] (script_of script.now)
-        (O.state output.old) (O.state output.new) machine.old machine.new) }
+    requires reads { ReadsScript request }
+    requires beside { natives_of script.now ≤ length natives.now.items }
+    requires few_natives { length natives.now.items < 2 ^ 31 }
+    requires few_signatures { length (signatures_in (map (λ b. handed_in (title b) (meaning b) (signatures b)) natives.now.items)) < 2 ^ 31 }
+    ensures done { let handed : List NamedNative = map (λ b. handed_in (title b) (meaning b) (signatures b)) natives.now.items in
+        IfOk result (IsDone request handed (script_of script.now) (O.state output.old) (O.state output.new) machine.old machine.new) }
+    ensures failed { let handed : List NamedNative = map (λ b. handed_in (title b) (meaning b) (signatures b)) natives.now.items in
+        IfErr result (λ e. e ≡ IoError.Failed → IsDoneInPart true request handed (script_of script.now) (O.state output.old) (O.state output.new) machine.old machine.new) }
+    ensures refused { let handed : List NamedNative = map (λ b. handed_in (title b) (meaning b) (signatures b)) natives.now.items in
+        IfErr result (λ e. e ≡ IoError.NoMemory →
+        ((O.state output.new ≡ O.state output.old) × (machine.new ≡ machine.old)) ⊎ IsDoneInPart false request handed (script_of script.now) (O.state output.old) (O.state output.new) machine.old machine.new) }
     ensures ended { IfErr result (λ e. IsCause e (O.state output.old).faults (O.state output.new).faults) }
 {
     match request {
@@ -44,26 +54,66 @@ pub fn work<O: Sink>(
             place(alloc, target, script, output)?;
             Ok(0)
         }
-        Request::Run { .. } => run(alloc, script, machine, output),
+        Request::Run { target, trace } => {
+            run(alloc, target, trace, script, natives, machine, output)
+        }
+        Request::Bench { .. } => unreachable!(),
     }
 }
 
-// A run on amd64.
+// A run on the machine of a target.
 fn run<O: Sink>(
     alloc: Global,
+    target: Target,
+    trace: bool,
     script: &Script,
+    natives: &Vec<Box<dyn Native>>,
     machine: &mut Machine,
     output: &mut O,
 ) -> Result<u8, IoError>
-    requires done { first_not_run (script_of script.now) ≡ None }
-    requires alone { natives_of script.now ≡ 0 }
-    ensures done { IfOk result (IsDone (Run Amd64) [] (script_of script.now)
-        (O.state output.old) (O.state output.new) machine.old machine.new) }
-    ensures part { OnErr result (IsDoneInPart (Run Amd64) [] (script_of script.now)
-        (O.state output.old) (O.state output.new) machine.old machine.new) }
+    requires beside { natives_of script.now ≤ length natives.now.items }
+    requires few_natives { length natives.now.items < 2 ^ 31 }
+    requires few_signatures { length (signatures_in (map (λ b. handed_in (title b) (meaning b) (signatures b)) natives.now.items)) < 2 ^ 31 }
+    ensures done { let handed : List NamedNative = map (λ b. handed_in (title b) (meaning b) (signatures b)) natives.now.items in
+        IfOk result (IsRun trace (standard_of target) handed (script_of script.now) (O.state output.old) (O.state output.new) machine.new) }
+    ensures failed { let handed : List NamedNative = map (λ b. handed_in (title b) (meaning b) (signatures b)) natives.now.items in
+        IfErr result (λ e. e ≡ IoError.Failed → IsRunInPart true trace (standard_of target) handed (script_of script.now) (O.state output.old) (O.state output.new) machine.new) }
+    ensures refused { let handed : List NamedNative = map (λ b. handed_in (title b) (meaning b) (signatures b)) natives.now.items in
+        IfErr result (λ e. e ≡ IoError.NoMemory →
+        ((O.state output.new ≡ O.state output.old) × (machine.new ≡ machine.old)) ⊎ IsRunInPart false trace (standard_of target) handed (script_of script.now) (O.state output.old) (O.state output.new) machine.new) }
     ensures ended { IfErr result (λ e. IsCause e (O.state output.old).faults (O.state output.new).faults) }
 {
-    match run_main(alloc, script, machine, output) {
+    match target {
+        Target::Amd64 => run_by::<Amd64, O>(alloc, trace, script, natives, machine, output),
+        Target::Aapcs64 => run_by::<Aapcs64, O>(alloc, trace, script, natives, machine, output),
+        Target::Riscv => run_by::<Riscv, O>(alloc, trace, script, natives, machine, output),
+    }
+}
+
+// The same by a calling standard.
+fn run_by<A: Abi, O: Sink>(
+    alloc: Global,
+    trace: bool,
+    script: &Script,
+    natives: &Vec<Box<dyn Native>>,
+    machine: &mut Machine,
+    output: &mut O,
+) -> Result<u8, IoError>
+    requires beside { natives_of script.now ≤ length natives.now.items }
+    requires few_natives { length natives.now.items < 2 ^ 31 }
+    requires few_signatures { length (signatures_in (map (λ b. handed_in (title b) (meaning b) (signatures b)) natives.now.items)) < 2 ^ 31 }
+    ensures done { let handed : List NamedNative = map (λ b. handed_in (title b) (meaning b) (signatures b)) natives.now.items in
+        IfOk result (IsRun trace A.standard handed (script_of script.now) (O.state output.old) (O.state output.new) machine.new) }
+    ensures failed { let handed : List NamedNative = map (λ b. handed_in (title b) (meaning b) (signatures b)) natives.now.items in
+        IfErr result (λ e. e ≡ IoError.Failed → IsRunInPart true trace A.standard handed (script_of script.now) (O.state output.old) (O.state output.new) machine.new) }
+    ensures refused { let handed : List NamedNative = map (λ b. handed_in (title b) (meaning b) (signatures b)) natives.now.items in
+        IfErr result (λ e. e ≡ IoError.NoMemory →
+        ((O.state output.new ≡ O.state output.old) × (machine.new ≡ machine.old)) ⊎ IsRunInPart false trace A.standard handed (script_of script.now) (O.state output.old) (O.state output.new) machine.new) }
+    ensures ended { IfErr result (λ e. IsCause e (O.state output.old).faults (O.state output.new).faults) }
+{
+    let mut runner = Runner::<A>::new(alloc, script, natives)?;
+    machine.begin(A::TARGET);
+    match runner.run_main(machine, output, trace) {
         RunEnd::Done => Ok(0),
         RunEnd::Stopped(_) => Ok(6),
         RunEnd::NoMemory => Err(IoError::NoMemory),

@@ -1,5 +1,5 @@
 -- Blocks of open calls above an address, and activations that keep their arguments there.
-use Rattle.std.proofs.Common.{◌≡◌, ℕ, ◌+◌, ◌≤◌, List, [], ◌∷◌, Option, Some, None, refl, sym, ap, ◌∙◌, arith}
+use Rattle.std.proofs.Common.{◌≡◌, ℕ, ◌+◌, ◌≤◌, List, [], ◌∷◌, Option, Some, None, refl, ap, ◌∙◌, arith}
 use Rattle.std.specs.Prelude.{⊤}
 use Rattle.ffi3_type_rules.specs.Signature.{Signature, signature_at}
 use Rattle.ffi3_type_rules.specs.Value.{ValueTree}

@@ -1,5 +1,6 @@
 -- What each kind of move leads to on a board.
-use Rattle.std.proofs.Common.{◌≡◌, ℕ, suc, true, ◌+◌, ◌-◌, ◌<◌, ◌≤◌, List, [], ◌∷◌, ◌++◌, length, Option, Some, None, refl, sym, ap, ◌∙◌, subst, arith, reverse}
+use Rattle.std.proofs.Common.{◌≡◌, ℕ, suc, true, ◌+◌, ◌-◌, ◌<◌, List, [], ◌∷◌, ◌++◌, length, Option, Some, refl, sym, ap, ◌∙◌, subst, arith, reverse}
+use Rattle.std.specs.Prelude.{Bool}
 use Rattle.std.proofs.lemmas.List.{reverse-append}
 use Rattle.ffi3_type_rules.specs.declared.limits.TheConstants.{STACK}
 use Rattle.ffi3_type_rules.specs.Signature.{Signature, signature_at}
@@ -9,20 +10,24 @@ use Rattle.ffi3_place_rules.specs.declared.Loc.{Loc}
 use Rattle.ffi3_run_rules.specs.Journal.{Entered}
 use Rattle.ffi3_board.specs.Stack.{HoldsCalls}
 use Rattle.ffi3_place_rules.specs.Event.{Event}
-use Rattle.ffi3_place_rules.specs.Standard.{Standard, block_bytes, frame_of, need_of}
+use Rattle.ffi3_place_rules.specs.Standard.{Standard, block_bytes, frame_of}
 use Rattle.ffi3_run_rules.specs.declared.Closure.{Closure}
 use Rattle.ffi3_run_rules.specs.declared.Stop.{Stop}
 use Rattle.ffi3_run_rules.specs.declared.Stop.TheVariants.{MoveLimit}
 use Rattle.ffi3_run_rules.specs.Closures.{Closures}
+use Rattle.ffi3_run_rules.specs.Lines.{enter_lines, leave_lines}
 use Rattle.ffi3_run_rules.specs.Meaning as meaning
-use Rattle.ffi3_run_rules.specs.Meaning.{Program, stops, enters, stopped, function, callee_of, effect_of, need_at, ends, returned}
+use Rattle.ffi3_run_rules.specs.Meaning.{Program, stops, enters, stopped, function, callee_of, effect_of, need_at}
 use Rattle.ffi3_run_rules.specs.Move.{Move, call, return}
 use Rattle.ffi3_run_rules.specs.Trace.{TraceItem, Enter, Leave}
 use Rattle.ffi3_turn_rules.specs.Left.{Left, Suspended}
-use Rattle.ffi3_turn_rules.specs.SoFar.{Base}
+use Rattle.ffi3_turn_rules.specs.SoFar.{Base, text_after}
+use Rattle.ffi3_turn_rules.specs.Told.{IsTracingOf}
 use Rattle.ffi3_machine.specs.State.{State, with_room, stack_at}
 use Rattle.ffi3_body.specs.SeenActivation.{arguments_in}
 use Rattle.ffi3_io.specs.Sink.{SinkState}
+use Rattle.ffi3_io.specs.Written.{TookText}
+use Rattle.ffi3_io.specs.declared.IoError.{IoError}
 use Rattle.ffi3_io.specs.declared.IoError.TheVariants as cut
 use Rattle.ffi3_callee.specs.declared.Incoming.{Incoming}
 use Rattle.ffi3_callee.specs.Received.{IsIncoming}
@@ -37,11 +42,14 @@ use Rattle.ffi3_board.specs.declared.board.Turn.TheVariants as turn
 use Rattle.ffi3_board.specs.Between.{Beginning, Moment, asking, IsBetween, IsAsking, moment, moment_with, open_calls_at}
 use Rattle.ffi3_board.specs.Going.{StoppedBy, GoneOn, HasGoneBack, and_result}
 use Rattle.ffi3_board.specs.Path.{acting, arguments_at, call_inside, suspended_at, calls_of}
-use Rattle.ffi3_board.specs.Turned.{IsEnded, WasCutOff, WentOn, Turned}
+use Rattle.ffi3_board.specs.TraceLines.{last_event, entry_lines, return_lines}
+use Rattle.ffi3_board.specs.Turned.{IsEnded, WasCutOff, LooksAs, turn_of, WentOn, Turned}
+use Rattle.ffi3_io.specs.Written.{LineCut}
 use Rattle.ffi3_board.proofs.Blocks.{AreAbove, StaysFrom, blocks_above, acting_kept, suspended_kept}
-use Rattle.ffi3_board.proofs.Moving.{cut_between, limit_ends, limit_failed, stop_ends, stop_failed}
-use Rattle.ffi3_board.proofs.Entering.{entered, enters_on, lower}
-use Rattle.ffi3_board.proofs.Leaving.{inside_call, back, returns_on, others_above}
+use Rattle.ffi3_board.proofs.Moving.{cut_between, looks_as_itself, limit_ends, limit_failed, stop_ends, stop_failed}
+use Rattle.ffi3_board.proofs.Entering as entering
+use Rattle.ffi3_board.proofs.Leaving as leaving
+use Rattle.ffi3_board.proofs.Telling.{last_is}
 
 pub reverse-last : {X : Type 0} (xs : List X) (x : X) → reverse (xs ++ x ∷ []) ≡ x ∷ reverse xs
 reverse-last xs x = reverse-append xs (x ∷ [])
@@ -80,16 +88,24 @@ module _ {S : Type 0} (p : Program) (base : Base) (all : Left) (first : Beginnin
   goes b b' a m output r more events turn.Done gone between = elim gone [ ]
   goes b b' a m output r more events (turn.Stopped stop) gone between = elim gone [ ]
   goes b b' a m output r more events turn.NoMemory gone between =
-      cut_between p base all first (own ++ more) events (moment p.signatures (and_result a r) b m output) m refl between
+      cut_between p base all first (own ++ more) events (moment p.signatures (and_result a r) b m output) m (looks_as_itself m) between
   goes b b' a m output r more events turn.Failed gone between = elim gone [ ]
+
+  -- THE RUN IS CUT OFF
+  pub goes_off : (moves : ℕ) (b : Board S) (m : State) (output : SinkState) (why : IoError) (t : Turn) → t ≡ turn_of why → WasCutOff p base all first why m output → Turned p base all first own moves b m output t
+  goes_off moves b m output cut.NoMemory t is was_cut =
+      subst (λ (u : Turn). Turned p base all first own moves b m output u) (sym is) was_cut
+  goes_off moves b m output cut.Failed t is was_cut =
+      subst (λ (u : Turn). Turned p base all first own moves b m output u) (sym is) was_cut
 
   module _ (events : List Event) (b : Board S) (a : Activation S) (m : State) (output output' : SinkState) where
     abbrev here : Moment
     here = moment p.signatures a b m output
 
     -- for want of memory, before the move
-    pub refused : (asked : Move) (m' : State) → m'.events ≡ m.events → IsAsking p base all first own events here asked → WasCutOff p base all first cut.NoMemory m' output
-    refused asked m' same is = cut_between p base all first own events (asking here) m' same is.between
+    pub refused : (asked : Move) (m' : State) → LooksAs m m' → IsAsking p base all first own events here asked → WasCutOff p base all first cut.NoMemory m' output
+    refused asked m' looks is =
+        cut_between p base all first own events (asking here) m' looks is.between
 
     -- THE MOVE STOPS THE RUN
     pub stops_at : (asked : Move) → IsAsking p base all first own events here asked → (stop : Stop) → effect_of p here.innermost here.closures asked ≡ stops stop → (t : Turn) → StoppedBy p.signatures stop output output' t → Turned p base all first own (suc b.moves) b m output' t
@@ -100,7 +116,7 @@ module _ {S : Type 0} (p : Program) (base : Base) (all : Left) (first : Beginnin
         subst P (sym by.0) (stop_ends p base all first own events here asked is stop does output' by.1)
     stops_at asked is stop does turn.NoMemory by =
         let P = λ (o : SinkState). WasCutOff p base all first cut.NoMemory m o in
-        subst P (sym by) (cut_between p base all first own events (asking here) m refl is.between)
+        subst P (sym by) (cut_between p base all first own events (asking here) m (looks_as_itself m) is.between)
     stops_at asked is stop does turn.Failed by =
         stop_failed p base all first own events here asked is stop does output' by
 
@@ -113,7 +129,7 @@ module _ {S : Type 0} (p : Program) (base : Base) (all : Left) (first : Beginnin
         subst P (sym by.0) (limit_ends p base all first own events here none h output' by.1)
     stops_at_limit none h turn.NoMemory by =
         let P = λ (o : SinkState). WasCutOff p base all first cut.NoMemory m o in
-        subst P (sym by) (cut_between p base all first own events here m refl h)
+        subst P (sym by) (cut_between p base all first own events here m (looks_as_itself m) h)
     stops_at_limit none h turn.Failed by = limit_failed p base all first own events here none h output' by
 
 -- ---- a call
@@ -129,9 +145,9 @@ module _ {S : Type 0} (p : Program) (base : Base) (all : Left) (first : Beginnin
     abbrev new_one : Activation S
     new_one = record { who = Function closure.func; standing = standing; user = closure.user; results = results }
 
-    abbrev in_call : Moment
-    in_call =
-        moment_with p.signatures served (record { activation = current; call = new_call } ∷ outer) closures moves m' output new_one
+    abbrev in_call : SinkState → Moment
+    in_call output' =
+        moment_with p.signatures served (record { activation = current; call = new_call } ∷ outer) closures moves m' output' new_one
 
     above : AreAbove m.sp (calls_of served outer)
     above =
@@ -140,26 +156,40 @@ module _ {S : Type 0} (p : Program) (base : Base) (all : Left) (first : Beginnin
     stays : StaysFrom m.sp m m'
     stays = begun.above
 
-    innermost_is : in_call.innermost ≡ callee_of p before_call.innermost sig args closure
+    innermost_is : (in_call output).innermost ≡ callee_of p before_call.innermost sig args closure
     innermost_is =
         let site = signature_at p.signatures sig in
         let arguments : arguments_at p.signatures m' (Some new_call) ≡ args = ap (λ (k : ℕ). arguments_in site.arguments (stack_at k (block_bytes site) m')) block_is ∙ begun.arguments_stand in
-        let low : m'.sp + need_at p sig ≡ m.sp = lower p base all first own events before_call ptr sig args is closure does n m' incoming sized begun incoming_is block_is below in
+        let low : m'.sp + need_at p sig ≡ m.sp = entering.lower p base all first own events before_call ptr sig args is closure does n m' incoming sized begun incoming_is block_is below in
         let had : before_call.innermost.left + STACK ≡ m.sp = is.between.left in
         let left : incoming.block - STACK ≡ before_call.innermost.left - need_at p sig = omega (arith, low, had, block_is) in
         λ i. record { who = function closure.func; arguments = arguments i; user = closure.user; left = left i; results = none i }
 
-    suspended_is : in_call.suspended ≡ record { activation = before_call.innermost; signature = sig } ∷ before_call.suspended
+    suspended_is : (in_call output).suspended ≡ record { activation = before_call.innermost; signature = sig } ∷ before_call.suspended
     suspended_is =
         ap (λ (a : meaning.Activation). record { activation = a; signature = sig } ∷ suspended_at p.signatures m' served outer) (acting_kept p.signatures m m' m.sp stays served current outer above)
         ∙ ap (λ (l : List Suspended). record { activation = before_call.innermost; signature = sig } ∷ l) (suspended_kept p.signatures m m' m.sp stays served outer above)
 
-    pub call_entered : IsBetween p base all first (own ++ Enter ptr sig args ∷ []) (events ++ begun.entry ∷ []) in_call
-    call_entered =
-        let there = enters_on p base all first own events before_call ptr sig args is closure does n m' incoming sized begun incoming_is block_is below in
-        let same : in_call ≡ entered p base all first own events before_call ptr sig args is closure does n m' incoming sized begun incoming_is block_is below =
-        λ i. record { innermost = innermost_is i; suspended = suspended_is i; calls = new_call ∷ calls_of served outer; closures = closures; moves = moves; machine = m'; output = output } in
+    -- the lines that tell the entry
+    pub call_lines : (trace : Bool) → IsTracingOf p base trace first.tracing → entry_lines trace base.standard (signature_at p.signatures sig) (last_event m'.events) (arguments_in (signature_at p.signatures sig).arguments (stack_at m'.sp (block_bytes (signature_at p.signatures sig)) m')) ≡ enter_lines first.tracing (text_after p base own) ptr (signature_at p.signatures sig) args
+    call_lines trace tracing =
+        let site = signature_at p.signatures sig in
+        let event : last_event m'.events ≡ begun.entry = ap last_event begun.events ∙ last_is m.events begun.entry in
+        ap (λ (e : Event). entry_lines trace base.standard site e (arguments_in site.arguments (stack_at m'.sp (block_bytes site) m'))) event
+        ∙ ap (λ (vs : List ValueTree). entry_lines trace base.standard site begun.entry vs) begun.arguments_stand
+        ∙ entering.told_lines_are p base all first own events before_call ptr sig args is closure does n m' incoming sized begun incoming_is block_is below trace tracing
+
+    pub call_entered : (output' : SinkState) → TookText (enter_lines first.tracing (text_after p base own) ptr (signature_at p.signatures sig) args) output output' → IsBetween p base all first (own ++ Enter ptr sig args ∷ []) (events ++ begun.entry ∷ []) (in_call output')
+    call_entered output' told =
+        let there = entering.enters_on p base all first own events before_call ptr sig args is closure does n m' incoming sized begun incoming_is block_is below output' told in
+        let same : in_call output' ≡ entering.entered p base all first own events before_call ptr sig args is closure does n m' incoming sized begun incoming_is block_is below output' =
+        λ i. record { innermost = innermost_is i; suspended = suspended_is i; calls = new_call ∷ calls_of served outer; closures = closures; moves = moves; machine = m'; output = output' } in
         subst (λ (x : Moment). IsBetween p base all first (own ++ Enter ptr sig args ∷ []) (events ++ begun.entry ∷ []) x) (sym same) there
+
+    -- or the run is cut off there
+    pub call_cut_off : (why : IoError) (output' : SinkState) → LineCut (enter_lines first.tracing (text_after p base own) ptr (signature_at p.signatures sig) args) output output' why → WasCutOff p base all first why m' output'
+    call_cut_off why output' cut_off =
+        entering.enters_cut p base all first own events before_call ptr sig args is closure does n m' incoming sized begun incoming_is block_is below why output' cut_off
 
 -- ---- a return
 
@@ -177,22 +207,34 @@ module _ {S : Type 0} (p : Program) (base : Base) (all : Left) (first : Beginnin
     abbrev others : List Suspended
     others = suspended_at p.signatures m served outer
 
-    abbrev after_return : Moment
-    after_return =
-        moment_with p.signatures served outer closures moves m' output (and_result w.activation v)
+    abbrev after_return : SinkState → Moment
+    after_return output' =
+        moment_with p.signatures served outer closures moves m' output' (and_result w.activation v)
 
     above_return : AreAbove m'.sp (calls_of served outer)
     above_return =
-        others_above p base all first own events a caller w.call others (calls_of served outer) closures moves m output v is m' ended
+        leaving.others_above p base all first own events a caller w.call others (calls_of served outer) closures moves m output v is m' ended
 
     stays_return : StaysFrom m'.sp m m'
     stays_return = ended.above
 
-    pub call_returned : IsBetween p base all first (own ++ Leave w.call.sig v ∷ []) (events ++ ended.return ∷ []) after_return
-    call_returned =
-        let there = returns_on p base all first own events a caller w.call others (calls_of served outer) closures moves m output v is m' ended in
+    -- the lines that tell the return
+    pub return_lines_told : (trace : Bool) → IsTracingOf p base trace first.tracing → return_lines trace base.standard (signature_at p.signatures w.call.sig) (last_event m'.events) v ≡ leave_lines first.tracing (text_after p base own).calls v
+    return_lines_told trace tracing =
+        let event : last_event m'.events ≡ ended.return = ap last_event ended.events ∙ last_is m.events ended.return in
+        ap (λ (e : Event). return_lines trace base.standard (signature_at p.signatures w.call.sig) e v) event
+        ∙ leaving.told_lines_are p base all first own events a caller w.call others (calls_of served outer) closures moves m output v is m' ended trace tracing
+
+    pub call_returned : (output' : SinkState) → TookText (leave_lines first.tracing (text_after p base own).calls v) output output' → IsBetween p base all first (own ++ Leave w.call.sig v ∷ []) (events ++ ended.return ∷ []) (after_return output')
+    call_returned output' told =
+        let there = leaving.returns_on p base all first own events a caller w.call others (calls_of served outer) closures moves m output v is m' ended output' told in
         let innermost = acting_kept p.signatures m m' m'.sp stays_return served (and_result w.activation v) outer above_return in
         let suspended = suspended_kept p.signatures m m' m'.sp stays_return served outer above_return in
-        let same : after_return ≡ back p base all first own events a caller w.call others (calls_of served outer) closures moves m output v is m' ended =
-        λ i. record { innermost = innermost i; suspended = suspended i; calls = calls_of served outer; closures = closures; moves = moves; machine = m'; output = output } in
+        let same : after_return output' ≡ leaving.back p base all first own events a caller w.call others (calls_of served outer) closures moves m output v is m' ended output' =
+        λ i. record { innermost = innermost i; suspended = suspended i; calls = calls_of served outer; closures = closures; moves = moves; machine = m'; output = output' } in
         subst (λ (x : Moment). IsBetween p base all first (own ++ Leave w.call.sig v ∷ []) (events ++ ended.return ∷ []) x) (sym same) there
+
+    -- or the run is cut off there
+    pub return_cut_off : (why : IoError) (output' : SinkState) → LineCut (leave_lines first.tracing (text_after p base own).calls v) output output' why → WasCutOff p base all first why m' output'
+    return_cut_off why output' cut_off =
+        leaving.returns_cut p base all first own events a caller w.call others (calls_of served outer) closures moves m output v is m' ended why output' cut_off

@@ -1,5 +1,6 @@
 -- A call that is entered: what holds in its callee.
-use Rattle.std.proofs.Common.{◌≡◌, ℕ, suc, ◌+◌, ◌-◌, ◌*◌, ◌<◌, ◌≤◌, max, List, [], ◌∷◌, ◌++◌, length, refl, sym, ap, ◌∙◌, subst, arith, append_assoc, length-append}
+use Rattle.std.proofs.Common.{◌≡◌, ℕ, ◌+◌, ◌*◌, ◌<◌, ◌≤◌, List, [], ◌∷◌, ◌++◌, length, take, refl, sym, ap, ◌∙◌, subst, arith, append_assoc, length-append}
+use Rattle.std.specs.Prelude.{Bool}
 use Rattle.ffi3_type_rules.specs.declared.limits.TheConstants.{STACK}
 use Rattle.ffi3_type_rules.specs.Signature.{Signature, signature_at}
 use Rattle.ffi3_type_rules.specs.Value.{ValueTree}
@@ -7,26 +8,36 @@ use Rattle.ffi3_place_rules.specs.Event.{Event}
 use Rattle.ffi3_place_rules.specs.Standard.{frame_of, need_of}
 use Rattle.ffi3_run_rules.specs.declared.Closure.{Closure}
 use Rattle.ffi3_run_rules.specs.Journal.{Entered, IsEntry, needs}
+use Rattle.ffi3_run_rules.specs.Lines.{enter_lines}
 use Rattle.ffi3_run_rules.specs.Meaning.{Program, Activation, enters, callee_of, effect_of, next_move, need_at}
 use Rattle.ffi3_run_rules.specs.Move.{call}
 use Rattle.ffi3_run_rules.specs.Trace.{TraceItem, Enter}
-use Rattle.ffi3_turn_rules.specs.Left.{Left, Suspended, awaited}
+use Rattle.ffi3_turn_rules.specs.Left.{Left, awaited}
 use Rattle.ffi3_turn_rules.specs.Depth.{deepest, depth_at}
-use Rattle.ffi3_turn_rules.specs.SoFar.{Base}
+use Rattle.ffi3_turn_rules.specs.SoFar.{Base, text_after}
+use Rattle.ffi3_turn_rules.specs.Told.{IsTracingOf}
 use Rattle.ffi3_turn_rules.proofs.Depths.{depth_at-append}
 use Rattle.ffi3_turn_rules.proofs.Coming.{comes_in, deepest_enter}
+use Rattle.ffi3_turn_rules.proofs.Ending.{cut_in_entry}
 use Rattle.ffi3_turn_rules.proofs.Opens.{opens_enter}
 use Rattle.ffi3_machine.specs.State.{State, image_of, with_room}
 use Rattle.ffi3_closures.specs.Slots.{HoldsMap}
 use Rattle.ffi3_io.specs.Sink.{SinkState}
-use Rattle.ffi3_io.proofs.Writing.{took_as}
+use Rattle.ffi3_io.specs.Written.{TookText}
+use Rattle.ffi3_io.specs.declared.IoError.{IoError}
+use Rattle.ffi3_io.proofs.Adding.{Adds-then}
+use Rattle.ffi3_io.proofs.Writing.{took_then}
 use Rattle.ffi3_callee.specs.declared.Incoming.{Incoming}
 use Rattle.ffi3_callee.specs.Received.{IsIncoming}
 use Rattle.ffi3_invoke.specs.Calls.{HasBegun, KeepsOpen, Stands}
 use Rattle.ffi3_board.specs.declared.activation.OpenCall.{OpenCall}
-use Rattle.ffi3_board.specs.Between.{Beginning, Moment, text_of, depth_below, open_calls_at, IsBetween, IsAsking}
+use Rattle.ffi3_board.specs.Between.{Beginning, Moment, asking, position, text_of, depth_below, open_calls_at, IsMarkOf, IsBetween, IsAsking}
 use Rattle.ffi3_board.specs.Stack.{caller_sp, IsOpen, OpenStand, frames}
-use Rattle.ffi3_board.proofs.Marks.{mark_enter, fewer, text_still}
+use Rattle.ffi3_board.specs.TraceLines.{entry_lines}
+use Rattle.ffi3_board.specs.Turned.{is_in_line, WasCutOff}
+use Rattle.ffi3_io.specs.Written.{LineCut}
+use Rattle.ffi3_board.proofs.Marks.{mark_enter, fewer, text_then}
+use Rattle.ffi3_board.proofs.Telling.{cause_from, cut_part, entry_lines_are}
 use Rattle.ffi3_board.proofs.Opened.{caller_above, open_needs, open_kept, keeps_room, same_then_held}
 
 module _ (p : Program) (base : Base) (all : Left) (first : Beginning) (own : List TraceItem) (events : List Event) (x : Moment) (ptr sig : ℕ) (args : List ValueTree) (is : IsAsking p base all first own events x (call ptr sig args)) (closure : Closure) (does : effect_of p x.innermost x.closures (call ptr sig args) ≡ enters ptr sig (callee_of p x.innermost sig args closure)) where
@@ -49,15 +60,15 @@ module _ (p : Program) (base : Base) (all : Left) (first : Beginning) (own : Lis
     abbrev opened : OpenCall
     opened = record { sig = sig; incoming = incoming }
 
-    abbrev pub entered : Moment
-    entered = record {
+    abbrev pub entered : SinkState → Moment
+    entered output = record {
       innermost = callee;
       suspended = record { activation = x.innermost; signature = sig } ∷ x.suspended;
       calls = opened ∷ x.calls;
       closures = x.closures;
       moves = x.moves;
       machine = m;
-      output = x.output;
+      output = output;
     }
 
     abbrev newest : Entered
@@ -70,7 +81,7 @@ module _ (p : Program) (base : Base) (all : Left) (first : Beginning) (own : Lis
         let number : length x.machine.events ≡ base.count + length events = ap (λ (l : List Event). length l) h.journal ∙ length-append first.events events ∙ ap (λ (k : ℕ). k + length events) (sym h.count) in
         subst (λ (k : ℕ). IsEntry base.standard base.top base.held calls_open k ptr site args begun.entry) number (begun.is_entry base.top base.held calls_open full h.calls.reserved)
 
-    opens : open_calls_at p base (events ++ begun.entry ∷ []) entered ≡ newest ∷ calls_open
+    opens : open_calls_at p base (events ++ begun.entry ∷ []) (entered x.output) ≡ newest ∷ calls_open
     opens =
         opens_enter base.standard base.top base.held p.signatures sig (awaited base.bottom x.suspended) base.entries events begun.entry entry_is.kind
 
@@ -97,9 +108,29 @@ module _ (p : Program) (base : Base) (all : Left) (first : Beginning) (own : Lis
     newest_stands =
         record { below = below; signature = refl; stands = stands; reserved = entry_is.reserved; incoming = incoming_is; block = block_is }
 
-    -- THE CALLEE'S ACTIVATION IS THE INNERMOST
-    pub enters_on : IsBetween p base all first (own ++ Enter ptr sig args ∷ []) (events ++ begun.entry ∷ []) entered
-    enters_on =
+    -- the lines that tell the entry, where the run is traced
+    abbrev pub told_lines : List ℕ
+    told_lines = enter_lines first.tracing (text_after p base own) ptr site args
+
+    pub told_lines_are : (trace : Bool) → IsTracingOf p base trace first.tracing → entry_lines trace base.standard site begun.entry args ≡ told_lines
+    told_lines_are trace tracing =
+        entry_lines_are p base all own events (position (asking x)) is.between.come first.tracing trace tracing ptr site args begun.entry entry_is
+
+    journal_then : m.events ≡ first.events ++ (events ++ begun.entry ∷ [])
+    journal_then =
+        begun.events ∙ ap (λ (l : List Event). l ++ begun.entry ∷ []) is.between.journal ∙ append_assoc first.events events (begun.entry ∷ [])
+
+    mark_then : IsMarkOf base.top first.mark (deepest p (depth_below p base) (own ++ Enter ptr sig args ∷ [])) m.mark
+    mark_then =
+        mark_enter base.top first.mark (deepest p (depth_below p base) own) x.machine.mark x.machine.sp m.sp m.mark depth (need_at p sig) (deepest p (depth_below p base) (own ++ Enter ptr sig args ∷ [])) lower is.between.deep begun.mark (deepest_enter p (depth_below p base) own ptr sig args) is.between.mark
+
+    holds_then : HoldsMap base.standard.target x.closures m.code
+    holds_then =
+        subst (λ (code : List ℕ). HoldsMap base.standard.target x.closures code) (sym begun.code) is.between.holds
+
+    -- THE CALLEE'S ACTIVATION IS THE INNERMOST, once the entry is told
+    pub enters_on : (output : SinkState) → TookText told_lines x.output output → IsBetween p base all first (own ++ Enter ptr sig args ∷ []) (events ++ begun.entry ∷ []) (entered output)
+    enters_on output told =
         let h = is.between in
         let deeper : depth_at p (depth_below p base) (own ++ Enter ptr sig args ∷ []) ≡ depth + need_at p sig = depth_at-append p (depth_below p base) own (Enter ptr sig args ∷ []) in
         let at : x.machine.sp + depth ≡ base.top = h.deep in
@@ -108,6 +139,8 @@ module _ (p : Program) (base : Base) (all : Left) (first : Beginning) (own : Lis
         let stand : OpenStand base.standard p.signatures base.held base.top m (opened ∷ x.calls) (newest ∷ calls_open) m.sp = (newest_stands, others_stand) in
         let room : length calls_open ≤ x.machine.spare_events = h.calls.room in
         let bytes : frames base.standard calls_open ≤ x.machine.spare_bytes = h.calls.bytes in
+        let found_events : first.spare_events + length calls_open ≤ x.machine.spare_events = h.found.events in
+        let found_bytes : first.spare_bytes + frames base.standard calls_open ≤ x.machine.spare_bytes = h.found.bytes in
         let room_then : m.spare_events + 1 ≡ x.machine.spare_events + 2 = begun.room in
         let bytes_then : m.spare_bytes + (base.standard.link + frame_of base.standard site) ≡ x.machine.spare_bytes + 2 * n = begun.bytes in
         record {
@@ -115,9 +148,9 @@ module _ (p : Program) (base : Base) (all : Left) (first : Beginning) (own : Lis
           count = h.count;
           top = h.top;
           come = comes_in p base all own events x.innermost x.closures x.moves x.suspended ptr sig callee begun.entry h.come does_so entry_is;
-          journal = begun.events ∙ ap (λ (l : List Event). l ++ begun.entry ∷ []) h.journal ∙ append_assoc first.events events (begun.entry ∷ []);
-          written = took_as first.output x.output (text_of p base own) (text_of p base (own ++ Enter ptr sig args ∷ [])) (text_still p base own (Enter ptr sig args) refl) h.written;
-          mark = mark_enter base.top first.mark (deepest p (depth_below p base) own) x.machine.mark x.machine.sp m.sp m.mark depth (need_at p sig) (deepest p (depth_below p base) (own ++ Enter ptr sig args ∷ [])) lower at begun.mark (deepest_enter p (depth_below p base) own ptr sig args) h.mark;
+          journal = journal_then;
+          written = took_then first.output x.output output (text_of first.tracing p base own) told_lines (text_of first.tracing p base (own ++ Enter ptr sig args ∷ [])) (text_then first.tracing p base own (Enter ptr sig args)) h.written told;
+          mark = mark_then;
           deep = omega (arith, deeper, lower, at);
           left = omega (arith, left, lower, bottom);
           calls = record {
@@ -127,8 +160,33 @@ module _ (p : Program) (base : Base) (all : Left) (first : Beginning) (own : Lis
             room = subst (λ (l : List Entered). length l ≤ m.spare_events) (sym opens) (omega (arith, room, room_then));
             bytes = subst (λ (l : List Entered). frames base.standard l ≤ m.spare_bytes) (sym opens) (omega (arith, bytes, bytes_then, sized));
           };
-          holds = subst (λ (code : List ℕ). HoldsMap base.standard.target x.closures code) (sym begun.code) h.holds;
+          holds = holds_then;
           known = h.known;
           few = omega (arith, h.few);
           others_few = (omega (arith, h.few), fewer x.moves x.suspended h.others_few);
+          found = record {
+            above = λ address count over. begun.above address count (omega (arith, at, over)) ∙ h.found.above address count over;
+            events = subst (λ (l : List Entered). first.spare_events + length l ≤ m.spare_events) (sym opens) (omega (arith, found_events, room_then));
+            bytes = subst (λ (l : List Entered). first.spare_bytes + frames base.standard l ≤ m.spare_bytes) (sym opens) (omega (arith, found_bytes, bytes_then, sized));
+          };
+          outermost = h.outermost;
+        }
+
+    -- or the run is cut off there, in those lines or before them
+    pub enters_cut : (why : IoError) (output : SinkState) → LineCut told_lines x.output output why → WasCutOff p base all first why m output
+    enters_cut why output cut_off =
+        let h = is.between in
+        let part = cut_part why told_lines x.output output cut_off in
+        record {
+          happened = own ++ Enter ptr sig args ∷ [];
+          events = events ++ begun.entry ∷ [];
+          text = text_of first.tracing p base own ++ take part.0 told_lines;
+          cut = cut_in_entry p base all own events x.innermost x.suspended x.closures x.moves h.come first.tracing (is_in_line why) ptr sig callee begun.entry part.0 does_so entry_is part.1;
+          journal = journal_then;
+          written = Adds-then first.output.taken x.output.taken output.taken (text_of first.tracing p base own) (take part.0 told_lines) h.written.added part.2;
+          cause = cause_from why first.output.faults x.output.faults output.faults h.written.count part.3;
+          mark = mark_then;
+          target = begun.in_callee.target;
+          closures = x.closures;
+          holds = holds_then;
         }

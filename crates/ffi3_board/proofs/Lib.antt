@@ -6,8 +6,11 @@ mod Marks
 pub mod Opened
 pub mod Moving
 pub mod Blocks
+mod Telling
 mod Entering
 mod Leaving
 pub mod Boarding
 mod Made
+mod Served
+pub mod Accepting
 mod Transports

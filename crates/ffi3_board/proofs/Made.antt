@@ -1,5 +1,5 @@
 -- Closures that are made and freed: what a board comes to.
-use Rattle.std.proofs.Common.{◌≡◌, ℕ, suc, List, [], ◌∷◌, ◌++◌, Option, Some, None, refl, sym, ap, ◌∙◌, subst, arith, append-nil}
+use Rattle.std.proofs.Common.{◌≡◌, ℕ, suc, List, [], ◌++◌, sym, subst, append-nil}
 use Rattle.ffi3_type_rules.specs.declared.Target.{Target}
 use Rattle.ffi3_type_rules.specs.Value.{ValueTree}
 use Rattle.ffi3_place_rules.specs.Event.{Event}
@@ -21,7 +21,7 @@ use Rattle.ffi3_board.specs.Going.{GoneOn, and_result}
 use Rattle.ffi3_board.specs.Between.{Beginning, IsBetween, IsAsking, moment}
 use Rattle.ffi3_board.specs.Turned.{Turned, WasCutOff}
 use Rattle.ffi3_board.proofs.Boarding.{goes}
-use Rattle.ffi3_board.proofs.Moving.{cut_between, change_on}
+use Rattle.ffi3_board.proofs.Moving.{cut_between, change_on, looks_as_itself}
 
 module _ {S : Type 0} (p : Program) (base : Base) (all : Left) (first : Beginning) (own : List TraceItem) (events : List Event) (b : Board S) (a : Activation S) (m m' : State) (output : SinkState) (asked : Move) (is : IsAsking p base all first own events (moment p.signatures a b m output) asked) (r : ValueTree) (closures : Closures) (does : effect_of p (moment p.signatures a b m output).innermost b.table asked ≡ goes_on r closures) (address : ℕ) (bytes : List ℕ) (written : m' ≡ with_code address bytes m) (holds : HoldsMap m'.target closures m'.code) (known : AreKnown p closures) where
   abbrev changed_board : Board S
@@ -46,4 +46,4 @@ module _ {S : Type 0} (p : Program) (base : Base) (all : Left) (first : Beginnin
   -- there is no memory for it
   pub made_refused : WasCutOff p base all first cut.NoMemory m' output
   made_refused =
-      cut_between p base all first (own ++ []) events (moment p.signatures (and_result a r) changed_board m' output) m' refl changed
+      cut_between p base all first (own ++ []) events (moment p.signatures (and_result a r) changed_board m' output) m' (looks_as_itself m') changed

@@ -1,7 +1,7 @@
 -- The mark's bound as calls begin and end, the results that there is room for, and texts of one item more.
-use Rattle.std.proofs.Common.{◌≡◌, ℕ, suc, ◌+◌, ◌-◌, ◌≤◌, min, max, inl, inr, List, [], ◌∷◌, ◌++◌, length, refl, sym, ap, ◌∙◌, subst, arith, append-nil}
+use Rattle.std.proofs.Common.{◌≡◌, ℕ, suc, ◌+◌, ◌≤◌, min, max, inl, inr, List, [], ◌∷◌, ◌++◌, arith}
 use Rattle.std.proofs.lemmas.Bool.{cases_lt}
-use Rattle.ffi3_run_rules.specs.Lines.{untraced, item_text}
+use Rattle.ffi3_run_rules.specs.Lines.{Tracing, item_text}
 use Rattle.ffi3_run_rules.specs.Meaning.{Program}
 use Rattle.ffi3_run_rules.specs.Trace.{TraceItem}
 use Rattle.ffi3_turn_rules.specs.Left.{Suspended}
@@ -47,12 +47,5 @@ fewer moves (s ∷ outer) h = (omega (arith, h.0), fewer moves outer h.1)
 
 -- ---- texts
 
-pub text_then : (p : Program) (base : Base) (own : List TraceItem) (h : TraceItem) → text_of p base (own ++ h ∷ []) ≡ text_of p base own ++ item_text untraced p.signatures (text_after p base own) h
-text_then p base own h = text_one untraced p.signatures (text_start p base) own h
-
--- an item without text
-pub text_still : (p : Program) (base : Base) (own : List TraceItem) (h : TraceItem) → item_text untraced p.signatures (text_after p base own) h ≡ [] → text_of p base own ≡ text_of p base (own ++ h ∷ [])
-text_still p base own h none =
-    sym (append-nil (text_of p base own))
-    ∙ ap (λ (l : List ℕ). text_of p base own ++ l) (sym none)
-    ∙ sym (text_then p base own h)
+pub text_then : (tracing : Tracing) (p : Program) (base : Base) (own : List TraceItem) (h : TraceItem) → text_of tracing p base (own ++ h ∷ []) ≡ text_of tracing p base own ++ item_text tracing p.signatures (text_after p base own) h
+text_then tracing p base own h = text_one tracing p.signatures (text_start p base) own h

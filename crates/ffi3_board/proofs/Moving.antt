@@ -1,6 +1,5 @@
 -- What each kind of move of a run leads to, from one moment to the next.
-use Rattle.std.proofs.Common.{◌≡◌, ℕ, suc, ◌+◌, ◌<◌, ◌≤◌, min, List, [], ◌∷◌, ◌++◌, length, take, refl, sym, ap, ◌∙◌, subst, arith, append_assoc, append-nil, length-append}
-use Rattle.ffi3_type_rules.specs.declared.limits.TheConstants.{STACK}
+use Rattle.std.proofs.Common.{◌≡◌, ℕ, suc, ◌+◌, ◌≤◌, List, [], ◌∷◌, ◌++◌, take, refl, sym, ap, ◌∙◌, subst, arith, append-nil, length-append}
 use Rattle.ffi3_type_rules.specs.Tree.{Tree}
 use Rattle.ffi3_type_rules.specs.Value.{ValueTree, void_value}
 use Rattle.ffi3_type_rules.specs.ValueText.{value_text_of}
@@ -8,28 +7,28 @@ use Rattle.ffi3_place_rules.specs.Event.{Event}
 use Rattle.ffi3_run_rules.specs.declared.Stop.{Stop}
 use Rattle.ffi3_run_rules.specs.declared.Stop.TheVariants.{MoveLimit}
 use Rattle.ffi3_run_rules.specs.Closures.{Closures}
-use Rattle.ffi3_run_rules.specs.Lines.{untraced, a_line, stop_text, text}
+use Rattle.ffi3_run_rules.specs.Lines.{a_line, stop_text}
 use Rattle.ffi3_run_rules.specs.Meaning.{Program, Activation, Effect, ends, stops, prints, goes_on, returned, stopped, effect_of, next_move, with_result}
-use Rattle.ffi3_run_rules.specs.Move.{Move, print, return}
+use Rattle.ffi3_run_rules.specs.Move.{Move}
 use Rattle.ffi3_run_rules.specs.Trace.{TraceItem, Line, StopLine}
 use Rattle.ffi3_turn_rules.specs.Left.{Left, Suspended, Bottom, before, only, only_stops, as_main, rest, alone}
-use Rattle.ffi3_turn_rules.specs.Depth.{deepest, depth_at}
-use Rattle.ffi3_turn_rules.specs.SoFar.{Base, Position, left_at_position, text_after, HasComeTo, IsOver}
+use Rattle.ffi3_turn_rules.specs.Depth.{deepest}
+use Rattle.ffi3_turn_rules.specs.SoFar.{Base, left_at_position, HasComeTo, IsOver}
 use Rattle.ffi3_turn_rules.proofs.Steps.{rest_at_limit, rest_stops, rest_ends}
 use Rattle.ffi3_turn_rules.proofs.Depths.{depth_at-append}
 use Rattle.ffi3_turn_rules.proofs.Coming.{comes_on, comes_by_print, deepest_same}
 use Rattle.ffi3_turn_rules.proofs.Ending as ending
 use Rattle.ffi3_machine.specs.State.{State, with_code}
 use Rattle.ffi3_closures.specs.Slots.{HoldsMap}
-use Rattle.ffi3_io.specs.Sink.{Adds, AddsSome, Rose, SinkState}
+use Rattle.ffi3_io.specs.Sink.{Adds, Rose, SinkState}
 use Rattle.ffi3_io.specs.Written.{TookText}
 use Rattle.ffi3_io.specs.declared.IoError.TheVariants as cut
 use Rattle.ffi3_io.proofs.Adding.{Adds-then}
 use Rattle.ffi3_io.proofs.Writing.{took_then}
 use Rattle.ffi3_board.specs.Known.{AreKnown}
-use Rattle.ffi3_board.specs.WroteLine.{LineFailed}
+use Rattle.ffi3_io.specs.Written.{LineFailed}
 use Rattle.ffi3_board.specs.Between.{Beginning, Moment, asking, position, text_of, depth_below, open_calls_at, IsBetween, IsAsking}
-use Rattle.ffi3_board.specs.Turned.{IsEnded, WasCutOff}
+use Rattle.ffi3_board.specs.Turned.{IsEnded, WasCutOff, LooksAs}
 use Rattle.ffi3_board.proofs.Marks.{mark_same, fewer, text_then}
 use Rattle.ffi3_board.proofs.Opened.{holds_by_code}
 
@@ -37,25 +36,36 @@ use Rattle.ffi3_board.proofs.Opened.{holds_by_code}
 fault_from : (a b c : ℕ) → b ≡ a → Rose b c × (b ≤ c) → Rose a c × (a ≤ c)
 fault_from a b c is h = subst (λ (n : ℕ). Rose n c × (n ≤ c)) is h
 
+pub looks_as_itself : (m : State) → LooksAs m m
+looks_as_itself m = record { events = refl; mark = refl; target = refl; code = refl }
+
+pub looks_same : (m m' : State) → m' ≡ m → LooksAs m m'
+looks_same m m' same = subst (λ (n : State). LooksAs m n) (sym same) (looks_as_itself m)
+
 module _ (p : Program) (base : Base) (all : Left) (first : Beginning) (own : List TraceItem) (events : List Event) where
   -- ---- cut off
 
   -- FOR WANT OF MEMORY, between two moves
-  pub cut_between : (x : Moment) (m : State) → m.events ≡ x.machine.events → IsBetween p base all first own events x → WasCutOff p base all first cut.NoMemory m x.output
-  cut_between x m same h = record {
+  pub cut_between : (x : Moment) (m : State) → LooksAs x.machine m → IsBetween p base all first own events x → WasCutOff p base all first cut.NoMemory m x.output
+  cut_between x m looks h = record {
+    happened = own;
     events = events;
-    text = text_of p base own;
-    cut = ending.cut_here p base all own events untraced (position x) h.come;
-    journal = same ∙ h.journal;
+    text = text_of first.tracing p base own;
+    cut = ending.cut_here p base all own events first.tracing (position x) h.come;
+    journal = looks.events ∙ h.journal;
     written = h.written.added;
     cause = h.written.count;
+    mark = mark_same base.top first.mark (deepest p (depth_below p base) own) (deepest p (depth_below p base) own) x.machine.mark m.mark refl looks.mark h.mark;
+    target = looks.target ∙ h.calls.target;
+    closures = x.closures;
+    holds = subst (λ (code : List ℕ). HoldsMap base.standard.target x.closures code) (sym looks.code) h.holds;
   }
 
   module _ (x : Moment) (h : IsBetween p base all first own events x) (output : SinkState) (line : List ℕ) (failed : LineFailed line x.output output) where
     -- the bytes that are written then
-    part_written : Adds first.output.taken (text_of p base own ++ take failed.part.0 line) output.taken
+    part_written : Adds first.output.taken (text_of first.tracing p base own ++ take failed.part.0 line) output.taken
     part_written =
-        Adds-then first.output.taken x.output.taken output.taken (text_of p base own) (take failed.part.0 line) h.written.added failed.part.2
+        Adds-then first.output.taken x.output.taken output.taken (text_of first.tracing p base own) (take failed.part.0 line) h.written.added failed.part.2
 
     part_cause : Rose first.output.faults output.faults × (first.output.faults ≤ output.faults)
     part_cause =
@@ -83,9 +93,10 @@ module _ (p : Program) (base : Base) (all : Left) (first : Beginning) (own : Lis
           events = events;
           over = subst O (sym none) (ending.limit_here p base all own events (position x).path x.closures at_limit);
           journal = h.journal;
-          written = took_then first.output x.output output (text_of p base own) line (text_of p base all.trace) (ap (text_of p base) trace ∙ text_then p base own (StopLine MoveLimit)) h.written took;
+          written = took_then first.output x.output output (text_of first.tracing p base own) line (text_of first.tracing p base all.trace) (ap (text_of first.tracing p base) trace ∙ text_then first.tracing p base own (StopLine MoveLimit)) h.written took;
           mark = mark_same base.top first.mark (deepest p (depth_below p base) own) (deepest p (depth_below p base) all.trace) x.machine.mark x.machine.mark (ap (deepest p (depth_below p base)) trace ∙ deepest_same p (depth_below p base) own (StopLine MoveLimit) (omega arith)) refl h.mark;
           target = h.calls.target;
+          reserved = h.calls.reserved;
           holds = h.holds;
         }
 
@@ -93,12 +104,17 @@ module _ (p : Program) (base : Base) (all : Left) (first : Beginning) (own : Lis
     limit_failed output failed =
         let line = a_line (stop_text p.signatures MoveLimit) in
         record {
+          happened = own;
           events = events;
-          text = text_of p base own ++ take failed.part.0 line;
-          cut = ending.cut_in_limit p base all own events untraced (position x).path x.closures failed.part.0 at_limit failed.part.1;
+          text = text_of first.tracing p base own ++ take failed.part.0 line;
+          cut = ending.cut_in_limit p base all own events first.tracing (position x).path x.closures failed.part.0 at_limit failed.part.1;
           journal = h.journal;
           written = part_written x h output line failed;
           cause = part_cause x h output line failed;
+          mark = h.mark;
+          target = h.calls.target;
+          closures = x.closures;
+          holds = h.holds;
         }
 
   -- ---- a move that is asked for
@@ -128,9 +144,10 @@ module _ (p : Program) (base : Base) (all : Left) (first : Beginning) (own : Lis
             events = events;
             over = ending.stops_here p base all own events a outer x.closures x.moves h.come stop (does_so (stops stop) does);
             journal = h.journal;
-            written = took_then first.output x.output output (text_of p base own) line (text_of p base all.trace) (ap (text_of p base) trace ∙ text_then p base own (StopLine stop)) h.written took;
+            written = took_then first.output x.output output (text_of first.tracing p base own) line (text_of first.tracing p base all.trace) (ap (text_of first.tracing p base) trace ∙ text_then first.tracing p base own (StopLine stop)) h.written took;
             mark = mark_same base.top first.mark (deepest p (depth_below p base) own) (deepest p (depth_below p base) all.trace) x.machine.mark x.machine.mark (ap (deepest p (depth_below p base)) trace ∙ deepest_same p (depth_below p base) own (StopLine stop) (omega arith)) refl h.mark;
             target = h.calls.target;
+            reserved = h.calls.reserved;
             holds = h.holds;
           }
 
@@ -139,12 +156,17 @@ module _ (p : Program) (base : Base) (all : Left) (first : Beginning) (own : Lis
           let h = is.between in
           let line = a_line (stop_text p.signatures stop) in
           record {
+            happened = own;
             events = events;
-            text = text_of p base own ++ take failed.part.0 line;
-            cut = ending.cut_in_stop p base all own events a outer x.closures x.moves h.come untraced stop failed.part.0 (does_so (stops stop) does) failed.part.1;
+            text = text_of first.tracing p base own ++ take failed.part.0 line;
+            cut = ending.cut_in_stop p base all own events a outer x.closures x.moves h.come first.tracing stop failed.part.0 (does_so (stops stop) does) failed.part.1;
             journal = h.journal;
             written = part_written (asking x) h output line failed;
             cause = part_cause (asking x) h output line failed;
+            mark = h.mark;
+            target = h.calls.target;
+            closures = x.closures;
+            holds = h.holds;
           }
 
     -- MAIN RETURNS
@@ -157,7 +179,7 @@ module _ (p : Program) (base : Base) (all : Left) (first : Beginning) (own : Lis
         let left : rest p base.bottom (alone a) x.closures (suc x.moves) ≡ only [] (returned v) x.closures x.moves = subst Q (sym main) (rest_ends p a x.closures x.moves v (does_so (ends v) does)) in
         let done : all ≡ before own (only [] (returned v) x.closures x.moves) = come.follows ∙ ap (before own) left in
         let trace : all.trace ≡ own = ap (λ (l : Left). l.trace) done ∙ append-nil own in
-        let T = λ (l : List TraceItem). TookText (text_of p base l) first.output x.output in
+        let T = λ (l : List TraceItem). TookText (text_of first.tracing p base l) first.output x.output in
         record {
           events = events;
           over = ending.main_ends p base all own events a x.closures x.moves v come (does_so (ends v) does) main;
@@ -165,6 +187,7 @@ module _ (p : Program) (base : Base) (all : Left) (first : Beginning) (own : Lis
           written = subst T (sym trace) h.written;
           mark = mark_same base.top first.mark (deepest p (depth_below p base) own) (deepest p (depth_below p base) all.trace) x.machine.mark x.machine.mark (ap (deepest p (depth_below p base)) trace) refl h.mark;
           target = h.calls.target;
+          reserved = h.calls.reserved;
           holds = h.holds;
         }
 
@@ -182,7 +205,7 @@ module _ (p : Program) (base : Base) (all : Left) (first : Beginning) (own : Lis
             top = h.top;
             come = comes_by_print p base all own events a x.closures x.moves outer t v h.come (does_so (prints t v) does);
             journal = h.journal;
-            written = took_then first.output x.output output (text_of p base own) (a_line (value_text_of t v)) (text_of p base (own ++ Line t v ∷ [])) (text_then p base own (Line t v)) h.written took;
+            written = took_then first.output x.output output (text_of first.tracing p base own) (a_line (value_text_of t v)) (text_of first.tracing p base (own ++ Line t v ∷ [])) (text_then first.tracing p base own (Line t v)) h.written took;
             mark = mark_same base.top first.mark (deepest p (depth_below p base) own) (deepest p (depth_below p base) (own ++ Line t v ∷ [])) x.machine.mark x.machine.mark (deepest_same p (depth_below p base) own (Line t v) (omega arith)) refl h.mark;
             deep = ap (λ (n : ℕ). x.machine.sp + n) (depth_at-append p (depth_below p base) own (Line t v ∷ [])) ∙ h.deep;
             left = h.left;
@@ -191,6 +214,8 @@ module _ (p : Program) (base : Base) (all : Left) (first : Beginning) (own : Lis
             known = h.known;
             few = omega (arith, length-append x.innermost.results (void_value ∷ []), h.few);
             others_few = fewer x.moves outer h.others_few;
+            found = h.found;
+            outermost = h.outermost;
           }
 
       pub print_failed : (output : SinkState) → LineFailed (a_line (value_text_of t v)) x.output output → WasCutOff p base all first cut.Failed x.machine output
@@ -198,12 +223,17 @@ module _ (p : Program) (base : Base) (all : Left) (first : Beginning) (own : Lis
           let h = is.between in
           let line = a_line (value_text_of t v) in
           record {
+            happened = own;
             events = events;
-            text = text_of p base own ++ take failed.part.0 line;
-            cut = ending.cut_in_print p base all own events a outer x.closures x.moves h.come untraced t v failed.part.0 (does_so (prints t v) does) failed.part.1;
+            text = text_of first.tracing p base own ++ take failed.part.0 line;
+            cut = ending.cut_in_print p base all own events a outer x.closures x.moves h.come first.tracing t v failed.part.0 (does_so (prints t v) does) failed.part.1;
             journal = h.journal;
             written = part_written (asking x) h output line failed;
             cause = part_cause (asking x) h output line failed;
+            mark = h.mark;
+            target = h.calls.target;
+            closures = x.closures;
+            holds = h.holds;
           }
 
     -- THE CLOSURES CHANGE, and code is written
@@ -229,4 +259,6 @@ module _ (p : Program) (base : Base) (all : Left) (first : Beginning) (own : Lis
             known = known;
             few = omega (arith, length-append x.innermost.results (r ∷ []), h.few);
             others_few = fewer x.moves outer h.others_few;
+            found = record { above = h.found.above; events = h.found.events; bytes = h.found.bytes };
+            outermost = h.outermost;
           }

@@ -1,9 +1,8 @@
 -- Open calls that stand on a machine's stack, from one machine to the next.
-use Rattle.std.proofs.Common.{◌≡◌, ℕ, ◌+◌, ◌<◌, ◌≤◌, List, [], ◌∷◌, length, refl, sym, ap, ◌∙◌, subst, arith}
+use Rattle.std.proofs.Common.{◌≡◌, ℕ, ◌+◌, ◌<◌, ◌≤◌, List, [], ◌∷◌, length, sym, ◌∙◌, subst, arith}
 use Rattle.std.specs.List.{AllByRecursion}
 use Rattle.ffi3_type_rules.specs.Signature.{Signature, signature_at}
 use Rattle.ffi3_place_rules.specs.declared.Loc.{Loc}
-use Rattle.ffi3_place_rules.specs.Event.{Event}
 use Rattle.ffi3_place_rules.specs.Holds.{SameIn}
 use Rattle.ffi3_place_rules.specs.Image.{Image, register}
 use Rattle.ffi3_place_rules.specs.Standard.{Standard, frame_of, need_of, block_bytes}
@@ -57,6 +56,7 @@ module _ (std : Standard) (ss : List Signature) (held : Loc → ℕ) (top : ℕ)
     top = h.top;
     saved = h.saved;
     return_address = h.return_address;
+    frame = h.frame;
   }
 
   pub holds_by_code : (address : ℕ) (bytes : List ℕ) (m : State) (calls : List OpenCall) (entered : List Entered) → HoldsCalls std ss held top m calls entered → HoldsCalls std ss held top (with_code address bytes m) calls entered
@@ -76,6 +76,7 @@ keeps_room std low n m m' keeps = λ e block above h. keeps e block above (recor
   top = h.top;
   saved = h.saved;
   return_address = h.return_address;
+  frame = h.frame;
 })
 
 -- ---- registers that hold what they held

@@ -1,12 +1,12 @@
 -- A run between two moves.
-use Rattle.std.specs.Prelude.{◌≡◌, ℕ, suc, ◌+◌, ◌≤◌, ◌⊎◌, ⊤, List, [], ◌∷◌, ◌++◌, length, reverse, Option}
+use Rattle.std.specs.Prelude.{◌≡◌, ℕ, suc, ◌+◌, ◌-◌, ◌≤◌, ◌⊎◌, ⊤, List, [], ◌∷◌, ◌++◌, length, take, drop, reverse, Option}
 use Rattle.ffi3_type_rules.specs.declared.limits.TheConstants.{STACK, STACK_TOP}
 use Rattle.ffi3_type_rules.specs.Signature.{Signature}
 use Rattle.ffi3_place_rules.specs.Event.{Event}
-use Rattle.ffi3_place_rules.specs.Standard.{Standard, need_of}
+use Rattle.ffi3_place_rules.specs.Standard.{need_of}
 use Rattle.ffi3_run_rules.specs.Closures.{Closures}
 use Rattle.ffi3_run_rules.specs.Journal.{Entered}
-use Rattle.ffi3_run_rules.specs.Lines.{untraced, text}
+use Rattle.ffi3_run_rules.specs.Lines.{Tracing, text}
 use Rattle.ffi3_run_rules.specs.Meaning as meaning
 use Rattle.ffi3_run_rules.specs.Meaning.{Program, most_moves, next_move}
 use Rattle.ffi3_run_rules.specs.Move.{Move}
@@ -14,7 +14,7 @@ use Rattle.ffi3_run_rules.specs.Trace.{TraceItem}
 use Rattle.ffi3_turn_rules.specs.Left.{Left, Suspended, awaited}
 use Rattle.ffi3_turn_rules.specs.Depth.{depth_at, deepest, depth_of}
 use Rattle.ffi3_turn_rules.specs.SoFar.{Base, text_start, Position, open_at, HasComeTo}
-use Rattle.ffi3_machine.specs.State.{State}
+use Rattle.ffi3_machine.specs.State.{State, stack_at}
 use Rattle.ffi3_closures.specs.Slots.{HoldsMap}
 use Rattle.ffi3_io.specs.Sink.{SinkState}
 use Rattle.ffi3_io.specs.Written.{TookText}
@@ -23,14 +23,19 @@ use Rattle.ffi3_board.specs.declared.activation.Activation.{Activation}
 use Rattle.ffi3_board.specs.declared.activation.Waiting.{Waiting}
 use Rattle.ffi3_board.specs.declared.board.Board.{Board}
 use Rattle.ffi3_board.specs.Known.{AreKnown}
+use Rattle.ffi3_board.specs.Outermost.{AreEntriesOf}
 use Rattle.ffi3_board.specs.Path.{acting, call_inside, suspended_at, calls_of}
-use Rattle.ffi3_board.specs.Stack.{HoldsCalls}
+use Rattle.ffi3_board.specs.Stack.{HoldsCalls, frames}
 
--- what a run found as it began: the journal, the mark, and what the output had taken
+-- what a run found as it began: the journal, the mark, what the output had taken, the stack, and the room in the journal beside that for the returns of the calls that were open; and how it is traced
 pub record Beginning : Type 0 where
   pub events : List Event
   pub mark : ℕ
   pub output : SinkState
+  pub stack : List ℕ
+  pub spare_events : ℕ
+  pub spare_bytes : ℕ
+  pub tracing : Tracing
 
 -- what stands between two moves
 pub record Moment : Type 0 where
@@ -54,8 +59,8 @@ position x = record {
 }
 
 -- what is done of a run's text
-abbrev pub text_of : Program → Base → List TraceItem → List ℕ
-text_of p base own = text untraced p.signatures (text_start p base) own
+abbrev pub text_of : Tracing → Program → Base → List TraceItem → List ℕ
+text_of tracing p base own = text tracing p.signatures (text_start p base) own
 
 -- the calls that were open as the run began take so many bytes
 abbrev pub depth_below : Program → Base → ℕ
@@ -74,6 +79,12 @@ AreFew moves (s ∷ outer) = (length s.activation.results + moves ≤ most_moves
 abbrev pub open_calls_at : Program → Base → List Event → Moment → List Entered
 open_calls_at p base events x = open_at p base x.suspended events
 
+-- WHAT A RUN KEEPS of what it found: the stack from its top on, and the room in the journal that the returns of open calls do not need.
+pub record KeepsFound (base : Base) (first : Beginning) (entered : List Entered) (m : State) : Type 0 where
+  pub above : (address count : ℕ) → base.top ≤ address → stack_at address count m ≡ take count (drop (address - STACK) first.stack)
+  pub events : first.spare_events + length entered ≤ m.spare_events
+  pub bytes : first.spare_bytes + frames base.standard entered ≤ m.spare_bytes
+
 -- WHAT HOLDS BETWEEN TWO MOVES of a run with this base, of which all this was left as it began: this trace is done of it, these events answer to it, and the path's calls stand on the machine's stack.
 pub record IsBetween (p : Program) (base : Base) (all : Left) (first : Beginning) (own : List TraceItem) (events : List Event) (x : Moment) : Type 0 where
   pub needs : p.need ≡ need_of base.standard
@@ -81,7 +92,7 @@ pub record IsBetween (p : Program) (base : Base) (all : Left) (first : Beginning
   pub top : base.top ≤ STACK_TOP
   pub come : HasComeTo p base all own events (position x)
   pub journal : x.machine.events ≡ first.events ++ events
-  pub written : TookText (text_of p base own) first.output x.output
+  pub written : TookText (text_of first.tracing p base own) first.output x.output
   pub mark : IsMarkOf base.top first.mark (deepest p (depth_below p base) own) x.machine.mark
   pub deep : x.machine.sp + depth_at p (depth_below p base) own ≡ base.top
   pub left : x.innermost.left + STACK ≡ x.machine.sp
@@ -90,6 +101,8 @@ pub record IsBetween (p : Program) (base : Base) (all : Left) (first : Beginning
   pub known : AreKnown p x.closures
   pub few : length x.innermost.results + x.moves ≤ most_moves
   pub others_few : AreFew x.moves x.suspended
+  pub found : KeepsFound base first (open_calls_at p base events x) x.machine
+  pub outermost : AreEntriesOf base.bottom base.entries
 
 -- the innermost activation asks for this move, which was counted
 pub record IsAsking (p : Program) (base : Base) (all : Left) (first : Beginning) (own : List TraceItem) (events : List Event) (x : Moment) (asked : Move) : Type 0 where

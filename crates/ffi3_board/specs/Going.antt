@@ -14,7 +14,7 @@ use Rattle.ffi3_board.specs.declared.activation.Who.TheVariants.{Function}
 use Rattle.ffi3_board.specs.declared.board.Board.{Board}
 use Rattle.ffi3_board.specs.declared.board.Turn.{Turn}
 use Rattle.ffi3_board.specs.declared.board.Turn.TheVariants.{More, Done, Stopped, NoMemory, Failed}
-use Rattle.ffi3_board.specs.WroteLine.{LineFailed}
+use Rattle.ffi3_io.specs.Written.{LineFailed}
 
 -- the line of a stop was written, or why not
 abbrev pub StoppedBy : List Signature → Stop → SinkState → SinkState → Turn → Type 0

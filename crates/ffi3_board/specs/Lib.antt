@@ -1,8 +1,11 @@
 pub mod StopSigs
-pub mod WroteLine
+pub mod TraceLines
 pub mod Known
 pub mod Path
 pub mod Stack
 pub mod Going
+pub mod Outermost
 pub mod Between
+pub mod Served
 pub mod Turned
+pub mod Accepted

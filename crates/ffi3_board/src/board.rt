@@ -2,9 +2,11 @@
 ghost use Rattle.std.specs.Prelude.{◌≡◌, ◌+◌, ◌<◌, ◌^◌, length};
 ghost use Rattle.ffi3_values.specs.ValueOf.{value_of};
 ghost use Rattle.ffi3_board.specs.Going.{GoneOn};
+ghost use Rattle.ffi3_board.specs.Turned.{turn_of};
 
 use crate::{Activation, OpenCall, Waiting};
 use ffi3_closures::Table;
+use ffi3_io::IoError;
 use ffi3_run_rules::Stop;
 use ffi3_values::Value;
 
@@ -36,6 +38,19 @@ pub enum Turn {
     NoMemory,
     /// A write failed.
     Failed,
+}
+
+impl Turn {
+    /// What a move came to that was cut off.
+    pub(crate) fn cut_off(why: IoError) -> Turn
+        ensures is { result ≡ turn_of why }
+        ensures over { result ≡ Turn.More → ⊥ }
+    {
+        match why {
+            IoError::NoMemory => Turn::NoMemory,
+            IoError::Failed => Turn::Failed,
+        }
+    }
 }
 
 impl<S: Drop> Board<S> {

@@ -11,11 +11,11 @@ ghost use Rattle.ffi3_run_rules.specs.Journal.{Entered};
 ghost use Rattle.ffi3_run_rules.specs.Meaning.{Program, callee_of, effect_of, enters};
 ghost use Rattle.ffi3_run_rules.specs.Move as asks;
 ghost use Rattle.ffi3_run_rules.specs.Trace.{TraceItem};
-ghost use Rattle.ffi3_turn_rules.specs.Left.{Left, as_main};
+ghost use Rattle.ffi3_turn_rules.specs.Left.{Left};
 ghost use Rattle.ffi3_turn_rules.specs.SoFar.{Base};
+ghost use Rattle.ffi3_turn_rules.specs.Told.{IsTracingOf};
 ghost use Rattle.ffi3_machine.specs.State.{stack_at};
 ghost use Rattle.ffi3_closures.specs.Slots.{HoldsMap};
-ghost use Rattle.ffi3_io.specs.Sink.{SinkState};
 ghost use Rattle.ffi3_callee.specs.Received.{IsIncoming};
 ghost use Rattle.ffi3_invoke.specs.Calls.{HasEnded, IsCalled};
 ghost use Rattle.ffi3_board.specs.Between.{Beginning, IsAsking, moment};
@@ -25,8 +25,10 @@ ghost use Rattle.ffi3_board.specs.Path.{AreShort, acting, call_inside, calls_of,
 ghost use Rattle.ffi3_board.specs.Stack.{HoldsCalls};
 ghost use Rattle.ffi3_board.specs.Turned.{Turned};
 
+use crate::tracing::{tell_entry, tell_return};
 use crate::{Activation, Board, Cifs, OpenCall, Turn, Waiting, Who};
 use ffi3_invoke::{begin_call, end_call};
+use ffi3_io::Sink;
 use ffi3_machine::Machine;
 use ffi3_place::Abi;
 use ffi3_place::parts::size_of;
@@ -62,11 +64,13 @@ fn end_with<A: Abi>(
 
 impl<S: Drop> Board<S> {
     /// Calls a closure that the call can enter: its function's activation, which stands here before
-    /// its first move, is then the innermost. All memory is taken before the call begins.
-    pub fn enter<A: Abi>(
+    /// its first move, is then the innermost. Where the run is traced, the entry is told. But for
+    /// its lines all memory is taken before the call begins.
+    pub fn enter<A: Abi, O: Sink>(
         &mut self,
         alloc: Global,
         machine: &mut Machine,
+        output: &mut O,
         cifs: &Cifs<A>,
         current: Activation<S>,
         closure: Closure,
@@ -74,6 +78,7 @@ impl<S: Drop> Board<S> {
         ptr: u64,
         sig: u32,
         args: &Values,
+        trace: bool,
     ) -> Turn
         requires target { machine.old.target ≡ A.TARGET }
         requires site { sig < length cifs.now }
@@ -84,12 +89,12 @@ impl<S: Drop> Board<S> {
         ensures goes { result ≡ Turn.More → HasGoneIn closure standing sig current self.old self.new }
         ensures above { result ≡ Turn.More →
             (address count : ℕ) → machine.old.sp ≤ address → stack_at address count machine.new ≡ stack_at address count machine.old }
-        ensures turned { (p : Program) (base : Base) (all : Left) (first : Beginning) (own : List TraceItem) (events : List Event) (output : SinkState) →
-            base.standard ≡ A.standard → p.signatures ≡ cifs.now →
-            IsAsking p base all first own events (moment p.signatures current self.old machine.old output) (asks.call ptr sig args.now) →
-            effect_of p (moment p.signatures current self.old machine.old output).innermost self.old.table (asks.call ptr sig args.now) ≡
-            enters ptr sig (callee_of p (moment p.signatures current self.old machine.old output).innermost sig args.now closure) →
-            Turned p base all first own (suc self.old.moves) self.new machine.new output result }
+        ensures turned { (p : Program) (base : Base) (all : Left) (first : Beginning) (own : List TraceItem) (events : List Event) →
+            base.standard ≡ A.standard → p.signatures ≡ cifs.now → IsTracingOf p base trace first.tracing →
+            IsAsking p base all first own events (moment p.signatures current self.old machine.old (O.state output.old)) (asks.call ptr sig args.now) →
+            effect_of p (moment p.signatures current self.old machine.old (O.state output.old)).innermost self.old.table (asks.call ptr sig args.now) ≡
+            enters ptr sig (callee_of p (moment p.signatures current self.old machine.old (O.state output.old)).innermost sig args.now closure) →
+            Turned p base all first own (suc self.old.moves) self.new machine.new (O.state output.new) result }
     {
         let cif = cifs.get(sig);
         let Ok(()) = self.suspended.reserve(1) else {
@@ -99,6 +104,9 @@ impl<S: Drop> Board<S> {
             return Turn::NoMemory;
         };
         let incoming = begin_call(machine, &self.table, cif, args, ptr);
+        if let Err(why) = tell_entry(alloc, machine, output, cif, trace) {
+            return Turn::cut_off(why);
+        }
         self.suspended.push_reserved(Waiting {
             activation: current,
             call: OpenCall { sig, incoming },
@@ -112,15 +120,18 @@ impl<S: Drop> Board<S> {
         Turn::More
     }
 
-    /// Returns from the innermost activation to the one that waits for it. Where none waits, that
-    /// was main, and the run is done.
-    pub fn leave<A: Abi>(
+    /// Returns from the innermost activation, which was taken from the board, to the one that waits
+    /// for it. Where none waits, the run is done. Where the run is traced, the return is told.
+    pub fn leave<A: Abi, O: Sink>(
         &mut self,
         alloc: Global,
         machine: &mut Machine,
+        output: &mut O,
         cifs: &Cifs<A>,
         value: &Value,
+        trace: bool,
     ) -> Turn
+        requires taken { self.old.innermost ≡ None }
         requires stand { (held : Loc → ℕ) × (top : ℕ) × (entered : List Entered) ×
             HoldsCalls A.standard cifs.now held top machine.old (calls_of self.old.served (reverse self.old.suspended.items)) entered }
         requires fits { fits (result_type_at cifs.now (call_inside self.old.served (reverse self.old.suspended.items))) (value_of value.now) ≡ true }
@@ -128,17 +139,22 @@ impl<S: Drop> Board<S> {
         ensures goes { result ≡ Turn.More → HasGoneBack (value_of value.now) self.old self.new }
         ensures above { result ≡ Turn.More →
             (address count : ℕ) → machine.new.sp ≤ address → stack_at address count machine.new ≡ stack_at address count machine.old }
-        ensures turned { (p : Program) (base : Base) (all : Left) (first : Beginning) (own : List TraceItem) (events : List Event) (output : SinkState) (current : Activation S) →
-            base.standard ≡ A.standard → base.bottom ≡ as_main → self.old.served ≡ None → p.signatures ≡ cifs.now →
-            IsAsking p base all first own events (moment p.signatures current self.old machine.old output) (asks.return (value_of value.now)) →
-            Turned p base all first own (suc self.old.moves) self.new machine.new output result }
+        ensures turned { (p : Program) (base : Base) (all : Left) (first : Beginning) (own : List TraceItem) (events : List Event) (current : Activation S) →
+            base.standard ≡ A.standard → p.signatures ≡ cifs.now → IsTracingOf p base trace first.tracing →
+            IsAsking p base all first own events (moment p.signatures current self.old machine.old (O.state output.old)) (asks.return (value_of value.now)) →
+            Turned p base all first own (suc self.old.moves) self.new machine.new (O.state output.new) result }
     {
         let Some(Waiting { activation, call }) = self.suspended.pop() else {
-            return Turn::Done;
+            return self.leave_run(alloc, machine, output, cifs, value, trace);
         };
-        match end_with(alloc, machine, cifs, call, value) {
-            Ok(outcome) => self.go_on(activation, outcome),
-            Err(_) => Turn::NoMemory,
+        let sig = call.sig;
+        let outcome = match end_with(alloc, machine, cifs, call, value) {
+            Ok(outcome) => outcome,
+            Err(_) => return Turn::NoMemory,
+        };
+        if let Err(why) = tell_return(alloc, machine, output, cifs.get(sig), value, trace) {
+            return Turn::cut_off(why);
         }
+        self.go_on(activation, outcome)
     }
 }

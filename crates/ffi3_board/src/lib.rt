@@ -11,7 +11,9 @@ mod cifs;
 mod line;
 mod making;
 mod printing;
+mod serving;
 mod stopping;
+mod tracing;
 
 pub use activation::{Activation, OpenCall, Waiting, Who};
 pub use board::{Board, Turn};

@@ -9,10 +9,10 @@ ghost use Rattle.ffi3_types.specs.TreeOf.{tree_of};
 ghost use Rattle.ffi3_values.specs.ValueOf.{value_of};
 ghost use Rattle.ffi3_run_rules.specs.Lines.{a_line, address_text, stop_text};
 ghost use Rattle.ffi3_board.specs.StopSigs.{IsOfSigs};
-ghost use Rattle.ffi3_board.specs.WroteLine.{WroteLine};
+ghost use Rattle.ffi3_io.specs.Written.{WroteLine};
 
 use crate::Cifs;
-use ffi3_io::{IoError, Sink, write_all};
+use ffi3_io::{IoError, Sink, write_line};
 use ffi3_place::Abi;
 use ffi3_run_rules::Stop;
 use ffi3_types::{Bytes, FfiType, NoMemory, sig_text};
@@ -49,16 +49,6 @@ pub fn write_stop<A: Abi, O: Sink>(
         return Err(IoError::NoMemory);
     };
     write_line(output, line.as_slice())
-}
-
-/// Hands a line in.
-fn write_line<O: Sink>(output: &mut O, line: &[u8]) -> Result<(), IoError>
-    ensures { WroteLine line.now (O.state output.old) (O.state output.new) result }
-{
-    match write_all(output, line) {
-        Ok(()) => Ok(()),
-        Err(_) => Err(IoError::Failed),
-    }
 }
 
 /// The line of a print: the value's text, and a newline.

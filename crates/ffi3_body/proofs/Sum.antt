@@ -1,5 +1,5 @@
 -- The signatures of the tests have no fault; the sizes of their blocks.
-use Rattle.std.proofs.Common.{◌≡◌, All, ◌∷◌, [], ℕ, zero, suc, ◌<◌, false, length, refl, arith}
+use Rattle.std.proofs.Common.{◌≡◌, All, ◌∷◌, [], ℕ, zero, suc, ◌<◌, length, refl, arith}
 use Rattle.ffi3_type_rules.specs.Tree.{tree_at, s8, s16, s64}
 use Rattle.ffi3_type_rules.specs.Fault.{IsArgumentType}
 use Rattle.ffi3_type_rules.specs.Signature.{SignatureHasNoFault}

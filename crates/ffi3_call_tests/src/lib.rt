@@ -5,8 +5,6 @@
 #[cfg(test)]
 mod arguments;
 #[cfg(test)]
-mod calls;
-#[cfg(test)]
 mod lines;
 #[cfg(test)]
 mod results;

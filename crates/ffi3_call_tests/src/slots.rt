@@ -1,18 +1,25 @@
 //! Calls of closures through their slots, on each target: what the callee has and what the caller loads is what was sent.
-ghost use Rattle.std.specs.Prelude.{◌≡◌, ◌<◌, IfOk, length, true};
+ghost use Rattle.std.specs.Prelude.{◌≡◌, ◌+◌, ◌<◌, ◌≤◌, IfOk, IsSome, List, length, true};
+ghost use Rattle.ffi3_type_rules.specs.declared.limits.TheConstants.{ENTRY, STACK, STACK_TOP};
 ghost use Rattle.ffi3_type_rules.specs.Tree.{trees_of};
-ghost use Rattle.ffi3_type_rules.specs.Value.{all_fit, fits, values_of};
+ghost use Rattle.ffi3_type_rules.specs.Value.{ValueTree, all_fit, fits, values_of};
+ghost use Rattle.ffi3_place_rules.specs.Standard.{frame_of, need_of};
+ghost use Rattle.ffi3_run_rules.specs.Closures.{closure_at};
+ghost use Rattle.ffi3_machine.specs.State.{HasReturnAddress, IsSlot};
+ghost use Rattle.ffi3_closures.specs.Slots.{HoldsMap};
+ghost use Rattle.ffi3_pieces.specs.Stored.{WroteWithin};
 ghost use Rattle.ffi3_types.specs.TreeOf.{tree_of};
 ghost use Rattle.ffi3_values.specs.ValueOf.{value_of};
-ghost use Rattle.ffi3_callee.specs.Received.{IsIncoming};
+ghost use Rattle.ffi3_callee.specs.Received.{IsIncoming, OwnsAtEntry};
+ghost use Rattle.ffi3_invoke.specs.Calls.{IsCalled};
 
 use ffi3_aapcs64::Aapcs64;
 use ffi3_amd64::Amd64;
-use ffi3_callee::{Incoming, arg};
+use ffi3_callee::{Incoming, arg, poison};
 use ffi3_caller::room_for;
 use ffi3_cif::{Cif, prep_cif, prep_cif_var};
 use ffi3_closures::Table;
-use ffi3_invoke::{begin_call, end_call};
+use ffi3_invoke::{accept, end_call, pass_arguments};
 use ffi3_json::{Where, parse, read_signature};
 use ffi3_machine::{Machine, NoMemory};
 use ffi3_place::Abi;
@@ -21,6 +28,7 @@ use ffi3_riscv::Riscv;
 use ffi3_types::{Bytes, FfiType, Fields, Sig, check_type};
 use ffi3_values::{Value, Values, fits, value_from_bytes, value_text};
 use std::alloc::Global;
+use std::process::Abort;
 use std::test::Fail;
 
 /// Writes the argument that the callee has, with a space behind it.
@@ -60,8 +68,59 @@ fn write_arguments<A: Abi>(
     Ok(())
 }
 
+/// At an entry: writes the byte over all that the callee must not look at, if there is one.
+fn overwrite<A: Abi>(machine: &mut Machine, cif: &Cif<A>, over: Option<u8>)
+    requires entry { machine.old.pc ≡ ENTRY }
+    requires target { machine.old.target ≡ A.TARGET }
+    requires low { STACK ≤ machine.old.sp }
+    requires frame { machine.old.sp + A.standard.link + frame_of A.standard cif.now ≤ STACK_TOP }
+    requires some { (vs : List ValueTree) × OwnsAtEntry A.standard cif.now machine.old vs }
+    ensures own { (vs : List ValueTree) → OwnsAtEntry A.standard cif.now machine.old vs → OwnsAtEntry A.standard cif.now machine.new vs }
+    ensures return_address { HasReturnAddress machine.old → HasReturnAddress machine.new }
+    ensures sp { machine.new.sp ≡ machine.old.sp }
+    ensures within { WroteWithin (machine.old.sp + A.standard.link) (machine.old.sp + A.standard.link + frame_of A.standard cif.now) machine.old machine.new }
+{
+    if let Some(byte) = over {
+        poison(machine, cif, byte);
+    }
+}
+
+/// Calls the live closure at `ptr` up to its callee, which has the arguments in its block, with the byte over all that it must
+/// not look at, if there is one.
+fn begin<A: Abi>(
+    machine: &mut Machine,
+    table: &Table,
+    cif: &Cif<A>,
+    args: &Values,
+    ptr: u64,
+    over: Option<u8>,
+) -> Incoming
+    requires target { machine.old.target ≡ A.TARGET }
+    requires fit { all_fit (trees_of cif.now.arguments) (values_of args.now) ≡ true }
+    requires room { STACK + need_of A.standard cif.now ≤ machine.old.sp }
+    requires top { machine.old.sp ≤ STACK_TOP }
+    requires holds { HoldsMap machine.old.target table.now machine.old.code }
+    requires slot { IsSlot ptr }
+    requires live { IsSome (closure_at table.now ptr) }
+    requires events { 2 ≤ machine.old.spare_events }
+    requires bytes { A.standard.link + frame_of A.standard cif.now + frame_of A.standard cif.now ≤ machine.old.spare_bytes }
+    ensures called { IsCalled A.standard cif.now machine.new }
+    ensures incoming { IsIncoming A.standard cif.now result }
+    ensures block { result.block ≡ machine.new.sp }
+{
+    pass_arguments(machine, table, cif, args, ptr);
+    overwrite(machine, cif, over);
+    accept(machine, cif)
+}
+
 /// A call of a closure from a machine that begins: the texts of the arguments that the callee has, and of the result.
-fn told<A: Abi>(alloc: Global, cif: &Cif<A>, args: &Values, outcome: &Value) -> Result<Bytes, Fail>
+fn told<A: Abi>(
+    alloc: Global,
+    cif: &Cif<A>,
+    args: &Values,
+    outcome: &Value,
+    over: Option<u8>,
+) -> Result<Bytes, Fail>
     requires fit { all_fit (trees_of cif.now.arguments) (values_of args.now) ≡ true }
     requires fits { fits cif.now.result_type (value_of outcome.now) ≡ true }
 {
@@ -80,7 +139,7 @@ fn told<A: Abi>(alloc: Global, cif: &Cif<A>, args: &Values, outcome: &Value) -> 
     let bytes = A::LINK + cif.frame();
     machine.journal_room(bytes)?;
     let sp = machine.sp();
-    let incoming = begin_call(&mut machine, &table, cif, args, ptr);
+    let incoming = begin(&mut machine, &table, cif, args, ptr, over);
     let mut text = Bytes::new(alloc);
     write_arguments(alloc, &machine, cif, &incoming, &mut text)?;
     let sig = cif.sig();
@@ -172,7 +231,11 @@ fn sent(
 }
 
 /// Calls a closure of a signature: the texts of what was sent, and of what came.
-fn sent_and_came<A: Abi>(alloc: Global, sig: &Sig) -> Result<(Bytes, Bytes), Fail> {
+fn sent_and_came<A: Abi>(
+    alloc: Global,
+    sig: &Sig,
+    over: Option<u8>,
+) -> Result<(Bytes, Bytes), Fail> {
     let ret = sig.ret().copy(alloc)?;
     let types = sig.args().copy(alloc)?;
     let all = FfiType::Struct(types.copy(alloc)?);
@@ -186,7 +249,7 @@ fn sent_and_came<A: Abi>(alloc: Global, sig: &Sig) -> Result<(Bytes, Bytes), Fai
     };
     let wanted = sent(alloc, &types, args, &ret, &outcome)?;
     let cif = interface::<A>(alloc, ret, types, sig.fixed())?;
-    let came = told(alloc, &cif, args, &outcome)?;
+    let came = told(alloc, &cif, args, &outcome, over)?;
     Ok((wanted, came))
 }
 
@@ -214,11 +277,11 @@ const SIGNATURES: [&str; 18] = [
 ];
 
 /// How many of the signatures have all values come as they were sent.
-fn count_of_right<A: Abi>(alloc: Global) -> Result<usize, Fail> {
+fn count_of_right<A: Abi>(alloc: Global, over: Option<u8>) -> Result<usize, Fail> {
     let mut right = 0usize;
     for text in SIGNATURES {
         let sig = signature(alloc, text)?;
-        let (sent, came) = sent_and_came::<A>(alloc, &sig)?;
+        let (sent, came) = sent_and_came::<A>(alloc, &sig, over)?;
         if sent.as_slice() == came.as_slice() && right < SIGNATURES.len() {
             right += 1;
         }
@@ -226,11 +289,24 @@ fn count_of_right<A: Abi>(alloc: Global) -> Result<usize, Fail> {
     Ok(right)
 }
 
+/// On each target the values of all signatures come as they were sent.
+fn all_come(rt: &impl Abort, alloc: Global, over: Option<u8>) -> Result<(), Fail> {
+    assert_eq!(rt; count_of_right::<Amd64>(alloc, over)?, SIGNATURES.len());
+    assert_eq!(rt; count_of_right::<Aapcs64>(alloc, over)?, SIGNATURES.len());
+    assert_eq!(rt; count_of_right::<Riscv>(alloc, over)?, SIGNATURES.len());
+    Ok(())
+}
+
 #[test]
 fn values_come_through_a_slot(rt: HostRuntime) -> Result<(), Fail> {
-    let alloc = rt.alloc();
-    assert_eq!(rt; count_of_right::<Amd64>(alloc)?, SIGNATURES.len());
-    assert_eq!(rt; count_of_right::<Aapcs64>(alloc)?, SIGNATURES.len());
-    assert_eq!(rt; count_of_right::<Riscv>(alloc)?, SIGNATURES.len());
+    all_come(&rt, rt.alloc(), None)
+}
+
+/// A callee looks at the bytes of leaves and addresses alone.
+#[test]
+fn values_come_whatever_else_stands_there(rt: HostRuntime) -> Result<(), Fail> {
+    for byte in [0x00, 0x5A, 0xFF] {
+        all_come(&rt, rt.alloc(), Some(byte))?;
+    }
     Ok(())
 }

@@ -134,7 +134,7 @@ hidden_in n k h Nothing all = tt
 hidden_in n k h (DirectRes pieces) all = tt
 hidden_in n k h (Hidden at buffer) all = lie_more n k h at all.0
 
-hidden_in_frame : (std : Standard) (s : Signature) → IsSound std s → AllByRecursion (IsPlace (frame_of std s)) (hidden_locs (plan_of std s).res)
+pub hidden_in_frame : (std : Standard) (s : Signature) → IsSound std s → AllByRecursion (IsPlace (frame_of std s)) (hidden_locs (plan_of std s).res)
 hidden_in_frame std s sound =
     let p = plan_of std s in
     each_first (IsPlace (frame_of std s)) (hidden_locs p.res) (flat_map place_locs p.places) (each_first (IsPlace (frame_of std s)) (argument_locs p) (copy_locs s.arguments p.places ++ buffer_locs s.result_type p.res) (call_places std s sound))

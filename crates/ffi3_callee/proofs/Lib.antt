@@ -7,3 +7,7 @@ pub mod Return
 pub mod Entry
 pub mod Laws
 pub mod Keeping
+pub mod StillOwned
+pub mod Overwriting
+pub mod Poisoned
+pub mod Searching

@@ -19,6 +19,7 @@ ghost use Rattle.ffi3_callee.specs.Received.{IsIncoming, IsReceived, OwnsAtEntry
 
 mod answering;
 mod giving;
+mod poisoning;
 mod restoring;
 mod saving;
 mod taking;
@@ -32,6 +33,7 @@ use ffi3_place::{Abi, Loc, Pieces, Place, Res};
 use ffi3_type_rules::round_up;
 use ffi3_types::{FfiType, Sig};
 pub use giving::give_result;
+pub use poisoning::poison;
 pub use restoring::restore;
 use saving::{hidden_word, save_words};
 use taking::copy_argument;

@@ -91,6 +91,7 @@ module _ (std : Standard) (s : Signature) (agrees : AgreesWithMachine std) (m r 
           top = frame;
           saved = λ i word below is. received.saved i word below is ∙ word_is vs sound low own word (each_at (IsSaveable 0) std.save_area i word below (sym is) (words_saveable std agrees));
           return_address = return_same (link_register (isa_of std.target)) m.general m.sp m.stack r.stack (λ none. above_stays r.sp m.sp entered r w m.sp 8 low (omega arith)) at_standard;
+          frame = above_stays r.sp m.sp entered r w m.sp (std.link + frame_of std s) low (omega arith);
         };
         reserved = same_in (std.link + frame_of std s) 0 m r std.reserved (reserved_places_lie std agrees) stay;
         room = omega (arith, spare_events, events);

@@ -6,7 +6,7 @@ use Rattle.ffi3_type_rules.specs.Isa.{isa_of}
 use Rattle.ffi3_type_rules.specs.declared.limits.TheConstants.{STACK}
 use Rattle.ffi3_place_rules.specs.declared.Loc.TheVariants.{S}
 use Rattle.ffi3_place_rules.specs.Isa.{link_register}
-use Rattle.ffi3_place_rules.specs.Standard.{Standard}
+use Rattle.ffi3_place_rules.specs.Standard.{Standard, frame_of}
 use Rattle.ffi3_machine.specs.State.{State, HasReturnAt, stack_at}
 use Rattle.ffi3_pieces.specs.Stored.{WroteWithin}
 use Rattle.ffi3_pieces.proofs.Stepping.{same_word_in}
@@ -109,6 +109,7 @@ still_open std low high from a b w above entered block here stands =
       top = stands.top;
       saved = λ i word below is. word_above low high (entered.event.image.sp - std.save) i a b w (omega (arith, place, bottom)) (omega (arith, place, above, here)) ∙ stands.saved i word below is;
       return_address = return_same (link_register (isa_of std.target)) entered.event.image.general entered.event.image.sp a.stack b.stack (λ none. above_stays low high a b w entered.event.image.sp 8 (omega (arith, place, bottom)) (omega (arith, place, above, here))) stands.return_address;
+      frame = above_stays low high a b w entered.event.image.sp (std.link + frame_of std entered.signature) (omega (arith, place, bottom)) (omega (arith, place, above, here)) ∙ stands.frame;
     }
 
 -- with the journal and pc of another machine they stand alike
@@ -121,4 +122,5 @@ open_aside std from a b keeps entered block here stands =
       top = still.top;
       saved = still.saved;
       return_address = still.return_address;
+      frame = still.frame;
     }

@@ -24,11 +24,15 @@ use Rattle.ffi3_callee.specs.Saved.{saved_word}
 
 -- ---- an event
 
+-- the address of the closure that a machine at an entry shows
+abbrev pub entered_closure : State → ℕ
+entered_closure m = slice_index m.general (closure_register (isa_of m.target))
+
 -- the entry that the machine records of a call by the signature
 abbrev pub entry_at : Standard → Signature → State → Event
 entry_at std s m = record {
   kind = enters;
-  closure = slice_index m.general (closure_register (isa_of m.target));
+  closure = entered_closure m;
   image = image_of (std.link + frame_of std s) m;
 }
 
@@ -63,13 +67,14 @@ saved_of std s m (Register at) = register m at
 saved_of std s m HiddenWord = buffer_address std m (plan_of std s).res
 saved_of std s m Spare = 0
 
--- AN OPEN CALL STANDS, whose callee's block begins at an address: above the block stand the words that the callee saved, and RETURN is the return address. No byte below the block is spoken of, so that calls nested in it keep it.
+-- AN OPEN CALL STANDS, whose callee's block begins at an address: above the block stand the words that the callee saved, RETURN is the return address, and the bytes of the frame are those of its entry. No byte below the block is spoken of, so that calls nested in it keep it.
 pub record Stands (std : Standard) (entered : Entered) (block : ℕ) (m : State) : Type 0 where
   pub place : block + block_bytes entered.signature + std.save ≡ entered.event.image.sp
   pub bottom : STACK ≤ block
   pub top : entered.event.image.sp + std.link + frame_of std entered.signature ≤ STACK_TOP
   pub saved : (i : ℕ) (w : SaveWord) → i < length std.save_area → w ≡ get_or std.save_area i w → saved_word (entered.event.image.sp - std.save) i m ≡ saved_of std entered.signature entered.event.image w
   pub return_address : HasReturnAt (link_register (isa_of std.target)) entered.event.image.general entered.event.image.sp m.stack
+  pub frame : stack_at entered.event.image.sp (std.link + frame_of std entered.signature) m ≡ entered.event.image.stack
 
 -- The callee of an open call runs: its block begins at sp, the reserved registers are those of the entry, and the journal has room for the return.
 pub record IsInCallee (std : Standard) (entered : Entered) (m : State) : Type 0 where

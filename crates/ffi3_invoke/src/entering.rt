@@ -7,12 +7,24 @@ ghost use Rattle.ffi3_place_rules.specs.Standard.{block_bytes, frame_of};
 ghost use Rattle.ffi3_machine.specs.State.{HasReturnAddress, after_enter, scribbled_floating, scribbled_general};
 ghost use Rattle.ffi3_pieces.specs.Stored.{WroteWithin};
 ghost use Rattle.ffi3_callee.specs.Received.{IsIncoming, IsReceived, OwnsAtEntry};
-ghost use Rattle.ffi3_invoke.specs.Calls.{IsInCallee, KeepsReserved, entry_at, with_journal_of};
+ghost use Rattle.ffi3_invoke.specs.Calls.{IsInCallee, KeepsReserved, entered_closure, entry_at, with_journal_of};
 
 use ffi3_callee::{Incoming, receive};
 use ffi3_cif::Cif;
 use ffi3_machine::Machine;
 use ffi3_place::Abi;
+use ffi3_type_rules::Isa;
+
+/// The address of the closure that is entered, where its trampoline has run: what the closure register holds.
+pub fn entered_closure(machine: &Machine) -> u64
+    ensures { result ≡ entered_closure machine.now }
+{
+    machine.g(match machine.target().isa() {
+        Isa::Amd64 => 10,
+        Isa::Aarch64 => 17,
+        Isa::Riscv => 6,
+    })
+}
 
 /// At an entry of any caller whose image owns some values: records it, and takes the arguments into the callee's block. Where RETURN is
 /// the return address and the journal has room for the return too, the callee of an open call then runs.

@@ -18,7 +18,7 @@ mod entering;
 mod passing;
 mod returning;
 
-pub use entering::accept;
+pub use entering::{accept, entered_closure};
 use ffi3_callee::Incoming;
 use ffi3_caller::{drop_frame, load_result};
 use ffi3_cif::Cif;

@@ -1,12 +1,12 @@
 -- Texts that a sink takes, one after another, and what is written of one that is cut off.
-use Rattle.std.proofs.Common.{◌≡◌, ℕ, ◌+◌, ◌≤◌, List, [], ◌++◌, length, take, Option, refl, sym, ap, ◌∙◌, subst, arith, length-append}
+use Rattle.std.proofs.Common.{◌≡◌, ℕ, ◌+◌, ◌≤◌, List, [], ◌++◌, length, take, Option, Result, Ok, Err, refl, sym, ap, ◌∙◌, subst, arith, length-append}
 use Rattle.std.proofs.lemmas.List.{take-append-le}
 use Rattle.std.proofs.Math.Seq.{take-append-add, take-length}
 use Rattle.ffi3_io.specs.Sink.{Adds, SinkState}
 use Rattle.ffi3_io.proofs.Adding.{Adds-then, Adds-along, Adds-none}
 use Rattle.ffi3_io.specs.declared.IoError.{IoError}
-use Rattle.ffi3_io.specs.declared.IoError.TheVariants.{NoMemory}
-use Rattle.ffi3_io.specs.Written.{CutOff, IsCause, TookText}
+use Rattle.ffi3_io.specs.declared.IoError.TheVariants.{NoMemory, Failed}
+use Rattle.ffi3_io.specs.Written.{CutOff, IsCause, TookText, Wrote, WroteLine}
 
 pub took_nothing : (before : SinkState) → TookText [] before before
 took_nothing before = record { added = Adds-none before.taken; count = refl }
@@ -64,3 +64,15 @@ cut_between a b x y whole is h = cut_after a b b x y whole NoMemory is h (cut_at
 pub whole_part : (a b : Option (List ℕ)) (whole : List ℕ) → Adds a whole b → (part : ℕ) × Adds a (take part whole) b
 whole_part a b whole h =
     (length whole, Adds-along a b whole (take (length whole) whole) (sym (take-length whole)) h)
+
+-- a line that was not written whole is cut off
+pub wrote_line : {A : Type 0} (line : List ℕ) (a b : SinkState) (r : Result A IoError) → WroteLine line a b r → Wrote line a b r
+wrote_line line a b (Ok done) h = h
+wrote_line line a b (Err NoMemory) h =
+    subst (λ (s : SinkState). CutOff line a s NoMemory) (sym h) (cut_at_once a line)
+wrote_line line a b (Err Failed) h = record {
+  part = h.part.0;
+  within = omega (arith, h.part.1);
+  written = h.part.2;
+  cause = (h.rose, h.never_falls);
+}

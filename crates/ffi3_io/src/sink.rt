@@ -1,7 +1,7 @@
 //! Where bytes go.
 ghost use Rattle.std.specs.Prelude.{◌≡◌, ◌<◌, ◌≤◌, [], take, length, IfOk, OnOk, OnErr};
 ghost use Rattle.ffi3_io.specs.Sink.{Adds, AddsSome, Rose, SinkState};
-ghost use Rattle.ffi3_io.specs.Written.{Wrote};
+ghost use Rattle.ffi3_io.specs.Written.{WroteLine};
 
 use crate::{Failed, IoError};
 
@@ -42,9 +42,9 @@ pub fn write_all<O: Sink>(output: &mut O, bytes: &[u8]) -> Result<(), Failed>
     Ok(())
 }
 
-/// Writes a line, with its newline, in one piece.
+/// Writes a line, with its newline, in one piece. Where that fails, some of its bytes are missing.
 pub fn write_line<O: Sink>(output: &mut O, line: &[u8]) -> Result<(), IoError>
-    ensures { Wrote line.now (O.state output.old) (O.state output.new) result }
+    ensures { WroteLine line.now (O.state output.old) (O.state output.new) result }
 {
     match write_all(output, line) {
         Ok(()) => Ok(()),

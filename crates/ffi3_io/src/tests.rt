@@ -1,7 +1,6 @@
-//! The four forms in memory, the adapters, and the two helpers over fakes that move one byte at a
+//! The four forms in memory, the adapters, and the two helpers over forms that move one byte at a
 //! time. Answers are written as text: the bytes given, or the digit of how many were taken, or '!'
 //! for a failure.
-ghost use Rattle.std.specs.Prelude.{None};
 
 use crate::{
     Failed, IoError, MemSink, MemSource, NoMemory, ReadSource, Sink, Source, SureSink, SureSource,
@@ -11,36 +10,6 @@ use std::alloc::Global;
 use std::io;
 use std::io::{Error, ErrorKind, Read};
 use std::test::Fail;
-
-/// A source that gives one byte at a time.
-#[derive(Drop)]
-struct OneByteSource {
-    inner: MemSource,
-}
-
-impl Source for OneByteSource {
-    ghost state = { λ s. record { left = None; faults = s.inner.faults } };
-
-    fn read(&mut self, buf: &mut [u8]) -> Result<usize, Failed> {
-        let n = buf.len().min(1);
-        self.inner.read(&mut buf[..n])
-    }
-}
-
-/// A sink that takes one byte at a time.
-#[derive(Drop)]
-struct OneByteSink {
-    inner: MemSink,
-}
-
-impl Sink for OneByteSink {
-    ghost state = { λ s. record { taken = None; faults = s.inner.faults } };
-
-    fn write(&mut self, bytes: &[u8]) -> Result<usize, Failed> {
-        let n = bytes.len().min(1);
-        self.inner.write(&bytes[..n])
-    }
-}
 
 /// A reader that always fails.
 #[derive(Drop)]
@@ -101,6 +70,10 @@ fn sources_answer(rt: HostRuntime) -> Result<(), Fail> {
         let got = reads(alloc, &mut source, size, times)?;
         assert_eq!(rt; got.as_slice(), want);
     }
+    let bytes = Vec::from_slice(alloc, b"abc")?;
+    let mut by_two = MemSource::new(bytes, Vec::from_slice(alloc, &[3])?).chunk(2);
+    let got = reads(alloc, &mut by_two, 9, 5)?;
+    assert_eq!(rt; got.as_slice(), b"ab|c|!|||".as_slice());
     let mut sure = SureSource::new(Vec::from_slice(alloc, b"abc")?);
     let got = reads(alloc, &mut sure, 2, 3)?;
     assert_eq!(rt; got.as_slice(), b"ab|c||".as_slice());
@@ -134,6 +107,14 @@ fn sinks_answer(rt: HostRuntime) -> Result<(), Fail> {
         assert_eq!(rt; got.as_slice(), want);
         assert_eq!(rt; sink.taken(), taken);
     }
+    let mut by_two = MemSink::new(alloc, 5, Vec::from_slice(alloc, &[2])?)?.chunk(2);
+    let got = writes(
+        alloc,
+        &mut by_two,
+        &[b"abc", b"c", b"cd", b"efg", b"h", b""],
+    )?;
+    assert_eq!(rt; got.as_slice(), b"2!21!0".as_slice());
+    assert_eq!(rt; by_two.taken(), b"abcde".as_slice());
     let mut sure = SureSink::new(alloc, 4)?;
     assert_eq!(rt; sure.write(b"ab"), Ok(2));
     assert_eq!(rt; sure.write(b"cd"), Ok(2));
@@ -159,10 +140,9 @@ fn pieces_are_handed_in_again(rt: HostRuntime) -> Result<(), Fail> {
         (4, &[], false, b"abcd"),
     ];
     for (room, fails, is_whole, taken) in rows {
-        let inner = MemSink::new(alloc, room, Vec::from_slice(alloc, fails)?)?;
-        let mut sink = OneByteSink { inner };
+        let mut sink = MemSink::new(alloc, room, Vec::from_slice(alloc, fails)?)?.chunk(1);
         assert_eq!(rt; write_all(&mut sink, b"abcdef").is_ok(), is_whole);
-        assert_eq!(rt; sink.inner.taken(), taken);
+        assert_eq!(rt; sink.taken(), taken);
     }
     Ok(())
 }
@@ -179,8 +159,7 @@ fn input_is_read_to_its_end(rt: HostRuntime) -> Result<(), Fail> {
     ];
     for (fails, limit, want) in rows {
         let bytes = Vec::from_slice(alloc, b"abcdef")?;
-        let inner = MemSource::new(bytes, Vec::from_slice(alloc, fails)?);
-        let mut source = OneByteSource { inner };
+        let mut source = MemSource::new(bytes, Vec::from_slice(alloc, fails)?).chunk(1);
         match read_all(alloc, &mut source, limit) {
             Ok(got) => assert_eq!(rt; Some(got.as_slice()), want),
             Err(end) => {

@@ -9,7 +9,7 @@ use Rattle.serde_json.specs.Data.{Data, null, boolean, number, string, array, ob
 use Rattle.serde_json.specs.Find.{get, get_member, as_object, as_array}
 use Rattle.serde_json.specs.Events.{members_len}
 use Rattle.ffi3_type_rules.specs.Tree.{struct_of}
-use Rattle.ffi3_script_rules.specs.Language.{Path, Read, read, fault, read_map, not_a_type, under, read_type, read_types, read_struct, HasShortArrays, HaveShortMembers, is_key_of, has_only, first_missing}
+use Rattle.ffi3_script_rules.specs.Language.{Path, fault, read_map, not_a_type, under, read_types, read_struct, HasShortArrays, HaveShortMembers, is_key_of, has_only, first_missing}
 use Rattle.ffi3_script_rules.specs.Language as language
 use Rattle.serde_json.specs.View.{members_view}
 use Rattle.serde_json.proofs.Views.{Entry}

@@ -28,6 +28,8 @@ pub trait Abi {
 
     ghost KEPT: { ℕ };
 
+    ghost PASSING: { ℕ };
+
     /// Bytes of the area in which a callee saves the registers that it preserves.
     const SAVE: u64;
 
@@ -40,10 +42,18 @@ pub trait Abi {
     /// How many registers a callee preserves, the stack pointer aside.
     const KEPT: u8;
 
+    /// How many registers arguments and the address of a hidden result are passed in.
+    const PASSING: u8;
+
     /// Preserved register `k`.
     fn kept_register(k: u8) -> Loc
         requires { k < KEPT }
         ensures { result ≡ slice_index_or standard.preserved k result };
+
+    /// Argument register `k`.
+    fn passing_register(k: u8) -> Loc
+        requires { k < PASSING }
+        ensures { result ≡ slice_index_or standard.argument_registers k result };
 
     /// Word `k` of the area in which a callee saves registers, from its lowest address. A word has eight bytes.
     fn saved_word(k: u8) -> SaveWord
@@ -70,6 +80,8 @@ pub trait Abi {
     ghost target_is: { standard.target ≡ TARGET };
 
     ghost kept_all: { length standard.preserved ≡ KEPT };
+
+    ghost passing_all: { length standard.argument_registers ≡ PASSING };
 
     // A number of eight bits names each word of the save area.
     ghost words_few: { length standard.save_area < 256 };

@@ -6,7 +6,7 @@ use Rattle.ffi3_place_rules.specs.Isa.{general_registers, floating_registers}
 use Rattle.ffi3_place_rules.specs.declared.Loc.{Loc}
 use Rattle.ffi3_place_rules.specs.declared.Loc.TheVariants.{G, F, S}
 use Rattle.ffi3_place_rules.specs.declared.Taken.{Taken}
-use Rattle.ffi3_place_rules.specs.Sound.{Apart, AreApart, IsNoneOf, LiesIn, stack_words}
+use Rattle.ffi3_place_rules.specs.Sound.{Apart, AreApart, IsNoneOf, IsOneOf, IsOnStackOrIn, LiesIn, stack_words}
 
 pub record AtMost (a b : Taken) : Type 0 where
   pub general : a.general ≤ b.general
@@ -99,6 +99,16 @@ module _ (general floating : ℕ → ℕ) (generals floatings : ℕ) where
         one (G r) f = subst (λ q. IsNoneOf never (G q)) (sym f.1) (in_general f.0 f.3)
         one (F r) f = subst (λ q. IsNoneOf never (F q)) (sym f.1) (in_floating f.0 f.3)
         one (S n) f = on_stack n
+
+  module _ (registers : List Loc) (in_general : (k : ℕ) → k < generals → IsOneOf registers (G (general k))) (in_floating : (k : ℕ) → k < floatings → IsOneOf registers (F (floating k))) where
+    pub chain_passed : (a : Taken) (ls : List Loc) (b : Taken) → Chain a ls b → AllByRecursion (IsOnStackOrIn registers) ls
+    chain_passed a [] b h = tt
+    chain_passed a (l ∷ ls) b h = (one l h.1, chain_passed h.0 ls b h.4)
+      where
+        one : (m : Loc) → From a m → IsOnStackOrIn registers m
+        one (G r) f = subst (λ q. IsOneOf registers (G q)) (sym f.1) (in_general f.0 f.3)
+        one (F r) f = subst (λ q. IsOneOf registers (F q)) (sym f.1) (in_floating f.0 f.3)
+        one (S n) f = tt
 
   pub chain_lies_in : (isa : Isa) → ((k : ℕ) → k < generals → general k < general_registers isa) → ((k : ℕ) → k < floatings → floating k < floating_registers isa) → (a : Taken) (ls : List Loc) (b : Taken) (stack : ℕ) → b.stack ≤ stack → Chain a ls b → AllByRecursion (LiesIn isa stack) ls
   chain_lies_in isa gs fs a [] b stack room h = tt

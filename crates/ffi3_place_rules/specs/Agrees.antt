@@ -8,7 +8,7 @@ use Rattle.ffi3_place_rules.specs.declared.SaveWord.{SaveWord}
 use Rattle.ffi3_place_rules.specs.declared.SaveWord.TheVariants.{Register, Hidden, Spare}
 use Rattle.ffi3_place_rules.specs.Isa.{pushed_bytes, stack_pointer, link_place, reserved_places, closure_register, trampoline_registers, TakesWrites}
 use Rattle.ffi3_place_rules.specs.Standard.{Standard}
-use Rattle.ffi3_place_rules.specs.Sound.{AreApart, IsNoneOf, IsOneOf, LiesIn, listed}
+use Rattle.ffi3_place_rules.specs.Sound.{AreApart, IsNoneOf, IsOneOf, LiesIn, closed_to_arguments, listed}
 
 -- the registers of a save area, in its order
 abbrev pub saved_register : SaveWord → List Loc
@@ -47,6 +47,10 @@ pub record AgreesWithMachine (std : Standard) : Type 0 where
   pub preserved_exist : AllByRecursion (LiesIn (isa_of std.target) 0) std.preserved
   pub preserved_apart : AreApart std.preserved
   pub preserved_plain : AllByRecursion (IsNoneOf (special std)) std.preserved
+  -- argument registers are registers, differ from one another, and are none of those that a call gives another meaning
+  pub arguments_exist : AllByRecursion (LiesIn (isa_of std.target) 0) std.argument_registers
+  pub arguments_apart : AreApart std.argument_registers
+  pub arguments_plain : AllByRecursion (IsNoneOf (closed_to_arguments std)) std.argument_registers
   -- the registers that tell the vector count and return a hidden result's address are registers, and none of those that are given back or reserved, and the first none that a trampoline writes
   pub count_exists : AllByRecursion (LiesIn (isa_of std.target) 0) (listed std.vector_count)
   pub count_plain : AllByRecursion (IsNoneOf (given_back std ++ (std.reserved ++ std.trampoline_registers))) (listed std.vector_count)

@@ -109,6 +109,12 @@ closed_to_results std = std.stack_pointer ∷ (std.preserved ++ (std.reserved ++
 abbrev pub closed_to_arguments : Standard → List Loc
 closed_to_arguments std = closed_to_results std ++ (std.trampoline_registers ++ listed std.vector_count)
 
+-- a place on the stack, or one of these registers
+abbrev pub IsOnStackOrIn : List Loc → Loc → Type 0
+IsOnStackOrIn registers (G r) = IsOneOf registers (G r)
+IsOnStackOrIn registers (F r) = IsOneOf registers (F r)
+IsOnStackOrIn registers (S n) = ⊤
+
 -- ---- pieces that have the whole value
 
 -- each byte of the leaf stands in a piece
@@ -201,6 +207,8 @@ pub record IsSound (std : Standard) (s : Signature) : Type 0 where
   pub in_frame : AllByRecursion (LiesIn (isa_of std.target) (plan_of std s).frame) (call_locs s (plan_of std s))
   pub on_stack : AllByRecursion (LiesIn (isa_of std.target) (std.placing s).stack_bytes) (argument_locs (plan_of std s))
   pub allowed : AllByRecursion (IsNoneOf (closed_to_arguments std)) (argument_locs (plan_of std s))
+  -- what is passed in a register is passed in an argument register
+  pub passed : AllByRecursion (IsOnStackOrIn std.argument_registers) (argument_locs (plan_of std s))
   pub has_all : PlacesHaveAll s.arguments (plan_of std s).places
   pub filled : PlacesAreFilled std s.arguments (plan_of std s).places
   -- the pieces of one argument that stand on the stack rise, each by its place and by its bytes

@@ -45,6 +45,8 @@ pub record Standard : Type 0 where
   pub preserved : List Loc
   pub reserved : List Loc
   pub link_register : Option Loc
+  -- the registers in which arguments and the address of a hidden result are passed
+  pub argument_registers : List Loc
   -- the words of a callee's save area, from its lowest address
   pub save_area : List SaveWord
   -- the register that holds the closure's address at entry, and all that a trampoline writes

@@ -465,6 +465,26 @@ const REGISTERS: [Loc; 24] = [
 /// The RISC-V calling standard with LP64D. (RISC-V ELF psABI)
 pub struct Riscv;
 
+/// a0 to a7 and fa0 to fa7
+const PASSING_REGISTERS: [Loc; 16] = [
+    Loc::G(10),
+    Loc::G(11),
+    Loc::G(12),
+    Loc::G(13),
+    Loc::G(14),
+    Loc::G(15),
+    Loc::G(16),
+    Loc::G(17),
+    Loc::F(10),
+    Loc::F(11),
+    Loc::F(12),
+    Loc::F(13),
+    Loc::F(14),
+    Loc::F(15),
+    Loc::F(16),
+    Loc::F(17),
+];
+
 impl Abi for Riscv {
     ghost use Rattle.ffi3_type_rules.specs.declared.Target.TheVariants as target;
     ghost use Rattle.ffi3_riscv_rules.specs.Riscv.{riscv};
@@ -479,6 +499,8 @@ impl Abi for Riscv {
 
     ghost KEPT = { length riscv.preserved };
 
+    ghost PASSING = { length riscv.argument_registers };
+
     const SAVE: u64 = 208;
 
     const LINK: u64 = 0;
@@ -487,8 +509,14 @@ impl Abi for Riscv {
 
     const KEPT: u8 = 24;
 
+    const PASSING: u8 = 16;
+
     fn kept_register(k: u8) -> Loc {
         REGISTERS[k as usize]
+    }
+
+    fn passing_register(k: u8) -> Loc {
+        PASSING_REGISTERS[k as usize]
     }
 
     fn saved_word(k: u8) -> SaveWord {
@@ -531,6 +559,8 @@ impl Abi for Riscv {
     ghost target_is = { refl };
 
     ghost kept_all = { refl };
+
+    ghost passing_all = { refl };
 
     ghost words_few = { ltb-true (length riscv.save_area) 256 refl };
 

@@ -7,10 +7,10 @@ use Rattle.ffi3_type_rules.specs.declared.Isa.TheVariants as isa
 use Rattle.ffi3_place_rules.specs.declared.Loc.{Loc}
 use Rattle.ffi3_place_rules.specs.declared.Loc.TheVariants.{G, F, S}
 use Rattle.ffi3_place_rules.specs.Isa.{general_registers, floating_registers, TakesWrites, is_zero_register}
-use Rattle.ffi3_place_rules.specs.Sound.{IsNoneOf, LiesIn}
+use Rattle.ffi3_place_rules.specs.Sound.{IsNoneOf, LiesIn, closed_to_arguments}
 use Rattle.ffi3_place_rules.specs.Agrees.{given_back, saved_registers, special, AgreesWithMachine}
 use Rattle.ffi3_place_rules.proofs.Forbidden.{each_by, each_none_of, each_one_of, apart_all}
-use Rattle.ffi3_riscv_rules.specs.Riscv.{callee_saved, riscv}
+use Rattle.ffi3_riscv_rules.specs.Riscv.{callee_saved, passing, riscv}
 
 -- a test for registers that the instruction set has
 abbrev has_register : Isa → Loc → Bool
@@ -44,6 +44,9 @@ agrees = record {
   preserved_exist = each_by (has_register isa.Riscv) (LiesIn isa.Riscv 0) (exists isa.Riscv) callee_saved refl;
   preserved_apart = apart_all callee_saved refl;
   preserved_plain = each_none_of (special riscv) callee_saved refl;
+  arguments_exist = each_by (has_register isa.Riscv) (LiesIn isa.Riscv 0) (exists isa.Riscv) passing refl;
+  arguments_apart = apart_all passing refl;
+  arguments_plain = each_none_of (closed_to_arguments riscv) passing refl;
   count_exists = tt;
   count_plain = tt;
   returned_exists = tt;

@@ -5,10 +5,10 @@ use Rattle.ffi3_type_rules.specs.declared.Isa.TheVariants as isa
 use Rattle.ffi3_place_rules.specs.declared.Loc.{Loc}
 use Rattle.ffi3_place_rules.specs.declared.Loc.TheVariants.{G, F, S}
 use Rattle.ffi3_place_rules.specs.Isa.{general_registers, floating_registers}
-use Rattle.ffi3_place_rules.specs.Sound.{IsNoneOf, closed_to_arguments, closed_to_results}
+use Rattle.ffi3_place_rules.specs.Sound.{IsNoneOf, IsOneOf, closed_to_arguments, closed_to_results}
 use Rattle.ffi3_place_rules.proofs.Tests.{each_of_eight}
 use Rattle.ffi3_place_rules.proofs.Chain.{Registers}
-use Rattle.ffi3_place_rules.proofs.Forbidden.{is_none_of, none_of, each_none_of}
+use Rattle.ffi3_place_rules.proofs.Forbidden.{is_none_of, none_of, each_none_of, is_one_of, one_of}
 use Rattle.ffi3_riscv_rules.specs.Riscv.{riscv, argument_register, floating_register}
 
 pub all_registers : Registers argument_register floating_register 8 8
@@ -41,6 +41,14 @@ floating_allowed = eight_allowed (closed_to_arguments riscv) (λ k. F (floating_
 
 pub stack_allowed : (n : ℕ) → IsNoneOf (closed_to_arguments riscv) (S n)
 stack_allowed n = none_of (closed_to_arguments riscv) (S n) refl
+
+pub argument_passes : (k : ℕ) → k < 8 → IsOneOf riscv.argument_registers (G (argument_register k))
+argument_passes k h =
+    one_of riscv.argument_registers (G (argument_register k)) (each_of_eight (λ j. is_one_of riscv.argument_registers (G (argument_register j)) ≡ true) refl refl refl refl refl refl refl refl k h)
+
+pub floating_passes : (k : ℕ) → k < 8 → IsOneOf riscv.argument_registers (F (floating_register k))
+floating_passes k h =
+    one_of riscv.argument_registers (F (floating_register k)) (each_of_eight (λ j. is_one_of riscv.argument_registers (F (floating_register j)) ≡ true) refl refl refl refl refl refl refl refl k h)
 
 pub result_allowed_general : (k : ℕ) → k < 8 → IsNoneOf (closed_to_results riscv) (G (argument_register k))
 result_allowed_general = eight_allowed (closed_to_results riscv) (λ k. G (argument_register k)) refl

@@ -12,8 +12,8 @@ use Rattle.ffi3_place_rules.specs.declared.Loc.TheVariants.{G, F, S}
 use Rattle.ffi3_place_rules.specs.declared.Taken.{Taken}
 use Rattle.ffi3_place_rules.specs.Standard.{Spot, in_pieces, by_reference, ResultSpot, no_result as nowhere, plan_of, at_once, copy_end, place_at, places_from, result_at, copies_start, frame_copies_end, frame_of}
 use Rattle.ffi3_place_rules.specs.Doublewords.{doublewords_at}
-use Rattle.ffi3_place_rules.specs.Sound.{AreApart, piece_locs, place_locs, hidden_locs, result_locs, argument_locs, IsNoneOf, LiesIn, call_locs, closed_to_arguments, closed_to_results, PlaceHasAll, ResultHasAll, PlaceIsFilled, ResultIsFilled, IsSound, IsDetermined}
-use Rattle.ffi3_place_rules.proofs.Chain.{AtMost, at_most_self, From, Until, Chain, chain_less, chain_append, chain_apart, chain_allowed, chain_lies_in}
+use Rattle.ffi3_place_rules.specs.Sound.{IsOnStackOrIn, AreApart, piece_locs, place_locs, hidden_locs, result_locs, argument_locs, IsNoneOf, LiesIn, call_locs, closed_to_arguments, closed_to_results, PlaceHasAll, ResultHasAll, PlaceIsFilled, ResultIsFilled, IsSound, IsDetermined}
+use Rattle.ffi3_place_rules.proofs.Chain.{AtMost, at_most_self, From, Until, Chain, chain_less, chain_append, chain_apart, chain_allowed, chain_passed, chain_lies_in}
 use Rattle.ffi3_place_rules.proofs.Frame.{up_to, frame_chain}
 use Rattle.ffi3_place_rules.proofs.Aligned.{frame_is_aligned, need_is_aligned}
 use Rattle.ffi3_place_rules.proofs.Determines.{determined}
@@ -26,7 +26,7 @@ use Rattle.ffi3_riscv_rules.proofs.Covered.{spot_has_all, arguments_have_all}
 use Rattle.ffi3_riscv_rules.proofs.Filled.{spot_filled, arguments_filled}
 use Rattle.ffi3_riscv_rules.proofs.Rising.{arguments_rise}
 use Rattle.ffi3_riscv_rules.proofs.Agrees.{agrees}
-use Rattle.ffi3_riscv_rules.proofs.Registers.{all_registers, argument_exists, floating_exists, argument_allowed, floating_allowed, stack_allowed, result_allowed_general, result_allowed_floating, result_allowed_stack}
+use Rattle.ffi3_riscv_rules.proofs.Registers.{all_registers, argument_exists, floating_exists, argument_allowed, floating_allowed, stack_allowed, argument_passes, floating_passes, result_allowed_general, result_allowed_floating, result_allowed_stack}
 
 -- what so many words and floating registers take
 abbrev taken_of : ℕ → ℕ → Taken
@@ -179,6 +179,10 @@ plan_allowed : (s : Signature) → AllByRecursion (IsNoneOf (closed_to_arguments
 plan_allowed s =
     chain_allowed argument_register floating_register 8 8 (closed_to_arguments riscv) argument_allowed floating_allowed stack_allowed (taken unused) _ _ (plan_chain s)
 
+plan_passed : (s : Signature) → AllByRecursion (IsOnStackOrIn riscv.argument_registers) (argument_locs (plan_of riscv s))
+plan_passed s =
+    chain_passed argument_register floating_register 8 8 riscv.argument_registers argument_passes floating_passes (taken unused) _ _ (plan_chain s)
+
 plan_lies_in : (s : Signature) → AllByRecursion (LiesIn isa.Riscv (placing_of s).stack_bytes) (argument_locs (plan_of riscv s))
 plan_lies_in s =
     chain_lies_in argument_register floating_register 8 8 isa.Riscv argument_exists floating_exists (taken unused) _ _ (placing_of s).stack_bytes (omega arith) (plan_chain s)
@@ -258,6 +262,7 @@ sound s =
       in_frame = plan_in_frame s;
       on_stack = plan_lies_in s;
       allowed = plan_allowed s;
+      passed = plan_passed s;
       has_all = arguments_have_all at_once (copies_start (placing_of s)) s.fixed (used_at_first s.result_type) 0 s.arguments;
       filled = arguments_filled at_once (copies_start (placing_of s)) s.fixed (used_at_first s.result_type) 0 s.arguments;
       rising = arguments_rise at_once (copies_start (placing_of s)) s.fixed (used_at_first s.result_type) 0 s.arguments;

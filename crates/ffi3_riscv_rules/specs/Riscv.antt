@@ -231,6 +231,11 @@ abbrev pub callee_saved : List Loc
 callee_saved =
     G 8 ∷ G 9 ∷ G 18 ∷ G 19 ∷ G 20 ∷ G 21 ∷ G 22 ∷ G 23 ∷ G 24 ∷ G 25 ∷ G 26 ∷ G 27 ∷ F 8 ∷ F 9 ∷ F 18 ∷ F 19 ∷ F 20 ∷ F 21 ∷ F 22 ∷ F 23 ∷ F 24 ∷ F 25 ∷ F 26 ∷ F 27 ∷ []
 
+-- a0 to a7 and fa0 to fa7 ("Integer Register Convention", "Floating-point Register Convention")
+abbrev pub passing : List Loc
+passing =
+    G 10 ∷ G 11 ∷ G 12 ∷ G 13 ∷ G 14 ∷ G 15 ∷ G 16 ∷ G 17 ∷ F 10 ∷ F 11 ∷ F 12 ∷ F 13 ∷ F 14 ∷ F 15 ∷ F 16 ∷ F 17 ∷ []
+
 -- The words of a callee's save area, from its lowest address: ra, the callee-saved registers, and the hidden pointer. (This library's own order.)
 abbrev pub saved_words : List SaveWord
 saved_words =
@@ -246,6 +251,7 @@ riscv = record {
   preserved = callee_saved;
   reserved = reserved_places isa.Riscv;
   link_register = link_place isa.Riscv;
+  argument_registers = passing;
   save_area = saved_words;
   closure_register = closure_register isa.Riscv;
   trampoline_registers = trampoline_registers isa.Riscv;

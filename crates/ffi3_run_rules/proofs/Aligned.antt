@@ -1,7 +1,7 @@
 -- Where the top of the stack is a multiple of 16, so is the caller's stack pointer at each entry.
 use Rattle.std.proofs.Common.{◌≡◌, ℕ, ◌+◌, ◌%◌, List, [], ◌∷◌, refl, arith}
 use Rattle.ffi3_type_rules.specs.Signature.{Signature}
-use Rattle.ffi3_place_rules.specs.Standard.{Standard, need_of, frame_of}
+use Rattle.ffi3_place_rules.specs.Standard.{Standard, frame_of}
 use Rattle.ffi3_place_rules.proofs.Aligned.{frame_is_aligned, need_is_aligned}
 use Rattle.ffi3_run_rules.specs.Journal.{Entered, needs}
 

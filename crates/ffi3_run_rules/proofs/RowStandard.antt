@@ -14,6 +14,7 @@ in_registers = record {
   preserved = G 3 ∷ G 5 ∷ G 12 ∷ G 13 ∷ G 14 ∷ G 15 ∷ [];
   reserved = [];
   link_register = None;
+  argument_registers = [];
   save_area = [];
   closure_register = 10;
   trampoline_registers = [];

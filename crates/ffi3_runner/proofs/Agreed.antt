@@ -1,8 +1,7 @@
 -- All activations stand in their bodies, after each kind of move.
-use Rattle.std.proofs.Common.{◌≡◌, ℕ, ◌≤◌, true, List, [], ◌∷◌, ◌++◌, Option, Some, None, reverse, refl, sym, ap, ◌∙◌, subst}
+use Rattle.std.proofs.Common.{◌≡◌, ℕ, true, List, [], ◌∷◌, ◌++◌, Option, Some, reverse, refl, sym, ap, ◌∙◌, subst}
 use Rattle.std.proofs.lemmas.List.{reverse-append}
 use Rattle.ffi3_type_rules.specs.Signature.{Signature, signature_at}
-use Rattle.ffi3_type_rules.specs.Tree.{Tree}
 use Rattle.ffi3_type_rules.specs.Value.{ValueTree, fits}
 use Rattle.ffi3_run_rules.specs.declared.Closure.{Closure}
 use Rattle.ffi3_run_rules.specs.Meaning.{function}
@@ -18,8 +17,9 @@ use Rattle.ffi3_board.specs.declared.activation.OpenCall.{OpenCall}
 use Rattle.ffi3_board.specs.declared.activation.Waiting.{Waiting}
 use Rattle.ffi3_board.specs.declared.activation.Who.TheVariants.{Function}
 use Rattle.ffi3_board.specs.declared.board.Board.{Board}
-use Rattle.ffi3_board.specs.Going.{and_result, HasGoneIn, HasGoneBack}
+use Rattle.ffi3_board.specs.Going.{HasGoneIn, HasGoneBack}
 use Rattle.ffi3_board.specs.Path.{call_inside, calls_of, result_type_at}
+use Rattle.ffi3_board.specs.Served.{HasAccepted}
 use Rattle.ffi3_board.proofs.Blocks.{AreAbove, StaysFrom}
 use Rattle.ffi3_runner.specs.Agreeing.{seen_by, InnermostStands, IsStanding, WillStand, AllWillStand, AllStand}
 use Rattle.ffi3_runner.proofs.Seen.{standing_kept, will_kept, all_will_kept, now_stands, stays_equal, all_above}
@@ -68,6 +68,18 @@ module _ (s : Script) (natives : List NamedNative) (ss : List Signature) (m m' :
         innermost = subst Q (sym gone.innermost) (now_stands s natives ss m' (call_inside b'.served left) w.activation (signature_at ss w.call.sig) r fitting will);
         others = all_will_kept ss m m' low stays s natives b'.served left above those.1;
       }
+
+-- A CALL WAS ACCEPTED, and nothing waits for it
+pub accepted_stands : (s : Script) (natives : List NamedNative) (ss : List Signature) (m : State) (b b' : Board Standing) (closure : Closure) (standing : Standing) → HasAccepted closure standing b b' → b.suspended.items ≡ [] → ask.who_of standing ≡ function closure.func → ((z : SeenActivation) → z.signature ≡ signature_at ss closure.sig → z.results ≡ [] → StandingAgrees s natives z standing) → AllStand s natives ss m b'
+accepted_stands s natives ss m b b' closure standing gone none who agrees =
+    let new : Activation Standing = record { who = Function closure.func; standing = standing; user = closure.user; results = [] } in
+    let items : b'.suspended.items ≡ [] = gone.suspended ∙ none in
+    let here : IsStanding s natives ss m (Some gone.call) new = record { who = sym who; agrees = agrees (seen_by ss m (Some gone.call) new) (ap (signature_at ss) gone.signature) refl } in
+    let call : call_inside b'.served (reverse b'.suspended.items) ≡ Some gone.call = ap (λ (l : List (Waiting Standing)). call_inside b'.served (reverse l)) items ∙ gone.served in
+    let P = λ (o : Option OpenCall). IsStanding s natives ss m o new in
+    let Q = λ (i : Option (Activation Standing)). InnermostStands s natives ss m (call_inside b'.served (reverse b'.suspended.items)) i in
+    let R = λ (l : List (Waiting Standing)). AllWillStand s natives ss m b'.served (reverse l) in
+    record { innermost = subst Q (sym gone.innermost) (subst P (sym call) here); others = subst R (sym items) tt }
 
 -- THE INNERMOST ACTIVATION GOES ON, on a stack that is the same
 pub went_stands : (s : Script) (natives : List NamedNative) (ss : List Signature) (m m' : State) (b b' : Board Standing) (x : Activation Standing) → m'.stack ≡ m.stack → b'.innermost ≡ Some x → b'.served ≡ b.served → b'.suspended.items ≡ b.suspended.items → IsStanding s natives ss m (call_inside b.served (reverse b.suspended.items)) x → AllWillStand s natives ss m b.served (reverse b.suspended.items) → AllStand s natives ss m' b'

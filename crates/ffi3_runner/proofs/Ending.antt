@@ -1,25 +1,27 @@
 -- What a whole run of main says, by how it ended.
-use Rattle.std.proofs.Common.{◌≡◌, ℕ, ◌+◌, ◌≤◌, inl, inr, ◌⊎◌, List, [], ◌++◌, length, take, refl, sym, ap, ◌∙◌, subst, arith}
+use Rattle.std.proofs.Common.{◌≡◌, ℕ, ◌+◌, ◌≤◌, inl, inr, ◌⊎◌, List, ◌++◌, length, take, sym, ap, ◌∙◌, subst, arith}
+use Rattle.std.specs.Prelude.{Bool, true, false}
 use Rattle.std.proofs.lemmas.List.{take-append-le}
 use Rattle.std.proofs.Math.Seq.{take-length}
-use Rattle.ffi3_type_rules.specs.declared.limits.TheConstants.{STACK_TOP}
 use Rattle.ffi3_type_rules.specs.Value.{void_value}
 use Rattle.ffi3_place_rules.specs.Event.{Event}
 use Rattle.ffi3_place_rules.specs.Standard.{Standard}
 use Rattle.ffi3_run_rules.specs.declared.Stop.{Stop}
 use Rattle.ffi3_run_rules.specs.Closures.{Closures}
 use Rattle.ffi3_run_rules.specs.Journal.{JournalOf, IsWhole, stack_top}
-use Rattle.ffi3_run_rules.specs.Lines.{untraced, text_of_run}
+use Rattle.ffi3_run_rules.specs.Lines.{at_start, text, text_of_run}
 use Rattle.ffi3_run_rules.specs.Meaning.{Program, End, returned, stopped, meaning_of, peak_of}
-use Rattle.ffi3_run_rules.specs.Trace.{trace_of}
+use Rattle.ffi3_run_rules.specs.Trace.{TraceItem, trace_of}
+use Rattle.ffi3_turn_rules.specs.Cut.{past_all, next_text, begun}
 use Rattle.ffi3_turn_rules.specs.Depth.{deepest}
 use Rattle.ffi3_turn_rules.specs.Left.{left_of}
+use Rattle.ffi3_turn_rules.specs.MainTracing.{main_tracing}
 use Rattle.ffi3_turn_rules.specs.SoFar.{main_base}
 use Rattle.ffi3_turn_rules.proofs.Coming.{main_is_over, main_was_cut}
 use Rattle.ffi3_turn_rules.proofs.Depths.{deepest_is_peak}
 use Rattle.ffi3_machine.specs.State.{State}
 use Rattle.ffi3_closures.specs.Slots.{HoldsMap}
-use Rattle.ffi3_io.specs.Sink.{Adds, Rose, SinkState}
+use Rattle.ffi3_io.specs.Sink.{Rose, SinkState}
 use Rattle.ffi3_io.specs.declared.IoError.{IoError}
 use Rattle.ffi3_io.specs.declared.IoError.TheVariants as cut
 use Rattle.ffi3_io.proofs.Adding.{Adds-along}
@@ -28,10 +30,11 @@ use Rattle.ffi3_ask.specs.declared.standing.Standing.{Standing}
 use Rattle.ffi3_board.specs.declared.board.Board.{Board}
 use Rattle.ffi3_board.specs.Turned.{IsEnded, WasCutOff, is_in_line}
 use Rattle.ffi3_runner.specs.Ran.{Ran}
+use Rattle.ffi3_runner.specs.RunCut.{RunWasCut}
 use Rattle.ffi3_runner.specs.RunMatches.{RunMatches, WrotePart}
 use Rattle.ffi3_runner.specs.declared.run.RunEnd.{RunEnd}
 use Rattle.ffi3_runner.specs.declared.run.RunEnd.TheVariants as run
-use Rattle.ffi3_runner.proofs.Starting.{main_beginning}
+use Rattle.ffi3_runner.specs.Started.{main_beginning, MainHasReturned}
 
 reaches : (top mark deep peak : ℕ) → deep ≡ peak → (top ≤ mark) ⊎ (top ≤ mark + deep) → top ≤ mark + peak
 reaches top mark deep peak is (inl h) = omega arith
@@ -40,8 +43,8 @@ reaches top mark deep peak is (inr h) = omega (arith, is, h)
 no_fewer : (a b : ℕ) → b ≡ a → a ≤ b
 no_fewer a b same = omega arith
 
-module _ (p : Program) (std : Standard) (b : Board Standing) (m : State) (o o' : SinkState) where
-  ended : (end : End) (closures : Closures) (moves : ℕ) → IsEnded p (main_base std) (left_of (meaning_of p)) (main_beginning o) end closures moves m o' → RunMatches untraced std p o o' m
+module _ (p : Program) (std : Standard) (trace : Bool) (b : Board Standing) (m : State) (o o' : SinkState) where
+  ended : (end : End) (closures : Closures) (moves : ℕ) → IsEnded p (main_base std) (left_of (meaning_of p)) (main_beginning trace std o) end closures moves m o' → RunMatches (main_tracing trace std) std p o o' m
   ended end closures moves h =
       let over = main_is_over p std end closures moves h.events h.over in
       let P = λ (l : List Event). JournalOf std p.signatures (trace_of p) l in
@@ -56,33 +59,64 @@ module _ (p : Program) (std : Standard) (b : Board Standing) (m : State) (o o' :
         mark = reaches stack_top m.mark (deepest p 0 (trace_of p)) (peak_of p (meaning_of p).call_tree) (deepest_is_peak p) h.mark;
       }
 
-  whole_written : (end : End) (closures : Closures) (moves : ℕ) → IsEnded p (main_base std) (left_of (meaning_of p)) (main_beginning o) end closures moves m o' → WrotePart untraced p o o'
+  whole_written : (end : End) (closures : Closures) (moves : ℕ) → IsEnded p (main_base std) (left_of (meaning_of p)) (main_beginning trace std o) end closures moves m o' → WrotePart (main_tracing trace std) p o o'
   whole_written end closures moves h =
-      whole_part o.taken o'.taken (text_of_run untraced p) h.written.added
+      whole_part o.taken o'.taken (text_of_run (main_tracing trace std) p) h.written.added
 
-  part_written : (why : IoError) → WasCutOff p (main_base std) (left_of (meaning_of p)) (main_beginning o) why m o' → WrotePart untraced p o o'
+  part_written : (why : IoError) → WasCutOff p (main_base std) (left_of (meaning_of p)) (main_beginning trace std o) why m o' → WrotePart (main_tracing trace std) p o o'
   part_written why h =
-      let cut = main_was_cut untraced p std (is_in_line why) h.text h.events h.cut in
-      let text_is : text_of_run untraced p ≡ h.text ++ cut.1.0 = cut.1.1 in
-      let first : take (length h.text) (text_of_run untraced p) ≡ h.text = ap (take (length h.text)) text_is ∙ take-append-le (length h.text) h.text cut.1.0 (omega arith) ∙ take-length h.text in
-      (length h.text, Adds-along o.taken o'.taken h.text (take (length h.text) (text_of_run untraced p)) (sym first) h.written)
+      let cut = main_was_cut (main_tracing trace std) p std (is_in_line why) h.happened h.text h.events h.cut in
+      let text_is : text_of_run (main_tracing trace std) p ≡ h.text ++ cut.1.0 = cut.1.1 in
+      let first : take (length h.text) (text_of_run (main_tracing trace std) p) ≡ h.text = ap (take (length h.text)) text_is ∙ take-append-le (length h.text) h.text cut.1.0 (omega arith) ∙ take-length h.text in
+      (length h.text, Adds-along o.taken o'.taken h.text (take (length h.text) (text_of_run (main_tracing trace std) p)) (sym first) h.written)
+
+  -- what is told of a run that was cut off
+  cut_off : (why : IoError) → WasCutOff p (main_base std) (left_of (meaning_of p)) (main_beginning trace std o) why m o' → RunWasCut (main_tracing trace std) std p (is_in_line why) o o' m
+  cut_off why h =
+      let k = h.cut in
+      let P = λ (l : List Event). JournalOf std p.signatures (k.done ++ begun k.recorded k.later) l in
+      let Q = λ (l : List Event). IsWhole (k.done ++ begun k.recorded k.later) l in
+      let R = λ (l : List TraceItem). JournalOf std p.signatures l h.events in
+      let T = λ (l : List TraceItem). IsWhole l h.events in
+      record {
+        done = k.done;
+        later = k.later;
+        all = k.all;
+        part = k.part;
+        proper = k.proper;
+        written = Adds-along o.taken o'.taken h.text (text (main_tracing trace std) p.signatures at_start k.done ++ take k.part (next_text (main_tracing trace std) p.signatures (past_all p.signatures at_start k.done) k.later)) k.text_is h.written;
+        recorded = k.recorded;
+        its_event = k.its_event;
+        journal = subst P (sym h.journal) (subst R k.happened_is k.answers.answers);
+        whole = subst Q (sym h.journal) (subst T k.happened_is k.answers.whole);
+        mark = reaches stack_top m.mark (deepest p 0 h.happened) (deepest p 0 (k.done ++ begun k.recorded k.later)) (ap (deepest p 0) k.happened_is) h.mark;
+        target = h.target;
+        closures = h.closures;
+        code = h.holds;
+      }
 
   abbrev Answer : RunEnd → Type 0
-  Answer t = Ran p (main_base std) (left_of (meaning_of p)) (main_beginning o) b m o' t
+  Answer t = Ran p (main_base std) (left_of (meaning_of p)) (main_beginning trace std o) b m o' t
 
-  pub ran_done : (t : RunEnd) → Answer t → t ≡ run.Done → RunMatches untraced std p o o' m
-  ran_done run.Done ran is = ended (returned void_value) b.table b.moves ran
+  pub ran_done : (t : RunEnd) → Answer t → t ≡ run.Done → RunMatches (main_tracing trace std) std p o o' m
+  ran_done run.Done ran is = ended (returned ran.result) b.table b.moves ran.ended
   ran_done (run.Stopped stop) ran is = cc
   ran_done run.NoMemory ran is = cc
   ran_done run.Failed ran is = cc
 
   pub ran_returned : (t : RunEnd) → Answer t → t ≡ run.Done → (meaning_of p).end ≡ returned void_value
-  ran_returned run.Done ran is = ran.over.end_is
+  ran_returned run.Done ran is = ran.ended.over.end_is ∙ ap returned ran.left.0
   ran_returned (run.Stopped stop) ran is = cc
   ran_returned run.NoMemory ran is = cc
   ran_returned run.Failed ran is = cc
 
-  pub ran_stopped : (t : RunEnd) → Answer t → (stop : Stop) → t ≡ run.Stopped stop → RunMatches untraced std p o o' m
+  pub ran_left : (t : RunEnd) → Answer t → t ≡ run.Done → MainHasReturned p b m
+  ran_left run.Done ran is = record { idle = ran.idle; sp = ran.left.1; closures = sym ran.ended.over.closures_are; moves = sym ran.ended.over.moves_are }
+  ran_left (run.Stopped stop) ran is = cc
+  ran_left run.NoMemory ran is = cc
+  ran_left run.Failed ran is = cc
+
+  pub ran_stopped : (t : RunEnd) → Answer t → (stop : Stop) → t ≡ run.Stopped stop → RunMatches (main_tracing trace std) std p o o' m
   ran_stopped run.Done ran stop is = cc
   ran_stopped (run.Stopped other) ran stop is = ended (stopped other) b.table b.moves ran
   ran_stopped run.NoMemory ran stop is = cc
@@ -107,14 +141,26 @@ module _ (p : Program) (std : Standard) (b : Board Standing) (m : State) (o o' :
   ran_failed run.NoMemory ran is = cc
   ran_failed run.Failed ran is = ran.cause.0
 
+  pub ran_cut_by_memory : (t : RunEnd) → Answer t → t ≡ run.NoMemory → RunWasCut (main_tracing trace std) std p false o o' m
+  ran_cut_by_memory run.Done ran is = cc
+  ran_cut_by_memory (run.Stopped stop) ran is = cc
+  ran_cut_by_memory run.NoMemory ran is = cut_off cut.NoMemory ran
+  ran_cut_by_memory run.Failed ran is = cc
+
+  pub ran_cut_by_write : (t : RunEnd) → Answer t → t ≡ run.Failed → RunWasCut (main_tracing trace std) std p true o o' m
+  ran_cut_by_write run.Done ran is = cc
+  ran_cut_by_write (run.Stopped stop) ran is = cc
+  ran_cut_by_write run.NoMemory ran is = cc
+  ran_cut_by_write run.Failed ran is = cut_off cut.Failed ran
+
   pub ran_never_falls : (t : RunEnd) → Answer t → o.faults ≤ o'.faults
-  ran_never_falls run.Done ran = no_fewer o.faults o'.faults ran.written.count
+  ran_never_falls run.Done ran = no_fewer o.faults o'.faults ran.ended.written.count
   ran_never_falls (run.Stopped stop) ran = no_fewer o.faults o'.faults ran.written.count
   ran_never_falls run.NoMemory ran = no_fewer o.faults o'.faults ran.cause
   ran_never_falls run.Failed ran = ran.cause.1
 
-  pub ran_part : (t : RunEnd) → Answer t → WrotePart untraced p o o'
-  ran_part run.Done ran = whole_written (returned void_value) b.table b.moves ran
+  pub ran_part : (t : RunEnd) → Answer t → WrotePart (main_tracing trace std) p o o'
+  ran_part run.Done ran = whole_written (returned ran.result) b.table b.moves ran.ended
   ran_part (run.Stopped stop) ran = whole_written (stopped stop) b.table b.moves ran
   ran_part run.NoMemory ran = part_written cut.NoMemory ran
   ran_part run.Failed ran = part_written cut.Failed ran

@@ -1,5 +1,5 @@
 -- The last of a list.
-use Rattle.std.proofs.Common.{◌≡◌, ℕ, zero, suc, ◌+◌, ◌-◌, ◌<◌, ◌≤◌, List, [], ◌∷◌, ◌++◌, length, reverse, Option, Some, None, refl, sym, ap, ◌∙◌, subst, arith}
+use Rattle.std.proofs.Common.{◌≡◌, ℕ, ◌+◌, ◌-◌, ◌<◌, ◌≤◌, List, [], ◌∷◌, ◌++◌, length, reverse, Option, Some, None, refl, sym, ap, ◌∙◌, subst, arith}
 use Rattle.std.specs.List.{slice_get}
 use Rattle.ffi3_type_rules.specs.declared.limits.TheConstants.{STACK, STACK_TOP}
 use Rattle.ffi3_type_rules.specs.Signature.{Signature, signature_at}
@@ -13,7 +13,7 @@ use Rattle.ffi3_ask.specs.declared.standing.Standing.{Standing}
 use Rattle.ffi3_board.specs.declared.activation.Activation.{Activation}
 use Rattle.ffi3_board.specs.declared.activation.OpenCall.{OpenCall}
 use Rattle.ffi3_board.specs.declared.activation.Waiting.{Waiting}
-use Rattle.ffi3_board.specs.Path.{calls_of}
+use Rattle.ffi3_board.specs.Path.{calls_below, calls_of}
 use Rattle.ffi3_board.specs.Stack.{HoldsCalls}
 use Rattle.ffi3_board.proofs.Boarding.{popped_holds, reverse-last}
 use Rattle.ffi3_board.proofs.Opened.{block_at, is_incoming, sig_below}
@@ -61,6 +61,23 @@ last_call std ss held top m entered served xs items w same is h =
       below = sig_below std ss held top m w.call (calls_of served (reverse last.0)) entered here;
       incoming = is_incoming std ss held top m w.call (calls_of served (reverse last.0)) entered here;
       block = block_at std ss held top m w.call (calls_of served (reverse last.0)) entered here;
+    }
+
+-- and of the call that is served, where none waits
+pub record ServedCall (std : Standard) (ss : List Signature) (m : State) (c : OpenCall) : Type 0 where
+  pub below : c.sig < length ss
+  pub incoming : IsIncoming std (signature_at ss c.sig) c.incoming
+  pub block : c.incoming.block ≡ m.sp
+
+pub served_call : {S : Type 0} (std : Standard) (ss : List Signature) (held : Loc → ℕ) (top : ℕ) (m : State) (entered : List Entered) (served : Option OpenCall) (items : List (Waiting S)) (c : OpenCall) → items ≡ [] → served ≡ Some c → HoldsCalls std ss held top m (calls_of served (reverse items)) entered → ServedCall std ss m c
+served_call {S} std ss held top m entered served items c none is h =
+    let P = λ (l : List (Waiting S)). HoldsCalls std ss held top m (calls_of served (reverse l)) entered in
+    let Q = λ (o : Option OpenCall). HoldsCalls std ss held top m (calls_below o) entered in
+    let here = subst Q is (subst P none h) in
+    record {
+      below = sig_below std ss held top m c [] entered here;
+      incoming = is_incoming std ss held top m c [] entered here;
+      block = block_at std ss held top m c [] entered here;
     }
 
 -- its block lies in the stack

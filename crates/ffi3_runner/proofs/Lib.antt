@@ -6,4 +6,6 @@ mod Ending
 mod Numbers
 mod Last
 mod Running
+mod Serving
 mod Main
+mod Preparing

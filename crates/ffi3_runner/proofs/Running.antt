@@ -1,13 +1,14 @@
--- A run of main, move after move.
-use Rattle.std.proofs.Common.{◌≡◌, ℕ, suc, ◌<◌, List, ◌++◌, refl, sym, ap, ◌∙◌, subst, arith}
-use Rattle.ffi3_type_rules.specs.Value.{void_value}
+-- A run, move after move.
+use Rattle.std.proofs.Common.{◌≡◌, suc, ◌<◌, List, ◌++◌, subst, arith}
+use Rattle.std.specs.Prelude.{Bool}
 use Rattle.ffi3_place_rules.specs.Event.{Event}
 use Rattle.ffi3_place_rules.specs.Standard.{Standard}
 use Rattle.ffi3_run_rules.specs.declared.Stop.{Stop}
-use Rattle.ffi3_run_rules.specs.Meaning.{Program, returned}
+use Rattle.ffi3_run_rules.specs.Meaning.{Program}
 use Rattle.ffi3_run_rules.specs.Trace.{TraceItem}
-use Rattle.ffi3_turn_rules.specs.Left.{Left, as_main}
+use Rattle.ffi3_turn_rules.specs.Left.{Left}
 use Rattle.ffi3_turn_rules.specs.SoFar.{Base}
+use Rattle.ffi3_turn_rules.specs.Told.{IsTracingOf}
 use Rattle.ffi3_machine.specs.State.{State}
 use Rattle.ffi3_io.specs.Sink.{SinkState}
 use Rattle.ffi3_ask.specs.declared.standing.Standing.{Standing}
@@ -15,55 +16,53 @@ use Rattle.ffi3_board.specs.declared.board.Board.{Board}
 use Rattle.ffi3_board.specs.declared.board.Turn.{Turn}
 use Rattle.ffi3_board.specs.declared.board.Turn.TheVariants as turn
 use Rattle.ffi3_board.specs.Between.{Beginning}
-use Rattle.ffi3_board.specs.Turned.{IsEnded, StandsAt, Turned}
+use Rattle.ffi3_board.specs.Turned.{StandsAt, Turned}
 use Rattle.ffi3_runner.specs.Ran.{ComesTo, Ran}
 use Rattle.ffi3_runner.specs.declared.run.RunEnd.TheVariants as run
 use Rattle.ffi3_runner.proofs.Turning.{went_on}
 
 -- what a move's answer says, from any moment
-abbrev pub Turns : Standard → Program → Board Standing → State → SinkState → Board Standing → State → SinkState → Turn → Type 0
-Turns std p b m o b' m' o' t =
-    (base : Base) (all : Left) (first : Beginning) (own : List TraceItem) (events : List Event) → base.standard ≡ std → base.bottom ≡ as_main → StandsAt p base all first own events b m o → Turned p base all first own b.moves b' m' o' t
+abbrev pub Turns : Standard → (trace : Bool) → Program → Board Standing → State → SinkState → Board Standing → State → SinkState → Turn → Type 0
+Turns std trace p b m o b' m' o' t =
+    (base : Base) (all : Left) (first : Beginning) (own : List TraceItem) (events : List Event) → base.standard ≡ std → IsTracingOf p base trace first.tracing → StandsAt p base all first own events b m o → Turned p base all first own b.moves b' m' o' t
 
-module _ (std : Standard) (p : Program) (b₀ b b' : Board Standing) (m₀ m m' : State) (o₀ o o' : SinkState) where
-  pub comes_nowhere : ComesTo std p b₀ m₀ o₀ b₀ m₀ o₀
-  comes_nowhere = λ base all first own events standard main h. (own, events, h)
+module _ (std : Standard) (trace : Bool) (p : Program) (b₀ b b' : Board Standing) (m₀ m m' : State) (o₀ o o' : SinkState) where
+  pub comes_nowhere : ComesTo std trace p b₀ m₀ o₀ b₀ m₀ o₀
+  comes_nowhere = λ base all first own events standard tracing h. (own, events, h)
 
-  module _ (since : ComesTo std p b₀ m₀ o₀ b m o) (t : Turn) (turned : Turns std p b m o b' m' o' t) where
-    pub comes_on : t ≡ turn.More → ComesTo std p b₀ m₀ o₀ b' m' o'
-    comes_on more = λ base all first own events standard main h.
-        let k = since base all first own events standard main h in
-        let went = went_on p base all first k.0 b.moves b' m' o' t (turned base all first k.0 k.1 standard main k.2) more in
+  module _ (since : ComesTo std trace p b₀ m₀ o₀ b m o) (t : Turn) (turned : Turns std trace p b m o b' m' o' t) where
+    pub comes_on : t ≡ turn.More → ComesTo std trace p b₀ m₀ o₀ b' m' o'
+    comes_on more = λ base all first own events standard tracing h.
+        let k = since base all first own events standard tracing h in
+        let went = went_on p base all first k.0 b.moves b' m' o' t (turned base all first k.0 k.1 standard tracing k.2) more in
         (k.0 ++ went.more, went.events, went.stands)
 
     -- the moves fall
-    pub falls : t ≡ turn.More → (base : Base) (all : Left) (first : Beginning) (own : List TraceItem) (events : List Event) → base.standard ≡ std → base.bottom ≡ as_main → StandsAt p base all first own events b₀ m₀ o₀ → b'.moves < b.moves
-    falls more base all first own events standard main h =
-        let k = since base all first own events standard main h in
-        let went = went_on p base all first k.0 b.moves b' m' o' t (turned base all first k.0 k.1 standard main k.2) more in
+    pub falls : t ≡ turn.More → (base : Base) (all : Left) (first : Beginning) (own : List TraceItem) (events : List Event) → base.standard ≡ std → IsTracingOf p base trace first.tracing → StandsAt p base all first own events b₀ m₀ o₀ → b'.moves < b.moves
+    falls more base all first own events standard tracing h =
+        let k = since base all first own events standard tracing h in
+        let went = went_on p base all first k.0 b.moves b' m' o' t (turned base all first k.0 k.1 standard tracing k.2) more in
         let counted : b.moves ≡ suc b'.moves = went.counted in
         omega (arith, counted)
 
-    module _ (base : Base) (all : Left) (first : Beginning) (own : List TraceItem) (events : List Event) (standard : base.standard ≡ std) (main : base.bottom ≡ as_main) (h : StandsAt p base all first own events b₀ m₀ o₀) where
-      at : Turned p base all first (since base all first own events standard main h).0 b.moves b' m' o' t
+    module _ (base : Base) (all : Left) (first : Beginning) (own : List TraceItem) (events : List Event) (standard : base.standard ≡ std) (tracing : IsTracingOf p base trace first.tracing) (h : StandsAt p base all first own events b₀ m₀ o₀) where
+      at : Turned p base all first (since base all first own events standard tracing h).0 b.moves b' m' o' t
       at =
-          let k = since base all first own events standard main h in
-          turned base all first k.0 k.1 standard main k.2
+          let k = since base all first own events standard tracing h in
+          turned base all first k.0 k.1 standard tracing k.2
 
       pub ends_done : t ≡ turn.Done → Ran p base all first b' m' o' run.Done
       ends_done is =
-          let d = subst (λ (u : Turn). Turned p base all first (since base all first own events standard main h).0 b.moves b' m' o' u) is at in
-          let v = d.1 main in
-          subst (λ r. IsEnded p base all first (returned r) b'.table b'.moves m' o') v d.2
+          subst (λ (u : Turn). Turned p base all first (since base all first own events standard tracing h).0 b.moves b' m' o' u) is at
 
       pub ends_stopped : (stop : Stop) → t ≡ turn.Stopped stop → Ran p base all first b' m' o' (run.Stopped stop)
       ends_stopped stop is =
-          subst (λ (u : Turn). Turned p base all first (since base all first own events standard main h).0 b.moves b' m' o' u) is at
+          subst (λ (u : Turn). Turned p base all first (since base all first own events standard tracing h).0 b.moves b' m' o' u) is at
 
       pub ends_no_memory : t ≡ turn.NoMemory → Ran p base all first b' m' o' run.NoMemory
       ends_no_memory is =
-          subst (λ (u : Turn). Turned p base all first (since base all first own events standard main h).0 b.moves b' m' o' u) is at
+          subst (λ (u : Turn). Turned p base all first (since base all first own events standard tracing h).0 b.moves b' m' o' u) is at
 
       pub ends_failed : t ≡ turn.Failed → Ran p base all first b' m' o' run.Failed
       ends_failed is =
-          subst (λ (u : Turn). Turned p base all first (since base all first own events standard main h).0 b.moves b' m' o' u) is at
+          subst (λ (u : Turn). Turned p base all first (since base all first own events standard tracing h).0 b.moves b' m' o' u) is at

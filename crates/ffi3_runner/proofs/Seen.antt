@@ -1,6 +1,5 @@
 -- What activations have seen, from one machine to the next and with one result more.
-use Rattle.std.proofs.Common.{◌≡◌, ℕ, ◌≤◌, true, List, [], ◌∷◌, Option, Some, None, refl, sym, ap, ◌∙◌, subst, arith}
-use Rattle.std.specs.Prelude.{⊤}
+use Rattle.std.proofs.Common.{◌≡◌, ℕ, ◌≤◌, true, List, [], ◌∷◌, Option, Some, None, refl, sym, ap, subst, arith}
 use Rattle.ffi3_type_rules.specs.Signature.{Signature, signature_at}
 use Rattle.ffi3_type_rules.specs.Value.{ValueTree, fits}
 use Rattle.ffi3_place_rules.specs.Standard.{block_bytes}
@@ -16,7 +15,7 @@ use Rattle.ffi3_board.specs.declared.activation.Activation.{Activation}
 use Rattle.ffi3_board.specs.declared.activation.OpenCall.{OpenCall}
 use Rattle.ffi3_board.specs.declared.activation.Waiting.{Waiting}
 use Rattle.ffi3_board.specs.Going.{and_result}
-use Rattle.ffi3_board.specs.Path.{who_of, calls_below, call_inside, calls_of}
+use Rattle.ffi3_board.specs.Path.{calls_below, call_inside, calls_of}
 use Rattle.ffi3_board.proofs.Blocks.{AreAbove, StaysFrom}
 use Rattle.ffi3_runner.specs.Agreeing.{seen_by, seen_by_callee, IsStanding, WillStand, AllWillStand}
 

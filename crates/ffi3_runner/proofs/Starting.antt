@@ -1,11 +1,10 @@
 -- Main begins, on a machine that begins.
-use Rattle.std.proofs.Common.{◌≡◌, ℕ, ◌+◌, ◌≤◌, inl, List, [], ◌∷◌, Option, Some, None, reverse, refl, sym, ap, ◌∙◌, subst, arith}
+use Rattle.std.proofs.Common.{◌≡◌, ℕ, inl, List, [], Option, Some, None, reverse, refl, sym, ap, ◌∙◌, subst, arith}
+use Rattle.std.specs.Prelude.{Bool}
 use Rattle.std.specs.List.{AllByRecursion}
 use Rattle.ffi3_type_rules.specs.declared.Isa.{Isa}
 use Rattle.ffi3_type_rules.specs.declared.Isa.TheVariants.{Amd64, Aarch64, Riscv}
 use Rattle.ffi3_type_rules.specs.Isa.{isa_of}
-use Rattle.ffi3_type_rules.specs.declared.limits.TheConstants.{STACK_TOP}
-use Rattle.ffi3_type_rules.specs.Value.{ValueTree}
 use Rattle.ffi3_place_rules.specs.declared.Loc.{Loc}
 use Rattle.ffi3_place_rules.specs.Agrees.{AgreesWithMachine}
 use Rattle.ffi3_place_rules.specs.Image.{register}
@@ -26,11 +25,12 @@ use Rattle.ffi3_board.specs.declared.activation.OpenCall.{OpenCall}
 use Rattle.ffi3_board.specs.declared.activation.Waiting.{Waiting}
 use Rattle.ffi3_board.specs.declared.activation.Who.TheVariants.{Main}
 use Rattle.ffi3_board.specs.declared.board.Board.{Board}
-use Rattle.ffi3_board.specs.Between.{Beginning, Moment, IsBetween, moment, moment_with}
+use Rattle.ffi3_board.specs.Between.{Moment, IsBetween, moment, moment_with}
 use Rattle.ffi3_board.specs.Path.{acting, who_of}
 use Rattle.ffi3_board.specs.Turned.{StandsAt}
 use Rattle.ffi3_board.proofs.Closed.{none_known}
 use Rattle.ffi3_runner.specs.Running.{IsNew}
+use Rattle.ffi3_runner.specs.Started.{main_beginning}
 
 -- reserved registers hold 0 where a machine begins
 none_reserved : (isa : Isa) (floating : List ℕ) (sp : ℕ) (stack : List ℕ) → AllByRecursion (λ at. register (record { general = begun_general isa; floating = floating; sp = sp; stack = stack }) at ≡ 0) (reserved_places isa)
@@ -39,11 +39,7 @@ none_reserved Amd64 floating sp stack = tt
 none_reserved Aarch64 floating sp stack = (refl, tt)
 none_reserved Riscv floating sp stack = (refl, (refl, (refl, tt)))
 
--- what a run of main finds
-abbrev pub main_beginning : SinkState → Beginning
-main_beginning o = record { events = []; mark = STACK_TOP; output = o }
-
-module _ (p : Program) (std : Standard) (needs : p.need ≡ need_of std) (agrees : AgreesWithMachine std) (k l : ℕ) (o : SinkState) where
+module _ (p : Program) (std : Standard) (needs : p.need ≡ need_of std) (agrees : AgreesWithMachine std) (k l : ℕ) (o : SinkState) (trace : Bool) where
   abbrev machine : State
   machine = begun std.target k l
 
@@ -63,7 +59,7 @@ module _ (p : Program) (std : Standard) (needs : p.need ≡ need_of std) (agrees
       let P = λ (locs : List Loc). AllByRecursion (λ at. register (image_of 0 machine) at ≡ 0) locs in
       subst P (sym agrees.reserved) (none_reserved (isa_of std.target) machine.floating machine.sp (image_of 0 machine).stack)
 
-  pub starts : HoldsMap std.target no_closures (begun_code (isa_of std.target)) → IsBetween p (main_base std) (left_of (meaning_of p)) (main_beginning o) [] [] start
+  pub starts : HoldsMap std.target no_closures (begun_code (isa_of std.target)) → IsBetween p (main_base std) (left_of (meaning_of p)) (main_beginning trace std o) [] [] start
   starts holds = record {
     needs = needs;
     count = refl;
@@ -79,6 +75,8 @@ module _ (p : Program) (std : Standard) (needs : p.need ≡ need_of std) (agrees
     known = none_known p;
     few = omega arith;
     others_few = tt;
+    found = record { above = λ address count over. refl; events = omega arith; bytes = omega arith };
+    outermost = refl;
   }
 
   -- THE RUN STANDS at main's first move
@@ -95,8 +93,8 @@ module _ (p : Program) (std : Standard) (needs : p.need ≡ need_of std) (agrees
         ∙ ap (λ (n : ℕ). moment_with p.signatures None [] no_closures n machine o a) new.moves
         ∙ (λ i. record { innermost = acts i; suspended = []; calls = []; closures = no_closures; moves = most_moves; machine = machine; output = o })
 
-    pub stands_at_start : StandsAt p (main_base std) (left_of (meaning_of p)) (main_beginning o) [] [] (record b { innermost = Some a }) machine o
+    pub stands_at_start : StandsAt p (main_base std) (left_of (meaning_of p)) (main_beginning trace std o) [] [] (record b { innermost = Some a }) machine o
     stands_at_start =
         let P = λ (c : Closures). HoldsMap std.target c (begun_code (isa_of std.target)) in
         let holds = subst P new.closures (new.begins std.target) in
-        subst (λ (x : Moment). IsBetween p (main_base std) (left_of (meaning_of p)) (main_beginning o) [] [] x) (sym moment_is) (starts holds)
+        subst (λ (x : Moment). IsBetween p (main_base std) (left_of (meaning_of p)) (main_beginning trace std o) [] [] x) (sym moment_is) (starts holds)

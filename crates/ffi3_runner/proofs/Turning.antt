@@ -1,9 +1,8 @@
 -- The move that the innermost activation asks for, by what it has seen.
-use Rattle.std.proofs.Common.{◌≡◌, ℕ, suc, ◌+◌, ◌<◌, ◌≤◌, ◌^◌, true, List, [], ◌∷◌, ◌++◌, length, map, Option, Some, None, reverse, refl, sym, ap, ◌∙◌, subst, arith, length-append}
+use Rattle.std.proofs.Common.{◌≡◌, ℕ, suc, ◌+◌, ◌≤◌, true, List, [], ◌∷◌, length, map, Option, Some, None, reverse, refl, sym, ap, ◌∙◌, subst, arith, length-append}
 use Rattle.std.proofs.lemmas.List.{length-map}
-use Rattle.ffi3_type_rules.specs.Signature.{Signature, signature_at}
+use Rattle.ffi3_type_rules.specs.Signature.{Signature}
 use Rattle.ffi3_type_rules.specs.Value.{ValueTree, fits}
-use Rattle.ffi3_type_rules.specs.Tree.{Tree, void}
 use Rattle.ffi3_place_rules.specs.Event.{Event}
 use Rattle.ffi3_place_rules.specs.Standard.{Standard}
 use Rattle.ffi3_run_rules.specs.Meaning as meaning

@@ -1,5 +1,5 @@
 -- WHAT A RUN TELLS: the text that its output takes and the machine that it leaves, against the direct meaning of its program.
-use Rattle.std.specs.Prelude.{◌≡◌, ℕ, ◌+◌, ◌≤◌, List, take, Option}
+use Rattle.std.specs.Prelude.{◌≡◌, ℕ, ◌+◌, ◌≤◌, take}
 use Rattle.ffi3_io.specs.Sink.{Adds, SinkState}
 use Rattle.ffi3_io.specs.Written.{TookText}
 use Rattle.ffi3_place_rules.specs.Standard.{Standard}

@@ -8,8 +8,9 @@ ghost use Rattle.ffi3_place_rules.specs.Event.{Event};
 ghost use Rattle.ffi3_run_rules.specs.Journal.{Entered};
 ghost use Rattle.ffi3_run_rules.specs.Move as asks;
 ghost use Rattle.ffi3_run_rules.specs.Trace.{TraceItem};
-ghost use Rattle.ffi3_turn_rules.specs.Left.{Left, as_main};
+ghost use Rattle.ffi3_turn_rules.specs.Left.{Left};
 ghost use Rattle.ffi3_turn_rules.specs.SoFar.{Base};
+ghost use Rattle.ffi3_turn_rules.specs.Told.{IsTracingOf};
 ghost use Rattle.ffi3_script_rules.specs.Natives.{NamedNative};
 ghost use Rattle.ffi3_script.specs.ScriptOf.{natives_of};
 ghost use Rattle.ffi3_body.specs.MoveOf.{move_of};
@@ -44,7 +45,6 @@ impl<'a, A: Abi> Prepared<'a, A> {
         current: &mut Activation<Standing>,
     ) -> Result<Move, NoMemory>
         requires prepared { IsPrepared A.standard self.now.script.now (map (λ b. handed_in (title b) (meaning b) (signatures b)) self.now.natives.now.items) self.now.cifs }
-        requires main { board.now.served ≡ None }
         requires holds { (held : Loc → ℕ) × (top : ℕ) × (entered : List Entered) ×
             HoldsCalls A.standard self.now.cifs held top machine.now (calls_of board.now.served (reverse board.now.suspended.items)) entered }
         requires stands { IsStanding self.now.script.now (map (λ b. handed_in (title b) (meaning b) (signatures b)) self.now.natives.now.items) self.now.cifs machine.now
@@ -58,7 +58,6 @@ impl<'a, A: Abi> Prepared<'a, A> {
         ensures same { current.new ≡ record current.old { standing = current.new.standing } }
     {
         match board.suspended.last() {
-            None => asked_by_main(self.alloc, self.script, self.natives, current),
             Some(waiting) => asked_by_callee(
                 self.alloc,
                 self.script,
@@ -68,6 +67,18 @@ impl<'a, A: Abi> Prepared<'a, A> {
                 &waiting.call,
                 current,
             ),
+            None => match &board.served {
+                Some(call) => asked_by_callee(
+                    self.alloc,
+                    self.script,
+                    self.natives,
+                    machine,
+                    &self.cifs,
+                    call,
+                    current,
+                ),
+                None => asked_by_main(self.alloc, self.script, self.natives, current),
+            },
         }
     }
 
@@ -81,6 +92,7 @@ impl<'a, A: Abi> Prepared<'a, A> {
         ptr: u64,
         sig: u32,
         args: &Values,
+        trace: bool,
     ) -> Turn
         requires prepared { IsPrepared A.standard self.now.script.now (map (λ b. handed_in (title b) (meaning b) (signatures b)) self.now.natives.now.items) self.now.cifs }
         requires site { sig < length self.now.cifs }
@@ -95,12 +107,11 @@ impl<'a, A: Abi> Prepared<'a, A> {
             IsAsking p base all first own events (moment p.signatures current board.old machine.old (O.state output.old)) (asks.call ptr sig args.now) }
         ensures turned { let p = program A.standard self.now.script.now (map (λ b. handed_in (title b) (meaning b) (signatures b)) self.now.natives.now.items) in
             (base : Base) (all : Left) (first : Beginning) (own : List TraceItem) (events : List Event) →
-            base.standard ≡ A.standard →
+            base.standard ≡ A.standard → IsTracingOf p base trace first.tracing →
             IsAsking p base all first own events (moment p.signatures current board.old machine.old (O.state output.old)) (asks.call ptr sig args.now) →
             Turned p base all first own (suc board.old.moves) board.new machine.new (O.state output.new) result }
         ensures standing { result ≡ Turn.More →
             AllStand self.now.script.now (map (λ b. handed_in (title b) (meaning b) (signatures b)) self.now.natives.now.items) self.now.cifs machine.new board.new }
-        ensures main { result ≡ Turn.More → board.new.served ≡ board.old.served }
     {
         let closure = match board.callee(machine, &self.cifs, ptr, sig) {
             Ok(closure) => closure,
@@ -112,7 +123,7 @@ impl<'a, A: Abi> Prepared<'a, A> {
         let standing = Standing::in_function(self.alloc, self.script, self.natives, closure.func);
         let alloc = self.alloc;
         board.enter(
-            alloc, machine, &self.cifs, current, closure, standing, ptr, sig, args,
+            alloc, machine, output, &self.cifs, current, closure, standing, ptr, sig, args, trace,
         )
     }
 }

@@ -1,20 +1,22 @@
 //! Moves until a run ends.
-ghost use Rattle.std.specs.Prelude.{◌≡◌, List, None, map};
+ghost use Rattle.std.specs.Prelude.{◌≡◌, List, map};
 ghost use Rattle.ffi3_place_rules.specs.Event.{Event};
 ghost use Rattle.ffi3_run_rules.specs.Trace.{TraceItem};
-ghost use Rattle.ffi3_turn_rules.specs.Left.{Left, as_main};
+ghost use Rattle.ffi3_turn_rules.specs.Left.{Left};
 ghost use Rattle.ffi3_turn_rules.specs.SoFar.{Base};
+ghost use Rattle.ffi3_turn_rules.specs.Told.{IsTracingOf};
 ghost use Rattle.ffi3_ask.specs.Handed.{handed_in};
 ghost use Rattle.ffi3_board.specs.Between.{Beginning};
 ghost use Rattle.ffi3_board.specs.Turned.{StandsAt};
 ghost use Rattle.ffi3_runner.specs.Agreeing.{AllStand};
 ghost use Rattle.ffi3_runner.specs.Ran.{Ran};
+ghost use Rattle.ffi3_runner.specs.Serving.{end_of};
 ghost use Rattle.ffi3_runner.specs.Running.{IsPrepared, program};
 
 use crate::prepare::Prepared;
 use ffi3_ask::Standing;
 use ffi3_board::{Board, Stop, Turn};
-use ffi3_io::Sink;
+use ffi3_io::{IoError, Sink};
 use ffi3_machine::Machine;
 use ffi3_place::Abi;
 
@@ -31,6 +33,18 @@ pub enum RunEnd {
     Failed,
 }
 
+impl RunEnd {
+    // What a run came to that was cut off.
+    pub(crate) fn cut_off(why: IoError) -> RunEnd
+        ensures { result ≡ end_of why }
+    {
+        match why {
+            IoError::NoMemory => RunEnd::NoMemory,
+            IoError::Failed => RunEnd::Failed,
+        }
+    }
+}
+
 impl<'a, A: Abi> Prepared<'a, A> {
     // Does moves until the run ends.
     pub(crate) fn run_on<O: Sink>(
@@ -38,21 +52,22 @@ impl<'a, A: Abi> Prepared<'a, A> {
         board: &mut Board<Standing>,
         machine: &mut Machine,
         output: &mut O,
+        trace: bool,
     ) -> RunEnd
         requires prepared { IsPrepared A.standard self.now.script.now (map (λ b. handed_in (title b) (meaning b) (signatures b)) self.now.natives.now.items) self.now.cifs }
-        requires main { board.old.served ≡ None }
         requires standing { AllStand self.now.script.now (map (λ b. handed_in (title b) (meaning b) (signatures b)) self.now.natives.now.items) self.now.cifs machine.old board.old }
         requires between { (base : Base) × (all : Left) × (first : Beginning) × (own : List TraceItem) × (events : List Event) ×
-            (base.standard ≡ A.standard) × (base.bottom ≡ as_main) ×
+            (base.standard ≡ A.standard) ×
+            IsTracingOf (program A.standard self.now.script.now (map (λ b. handed_in (title b) (meaning b) (signatures b)) self.now.natives.now.items)) base trace first.tracing ×
             StandsAt (program A.standard self.now.script.now (map (λ b. handed_in (title b) (meaning b) (signatures b)) self.now.natives.now.items)) base all first own events board.old machine.old (O.state output.old) }
         ensures { let p = program A.standard self.now.script.now (map (λ b. handed_in (title b) (meaning b) (signatures b)) self.now.natives.now.items) in
             (base : Base) (all : Left) (first : Beginning) (own : List TraceItem) (events : List Event) →
-            base.standard ≡ A.standard → base.bottom ≡ as_main →
+            base.standard ≡ A.standard → IsTracingOf p base trace first.tracing →
             StandsAt p base all first own events board.old machine.old (O.state output.old) →
             Ran p base all first board.new machine.new (O.state output.new) result }
     {
         loop {
-            match self.turn(board, machine, output) {
+            match self.turn(board, machine, output, trace) {
                 Turn::More => {}
                 Turn::Done => return RunEnd::Done,
                 Turn::Stopped(stop) => return RunEnd::Stopped(stop),

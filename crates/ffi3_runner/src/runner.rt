@@ -1,34 +1,40 @@
 //! The runner: what a run is prepared with, and its board.
-ghost use Rattle.std.specs.Prelude.{◌≡◌, ◌<◌, ◌≤◌, ◌^◌, IfOk, List, None, length, map};
-ghost use Rattle.ffi3_type_rules.specs.Value.{void_value};
+ghost use Rattle.std.specs.Prelude.{◌≡◌, ◌<◌, ◌≤◌, ◌^◌, Bool, IfOk, List, [], false, length, map, true};
+ghost use Rattle.ffi3_type_rules.specs.Value.{ValueTree, void_value};
 ghost use Rattle.ffi3_place_rules.specs.Event.{Event};
-ghost use Rattle.ffi3_run_rules.specs.Lines.{untraced};
 ghost use Rattle.ffi3_run_rules.specs.Meaning.{meaning_of, returned, stopped};
+ghost use Rattle.ffi3_run_rules.specs.declared.Closure.{Closure};
 ghost use Rattle.ffi3_run_rules.specs.declared.Stop.{Stop};
 ghost use Rattle.ffi3_run_rules.specs.Trace.{TraceItem};
-ghost use Rattle.ffi3_turn_rules.specs.Left.{Left, as_main};
-ghost use Rattle.ffi3_turn_rules.specs.SoFar.{Base};
+ghost use Rattle.ffi3_turn_rules.specs.Left.{Left, left_of};
+ghost use Rattle.ffi3_turn_rules.specs.MainTracing.{main_tracing};
+ghost use Rattle.ffi3_turn_rules.specs.SoFar.{Base, main_base};
+ghost use Rattle.ffi3_turn_rules.specs.Told.{IsTracingOf};
 ghost use Rattle.ffi3_script.specs.ScriptOf.{natives_of};
-ghost use Rattle.ffi3_machine.specs.State.{begun};
-ghost use Rattle.ffi3_io.specs.Sink.{Rose};
+ghost use Rattle.ffi3_machine.specs.State.{State, begun};
+ghost use Rattle.ffi3_closures.specs.Slots.{HoldsMap};
+ghost use Rattle.ffi3_io.specs.Sink.{Rose, SinkState};
 ghost use Rattle.ffi3_ask.specs.Handed.{handed_in, signatures_in};
 ghost use Rattle.ffi3_board.specs.Between.{Beginning};
+ghost use Rattle.ffi3_board.specs.Served.{IsIdle};
 ghost use Rattle.ffi3_board.specs.Turned.{StandsAt, Turned};
 ghost use Rattle.ffi3_runner.specs.Agreeing.{AllStand};
+ghost use Rattle.ffi3_runner.specs.RunCut.{RunWasCut};
 ghost use Rattle.ffi3_runner.specs.RunMatches.{RunMatches, WrotePart};
+ghost use Rattle.ffi3_runner.specs.Serving.{IsAtEntry, Served};
+ghost use Rattle.ffi3_runner.specs.Started.{MainHasReturned, main_beginning};
 ghost use Rattle.ffi3_runner.specs.Running.{IsNew, IsPrepared, program};
 
 use crate::prepare::{Prepared, prepare_all};
 use crate::run::RunEnd;
 use ffi3_ask::{Native, Standing};
-use ffi3_board::{Activation, Board, Table, Turn, Who};
+use ffi3_board::{Board, Cifs, Table, Turn};
 use ffi3_io::Sink;
 use ffi3_machine::Machine;
 use ffi3_place::Abi;
 use ffi3_script::Script;
 use ffi3_type_rules::limits::MOST_MOVES;
 use ffi3_types::NoMemory;
-use ffi3_values::Values;
 use std::alloc::Global;
 
 /// A run of a script beside natives, by the calling standard `A`, one move at a time.
@@ -36,6 +42,7 @@ use std::alloc::Global;
 pub struct Runner<'a, A: Abi> {
     pub(crate) prepared: Prepared<'a, A>,
     pub(crate) board: Board<Standing>,
+    pub(crate) over: bool,
 }
 
 impl<'a, A: Abi> Runner<'a, A> {
@@ -48,8 +55,10 @@ impl<'a, A: Abi> Runner<'a, A> {
         requires beside { natives_of script.now ≤ length natives.now.items }
         requires few_natives { length natives.now.items < 2 ^ 31 }
         requires few_signatures { length (signatures_in (map (λ b. handed_in (title b) (meaning b) (signatures b)) natives.now.items)) < 2 ^ 31 }
-        ensures prepared { IfOk result (λ r. IsPrepared A.standard script.now (map (λ b. handed_in (title b) (meaning b) (signatures b)) natives.now.items) r.prepared.cifs) }
+        ensures prepared { IfOk result (λ r. IsPrepared A.standard r.prepared.script.now
+            (map (λ b. handed_in (title b) (meaning b) (signatures b)) r.prepared.natives.now.items) r.prepared.cifs) }
         ensures new { IfOk result (λ r. IsNew r.board) }
+        ensures going { IfOk result (λ r. r.over ≡ false) }
         ensures script { IfOk result (λ r. r.prepared.script.now ≡ script.now) }
         ensures natives { IfOk result (λ r. r.prepared.natives.now ≡ natives.now) }
     {
@@ -67,12 +76,30 @@ impl<'a, A: Abi> Runner<'a, A> {
                 table: Table::new(),
                 moves: MOST_MOVES as u32,
             },
+            over: false,
         })
     }
 
-    /// Whether no activation is left: before a start, and at the end.
-    pub fn ended(&self) -> bool {
-        self.board.innermost.is_none()
+    /// Whether the run is over: once a `turn`, also one inside `run_main`, answered other than
+    /// `More`, or `serve` other than `Done`.
+    pub fn ended(&self) -> bool
+        ensures { result ≡ self.now.over }
+    {
+        self.over
+    }
+
+    /// The live closures.
+    pub fn table(&self) -> &Table
+        ensures { result.now ≡ self.now.board.table }
+    {
+        &self.board.table
+    }
+
+    /// The call interfaces of the run's signatures.
+    pub fn cifs(&self) -> &Cifs<A>
+        ensures { result.now ≡ self.now.prepared.cifs }
+    {
+        &self.prepared.cifs
     }
 
     /// How many moves are left.
@@ -82,57 +109,111 @@ impl<'a, A: Abi> Runner<'a, A> {
         self.board.moves
     }
 
-    /// Does one move of the innermost activation. It is counted, and none is asked for where none
-    /// is left.
-    pub fn turn<O: Sink>(&mut self, machine: &mut Machine, output: &mut O) -> Turn
+    /// Puts main's activation on the board, before its first move. It takes no memory.
+    pub fn start(&mut self)
         requires prepared { IsPrepared A.standard self.old.prepared.script.now (map (λ b. handed_in (title b) (meaning b) (signatures b)) self.old.prepared.natives.now.items) self.old.prepared.cifs }
-        requires main { self.old.board.served ≡ None }
+        requires new { IsNew self.old.board }
+        ensures standing { (m : State) →
+            AllStand self.old.prepared.script.now (map (λ b. handed_in (title b) (meaning b) (signatures b)) self.old.prepared.natives.now.items) self.old.prepared.cifs m self.new.board }
+        ensures between { let p = program A.standard self.old.prepared.script.now (map (λ b. handed_in (title b) (meaning b) (signatures b)) self.old.prepared.natives.now.items) in
+            (trace : Bool) (m : State) (output : SinkState) → m ≡ begun A.TARGET m.spare_events m.spare_bytes →
+            StandsAt p (main_base A.standard) (left_of (meaning_of p)) (main_beginning trace A.standard output) [] [] self.new.board m output }
+        ensures prepared { self.new.prepared ≡ self.old.prepared }
+        ensures going { self.new.over ≡ self.old.over }
+    {
+        self.prepared.start(&mut self.board);
+    }
+
+    /// Does one move of the innermost activation. It is counted, and none is asked for where none
+    /// is left. With `trace` an entry or a return is told as soon as it is recorded, in two lines.
+    pub fn turn<O: Sink>(&mut self, machine: &mut Machine, output: &mut O, trace: bool) -> Turn
+        requires prepared { IsPrepared A.standard self.old.prepared.script.now (map (λ b. handed_in (title b) (meaning b) (signatures b)) self.old.prepared.natives.now.items) self.old.prepared.cifs }
         requires standing { AllStand self.old.prepared.script.now (map (λ b. handed_in (title b) (meaning b) (signatures b)) self.old.prepared.natives.now.items) self.old.prepared.cifs machine.old self.old.board }
         requires between { (base : Base) × (all : Left) × (first : Beginning) × (own : List TraceItem) × (events : List Event) ×
-            (base.standard ≡ A.standard) × (base.bottom ≡ as_main) ×
+            (base.standard ≡ A.standard) ×
+            IsTracingOf (program A.standard self.old.prepared.script.now (map (λ b. handed_in (title b) (meaning b) (signatures b)) self.old.prepared.natives.now.items)) base trace first.tracing ×
             StandsAt (program A.standard self.old.prepared.script.now (map (λ b. handed_in (title b) (meaning b) (signatures b)) self.old.prepared.natives.now.items)) base all first own events self.old.board machine.old (O.state output.old) }
         ensures turned { let p = program A.standard self.old.prepared.script.now (map (λ b. handed_in (title b) (meaning b) (signatures b)) self.old.prepared.natives.now.items) in
             (base : Base) (all : Left) (first : Beginning) (own : List TraceItem) (events : List Event) →
-            base.standard ≡ A.standard → base.bottom ≡ as_main →
+            base.standard ≡ A.standard → IsTracingOf p base trace first.tracing →
             StandsAt p base all first own events self.old.board machine.old (O.state output.old) →
             Turned p base all first own self.old.board.moves self.new.board machine.new (O.state output.new) result }
         ensures standing { result ≡ Turn.More →
             AllStand self.old.prepared.script.now (map (λ b. handed_in (title b) (meaning b) (signatures b)) self.old.prepared.natives.now.items) self.old.prepared.cifs machine.new self.new.board }
-        ensures main { result ≡ Turn.More → self.new.board.served ≡ None }
         ensures prepared { self.new.prepared ≡ self.old.prepared }
+        ensures going { result ≡ Turn.More → self.new.over ≡ self.old.over }
+        ensures over { (result ≡ Turn.More → ⊥) → self.new.over ≡ true }
     {
-        self.prepared.turn(&mut self.board, machine, output)
+        let turn = self.prepared.turn(&mut self.board, machine, output, trace);
+        if turn != Turn::More {
+            self.over = true;
+        }
+        turn
     }
 
     /// Runs main to its end, on a machine as it begins for the standard's target. Each line is
-    /// handed to the output before the next move.
-    pub fn run_main<O: Sink>(&mut self, machine: &mut Machine, output: &mut O) -> RunEnd
+    /// handed to the output before the next move. With `trace` each entry and each return is told
+    /// as soon as it is recorded, in two lines.
+    pub fn run_main<O: Sink>(
+        &mut self,
+        machine: &mut Machine,
+        output: &mut O,
+        trace: bool,
+    ) -> RunEnd
         requires prepared { IsPrepared A.standard self.old.prepared.script.now (map (λ b. handed_in (title b) (meaning b) (signatures b)) self.old.prepared.natives.now.items) self.old.prepared.cifs }
         requires new { IsNew self.old.board }
         requires begun { machine.old ≡ begun A.TARGET machine.old.spare_events machine.old.spare_bytes }
         ensures done { result ≡ RunEnd.Done →
-            RunMatches untraced A.standard (program A.standard self.old.prepared.script.now (map (λ b. handed_in (title b) (meaning b) (signatures b)) self.old.prepared.natives.now.items))
+            RunMatches (main_tracing trace A.standard) A.standard (program A.standard self.old.prepared.script.now (map (λ b. handed_in (title b) (meaning b) (signatures b)) self.old.prepared.natives.now.items))
             (O.state output.old) (O.state output.new) machine.new }
         ensures returns { result ≡ RunEnd.Done →
             (meaning_of (program A.standard self.old.prepared.script.now (map (λ b. handed_in (title b) (meaning b) (signatures b)) self.old.prepared.natives.now.items))).end ≡ returned void_value }
         ensures stopped { (stop : Stop) → result ≡ RunEnd.Stopped stop →
-            RunMatches untraced A.standard (program A.standard self.old.prepared.script.now (map (λ b. handed_in (title b) (meaning b) (signatures b)) self.old.prepared.natives.now.items))
+            RunMatches (main_tracing trace A.standard) A.standard (program A.standard self.old.prepared.script.now (map (λ b. handed_in (title b) (meaning b) (signatures b)) self.old.prepared.natives.now.items))
             (O.state output.old) (O.state output.new) machine.new }
         ensures stops { (stop : Stop) → result ≡ RunEnd.Stopped stop →
             (meaning_of (program A.standard self.old.prepared.script.now (map (λ b. handed_in (title b) (meaning b) (signatures b)) self.old.prepared.natives.now.items))).end ≡ stopped stop }
         ensures no_memory { result ≡ RunEnd.NoMemory → (O.state output.new).faults ≡ (O.state output.old).faults }
         ensures failed { result ≡ RunEnd.Failed → Rose (O.state output.old).faults (O.state output.new).faults }
+        ensures cut_by_memory { result ≡ RunEnd.NoMemory →
+            RunWasCut (main_tracing trace A.standard) A.standard (program A.standard self.old.prepared.script.now (map (λ b. handed_in (title b) (meaning b) (signatures b)) self.old.prepared.natives.now.items)) false
+            (O.state output.old) (O.state output.new) machine.new }
+        ensures cut_by_write { result ≡ RunEnd.Failed →
+            RunWasCut (main_tracing trace A.standard) A.standard (program A.standard self.old.prepared.script.now (map (λ b. handed_in (title b) (meaning b) (signatures b)) self.old.prepared.natives.now.items)) true
+            (O.state output.old) (O.state output.new) machine.new }
         ensures never_falls { (O.state output.old).faults ≤ (O.state output.new).faults }
-        ensures part { WrotePart untraced (program A.standard self.old.prepared.script.now (map (λ b. handed_in (title b) (meaning b) (signatures b)) self.old.prepared.natives.now.items))
+        ensures part { WrotePart (main_tracing trace A.standard) (program A.standard self.old.prepared.script.now (map (λ b. handed_in (title b) (meaning b) (signatures b)) self.old.prepared.natives.now.items))
             (O.state output.old) (O.state output.new) }
+        ensures left { result ≡ RunEnd.Done →
+            MainHasReturned (program A.standard self.old.prepared.script.now (map (λ b. handed_in (title b) (meaning b) (signatures b)) self.old.prepared.natives.now.items)) self.new.board machine.new }
+        ensures prepared { self.new.prepared ≡ self.old.prepared }
+        ensures over { self.new.over ≡ true }
     {
-        let alloc = self.prepared.alloc;
-        self.board.innermost = Some(Activation {
-            who: Who::Main,
-            standing: Standing::in_main(alloc, self.prepared.script),
-            user: 0,
-            results: Values::new(alloc),
-        });
-        self.prepared.run_on(&mut self.board, machine, output)
+        self.prepared.start(&mut self.board);
+        self.over = true;
+        self.prepared
+            .run_on(&mut self.board, machine, output, trace)
+    }
+
+    /// Serves the call of a live closure that the machine shows at its entry, by any caller: does
+    /// moves until the entered activation has left. Closure and arguments are learned from the machine
+    /// alone. With `trace` entries and returns are told, the entered one's first.
+    pub fn serve<O: Sink>(&mut self, machine: &mut Machine, output: &mut O, trace: bool) -> RunEnd
+        requires prepared { IsPrepared A.standard self.old.prepared.script.now (map (λ b. handed_in (title b) (meaning b) (signatures b)) self.old.prepared.natives.now.items) self.old.prepared.cifs }
+        requires idle { IsIdle (program A.standard self.old.prepared.script.now (map (λ b. handed_in (title b) (meaning b) (signatures b)) self.old.prepared.natives.now.items)) self.old.board }
+        requires holds { HoldsMap machine.old.target self.old.board.table machine.old.code }
+        requires entry { (closure : Closure) × (arguments : List ValueTree) ×
+            IsAtEntry A.standard (program A.standard self.old.prepared.script.now (map (λ b. handed_in (title b) (meaning b) (signatures b)) self.old.prepared.natives.now.items)) self.old.board.table machine.old closure arguments }
+        ensures served { Served A.standard trace (program A.standard self.old.prepared.script.now (map (λ b. handed_in (title b) (meaning b) (signatures b)) self.old.prepared.natives.now.items))
+            self.old.board machine.old (O.state output.old) self.new.board machine.new (O.state output.new) result }
+        ensures prepared { self.new.prepared ≡ self.old.prepared }
+        ensures going { result ≡ RunEnd.Done → self.new.over ≡ self.old.over }
+        ensures over { (result ≡ RunEnd.Done → ⊥) → self.new.over ≡ true }
+    {
+        let end = self.prepared.serve(&mut self.board, machine, output, trace);
+        if end != RunEnd::Done {
+            self.over = true;
+        }
+        end
     }
 }

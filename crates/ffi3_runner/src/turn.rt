@@ -1,9 +1,10 @@
 //! One move of a run.
-ghost use Rattle.std.specs.Prelude.{◌≡◌, List, None, length, map};
+ghost use Rattle.std.specs.Prelude.{◌≡◌, List, length, map};
 ghost use Rattle.ffi3_place_rules.specs.Event.{Event};
 ghost use Rattle.ffi3_run_rules.specs.Trace.{TraceItem};
-ghost use Rattle.ffi3_turn_rules.specs.Left.{Left, as_main};
+ghost use Rattle.ffi3_turn_rules.specs.Left.{Left};
 ghost use Rattle.ffi3_turn_rules.specs.SoFar.{Base};
+ghost use Rattle.ffi3_turn_rules.specs.Told.{IsTracingOf};
 ghost use Rattle.ffi3_ask.specs.Handed.{handed_in};
 ghost use Rattle.ffi3_board.specs.Between.{Beginning};
 ghost use Rattle.ffi3_board.specs.Turned.{StandsAt, Turned};
@@ -19,27 +20,27 @@ use ffi3_place::Abi;
 
 impl<'a, A: Abi> Prepared<'a, A> {
     /// Does one move of the innermost activation. It is counted, and none is asked for where none
-    /// is left.
+    /// is left. Where the run is traced, an entry or a return is told.
     pub(crate) fn turn<O: Sink>(
         &self,
         board: &mut Board<Standing>,
         machine: &mut Machine,
         output: &mut O,
+        trace: bool,
     ) -> Turn
         requires prepared { IsPrepared A.standard self.now.script.now (map (λ b. handed_in (title b) (meaning b) (signatures b)) self.now.natives.now.items) self.now.cifs }
-        requires main { board.old.served ≡ None }
         requires standing { AllStand self.now.script.now (map (λ b. handed_in (title b) (meaning b) (signatures b)) self.now.natives.now.items) self.now.cifs machine.old board.old }
         requires between { (base : Base) × (all : Left) × (first : Beginning) × (own : List TraceItem) × (events : List Event) ×
-            (base.standard ≡ A.standard) × (base.bottom ≡ as_main) ×
+            (base.standard ≡ A.standard) ×
+            IsTracingOf (program A.standard self.now.script.now (map (λ b. handed_in (title b) (meaning b) (signatures b)) self.now.natives.now.items)) base trace first.tracing ×
             StandsAt (program A.standard self.now.script.now (map (λ b. handed_in (title b) (meaning b) (signatures b)) self.now.natives.now.items)) base all first own events board.old machine.old (O.state output.old) }
         ensures turned { let p = program A.standard self.now.script.now (map (λ b. handed_in (title b) (meaning b) (signatures b)) self.now.natives.now.items) in
             (base : Base) (all : Left) (first : Beginning) (own : List TraceItem) (events : List Event) →
-            base.standard ≡ A.standard → base.bottom ≡ as_main →
+            base.standard ≡ A.standard → IsTracingOf p base trace first.tracing →
             StandsAt p base all first own events board.old machine.old (O.state output.old) →
             Turned p base all first own board.old.moves board.new machine.new (O.state output.new) result }
         ensures standing { result ≡ Turn.More →
             AllStand self.now.script.now (map (λ b. handed_in (title b) (meaning b) (signatures b)) self.now.natives.now.items) self.now.cifs machine.new board.new }
-        ensures main { result ≡ Turn.More → board.new.served ≡ None }
     {
         let Some(mut current) = board.innermost.take() else {
             unreachable!()
@@ -60,9 +61,9 @@ impl<'a, A: Abi> Prepared<'a, A> {
             }
             Move::Free { ptr } => board.free(alloc, machine, output, &self.cifs, current, ptr),
             Move::Call { ptr, sig, args } => {
-                self.call(board, machine, output, current, ptr, sig, &args)
+                self.call(board, machine, output, current, ptr, sig, &args, trace)
             }
-            Move::Return(value) => board.leave(alloc, machine, &self.cifs, &value),
+            Move::Return(value) => board.leave(alloc, machine, output, &self.cifs, &value, trace),
         }
     }
 }

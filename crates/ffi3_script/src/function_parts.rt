@@ -58,8 +58,8 @@ fn read_part(
     })
 }
 
-// One more function.
-fn push_part(parts: &mut Vec<FunctionPart>, part: FunctionPart) -> Result<(), NoMemory>
+/// One more function.
+pub(crate) fn push_part(parts: &mut Vec<FunctionPart>, part: FunctionPart) -> Result<(), NoMemory>
     ensures { OnOk result (parts.new.items ≡ parts.old.items ++ part ∷ []) }
 {
     parts.push(part)?;

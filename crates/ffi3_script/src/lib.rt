@@ -10,6 +10,7 @@ mod functions;
 mod headings;
 mod heads;
 mod index;
+mod made;
 mod names;
 mod plain;
 mod read;
@@ -23,6 +24,7 @@ pub use ffi3_json::{Reason, ScriptFault, Where};
 pub use ffi3_script_body::{Act, Expr, MoveKind, ScriptBody, ScriptMove, TypedExpr};
 /// A want of memory: the one answer that no clause ties to a cause.
 pub use ffi3_types::NoMemory;
+pub use made::made_script;
 pub use names::Names;
 pub use read::read_script;
 pub use script::{Script, ScriptFunction};

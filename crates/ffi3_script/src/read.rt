@@ -38,8 +38,8 @@ pub fn read_script(alloc: Global, bytes: &[u8], natives: &Names) -> Result<Scrip
     Ok(script_of(alloc, parts, natives.len() as u32)?)
 }
 
-// The script of these parts, beside so many natives.
-fn script_of(alloc: Global, parts: Parts, natives: u32) -> Result<Script, NoMemory>
+/// The script of these parts, beside so many natives.
+pub(crate) fn script_of(alloc: Global, parts: Parts, natives: u32) -> Result<Script, NoMemory>
     requires few_signatures { length parts.sigs < 2 ^ 31 }
     requires few { length parts.functions.items < 2 ^ 31 }
     requires few_natives { natives < 2 ^ 31 }

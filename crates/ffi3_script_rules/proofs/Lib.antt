@@ -8,7 +8,7 @@ mod ValueRows
 mod MeaningRows
 mod ComputedValueRows
 mod TypedRows
-mod RunLimitRows
+mod MadeRows
 pub mod Tests
 pub mod RightTypes
 pub mod Fits
@@ -17,3 +17,5 @@ pub mod TypedValues
 pub mod WellTyped
 pub mod BodyRules
 pub mod Natives
+pub mod Made
+pub mod MadeRuns

@@ -9,5 +9,5 @@ pub mod Bodies
 pub mod Meaning
 pub mod Natives
 pub mod Typed
+pub mod Made
 pub mod Reading
-pub mod RunLimit

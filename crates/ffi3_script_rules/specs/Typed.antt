@@ -1,7 +1,7 @@
 -- When a value of a script has a type, and when a body is well typed: its numbers lie in their lists and its values have their types. Every script that is read is well typed (`proofs/WellTyped.antt`), and what is well typed fits (`proofs/Fits.antt`).
 use Rattle.std.specs.Prelude.{◌≡◌, ℕ, ◌+◌, ◌==◌, ◌&&◌, List, [], ◌∷◌, ◌++◌, length, map, Bool, true, false, Option, Some, None, nat_lt, is_none}
 use Rattle.std.specs.List.{list_all}
-use Rattle.ffi3_type_rules.specs.Tree.{Tree, void, scalar, left_out, structure, Trees, no_trees, tree, tree_at, trees_of, Scalar, scalar_number, pointer}
+use Rattle.ffi3_type_rules.specs.Tree.{Tree, void, scalar, structure, Trees, no_trees, tree, tree_at, trees_of, Scalar, scalar_number, pointer}
 use Rattle.ffi3_type_rules.specs.Tree as types
 use Rattle.ffi3_type_rules.specs.Integer.{is_integer, is_number, is_number_type}
 use Rattle.ffi3_type_rules.specs.Layout.{scalar_size}

@@ -4,3 +4,5 @@
 
 #[cfg(test)]
 mod top;
+#[cfg(test)]
+mod traced;

@@ -1,10 +1,10 @@
 //! The top call over sources and sinks in memory: ends that fail, what a run leaves in the machine,
 //! and why words are refused.
-ghost use Rattle.std.specs.Prelude.{◌≡◌, [], None};
+ghost use Rattle.std.specs.Prelude.{◌≡◌, ◌<◌, []};
 
 use ffi3_app::{Machine, ffi3};
 use ffi3_body::Native;
-use ffi3_io::{Failed, MemSink, MemSource, NoMemory, Sink, Source};
+use ffi3_io::{MemSink, MemSource, NoMemory, Sink, Source};
 use ffi3_machine::EventKind;
 use std::alloc::Global;
 use std::process::Abort;
@@ -28,16 +28,18 @@ const READ_FAULT: &str = "ffi3: read fault\n";
 
 const WRITE_FAULT: &str = "ffi3: write fault\n";
 
-/// The room of an output, and the numbers of the reads and writes that fail.
+/// The most bytes that one read gives or one write takes, the room of an output, and the numbers of
+/// the reads and writes that fail.
 #[derive(Clone, Copy)]
 struct World {
+    chunk: usize,
     reads_fail: &'static [u64],
     room: usize,
     writes_fail: &'static [u64],
     tells_fail: &'static [u64],
 }
 
-fn owned(alloc: Global, words: &[&str]) -> Result<Vec<String>, NoMemory> {
+pub fn owned(alloc: Global, words: &[&str]) -> Result<Vec<String>, NoMemory> {
     let mut all = Vec::new(alloc);
     for word in words {
         all.push(String::from_str(alloc, word)?)?;
@@ -69,17 +71,16 @@ fn check_in(
     status: u8,
     text: &str,
     line: &str,
-) -> Result<(), Fail> {
-    let mut input = MemSource::new(
-        Vec::from_slice(alloc, script.as_bytes())?,
-        Vec::from_slice(alloc, world.reads_fail)?,
-    );
-    let mut output = MemSink::new(
-        alloc,
-        world.room,
-        Vec::from_slice(alloc, world.writes_fail)?,
-    )?;
-    let mut faults = MemSink::new(alloc, 1_024, Vec::from_slice(alloc, world.tells_fail)?)?;
+) -> Result<(), Fail>
+    requires { 0 < world.chunk }
+{
+    let script = Vec::from_slice(alloc, script.as_bytes())?;
+    let reads_fail = Vec::from_slice(alloc, world.reads_fail)?;
+    let writes_fail = Vec::from_slice(alloc, world.writes_fail)?;
+    let tells_fail = Vec::from_slice(alloc, world.tells_fail)?;
+    let mut input = MemSource::new(script, reads_fail).chunk(world.chunk);
+    let mut output = MemSink::new(alloc, world.room, writes_fail)?.chunk(world.chunk);
+    let mut faults = MemSink::new(alloc, 1_024, tells_fail)?.chunk(world.chunk);
     let mut machine = Machine::new(alloc)?;
     let answer = call(
         alloc,
@@ -99,16 +100,23 @@ fn check_in(
 fn says_what_failed(rt: HostRuntime) -> Result<(), Fail> {
     let alloc = rt.alloc();
     let calm = World {
+        chunk: 4_096,
         reads_fail: &[],
         room: 1_024,
         writes_fail: &[],
         tells_fail: &[],
     };
     let mut reads = calm;
+    reads.reads_fail = &[1];
+    check_in(&rt, alloc, reads, RUN, INCREMENT, 3, "", READ_FAULT)?;
     reads.reads_fail = &[2];
     check_in(&rt, alloc, reads, RUN, FIVE, 3, "", READ_FAULT)?;
     reads.tells_fail = &[1];
     check_in(&rt, alloc, reads, LAYOUT, INCREMENT, 4, "", "")?;
+    let mut parts = calm;
+    parts.chunk = 64;
+    parts.reads_fail = &[3];
+    check_in(&rt, alloc, parts, RUN, INCREMENT, 3, "", READ_FAULT)?;
     let mut first = calm;
     first.writes_fail = &[1];
     check_in(&rt, alloc, first, RUN, INCREMENT, 4, "", WRITE_FAULT)?;
@@ -123,6 +131,13 @@ fn says_what_failed(rt: HostRuntime) -> Result<(), Fail> {
     check_in(&rt, alloc, second, LAYOUT, INCREMENT, 4, ret, WRITE_FAULT)?;
     let sig = "sig 0 need 224 frame 0 block 16\n";
     check_in(&rt, alloc, second, PLACE, INCREMENT, 4, sig, WRITE_FAULT)?;
+    // Byte by byte a failure comes between the bytes of a line, and of the line of the fault.
+    let mut bytes = calm;
+    bytes.chunk = 1;
+    bytes.writes_fail = &[4];
+    check_in(&rt, alloc, bytes, RUN, FIVE, 4, "1\n2", WRITE_FAULT)?;
+    bytes.tells_fail = &[7];
+    check_in(&rt, alloc, bytes, RUN, FIVE, 4, "1\n2", "ffi3: ")?;
     let mut small = calm;
     small.room = 5;
     check_in(&rt, alloc, small, PLACE, INCREMENT, 4, "sig 0", WRITE_FAULT)?;
@@ -169,8 +184,8 @@ fn says_why_words_are_refused(rt: HostRuntime) -> Result<(), Fail> {
             "[possible values: amd64, aapcs64, riscv]",
         ),
         (
-            &["ffi3", "run", "--target", "aapcs64"],
-            "[possible values: amd64]",
+            &["ffi3", "run", "--target", "i386"],
+            "[possible values: amd64, aapcs64, riscv]",
         ),
         (&["ffi3", "layout", "extra"], "unexpected argument 'extra'"),
         (
@@ -185,49 +200,13 @@ fn says_why_words_are_refused(rt: HostRuntime) -> Result<(), Fail> {
     Ok(())
 }
 
-/// A source that gives one byte at a time.
-#[derive(Drop)]
-struct OneByteSource {
-    inner: MemSource,
-}
-
-impl Source for OneByteSource {
-    ghost state = { λ s. record { left = None; faults = s.inner.faults } };
-
-    fn read(&mut self, buf: &mut [u8]) -> Result<usize, Failed> {
-        let n = buf.len().min(1);
-        self.inner.read(&mut buf[..n])
-    }
-}
-
-/// A sink that takes one byte at a time.
-#[derive(Drop)]
-struct OneByteSink {
-    inner: MemSink,
-}
-
-impl Sink for OneByteSink {
-    ghost state = { λ s. record { taken = None; faults = s.inner.faults } };
-
-    fn write(&mut self, bytes: &[u8]) -> Result<usize, Failed> {
-        let n = bytes.len().min(1);
-        self.inner.write(&bytes[..n])
-    }
-}
-
 /// A run over ends that move one byte at a time, and the machine after it: one entry, one return, and a mark 80 bytes down.
 #[test]
 fn goes_byte_by_byte(rt: HostRuntime) -> Result<(), Fail> {
     let alloc = rt.alloc();
-    let mut input = OneByteSource {
-        inner: MemSource::new(
-            Vec::from_slice(alloc, INCREMENT.as_bytes())?,
-            Vec::new(alloc),
-        ),
-    };
-    let mut output = OneByteSink {
-        inner: MemSink::new(alloc, 64, Vec::new(alloc))?,
-    };
+    let script = Vec::from_slice(alloc, INCREMENT.as_bytes())?;
+    let mut input = MemSource::new(script, Vec::new(alloc)).chunk(1);
+    let mut output = MemSink::new(alloc, 64, Vec::new(alloc))?.chunk(1);
     let mut faults = MemSink::new(alloc, 64, Vec::new(alloc))?;
     let mut machine = Machine::new(alloc)?;
     let status = call(
@@ -239,7 +218,7 @@ fn goes_byte_by_byte(rt: HostRuntime) -> Result<(), Fail> {
         &mut machine,
     )?;
     assert_eq!(rt; status, 0);
-    assert_eq!(rt; output.inner.taken(), b"42\n".as_slice());
+    assert_eq!(rt; output.taken(), b"42\n".as_slice());
     assert_eq!(rt; machine.mark(), 0x7FFE_FFB0);
     let events = machine.events();
     assert_eq!(rt; events.len(), 2);

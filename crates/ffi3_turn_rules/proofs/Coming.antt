@@ -188,18 +188,18 @@ module _ (p : Program) (b : Base) (all : Left) (own : List TraceItem) (events : 
       }
 
   -- the run is cut off in what is left
-  pub comes_to_cut : (tracing : Tracing) (in_line : Bool) (written : List ℕ) (more : List Event) → WasCut b.standard b.top b.held tracing p.signatures (text_after p b own) (b.count + length events) (open_at p b x.path.suspended events) in_line (left_at_position p b x).trace written more → IsCutOff tracing p b in_line all (text tracing p.signatures (text_start p b) own ++ written) (events ++ more)
-  comes_to_cut tracing in_line written more cut =
-      let P : List TraceItem → Type 0 = λ l. WasCut b.standard b.top b.held tracing p.signatures (text_start p b) b.count (open_at p b [] []) in_line l (text tracing p.signatures (text_start p b) own ++ written) (events ++ more) in
-      subst P (sym (ap (λ (l : Left). l.trace) h.follows)) (cut_then b.standard b.top b.held tracing p.signatures in_line (text_start p b) b.count (open_at p b [] []) (open_at p b x.path.suspended events) own (left_at_position p b x).trace events more written h.answers cut)
+  pub comes_to_cut : (tracing : Tracing) (in_line : Bool) (happened : List TraceItem) (written : List ℕ) (more : List Event) → WasCut b.standard b.top b.held tracing p.signatures (text_after p b own) (b.count + length events) (open_at p b x.path.suspended events) in_line (left_at_position p b x).trace happened written more → IsCutOff tracing p b in_line all (own ++ happened) (text tracing p.signatures (text_start p b) own ++ written) (events ++ more)
+  comes_to_cut tracing in_line happened written more cut =
+      let P : List TraceItem → Type 0 = λ l. WasCut b.standard b.top b.held tracing p.signatures (text_start p b) b.count (open_at p b [] []) in_line l (own ++ happened) (text tracing p.signatures (text_start p b) own ++ written) (events ++ more) in
+      subst P (sym (ap (λ (l : Left). l.trace) h.follows)) (cut_then b.standard b.top b.held tracing p.signatures in_line (text_start p b) b.count (open_at p b [] []) (open_at p b x.path.suspended events) own (left_at_position p b x).trace happened events more written h.answers cut)
 
 -- A RUN OF MAIN THAT IS OVER has the journal of its program's direct meaning, whole.
 pub main_is_over : (p : Program) (std : Standard) (end : End) (closures : Closures) (moves : ℕ) (events : List Event) → IsOver p (main_base std) (left_of (meaning_of p)) end closures moves events → ((meaning_of p).end ≡ end) × ((meaning_of p).closures ≡ closures) × JournalOf std p.signatures (trace_of p) events × IsWhole (trace_of p) events
 main_is_over p std end closures moves events h = (h.end_is, h.closures_are, h.answers.answers, h.answers.whole)
 
 -- A RUN OF MAIN THAT WAS CUT OFF has a first part of the text, and the journal as far as it goes.
-pub main_was_cut : (tracing : Tracing) (p : Program) (std : Standard) (in_line : Bool) (written : List ℕ) (events : List Event) → IsCutOff tracing p (main_base std) in_line (left_of (meaning_of p)) written events → JournalOf std p.signatures (trace_of p) events × ((unwritten : List ℕ) × (text_of_run tracing p ≡ written ++ unwritten))
-main_was_cut tracing p std in_line written events cut = (
-  cut_journal std stack_top (λ at. 0) tracing p.signatures in_line at_start 0 [] (trace_of p) written events cut,
-  cut_text std stack_top (λ at. 0) tracing p.signatures in_line at_start 0 [] (trace_of p) written events cut,
+pub main_was_cut : (tracing : Tracing) (p : Program) (std : Standard) (in_line : Bool) (happened : List TraceItem) (written : List ℕ) (events : List Event) → IsCutOff tracing p (main_base std) in_line (left_of (meaning_of p)) happened written events → JournalOf std p.signatures (trace_of p) events × ((unwritten : List ℕ) × (text_of_run tracing p ≡ written ++ unwritten))
+main_was_cut tracing p std in_line happened written events cut = (
+  cut_journal std stack_top (λ at. 0) tracing p.signatures in_line at_start 0 [] (trace_of p) happened written events cut,
+  cut_text std stack_top (λ at. 0) tracing p.signatures in_line at_start 0 [] (trace_of p) happened written events cut,
 )

@@ -4,11 +4,11 @@ use Rattle.ffi3_type_rules.specs.Signature.{Signature}
 use Rattle.ffi3_place_rules.specs.declared.Loc.{Loc}
 use Rattle.ffi3_place_rules.specs.Standard.{Standard}
 use Rattle.ffi3_place_rules.specs.Event.{Event}
-use Rattle.ffi3_run_rules.specs.Trace.{TraceItem}
+use Rattle.ffi3_run_rules.specs.Trace.{TraceItem, Enter, Line, Leave, StopLine}
 use Rattle.ffi3_run_rules.specs.Journal.{Entered, Answers}
 use Rattle.ffi3_run_rules.specs.Lines.{Point, past, Tracing, item_text, text}
 use Rattle.ffi3_turn_rules.specs.Open.{AnswersTo}
-use Rattle.ffi3_turn_rules.specs.Cut.{past_all, next_text, begun, IsPart, WasCut}
+use Rattle.ffi3_turn_rules.specs.Cut.{past_all, next_text, begun, IsPart, HasItsEvent, WasCut}
 use Rattle.ffi3_turn_rules.proofs.Opens.{past_all-append, text-append, answers_then, answers_so_far, nothing_yet}
 
 -- what comes after the item whose event is recorded
@@ -28,13 +28,21 @@ more_text : (tracing : Tracing) (ss : List Signature) (at : Point) (later : List
 more_text tracing ss at [] = ([], refl)
 more_text tracing ss at (h ∷ later) = (text tracing ss (past ss at h) later, refl)
 
+-- elsewhere than in a line any item may be next
+pub no_event_yet : (later : List TraceItem) → HasItsEvent false false later
+no_event_yet [] = refl
+no_event_yet (Enter ptr sig args ∷ later) = λ is. cc
+no_event_yet (Leave sig r ∷ later) = λ is. cc
+no_event_yet (Line t v ∷ later) = refl
+no_event_yet (StopLine stop ∷ later) = refl
+
 module _ (std : Standard) (top : ℕ) (held : Loc → ℕ) (tracing : Tracing) (ss : List Signature) (in_line : Bool) where
-  abbrev Cut : Point → ℕ → List Entered → List TraceItem → List ℕ → List Event → Type 0
-  Cut at n calls trace written events = WasCut std top held tracing ss at n calls in_line trace written events
+  abbrev Cut : Point → ℕ → List Entered → List TraceItem → List TraceItem → List ℕ → List Event → Type 0
+  Cut at n calls trace happened written events = WasCut std top held tracing ss at n calls in_line trace happened written events
 
   -- CUT OFF LATER: what is done before is done
-  pub cut_then : (at : Point) (n : ℕ) (calls mid : List Entered) (a b : List TraceItem) (xs ys : List Event) (written : List ℕ) → AnswersTo std top held ss n calls a xs mid → Cut (past_all ss at a) (n + length xs) mid b written ys → Cut at n calls (a ++ b) (text tracing ss at a ++ written) (xs ++ ys)
-  cut_then at n calls mid a b xs ys written first k =
+  pub cut_then : (at : Point) (n : ℕ) (calls mid : List Entered) (a b happened : List TraceItem) (xs ys : List Event) (written : List ℕ) → AnswersTo std top held ss n calls a xs mid → Cut (past_all ss at a) (n + length xs) mid b happened written ys → Cut at n calls (a ++ b) (a ++ happened) (text tracing ss at a ++ written) (xs ++ ys)
+  cut_then at n calls mid a b happened xs ys written first k =
       let comes : past_all ss at (a ++ k.done) ≡ past_all ss (past_all ss at a) k.done = past_all-append ss at a k.done in
       let next : List ℕ = take k.part (next_text tracing ss (past_all ss (past_all ss at a) k.done) k.later) in
       record {
@@ -49,26 +57,34 @@ module _ (std : Standard) (top : ℕ) (held : Loc → ℕ) (tracing : Tracing) (
             ∙ ap (λ (l : List ℕ). l ++ next) (sym (text-append tracing ss at a k.done))
             ∙ ap (λ (x : Point). text tracing ss at (a ++ k.done) ++ take k.part (next_text tracing ss x k.later)) (sym comes);
         recorded = k.recorded;
+        its_event = k.its_event;
+        happened_is = ap (λ (l : List TraceItem). a ++ l) k.happened_is ∙ sym (append_assoc a k.done (begun k.recorded k.later));
         left_open = k.left_open;
-        answers = subst (λ (l : List TraceItem). AnswersTo std top held ss n calls l (xs ++ ys) k.left_open) (sym (append_assoc a k.done (begun k.recorded k.later))) (answers_then std top held ss n calls mid k.left_open a (k.done ++ begun k.recorded k.later) xs ys first k.answers);
+        answers = answers_then std top held ss n calls mid k.left_open a happened xs ys first k.answers;
       }
 
+  -- what happened is a first part of the trace
+  happens_first : (at : Point) (n : ℕ) (calls : List Entered) (trace happened : List TraceItem) (written : List ℕ) (events : List Event) → Cut at n calls trace happened written events → (after : List TraceItem) × (happened ++ after ≡ trace)
+  happens_first at n calls trace happened written events k =
+      let after = after_begun k.recorded k.later in (
+        after,
+        ap (λ (l : List TraceItem). l ++ after) k.happened_is
+            ∙ append_assoc k.done (begun k.recorded k.later) after
+            ∙ ap (λ (l : List TraceItem). k.done ++ l) (sym (begun_and_after k.recorded k.later))
+            ∙ sym k.all,
+      )
+
   -- the journal is that of the trace, as far as it goes
-  pub cut_journal : (at : Point) (n : ℕ) (calls : List Entered) (trace : List TraceItem) (written : List ℕ) (events : List Event) → Cut at n calls trace written events → Answers std top held ss n calls trace events
-  cut_journal at n calls trace written events k =
-      let both = k.done ++ begun k.recorded k.later in
-      let after = after_begun k.recorded k.later in
-      let parts : both ++ after ≡ trace =
-      append_assoc k.done (begun k.recorded k.later) after
-      ∙ ap (λ (l : List TraceItem). k.done ++ l) (sym (begun_and_after k.recorded k.later))
-      ∙ sym k.all in
+  pub cut_journal : (at : Point) (n : ℕ) (calls : List Entered) (trace happened : List TraceItem) (written : List ℕ) (events : List Event) → Cut at n calls trace happened written events → Answers std top held ss n calls trace events
+  cut_journal at n calls trace happened written events k =
+      let first = happens_first at n calls trace happened written events k in
       let P : List TraceItem → Type 0 = λ l. Answers std top held ss n calls l events in
-      let Q : List Event → Type 0 = λ l. Answers std top held ss n calls (both ++ after) l in
-      subst P parts (subst Q (append-nil events) (answers_so_far std top held ss n calls k.left_open both after events [] k.answers tt))
+      let Q : List Event → Type 0 = λ l. Answers std top held ss n calls (happened ++ first.0) l in
+      subst P first.1 (subst Q (append-nil events) (answers_so_far std top held ss n calls k.left_open happened first.0 events [] k.answers tt))
 
   -- what is written is a first part of the text
-  pub cut_text : (at : Point) (n : ℕ) (calls : List Entered) (trace : List TraceItem) (written : List ℕ) (events : List Event) → Cut at n calls trace written events → (unwritten : List ℕ) × (text tracing ss at trace ≡ written ++ unwritten)
-  cut_text at n calls trace written events k =
+  pub cut_text : (at : Point) (n : ℕ) (calls : List Entered) (trace happened : List TraceItem) (written : List ℕ) (events : List Event) → Cut at n calls trace happened written events → (unwritten : List ℕ) × (text tracing ss at trace ≡ written ++ unwritten)
+  cut_text at n calls trace happened written events k =
       let comes = past_all ss at k.done in
       let next = next_text tracing ss comes k.later in
       let more = more_text tracing ss comes k.later in
@@ -84,8 +100,8 @@ module _ (std : Standard) (top : ℕ) (held : Loc → ℕ) (tracing : Tracing) (
   -- ---- cut off at once
 
   -- with a part of the next text, and nothing recorded
-  pub cut_unrecorded : (at : Point) (n : ℕ) (calls : List Entered) (trace : List TraceItem) (part : ℕ) → IsPart in_line part (length (next_text tracing ss at trace)) → Cut at n calls trace (take part (next_text tracing ss at trace)) []
-  cut_unrecorded at n calls trace part proper = record {
+  pub cut_unrecorded : (at : Point) (n : ℕ) (calls : List Entered) (trace : List TraceItem) (part : ℕ) → IsPart in_line part (length (next_text tracing ss at trace)) → HasItsEvent false in_line trace → Cut at n calls trace [] (take part (next_text tracing ss at trace)) []
+  cut_unrecorded at n calls trace part proper its_event = record {
     done = [];
     later = trace;
     all = refl;
@@ -93,13 +109,15 @@ module _ (std : Standard) (top : ℕ) (held : Loc → ℕ) (tracing : Tracing) (
     proper = proper;
     text_is = refl;
     recorded = false;
+    its_event = its_event;
+    happened_is = refl;
     left_open = calls;
     answers = nothing_yet std top held ss n calls;
   }
 
   -- or with the next event recorded
-  pub cut_recorded : (at : Point) (n : ℕ) (calls calls' : List Entered) (h : TraceItem) (later : List TraceItem) (e : Event) (part : ℕ) → IsPart in_line part (length (item_text tracing ss at h)) → AnswersTo std top held ss n calls (h ∷ []) (e ∷ []) calls' → Cut at n calls (h ∷ later) (take part (item_text tracing ss at h)) (e ∷ [])
-  cut_recorded at n calls calls' h later e part proper answers = record {
+  pub cut_recorded : (at : Point) (n : ℕ) (calls calls' : List Entered) (h : TraceItem) (later : List TraceItem) (e : Event) (part : ℕ) → IsPart in_line part (length (item_text tracing ss at h)) → HasItsEvent true in_line (h ∷ later) → AnswersTo std top held ss n calls (h ∷ []) (e ∷ []) calls' → Cut at n calls (h ∷ later) (h ∷ []) (take part (item_text tracing ss at h)) (e ∷ [])
+  cut_recorded at n calls calls' h later e part proper its_event answers = record {
     done = [];
     later = h ∷ later;
     all = refl;
@@ -107,6 +125,8 @@ module _ (std : Standard) (top : ℕ) (held : Loc → ℕ) (tracing : Tracing) (
     proper = proper;
     text_is = refl;
     recorded = true;
+    its_event = its_event;
+    happened_is = refl;
     left_open = calls';
     answers = answers;
   }

@@ -15,11 +15,11 @@ use Rattle.ffi3_run_rules.specs.Lines.{Tracing, a_line, enter_lines, item_text, 
 use Rattle.ffi3_turn_rules.specs.Left.{Left, only, Suspended, Bottom, as_main, served, Path, rest, alone, inside, awaited, awaited_below}
 use Rattle.ffi3_turn_rules.specs.Step.{acts_on}
 use Rattle.ffi3_turn_rules.specs.Open.{AnswersTo, open_calls, unreturned}
-use Rattle.ffi3_turn_rules.specs.Cut.{IsPart, WasCut}
+use Rattle.ffi3_turn_rules.specs.Cut.{IsPart, HasItsEvent, WasCut}
 use Rattle.ffi3_turn_rules.specs.SoFar.{Base, text_start, text_after, Position, left_at_position, open_at, HasComeTo, IsOver, IsCutOff}
 use Rattle.ffi3_turn_rules.proofs.Steps.{rest_at_limit, rest_stops, rest_prints, rest_enters, rest_returns, rest_ends, rest_leaves}
 use Rattle.ffi3_turn_rules.proofs.Opens.{nothing_yet, one_stop, one_entry, one_return}
-use Rattle.ffi3_turn_rules.proofs.Cuts.{cut_unrecorded, cut_recorded}
+use Rattle.ffi3_turn_rules.proofs.Cuts.{cut_unrecorded, cut_recorded, no_event_yet}
 use Rattle.ffi3_turn_rules.proofs.Coming.{comes_to_end, comes_to_cut, open_alone}
 
 module _ (p : Program) (b : Base) (all : Left) (own : List TraceItem) (events : List Event) where
@@ -34,6 +34,13 @@ module _ (p : Program) (b : Base) (all : Left) (own : List TraceItem) (events : 
       let calls = open_at p b path.suspended events in
       over_as_it_is (stopped MoveLimit) closures 0 (comes_to_end p b all own events x h (StopLine MoveLimit ∷ []) [] (stopped MoveLimit) closures 0 calls (rest_at_limit p b.bottom path closures) (one_stop b.standard b.top b.held p.signatures (b.count + length events) calls MoveLimit))
 
+  -- cut off with nothing more done, and without another event
+  as_it_is : (tracing : Tracing) (in_line : Bool) (happened : List TraceItem) (written : List ℕ) (xs : List Event) → IsCutOff tracing p b in_line all (happened ++ []) written (xs ++ []) → IsCutOff tracing p b in_line all happened written xs
+  as_it_is tracing in_line happened written xs k =
+      let P : List TraceItem → Type 0 = λ l. IsCutOff tracing p b in_line all l written (xs ++ []) in
+      let Q : List Event → Type 0 = λ l. IsCutOff tracing p b in_line all happened written l in
+      subst Q (append-nil xs) (subst P (append-nil happened) k)
+
   -- ---- cut off before or in the next item, from where its run has come to
 
   module _ (tracing : Tracing) (x : Position) (h : HasComeTo p b all own events x) where
@@ -45,38 +52,32 @@ module _ (p : Program) (b : Base) (all : Left) (own : List TraceItem) (events : 
     opened = open_at p b x.path.suspended events
 
     -- between two moves, for want of memory
-    pub cut_here : IsCutOff tracing p b false all so_far events
+    pub cut_here : IsCutOff tracing p b false all own so_far events
     cut_here =
         let left = (left_at_position p b x).trace in
-        let k = comes_to_cut p b all own events x h tracing false [] [] (cut_unrecorded b.standard b.top b.held tracing p.signatures false (text_after p b own) (b.count + length events) opened left 0 refl) in
-        subst (λ (l : List ℕ). IsCutOff tracing p b false all l events) (append-nil so_far) (subst (λ (m : List Event). IsCutOff tracing p b false all (so_far ++ []) m) (append-nil events) k)
+        let k = comes_to_cut p b all own events x h tracing false [] [] [] (cut_unrecorded b.standard b.top b.held tracing p.signatures false (text_after p b own) (b.count + length events) opened left 0 refl (no_event_yet left)) in
+        as_it_is tracing false own so_far events (subst (λ (l : List ℕ). IsCutOff tracing p b false all (own ++ []) l (events ++ [])) (append-nil so_far) k)
 
-    -- in the lines of the next item, before its event
-    pub cut_in_item : (next : TraceItem) (later : Left) (part : ℕ) → left_at_position p b x ≡ record later { trace = next ∷ later.trace } → part < length (item_text tracing p.signatures (text_after p b own) next) → IsCutOff tracing p b true all (so_far ++ take part (item_text tracing p.signatures (text_after p b own) next)) events
-    cut_in_item next later part is short =
+    -- in the lines of the next item, which has no event
+    pub cut_in_item : (next : TraceItem) (later : Left) (part : ℕ) → left_at_position p b x ≡ record later { trace = next ∷ later.trace } → part < length (item_text tracing p.signatures (text_after p b own) next) → HasItsEvent false true (next ∷ later.trace) → IsCutOff tracing p b true all own (so_far ++ take part (item_text tracing p.signatures (text_after p b own) next)) events
+    cut_in_item next later part is short its_event =
         let line = item_text tracing p.signatures (text_after p b own) next in
-        let P : List TraceItem → Type 0 = λ l. WasCut b.standard b.top b.held tracing p.signatures (text_after p b own) (b.count + length events) opened true l (take part line) [] in
-        let cut = cut_unrecorded b.standard b.top b.held tracing p.signatures true (text_after p b own) (b.count + length events) opened (next ∷ later.trace) part short in
-        let k = comes_to_cut p b all own events x h tracing true (take part line) [] (subst P (sym (ap (λ (l : Left). l.trace) is)) cut) in
-        subst (λ (m : List Event). IsCutOff tracing p b true all (so_far ++ take part line) m) (append-nil events) k
+        let P : List TraceItem → Type 0 = λ l. WasCut b.standard b.top b.held tracing p.signatures (text_after p b own) (b.count + length events) opened true l [] (take part line) [] in
+        let cut = cut_unrecorded b.standard b.top b.held tracing p.signatures true (text_after p b own) (b.count + length events) opened (next ∷ later.trace) part short its_event in
+        as_it_is tracing true own (so_far ++ take part line) events (comes_to_cut p b all own events x h tracing true [] (take part line) [] (subst P (sym (ap (λ (l : Left). l.trace) is)) cut))
 
     -- after the event of the next item, in its lines or before them
-    pub cut_after_event : (in_line : Bool) (next : TraceItem) (later : Left) (e : Event) (calls' : List Entered) (part : ℕ) → left_at_position p b x ≡ record later { trace = next ∷ later.trace } → AnswersTo b.standard b.top b.held p.signatures (b.count + length events) opened (next ∷ []) (e ∷ []) calls' → IsPart in_line part (length (item_text tracing p.signatures (text_after p b own) next)) → IsCutOff tracing p b in_line all (so_far ++ take part (item_text tracing p.signatures (text_after p b own) next)) (events ++ e ∷ [])
-    cut_after_event in_line next later e calls' part is answers proper =
+    pub cut_after_event : (in_line : Bool) (next : TraceItem) (later : Left) (e : Event) (calls' : List Entered) (part : ℕ) → left_at_position p b x ≡ record later { trace = next ∷ later.trace } → AnswersTo b.standard b.top b.held p.signatures (b.count + length events) opened (next ∷ []) (e ∷ []) calls' → IsPart in_line part (length (item_text tracing p.signatures (text_after p b own) next)) → HasItsEvent true in_line (next ∷ later.trace) → IsCutOff tracing p b in_line all (own ++ next ∷ []) (so_far ++ take part (item_text tracing p.signatures (text_after p b own) next)) (events ++ e ∷ [])
+    cut_after_event in_line next later e calls' part is answers proper its_event =
         let line = item_text tracing p.signatures (text_after p b own) next in
-        let P : List TraceItem → Type 0 = λ l. WasCut b.standard b.top b.held tracing p.signatures (text_after p b own) (b.count + length events) opened in_line l (take part line) (e ∷ []) in
-        let cut = cut_recorded b.standard b.top b.held tracing p.signatures in_line (text_after p b own) (b.count + length events) opened calls' next later.trace e part proper answers in
-        comes_to_cut p b all own events x h tracing in_line (take part line) (e ∷ []) (subst P (sym (ap (λ (l : Left). l.trace) is)) cut)
-
-    -- the same before them
-    cut_at_event : (next : TraceItem) (later : Left) (e : Event) (calls' : List Entered) → left_at_position p b x ≡ record later { trace = next ∷ later.trace } → AnswersTo b.standard b.top b.held p.signatures (b.count + length events) opened (next ∷ []) (e ∷ []) calls' → IsCutOff tracing p b false all so_far (events ++ e ∷ [])
-    cut_at_event next later e calls' is answers =
-        subst (λ (l : List ℕ). IsCutOff tracing p b false all l (events ++ e ∷ [])) (append-nil so_far) (cut_after_event false next later e calls' 0 is answers refl)
+        let P : List TraceItem → Type 0 = λ l. WasCut b.standard b.top b.held tracing p.signatures (text_after p b own) (b.count + length events) opened in_line l (next ∷ []) (take part line) (e ∷ []) in
+        let cut = cut_recorded b.standard b.top b.held tracing p.signatures in_line (text_after p b own) (b.count + length events) opened calls' next later.trace e part proper its_event answers in
+        comes_to_cut p b all own events x h tracing in_line (next ∷ []) (take part line) (e ∷ []) (subst P (sym (ap (λ (l : Left). l.trace) is)) cut)
 
   -- no move is left, and the run is cut off in the line that says so
-  pub cut_in_limit : (tracing : Tracing) (path : Path) (closures : Closures) (part : ℕ) → HasComeTo p b all own events (record { path = path; closures = closures; moves = 0 }) → part < length (a_line (stop_text p.signatures MoveLimit)) → IsCutOff tracing p b true all (text tracing p.signatures (text_start p b) own ++ take part (a_line (stop_text p.signatures MoveLimit))) events
+  pub cut_in_limit : (tracing : Tracing) (path : Path) (closures : Closures) (part : ℕ) → HasComeTo p b all own events (record { path = path; closures = closures; moves = 0 }) → part < length (a_line (stop_text p.signatures MoveLimit)) → IsCutOff tracing p b true all own (text tracing p.signatures (text_start p b) own ++ take part (a_line (stop_text p.signatures MoveLimit))) events
   cut_in_limit tracing path closures part h short =
-      cut_in_item tracing (record { path = path; closures = closures; moves = 0 }) h (StopLine MoveLimit) (only [] (stopped MoveLimit) closures 0) part (rest_at_limit p b.bottom path closures) short
+      cut_in_item tracing (record { path = path; closures = closures; moves = 0 }) h (StopLine MoveLimit) (only [] (stopped MoveLimit) closures 0) part (rest_at_limit p b.bottom path closures) short refl
 
   module _ (a : Activation) (outer : List Suspended) (closures : Closures) (moves : ℕ) (h : HasComeTo p b all own events (record { path = record { innermost = a; suspended = outer }; closures = closures; moves = suc moves })) where
     abbrev here : Position
@@ -103,33 +104,28 @@ module _ (p : Program) (b : Base) (all : Left) (own : List TraceItem) (events : 
       written more = text tracing p.signatures (text_start p b) own ++ more
 
       -- in a line
-      pub cut_in_print : (t : Tree) (v : ValueTree) (part : ℕ) → does (prints t v) → part < length (a_line (value_text_of t v)) → IsCutOff tracing p b true all (written (take part (a_line (value_text_of t v)))) events
+      pub cut_in_print : (t : Tree) (v : ValueTree) (part : ℕ) → does (prints t v) → part < length (a_line (value_text_of t v)) → IsCutOff tracing p b true all own (written (take part (a_line (value_text_of t v)))) events
       cut_in_print t v part is short =
-          cut_in_item tracing here h (Line t v) (rest p b.bottom (acts_on a void_value outer) closures moves) part (rest_prints p b.bottom a outer closures moves t v is) short
+          cut_in_item tracing here h (Line t v) (rest p b.bottom (acts_on a void_value outer) closures moves) part (rest_prints p b.bottom a outer closures moves t v is) short refl
 
-      pub cut_in_stop : (stop : Stop) (part : ℕ) → does (stops stop) → part < length (a_line (stop_text p.signatures stop)) → IsCutOff tracing p b true all (written (take part (a_line (stop_text p.signatures stop)))) events
+      pub cut_in_stop : (stop : Stop) (part : ℕ) → does (stops stop) → part < length (a_line (stop_text p.signatures stop)) → IsCutOff tracing p b true all own (written (take part (a_line (stop_text p.signatures stop)))) events
       cut_in_stop stop part is short =
-          cut_in_item tracing here h (StopLine stop) (only [] (stopped stop) closures moves) part (rest_stops p b.bottom a outer closures moves stop is) short
+          cut_in_item tracing here h (StopLine stop) (only [] (stopped stop) closures moves) part (rest_stops p b.bottom a outer closures moves stop is) short refl
 
-      -- after an entry
-      pub cut_at_entry : (ptr sig : ℕ) (callee : Activation) (e : Event) → does (enters ptr sig callee) → IsEntry b.standard b.top b.held calls count ptr (signature_at p.signatures sig) callee.arguments e → IsCutOff tracing p b false all (text tracing p.signatures (text_start p b) own) (events ++ e ∷ [])
-      cut_at_entry ptr sig callee e is entry =
-          cut_at_event tracing here h (Enter ptr sig callee.arguments) (rest p b.bottom (inside callee sig a outer) closures moves) e (record { signature = signature_at p.signatures sig; event = e } ∷ calls) (rest_enters p b.bottom a outer closures moves ptr sig callee is) (one_entry b.standard b.top b.held p.signatures count calls ptr sig callee.arguments e entry)
+      -- after an entry, in the lines that tell it or before them
+      pub cut_in_entry : (in_line : Bool) (ptr sig : ℕ) (callee : Activation) (e : Event) (part : ℕ) → does (enters ptr sig callee) → IsEntry b.standard b.top b.held calls count ptr (signature_at p.signatures sig) callee.arguments e → IsPart in_line part (length (enter_lines tracing (text_after p b own) ptr (signature_at p.signatures sig) callee.arguments)) → IsCutOff tracing p b in_line all (own ++ Enter ptr sig callee.arguments ∷ []) (written (take part (enter_lines tracing (text_after p b own) ptr (signature_at p.signatures sig) callee.arguments))) (events ++ e ∷ [])
+      cut_in_entry in_line ptr sig callee e part is entry proper =
+          cut_after_event tracing here h in_line (Enter ptr sig callee.arguments) (rest p b.bottom (inside callee sig a outer) closures moves) e (record { signature = signature_at p.signatures sig; event = e } ∷ calls) part (rest_enters p b.bottom a outer closures moves ptr sig callee is) (one_entry b.standard b.top b.held p.signatures count calls ptr sig callee.arguments e entry) proper (λ _. refl)
 
-      -- or in the lines that tell it
-      pub cut_in_entry : (ptr sig : ℕ) (callee : Activation) (e : Event) (part : ℕ) → does (enters ptr sig callee) → IsEntry b.standard b.top b.held calls count ptr (signature_at p.signatures sig) callee.arguments e → part < length (enter_lines tracing (text_after p b own) ptr (signature_at p.signatures sig) callee.arguments) → IsCutOff tracing p b true all (written (take part (enter_lines tracing (text_after p b own) ptr (signature_at p.signatures sig) callee.arguments))) (events ++ e ∷ [])
-      cut_in_entry ptr sig callee e part is entry short =
-          cut_after_event tracing here h true (Enter ptr sig callee.arguments) (rest p b.bottom (inside callee sig a outer) closures moves) e (record { signature = signature_at p.signatures sig; event = e } ∷ calls) part (rest_enters p b.bottom a outer closures moves ptr sig callee is) (one_entry b.standard b.top b.held p.signatures count calls ptr sig callee.arguments e entry) short
-
-  -- in the lines that tell a return to the activation that waits for it, after the return
-  pub cut_in_return : (a : Activation) (s : Suspended) (outer : List Suspended) (closures : Closures) (moves : ℕ) (v : ValueTree) (entry e : Event) (others : List Event) (tracing : Tracing) (part : ℕ) → HasComeTo p b all own events (record { path = record { innermost = a; suspended = s ∷ outer }; closures = closures; moves = suc moves }) → effect_of p a closures (next_move p a) ≡ ends v → unreturned b.entries events ≡ entry ∷ others → IsReturn b.standard (record { signature = signature_at p.signatures s.signature; event = entry }) v e → part < length (leave_lines tracing (text_after p b own).calls v) → IsCutOff tracing p b true all (text tracing p.signatures (text_start p b) own ++ take part (leave_lines tracing (text_after p b own).calls v)) (events ++ e ∷ [])
-  cut_in_return a s outer closures moves v entry e others tracing part h is top back short =
+  -- after a return to the activation that waits for it, in the lines that tell it or before them
+  pub cut_in_return : (in_line : Bool) (a : Activation) (s : Suspended) (outer : List Suspended) (closures : Closures) (moves : ℕ) (v : ValueTree) (entry e : Event) (others : List Event) (tracing : Tracing) (part : ℕ) → HasComeTo p b all own events (record { path = record { innermost = a; suspended = s ∷ outer }; closures = closures; moves = suc moves }) → effect_of p a closures (next_move p a) ≡ ends v → unreturned b.entries events ≡ entry ∷ others → IsReturn b.standard (record { signature = signature_at p.signatures s.signature; event = entry }) v e → IsPart in_line part (length (leave_lines tracing (text_after p b own).calls v)) → IsCutOff tracing p b in_line all (own ++ Leave s.signature v ∷ []) (text tracing p.signatures (text_start p b) own ++ take part (leave_lines tracing (text_after p b own).calls v)) (events ++ e ∷ [])
+  cut_in_return in_line a s outer closures moves v entry e others tracing part h is top back proper =
       let x : Position = record { path = record { innermost = a; suspended = s ∷ outer }; closures = closures; moves = suc moves } in
       let call : Entered = record { signature = signature_at p.signatures s.signature; event = entry } in
       let calls = open_calls p.signatures (awaited b.bottom outer) others in
       let stands : open_at p b (s ∷ outer) events ≡ call ∷ calls = ap (open_calls p.signatures (s.signature ∷ awaited b.bottom outer)) top in
       let P : List Entered → Type 0 = λ l. AnswersTo b.standard b.top b.held p.signatures (b.count + length events) l (Leave s.signature v ∷ []) (e ∷ []) calls in
-      cut_after_event tracing x h true (Leave s.signature v) (rest p b.bottom (acts_on s.activation v outer) closures moves) e calls part (rest_returns p b.bottom a outer closures moves s v is) (subst P (sym stands) (one_return b.standard b.top b.held p.signatures (b.count + length events) call calls s.signature v e back)) short
+      cut_after_event tracing x h in_line (Leave s.signature v) (rest p b.bottom (acts_on s.activation v outer) closures moves) e calls part (rest_returns p b.bottom a outer closures moves s v is) (subst P (sym stands) (one_return b.standard b.top b.held p.signatures (b.count + length events) call calls s.signature v e back)) proper (λ _. refl)
 
 -- ---- a return out of the run
 
@@ -167,7 +163,7 @@ module _ (p : Program) (b : Base) (all : Left) (own : List TraceItem) (events : 
     served_ends =
         comes_to_end p b all own events standing h (Leave sig v ∷ []) (e ∷ []) (returned v) closures moves [] served_leaves served_answers
 
-    -- or the run is cut off in the lines that tell it
-    pub cut_in_served_return : (tracing : Tracing) (part : ℕ) → part < length (leave_lines tracing (text_after p b own).calls v) → IsCutOff tracing p b true all (text tracing p.signatures (text_start p b) own ++ take part (leave_lines tracing (text_after p b own).calls v)) (events ++ e ∷ [])
-    cut_in_served_return tracing part short =
-        cut_after_event p b all own events tracing standing h true (Leave sig v) (only [] (returned v) closures moves) e [] part served_leaves served_answers short
+    -- or the run is cut off in the lines that tell it or before them
+    pub cut_in_served_return : (in_line : Bool) (tracing : Tracing) (part : ℕ) → IsPart in_line part (length (leave_lines tracing (text_after p b own).calls v)) → IsCutOff tracing p b in_line all (own ++ Leave sig v ∷ []) (text tracing p.signatures (text_start p b) own ++ take part (leave_lines tracing (text_after p b own).calls v)) (events ++ e ∷ [])
+    cut_in_served_return in_line tracing part proper =
+        cut_after_event p b all own events tracing standing h in_line (Leave sig v) (only [] (returned v) closures moves) e [] part served_leaves served_answers proper (λ _. refl)

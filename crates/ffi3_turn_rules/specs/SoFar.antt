@@ -79,6 +79,6 @@ pub record IsOver (p : Program) (b : Base) (all : Left) (end : End) (closures : 
   pub left_open : List Entered
   pub answers : Answer p b all.trace events left_open
 
--- THE RUN WAS CUT OFF since it began: of all that was left these bytes are written, and these events are recorded.
-abbrev pub IsCutOff : Tracing → Program → Base → (in_line : Bool) → Left → (written : List ℕ) → List Event → Type 0
-IsCutOff tracing p b in_line all written events = WasCut b.standard b.top b.held tracing p.signatures (text_start p b) b.count (open_at p b [] []) in_line all.trace written events
+-- THE RUN WAS CUT OFF since it began: of all that was left this happened, these bytes are written, and these events are recorded.
+abbrev pub IsCutOff : Tracing → Program → Base → (in_line : Bool) → Left → (happened : List TraceItem) → (written : List ℕ) → List Event → Type 0
+IsCutOff tracing p b in_line all happened written events = WasCut b.standard b.top b.held tracing p.signatures (text_start p b) b.count (open_at p b [] []) in_line all.trace happened written events

@@ -1,4 +1,4 @@
-use Rattle.std.proofs.Common.{true, sym, subst}
+use Rattle.std.proofs.Common.{sym, subst}
 use Rattle.ffi3_type_rules.specs.Fault.{IsResultType}
 use Rattle.ffi3_type_rules.proofs.Faults.{scalar_faults}
 use Rattle.ffi3_amd64.proofs.is_integer_in.Goals as goal

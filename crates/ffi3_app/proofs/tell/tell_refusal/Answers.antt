@@ -1,7 +1,7 @@
-use Rattle.std.proofs.Common.{◌≡◌, ℕ, List, IfOk, refl, subst, codes}
+use Rattle.std.proofs.Common.{refl}
 use Rattle.ffi3_script_rules.specs.ReasonText.{text_of_reason}
 use Rattle.ffi3_json.specs.ReasonOf.{reason_of}
-use Rattle.ffi3_app.specs.declared.load.Refusal.TheVariants.{ReadFault, NoMemory, TooLong, BadJson, BadScript, NotYet}
+use Rattle.ffi3_app.specs.declared.load.Refusal.TheVariants.{ReadFault, NoMemory, TooLong, BadJson, BadScript}
 use Rattle.ffi3_app.proofs.Telling.{told_as, told_with_place}
 use Rattle.ffi3_app.proofs.tell.tell_refusal.Goals as goal
 
@@ -24,8 +24,3 @@ returns-in-BadJson g c =
 pub returns-in-BadScript : goal.returns-in-BadScript
 returns-in-BadScript g c =
     told_with_place _ _ c.tell_place.result c.args.refusal.now (BadScript c.in-BadScript.path c.in-BadScript.why) c.in-BadScript.is tt refl (c.tell_place.ensures (text_of_reason (reason_of c.in-BadScript.why)) c.reason_text.ensures)
-
-pub returns-in-NotYet : goal.returns-in-NotYet
-returns-in-NotYet g c =
-    let P = λ (text : List ℕ). IfOk c.from_slice.result (λ w. w ≡ text) in
-    told_with_place _ _ c.tell_place-in-NotYet.result c.args.refusal.now (NotYet c.in-NotYet.path) c.in-NotYet.is tt refl (c.tell_place-in-NotYet.ensures (codes "not yet") (subst P c.as_bytes.ensures.value c.from_slice.ensures))

@@ -1,30 +1,33 @@
-use Rattle.std.proofs.Common.{[]}
-use Rattle.ffi3_app.proofs.Saying.{completes, one_request, two_asks_nothing, refuses_all, read_count, write_count, tell_count, says_beside, mapped_none}
+use Rattle.ffi3_app.proofs.Saying.{benches, completes, one_request, two_asks_nothing, refuses_all, read_count, write_count, tell_count}
 use Rattle.ffi3_app.proofs.top.ffi3.Goals as goal
-
-pub returns-clause-says : goal.returns-clause-says
-returns-clause-says g c =
-    says_beside _ _ _ _ _ _ _ _ _ _ c.answer.result (mapped_none _ _ c.requires) c.answer.ensures.says
 
 pub returns-clause-complete : goal.returns-clause-complete
 returns-clause-complete g c =
-    completes _ _ _ _ _ _ _ _ _ _ c.answer.result (returns-clause-says g c)
+    completes _ _ _ _ _ _ _ _ _ _ c.answer.result c.answer.ensures.says
 
 pub returns-clause-refuses : goal.returns-clause-refuses
 returns-clause-refuses g c =
-    refuses_all _ _ _ _ _ _ _ _ _ _ c.answer.result (returns-clause-says g c)
+    refuses_all _ _ _ _ _ _ _ _ _ _ c.answer.result c.answer.ensures.says
+
+pub returns-clause-benches : goal.returns-clause-benches
+returns-clause-benches g c =
+    benches _ _ _ _ _ _ _ _ _ _ c.answer.result c.answer.ensures.says
 
 pub returns-clause-refused_ask_nothing : goal.returns-clause-refused_ask_nothing
-returns-clause-refused_ask_nothing g c = two_asks_nothing _ [] _ _ _ _ _ _ _ _ c.answer.result c.answer.ensures.says
+returns-clause-refused_ask_nothing g c =
+    two_asks_nothing _ _ _ _ _ _ _ _ _ _ c.answer.result c.answer.ensures.says
 
 pub returns-clause-ask_one : goal.returns-clause-ask_one
 returns-clause-ask_one g c = one_request _
 
 pub returns-clause-read_counted : goal.returns-clause-read_counted
-returns-clause-read_counted g c = read_count _ [] _ _ _ _ _ _ _ _ c.answer.result c.answer.ensures.says
+returns-clause-read_counted g c =
+    read_count _ _ _ _ _ _ _ _ _ _ c.answer.result c.answer.ensures.says
 
 pub returns-clause-write_counted : goal.returns-clause-write_counted
-returns-clause-write_counted g c = write_count _ [] _ _ _ _ _ _ _ _ c.answer.result c.answer.ensures.says
+returns-clause-write_counted g c =
+    write_count _ _ _ _ _ _ _ _ _ _ c.answer.result c.answer.ensures.says
 
 pub returns-clause-telling_counted : goal.returns-clause-telling_counted
-returns-clause-telling_counted g c = tell_count _ [] _ _ _ _ _ _ _ _ c.answer.result c.answer.ensures.says
+returns-clause-telling_counted g c =
+    tell_count _ _ _ _ _ _ _ _ _ _ c.answer.result c.answer.ensures.says

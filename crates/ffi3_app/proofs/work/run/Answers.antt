@@ -1,19 +1,43 @@
-use Rattle.std.proofs.Common.{ap, sym}
+use Rattle.std.proofs.Common.{map}
+use Rattle.ffi3_type_rules.specs.declared.Target.TheVariants.{Amd64, Aapcs64, Riscv}
 use Rattle.ffi3_script.specs.ScriptOf.{script_of}
-use Rattle.ffi3_app.specs.Top.{status_of}
-use Rattle.ffi3_app.proofs.Alone.{done_alone, part_alone}
+use Rattle.ffi3_script_rules.specs.Natives.{NamedNative}
+use Rattle.ffi3_ask.specs.Handed.{handed_in}
+use Rattle.ffi3_app.proofs.Running.{failed_by_target, refused_by_target, run_by_target}
 use Rattle.ffi3_app.proofs.work.run.Goals as goal
 
-pub returns-in-Done-clause-done : goal.returns-in-Done-clause-done
-returns-in-Done-clause-done g c =
-    done_alone (script_of c.args.script.now) (g.O.Sink.state c.args.output.now) (g.O.Sink.state c.run_main.new.output) c.args.machine.now c.run_main.new.machine 0 (c.run_main.ensures.done c.in-Done.is) (sym (ap status_of (c.run_main.ensures.returns c.in-Done.is)))
+pub returns-in-Amd64-clause-done : goal.returns-in-Amd64-clause-done
+returns-in-Amd64-clause-done g c =
+    run_by_target (map {B = NamedNative} (λ b. handed_in ((goal.Native-dyn g (b.vtable, b.value)).Native.title b.value) ((goal.Native-dyn g (b.vtable, b.value)).Body.meaning b.value) ((goal.Native-dyn g (b.vtable, b.value)).Body.signatures b.value)) c.args.natives.now.items) (script_of c.args.script.now) (g.O.Sink.state c.args.output.now) (g.O.Sink.state c.run_by.new.output) c.args.machine.now c.run_by.new.machine c.args.trace c.args.target Amd64 c.run_by.result c.in-Amd64.is c.run_by.ensures.done
 
-pub returns-in-Stopped-clause-done : goal.returns-in-Stopped-clause-done
-returns-in-Stopped-clause-done g c =
-    done_alone (script_of c.args.script.now) (g.O.Sink.state c.args.output.now) (g.O.Sink.state c.run_main.new.output) c.args.machine.now c.run_main.new.machine 6 (c.run_main.ensures.stopped c.in-Stopped.field-0 c.in-Stopped.is) (sym (ap status_of (c.run_main.ensures.stops c.in-Stopped.field-0 c.in-Stopped.is)))
+pub returns-in-Amd64-clause-failed : goal.returns-in-Amd64-clause-failed
+returns-in-Amd64-clause-failed g c =
+    failed_by_target (map {B = NamedNative} (λ b. handed_in ((goal.Native-dyn g (b.vtable, b.value)).Native.title b.value) ((goal.Native-dyn g (b.vtable, b.value)).Body.meaning b.value) ((goal.Native-dyn g (b.vtable, b.value)).Body.signatures b.value)) c.args.natives.now.items) (script_of c.args.script.now) (g.O.Sink.state c.args.output.now) (g.O.Sink.state c.run_by.new.output) c.args.machine.now c.run_by.new.machine c.args.trace c.args.target Amd64 c.run_by.result c.in-Amd64.is c.run_by.ensures.failed
 
-pub returns-in-NoMemory-clause-part : goal.returns-in-NoMemory-clause-part
-returns-in-NoMemory-clause-part g c = part_alone (script_of c.args.script.now) (g.O.Sink.state c.args.output.now) (g.O.Sink.state c.run_main.new.output) c.args.machine.now c.run_main.new.machine c.run_main.ensures.part
+pub returns-in-Amd64-clause-refused : goal.returns-in-Amd64-clause-refused
+returns-in-Amd64-clause-refused g c =
+    refused_by_target (map {B = NamedNative} (λ b. handed_in ((goal.Native-dyn g (b.vtable, b.value)).Native.title b.value) ((goal.Native-dyn g (b.vtable, b.value)).Body.meaning b.value) ((goal.Native-dyn g (b.vtable, b.value)).Body.signatures b.value)) c.args.natives.now.items) (script_of c.args.script.now) (g.O.Sink.state c.args.output.now) (g.O.Sink.state c.run_by.new.output) c.args.machine.now c.run_by.new.machine c.args.trace c.args.target Amd64 c.run_by.result c.in-Amd64.is c.run_by.ensures.refused
 
-pub returns-in-Failed-clause-part : goal.returns-in-Failed-clause-part
-returns-in-Failed-clause-part g c = part_alone (script_of c.args.script.now) (g.O.Sink.state c.args.output.now) (g.O.Sink.state c.run_main.new.output) c.args.machine.now c.run_main.new.machine c.run_main.ensures.part
+pub returns-in-Aapcs64-clause-done : goal.returns-in-Aapcs64-clause-done
+returns-in-Aapcs64-clause-done g c =
+    run_by_target (map {B = NamedNative} (λ b. handed_in ((goal.Native-dyn g (b.vtable, b.value)).Native.title b.value) ((goal.Native-dyn g (b.vtable, b.value)).Body.meaning b.value) ((goal.Native-dyn g (b.vtable, b.value)).Body.signatures b.value)) c.args.natives.now.items) (script_of c.args.script.now) (g.O.Sink.state c.args.output.now) (g.O.Sink.state c.run_by-in-Aapcs64.new.output) c.args.machine.now c.run_by-in-Aapcs64.new.machine c.args.trace c.args.target Aapcs64 c.run_by-in-Aapcs64.result c.in-Aapcs64.is c.run_by-in-Aapcs64.ensures.done
+
+pub returns-in-Aapcs64-clause-failed : goal.returns-in-Aapcs64-clause-failed
+returns-in-Aapcs64-clause-failed g c =
+    failed_by_target (map {B = NamedNative} (λ b. handed_in ((goal.Native-dyn g (b.vtable, b.value)).Native.title b.value) ((goal.Native-dyn g (b.vtable, b.value)).Body.meaning b.value) ((goal.Native-dyn g (b.vtable, b.value)).Body.signatures b.value)) c.args.natives.now.items) (script_of c.args.script.now) (g.O.Sink.state c.args.output.now) (g.O.Sink.state c.run_by-in-Aapcs64.new.output) c.args.machine.now c.run_by-in-Aapcs64.new.machine c.args.trace c.args.target Aapcs64 c.run_by-in-Aapcs64.result c.in-Aapcs64.is c.run_by-in-Aapcs64.ensures.failed
+
+pub returns-in-Aapcs64-clause-refused : goal.returns-in-Aapcs64-clause-refused
+returns-in-Aapcs64-clause-refused g c =
+    refused_by_target (map {B = NamedNative} (λ b. handed_in ((goal.Native-dyn g (b.vtable, b.value)).Native.title b.value) ((goal.Native-dyn g (b.vtable, b.value)).Body.meaning b.value) ((goal.Native-dyn g (b.vtable, b.value)).Body.signatures b.value)) c.args.natives.now.items) (script_of c.args.script.now) (g.O.Sink.state c.args.output.now) (g.O.Sink.state c.run_by-in-Aapcs64.new.output) c.args.machine.now c.run_by-in-Aapcs64.new.machine c.args.trace c.args.target Aapcs64 c.run_by-in-Aapcs64.result c.in-Aapcs64.is c.run_by-in-Aapcs64.ensures.refused
+
+pub returns-in-Riscv-clause-done : goal.returns-in-Riscv-clause-done
+returns-in-Riscv-clause-done g c =
+    run_by_target (map {B = NamedNative} (λ b. handed_in ((goal.Native-dyn g (b.vtable, b.value)).Native.title b.value) ((goal.Native-dyn g (b.vtable, b.value)).Body.meaning b.value) ((goal.Native-dyn g (b.vtable, b.value)).Body.signatures b.value)) c.args.natives.now.items) (script_of c.args.script.now) (g.O.Sink.state c.args.output.now) (g.O.Sink.state c.run_by-in-Riscv.new.output) c.args.machine.now c.run_by-in-Riscv.new.machine c.args.trace c.args.target Riscv c.run_by-in-Riscv.result c.in-Riscv.is c.run_by-in-Riscv.ensures.done
+
+pub returns-in-Riscv-clause-failed : goal.returns-in-Riscv-clause-failed
+returns-in-Riscv-clause-failed g c =
+    failed_by_target (map {B = NamedNative} (λ b. handed_in ((goal.Native-dyn g (b.vtable, b.value)).Native.title b.value) ((goal.Native-dyn g (b.vtable, b.value)).Body.meaning b.value) ((goal.Native-dyn g (b.vtable, b.value)).Body.signatures b.value)) c.args.natives.now.items) (script_of c.args.script.now) (g.O.Sink.state c.args.output.now) (g.O.Sink.state c.run_by-in-Riscv.new.output) c.args.machine.now c.run_by-in-Riscv.new.machine c.args.trace c.args.target Riscv c.run_by-in-Riscv.result c.in-Riscv.is c.run_by-in-Riscv.ensures.failed
+
+pub returns-in-Riscv-clause-refused : goal.returns-in-Riscv-clause-refused
+returns-in-Riscv-clause-refused g c =
+    refused_by_target (map {B = NamedNative} (λ b. handed_in ((goal.Native-dyn g (b.vtable, b.value)).Native.title b.value) ((goal.Native-dyn g (b.vtable, b.value)).Body.meaning b.value) ((goal.Native-dyn g (b.vtable, b.value)).Body.signatures b.value)) c.args.natives.now.items) (script_of c.args.script.now) (g.O.Sink.state c.args.output.now) (g.O.Sink.state c.run_by-in-Riscv.new.output) c.args.machine.now c.run_by-in-Riscv.new.machine c.args.trace c.args.target Riscv c.run_by-in-Riscv.result c.in-Riscv.is c.run_by-in-Riscv.ensures.refused

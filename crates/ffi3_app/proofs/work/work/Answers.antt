@@ -1,11 +1,14 @@
-use Rattle.std.specs.Prelude.{[], OnErr}
+use Rattle.std.proofs.Common.{map}
 use Rattle.ffi3_script.specs.ScriptOf.{script_of}
-use Rattle.ffi3_app.specs.declared.words.Request.{Request}
-use Rattle.ffi3_app.specs.Top.{IsDoneInPart}
-use Rattle.ffi3_app.proofs.Saying.{on_amd64}
+use Rattle.ffi3_script_rules.specs.Natives.{NamedNative}
+use Rattle.ffi3_ask.specs.Handed.{handed_in}
+use Rattle.ffi3_app.proofs.Running.{failed_in_part, refused_in_part}
 use Rattle.ffi3_app.proofs.work.work.Goals as goal
 
-pub returns-in-Run-clause-part : goal.returns-in-Run-clause-part
-returns-in-Run-clause-part g c =
-    let P = λ (r : Request). OnErr c.run.result (IsDoneInPart r [] (script_of c.args.script.now) (g.O.Sink.state c.args.output.now) (g.O.Sink.state c.run.new.output) c.args.machine.now c.run.new.machine) in
-    on_amd64 P c.args.request c.in-Run.target c.in-Run.is c.requires.can c.run.ensures.part
+pub returns-in-Run-clause-failed : goal.returns-in-Run-clause-failed
+returns-in-Run-clause-failed g c =
+    failed_in_part (map {B = NamedNative} (λ b. handed_in ((goal.Native-dyn g (b.vtable, b.value)).Native.title b.value) ((goal.Native-dyn g (b.vtable, b.value)).Body.meaning b.value) ((goal.Native-dyn g (b.vtable, b.value)).Body.signatures b.value)) c.args.natives.now.items) (script_of c.args.script.now) (g.O.Sink.state c.args.output.now) (g.O.Sink.state c.run.new.output) c.args.machine.now c.run.new.machine c.in-Run.trace c.args.request c.in-Run.target c.run.result c.in-Run.is c.run.ensures.failed
+
+pub returns-in-Run-clause-refused : goal.returns-in-Run-clause-refused
+returns-in-Run-clause-refused g c =
+    refused_in_part (map {B = NamedNative} (λ b. handed_in ((goal.Native-dyn g (b.vtable, b.value)).Native.title b.value) ((goal.Native-dyn g (b.vtable, b.value)).Body.meaning b.value) ((goal.Native-dyn g (b.vtable, b.value)).Body.signatures b.value)) c.args.natives.now.items) (script_of c.args.script.now) (g.O.Sink.state c.args.output.now) (g.O.Sink.state c.run.new.output) c.args.machine.now c.run.new.machine c.in-Run.trace c.args.request c.in-Run.target c.run.result c.in-Run.is c.run.ensures.refused

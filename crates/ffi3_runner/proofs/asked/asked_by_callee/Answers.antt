@@ -1,5 +1,4 @@
-use Rattle.std.proofs.Common.{◌≡◌, ℕ, ap, sym, ◌∙◌}
-use Rattle.ffi3_type_rules.specs.Signature.{Signature}
+use Rattle.std.proofs.Common.{ℕ, ap, sym, ◌∙◌}
 use Rattle.ffi3_place_rules.specs.Standard.{block_bytes}
 use Rattle.ffi3_machine.specs.State.{stack_at}
 use Rattle.ffi3_runner.specs.Agreeing.{seen_by_callee}

@@ -1,4 +1,4 @@
-use Rattle.std.proofs.Common.{◌≡◌, inl, inr, [], Some, true, ap, ◌∙◌, arith, length, length-take, length-drop, length-append}
+use Rattle.std.proofs.Common.{◌≡◌, inl, inr, [], Some, ap, ◌∙◌, arith, length, length-take, length-drop, length-append}
 use Rattle.ffi3_type_rules.specs.Tree.{Tree, LeftOutKind, left_out, long_double, complex, vector}
 use Rattle.ffi3_type_rules.specs.Fault.{left_out_kind, left_out_type, IsResultType}
 use Rattle.ffi3_type_rules.proofs.Layouts.{align_positive, end_before-turn}

@@ -1,11 +1,10 @@
-use Rattle.std.proofs.Common.{◌≡◌, ℕ, ◌+◌, ◌-◌, ◌<◌, ◌≤◌, Bool, true, false, List, length, refl, sym, ap, ◌∙◌, subst, arith}
+use Rattle.std.proofs.Common.{◌≡◌, ℕ, ◌+◌, ◌-◌, ◌<◌, ◌≤◌, Bool, true, false, List, sym, ap, ◌∙◌, arith}
 use Rattle.std.proofs.lemmas.Bool.{lt-ltb, le-ltb}
 use Rattle.ffi3_type_rules.specs.declared.limits.TheConstants.{STACK}
 use Rattle.ffi3_type_rules.specs.Signature.{Signature, signature_at}
 use Rattle.ffi3_place_rules.specs.Standard.{Standard, need_of}
 use Rattle.ffi3_run_rules.specs.declared.Stop.TheVariants.{StackFull}
-use Rattle.ffi3_run_rules.specs.Meaning.{Program, Activation, stops, need_at, effect_of}
-use Rattle.ffi3_run_rules.specs.Move.{call}
+use Rattle.ffi3_run_rules.specs.Meaning.{Program, stops, need_at}
 use Rattle.ffi3_caller.specs.declared.StackFull as caller
 use Rattle.ffi3_board.proofs.Acts.{call_is_wrong, call_has_no_room, call_enters}
 use Rattle.ffi3_board.proofs.Tests.{same_signatures, other_signatures}

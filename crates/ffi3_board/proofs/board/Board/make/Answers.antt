@@ -1,11 +1,11 @@
-use Rattle.std.proofs.Common.{◌≡◌, ℕ, suc, List, [], Some, refl, sym, ap, ◌∙◌, subst, arith, append-nil}
+use Rattle.std.proofs.Common.{suc, List, sym, ap, ◌∙◌, subst, arith}
 use Rattle.std.proofs.lemmas.Bool.{lt-ltb, le-ltb}
 use Rattle.ffi3_type_rules.specs.Signature.{Signature}
 use Rattle.ffi3_type_rules.specs.Value.{ValueTree}
 use Rattle.ffi3_type_rules.specs.Isa.{isa_of}
 use Rattle.ffi3_run_rules.specs.declared.Stop.TheVariants.{TableFull}
 use Rattle.ffi3_run_rules.specs.declared.Closure.{Closure}
-use Rattle.ffi3_run_rules.specs.Closures.{Closures, slots, first_free, slot_address, with_closure}
+use Rattle.ffi3_run_rules.specs.Closures.{Closures, slots, first_free, slot_address}
 use Rattle.ffi3_run_rules.specs.Move.{make}
 use Rattle.ffi3_run_rules.specs.Meaning.{pointer_value, goes_on}
 use Rattle.ffi3_closures.specs.Slots.{live_slot}
@@ -14,7 +14,7 @@ use Rattle.ffi3_board.proofs.Closed.{known_with}
 use Rattle.ffi3_machine.specs.State.{State}
 use Rattle.ffi3_board.specs.Going.{StoppedBy, GoneOn}
 use Rattle.ffi3_board.specs.Between.{moment}
-use Rattle.ffi3_board.specs.Turned.{Turned, WasCutOff}
+use Rattle.ffi3_board.specs.Turned.{Turned}
 use Rattle.ffi3_board.proofs.Acts.{make_is_full, make_goes_with}
 use Rattle.ffi3_board.proofs.Boarding.{stops_at}
 use Rattle.ffi3_board.proofs.Made.{made_on, made_refused}

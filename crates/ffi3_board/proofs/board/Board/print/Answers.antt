@@ -1,4 +1,4 @@
-use Rattle.std.proofs.Common.{List, [], ◌∷◌, refl, sym, subst}
+use Rattle.std.proofs.Common.{[], ◌∷◌, refl, sym, subst}
 use Rattle.ffi3_type_rules.specs.Value.{void_value}
 use Rattle.ffi3_types.specs.TreeOf.{tree_of}
 use Rattle.ffi3_values.specs.ValueOf.{value_of}
@@ -9,11 +9,11 @@ use Rattle.ffi3_io.specs.declared.IoError.{IoError}
 use Rattle.ffi3_io.specs.declared.IoError.TheVariants as cut
 use Rattle.ffi3_type_rules.specs.ValueText.{value_text_of}
 use Rattle.ffi3_run_rules.specs.Lines.{a_line}
-use Rattle.ffi3_board.specs.WroteLine.{LineCut}
+use Rattle.ffi3_io.specs.Written.{LineCut}
 use Rattle.ffi3_board.specs.Between.{moment}
 use Rattle.ffi3_board.specs.Turned.{WasCutOff}
 use Rattle.ffi3_board.proofs.Boarding.{goes, refused}
-use Rattle.ffi3_board.proofs.Moving.{print_on, print_failed}
+use Rattle.ffi3_board.proofs.Moving.{looks_as_itself, print_on, print_failed}
 use Rattle.ffi3_board.proofs.board.Board.print.Goals as goal
 
 pub returns-in-Ok-clause-turned : goal.returns-in-Ok-clause-turned
@@ -34,7 +34,7 @@ returns-in-Err-NoMemory-clause-turned g c = λ p base all first own events machi
     let t = tree_of c.args.ty.now in
     let P = λ (s : SinkState). WasCutOff p base all first cut.NoMemory machine s in
     let same = subst (λ (why : IoError). LineCut (a_line (value_text_of t v)) o o' why) c.in-Err-NoMemory.field-0-is c.in-Err-NoMemory.ensures in
-    subst P (sym same) (refused p base all first own events c.args.self.now c.args.current machine o o' (print t v) machine refl is)
+    subst P (sym same) (refused p base all first own events c.args.self.now c.args.current machine o o' (print t v) machine (looks_as_itself machine) is)
 
 pub returns-clause-turned : goal.returns-clause-turned
 returns-clause-turned g c = λ p base all first own events machine is.

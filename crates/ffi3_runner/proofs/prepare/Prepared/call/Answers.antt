@@ -1,4 +1,4 @@
-use Rattle.std.proofs.Common.{◌≡◌, ◌<◌, List, length, Ok, Err, refl, sym, ap, ◌∙◌, subst, arith}
+use Rattle.std.proofs.Common.{◌<◌, List, length, Ok, Err, sym, subst, arith}
 use Rattle.std.proofs.lemmas.List.{length-map}
 use Rattle.ffi3_type_rules.specs.Signature.{Signature}
 use Rattle.ffi3_run_rules.specs.Move.{call}
@@ -14,7 +14,7 @@ callee-requires-clause-below g c = λ k cl is.
     subst (λ (l : List Signature). cl.sig < length l) (sym c.requires.prepared.are) known.below
 
 pub returns-in-Err-clause-turned : goal.returns-in-Err-clause-turned
-returns-in-Err-clause-turned g c = λ base all first own events standard is.
+returns-in-Err-clause-turned g c = λ base all first own events standard tracing is.
     let are = sym c.requires.prepared.are in
     c.stop_for.ensures.turned _ base all first own events c.args.machine.now (call c.args.ptr c.args.sig c.args.args.now) are is (does_at g.A.Abi.standard c.args.self.now.script.now _ c.args.self.now.cifs c.requires.prepared c.args.ptr c.args.sig c.args.args.now (Err c.in-Err.why) base all first own events _ _ is c.in-Err.ensures.does)
 
@@ -24,9 +24,9 @@ in_function-standing-requires-clause-below g c =
     func_below g.A.Abi.standard c.args.self.now.script.now _ (length c.args.self.now.natives.now.items) c.in-Ok.closure.func (length-map c.args.self.now.natives.now.items _) known.function
 
 pub returns-clause-turned : goal.returns-clause-turned
-returns-clause-turned g c = λ base all first own events standard is.
+returns-clause-turned g c = λ base all first own events standard tracing is.
     let are = sym c.requires.prepared.are in
-    c.enter.ensures.turned _ base all first own events (g.O.Sink.state c.args.output.now) standard are is (does_at g.A.Abi.standard c.args.self.now.script.now _ c.args.self.now.cifs c.requires.prepared c.args.ptr c.args.sig c.args.args.now (Ok c.in-Ok.closure) base all first own events _ _ is c.in-Ok.ensures.does)
+    c.enter.ensures.turned _ base all first own events standard are tracing is (does_at g.A.Abi.standard c.args.self.now.script.now _ c.args.self.now.cifs c.requires.prepared c.args.ptr c.args.sig c.args.args.now (Ok c.in-Ok.closure) base all first own events _ _ is c.in-Ok.ensures.does)
 
 pub returns-clause-standing : goal.returns-clause-standing
 returns-clause-standing g c = λ more.

@@ -1,12 +1,10 @@
-use Rattle.std.proofs.Common.{refl, sym, ◌∙◌}
 use Rattle.ffi3_runner.proofs.Running.{comes_nowhere, comes_on, ends_done, ends_failed, ends_no_memory, ends_stopped, falls}
 use Rattle.ffi3_runner.proofs.prepare.Prepared.run_on.Goals as goal
 
 pub loop-stop-init : goal.loop-stop-init
 loop-stop-init g c = record {
-  main = c.requires.main;
   standing = c.requires.standing;
-  since = comes_nowhere _ _ c.args.board.now c.args.board.now c.args.board.now c.args.machine.now c.args.machine.now c.args.machine.now (g.O.Sink.state c.args.output.now) (g.O.Sink.state c.args.output.now) (g.O.Sink.state c.args.output.now);
+  since = comes_nowhere _ c.args.trace _ c.args.board.now c.args.board.now c.args.board.now c.args.machine.now c.args.machine.now c.args.machine.now (g.O.Sink.state c.args.output.now) (g.O.Sink.state c.args.output.now) (g.O.Sink.state c.args.output.now);
 }
 
 pub turn-requires-clause-between : goal.turn-requires-clause-between
@@ -20,33 +18,32 @@ pub loop-stop-smaller : goal.loop-stop-smaller
 loop-stop-smaller g c =
     let inv = c.loop-stop.invariant in
     let t = c.requires.between in
-    falls g.A.Abi.standard _ c.args.board.now c.loop-stop.board c.turn.new.board c.args.machine.now c.loop-stop.machine c.turn.new.machine (g.O.Sink.state c.args.output.now) (g.O.Sink.state c.loop-stop.output) (g.O.Sink.state c.turn.new.output) inv.since c.turn.result c.turn.ensures.turned c.in-More.is t.0 t.1 t.2 t.3 t.4 t.5 t.6 t.7
+    falls g.A.Abi.standard c.args.trace _ c.args.board.now c.loop-stop.board c.turn.new.board c.args.machine.now c.loop-stop.machine c.turn.new.machine (g.O.Sink.state c.args.output.now) (g.O.Sink.state c.loop-stop.output) (g.O.Sink.state c.turn.new.output) inv.since c.turn.result c.turn.ensures.turned c.in-More.is t.0 t.1 t.2 t.3 t.4 t.5 t.6 t.7
 
 pub loop-stop-preserved : goal.loop-stop-preserved
 loop-stop-preserved g c =
     let inv = c.loop-stop.invariant in
     record {
-      main = c.turn.ensures.main c.in-More.is;
       standing = c.turn.ensures.standing c.in-More.is;
-      since = comes_on g.A.Abi.standard _ c.args.board.now c.loop-stop.board c.turn.new.board c.args.machine.now c.loop-stop.machine c.turn.new.machine (g.O.Sink.state c.args.output.now) (g.O.Sink.state c.loop-stop.output) (g.O.Sink.state c.turn.new.output) inv.since c.turn.result c.turn.ensures.turned c.in-More.is;
+      since = comes_on g.A.Abi.standard c.args.trace _ c.args.board.now c.loop-stop.board c.turn.new.board c.args.machine.now c.loop-stop.machine c.turn.new.machine (g.O.Sink.state c.args.output.now) (g.O.Sink.state c.loop-stop.output) (g.O.Sink.state c.turn.new.output) inv.since c.turn.result c.turn.ensures.turned c.in-More.is;
     }
 
 pub returns-in-Done : goal.returns-in-Done
-returns-in-Done g c = λ base all first own events standard main h.
+returns-in-Done g c = λ base all first own events standard tracing h.
     let inv = c.loop-stop.invariant in
-    ends_done g.A.Abi.standard _ c.args.board.now c.loop-stop.board c.turn.new.board c.args.machine.now c.loop-stop.machine c.turn.new.machine (g.O.Sink.state c.args.output.now) (g.O.Sink.state c.loop-stop.output) (g.O.Sink.state c.turn.new.output) inv.since c.turn.result c.turn.ensures.turned base all first own events standard main h c.in-Done.is
+    ends_done g.A.Abi.standard c.args.trace _ c.args.board.now c.loop-stop.board c.turn.new.board c.args.machine.now c.loop-stop.machine c.turn.new.machine (g.O.Sink.state c.args.output.now) (g.O.Sink.state c.loop-stop.output) (g.O.Sink.state c.turn.new.output) inv.since c.turn.result c.turn.ensures.turned base all first own events standard tracing h c.in-Done.is
 
 pub returns-in-Stopped : goal.returns-in-Stopped
-returns-in-Stopped g c = λ base all first own events standard main h.
+returns-in-Stopped g c = λ base all first own events standard tracing h.
     let inv = c.loop-stop.invariant in
-    ends_stopped g.A.Abi.standard _ c.args.board.now c.loop-stop.board c.turn.new.board c.args.machine.now c.loop-stop.machine c.turn.new.machine (g.O.Sink.state c.args.output.now) (g.O.Sink.state c.loop-stop.output) (g.O.Sink.state c.turn.new.output) inv.since c.turn.result c.turn.ensures.turned base all first own events standard main h c.in-Stopped.stop c.in-Stopped.is
+    ends_stopped g.A.Abi.standard c.args.trace _ c.args.board.now c.loop-stop.board c.turn.new.board c.args.machine.now c.loop-stop.machine c.turn.new.machine (g.O.Sink.state c.args.output.now) (g.O.Sink.state c.loop-stop.output) (g.O.Sink.state c.turn.new.output) inv.since c.turn.result c.turn.ensures.turned base all first own events standard tracing h c.in-Stopped.stop c.in-Stopped.is
 
 pub returns-in-NoMemory : goal.returns-in-NoMemory
-returns-in-NoMemory g c = λ base all first own events standard main h.
+returns-in-NoMemory g c = λ base all first own events standard tracing h.
     let inv = c.loop-stop.invariant in
-    ends_no_memory g.A.Abi.standard _ c.args.board.now c.loop-stop.board c.turn.new.board c.args.machine.now c.loop-stop.machine c.turn.new.machine (g.O.Sink.state c.args.output.now) (g.O.Sink.state c.loop-stop.output) (g.O.Sink.state c.turn.new.output) inv.since c.turn.result c.turn.ensures.turned base all first own events standard main h c.in-NoMemory.is
+    ends_no_memory g.A.Abi.standard c.args.trace _ c.args.board.now c.loop-stop.board c.turn.new.board c.args.machine.now c.loop-stop.machine c.turn.new.machine (g.O.Sink.state c.args.output.now) (g.O.Sink.state c.loop-stop.output) (g.O.Sink.state c.turn.new.output) inv.since c.turn.result c.turn.ensures.turned base all first own events standard tracing h c.in-NoMemory.is
 
 pub returns-in-Failed : goal.returns-in-Failed
-returns-in-Failed g c = λ base all first own events standard main h.
+returns-in-Failed g c = λ base all first own events standard tracing h.
     let inv = c.loop-stop.invariant in
-    ends_failed g.A.Abi.standard _ c.args.board.now c.loop-stop.board c.turn.new.board c.args.machine.now c.loop-stop.machine c.turn.new.machine (g.O.Sink.state c.args.output.now) (g.O.Sink.state c.loop-stop.output) (g.O.Sink.state c.turn.new.output) inv.since c.turn.result c.turn.ensures.turned base all first own events standard main h c.in-Failed.is
+    ends_failed g.A.Abi.standard c.args.trace _ c.args.board.now c.loop-stop.board c.turn.new.board c.args.machine.now c.loop-stop.machine c.turn.new.machine (g.O.Sink.state c.args.output.now) (g.O.Sink.state c.loop-stop.output) (g.O.Sink.state c.turn.new.output) inv.since c.turn.result c.turn.ensures.turned base all first own events standard tracing h c.in-Failed.is

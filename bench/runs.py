@@ -1,0 +1,89 @@
+"""What bench/moves and bench/raw_memory time: scripts that do exactly so many moves, up to the limit of 10,000, and how
+long a process takes for one."""
+
+import json
+import os
+import subprocess
+
+STACK = 65536
+ROUNDS = 25
+FLAT = {"ret": "sint32", "args": ["sint32"]}
+NESTED = {"ret": "uint64", "args": ["uint64"] * 7}
+
+
+def text_of(signature, body, main):
+    script = {"version": 1, "signatures": [signature], "functions": [{"name": "f", "sig": 0, "body": body}],
+              "main": [{"make": "f", "as": "f"}, *main, {"return": None}]}
+    return json.dumps(script, separators=(",", ":"))
+
+
+def prints(moves, conditions=False):
+    """One body that prints: a move each, with a condition where asked."""
+    move = {"print": {"res": "f"}}
+    if conditions:
+        move["when"] = {"res": "f"}
+    return text_of(FLAT, [{"return": 0}], [move] * (moves - 2))
+
+
+def calls(moves, conditions=False):
+    """One body that calls a closure: two moves for each call, each with a condition where asked."""
+    call = {"call": {"res": "f"}, "sig": 0, "args": [41]}
+    back = {"return": {"add": [{"arg": 0}, 1]}}
+    body = [back]
+    if conditions:
+        call["when"] = {"res": "f"}
+        body = [back | {"when": {"arg": 0}}, back]
+    return text_of(FLAT, body, [call] * (moves // 2 - 1))
+
+
+def batches(large=False):
+    """A small script of 9,901 moves: a function makes a hundred calls of another, again and again. What it passes is a
+    number or, where asked, a struct of 1 KiB."""
+    kind = {"struct": ["uint64"] * 128} if large else "uint64"
+    value = list(range(128)) if large else 41
+    once = {"call": {"user": True}, "sig": 0, "args": [{"arg": 0}]}
+    functions = [{"name": "f", "sig": 0, "body": [{"return": None}]},
+                 {"name": "g", "sig": 0, "body": [once] * 100 + [{"return": None}]}]
+    main = [{"make": "f", "as": "f"}, {"make": "g", "user": {"res": "f"}, "as": "g"},
+            *[{"call": {"res": "g"}, "sig": 0, "args": [value]}] * 49, {"return": None}]
+    signatures = [{"ret": "void", "args": [kind]}]
+    return json.dumps({"version": 1, "signatures": signatures, "functions": functions, "main": main})
+
+
+def nested(moves, deepest):
+    """Calls inside calls, as deep as this, and as often as makes so many moves: two for each call."""
+    again = {"when": {"arg": 0}, "call": {"user": True}, "sig": 0,
+             "args": [{"sub": [{"arg": 0}, 1]}, *({"arg": i} for i in range(1, 7))]}
+    left, main = moves // 2 - 1, []
+    while left:
+        depth = min(left, deepest)
+        main.append({"call": {"res": "f"}, "sig": 0, "args": [depth - 1, 2, 3, 4, 5, 6, 7]})
+        left -= depth
+    script = text_of(NESTED, [again, {"return": {"arg": 6}}], main)
+    return script.replace('{"make":"f","as":"f"}', '{"make":"f","user":65536,"as":"f"}')
+
+
+def depth(program, target):
+    """How many calls of `nested` one inside another fill the stack."""
+    script = text_of(NESTED, [{"return": 0}], [])
+    words = [program, "place", "--target", target]
+    words = subprocess.run(words, input=script, text=True, stdout=subprocess.PIPE, check=True).stdout.split()
+    return STACK // int(words[words.index("need") + 1])
+
+
+def seconds(words, script):
+    """The processor time of a process that is given the script: other work on the machine matters less to it."""
+    running = subprocess.Popen(words, stdin=subprocess.PIPE, stdout=subprocess.DEVNULL)
+    running.stdin.write(script.encode())
+    running.stdin.close()
+    _, status, used = os.wait4(running.pid, 0)
+    running.returncode = os.waitstatus_to_exitcode(status)
+    if running.returncode:
+        raise subprocess.CalledProcessError(running.returncode, words)
+    return used.ru_utime + used.ru_stime
+
+
+def times_of(work):
+    """The least time of each of these, the words and the script of a process. Each round does all of them in turn."""
+    rounds = [{name: seconds(words, script) for name, (words, script) in work.items()} for _ in range(ROUNDS)]
+    return {name: min(each[name] for each in rounds) for name in work}

@@ -1,0 +1,45 @@
+/* What all programs that translate.py writes have: closures of libffi in numbered slots, calls, stops, lines. */
+#ifndef HOST_H
+#define HOST_H
+
+#include <ffi.h>
+#include <stdio.h>
+#include <stdlib.h>
+#include <string.h>
+
+typedef unsigned long address;
+
+/* A signature: its text, what its call takes of the stack on each target, and how its values are written. */
+struct signature {
+    const char *text;
+    long need[3];
+    void (*write_arguments)(void **arguments);
+    void (*write_result)(void *result);
+    ffi_cif cif;
+};
+
+/* A function: its signature, and what it does. A narrow integer result is an ffi_arg, as libffi wants it. */
+struct function {
+    struct signature *signature;
+    void (*act)(void *result, void **arguments, address user);
+};
+
+extern const struct function apply, twice, sum3;
+
+/* Before each move: the run stops where 10,000 moves are counted. */
+void tick(void);
+address make(const struct function *function, address user);
+void free_closure(address at);
+void call(struct signature *as, address at, void *result, void **values);
+
+/* Bytes from and to hexadecimal digits, in memory order. */
+void bytes_of(void *to, const char *text);
+float float_of(const char *text);
+double double_of(const char *text);
+void write_bytes(const void *from, int count);
+
+/* What the script's own program gives: it prepares its signatures; main has no arguments. */
+void prepare(void);
+void main_body(void *result, void **arguments, address user);
+
+#endif

@@ -1,0 +1,4 @@
+pub mod Needs
+mod Texts
+mod Measuring
+mod ThreeLines

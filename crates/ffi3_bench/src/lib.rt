@@ -1,0 +1,10 @@
+//! The bench: the made script by three standards, and a line of what each run took.
+#![tactic(auto)]
+
+mod line;
+mod lines;
+mod measure;
+#[cfg(test)]
+mod tests;
+
+pub use lines::bench;

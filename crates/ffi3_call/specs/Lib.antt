@@ -1,3 +1,0 @@
-pub mod Registers
-pub mod Steps
-pub mod Calls

@@ -1,0 +1,2 @@
+pub mod KindOf
+pub mod ShapesOf

@@ -1,0 +1,31 @@
+-- What a run of main begins with, and what it leaves for the calls that are served after it.
+use Rattle.std.specs.Prelude.{◌≡◌, Bool, []}
+use Rattle.ffi3_type_rules.specs.declared.limits.TheConstants.{STACK_TOP}
+use Rattle.ffi3_place_rules.specs.Standard.{Standard}
+use Rattle.ffi3_run_rules.specs.Meaning.{Program, meaning_of}
+use Rattle.ffi3_turn_rules.specs.MainTracing.{main_tracing}
+use Rattle.ffi3_machine.specs.State.{State, begun_stack}
+use Rattle.ffi3_io.specs.Sink.{SinkState}
+use Rattle.ffi3_ask.specs.declared.standing.Standing.{Standing}
+use Rattle.ffi3_board.specs.declared.board.Board.{Board}
+use Rattle.ffi3_board.specs.Between.{Beginning}
+use Rattle.ffi3_board.specs.Served.{IsIdle}
+
+-- what a run of main finds, and how it is traced
+abbrev pub main_beginning : (trace : Bool) → Standard → SinkState → Beginning
+main_beginning trace std o = record {
+  events = [];
+  mark = STACK_TOP;
+  output = o;
+  stack = begun_stack;
+  spare_events = 0;
+  spare_bytes = 0;
+  tracing = main_tracing trace std;
+}
+
+-- AFTER MAIN'S RETURN no activation is unfinished and all of the stack is free; closures and moves are those that are left then.
+pub record MainHasReturned (p : Program) (b : Board Standing) (m : State) : Type 0 where
+  pub idle : IsIdle p b
+  pub sp : m.sp ≡ STACK_TOP
+  pub closures : b.table ≡ (meaning_of p).closures
+  pub moves : b.moves ≡ (meaning_of p).moves

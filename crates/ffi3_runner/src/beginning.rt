@@ -1,0 +1,38 @@
+//! The beginning of a run of main.
+ghost use Rattle.std.specs.Prelude.{◌≡◌, Bool, [], map};
+ghost use Rattle.ffi3_run_rules.specs.Meaning.{meaning_of};
+ghost use Rattle.ffi3_turn_rules.specs.Left.{left_of};
+ghost use Rattle.ffi3_turn_rules.specs.SoFar.{main_base};
+ghost use Rattle.ffi3_machine.specs.State.{State, begun};
+ghost use Rattle.ffi3_io.specs.Sink.{SinkState};
+ghost use Rattle.ffi3_ask.specs.Handed.{handed_in};
+ghost use Rattle.ffi3_board.specs.Turned.{StandsAt};
+ghost use Rattle.ffi3_runner.specs.Agreeing.{AllStand};
+ghost use Rattle.ffi3_runner.specs.Running.{IsNew, IsPrepared, program};
+ghost use Rattle.ffi3_runner.specs.Started.{main_beginning};
+
+use crate::prepare::Prepared;
+use ffi3_ask::Standing;
+use ffi3_board::{Activation, Board, Who};
+use ffi3_place::Abi;
+use ffi3_values::Values;
+
+impl<'a, A: Abi> Prepared<'a, A> {
+    // Puts main's activation on the board, before its first move.
+    pub(crate) fn start(&self, board: &mut Board<Standing>)
+        requires prepared { IsPrepared A.standard self.now.script.now (map (λ b. handed_in (title b) (meaning b) (signatures b)) self.now.natives.now.items) self.now.cifs }
+        requires new { IsNew board.old }
+        ensures standing { (m : State) → AllStand self.now.script.now (map (λ b. handed_in (title b) (meaning b) (signatures b)) self.now.natives.now.items) self.now.cifs m board.new }
+        ensures between { let p = program A.standard self.now.script.now (map (λ b. handed_in (title b) (meaning b) (signatures b)) self.now.natives.now.items) in
+            (trace : Bool) (m : State) (output : SinkState) → m ≡ begun A.TARGET m.spare_events m.spare_bytes →
+            StandsAt p (main_base A.standard) (left_of (meaning_of p)) (main_beginning trace A.standard output) [] [] board.new m output }
+    {
+        let alloc = self.alloc;
+        board.innermost = Some(Activation {
+            who: Who::Main,
+            standing: Standing::in_main(alloc, self.script),
+            user: 0,
+            results: Values::new(alloc),
+        });
+    }
+}

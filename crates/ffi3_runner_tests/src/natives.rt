@@ -1,0 +1,38 @@
+//! The natives of this library in a run.
+use crate::scripts::{alike, check};
+use crate::{Native, RunEnd};
+use ffi3_natives::{Apply, Sum3, Twice};
+use std::test::Fail;
+
+/// `twice` of a function that calls `apply` on another function.
+const TWICE: &str =
+    r#"{"version":1,"signatures":[{"ret":"sint64","args":["sint64"]},{"ret":"sint64","args":["pointer","sint64"]}],"functions":[{"name":"h","sig":0,"body":[{"return":{"add":[{"arg":0},5]}}]},{"name":"g","sig":0,"body":[{"call":65600,"sig":1,"args":[65536,{"arg":0}],"as":"r"},{"return":{"res":"r"}}]}],"main":[{"make":"h"},{"make":"apply"},{"make":"g"},{"make":"twice"},{"call":65728,"sig":1,"args":[65664,10],"as":"r"},{"print":{"res":"r"}},{"return":null}]}"#;
+
+/// `sum3` of numbers whose sum passes the greatest.
+const SUM: &str =
+    r#"{"version":1,"signatures":[{"ret":"sint64","args":["sint64","sint64","sint64"]}],"functions":[],"main":[{"make":"sum3","as":"p"},{"call":{"res":"p"},"sig":0,"args":[9223372036854775807,1,5],"as":"r"},{"print":{"res":"r"}},{"return":null}]}"#;
+
+#[test]
+fn natives_call_closures(rt: HostRuntime) -> Result<(), Fail> {
+    let alloc = rt.alloc();
+    let mut natives: Vec<Box<dyn Native>> = Vec::new(alloc);
+    natives.push(Box::new(alloc, Apply::new(alloc)?)?)?;
+    natives.push(Box::new(alloc, Twice::new(alloc)?)?)?;
+    natives.push(Box::new(alloc, Sum3::new(alloc)?)?)?;
+    let twice = alike(
+        "20\n",
+        RunEnd::Done,
+        9_980,
+        14,
+        [0x7FFE_FEC0, 0x7FFE_FD00, 0x7FFE_FC80],
+    );
+    check(&rt, alloc, &natives, TWICE, &twice)?;
+    let sum = alike(
+        "-9223372036854775803\n",
+        RunEnd::Done,
+        9_995,
+        2,
+        [0x7FFE_FFA0, 0x7FFE_FF30, 0x7FFE_FF10],
+    );
+    check(&rt, alloc, &natives, SUM, &sum)
+}

@@ -1,0 +1,204 @@
+//! Scripts of functions that call one another, with no native among them.
+ghost use Rattle.std.specs.Prelude.{◌<◌, ◌^◌, List, length, map};
+ghost use Rattle.ffi3_ask.specs.Handed.{handed_in, signatures_in};
+
+use crate::{Native, Ran, RunEnd, Stop, run_script};
+use ffi3_aapcs64::Aapcs64;
+use ffi3_amd64::Amd64;
+use ffi3_place::Abi;
+use ffi3_riscv::Riscv;
+use std::alloc::Global;
+use std::process::Abort;
+use std::test::Fail;
+
+/// What a run must come to.
+#[derive(Clone, Copy)]
+pub struct Wanted {
+    pub text: &'static str,
+    pub end: RunEnd,
+    pub moves_left: u32,
+    pub events: usize,
+    pub mark: u64,
+}
+
+/// The run came to what it must come to.
+fn check_ran(rt: &impl Abort, ran: &Ran, wanted: &Wanted) {
+    assert_eq!(rt; ran.output.taken(), wanted.text.as_bytes());
+    assert_eq!(rt; ran.end, wanted.end);
+    assert_eq!(rt; ran.moves_left, wanted.moves_left);
+    assert_eq!(rt; ran.machine.events().len(), wanted.events);
+    assert_eq!(rt; ran.machine.mark(), wanted.mark);
+}
+
+/// Runs a script by a standard.
+fn check_by<A: Abi>(
+    rt: &impl Abort,
+    alloc: Global,
+    natives: &Vec<Box<dyn Native>>,
+    script: &str,
+    wanted: &Wanted,
+) -> Result<(), Fail>
+    requires few_natives { length natives.now.items < 2 ^ 31 }
+    requires few_signatures { length (signatures_in (map (λ b. handed_in (title b) (meaning b) (signatures b)) natives.now.items)) < 2 ^ 31 }
+{
+    let Some(ran) = run_script::<A>(alloc, natives, script)? else {
+        return Err("no script".into());
+    };
+    check_ran(rt, &ran, wanted);
+    Ok(())
+}
+
+/// Runs a script on AMD64, AAPCS64 and RISC-V.
+pub fn check(
+    rt: &impl Abort,
+    alloc: Global,
+    natives: &Vec<Box<dyn Native>>,
+    script: &str,
+    wanted: &[Wanted; 3],
+) -> Result<(), Fail>
+    requires few_natives { length natives.now.items < 2 ^ 31 }
+    requires few_signatures { length (signatures_in (map (λ b. handed_in (title b) (meaning b) (signatures b)) natives.now.items)) < 2 ^ 31 }
+{
+    check_by::<Amd64>(rt, alloc, natives, script, &wanted[0])?;
+    check_by::<Aapcs64>(rt, alloc, natives, script, &wanted[1])?;
+    check_by::<Riscv>(rt, alloc, natives, script, &wanted[2])
+}
+
+/// The same run by each standard, but for the lowest address that it writes.
+pub fn alike(
+    text: &'static str,
+    end: RunEnd,
+    moves_left: u32,
+    events: usize,
+    marks: [u64; 3],
+) -> [Wanted; 3] {
+    let first = Wanted {
+        text,
+        end,
+        moves_left,
+        events,
+        mark: marks[0],
+    };
+    let mut wanted = [first; 3];
+    wanted[1].mark = marks[1];
+    wanted[2].mark = marks[2];
+    wanted
+}
+
+/// Four functions, each of which calls the one before it.
+const FOUR_DEEP: &str =
+    r#"{"version":1,"signatures":[{"ret":"sint64","args":["sint64"]}],"functions":[{"name":"h","sig":0,"body":[{"return":{"add":[{"arg":0},5]}}]},{"name":"g","sig":0,"body":[{"call":65536,"sig":0,"args":[{"add":[{"arg":0},1]}],"as":"r"},{"return":{"add":[{"res":"r"},{"arg":0}]}}]},{"name":"f","sig":0,"body":[{"call":65600,"sig":0,"args":[{"add":[{"arg":0},1]}],"as":"r"},{"return":{"add":[{"res":"r"},{"arg":0}]}}]},{"name":"e","sig":0,"body":[{"call":65664,"sig":0,"args":[{"add":[{"arg":0},1]}],"as":"r"},{"return":{"add":[{"res":"r"},{"arg":0}]}}]}],"main":[{"make":"h"},{"make":"g"},{"make":"f"},{"make":"e"},{"call":65728,"sig":0,"args":[10],"as":"r"},{"print":{"res":"r"}},{"return":null}]}"#;
+
+/// A function that calls itself without end.
+const ENDLESS: &str =
+    r#"{"version":1,"signatures":[{"ret":"void","args":[]}],"functions":[{"name":"f","sig":0,"body":[{"call":65536,"sig":0,"args":[]},{"return":null}]}],"main":[{"make":"f","as":"p"},{"call":{"res":"p"},"sig":0,"args":[]},{"return":null}]}"#;
+
+/// A closure that frees itself and gives its slot to another function.
+const FREES_ITSELF: &str =
+    r#"{"version":1,"signatures":[{"ret":"sint32","args":[]},{"ret":"sint64","args":[]}],"functions":[{"name":"f","sig":0,"body":[{"free":65536},{"make":"g"},{"return":7}]},{"name":"g","sig":0,"body":[{"return":9}]}],"main":[{"make":"f","as":"p"},{"call":{"res":"p"},"sig":0,"args":[],"as":"a"},{"print":{"res":"a"}},{"call":{"res":"p"},"sig":0,"args":[],"as":"b"},{"print":{"res":"b"}},{"call":{"res":"p"},"sig":1,"args":[]},{"return":null}]}"#;
+
+/// A function with a struct on the stack or by reference, one in registers, and one through a buffer as its result, which it
+/// gives after a call of another function.
+const STRUCTS: &str =
+    r#"{"version":1,"signatures":[{"ret":{"struct":["sint64","sint64","sint64"]},"args":[{"struct":["sint64","sint64","sint64"]},{"struct":["sint32","float"]},"double"]},{"ret":"sint64","args":["sint64"]}],"functions":[{"name":"inner","sig":1,"body":[{"return":{"add":[{"arg":0},5]}}]},{"name":"outer","sig":0,"body":[{"call":65536,"sig":1,"args":[{"field":[{"arg":0},1]}],"as":"n"},{"print":{"arg":1}},{"print":{"arg":2}},{"return":[{"field":[{"arg":0},2]},{"res":"n"},{"field":[{"arg":0},0]}]}]}],"main":[{"make":"inner"},{"make":"outer","as":"f"},{"call":{"res":"f"},"sig":0,"args":[[1,20,300],[-7,"0000803f"],"000000000000f03f"],"as":"r"},{"print":{"res":"r"}},{"return":null}]}"#;
+
+/// A function that counts down by calls of itself.
+const COUNTDOWN: &str =
+    r#"{"version":1,"signatures":[{"ret":"sint32","args":["sint32"]}],"functions":[{"name":"f","sig":0,"body":[{"call":65536,"sig":0,"args":[{"sub":[{"arg":0},1]}],"as":"r","when":{"arg":0}},{"return":{"add":[{"arg":0},{"res":"r"}]}}]}],"main":[{"make":"f","as":"p"},{"call":{"res":"p"},"sig":0,"args":[4],"as":"r"},{"print":{"res":"r"}},{"return":null}]}"#;
+
+#[test]
+fn callbacks_four_deep(rt: HostRuntime) -> Result<(), Fail> {
+    let alloc = rt.alloc();
+    let natives: Vec<Box<dyn Native>> = Vec::new(alloc);
+    let wanted = alike(
+        "51\n",
+        RunEnd::Done,
+        9_986,
+        8,
+        [0x7FFE_FEC0, 0x7FFE_FD00, 0x7FFE_FC80],
+    );
+    check(&rt, alloc, &natives, FOUR_DEEP, &wanted)
+}
+
+#[test]
+fn recursion_fills_the_stack(rt: HostRuntime) -> Result<(), Fail> {
+    let alloc = rt.alloc();
+    let natives: Vec<Box<dyn Native>> = Vec::new(alloc);
+    let wanted = [
+        Wanted {
+            text: "stop: stack full: need 64, left 0\n",
+            end: RunEnd::Stopped(Stop::StackFull { need: 64, left: 0 }),
+            moves_left: 8_974,
+            events: 1_024,
+            mark: 0x7FFE_0000,
+        },
+        Wanted {
+            text: "stop: stack full: need 176, left 64\n",
+            end: RunEnd::Stopped(Stop::StackFull {
+                need: 176,
+                left: 64,
+            }),
+            moves_left: 9_626,
+            events: 372,
+            mark: 0x7FFE_0040,
+        },
+        Wanted {
+            text: "stop: stack full: need 208, left 16\n",
+            end: RunEnd::Stopped(Stop::StackFull {
+                need: 208,
+                left: 16,
+            }),
+            moves_left: 9_683,
+            events: 315,
+            mark: 0x7FFE_0010,
+        },
+    ];
+    check(&rt, alloc, &natives, ENDLESS, &wanted)
+}
+
+#[test]
+fn a_closure_frees_itself(rt: HostRuntime) -> Result<(), Fail> {
+    let alloc = rt.alloc();
+    let natives: Vec<Box<dyn Native>> = Vec::new(alloc);
+    let stop = Stop::WrongSig {
+        ptr: 0x1_0000,
+        site: 1,
+        found: 0,
+    };
+    let wanted = alike(
+        "7\n9\nstop: wrong signature at 0x10000: called as sint64(), is sint32()\n",
+        RunEnd::Stopped(stop),
+        9_990,
+        4,
+        [0x7FFE_FFC0, 0x7FFE_FF50, 0x7FFE_FF30],
+    );
+    check(&rt, alloc, &natives, FREES_ITSELF, &wanted)
+}
+
+#[test]
+fn structs_around_an_inner_call(rt: HostRuntime) -> Result<(), Fail> {
+    let alloc = rt.alloc();
+    let natives: Vec<Box<dyn Native>> = Vec::new(alloc);
+    let wanted = alike(
+        "{-7,0000803f}\n000000000000f03f\n{300,25,1}\n",
+        RunEnd::Done,
+        9_990,
+        4,
+        [0x7FFE_FF00, 0x7FFE_FE30, 0x7FFE_FDF0],
+    );
+    check(&rt, alloc, &natives, STRUCTS, &wanted)
+}
+
+#[test]
+fn a_countdown(rt: HostRuntime) -> Result<(), Fail> {
+    let alloc = rt.alloc();
+    let natives: Vec<Box<dyn Native>> = Vec::new(alloc);
+    let wanted = alike(
+        "10\n",
+        RunEnd::Done,
+        9_987,
+        10,
+        [0x7FFE_FE70, 0x7FFE_FC40, 0x7FFE_FBA0],
+    );
+    check(&rt, alloc, &natives, COUNTDOWN, &wanted)
+}

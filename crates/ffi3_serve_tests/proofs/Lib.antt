@@ -1,0 +1,4 @@
+mod Entered
+mod Popped
+mod Single
+mod Shown

@@ -1,0 +1,45 @@
+-- A call that is shown stands at its closure's entry, and its return leaves room for the result.
+use Rattle.std.proofs.Common.{◌≡◌, ℕ, ◌+◌, ◌≤◌, false, List, Option, Some, sym, subst, arith}
+use Rattle.std.specs.Prelude.{IfSome}
+use Rattle.ffi3_type_rules.specs.declared.limits.TheConstants.{STACK, STACK_TOP}
+use Rattle.ffi3_type_rules.specs.Signature.{Signature, signature_at}
+use Rattle.ffi3_type_rules.specs.Value.{ValueTree}
+use Rattle.ffi3_place_rules.specs.Standard.{Standard, frame_of}
+use Rattle.ffi3_run_rules.specs.declared.Closure.{Closure}
+use Rattle.ffi3_run_rules.specs.Closures.{Closures, closure_at}
+use Rattle.ffi3_run_rules.specs.Meaning.{Program}
+use Rattle.ffi3_machine.specs.State.{State}
+use Rattle.ffi3_io.specs.Sink.{SinkState}
+use Rattle.ffi3_invoke.specs.Calls.{entered_closure}
+use Rattle.ffi3_ask.specs.declared.standing.Standing.{Standing}
+use Rattle.ffi3_board.specs.declared.board.Board.{Board}
+use Rattle.ffi3_board.specs.Served.{ShowsCall}
+use Rattle.ffi3_runner.specs.Serving.{IsAtEntry, Served}
+use Rattle.ffi3_runner.specs.declared.run.RunEnd.{RunEnd}
+use Rattle.ffi3_runner.specs.declared.run.RunEnd.TheVariants as run
+use Rattle.ffi3_serve_tests.specs.Shown.{IsShown}
+use Rattle.ffi3_serve_tests.proofs.Popped.{returned_sp}
+
+module _ (std : Standard) (p : Program) (signatures : List Signature) (table closures : Closures) (arguments : List ValueTree) (m : State) (o : Option ℕ) (sig : ℕ) (found : IfSome o (λ n. IsShown std signatures closures arguments n m)) (is : o ≡ Some sig) (same : closures ≡ table) (are : signatures ≡ p.signatures) where
+  shown : IsShown std signatures closures arguments sig m
+  shown = subst (λ (x : Option ℕ). IfSome x (λ n. IsShown std signatures closures arguments n m)) is found
+
+  entry_of : IsAtEntry std p table m shown.closure arguments
+  entry_of = record {
+    live = subst (λ (t : Closures). closure_at t (entered_closure m) ≡ Some shown.closure) same shown.live;
+    shows = subst (λ (l : List Signature). ShowsCall std (signature_at l shown.closure.sig) arguments m) are (subst (λ n. ShowsCall std (signature_at signatures n) arguments m) (sym shown.signature) shown.shows);
+  }
+
+  pub at_entry : (closure : Closure) × (vs : List ValueTree) × IsAtEntry std p table m closure vs
+  at_entry = (shown.closure, arguments, entry_of)
+
+  module _ (b b' : Board Standing) (m' : State) (output output' : SinkState) (end : RunEnd) (done : end ≡ run.Done) (board : b.table ≡ table) (served : Served std false p b m output b' m' output' end) where
+    popped_to : m'.sp ≡ m.sp + std.link
+    popped_to = returned_sp std false p shown.closure arguments b m output b' m' output' end done (subst (λ (t : Closures). IsAtEntry std p t m shown.closure arguments) (sym board) entry_of) served
+
+    pub bottom : STACK ≤ m'.sp
+    bottom = omega (arith, popped_to, shown.shows.room)
+
+    pub frame : (s : Signature) → s ≡ signature_at signatures sig → m'.sp + frame_of std s ≤ STACK_TOP
+    frame s s_is =
+        subst (λ (x : Signature). m'.sp + frame_of std x ≤ STACK_TOP) (sym s_is) (omega (arith, popped_to, shown.shows.frame))

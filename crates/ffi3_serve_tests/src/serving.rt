@@ -1,0 +1,94 @@
+//! A call that is served, and its result's text.
+ghost use Rattle.std.specs.Prelude.{◌≡◌, ◌+◌, ◌<◌, ◌≤◌, ◌^◌, IfOk, List, length, map};
+ghost use Rattle.ffi3_type_rules.specs.declared.limits.TheConstants.{STACK, STACK_TOP};
+ghost use Rattle.ffi3_type_rules.specs.Value.{ValueTree};
+ghost use Rattle.ffi3_type_rules.specs.ValueText.{value_text_of};
+ghost use Rattle.ffi3_place_rules.specs.Holds.{OwnResult};
+ghost use Rattle.ffi3_place_rules.specs.Standard.{frame_of};
+ghost use Rattle.ffi3_machine.specs.State.{image_of};
+ghost use Rattle.ffi3_script.specs.ScriptOf.{natives_of};
+ghost use Rattle.ffi3_ask.specs.Handed.{handed_in, signatures_in};
+
+use crate::showing::show_at;
+use ffi3_body::Native;
+use ffi3_caller::{drop_frame, load_result};
+use ffi3_cif::Cif;
+use ffi3_io::MemSink;
+use ffi3_machine::Machine;
+use ffi3_place::Abi;
+use ffi3_place::parts::{result_type, size_of};
+use ffi3_runner::{RunEnd, Runner};
+use ffi3_script::Script;
+use ffi3_types::{Bytes, NoMemory};
+use ffi3_values::{Value, value_from_bytes, value_text};
+use std::alloc::Global;
+
+/// Takes the result at a return, ends the call's frame, and gives the result's text.
+pub fn take_text<A: Abi>(
+    alloc: Global,
+    machine: &mut Machine,
+    cif: &Cif<A>,
+) -> Result<Bytes, NoMemory>
+    requires bottom { STACK ≤ machine.old.sp }
+    requires frame { machine.old.sp + frame_of A.standard cif.now ≤ STACK_TOP }
+    ensures { IfOk result (λ text. (v : ValueTree) → OwnResult A.standard cif.now v (image_of (frame_of A.standard cif.now) machine.old) →
+        text ≡ value_text_of cif.now.result_type v) }
+{
+    let ty = result_type(cif.sig());
+    let mut room = [0; 1024];
+    let out = &mut room[..size_of(ty) as usize];
+    load_result(machine, cif, out);
+    drop_frame(machine, cif);
+    let value = value_from_bytes(alloc, ty, out)?;
+    value_text(alloc, ty, &value)
+}
+
+/// What a call that was served came to.
+#[derive(Drop)]
+pub struct Came {
+    pub text: Bytes,
+    pub moves_left: u32,
+}
+
+/// Runs the script beside the natives, and serves a call with the value of the closure at `ptr`, with the byte over all that its
+/// callee must not look at. None where one of the two did not return, or `show_at` shows no call.
+pub fn call_after_main<A: Abi>(
+    alloc: Global,
+    natives: &Vec<Box<dyn Native>>,
+    script: &Script,
+    value: Value,
+    ptr: u64,
+    byte: u8,
+) -> Result<Option<Came>, NoMemory>
+    requires beside { natives_of script.now ≤ length natives.now.items }
+    requires few_natives { length natives.now.items < 2 ^ 31 }
+    requires few_signatures { length (signatures_in (map (λ b. handed_in (title b) (meaning b) (signatures b)) natives.now.items)) < 2 ^ 31 }
+{
+    let mut machine = Machine::new(alloc)?;
+    machine.begin(A::TARGET);
+    let mut output = MemSink::new(alloc, 1_024, Vec::new(alloc))?;
+    let mut runner = Runner::<A>::new(alloc, script, natives)?;
+    if runner.run_main(&mut machine, &mut output, false) != RunEnd::Done {
+        return Ok(None);
+    }
+    let shown = show_at(
+        alloc,
+        &mut machine,
+        runner.table(),
+        runner.cifs(),
+        value,
+        ptr,
+        byte,
+    )?;
+    let Some(sig) = shown else {
+        return Ok(None);
+    };
+    if runner.serve(&mut machine, &mut output, false) != RunEnd::Done {
+        return Ok(None);
+    }
+    let text = take_text(alloc, &mut machine, runner.cifs().get(sig))?;
+    Ok(Some(Came {
+        text,
+        moves_left: runner.moves_left(),
+    }))
+}

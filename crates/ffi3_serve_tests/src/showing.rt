@@ -1,0 +1,100 @@
+//! A call from outside, up to the closure's entry.
+ghost use Rattle.std.specs.Prelude.{◌≡◌, ◌+◌, ◌≤◌, ◌∷◌, [], IfOk, IfSome, IsSome, true};
+ghost use Rattle.ffi3_type_rules.specs.declared.limits.TheConstants.{STACK, STACK_TOP};
+ghost use Rattle.ffi3_type_rules.specs.Signature.{SignatureHasNoFault};
+ghost use Rattle.ffi3_type_rules.specs.Tree.{trees_of};
+ghost use Rattle.ffi3_type_rules.specs.Value.{all_fit, values_of};
+ghost use Rattle.ffi3_values.specs.ValueOf.{value_of};
+ghost use Rattle.ffi3_place_rules.specs.Standard.{frame_of, need_of};
+ghost use Rattle.ffi3_run_rules.specs.Closures.{closure_at};
+ghost use Rattle.ffi3_machine.specs.State.{IsSlot};
+ghost use Rattle.ffi3_closures.specs.Slots.{HoldsMap};
+ghost use Rattle.ffi3_invoke.specs.Calls.{entered_closure};
+ghost use Rattle.ffi3_board.specs.Served.{ShowsCall};
+ghost use Rattle.ffi3_serve_tests.specs.Shown.{IsShown};
+
+use ffi3_callee::poison;
+use ffi3_caller::room_for;
+use ffi3_cif::Cif;
+use ffi3_invoke::pass_arguments;
+use ffi3_machine::Machine;
+use ffi3_place::Abi;
+use ffi3_runner::{Cifs, Table};
+use ffi3_types::{NoMemory, Sig};
+use ffi3_values::{Value, Values, fits};
+use std::alloc::Global;
+
+/// Stores the values, calls the closure at `ptr`, runs its trampoline, and overwrites all that a callee must not look at.
+pub fn show_call<A: Abi>(
+    machine: &mut Machine,
+    table: &Table,
+    cif: &Cif<A>,
+    values: &Values,
+    ptr: u64,
+    byte: u8,
+)
+    requires target { machine.old.target ≡ A.TARGET }
+    requires fit { all_fit (trees_of cif.now.arguments) (values_of values.now) ≡ true }
+    requires room { STACK + need_of A.standard cif.now ≤ machine.old.sp }
+    requires top { machine.old.sp ≤ STACK_TOP }
+    requires holds { HoldsMap machine.old.target table.now machine.old.code }
+    requires slot { IsSlot ptr }
+    requires live { IsSome (closure_at table.now ptr) }
+    requires events { 2 ≤ machine.old.spare_events }
+    requires bytes { A.standard.link + frame_of A.standard cif.now + frame_of A.standard cif.now ≤ machine.old.spare_bytes }
+    ensures shows { ShowsCall A.standard cif.now values.now machine.new }
+    ensures closure { entered_closure machine.new ≡ ptr }
+    ensures target { machine.new.target ≡ machine.old.target }
+    ensures code { machine.new.code ≡ machine.old.code }
+{
+    // its contract tells what is true of every machine
+    let _sp = machine.sp();
+    pass_arguments(machine, table, cif, values, ptr);
+    poison(machine, cif, byte);
+}
+
+/// Whether the signature has one argument, which the value fits.
+pub fn takes(sig: &Sig, value: &Value) -> bool
+    requires { SignatureHasNoFault sig.now }
+    ensures { result ≡ all_fit (trees_of sig.now.arguments) (values_of (value_of value.now ∷ [])) }
+{
+    sig.count() == 1 && fits(value, sig.arg(0))
+}
+
+/// Shows the machine a call with one value of the live closure at `ptr`, and says by which signature. None where no closure is
+/// live there, its signature does not take the value alone, or the stack has no room.
+pub fn show_at<A: Abi>(
+    alloc: Global,
+    machine: &mut Machine,
+    table: &Table,
+    cifs: &Cifs<A>,
+    value: Value,
+    ptr: u64,
+    byte: u8,
+) -> Result<Option<u32>, NoMemory>
+    requires target { machine.old.target ≡ A.TARGET }
+    requires bottom { STACK ≤ machine.old.sp }
+    requires top { machine.old.sp ≤ STACK_TOP }
+    requires holds { HoldsMap machine.old.target table.now machine.old.code }
+    ensures shown { IfOk result (λ o. IfSome o (λ sig. IsShown A.standard cifs.now table.now (value_of value ∷ []) sig machine.new)) }
+    ensures holds { HoldsMap machine.new.target table.now machine.new.code }
+{
+    let Some(closure) = table.find(ptr) else {
+        return Ok(None);
+    };
+    if closure.sig >= cifs.len() {
+        return Ok(None);
+    }
+    let cif = cifs.get(closure.sig);
+    if !takes(cif.sig(), &value) {
+        return Ok(None);
+    }
+    let Ok(()) = room_for(machine, cif) else {
+        return Ok(None);
+    };
+    let mut values = Values::new(alloc);
+    values.push(value)?;
+    machine.journal_room(A::LINK + cif.frame())?;
+    show_call(machine, table, cif, &values, ptr, byte);
+    Ok(Some(closure.sig))
+}

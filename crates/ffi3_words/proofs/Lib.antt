@@ -1,0 +1,11 @@
+pub mod Answering
+pub mod Anywhere
+pub mod Asked
+pub mod Asks
+pub mod BenchWords
+pub mod Level
+pub mod Numbers
+pub mod Program
+pub mod Ranges
+pub mod Refusals
+pub mod Stated

@@ -1,0 +1,66 @@
+-- The words that ask for something, and those that clap takes and refuses.
+use Rattle.std.specs.Prelude.{◌≡◌, ◌⊎◌, ◌<◌, ◌≤◌, ◌^◌, ℕ, true, false, List, [], ◌∷◌, codes, decimal, Some}
+use Rattle.clap.specs.Words.{Text, fault_of, kind_of, subcommand_of}
+use Rattle.clap.specs.declared.error.Error.{Error}
+use Rattle.clap.specs.declared.error.kind.ErrorKind.TheVariants.{OutOfMemory}
+use Rattle.ffi3_type_rules.specs.declared.Target.{Target}
+use Rattle.ffi3_type_rules.specs.declared.Target.TheVariants.{Amd64, Aapcs64, Riscv}
+use Rattle.ffi3_words.specs.declared.words.Request.{Request}
+use Rattle.ffi3_words.specs.declared.words.Request.TheVariants.{Layout, Place, Run, Bench}
+use Rattle.ffi3_words.specs.declared.words.WordsFault.{WordsFault}
+use Rattle.ffi3_words.specs.declared.words.WordsFault.TheVariants.{Refused, NoMemory}
+use Rattle.ffi3_words.specs.WordCommands.{Addresses, LacksNumbers, program, asked}
+
+abbrev pub target_word : Target → Text
+target_word Amd64 = codes "amd64"
+target_word Aapcs64 = codes "aapcs64"
+target_word Riscv = codes "riscv"
+
+-- the words after the program's name ask for this
+abbrev pub StatesAfterName : List Text → Request → Type 0
+StatesAfterName rest Layout = rest ≡ codes "layout" ∷ []
+StatesAfterName rest (Place t) = rest ≡ codes "place" ∷ codes "--target" ∷ target_word t ∷ []
+StatesAfterName rest (Run t false) = rest ≡ codes "run" ∷ codes "--target" ∷ target_word t ∷ []
+StatesAfterName rest (Run t true) =
+    (rest ≡ codes "run" ∷ codes "--trace" ∷ codes "--target" ∷ target_word t ∷ []) ⊎ (rest ≡ codes "run" ∷ codes "--target" ∷ target_word t ∷ codes "--trace" ∷ [])
+StatesAfterName rest (Bench seed calls) =
+    (seed < 2 ^ 32) × (1 ≤ calls) × (calls ≤ 1000) × ((rest ≡ codes "bench" ∷ codes "--seed" ∷ decimal seed ∷ codes "--calls" ∷ decimal calls ∷ []) ⊎ (rest ≡ codes "bench" ∷ codes "--calls" ∷ decimal calls ∷ codes "--seed" ∷ decimal seed ∷ []))
+
+-- the numbers that are asked for lie in their ranges: a seed has 32 bits by its type
+abbrev pub IsInRange : Request → Type 0
+IsInRange Layout = Unit {0}
+IsInRange (Place t) = Unit {0}
+IsInRange (Run t trace) = Unit {0}
+IsInRange (Bench seed calls) = (1 ≤ calls) × (calls ≤ 1000)
+
+-- THE STATED WORDS of what is asked for: the program's name, and then `layout`, `place --target T`, `run --target T`, where `--trace` stands before the target or after it, or `bench --seed N --calls M` in either order, N below 2 to the 32, M from 1 to 1000
+abbrev pub IsStated : List Text → Request → Type 0
+IsStated [] r = ⊥
+IsStated (name ∷ rest) r = StatesAfterName rest r
+
+-- CLAP TAKES the words, for want of memory at most refuses them, and reads them as this, wherever the program's texts lie
+pub record Takes (words : List Text) (r : Request) : Type 0 where
+  pub passes : (placing running : Addresses) → fault_of (program placing running) words ≡ []
+  pub means : (placing running : Addresses) → asked (subcommand_of (program placing running) words) ≡ Some r
+
+-- CLAP REFUSES the words for another cause than memory, wherever the program's texts lie; a request for help or the version counts
+pub record IsRefusedByClap (words : List Text) : Type 0 where
+  pub fails : (placing running : Addresses) → fault_of (program placing running) words ≡ [] → ⊥
+
+-- clap takes the words for `bench`, wherever the program's texts lie, with values that are no seed and number of calls
+pub record IsRefusedForNumbers (words : List Text) : Type 0 where
+  pub passes : (placing running : Addresses) → fault_of (program placing running) words ≡ []
+  pub lacks : (placing running : Addresses) → LacksNumbers (subcommand_of (program placing running) words)
+
+-- THE WORDS ARE REFUSED, by clap or for the numbers of `bench`
+abbrev pub IsRefused : List Text → Type 0
+IsRefused words = IsRefusedByClap words ⊎ IsRefusedForNumbers words
+
+abbrev pub IsWordsRefusal : List Text → WordsFault → Type 0
+IsWordsRefusal words (Refused text) = IsRefused words × ((r : Request) → IsStated words r → ⊥)
+IsWordsRefusal words NoMemory = Unit {0}
+
+-- an error of clap is told as this: its text, where it is not want of memory
+abbrev pub IsToldAs : Error → WordsFault → Type 0
+IsToldAs e (Refused text) = kind_of e ≡ OutOfMemory → ⊥
+IsToldAs e NoMemory = Unit {0}

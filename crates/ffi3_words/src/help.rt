@@ -1,0 +1,175 @@
+//! The texts of the program's help.
+
+pub const VERSION: &str = "0.1.0";
+
+pub const ABOUT: &str =
+    "Show how C values are laid out, passed in calls, and called through closures";
+
+pub const LONG_ABOUT: &str =
+    "Show how C values are laid out, passed in calls, and called through closures.
+
+Every command but bench reads one script from standard input: a JSON text of at
+most 1,048,576 bytes with C signatures, functions of these signatures, and a
+main function that makes closures of the functions and calls them. What a
+command finds goes to standard output. Calls are made on a modelled machine, in
+software: no code of the host is called.";
+
+pub const AFTER_HELP: &str = "Targets:
+  amd64    System V psABI for AMD64
+  aapcs64  procedure call standard for the Arm 64-bit architecture
+  riscv    RISC-V psABI, LP64D
+
+Exit status:
+  0  done
+  1  the script was refused: standard error has `ffi3: PATH: REASON`, where
+     PATH leads to the place in the script (or `ffi3: not JSON`, or
+     `ffi3: script too long`)
+  2  the words of the call were refused, or asked for help
+  3  a read failed
+  4  a write failed
+  5  out of memory
+  6  the run stopped: the last line of output says why
+
+Examples:
+  ffi3 layout < examples/increment.json
+  ffi3 place --target riscv < examples/increment.json
+  ffi3 run --target amd64 < examples/increment.json
+  ffi3 bench --seed 1 --calls 2";
+
+pub const LAYOUT_ABOUT: &str = "Print the size, alignment and leaves of every type";
+
+pub const LAYOUT_LONG_ABOUT: &str = "Print the size, alignment and leaves of every type.
+
+Reads a script of at most 1,048,576 bytes from standard input. Writes one line
+for the result and for each argument of each signature:
+
+  sig 0 ret void
+  sig 0 arg 0 struct{sint8,double} size 16 align 8 leaves 0:sint8 8:double
+
+Size and alignment are in bytes. A leaf is a member that is no struct, as
+OFFSET:TYPE. The layout is the same on every target. Nothing is run.";
+
+pub const LAYOUT_AFTER_HELP: &str = "Exit status:
+  0  done
+  1  the script was refused: standard error has `ffi3: PATH: REASON`
+  2  the words of the call were refused, or asked for help
+  3  a read failed
+  4  a write failed
+  5  out of memory
+
+Example:
+  ffi3 layout < examples/increment.json";
+
+pub const PLACE_ABOUT: &str = "Print where each argument and result stands in a call";
+
+pub const PLACE_LONG_ABOUT: &str = "Print where each argument and result stands in a call.
+
+Reads a script of at most 1,048,576 bytes from standard input. Writes for each
+signature the numbers of its frame, where each argument stands, and where the
+result does:
+
+  sig 0 need 80 frame 0 block 16 rax 0
+  arg 0 rdi:0+4
+  ret rax:0+4
+
+The numbers are bytes of stack: need is all that the call takes, frame the
+caller's part of it, with stack arguments and buffers, and block the callee's
+copies of its arguments. On amd64, rax counts the vector registers in use.
+REGISTER:OFFSET+LENGTH says which bytes of the value that register holds;
+stackN stands for the stack N bytes above the first stack argument. Nothing is run.";
+
+pub const PLACE_AFTER_HELP: &str = "Targets:
+  amd64    System V psABI for AMD64
+  aapcs64  procedure call standard for the Arm 64-bit architecture
+  riscv    RISC-V psABI, LP64D
+
+Exit status:
+  0  done
+  1  the script was refused: standard error has `ffi3: PATH: REASON`
+  2  the words of the call were refused, or asked for help
+  3  a read failed
+  4  a write failed
+  5  out of memory
+
+Example:
+  ffi3 place --target riscv < examples/increment.json";
+
+pub const RUN_ABOUT: &str = "Run the script on a modelled machine";
+
+pub const RUN_LONG_ABOUT: &str = "Run the script on a modelled machine.
+
+Reads a script of at most 1,048,576 bytes from standard input. Does what its
+main function says: makes closures, calls them by the calling convention of
+the target, and writes the lines that the script prints. Registers, stack and
+closure code are modelled in software, for each of the three targets alike: no
+code of the host is called.
+
+With --trace, before the target or after it, each call of a closure writes two
+lines more as it enters, and two as it returns:
+
+  enter 0x10040 sp 0x7ffefff8 (0x10000,40)
+  keep a5a5000000000003 a5a5000000000005 ..
+  leave sp 0x7fff0000 142
+  keep a5a5000000000003 a5a5000000000005 ..
+
+enter shows the address of the closure, the stack pointer as its function
+begins, and the arguments that the function finds; leave shows the stack
+pointer after the return, and the result. keep shows the registers that the
+function has to preserve, so that of the return equals that of the entry.
+Where a function calls, the lines of that call stand between its own.";
+
+pub const RUN_AFTER_HELP: &str = "Targets:
+  amd64    System V psABI for AMD64
+  aapcs64  procedure call standard for the Arm 64-bit architecture
+  riscv    RISC-V psABI, LP64D
+
+Exit status:
+  0  done
+  1  the script was refused: standard error has `ffi3: PATH: REASON`
+  2  the words of the call were refused, or asked for help
+  3  a read failed
+  4  a write failed
+  5  out of memory
+  6  the run stopped: the last line of output says why
+
+Examples:
+  ffi3 run --target amd64 < examples/increment.json
+  ffi3 run --target amd64 --trace < examples/callback.json";
+
+pub const TARGET_HELP: &str = "Follow the calling convention of this target";
+
+pub const TRACE_HELP: &str = "Write lines for each call's entry and return too";
+
+pub const BENCH_ABOUT: &str = "Run a made script on all three targets";
+
+pub const BENCH_LONG_ABOUT: &str = "Run a made script on all three targets.
+
+Reads no input. A script is made from the seed: four signatures with arguments
+of eight types, four functions of which each calls the one before it, and a
+main function that makes that many calls and prints the last result. It is run
+on each target, and a line is written for each:
+
+  amd64 calls 8 moves 22 need 160 result 543
+
+calls counts the calls of closures, moves the moves of the script, need is the
+most bytes of stack that a call of a signature takes, and result is the line
+that the script prints. The numbers are decimal digits without a leading zero.";
+
+pub const BENCH_AFTER_HELP: &str = "Exit status:
+  0  done
+  2  the words of the call were refused, or asked for help
+  4  a write failed
+  5  out of memory
+
+Example:
+  ffi3 bench --seed 1 --calls 2";
+
+pub const SEED_HELP: &str = "Make the script of this seed, from 0 to 4294967295";
+
+pub const CALLS_HELP: &str = "Make this many calls in main, from 1 to 1000";
+
+pub const NO_NUMBERS: &str =
+    "error: `bench` takes a seed from 0 to 4294967295 and calls from 1 to 1000, in digits without a leading zero
+
+For more information, try '--help'.
+";

@@ -1,0 +1,8 @@
+//! The words of the program, and its help.
+#![tactic(auto)]
+
+mod command;
+mod help;
+mod words;
+
+pub use words::{Request, WordsFault, read_words};
