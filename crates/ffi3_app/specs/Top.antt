@@ -17,7 +17,7 @@ use Rattle.ffi3_script_rules.specs.Reading.{Reading, too_long, not_json, bad_scr
 use Rattle.ffi3_script_rules.specs.Natives.{NamedNative, names_of, program_beside}
 use Rattle.ffi3_machine.specs.State.{State}
 use Rattle.ffi3_runner.specs.RunMatches.{RunMatches, WrotePart}
-use Rattle.ffi3_runner.specs.RunCut.{RunWasCut}
+use Rattle.ffi3_runner.specs.RunInterrupted.{RunWasInterrupted}
 use Rattle.ffi3_io.specs.Sink.{SinkState}
 use Rattle.ffi3_io.specs.Written.{TookText}
 use Rattle.ffi3_words.specs.declared.words.Request.{Request}
@@ -120,10 +120,10 @@ abbrev pub IsBenchInPart : (seed calls : ℕ) → SinkState → SinkState → Ty
 IsBenchInPart seed calls output output' =
     (part : ℕ) × Adds output.taken (take part (bench_text seed calls)) output'.taken
 
--- A RUN IS DONE IN PART, cut off in a line or elsewhere: a first part of its text is written, and it is told as far as it came
+-- A RUN IS DONE IN PART, interrupted in a line or elsewhere: a first part of its text is written, and it is told as far as it came
 abbrev pub IsRunInPart : (in_line trace : Bool) → Standard → List NamedNative → Script → SinkState → SinkState → State → Type 0
 IsRunInPart in_line trace std natives s output output' machine' =
-    WrotePart (main_tracing trace std) (program_beside std natives s) output output' × RunWasCut (main_tracing trace std) std (program_beside std natives s) in_line output output' machine'
+    WrotePart (main_tracing trace std) (program_beside std natives s) output output' × RunWasInterrupted (main_tracing trace std) std (program_beside std natives s) in_line output output' machine'
 
 -- THE WORK on a script IS DONE IN PART: a first part of the text is written; the commands that do not run leave the machine as it was
 abbrev pub IsDoneInPart : (in_line : Bool) → Request → List NamedNative → Script → SinkState → SinkState → State → State → Type 0

@@ -17,9 +17,9 @@ use Rattle.ffi3_run_rules.specs.Closures.{Closures}
 use Rattle.ffi3_run_rules.specs.Journal.{Entered}
 use Rattle.ffi3_run_rules.specs.Lines.{Tracing}
 use Rattle.ffi3_run_rules.specs.Meaning.{Program, need_at, most_moves}
-use Rattle.ffi3_turn_rules.specs.Left.{Left}
+use Rattle.ffi3_turn_rules.specs.Remainder.{Remainder}
 use Rattle.ffi3_turn_rules.specs.SoFar.{Base}
-use Rattle.ffi3_turn_rules.specs.Told.{IsTracingOf}
+use Rattle.ffi3_turn_rules.specs.TracingOf.{IsTracingOf}
 use Rattle.ffi3_turn_rules.proofs.Coming.{comes_from}
 use Rattle.ffi3_machine.specs.State.{State, after_enter, image_of, stack_at}
 use Rattle.ffi3_closures.specs.Slots.{HoldsMap}
@@ -37,11 +37,11 @@ use Rattle.ffi3_board.specs.declared.activation.Activation.{Activation}
 use Rattle.ffi3_board.specs.declared.activation.OpenCall.{OpenCall}
 use Rattle.ffi3_board.specs.declared.activation.Who.TheVariants.{Function}
 use Rattle.ffi3_board.specs.Known.{AreKnown}
-use Rattle.ffi3_board.specs.Between.{Beginning, Moment, IsMarkOf, IsBetween, moment_with}
+use Rattle.ffi3_board.specs.Between.{Beginning, RunState, IsMarkOf, IsBetween, run_state_with}
 use Rattle.ffi3_board.specs.Path.{acting, arguments_at, who_of}
-use Rattle.ffi3_board.specs.Accepted.{WasCutAtEntry}
+use Rattle.ffi3_board.specs.Accepted.{WasInterruptedAtEntry}
 use Rattle.ffi3_board.specs.TraceLines.{last_event, entry_lines}
-use Rattle.ffi3_io.specs.Written.{LineCut}
+use Rattle.ffi3_io.specs.Written.{LineInterrupted}
 use Rattle.ffi3_board.proofs.Telling.{last_is}
 use Rattle.ffi3_board.proofs.Tests.{chosen_true, chosen_false}
 use Rattle.ffi3_board.specs.Served.{ShowsCall, served_leaves, served_tracing, served_activation, served_base, served_beginning, served_left}
@@ -97,7 +97,7 @@ module _ (p : Program) (std : Standard) (closure : Closure) (arguments : List Va
   abbrev base : Base
   base = served_base std p.signatures closure.sig m
 
-  abbrev all : Left
+  abbrev all : Remainder
   all = served_left std p closure arguments m closures moves
 
   abbrev first : Beginning
@@ -109,7 +109,7 @@ module _ (p : Program) (std : Standard) (closure : Closure) (arguments : List Va
   abbrev entered : Entered
   entered = record { signature = s; event = entry_at std s m }
 
-  abbrev start : Moment
+  abbrev start : RunState
   start = record {
     innermost = served_activation std p.signatures closure arguments m;
     suspended = [];
@@ -181,8 +181,8 @@ module _ (p : Program) (std : Standard) (closure : Closure) (arguments : List Va
         ap (λ (e : Event). entry_lines trace std s e (arguments_in s.arguments (stack_at m'.sp (block_bytes s) m'))) last
         ∙ ap (λ (l : List ValueTree). entry_lines trace std s (entry_at std s m) l) (received.values arguments shows.owns)
 
-    -- where they are cut off
-    pub cut_at_entry : (trace : Bool) (why : IoError) (output' : SinkState) → LineCut (entry_lines trace std s (entry_at std s m) arguments) output output' why → WasCutAtEntry std s arguments trace why m m' output output'
+    -- where they are interrupted
+    pub cut_at_entry : (trace : Bool) (why : IoError) (output' : SinkState) → LineInterrupted (entry_lines trace std s (entry_at std s m) arguments) output output' why → WasInterruptedAtEntry std s arguments trace why m m' output output'
     cut_at_entry trace why output' lines = record {
       journal = events;
       lines = lines;
@@ -199,8 +199,8 @@ module _ (p : Program) (std : Standard) (closure : Closure) (arguments : List Va
           λ i. record { who = who_of (who i); arguments = given i; user = user i; left = left i; results = results i }
 
       -- on a board where nothing waits
-      pub served_begins : IsBetween p base all first [] [] (moment_with p.signatures (Some call) [] closures moves m' output a)
+      pub served_begins : IsBetween p base all first [] [] (run_state_with p.signatures (Some call) [] closures moves m' output a)
       served_begins =
-          let same : moment_with p.signatures (Some call) [] closures moves m' output a ≡ start =
+          let same : run_state_with p.signatures (Some call) [] closures moves m' output a ≡ start =
           λ i. record { innermost = acts i; suspended = []; calls = call ∷ []; closures = closures; moves = moves; machine = m'; output = output } in
-          subst (λ (x : Moment). IsBetween p base all first [] [] x) (sym same) begins
+          subst (λ (x : RunState). IsBetween p base all first [] [] x) (sym same) begins

@@ -20,9 +20,9 @@ use Rattle.ffi3_run_rules.specs.Meaning as meaning
 use Rattle.ffi3_run_rules.specs.Meaning.{Program, stops, enters, stopped, function, callee_of, effect_of, need_at}
 use Rattle.ffi3_run_rules.specs.Move.{Move, call, return}
 use Rattle.ffi3_run_rules.specs.Trace.{TraceItem, Enter, Leave}
-use Rattle.ffi3_turn_rules.specs.Left.{Left, Suspended}
+use Rattle.ffi3_turn_rules.specs.Remainder.{Remainder, Suspended}
 use Rattle.ffi3_turn_rules.specs.SoFar.{Base, text_after}
-use Rattle.ffi3_turn_rules.specs.Told.{IsTracingOf}
+use Rattle.ffi3_turn_rules.specs.TracingOf.{IsTracingOf}
 use Rattle.ffi3_machine.specs.State.{State, with_room, stack_at}
 use Rattle.ffi3_body.specs.SeenActivation.{arguments_in}
 use Rattle.ffi3_io.specs.Sink.{SinkState}
@@ -39,12 +39,12 @@ use Rattle.ffi3_board.specs.declared.activation.Who.TheVariants.{Function}
 use Rattle.ffi3_board.specs.declared.board.Board.{Board}
 use Rattle.ffi3_board.specs.declared.board.Turn.{Turn}
 use Rattle.ffi3_board.specs.declared.board.Turn.TheVariants as turn
-use Rattle.ffi3_board.specs.Between.{Beginning, Moment, asking, IsBetween, IsAsking, moment, moment_with, open_calls_at}
+use Rattle.ffi3_board.specs.Between.{Beginning, RunState, asking, IsBetween, IsAsking, run_state, run_state_with, open_calls_at}
 use Rattle.ffi3_board.specs.Going.{StoppedBy, GoneOn, HasGoneBack, and_result}
 use Rattle.ffi3_board.specs.Path.{acting, arguments_at, call_inside, suspended_at, calls_of}
 use Rattle.ffi3_board.specs.TraceLines.{last_event, entry_lines, return_lines}
-use Rattle.ffi3_board.specs.Turned.{IsEnded, WasCutOff, LooksAs, turn_of, WentOn, Turned}
-use Rattle.ffi3_io.specs.Written.{LineCut}
+use Rattle.ffi3_board.specs.Turned.{IsEnded, WasInterrupted, LooksAs, turn_of, WentOn, Turned}
+use Rattle.ffi3_io.specs.Written.{LineInterrupted}
 use Rattle.ffi3_board.proofs.Blocks.{AreAbove, StaysFrom, blocks_above, acting_kept, suspended_kept}
 use Rattle.ffi3_board.proofs.Moving.{cut_between, looks_as_itself, limit_ends, limit_failed, stop_ends, stop_failed}
 use Rattle.ffi3_board.proofs.Entering as entering
@@ -78,9 +78,9 @@ module _ {S : Type 0} where
       let here : P (record mid { innermost = Some (and_result w.activation r) }) = record { waited = w; suspended = items; innermost = refl; served = served; table = table; moves = moves } in
       subst P (sym (gone_more r w.activation mid b' t gone is)) here
 
-module _ {S : Type 0} (p : Program) (base : Base) (all : Left) (first : Beginning) (own : List TraceItem) where
+module _ {S : Type 0} (p : Program) (base : Base) (all : Remainder) (first : Beginning) (own : List TraceItem) where
   -- THE RUN GOES ON FROM HERE, or there is no memory for the result
-  pub goes : (b b' : Board S) (a : Activation S) (m : State) (output : SinkState) (r : ValueTree) (more : List TraceItem) (events : List Event) (t : Turn) → GoneOn r a b b' t → IsBetween p base all first (own ++ more) events (moment p.signatures (and_result a r) b m output) → Turned p base all first own (suc b.moves) b' m output t
+  pub goes : (b b' : Board S) (a : Activation S) (m : State) (output : SinkState) (r : ValueTree) (more : List TraceItem) (events : List Event) (t : Turn) → GoneOn r a b b' t → IsBetween p base all first (own ++ more) events (run_state p.signatures (and_result a r) b m output) → Turned p base all first own (suc b.moves) b' m output t
   goes b b' a m output r more events turn.More gone between =
       let P = λ (c : Board S). WentOn p base all first own (suc b.moves) c m output in
       let here : P (record b { innermost = Some (and_result a r) }) = record { more = more; events = events; stands = between; counted = refl } in
@@ -88,22 +88,22 @@ module _ {S : Type 0} (p : Program) (base : Base) (all : Left) (first : Beginnin
   goes b b' a m output r more events turn.Done gone between = elim gone [ ]
   goes b b' a m output r more events (turn.Stopped stop) gone between = elim gone [ ]
   goes b b' a m output r more events turn.NoMemory gone between =
-      cut_between p base all first (own ++ more) events (moment p.signatures (and_result a r) b m output) m (looks_as_itself m) between
+      cut_between p base all first (own ++ more) events (run_state p.signatures (and_result a r) b m output) m (looks_as_itself m) between
   goes b b' a m output r more events turn.Failed gone between = elim gone [ ]
 
-  -- THE RUN IS CUT OFF
-  pub goes_off : (moves : ℕ) (b : Board S) (m : State) (output : SinkState) (why : IoError) (t : Turn) → t ≡ turn_of why → WasCutOff p base all first why m output → Turned p base all first own moves b m output t
+  -- THE RUN IS INTERRUPTED
+  pub goes_off : (moves : ℕ) (b : Board S) (m : State) (output : SinkState) (why : IoError) (t : Turn) → t ≡ turn_of why → WasInterrupted p base all first why m output → Turned p base all first own moves b m output t
   goes_off moves b m output cut.NoMemory t is was_cut =
       subst (λ (u : Turn). Turned p base all first own moves b m output u) (sym is) was_cut
   goes_off moves b m output cut.Failed t is was_cut =
       subst (λ (u : Turn). Turned p base all first own moves b m output u) (sym is) was_cut
 
   module _ (events : List Event) (b : Board S) (a : Activation S) (m : State) (output output' : SinkState) where
-    abbrev here : Moment
-    here = moment p.signatures a b m output
+    abbrev here : RunState
+    here = run_state p.signatures a b m output
 
     -- for want of memory, before the move
-    pub refused : (asked : Move) (m' : State) → LooksAs m m' → IsAsking p base all first own events here asked → WasCutOff p base all first cut.NoMemory m' output
+    pub refused : (asked : Move) (m' : State) → LooksAs m m' → IsAsking p base all first own events here asked → WasInterrupted p base all first cut.NoMemory m' output
     refused asked m' looks is =
         cut_between p base all first own events (asking here) m' looks is.between
 
@@ -115,7 +115,7 @@ module _ {S : Type 0} (p : Program) (base : Base) (all : Left) (first : Beginnin
         let P = λ (z : Stop). IsEnded p base all first (stopped z) b.table b.moves m output' in
         subst P (sym by.0) (stop_ends p base all first own events here asked is stop does output' by.1)
     stops_at asked is stop does turn.NoMemory by =
-        let P = λ (o : SinkState). WasCutOff p base all first cut.NoMemory m o in
+        let P = λ (o : SinkState). WasInterrupted p base all first cut.NoMemory m o in
         subst P (sym by) (cut_between p base all first own events (asking here) m (looks_as_itself m) is.between)
     stops_at asked is stop does turn.Failed by =
         stop_failed p base all first own events here asked is stop does output' by
@@ -128,15 +128,15 @@ module _ {S : Type 0} (p : Program) (base : Base) (all : Left) (first : Beginnin
         let P = λ (z : Stop). IsEnded p base all first (stopped z) b.table b.moves m output' in
         subst P (sym by.0) (limit_ends p base all first own events here none h output' by.1)
     stops_at_limit none h turn.NoMemory by =
-        let P = λ (o : SinkState). WasCutOff p base all first cut.NoMemory m o in
+        let P = λ (o : SinkState). WasInterrupted p base all first cut.NoMemory m o in
         subst P (sym by) (cut_between p base all first own events here m (looks_as_itself m) h)
     stops_at_limit none h turn.Failed by = limit_failed p base all first own events here none h output' by
 
 -- ---- a call
 
-module _ {S : Type 0} (p : Program) (base : Base) (all : Left) (first : Beginning) (own : List TraceItem) (events : List Event) (served : Option OpenCall) (outer : List (Waiting S)) (closures : Closures) (moves : ℕ) (m : State) (output : SinkState) (current : Activation S) (ptr sig : ℕ) (args : List ValueTree) where
-  abbrev before_call : Moment
-  before_call = moment_with p.signatures served outer closures moves m output current
+module _ {S : Type 0} (p : Program) (base : Base) (all : Remainder) (first : Beginning) (own : List TraceItem) (events : List Event) (served : Option OpenCall) (outer : List (Waiting S)) (closures : Closures) (moves : ℕ) (m : State) (output : SinkState) (current : Activation S) (ptr sig : ℕ) (args : List ValueTree) where
+  abbrev before_call : RunState
+  before_call = run_state_with p.signatures served outer closures moves m output current
 
   module _ (is : IsAsking p base all first own events before_call (call ptr sig args)) (closure : Closure) (does : effect_of p before_call.innermost closures (call ptr sig args) ≡ enters ptr sig (callee_of p before_call.innermost sig args closure)) (n : ℕ) (m' : State) (incoming : Incoming) (sized : n ≡ base.standard.link + frame_of base.standard (signature_at p.signatures sig)) (begun : HasBegun base.standard (signature_at p.signatures sig) args ptr (with_room n m) m') (incoming_is : IsIncoming base.standard (signature_at p.signatures sig) incoming) (block_is : incoming.block ≡ m'.sp) (below : sig < length p.signatures) (standing : S) (results : List ValueTree) (none : results ≡ []) where
     abbrev new_call : OpenCall
@@ -145,9 +145,9 @@ module _ {S : Type 0} (p : Program) (base : Base) (all : Left) (first : Beginnin
     abbrev new_one : Activation S
     new_one = record { who = Function closure.func; standing = standing; user = closure.user; results = results }
 
-    abbrev in_call : SinkState → Moment
+    abbrev in_call : SinkState → RunState
     in_call output' =
-        moment_with p.signatures served (record { activation = current; call = new_call } ∷ outer) closures moves m' output' new_one
+        run_state_with p.signatures served (record { activation = current; call = new_call } ∷ outer) closures moves m' output' new_one
 
     above : AreAbove m.sp (calls_of served outer)
     above =
@@ -184,18 +184,18 @@ module _ {S : Type 0} (p : Program) (base : Base) (all : Left) (first : Beginnin
         let there = entering.enters_on p base all first own events before_call ptr sig args is closure does n m' incoming sized begun incoming_is block_is below output' told in
         let same : in_call output' ≡ entering.entered p base all first own events before_call ptr sig args is closure does n m' incoming sized begun incoming_is block_is below output' =
         λ i. record { innermost = innermost_is i; suspended = suspended_is i; calls = new_call ∷ calls_of served outer; closures = closures; moves = moves; machine = m'; output = output' } in
-        subst (λ (x : Moment). IsBetween p base all first (own ++ Enter ptr sig args ∷ []) (events ++ begun.entry ∷ []) x) (sym same) there
+        subst (λ (x : RunState). IsBetween p base all first (own ++ Enter ptr sig args ∷ []) (events ++ begun.entry ∷ []) x) (sym same) there
 
-    -- or the run is cut off there
-    pub call_cut_off : (why : IoError) (output' : SinkState) → LineCut (enter_lines first.tracing (text_after p base own) ptr (signature_at p.signatures sig) args) output output' why → WasCutOff p base all first why m' output'
+    -- or the run is interrupted there
+    pub call_cut_off : (why : IoError) (output' : SinkState) → LineInterrupted (enter_lines first.tracing (text_after p base own) ptr (signature_at p.signatures sig) args) output output' why → WasInterrupted p base all first why m' output'
     call_cut_off why output' cut_off =
         entering.enters_cut p base all first own events before_call ptr sig args is closure does n m' incoming sized begun incoming_is block_is below why output' cut_off
 
 -- ---- a return
 
-module _ {S : Type 0} (p : Program) (base : Base) (all : Left) (first : Beginning) (own : List TraceItem) (events : List Event) (served : Option OpenCall) (w : Waiting S) (outer : List (Waiting S)) (closures : Closures) (moves : ℕ) (m : State) (output : SinkState) (current : Activation S) (v : ValueTree) where
-  abbrev before_return : Moment
-  before_return = moment_with p.signatures served (w ∷ outer) closures moves m output current
+module _ {S : Type 0} (p : Program) (base : Base) (all : Remainder) (first : Beginning) (own : List TraceItem) (events : List Event) (served : Option OpenCall) (w : Waiting S) (outer : List (Waiting S)) (closures : Closures) (moves : ℕ) (m : State) (output : SinkState) (current : Activation S) (v : ValueTree) where
+  abbrev before_return : RunState
+  before_return = run_state_with p.signatures served (w ∷ outer) closures moves m output current
 
   module _ (is : IsAsking p base all first own events before_return (return v)) (m' : State) (ended : HasEnded base.standard (signature_at p.signatures w.call.sig) v m m') where
     abbrev a : meaning.Activation
@@ -207,9 +207,9 @@ module _ {S : Type 0} (p : Program) (base : Base) (all : Left) (first : Beginnin
     abbrev others : List Suspended
     others = suspended_at p.signatures m served outer
 
-    abbrev after_return : SinkState → Moment
+    abbrev after_return : SinkState → RunState
     after_return output' =
-        moment_with p.signatures served outer closures moves m' output' (and_result w.activation v)
+        run_state_with p.signatures served outer closures moves m' output' (and_result w.activation v)
 
     above_return : AreAbove m'.sp (calls_of served outer)
     above_return =
@@ -232,9 +232,9 @@ module _ {S : Type 0} (p : Program) (base : Base) (all : Left) (first : Beginnin
         let suspended = suspended_kept p.signatures m m' m'.sp stays_return served outer above_return in
         let same : after_return output' ≡ leaving.back p base all first own events a caller w.call others (calls_of served outer) closures moves m output v is m' ended output' =
         λ i. record { innermost = innermost i; suspended = suspended i; calls = calls_of served outer; closures = closures; moves = moves; machine = m'; output = output' } in
-        subst (λ (x : Moment). IsBetween p base all first (own ++ Leave w.call.sig v ∷ []) (events ++ ended.return ∷ []) x) (sym same) there
+        subst (λ (x : RunState). IsBetween p base all first (own ++ Leave w.call.sig v ∷ []) (events ++ ended.return ∷ []) x) (sym same) there
 
-    -- or the run is cut off there
-    pub return_cut_off : (why : IoError) (output' : SinkState) → LineCut (leave_lines first.tracing (text_after p base own).calls v) output output' why → WasCutOff p base all first why m' output'
+    -- or the run is interrupted there
+    pub return_cut_off : (why : IoError) (output' : SinkState) → LineInterrupted (leave_lines first.tracing (text_after p base own).calls v) output output' why → WasInterrupted p base all first why m' output'
     return_cut_off why output' cut_off =
         leaving.returns_cut p base all first own events a caller w.call others (calls_of served outer) closures moves m output v is m' ended why output' cut_off

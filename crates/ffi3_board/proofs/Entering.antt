@@ -12,10 +12,10 @@ use Rattle.ffi3_run_rules.specs.Lines.{enter_lines}
 use Rattle.ffi3_run_rules.specs.Meaning.{Program, Activation, enters, callee_of, effect_of, next_move, need_at}
 use Rattle.ffi3_run_rules.specs.Move.{call}
 use Rattle.ffi3_run_rules.specs.Trace.{TraceItem, Enter}
-use Rattle.ffi3_turn_rules.specs.Left.{Left, awaited}
+use Rattle.ffi3_turn_rules.specs.Remainder.{Remainder, awaited}
 use Rattle.ffi3_turn_rules.specs.Depth.{deepest, depth_at}
 use Rattle.ffi3_turn_rules.specs.SoFar.{Base, text_after}
-use Rattle.ffi3_turn_rules.specs.Told.{IsTracingOf}
+use Rattle.ffi3_turn_rules.specs.TracingOf.{IsTracingOf}
 use Rattle.ffi3_turn_rules.proofs.Depths.{depth_at-append}
 use Rattle.ffi3_turn_rules.proofs.Coming.{comes_in, deepest_enter}
 use Rattle.ffi3_turn_rules.proofs.Ending.{cut_in_entry}
@@ -31,16 +31,16 @@ use Rattle.ffi3_callee.specs.declared.Incoming.{Incoming}
 use Rattle.ffi3_callee.specs.Received.{IsIncoming}
 use Rattle.ffi3_invoke.specs.Calls.{HasBegun, KeepsOpen, Stands}
 use Rattle.ffi3_board.specs.declared.activation.OpenCall.{OpenCall}
-use Rattle.ffi3_board.specs.Between.{Beginning, Moment, asking, position, text_of, depth_below, open_calls_at, IsMarkOf, IsBetween, IsAsking}
+use Rattle.ffi3_board.specs.Between.{Beginning, RunState, asking, position, text_so_far, depth_below, open_calls_at, IsMarkOf, IsBetween, IsAsking}
 use Rattle.ffi3_board.specs.Stack.{caller_sp, IsOpen, OpenStand, frames}
 use Rattle.ffi3_board.specs.TraceLines.{entry_lines}
-use Rattle.ffi3_board.specs.Turned.{is_in_line, WasCutOff}
-use Rattle.ffi3_io.specs.Written.{LineCut}
+use Rattle.ffi3_board.specs.Turned.{is_in_line, WasInterrupted}
+use Rattle.ffi3_io.specs.Written.{LineInterrupted}
 use Rattle.ffi3_board.proofs.Marks.{mark_enter, fewer, text_then}
 use Rattle.ffi3_board.proofs.Telling.{cause_from, cut_part, entry_lines_are}
 use Rattle.ffi3_board.proofs.Opened.{caller_above, open_needs, open_kept, keeps_room, same_then_held}
 
-module _ (p : Program) (base : Base) (all : Left) (first : Beginning) (own : List TraceItem) (events : List Event) (x : Moment) (ptr sig : ℕ) (args : List ValueTree) (is : IsAsking p base all first own events x (call ptr sig args)) (closure : Closure) (does : effect_of p x.innermost x.closures (call ptr sig args) ≡ enters ptr sig (callee_of p x.innermost sig args closure)) where
+module _ (p : Program) (base : Base) (all : Remainder) (first : Beginning) (own : List TraceItem) (events : List Event) (x : RunState) (ptr sig : ℕ) (args : List ValueTree) (is : IsAsking p base all first own events x (call ptr sig args)) (closure : Closure) (does : effect_of p x.innermost x.closures (call ptr sig args) ≡ enters ptr sig (callee_of p x.innermost sig args closure)) where
   abbrev site : Signature
   site = signature_at p.signatures sig
 
@@ -60,7 +60,7 @@ module _ (p : Program) (base : Base) (all : Left) (first : Beginning) (own : Lis
     abbrev opened : OpenCall
     opened = record { sig = sig; incoming = incoming }
 
-    abbrev pub entered : SinkState → Moment
+    abbrev pub entered : SinkState → RunState
     entered output = record {
       innermost = callee;
       suspended = record { activation = x.innermost; signature = sig } ∷ x.suspended;
@@ -149,7 +149,7 @@ module _ (p : Program) (base : Base) (all : Left) (first : Beginning) (own : Lis
           top = h.top;
           come = comes_in p base all own events x.innermost x.closures x.moves x.suspended ptr sig callee begun.entry h.come does_so entry_is;
           journal = journal_then;
-          written = took_then first.output x.output output (text_of first.tracing p base own) told_lines (text_of first.tracing p base (own ++ Enter ptr sig args ∷ [])) (text_then first.tracing p base own (Enter ptr sig args)) h.written told;
+          written = took_then first.output x.output output (text_so_far first.tracing p base own) told_lines (text_so_far first.tracing p base (own ++ Enter ptr sig args ∷ [])) (text_then first.tracing p base own (Enter ptr sig args)) h.written told;
           mark = mark_then;
           deep = omega (arith, deeper, lower, at);
           left = omega (arith, left, lower, bottom);
@@ -172,18 +172,18 @@ module _ (p : Program) (base : Base) (all : Left) (first : Beginning) (own : Lis
           outermost = h.outermost;
         }
 
-    -- or the run is cut off there, in those lines or before them
-    pub enters_cut : (why : IoError) (output : SinkState) → LineCut told_lines x.output output why → WasCutOff p base all first why m output
+    -- or the run is interrupted there, in those lines or before them
+    pub enters_cut : (why : IoError) (output : SinkState) → LineInterrupted told_lines x.output output why → WasInterrupted p base all first why m output
     enters_cut why output cut_off =
         let h = is.between in
         let part = cut_part why told_lines x.output output cut_off in
         record {
           happened = own ++ Enter ptr sig args ∷ [];
           events = events ++ begun.entry ∷ [];
-          text = text_of first.tracing p base own ++ take part.0 told_lines;
+          text = text_so_far first.tracing p base own ++ take part.0 told_lines;
           cut = cut_in_entry p base all own events x.innermost x.suspended x.closures x.moves h.come first.tracing (is_in_line why) ptr sig callee begun.entry part.0 does_so entry_is part.1;
           journal = journal_then;
-          written = Adds-then first.output.taken x.output.taken output.taken (text_of first.tracing p base own) (take part.0 told_lines) h.written.added part.2;
+          written = Adds-then first.output.taken x.output.taken output.taken (text_so_far first.tracing p base own) (take part.0 told_lines) h.written.added part.2;
           cause = cause_from why first.output.faults x.output.faults output.faults h.written.count part.3;
           mark = mark_then;
           target = begun.in_callee.target;

@@ -15,10 +15,10 @@ use Rattle.ffi3_run_rules.specs.Journal.{Entered, IsEntry, IsReturn}
 use Rattle.ffi3_run_rules.specs.Lines.{Tracing, a_line, address_text, enter_lines, leave_lines}
 use Rattle.ffi3_run_rules.specs.Meaning.{Program}
 use Rattle.ffi3_run_rules.specs.Trace.{TraceItem}
-use Rattle.ffi3_turn_rules.specs.Cut.{IsPart}
-use Rattle.ffi3_turn_rules.specs.Left.{Left}
+use Rattle.ffi3_turn_rules.specs.Interrupted.{IsPart}
+use Rattle.ffi3_turn_rules.specs.Remainder.{Remainder}
 use Rattle.ffi3_turn_rules.specs.SoFar.{Base, text_after, Position, open_at, HasComeTo}
-use Rattle.ffi3_turn_rules.specs.Told.{IsTracingOf}
+use Rattle.ffi3_turn_rules.specs.TracingOf.{IsTracingOf}
 use Rattle.ffi3_turn_rules.proofs.TracedCalls.{enter_lines_are, leave_lines_are}
 use Rattle.ffi3_machine.specs.Recorded.{event_at}
 use Rattle.ffi3_body.specs.SeenActivation.{arguments_in}
@@ -30,7 +30,7 @@ use Rattle.ffi3_io.proofs.Adding.{Adds-then, Adds-along, Adds-none}
 use Rattle.ffi3_text.specs.TraceLines.{enter_text_of, leave_text_of, keep_text_of}
 use Rattle.ffi3_board.specs.TraceLines.{last_event, entry_lines, return_lines}
 use Rattle.ffi3_board.specs.Turned.{is_in_line}
-use Rattle.ffi3_io.specs.Written.{LineFailed, LineCut, WroteLine}
+use Rattle.ffi3_io.specs.Written.{LineFailed, LineInterrupted, WroteLine}
 
 -- the event that was just recorded
 pub last_is : (events : List Event) (e : Event) → last_event (events ++ e ∷ []) ≡ e
@@ -93,10 +93,10 @@ wrote_return true on std s e v line o o' r is h =
     subst (λ (l : List ℕ). WroteLine (l ++ keep_text_of std e) o o' r) is h
 wrote_return false on std s e v line o o' r is h = cc
 
--- ---- a line that was cut off
+-- ---- a line that was interrupted
 
 -- how much of it is written, and why no more
-pub cut_part : (why : IoError) (line : List ℕ) (a b : SinkState) → LineCut line a b why → (part : ℕ) × IsPart (is_in_line why) part (length line) × Adds a.taken (take part line) b.taken × IsCause why a.faults b.faults
+pub cut_part : (why : IoError) (line : List ℕ) (a b : SinkState) → LineInterrupted line a b why → (part : ℕ) × IsPart (is_in_line why) part (length line) × Adds a.taken (take part line) b.taken × IsCause why a.faults b.faults
 cut_part cut.NoMemory line a b same =
     let P = λ (o : SinkState). (part : ℕ) × IsPart false part (length line) × Adds a.taken (take part line) o.taken × (o.faults ≡ a.faults) in
     subst P (sym same) (0, refl, Adds-none a.taken, refl)
@@ -109,7 +109,7 @@ cause_from why a b c is h = subst (λ (n : ℕ). IsCause why n c) is h
 
 -- ---- the lines of an event are those of the text
 
-module _ (p : Program) (b : Base) (all : Left) (own : List TraceItem) (events : List Event) (x : Position) (h : HasComeTo p b all own events x) (tracing : Tracing) where
+module _ (p : Program) (b : Base) (all : Remainder) (own : List TraceItem) (events : List Event) (x : Position) (h : HasComeTo p b all own events x) (tracing : Tracing) where
   -- THE LINES OF AN ENTRY, where the run is traced and where it is not
   pub entry_lines_are : (trace : Bool) → IsTracingOf p b trace tracing → (ptr : ℕ) (s : Signature) (args : List ValueTree) (e : Event) → IsEntry b.standard b.top b.held (open_at p b x.path.suspended events) (b.count + length events) ptr s args e → entry_lines trace b.standard s e args ≡ enter_lines tracing (text_after p b own) ptr s args
   entry_lines_are false is ptr s args e entry =

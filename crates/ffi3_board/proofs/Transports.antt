@@ -13,7 +13,7 @@ use Rattle.ffi3_callee.specs.declared.Incoming.{Incoming}
 use Rattle.ffi3_callee.specs.Received.{IsIncoming}
 use Rattle.ffi3_invoke.specs.Calls.{HasBegun, HasEnded, HasReturned}
 use Rattle.ffi3_board.specs.TraceLines.{last_event, entry_lines, return_lines}
-use Rattle.ffi3_io.specs.Written.{LineCut}
+use Rattle.ffi3_io.specs.Written.{LineInterrupted}
 
 pub begun_as : (std std' : Standard) (s s' : Signature) (args : List ValueTree) (ptr : ℕ) (m₀ m₀' m : State) → std ≡ std' → s ≡ s' → m₀ ≡ m₀' → HasBegun std s args ptr m₀ m → HasBegun std' s' args ptr m₀' m
 begun_as std std' s s' args ptr m₀ m₀' m a b c h =
@@ -53,5 +53,5 @@ return_told_as trace std std' s s' e v lines a b is =
     ap (λ (x : Standard). return_lines trace x s e v) a ∙ ap (λ (x : Signature). return_lines trace std' x e v) b ∙ is
 
 -- what came of a line is what came of an equal one
-pub cut_as : (line line' : List ℕ) (o o' : SinkState) (why : IoError) → line ≡ line' → LineCut line o o' why → LineCut line' o o' why
-cut_as line line' o o' why is h = subst (λ (l : List ℕ). LineCut l o o' why) is h
+pub cut_as : (line line' : List ℕ) (o o' : SinkState) (why : IoError) → line ≡ line' → LineInterrupted line o o' why → LineInterrupted line' o o' why
+cut_as line line' o o' why is h = subst (λ (l : List ℕ). LineInterrupted l o o' why) is h

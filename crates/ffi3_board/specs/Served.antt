@@ -18,7 +18,7 @@ use Rattle.ffi3_run_rules.specs.Journal.{Entered, IsReturn}
 use Rattle.ffi3_run_rules.specs.Lines.{Tracing, untraced, traced}
 use Rattle.ffi3_run_rules.specs.Meaning as meaning
 use Rattle.ffi3_run_rules.specs.Meaning.{Program, function, most_moves}
-use Rattle.ffi3_turn_rules.specs.Left.{Left, Bottom, as_main, served, rest, alone}
+use Rattle.ffi3_turn_rules.specs.Remainder.{Remainder, Bottom, as_main, served, rest, alone}
 use Rattle.ffi3_turn_rules.specs.SoFar.{Base}
 use Rattle.ffi3_machine.specs.State.{State, HasReturnAddress}
 use Rattle.ffi3_io.specs.Sink.{SinkState}
@@ -88,7 +88,7 @@ served_activation std signatures closure arguments m = record {
 }
 
 -- ALL THAT IS LEFT OF THE CALL after its entry, by the direct meaning: what its function does, and the return
-abbrev pub served_left : Standard → Program → Closure → List ValueTree → State → Closures → ℕ → Left
+abbrev pub served_left : Standard → Program → Closure → List ValueTree → State → Closures → ℕ → Remainder
 served_left std p closure arguments m closures moves = rest p (served closure.sig) (alone (served_activation std p.signatures closure arguments m)) closures moves
 
 module _ {S : Type 0} where

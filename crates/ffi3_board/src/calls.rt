@@ -11,14 +11,14 @@ ghost use Rattle.ffi3_run_rules.specs.Journal.{Entered};
 ghost use Rattle.ffi3_run_rules.specs.Meaning.{Program, callee_of, effect_of, enters};
 ghost use Rattle.ffi3_run_rules.specs.Move as asks;
 ghost use Rattle.ffi3_run_rules.specs.Trace.{TraceItem};
-ghost use Rattle.ffi3_turn_rules.specs.Left.{Left};
+ghost use Rattle.ffi3_turn_rules.specs.Remainder.{Remainder};
 ghost use Rattle.ffi3_turn_rules.specs.SoFar.{Base};
-ghost use Rattle.ffi3_turn_rules.specs.Told.{IsTracingOf};
+ghost use Rattle.ffi3_turn_rules.specs.TracingOf.{IsTracingOf};
 ghost use Rattle.ffi3_machine.specs.State.{stack_at};
 ghost use Rattle.ffi3_closures.specs.Slots.{HoldsMap};
 ghost use Rattle.ffi3_callee.specs.Received.{IsIncoming};
 ghost use Rattle.ffi3_invoke.specs.Calls.{HasEnded, IsCalled};
-ghost use Rattle.ffi3_board.specs.Between.{Beginning, IsAsking, moment};
+ghost use Rattle.ffi3_board.specs.Between.{Beginning, IsAsking, run_state};
 ghost use Rattle.ffi3_board.specs.Going.{HasGoneBack, HasGoneIn};
 ghost use Rattle.ffi3_board.specs.Known.{CanEnter};
 ghost use Rattle.ffi3_board.specs.Path.{AreShort, acting, call_inside, calls_of, result_type_at};
@@ -89,11 +89,11 @@ impl<S: Drop> Board<S> {
         ensures goes { result ≡ Turn.More → HasGoneIn closure standing sig current self.old self.new }
         ensures above { result ≡ Turn.More →
             (address count : ℕ) → machine.old.sp ≤ address → stack_at address count machine.new ≡ stack_at address count machine.old }
-        ensures turned { (p : Program) (base : Base) (all : Left) (first : Beginning) (own : List TraceItem) (events : List Event) →
+        ensures turned { (p : Program) (base : Base) (all : Remainder) (first : Beginning) (own : List TraceItem) (events : List Event) →
             base.standard ≡ A.standard → p.signatures ≡ cifs.now → IsTracingOf p base trace first.tracing →
-            IsAsking p base all first own events (moment p.signatures current self.old machine.old (O.state output.old)) (asks.call ptr sig args.now) →
-            effect_of p (moment p.signatures current self.old machine.old (O.state output.old)).innermost self.old.table (asks.call ptr sig args.now) ≡
-            enters ptr sig (callee_of p (moment p.signatures current self.old machine.old (O.state output.old)).innermost sig args.now closure) →
+            IsAsking p base all first own events (run_state p.signatures current self.old machine.old (O.state output.old)) (asks.call ptr sig args.now) →
+            effect_of p (run_state p.signatures current self.old machine.old (O.state output.old)).innermost self.old.table (asks.call ptr sig args.now) ≡
+            enters ptr sig (callee_of p (run_state p.signatures current self.old machine.old (O.state output.old)).innermost sig args.now closure) →
             Turned p base all first own (suc self.old.moves) self.new machine.new (O.state output.new) result }
     {
         let cif = cifs.get(sig);
@@ -139,9 +139,9 @@ impl<S: Drop> Board<S> {
         ensures goes { result ≡ Turn.More → HasGoneBack (value_of value.now) self.old self.new }
         ensures above { result ≡ Turn.More →
             (address count : ℕ) → machine.new.sp ≤ address → stack_at address count machine.new ≡ stack_at address count machine.old }
-        ensures turned { (p : Program) (base : Base) (all : Left) (first : Beginning) (own : List TraceItem) (events : List Event) (current : Activation S) →
+        ensures turned { (p : Program) (base : Base) (all : Remainder) (first : Beginning) (own : List TraceItem) (events : List Event) (current : Activation S) →
             base.standard ≡ A.standard → p.signatures ≡ cifs.now → IsTracingOf p base trace first.tracing →
-            IsAsking p base all first own events (moment p.signatures current self.old machine.old (O.state output.old)) (asks.return (value_of value.now)) →
+            IsAsking p base all first own events (run_state p.signatures current self.old machine.old (O.state output.old)) (asks.return (value_of value.now)) →
             Turned p base all first own (suc self.old.moves) self.new machine.new (O.state output.new) result }
     {
         let Some(Waiting { activation, call }) = self.suspended.pop() else {

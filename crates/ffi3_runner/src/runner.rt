@@ -6,10 +6,10 @@ ghost use Rattle.ffi3_run_rules.specs.Meaning.{meaning_of, returned, stopped};
 ghost use Rattle.ffi3_run_rules.specs.declared.Closure.{Closure};
 ghost use Rattle.ffi3_run_rules.specs.declared.Stop.{Stop};
 ghost use Rattle.ffi3_run_rules.specs.Trace.{TraceItem};
-ghost use Rattle.ffi3_turn_rules.specs.Left.{Left, left_of};
+ghost use Rattle.ffi3_turn_rules.specs.Remainder.{Remainder, remainder_of};
 ghost use Rattle.ffi3_turn_rules.specs.MainTracing.{main_tracing};
 ghost use Rattle.ffi3_turn_rules.specs.SoFar.{Base, main_base};
-ghost use Rattle.ffi3_turn_rules.specs.Told.{IsTracingOf};
+ghost use Rattle.ffi3_turn_rules.specs.TracingOf.{IsTracingOf};
 ghost use Rattle.ffi3_script.specs.ScriptOf.{natives_of};
 ghost use Rattle.ffi3_machine.specs.State.{State, begun};
 ghost use Rattle.ffi3_closures.specs.Slots.{HoldsMap};
@@ -19,7 +19,7 @@ ghost use Rattle.ffi3_board.specs.Between.{Beginning};
 ghost use Rattle.ffi3_board.specs.Served.{IsIdle};
 ghost use Rattle.ffi3_board.specs.Turned.{StandsAt, Turned};
 ghost use Rattle.ffi3_runner.specs.Agreeing.{AllStand};
-ghost use Rattle.ffi3_runner.specs.RunCut.{RunWasCut};
+ghost use Rattle.ffi3_runner.specs.RunInterrupted.{RunWasInterrupted};
 ghost use Rattle.ffi3_runner.specs.RunMatches.{RunMatches, WrotePart};
 ghost use Rattle.ffi3_runner.specs.Serving.{IsAtEntry, Served};
 ghost use Rattle.ffi3_runner.specs.Started.{MainHasReturned, main_beginning};
@@ -117,7 +117,7 @@ impl<'a, A: Abi> Runner<'a, A> {
             AllStand self.old.prepared.script.now (map (λ b. handed_in (title b) (meaning b) (signatures b)) self.old.prepared.natives.now.items) self.old.prepared.cifs m self.new.board }
         ensures between { let p = program A.standard self.old.prepared.script.now (map (λ b. handed_in (title b) (meaning b) (signatures b)) self.old.prepared.natives.now.items) in
             (trace : Bool) (m : State) (output : SinkState) → m ≡ begun A.TARGET m.spare_events m.spare_bytes →
-            StandsAt p (main_base A.standard) (left_of (meaning_of p)) (main_beginning trace A.standard output) [] [] self.new.board m output }
+            StandsAt p (main_base A.standard) (remainder_of (meaning_of p)) (main_beginning trace A.standard output) [] [] self.new.board m output }
         ensures prepared { self.new.prepared ≡ self.old.prepared }
         ensures going { self.new.over ≡ self.old.over }
     {
@@ -129,12 +129,12 @@ impl<'a, A: Abi> Runner<'a, A> {
     pub fn turn<O: Sink>(&mut self, machine: &mut Machine, output: &mut O, trace: bool) -> Turn
         requires prepared { IsPrepared A.standard self.old.prepared.script.now (map (λ b. handed_in (title b) (meaning b) (signatures b)) self.old.prepared.natives.now.items) self.old.prepared.cifs }
         requires standing { AllStand self.old.prepared.script.now (map (λ b. handed_in (title b) (meaning b) (signatures b)) self.old.prepared.natives.now.items) self.old.prepared.cifs machine.old self.old.board }
-        requires between { (base : Base) × (all : Left) × (first : Beginning) × (own : List TraceItem) × (events : List Event) ×
+        requires between { (base : Base) × (all : Remainder) × (first : Beginning) × (own : List TraceItem) × (events : List Event) ×
             (base.standard ≡ A.standard) ×
             IsTracingOf (program A.standard self.old.prepared.script.now (map (λ b. handed_in (title b) (meaning b) (signatures b)) self.old.prepared.natives.now.items)) base trace first.tracing ×
             StandsAt (program A.standard self.old.prepared.script.now (map (λ b. handed_in (title b) (meaning b) (signatures b)) self.old.prepared.natives.now.items)) base all first own events self.old.board machine.old (O.state output.old) }
         ensures turned { let p = program A.standard self.old.prepared.script.now (map (λ b. handed_in (title b) (meaning b) (signatures b)) self.old.prepared.natives.now.items) in
-            (base : Base) (all : Left) (first : Beginning) (own : List TraceItem) (events : List Event) →
+            (base : Base) (all : Remainder) (first : Beginning) (own : List TraceItem) (events : List Event) →
             base.standard ≡ A.standard → IsTracingOf p base trace first.tracing →
             StandsAt p base all first own events self.old.board machine.old (O.state output.old) →
             Turned p base all first own self.old.board.moves self.new.board machine.new (O.state output.new) result }
@@ -176,10 +176,10 @@ impl<'a, A: Abi> Runner<'a, A> {
         ensures no_memory { result ≡ RunEnd.NoMemory → (O.state output.new).faults ≡ (O.state output.old).faults }
         ensures failed { result ≡ RunEnd.Failed → Rose (O.state output.old).faults (O.state output.new).faults }
         ensures cut_by_memory { result ≡ RunEnd.NoMemory →
-            RunWasCut (main_tracing trace A.standard) A.standard (program A.standard self.old.prepared.script.now (map (λ b. handed_in (title b) (meaning b) (signatures b)) self.old.prepared.natives.now.items)) false
+            RunWasInterrupted (main_tracing trace A.standard) A.standard (program A.standard self.old.prepared.script.now (map (λ b. handed_in (title b) (meaning b) (signatures b)) self.old.prepared.natives.now.items)) false
             (O.state output.old) (O.state output.new) machine.new }
         ensures cut_by_write { result ≡ RunEnd.Failed →
-            RunWasCut (main_tracing trace A.standard) A.standard (program A.standard self.old.prepared.script.now (map (λ b. handed_in (title b) (meaning b) (signatures b)) self.old.prepared.natives.now.items)) true
+            RunWasInterrupted (main_tracing trace A.standard) A.standard (program A.standard self.old.prepared.script.now (map (λ b. handed_in (title b) (meaning b) (signatures b)) self.old.prepared.natives.now.items)) true
             (O.state output.old) (O.state output.new) machine.new }
         ensures never_falls { (O.state output.old).faults ≤ (O.state output.new).faults }
         ensures part { WrotePart (main_tracing trace A.standard) (program A.standard self.old.prepared.script.now (map (λ b. handed_in (title b) (meaning b) (signatures b)) self.old.prepared.natives.now.items))

@@ -45,7 +45,7 @@ pub fn take_text<A: Abi>(
 
 /// What a call that was served came to.
 #[derive(Drop)]
-pub struct Came {
+pub struct ServedOutcome {
     pub text: Bytes,
     pub moves_left: u32,
 }
@@ -59,7 +59,7 @@ pub fn call_after_main<A: Abi>(
     value: Value,
     ptr: u64,
     byte: u8,
-) -> Result<Option<Came>, NoMemory>
+) -> Result<Option<ServedOutcome>, NoMemory>
     requires beside { natives_of script.now ≤ length natives.now.items }
     requires few_natives { length natives.now.items < 2 ^ 31 }
     requires few_signatures { length (signatures_in (map (λ b. handed_in (title b) (meaning b) (signatures b)) natives.now.items)) < 2 ^ 31 }
@@ -87,7 +87,7 @@ pub fn call_after_main<A: Abi>(
         return Ok(None);
     }
     let text = take_text(alloc, &mut machine, runner.cifs().get(sig))?;
-    Ok(Some(Came {
+    Ok(Some(ServedOutcome {
         text,
         moves_left: runner.moves_left(),
     }))

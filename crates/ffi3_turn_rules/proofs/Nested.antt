@@ -8,7 +8,7 @@ use Rattle.ffi3_run_rules.specs.declared.Stop.TheVariants.{TableFull, StackFull,
 use Rattle.ffi3_run_rules.specs.Closures.{Closures, no_closures, closure_at, slots, first_free, slot_address, with_closure, freed}
 use Rattle.ffi3_run_rules.specs.Move.{Move, call, make, free, print, return}
 use Rattle.ffi3_run_rules.specs.Meaning.{Program, Activation, Acts, Effect, ends, prints, enters, stops, goes_on, End, returned, stopped, Outcome, follows, resumed, act, act_within, next_move, peak_of, meaning_of, main_call, most_moves, stack_size, at_closure, call_of, callee_of, with_result, effect_of, need_at, function_at, pointer_value}
-use Rattle.ffi3_turn_rules.specs.Left.{Suspended, Bottom, awaited}
+use Rattle.ffi3_turn_rules.specs.Remainder.{Suspended, Bottom, awaited}
 use Rattle.ffi3_turn_rules.specs.Depth.{depth_of, IsNested}
 
 -- a result leaves the stack as it is

@@ -14,7 +14,7 @@ use Rattle.ffi3_run_rules.specs.Meaning.{Program, need_at}
 use Rattle.ffi3_turn_rules.specs.Depth.{depth_at, depth_of}
 use Rattle.ffi3_turn_rules.proofs.Depths.{depth_at-append}
 use Rattle.ffi3_turn_rules.specs.Open.{after_event, unreturned, open_calls, open_after, AnswersTo}
-use Rattle.ffi3_turn_rules.specs.Cut.{past_all}
+use Rattle.ffi3_turn_rules.specs.Interrupted.{past_all}
 use Rattle.ffi3_turn_rules.specs.Laws.{TextGoesByParts}
 
 pub past_all-append : (ss : List Signature) (at : Point) (a b : List TraceItem) → past_all ss at (a ++ b) ≡ past_all ss (past_all ss at a) b

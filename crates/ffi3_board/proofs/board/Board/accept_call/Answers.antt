@@ -8,7 +8,7 @@ use Rattle.ffi3_board.specs.declared.activation.Activation.{Activation}
 use Rattle.ffi3_board.specs.declared.activation.OpenCall.{OpenCall}
 use Rattle.ffi3_board.specs.declared.activation.Waiting.{Waiting}
 use Rattle.ffi3_board.specs.declared.activation.Who.TheVariants.{Function}
-use Rattle.ffi3_board.specs.Between.{IsBetween, moment_with}
+use Rattle.ffi3_board.specs.Between.{IsBetween, run_state_with}
 use Rattle.ffi3_board.specs.Served.{ShowsCall, served_base, served_beginning, served_left, served_tracing}
 use Rattle.ffi3_board.proofs.Accepting.{cut_at_entry, entry_told, served_begins}
 use Rattle.ffi3_board.proofs.Transports.{cut_as, entry_told_as}
@@ -114,5 +114,5 @@ returns-clause-accepted g c = λ p arguments signatures needs shown holds known 
     let told = took_as o o' _ _ (entry_told_as c.args.trace std std c.get-cif.result.now (signature_at p.signatures closure.sig) m' _ refl (sym same) (entry_told p std closure arguments m m' incoming o b.table b.moves (served_tracing c.args.trace std p.signatures closure.sig m) needs is_below shows holds known few events received is_incoming e.block sp e.within e.spare_events spare_bytes callee c.args.trace)) c.in_default.ensures in
     let a : Activation g.row.S.Denot = record { who = Function closure.func; standing = c.args.standing; user = closure.user; results = c.new.result } in
     let call : OpenCall = record { sig = closure.sig; incoming = incoming } in
-    let P = λ (l : List (Waiting g.row.S.Denot)). IsBetween p (served_base std p.signatures closure.sig m) (served_left std p closure arguments m b.table b.moves) (served_beginning std (signature_at p.signatures closure.sig) m o' (served_tracing c.args.trace std p.signatures closure.sig m)) [] [] (moment_with p.signatures (Some call) (reverse l) b.table b.moves m' o' a) in
+    let P = λ (l : List (Waiting g.row.S.Denot)). IsBetween p (served_base std p.signatures closure.sig m) (served_left std p closure arguments m b.table b.moves) (served_beginning std (signature_at p.signatures closure.sig) m o' (served_tracing c.args.trace std p.signatures closure.sig m)) [] [] (run_state_with p.signatures (Some call) (reverse l) b.table b.moves m' o' a) in
     (told, subst P (sym c.requires.alone) (served_begins p std closure arguments m m' incoming o' b.table b.moves (served_tracing c.args.trace std p.signatures closure.sig m) needs is_below shows holds known few events received is_incoming e.block sp e.within e.spare_events spare_bytes callee a refl refl c.new.ensures))

@@ -7,7 +7,7 @@ use Rattle.ffi3_machine.specs.State.{with_room}
 use Rattle.ffi3_io.proofs.Writing.{took_as}
 use Rattle.ffi3_board.specs.declared.activation.Waiting.{Waiting}
 use Rattle.ffi3_board.specs.declared.activation.Who.TheVariants.{Function}
-use Rattle.ffi3_board.specs.Between.{IsBetween, moment_with}
+use Rattle.ffi3_board.specs.Between.{IsBetween, run_state_with}
 use Rattle.ffi3_board.proofs.Boarding.{refused, call_entered, call_lines, call_cut_off, goes_off, reverse-last}
 use Rattle.ffi3_board.proofs.Moving.{looks_as_itself, looks_same}
 use Rattle.ffi3_board.proofs.Transports.{begun_as, cut_as, entry_told_as, incoming_as}
@@ -77,5 +77,5 @@ returns-clause-turned g c = λ p base all first own events standard signatures t
     let entered = call_entered p base all first own events b.served outer b.table b.moves m o c.args.current ptr sig args is c.args.closure does n m' incoming sized begun received c.begin_call-incoming.ensures.block below c.args.standing c.new.result c.new.ensures o' told in
     let items = c.push_reserved.ensures.items ∙ ap (λ (l : List (Waiting g.row.S.Denot)). l ++ record { activation = c.args.current; call = record { sig = sig; incoming = incoming } } ∷ []) c.in-Ok.ensures.items in
     let turned = ap (λ (l : List (Waiting g.row.S.Denot)). reverse l) items ∙ reverse-last b.suspended.items (record { activation = c.args.current; call = record { sig = sig; incoming = incoming } }) in
-    let P = λ (l : List (Waiting g.row.S.Denot)). IsBetween p base all first (own ++ Enter ptr sig args ∷ []) (events ++ begun.entry ∷ []) (moment_with p.signatures b.served l b.table b.moves m' o' (record { who = Function c.args.closure.func; standing = c.args.standing; user = c.args.closure.user; results = c.new.result })) in
+    let P = λ (l : List (Waiting g.row.S.Denot)). IsBetween p base all first (own ++ Enter ptr sig args ∷ []) (events ++ begun.entry ∷ []) (run_state_with p.signatures b.served l b.table b.moves m' o' (record { who = Function c.args.closure.func; standing = c.args.standing; user = c.args.closure.user; results = c.new.result })) in
     record { more = Enter ptr sig args ∷ []; events = events ++ begun.entry ∷ []; stands = subst P (sym turned) entered; counted = refl }

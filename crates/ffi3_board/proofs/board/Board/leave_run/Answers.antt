@@ -6,7 +6,7 @@ use Rattle.ffi3_run_rules.specs.Move.{return}
 use Rattle.ffi3_io.proofs.Writing.{took_as}
 use Rattle.ffi3_board.specs.declared.activation.OpenCall.{OpenCall}
 use Rattle.ffi3_board.specs.declared.activation.Waiting.{Waiting}
-use Rattle.ffi3_board.specs.Between.{IsAsking, moment_with}
+use Rattle.ffi3_board.specs.Between.{IsAsking, run_state_with}
 use Rattle.ffi3_board.specs.Path.{result_type_at}
 use Rattle.ffi3_board.specs.TraceLines.{last_event}
 use Rattle.ffi3_board.proofs.Boarding.{goes_off}
@@ -21,8 +21,8 @@ returns-in_default-clause-turned g c = λ p base all first own events current st
     let o = g.O.Sink.state c.args.output.now in
     let v = value_of c.args.value.now in
     let not_served : b.served ≡ None = search rules in
-    let P = λ (l : List (Waiting g.row.S.Denot)). IsAsking p base all first own events (moment_with p.signatures b.served (reverse l) b.table b.moves m o current) (return v) in
-    let Q = λ (k : Option OpenCall). IsAsking p base all first own events (moment_with p.signatures k [] b.table b.moves m o current) (return v) in
+    let P = λ (l : List (Waiting g.row.S.Denot)). IsAsking p base all first own events (run_state_with p.signatures b.served (reverse l) b.table b.moves m o current) (return v) in
+    let Q = λ (k : Option OpenCall). IsAsking p base all first own events (run_state_with p.signatures k [] b.table b.moves m o current) (return v) in
     let asks = subst Q not_served (subst P c.requires.alone is) in
     let it = subst (λ (k : Option OpenCall). fits (result_type_at c.args.cifs.now k) v ≡ true) not_served c.requires.fits in
     is_done p base all first v m o _ c.requires.taken c.requires.alone c.take.ensures.after (main_returns p base all first own events b.table b.moves m o current v asks it)
@@ -37,8 +37,8 @@ returns-in-Ok-clause-turned g c = λ p base all first own events current standar
     let v = value_of c.args.value.now in
     let call : OpenCall = c.in-Some.field-0 in
     let is_served : b.served ≡ Some call = search rules in
-    let P = λ (l : List (Waiting g.row.S.Denot)). IsAsking p base all first own events (moment_with p.signatures b.served (reverse l) b.table b.moves m o current) (return v) in
-    let Q = λ (k : Option OpenCall). IsAsking p base all first own events (moment_with p.signatures k [] b.table b.moves m o current) (return v) in
+    let P = λ (l : List (Waiting g.row.S.Denot)). IsAsking p base all first own events (run_state_with p.signatures b.served (reverse l) b.table b.moves m o current) (return v) in
+    let Q = λ (k : Option OpenCall). IsAsking p base all first own events (run_state_with p.signatures k [] b.table b.moves m o current) (return v) in
     let asks = subst Q is_served (subst P c.requires.alone is) in
     let site = c.get-cif.ensures ∙ ap (λ (l : List Signature). signature_at l call.sig) (sym signatures) in
     let given = returned_as g.A.Abi.standard base.standard c.get-cif.result.now (signature_at p.signatures call.sig) v m m' (sym standard) site c.give_back.ensures in
@@ -56,8 +56,8 @@ returns-in-Err-clause-turned g c = λ p base all first own events current standa
     let v = value_of c.args.value.now in
     let call : OpenCall = c.in-Some.field-0 in
     let is_served : b.served ≡ Some call = search rules in
-    let P = λ (l : List (Waiting g.row.S.Denot)). IsAsking p base all first own events (moment_with p.signatures b.served (reverse l) b.table b.moves m o current) (return v) in
-    let Q = λ (k : Option OpenCall). IsAsking p base all first own events (moment_with p.signatures k [] b.table b.moves m o current) (return v) in
+    let P = λ (l : List (Waiting g.row.S.Denot)). IsAsking p base all first own events (run_state_with p.signatures b.served (reverse l) b.table b.moves m o current) (return v) in
+    let Q = λ (k : Option OpenCall). IsAsking p base all first own events (run_state_with p.signatures k [] b.table b.moves m o current) (return v) in
     let asks = subst Q is_served (subst P c.requires.alone is) in
     let site = c.get-cif.ensures ∙ ap (λ (l : List Signature). signature_at l call.sig) (sym signatures) in
     let given = returned_as g.A.Abi.standard base.standard c.get-cif.result.now (signature_at p.signatures call.sig) v m m' (sym standard) site c.give_back.ensures in

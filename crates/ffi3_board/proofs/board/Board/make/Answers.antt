@@ -13,7 +13,7 @@ use Rattle.ffi3_board.specs.Known.{AreKnown}
 use Rattle.ffi3_board.proofs.Closed.{known_with}
 use Rattle.ffi3_machine.specs.State.{State}
 use Rattle.ffi3_board.specs.Going.{StoppedBy, GoneOn}
-use Rattle.ffi3_board.specs.Between.{moment}
+use Rattle.ffi3_board.specs.Between.{run_state}
 use Rattle.ffi3_board.specs.Turned.{Turned}
 use Rattle.ffi3_board.proofs.Acts.{make_is_full, make_goes_with}
 use Rattle.ffi3_board.proofs.Boarding.{stops_at}
@@ -26,7 +26,7 @@ returns-in_default-clause-turned g c = λ p base all first own events signatures
     let o' = g.O.Sink.state c.stop.new.output in
     let b = c.args.self.now in
     let m = c.args.machine.now in
-    let x = moment p.signatures c.args.current b m o in
+    let x = run_state p.signatures c.args.current b m o in
     let full = le-ltb (first_free b.table) slots (omega (arith, c.in_default.ensures.full)) in
     let does = make_is_full p x.innermost b.table c.args.func c.args.user full in
     let by = subst (λ (ss : List Signature). StoppedBy ss TableFull o o' c.stop.result) (sym signatures) c.stop.ensures in
@@ -43,7 +43,7 @@ returns-in-Ok-pointer-clause-turned g c = λ p base all first own events signatu
     let m = c.args.machine.now in
     let m' = c.make.new.machine in
     let table = c.make.new.self in
-    let x = moment p.signatures a b m o in
+    let x = run_state p.signatures a b m o in
     let made = c.in-Ok.ensures.made in
     let closure : Closure = record { func = c.args.func; sig = c.args.sig; user = c.args.user } in
     let r = pointer_value (slot_address (first_free b.table)) in
@@ -62,7 +62,7 @@ returns-in-Err-clause-turned g c = λ p base all first own events signatures fun
     let m = c.args.machine.now in
     let m' = c.make.new.machine in
     let table = c.make.new.self in
-    let x = moment p.signatures a b m o in
+    let x = run_state p.signatures a b m o in
     let made = c.in-Ok.ensures.made in
     let closure : Closure = record { func = c.args.func; sig = c.args.sig; user = c.args.user } in
     let r = pointer_value (slot_address (first_free b.table)) in

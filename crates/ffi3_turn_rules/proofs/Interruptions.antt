@@ -1,4 +1,4 @@
--- A run that was cut off after a first part of its trace, and what is seen of it then.
+-- A run that was interrupted after a first part of its trace, and what is seen of it then.
 use Rattle.std.proofs.Common.{◌≡◌, ℕ, ◌+◌, Bool, true, false, List, [], ◌∷◌, ◌++◌, length, take, drop, refl, sym, ap, ◌∙◌, subst, append_assoc, append-nil, take-append-drop}
 use Rattle.ffi3_type_rules.specs.Signature.{Signature}
 use Rattle.ffi3_place_rules.specs.declared.Loc.{Loc}
@@ -8,7 +8,7 @@ use Rattle.ffi3_run_rules.specs.Trace.{TraceItem, Enter, Line, Leave, StopLine}
 use Rattle.ffi3_run_rules.specs.Journal.{Entered, Answers}
 use Rattle.ffi3_run_rules.specs.Lines.{Point, past, Tracing, item_text, text}
 use Rattle.ffi3_turn_rules.specs.Open.{AnswersTo}
-use Rattle.ffi3_turn_rules.specs.Cut.{past_all, next_text, begun, IsPart, HasItsEvent, WasCut}
+use Rattle.ffi3_turn_rules.specs.Interrupted.{past_all, next_text, begun, IsPart, HasItsEvent, TraceWasInterrupted}
 use Rattle.ffi3_turn_rules.proofs.Opens.{past_all-append, text-append, answers_then, answers_so_far, nothing_yet}
 
 -- what comes after the item whose event is recorded
@@ -37,11 +37,11 @@ no_event_yet (Line t v ∷ later) = refl
 no_event_yet (StopLine stop ∷ later) = refl
 
 module _ (std : Standard) (top : ℕ) (held : Loc → ℕ) (tracing : Tracing) (ss : List Signature) (in_line : Bool) where
-  abbrev Cut : Point → ℕ → List Entered → List TraceItem → List TraceItem → List ℕ → List Event → Type 0
-  Cut at n calls trace happened written events = WasCut std top held tracing ss at n calls in_line trace happened written events
+  abbrev InterruptedAt : Point → ℕ → List Entered → List TraceItem → List TraceItem → List ℕ → List Event → Type 0
+  InterruptedAt at n calls trace happened written events = TraceWasInterrupted std top held tracing ss at n calls in_line trace happened written events
 
-  -- CUT OFF LATER: what is done before is done
-  pub cut_then : (at : Point) (n : ℕ) (calls mid : List Entered) (a b happened : List TraceItem) (xs ys : List Event) (written : List ℕ) → AnswersTo std top held ss n calls a xs mid → Cut (past_all ss at a) (n + length xs) mid b happened written ys → Cut at n calls (a ++ b) (a ++ happened) (text tracing ss at a ++ written) (xs ++ ys)
+  -- INTERRUPTED LATER: what is done before is done
+  pub cut_then : (at : Point) (n : ℕ) (calls mid : List Entered) (a b happened : List TraceItem) (xs ys : List Event) (written : List ℕ) → AnswersTo std top held ss n calls a xs mid → InterruptedAt (past_all ss at a) (n + length xs) mid b happened written ys → InterruptedAt at n calls (a ++ b) (a ++ happened) (text tracing ss at a ++ written) (xs ++ ys)
   cut_then at n calls mid a b happened xs ys written first k =
       let comes : past_all ss at (a ++ k.done) ≡ past_all ss (past_all ss at a) k.done = past_all-append ss at a k.done in
       let next : List ℕ = take k.part (next_text tracing ss (past_all ss (past_all ss at a) k.done) k.later) in
@@ -64,7 +64,7 @@ module _ (std : Standard) (top : ℕ) (held : Loc → ℕ) (tracing : Tracing) (
       }
 
   -- what happened is a first part of the trace
-  happens_first : (at : Point) (n : ℕ) (calls : List Entered) (trace happened : List TraceItem) (written : List ℕ) (events : List Event) → Cut at n calls trace happened written events → (after : List TraceItem) × (happened ++ after ≡ trace)
+  happens_first : (at : Point) (n : ℕ) (calls : List Entered) (trace happened : List TraceItem) (written : List ℕ) (events : List Event) → InterruptedAt at n calls trace happened written events → (after : List TraceItem) × (happened ++ after ≡ trace)
   happens_first at n calls trace happened written events k =
       let after = after_begun k.recorded k.later in (
         after,
@@ -75,7 +75,7 @@ module _ (std : Standard) (top : ℕ) (held : Loc → ℕ) (tracing : Tracing) (
       )
 
   -- the journal is that of the trace, as far as it goes
-  pub cut_journal : (at : Point) (n : ℕ) (calls : List Entered) (trace happened : List TraceItem) (written : List ℕ) (events : List Event) → Cut at n calls trace happened written events → Answers std top held ss n calls trace events
+  pub cut_journal : (at : Point) (n : ℕ) (calls : List Entered) (trace happened : List TraceItem) (written : List ℕ) (events : List Event) → InterruptedAt at n calls trace happened written events → Answers std top held ss n calls trace events
   cut_journal at n calls trace happened written events k =
       let first = happens_first at n calls trace happened written events k in
       let P : List TraceItem → Type 0 = λ l. Answers std top held ss n calls l events in
@@ -83,7 +83,7 @@ module _ (std : Standard) (top : ℕ) (held : Loc → ℕ) (tracing : Tracing) (
       subst P first.1 (subst Q (append-nil events) (answers_so_far std top held ss n calls k.left_open happened first.0 events [] k.answers tt))
 
   -- what is written is a first part of the text
-  pub cut_text : (at : Point) (n : ℕ) (calls : List Entered) (trace happened : List TraceItem) (written : List ℕ) (events : List Event) → Cut at n calls trace happened written events → (unwritten : List ℕ) × (text tracing ss at trace ≡ written ++ unwritten)
+  pub cut_text : (at : Point) (n : ℕ) (calls : List Entered) (trace happened : List TraceItem) (written : List ℕ) (events : List Event) → InterruptedAt at n calls trace happened written events → (unwritten : List ℕ) × (text tracing ss at trace ≡ written ++ unwritten)
   cut_text at n calls trace happened written events k =
       let comes = past_all ss at k.done in
       let next = next_text tracing ss comes k.later in
@@ -97,10 +97,10 @@ module _ (std : Standard) (top : ℕ) (held : Loc → ℕ) (tracing : Tracing) (
             ∙ ap (λ (l : List ℕ). l ++ (drop k.part next ++ more.0)) (sym k.text_is),
       )
 
-  -- ---- cut off at once
+  -- ---- interrupted at once
 
   -- with a part of the next text, and nothing recorded
-  pub cut_unrecorded : (at : Point) (n : ℕ) (calls : List Entered) (trace : List TraceItem) (part : ℕ) → IsPart in_line part (length (next_text tracing ss at trace)) → HasItsEvent false in_line trace → Cut at n calls trace [] (take part (next_text tracing ss at trace)) []
+  pub cut_unrecorded : (at : Point) (n : ℕ) (calls : List Entered) (trace : List TraceItem) (part : ℕ) → IsPart in_line part (length (next_text tracing ss at trace)) → HasItsEvent false in_line trace → InterruptedAt at n calls trace [] (take part (next_text tracing ss at trace)) []
   cut_unrecorded at n calls trace part proper its_event = record {
     done = [];
     later = trace;
@@ -116,7 +116,7 @@ module _ (std : Standard) (top : ℕ) (held : Loc → ℕ) (tracing : Tracing) (
   }
 
   -- or with the next event recorded
-  pub cut_recorded : (at : Point) (n : ℕ) (calls calls' : List Entered) (h : TraceItem) (later : List TraceItem) (e : Event) (part : ℕ) → IsPart in_line part (length (item_text tracing ss at h)) → HasItsEvent true in_line (h ∷ later) → AnswersTo std top held ss n calls (h ∷ []) (e ∷ []) calls' → Cut at n calls (h ∷ later) (h ∷ []) (take part (item_text tracing ss at h)) (e ∷ [])
+  pub cut_recorded : (at : Point) (n : ℕ) (calls calls' : List Entered) (h : TraceItem) (later : List TraceItem) (e : Event) (part : ℕ) → IsPart in_line part (length (item_text tracing ss at h)) → HasItsEvent true in_line (h ∷ later) → AnswersTo std top held ss n calls (h ∷ []) (e ∷ []) calls' → InterruptedAt at n calls (h ∷ later) (h ∷ []) (take part (item_text tracing ss at h)) (e ∷ [])
   cut_recorded at n calls calls' h later e part proper its_event answers = record {
     done = [];
     later = h ∷ later;

@@ -11,20 +11,20 @@ use Rattle.ffi3_run_rules.specs.Meaning.{Program}
 use Rattle.ffi3_turn_rules.specs.SoFar.{Base, text_start, open_at}
 
 -- An open call is told as its entry was: the stack pointer stood below the calls around it, and each preserved register had what the tracing says of the entry's number.
-pub record IsTold (std : Standard) (top : ℕ) (leaves : ℕ → Loc → ℕ) (outer : List Entered) (e : Entered) (c : OpenCall) : Type 0 where
+pub record IsTracedAsEntered (std : Standard) (top : ℕ) (leaves : ℕ → Loc → ℕ) (outer : List Entered) (e : Entered) (c : OpenCall) : Type 0 where
   pub signature : e.signature ≡ c.signature
   pub sp : e.event.image.sp + (std.link + frame_of std e.signature + needs std outer) ≡ top
   pub preserved : AllByRecursion (λ at. register e.event.image at ≡ leaves c.entry at) std.preserved
 
-abbrev pub AreTold : Standard → (top : ℕ) → (leaves : ℕ → Loc → ℕ) → List Entered → List OpenCall → Type 0
-AreTold std top leaves [] [] = ⊤
-AreTold std top leaves (e ∷ es) (c ∷ cs) = IsTold std top leaves es e c × AreTold std top leaves es cs
-AreTold std top leaves _ _ = ⊥
+abbrev pub AreTracedAsEntered : Standard → (top : ℕ) → (leaves : ℕ → Loc → ℕ) → List Entered → List OpenCall → Type 0
+AreTracedAsEntered std top leaves [] [] = ⊤
+AreTracedAsEntered std top leaves (e ∷ es) (c ∷ cs) = IsTracedAsEntered std top leaves es e c × AreTracedAsEntered std top leaves es cs
+AreTracedAsEntered std top leaves _ _ = ⊥
 
 -- A run's callers leave what `scribble` leaves, each by its entry's number, and the calls that were open as it began are told as their entries were.
 pub record IsTraced (p : Program) (b : Base) (leaves : ℕ → Loc → ℕ) : Type 0 where
   pub later : (n : ℕ) (at : Loc) → b.count ≤ n → leaves n at ≡ scribble n at
-  pub open_calls : AreTold b.standard b.top leaves (open_at p b [] []) (text_start p b).calls
+  pub open_calls : AreTracedAsEntered b.standard b.top leaves (open_at p b [] []) (text_start p b).calls
 
 -- THE TRACING OF A RUN that is traced, or is not: by its standard, from the top of its stack.
 abbrev pub IsTracingOf : Program → Base → (trace : Bool) → Tracing → Type 0

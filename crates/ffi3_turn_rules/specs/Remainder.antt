@@ -6,27 +6,27 @@ use Rattle.ffi3_run_rules.specs.Meaning.{Program, Activation, End, returned, sto
 use Rattle.ffi3_run_rules.specs.Trace.{TraceItem, Leave, StopLine, written_out}
 
 -- how it ends, the closures and moves that are left then, and what happens until then
-pub record Left : Type 0 where
+pub record Remainder : Type 0 where
   pub end : End
   pub closures : Closures
   pub moves : ℕ
   pub trace : List TraceItem
 
-abbrev pub left_of : Outcome → Left
-left_of o =
+abbrev pub remainder_of : Outcome → Remainder
+remainder_of o =
     record { end = o.end; closures = o.closures; moves = o.moves; trace = written_out o.call_tree }
 
 -- this trace, and then all that is left
-abbrev pub before : List TraceItem → Left → Left
+abbrev pub before : List TraceItem → Remainder → Remainder
 before own l = record l { trace = own ++ l.trace }
 
 -- only this end is left, after this trace
-abbrev pub only : List TraceItem → End → Closures → ℕ → Left
+abbrev pub only : List TraceItem → End → Closures → ℕ → Remainder
 only own end closures moves =
     record { end = end; closures = closures; moves = moves; trace = own }
 
 -- only the line of a stop is left
-abbrev pub only_stops : Stop → Closures → ℕ → Left
+abbrev pub only_stops : Stop → Closures → ℕ → Remainder
 only_stops stop closures moves = only (StopLine stop ∷ []) (stopped stop) closures moves
 
 -- an activation that is suspended until its call of this signature returns
@@ -45,29 +45,29 @@ pub record Path : Type 0 where
   pub suspended : List Suspended
 
 -- a call that returns is left, and its caller acts on with the result; where the run stopped in it, nothing follows
-abbrev pub resumed_at : Program → Suspended → Left → End → Left
+abbrev pub resumed_at : Program → Suspended → Remainder → End → Remainder
 resumed_at p s l (stopped stop) = l
 resumed_at p s l (returned r) =
-    before (l.trace ++ Leave s.signature r ∷ []) (left_of (act p (with_result s.activation r) l.closures l.moves))
+    before (l.trace ++ Leave s.signature r ∷ []) (remainder_of (act p (with_result s.activation r) l.closures l.moves))
 
 -- a served call that returns is left
-abbrev pub left_at : ℕ → Left → End → Left
+abbrev pub left_at : ℕ → Remainder → End → Remainder
 left_at sig l (stopped stop) = l
 left_at sig l (returned r) = record l { trace = l.trace ++ Leave sig r ∷ [] }
 
-abbrev pub finished : Bottom → Left → Left
+abbrev pub finished : Bottom → Remainder → Remainder
 finished as_main l = l
 finished (served sig) l = left_at sig l l.end
 
 -- the suspended activations act on, one after another
-abbrev pub through : Program → Bottom → List Suspended → Left → Left
+abbrev pub through : Program → Bottom → List Suspended → Remainder → Remainder
 through p bottom [] l = finished bottom l
 through p bottom (s ∷ outer) l = through p bottom outer (resumed_at p s l l.end)
 
 -- WHAT IS LEFT OF A RUN that stands at this path, with these closures and moves left
-abbrev pub rest : Program → Bottom → Path → Closures → ℕ → Left
+abbrev pub rest : Program → Bottom → Path → Closures → ℕ → Remainder
 rest p bottom path closures moves =
-    through p bottom path.suspended (left_of (act p path.innermost closures moves))
+    through p bottom path.suspended (remainder_of (act p path.innermost closures moves))
 
 -- the path of an activation that nothing waits for
 abbrev pub alone : Activation → Path

@@ -1,4 +1,4 @@
--- A run that was cut off in what it writes.
+-- A run that was interrupted in what it writes.
 use Rattle.std.specs.Prelude.{◌≡◌, ℕ, ◌<◌, Bool, true, false, List, [], ◌∷◌, ◌++◌, length, take}
 use Rattle.ffi3_type_rules.specs.Signature.{Signature}
 use Rattle.ffi3_place_rules.specs.declared.Loc.{Loc}
@@ -24,7 +24,7 @@ abbrev pub begun : Bool → List TraceItem → List TraceItem
 begun true (h ∷ later) = h ∷ []
 begun _ _ = []
 
--- Cut off in an item's lines, some of their bytes are missing; elsewhere none of them is written.
+-- Interrupted in an item's lines, some of their bytes are missing; elsewhere none of them is written.
 abbrev pub IsPart : Bool → ℕ → ℕ → Type 0
 IsPart true part size = part < size
 IsPart false part size = part ≡ 0
@@ -37,8 +37,8 @@ HasItsEvent recorded in_line (Leave sig r ∷ later) = in_line ≡ true → reco
 HasItsEvent recorded in_line (Line t v ∷ later) = recorded ≡ false
 HasItsEvent recorded in_line (StopLine stop ∷ later) = recorded ≡ false
 
--- THE RUN WAS CUT OFF, in an item's lines or elsewhere: a first part of its trace is done, and a part of the next item's lines is written. What happened is what is done, and the next item where its event is recorded: to this the events answer wholly.
-pub record WasCut (std : Standard) (top : ℕ) (held : Loc → ℕ) (tracing : Tracing) (signatures : List Signature) (at : Point) (n : ℕ) (unfinished : List Entered) (in_line : Bool) (trace happened : List TraceItem) (written : List ℕ) (events : List Event) : Type 0 where
+-- THE RUN WAS INTERRUPTED, in an item's lines or elsewhere: a first part of its trace is done, and a part of the next item's lines is written. What happened is what is done, and the next item where its event is recorded: to this the events answer wholly.
+pub record TraceWasInterrupted (std : Standard) (top : ℕ) (held : Loc → ℕ) (tracing : Tracing) (signatures : List Signature) (at : Point) (n : ℕ) (unfinished : List Entered) (in_line : Bool) (trace happened : List TraceItem) (written : List ℕ) (events : List Event) : Type 0 where
   pub done : List TraceItem
   pub later : List TraceItem
   pub all : trace ≡ done ++ later
