@@ -1,5 +1,6 @@
 //! The bench, which reads no script.
 ghost use Rattle.std.specs.Prelude.{◌≡◌, ◌≤◌};
+ghost use Rattle.ffi3_type_rules.specs.declared.limits.TheConstants.{MOST_CALLS};
 ghost use Rattle.ffi3_app.specs.Top.{SaysOfBench};
 
 use crate::tell::tell;
@@ -17,7 +18,7 @@ pub fn answer_bench<O: Sink, E: Sink>(
     faults: &mut E,
     machine: &mut Machine,
 ) -> u8
-    requires { calls ≤ 1000 }
+    requires { calls ≤ MOST_CALLS }
     ensures says { SaysOfBench seed calls (O.state output.old) (O.state output.new) (E.state faults.old) (E.state faults.new) machine.new result }
     ensures not_two { result ≡ 2 → ⊥ }
 {

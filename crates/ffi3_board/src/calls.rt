@@ -33,6 +33,7 @@ use ffi3_machine::Machine;
 use ffi3_place::Abi;
 use ffi3_place::parts::size_of;
 use ffi3_run_rules::Closure;
+use ffi3_type_rules::limits::LARGEST_STRUCT;
 use ffi3_types::NoMemory;
 use ffi3_values::{Value, Values, value_from_bytes};
 use std::alloc::Global;
@@ -56,7 +57,7 @@ fn end_with<A: Abi>(
     let OpenCall { sig, incoming } = call;
     let cif = cifs.get(sig);
     let ty = cif.sig().ret();
-    let mut room = [0; 1024];
+    let mut room = [0; LARGEST_STRUCT as usize];
     let out = &mut room[..size_of(ty) as usize];
     end_call(machine, cif, incoming, value, out);
     value_from_bytes(alloc, ty, out)
