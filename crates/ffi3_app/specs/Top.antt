@@ -158,7 +158,7 @@ pub data Fails (words : List (List ℕ)) (natives : List NamedNative) (input inp
   bench_write_failed : {seed calls : ℕ} → Takes words (Bench seed calls) → input' ≡ input → IsBenchInPart seed calls output output' → Rose output.faults output'.faults → Fails words natives input input' output output' machine machine' 4 write_fault_line
   bench_no_memory : {seed calls : ℕ} → Takes words (Bench seed calls) → input' ≡ input → IsBenchInPart seed calls output output' → output'.faults ≡ output.faults → Fails words natives input input' output output' machine machine' 5 no_memory_line
 
--- what each status of the bench says: it is done, or what cut it off is told
+-- what each status of the bench says: it is done, or what interrupted it is told
 pub data SaysOfBench (seed calls : ℕ) (output output' told told' : SinkState) (machine' : State) : ℕ → Type 0 where
   was_done : IsBench seed calls output output' machine' → told' ≡ told → SaysOfBench seed calls output output' told told' machine' 0
   was_cut : {answer : ℕ} → IsBenchInPart seed calls output output' → Rose output.faults output'.faults → ReportsFault write_fault_line 4 told told' answer → SaysOfBench seed calls output output' told told' machine' answer

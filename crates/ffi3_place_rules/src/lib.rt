@@ -19,11 +19,11 @@ pub enum Loc {
 pub enum Ext {
     /// Anything.
     Free,
-    /// An integer is extended by its sign to 64 bits.
+    /// An integer is extended to 64 bits, by sign or by zeros as its type is.
     Widen,
-    /// An integer is extended by its sign to 32 bits, and from there by its upper bit to 64.
+    /// An integer is extended to 32 bits, by sign or by zeros as its type is, and from there by its upper bit to 64.
     Riscv,
-    /// The upper 32 bits are all ones.
+    /// The upper 32 bits are all ones: the float is NaN-boxed.
     Boxed,
 }
 
