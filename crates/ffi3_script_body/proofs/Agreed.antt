@@ -2,7 +2,7 @@
 use Rattle.std.proofs.Common.{◌≡◌, ℕ, ◌+◌, ◌-◌, ◌<◌, ◌≤◌, Bool, true, false, List, [], ◌∷◌, ◌++◌, length, take, drop, map, Option, Some, None, refl, ap, sym, ◌∙◌, subst, arith, length-append, get_or}
 use Rattle.std.specs.Prelude.{option_map}
 use Rattle.std.specs.List.{list_all}
-use Rattle.std.proofs.lemmas.Bool.{ltb-true, lt-ltb}
+use Rattle.std.proofs.lemmas.Bool.{ltb-true, lt-ltb, both_ways}
 use Rattle.std.proofs.lemmas.List.{length-drop, take_all, get_or-drop, get_or_append_left, take-append-le}
 use Rattle.ffi3_type_rules.specs.Tree.{Tree, trees_of}
 use Rattle.ffi3_type_rules.specs.Signature.{Signature}
@@ -78,10 +78,6 @@ agrees_more b a c r g =
 
 -- ---- cursors
 
-not_both : (x : Bool) → x ≡ true → x ≡ false → ⊥
-not_both true h k = cc
-not_both false h k = cc
-
 unready : (x y : Bool) → (x ≡ true → y ≡ true) → y ≡ false → x ≡ false
 unready true y h k =
     let e = h refl in
@@ -110,13 +106,9 @@ module _ (b : ScriptBody) (a : SeenActivation) where
       let below = left_below b.moves.items i w.ended in
       record {
         below = omega (arith, at, below);
-        ready = λ h. absurd (not_both c.ready h unready);
+        ready = λ h. absurd (both_ways c.ready unready h);
         walked = subst (WalkedBy c.first c.marks.items c.taken) (sym at) (subst (λ k. WalkedBy c.first c.marks.items k i) (sym t) (subst (λ rs. WalkedBy c.first rs taken i) (sym m) (subst (λ k. WalkedBy k marks taken i) (sym f) w)));
       }
-
-  pub new_agrees : (c : Cursor) → a.signature ≡ signature_of b → c.first ≡ 0 → c.marks.items ≡ [] → c.taken ≡ 0 → c.ready ≡ false → Agrees b a c
-  new_agrees c own f m t unready =
-      agrees_at c 0 0 0 [] f m t unready (omega arith) (walked_none b.sigs.value b.functions (signature_of b) a (moves_of b) own b.typed)
 
   pub skipped_agrees : (c : Cursor) (n : ℕ) → a.signature ≡ signature_of b → ResultsFollow (signatures_of b) (meaning_of b) (arguments_of a) a.user a.results → n ≤ b.always → n ≤ length a.results → c.first ≡ n → c.marks.items ≡ [] → c.taken ≡ n → c.ready ≡ false → Agrees b a c
   skipped_agrees c n own follow few within f m t unready =

@@ -76,7 +76,3 @@ evaluated-all k (e ∷ es) (suc i) n =
 pub list_and_back : (vs : List ValueTree) → list_of_values (values.values_of vs) ≡ vs
 list_and_back [] = refl
 list_and_back (v ∷ vs) = ap (λ ws. v ∷ ws) (list_and_back vs)
-
-pub values_and_back : (vs : ValueTrees) → values.values_of (list_of_values vs) ≡ vs
-values_and_back no_values = refl
-values_and_back (value v vs) = ap (value v) (values_and_back vs)
