@@ -3,7 +3,7 @@ use Rattle.std.proofs.Common.{◌≡◌, ℕ, ◌<◌, Bool, true, false, List, 
 use Rattle.std.specs.Prelude.{slice_index_or, nat_lt}
 use Rattle.std.proofs.lemmas.Bool.{ltb-true}
 use Rattle.ffi3_type_rules.specs.Tree.{Tree, void, scalar, left_out, structure, tree_at, list_of, elements_of, trees_of-list_of, pointer, Scalar}
-use Rattle.ffi3_type_rules.specs.Integer.{is_number_type, scalar_of}
+use Rattle.ffi3_type_rules.specs.Integer.{scalar_of}
 use Rattle.ffi3_type_rules.specs.Value.{ValueTree, struct_value, void_value, fits}
 use Rattle.ffi3_type_rules.specs.Value as values
 use Rattle.ffi3_type_rules.proofs.ValueElements.{fitting_lengths}
