@@ -1,7 +1,7 @@
 -- The elements of a struct's value, as a list.
 use Rattle.std.proofs.Common.{◌≡◌, ℕ, zero, suc, ◌+◌, ◌<◌, ◌≤◌, true, List, [], ◌∷◌, ◌++◌, Vec, Global, length, map, take, refl, ap, sym, ◌∙◌, subst, arith, get_or}
 use Rattle.ffi3_type_rules.specs.Tree.{Tree, trees_of, tree_at}
-use Rattle.ffi3_type_rules.specs.Value.{ValueTree, ValueTrees, no_values, value, list_of_values}
+use Rattle.ffi3_type_rules.specs.Value.{ValueTree, list_of_values}
 use Rattle.ffi3_type_rules.specs.Value as values
 use Rattle.ffi3_script_rules.specs.Script.{expression}
 use Rattle.ffi3_script_rules.specs.Script as script
