@@ -1,6 +1,6 @@
 // Natives behind boxes. A box is called in a function of its own, so that the proofs of others
 // speak of the box itself.
-ghost use Rattle.std.specs.Prelude.{◌≡◌, ◌<◌, ◌+◌, IfOk, Some, length, map, slice_get, All};
+ghost use Rattle.std.specs.Prelude.{◌≡◌, ◌<◌, IfOk, Some, length, map, slice_get, All};
 ghost use Rattle.ffi3_type_rules.specs.Signature.{SignatureHasNoFault, signature_at};
 ghost use Rattle.ffi3_run_rules.specs.Move.{MoveFits};
 ghost use Rattle.ffi3_run_rules.specs.Meaning.{renumbered};

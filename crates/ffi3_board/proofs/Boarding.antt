@@ -1,5 +1,5 @@
 -- What each kind of move leads to on a board.
-use Rattle.std.proofs.Common.{◌≡◌, ℕ, suc, true, ◌+◌, ◌-◌, ◌<◌, List, [], ◌∷◌, ◌++◌, length, Option, Some, refl, sym, ap, ◌∙◌, subst, arith, reverse}
+use Rattle.std.proofs.Common.{◌≡◌, ℕ, suc, true, ◌+◌, ◌-◌, List, [], ◌∷◌, ◌++◌, Option, Some, refl, sym, ap, ◌∙◌, subst, arith, reverse}
 use Rattle.std.specs.Prelude.{Bool}
 use Rattle.std.proofs.lemmas.List.{reverse-append}
 use Rattle.ffi3_type_rules.specs.declared.limits.TheConstants.{STACK}
@@ -10,7 +10,7 @@ use Rattle.ffi3_place_rules.specs.declared.Loc.{Loc}
 use Rattle.ffi3_run_rules.specs.Journal.{Entered}
 use Rattle.ffi3_board.specs.Stack.{HoldsCalls}
 use Rattle.ffi3_place_rules.specs.Event.{Event}
-use Rattle.ffi3_place_rules.specs.Standard.{Standard, block_bytes, frame_of}
+use Rattle.ffi3_place_rules.specs.Standard.{Standard, block_bytes}
 use Rattle.ffi3_run_rules.specs.declared.Closure.{Closure}
 use Rattle.ffi3_run_rules.specs.declared.Stop.{Stop}
 use Rattle.ffi3_run_rules.specs.declared.Stop.TheVariants.{MoveLimit}
@@ -23,24 +23,22 @@ use Rattle.ffi3_run_rules.specs.Trace.{TraceItem, Enter, Leave}
 use Rattle.ffi3_turn_rules.specs.Remainder.{Remainder, Suspended}
 use Rattle.ffi3_turn_rules.specs.SoFar.{Base, text_after}
 use Rattle.ffi3_turn_rules.specs.TracingOf.{IsTracingOf}
-use Rattle.ffi3_machine.specs.State.{State, with_room, stack_at}
+use Rattle.ffi3_machine.specs.State.{State, stack_at}
 use Rattle.ffi3_body.specs.SeenActivation.{arguments_in}
 use Rattle.ffi3_io.specs.Sink.{SinkState}
 use Rattle.ffi3_io.specs.Written.{TookText}
 use Rattle.ffi3_io.specs.declared.IoError.{IoError}
 use Rattle.ffi3_io.specs.declared.IoError.TheVariants as cut
 use Rattle.ffi3_callee.specs.declared.Incoming.{Incoming}
-use Rattle.ffi3_callee.specs.Received.{IsIncoming}
-use Rattle.ffi3_invoke.specs.Calls.{HasBegun, HasEnded}
+use Rattle.ffi3_invoke.specs.Calls.{HasEnded}
 use Rattle.ffi3_board.specs.declared.activation.Activation.{Activation}
 use Rattle.ffi3_board.specs.declared.activation.OpenCall.{OpenCall}
 use Rattle.ffi3_board.specs.declared.activation.Waiting.{Waiting}
-use Rattle.ffi3_board.specs.declared.activation.Who.TheVariants.{Function}
 use Rattle.ffi3_board.specs.declared.board.Board.{Board}
 use Rattle.ffi3_board.specs.declared.board.Turn.{Turn}
 use Rattle.ffi3_board.specs.declared.board.Turn.TheVariants as turn
 use Rattle.ffi3_board.specs.Between.{Beginning, RunState, asking, IsBetween, IsAsking, run_state, run_state_with, open_calls_at}
-use Rattle.ffi3_board.specs.Going.{StoppedBy, GoneOn, HasGoneBack, and_result}
+use Rattle.ffi3_board.specs.Going.{StoppedBy, GoneOn, HasGoneBack, activation_of, and_result}
 use Rattle.ffi3_board.specs.Path.{acting, arguments_at, call_inside, suspended_at, calls_of}
 use Rattle.ffi3_board.specs.TraceLines.{last_event, entry_lines, return_lines}
 use Rattle.ffi3_board.specs.Turned.{IsEnded, WasInterrupted, LooksAs, turn_of, WentOn, Turned}
@@ -66,6 +64,17 @@ module _ {S : Type 0} where
   popped_holds std ss held top m entered served items items' w is h =
       let turned : reverse items ≡ w ∷ reverse items' = ap (λ (l : List (Waiting S)). reverse l) is ∙ reverse-last items' w in
       subst (λ (l : List (Waiting S)). HoldsCalls std ss held top m (calls_of served l) entered) turned h
+
+  -- the moment of a board by the one that waits last
+  pub popped_state : (ss : List Signature) (a : Activation S) (b : Board S) (m : State) (output : SinkState) (items : List (Waiting S)) (w : Waiting S) → b.suspended.items ≡ items ++ w ∷ [] → run_state ss a b m output ≡ run_state_with ss b.served (w ∷ reverse items) b.table b.moves m output a
+  popped_state ss a b m output items w is =
+      ap (λ (l : List (Waiting S)). run_state_with ss b.served l b.table b.moves m output a) (ap (λ (l : List (Waiting S)). reverse l) is ∙ reverse-last items w)
+
+  -- and where none waits
+  pub outermost_state : (ss : List Signature) (a : Activation S) (b : Board S) (m : State) (output : SinkState) (served : Option OpenCall) → b.suspended.items ≡ [] → b.served ≡ served → run_state ss a b m output ≡ run_state_with ss served [] b.table b.moves m output a
+  outermost_state ss a b m output served none is =
+      ap (λ (l : List (Waiting S)). run_state_with ss b.served (reverse l) b.table b.moves m output a) none
+      ∙ ap (λ (k : Option OpenCall). run_state_with ss k [] b.table b.moves m output a) is
 
   -- a board that goes on has its activation with one result more
   pub gone_more : (r : ValueTree) (a : Activation S) (b b' : Board S) (t : Turn) → GoneOn r a b b' t → t ≡ turn.More → b' ≡ record b { innermost = Some (and_result a r) }
@@ -138,12 +147,12 @@ module _ {S : Type 0} (p : Program) (base : Base) (all : Remainder) (first : Beg
   abbrev before_call : RunState
   before_call = run_state_with p.signatures served outer closures moves m output current
 
-  module _ (is : IsAsking p base all first own events before_call (call ptr sig args)) (closure : Closure) (does : effect_of p before_call.innermost closures (call ptr sig args) ≡ enters ptr sig (callee_of p before_call.innermost sig args closure)) (n : ℕ) (m' : State) (incoming : Incoming) (sized : n ≡ base.standard.link + frame_of base.standard (signature_at p.signatures sig)) (begun : HasBegun base.standard (signature_at p.signatures sig) args ptr (with_room n m) m') (incoming_is : IsIncoming base.standard (signature_at p.signatures sig) incoming) (block_is : incoming.block ≡ m'.sp) (below : sig < length p.signatures) (standing : S) (results : List ValueTree) (none : results ≡ []) where
+  module _ (is : IsAsking p base all first own events before_call (call ptr sig args)) (closure : Closure) (does : effect_of p before_call.innermost closures (call ptr sig args) ≡ enters ptr sig (callee_of p before_call.innermost sig args closure)) (m' : State) (incoming : Incoming) (called : entering.HasCalled p base ptr sig args m m' incoming) (standing : S) where
     abbrev new_call : OpenCall
     new_call = record { sig = sig; incoming = incoming }
 
     abbrev new_one : Activation S
-    new_one = record { who = Function closure.func; standing = standing; user = closure.user; results = results }
+    new_one = activation_of closure standing
 
     abbrev in_call : SinkState → RunState
     in_call output' =
@@ -154,16 +163,16 @@ module _ {S : Type 0} (p : Program) (base : Base) (all : Remainder) (first : Beg
         blocks_above base.standard p.signatures base.held base.top m m.sp (calls_of served outer) (open_calls_at p base events before_call) m.sp (omega arith) is.between.calls.stand
 
     stays : StaysFrom m.sp m m'
-    stays = begun.above
+    stays = called.begun.above
 
     innermost_is : (in_call output).innermost ≡ callee_of p before_call.innermost sig args closure
     innermost_is =
         let site = signature_at p.signatures sig in
-        let arguments : arguments_at p.signatures m' (Some new_call) ≡ args = ap (λ (k : ℕ). arguments_in site.arguments (stack_at k (block_bytes site) m')) block_is ∙ begun.arguments_stand in
-        let low : m'.sp + need_at p sig ≡ m.sp = entering.lower p base all first own events before_call ptr sig args is closure does n m' incoming sized begun incoming_is block_is below in
+        let arguments : arguments_at p.signatures m' (Some new_call) ≡ args = ap (λ (k : ℕ). arguments_in site.arguments (stack_at k (block_bytes site) m')) called.block_is ∙ called.begun.arguments_stand in
+        let low : m'.sp + need_at p sig ≡ m.sp = entering.lower p base all first own events before_call ptr sig args is closure does m' incoming called in
         let had : before_call.innermost.left + STACK ≡ m.sp = is.between.left in
-        let left : incoming.block - STACK ≡ before_call.innermost.left - need_at p sig = omega (arith, low, had, block_is) in
-        λ i. record { who = function closure.func; arguments = arguments i; user = closure.user; left = left i; results = none i }
+        let left : incoming.block - STACK ≡ before_call.innermost.left - need_at p sig = omega (arith, low, had, called.block_is) in
+        λ i. record { who = function closure.func; arguments = arguments i; user = closure.user; left = left i; results = [] }
 
     suspended_is : (in_call output).suspended ≡ record { activation = before_call.innermost; signature = sig } ∷ before_call.suspended
     suspended_is =
@@ -174,22 +183,22 @@ module _ {S : Type 0} (p : Program) (base : Base) (all : Remainder) (first : Beg
     pub call_lines : (trace : Bool) → IsTracingOf p base trace first.tracing → entry_lines trace base.standard (signature_at p.signatures sig) (last_event m'.events) (arguments_in (signature_at p.signatures sig).arguments (stack_at m'.sp (block_bytes (signature_at p.signatures sig)) m')) ≡ enter_lines first.tracing (text_after p base own) ptr (signature_at p.signatures sig) args
     call_lines trace tracing =
         let site = signature_at p.signatures sig in
-        let event : last_event m'.events ≡ begun.entry = ap last_event begun.events ∙ last_is m.events begun.entry in
+        let event : last_event m'.events ≡ called.begun.entry = ap last_event called.begun.events ∙ last_is m.events called.begun.entry in
         ap (λ (e : Event). entry_lines trace base.standard site e (arguments_in site.arguments (stack_at m'.sp (block_bytes site) m'))) event
-        ∙ ap (λ (vs : List ValueTree). entry_lines trace base.standard site begun.entry vs) begun.arguments_stand
-        ∙ entering.told_lines_are p base all first own events before_call ptr sig args is closure does n m' incoming sized begun incoming_is block_is below trace tracing
+        ∙ ap (λ (vs : List ValueTree). entry_lines trace base.standard site called.begun.entry vs) called.begun.arguments_stand
+        ∙ entering.told_lines_are p base all first own events before_call ptr sig args is closure does m' incoming called trace tracing
 
-    pub call_entered : (output' : SinkState) → TookText (enter_lines first.tracing (text_after p base own) ptr (signature_at p.signatures sig) args) output output' → IsBetween p base all first (own ++ Enter ptr sig args ∷ []) (events ++ begun.entry ∷ []) (in_call output')
+    pub call_entered : (output' : SinkState) → TookText (enter_lines first.tracing (text_after p base own) ptr (signature_at p.signatures sig) args) output output' → IsBetween p base all first (own ++ Enter ptr sig args ∷ []) (events ++ called.begun.entry ∷ []) (in_call output')
     call_entered output' told =
-        let there = entering.enters_on p base all first own events before_call ptr sig args is closure does n m' incoming sized begun incoming_is block_is below output' told in
-        let same : in_call output' ≡ entering.entered p base all first own events before_call ptr sig args is closure does n m' incoming sized begun incoming_is block_is below output' =
+        let there = entering.enters_on p base all first own events before_call ptr sig args is closure does m' incoming called output' told in
+        let same : in_call output' ≡ entering.entered p base all first own events before_call ptr sig args is closure does m' incoming called output' =
         λ i. record { innermost = innermost_is i; suspended = suspended_is i; calls = new_call ∷ calls_of served outer; closures = closures; moves = moves; machine = m'; output = output' } in
-        subst (λ (x : RunState). IsBetween p base all first (own ++ Enter ptr sig args ∷ []) (events ++ begun.entry ∷ []) x) (sym same) there
+        subst (λ (x : RunState). IsBetween p base all first (own ++ Enter ptr sig args ∷ []) (events ++ called.begun.entry ∷ []) x) (sym same) there
 
     -- or the run is interrupted there
     pub call_cut_off : (why : IoError) (output' : SinkState) → LineInterrupted (enter_lines first.tracing (text_after p base own) ptr (signature_at p.signatures sig) args) output output' why → WasInterrupted p base all first why m' output'
     call_cut_off why output' cut_off =
-        entering.enters_cut p base all first own events before_call ptr sig args is closure does n m' incoming sized begun incoming_is block_is below why output' cut_off
+        entering.enters_cut p base all first own events before_call ptr sig args is closure does m' incoming called why output' cut_off
 
 -- ---- a return
 

@@ -1,5 +1,5 @@
 -- What each kind of move of a run leads to, from one moment to the next.
-use Rattle.std.proofs.Common.{◌≡◌, ℕ, suc, ◌+◌, ◌≤◌, List, [], ◌∷◌, ◌++◌, take, refl, sym, ap, ◌∙◌, subst, arith, append-nil, length-append}
+use Rattle.std.proofs.Common.{◌≡◌, ℕ, suc, ◌+◌, ◌≤◌, true, List, [], ◌∷◌, ◌++◌, take, refl, sym, ap, ◌∙◌, subst, arith, append-nil, length-append}
 use Rattle.ffi3_type_rules.specs.Tree.{Tree}
 use Rattle.ffi3_type_rules.specs.Value.{ValueTree, void_value}
 use Rattle.ffi3_type_rules.specs.ValueText.{value_text_of}
@@ -13,7 +13,7 @@ use Rattle.ffi3_run_rules.specs.Move.{Move}
 use Rattle.ffi3_run_rules.specs.Trace.{TraceItem, Line, StopLine}
 use Rattle.ffi3_turn_rules.specs.Remainder.{Remainder, Suspended, Bottom, before, only, only_stops, as_main, rest, alone}
 use Rattle.ffi3_turn_rules.specs.Depth.{deepest}
-use Rattle.ffi3_turn_rules.specs.SoFar.{Base, left_at_position, HasComeTo, IsOver}
+use Rattle.ffi3_turn_rules.specs.SoFar.{Base, left_at_position, HasComeTo, IsInterrupted, IsOver}
 use Rattle.ffi3_turn_rules.proofs.Steps.{rest_at_limit, rest_stops, rest_ends}
 use Rattle.ffi3_turn_rules.proofs.Depths.{depth_at-append}
 use Rattle.ffi3_turn_rules.proofs.Coming.{comes_on, comes_by_print, deepest_same}
@@ -71,6 +71,40 @@ module _ (p : Program) (base : Base) (all : Remainder) (first : Beginning) (own 
     part_cause =
         fault_from first.output.faults x.output.faults output.faults h.written.count (failed.rose, failed.never_falls)
 
+    -- A WRITE FAILS in the line, where the run can be interrupted there
+    line_failed : IsInterrupted first.tracing p base true all own (text_so_far first.tracing p base own ++ take failed.part.0 line) events → WasInterrupted p base all first cut.Failed x.machine output
+    line_failed there = record {
+      happened = own;
+      events = events;
+      text = text_so_far first.tracing p base own ++ take failed.part.0 line;
+      cut = there;
+      journal = h.journal;
+      written = part_written;
+      cause = part_cause;
+      mark = h.mark;
+      target = h.calls.target;
+      closures = x.closures;
+      holds = h.holds;
+    }
+
+  module _ (x : RunState) (h : IsBetween p base all first own events x) (stop : Stop) (moves : ℕ) (left : left_at_position p base (position x) ≡ only_stops stop x.closures moves) where
+    -- THE LINE OF A STOP IS WRITTEN, where nothing else is left
+    stop_written : IsOver p base all (stopped stop) x.closures moves events → (output : SinkState) → TookText (a_line (stop_text p.signatures stop)) x.output output → IsEnded p base all first (stopped stop) x.closures moves x.machine output
+    stop_written over output took =
+        let done : all ≡ before own (only_stops stop x.closures moves) = h.come.follows ∙ ap (before own) left in
+        let trace : all.trace ≡ own ++ StopLine stop ∷ [] = ap (λ (l : Remainder). l.trace) done in
+        let line = a_line (stop_text p.signatures stop) in
+        record {
+          events = events;
+          over = over;
+          journal = h.journal;
+          written = took_then first.output x.output output (text_so_far first.tracing p base own) line (text_so_far first.tracing p base all.trace) (ap (text_so_far first.tracing p base) trace ∙ text_then first.tracing p base own (StopLine stop)) h.written took;
+          mark = mark_same base.top first.mark (deepest p (depth_below p base) own) (deepest p (depth_below p base) all.trace) x.machine.mark x.machine.mark (ap (deepest p (depth_below p base)) trace ∙ deepest_same p (depth_below p base) own (StopLine stop) (omega arith)) refl h.mark;
+          target = h.calls.target;
+          reserved = h.calls.reserved;
+          holds = h.holds;
+        }
+
   -- ---- no move is left
 
   module _ (x : RunState) (none : x.moves ≡ 0) (h : IsBetween p base all first own events x) where
@@ -85,37 +119,13 @@ module _ (p : Program) (base : Base) (all : Remainder) (first : Beginning) (own 
 
     pub limit_ends : (output : SinkState) → TookText (a_line (stop_text p.signatures MoveLimit)) x.output output → IsEnded p base all first (stopped MoveLimit) x.closures x.moves x.machine output
     limit_ends output took =
-        let done : all ≡ before own (only_stops MoveLimit x.closures 0) = h.come.follows ∙ ap (before own) limit_left in
-        let trace : all.trace ≡ own ++ StopLine MoveLimit ∷ [] = ap (λ (l : Remainder). l.trace) done in
-        let line = a_line (stop_text p.signatures MoveLimit) in
-        let O = λ (n : ℕ). IsOver p base all (stopped MoveLimit) x.closures n events in
-        record {
-          events = events;
-          over = subst O (sym none) (ending.limit_here p base all own events (position x).path x.closures at_limit);
-          journal = h.journal;
-          written = took_then first.output x.output output (text_so_far first.tracing p base own) line (text_so_far first.tracing p base all.trace) (ap (text_so_far first.tracing p base) trace ∙ text_then first.tracing p base own (StopLine MoveLimit)) h.written took;
-          mark = mark_same base.top first.mark (deepest p (depth_below p base) own) (deepest p (depth_below p base) all.trace) x.machine.mark x.machine.mark (ap (deepest p (depth_below p base)) trace ∙ deepest_same p (depth_below p base) own (StopLine MoveLimit) (omega arith)) refl h.mark;
-          target = h.calls.target;
-          reserved = h.calls.reserved;
-          holds = h.holds;
-        }
+        let over = ending.limit_here p base all own events (position x).path x.closures at_limit in
+        let E = λ (n : ℕ). IsEnded p base all first (stopped MoveLimit) x.closures n x.machine output in
+        subst E (sym none) (stop_written x h MoveLimit 0 limit_left over output took)
 
     pub limit_failed : (output : SinkState) → LineFailed (a_line (stop_text p.signatures MoveLimit)) x.output output → WasInterrupted p base all first cut.Failed x.machine output
     limit_failed output failed =
-        let line = a_line (stop_text p.signatures MoveLimit) in
-        record {
-          happened = own;
-          events = events;
-          text = text_so_far first.tracing p base own ++ take failed.part.0 line;
-          cut = ending.cut_in_limit p base all own events first.tracing (position x).path x.closures failed.part.0 at_limit failed.part.1;
-          journal = h.journal;
-          written = part_written x h output line failed;
-          cause = part_cause x h output line failed;
-          mark = h.mark;
-          target = h.calls.target;
-          closures = x.closures;
-          holds = h.holds;
-        }
+        line_failed x h output (a_line (stop_text p.signatures MoveLimit)) failed (ending.cut_in_limit p base all own events first.tracing (position x).path x.closures failed.part.0 at_limit failed.part.1)
 
   -- ---- a move that is asked for
 
@@ -136,38 +146,11 @@ module _ (p : Program) (base : Base) (all : Remainder) (first : Beginning) (own 
 
       pub stop_ends : (output : SinkState) → TookText (a_line (stop_text p.signatures stop)) x.output output → IsEnded p base all first (stopped stop) x.closures x.moves x.machine output
       stop_ends output took =
-          let h = is.between in
-          let done : all ≡ before own (only_stops stop x.closures x.moves) = h.come.follows ∙ ap (before own) stop_left in
-          let trace : all.trace ≡ own ++ StopLine stop ∷ [] = ap (λ (l : Remainder). l.trace) done in
-          let line = a_line (stop_text p.signatures stop) in
-          record {
-            events = events;
-            over = ending.stops_here p base all own events a outer x.closures x.moves h.come stop (does_so (stops stop) does);
-            journal = h.journal;
-            written = took_then first.output x.output output (text_so_far first.tracing p base own) line (text_so_far first.tracing p base all.trace) (ap (text_so_far first.tracing p base) trace ∙ text_then first.tracing p base own (StopLine stop)) h.written took;
-            mark = mark_same base.top first.mark (deepest p (depth_below p base) own) (deepest p (depth_below p base) all.trace) x.machine.mark x.machine.mark (ap (deepest p (depth_below p base)) trace ∙ deepest_same p (depth_below p base) own (StopLine stop) (omega arith)) refl h.mark;
-            target = h.calls.target;
-            reserved = h.calls.reserved;
-            holds = h.holds;
-          }
+          stop_written (asking x) is.between stop x.moves stop_left (ending.stops_here p base all own events a outer x.closures x.moves is.between.come stop (does_so (stops stop) does)) output took
 
       pub stop_failed : (output : SinkState) → LineFailed (a_line (stop_text p.signatures stop)) x.output output → WasInterrupted p base all first cut.Failed x.machine output
       stop_failed output failed =
-          let h = is.between in
-          let line = a_line (stop_text p.signatures stop) in
-          record {
-            happened = own;
-            events = events;
-            text = text_so_far first.tracing p base own ++ take failed.part.0 line;
-            cut = ending.cut_in_stop p base all own events a outer x.closures x.moves h.come first.tracing stop failed.part.0 (does_so (stops stop) does) failed.part.1;
-            journal = h.journal;
-            written = part_written (asking x) h output line failed;
-            cause = part_cause (asking x) h output line failed;
-            mark = h.mark;
-            target = h.calls.target;
-            closures = x.closures;
-            holds = h.holds;
-          }
+          line_failed (asking x) is.between output (a_line (stop_text p.signatures stop)) failed (ending.cut_in_stop p base all own events a outer x.closures x.moves is.between.come first.tracing stop failed.part.0 (does_so (stops stop) does) failed.part.1)
 
     -- MAIN RETURNS
     pub main_ends : (v : ValueTree) → effect_of p x.innermost x.closures asked ≡ ends v → x.suspended ≡ [] → base.bottom ≡ as_main → IsEnded p base all first (returned v) x.closures x.moves x.machine x.output
@@ -220,21 +203,7 @@ module _ (p : Program) (base : Base) (all : Remainder) (first : Beginning) (own 
 
       pub print_failed : (output : SinkState) → LineFailed (a_line (value_text_of t v)) x.output output → WasInterrupted p base all first cut.Failed x.machine output
       print_failed output failed =
-          let h = is.between in
-          let line = a_line (value_text_of t v) in
-          record {
-            happened = own;
-            events = events;
-            text = text_so_far first.tracing p base own ++ take failed.part.0 line;
-            cut = ending.cut_in_print p base all own events a outer x.closures x.moves h.come first.tracing t v failed.part.0 (does_so (prints t v) does) failed.part.1;
-            journal = h.journal;
-            written = part_written (asking x) h output line failed;
-            cause = part_cause (asking x) h output line failed;
-            mark = h.mark;
-            target = h.calls.target;
-            closures = x.closures;
-            holds = h.holds;
-          }
+          line_failed (asking x) is.between output (a_line (value_text_of t v)) failed (ending.cut_in_print p base all own events a outer x.closures x.moves is.between.come first.tracing t v failed.part.0 (does_so (prints t v) does) failed.part.1)
 
     -- THE CLOSURES CHANGE, and code is written
     module _ (r : ValueTree) (closures : Closures) (does : effect_of p x.innermost x.closures asked ≡ goes_on r closures) (address : ℕ) (bytes : List ℕ) where

@@ -1,18 +1,18 @@
 -- The lines that tell an event: what they are, and what came of them.
-use Rattle.std.proofs.Common.{◌≡◌, ℕ, suc, ◌+◌, ◌-◌, ◌<◌, ◌≤◌, true, false, List, [], ◌∷◌, ◌++◌, length, take, drop, refl, sym, ap, ◌∙◌, subst, arith, length-append}
+use Rattle.std.proofs.Common.{◌≡◌, ℕ, ◌+◌, ◌-◌, ◌<◌, ◌≤◌, true, false, List, [], ◌∷◌, ◌++◌, length, take, refl, sym, ap, ◌∙◌, subst, arith, length-append}
 use Rattle.std.specs.Prelude.{⊤, Bool, Result, codes, slice_index_or}
 use Rattle.std.specs.List.{join_with_byte}
 use Rattle.std.proofs.lemmas.List.{take-append-le, take_all, take_more}
 use Rattle.std.proofs.Math.Seq.{get_or-append_seam, take-append-add}
 use Rattle.ffi3_type_rules.specs.Signature.{Signature}
-use Rattle.ffi3_type_rules.specs.Layout.{size_of}
 use Rattle.ffi3_type_rules.specs.Tree.{Tree, trees_of}
 use Rattle.ffi3_type_rules.specs.Value.{ValueTree, void_value, values_of}
 use Rattle.ffi3_type_rules.specs.ValueText.{value_texts_of}
 use Rattle.ffi3_place_rules.specs.Event.{Event}
-use Rattle.ffi3_place_rules.specs.Standard.{Standard, round8}
+use Rattle.ffi3_place_rules.specs.Standard.{Standard}
 use Rattle.ffi3_run_rules.specs.Journal.{Entered, IsEntry, IsReturn}
-use Rattle.ffi3_run_rules.specs.Lines.{Tracing, a_line, address_text, enter_lines, leave_lines}
+use Rattle.ffi3_run_rules.specs.declared.Stop.{Stop}
+use Rattle.ffi3_run_rules.specs.Lines.{Tracing, a_line, address_text, enter_lines, leave_lines, stop_text}
 use Rattle.ffi3_run_rules.specs.Meaning.{Program}
 use Rattle.ffi3_run_rules.specs.Trace.{TraceItem}
 use Rattle.ffi3_turn_rules.specs.Interrupted.{IsPart}
@@ -22,6 +22,7 @@ use Rattle.ffi3_turn_rules.specs.TracingOf.{IsTracingOf}
 use Rattle.ffi3_turn_rules.proofs.TracedCalls.{enter_lines_are, leave_lines_are}
 use Rattle.ffi3_machine.specs.Recorded.{event_at}
 use Rattle.ffi3_body.specs.SeenActivation.{arguments_in}
+use Rattle.ffi3_body.proofs.Fitting.{arguments_count}
 use Rattle.ffi3_io.specs.Sink.{Adds, AddsSome, Rose, SinkState}
 use Rattle.ffi3_io.specs.Written.{TookText, IsCause}
 use Rattle.ffi3_io.specs.declared.IoError.{IoError}
@@ -29,7 +30,9 @@ use Rattle.ffi3_io.specs.declared.IoError.TheVariants as cut
 use Rattle.ffi3_io.proofs.Adding.{Adds-then, Adds-along, Adds-none}
 use Rattle.ffi3_text.specs.TraceLines.{enter_text_of, leave_text_of, keep_text_of}
 use Rattle.ffi3_board.specs.TraceLines.{last_event, entry_lines, return_lines}
-use Rattle.ffi3_board.specs.Turned.{is_in_line}
+use Rattle.ffi3_board.specs.declared.board.Turn.{Turn}
+use Rattle.ffi3_board.specs.Going.{StoppedBy}
+use Rattle.ffi3_board.specs.Turned.{is_in_line, turn_of}
 use Rattle.ffi3_io.specs.Written.{LineFailed, LineInterrupted, WroteLine}
 
 -- the event that was just recorded
@@ -40,22 +43,17 @@ last_is events e =
 
 -- ---- the arguments in a block
 
-pub length_arguments : (ts : List Tree) (block : List ℕ) → length (arguments_in ts block) ≡ length ts
-length_arguments [] block = refl
-length_arguments (t ∷ ts) block =
-    ap (λ (n : ℕ). suc n) (length_arguments ts (drop (round8 (size_of t)) block))
-
 -- one argument more
 pub one_argument : (ts : List Tree) (block : List ℕ) (args args' : List ValueTree) (i : ℕ) (v : ValueTree) → i < length ts → args ≡ take i (arguments_in ts block) → v ≡ slice_index_or (arguments_in ts block) i void_value → args' ≡ args ++ v ∷ [] → args' ≡ take (i + 1) (arguments_in ts block)
 one_argument ts block args args' i v below so_far is pushed =
     let all = arguments_in ts block in
-    let within : i < length all = omega (arith, below, length_arguments ts block) in
+    let within : i < length all = omega (arith, below, arguments_count ts block) in
     pushed ∙ ap (λ (l : List ValueTree). l ++ v ∷ []) so_far ∙ ap (λ (w : ValueTree). take i all ++ w ∷ []) is ∙ sym (take_more all i void_value within)
 
 -- and all
 pub all_arguments : (ts : List Tree) (block : List ℕ) (args : List ValueTree) (i : ℕ) → length ts ≤ i → args ≡ take i (arguments_in ts block) → args ≡ arguments_in ts block
 all_arguments ts block args i past so_far =
-    so_far ∙ take_all i (arguments_in ts block) (omega (arith, past, length_arguments ts block))
+    so_far ∙ take_all i (arguments_in ts block) (omega (arith, past, arguments_count ts block))
 
 -- ---- two lines, one after the other
 
@@ -102,6 +100,13 @@ cut_part cut.NoMemory line a b same =
     subst P (sym same) (0, refl, Adds-none a.taken, refl)
 cut_part cut.Failed line a b failed =
     (failed.part.0, failed.part.1, failed.part.2, (failed.rose, failed.never_falls))
+
+-- the line of a stop
+pub stopped_off : (ss : List Signature) (stop : Stop) (a b : SinkState) (why : IoError) (t : Turn) → t ≡ turn_of why → LineInterrupted (a_line (stop_text ss stop)) a b why → StoppedBy ss stop a b t
+stopped_off ss stop a b cut.NoMemory t is h =
+    subst (λ (u : Turn). StoppedBy ss stop a b u) (sym is) h
+stopped_off ss stop a b cut.Failed t is h =
+    subst (λ (u : Turn). StoppedBy ss stop a b u) (sym is) h
 
 -- the same by a count that is equal
 pub cause_from : (why : IoError) (a b c : ℕ) → b ≡ a → IsCause why b c → IsCause why a c

@@ -25,8 +25,8 @@ use Rattle.ffi3_io.specs.Sink.{SinkState}
 use Rattle.ffi3_callee.specs.Received.{OwnsAtEntry}
 use Rattle.ffi3_invoke.specs.Calls.{entry_at, return_at}
 use Rattle.ffi3_board.specs.declared.activation.OpenCall.{OpenCall}
-use Rattle.ffi3_board.specs.declared.activation.Who.TheVariants.{Function}
 use Rattle.ffi3_board.specs.declared.board.Board.{Board}
+use Rattle.ffi3_board.specs.Going.{activation_of}
 use Rattle.ffi3_board.specs.Known.{AreKnown}
 use Rattle.ffi3_board.specs.Between.{Beginning, KeepsFound}
 
@@ -96,7 +96,7 @@ module _ {S : Type 0} where
   pub record HasAccepted (closure : Closure) (standing : S) (old new : Board S) : Type 0 where
     pub call : OpenCall
     pub signature : call.sig ≡ closure.sig
-    pub innermost : new.innermost ≡ Some (record { who = Function closure.func; standing = standing; user = closure.user; results = [] })
+    pub innermost : new.innermost ≡ Some (activation_of closure standing)
     pub suspended : new.suspended.items ≡ old.suspended.items
     pub served : new.served ≡ Some call
     pub table : new.table ≡ old.table

@@ -1,5 +1,5 @@
 //! Calls that are entered, and returns.
-ghost use Rattle.std.specs.Prelude.{◌≡◌, ℕ, ◌+◌, ◌<◌, ◌≤◌, ◌^◌, IfOk, List, None, length, reverse, suc, true};
+ghost use Rattle.std.specs.Prelude.{◌≡◌, ℕ, ◌<◌, ◌≤◌, IfOk, List, None, length, reverse, suc, true};
 ghost use Rattle.ffi3_type_rules.specs.declared.limits.TheConstants.{STACK_TOP};
 ghost use Rattle.ffi3_type_rules.specs.Signature.{signature_at};
 ghost use Rattle.ffi3_type_rules.specs.Tree.{trees_of};
@@ -21,12 +21,12 @@ ghost use Rattle.ffi3_invoke.specs.Calls.{HasEnded, IsCalled};
 ghost use Rattle.ffi3_board.specs.Between.{Beginning, IsAsking, run_state};
 ghost use Rattle.ffi3_board.specs.Going.{HasGoneBack, HasGoneIn};
 ghost use Rattle.ffi3_board.specs.Known.{CanEnter};
-ghost use Rattle.ffi3_board.specs.Path.{AreShort, acting, call_inside, calls_of, result_type_at};
+ghost use Rattle.ffi3_board.specs.Path.{AreShort, call_inside, calls_of, result_type_at};
 ghost use Rattle.ffi3_board.specs.Stack.{HoldsCalls};
 ghost use Rattle.ffi3_board.specs.Turned.{Turned};
 
 use crate::tracing::{tell_entry, tell_return};
-use crate::{Activation, Board, Cifs, OpenCall, Turn, Waiting, Who};
+use crate::{Activation, Board, Cifs, OpenCall, Turn, Waiting};
 use ffi3_invoke::{begin_call, end_call};
 use ffi3_io::Sink;
 use ffi3_machine::Machine;
@@ -112,12 +112,7 @@ impl<S: Drop> Board<S> {
             activation: current,
             call: OpenCall { sig, incoming },
         });
-        self.innermost = Some(Activation {
-            who: Who::Function(closure.func),
-            standing,
-            user: closure.user,
-            results: Values::new(alloc),
-        });
+        self.innermost = Some(Activation::of_closure(alloc, closure, standing));
         Turn::More
     }
 

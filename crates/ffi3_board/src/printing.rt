@@ -16,7 +16,7 @@ ghost use Rattle.ffi3_board.specs.Turned.{Turned};
 
 use crate::line::write_print;
 use crate::{Activation, Board, Turn};
-use ffi3_io::{IoError, Sink};
+use ffi3_io::Sink;
 use ffi3_types::FfiType;
 use ffi3_values::Value;
 use std::alloc::Global;
@@ -40,8 +40,7 @@ impl<S: Drop> Board<S> {
     {
         match write_print(alloc, output, ty, value) {
             Ok(()) => self.go_on(current, Value::Void),
-            Err(IoError::NoMemory) => Turn::NoMemory,
-            Err(IoError::Failed) => Turn::Failed,
+            Err(why) => Turn::cut_off(why),
         }
     }
 }

@@ -1,5 +1,5 @@
 //! A call that is served: accepted from what a machine shows at an entry, and left.
-ghost use Rattle.std.specs.Prelude.{◌≡◌, ℕ, ◌<◌, ◌≤◌, List, None, OnOk, Some, [], length, suc, true};
+ghost use Rattle.std.specs.Prelude.{◌≡◌, ℕ, ◌<◌, ◌≤◌, List, None, OnOk, [], length, suc, true};
 ghost use Rattle.ffi3_type_rules.specs.Signature.{signature_at};
 ghost use Rattle.ffi3_type_rules.specs.Value.{ValueTree, fits};
 ghost use Rattle.ffi3_values.specs.ValueOf.{value_of};
@@ -23,13 +23,13 @@ ghost use Rattle.ffi3_board.specs.Turned.{Turned};
 ghost use Rattle.ffi3_turn_rules.specs.TracingOf.{IsTracingOf};
 
 use crate::tracing::{tell_entry, tell_return};
-use crate::{Activation, Board, Cifs, OpenCall, Turn, Who};
+use crate::{Activation, Board, Cifs, OpenCall, Turn};
 use ffi3_invoke::{accept, give_back};
 use ffi3_io::{IoError, Sink};
 use ffi3_machine::Machine;
 use ffi3_place::Abi;
 use ffi3_run_rules::Closure;
-use ffi3_values::{Value, Values};
+use ffi3_values::Value;
 use std::alloc::Global;
 
 impl<S: Drop> Board<S> {
@@ -63,12 +63,7 @@ impl<S: Drop> Board<S> {
             return Err(why);
         }
         self.served = Some(OpenCall { sig, incoming });
-        self.innermost = Some(Activation {
-            who: Who::Function(closure.func),
-            standing,
-            user: closure.user,
-            results: Values::new(alloc),
-        });
+        self.innermost = Some(Activation::of_closure(alloc, closure, standing));
         Ok(())
     }
 

@@ -14,7 +14,7 @@ ghost use Rattle.ffi3_board.specs.Turned.{Turned};
 
 use crate::line::write_stop;
 use crate::{Activation, Board, Cifs, Turn};
-use ffi3_io::{IoError, Sink};
+use ffi3_io::Sink;
 use ffi3_place::Abi;
 use ffi3_run_rules::Stop;
 use std::alloc::Global;
@@ -31,8 +31,7 @@ pub(crate) fn stop<A: Abi, O: Sink>(
 {
     match write_stop(alloc, output, cifs, why) {
         Ok(()) => Turn::Stopped(why),
-        Err(IoError::NoMemory) => Turn::NoMemory,
-        Err(IoError::Failed) => Turn::Failed,
+        Err(cause) => Turn::cut_off(cause),
     }
 }
 

@@ -3,7 +3,7 @@ ghost use Rattle.std.specs.Prelude.{◌≡◌, ◌<◌, ◌≤◌, ◌+◌, ◌+
 ghost use Rattle.ffi3_type_rules.specs.declared.limits.TheConstants.{MOST_CALLS};
 ghost use Rattle.ffi3_script_rules.specs.Script as script;
 ghost use Rattle.ffi3_script_rules.specs.Made.{does, makes, total_of};
-ghost use Rattle.ffi3_script_body.specs.ExprOf.{expression_of, expressions_in, act_of, script_move_of, script_moves_of};
+ghost use Rattle.ffi3_script_body.specs.ExprOf.{expression_of, act_of, script_move_of, script_moves_of};
 
 use crate::filling::{arguments, number};
 use crate::summing::{boxed, sum, with_arguments};
@@ -58,7 +58,7 @@ fn total_of(alloc: Global, j: u32) -> Result<Expr, NoMemory>
 
 impl Shapes {
     ghost use Rattle.std.specs.Prelude.{◌≡◌, ◌<◌, ◌≤◌, ◌+◌, IfOk, OnOk, length};
-    ghost use Rattle.ffi3_script_rules.specs.Made.{types_at, made_call, made_body, made_main, made_calls, own_total};
+    ghost use Rattle.ffi3_script_rules.specs.Made.{types_at, made_call, made_body, made_main, own_total};
     ghost use Rattle.ffi3_script_body.specs.ExprOf.{expression_of, script_move_of, script_moves_of};
     ghost use Rattle.ffi3_made.specs.KindOf.{state_of};
     ghost use Rattle.ffi3_made.specs.ShapesOf.{types_in};

@@ -1,16 +1,16 @@
 -- How far a run comes by each kind of move.
-use Rattle.std.proofs.Common.{◌≡◌, Bool, ℕ, suc, ◌+◌, ◌≤◌, max, List, [], ◌∷◌, ◌++◌, length, refl, sym, ap, ◌∙◌, subst, append-nil, length-append, arith}
+use Rattle.std.proofs.Common.{◌≡◌, Bool, ℕ, suc, ◌+◌, ◌≤◌, max, List, [], ◌∷◌, ◌++◌, length, refl, sym, ap, ◌∙◌, subst, append-nil, arith}
 use Rattle.ffi3_type_rules.specs.Tree.{Tree}
-use Rattle.ffi3_type_rules.specs.Signature.{Signature, signature_at}
+use Rattle.ffi3_type_rules.specs.Signature.{signature_at}
 use Rattle.ffi3_type_rules.specs.Value.{ValueTree, void_value}
-use Rattle.ffi3_place_rules.specs.Standard.{Standard, need_of}
+use Rattle.ffi3_place_rules.specs.Standard.{Standard}
 use Rattle.ffi3_place_rules.specs.Event.{Event}
 use Rattle.ffi3_run_rules.specs.Closures.{Closures}
 use Rattle.ffi3_run_rules.specs.Meaning.{Program, Activation, Effect, ends, prints, goes_on, enters, End, effect_of, next_move, meaning_of, need_at}
 use Rattle.ffi3_run_rules.specs.Trace.{TraceItem, Enter, Line, Leave, trace_of}
-use Rattle.ffi3_run_rules.specs.Journal.{Entered, needs, stack_top, IsEntry, IsReturn, IsWhole, JournalOf}
+use Rattle.ffi3_run_rules.specs.Journal.{Entered, stack_top, IsEntry, IsReturn, IsWhole, JournalOf}
 use Rattle.ffi3_run_rules.specs.Lines.{at_start, Tracing, text, text_of_run}
-use Rattle.ffi3_turn_rules.specs.Remainder.{Remainder, Bottom, remainder_of, before, only, Suspended, rest, alone, inside, awaited}
+use Rattle.ffi3_turn_rules.specs.Remainder.{Remainder, remainder_of, before, only, Suspended, rest, alone, inside, awaited}
 use Rattle.ffi3_turn_rules.specs.Step.{acts_on}
 use Rattle.ffi3_turn_rules.specs.Depth.{depth_after, depth_at, deepest, depth_of}
 use Rattle.ffi3_turn_rules.specs.Open.{AnswersTo, open_calls, unreturned}
@@ -18,8 +18,8 @@ use Rattle.ffi3_turn_rules.specs.Interrupted.{TraceWasInterrupted}
 use Rattle.ffi3_turn_rules.specs.SoFar.{Base, main_base, text_start, text_after, Position, left_at_position, open_at, Answer, HasComeTo, IsOver, IsInterrupted}
 use Rattle.ffi3_turn_rules.proofs.Steps.{rest_prints, rest_goes_on, rest_enters, rest_returns, follows_then}
 use Rattle.ffi3_turn_rules.proofs.Depths.{depth_at-append, deepest-append, ends_below}
-use Rattle.ffi3_turn_rules.proofs.Nested.{enters_left, nested_on, nested_depth}
-use Rattle.ffi3_turn_rules.proofs.Opens.{answers_then, one_line, one_entry, one_return, nothing_yet, opens_enter, unreturned_enter, unreturned_leave, needs_are, depth_enter, depth_leave}
+use Rattle.ffi3_turn_rules.proofs.Nested.{enters_left, nested_on}
+use Rattle.ffi3_turn_rules.proofs.Opens.{answers_then, one_line, one_entry, one_return, nothing_yet, opens_enter, unreturned_enter, unreturned_leave, depth_enter, depth_leave}
 use Rattle.ffi3_turn_rules.proofs.Interruptions.{cut_then, cut_journal, cut_text}
 
 -- ---- the peak so far
@@ -149,27 +149,6 @@ pub open_alone : (p : Program) (b : Base) (all : Remainder) (own : List TraceIte
 open_alone p b all own events x h is =
     ap (λ (l : List Suspended). open_at p b l events) is
     ∙ ap (open_calls p.signatures (awaited b.bottom [])) (h.entries_are ∙ none_of_them h.inner b.entries (h.counted ∙ ap (λ (l : List Suspended). length l) is))
-
-awaited_length : (bottom : Bottom) (outer : List Suspended) → length (awaited bottom outer) ≡ length outer + length (awaited bottom [])
-awaited_length bottom [] = omega arith
-awaited_length bottom (s ∷ outer) = let k = awaited_length bottom outer in omega (arith, k)
-
--- the stack that is left is all that open calls do not take
-pub room_left : (p : Program) (b : Base) (all : Remainder) (own : List TraceItem) (events : List Event) (x : Position) → HasComeTo p b all own events x → x.path.innermost.left + depth_at p (depth_of p (awaited b.bottom [])) own ≡ b.room + depth_of p (awaited b.bottom [])
-room_left p b all own events x h =
-    let k = nested_depth p b.room b.bottom x.path.innermost x.path.suspended h.nested in
-    ap (λ (n : ℕ). x.path.innermost.left + n) h.depth ∙ k
-
--- the same by the entries of the open calls, where the program's needs are the standard's
-pub room_by_needs : (p : Program) (b : Base) (all : Remainder) (own : List TraceItem) (events : List Event) (x : Position) → HasComeTo p b all own events x → length (awaited b.bottom []) ≡ length b.entries → ((s : Signature) → p.need s ≡ need_of b.standard s) → x.path.innermost.left + needs b.standard (open_at p b x.path.suspended events) ≡ b.room + depth_of p (awaited b.bottom [])
-room_by_needs p b all own events x h began same =
-    let outer = x.path.suspended in
-    let longer = awaited_length b.bottom outer in
-    let inner : length h.inner ≡ length x.path.suspended = h.counted in
-    let sizes : length (unreturned b.entries events) ≡ length h.inner + length b.entries = ap (λ (l : List Event). length l) h.entries_are ∙ length-append h.inner b.entries in
-    let counted : length (awaited b.bottom x.path.suspended) ≡ length (unreturned b.entries events) = omega (arith, longer, inner, sizes, began) in
-    ap (λ (n : ℕ). x.path.innermost.left + n) (needs_are p b.standard same (awaited b.bottom outer) (unreturned b.entries events) counted)
-    ∙ nested_depth p b.room b.bottom x.path.innermost outer h.nested
 
 -- ---- the end
 

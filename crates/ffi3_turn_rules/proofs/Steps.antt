@@ -6,7 +6,7 @@ use Rattle.ffi3_run_rules.specs.declared.Stop.{Stop}
 use Rattle.ffi3_run_rules.specs.declared.Stop.TheVariants.{MoveLimit}
 use Rattle.ffi3_run_rules.specs.Closures.{Closures, no_closures}
 use Rattle.ffi3_run_rules.specs.Meaning.{Program, Activation, Effect, ends, stops, prints, goes_on, enters, End, returned, stopped, Outcome, follows, resumed, with_result, effect_of, next_move, act, act_within, called, main_call, most_moves, meaning_of}
-use Rattle.ffi3_run_rules.specs.Trace.{TraceItem, Enter, Line, Leave, written_out, written_out_one, trace_of}
+use Rattle.ffi3_run_rules.specs.Trace.{TraceItem, Enter, Line, Leave, written_out, written_out_one}
 use Rattle.ffi3_run_rules.proofs.Recursion.{act-is}
 use Rattle.ffi3_turn_rules.specs.Remainder.{Remainder, remainder_of, before, only, only_stops, Suspended, Bottom, as_main, served, Path, resumed_at, left_at, finished, through, rest, alone, inside}
 use Rattle.ffi3_turn_rules.specs.Step.{step_of, left_before}
@@ -102,9 +102,6 @@ rest_leaves p a sig closures moves v is = by_effect p (served sig) a [] closures
 -- THE MEANING OF A PROGRAM IS WHAT IS LEFT AT MAIN, with no closures and all moves
 pub meaning_is_rest : (p : Program) → remainder_of (meaning_of p) ≡ rest p as_main (alone main_call) no_closures most_moves
 meaning_is_rest p = refl
-
-pub trace_is_rest : (p : Program) → trace_of p ≡ (rest p as_main (alone main_call) no_closures most_moves).trace
-trace_is_rest p = refl
 
 -- A CALL IS ITS ENTRY AND WHAT IS LEFT WHERE IT IS SERVED
 served_at : (ptr sig : ℕ) (args : List ValueTree) (o : Outcome) (e : End) → written_out_one (called ptr sig args o.call_tree (result_of e)) ≡ Enter ptr sig args ∷ (left_at sig (remainder_of o) e).trace
