@@ -48,50 +48,61 @@ within-items n name d inside ds there is within = subst (HasArraysWithin n) (arr
 abbrev pub version_at : Data → Path → Read ⊤
 version_at d path = version_of (option_and_then as_u64 (as_number (value_under (codes "version") d))) (under path (codes "version"))
 
-abbrev pub items_in : List ℕ → Data → Path → Read Items
-items_in name d path = items_at (value_under name d) (under path name)
-
--- what is left behind the items of the signatures
-abbrev rest_at : List (List ℕ) → Data → Path → Items → Read Script
-rest_at natives d path ss =
+-- what is left behind the signatures, with the functions at a place
+abbrev functions_left : List (List ℕ) → Data → List Signature → Path → Read Script
+functions_left natives d signatures place =
     and_then
-    (λ signatures. and_then
-    (λ fs. and_then (read_rest natives d signatures fs) (read_headings (length signatures) [] fs (under path (codes "functions")) 0))
-    (items_in (codes "functions") d path))
-    (read_signatures ss (under path (codes "signatures")) 0)
+    (λ fs. and_then (read_rest natives d signatures fs) (read_headings (length signatures) [] fs place 0))
+    (items_at (value_under (codes "functions") d) place)
+
+-- what is left behind the items of the signatures, which stand at a place
+abbrev rest_at : List (List ℕ) → Data → Path → Path → Items → Read Script
+rest_at natives d path on ss =
+    and_then (λ signatures. functions_left natives d signatures (under path (codes "functions"))) (read_signatures ss on 0)
 
 -- the language has it at the root
 abbrev script_at : List (List ℕ) → Data → List Key → Path → Read Script
 script_at natives d keys path =
-    and_then (λ checked. and_then (λ version. and_then (rest_at natives d path) (items_in (codes "signatures") d path)) (version_at d path)) (check_object d keys path)
+    and_then
+    (λ checked. and_then
+    (λ version. and_then (rest_at natives d path (under path (codes "signatures"))) (items_at (value_under (codes "signatures") d) (under path (codes "signatures"))))
+    (version_at d path))
+    (check_object d keys path)
 
 module _ (natives : List (List ℕ)) (d : Data) (path : Path) (root : path ≡ []) (keys : List Key) (keys_are : keys ≡ script_keys) (e0 : check_object d keys path ≡ read tt) (e1 : version_at d path ≡ read tt)
-    (ss : Items) (e2 : items_in (codes "signatures") d path ≡ read ss) (on : Path) (on_is : on ≡ under path (codes "signatures")) where
-  root-until : read_script natives d ≡ rest_at natives d path ss
-  root-until =
+    (on : Path) (on_is : on ≡ under path (codes "signatures")) where
+  signatures-next : read_script natives d ≡ and_then (rest_at natives d path on) (items_at (value_under (codes "signatures") d) on)
+  signatures-next =
       ap (script_at natives d script_keys) (sym root) ∙ ap (λ k. script_at natives d k path) (sym keys_are)
-      ∙ then_read _ (check_object d keys path) tt e0 ∙ then_read _ (version_at d path) tt e1 ∙ then_read _ (items_in (codes "signatures") d path) ss e2
+      ∙ then_read _ (check_object d keys path) tt e0 ∙ then_read _ (version_at d path) tt e1
+      ∙ ap (λ q. and_then (rest_at natives d path q) (items_at (value_under (codes "signatures") d) q)) (sym on_is)
 
-  pub root-signatures : (p : Path) (r : Reason) → read_signatures ss on 0 ≡ fault p r → read_script natives d ≡ fault p r
-  root-signatures p r e = root-until ∙ then_fault _ (read_signatures ss (under path (codes "signatures")) 0) p r (ap (λ q. read_signatures ss q 0) (sym on_is) ∙ e)
+  pub root-items : (p : Path) (r : Reason) → items_at (value_under (codes "signatures") d) on ≡ fault p r → read_script natives d ≡ fault p r
+  root-items p r e = signatures-next ∙ then_fault _ (items_at (value_under (codes "signatures") d) on) p r e
 
-  module _ (signatures : List Signature) (e3 : read_signatures ss on 0 ≡ read signatures) where
-    functions-next : read_script natives d ≡ and_then (λ fs. and_then (read_rest natives d signatures fs) (read_headings (length signatures) [] fs (under path (codes "functions")) 0)) (items_in (codes "functions") d path)
-    functions-next = root-until ∙ then_read _ (read_signatures ss (under path (codes "signatures")) 0) signatures (ap (λ q. read_signatures ss q 0) (sym on_is) ∙ e3)
+  module _ (ss : Items) (e2 : items_at (value_under (codes "signatures") d) on ≡ read ss) where
+    root-until : read_script natives d ≡ rest_at natives d path on ss
+    root-until = signatures-next ∙ then_read _ (items_at (value_under (codes "signatures") d) on) ss e2
 
-    pub root-functions : (p : Path) (r : Reason) → items_in (codes "functions") d path ≡ fault p r → read_script natives d ≡ fault p r
-    root-functions p r e = functions-next ∙ then_fault _ (items_in (codes "functions") d path) p r e
+    pub root-signatures : (p : Path) (r : Reason) → read_signatures ss on 0 ≡ fault p r → read_script natives d ≡ fault p r
+    root-signatures p r e = root-until ∙ then_fault _ (read_signatures ss on 0) p r e
 
-    module _ (fs : Items) (e4 : items_in (codes "functions") d path ≡ read fs) (place : Path) (place_is : place ≡ under path (codes "functions")) where
-      headings-next : read_script natives d ≡ and_then (read_rest natives d signatures fs) (read_headings (length signatures) [] fs place 0)
-      headings-next =
-          functions-next ∙ then_read _ (items_in (codes "functions") d path) fs e4 ∙ ap (λ q. and_then (read_rest natives d signatures fs) (read_headings (length signatures) [] fs q 0)) (sym place_is)
+    module _ (signatures : List Signature) (e3 : read_signatures ss on 0 ≡ read signatures) (place : Path) (place_is : place ≡ under path (codes "functions")) where
+      functions-next : read_script natives d ≡ functions_left natives d signatures place
+      functions-next = root-until ∙ then_read _ (read_signatures ss on 0) signatures e3 ∙ ap (functions_left natives d signatures) (sym place_is)
 
-      pub root-headings : (p : Path) (r : Reason) → read_headings (length signatures) [] fs place 0 ≡ fault p r → read_script natives d ≡ fault p r
-      root-headings p r e = headings-next ∙ then_fault _ (read_headings (length signatures) [] fs place 0) p r e
+      pub root-functions : (p : Path) (r : Reason) → items_at (value_under (codes "functions") d) place ≡ fault p r → read_script natives d ≡ fault p r
+      root-functions p r e = functions-next ∙ then_fault _ (items_at (value_under (codes "functions") d) place) p r e
 
-      pub root-rest : (hs : List Heading) → read_headings (length signatures) [] fs place 0 ≡ read hs → read_script natives d ≡ read_rest natives d signatures fs hs
-      root-rest hs e = headings-next ∙ then_read _ (read_headings (length signatures) [] fs place 0) hs e
+      module _ (fs : Items) (e4 : items_at (value_under (codes "functions") d) place ≡ read fs) where
+        headings-next : read_script natives d ≡ and_then (read_rest natives d signatures fs) (read_headings (length signatures) [] fs place 0)
+        headings-next = functions-next ∙ then_read _ (items_at (value_under (codes "functions") d) place) fs e4
+
+        pub root-headings : (p : Path) (r : Reason) → read_headings (length signatures) [] fs place 0 ≡ fault p r → read_script natives d ≡ fault p r
+        root-headings p r e = headings-next ∙ then_fault _ (read_headings (length signatures) [] fs place 0) p r e
+
+        pub root-rest : (hs : List Heading) → read_headings (length signatures) [] fs place 0 ≡ read hs → read_script natives d ≡ read_rest natives d signatures fs hs
+        root-rest hs e = headings-next ∙ then_read _ (read_headings (length signatures) [] fs place 0) hs e
 
 -- ---- the bodies and main
 

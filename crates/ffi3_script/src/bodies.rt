@@ -13,6 +13,7 @@ ghost use Rattle.ffi3_script.specs.ScopeOf.{given_of, surroundings_in};
 ghost use Rattle.ffi3_script.specs.Numbers.{CallsWithin};
 
 use crate::acts::read_move;
+use crate::arrays::items_under;
 use crate::index::NameIndex;
 use crate::scope::{Globals, Scope};
 use crate::{Act, NoMemory, ScriptMove};
@@ -180,12 +181,7 @@ pub(crate) fn read_body(
         (under at.now name.now) ≡ language.fault p r)) }
 {
     let place = at.key(name);
-    let Some(body) = value.get(name) else {
-        return Err(bad(alloc, &place, Reason::NotAnArray));
-    };
-    let Some(items) = body.as_array() else {
-        return Err(bad(alloc, &place, Reason::NotAnArray));
-    };
+    let items = items_under(alloc, name, value, &place)?;
     let moves = read_moves(alloc, globals, own, items, &place)?;
     if !ends(&moves) {
         return Err(bad(alloc, &place, Reason::NoReturnAtTheEnd));

@@ -13,6 +13,7 @@ ghost use Rattle.ffi3_script_body.specs.ExprOf.{expression_of, expressions_in, t
 ghost use Rattle.ffi3_script.specs.Numbers.{CallsWithin};
 ghost use Rattle.ffi3_script.specs.ScopeOf.{scope_of, given_in, IsEven};
 
+use crate::arrays::items_under;
 use crate::heads::new_name;
 use crate::scope::Scope;
 use crate::values::{read_typed, read_value, read_values};
@@ -93,12 +94,7 @@ pub(crate) fn read_arguments(
         (under at.now (codes "args")) ≡ language.fault p r)) }
 {
     let place = at.key("args");
-    let Some(args) = value.get("args") else {
-        return Err(bad(alloc, &place, Reason::NotAnArray));
-    };
-    let Some(items) = args.as_array() else {
-        return Err(bad(alloc, &place, Reason::NotAnArray));
-    };
+    let items = items_under(alloc, "args", value, &place)?;
     if items.len() != types.len() {
         return Err(bad(alloc, &place, Reason::WrongCount));
     }

@@ -1,17 +1,18 @@
 // The whole of a script.
 ghost use Rattle.std.specs.Prelude.{◌≡◌, ◌<◌, ◌≤◌, ◌^◌, ◌++◌, [], All, IfOk, IfErr};
-ghost use Rattle.std.specs.Prelude.{OnOk, length, map, codes, option_and_then};
+ghost use Rattle.std.specs.Prelude.{OnOk, length, codes, option_and_then};
 ghost use Rattle.serde_json.specs.Find.{as_number, as_u64};
 ghost use Rattle.serde_json.specs.View.{view, items_view};
 ghost use Rattle.ffi3_script_rules.specs.Language as language;
 ghost use Rattle.ffi3_script_rules.specs.Language.{read, under, value_under, HasShortArrays, HaveShortArrays};
-ghost use Rattle.ffi3_script_rules.specs.Bodies.{script_keys, version_of, items_at, read_signatures, read_headings};
-ghost use Rattle.ffi3_script_rules.specs.Bodies.{read_bodies, read_rest, read_script, names_of};
+ghost use Rattle.ffi3_script_rules.specs.Bodies.{script_keys, version_of, read_signatures, read_headings};
+ghost use Rattle.ffi3_script_rules.specs.Bodies.{read_rest, read_script, names_of};
 ghost use Rattle.ffi3_json.specs.Reports.{Reports};
 ghost use Rattle.ffi3_json.specs.Within.{HasArraysWithin};
-ghost use Rattle.ffi3_script.specs.PartsOf.{headings_of, part_of, script_in, bodies_and_main};
+ghost use Rattle.ffi3_script.specs.PartsOf.{headings_of, script_in, bodies_and_main};
 
 use crate::acts::add_key;
+use crate::arrays::items_under;
 use crate::bodies::read_body;
 use crate::function_parts::{FunctionPart, read_parts};
 use crate::functions::FunctionNames;
@@ -71,33 +72,6 @@ fn read_version(alloc: Global, value: &Json, at: &Way) -> Result<(), ScriptFault
         return Err(bad(alloc, &place, Reason::VersionNotKnown));
     }
     Ok(())
-}
-
-// The items of the array that a value has under a key.
-fn items_under<'a>(
-    alloc: Global,
-    name: &str,
-    value: &'a Json,
-    at: &Way,
-) -> Result<&'a Vec<Json>, ScriptFault>
-    requires short { HasShortArrays (view value.now) }
-    requires within { HasArraysWithin 1048577 (view value.now) }
-    ensures short { IfOk result (λ items. HaveShortArrays (items_view items.now.items)) }
-    ensures few { IfOk result (λ items. length items.now.items ≤ 1048577) }
-    ensures ok { IfOk result
-        (λ items. items_at (value_under name.now (view value.now)) (under at.now name.now) ≡ read
-        (items_view items.now.items)) }
-    ensures err { IfErr result
-        (Reports (λ p r. items_at (value_under name.now (view value.now)) (under at.now name.now) ≡ language.fault p r)) }
-{
-    let place = at.key(name);
-    let Some(inside) = value.get(name) else {
-        return Err(bad(alloc, &place, Reason::NotAnArray));
-    };
-    let Some(items) = inside.as_array() else {
-        return Err(bad(alloc, &place, Reason::NotAnArray));
-    };
-    Ok(items)
 }
 
 // The signatures that the items of an array are.
@@ -203,10 +177,12 @@ pub(crate) fn read_root(alloc: Global, value: &Json, natives: &Names) -> Result<
     let keys = script_keys(alloc)?;
     check_object_at(alloc, value, &keys, &at)?;
     read_version(alloc, value, &at)?;
-    let signatures = items_under(alloc, "signatures", value, &at)?;
-    let sigs = read_signatures(alloc, signatures, &at.key("signatures"))?;
-    let functions = items_under(alloc, "functions", value, &at)?;
-    let headings = read_headings(alloc, &sigs, functions, &at.key("functions"))?;
+    let place = at.key("signatures");
+    let signatures = items_under(alloc, "signatures", value, &place)?;
+    let sigs = read_signatures(alloc, signatures, &place)?;
+    let place = at.key("functions");
+    let functions = items_under(alloc, "functions", value, &place)?;
+    let headings = read_headings(alloc, &sigs, functions, &place)?;
     let bodies = read_rest(alloc, natives, &sigs, headings, functions, value, &at)?;
     Ok(Parts {
         sigs,
