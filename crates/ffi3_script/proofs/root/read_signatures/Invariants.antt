@@ -2,11 +2,10 @@ use Rattle.std.proofs.Common.{◌≡◌, length, drop}
 use Rattle.serde_json.specs.View.{items_view}
 use Rattle.ffi3_script_rules.specs.Bodies.{read_signatures}
 use Rattle.ffi3_script.proofs.Loops.{before}
-use Rattle.ffi3_script.proofs.root.read_each_signature.Given as goal
+use Rattle.ffi3_script.proofs.root.read_signatures.Given as goal
 
 abbrev pub invariant-loop-i : goal.invariant-loop-i
 invariant-loop-i l = record {
-  place : l.at ≡ l.initial.at;
   count : length l.sigs ≡ l.i;
-  so_far : read_signatures (items_view l.items.items) l.initial.at 0 ≡ before l.sigs (read_signatures (items_view (drop l.i l.items.items)) l.initial.at l.i);
+  so_far : read_signatures (items_view l.items.items) l.at 0 ≡ before l.sigs (read_signatures (items_view (drop l.i l.items.items)) l.at l.i);
 }

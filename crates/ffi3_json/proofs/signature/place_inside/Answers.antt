@@ -1,6 +1,6 @@
 use Rattle.std.proofs.Common.{sym, ◌∙◌, arith}
 use Rattle.ffi3_json.proofs.Paths.{way-more, way-end}
-use Rattle.ffi3_json.proofs.signature.push_way.Goals as goal
+use Rattle.ffi3_json.proofs.signature.place_inside.Goals as goal
 
 pub loop-i-preserved : goal.loop-i-preserved
 loop-i-preserved c =
