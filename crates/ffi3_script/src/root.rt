@@ -1,5 +1,5 @@
 // The whole of a script.
-ghost use Rattle.std.specs.Prelude.{◌≡◌, ◌<◌, ◌≤◌, ◌^◌, ◌++◌, [], All, IfOk, IfErr};
+ghost use Rattle.std.specs.Prelude.{◌≡◌, ◌+◌, ◌<◌, ◌≤◌, ◌^◌, ◌++◌, [], All, IfOk, IfErr};
 ghost use Rattle.std.specs.Prelude.{OnOk, length, codes, option_and_then};
 ghost use Rattle.serde_json.specs.Find.{as_number, as_u64};
 ghost use Rattle.serde_json.specs.View.{view, items_view};
@@ -7,6 +7,7 @@ ghost use Rattle.ffi3_script_rules.specs.Language as language;
 ghost use Rattle.ffi3_script_rules.specs.Language.{read, under, value_under, HasShortArrays, HaveShortArrays};
 ghost use Rattle.ffi3_script_rules.specs.Bodies.{script_keys, version_of, read_signatures, read_headings};
 ghost use Rattle.ffi3_script_rules.specs.Bodies.{read_rest, read_script, names_of};
+ghost use Rattle.ffi3_script_rules.specs.Reading.{max_length};
 ghost use Rattle.ffi3_json.specs.Reports.{Reports};
 ghost use Rattle.ffi3_json.specs.Within.{HasArraysWithin};
 ghost use Rattle.ffi3_script.specs.PartsOf.{headings_of, script_in, bodies_and_main};
@@ -77,7 +78,7 @@ fn read_version(alloc: Global, value: &Json, at: &Way) -> Result<(), ScriptFault
 // The signatures that the items of an array are.
 fn read_signatures(alloc: Global, items: &Vec<Json>, at: &Way) -> Result<Sigs, ScriptFault>
     requires short { HaveShortArrays (items_view items.now.items) }
-    requires few { length items.now.items ≤ 1048577 }
+    requires few { length items.now.items ≤ max_length + 1 }
     ensures ok { IfOk result (λ ss. read_signatures (items_view items.now.items) at.now 0 ≡ read ss) }
     ensures err { IfErr result
         (Reports (λ p r. read_signatures (items_view items.now.items) at.now 0 ≡ language.fault p r)) }
@@ -111,7 +112,7 @@ fn read_all_bodies(
 ) -> Result<AllBodies, ScriptFault>
     requires short { HasShortArrays (view value.now) }
     requires items_short { HaveShortArrays (items_view items.now.items) }
-    requires count { length items.now.items ≤ 1048577 }
+    requires count { length items.now.items ≤ max_length + 1 }
     requires few { length globals.now.functions.now < 2 ^ 32 }
     requires within { All (λ h. h.sig < length globals.now.sigs.now) headings.now.items }
     requires same { length headings.now.items ≡ length items.now.items }
@@ -141,7 +142,7 @@ fn read_rest(
 ) -> Result<AllBodies, ScriptFault>
     requires short { HasShortArrays (view value.now) }
     requires items_short { HaveShortArrays (items_view items.now.items) }
-    requires count { length items.now.items ≤ 1048577 }
+    requires count { length items.now.items ≤ max_length + 1 }
     requires few { length natives.now < 2 ^ 31 }
     requires within { All (λ h. h.sig < length sigs.now) headings.list.items }
     requires same { length headings.list.items ≡ length items.now.items }
@@ -166,7 +167,7 @@ fn read_rest(
 /// The script that a JSON value is, beside natives of these names.
 pub(crate) fn read_root(alloc: Global, value: &Json, natives: &Names) -> Result<Parts, ScriptFault>
     requires short { HasShortArrays (view value.now) }
-    requires within { HasArraysWithin 1048577 (view value.now) }
+    requires within { HasArraysWithin (max_length + 1) (view value.now) }
     requires few { length natives.now < 2 ^ 31 }
     ensures ok { IfOk result
         (λ p. read_script natives.now (view value.now) ≡ read (script_in p.sigs p.functions.items p.main.items)) }
