@@ -1,5 +1,5 @@
 // Whose body an activation runs, and where it stands in it.
-ghost use Rattle.std.specs.Prelude.{◌≡◌, ◌<◌, ◌≤◌, ◌+◌, ◌^◌, [], List, length, map};
+ghost use Rattle.std.specs.Prelude.{◌≡◌, ◌<◌, ◌≤◌, ◌+◌, ◌^◌, [], List, length};
 ghost use Rattle.ffi3_place_rules.specs.Standard.{Standard};
 ghost use Rattle.ffi3_run_rules.specs.Move.{no_signature};
 ghost use Rattle.ffi3_run_rules.specs.Meaning.{main, function};
@@ -8,7 +8,7 @@ ghost use Rattle.ffi3_script_rules.specs.Natives.{NamedNative, program_beside};
 ghost use Rattle.ffi3_script_body.specs.BodyOf.{signature_of};
 ghost use Rattle.ffi3_script.specs.ScriptOf.{script_of};
 ghost use Rattle.ffi3_ask.specs.Asked.{own_signature};
-ghost use Rattle.ffi3_ask.specs.Handed.{handed_in, signatures_in};
+ghost use Rattle.ffi3_ask.specs.Handed.{handed, signatures_in};
 ghost use Rattle.ffi3_ask.specs.Stands.{who_of, StandingAgrees, IsInBody};
 
 use crate::natives::{native_at, sigs_of};
@@ -54,12 +54,12 @@ impl Standing {
         number: u32,
     ) -> Standing
         requires below { number < length (script_of script.now).functions + length natives.now.items }
-        requires few_signatures { length (signatures_in (map (λ b. handed_in (title b) (meaning b) (signatures b)) natives.now.items)) < 2 ^ 31 }
+        requires few_signatures { length (signatures_in (handed title meaning signatures natives.now.items)) < 2 ^ 31 }
         ensures who { who_of result ≡ function number }
-        ensures agrees { let handed : List NamedNative = map (λ b. handed_in (title b) (meaning b) (signatures b)) natives.now.items in
+        ensures agrees { let all = handed title meaning signatures natives.now.items in
             (std : Standard) (a : SeenActivation) →
-            a.signature ≡ own_signature (program_beside std handed (script_of script.now)) (function number) →
-            a.results ≡ [] → StandingAgrees script.now handed a result }
+            a.signature ≡ own_signature (program_beside std all (script_of script.now)) (function number) →
+            a.results ≡ [] → StandingAgrees script.now all a result }
     {
         let count = script.functions();
         if number < count {
@@ -87,12 +87,12 @@ fn in_script(alloc: Global, script: &Script, number: u32) -> Standing
 fn in_native(script: &Script, natives: &Vec<Box<dyn Native>>, number: u32) -> Standing
     requires above { length (script_of script.now).functions ≤ number }
     requires below { number < length (script_of script.now).functions + length natives.now.items }
-    requires few_signatures { length (signatures_in (map (λ b. handed_in (title b) (meaning b) (signatures b)) natives.now.items)) < 2 ^ 31 }
+    requires few_signatures { length (signatures_in (handed title meaning signatures natives.now.items)) < 2 ^ 31 }
     ensures who { who_of result ≡ function number }
-    ensures agrees { let handed : List NamedNative = map (λ b. handed_in (title b) (meaning b) (signatures b)) natives.now.items in
+    ensures agrees { let all = handed title meaning signatures natives.now.items in
         (std : Standard) (a : SeenActivation) →
-        a.signature ≡ own_signature (program_beside std handed (script_of script.now)) (function number) →
-        a.results ≡ [] → StandingAgrees script.now handed a result }
+        a.signature ≡ own_signature (program_beside std all (script_of script.now)) (function number) →
+        a.results ≡ [] → StandingAgrees script.now all a result }
 {
     let j = number - script.functions();
     // by which it has a signature of its own
