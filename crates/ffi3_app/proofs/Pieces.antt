@@ -11,7 +11,7 @@ use Rattle.ffi3_script_rules.specs.Script.{Script}
 use Rattle.ffi3_io.specs.Sink.{SinkState}
 use Rattle.ffi3_io.specs.Written.{TookText}
 use Rattle.ffi3_app.specs.Commands.{standard_of, joined, lines_from, arguments_from, place_text}
-use Rattle.ffi3_io.specs.Written.{Wrote}
+use Rattle.ffi3_io.specs.Written as written
 use Rattle.ffi3_io.specs.declared.IoError.{IoError}
 use Rattle.ffi3_io.specs.declared.IoError.TheVariants.{NoMemory}
 
@@ -20,7 +20,7 @@ Writing = Result Unit IoError
 
 -- what came of a text
 abbrev pub Wrote : List ℕ → SinkState → SinkState → Writing → Type 0
-Wrote text a b r = Wrote text a b r
+Wrote text a b r = written.Wrote text a b r
 
 nothing_written : (a : SinkState) → Wrote [] a a (Ok tt)
 nothing_written a = took_nothing a

@@ -1,5 +1,5 @@
 -- What the top call says, from what its parts say.
-use Rattle.std.proofs.Common.{◌≡◌, ℕ, ◌+◌, ◌<◌, ◌≤◌, List, inl, inr, refl, sym, subst, ap, ap₂, ◌∙◌, arith, lit≤}
+use Rattle.std.proofs.Common.{◌≡◌, ℕ, ◌+◌, ◌<◌, List, inl, inr, refl, sym, subst, ap, ap₂, ◌∙◌, arith, lit≤}
 use Rattle.std.specs.Prelude.{◌⊎◌, Some, None, false}
 use Rattle.ffi3_io.specs.Sink.{Rose}
 use Rattle.ffi3_script_rules.specs.Script.{Script}
@@ -13,7 +13,7 @@ use Rattle.ffi3_words.specs.declared.words.Request.{Request}
 use Rattle.ffi3_words.specs.declared.words.Request.TheVariants.{Layout, Place, Run, Bench}
 use Rattle.ffi3_app.specs.declared.load.Refusal.{Refusal}
 use Rattle.ffi3_app.specs.declared.load.Refusal.TheVariants.{ReadFault, NoMemory, TooLong, BadJson, BadScript}
-use Rattle.ffi3_words.specs.Words.{Takes, IsInRange, IsRefused, IsStated, IsWordsRefusal as WordsRefusal}
+use Rattle.ffi3_words.specs.Words.{Takes, IsRefused, IsStated, IsWordsRefusal as WordsRefusal}
 use Rattle.ffi3_io.specs.Written.{IsCause}
 use Rattle.ffi3_io.specs.declared.IoError.{IoError}
 use Rattle.ffi3_io.specs.declared.IoError.TheVariants as end
@@ -164,12 +164,6 @@ says_of_bench words natives input output output' told told' machine machine' see
 
 pub taken_as : (words : List (List ℕ)) (q r : Request) → q ≡ r → Takes words q → Takes words r
 taken_as words q r is takes = subst (Takes words) is takes
-
-pub calls_in_range : (q : Request) (seed calls : ℕ) → q ≡ Bench seed calls → IsInRange q → calls ≤ 1000
-calls_in_range q seed calls is range = (subst IsInRange is range).1
-
-pub reads_no_bench : (q : Request) (seed calls : ℕ) → q ≡ Bench seed calls → ReadsScript q → ⊥
-reads_no_bench q seed calls is reads = subst ReadsScript is reads
 
 -- ---- what follows from what a status says
 
