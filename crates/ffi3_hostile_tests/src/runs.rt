@@ -2,9 +2,7 @@
 ghost use Rattle.std.specs.Prelude.{◌<◌, ◌^◌, List, length, map};
 ghost use Rattle.ffi3_ask.specs.Handed.{handed_in, signatures_in};
 
-use crate::again::Again;
-use crate::drop_self::DropSelf;
-use crate::endless::{Flood, Talker};
+use crate::{Again, Deed, DropSelf, Endless};
 use ffi3_aapcs64::Aapcs64;
 use ffi3_amd64::Amd64;
 use ffi3_body::Native;
@@ -130,8 +128,8 @@ fn check_on_each(
 ) -> Result<(), Fail> {
     let mut natives: Vec<Box<dyn Native>> = Vec::new(alloc);
     natives.push(Box::new(alloc, DropSelf::new(alloc)?)?)?;
-    natives.push(Box::new(alloc, Flood::new(alloc)?)?)?;
-    natives.push(Box::new(alloc, Talker::new(alloc)?)?)?;
+    natives.push(Box::new(alloc, Endless::new(alloc, Deed::Flood)?)?)?;
+    natives.push(Box::new(alloc, Endless::new(alloc, Deed::Talk)?)?)?;
     check::<Amd64>(rt, alloc, &natives, script, text, end, moves_left)?;
     check::<Aapcs64>(rt, alloc, &natives, script, text, end, moves_left)?;
     check::<Riscv>(rt, alloc, &natives, script, text, end, moves_left)
