@@ -21,7 +21,7 @@ use Rattle.ffi3_words.specs.declared.words.WordsFault.{WordsFault}
 use Rattle.ffi3_words.specs.declared.words.WordsFault.TheVariants.{Refused}
 use Rattle.ffi3_app.specs.Refusals.{IsInputRefusal, IsRefusedWith, refusal_line, refusal_status, HasPlace, TellsRefusal}
 use Rattle.ffi3_io.specs.Source.{SourceState}
-use Rattle.ffi3_app.specs.Top.{ReadAs, IsAtEnd, IsReadInPart, ReportsFault, whole, cut, IsBench, IsBenchInPart, IsDone, IsDoneInPart, BeganOrNot, ReadsScript, TakesScript, Fails, refused, bad_words, read_failed, write_failed, no_memory_for_words, no_memory, bench_write_failed, bench_no_memory, Says, done, bench_done, failed, SaysOfBench, was_done, was_cut, was_short, refusal_of, status_of, status_when_done, no_memory_line}
+use Rattle.ffi3_app.specs.Top.{ReadAs, IsAtEnd, IsReadInPart, ReportsFault, whole, cut, IsBench, IsBenchInPart, IsDone, IsDoneInPart, BeganOrNot, ReadsScript, TakesScript, Fails, refused, bad_words, read_failed, write_failed, no_memory_for_words, no_memory, bench_write_failed, bench_no_memory, Says, done, bench_done, failed, SaysOfBench, was_done, was_interrupted, had_no_memory, refusal_of, status_of, status_when_done, no_memory_line}
 use Rattle.ffi3_words.specs.WordCommands.{Addresses}
 use Rattle.ffi3_words.proofs.Refusals.{taken_not_refused}
 use Rattle.ffi3_words.proofs.Stated.{stated_is_taken}
@@ -159,8 +159,8 @@ module _ (words : List (List ℕ)) (natives : List NamedNative) (input input' : 
 
 pub says_of_bench : (words : List (List ℕ)) (natives : List NamedNative) (input : SourceState) (output output' told told' : SinkState) (machine machine' : State) (seed calls : ℕ) → Takes words (Bench seed calls) → (status : ℕ) → SaysOfBench seed calls output output' told told' machine' status → Says words natives input input output output' told told' machine machine' status
 says_of_bench words natives input output output' told told' machine machine' seed calls takes _ (was_done is same) = bench_done takes refl is same
-says_of_bench words natives input output output' told told' machine machine' seed calls takes _ (was_cut part rose tells) = failed (bench_write_failed takes refl part rose) tells
-says_of_bench words natives input output output' told told' machine machine' seed calls takes _ (was_short part count tells) = failed (bench_no_memory takes refl part count) tells
+says_of_bench words natives input output output' told told' machine machine' seed calls takes _ (was_interrupted part rose tells) = failed (bench_write_failed takes refl part rose) tells
+says_of_bench words natives input output output' told told' machine machine' seed calls takes _ (had_no_memory part count tells) = failed (bench_no_memory takes refl part count) tells
 
 pub taken_as : (words : List (List ℕ)) (q r : Request) → q ≡ r → Takes words q → Takes words r
 taken_as words q r is takes = subst (Takes words) is takes

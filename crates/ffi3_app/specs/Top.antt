@@ -161,8 +161,8 @@ pub data Fails (words : List (List ℕ)) (natives : List NamedNative) (input inp
 -- what each status of the bench says: it is done, or what interrupted it is told
 pub data SaysOfBench (seed calls : ℕ) (output output' told told' : SinkState) (machine' : State) : ℕ → Type 0 where
   was_done : IsBench seed calls output output' machine' → told' ≡ told → SaysOfBench seed calls output output' told told' machine' 0
-  was_cut : {answer : ℕ} → IsBenchInPart seed calls output output' → Rose output.faults output'.faults → ReportsFault write_fault_line 4 told told' answer → SaysOfBench seed calls output output' told told' machine' answer
-  was_short : {answer : ℕ} → IsBenchInPart seed calls output output' → output'.faults ≡ output.faults → ReportsFault no_memory_line 5 told told' answer → SaysOfBench seed calls output output' told told' machine' answer
+  was_interrupted : {answer : ℕ} → IsBenchInPart seed calls output output' → Rose output.faults output'.faults → ReportsFault write_fault_line 4 told told' answer → SaysOfBench seed calls output output' told told' machine' answer
+  had_no_memory : {answer : ℕ} → IsBenchInPart seed calls output output' → output'.faults ≡ output.faults → ReportsFault no_memory_line 5 told told' answer → SaysOfBench seed calls output output' told told' machine' answer
 
 -- WHAT EACH STATUS SAYS: the work is done whole, or what goes wrong is told, and then 4 in place of its status where that failed
 pub data Says (words : List (List ℕ)) (natives : List NamedNative) (input input' : SourceState) (output output' told told' : SinkState) (machine machine' : State) : ℕ → Type 0 where

@@ -29,7 +29,7 @@ use Rattle.ffi3_board.specs.declared.board.Board.{Board}
 use Rattle.ffi3_board.specs.Between.{Beginning}
 use Rattle.ffi3_board.specs.Path.{call_inside, who_of}
 use Rattle.ffi3_board.specs.Turned.{StandsAt}
-use Rattle.ffi3_runner.specs.Agreeing.{seen_by_main, IsStanding, AllWillStand, AllStand}
+use Rattle.ffi3_runner.specs.Agreeing.{seen_by_main, IsStanding, AllWillStand, PositionsAgree}
 use Rattle.ffi3_runner.specs.Ran.{Ran}
 use Rattle.ffi3_runner.specs.Running.{IsNew, IsPrepared, program}
 use Rattle.ffi3_runner.specs.Started.{main_beginning}
@@ -37,7 +37,7 @@ use Rattle.ffi3_runner.specs.declared.run.RunEnd.{RunEnd}
 use Rattle.ffi3_runner.proofs.Starting.{stands_at_start}
 
 -- main stands before its first move
-pub main_stands : (s : Script) (natives : List NamedNative) (ss : List Signature) (m : State) (b : Board Standing) → IsNew b → (a : Activation Standing) → a.who ≡ Main → a.results ≡ [] → ask.who_of a.standing ≡ main → ((z : SeenActivation) → z.signature ≡ no_signature → z.results ≡ [] → StandingAgrees s natives z a.standing) → AllStand s natives ss m (record b { innermost = Some a })
+pub main_stands : (s : Script) (natives : List NamedNative) (ss : List Signature) (m : State) (b : Board Standing) → IsNew b → (a : Activation Standing) → a.who ≡ Main → a.results ≡ [] → ask.who_of a.standing ≡ main → ((z : SeenActivation) → z.signature ≡ no_signature → z.results ≡ [] → StandingAgrees s natives z a.standing) → PositionsAgree s natives ss m (record b { innermost = Some a })
 main_stands s natives ss m b new a is_main none who agrees =
     let here : IsStanding s natives ss m None a = record { who = ap who_of is_main ∙ sym who; agrees = agrees (seen_by_main a) refl none } in
     let P = λ (o : Option OpenCall). IsStanding s natives ss m o a in

@@ -34,7 +34,7 @@ use Rattle.ffi3_board.specs.Path.{who_of, acting, arguments_at, call_inside, sus
 use Rattle.ffi3_board.specs.Turned.{StandsAt, StandsWith, Turned, WentOn}
 use Rattle.ffi3_board.specs.declared.board.Turn.{Turn}
 use Rattle.ffi3_board.specs.declared.board.Turn.TheVariants as turn
-use Rattle.ffi3_runner.specs.Agreeing.{seen_by, InnermostStands, IsStanding, WillStand, AllStand}
+use Rattle.ffi3_runner.specs.Agreeing.{seen_by, InnermostStands, IsStanding, WillStand, PositionsAgree}
 use Rattle.ffi3_runner.specs.Running.{program, IsPrepared}
 use Rattle.ffi3_runner.proofs.Seen.{seen_more, seen_still}
 
@@ -60,7 +60,7 @@ after_stands s natives ss m call a b r same who who' agrees =
     }
 
 -- the innermost of a board that stands
-pub innermost_stands : (s : Script) (natives : List NamedNative) (ss : List Signature) (m : State) (b : Board Standing) (a : Activation Standing) → b.innermost ≡ Some a → AllStand s natives ss m b → IsStanding s natives ss m (call_inside b.served (reverse b.suspended.items)) a
+pub innermost_stands : (s : Script) (natives : List NamedNative) (ss : List Signature) (m : State) (b : Board Standing) (a : Activation Standing) → b.innermost ≡ Some a → PositionsAgree s natives ss m b → IsStanding s natives ss m (call_inside b.served (reverse b.suspended.items)) a
 innermost_stands s natives ss m b a is h =
     subst (λ (i : Option (Activation Standing)). InnermostStands s natives ss m (call_inside b.served (reverse b.suspended.items)) i) is h.innermost
 
@@ -102,7 +102,7 @@ count_of_functions std s natives =
 
 -- ---- the whole of it, by what a runner has
 
-module _ (std : Standard) (s : Script) (natives : List NamedNative) (cifs : List Signature) (prepared : IsPrepared std s natives cifs) (b : Board Standing) (m : State) (output : SinkState) (a z : Activation Standing) (i : Option (Activation Standing)) (k : ℕ) (is : b.innermost ≡ Some a) (counted : b.moves ≡ suc k) (stand : AllStand s natives cifs m b) (same : z ≡ record a { standing = z.standing }) (Later : ValueTree → Type 0) (asked mv : Move) (it : IsAsked (program std s natives) (ask.who_of a.standing) (seen_by cifs m (call_inside b.served (reverse b.suspended.items)) a) Later asked) (what : asked ≡ mv) where
+module _ (std : Standard) (s : Script) (natives : List NamedNative) (cifs : List Signature) (prepared : IsPrepared std s natives cifs) (b : Board Standing) (m : State) (output : SinkState) (a z : Activation Standing) (i : Option (Activation Standing)) (k : ℕ) (is : b.innermost ≡ Some a) (counted : b.moves ≡ suc k) (stand : PositionsAgree s natives cifs m b) (same : z ≡ record a { standing = z.standing }) (Later : ValueTree → Type 0) (asked mv : Move) (it : IsAsked (program std s natives) (ask.who_of a.standing) (seen_by cifs m (call_inside b.served (reverse b.suspended.items)) a) Later asked) (what : asked ≡ mv) where
   next_is : next_move (program std s natives) (acting (program std s natives).signatures m (call_inside b.served (reverse b.suspended.items)) a) ≡ mv
   next_is =
       let p = program std s natives in

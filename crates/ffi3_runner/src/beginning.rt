@@ -7,7 +7,7 @@ ghost use Rattle.ffi3_machine.specs.State.{State, begun};
 ghost use Rattle.ffi3_io.specs.Sink.{SinkState};
 ghost use Rattle.ffi3_ask.specs.Handed.{handed};
 ghost use Rattle.ffi3_board.specs.Turned.{StandsAt};
-ghost use Rattle.ffi3_runner.specs.Agreeing.{AllStand};
+ghost use Rattle.ffi3_runner.specs.Agreeing.{PositionsAgree};
 ghost use Rattle.ffi3_runner.specs.Running.{IsNew, IsPrepared, program};
 ghost use Rattle.ffi3_runner.specs.Started.{main_beginning};
 
@@ -22,7 +22,7 @@ impl<'a, A: Abi> Prepared<'a, A> {
     pub(crate) fn start(&self, board: &mut Board<Standing>)
         requires prepared { IsPrepared A.standard self.now.script.now (handed title meaning signatures self.now.natives.now.items) self.now.cifs }
         requires new { IsNew board.old }
-        ensures standing { (m : State) → AllStand self.now.script.now (handed title meaning signatures self.now.natives.now.items) self.now.cifs m board.new }
+        ensures standing { (m : State) → PositionsAgree self.now.script.now (handed title meaning signatures self.now.natives.now.items) self.now.cifs m board.new }
         ensures between { let p = program A.standard self.now.script.now (handed title meaning signatures self.now.natives.now.items) in
             (trace : Bool) (m : State) (output : SinkState) → m ≡ begun A.TARGET m.spare_events m.spare_bytes →
             StandsAt p (main_base A.standard) (remainder_of (meaning_of p)) (main_beginning trace A.standard output) [] [] board.new m output }

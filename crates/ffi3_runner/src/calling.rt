@@ -22,7 +22,7 @@ ghost use Rattle.ffi3_board.specs.Between.{Beginning, IsAsking, run_state};
 ghost use Rattle.ffi3_board.specs.Path.{call_inside, calls_of};
 ghost use Rattle.ffi3_board.specs.Stack.{HoldsCalls};
 ghost use Rattle.ffi3_board.specs.Turned.{StandsAt, Turned};
-ghost use Rattle.ffi3_runner.specs.Agreeing.{AllStand, AllWillStand, IsStanding, WillStand, seen_by};
+ghost use Rattle.ffi3_runner.specs.Agreeing.{PositionsAgree, AllWillStand, IsStanding, WillStand, seen_by};
 ghost use Rattle.ffi3_runner.specs.Running.{IsPrepared, program};
 
 use crate::asked::{asked_by_callee, asked_by_main};
@@ -110,7 +110,7 @@ impl<'a, A: Abi> Prepared<'a, A> {
             IsAsking p base all first own events (run_state p.signatures current board.old machine.old (O.state output.old)) (asks.call ptr sig args.now) →
             Turned p base all first own (suc board.old.moves) board.new machine.new (O.state output.new) result }
         ensures standing { result ≡ Turn.More →
-            AllStand self.now.script.now (handed title meaning signatures self.now.natives.now.items) self.now.cifs machine.new board.new }
+            PositionsAgree self.now.script.now (handed title meaning signatures self.now.natives.now.items) self.now.cifs machine.new board.new }
     {
         let closure = match board.callee(machine, &self.cifs, ptr, sig) {
             Ok(closure) => closure,

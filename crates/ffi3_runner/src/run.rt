@@ -8,7 +8,7 @@ ghost use Rattle.ffi3_turn_rules.specs.TracingOf.{IsTracingOf};
 ghost use Rattle.ffi3_ask.specs.Handed.{handed};
 ghost use Rattle.ffi3_board.specs.Between.{Beginning};
 ghost use Rattle.ffi3_board.specs.Turned.{StandsAt};
-ghost use Rattle.ffi3_runner.specs.Agreeing.{AllStand};
+ghost use Rattle.ffi3_runner.specs.Agreeing.{PositionsAgree};
 ghost use Rattle.ffi3_runner.specs.Ran.{Ran};
 ghost use Rattle.ffi3_runner.specs.Serving.{end_of};
 ghost use Rattle.ffi3_runner.specs.Running.{IsPrepared, program};
@@ -55,7 +55,7 @@ impl<'a, A: Abi> Prepared<'a, A> {
         trace: bool,
     ) -> RunEnd
         requires prepared { IsPrepared A.standard self.now.script.now (handed title meaning signatures self.now.natives.now.items) self.now.cifs }
-        requires standing { AllStand self.now.script.now (handed title meaning signatures self.now.natives.now.items) self.now.cifs machine.old board.old }
+        requires standing { PositionsAgree self.now.script.now (handed title meaning signatures self.now.natives.now.items) self.now.cifs machine.old board.old }
         requires between { (base : Base) × (all : Remainder) × (first : Beginning) × (own : List TraceItem) × (events : List Event) ×
             (base.standard ≡ A.standard) ×
             IsTracingOf (program A.standard self.now.script.now (handed title meaning signatures self.now.natives.now.items)) base trace first.tracing ×

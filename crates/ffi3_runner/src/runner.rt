@@ -18,7 +18,7 @@ ghost use Rattle.ffi3_ask.specs.Handed.{handed, signatures_in};
 ghost use Rattle.ffi3_board.specs.Between.{Beginning};
 ghost use Rattle.ffi3_board.specs.Served.{IsIdle};
 ghost use Rattle.ffi3_board.specs.Turned.{StandsAt, Turned};
-ghost use Rattle.ffi3_runner.specs.Agreeing.{AllStand};
+ghost use Rattle.ffi3_runner.specs.Agreeing.{PositionsAgree};
 ghost use Rattle.ffi3_runner.specs.RunInterrupted.{RunWasInterrupted};
 ghost use Rattle.ffi3_runner.specs.RunMatches.{RunMatches, WrotePart};
 ghost use Rattle.ffi3_runner.specs.Serving.{IsAtEntry, Served};
@@ -114,7 +114,7 @@ impl<'a, A: Abi> Runner<'a, A> {
         requires prepared { IsPrepared A.standard self.old.prepared.script.now (handed title meaning signatures self.old.prepared.natives.now.items) self.old.prepared.cifs }
         requires new { IsNew self.old.board }
         ensures standing { (m : State) →
-            AllStand self.old.prepared.script.now (handed title meaning signatures self.old.prepared.natives.now.items) self.old.prepared.cifs m self.new.board }
+            PositionsAgree self.old.prepared.script.now (handed title meaning signatures self.old.prepared.natives.now.items) self.old.prepared.cifs m self.new.board }
         ensures between { let p = program A.standard self.old.prepared.script.now (handed title meaning signatures self.old.prepared.natives.now.items) in
             (trace : Bool) (m : State) (output : SinkState) → m ≡ begun A.TARGET m.spare_events m.spare_bytes →
             StandsAt p (main_base A.standard) (remainder_of (meaning_of p)) (main_beginning trace A.standard output) [] [] self.new.board m output }
@@ -128,7 +128,7 @@ impl<'a, A: Abi> Runner<'a, A> {
     /// is left. With `trace` an entry or a return is told as soon as it is recorded, in two lines.
     pub fn turn<O: Sink>(&mut self, machine: &mut Machine, output: &mut O, trace: bool) -> Turn
         requires prepared { IsPrepared A.standard self.old.prepared.script.now (handed title meaning signatures self.old.prepared.natives.now.items) self.old.prepared.cifs }
-        requires standing { AllStand self.old.prepared.script.now (handed title meaning signatures self.old.prepared.natives.now.items) self.old.prepared.cifs machine.old self.old.board }
+        requires standing { PositionsAgree self.old.prepared.script.now (handed title meaning signatures self.old.prepared.natives.now.items) self.old.prepared.cifs machine.old self.old.board }
         requires between { (base : Base) × (all : Remainder) × (first : Beginning) × (own : List TraceItem) × (events : List Event) ×
             (base.standard ≡ A.standard) ×
             IsTracingOf (program A.standard self.old.prepared.script.now (handed title meaning signatures self.old.prepared.natives.now.items)) base trace first.tracing ×
@@ -139,7 +139,7 @@ impl<'a, A: Abi> Runner<'a, A> {
             StandsAt p base all first own events self.old.board machine.old (O.state output.old) →
             Turned p base all first own self.old.board.moves self.new.board machine.new (O.state output.new) result }
         ensures standing { result ≡ Turn.More →
-            AllStand self.old.prepared.script.now (handed title meaning signatures self.old.prepared.natives.now.items) self.old.prepared.cifs machine.new self.new.board }
+            PositionsAgree self.old.prepared.script.now (handed title meaning signatures self.old.prepared.natives.now.items) self.old.prepared.cifs machine.new self.new.board }
         ensures prepared { self.new.prepared ≡ self.old.prepared }
         ensures going { result ≡ Turn.More → self.new.over ≡ self.old.over }
         ensures over { (result ≡ Turn.More → ⊥) → self.new.over ≡ true }

@@ -8,7 +8,7 @@ ghost use Rattle.ffi3_turn_rules.specs.TracingOf.{IsTracingOf};
 ghost use Rattle.ffi3_ask.specs.Handed.{handed};
 ghost use Rattle.ffi3_board.specs.Between.{Beginning};
 ghost use Rattle.ffi3_board.specs.Turned.{StandsAt, Turned};
-ghost use Rattle.ffi3_runner.specs.Agreeing.{AllStand};
+ghost use Rattle.ffi3_runner.specs.Agreeing.{PositionsAgree};
 ghost use Rattle.ffi3_runner.specs.Running.{IsPrepared, program};
 
 use crate::prepare::Prepared;
@@ -29,7 +29,7 @@ impl<'a, A: Abi> Prepared<'a, A> {
         trace: bool,
     ) -> Turn
         requires prepared { IsPrepared A.standard self.now.script.now (handed title meaning signatures self.now.natives.now.items) self.now.cifs }
-        requires standing { AllStand self.now.script.now (handed title meaning signatures self.now.natives.now.items) self.now.cifs machine.old board.old }
+        requires standing { PositionsAgree self.now.script.now (handed title meaning signatures self.now.natives.now.items) self.now.cifs machine.old board.old }
         requires between { (base : Base) × (all : Remainder) × (first : Beginning) × (own : List TraceItem) × (events : List Event) ×
             (base.standard ≡ A.standard) ×
             IsTracingOf (program A.standard self.now.script.now (handed title meaning signatures self.now.natives.now.items)) base trace first.tracing ×
@@ -40,7 +40,7 @@ impl<'a, A: Abi> Prepared<'a, A> {
             StandsAt p base all first own events board.old machine.old (O.state output.old) →
             Turned p base all first own board.old.moves board.new machine.new (O.state output.new) result }
         ensures standing { result ≡ Turn.More →
-            AllStand self.now.script.now (handed title meaning signatures self.now.natives.now.items) self.now.cifs machine.new board.new }
+            PositionsAgree self.now.script.now (handed title meaning signatures self.now.natives.now.items) self.now.cifs machine.new board.new }
     {
         let Some(mut current) = board.innermost.take() else {
             unreachable!()

@@ -124,8 +124,8 @@ fn read_all_bodies(
         (Reports (λ p r. bodies_and_main globals.now.sigs.now globals.now.functions.now (headings_of headings.now.items)
         (items_view items.now.items) (view value.now) at.now ≡ language.fault p r)) }
 {
-    let functions = read_parts(alloc, globals, headings, items, &at.key("functions"))?;
     let own = Sig::new(FfiType::Void, Fields::new(alloc), None);
+    let functions = read_parts(alloc, globals, headings, items, &at.key("functions"))?;
     let main = read_body(alloc, globals, &own, "main", value, at)?;
     Ok(AllBodies { functions, main })
 }
