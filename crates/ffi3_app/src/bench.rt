@@ -9,7 +9,7 @@ use ffi3_io::{IoError, Sink};
 use ffi3_machine::Machine;
 use std::alloc::Global;
 
-/// Does the bench, and answers the status of the program.
+/// Runs `bench` and returns the exit status.
 pub fn answer_bench<O: Sink, E: Sink>(
     alloc: Global,
     seed: u32,

@@ -21,7 +21,7 @@ use ffi3_machine::Machine;
 use ffi3_words::{Request, WordsFault, read_words};
 use std::alloc::Global;
 
-/// Does what the words ask for, and answers the status of the program.
+/// Runs the command line and returns the exit status.
 ///
 /// The words hold the program's name first. For `layout`, `place --target TARGET` and `run --target TARGET` the input is read to its
 /// end, or until it is longer than a script may be, and the output takes the lines that the command writes of the script. Scripts

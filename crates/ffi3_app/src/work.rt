@@ -21,7 +21,7 @@ use ffi3_types::Target;
 use ffi3_words::Request;
 use std::alloc::Global;
 
-/// Does what is asked for with a script beside natives, where it reads one, and says the status: 0, or 6 where the run
+/// Carries out a request that reads a script, beside natives, and returns the exit status: 0, or 6 where the run
 /// stopped.
 pub fn work<O: Sink>(
     alloc: Global,

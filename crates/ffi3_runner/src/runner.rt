@@ -80,7 +80,7 @@ impl<'a, A: Abi> Runner<'a, A> {
         })
     }
 
-    /// Whether the run is over: once a `turn`, also one inside `run_main`, answered other than
+    /// Whether the run is over: once a `turn`, also one inside `run_main`, returned other than
     /// `More`, or `serve` other than `Done`.
     pub fn ended(&self) -> bool
         ensures { result ≡ self.now.over }
