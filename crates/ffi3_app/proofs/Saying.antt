@@ -21,7 +21,7 @@ use Rattle.ffi3_words.specs.declared.words.WordsFault.{WordsFault}
 use Rattle.ffi3_words.specs.declared.words.WordsFault.TheVariants.{Refused}
 use Rattle.ffi3_app.specs.Refusals.{IsInputRefusal, IsRefusedWith, refusal_line, refusal_status, HasPlace, TellsRefusal}
 use Rattle.ffi3_io.specs.Source.{SourceState}
-use Rattle.ffi3_app.specs.Top.{ReadAs, IsAtEnd, IsReadInPart, ReportsFault, whole, cut, IsBench, IsBenchInPart, IsDone, IsDoneInPart, BeganOrNot, ReadsScript, TakesScript, Fails, refused, bad_words, read_failed, write_failed, no_memory_for_words, no_memory, bench_write_failed, bench_no_memory, Says, done, bench_done, failed, SaysOfBench, was_done, was_interrupted, had_no_memory, refusal_of, status_of, status_when_done, no_memory_line}
+use Rattle.ffi3_app.specs.Top.{ReadAs, IsAtEnd, IsReadInPart, ReportsFault, whole, cut, IsDone, IsDoneInPart, BeganOrNot, ReadsScript, TakesScript, Fails, refused, bad_words, read_failed, write_failed, no_memory_for_words, no_memory, bench_write_failed, bench_no_memory, Says, done, bench_done, failed, SaysOfBench, was_done, was_interrupted, had_no_memory, refusal_of, status_of, status_when_done, no_memory_line}
 use Rattle.ffi3_words.specs.WordCommands.{Addresses}
 use Rattle.ffi3_words.proofs.Refusals.{taken_not_refused}
 use Rattle.ffi3_words.proofs.Stated.{stated_is_taken}

@@ -1,6 +1,6 @@
 //! Scripts that call these natives.
-ghost use Rattle.std.specs.Prelude.{◌<◌, ◌^◌, List, length, map};
-ghost use Rattle.ffi3_ask.specs.Handed.{handed_in, signatures_in};
+ghost use Rattle.std.specs.Prelude.{◌<◌, ◌^◌, List, length};
+ghost use Rattle.ffi3_ask.specs.Handed.{handed, signatures_in};
 
 use crate::{Again, Deed, DropSelf, Endless};
 use ffi3_aapcs64::Aapcs64;
@@ -24,7 +24,7 @@ fn check<A: Abi>(
     moves_left: u32,
 ) -> Result<(), Fail>
     requires few_natives { length natives.now.items < 2 ^ 31 }
-    requires few_signatures { length (signatures_in (map (λ b. handed_in (title b) (meaning b) (signatures b)) natives.now.items)) < 2 ^ 31 }
+    requires few_signatures { length (signatures_in (handed title meaning signatures natives.now.items)) < 2 ^ 31 }
 {
     let Some(ran) = run_script::<A>(alloc, natives, script)? else {
         return Err("no script".into());
