@@ -6,8 +6,8 @@ use Rattle.ffi3_type_rules.specs.Signature.{Signature}
 use Rattle.ffi3_type_rules.specs.Integer.{bytes_of_number, sum_of, widened}
 use Rattle.ffi3_type_rules.specs.Value.{ValueTree, void_value, leaf_value, bytes_of}
 use Rattle.ffi3_run_rules.specs.Move.{Behaviour, Move, call, make, free, print, return}
-use Rattle.ffi3_hostile_tests.specs.declared.endless.Deed.{Deed}
-use Rattle.ffi3_hostile_tests.specs.declared.endless.Deed.TheVariants.{Flood, Talk}
+use Rattle.ffi3_hostile_tests.specs.declared.endless.EndlessMove.{EndlessMove}
+use Rattle.ffi3_hostile_tests.specs.declared.endless.EndlessMove.TheVariants.{MakeItself, PrintOne}
 
 -- sint64(pointer,sint64)
 abbrev pub again_signature : Signature
@@ -54,11 +54,11 @@ drop_behaviour arguments user [] = free (address arguments)
 drop_behaviour arguments user (_ ∷ _) = return (number (pos 5))
 
 -- FLOOD makes itself without end, and TALKER prints 1 without end.
-abbrev pub endless_behaviour : Deed → Behaviour
-endless_behaviour Flood arguments user results = make 0 0
-endless_behaviour Talk arguments user results =
+abbrev pub endless_behaviour : EndlessMove → Behaviour
+endless_behaviour MakeItself arguments user results = make 0 0
+endless_behaviour PrintOne arguments user results =
     print (scalar s8) (leaf_value (bytes_of_number s8 (pos 1)))
 
-abbrev pub endless_title : Deed → List ℕ
-endless_title Flood = codes "flood"
-endless_title Talk = codes "talker"
+abbrev pub endless_title : EndlessMove → List ℕ
+endless_title MakeItself = codes "flood"
+endless_title PrintOne = codes "talker"

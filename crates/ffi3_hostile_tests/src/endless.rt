@@ -9,40 +9,40 @@ use std::marker::Model;
 
 /// What a native does again and again.
 #[derive(Debug, Drop, Clone, Copy)]
-pub enum Deed {
+pub enum EndlessMove {
     /// It makes a closure of itself.
-    Flood,
+    MakeItself,
     /// It prints 1 as a sint8.
-    Talk,
+    PrintOne,
 }
 
-/// Does one thing without end, and is named after it, `flood` or `talker`: `void()`. Contracts see the deed.
+/// Does one thing without end, and is named after it, `flood` or `talker`: `void()`. Contracts see which.
 #[derive(Debug, Drop)]
 pub struct Endless {
-    deed: Deed,
+    repeated: EndlessMove,
     sigs: Sigs,
 }
 
 impl Model for Endless {
     ghost use Rattle.std.specs.Prelude.{◌≡◌, ◌∷◌, []};
-    ghost use Rattle.ffi3_hostile_tests.specs.declared.endless.Deed.{Deed};
+    ghost use Rattle.ffi3_hostile_tests.specs.declared.endless.EndlessMove.{EndlessMove};
     ghost use Rattle.ffi3_hostile_tests.specs.Hostile.{nothing_signature};
 
-    ghost Value = { Deed };
+    ghost Value = { EndlessMove };
 
-    ghost view = { λ a. a.deed };
+    ghost view = { λ a. a.repeated };
 
     ghost invariant = { λ a. a.sigs ≡ nothing_signature ∷ [] };
 }
 
 impl Endless {
     /// The native that does this. It takes memory for its signature.
-    pub fn new(alloc: Global, deed: Deed) -> Result<Endless, NoMemory>
-        ensures { IfOk result (λ a. a ≡ deed) }
+    pub fn new(alloc: Global, repeated: EndlessMove) -> Result<Endless, NoMemory>
+        ensures { IfOk result (λ a. a ≡ repeated) }
     {
         let mut sigs = Sigs::new(alloc);
         sigs.push(Sig::new(FfiType::Void, Fields::new(alloc), None))?;
-        Ok(Endless { deed, sigs })
+        Ok(Endless { repeated, sigs })
     }
 }
 
@@ -59,9 +59,9 @@ impl Body for Endless {
     ghost functions = { λ a. 1 };
 
     fn next(&self, alloc: Global, _seen: &Seen) -> Result<Move, NoMemory> {
-        match self.deed {
-            Deed::Flood => Ok(Move::Make { func: 0, user: 0 }),
-            Deed::Talk => Ok(Move::Print {
+        match self.repeated {
+            EndlessMove::MakeItself => Ok(Move::Make { func: 0, user: 0 }),
+            EndlessMove::PrintOne => Ok(Move::Print {
                 ty: FfiType::S8,
                 value: integer(alloc, &FfiType::S8, 1)?,
             }),
@@ -75,9 +75,9 @@ impl Native for Endless {
     ghost title = { endless_title };
 
     fn name(&self) -> &str {
-        match self.deed {
-            Deed::Flood => "flood",
-            Deed::Talk => "talker",
+        match self.repeated {
+            EndlessMove::MakeItself => "flood",
+            EndlessMove::PrintOne => "talker",
         }
     }
 

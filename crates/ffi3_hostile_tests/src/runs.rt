@@ -2,7 +2,7 @@
 ghost use Rattle.std.specs.Prelude.{◌<◌, ◌^◌, List, length};
 ghost use Rattle.ffi3_ask.specs.Handed.{handed, signatures_in};
 
-use crate::{Again, Deed, DropSelf, Endless};
+use crate::{Again, DropSelf, Endless, EndlessMove};
 use ffi3_aapcs64::Aapcs64;
 use ffi3_amd64::Amd64;
 use ffi3_body::Native;
@@ -128,8 +128,8 @@ fn check_on_each(
 ) -> Result<(), Fail> {
     let mut natives: Vec<Box<dyn Native>> = Vec::new(alloc);
     natives.push(Box::new(alloc, DropSelf::new(alloc)?)?)?;
-    natives.push(Box::new(alloc, Endless::new(alloc, Deed::Flood)?)?)?;
-    natives.push(Box::new(alloc, Endless::new(alloc, Deed::Talk)?)?)?;
+    natives.push(Box::new(alloc, Endless::new(alloc, EndlessMove::MakeItself)?)?)?;
+    natives.push(Box::new(alloc, Endless::new(alloc, EndlessMove::PrintOne)?)?)?;
     check::<Amd64>(rt, alloc, &natives, script, text, end, moves_left)?;
     check::<Aapcs64>(rt, alloc, &natives, script, text, end, moves_left)?;
     check::<Riscv>(rt, alloc, &natives, script, text, end, moves_left)
