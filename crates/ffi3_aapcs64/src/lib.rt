@@ -3,6 +3,7 @@
 
 ghost use Rattle.std.specs.Prelude.{◌≡◌, ◌<◌, ◌≤◌, ◌+◌, ◌*◌, cond, length, IfOk, true, false};
 ghost use Rattle.std.specs.List.{list_all};
+ghost use Rattle.ffi3_type_rules.specs.declared.limits.TheConstants.{ARGUMENT_BYTES, LARGEST_STRUCT, MOST_ARGUMENTS};
 ghost use Rattle.ffi3_type_rules.specs.Tree.{Scalar, scalar};
 ghost use Rattle.ffi3_type_rules.specs.Layout.{size_of, leaves_of, leaf_at, scalar_size};
 ghost use Rattle.ffi3_type_rules.specs.Fault.{IsResultType};
@@ -124,7 +125,7 @@ fn is_copied(ty: &FfiType) -> bool
 fn passed_size(ty: &FfiType) -> u64
     requires { IsResultType (tree_of ty.now) }
     ensures value { result ≡ size_of (passed (tree_of ty.now)) }
-    ensures small { result ≤ 1024 }
+    ensures small { result ≤ LARGEST_STRUCT }
 {
     if is_copied(ty) { 8 } else { size_of(ty) }
 }
@@ -165,7 +166,7 @@ fn number_needed(ty: &FfiType) -> u64
 fn stack_size(ty: &FfiType) -> u64
     requires { IsResultType (tree_of ty.now) }
     ensures value { result ≡ stack_size (tree_of ty.now) }
-    ensures small { result ≤ 1031 }
+    ensures small { result ≤ LARGEST_STRUCT + 7 }
 {
     round_up(passed_size(ty), 8)
 }
@@ -218,8 +219,8 @@ fn register_start(before: Taken, ty: &FfiType) -> u64
 /// Where the registers of an argument end. 256 is what 64 arguments need at most.
 fn register_end(before: Taken, ty: &FfiType) -> u64
     requires right { IsResultType (tree_of ty.now) }
-    requires few_general { before.general ≤ 256 }
-    requires few_vector { before.vector ≤ 256 }
+    requires few_general { before.general ≤ 4 * MOST_ARGUMENTS }
+    requires few_vector { before.vector ≤ 4 * MOST_ARGUMENTS }
     ensures value { result ≡ register_end before (tree_of ty.now) }
     ensures few { result ≤ next_register before (tree_of ty.now) + 4 }
 {
@@ -229,8 +230,8 @@ fn register_end(before: Taken, ty: &FfiType) -> u64
 /// Whether the registers that are left suffice for the whole argument.
 fn fits_registers(before: Taken, ty: &FfiType) -> bool
     requires right { IsResultType (tree_of ty.now) }
-    requires few_general { before.general ≤ 256 }
-    requires few_vector { before.vector ≤ 256 }
+    requires few_general { before.general ≤ 4 * MOST_ARGUMENTS }
+    requires few_vector { before.vector ≤ 4 * MOST_ARGUMENTS }
     ensures value { result ≡ in_registers before (tree_of ty.now) }
 {
     register_end(before, ty) <= 8
@@ -239,8 +240,8 @@ fn fits_registers(before: Taken, ty: &FfiType) -> bool
 /// The general registers that are taken after an argument.
 fn general_end(before: Taken, ty: &FfiType) -> u64
     requires right { IsResultType (tree_of ty.now) }
-    requires few_general { before.general ≤ 256 }
-    requires few_vector { before.vector ≤ 256 }
+    requires few_general { before.general ≤ 4 * MOST_ARGUMENTS }
+    requires few_vector { before.vector ≤ 4 * MOST_ARGUMENTS }
     ensures value { result ≡ (taken_with before (tree_of ty.now)).general }
     ensures few { result ≤ before.general + 4 }
 {
@@ -254,8 +255,8 @@ fn general_end(before: Taken, ty: &FfiType) -> u64
 /// The SIMD and floating-point registers that are taken after an argument.
 fn vector_end(before: Taken, ty: &FfiType) -> u64
     requires right { IsResultType (tree_of ty.now) }
-    requires few_general { before.general ≤ 256 }
-    requires few_vector { before.vector ≤ 256 }
+    requires few_general { before.general ≤ 4 * MOST_ARGUMENTS }
+    requires few_vector { before.vector ≤ 4 * MOST_ARGUMENTS }
     ensures value { result ≡ (taken_with before (tree_of ty.now)).vector }
     ensures few { result ≤ before.vector + 4 }
 {
@@ -269,11 +270,11 @@ fn vector_end(before: Taken, ty: &FfiType) -> u64
 /// The bytes of stack that are taken after an argument.
 fn stack_end(before: Taken, ty: &FfiType) -> u64
     requires right { IsResultType (tree_of ty.now) }
-    requires few_general { before.general ≤ 256 }
-    requires few_vector { before.vector ≤ 256 }
-    requires low { before.stack ≤ 66048 }
+    requires few_general { before.general ≤ 4 * MOST_ARGUMENTS }
+    requires few_vector { before.vector ≤ 4 * MOST_ARGUMENTS }
+    requires low { before.stack ≤ ARGUMENT_BYTES }
     ensures value { result ≡ (taken_with before (tree_of ty.now)).stack }
-    ensures low { result ≤ before.stack + 1031 }
+    ensures low { result ≤ before.stack + (LARGEST_STRUCT + 7) }
 {
     if fits_registers(before, ty) {
         before.stack
@@ -284,13 +285,13 @@ fn stack_end(before: Taken, ty: &FfiType) -> u64
 
 fn with_argument(before: Taken, ty: &FfiType) -> Taken
     requires right { IsResultType (tree_of ty.now) }
-    requires few_general { before.general ≤ 256 }
-    requires few_vector { before.vector ≤ 256 }
-    requires low { before.stack ≤ 66048 }
+    requires few_general { before.general ≤ 4 * MOST_ARGUMENTS }
+    requires few_vector { before.vector ≤ 4 * MOST_ARGUMENTS }
+    requires low { before.stack ≤ ARGUMENT_BYTES }
     ensures value { result ≡ taken_with before (tree_of ty.now) }
     ensures few_general { result.general ≤ before.general + 4 }
     ensures few_vector { result.vector ≤ before.vector + 4 }
-    ensures low { result.stack ≤ before.stack + 1031 }
+    ensures low { result.stack ≤ before.stack + (LARGEST_STRUCT + 7) }
 {
     Taken {
         general: general_end(before, ty),
@@ -367,9 +368,9 @@ fn pieces_in_registers(alloc: Global, ty: &FfiType, first: u64) -> Result<Pieces
 fn direct_pieces(alloc: Global, before: Taken, ty: &FfiType) -> Result<Pieces, NoMemory>
     requires right { IsResultType (tree_of ty.now) }
     requires direct { is_copied (tree_of ty.now) ≡ false }
-    requires few_general { before.general ≤ 256 }
-    requires few_vector { before.vector ≤ 256 }
-    requires low { before.stack ≤ 66048 }
+    requires few_general { before.general ≤ 4 * MOST_ARGUMENTS }
+    requires few_vector { before.vector ≤ 4 * MOST_ARGUMENTS }
+    requires low { before.stack ≤ ARGUMENT_BYTES }
     ensures { IfOk result (λ p. p ≡ cond (in_registers before (tree_of ty.now)) (register_pieces (register_start before (tree_of ty.now)) (tree_of ty.now)) (stack_pieces (stack_start before.stack (passed (tree_of ty.now))) (tree_of ty.now))) }
 {
     if fits_registers(before, ty) {
@@ -383,9 +384,9 @@ fn direct_pieces(alloc: Global, before: Taken, ty: &FfiType) -> Result<Pieces, N
 fn pointer_place(before: Taken, ty: &FfiType) -> Loc
     requires right { IsResultType (tree_of ty.now) }
     requires copied { is_copied (tree_of ty.now) ≡ true }
-    requires few_general { before.general ≤ 256 }
-    requires few_vector { before.vector ≤ 256 }
-    requires low { before.stack ≤ 66048 }
+    requires few_general { before.general ≤ 4 * MOST_ARGUMENTS }
+    requires few_vector { before.vector ≤ 4 * MOST_ARGUMENTS }
+    requires low { before.stack ≤ ARGUMENT_BYTES }
     ensures { result ≡ cond (in_registers before (tree_of ty.now)) (G (register_start before (tree_of ty.now))) (S (stack_start before.stack (passed (tree_of ty.now)))) }
 {
     if fits_registers(before, ty) {
@@ -398,9 +399,9 @@ fn pointer_place(before: Taken, ty: &FfiType) -> Loc
 /// Where an argument stands, if what is before its copy ends at `end`.
 fn place_of(alloc: Global, before: Taken, ty: &FfiType, end: u64) -> Result<Place, NoMemory>
     requires right { IsResultType (tree_of ty.now) }
-    requires few_general { before.general ≤ 256 }
-    requires few_vector { before.vector ≤ 256 }
-    requires low { before.stack ≤ 66048 }
+    requires few_general { before.general ≤ 4 * MOST_ARGUMENTS }
+    requires few_vector { before.vector ≤ 4 * MOST_ARGUMENTS }
+    requires low { before.stack ≤ ARGUMENT_BYTES }
     requires low_copy { end ≤ 262144 }
     ensures { IfOk result (λ p. p ≡ place_at aapcs64.copy_start end (tree_of ty.now) (spot_after before (tree_of ty.now))) }
 {
@@ -423,7 +424,7 @@ struct Placed {
 /// The places of all arguments, if the copies stand from `start` on.
 fn place_all(alloc: Global, sig: &Sig, start: u64) -> Result<Placed, NoMemory>
     requires right { SignatureHasNoFault sig.now }
-    requires low { start ≤ 66048 }
+    requires low { start ≤ ARGUMENT_BYTES }
     ensures places { IfOk result (λ p. p.places ≡ places_from aapcs64.copy_start start sig.now.arguments (spots_after untouched sig.now.arguments)) }
     ensures end { IfOk result (λ p. p.end ≡ copies_end aapcs64.copy_start start sig.now.arguments (spots_after untouched sig.now.arguments)) }
     ensures low { IfOk result (λ p. p.end ≤ 132096) }

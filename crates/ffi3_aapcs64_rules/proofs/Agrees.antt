@@ -1,29 +1,16 @@
 -- AAPCS64 agrees with the machine that has AArch64's instructions.
-use Rattle.std.proofs.Common.{◌≡◌, ℕ, zero, suc, ◌+◌, ◌-◌, ◌<◌, ◌≤◌, Bool, true, false, ltb, List, [], ◌∷◌, ◌++◌, map, length, ap, subst, refl, arith}
+use Rattle.std.proofs.Common.{◌≡◌, ℕ, zero, suc, ◌+◌, ◌-◌, ◌<◌, ◌≤◌, List, [], ◌∷◌, ◌++◌, map, length, ap, subst, refl, arith}
 use Rattle.std.specs.Prelude.{slice_index_or}
-use Rattle.std.proofs.lemmas.Bool.{ltb-true}
-use Rattle.ffi3_type_rules.specs.declared.Isa.{Isa}
 use Rattle.ffi3_type_rules.specs.Isa.{isa_of}
 use Rattle.ffi3_place_rules.specs.declared.Loc.{Loc}
 use Rattle.ffi3_place_rules.specs.declared.Loc.TheVariants.{G, F, S}
 use Rattle.ffi3_place_rules.specs.declared.SaveWord.{SaveWord}
 use Rattle.ffi3_place_rules.specs.declared.SaveWord.TheVariants.{Register, Hidden, Spare}
-use Rattle.ffi3_place_rules.specs.Isa.{general_registers, floating_registers, TakesWrites}
-use Rattle.ffi3_place_rules.specs.Sound.{IsNoneOf, LiesIn, closed_to_arguments}
+use Rattle.ffi3_place_rules.specs.Isa.{TakesWrites}
+use Rattle.ffi3_place_rules.specs.Sound.{IsNoneOf, closed_to_arguments}
 use Rattle.ffi3_place_rules.specs.Agrees.{AgreesWithMachine, saved_registers, given_back, special}
-use Rattle.ffi3_place_rules.proofs.Forbidden.{each_by, each_none_of, each_one_of, apart_all}
+use Rattle.ffi3_place_rules.proofs.Forbidden.{each_exists, each_none_of, each_one_of, apart_all}
 use Rattle.ffi3_aapcs64_rules.specs.Aapcs64.{aapcs64, saved_general, saved_vector}
-
--- the place is a register that the instruction set has
-abbrev is_register : Isa → Loc → Bool
-is_register isa (G r) = ltb r (general_registers isa)
-is_register isa (F r) = ltb r (floating_registers isa)
-is_register isa (S n) = false
-
-register_exists : (isa : Isa) (l : Loc) → is_register isa l ≡ true → LiesIn isa 0 l
-register_exists isa (G r) h = ltb-true r _ h
-register_exists isa (F r) h = ltb-true r _ h
-register_exists isa (S n) h = cc
 
 -- the register that is 0 always is no number of a general register here
 written : (l : Loc) → IsNoneOf aapcs64.reserved l → TakesWrites (isa_of aapcs64.target) l
@@ -40,10 +27,10 @@ agrees = record {
   closure_register = refl;
   trampoline = refl;
   written = written;
-  preserved_exist = each_by (is_register (isa_of aapcs64.target)) (LiesIn (isa_of aapcs64.target) 0) (register_exists (isa_of aapcs64.target)) aapcs64.preserved refl;
+  preserved_exist = each_exists (isa_of aapcs64.target) aapcs64.preserved refl;
   preserved_apart = apart_all aapcs64.preserved refl;
   preserved_plain = each_none_of (special aapcs64) aapcs64.preserved refl;
-  arguments_exist = each_by (is_register (isa_of aapcs64.target)) (LiesIn (isa_of aapcs64.target) 0) (register_exists (isa_of aapcs64.target)) aapcs64.argument_registers refl;
+  arguments_exist = each_exists (isa_of aapcs64.target) aapcs64.argument_registers refl;
   arguments_apart = apart_all aapcs64.argument_registers refl;
   arguments_plain = each_none_of (closed_to_arguments aapcs64) aapcs64.argument_registers refl;
   count_exists = tt;

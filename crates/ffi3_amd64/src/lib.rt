@@ -1,7 +1,8 @@
 // The System V AMD64 calling standard.
 #![tactic(auto)]
 
-ghost use Rattle.std.specs.Prelude.{◌≡◌, ◌<◌, ◌≤◌, ◌+◌, length, slice_index, IfOk, [], true, false};
+ghost use Rattle.std.specs.Prelude.{◌*◌, ◌≡◌, ◌<◌, ◌≤◌, ◌+◌, length, slice_index, IfOk, [], true, false};
+ghost use Rattle.ffi3_type_rules.specs.declared.limits.TheConstants.{ARGUMENT_BYTES, LARGEST_STRUCT};
 ghost use Rattle.ffi3_type_rules.specs.Layout.{leaves_of, leaf_at};
 ghost use Rattle.ffi3_type_rules.specs.Fault.{IsResultType};
 ghost use Rattle.ffi3_type_rules.specs.Signature.{SignatureHasNoFault};
@@ -146,7 +147,7 @@ fn argument_pieces(alloc: Global, before: Taken, ty: &FfiType) -> Result<Pieces,
     requires right { IsResultType (tree_of ty.now) }
     requires few_general { before.general ≤ 6 }
     requires few_vector { before.vector ≤ 8 }
-    requires low { before.stack ≤ 65536 }
+    requires low { before.stack ≤ ARGUMENT_BYTES }
     ensures { IfOk result (λ p. p ≡ pieces_after before (tree_of ty.now)) }
 {
     if fits_registers(before, ty) {
@@ -166,11 +167,11 @@ fn with_argument(before: Taken, ty: &FfiType) -> Taken
     requires right { IsResultType (tree_of ty.now) }
     requires few_general { before.general ≤ 6 }
     requires few_vector { before.vector ≤ 8 }
-    requires low { before.stack ≤ 65536 }
+    requires low { before.stack ≤ ARGUMENT_BYTES }
     ensures value { result ≡ taken_with before (tree_of ty.now) }
     ensures few_general { result.general ≤ 6 }
     ensures few_vector { result.vector ≤ 8 }
-    ensures low { result.stack ≤ before.stack + 1031 }
+    ensures low { result.stack ≤ before.stack + (LARGEST_STRUCT + 7) }
 {
     if fits_registers(before, ty) {
         let count = count_classes(ty);
@@ -212,7 +213,7 @@ fn place_all(alloc: Global, sig: &Sig) -> Result<Placed, NoMemory>
     requires { SignatureHasNoFault sig.now }
     ensures places { IfOk result (λ p. p.places ≡ places_from at_once 0 sig.now.arguments (spots_after (taken_at_first sig.now.result_type) sig.now.arguments)) }
     ensures taken { IfOk result (λ p. p.taken ≡ taken_after (taken_at_first sig.now.result_type) sig.now.arguments) }
-    ensures low { IfOk result (λ p. p.taken.stack ≤ 66048) }
+    ensures low { IfOk result (λ p. p.taken.stack ≤ ARGUMENT_BYTES) }
     ensures few_vector { IfOk result (λ p. p.taken.vector ≤ 8) }
 {
     let mut before = at_first(result_type(sig));
@@ -230,7 +231,7 @@ fn place_all(alloc: Global, sig: &Sig) -> Result<Placed, NoMemory>
 
 fn place_result(alloc: Global, ty: &FfiType, buffer: u64) -> Result<Res, NoMemory>
     requires right { IsResultType (tree_of ty.now) }
-    requires low { buffer ≤ 131072 }
+    requires low { buffer ≤ 2 * ARGUMENT_BYTES }
     ensures { IfOk result (λ r. r ≡ result_at at_once buffer (tree_of ty.now) (result_spot_of (tree_of ty.now))) }
 {
     if let FfiType::Void = ty {

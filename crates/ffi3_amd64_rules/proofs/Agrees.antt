@@ -1,12 +1,12 @@
 -- The standard agrees with an AMD64 machine.
-use Rattle.std.proofs.Common.{refl, arith, ◌++◌}
+use Rattle.std.proofs.Common.{refl, ◌++◌}
 use Rattle.ffi3_place_rules.specs.declared.Loc.{Loc}
 use Rattle.ffi3_place_rules.specs.declared.Loc.TheVariants.{G, F, S}
 use Rattle.ffi3_type_rules.specs.declared.Isa.TheVariants.{Amd64}
 use Rattle.ffi3_place_rules.specs.Isa.{TakesWrites}
 use Rattle.ffi3_place_rules.specs.Sound.{IsNoneOf, closed_to_arguments, listed}
 use Rattle.ffi3_place_rules.specs.Agrees.{AgreesWithMachine, given_back, special, saved_registers}
-use Rattle.ffi3_place_rules.proofs.Forbidden.{each_none_of, each_one_of, apart_all}
+use Rattle.ffi3_place_rules.proofs.Forbidden.{each_exists, each_none_of, each_one_of, apart_all}
 use Rattle.ffi3_amd64_rules.specs.Amd64.{amd64}
 
 pub agrees : AgreesWithMachine amd64
@@ -18,15 +18,15 @@ agrees = record {
   closure_register = refl;
   trampoline = refl;
   written = written;
-  preserved_exist = (omega arith, (omega arith, (omega arith, (omega arith, (omega arith, (omega arith, tt))))));
+  preserved_exist = each_exists Amd64 amd64.preserved refl;
   preserved_apart = apart_all amd64.preserved refl;
   preserved_plain = each_none_of (special amd64) amd64.preserved refl;
-  arguments_exist = (omega arith, (omega arith, (omega arith, (omega arith, (omega arith, (omega arith, (omega arith, (omega arith, (omega arith, (omega arith, (omega arith, (omega arith, (omega arith, (omega arith, tt))))))))))))));
+  arguments_exist = each_exists Amd64 amd64.argument_registers refl;
   arguments_apart = apart_all amd64.argument_registers refl;
   arguments_plain = each_none_of (closed_to_arguments amd64) amd64.argument_registers refl;
-  count_exists = (omega arith, tt);
+  count_exists = each_exists Amd64 (listed amd64.vector_count) refl;
   count_plain = each_none_of (given_back amd64 ++ (amd64.reserved ++ amd64.trampoline_registers)) (listed amd64.vector_count) refl;
-  returned_exists = (omega arith, tt);
+  returned_exists = each_exists Amd64 (listed amd64.returned_address) refl;
   returned_plain = each_none_of (given_back amd64 ++ amd64.reserved) (listed amd64.returned_address) refl;
   area = refl;
   saves_each = each_one_of (saved_registers amd64.save_area) (given_back amd64) refl;

@@ -61,9 +61,11 @@ classes_from t j (suc n) = class_of t j ∷ classes_from t (j + 1) n
 abbrev pub classes : Tree → List Class
 classes t = cond (in_memory t) [] (classes_from t 0 (eightbytes t))
 
+-- how many of them are INTEGER
 abbrev pub integers : Tree → ℕ
 integers t = count_by is_integer_class (classes t)
 
+-- how many are SSE
 abbrev pub sses : Tree → ℕ
 sses t = count_by is_sse_class (classes t)
 

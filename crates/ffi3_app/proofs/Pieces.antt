@@ -11,7 +11,7 @@ use Rattle.ffi3_script_rules.specs.Script.{Script}
 use Rattle.ffi3_io.specs.Sink.{SinkState}
 use Rattle.ffi3_io.specs.Written.{TookText}
 use Rattle.ffi3_app.specs.Commands.{standard_of, joined, lines_from, arguments_from, place_text}
-use Rattle.ffi3_io.specs.Written.{Wrote}
+use Rattle.ffi3_io.specs.Written as written
 use Rattle.ffi3_io.specs.declared.IoError.{IoError}
 use Rattle.ffi3_io.specs.declared.IoError.TheVariants.{NoMemory}
 
@@ -19,19 +19,19 @@ abbrev Writing : Type 0
 Writing = Result Unit IoError
 
 -- what came of a text
-abbrev pub Came : List ℕ → SinkState → SinkState → Writing → Type 0
-Came text a b r = Wrote text a b r
+abbrev pub Wrote : List ℕ → SinkState → SinkState → Writing → Type 0
+Wrote text a b r = written.Wrote text a b r
 
-nothing_written : (a : SinkState) → Came [] a a (Ok tt)
+nothing_written : (a : SinkState) → Wrote [] a a (Ok tt)
 nothing_written a = took_nothing a
 
 -- a piece that was written, and what came of the pieces after it
-written_then : (x y : List ℕ) (a b c : SinkState) (r : Writing) → TookText x a b → Came y b c r → Came (x ++ y) a c r
+written_then : (x y : List ℕ) (a b c : SinkState) (r : Writing) → TookText x a b → Wrote y b c r → Wrote (x ++ y) a c r
 written_then x y a b c (Ok u) first second = took_then a b c x y (x ++ y) refl first second
 written_then x y a b c (Err e) first second = cut_after a b c x y (x ++ y) e refl first second
 
 -- a piece in which writing ended is part of the whole
-ended_within : (x y : List ℕ) (a b : SinkState) (e : IoError) → Came x a b (Err e) → Came (x ++ y) a b (Err e)
+ended_within : (x y : List ℕ) (a b : SinkState) (e : IoError) → Wrote x a b (Err e) → Wrote (x ++ y) a b (Err e)
 ended_within x y a b e cut = cut_in a b x y (x ++ y) e refl cut
 
 -- ---- what is left of a text
@@ -39,30 +39,30 @@ ended_within x y a b e cut = cut_in a b x y (x ++ y) e refl cut
 -- what comes of the rest comes of the whole
 abbrev pub Continues : List ℕ → List ℕ → SinkState → SinkState → Type 0
 Continues whole rest start now =
-    (after : SinkState) (r : Writing) → Came rest now after r → Came whole start after r
+    (after : SinkState) (r : Writing) → Wrote rest now after r → Wrote whole start after r
 
 pub continues_from : (whole : List ℕ) (start : SinkState) → Continues whole whole start start
 continues_from whole start = λ after r h. h
 
 module _ (whole rest : List ℕ) (start now : SinkState) (continues : Continues whole rest start now) where
-  pub continues_on : (piece left : List ℕ) (next : SinkState) → rest ≡ piece ++ left → Came piece now next (Ok tt) → Continues whole left start next
-  continues_on piece left next is wrote = λ after r h. continues after r (subst (λ t. Came t now after r) (sym is) (written_then piece left now next after r wrote h))
+  pub continues_on : (piece left : List ℕ) (next : SinkState) → rest ≡ piece ++ left → Wrote piece now next (Ok tt) → Continues whole left start next
+  continues_on piece left next is wrote = λ after r h. continues after r (subst (λ t. Wrote t now after r) (sym is) (written_then piece left now next after r wrote h))
 
-  pub continues_ended : (piece left : List ℕ) (next : SinkState) (e : IoError) (r : Writing) → rest ≡ piece ++ left → Came piece now next (Err e) → r ≡ Err e → Came whole start next r
+  pub continues_ended : (piece left : List ℕ) (next : SinkState) (e : IoError) (r : Writing) → rest ≡ piece ++ left → Wrote piece now next (Err e) → r ≡ Err e → Wrote whole start next r
   continues_ended piece left next e r is wrote same =
-      subst (λ q. Came whole start next q) (sym same) (continues next (Err e) (subst (λ t. Came t now next (Err e)) (sym is) (ended_within piece left now next e wrote)))
+      subst (λ q. Wrote whole start next q) (sym same) (continues next (Err e) (subst (λ t. Wrote t now next (Err e)) (sym is) (ended_within piece left now next e wrote)))
 
-  pub continues_no_memory : Came whole start now (Err NoMemory)
+  pub continues_no_memory : Wrote whole start now (Err NoMemory)
   continues_no_memory =
       continues now (Err NoMemory) (cut_at_once now rest)
 
-  pub continues_done : rest ≡ [] → Came whole start now (Ok tt)
+  pub continues_done : rest ≡ [] → Wrote whole start now (Ok tt)
   continues_done is =
-      continues now (Ok tt) (subst (λ t. Came t now now (Ok tt)) (sym is) (nothing_written now))
+      continues now (Ok tt) (subst (λ t. Wrote t now now (Ok tt)) (sym is) (nothing_written now))
 
   -- the last piece
-  pub continues_last : (piece : List ℕ) (after : SinkState) (r : Writing) → rest ≡ piece → Came piece now after r → Came whole start after r
-  continues_last piece after r is wrote = continues after r (subst (λ t. Came t now after r) (sym is) wrote)
+  pub continues_last : (piece : List ℕ) (after : SinkState) (r : Writing) → rest ≡ piece → Wrote piece now after r → Wrote whole start after r
+  continues_last piece after r is wrote = continues after r (subst (λ t. Wrote t now after r) (sym is) wrote)
 
 -- ---- lines
 
@@ -97,6 +97,6 @@ module _ (line : Position → List ℕ) (ts : List Tree) (last : List (List ℕ)
   arguments_end j end =
       ap (λ rest. joined (map line (arguments_from j rest) ++ last)) (drop_of_length-le ts {i = j} end)
 
-pub placed_by : (t u : Target) (s : Script) (a b : SinkState) (r : Writing) → t ≡ u → Came (place_text (standard_of u) s) a b r → Came (place_text (standard_of t) s) a b r
+pub placed_by : (t u : Target) (s : Script) (a b : SinkState) (r : Writing) → t ≡ u → Wrote (place_text (standard_of u) s) a b r → Wrote (place_text (standard_of t) s) a b r
 placed_by t u s a b r is wrote =
-    subst (λ v. Came (place_text (standard_of v) s) a b r) (sym is) wrote
+    subst (λ v. Wrote (place_text (standard_of v) s) a b r) (sym is) wrote

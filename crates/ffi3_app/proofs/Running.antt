@@ -8,7 +8,7 @@ use Rattle.ffi3_turn_rules.specs.MainTracing.{main_tracing}
 use Rattle.ffi3_script_rules.specs.Script.{Script}
 use Rattle.ffi3_script_rules.specs.Natives.{NamedNative}
 use Rattle.ffi3_machine.specs.State.{State}
-use Rattle.ffi3_runner.specs.RunCut.{RunWasCut}
+use Rattle.ffi3_runner.specs.RunInterrupted.{RunWasInterrupted}
 use Rattle.ffi3_runner.specs.RunMatches.{RunMatches, WrotePart}
 use Rattle.ffi3_io.specs.Sink.{SinkState}
 use Rattle.ffi3_io.specs.declared.IoError.{IoError}
@@ -48,6 +48,6 @@ module _ (trace : Bool) (std : Standard) (p q : Program) (same : p ≡ q) (outpu
   run_of status told is =
       subst (λ (x : Program). RunMatches (main_tracing trace std) std x output output' machine' × (status ≡ status_of (meaning_of x).end)) same (told, is)
 
-  pub part_of : (in_line : Bool) → WrotePart (main_tracing trace std) p output output' → RunWasCut (main_tracing trace std) std p in_line output output' machine' → WrotePart (main_tracing trace std) q output output' × RunWasCut (main_tracing trace std) std q in_line output output' machine'
+  pub part_of : (in_line : Bool) → WrotePart (main_tracing trace std) p output output' → RunWasInterrupted (main_tracing trace std) std p in_line output output' machine' → WrotePart (main_tracing trace std) q output output' × RunWasInterrupted (main_tracing trace std) std q in_line output output' machine'
   part_of in_line part told =
-      subst (λ (x : Program). WrotePart (main_tracing trace std) x output output' × RunWasCut (main_tracing trace std) std x in_line output output' machine') same (part, told)
+      subst (λ (x : Program). WrotePart (main_tracing trace std) x output output' × RunWasInterrupted (main_tracing trace std) std x in_line output output' machine') same (part, told)

@@ -1,5 +1,5 @@
 -- What the top call says, from what its parts say.
-use Rattle.std.proofs.Common.{◌≡◌, ℕ, ◌+◌, ◌<◌, ◌≤◌, List, inl, inr, refl, sym, subst, ap, ap₂, ◌∙◌, arith, lit≤}
+use Rattle.std.proofs.Common.{◌≡◌, ℕ, ◌+◌, ◌<◌, List, inl, inr, refl, sym, subst, ap, ap₂, ◌∙◌, arith, lit≤}
 use Rattle.std.specs.Prelude.{◌⊎◌, Some, None, false}
 use Rattle.ffi3_io.specs.Sink.{Rose}
 use Rattle.ffi3_script_rules.specs.Script.{Script}
@@ -13,7 +13,7 @@ use Rattle.ffi3_words.specs.declared.words.Request.{Request}
 use Rattle.ffi3_words.specs.declared.words.Request.TheVariants.{Layout, Place, Run, Bench}
 use Rattle.ffi3_app.specs.declared.load.Refusal.{Refusal}
 use Rattle.ffi3_app.specs.declared.load.Refusal.TheVariants.{ReadFault, NoMemory, TooLong, BadJson, BadScript}
-use Rattle.ffi3_words.specs.Words.{Takes, IsInRange, IsRefused, IsStated, IsWordsRefusal as WordsRefusal}
+use Rattle.ffi3_words.specs.Words.{Takes, IsRefused, IsStated, IsWordsRefusal as WordsRefusal}
 use Rattle.ffi3_io.specs.Written.{IsCause}
 use Rattle.ffi3_io.specs.declared.IoError.{IoError}
 use Rattle.ffi3_io.specs.declared.IoError.TheVariants as end
@@ -21,7 +21,7 @@ use Rattle.ffi3_words.specs.declared.words.WordsFault.{WordsFault}
 use Rattle.ffi3_words.specs.declared.words.WordsFault.TheVariants.{Refused}
 use Rattle.ffi3_app.specs.Refusals.{IsInputRefusal, IsRefusedWith, refusal_line, refusal_status, HasPlace, TellsRefusal}
 use Rattle.ffi3_io.specs.Source.{SourceState}
-use Rattle.ffi3_app.specs.Top.{ReadAs, IsAtEnd, IsReadInPart, ReportsFault, whole, cut, IsBench, IsBenchInPart, IsDone, IsDoneInPart, BeganOrNot, ReadsScript, TakesScript, Fails, refused, bad_words, read_failed, write_failed, no_memory_for_words, no_memory, bench_write_failed, bench_no_memory, Says, done, bench_done, failed, SaysOfBench, was_done, was_cut, was_short, refusal_of, status_of, status_when_done, no_memory_line}
+use Rattle.ffi3_app.specs.Top.{ReadAs, IsAtEnd, IsReadInPart, ReportsFault, whole, cut, IsDone, IsDoneInPart, BeganOrNot, ReadsScript, TakesScript, Fails, refused, bad_words, read_failed, write_failed, no_memory_for_words, no_memory, bench_write_failed, bench_no_memory, Says, done, bench_done, failed, SaysOfBench, was_done, was_interrupted, had_no_memory, refusal_of, status_of, status_when_done, no_memory_line}
 use Rattle.ffi3_words.specs.WordCommands.{Addresses}
 use Rattle.ffi3_words.proofs.Refusals.{taken_not_refused}
 use Rattle.ffi3_words.proofs.Stated.{stated_is_taken}
@@ -159,17 +159,11 @@ module _ (words : List (List ℕ)) (natives : List NamedNative) (input input' : 
 
 pub says_of_bench : (words : List (List ℕ)) (natives : List NamedNative) (input : SourceState) (output output' told told' : SinkState) (machine machine' : State) (seed calls : ℕ) → Takes words (Bench seed calls) → (status : ℕ) → SaysOfBench seed calls output output' told told' machine' status → Says words natives input input output output' told told' machine machine' status
 says_of_bench words natives input output output' told told' machine machine' seed calls takes _ (was_done is same) = bench_done takes refl is same
-says_of_bench words natives input output output' told told' machine machine' seed calls takes _ (was_cut part rose tells) = failed (bench_write_failed takes refl part rose) tells
-says_of_bench words natives input output output' told told' machine machine' seed calls takes _ (was_short part count tells) = failed (bench_no_memory takes refl part count) tells
+says_of_bench words natives input output output' told told' machine machine' seed calls takes _ (was_interrupted part rose tells) = failed (bench_write_failed takes refl part rose) tells
+says_of_bench words natives input output output' told told' machine machine' seed calls takes _ (had_no_memory part count tells) = failed (bench_no_memory takes refl part count) tells
 
 pub taken_as : (words : List (List ℕ)) (q r : Request) → q ≡ r → Takes words q → Takes words r
 taken_as words q r is takes = subst (Takes words) is takes
-
-pub calls_in_range : (q : Request) (seed calls : ℕ) → q ≡ Bench seed calls → IsInRange q → calls ≤ 1000
-calls_in_range q seed calls is range = (subst IsInRange is range).1
-
-pub reads_no_bench : (q : Request) (seed calls : ℕ) → q ≡ Bench seed calls → ReadsScript q → ⊥
-reads_no_bench q seed calls is reads = subst ReadsScript is reads
 
 -- ---- what follows from what a status says
 

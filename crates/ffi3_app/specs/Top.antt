@@ -17,7 +17,7 @@ use Rattle.ffi3_script_rules.specs.Reading.{Reading, too_long, not_json, bad_scr
 use Rattle.ffi3_script_rules.specs.Natives.{NamedNative, names_of, program_beside}
 use Rattle.ffi3_machine.specs.State.{State}
 use Rattle.ffi3_runner.specs.RunMatches.{RunMatches, WrotePart}
-use Rattle.ffi3_runner.specs.RunCut.{RunWasCut}
+use Rattle.ffi3_runner.specs.RunInterrupted.{RunWasInterrupted}
 use Rattle.ffi3_io.specs.Sink.{SinkState}
 use Rattle.ffi3_io.specs.Written.{TookText}
 use Rattle.ffi3_words.specs.declared.words.Request.{Request}
@@ -120,10 +120,10 @@ abbrev pub IsBenchInPart : (seed calls : ℕ) → SinkState → SinkState → Ty
 IsBenchInPart seed calls output output' =
     (part : ℕ) × Adds output.taken (take part (bench_text seed calls)) output'.taken
 
--- A RUN IS DONE IN PART, cut off in a line or elsewhere: a first part of its text is written, and it is told as far as it came
+-- A RUN IS DONE IN PART, interrupted in a line or elsewhere: a first part of its text is written, and it is told as far as it came
 abbrev pub IsRunInPart : (in_line trace : Bool) → Standard → List NamedNative → Script → SinkState → SinkState → State → Type 0
 IsRunInPart in_line trace std natives s output output' machine' =
-    WrotePart (main_tracing trace std) (program_beside std natives s) output output' × RunWasCut (main_tracing trace std) std (program_beside std natives s) in_line output output' machine'
+    WrotePart (main_tracing trace std) (program_beside std natives s) output output' × RunWasInterrupted (main_tracing trace std) std (program_beside std natives s) in_line output output' machine'
 
 -- THE WORK on a script IS DONE IN PART: a first part of the text is written; the commands that do not run leave the machine as it was
 abbrev pub IsDoneInPart : (in_line : Bool) → Request → List NamedNative → Script → SinkState → SinkState → State → State → Type 0
@@ -158,11 +158,11 @@ pub data Fails (words : List (List ℕ)) (natives : List NamedNative) (input inp
   bench_write_failed : {seed calls : ℕ} → Takes words (Bench seed calls) → input' ≡ input → IsBenchInPart seed calls output output' → Rose output.faults output'.faults → Fails words natives input input' output output' machine machine' 4 write_fault_line
   bench_no_memory : {seed calls : ℕ} → Takes words (Bench seed calls) → input' ≡ input → IsBenchInPart seed calls output output' → output'.faults ≡ output.faults → Fails words natives input input' output output' machine machine' 5 no_memory_line
 
--- what each status of the bench says: it is done, or what cut it off is told
+-- what each status of the bench says: it is done, or what interrupted it is told
 pub data SaysOfBench (seed calls : ℕ) (output output' told told' : SinkState) (machine' : State) : ℕ → Type 0 where
   was_done : IsBench seed calls output output' machine' → told' ≡ told → SaysOfBench seed calls output output' told told' machine' 0
-  was_cut : {answer : ℕ} → IsBenchInPart seed calls output output' → Rose output.faults output'.faults → ReportsFault write_fault_line 4 told told' answer → SaysOfBench seed calls output output' told told' machine' answer
-  was_short : {answer : ℕ} → IsBenchInPart seed calls output output' → output'.faults ≡ output.faults → ReportsFault no_memory_line 5 told told' answer → SaysOfBench seed calls output output' told told' machine' answer
+  was_interrupted : {answer : ℕ} → IsBenchInPart seed calls output output' → Rose output.faults output'.faults → ReportsFault write_fault_line 4 told told' answer → SaysOfBench seed calls output output' told told' machine' answer
+  had_no_memory : {answer : ℕ} → IsBenchInPart seed calls output output' → output'.faults ≡ output.faults → ReportsFault no_memory_line 5 told told' answer → SaysOfBench seed calls output output' told told' machine' answer
 
 -- WHAT EACH STATUS SAYS: the work is done whole, or what goes wrong is told, and then 4 in place of its status where that failed
 pub data Says (words : List (List ℕ)) (natives : List NamedNative) (input input' : SourceState) (output output' told told' : SinkState) (machine machine' : State) : ℕ → Type 0 where

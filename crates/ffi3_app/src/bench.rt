@@ -1,5 +1,6 @@
 //! The bench, which reads no script.
 ghost use Rattle.std.specs.Prelude.{◌≡◌, ◌≤◌};
+ghost use Rattle.ffi3_type_rules.specs.declared.limits.TheConstants.{MOST_CALLS};
 ghost use Rattle.ffi3_app.specs.Top.{SaysOfBench};
 
 use crate::tell::tell;
@@ -8,7 +9,7 @@ use ffi3_io::{IoError, Sink};
 use ffi3_machine::Machine;
 use std::alloc::Global;
 
-/// Does the bench, and answers the status of the program.
+/// Runs `bench` and returns the exit status.
 pub fn answer_bench<O: Sink, E: Sink>(
     alloc: Global,
     seed: u32,
@@ -17,7 +18,7 @@ pub fn answer_bench<O: Sink, E: Sink>(
     faults: &mut E,
     machine: &mut Machine,
 ) -> u8
-    requires { calls ≤ 1000 }
+    requires { calls ≤ MOST_CALLS }
     ensures says { SaysOfBench seed calls (O.state output.old) (O.state output.new) (E.state faults.old) (E.state faults.new) machine.new result }
     ensures not_two { result ≡ 2 → ⊥ }
 {

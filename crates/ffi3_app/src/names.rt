@@ -1,7 +1,7 @@
 //! The names of natives.
-ghost use Rattle.std.specs.Prelude.{◌≡◌, ◌<◌, ◌^◌, IfOk, Some, length, map, slice_get};
+ghost use Rattle.std.specs.Prelude.{◌≡◌, ◌<◌, ◌^◌, IfOk, Some, length, slice_get};
 ghost use Rattle.ffi3_script_rules.specs.Natives.{names_of};
-ghost use Rattle.ffi3_ask.specs.Handed.{handed_in};
+ghost use Rattle.ffi3_ask.specs.Handed.{handed, handed_in};
 
 use ffi3_body::Native;
 use ffi3_script::Names;
@@ -11,7 +11,7 @@ use std::alloc::Global;
 /// The names that a script is read beside, in the order of the natives.
 pub fn names_of_natives(alloc: Global, natives: &Vec<Box<dyn Native>>) -> Result<Names, NoMemory>
     requires { length natives.now.items < 2 ^ 31 }
-    ensures { IfOk result (λ names. names ≡ names_of (map (λ b. handed_in (title b) (meaning b) (signatures b)) natives.now.items)) }
+    ensures { IfOk result (λ names. names ≡ names_of (handed title meaning signatures natives.now.items)) }
 {
     let mut names = Names::new(alloc);
     for i in 0..natives.len() {
@@ -23,7 +23,7 @@ pub fn names_of_natives(alloc: Global, natives: &Vec<Box<dyn Native>>) -> Result
 // The name of native `i`.
 fn name_at(natives: &Vec<Box<dyn Native>>, i: usize) -> &str
     requires { i < length natives.now.items }
-    ensures { slice_get (names_of (map (λ b. handed_in (title b) (meaning b) (signatures b)) natives.now.items)) i ≡ Some result.now }
+    ensures { slice_get (names_of (handed title meaning signatures natives.now.items)) i ≡ Some result.now }
 {
     name_of(native_at(natives, i))
 }
@@ -31,7 +31,7 @@ fn name_at(natives: &Vec<Box<dyn Native>>, i: usize) -> &str
 // Native `i`.
 fn native_at(natives: &Vec<Box<dyn Native>>, i: usize) -> &Box<dyn Native>
     requires { i < length natives.now.items }
-    ensures { slice_get (map (λ b. handed_in (title b) (meaning b) (signatures b)) natives.now.items) i
+    ensures { slice_get (handed title meaning signatures natives.now.items) i
         ≡ Some (handed_in (title result.now) (meaning result.now) (signatures result.now)) }
 {
     &natives[i]

@@ -11,8 +11,8 @@ use ffi3_json::{Step, Where, reason_text};
 use ffi3_types::{Bytes, NoMemory};
 use std::alloc::Global;
 
-/// Writes a line to the sink of faults, and says the status: the one handed in, or 4 where the line
-/// could not be written.
+/// Writes a line to the sink of faults and returns the exit status: the one handed in, or 4 where the
+/// line could not be written.
 pub fn tell<E: Sink>(faults: &mut E, line: &str, status: u8) -> u8
     ensures { ReportsFault line.now status (E.state faults.old) (E.state faults.new) result }
 {
@@ -28,7 +28,7 @@ fn tell_bytes<E: Sink>(faults: &mut E, line: &[u8], status: u8) -> u8
     }
 }
 
-/// Tells why there is no script, and says the status.
+/// Writes the line that says why there is no script, and returns the exit status.
 pub fn tell_refusal<E: Sink>(alloc: Global, refusal: &Refusal, faults: &mut E) -> u8
     ensures { TellsRefusal refusal.now (E.state faults.old) (E.state faults.new) result }
 {

@@ -3,11 +3,11 @@ ghost use Rattle.std.specs.Prelude.{◌≡◌, ◌<◌, ◌⊎◌, ◌^◌, List
 ghost use Rattle.ffi3_io.specs.Sink.{Rose};
 ghost use Rattle.ffi3_script_rules.specs.Reading.{Reading, IsReading, script};
 ghost use Rattle.ffi3_script_rules.specs.Script.{Script as RulesScript};
-ghost use Rattle.ffi3_script_rules.specs.Natives.{NamedNative, names_of};
+ghost use Rattle.ffi3_script_rules.specs.Natives.{names_of};
 ghost use Rattle.ffi3_words.specs.declared.words.Request.{Request};
 ghost use Rattle.ffi3_words.specs.declared.words.Request.TheVariants.{Bench};
 ghost use Rattle.ffi3_words.specs.Words.{IsStated, Takes};
-ghost use Rattle.ffi3_ask.specs.Handed.{handed_in, signatures_in};
+ghost use Rattle.ffi3_ask.specs.Handed.{AreFew, handed, signatures_in};
 ghost use Rattle.ffi3_app.specs.Top.{ReadsScript, Says, refusal_of, status_when_done};
 
 use crate::bench::answer_bench;
@@ -21,7 +21,7 @@ use ffi3_machine::Machine;
 use ffi3_words::{Request, WordsFault, read_words};
 use std::alloc::Global;
 
-/// Does what the words ask for, and answers the status of the program.
+/// Runs the command line and returns the exit status.
 ///
 /// The words hold the program's name first. For `layout`, `place --target TARGET` and `run --target TARGET` the input is read to its
 /// end, or until it is longer than a script may be, and the output takes the lines that the command writes of the script. Scripts
@@ -47,25 +47,22 @@ pub fn ffi3<I: Source, O: Sink, E: Sink>(
     machine: &mut Machine,
 ) -> u8
     requires few_natives { length natives.now.items < 2 ^ 31 }
-    requires few_signatures { length (signatures_in (map (λ b. handed_in (title b) (meaning b) (signatures b)) natives.now.items)) < 2 ^ 31 }
+    requires few_signatures { length (signatures_in (handed title meaning signatures natives.now.items)) < 2 ^ 31 }
 
     // What each status says, for scripts beside these natives: its cause, what was written, and what stayed as it was.
-    ensures says { let handed : List NamedNative = map (λ b. handed_in (title b) (meaning b) (signatures b)) natives.now.items in
-        Says (map string_bytes words.items) handed
+    ensures says { Says (map string_bytes words.items) (handed title meaning signatures natives.now.items)
         (I.state input.old) (I.state input.new)
         (O.state output.old) (O.state output.new)
         (E.state faults.old) (E.state faults.new)
         machine.old machine.new result }
 
     // Where nothing fails, what stated words ask for is done with a script, and what is none is refused; want of memory alone is free.
-    ensures complete { let handed : List NamedNative = map (λ b. handed_in (title b) (meaning b) (signatures b)) natives.now.items in
-        (r : Request) → IsStated (map string_bytes words.items) r → (all : List ℕ) → (I.state input.old).left ≡ Some all →
-        (s : RulesScript) → IsReading (names_of handed) all (script s) →
+    ensures complete { (r : Request) → IsStated (map string_bytes words.items) r → (all : List ℕ) → (I.state input.old).left ≡ Some all →
+        (s : RulesScript) → IsReading (names_of (handed title meaning signatures natives.now.items)) all (script s) →
         (Rose (I.state input.old).faults (I.state input.new).faults → ⊥) → (Rose (O.state output.old).faults (O.state output.new).faults → ⊥) →
-        (Rose (E.state faults.old).faults (E.state faults.new).faults → ⊥) → (result ≡ status_when_done r handed s) ⊎ (result ≡ 5) }
-    ensures refuses { let handed : List NamedNative = map (λ b. handed_in (title b) (meaning b) (signatures b)) natives.now.items in
-        (r : Request) → ReadsScript r → IsStated (map string_bytes words.items) r → (all : List ℕ) → (I.state input.old).left ≡ Some all →
-        (reading : Reading) → IsReading (names_of handed) all reading → (line : List ℕ) → refusal_of reading ≡ Some line →
+        (Rose (E.state faults.old).faults (E.state faults.new).faults → ⊥) → (result ≡ status_when_done r (handed title meaning signatures natives.now.items) s) ⊎ (result ≡ 5) }
+    ensures refuses { (r : Request) → ReadsScript r → IsStated (map string_bytes words.items) r → (all : List ℕ) → (I.state input.old).left ≡ Some all →
+        (reading : Reading) → IsReading (names_of (handed title meaning signatures natives.now.items)) all reading → (line : List ℕ) → refusal_of reading ≡ Some line →
         (Rose (I.state input.old).faults (I.state input.new).faults → ⊥) → (Rose (O.state output.old).faults (O.state output.new).faults → ⊥) →
         (Rose (E.state faults.old).faults (E.state faults.new).faults → ⊥) → (result ≡ 1) ⊎ (result ≡ 5) }
     ensures benches { (seed calls : ℕ) → IsStated (map string_bytes words.items) (Bench seed calls) →
@@ -95,10 +92,8 @@ fn answer<I: Source, O: Sink, E: Sink>(
     natives: &Vec<Box<dyn Native>>,
     machine: &mut Machine,
 ) -> u8
-    requires few_natives { length natives.now.items < 2 ^ 31 }
-    requires few_signatures { length (signatures_in (map (λ b. handed_in (title b) (meaning b) (signatures b)) natives.now.items)) < 2 ^ 31 }
-    ensures says { let handed : List NamedNative = map (λ b. handed_in (title b) (meaning b) (signatures b)) natives.now.items in
-        Says (map string_bytes words.items) handed
+    requires { AreFew title meaning signatures natives.now.items }
+    ensures says { Says (map string_bytes words.items) (handed title meaning signatures natives.now.items)
         (I.state input.old) (I.state input.new)
         (O.state output.old) (O.state output.new)
         (E.state faults.old) (E.state faults.new)

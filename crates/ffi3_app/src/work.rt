@@ -1,8 +1,7 @@
 //! What each command does with a script.
-ghost use Rattle.std.specs.Prelude.{◌≡◌, ◌<◌, ◌≤◌, ◌^◌, ◌⊎◌, IfOk, IfErr, List, false, length, map, true};
-ghost use Rattle.ffi3_script_rules.specs.Natives.{NamedNative};
+ghost use Rattle.std.specs.Prelude.{◌≡◌, ◌≤◌, ◌⊎◌, IfOk, IfErr, false, length, true};
 ghost use Rattle.ffi3_script.specs.ScriptOf.{script_of, natives_of};
-ghost use Rattle.ffi3_ask.specs.Handed.{handed_in, signatures_in};
+ghost use Rattle.ffi3_ask.specs.Handed.{AreFew, handed};
 ghost use Rattle.ffi3_io.specs.Written.{IsCause};
 ghost use Rattle.ffi3_app.specs.Commands.{standard_of};
 ghost use Rattle.ffi3_app.specs.Top.{IsDone, IsDoneInPart, IsRun, IsRunInPart, ReadsScript};
@@ -22,7 +21,7 @@ use ffi3_types::Target;
 use ffi3_words::Request;
 use std::alloc::Global;
 
-/// Does what is asked for with a script beside natives, where it reads one, and says the status: 0, or 6 where the run
+/// Carries out a request that reads a script, beside natives, and returns the exit status: 0, or 6 where the run
 /// stopped.
 pub fn work<O: Sink>(
     alloc: Global,
@@ -34,15 +33,11 @@ pub fn work<O: Sink>(
 ) -> Result<u8, IoError>
     requires reads { ReadsScript request }
     requires beside { natives_of script.now ≤ length natives.now.items }
-    requires few_natives { length natives.now.items < 2 ^ 31 }
-    requires few_signatures { length (signatures_in (map (λ b. handed_in (title b) (meaning b) (signatures b)) natives.now.items)) < 2 ^ 31 }
-    ensures done { let handed : List NamedNative = map (λ b. handed_in (title b) (meaning b) (signatures b)) natives.now.items in
-        IfOk result (IsDone request handed (script_of script.now) (O.state output.old) (O.state output.new) machine.old machine.new) }
-    ensures failed { let handed : List NamedNative = map (λ b. handed_in (title b) (meaning b) (signatures b)) natives.now.items in
-        IfErr result (λ e. e ≡ IoError.Failed → IsDoneInPart true request handed (script_of script.now) (O.state output.old) (O.state output.new) machine.old machine.new) }
-    ensures refused { let handed : List NamedNative = map (λ b. handed_in (title b) (meaning b) (signatures b)) natives.now.items in
-        IfErr result (λ e. e ≡ IoError.NoMemory →
-        ((O.state output.new ≡ O.state output.old) × (machine.new ≡ machine.old)) ⊎ IsDoneInPart false request handed (script_of script.now) (O.state output.old) (O.state output.new) machine.old machine.new) }
+    requires few { AreFew title meaning signatures natives.now.items }
+    ensures done { IfOk result (IsDone request (handed title meaning signatures natives.now.items) (script_of script.now) (O.state output.old) (O.state output.new) machine.old machine.new) }
+    ensures failed { IfErr result (λ e. e ≡ IoError.Failed → IsDoneInPart true request (handed title meaning signatures natives.now.items) (script_of script.now) (O.state output.old) (O.state output.new) machine.old machine.new) }
+    ensures refused { IfErr result (λ e. e ≡ IoError.NoMemory →
+        ((O.state output.new ≡ O.state output.old) × (machine.new ≡ machine.old)) ⊎ IsDoneInPart false request (handed title meaning signatures natives.now.items) (script_of script.now) (O.state output.old) (O.state output.new) machine.old machine.new) }
     ensures ended { IfErr result (λ e. IsCause e (O.state output.old).faults (O.state output.new).faults) }
 {
     match request {
@@ -72,15 +67,11 @@ fn run<O: Sink>(
     output: &mut O,
 ) -> Result<u8, IoError>
     requires beside { natives_of script.now ≤ length natives.now.items }
-    requires few_natives { length natives.now.items < 2 ^ 31 }
-    requires few_signatures { length (signatures_in (map (λ b. handed_in (title b) (meaning b) (signatures b)) natives.now.items)) < 2 ^ 31 }
-    ensures done { let handed : List NamedNative = map (λ b. handed_in (title b) (meaning b) (signatures b)) natives.now.items in
-        IfOk result (IsRun trace (standard_of target) handed (script_of script.now) (O.state output.old) (O.state output.new) machine.new) }
-    ensures failed { let handed : List NamedNative = map (λ b. handed_in (title b) (meaning b) (signatures b)) natives.now.items in
-        IfErr result (λ e. e ≡ IoError.Failed → IsRunInPart true trace (standard_of target) handed (script_of script.now) (O.state output.old) (O.state output.new) machine.new) }
-    ensures refused { let handed : List NamedNative = map (λ b. handed_in (title b) (meaning b) (signatures b)) natives.now.items in
-        IfErr result (λ e. e ≡ IoError.NoMemory →
-        ((O.state output.new ≡ O.state output.old) × (machine.new ≡ machine.old)) ⊎ IsRunInPart false trace (standard_of target) handed (script_of script.now) (O.state output.old) (O.state output.new) machine.new) }
+    requires few { AreFew title meaning signatures natives.now.items }
+    ensures done { IfOk result (IsRun trace (standard_of target) (handed title meaning signatures natives.now.items) (script_of script.now) (O.state output.old) (O.state output.new) machine.new) }
+    ensures failed { IfErr result (λ e. e ≡ IoError.Failed → IsRunInPart true trace (standard_of target) (handed title meaning signatures natives.now.items) (script_of script.now) (O.state output.old) (O.state output.new) machine.new) }
+    ensures refused { IfErr result (λ e. e ≡ IoError.NoMemory →
+        ((O.state output.new ≡ O.state output.old) × (machine.new ≡ machine.old)) ⊎ IsRunInPart false trace (standard_of target) (handed title meaning signatures natives.now.items) (script_of script.now) (O.state output.old) (O.state output.new) machine.new) }
     ensures ended { IfErr result (λ e. IsCause e (O.state output.old).faults (O.state output.new).faults) }
 {
     match target {
@@ -100,15 +91,11 @@ fn run_by<A: Abi, O: Sink>(
     output: &mut O,
 ) -> Result<u8, IoError>
     requires beside { natives_of script.now ≤ length natives.now.items }
-    requires few_natives { length natives.now.items < 2 ^ 31 }
-    requires few_signatures { length (signatures_in (map (λ b. handed_in (title b) (meaning b) (signatures b)) natives.now.items)) < 2 ^ 31 }
-    ensures done { let handed : List NamedNative = map (λ b. handed_in (title b) (meaning b) (signatures b)) natives.now.items in
-        IfOk result (IsRun trace A.standard handed (script_of script.now) (O.state output.old) (O.state output.new) machine.new) }
-    ensures failed { let handed : List NamedNative = map (λ b. handed_in (title b) (meaning b) (signatures b)) natives.now.items in
-        IfErr result (λ e. e ≡ IoError.Failed → IsRunInPart true trace A.standard handed (script_of script.now) (O.state output.old) (O.state output.new) machine.new) }
-    ensures refused { let handed : List NamedNative = map (λ b. handed_in (title b) (meaning b) (signatures b)) natives.now.items in
-        IfErr result (λ e. e ≡ IoError.NoMemory →
-        ((O.state output.new ≡ O.state output.old) × (machine.new ≡ machine.old)) ⊎ IsRunInPart false trace A.standard handed (script_of script.now) (O.state output.old) (O.state output.new) machine.new) }
+    requires few { AreFew title meaning signatures natives.now.items }
+    ensures done { IfOk result (IsRun trace A.standard (handed title meaning signatures natives.now.items) (script_of script.now) (O.state output.old) (O.state output.new) machine.new) }
+    ensures failed { IfErr result (λ e. e ≡ IoError.Failed → IsRunInPart true trace A.standard (handed title meaning signatures natives.now.items) (script_of script.now) (O.state output.old) (O.state output.new) machine.new) }
+    ensures refused { IfErr result (λ e. e ≡ IoError.NoMemory →
+        ((O.state output.new ≡ O.state output.old) × (machine.new ≡ machine.old)) ⊎ IsRunInPart false trace A.standard (handed title meaning signatures natives.now.items) (script_of script.now) (O.state output.old) (O.state output.new) machine.new) }
     ensures ended { IfErr result (λ e. IsCause e (O.state output.old).faults (O.state output.new).faults) }
 {
     let mut runner = Runner::<A>::new(alloc, script, natives)?;

@@ -10,6 +10,11 @@ abbrev pub handed_in : List ℕ → Behaviour → List Signature → NamedNative
 handed_in name behaviour signatures =
     record { name = name; native = record { behaviour = behaviour; signatures = signatures } }
 
+-- THE NATIVES THAT BOXES ARE, where these tell of each its name, what it does, and its signatures: of a list of boxes a
+-- clause says `handed title meaning signatures`, by the members of their trait
+abbrev pub handed : {A : Type 0} → (A → List ℕ) → (A → Behaviour) → (A → List Signature) → List A → List NamedNative
+handed title meaning signatures bs = map (λ b. handed_in (title b) (meaning b) (signatures b)) bs
+
 -- what they do
 abbrev pub natives_in : List NamedNative → List Native
 natives_in ns = map (λ n. n.native) ns
@@ -17,6 +22,11 @@ natives_in ns = map (λ n. n.native) ns
 -- all their signatures, in the order of their numbers
 abbrev pub signatures_in : List NamedNative → List Signature
 signatures_in ns = all_signatures (natives_in ns)
+
+-- there are fewer than 2^31 of them, and of their signatures in all
+abbrev pub AreFew : {A : Type 0} → (A → List ℕ) → (A → Behaviour) → (A → List Signature) → List A → Type 0
+AreFew title meaning signatures bs =
+    (length bs < 2 ^ 31) × (length (signatures_in (handed title meaning signatures bs)) < 2 ^ 31)
 
 -- how many signatures stand before those of native j
 abbrev pub signatures_before : List Native → ℕ → ℕ

@@ -1,16 +1,18 @@
 -- Whose body an activation runs, and that where it stands agrees with what it has seen.
-use Rattle.std.specs.Prelude.{◌≡◌, ℕ, ◌+◌, ◌-◌, ◌<◌, ◌≤◌, List, length, Some, slice_get}
+use Rattle.std.specs.Prelude.{◌≡◌, ℕ, ◌+◌, ◌-◌, ◌<◌, ◌≤◌, List, [], length, Some, slice_get}
 use Rattle.ffi3_type_rules.specs.Signature.{signature_at}
+use Rattle.ffi3_place_rules.specs.Standard.{Standard}
 use Rattle.ffi3_run_rules.specs.Meaning.{Who, main, function, Native}
 use Rattle.ffi3_body.specs.SeenActivation.{SeenActivation, arguments_of}
 use Rattle.ffi3_body.specs.Follow.{ResultsFollow}
-use Rattle.ffi3_script_rules.specs.Natives.{NamedNative}
+use Rattle.ffi3_script_rules.specs.Natives.{NamedNative, program_beside}
 use Rattle.ffi3_script_body.specs.Agrees.{Agrees}
 use Rattle.ffi3_script_body.specs.BodyOf.{signatures_of, signature_of, meaning_of}
 use Rattle.ffi3_script_body.specs.declared.body.ScriptBody.{ScriptBody}
 use Rattle.ffi3_script_body.specs.declared.cursor.Cursor.{Cursor}
 use Rattle.ffi3_script.specs.ScriptOf.{script_of, main_body, body_at}
 use Rattle.ffi3_script.specs.declared.script.Script.{Script}
+use Rattle.ffi3_ask.specs.Asked.{own_signature}
 use Rattle.ffi3_ask.specs.Handed.{natives_in, signatures_before}
 use Rattle.ffi3_ask.specs.declared.standing.Standing.{Standing}
 use Rattle.ffi3_ask.specs.declared.standing.Standing.TheVariants.{InMain, InFunction, InNative}
@@ -56,3 +58,8 @@ abbrev pub StandingAgrees : Script → List NamedNative → SeenActivation → S
 StandingAgrees s ns a (InMain cursor) = IsInBody (main_body s) a cursor
 StandingAgrees s ns a (InFunction k cursor) = IsInFunction s k a cursor
 StandingAgrees s ns a (InNative k first) = IsInHanded s ns k first a
+
+-- Where function k of the run stands BEFORE ITS FIRST MOVE: it agrees with any activation of its signature that has no results.
+pub record IsBeforeMoves (s : Script) (ns : List NamedNative) (k : ℕ) (x : Standing) : Type 0 where
+  pub who : who_of x ≡ function k
+  pub agrees : (std : Standard) (a : SeenActivation) → a.signature ≡ own_signature (program_beside std ns (script_of s)) (function k) → a.results ≡ [] → StandingAgrees s ns a x

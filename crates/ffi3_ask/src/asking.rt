@@ -1,5 +1,5 @@
 // What a function of a run asks for next.
-ghost use Rattle.std.specs.Prelude.{◌≡◌, ◌<◌, ◌≤◌, ◌^◌, IfOk, List, length, map};
+ghost use Rattle.std.specs.Prelude.{◌≡◌, ◌<◌, ◌≤◌, ◌^◌, IfOk, List, length};
 ghost use Rattle.ffi3_place_rules.specs.Standard.{Standard};
 ghost use Rattle.ffi3_run_rules.specs.Meaning.{main, function};
 ghost use Rattle.ffi3_body.specs.MoveOf.{move_of};
@@ -7,7 +7,7 @@ ghost use Rattle.ffi3_script_rules.specs.Natives.{NamedNative, program_beside};
 ghost use Rattle.ffi3_script_body.specs.Agrees.{one_more};
 ghost use Rattle.ffi3_script_body.specs.BodyOf.{signatures_of, functions_of, meaning_of};
 ghost use Rattle.ffi3_script.specs.ScriptOf.{script_of, natives_of, main_body};
-ghost use Rattle.ffi3_ask.specs.Handed.{handed_in, signatures_in};
+ghost use Rattle.ffi3_ask.specs.Handed.{handed, signatures_in};
 ghost use Rattle.ffi3_ask.specs.Asked.{IsAsked, IsNext};
 ghost use Rattle.ffi3_ask.specs.Stands.{who_of, StandingAgrees, IsInBody, IsInFunction, IsInHanded};
 
@@ -30,14 +30,14 @@ pub fn ask(
     seen: &Seen,
 ) -> Result<Move, NoMemory>
     requires beside { natives_of script.now ≤ length natives.now.items }
-    requires few_signatures { length (signatures_in (map (λ b. handed_in (title b) (meaning b) (signatures b)) natives.now.items)) < 2 ^ 31 }
-    requires agrees { StandingAgrees script.now (map (λ b. handed_in (title b) (meaning b) (signatures b)) natives.now.items) seen.now standing.old }
-    ensures asked { let handed : List NamedNative = map (λ b. handed_in (title b) (meaning b) (signatures b)) natives.now.items in
+    requires few_signatures { length (signatures_in (handed title meaning signatures natives.now.items)) < 2 ^ 31 }
+    requires agrees { StandingAgrees script.now (handed title meaning signatures natives.now.items) seen.now standing.old }
+    ensures asked { let all = handed title meaning signatures natives.now.items in
         (std : Standard) → IfOk result
-        (λ m. IsAsked (program_beside std handed (script_of script.now)) (who_of standing.old) seen.now
-        (λ r. StandingAgrees script.now handed (one_more seen.now r) standing.new) (move_of m)) }
+        (λ m. IsAsked (program_beside std all (script_of script.now)) (who_of standing.old) seen.now
+        (λ r. StandingAgrees script.now all (one_more seen.now r) standing.new) (move_of m)) }
     ensures who { who_of standing.new ≡ who_of standing.old }
-    ensures agrees { StandingAgrees script.now (map (λ b. handed_in (title b) (meaning b) (signatures b)) natives.now.items) seen.now standing.new }
+    ensures agrees { StandingAgrees script.now (handed title meaning signatures natives.now.items) seen.now standing.new }
 {
     match standing {
         Standing::InMain(cursor) => ask_main(alloc, script, cursor, seen),
@@ -106,12 +106,12 @@ fn ask_native(
     first: u32,
     seen: &Seen,
 ) -> Result<Move, NoMemory>
-    requires few_signatures { length (signatures_in (map (λ b. handed_in (title b) (meaning b) (signatures b)) natives.now.items)) < 2 ^ 31 }
-    requires stands { IsInHanded script.now (map (λ b. handed_in (title b) (meaning b) (signatures b)) natives.now.items) number first seen.now }
-    ensures { let handed : List NamedNative = map (λ b. handed_in (title b) (meaning b) (signatures b)) natives.now.items in
+    requires few_signatures { length (signatures_in (handed title meaning signatures natives.now.items)) < 2 ^ 31 }
+    requires stands { IsInHanded script.now (handed title meaning signatures natives.now.items) number first seen.now }
+    ensures { let all = handed title meaning signatures natives.now.items in
         (std : Standard) → IfOk result
-        (λ m. IsAsked (program_beside std handed (script_of script.now)) (function number) seen.now
-        (λ r. IsInHanded script.now handed number first (one_more seen.now r)) (move_of m)) }
+        (λ m. IsAsked (program_beside std all (script_of script.now)) (function number) seen.now
+        (λ r. IsInHanded script.now all number first (one_more seen.now r)) (move_of m)) }
 {
     // by which there is room for its numbers
     script.sigs();

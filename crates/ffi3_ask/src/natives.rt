@@ -1,13 +1,13 @@
 // Natives behind boxes. A box is called in a function of its own, so that the proofs of others
 // speak of the box itself.
-ghost use Rattle.std.specs.Prelude.{◌≡◌, ◌<◌, ◌+◌, IfOk, Some, length, map, slice_get, All};
+ghost use Rattle.std.specs.Prelude.{◌≡◌, ◌<◌, IfOk, Some, length, slice_get, All};
 ghost use Rattle.ffi3_type_rules.specs.Signature.{SignatureHasNoFault, signature_at};
 ghost use Rattle.ffi3_run_rules.specs.Move.{MoveFits};
 ghost use Rattle.ffi3_run_rules.specs.Meaning.{renumbered};
 ghost use Rattle.ffi3_body.specs.MoveOf.{move_of};
 ghost use Rattle.ffi3_body.specs.SeenActivation.{arguments_of};
 ghost use Rattle.ffi3_body.specs.Follow.{ResultsFollow};
-ghost use Rattle.ffi3_ask.specs.Handed.{handed_in, HasRoom};
+ghost use Rattle.ffi3_ask.specs.Handed.{handed, handed_in, HasRoom};
 
 use ffi3_body::{Move, Native, Seen};
 use ffi3_types::{NoMemory, Sigs};
@@ -16,7 +16,7 @@ use std::alloc::Global;
 /// Native `j`.
 pub(crate) fn native_at(natives: &Vec<Box<dyn Native>>, j: u32) -> &Box<dyn Native>
     requires { j < length natives.now.items }
-    ensures { slice_get (map (λ b. handed_in (title b) (meaning b) (signatures b)) natives.now.items) j
+    ensures { slice_get (handed title meaning signatures natives.now.items) j
         ≡ Some (handed_in (title result.now) (meaning result.now) (signatures result.now)) }
 {
     &natives[j as usize]

@@ -1,11 +1,11 @@
 // The numbers of a run's signatures and functions.
-ghost use Rattle.std.specs.Prelude.{◌≡◌, ◌<◌, ◌≤◌, ◌+◌, ◌^◌, Some, length, map, slice_get};
+ghost use Rattle.std.specs.Prelude.{◌≡◌, ◌<◌, ◌≤◌, ◌+◌, ◌^◌, Some, length, slice_get};
 ghost use Rattle.ffi3_type_rules.specs.Signature.{signature_at, SignatureHasNoFault};
 ghost use Rattle.ffi3_place_rules.specs.Standard.{Standard};
 ghost use Rattle.ffi3_run_rules.specs.Meaning.{function_at};
 ghost use Rattle.ffi3_script_rules.specs.Natives.{NamedNative, program_beside};
 ghost use Rattle.ffi3_script.specs.ScriptOf.{script_of};
-ghost use Rattle.ffi3_ask.specs.Handed.{handed_in, natives_in, signatures_in, signatures_before};
+ghost use Rattle.ffi3_ask.specs.Handed.{AreFew, handed, natives_in, signatures_in, signatures_before};
 
 use crate::natives::{native_at, sigs_of};
 use ffi3_body::Native;
@@ -15,11 +15,11 @@ use ffi3_types::Sig;
 // How many signatures native `j` has.
 fn count_of(natives: &Vec<Box<dyn Native>>, j: u32) -> u32
     requires { j < length natives.now.items }
-    ensures is { (n : NamedNative) → slice_get (map (λ b. handed_in (title b) (meaning b) (signatures b)) natives.now.items) j ≡ Some n →
+    ensures is { (n : NamedNative) → slice_get (handed title meaning signatures natives.now.items) j ≡ Some n →
         result ≡ length n.native.signatures }
-    ensures more { let all = natives_in (map (λ b. handed_in (title b) (meaning b) (signatures b)) natives.now.items) in
+    ensures more { let all = natives_in (handed title meaning signatures natives.now.items) in
         signatures_before all (j + 1) ≡ signatures_before all j + result }
-    ensures within { let all = (map (λ b. handed_in (title b) (meaning b) (signatures b)) natives.now.items) in
+    ensures within { let all = handed title meaning signatures natives.now.items in
         signatures_before (natives_in all) j + result ≤ length (signatures_in all) }
 {
     sigs_of(native_at(natives, j)).len() as u32
@@ -29,8 +29,8 @@ fn count_of(natives: &Vec<Box<dyn Native>>, j: u32) -> u32
 /// native, the number after the last.
 pub(crate) fn first_of(script: &Script, natives: &Vec<Box<dyn Native>>, j: u32) -> u32
     requires within { j ≤ length natives.now.items }
-    requires few { length (signatures_in (map (λ b. handed_in (title b) (meaning b) (signatures b)) natives.now.items)) < 2 ^ 31 }
-    ensures { result ≡ length (script_of script.now).signatures + signatures_before (natives_in (map (λ b. handed_in (title b) (meaning b) (signatures b)) natives.now.items)) j }
+    requires few { length (signatures_in (handed title meaning signatures natives.now.items)) < 2 ^ 31 }
+    ensures { result ≡ length (script_of script.now).signatures + signatures_before (natives_in (handed title meaning signatures natives.now.items)) j }
 {
     let mut first = script.sigs().len() as u32;
     for i in 0..j {
@@ -41,9 +41,8 @@ pub(crate) fn first_of(script: &Script, natives: &Vec<Box<dyn Native>>, j: u32) 
 
 /// How many signatures a run has: those of the script, and those of each native.
 pub fn signatures(script: &Script, natives: &Vec<Box<dyn Native>>) -> u32
-    requires few { length natives.now.items < 2 ^ 31 }
-    requires few_signatures { length (signatures_in (map (λ b. handed_in (title b) (meaning b) (signatures b)) natives.now.items)) < 2 ^ 31 }
-    ensures { (std : Standard) → result ≡ length (program_beside std (map (λ b. handed_in (title b) (meaning b) (signatures b)) natives.now.items) (script_of script.now)).signatures }
+    requires { AreFew title meaning signatures natives.now.items }
+    ensures { (std : Standard) → result ≡ length (program_beside std (handed title meaning signatures natives.now.items) (script_of script.now)).signatures }
 {
     first_of(script, natives, natives.len() as u32)
 }
@@ -51,9 +50,9 @@ pub fn signatures(script: &Script, natives: &Vec<Box<dyn Native>>) -> u32
 /// The number of the signature of function `number` of the run.
 pub fn sig_of(script: &Script, natives: &Vec<Box<dyn Native>>, number: u32) -> u32
     requires below { number < length (script_of script.now).functions + length natives.now.items }
-    requires few_signatures { length (signatures_in (map (λ b. handed_in (title b) (meaning b) (signatures b)) natives.now.items)) < 2 ^ 31 }
-    ensures is { (std : Standard) → result ≡ (function_at (program_beside std (map (λ b. handed_in (title b) (meaning b) (signatures b)) natives.now.items) (script_of script.now)) number).signature }
-    ensures below { (std : Standard) → result < length (program_beside std (map (λ b. handed_in (title b) (meaning b) (signatures b)) natives.now.items) (script_of script.now)).signatures }
+    requires few_signatures { length (signatures_in (handed title meaning signatures natives.now.items)) < 2 ^ 31 }
+    ensures is { (std : Standard) → result ≡ (function_at (program_beside std (handed title meaning signatures natives.now.items) (script_of script.now)) number).signature }
+    ensures below { (std : Standard) → result < length (program_beside std (handed title meaning signatures natives.now.items) (script_of script.now)).signatures }
 {
     let count = script.functions();
     if number < count {
@@ -67,9 +66,9 @@ pub fn sig_of(script: &Script, natives: &Vec<Box<dyn Native>>, number: u32) -> u
 fn native_sig(script: &Script, natives: &Vec<Box<dyn Native>>, number: u32, j: u32) -> u32
     requires here { number ≡ length (script_of script.now).functions + j }
     requires below { j < length natives.now.items }
-    requires few_signatures { length (signatures_in (map (λ b. handed_in (title b) (meaning b) (signatures b)) natives.now.items)) < 2 ^ 31 }
-    ensures is { (std : Standard) → result ≡ (function_at (program_beside std (map (λ b. handed_in (title b) (meaning b) (signatures b)) natives.now.items) (script_of script.now)) number).signature }
-    ensures below { (std : Standard) → result < length (program_beside std (map (λ b. handed_in (title b) (meaning b) (signatures b)) natives.now.items) (script_of script.now)).signatures }
+    requires few_signatures { length (signatures_in (handed title meaning signatures natives.now.items)) < 2 ^ 31 }
+    ensures is { (std : Standard) → result ≡ (function_at (program_beside std (handed title meaning signatures natives.now.items) (script_of script.now)) number).signature }
+    ensures below { (std : Standard) → result < length (program_beside std (handed title meaning signatures natives.now.items) (script_of script.now)).signatures }
 {
     // by which it has one
     sigs_of(native_at(natives, j));
@@ -78,9 +77,9 @@ fn native_sig(script: &Script, natives: &Vec<Box<dyn Native>>, number: u32, j: u
 
 /// Signature `number` of the run. It has no fault.
 pub fn signature<'a>(script: &'a Script, natives: &'a Vec<Box<dyn Native>>, number: u32) -> &'a Sig
-    requires below { number < length (script_of script.now).signatures + length (signatures_in (map (λ b. handed_in (title b) (meaning b) (signatures b)) natives.now.items)) }
+    requires below { number < length (script_of script.now).signatures + length (signatures_in (handed title meaning signatures natives.now.items)) }
     requires few { length natives.now.items < 2 ^ 31 }
-    ensures is { (std : Standard) → result.now ≡ signature_at (program_beside std (map (λ b. handed_in (title b) (meaning b) (signatures b)) natives.now.items) (script_of script.now)).signatures number }
+    ensures is { (std : Standard) → result.now ≡ signature_at (program_beside std (handed title meaning signatures natives.now.items) (script_of script.now)).signatures number }
     ensures right { SignatureHasNoFault result.now }
 {
     let sigs = script.sigs();
@@ -94,9 +93,9 @@ pub fn signature<'a>(script: &'a Script, natives: &'a Vec<Box<dyn Native>>, numb
 
 // Signature `number` of those of all natives.
 fn native_signature(natives: &Vec<Box<dyn Native>>, number: u32) -> &Sig
-    requires below { number < length (signatures_in (map (λ b. handed_in (title b) (meaning b) (signatures b)) natives.now.items)) }
+    requires below { number < length (signatures_in (handed title meaning signatures natives.now.items)) }
     requires few { length natives.now.items < 2 ^ 31 }
-    ensures is { result.now ≡ signature_at (signatures_in (map (λ b. handed_in (title b) (meaning b) (signatures b)) natives.now.items)) number }
+    ensures is { result.now ≡ signature_at (signatures_in (handed title meaning signatures natives.now.items)) number }
     ensures right { SignatureHasNoFault result.now }
 {
     // the number among those of native `j` and the natives after it

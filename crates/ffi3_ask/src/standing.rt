@@ -1,15 +1,13 @@
 // Whose body an activation runs, and where it stands in it.
-ghost use Rattle.std.specs.Prelude.{◌≡◌, ◌<◌, ◌≤◌, ◌+◌, ◌^◌, [], List, length, map};
-ghost use Rattle.ffi3_place_rules.specs.Standard.{Standard};
+ghost use Rattle.std.specs.Prelude.{◌≡◌, ◌<◌, ◌≤◌, ◌+◌, ◌^◌, [], List, length};
 ghost use Rattle.ffi3_run_rules.specs.Move.{no_signature};
-ghost use Rattle.ffi3_run_rules.specs.Meaning.{main, function};
+ghost use Rattle.ffi3_run_rules.specs.Meaning.{main};
 ghost use Rattle.ffi3_body.specs.SeenActivation.{SeenActivation};
-ghost use Rattle.ffi3_script_rules.specs.Natives.{NamedNative, program_beside};
+ghost use Rattle.ffi3_script_rules.specs.Natives.{NamedNative};
 ghost use Rattle.ffi3_script_body.specs.BodyOf.{signature_of};
 ghost use Rattle.ffi3_script.specs.ScriptOf.{script_of};
-ghost use Rattle.ffi3_ask.specs.Asked.{own_signature};
-ghost use Rattle.ffi3_ask.specs.Handed.{handed_in, signatures_in};
-ghost use Rattle.ffi3_ask.specs.Stands.{who_of, StandingAgrees, IsInBody};
+ghost use Rattle.ffi3_ask.specs.Handed.{handed, signatures_in};
+ghost use Rattle.ffi3_ask.specs.Stands.{who_of, StandingAgrees, IsBeforeMoves, IsInBody};
 
 use crate::natives::{native_at, sigs_of};
 use crate::numbers::first_of;
@@ -54,12 +52,8 @@ impl Standing {
         number: u32,
     ) -> Standing
         requires below { number < length (script_of script.now).functions + length natives.now.items }
-        requires few_signatures { length (signatures_in (map (λ b. handed_in (title b) (meaning b) (signatures b)) natives.now.items)) < 2 ^ 31 }
-        ensures who { who_of result ≡ function number }
-        ensures agrees { let handed : List NamedNative = map (λ b. handed_in (title b) (meaning b) (signatures b)) natives.now.items in
-            (std : Standard) (a : SeenActivation) →
-            a.signature ≡ own_signature (program_beside std handed (script_of script.now)) (function number) →
-            a.results ≡ [] → StandingAgrees script.now handed a result }
+        requires few_signatures { length (signatures_in (handed title meaning signatures natives.now.items)) < 2 ^ 31 }
+        ensures { IsBeforeMoves script.now (handed title meaning signatures natives.now.items) number result }
     {
         let count = script.functions();
         if number < count {
@@ -73,10 +67,7 @@ impl Standing {
 // A function of the script before its first move.
 fn in_script(alloc: Global, script: &Script, number: u32) -> Standing
     requires { number < length (script_of script.now).functions }
-    ensures who { who_of result ≡ function number }
-    ensures agrees { (std : Standard) (natives : List NamedNative) (a : SeenActivation) →
-        a.signature ≡ own_signature (program_beside std natives (script_of script.now)) (function number) →
-        a.results ≡ [] → StandingAgrees script.now natives a result }
+    ensures { (natives : List NamedNative) → IsBeforeMoves script.now natives number result }
 {
     // by which its signature is one of the script's
     script.sig_of(number);
@@ -87,12 +78,8 @@ fn in_script(alloc: Global, script: &Script, number: u32) -> Standing
 fn in_native(script: &Script, natives: &Vec<Box<dyn Native>>, number: u32) -> Standing
     requires above { length (script_of script.now).functions ≤ number }
     requires below { number < length (script_of script.now).functions + length natives.now.items }
-    requires few_signatures { length (signatures_in (map (λ b. handed_in (title b) (meaning b) (signatures b)) natives.now.items)) < 2 ^ 31 }
-    ensures who { who_of result ≡ function number }
-    ensures agrees { let handed : List NamedNative = map (λ b. handed_in (title b) (meaning b) (signatures b)) natives.now.items in
-        (std : Standard) (a : SeenActivation) →
-        a.signature ≡ own_signature (program_beside std handed (script_of script.now)) (function number) →
-        a.results ≡ [] → StandingAgrees script.now handed a result }
+    requires few_signatures { length (signatures_in (handed title meaning signatures natives.now.items)) < 2 ^ 31 }
+    ensures { IsBeforeMoves script.now (handed title meaning signatures natives.now.items) number result }
 {
     let j = number - script.functions();
     // by which it has a signature of its own

@@ -1,5 +1,6 @@
 //! The lines of three targets.
 ghost use Rattle.std.specs.Prelude.{◌≡◌, ◌≤◌, ◌++◌, IfOk, OnOk, length};
+ghost use Rattle.ffi3_type_rules.specs.declared.limits.TheConstants.{MOST_CALLS};
 ghost use Rattle.ffi3_type_rules.specs.Value.{void_value};
 ghost use Rattle.ffi3_io.specs.Written.{Wrote};
 ghost use Rattle.ffi3_run_rules.specs.Lines.{untraced, text_of_run};
@@ -65,7 +66,7 @@ pub fn bench<O: Sink>(
     machine: &mut Machine,
     output: &mut O,
 ) -> Result<(), IoError>
-    requires { calls ≤ 1000 }
+    requires { calls ≤ MOST_CALLS }
     ensures wrote { Wrote (bench_text seed calls) (O.state output.old) (O.state output.new) result }
     ensures journal { OnOk result (HasWholeJournal riscv (program_of riscv (made seed calls)) machine.new) }
 {

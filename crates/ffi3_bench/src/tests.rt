@@ -1,5 +1,6 @@
 // The lines of the two rows.
 ghost use Rattle.std.specs.Prelude.{◌≤◌};
+ghost use Rattle.ffi3_type_rules.specs.declared.limits.TheConstants.{MOST_CALLS};
 
 use crate::bench;
 use ffi3_io::MemSink;
@@ -8,7 +9,7 @@ use std::alloc::Global;
 
 // What bench writes of a seed and a number of calls, or nothing where memory was refused.
 fn writes(alloc: Global, seed: u32, calls: u32, text: &str) -> bool
-    requires { calls ≤ 1000 }
+    requires { calls ≤ MOST_CALLS }
 {
     let Ok(mut machine) = Machine::new(alloc) else {
         return false;

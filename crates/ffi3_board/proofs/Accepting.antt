@@ -14,12 +14,11 @@ use Rattle.ffi3_place_rules.specs.Isa.{scribble}
 use Rattle.ffi3_place_rules.specs.Standard.{Standard, block_bytes, frame_of, need_of}
 use Rattle.ffi3_run_rules.specs.declared.Closure.{Closure}
 use Rattle.ffi3_run_rules.specs.Closures.{Closures}
-use Rattle.ffi3_run_rules.specs.Journal.{Entered}
 use Rattle.ffi3_run_rules.specs.Lines.{Tracing}
-use Rattle.ffi3_run_rules.specs.Meaning.{Program, need_at, most_moves}
-use Rattle.ffi3_turn_rules.specs.Left.{Left}
+use Rattle.ffi3_run_rules.specs.Meaning.{Program, function, need_at, most_moves}
+use Rattle.ffi3_turn_rules.specs.Remainder.{Remainder}
 use Rattle.ffi3_turn_rules.specs.SoFar.{Base}
-use Rattle.ffi3_turn_rules.specs.Told.{IsTracingOf}
+use Rattle.ffi3_turn_rules.specs.TracingOf.{IsTracingOf}
 use Rattle.ffi3_turn_rules.proofs.Coming.{comes_from}
 use Rattle.ffi3_machine.specs.State.{State, after_enter, image_of, stack_at}
 use Rattle.ffi3_closures.specs.Slots.{HoldsMap}
@@ -33,17 +32,16 @@ use Rattle.ffi3_callee.specs.Received.{IsIncoming, IsReceived}
 use Rattle.ffi3_invoke.specs.Calls.{IsInCallee, entry_at, with_journal_of}
 use Rattle.ffi3_invoke.proofs.Accepted.{counted}
 use Rattle.ffi3_invoke.proofs.Stretches.{above_stays}
-use Rattle.ffi3_board.specs.declared.activation.Activation.{Activation}
 use Rattle.ffi3_board.specs.declared.activation.OpenCall.{OpenCall}
-use Rattle.ffi3_board.specs.declared.activation.Who.TheVariants.{Function}
+use Rattle.ffi3_board.specs.Going.{activation_of}
 use Rattle.ffi3_board.specs.Known.{AreKnown}
-use Rattle.ffi3_board.specs.Between.{Beginning, Moment, IsMarkOf, IsBetween, moment_with}
-use Rattle.ffi3_board.specs.Path.{acting, arguments_at, who_of}
-use Rattle.ffi3_board.specs.Accepted.{WasCutAtEntry}
+use Rattle.ffi3_board.specs.Between.{Beginning, RunState, IsMarkOf, IsBetween, run_state_with}
+use Rattle.ffi3_board.specs.Path.{acting, arguments_at}
+use Rattle.ffi3_board.specs.Accepted.{WasInterruptedAtEntry}
 use Rattle.ffi3_board.specs.TraceLines.{last_event, entry_lines}
-use Rattle.ffi3_io.specs.Written.{LineCut}
+use Rattle.ffi3_io.specs.Written.{LineInterrupted}
 use Rattle.ffi3_board.proofs.Telling.{last_is}
-use Rattle.ffi3_board.proofs.Tests.{chosen_true, chosen_false}
+use Rattle.ffi3_script_rules.proofs.Tests.{if_true, if_false}
 use Rattle.ffi3_board.specs.Served.{ShowsCall, served_leaves, served_tracing, served_activation, served_base, served_beginning, served_left}
 use Rattle.ffi3_board.proofs.Opened.{same_then_held}
 
@@ -74,11 +72,11 @@ served_is_traced p std sig m true =
     let entry = entry_at std s m in
     let count = length m.events + 1 in
     let leaves = served_leaves entry count in
-    let before : (at : Loc) → register entry.image at ≡ leaves (count - 1) at = λ at. sym (chosen_true (nat_lt (count - 1) count) (register entry.image at) (scribble (count - 1) at) (lt-ltb (count - 1) count (omega arith))) in (
+    let before : (at : Loc) → register entry.image at ≡ leaves (count - 1) at = λ at. sym (if_true (nat_lt (count - 1) count) (register entry.image at) (scribble (count - 1) at) (lt-ltb (count - 1) count (omega arith))) in (
       leaves,
       refl,
       record {
-        later = λ n at past. chosen_false (nat_lt n count) (register entry.image at) (scribble n at) (le-ltb n count past);
+        later = λ n at past. if_false (nat_lt n count) (register entry.image at) (scribble n at) (le-ltb n count past);
         open_calls = (
           record {
             signature = refl;
@@ -90,6 +88,18 @@ served_is_traced p std sig m true =
       },
     )
 
+-- a call that was accepted: its entry is recorded, its callee has its save area and block, and remembers what it is to give back
+pub record WasAccepted (std : Standard) (s : Signature) (m m' : State) (incoming : Incoming) : Type 0 where
+  pub events : m'.events ≡ m.events ++ entry_at std s m ∷ []
+  pub received : IsReceived std s (after_enter (std.link + frame_of std s) m) m'
+  pub incoming_is : IsIncoming std s incoming
+  pub block : incoming.block ≡ m'.sp
+  pub sp : m'.sp + block_bytes s + std.save ≡ m.sp
+  pub within : WroteWithin m'.sp m.sp m (with_journal_of m m')
+  pub spare_events : m'.spare_events + 1 ≡ m.spare_events
+  pub spare_bytes : m'.spare_bytes + (std.link + frame_of std s) ≡ m.spare_bytes
+  pub in_callee : IsInCallee std (record { signature = s; event = entry_at std s m }) m'
+
 module _ (p : Program) (std : Standard) (closure : Closure) (arguments : List ValueTree) (m m' : State) (incoming : Incoming) (output : SinkState) (closures : Closures) (moves : ℕ) (tracing : Tracing) where
   abbrev s : Signature
   s = signature_at p.signatures closure.sig
@@ -97,7 +107,7 @@ module _ (p : Program) (std : Standard) (closure : Closure) (arguments : List Va
   abbrev base : Base
   base = served_base std p.signatures closure.sig m
 
-  abbrev all : Left
+  abbrev all : Remainder
   all = served_left std p closure arguments m closures moves
 
   abbrev first : Beginning
@@ -106,10 +116,7 @@ module _ (p : Program) (std : Standard) (closure : Closure) (arguments : List Va
   abbrev call : OpenCall
   call = record { sig = closure.sig; incoming = incoming }
 
-  abbrev entered : Entered
-  entered = record { signature = s; event = entry_at std s m }
-
-  abbrev start : Moment
+  abbrev start : RunState
   start = record {
     innermost = served_activation std p.signatures closure arguments m;
     suspended = [];
@@ -120,7 +127,7 @@ module _ (p : Program) (std : Standard) (closure : Closure) (arguments : List Va
     output = output;
   }
 
-  module _ (needs : p.need ≡ need_of std) (below : closure.sig < length p.signatures) (shows : ShowsCall std s arguments m) (holds : HoldsMap m.target closures m.code) (known : AreKnown p closures) (few : moves ≤ most_moves) (events : m'.events ≡ m.events ++ entry_at std s m ∷ []) (received : IsReceived std s (after_enter (std.link + frame_of std s) m) m') (is : IsIncoming std s incoming) (block : incoming.block ≡ m'.sp) (sp : m'.sp + block_bytes s + std.save ≡ m.sp) (within : WroteWithin m'.sp m.sp m (with_journal_of m m')) (spare_events : m'.spare_events + 1 ≡ m.spare_events) (spare_bytes : m'.spare_bytes + (std.link + frame_of std s) ≡ m.spare_bytes) (in_callee : IsInCallee std (record { signature = s; event = entry_at std s m }) m') where
+  module _ (needs : p.need ≡ need_of std) (below : closure.sig < length p.signatures) (shows : ShowsCall std s arguments m) (holds : HoldsMap m.target closures m.code) (known : AreKnown p closures) (few : moves ≤ most_moves) (accepted : WasAccepted std s m m' incoming) where
     need_is : need_at p closure.sig ≡ need_of std s
     need_is = ap (λ (f : Signature → ℕ). f s) needs
 
@@ -128,13 +135,13 @@ module _ (p : Program) (std : Standard) (closure : Closure) (arguments : List Va
     whole =
         let need : need_of std s ≡ frame_of std s + std.link + std.save + block_bytes s = refl in
         let same = need_is in
-        omega (arith, need, same, sp)
+        omega (arith, need, same, accepted.sp)
 
     holds_still : HoldsMap std.target closures m'.code
     holds_still =
         let P = λ (t : Target). HoldsMap t closures m'.code in
         let Q = λ (code : List ℕ). HoldsMap m.target closures code in
-        subst P shows.target (subst Q (sym within.code) holds)
+        subst P shows.target (subst Q (sym accepted.within.code) holds)
 
     -- ITS RUN BEGINS
     begins : IsBetween p base all first [] [] start
@@ -143,22 +150,22 @@ module _ (p : Program) (std : Standard) (closure : Closure) (arguments : List Va
         let two : 2 ≤ m.spare_events = shows.events in
         let enough : std.link + frame_of std s + frame_of std s ≤ m.spare_bytes = shows.bytes in
         let at = whole in
-        let own_room : 1 ≤ m'.spare_events = in_callee.room in
-        let own_bytes : frame_of std s ≤ m'.spare_bytes = in_callee.bytes in
+        let own_room : 1 ≤ m'.spare_events = accepted.in_callee.room in
+        let own_bytes : frame_of std s ≤ m'.spare_bytes = accepted.in_callee.bytes in
         record {
           needs = needs;
           count = sym (counted m.events (entry_at std s m));
           top = shows.frame;
           come = comes_from p base (served_activation std p.signatures closure arguments m) closures moves refl;
-          journal = events ∙ sym (append-nil (m.events ++ entry_at std s m ∷ []));
+          journal = accepted.events ∙ sym (append-nil (m.events ++ entry_at std s m ∷ []));
           written = took_nothing output;
-          mark = mark_begins base.top m.mark m.sp m'.sp (need_at p closure.sig) m'.mark at within.mark;
+          mark = mark_begins base.top m.mark m.sp m'.sp (need_at p closure.sig) m'.mark at accepted.within.mark;
           deep = omega (arith, at);
-          left = omega (arith, room, sp);
+          left = omega (arith, room, accepted.sp);
           calls = record {
-            target = in_callee.target;
-            stand = (record { below = below; signature = refl; stands = in_callee.stands; reserved = hold_themselves (entry_at std s m).image std.reserved; incoming = is; block = block }, refl);
-            reserved = same_then_held std.reserved (entry_at std s m).image (image_of 0 m') base.held in_callee.reserved (hold_themselves (entry_at std s m).image std.reserved);
+            target = accepted.in_callee.target;
+            stand = (record { below = below; signature = refl; stands = accepted.in_callee.stands; reserved = hold_themselves (entry_at std s m).image std.reserved; incoming = accepted.incoming_is; block = accepted.block }, refl);
+            reserved = same_then_held std.reserved (entry_at std s m).image (image_of 0 m') base.held accepted.in_callee.reserved (hold_themselves (entry_at std s m).image std.reserved);
             room = omega (arith, own_room);
             bytes = omega (arith, own_bytes);
           };
@@ -167,9 +174,9 @@ module _ (p : Program) (std : Standard) (closure : Closure) (arguments : List Va
           few = omega (arith, few);
           others_few = tt;
           found = record {
-            above = λ address count over. above_stays m'.sp m.sp m (with_journal_of m m') within address count (omega (arith, over, room)) (omega (arith, over));
-            events = omega (arith, spare_events, two);
-            bytes = omega (arith, spare_bytes, enough);
+            above = λ address count over. above_stays m'.sp m.sp m (with_journal_of m m') accepted.within address count (omega (arith, over, room)) (omega (arith, over));
+            events = omega (arith, accepted.spare_events, two);
+            bytes = omega (arith, accepted.spare_bytes, enough);
           };
           outermost = (entry_at std s m, refl);
         }
@@ -177,30 +184,30 @@ module _ (p : Program) (std : Standard) (closure : Closure) (arguments : List Va
     -- the lines of the entry, where the run is traced
     pub entry_told : (trace : Bool) → entry_lines trace std s (last_event m'.events) (arguments_in s.arguments (stack_at m'.sp (block_bytes s) m')) ≡ entry_lines trace std s (entry_at std s m) arguments
     entry_told trace =
-        let last : last_event m'.events ≡ entry_at std s m = ap last_event events ∙ last_is m.events (entry_at std s m) in
+        let last : last_event m'.events ≡ entry_at std s m = ap last_event accepted.events ∙ last_is m.events (entry_at std s m) in
         ap (λ (e : Event). entry_lines trace std s e (arguments_in s.arguments (stack_at m'.sp (block_bytes s) m'))) last
-        ∙ ap (λ (l : List ValueTree). entry_lines trace std s (entry_at std s m) l) (received.values arguments shows.owns)
+        ∙ ap (λ (l : List ValueTree). entry_lines trace std s (entry_at std s m) l) (accepted.received.values arguments shows.owns)
 
-    -- where they are cut off
-    pub cut_at_entry : (trace : Bool) (why : IoError) (output' : SinkState) → LineCut (entry_lines trace std s (entry_at std s m) arguments) output output' why → WasCutAtEntry std s arguments trace why m m' output output'
+    -- where they are interrupted
+    pub cut_at_entry : (trace : Bool) (why : IoError) (output' : SinkState) → LineInterrupted (entry_lines trace std s (entry_at std s m) arguments) output output' why → WasInterruptedAtEntry std s arguments trace why m m' output output'
     cut_at_entry trace why output' lines = record {
-      journal = events;
+      journal = accepted.events;
       lines = lines;
-      mark = mark_at_entry (m.sp + std.link + frame_of std s) m.mark m'.sp (need_at p closure.sig) (need_of std s) m'.mark whole need_is within.mark;
-      target = within.target ∙ shows.target;
-      code = within.code;
+      mark = mark_at_entry (m.sp + std.link + frame_of std s) m.mark m'.sp (need_at p closure.sig) (need_of std s) m'.mark whole need_is accepted.within.mark;
+      target = accepted.within.target ∙ shows.target;
+      code = accepted.within.code;
     }
 
-    module _ {S : Type 0} (a : Activation S) (who : a.who ≡ Function closure.func) (user : a.user ≡ closure.user) (results : a.results ≡ []) where
-      acts : acting p.signatures m' (Some call) a ≡ served_activation std p.signatures closure arguments m
+    module _ {S : Type 0} (standing : S) where
+      acts : acting p.signatures m' (Some call) (activation_of closure standing) ≡ served_activation std p.signatures closure arguments m
       acts =
-          let given : arguments_at p.signatures m' (Some call) ≡ arguments = ap (λ (k : ℕ). arguments_in s.arguments (stack_at k (block_bytes s) m')) block ∙ received.values arguments shows.owns in
-          let left : incoming.block - STACK ≡ m.sp - std.save - block_bytes s - STACK = omega (arith, block, sp) in
-          λ i. record { who = who_of (who i); arguments = given i; user = user i; left = left i; results = results i }
+          let given : arguments_at p.signatures m' (Some call) ≡ arguments = ap (λ (k : ℕ). arguments_in s.arguments (stack_at k (block_bytes s) m')) accepted.block ∙ accepted.received.values arguments shows.owns in
+          let left : incoming.block - STACK ≡ m.sp - std.save - block_bytes s - STACK = omega (arith, accepted.block, accepted.sp) in
+          λ i. record { who = function closure.func; arguments = given i; user = closure.user; left = left i; results = [] }
 
       -- on a board where nothing waits
-      pub served_begins : IsBetween p base all first [] [] (moment_with p.signatures (Some call) [] closures moves m' output a)
+      pub served_begins : IsBetween p base all first [] [] (run_state_with p.signatures (Some call) [] closures moves m' output (activation_of closure standing))
       served_begins =
-          let same : moment_with p.signatures (Some call) [] closures moves m' output a ≡ start =
+          let same : run_state_with p.signatures (Some call) [] closures moves m' output (activation_of closure standing) ≡ start =
           λ i. record { innermost = acts i; suspended = []; calls = call ∷ []; closures = closures; moves = moves; machine = m'; output = output } in
-          subst (λ (x : Moment). IsBetween p base all first [] [] x) (sym same) begins
+          subst (λ (x : RunState). IsBetween p base all first [] [] x) (sym same) begins

@@ -9,14 +9,10 @@ use Rattle.ffi3_run_rules.specs.declared.Stop.TheVariants.{NoClosure, WrongSig, 
 use Rattle.ffi3_run_rules.specs.Closures.{Closures, slots, slot_address, closure_at, first_free, with_closure, freed}
 use Rattle.ffi3_run_rules.specs.Move.{call, make, free}
 use Rattle.ffi3_run_rules.specs.Meaning.{Program, Activation, Effect, stops, goes_on, enters, at_closure, call_of, callee_of, effect_of, need_at, function_at, pointer_value}
-use Rattle.ffi3_board.proofs.Tests.{chosen_true, chosen_false}
+use Rattle.ffi3_script_rules.proofs.Tests.{if_true, if_false}
 
 module _ (p : Program) (a : Activation) (c : Closures) where
   -- ---- a call
-
-  pub call_finds_none : (ptr sig : ℕ) (args : List ValueTree) → closure_at c ptr ≡ None → effect_of p a c (call ptr sig args) ≡ stops (NoClosure ptr)
-  call_finds_none ptr sig args none =
-      ap (λ o. at_closure o ptr (call_of p a ptr sig args)) none
 
   module _ (ptr sig : ℕ) (args : List ValueTree) (closure : Closure) (live : closure_at c ptr ≡ Some closure) where
     found : effect_of p a c (call ptr sig args) ≡ call_of p a ptr sig args closure
@@ -30,19 +26,19 @@ module _ (p : Program) (a : Activation) (c : Closures) where
 
     pub call_is_wrong : same_signature (signature_at p.signatures sig) (signature_at p.signatures closure.sig) ≡ false → effect_of p a c (call ptr sig args) ≡ stops (WrongSig ptr sig closure.sig)
     call_is_wrong other =
-        found ∙ chosen_false (same_signature (signature_at p.signatures sig) (signature_at p.signatures closure.sig)) by_room (stops (WrongSig ptr sig closure.sig)) other
+        found ∙ if_false (same_signature (signature_at p.signatures sig) (signature_at p.signatures closure.sig)) by_room (stops (WrongSig ptr sig closure.sig)) other
 
     is_right : same_signature (signature_at p.signatures sig) (signature_at p.signatures closure.sig) ≡ true → effect_of p a c (call ptr sig args) ≡ by_room
     is_right same =
-        found ∙ chosen_true (same_signature (signature_at p.signatures sig) (signature_at p.signatures closure.sig)) by_room (stops (WrongSig ptr sig closure.sig)) same
+        found ∙ if_true (same_signature (signature_at p.signatures sig) (signature_at p.signatures closure.sig)) by_room (stops (WrongSig ptr sig closure.sig)) same
 
     pub call_has_no_room : same_signature (signature_at p.signatures sig) (signature_at p.signatures closure.sig) ≡ true → nat_lt a.left (need_at p sig) ≡ true → effect_of p a c (call ptr sig args) ≡ stops (StackFull (need_at p sig) a.left)
     call_has_no_room same full =
-        is_right same ∙ chosen_true (nat_lt a.left (need_at p sig)) (stops (StackFull (need_at p sig) a.left)) (enters ptr sig (callee_of p a sig args closure)) full
+        is_right same ∙ if_true (nat_lt a.left (need_at p sig)) (stops (StackFull (need_at p sig) a.left)) (enters ptr sig (callee_of p a sig args closure)) full
 
     pub call_enters : same_signature (signature_at p.signatures sig) (signature_at p.signatures closure.sig) ≡ true → nat_lt a.left (need_at p sig) ≡ false → effect_of p a c (call ptr sig args) ≡ enters ptr sig (callee_of p a sig args closure)
     call_enters same room =
-        is_right same ∙ chosen_false (nat_lt a.left (need_at p sig)) (stops (StackFull (need_at p sig) a.left)) (enters ptr sig (callee_of p a sig args closure)) room
+        is_right same ∙ if_false (nat_lt a.left (need_at p sig)) (stops (StackFull (need_at p sig) a.left)) (enters ptr sig (callee_of p a sig args closure)) room
 
   -- ---- a make
 
@@ -56,11 +52,11 @@ module _ (p : Program) (a : Activation) (c : Closures) where
 
   pub make_goes_on : (func user : ℕ) → nat_lt (first_free c) slots ≡ true → effect_of p a c (make func user) ≡ made func user
   make_goes_on func user room =
-      chosen_true (nat_lt (first_free c) slots) (made func user) (stops TableFull) room
+      if_true (nat_lt (first_free c) slots) (made func user) (stops TableFull) room
 
   pub make_is_full : (func user : ℕ) → nat_lt (first_free c) slots ≡ false → effect_of p a c (make func user) ≡ stops TableFull
   make_is_full func user full =
-      chosen_false (nat_lt (first_free c) slots) (made func user) (stops TableFull) full
+      if_false (nat_lt (first_free c) slots) (made func user) (stops TableFull) full
 
   -- the same with a signature that is the function's
   pub make_goes_with : (func sig user : ℕ) → nat_lt (first_free c) slots ≡ true → sig ≡ (function_at p func).signature → effect_of p a c (make func user) ≡ goes_on (pointer_value (slot_address (first_free c))) (with_closure c (first_free c) (Some (record { func = func; sig = sig; user = user })))

@@ -7,7 +7,7 @@ use Rattle.ffi3_place_rules.specs.declared.Loc.{Loc}
 use Rattle.ffi3_place_rules.specs.Standard.{Standard, block_bytes, need_of}
 use Rattle.ffi3_run_rules.specs.Journal.{Entered}
 use Rattle.ffi3_run_rules.specs.Meaning as meaning
-use Rattle.ffi3_turn_rules.specs.Left.{Suspended}
+use Rattle.ffi3_turn_rules.specs.Remainder.{Suspended}
 use Rattle.ffi3_machine.specs.State.{State, stack_at}
 use Rattle.ffi3_body.specs.SeenActivation.{arguments_in}
 use Rattle.ffi3_board.specs.declared.activation.OpenCall.{OpenCall}

@@ -1,5 +1,5 @@
 -- What each kind of move leads to on a board.
-use Rattle.std.proofs.Common.{◌≡◌, ℕ, suc, true, ◌+◌, ◌-◌, ◌<◌, List, [], ◌∷◌, ◌++◌, length, Option, Some, refl, sym, ap, ◌∙◌, subst, arith, reverse}
+use Rattle.std.proofs.Common.{◌≡◌, ℕ, suc, true, ◌+◌, ◌-◌, List, [], ◌∷◌, ◌++◌, Option, Some, refl, sym, ap, ◌∙◌, subst, arith, reverse}
 use Rattle.std.specs.Prelude.{Bool}
 use Rattle.std.proofs.lemmas.List.{reverse-append}
 use Rattle.ffi3_type_rules.specs.declared.limits.TheConstants.{STACK}
@@ -10,7 +10,7 @@ use Rattle.ffi3_place_rules.specs.declared.Loc.{Loc}
 use Rattle.ffi3_run_rules.specs.Journal.{Entered}
 use Rattle.ffi3_board.specs.Stack.{HoldsCalls}
 use Rattle.ffi3_place_rules.specs.Event.{Event}
-use Rattle.ffi3_place_rules.specs.Standard.{Standard, block_bytes, frame_of}
+use Rattle.ffi3_place_rules.specs.Standard.{Standard, block_bytes}
 use Rattle.ffi3_run_rules.specs.declared.Closure.{Closure}
 use Rattle.ffi3_run_rules.specs.declared.Stop.{Stop}
 use Rattle.ffi3_run_rules.specs.declared.Stop.TheVariants.{MoveLimit}
@@ -20,31 +20,29 @@ use Rattle.ffi3_run_rules.specs.Meaning as meaning
 use Rattle.ffi3_run_rules.specs.Meaning.{Program, stops, enters, stopped, function, callee_of, effect_of, need_at}
 use Rattle.ffi3_run_rules.specs.Move.{Move, call, return}
 use Rattle.ffi3_run_rules.specs.Trace.{TraceItem, Enter, Leave}
-use Rattle.ffi3_turn_rules.specs.Left.{Left, Suspended}
+use Rattle.ffi3_turn_rules.specs.Remainder.{Remainder, Suspended}
 use Rattle.ffi3_turn_rules.specs.SoFar.{Base, text_after}
-use Rattle.ffi3_turn_rules.specs.Told.{IsTracingOf}
-use Rattle.ffi3_machine.specs.State.{State, with_room, stack_at}
+use Rattle.ffi3_turn_rules.specs.TracingOf.{IsTracingOf}
+use Rattle.ffi3_machine.specs.State.{State, stack_at}
 use Rattle.ffi3_body.specs.SeenActivation.{arguments_in}
 use Rattle.ffi3_io.specs.Sink.{SinkState}
 use Rattle.ffi3_io.specs.Written.{TookText}
 use Rattle.ffi3_io.specs.declared.IoError.{IoError}
 use Rattle.ffi3_io.specs.declared.IoError.TheVariants as cut
 use Rattle.ffi3_callee.specs.declared.Incoming.{Incoming}
-use Rattle.ffi3_callee.specs.Received.{IsIncoming}
-use Rattle.ffi3_invoke.specs.Calls.{HasBegun, HasEnded}
+use Rattle.ffi3_invoke.specs.Calls.{HasEnded}
 use Rattle.ffi3_board.specs.declared.activation.Activation.{Activation}
 use Rattle.ffi3_board.specs.declared.activation.OpenCall.{OpenCall}
 use Rattle.ffi3_board.specs.declared.activation.Waiting.{Waiting}
-use Rattle.ffi3_board.specs.declared.activation.Who.TheVariants.{Function}
 use Rattle.ffi3_board.specs.declared.board.Board.{Board}
 use Rattle.ffi3_board.specs.declared.board.Turn.{Turn}
 use Rattle.ffi3_board.specs.declared.board.Turn.TheVariants as turn
-use Rattle.ffi3_board.specs.Between.{Beginning, Moment, asking, IsBetween, IsAsking, moment, moment_with, open_calls_at}
-use Rattle.ffi3_board.specs.Going.{StoppedBy, GoneOn, HasGoneBack, and_result}
+use Rattle.ffi3_board.specs.Between.{Beginning, RunState, asking, IsBetween, IsAsking, run_state, run_state_with, open_calls_at}
+use Rattle.ffi3_board.specs.Going.{StoppedBy, GoneOn, HasGoneBack, activation_of, and_result}
 use Rattle.ffi3_board.specs.Path.{acting, arguments_at, call_inside, suspended_at, calls_of}
 use Rattle.ffi3_board.specs.TraceLines.{last_event, entry_lines, return_lines}
-use Rattle.ffi3_board.specs.Turned.{IsEnded, WasCutOff, LooksAs, turn_of, WentOn, Turned}
-use Rattle.ffi3_io.specs.Written.{LineCut}
+use Rattle.ffi3_board.specs.Turned.{IsEnded, WasInterrupted, LooksAs, turn_of, WentOn, Turned}
+use Rattle.ffi3_io.specs.Written.{LineInterrupted}
 use Rattle.ffi3_board.proofs.Blocks.{AreAbove, StaysFrom, blocks_above, acting_kept, suspended_kept}
 use Rattle.ffi3_board.proofs.Moving.{cut_between, looks_as_itself, limit_ends, limit_failed, stop_ends, stop_failed}
 use Rattle.ffi3_board.proofs.Entering as entering
@@ -67,6 +65,17 @@ module _ {S : Type 0} where
       let turned : reverse items ≡ w ∷ reverse items' = ap (λ (l : List (Waiting S)). reverse l) is ∙ reverse-last items' w in
       subst (λ (l : List (Waiting S)). HoldsCalls std ss held top m (calls_of served l) entered) turned h
 
+  -- the moment of a board by the one that waits last
+  pub popped_state : (ss : List Signature) (a : Activation S) (b : Board S) (m : State) (output : SinkState) (items : List (Waiting S)) (w : Waiting S) → b.suspended.items ≡ items ++ w ∷ [] → run_state ss a b m output ≡ run_state_with ss b.served (w ∷ reverse items) b.table b.moves m output a
+  popped_state ss a b m output items w is =
+      ap (λ (l : List (Waiting S)). run_state_with ss b.served l b.table b.moves m output a) (ap (λ (l : List (Waiting S)). reverse l) is ∙ reverse-last items w)
+
+  -- and where none waits
+  pub outermost_state : (ss : List Signature) (a : Activation S) (b : Board S) (m : State) (output : SinkState) (served : Option OpenCall) → b.suspended.items ≡ [] → b.served ≡ served → run_state ss a b m output ≡ run_state_with ss served [] b.table b.moves m output a
+  outermost_state ss a b m output served none is =
+      ap (λ (l : List (Waiting S)). run_state_with ss b.served (reverse l) b.table b.moves m output a) none
+      ∙ ap (λ (k : Option OpenCall). run_state_with ss k [] b.table b.moves m output a) is
+
   -- a board that goes on has its activation with one result more
   pub gone_more : (r : ValueTree) (a : Activation S) (b b' : Board S) (t : Turn) → GoneOn r a b b' t → t ≡ turn.More → b' ≡ record b { innermost = Some (and_result a r) }
   gone_more r a b b' t gone is = subst (λ (u : Turn). GoneOn r a b b' u) is gone
@@ -78,9 +87,9 @@ module _ {S : Type 0} where
       let here : P (record mid { innermost = Some (and_result w.activation r) }) = record { waited = w; suspended = items; innermost = refl; served = served; table = table; moves = moves } in
       subst P (sym (gone_more r w.activation mid b' t gone is)) here
 
-module _ {S : Type 0} (p : Program) (base : Base) (all : Left) (first : Beginning) (own : List TraceItem) where
+module _ {S : Type 0} (p : Program) (base : Base) (all : Remainder) (first : Beginning) (own : List TraceItem) where
   -- THE RUN GOES ON FROM HERE, or there is no memory for the result
-  pub goes : (b b' : Board S) (a : Activation S) (m : State) (output : SinkState) (r : ValueTree) (more : List TraceItem) (events : List Event) (t : Turn) → GoneOn r a b b' t → IsBetween p base all first (own ++ more) events (moment p.signatures (and_result a r) b m output) → Turned p base all first own (suc b.moves) b' m output t
+  pub goes : (b b' : Board S) (a : Activation S) (m : State) (output : SinkState) (r : ValueTree) (more : List TraceItem) (events : List Event) (t : Turn) → GoneOn r a b b' t → IsBetween p base all first (own ++ more) events (run_state p.signatures (and_result a r) b m output) → Turned p base all first own (suc b.moves) b' m output t
   goes b b' a m output r more events turn.More gone between =
       let P = λ (c : Board S). WentOn p base all first own (suc b.moves) c m output in
       let here : P (record b { innermost = Some (and_result a r) }) = record { more = more; events = events; stands = between; counted = refl } in
@@ -88,22 +97,22 @@ module _ {S : Type 0} (p : Program) (base : Base) (all : Left) (first : Beginnin
   goes b b' a m output r more events turn.Done gone between = elim gone [ ]
   goes b b' a m output r more events (turn.Stopped stop) gone between = elim gone [ ]
   goes b b' a m output r more events turn.NoMemory gone between =
-      cut_between p base all first (own ++ more) events (moment p.signatures (and_result a r) b m output) m (looks_as_itself m) between
+      cut_between p base all first (own ++ more) events (run_state p.signatures (and_result a r) b m output) m (looks_as_itself m) between
   goes b b' a m output r more events turn.Failed gone between = elim gone [ ]
 
-  -- THE RUN IS CUT OFF
-  pub goes_off : (moves : ℕ) (b : Board S) (m : State) (output : SinkState) (why : IoError) (t : Turn) → t ≡ turn_of why → WasCutOff p base all first why m output → Turned p base all first own moves b m output t
+  -- THE RUN IS INTERRUPTED
+  pub goes_off : (moves : ℕ) (b : Board S) (m : State) (output : SinkState) (why : IoError) (t : Turn) → t ≡ turn_of why → WasInterrupted p base all first why m output → Turned p base all first own moves b m output t
   goes_off moves b m output cut.NoMemory t is was_cut =
       subst (λ (u : Turn). Turned p base all first own moves b m output u) (sym is) was_cut
   goes_off moves b m output cut.Failed t is was_cut =
       subst (λ (u : Turn). Turned p base all first own moves b m output u) (sym is) was_cut
 
   module _ (events : List Event) (b : Board S) (a : Activation S) (m : State) (output output' : SinkState) where
-    abbrev here : Moment
-    here = moment p.signatures a b m output
+    abbrev here : RunState
+    here = run_state p.signatures a b m output
 
     -- for want of memory, before the move
-    pub refused : (asked : Move) (m' : State) → LooksAs m m' → IsAsking p base all first own events here asked → WasCutOff p base all first cut.NoMemory m' output
+    pub refused : (asked : Move) (m' : State) → LooksAs m m' → IsAsking p base all first own events here asked → WasInterrupted p base all first cut.NoMemory m' output
     refused asked m' looks is =
         cut_between p base all first own events (asking here) m' looks is.between
 
@@ -115,7 +124,7 @@ module _ {S : Type 0} (p : Program) (base : Base) (all : Left) (first : Beginnin
         let P = λ (z : Stop). IsEnded p base all first (stopped z) b.table b.moves m output' in
         subst P (sym by.0) (stop_ends p base all first own events here asked is stop does output' by.1)
     stops_at asked is stop does turn.NoMemory by =
-        let P = λ (o : SinkState). WasCutOff p base all first cut.NoMemory m o in
+        let P = λ (o : SinkState). WasInterrupted p base all first cut.NoMemory m o in
         subst P (sym by) (cut_between p base all first own events (asking here) m (looks_as_itself m) is.between)
     stops_at asked is stop does turn.Failed by =
         stop_failed p base all first own events here asked is stop does output' by
@@ -128,42 +137,42 @@ module _ {S : Type 0} (p : Program) (base : Base) (all : Left) (first : Beginnin
         let P = λ (z : Stop). IsEnded p base all first (stopped z) b.table b.moves m output' in
         subst P (sym by.0) (limit_ends p base all first own events here none h output' by.1)
     stops_at_limit none h turn.NoMemory by =
-        let P = λ (o : SinkState). WasCutOff p base all first cut.NoMemory m o in
+        let P = λ (o : SinkState). WasInterrupted p base all first cut.NoMemory m o in
         subst P (sym by) (cut_between p base all first own events here m (looks_as_itself m) h)
     stops_at_limit none h turn.Failed by = limit_failed p base all first own events here none h output' by
 
 -- ---- a call
 
-module _ {S : Type 0} (p : Program) (base : Base) (all : Left) (first : Beginning) (own : List TraceItem) (events : List Event) (served : Option OpenCall) (outer : List (Waiting S)) (closures : Closures) (moves : ℕ) (m : State) (output : SinkState) (current : Activation S) (ptr sig : ℕ) (args : List ValueTree) where
-  abbrev before_call : Moment
-  before_call = moment_with p.signatures served outer closures moves m output current
+module _ {S : Type 0} (p : Program) (base : Base) (all : Remainder) (first : Beginning) (own : List TraceItem) (events : List Event) (served : Option OpenCall) (outer : List (Waiting S)) (closures : Closures) (moves : ℕ) (m : State) (output : SinkState) (current : Activation S) (ptr sig : ℕ) (args : List ValueTree) where
+  abbrev before_call : RunState
+  before_call = run_state_with p.signatures served outer closures moves m output current
 
-  module _ (is : IsAsking p base all first own events before_call (call ptr sig args)) (closure : Closure) (does : effect_of p before_call.innermost closures (call ptr sig args) ≡ enters ptr sig (callee_of p before_call.innermost sig args closure)) (n : ℕ) (m' : State) (incoming : Incoming) (sized : n ≡ base.standard.link + frame_of base.standard (signature_at p.signatures sig)) (begun : HasBegun base.standard (signature_at p.signatures sig) args ptr (with_room n m) m') (incoming_is : IsIncoming base.standard (signature_at p.signatures sig) incoming) (block_is : incoming.block ≡ m'.sp) (below : sig < length p.signatures) (standing : S) (results : List ValueTree) (none : results ≡ []) where
+  module _ (is : IsAsking p base all first own events before_call (call ptr sig args)) (closure : Closure) (does : effect_of p before_call.innermost closures (call ptr sig args) ≡ enters ptr sig (callee_of p before_call.innermost sig args closure)) (m' : State) (incoming : Incoming) (called : entering.HasCalled p base ptr sig args m m' incoming) (standing : S) where
     abbrev new_call : OpenCall
     new_call = record { sig = sig; incoming = incoming }
 
     abbrev new_one : Activation S
-    new_one = record { who = Function closure.func; standing = standing; user = closure.user; results = results }
+    new_one = activation_of closure standing
 
-    abbrev in_call : SinkState → Moment
+    abbrev in_call : SinkState → RunState
     in_call output' =
-        moment_with p.signatures served (record { activation = current; call = new_call } ∷ outer) closures moves m' output' new_one
+        run_state_with p.signatures served (record { activation = current; call = new_call } ∷ outer) closures moves m' output' new_one
 
     above : AreAbove m.sp (calls_of served outer)
     above =
         blocks_above base.standard p.signatures base.held base.top m m.sp (calls_of served outer) (open_calls_at p base events before_call) m.sp (omega arith) is.between.calls.stand
 
     stays : StaysFrom m.sp m m'
-    stays = begun.above
+    stays = called.begun.above
 
     innermost_is : (in_call output).innermost ≡ callee_of p before_call.innermost sig args closure
     innermost_is =
         let site = signature_at p.signatures sig in
-        let arguments : arguments_at p.signatures m' (Some new_call) ≡ args = ap (λ (k : ℕ). arguments_in site.arguments (stack_at k (block_bytes site) m')) block_is ∙ begun.arguments_stand in
-        let low : m'.sp + need_at p sig ≡ m.sp = entering.lower p base all first own events before_call ptr sig args is closure does n m' incoming sized begun incoming_is block_is below in
+        let arguments : arguments_at p.signatures m' (Some new_call) ≡ args = ap (λ (k : ℕ). arguments_in site.arguments (stack_at k (block_bytes site) m')) called.block_is ∙ called.begun.arguments_stand in
+        let low : m'.sp + need_at p sig ≡ m.sp = entering.lower p base all first own events before_call ptr sig args is closure does m' incoming called in
         let had : before_call.innermost.left + STACK ≡ m.sp = is.between.left in
-        let left : incoming.block - STACK ≡ before_call.innermost.left - need_at p sig = omega (arith, low, had, block_is) in
-        λ i. record { who = function closure.func; arguments = arguments i; user = closure.user; left = left i; results = none i }
+        let left : incoming.block - STACK ≡ before_call.innermost.left - need_at p sig = omega (arith, low, had, called.block_is) in
+        λ i. record { who = function closure.func; arguments = arguments i; user = closure.user; left = left i; results = [] }
 
     suspended_is : (in_call output).suspended ≡ record { activation = before_call.innermost; signature = sig } ∷ before_call.suspended
     suspended_is =
@@ -174,28 +183,28 @@ module _ {S : Type 0} (p : Program) (base : Base) (all : Left) (first : Beginnin
     pub call_lines : (trace : Bool) → IsTracingOf p base trace first.tracing → entry_lines trace base.standard (signature_at p.signatures sig) (last_event m'.events) (arguments_in (signature_at p.signatures sig).arguments (stack_at m'.sp (block_bytes (signature_at p.signatures sig)) m')) ≡ enter_lines first.tracing (text_after p base own) ptr (signature_at p.signatures sig) args
     call_lines trace tracing =
         let site = signature_at p.signatures sig in
-        let event : last_event m'.events ≡ begun.entry = ap last_event begun.events ∙ last_is m.events begun.entry in
+        let event : last_event m'.events ≡ called.begun.entry = ap last_event called.begun.events ∙ last_is m.events called.begun.entry in
         ap (λ (e : Event). entry_lines trace base.standard site e (arguments_in site.arguments (stack_at m'.sp (block_bytes site) m'))) event
-        ∙ ap (λ (vs : List ValueTree). entry_lines trace base.standard site begun.entry vs) begun.arguments_stand
-        ∙ entering.told_lines_are p base all first own events before_call ptr sig args is closure does n m' incoming sized begun incoming_is block_is below trace tracing
+        ∙ ap (λ (vs : List ValueTree). entry_lines trace base.standard site called.begun.entry vs) called.begun.arguments_stand
+        ∙ entering.told_lines_are p base all first own events before_call ptr sig args is closure does m' incoming called trace tracing
 
-    pub call_entered : (output' : SinkState) → TookText (enter_lines first.tracing (text_after p base own) ptr (signature_at p.signatures sig) args) output output' → IsBetween p base all first (own ++ Enter ptr sig args ∷ []) (events ++ begun.entry ∷ []) (in_call output')
+    pub call_entered : (output' : SinkState) → TookText (enter_lines first.tracing (text_after p base own) ptr (signature_at p.signatures sig) args) output output' → IsBetween p base all first (own ++ Enter ptr sig args ∷ []) (events ++ called.begun.entry ∷ []) (in_call output')
     call_entered output' told =
-        let there = entering.enters_on p base all first own events before_call ptr sig args is closure does n m' incoming sized begun incoming_is block_is below output' told in
-        let same : in_call output' ≡ entering.entered p base all first own events before_call ptr sig args is closure does n m' incoming sized begun incoming_is block_is below output' =
+        let there = entering.enters_on p base all first own events before_call ptr sig args is closure does m' incoming called output' told in
+        let same : in_call output' ≡ entering.entered p base all first own events before_call ptr sig args is closure does m' incoming called output' =
         λ i. record { innermost = innermost_is i; suspended = suspended_is i; calls = new_call ∷ calls_of served outer; closures = closures; moves = moves; machine = m'; output = output' } in
-        subst (λ (x : Moment). IsBetween p base all first (own ++ Enter ptr sig args ∷ []) (events ++ begun.entry ∷ []) x) (sym same) there
+        subst (λ (x : RunState). IsBetween p base all first (own ++ Enter ptr sig args ∷ []) (events ++ called.begun.entry ∷ []) x) (sym same) there
 
-    -- or the run is cut off there
-    pub call_cut_off : (why : IoError) (output' : SinkState) → LineCut (enter_lines first.tracing (text_after p base own) ptr (signature_at p.signatures sig) args) output output' why → WasCutOff p base all first why m' output'
+    -- or the run is interrupted there
+    pub call_cut_off : (why : IoError) (output' : SinkState) → LineInterrupted (enter_lines first.tracing (text_after p base own) ptr (signature_at p.signatures sig) args) output output' why → WasInterrupted p base all first why m' output'
     call_cut_off why output' cut_off =
-        entering.enters_cut p base all first own events before_call ptr sig args is closure does n m' incoming sized begun incoming_is block_is below why output' cut_off
+        entering.enters_cut p base all first own events before_call ptr sig args is closure does m' incoming called why output' cut_off
 
 -- ---- a return
 
-module _ {S : Type 0} (p : Program) (base : Base) (all : Left) (first : Beginning) (own : List TraceItem) (events : List Event) (served : Option OpenCall) (w : Waiting S) (outer : List (Waiting S)) (closures : Closures) (moves : ℕ) (m : State) (output : SinkState) (current : Activation S) (v : ValueTree) where
-  abbrev before_return : Moment
-  before_return = moment_with p.signatures served (w ∷ outer) closures moves m output current
+module _ {S : Type 0} (p : Program) (base : Base) (all : Remainder) (first : Beginning) (own : List TraceItem) (events : List Event) (served : Option OpenCall) (w : Waiting S) (outer : List (Waiting S)) (closures : Closures) (moves : ℕ) (m : State) (output : SinkState) (current : Activation S) (v : ValueTree) where
+  abbrev before_return : RunState
+  before_return = run_state_with p.signatures served (w ∷ outer) closures moves m output current
 
   module _ (is : IsAsking p base all first own events before_return (return v)) (m' : State) (ended : HasEnded base.standard (signature_at p.signatures w.call.sig) v m m') where
     abbrev a : meaning.Activation
@@ -207,9 +216,9 @@ module _ {S : Type 0} (p : Program) (base : Base) (all : Left) (first : Beginnin
     abbrev others : List Suspended
     others = suspended_at p.signatures m served outer
 
-    abbrev after_return : SinkState → Moment
+    abbrev after_return : SinkState → RunState
     after_return output' =
-        moment_with p.signatures served outer closures moves m' output' (and_result w.activation v)
+        run_state_with p.signatures served outer closures moves m' output' (and_result w.activation v)
 
     above_return : AreAbove m'.sp (calls_of served outer)
     above_return =
@@ -232,9 +241,9 @@ module _ {S : Type 0} (p : Program) (base : Base) (all : Left) (first : Beginnin
         let suspended = suspended_kept p.signatures m m' m'.sp stays_return served outer above_return in
         let same : after_return output' ≡ leaving.back p base all first own events a caller w.call others (calls_of served outer) closures moves m output v is m' ended output' =
         λ i. record { innermost = innermost i; suspended = suspended i; calls = calls_of served outer; closures = closures; moves = moves; machine = m'; output = output' } in
-        subst (λ (x : Moment). IsBetween p base all first (own ++ Leave w.call.sig v ∷ []) (events ++ ended.return ∷ []) x) (sym same) there
+        subst (λ (x : RunState). IsBetween p base all first (own ++ Leave w.call.sig v ∷ []) (events ++ ended.return ∷ []) x) (sym same) there
 
-    -- or the run is cut off there
-    pub return_cut_off : (why : IoError) (output' : SinkState) → LineCut (leave_lines first.tracing (text_after p base own).calls v) output output' why → WasCutOff p base all first why m' output'
+    -- or the run is interrupted there
+    pub return_cut_off : (why : IoError) (output' : SinkState) → LineInterrupted (leave_lines first.tracing (text_after p base own).calls v) output output' why → WasInterrupted p base all first why m' output'
     return_cut_off why output' cut_off =
         leaving.returns_cut p base all first own events a caller w.call others (calls_of served outer) closures moves m output v is m' ended why output' cut_off

@@ -5,17 +5,17 @@ use Rattle.ffi3_type_rules.specs.declared.limits.TheConstants.{STACK}
 use Rattle.ffi3_type_rules.specs.Signature.{Signature, signature_at}
 use Rattle.ffi3_type_rules.specs.Value.{ValueTree}
 use Rattle.ffi3_place_rules.specs.Event.{Event}
-use Rattle.ffi3_place_rules.specs.Standard.{frame_of, need_of}
+use Rattle.ffi3_place_rules.specs.Standard.{Standard, frame_of, need_of}
 use Rattle.ffi3_run_rules.specs.declared.Closure.{Closure}
 use Rattle.ffi3_run_rules.specs.Journal.{Entered, IsEntry, needs}
 use Rattle.ffi3_run_rules.specs.Lines.{enter_lines}
 use Rattle.ffi3_run_rules.specs.Meaning.{Program, Activation, enters, callee_of, effect_of, next_move, need_at}
 use Rattle.ffi3_run_rules.specs.Move.{call}
 use Rattle.ffi3_run_rules.specs.Trace.{TraceItem, Enter}
-use Rattle.ffi3_turn_rules.specs.Left.{Left, awaited}
+use Rattle.ffi3_turn_rules.specs.Remainder.{Remainder, awaited}
 use Rattle.ffi3_turn_rules.specs.Depth.{deepest, depth_at}
 use Rattle.ffi3_turn_rules.specs.SoFar.{Base, text_after}
-use Rattle.ffi3_turn_rules.specs.Told.{IsTracingOf}
+use Rattle.ffi3_turn_rules.specs.TracingOf.{IsTracingOf}
 use Rattle.ffi3_turn_rules.proofs.Depths.{depth_at-append}
 use Rattle.ffi3_turn_rules.proofs.Coming.{comes_in, deepest_enter}
 use Rattle.ffi3_turn_rules.proofs.Ending.{cut_in_entry}
@@ -31,16 +31,41 @@ use Rattle.ffi3_callee.specs.declared.Incoming.{Incoming}
 use Rattle.ffi3_callee.specs.Received.{IsIncoming}
 use Rattle.ffi3_invoke.specs.Calls.{HasBegun, KeepsOpen, Stands}
 use Rattle.ffi3_board.specs.declared.activation.OpenCall.{OpenCall}
-use Rattle.ffi3_board.specs.Between.{Beginning, Moment, asking, position, text_of, depth_below, open_calls_at, IsMarkOf, IsBetween, IsAsking}
+use Rattle.ffi3_board.specs.Between.{Beginning, RunState, asking, position, text_so_far, depth_below, open_calls_at, IsMarkOf, IsBetween, IsAsking}
 use Rattle.ffi3_board.specs.Stack.{caller_sp, IsOpen, OpenStand, frames}
 use Rattle.ffi3_board.specs.TraceLines.{entry_lines}
-use Rattle.ffi3_board.specs.Turned.{is_in_line, WasCutOff}
-use Rattle.ffi3_io.specs.Written.{LineCut}
+use Rattle.ffi3_board.specs.Turned.{is_in_line, WasInterrupted}
+use Rattle.ffi3_io.specs.Written.{LineInterrupted}
 use Rattle.ffi3_board.proofs.Marks.{mark_enter, fewer, text_then}
 use Rattle.ffi3_board.proofs.Telling.{cause_from, cut_part, entry_lines_are}
+use Rattle.ffi3_board.proofs.Transports.{begun_as, incoming_as, numbered}
 use Rattle.ffi3_board.proofs.Opened.{caller_above, open_needs, open_kept, keeps_room, same_then_held}
 
-module _ (p : Program) (base : Base) (all : Left) (first : Beginning) (own : List TraceItem) (events : List Event) (x : Moment) (ptr sig : ℕ) (args : List ValueTree) (is : IsAsking p base all first own events x (call ptr sig args)) (closure : Closure) (does : effect_of p x.innermost x.closures (call ptr sig args) ≡ enters ptr sig (callee_of p x.innermost sig args closure)) where
+-- a call that has begun, in the words of the program: the room that was made for it, what its callee remembers, and where that stands
+pub record HasCalled (p : Program) (base : Base) (ptr sig : ℕ) (args : List ValueTree) (m m' : State) (incoming : Incoming) : Type 0 where
+  pub room : ℕ
+  pub sized : room ≡ base.standard.link + frame_of base.standard (signature_at p.signatures sig)
+  pub begun : HasBegun base.standard (signature_at p.signatures sig) args ptr (with_room room m) m'
+  pub incoming_is : IsIncoming base.standard (signature_at p.signatures sig) incoming
+  pub block_is : incoming.block ≡ m'.sp
+  pub below : sig < length p.signatures
+
+-- the same from what is said of it by another name of its standard, of its signature and of the machine with room
+pub has_called : (p : Program) (base : Base) (std : Standard) (ss : List Signature) (s : Signature) (ptr sig link frame : ℕ) (args : List ValueTree) (m roomy m' : State) (incoming : Incoming) → base.standard ≡ std → p.signatures ≡ ss → s ≡ signature_at ss sig → link ≡ std.link → frame ≡ frame_of std s → roomy ≡ with_room (link + frame) m → HasBegun std s args ptr roomy m' → IsIncoming std s incoming → incoming.block ≡ m'.sp → sig < length ss → HasCalled p base ptr sig args m m' incoming
+has_called p base std ss s ptr sig link frame args m roomy m' incoming standard signatures s_is link_is frame_is room begun incoming_is block_is below =
+    let site = numbered p ss sig s signatures s_is in
+    record {
+      room = link + frame;
+      sized =
+          ap (λ (k : ℕ). k + frame) (link_is ∙ ap (λ (t : Standard). t.link) (sym standard))
+          ∙ ap (λ (k : ℕ). base.standard.link + k) (frame_is ∙ ap (frame_of std) site ∙ ap (λ (t : Standard). frame_of t (signature_at p.signatures sig)) (sym standard));
+      begun = begun_as std base.standard s (signature_at p.signatures sig) args ptr roomy (with_room (link + frame) m) m' (sym standard) site room begun;
+      incoming_is = incoming_as std base.standard s (signature_at p.signatures sig) incoming (sym standard) site incoming_is;
+      block_is = block_is;
+      below = subst (λ (l : List Signature). sig < length l) (sym signatures) below;
+    }
+
+module _ (p : Program) (base : Base) (all : Remainder) (first : Beginning) (own : List TraceItem) (events : List Event) (x : RunState) (ptr sig : ℕ) (args : List ValueTree) (is : IsAsking p base all first own events x (call ptr sig args)) (closure : Closure) (does : effect_of p x.innermost x.closures (call ptr sig args) ≡ enters ptr sig (callee_of p x.innermost sig args closure)) where
   abbrev site : Signature
   site = signature_at p.signatures sig
 
@@ -56,11 +81,14 @@ module _ (p : Program) (base : Base) (all : Left) (first : Beginning) (own : Lis
   does_so : effect_of p x.innermost x.closures (next_move p x.innermost) ≡ enters ptr sig callee
   does_so = ap (effect_of p x.innermost x.closures) is.asks ∙ does
 
-  module _ (n : ℕ) (m : State) (incoming : Incoming) (sized : n ≡ base.standard.link + frame_of base.standard site) (begun : HasBegun base.standard site args ptr (with_room n x.machine) m) (incoming_is : IsIncoming base.standard site incoming) (block_is : incoming.block ≡ m.sp) (below : sig < length p.signatures) where
+  module _ (m : State) (incoming : Incoming) (called : HasCalled p base ptr sig args x.machine m incoming) where
+    abbrev begun : HasBegun base.standard site args ptr (with_room called.room x.machine) m
+    begun = called.begun
+
     abbrev opened : OpenCall
     opened = record { sig = sig; incoming = incoming }
 
-    abbrev pub entered : SinkState → Moment
+    abbrev pub entered : SinkState → RunState
     entered output = record {
       innermost = callee;
       suspended = record { activation = x.innermost; signature = sig } ∷ x.suspended;
@@ -100,13 +128,13 @@ module _ (p : Program) (base : Base) (all : Left) (first : Beginning) (own : Lis
 
     others_stand : OpenStand base.standard p.signatures base.held base.top m x.calls calls_open (caller_sp base.standard newest)
     others_stand =
-        let keeps : KeepsOpen base.standard x.machine.sp x.machine m = keeps_room base.standard x.machine.sp n x.machine m begun.keeps_open in
+        let keeps : KeepsOpen base.standard x.machine.sp x.machine m = keeps_room base.standard x.machine.sp called.room x.machine m begun.keeps_open in
         let P = λ (sp : ℕ). OpenStand base.standard p.signatures base.held base.top m x.calls calls_open sp in
         subst P caller_at (open_kept base.standard p.signatures base.held base.top x.machine m x.machine.sp keeps x.calls calls_open x.machine.sp (omega arith) is.between.calls.stand)
 
     newest_stands : IsOpen base.standard p.signatures base.held m opened newest m.sp
     newest_stands =
-        record { below = below; signature = refl; stands = stands; reserved = entry_is.reserved; incoming = incoming_is; block = block_is }
+        record { below = called.below; signature = refl; stands = stands; reserved = entry_is.reserved; incoming = called.incoming_is; block = called.block_is }
 
     -- the lines that tell the entry, where the run is traced
     abbrev pub told_lines : List ℕ
@@ -142,14 +170,15 @@ module _ (p : Program) (base : Base) (all : Left) (first : Beginning) (own : Lis
         let found_events : first.spare_events + length calls_open ≤ x.machine.spare_events = h.found.events in
         let found_bytes : first.spare_bytes + frames base.standard calls_open ≤ x.machine.spare_bytes = h.found.bytes in
         let room_then : m.spare_events + 1 ≡ x.machine.spare_events + 2 = begun.room in
-        let bytes_then : m.spare_bytes + (base.standard.link + frame_of base.standard site) ≡ x.machine.spare_bytes + 2 * n = begun.bytes in
+        let bytes_then : m.spare_bytes + (base.standard.link + frame_of base.standard site) ≡ x.machine.spare_bytes + 2 * called.room = begun.bytes in
+        let sized : called.room ≡ base.standard.link + frame_of base.standard site = called.sized in
         record {
           needs = h.needs;
           count = h.count;
           top = h.top;
           come = comes_in p base all own events x.innermost x.closures x.moves x.suspended ptr sig callee begun.entry h.come does_so entry_is;
           journal = journal_then;
-          written = took_then first.output x.output output (text_of first.tracing p base own) told_lines (text_of first.tracing p base (own ++ Enter ptr sig args ∷ [])) (text_then first.tracing p base own (Enter ptr sig args)) h.written told;
+          written = took_then first.output x.output output (text_so_far first.tracing p base own) told_lines (text_so_far first.tracing p base (own ++ Enter ptr sig args ∷ [])) (text_then first.tracing p base own (Enter ptr sig args)) h.written told;
           mark = mark_then;
           deep = omega (arith, deeper, lower, at);
           left = omega (arith, left, lower, bottom);
@@ -172,18 +201,18 @@ module _ (p : Program) (base : Base) (all : Left) (first : Beginning) (own : Lis
           outermost = h.outermost;
         }
 
-    -- or the run is cut off there, in those lines or before them
-    pub enters_cut : (why : IoError) (output : SinkState) → LineCut told_lines x.output output why → WasCutOff p base all first why m output
+    -- or the run is interrupted there, in those lines or before them
+    pub enters_cut : (why : IoError) (output : SinkState) → LineInterrupted told_lines x.output output why → WasInterrupted p base all first why m output
     enters_cut why output cut_off =
         let h = is.between in
         let part = cut_part why told_lines x.output output cut_off in
         record {
           happened = own ++ Enter ptr sig args ∷ [];
           events = events ++ begun.entry ∷ [];
-          text = text_of first.tracing p base own ++ take part.0 told_lines;
+          text = text_so_far first.tracing p base own ++ take part.0 told_lines;
           cut = cut_in_entry p base all own events x.innermost x.suspended x.closures x.moves h.come first.tracing (is_in_line why) ptr sig callee begun.entry part.0 does_so entry_is part.1;
           journal = journal_then;
-          written = Adds-then first.output.taken x.output.taken output.taken (text_of first.tracing p base own) (take part.0 told_lines) h.written.added part.2;
+          written = Adds-then first.output.taken x.output.taken output.taken (text_so_far first.tracing p base own) (take part.0 told_lines) h.written.added part.2;
           cause = cause_from why first.output.faults x.output.faults output.faults h.written.count part.3;
           mark = mark_then;
           target = begun.in_callee.target;

@@ -12,11 +12,11 @@ use Rattle.ffi3_run_rules.specs.Lines.{leave_lines}
 use Rattle.ffi3_run_rules.specs.Meaning.{Program, Activation, effect_of, need_at, with_result, most_moves}
 use Rattle.ffi3_run_rules.specs.Move.{return}
 use Rattle.ffi3_run_rules.specs.Trace.{TraceItem, Leave}
-use Rattle.ffi3_turn_rules.specs.Left.{Left, Suspended, awaited}
+use Rattle.ffi3_turn_rules.specs.Remainder.{Remainder, Suspended, awaited}
 use Rattle.ffi3_turn_rules.specs.Depth.{deepest, depth_at, depth_of}
 use Rattle.ffi3_turn_rules.specs.Open.{unreturned, open_calls}
 use Rattle.ffi3_turn_rules.specs.SoFar.{Base, text_after}
-use Rattle.ffi3_turn_rules.specs.Told.{IsTracingOf}
+use Rattle.ffi3_turn_rules.specs.TracingOf.{IsTracingOf}
 use Rattle.ffi3_turn_rules.proofs.Depths.{depth_at-append, ends_below}
 use Rattle.ffi3_turn_rules.proofs.Coming.{comes_back, deepest_same, innermost_entry}
 use Rattle.ffi3_turn_rules.proofs.Ending.{cut_in_return}
@@ -30,19 +30,19 @@ use Rattle.ffi3_io.proofs.Adding.{Adds-then}
 use Rattle.ffi3_io.proofs.Writing.{took_then}
 use Rattle.ffi3_invoke.specs.Calls.{HasEnded}
 use Rattle.ffi3_board.specs.declared.activation.OpenCall.{OpenCall}
-use Rattle.ffi3_board.specs.Between.{Beginning, Moment, asking, position, text_of, depth_below, open_calls_at, IsMarkOf, KeepsFound, IsBetween, IsAsking}
+use Rattle.ffi3_board.specs.Between.{Beginning, RunState, asking, position, text_so_far, depth_below, open_calls_at, IsMarkOf, KeepsFound, IsBetween, IsAsking}
 use Rattle.ffi3_board.specs.Stack.{caller_sp, OpenStand, frames, HoldsCalls}
 use Rattle.ffi3_board.proofs.Blocks.{AreAbove, blocks_above}
 use Rattle.ffi3_board.specs.TraceLines.{return_lines}
-use Rattle.ffi3_board.specs.Turned.{is_in_line, WasCutOff}
-use Rattle.ffi3_io.specs.Written.{LineCut}
+use Rattle.ffi3_board.specs.Turned.{is_in_line, WasInterrupted}
+use Rattle.ffi3_io.specs.Written.{LineInterrupted}
 use Rattle.ffi3_board.proofs.Marks.{mark_leave, fewer, text_then}
 use Rattle.ffi3_board.proofs.Telling.{cause_from, cut_part, return_lines_are}
 use Rattle.ffi3_board.proofs.Opened.{caller_above, in_callee, open_kept, same_then_held}
 
 -- the innermost activation, the one that waits for its call, and those around it
-module _ (p : Program) (base : Base) (all : Left) (first : Beginning) (own : List TraceItem) (events : List Event) (a caller : Activation) (c : OpenCall) (outer : List Suspended) (calls : List OpenCall) (closures : Closures) (moves : ℕ) (m : State) (output : SinkState) where
-  abbrev pub inside_call : Moment
+module _ (p : Program) (base : Base) (all : Remainder) (first : Beginning) (own : List TraceItem) (events : List Event) (a caller : Activation) (c : OpenCall) (outer : List Suspended) (calls : List OpenCall) (closures : Closures) (moves : ℕ) (m : State) (output : SinkState) where
+  abbrev pub inside_call : RunState
   inside_call = record {
     innermost = a;
     suspended = record { activation = caller; signature = c.sig } ∷ outer;
@@ -60,7 +60,7 @@ module _ (p : Program) (base : Base) (all : Left) (first : Beginning) (own : Lis
     abbrev waiting : Suspended
     waiting = record { activation = caller; signature = c.sig }
 
-    abbrev pub back : SinkState → Moment
+    abbrev pub back : SinkState → RunState
     back output = record {
       innermost = with_result caller v;
       suspended = outer;
@@ -166,7 +166,7 @@ module _ (p : Program) (base : Base) (all : Left) (first : Beginning) (own : Lis
           top = h.top;
           come = comes_back p base all own events a closures moves waiting outer v found.0 ended.return found.1 h.come (ap (effect_of p a closures) is.asks) found.2 returns;
           journal = journal_then;
-          written = took_then first.output output output' (text_of first.tracing p base own) told_lines (text_of first.tracing p base (own ++ Leave c.sig v ∷ [])) (text_then first.tracing p base own (Leave c.sig v)) h.written told;
+          written = took_then first.output output output' (text_so_far first.tracing p base own) told_lines (text_so_far first.tracing p base (own ++ Leave c.sig v ∷ [])) (text_then first.tracing p base own (Leave c.sig v)) h.written told;
           mark = mark_then;
           deep = omega (arith, deeper, higher, at, taken);
           left = omega (arith, left, nested, higher);
@@ -189,18 +189,18 @@ module _ (p : Program) (base : Base) (all : Left) (first : Beginning) (own : Lis
           outermost = h.outermost;
         }
 
-    -- or the run is cut off there, in those lines or before them
-    pub returns_cut : (why : IoError) (output' : SinkState) → LineCut told_lines output output' why → WasCutOff p base all first why m' output'
+    -- or the run is interrupted there, in those lines or before them
+    pub returns_cut : (why : IoError) (output' : SinkState) → LineInterrupted told_lines output output' why → WasInterrupted p base all first why m' output'
     returns_cut why output' cut_off =
         let h = is.between in
         let part = cut_part why told_lines output output' cut_off in
         record {
           happened = own ++ Leave c.sig v ∷ [];
           events = events ++ ended.return ∷ [];
-          text = text_of first.tracing p base own ++ take part.0 told_lines;
+          text = text_so_far first.tracing p base own ++ take part.0 told_lines;
           cut = cut_in_return p base all own events (is_in_line why) a waiting outer closures moves v found.0 ended.return found.1 first.tracing part.0 h.come (ap (effect_of p a closures) is.asks) found.2 returns part.1;
           journal = journal_then;
-          written = Adds-then first.output.taken output.taken output'.taken (text_of first.tracing p base own) (take part.0 told_lines) h.written.added part.2;
+          written = Adds-then first.output.taken output.taken output'.taken (text_so_far first.tracing p base own) (take part.0 told_lines) h.written.added part.2;
           cause = cause_from why first.output.faults output.faults output'.faults h.written.count part.3;
           mark = mark_then;
           target = ended.target ∙ h.calls.target;

@@ -7,7 +7,7 @@ use Rattle.ffi3_run_rules.specs.Closures.{Closures}
 use Rattle.ffi3_run_rules.specs.Meaning.{Program, goes_on, effect_of}
 use Rattle.ffi3_run_rules.specs.Move.{Move}
 use Rattle.ffi3_run_rules.specs.Trace.{TraceItem}
-use Rattle.ffi3_turn_rules.specs.Left.{Left}
+use Rattle.ffi3_turn_rules.specs.Remainder.{Remainder}
 use Rattle.ffi3_turn_rules.specs.SoFar.{Base}
 use Rattle.ffi3_machine.specs.State.{State, with_code}
 use Rattle.ffi3_closures.specs.Slots.{HoldsMap}
@@ -18,24 +18,24 @@ use Rattle.ffi3_board.specs.declared.board.Board.{Board}
 use Rattle.ffi3_board.specs.declared.board.Turn.{Turn}
 use Rattle.ffi3_board.specs.Known.{AreKnown}
 use Rattle.ffi3_board.specs.Going.{GoneOn, and_result}
-use Rattle.ffi3_board.specs.Between.{Beginning, IsBetween, IsAsking, moment}
-use Rattle.ffi3_board.specs.Turned.{Turned, WasCutOff}
+use Rattle.ffi3_board.specs.Between.{Beginning, IsBetween, IsAsking, run_state}
+use Rattle.ffi3_board.specs.Turned.{Turned, WasInterrupted}
 use Rattle.ffi3_board.proofs.Boarding.{goes}
 use Rattle.ffi3_board.proofs.Moving.{cut_between, change_on, looks_as_itself}
 
-module _ {S : Type 0} (p : Program) (base : Base) (all : Left) (first : Beginning) (own : List TraceItem) (events : List Event) (b : Board S) (a : Activation S) (m m' : State) (output : SinkState) (asked : Move) (is : IsAsking p base all first own events (moment p.signatures a b m output) asked) (r : ValueTree) (closures : Closures) (does : effect_of p (moment p.signatures a b m output).innermost b.table asked ≡ goes_on r closures) (address : ℕ) (bytes : List ℕ) (written : m' ≡ with_code address bytes m) (holds : HoldsMap m'.target closures m'.code) (known : AreKnown p closures) where
+module _ {S : Type 0} (p : Program) (base : Base) (all : Remainder) (first : Beginning) (own : List TraceItem) (events : List Event) (b : Board S) (a : Activation S) (m m' : State) (output : SinkState) (asked : Move) (is : IsAsking p base all first own events (run_state p.signatures a b m output) asked) (r : ValueTree) (closures : Closures) (does : effect_of p (run_state p.signatures a b m output).innermost b.table asked ≡ goes_on r closures) (address : ℕ) (bytes : List ℕ) (written : m' ≡ with_code address bytes m) (holds : HoldsMap m'.target closures m'.code) (known : AreKnown p closures) where
   abbrev changed_board : Board S
   changed_board = record b { table = closures }
 
-  changed : IsBetween p base all first (own ++ []) events (moment p.signatures (and_result a r) changed_board m' output)
+  changed : IsBetween p base all first (own ++ []) events (run_state p.signatures (and_result a r) changed_board m' output)
   changed =
       let n = with_code address bytes m in
       let h = subst (λ (k : State). HoldsMap k.target closures k.code) written holds in
       let target : m.target ≡ base.standard.target = is.between.calls.target in
       let here = subst (λ (t : Target). HoldsMap t closures n.code) target h in
-      let on = change_on p base all first own events (moment p.signatures a b m output) asked is r closures does address bytes here known in
-      let P = λ (k : State). IsBetween p base all first own events (moment p.signatures (and_result a r) changed_board k output) in
-      let Q = λ (l : List TraceItem). IsBetween p base all first l events (moment p.signatures (and_result a r) changed_board m' output) in
+      let on = change_on p base all first own events (run_state p.signatures a b m output) asked is r closures does address bytes here known in
+      let P = λ (k : State). IsBetween p base all first own events (run_state p.signatures (and_result a r) changed_board k output) in
+      let Q = λ (l : List TraceItem). IsBetween p base all first l events (run_state p.signatures (and_result a r) changed_board m' output) in
       subst Q (sym (append-nil own)) (subst P (sym written) on)
 
   -- the run goes on, or there is no memory for the result
@@ -44,6 +44,6 @@ module _ {S : Type 0} (p : Program) (base : Base) (all : Left) (first : Beginnin
       goes p base all first own changed_board b' a m' output r [] events t gone changed
 
   -- there is no memory for it
-  pub made_refused : WasCutOff p base all first cut.NoMemory m' output
+  pub made_refused : WasInterrupted p base all first cut.NoMemory m' output
   made_refused =
-      cut_between p base all first (own ++ []) events (moment p.signatures (and_result a r) changed_board m' output) m' (looks_as_itself m') changed
+      cut_between p base all first (own ++ []) events (run_state p.signatures (and_result a r) changed_board m' output) m' (looks_as_itself m') changed

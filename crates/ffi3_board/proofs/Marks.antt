@@ -4,10 +4,10 @@ use Rattle.std.proofs.lemmas.Bool.{cases_lt}
 use Rattle.ffi3_run_rules.specs.Lines.{Tracing, item_text}
 use Rattle.ffi3_run_rules.specs.Meaning.{Program}
 use Rattle.ffi3_run_rules.specs.Trace.{TraceItem}
-use Rattle.ffi3_turn_rules.specs.Left.{Suspended}
+use Rattle.ffi3_turn_rules.specs.Remainder.{Suspended}
 use Rattle.ffi3_turn_rules.specs.SoFar.{Base, text_start, text_after}
 use Rattle.ffi3_turn_rules.proofs.Opens.{text_one}
-use Rattle.ffi3_board.specs.Between.{IsMarkOf, AreFew, text_of}
+use Rattle.ffi3_board.specs.Between.{IsMarkOf, AreFew, text_so_far}
 
 pub mark_same : (top first deep deep' mark mark' : ℕ) → deep' ≡ deep → mark' ≡ mark → IsMarkOf top first deep mark → IsMarkOf top first deep' mark'
 mark_same top first deep deep' mark mark' same is (inl h) = inl (omega (arith, is, h))
@@ -47,5 +47,5 @@ fewer moves (s ∷ outer) h = (omega (arith, h.0), fewer moves outer h.1)
 
 -- ---- texts
 
-pub text_then : (tracing : Tracing) (p : Program) (base : Base) (own : List TraceItem) (h : TraceItem) → text_of tracing p base (own ++ h ∷ []) ≡ text_of tracing p base own ++ item_text tracing p.signatures (text_after p base own) h
+pub text_then : (tracing : Tracing) (p : Program) (base : Base) (own : List TraceItem) (h : TraceItem) → text_so_far tracing p base (own ++ h ∷ []) ≡ text_so_far tracing p base own ++ item_text tracing p.signatures (text_after p base own) h
 text_then tracing p base own h = text_one tracing p.signatures (text_start p base) own h

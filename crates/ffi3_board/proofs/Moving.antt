@@ -1,5 +1,5 @@
 -- What each kind of move of a run leads to, from one moment to the next.
-use Rattle.std.proofs.Common.{◌≡◌, ℕ, suc, ◌+◌, ◌≤◌, List, [], ◌∷◌, ◌++◌, take, refl, sym, ap, ◌∙◌, subst, arith, append-nil, length-append}
+use Rattle.std.proofs.Common.{◌≡◌, ℕ, suc, ◌+◌, ◌≤◌, true, List, [], ◌∷◌, ◌++◌, take, refl, sym, ap, ◌∙◌, subst, arith, append-nil, length-append}
 use Rattle.ffi3_type_rules.specs.Tree.{Tree}
 use Rattle.ffi3_type_rules.specs.Value.{ValueTree, void_value}
 use Rattle.ffi3_type_rules.specs.ValueText.{value_text_of}
@@ -11,9 +11,9 @@ use Rattle.ffi3_run_rules.specs.Lines.{a_line, stop_text}
 use Rattle.ffi3_run_rules.specs.Meaning.{Program, Activation, Effect, ends, stops, prints, goes_on, returned, stopped, effect_of, next_move, with_result}
 use Rattle.ffi3_run_rules.specs.Move.{Move}
 use Rattle.ffi3_run_rules.specs.Trace.{TraceItem, Line, StopLine}
-use Rattle.ffi3_turn_rules.specs.Left.{Left, Suspended, Bottom, before, only, only_stops, as_main, rest, alone}
+use Rattle.ffi3_turn_rules.specs.Remainder.{Remainder, Suspended, Bottom, before, only, only_stops, as_main, rest, alone}
 use Rattle.ffi3_turn_rules.specs.Depth.{deepest}
-use Rattle.ffi3_turn_rules.specs.SoFar.{Base, left_at_position, HasComeTo, IsOver}
+use Rattle.ffi3_turn_rules.specs.SoFar.{Base, left_at_position, HasComeTo, IsInterrupted, IsOver}
 use Rattle.ffi3_turn_rules.proofs.Steps.{rest_at_limit, rest_stops, rest_ends}
 use Rattle.ffi3_turn_rules.proofs.Depths.{depth_at-append}
 use Rattle.ffi3_turn_rules.proofs.Coming.{comes_on, comes_by_print, deepest_same}
@@ -27,8 +27,8 @@ use Rattle.ffi3_io.proofs.Adding.{Adds-then}
 use Rattle.ffi3_io.proofs.Writing.{took_then}
 use Rattle.ffi3_board.specs.Known.{AreKnown}
 use Rattle.ffi3_io.specs.Written.{LineFailed}
-use Rattle.ffi3_board.specs.Between.{Beginning, Moment, asking, position, text_of, depth_below, open_calls_at, IsBetween, IsAsking}
-use Rattle.ffi3_board.specs.Turned.{IsEnded, WasCutOff, LooksAs}
+use Rattle.ffi3_board.specs.Between.{Beginning, RunState, asking, position, text_so_far, depth_below, open_calls_at, IsBetween, IsAsking}
+use Rattle.ffi3_board.specs.Turned.{IsEnded, WasInterrupted, LooksAs}
 use Rattle.ffi3_board.proofs.Marks.{mark_same, fewer, text_then}
 use Rattle.ffi3_board.proofs.Opened.{holds_by_code}
 
@@ -42,15 +42,15 @@ looks_as_itself m = record { events = refl; mark = refl; target = refl; code = r
 pub looks_same : (m m' : State) → m' ≡ m → LooksAs m m'
 looks_same m m' same = subst (λ (n : State). LooksAs m n) (sym same) (looks_as_itself m)
 
-module _ (p : Program) (base : Base) (all : Left) (first : Beginning) (own : List TraceItem) (events : List Event) where
-  -- ---- cut off
+module _ (p : Program) (base : Base) (all : Remainder) (first : Beginning) (own : List TraceItem) (events : List Event) where
+  -- ---- interrupted
 
   -- FOR WANT OF MEMORY, between two moves
-  pub cut_between : (x : Moment) (m : State) → LooksAs x.machine m → IsBetween p base all first own events x → WasCutOff p base all first cut.NoMemory m x.output
+  pub cut_between : (x : RunState) (m : State) → LooksAs x.machine m → IsBetween p base all first own events x → WasInterrupted p base all first cut.NoMemory m x.output
   cut_between x m looks h = record {
     happened = own;
     events = events;
-    text = text_of first.tracing p base own;
+    text = text_so_far first.tracing p base own;
     cut = ending.cut_here p base all own events first.tracing (position x) h.come;
     journal = looks.events ∙ h.journal;
     written = h.written.added;
@@ -61,19 +61,53 @@ module _ (p : Program) (base : Base) (all : Left) (first : Beginning) (own : Lis
     holds = subst (λ (code : List ℕ). HoldsMap base.standard.target x.closures code) (sym looks.code) h.holds;
   }
 
-  module _ (x : Moment) (h : IsBetween p base all first own events x) (output : SinkState) (line : List ℕ) (failed : LineFailed line x.output output) where
+  module _ (x : RunState) (h : IsBetween p base all first own events x) (output : SinkState) (line : List ℕ) (failed : LineFailed line x.output output) where
     -- the bytes that are written then
-    part_written : Adds first.output.taken (text_of first.tracing p base own ++ take failed.part.0 line) output.taken
+    part_written : Adds first.output.taken (text_so_far first.tracing p base own ++ take failed.part.0 line) output.taken
     part_written =
-        Adds-then first.output.taken x.output.taken output.taken (text_of first.tracing p base own) (take failed.part.0 line) h.written.added failed.part.2
+        Adds-then first.output.taken x.output.taken output.taken (text_so_far first.tracing p base own) (take failed.part.0 line) h.written.added failed.part.2
 
     part_cause : Rose first.output.faults output.faults × (first.output.faults ≤ output.faults)
     part_cause =
         fault_from first.output.faults x.output.faults output.faults h.written.count (failed.rose, failed.never_falls)
 
+    -- A WRITE FAILS in the line, where the run can be interrupted there
+    line_failed : IsInterrupted first.tracing p base true all own (text_so_far first.tracing p base own ++ take failed.part.0 line) events → WasInterrupted p base all first cut.Failed x.machine output
+    line_failed there = record {
+      happened = own;
+      events = events;
+      text = text_so_far first.tracing p base own ++ take failed.part.0 line;
+      cut = there;
+      journal = h.journal;
+      written = part_written;
+      cause = part_cause;
+      mark = h.mark;
+      target = h.calls.target;
+      closures = x.closures;
+      holds = h.holds;
+    }
+
+  module _ (x : RunState) (h : IsBetween p base all first own events x) (stop : Stop) (moves : ℕ) (left : left_at_position p base (position x) ≡ only_stops stop x.closures moves) where
+    -- THE LINE OF A STOP IS WRITTEN, where nothing else is left
+    stop_written : IsOver p base all (stopped stop) x.closures moves events → (output : SinkState) → TookText (a_line (stop_text p.signatures stop)) x.output output → IsEnded p base all first (stopped stop) x.closures moves x.machine output
+    stop_written over output took =
+        let done : all ≡ before own (only_stops stop x.closures moves) = h.come.follows ∙ ap (before own) left in
+        let trace : all.trace ≡ own ++ StopLine stop ∷ [] = ap (λ (l : Remainder). l.trace) done in
+        let line = a_line (stop_text p.signatures stop) in
+        record {
+          events = events;
+          over = over;
+          journal = h.journal;
+          written = took_then first.output x.output output (text_so_far first.tracing p base own) line (text_so_far first.tracing p base all.trace) (ap (text_so_far first.tracing p base) trace ∙ text_then first.tracing p base own (StopLine stop)) h.written took;
+          mark = mark_same base.top first.mark (deepest p (depth_below p base) own) (deepest p (depth_below p base) all.trace) x.machine.mark x.machine.mark (ap (deepest p (depth_below p base)) trace ∙ deepest_same p (depth_below p base) own (StopLine stop) (omega arith)) refl h.mark;
+          target = h.calls.target;
+          reserved = h.calls.reserved;
+          holds = h.holds;
+        }
+
   -- ---- no move is left
 
-  module _ (x : Moment) (none : x.moves ≡ 0) (h : IsBetween p base all first own events x) where
+  module _ (x : RunState) (none : x.moves ≡ 0) (h : IsBetween p base all first own events x) where
     at_limit : HasComeTo p base all own events (record { path = (position x).path; closures = x.closures; moves = 0 })
     at_limit =
         let P = λ (n : ℕ). HasComeTo p base all own events (record { path = (position x).path; closures = x.closures; moves = n }) in
@@ -85,41 +119,17 @@ module _ (p : Program) (base : Base) (all : Left) (first : Beginning) (own : Lis
 
     pub limit_ends : (output : SinkState) → TookText (a_line (stop_text p.signatures MoveLimit)) x.output output → IsEnded p base all first (stopped MoveLimit) x.closures x.moves x.machine output
     limit_ends output took =
-        let done : all ≡ before own (only_stops MoveLimit x.closures 0) = h.come.follows ∙ ap (before own) limit_left in
-        let trace : all.trace ≡ own ++ StopLine MoveLimit ∷ [] = ap (λ (l : Left). l.trace) done in
-        let line = a_line (stop_text p.signatures MoveLimit) in
-        let O = λ (n : ℕ). IsOver p base all (stopped MoveLimit) x.closures n events in
-        record {
-          events = events;
-          over = subst O (sym none) (ending.limit_here p base all own events (position x).path x.closures at_limit);
-          journal = h.journal;
-          written = took_then first.output x.output output (text_of first.tracing p base own) line (text_of first.tracing p base all.trace) (ap (text_of first.tracing p base) trace ∙ text_then first.tracing p base own (StopLine MoveLimit)) h.written took;
-          mark = mark_same base.top first.mark (deepest p (depth_below p base) own) (deepest p (depth_below p base) all.trace) x.machine.mark x.machine.mark (ap (deepest p (depth_below p base)) trace ∙ deepest_same p (depth_below p base) own (StopLine MoveLimit) (omega arith)) refl h.mark;
-          target = h.calls.target;
-          reserved = h.calls.reserved;
-          holds = h.holds;
-        }
+        let over = ending.limit_here p base all own events (position x).path x.closures at_limit in
+        let E = λ (n : ℕ). IsEnded p base all first (stopped MoveLimit) x.closures n x.machine output in
+        subst E (sym none) (stop_written x h MoveLimit 0 limit_left over output took)
 
-    pub limit_failed : (output : SinkState) → LineFailed (a_line (stop_text p.signatures MoveLimit)) x.output output → WasCutOff p base all first cut.Failed x.machine output
+    pub limit_failed : (output : SinkState) → LineFailed (a_line (stop_text p.signatures MoveLimit)) x.output output → WasInterrupted p base all first cut.Failed x.machine output
     limit_failed output failed =
-        let line = a_line (stop_text p.signatures MoveLimit) in
-        record {
-          happened = own;
-          events = events;
-          text = text_of first.tracing p base own ++ take failed.part.0 line;
-          cut = ending.cut_in_limit p base all own events first.tracing (position x).path x.closures failed.part.0 at_limit failed.part.1;
-          journal = h.journal;
-          written = part_written x h output line failed;
-          cause = part_cause x h output line failed;
-          mark = h.mark;
-          target = h.calls.target;
-          closures = x.closures;
-          holds = h.holds;
-        }
+        line_failed x h output (a_line (stop_text p.signatures MoveLimit)) failed (ending.cut_in_limit p base all own events first.tracing (position x).path x.closures failed.part.0 at_limit failed.part.1)
 
   -- ---- a move that is asked for
 
-  module _ (x : Moment) (asked : Move) (is : IsAsking p base all first own events x asked) where
+  module _ (x : RunState) (asked : Move) (is : IsAsking p base all first own events x asked) where
     abbrev a : Activation
     a = x.innermost
 
@@ -136,38 +146,11 @@ module _ (p : Program) (base : Base) (all : Left) (first : Beginning) (own : Lis
 
       pub stop_ends : (output : SinkState) → TookText (a_line (stop_text p.signatures stop)) x.output output → IsEnded p base all first (stopped stop) x.closures x.moves x.machine output
       stop_ends output took =
-          let h = is.between in
-          let done : all ≡ before own (only_stops stop x.closures x.moves) = h.come.follows ∙ ap (before own) stop_left in
-          let trace : all.trace ≡ own ++ StopLine stop ∷ [] = ap (λ (l : Left). l.trace) done in
-          let line = a_line (stop_text p.signatures stop) in
-          record {
-            events = events;
-            over = ending.stops_here p base all own events a outer x.closures x.moves h.come stop (does_so (stops stop) does);
-            journal = h.journal;
-            written = took_then first.output x.output output (text_of first.tracing p base own) line (text_of first.tracing p base all.trace) (ap (text_of first.tracing p base) trace ∙ text_then first.tracing p base own (StopLine stop)) h.written took;
-            mark = mark_same base.top first.mark (deepest p (depth_below p base) own) (deepest p (depth_below p base) all.trace) x.machine.mark x.machine.mark (ap (deepest p (depth_below p base)) trace ∙ deepest_same p (depth_below p base) own (StopLine stop) (omega arith)) refl h.mark;
-            target = h.calls.target;
-            reserved = h.calls.reserved;
-            holds = h.holds;
-          }
+          stop_written (asking x) is.between stop x.moves stop_left (ending.stops_here p base all own events a outer x.closures x.moves is.between.come stop (does_so (stops stop) does)) output took
 
-      pub stop_failed : (output : SinkState) → LineFailed (a_line (stop_text p.signatures stop)) x.output output → WasCutOff p base all first cut.Failed x.machine output
+      pub stop_failed : (output : SinkState) → LineFailed (a_line (stop_text p.signatures stop)) x.output output → WasInterrupted p base all first cut.Failed x.machine output
       stop_failed output failed =
-          let h = is.between in
-          let line = a_line (stop_text p.signatures stop) in
-          record {
-            happened = own;
-            events = events;
-            text = text_of first.tracing p base own ++ take failed.part.0 line;
-            cut = ending.cut_in_stop p base all own events a outer x.closures x.moves h.come first.tracing stop failed.part.0 (does_so (stops stop) does) failed.part.1;
-            journal = h.journal;
-            written = part_written (asking x) h output line failed;
-            cause = part_cause (asking x) h output line failed;
-            mark = h.mark;
-            target = h.calls.target;
-            closures = x.closures;
-            holds = h.holds;
-          }
+          line_failed (asking x) is.between output (a_line (stop_text p.signatures stop)) failed (ending.cut_in_stop p base all own events a outer x.closures x.moves is.between.come first.tracing stop failed.part.0 (does_so (stops stop) does) failed.part.1)
 
     -- MAIN RETURNS
     pub main_ends : (v : ValueTree) → effect_of p x.innermost x.closures asked ≡ ends v → x.suspended ≡ [] → base.bottom ≡ as_main → IsEnded p base all first (returned v) x.closures x.moves x.machine x.output
@@ -178,8 +161,8 @@ module _ (p : Program) (base : Base) (all : Left) (first : Beginning) (own : Lis
         let Q = λ (bottom : Bottom). rest p bottom (alone a) x.closures (suc x.moves) ≡ only [] (returned v) x.closures x.moves in
         let left : rest p base.bottom (alone a) x.closures (suc x.moves) ≡ only [] (returned v) x.closures x.moves = subst Q (sym main) (rest_ends p a x.closures x.moves v (does_so (ends v) does)) in
         let done : all ≡ before own (only [] (returned v) x.closures x.moves) = come.follows ∙ ap (before own) left in
-        let trace : all.trace ≡ own = ap (λ (l : Left). l.trace) done ∙ append-nil own in
-        let T = λ (l : List TraceItem). TookText (text_of first.tracing p base l) first.output x.output in
+        let trace : all.trace ≡ own = ap (λ (l : Remainder). l.trace) done ∙ append-nil own in
+        let T = λ (l : List TraceItem). TookText (text_so_far first.tracing p base l) first.output x.output in
         record {
           events = events;
           over = ending.main_ends p base all own events a x.closures x.moves v come (does_so (ends v) does) main;
@@ -193,7 +176,7 @@ module _ (p : Program) (base : Base) (all : Left) (first : Beginning) (own : Lis
 
     -- A LINE IS PRINTED
     module _ (t : Tree) (v : ValueTree) (does : effect_of p x.innermost x.closures asked ≡ prints t v) where
-      abbrev printed : SinkState → Moment
+      abbrev printed : SinkState → RunState
       printed output = record x { innermost = with_result x.innermost void_value; output = output }
 
       pub print_on : (output : SinkState) → TookText (a_line (value_text_of t v)) x.output output → IsBetween p base all first (own ++ Line t v ∷ []) events (printed output)
@@ -205,7 +188,7 @@ module _ (p : Program) (base : Base) (all : Left) (first : Beginning) (own : Lis
             top = h.top;
             come = comes_by_print p base all own events a x.closures x.moves outer t v h.come (does_so (prints t v) does);
             journal = h.journal;
-            written = took_then first.output x.output output (text_of first.tracing p base own) (a_line (value_text_of t v)) (text_of first.tracing p base (own ++ Line t v ∷ [])) (text_then first.tracing p base own (Line t v)) h.written took;
+            written = took_then first.output x.output output (text_so_far first.tracing p base own) (a_line (value_text_of t v)) (text_so_far first.tracing p base (own ++ Line t v ∷ [])) (text_then first.tracing p base own (Line t v)) h.written took;
             mark = mark_same base.top first.mark (deepest p (depth_below p base) own) (deepest p (depth_below p base) (own ++ Line t v ∷ [])) x.machine.mark x.machine.mark (deepest_same p (depth_below p base) own (Line t v) (omega arith)) refl h.mark;
             deep = ap (λ (n : ℕ). x.machine.sp + n) (depth_at-append p (depth_below p base) own (Line t v ∷ [])) ∙ h.deep;
             left = h.left;
@@ -218,27 +201,13 @@ module _ (p : Program) (base : Base) (all : Left) (first : Beginning) (own : Lis
             outermost = h.outermost;
           }
 
-      pub print_failed : (output : SinkState) → LineFailed (a_line (value_text_of t v)) x.output output → WasCutOff p base all first cut.Failed x.machine output
+      pub print_failed : (output : SinkState) → LineFailed (a_line (value_text_of t v)) x.output output → WasInterrupted p base all first cut.Failed x.machine output
       print_failed output failed =
-          let h = is.between in
-          let line = a_line (value_text_of t v) in
-          record {
-            happened = own;
-            events = events;
-            text = text_of first.tracing p base own ++ take failed.part.0 line;
-            cut = ending.cut_in_print p base all own events a outer x.closures x.moves h.come first.tracing t v failed.part.0 (does_so (prints t v) does) failed.part.1;
-            journal = h.journal;
-            written = part_written (asking x) h output line failed;
-            cause = part_cause (asking x) h output line failed;
-            mark = h.mark;
-            target = h.calls.target;
-            closures = x.closures;
-            holds = h.holds;
-          }
+          line_failed (asking x) is.between output (a_line (value_text_of t v)) failed (ending.cut_in_print p base all own events a outer x.closures x.moves is.between.come first.tracing t v failed.part.0 (does_so (prints t v) does) failed.part.1)
 
     -- THE CLOSURES CHANGE, and code is written
     module _ (r : ValueTree) (closures : Closures) (does : effect_of p x.innermost x.closures asked ≡ goes_on r closures) (address : ℕ) (bytes : List ℕ) where
-      abbrev changed : Moment
+      abbrev changed : RunState
       changed = record x { innermost = with_result x.innermost r; closures = closures; machine = with_code address bytes x.machine }
 
       pub change_on : HoldsMap base.standard.target closures (with_code address bytes x.machine).code → AreKnown p closures → IsBetween p base all first own events changed

@@ -94,21 +94,6 @@ held_both (at ∷ locs) m n held a b =
 -- ---- the innermost of the open calls
 
 module _ (std : Standard) (ss : List Signature) (held : Loc → ℕ) (top : ℕ) (m : State) (c : OpenCall) (calls : List OpenCall) where
-  pub is_called : (entered : List Entered) → HoldsCalls std ss held top m (c ∷ calls) entered → IsCalled std (signature_at ss c.sig) m
-  is_called [] h = elim h.stand [ ]
-  is_called (e ∷ outer) h =
-      let is_open = h.stand.0 in
-      let P = λ (s : Signature). IsInCallee std (record { signature = s; event = e.event }) m in (
-        e.event,
-        subst P is_open.signature (record {
-          target = h.target;
-          stands = is_open.stands;
-          reserved = held_both std.reserved e.event.image (image_of 0 m) held is_open.reserved h.reserved;
-          room = let k : length (e ∷ outer) ≤ m.spare_events = h.room in omega (arith, k);
-          bytes = let k : frame_of std e.signature + frames std outer ≤ m.spare_bytes = h.bytes in omega (arith, k);
-        }),
-      )
-
   pub in_callee : (e : Entered) (outer : List Entered) → HoldsCalls std ss held top m (c ∷ calls) (e ∷ outer) → IsInCallee std e m
   in_callee e outer h =
       let is_open = h.stand.0 in
@@ -119,6 +104,12 @@ module _ (std : Standard) (ss : List Signature) (held : Loc → ℕ) (top : ℕ)
         room = let k : length (e ∷ outer) ≤ m.spare_events = h.room in omega (arith, k);
         bytes = let k : frame_of std e.signature + frames std outer ≤ m.spare_bytes = h.bytes in omega (arith, k);
       }
+
+  pub is_called : (entered : List Entered) → HoldsCalls std ss held top m (c ∷ calls) entered → IsCalled std (signature_at ss c.sig) m
+  is_called [] h = elim h.stand [ ]
+  is_called (e ∷ outer) h =
+      let P = λ (s : Signature). IsInCallee std (record { signature = s; event = e.event }) m in
+      (e.event, subst P h.stand.0.signature (in_callee e outer h))
 
   pub sig_below : (entered : List Entered) → HoldsCalls std ss held top m (c ∷ calls) entered → c.sig < length ss
   sig_below [] h = elim h.stand [ ]

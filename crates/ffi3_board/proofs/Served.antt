@@ -19,10 +19,10 @@ use Rattle.ffi3_run_rules.specs.Journal.{Entered, IsReturn}
 use Rattle.ffi3_run_rules.specs.Meaning.{Program, ends, returned, effect_of, next_move, most_moves}
 use Rattle.ffi3_run_rules.specs.Move.{return}
 use Rattle.ffi3_run_rules.specs.Trace.{TraceItem, Leave}
-use Rattle.ffi3_turn_rules.specs.Left.{Left, Bottom, as_main, served, before, only, rest, alone, awaited, awaited_below}
+use Rattle.ffi3_turn_rules.specs.Remainder.{Remainder, Bottom, as_main, served, before, only, rest, alone, awaited, awaited_below}
 use Rattle.ffi3_turn_rules.specs.Depth.{deepest, depth_at}
 use Rattle.ffi3_turn_rules.specs.Open.{open_calls}
-use Rattle.ffi3_turn_rules.specs.Told.{IsTracingOf}
+use Rattle.ffi3_turn_rules.specs.TracingOf.{IsTracingOf}
 use Rattle.ffi3_turn_rules.specs.SoFar.{Base, text_after, open_at}
 use Rattle.ffi3_turn_rules.proofs.Steps.{rest_leaves}
 use Rattle.ffi3_turn_rules.proofs.Depths.{ends_below}
@@ -44,13 +44,13 @@ use Rattle.ffi3_board.specs.declared.activation.Activation.{Activation}
 use Rattle.ffi3_board.specs.declared.activation.OpenCall.{OpenCall}
 use Rattle.ffi3_board.specs.declared.board.Board.{Board}
 use Rattle.ffi3_board.specs.Known.{AreKnown}
-use Rattle.ffi3_board.specs.Between.{Beginning, Moment, asking, position, text_of, depth_below, IsMarkOf, KeepsFound, IsAsking, moment_with}
+use Rattle.ffi3_board.specs.Between.{Beginning, RunState, asking, position, text_so_far, depth_below, IsMarkOf, KeepsFound, IsAsking, run_state_with}
 use Rattle.ffi3_board.specs.Outermost.{AreEntriesOf}
 use Rattle.ffi3_board.specs.Served.{IsOutsideBuffer, HasServed, HasLeft}
 use Rattle.ffi3_board.specs.Stack.{caller_sp, IsOpen, OpenStand, HoldsCalls}
 use Rattle.ffi3_board.specs.TraceLines.{last_event, return_lines}
-use Rattle.ffi3_board.specs.Turned.{IsEnded, IsDone, WasCutOff, is_in_line}
-use Rattle.ffi3_io.specs.Written.{LineCut}
+use Rattle.ffi3_board.specs.Turned.{IsEnded, IsDone, WasInterrupted, is_in_line}
+use Rattle.ffi3_io.specs.Written.{LineInterrupted}
 use Rattle.ffi3_board.proofs.Boarding.{void_is}
 use Rattle.ffi3_board.proofs.Marks.{mark_leave, text_then}
 use Rattle.ffi3_board.proofs.Telling.{cause_from, cut_part, last_is, return_lines_are}
@@ -105,18 +105,18 @@ byte_of_part m from count i bytes inside below is =
 -- ---- the return
 
 -- what the outermost return comes to
-pub record Returns (p : Program) (base : Base) (all : Left) (first : Beginning) (closures : Closures) (moves : ℕ) (output : SinkState) (v : ValueTree) (m : State) : Type 0 where
+pub record Returns (p : Program) (base : Base) (all : Remainder) (first : Beginning) (closures : Closures) (moves : ℕ) (output : SinkState) (v : ValueTree) (m : State) : Type 0 where
   pub ended : IsEnded p base all first (returned v) closures moves m output
   pub left : HasLeft p base first base.bottom base.entries v m
   pub known : AreKnown p closures
   pub few : moves ≤ most_moves
 
-module _ {S : Type 0} (p : Program) (base : Base) (all : Left) (first : Beginning) (own : List TraceItem) (events : List Event) (closures : Closures) (moves : ℕ) (m : State) (output : SinkState) (current : Activation S) (v : ValueTree) where
-  module _ (asks : IsAsking p base all first own events (moment_with p.signatures None [] closures moves m output current) (return v)) (it : fits void v ≡ true) where
+module _ {S : Type 0} (p : Program) (base : Base) (all : Remainder) (first : Beginning) (own : List TraceItem) (events : List Event) (closures : Closures) (moves : ℕ) (m : State) (output : SinkState) (current : Activation S) (v : ValueTree) where
+  module _ (asks : IsAsking p base all first own events (run_state_with p.signatures None [] closures moves m output current) (return v)) (it : fits void v ≡ true) where
     -- MAIN RETURNS
     pub main_returns : Returns p base all first closures moves output v m
     main_returns =
-        let x : Moment = moment_with p.signatures None [] closures moves m output current in
+        let x : RunState = run_state_with p.signatures None [] closures moves m output current in
         let h = asks.between in
         let calls : open_at p base [] events ≡ open_at p base [] [] = open_alone p base all own events (position (asking x)) h.come refl in
         let P = λ (l : List Entered). OpenStand base.standard p.signatures base.held base.top m [] l m.sp in
@@ -129,9 +129,9 @@ module _ {S : Type 0} (p : Program) (base : Base) (all : Left) (first : Beginnin
           few = omega (arith, few);
         }
 
-  module _ (c : OpenCall) (asks : IsAsking p base all first own events (moment_with p.signatures (Some c) [] closures moves m output current) (return v)) where
-    abbrev x : Moment
-    x = moment_with p.signatures (Some c) [] closures moves m output current
+  module _ (c : OpenCall) (asks : IsAsking p base all first own events (run_state_with p.signatures (Some c) [] closures moves m output current) (return v)) where
+    abbrev x : RunState
+    x = run_state_with p.signatures (Some c) [] closures moves m output current
 
     alone_open : open_at p base [] events ≡ open_at p base [] []
     alone_open = open_alone p base all own events (position (asking x)) asks.between.come refl
@@ -171,7 +171,7 @@ module _ {S : Type 0} (p : Program) (base : Base) (all : Left) (first : Beginnin
         let Q = λ (b : Bottom). rest p b (alone x.innermost) closures (suc moves) ≡ only (Leave below.sig v ∷ []) (returned v) closures moves in
         let left : rest p base.bottom (alone x.innermost) closures (suc moves) ≡ only (Leave below.sig v ∷ []) (returned v) closures moves = subst Q (sym below.serving) (rest_leaves p x.innermost below.sig closures moves v does) in
         let done : all ≡ before own (only (Leave below.sig v ∷ []) (returned v) closures moves) = asks.between.come.follows ∙ ap (before own) left in
-        ap (λ (l : Left). l.trace) done
+        ap (λ (l : Remainder). l.trace) done
 
     module _ (m' : State) (given : HasReturned base.standard (signature_at p.signatures c.sig) v m m') where
       back : HasReturned base.standard site v m m'
@@ -258,7 +258,7 @@ module _ {S : Type 0} (p : Program) (base : Base) (all : Left) (first : Beginnin
             events = events ++ leaving ∷ [];
             over = ending.served_ends p base all own events x.innermost closures moves v h.come does below.sig below.entry leaving below.serving below.first is_return;
             journal = journal_then;
-            written = took_then first.output output output' (text_of first.tracing p base own) told_lines (text_of first.tracing p base all.trace) (ap (text_of first.tracing p base) trace_is ∙ text_then first.tracing p base own (Leave below.sig v)) h.written told;
+            written = took_then first.output output output' (text_so_far first.tracing p base own) told_lines (text_so_far first.tracing p base all.trace) (ap (text_so_far first.tracing p base) trace_is ∙ text_then first.tracing p base own (Leave below.sig v)) h.written told;
             mark = subst M (sym trace_is) mark_then;
             target = within.target ∙ h.calls.target;
             reserved = same_then_held base.standard.reserved (image_of 0 m) (image_of 0 m') base.held back.reserved h.calls.reserved;
@@ -277,18 +277,18 @@ module _ {S : Type 0} (p : Program) (base : Base) (all : Left) (first : Beginnin
             few = omega (arith, few);
           }
 
-      -- or the run is cut off there, in those lines or before them
-      pub served_cut : (why : IoError) (output' : SinkState) → LineCut told_lines output output' why → WasCutOff p base all first why m' output'
+      -- or the run is interrupted there, in those lines or before them
+      pub served_cut : (why : IoError) (output' : SinkState) → LineInterrupted told_lines output output' why → WasInterrupted p base all first why m' output'
       served_cut why output' cut_off =
           let h = asks.between in
           let part = cut_part why told_lines output output' cut_off in
           record {
             happened = own ++ Leave below.sig v ∷ [];
             events = events ++ leaving ∷ [];
-            text = text_of first.tracing p base own ++ take part.0 told_lines;
+            text = text_so_far first.tracing p base own ++ take part.0 told_lines;
             cut = ending.cut_in_served_return p base all own events x.innermost closures moves v h.come does below.sig below.entry leaving below.serving below.first is_return (is_in_line why) first.tracing part.0 part.1;
             journal = journal_then;
-            written = Adds-then first.output.taken output.taken output'.taken (text_of first.tracing p base own) (take part.0 told_lines) h.written.added part.2;
+            written = Adds-then first.output.taken output.taken output'.taken (text_so_far first.tracing p base own) (take part.0 told_lines) h.written.added part.2;
             cause = cause_from why first.output.faults output.faults output'.faults h.written.count part.3;
             mark = mark_then;
             target = within.target ∙ h.calls.target;
@@ -297,7 +297,7 @@ module _ {S : Type 0} (p : Program) (base : Base) (all : Left) (first : Beginnin
           }
 
 -- THE RUN IS DONE, on a board that has none of the activations
-pub is_done : {S : Type 0} (p : Program) (base : Base) (all : Left) (first : Beginning) (v : ValueTree) (m : State) (output : SinkState) (b : Board S) → b.innermost ≡ None → b.suspended.items ≡ [] → b.served ≡ None → Returns p base all first b.table b.moves output v m → IsDone p base all first b m output
+pub is_done : {S : Type 0} (p : Program) (base : Base) (all : Remainder) (first : Beginning) (v : ValueTree) (m : State) (output : SinkState) (b : Board S) → b.innermost ≡ None → b.suspended.items ≡ [] → b.served ≡ None → Returns p base all first b.table b.moves output v m → IsDone p base all first b m output
 is_done p base all first v m output b taken alone unserved h = record {
   result = v;
   ended = h.ended;

@@ -1,19 +1,11 @@
--- Tests of signatures, and what a choice by a test comes to.
-use Rattle.std.proofs.Common.{◌≡◌, ℕ, Bool, true, false, List, [], ◌∷◌, Option, Some, None, refl, ap, ◌∙◌, subst}
-use Rattle.std.specs.Prelude.{if◌then◌else◌, ◌&&◌}
-use Rattle.std.proofs.lemmas.Bool.{eqb-true, eq-eqb}
+-- Tests of signatures.
+use Rattle.std.proofs.Common.{◌≡◌, ℕ, true, false, List, [], ◌∷◌, Option, Some, None, refl, ap, ◌∙◌, subst}
+use Rattle.std.specs.Prelude.{◌&&◌}
+use Rattle.std.proofs.lemmas.Bool.{eqb-true, eq-eqb, false_from_ne_true}
 use Rattle.ffi3_type_rules.specs.Tree.{Tree}
 use Rattle.ffi3_type_rules.specs.Signature.{Signature}
 use Rattle.ffi3_type_rules.specs.Same.{same_tree, same_list, same_fixed, same_signature}
-use Rattle.ffi3_script_rules.proofs.Tests.{and_left, and_right, both, types_are_same, type_is_itself}
-
-pub chosen_true : {A : Type 0} (b : Bool) (x y : A) → b ≡ true → (if b then x else y) ≡ x
-chosen_true true x y h = refl
-chosen_true false x y h = cc
-
-pub chosen_false : {A : Type 0} (b : Bool) (x y : A) → b ≡ false → (if b then x else y) ≡ y
-chosen_false true x y h = cc
-chosen_false false x y h = refl
+use Rattle.ffi3_script_rules.proofs.Tests.{and_left, and_right, both, types_are_same, type_is_itself, types_are_themselves}
 
 list_is_same : (ts us : List Tree) → same_list ts us ≡ true → ts ≡ us
 list_is_same [] [] h = refl
@@ -21,11 +13,6 @@ list_is_same [] (u ∷ us) h = cc
 list_is_same (t ∷ ts) [] h = cc
 list_is_same (t ∷ ts) (u ∷ us) h =
     ap (λ v. v ∷ ts) (types_are_same t u (and_left (same_tree t u) (same_list ts us) h)) ∙ ap (λ l. u ∷ l) (list_is_same ts us (and_right (same_tree t u) (same_list ts us) h))
-
-list_is_itself : (ts : List Tree) → same_list ts ts ≡ true
-list_is_itself [] = refl
-list_is_itself (t ∷ ts) =
-    both (same_tree t t) (same_list ts ts) (type_is_itself t) (list_is_itself ts)
 
 fixed_is_same : (m n : Option ℕ) → same_fixed m n ≡ true → m ≡ n
 fixed_is_same None None h = refl
@@ -49,18 +36,14 @@ signature_is_same s r h =
 signature_is_itself : (s : Signature) → same_signature s s ≡ true
 signature_is_itself s =
     both (same_tree s.result_type s.result_type && same_list s.arguments s.arguments) (same_fixed s.fixed s.fixed)
-    (both (same_tree s.result_type s.result_type) (same_list s.arguments s.arguments) (type_is_itself s.result_type) (list_is_itself s.arguments))
+    (both (same_tree s.result_type s.result_type) (same_list s.arguments s.arguments) (type_is_itself s.result_type) (types_are_themselves s.arguments))
     (fixed_is_itself s.fixed)
 
 -- and the test finds equal what is equal
 pub same_signatures : (s r : Signature) → s ≡ r → same_signature s r ≡ true
 same_signatures s r e = subst (λ x. same_signature s x ≡ true) e (signature_is_itself s)
 
-other_test : (b : Bool) → (b ≡ true → ⊥) → b ≡ false
-other_test true h = absurd (h refl)
-other_test false h = refl
-
 -- and no others
 pub other_signatures : (s r : Signature) → (s ≡ r → ⊥) → same_signature s r ≡ false
 other_signatures s r other =
-    other_test (same_signature s r) (λ h. other (signature_is_same s r h))
+    false_from_ne_true (same_signature s r) (λ h. other (signature_is_same s r h))

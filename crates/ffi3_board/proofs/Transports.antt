@@ -1,10 +1,11 @@
 -- The same by a standard, a signature or a machine that is equal.
-use Rattle.std.proofs.Common.{◌≡◌, ℕ, List, ap, ◌∙◌, subst}
+use Rattle.std.proofs.Common.{◌≡◌, ℕ, List, sym, ap, ◌∙◌, subst}
 use Rattle.std.specs.Prelude.{Bool}
-use Rattle.ffi3_type_rules.specs.Signature.{Signature}
+use Rattle.ffi3_type_rules.specs.Signature.{Signature, signature_at}
 use Rattle.ffi3_type_rules.specs.Value.{ValueTree}
 use Rattle.ffi3_place_rules.specs.Event.{Event}
 use Rattle.ffi3_place_rules.specs.Standard.{Standard, block_bytes}
+use Rattle.ffi3_run_rules.specs.Meaning.{Program}
 use Rattle.ffi3_machine.specs.State.{State, stack_at}
 use Rattle.ffi3_body.specs.SeenActivation.{arguments_in}
 use Rattle.ffi3_io.specs.Sink.{SinkState}
@@ -13,7 +14,11 @@ use Rattle.ffi3_callee.specs.declared.Incoming.{Incoming}
 use Rattle.ffi3_callee.specs.Received.{IsIncoming}
 use Rattle.ffi3_invoke.specs.Calls.{HasBegun, HasEnded, HasReturned}
 use Rattle.ffi3_board.specs.TraceLines.{last_event, entry_lines, return_lines}
-use Rattle.ffi3_io.specs.Written.{LineCut}
+use Rattle.ffi3_io.specs.Written.{LineInterrupted}
+
+-- a signature by its number in the program, where the lists are the same
+pub numbered : (p : Program) (ss : List Signature) (i : ℕ) (s : Signature) → p.signatures ≡ ss → s ≡ signature_at ss i → s ≡ signature_at p.signatures i
+numbered p ss i s same is = is ∙ ap (λ (l : List Signature). signature_at l i) (sym same)
 
 pub begun_as : (std std' : Standard) (s s' : Signature) (args : List ValueTree) (ptr : ℕ) (m₀ m₀' m : State) → std ≡ std' → s ≡ s' → m₀ ≡ m₀' → HasBegun std s args ptr m₀ m → HasBegun std' s' args ptr m₀' m
 begun_as std std' s s' args ptr m₀ m₀' m a b c h =
@@ -53,5 +58,5 @@ return_told_as trace std std' s s' e v lines a b is =
     ap (λ (x : Standard). return_lines trace x s e v) a ∙ ap (λ (x : Signature). return_lines trace std' x e v) b ∙ is
 
 -- what came of a line is what came of an equal one
-pub cut_as : (line line' : List ℕ) (o o' : SinkState) (why : IoError) → line ≡ line' → LineCut line o o' why → LineCut line' o o' why
-cut_as line line' o o' why is h = subst (λ (l : List ℕ). LineCut l o o' why) is h
+pub cut_as : (line line' : List ℕ) (o o' : SinkState) (why : IoError) → line ≡ line' → LineInterrupted line o o' why → LineInterrupted line' o o' why
+cut_as line line' o o' why is h = subst (λ (l : List ℕ). LineInterrupted l o o' why) is h

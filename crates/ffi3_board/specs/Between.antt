@@ -11,7 +11,7 @@ use Rattle.ffi3_run_rules.specs.Meaning as meaning
 use Rattle.ffi3_run_rules.specs.Meaning.{Program, most_moves, next_move}
 use Rattle.ffi3_run_rules.specs.Move.{Move}
 use Rattle.ffi3_run_rules.specs.Trace.{TraceItem}
-use Rattle.ffi3_turn_rules.specs.Left.{Left, Suspended, awaited}
+use Rattle.ffi3_turn_rules.specs.Remainder.{Remainder, Suspended, awaited}
 use Rattle.ffi3_turn_rules.specs.Depth.{depth_at, deepest, depth_of}
 use Rattle.ffi3_turn_rules.specs.SoFar.{Base, text_start, Position, open_at, HasComeTo}
 use Rattle.ffi3_machine.specs.State.{State, stack_at}
@@ -38,7 +38,7 @@ pub record Beginning : Type 0 where
   pub tracing : Tracing
 
 -- what stands between two moves
-pub record Moment : Type 0 where
+pub record RunState : Type 0 where
   pub innermost : meaning.Activation
   pub suspended : List Suspended
   pub calls : List OpenCall
@@ -48,10 +48,10 @@ pub record Moment : Type 0 where
   pub output : SinkState
 
 -- before the move that was counted last
-abbrev pub asking : Moment → Moment
+abbrev pub asking : RunState → RunState
 asking x = record x { moves = suc x.moves }
 
-abbrev pub position : Moment → Position
+abbrev pub position : RunState → Position
 position x = record {
   path = record { innermost = x.innermost; suspended = x.suspended };
   closures = x.closures;
@@ -59,8 +59,8 @@ position x = record {
 }
 
 -- what is done of a run's text
-abbrev pub text_of : Tracing → Program → Base → List TraceItem → List ℕ
-text_of tracing p base own = text tracing p.signatures (text_start p base) own
+abbrev pub text_so_far : Tracing → Program → Base → List TraceItem → List ℕ
+text_so_far tracing p base own = text tracing p.signatures (text_start p base) own
 
 -- the calls that were open as the run began take so many bytes
 abbrev pub depth_below : Program → Base → ℕ
@@ -76,7 +76,7 @@ AreFew moves [] = ⊤
 AreFew moves (s ∷ outer) = (length s.activation.results + moves ≤ most_moves) × AreFew moves outer
 
 -- the calls that are open at this moment, after these events of the run
-abbrev pub open_calls_at : Program → Base → List Event → Moment → List Entered
+abbrev pub open_calls_at : Program → Base → List Event → RunState → List Entered
 open_calls_at p base events x = open_at p base x.suspended events
 
 -- WHAT A RUN KEEPS of what it found: the stack from its top on, and the room in the journal that the returns of open calls do not need.
@@ -86,13 +86,13 @@ pub record KeepsFound (base : Base) (first : Beginning) (entered : List Entered)
   pub bytes : first.spare_bytes + frames base.standard entered ≤ m.spare_bytes
 
 -- WHAT HOLDS BETWEEN TWO MOVES of a run with this base, of which all this was left as it began: this trace is done of it, these events answer to it, and the path's calls stand on the machine's stack.
-pub record IsBetween (p : Program) (base : Base) (all : Left) (first : Beginning) (own : List TraceItem) (events : List Event) (x : Moment) : Type 0 where
+pub record IsBetween (p : Program) (base : Base) (all : Remainder) (first : Beginning) (own : List TraceItem) (events : List Event) (x : RunState) : Type 0 where
   pub needs : p.need ≡ need_of base.standard
   pub count : base.count ≡ length first.events
   pub top : base.top ≤ STACK_TOP
   pub come : HasComeTo p base all own events (position x)
   pub journal : x.machine.events ≡ first.events ++ events
-  pub written : TookText (text_of first.tracing p base own) first.output x.output
+  pub written : TookText (text_so_far first.tracing p base own) first.output x.output
   pub mark : IsMarkOf base.top first.mark (deepest p (depth_below p base) own) x.machine.mark
   pub deep : x.machine.sp + depth_at p (depth_below p base) own ≡ base.top
   pub left : x.innermost.left + STACK ≡ x.machine.sp
@@ -105,14 +105,14 @@ pub record IsBetween (p : Program) (base : Base) (all : Left) (first : Beginning
   pub outermost : AreEntriesOf base.bottom base.entries
 
 -- the innermost activation asks for this move, which was counted
-pub record IsAsking (p : Program) (base : Base) (all : Left) (first : Beginning) (own : List TraceItem) (events : List Event) (x : Moment) (asked : Move) : Type 0 where
+pub record IsAsking (p : Program) (base : Base) (all : Remainder) (first : Beginning) (own : List TraceItem) (events : List Event) (x : RunState) (asked : Move) : Type 0 where
   pub between : IsBetween p base all first own events (asking x)
   pub asks : next_move p x.innermost ≡ asked
 
 module _ {S : Type 0} where
   -- the moment at which this activation is the innermost, inside those that wait
-  abbrev pub moment_with : List Signature → Option OpenCall → List (Waiting S) → Closures → ℕ → State → SinkState → Activation S → Moment
-  moment_with signatures served outer closures moves machine output a = record {
+  abbrev pub run_state_with : List Signature → Option OpenCall → List (Waiting S) → Closures → ℕ → State → SinkState → Activation S → RunState
+  run_state_with signatures served outer closures moves machine output a = record {
     innermost = acting signatures machine (call_inside served outer) a;
     suspended = suspended_at signatures machine served outer;
     calls = calls_of served outer;
@@ -123,6 +123,6 @@ module _ {S : Type 0} where
   }
 
   -- the moment of a board, inside whose activations this one is the innermost
-  abbrev pub moment : List Signature → Activation S → Board S → State → SinkState → Moment
-  moment signatures a b machine output =
-      moment_with signatures b.served (reverse b.suspended.items) b.table b.moves machine output a
+  abbrev pub run_state : List Signature → Activation S → Board S → State → SinkState → RunState
+  run_state signatures a b machine output =
+      run_state_with signatures b.served (reverse b.suspended.items) b.table b.moves machine output a

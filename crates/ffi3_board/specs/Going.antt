@@ -25,6 +25,11 @@ StoppedBy signatures stop before after NoMemory = after ≡ before
 StoppedBy signatures stop before after Failed = LineFailed (a_line (stop_text signatures stop)) before after
 
 module _ {S : Type 0} where
+  -- the activation of a closure's function before its first move
+  abbrev pub activation_of : Closure → S → Activation S
+  activation_of closure standing =
+      record { who = Function closure.func; standing = standing; user = closure.user; results = [] }
+
   -- the activation with one result more
   abbrev pub and_result : Activation S → ValueTree → Activation S
   and_result a r = record a { results = a.results ++ r ∷ [] }
@@ -41,7 +46,7 @@ module _ {S : Type 0} where
   pub record HasGoneIn (closure : Closure) (standing : S) (sig : ℕ) (a : Activation S) (old new : Board S) : Type 0 where
     pub call : OpenCall
     pub signature : call.sig ≡ sig
-    pub innermost : new.innermost ≡ Some (record { who = Function closure.func; standing = standing; user = closure.user; results = [] })
+    pub innermost : new.innermost ≡ Some (activation_of closure standing)
     pub suspended : new.suspended.items ≡ old.suspended.items ++ record { activation = a; call = call } ∷ []
     pub served : new.served ≡ old.served
     pub table : new.table ≡ old.table

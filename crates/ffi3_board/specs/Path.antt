@@ -7,7 +7,7 @@ use Rattle.ffi3_type_rules.specs.Value.{ValueTree}
 use Rattle.ffi3_place_rules.specs.Standard.{block_bytes}
 use Rattle.ffi3_run_rules.specs.Meaning as meaning
 use Rattle.ffi3_run_rules.specs.Meaning.{main, function, stack_size}
-use Rattle.ffi3_turn_rules.specs.Left.{Suspended}
+use Rattle.ffi3_turn_rules.specs.Remainder.{Suspended}
 use Rattle.ffi3_machine.specs.State.{State, stack_at}
 use Rattle.ffi3_body.specs.SeenActivation.{arguments_in}
 use Rattle.ffi3_board.specs.declared.activation.Who.{Who}

@@ -18,15 +18,15 @@ use Rattle.ffi3_run_rules.specs.Journal.{Entered, IsReturn}
 use Rattle.ffi3_run_rules.specs.Lines.{Tracing, untraced, traced}
 use Rattle.ffi3_run_rules.specs.Meaning as meaning
 use Rattle.ffi3_run_rules.specs.Meaning.{Program, function, most_moves}
-use Rattle.ffi3_turn_rules.specs.Left.{Left, Bottom, as_main, served, rest, alone}
+use Rattle.ffi3_turn_rules.specs.Remainder.{Remainder, Bottom, as_main, served, rest, alone}
 use Rattle.ffi3_turn_rules.specs.SoFar.{Base}
 use Rattle.ffi3_machine.specs.State.{State, HasReturnAddress}
 use Rattle.ffi3_io.specs.Sink.{SinkState}
 use Rattle.ffi3_callee.specs.Received.{OwnsAtEntry}
 use Rattle.ffi3_invoke.specs.Calls.{entry_at, return_at}
 use Rattle.ffi3_board.specs.declared.activation.OpenCall.{OpenCall}
-use Rattle.ffi3_board.specs.declared.activation.Who.TheVariants.{Function}
 use Rattle.ffi3_board.specs.declared.board.Board.{Board}
+use Rattle.ffi3_board.specs.Going.{activation_of}
 use Rattle.ffi3_board.specs.Known.{AreKnown}
 use Rattle.ffi3_board.specs.Between.{Beginning, KeepsFound}
 
@@ -88,7 +88,7 @@ served_activation std signatures closure arguments m = record {
 }
 
 -- ALL THAT IS LEFT OF THE CALL after its entry, by the direct meaning: what its function does, and the return
-abbrev pub served_left : Standard → Program → Closure → List ValueTree → State → Closures → ℕ → Left
+abbrev pub served_left : Standard → Program → Closure → List ValueTree → State → Closures → ℕ → Remainder
 served_left std p closure arguments m closures moves = rest p (served closure.sig) (alone (served_activation std p.signatures closure arguments m)) closures moves
 
 module _ {S : Type 0} where
@@ -96,7 +96,7 @@ module _ {S : Type 0} where
   pub record HasAccepted (closure : Closure) (standing : S) (old new : Board S) : Type 0 where
     pub call : OpenCall
     pub signature : call.sig ≡ closure.sig
-    pub innermost : new.innermost ≡ Some (record { who = Function closure.func; standing = standing; user = closure.user; results = [] })
+    pub innermost : new.innermost ≡ Some (activation_of closure standing)
     pub suspended : new.suspended.items ≡ old.suspended.items
     pub served : new.served ≡ Some call
     pub table : new.table ≡ old.table

@@ -1,6 +1,11 @@
 //! The activations of a run that are not finished.
+ghost use Rattle.std.specs.Prelude.{◌≡◌};
+ghost use Rattle.ffi3_board.specs.Going.{activation_of};
+
 use ffi3_callee::Incoming;
+use ffi3_run_rules::Closure;
 use ffi3_values::Values;
+use std::alloc::Global;
 
 /// Whose body an activation runs. Functions go by their numbers in the run.
 #[derive(Clone, Copy, Debug, PartialEq, Eq, Drop)]
@@ -27,6 +32,20 @@ pub struct Activation<S> {
     pub user: u64,
     /// The results of its moves so far.
     pub results: Values,
+}
+
+impl<S: Drop> Activation<S> {
+    /// The activation of a closure's function before its first move.
+    pub(crate) fn of_closure(alloc: Global, closure: Closure, standing: S) -> Activation<S>
+        ensures { result ≡ activation_of closure standing }
+    {
+        Activation {
+            who: Who::Function(closure.func),
+            standing,
+            user: closure.user,
+            results: Values::new(alloc),
+        }
+    }
 }
 
 /// An activation that waits for the return of a call.

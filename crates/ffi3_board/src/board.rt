@@ -41,7 +41,7 @@ pub enum Turn {
 }
 
 impl Turn {
-    /// What a move came to that was cut off.
+    /// What a move came to that was interrupted.
     pub(crate) fn cut_off(why: IoError) -> Turn
         ensures is { result ≡ turn_of why }
         ensures over { result ≡ Turn.More → ⊥ }

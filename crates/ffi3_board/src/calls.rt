@@ -1,5 +1,5 @@
 //! Calls that are entered, and returns.
-ghost use Rattle.std.specs.Prelude.{◌≡◌, ℕ, ◌+◌, ◌<◌, ◌≤◌, ◌^◌, IfOk, List, None, length, reverse, suc, true};
+ghost use Rattle.std.specs.Prelude.{◌≡◌, ℕ, ◌<◌, ◌≤◌, IfOk, List, None, length, reverse, suc, true};
 ghost use Rattle.ffi3_type_rules.specs.declared.limits.TheConstants.{STACK_TOP};
 ghost use Rattle.ffi3_type_rules.specs.Signature.{signature_at};
 ghost use Rattle.ffi3_type_rules.specs.Tree.{trees_of};
@@ -11,28 +11,29 @@ ghost use Rattle.ffi3_run_rules.specs.Journal.{Entered};
 ghost use Rattle.ffi3_run_rules.specs.Meaning.{Program, callee_of, effect_of, enters};
 ghost use Rattle.ffi3_run_rules.specs.Move as asks;
 ghost use Rattle.ffi3_run_rules.specs.Trace.{TraceItem};
-ghost use Rattle.ffi3_turn_rules.specs.Left.{Left};
+ghost use Rattle.ffi3_turn_rules.specs.Remainder.{Remainder};
 ghost use Rattle.ffi3_turn_rules.specs.SoFar.{Base};
-ghost use Rattle.ffi3_turn_rules.specs.Told.{IsTracingOf};
+ghost use Rattle.ffi3_turn_rules.specs.TracingOf.{IsTracingOf};
 ghost use Rattle.ffi3_machine.specs.State.{stack_at};
 ghost use Rattle.ffi3_closures.specs.Slots.{HoldsMap};
 ghost use Rattle.ffi3_callee.specs.Received.{IsIncoming};
 ghost use Rattle.ffi3_invoke.specs.Calls.{HasEnded, IsCalled};
-ghost use Rattle.ffi3_board.specs.Between.{Beginning, IsAsking, moment};
+ghost use Rattle.ffi3_board.specs.Between.{Beginning, IsAsking, run_state};
 ghost use Rattle.ffi3_board.specs.Going.{HasGoneBack, HasGoneIn};
 ghost use Rattle.ffi3_board.specs.Known.{CanEnter};
-ghost use Rattle.ffi3_board.specs.Path.{AreShort, acting, call_inside, calls_of, result_type_at};
+ghost use Rattle.ffi3_board.specs.Path.{AreShort, call_inside, calls_of, result_type_at};
 ghost use Rattle.ffi3_board.specs.Stack.{HoldsCalls};
 ghost use Rattle.ffi3_board.specs.Turned.{Turned};
 
 use crate::tracing::{tell_entry, tell_return};
-use crate::{Activation, Board, Cifs, OpenCall, Turn, Waiting, Who};
+use crate::{Activation, Board, Cifs, OpenCall, Turn, Waiting};
 use ffi3_invoke::{begin_call, end_call};
 use ffi3_io::Sink;
 use ffi3_machine::Machine;
 use ffi3_place::Abi;
 use ffi3_place::parts::size_of;
 use ffi3_run_rules::Closure;
+use ffi3_type_rules::limits::LARGEST_STRUCT;
 use ffi3_types::NoMemory;
 use ffi3_values::{Value, Values, value_from_bytes};
 use std::alloc::Global;
@@ -56,7 +57,7 @@ fn end_with<A: Abi>(
     let OpenCall { sig, incoming } = call;
     let cif = cifs.get(sig);
     let ty = cif.sig().ret();
-    let mut room = [0; 1024];
+    let mut room = [0; LARGEST_STRUCT as usize];
     let out = &mut room[..size_of(ty) as usize];
     end_call(machine, cif, incoming, value, out);
     value_from_bytes(alloc, ty, out)
@@ -89,11 +90,11 @@ impl<S: Drop> Board<S> {
         ensures goes { result ≡ Turn.More → HasGoneIn closure standing sig current self.old self.new }
         ensures above { result ≡ Turn.More →
             (address count : ℕ) → machine.old.sp ≤ address → stack_at address count machine.new ≡ stack_at address count machine.old }
-        ensures turned { (p : Program) (base : Base) (all : Left) (first : Beginning) (own : List TraceItem) (events : List Event) →
+        ensures turned { (p : Program) (base : Base) (all : Remainder) (first : Beginning) (own : List TraceItem) (events : List Event) →
             base.standard ≡ A.standard → p.signatures ≡ cifs.now → IsTracingOf p base trace first.tracing →
-            IsAsking p base all first own events (moment p.signatures current self.old machine.old (O.state output.old)) (asks.call ptr sig args.now) →
-            effect_of p (moment p.signatures current self.old machine.old (O.state output.old)).innermost self.old.table (asks.call ptr sig args.now) ≡
-            enters ptr sig (callee_of p (moment p.signatures current self.old machine.old (O.state output.old)).innermost sig args.now closure) →
+            IsAsking p base all first own events (run_state p.signatures current self.old machine.old (O.state output.old)) (asks.call ptr sig args.now) →
+            effect_of p (run_state p.signatures current self.old machine.old (O.state output.old)).innermost self.old.table (asks.call ptr sig args.now) ≡
+            enters ptr sig (callee_of p (run_state p.signatures current self.old machine.old (O.state output.old)).innermost sig args.now closure) →
             Turned p base all first own (suc self.old.moves) self.new machine.new (O.state output.new) result }
     {
         let cif = cifs.get(sig);
@@ -111,12 +112,7 @@ impl<S: Drop> Board<S> {
             activation: current,
             call: OpenCall { sig, incoming },
         });
-        self.innermost = Some(Activation {
-            who: Who::Function(closure.func),
-            standing,
-            user: closure.user,
-            results: Values::new(alloc),
-        });
+        self.innermost = Some(Activation::of_closure(alloc, closure, standing));
         Turn::More
     }
 
@@ -139,9 +135,9 @@ impl<S: Drop> Board<S> {
         ensures goes { result ≡ Turn.More → HasGoneBack (value_of value.now) self.old self.new }
         ensures above { result ≡ Turn.More →
             (address count : ℕ) → machine.new.sp ≤ address → stack_at address count machine.new ≡ stack_at address count machine.old }
-        ensures turned { (p : Program) (base : Base) (all : Left) (first : Beginning) (own : List TraceItem) (events : List Event) (current : Activation S) →
+        ensures turned { (p : Program) (base : Base) (all : Remainder) (first : Beginning) (own : List TraceItem) (events : List Event) (current : Activation S) →
             base.standard ≡ A.standard → p.signatures ≡ cifs.now → IsTracingOf p base trace first.tracing →
-            IsAsking p base all first own events (moment p.signatures current self.old machine.old (O.state output.old)) (asks.return (value_of value.now)) →
+            IsAsking p base all first own events (run_state p.signatures current self.old machine.old (O.state output.old)) (asks.return (value_of value.now)) →
             Turned p base all first own (suc self.old.moves) self.new machine.new (O.state output.new) result }
     {
         let Some(Waiting { activation, call }) = self.suspended.pop() else {

@@ -6,10 +6,10 @@ ghost use Rattle.ffi3_place_rules.specs.Event.{Event};
 ghost use Rattle.ffi3_run_rules.specs.Meaning.{Program, function_at, pointer_value};
 ghost use Rattle.ffi3_run_rules.specs.Move as asks;
 ghost use Rattle.ffi3_run_rules.specs.Trace.{TraceItem};
-ghost use Rattle.ffi3_turn_rules.specs.Left.{Left};
+ghost use Rattle.ffi3_turn_rules.specs.Remainder.{Remainder};
 ghost use Rattle.ffi3_turn_rules.specs.SoFar.{Base};
 ghost use Rattle.ffi3_closures.specs.Slots.{HoldsMap};
-ghost use Rattle.ffi3_board.specs.Between.{Beginning, IsAsking, moment};
+ghost use Rattle.ffi3_board.specs.Between.{Beginning, IsAsking, run_state};
 ghost use Rattle.ffi3_board.specs.Going.{and_result};
 ghost use Rattle.ffi3_board.specs.Turned.{Turned};
 
@@ -48,9 +48,9 @@ impl<S: Drop> Board<S> {
         ensures goes { result ≡ Turn.More →
             (address : ℕ) × (self.new ≡ record self.old { innermost = Some (and_result current (pointer_value address)); table = self.new.table }) }
         ensures stack { machine.new.stack ≡ machine.old.stack }
-        ensures turned { (p : Program) (base : Base) (all : Left) (first : Beginning) (own : List TraceItem) (events : List Event) →
+        ensures turned { (p : Program) (base : Base) (all : Remainder) (first : Beginning) (own : List TraceItem) (events : List Event) →
             p.signatures ≡ cifs.now → func < length p.functions → sig < length p.signatures → sig ≡ (function_at p func).signature →
-            IsAsking p base all first own events (moment p.signatures current self.old machine.old (O.state output.old)) (asks.make func user) →
+            IsAsking p base all first own events (run_state p.signatures current self.old machine.old (O.state output.old)) (asks.make func user) →
             Turned p base all first own (suc self.old.moves) self.new machine.new (O.state output.new) result }
     {
         let Ok(address) = self.table.make(machine, func, sig, user) else {
@@ -77,9 +77,9 @@ impl<S: Drop> Board<S> {
         ensures goes { result ≡ Turn.More →
             self.new ≡ record self.old { innermost = Some (and_result current void_value); table = self.new.table } }
         ensures stack { machine.new.stack ≡ machine.old.stack }
-        ensures turned { (p : Program) (base : Base) (all : Left) (first : Beginning) (own : List TraceItem) (events : List Event) →
+        ensures turned { (p : Program) (base : Base) (all : Remainder) (first : Beginning) (own : List TraceItem) (events : List Event) →
             p.signatures ≡ cifs.now →
-            IsAsking p base all first own events (moment p.signatures current self.old machine.old (O.state output.old)) (asks.free ptr) →
+            IsAsking p base all first own events (run_state p.signatures current self.old machine.old (O.state output.old)) (asks.free ptr) →
             Turned p base all first own (suc self.old.moves) self.new machine.new (O.state output.new) result }
     {
         match self.table.free(machine, ptr) {

@@ -7,16 +7,16 @@ ghost use Rattle.ffi3_place_rules.specs.Event.{Event};
 ghost use Rattle.ffi3_run_rules.specs.Meaning.{Program};
 ghost use Rattle.ffi3_run_rules.specs.Move as asks;
 ghost use Rattle.ffi3_run_rules.specs.Trace.{TraceItem};
-ghost use Rattle.ffi3_turn_rules.specs.Left.{Left};
+ghost use Rattle.ffi3_turn_rules.specs.Remainder.{Remainder};
 ghost use Rattle.ffi3_turn_rules.specs.SoFar.{Base};
 ghost use Rattle.ffi3_machine.specs.State.{State};
-ghost use Rattle.ffi3_board.specs.Between.{Beginning, IsAsking, moment};
+ghost use Rattle.ffi3_board.specs.Between.{Beginning, IsAsking, run_state};
 ghost use Rattle.ffi3_board.specs.Going.{and_result};
 ghost use Rattle.ffi3_board.specs.Turned.{Turned};
 
 use crate::line::write_print;
 use crate::{Activation, Board, Turn};
-use ffi3_io::{IoError, Sink};
+use ffi3_io::Sink;
 use ffi3_types::FfiType;
 use ffi3_values::Value;
 use std::alloc::Global;
@@ -34,14 +34,13 @@ impl<S: Drop> Board<S> {
         requires fits { fits (tree_of ty.now) (value_of value.now) ≡ true }
         requires few { length current.results + 1 < 2 ^ 32 }
         ensures goes { result ≡ Turn.More → self.new ≡ record self.old { innermost = Some (and_result current void_value) } }
-        ensures turned { (p : Program) (base : Base) (all : Left) (first : Beginning) (own : List TraceItem) (events : List Event) (machine : State) →
-            IsAsking p base all first own events (moment p.signatures current self.old machine (O.state output.old)) (asks.print (tree_of ty.now) (value_of value.now)) →
+        ensures turned { (p : Program) (base : Base) (all : Remainder) (first : Beginning) (own : List TraceItem) (events : List Event) (machine : State) →
+            IsAsking p base all first own events (run_state p.signatures current self.old machine (O.state output.old)) (asks.print (tree_of ty.now) (value_of value.now)) →
             Turned p base all first own (suc self.old.moves) self.new machine (O.state output.new) result }
     {
         match write_print(alloc, output, ty, value) {
             Ok(()) => self.go_on(current, Value::Void),
-            Err(IoError::NoMemory) => Turn::NoMemory,
-            Err(IoError::Failed) => Turn::Failed,
+            Err(why) => Turn::cut_off(why),
         }
     }
 }

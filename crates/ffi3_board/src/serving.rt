@@ -1,5 +1,5 @@
 //! A call that is served: accepted from what a machine shows at an entry, and left.
-ghost use Rattle.std.specs.Prelude.{◌≡◌, ℕ, ◌<◌, ◌≤◌, List, None, OnOk, Some, [], length, suc, true};
+ghost use Rattle.std.specs.Prelude.{◌≡◌, ℕ, ◌<◌, ◌≤◌, List, None, OnOk, [], length, suc, true};
 ghost use Rattle.ffi3_type_rules.specs.Signature.{signature_at};
 ghost use Rattle.ffi3_type_rules.specs.Value.{ValueTree, fits};
 ghost use Rattle.ffi3_values.specs.ValueOf.{value_of};
@@ -10,26 +10,26 @@ ghost use Rattle.ffi3_run_rules.specs.Journal.{Entered};
 ghost use Rattle.ffi3_run_rules.specs.Meaning.{Program, most_moves};
 ghost use Rattle.ffi3_run_rules.specs.Move as asks;
 ghost use Rattle.ffi3_run_rules.specs.Trace.{TraceItem};
-ghost use Rattle.ffi3_turn_rules.specs.Left.{Left};
+ghost use Rattle.ffi3_turn_rules.specs.Remainder.{Remainder};
 ghost use Rattle.ffi3_turn_rules.specs.SoFar.{Base};
 ghost use Rattle.ffi3_closures.specs.Slots.{HoldsMap};
 ghost use Rattle.ffi3_board.specs.Accepted.{Accepted};
-ghost use Rattle.ffi3_board.specs.Between.{Beginning, IsAsking, moment};
+ghost use Rattle.ffi3_board.specs.Between.{Beginning, IsAsking, run_state};
 ghost use Rattle.ffi3_board.specs.Known.{AreKnown};
 ghost use Rattle.ffi3_board.specs.Path.{calls_below, result_type_at};
 ghost use Rattle.ffi3_board.specs.Served.{HasAccepted, ShowsCall};
 ghost use Rattle.ffi3_board.specs.Stack.{HoldsCalls};
 ghost use Rattle.ffi3_board.specs.Turned.{Turned};
-ghost use Rattle.ffi3_turn_rules.specs.Told.{IsTracingOf};
+ghost use Rattle.ffi3_turn_rules.specs.TracingOf.{IsTracingOf};
 
 use crate::tracing::{tell_entry, tell_return};
-use crate::{Activation, Board, Cifs, OpenCall, Turn, Who};
+use crate::{Activation, Board, Cifs, OpenCall, Turn};
 use ffi3_invoke::{accept, give_back};
 use ffi3_io::{IoError, Sink};
 use ffi3_machine::Machine;
 use ffi3_place::Abi;
 use ffi3_run_rules::Closure;
-use ffi3_values::{Value, Values};
+use ffi3_values::Value;
 use std::alloc::Global;
 
 impl<S: Drop> Board<S> {
@@ -63,12 +63,7 @@ impl<S: Drop> Board<S> {
             return Err(why);
         }
         self.served = Some(OpenCall { sig, incoming });
-        self.innermost = Some(Activation {
-            who: Who::Function(closure.func),
-            standing,
-            user: closure.user,
-            results: Values::new(alloc),
-        });
+        self.innermost = Some(Activation::of_closure(alloc, closure, standing));
         Ok(())
     }
 
@@ -89,9 +84,9 @@ impl<S: Drop> Board<S> {
             HoldsCalls A.standard cifs.now held top machine.old (calls_below self.old.served) entered }
         requires fits { fits (result_type_at cifs.now self.old.served) (value_of value.now) ≡ true }
         ensures over { result ≡ Turn.More → ⊥ }
-        ensures turned { (p : Program) (base : Base) (all : Left) (first : Beginning) (own : List TraceItem) (events : List Event) (current : Activation S) →
+        ensures turned { (p : Program) (base : Base) (all : Remainder) (first : Beginning) (own : List TraceItem) (events : List Event) (current : Activation S) →
             base.standard ≡ A.standard → p.signatures ≡ cifs.now → IsTracingOf p base trace first.tracing →
-            IsAsking p base all first own events (moment p.signatures current self.old machine.old (O.state output.old)) (asks.return (value_of value.now)) →
+            IsAsking p base all first own events (run_state p.signatures current self.old machine.old (O.state output.old)) (asks.return (value_of value.now)) →
             Turned p base all first own (suc self.old.moves) self.new machine.new (O.state output.new) result }
     {
         let Some(OpenCall { sig, incoming }) = self.served.take() else {

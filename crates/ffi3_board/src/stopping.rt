@@ -4,17 +4,17 @@ ghost use Rattle.ffi3_place_rules.specs.Event.{Event};
 ghost use Rattle.ffi3_run_rules.specs.Meaning.{Program, effect_of, stops};
 ghost use Rattle.ffi3_run_rules.specs.Move.{Move};
 ghost use Rattle.ffi3_run_rules.specs.Trace.{TraceItem};
-ghost use Rattle.ffi3_turn_rules.specs.Left.{Left};
+ghost use Rattle.ffi3_turn_rules.specs.Remainder.{Remainder};
 ghost use Rattle.ffi3_turn_rules.specs.SoFar.{Base};
 ghost use Rattle.ffi3_machine.specs.State.{State};
-ghost use Rattle.ffi3_board.specs.Between.{Beginning, IsAsking, IsBetween, moment};
+ghost use Rattle.ffi3_board.specs.Between.{Beginning, IsAsking, IsBetween, run_state};
 ghost use Rattle.ffi3_board.specs.Going.{StoppedBy};
 ghost use Rattle.ffi3_board.specs.StopSigs.{IsOfSigs};
 ghost use Rattle.ffi3_board.specs.Turned.{Turned};
 
 use crate::line::write_stop;
 use crate::{Activation, Board, Cifs, Turn};
-use ffi3_io::{IoError, Sink};
+use ffi3_io::Sink;
 use ffi3_place::Abi;
 use ffi3_run_rules::Stop;
 use std::alloc::Global;
@@ -31,8 +31,7 @@ pub(crate) fn stop<A: Abi, O: Sink>(
 {
     match write_stop(alloc, output, cifs, why) {
         Ok(()) => Turn::Stopped(why),
-        Err(IoError::NoMemory) => Turn::NoMemory,
-        Err(IoError::Failed) => Turn::Failed,
+        Err(cause) => Turn::cut_off(cause),
     }
 }
 
@@ -46,9 +45,9 @@ impl<S: Drop> Board<S> {
         current: Activation<S>,
     ) -> Turn
         requires { self.old.moves ≡ 0 }
-        ensures { (p : Program) (base : Base) (all : Left) (first : Beginning) (own : List TraceItem) (events : List Event) (machine : State) →
+        ensures { (p : Program) (base : Base) (all : Remainder) (first : Beginning) (own : List TraceItem) (events : List Event) (machine : State) →
             p.signatures ≡ cifs.now →
-            IsBetween p base all first own events (moment p.signatures current self.old machine (O.state output.old)) →
+            IsBetween p base all first own events (run_state p.signatures current self.old machine (O.state output.old)) →
             Turned p base all first own 0 self.new machine (O.state output.new) result }
     {
         let _ended = current;
@@ -66,10 +65,10 @@ impl<S: Drop> Board<S> {
     ) -> Turn
         requires { IsOfSigs (length cifs.now) why }
         ensures over { result ≡ Turn.More → ⊥ }
-        ensures turned { (p : Program) (base : Base) (all : Left) (first : Beginning) (own : List TraceItem) (events : List Event) (machine : State) (asked : Move) →
+        ensures turned { (p : Program) (base : Base) (all : Remainder) (first : Beginning) (own : List TraceItem) (events : List Event) (machine : State) (asked : Move) →
             p.signatures ≡ cifs.now →
-            IsAsking p base all first own events (moment p.signatures current self.old machine (O.state output.old)) asked →
-            effect_of p (moment p.signatures current self.old machine (O.state output.old)).innermost self.old.table asked ≡ stops why →
+            IsAsking p base all first own events (run_state p.signatures current self.old machine (O.state output.old)) asked →
+            effect_of p (run_state p.signatures current self.old machine (O.state output.old)).innermost self.old.table asked ≡ stops why →
             Turned p base all first own (suc self.old.moves) self.new machine (O.state output.new) result }
     {
         let _ended = current;

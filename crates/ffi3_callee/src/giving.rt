@@ -26,6 +26,7 @@ use ffi3_machine::Machine;
 use ffi3_pieces::store_pieces;
 use ffi3_place::parts::{result_type, size_of};
 use ffi3_place::{Abi, Loc, Pieces, Res};
+use ffi3_type_rules::limits::LARGEST_STRUCT;
 use ffi3_types::FfiType;
 use ffi3_values::{Value, write_bytes};
 
@@ -60,7 +61,7 @@ fn give_buffer(machine: &mut Machine, address: u64, ty: &FfiType, value: &Value)
     // its contract tells what is true of every machine
     let _m = machine.sp();
     let size = size_of(ty);
-    let mut room = [0; 1024];
+    let mut room = [0; LARGEST_STRUCT as usize];
     let bytes = &mut room[..size as usize];
     bytes.copy_from_slice(machine.lend_stack(address, size));
     write_bytes(ty, value, bytes);

@@ -81,7 +81,7 @@ fn hidden_place(place: &Res) -> Option<Loc>
 }
 
 /// At an entry: saves the registers that are to be given back, copies the arguments into the block below them, where sp then is,
-/// and scribbles on all registers. It does not know the values.
+/// and scribbles on every register but sp and the reserved ones. It does not know the values.
 pub fn receive<A: Abi>(machine: &mut Machine, cif: &Cif<A>) -> Incoming
     requires room { STACK + A.standard.save + block_bytes cif.now ≤ machine.old.sp }
     requires frame { machine.old.sp + A.standard.link + frame_of A.standard cif.now ≤ STACK_TOP }

@@ -6,6 +6,7 @@ ghost use Rattle.ffi3_place_rules.specs.Sound.{AreRising, PlaceRises};
 ghost use Rattle.ffi3_cif.specs.Runs.{AreRunsOf, EndsWithin, PlaceEndsWithin, PlacesHaveRuns, pieces_of, run_at, goes_on, some_run, glued};
 
 use ffi3_place::{Loc, Piece, Pieces, Place, Places};
+use ffi3_place_rules::Listed;
 use ffi3_types::NoMemory;
 use std::alloc::Global;
 use std::marker::Model;
@@ -70,44 +71,7 @@ impl Runs {
 }
 
 /// The runs of each argument.
-#[derive(Debug, Drop)]
-pub struct AllRuns {
-    items: Vec<Runs>,
-}
-
-impl Model for AllRuns {
-    ghost use Rattle.std.specs.Prelude.{List};
-    ghost use Rattle.ffi3_cif.specs.declared.runs.Run.{Run};
-
-    ghost Value = { List (List Run) };
-
-    ghost view = { λ f. f.items.items };
-}
-
-impl AllRuns {
-    fn new(alloc: Global) -> AllRuns
-        ensures { result ≡ [] }
-    {
-        AllRuns {
-            items: Vec::new(alloc),
-        }
-    }
-
-    fn push(&mut self, item: Runs) -> Result<(), NoMemory>
-        ensures ok { OnOk result (self.new ≡ self.old ++ item ∷ []) }
-        ensures err { OnErr result (self.new ≡ self.old) }
-    {
-        self.items.push(item)?;
-        Ok(())
-    }
-
-    pub fn get(&self, i: usize) -> &Runs
-        requires { i < length self.now }
-        ensures { result.now ≡ slice_index_or self.now i result.now }
-    {
-        &self.items[i]
-    }
-}
+pub type AllRuns = Listed<Runs>;
 
 /// The bytes of a piece that stands on the stack.
 fn run_at(piece: &Piece) -> Option<Run>

@@ -47,7 +47,9 @@ fn again_sig(alloc: Global) -> Result<Sig, NoMemory>
 
 impl Again {
     /// The native. It takes memory for its signature.
-    pub fn new(alloc: Global) -> Result<Again, NoMemory> {
+    pub fn new(alloc: Global) -> Result<Again, NoMemory>
+        ensures { IfOk result (λ a. a ≡ again_signature ∷ []) }
+    {
         let mut sigs = Sigs::new(alloc);
         sigs.push(again_sig(alloc)?)?;
         Ok(Again { sigs })

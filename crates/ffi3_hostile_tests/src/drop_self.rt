@@ -39,7 +39,9 @@ fn drop_sig(alloc: Global) -> Result<Sig, NoMemory>
 
 impl DropSelf {
     /// The native. It takes memory for its signature.
-    pub fn new(alloc: Global) -> Result<DropSelf, NoMemory> {
+    pub fn new(alloc: Global) -> Result<DropSelf, NoMemory>
+        ensures { IfOk result (λ a. a ≡ drop_signature ∷ []) }
+    {
         let mut sigs = Sigs::new(alloc);
         sigs.push(drop_sig(alloc)?)?;
         Ok(DropSelf { sigs })

@@ -15,7 +15,7 @@ IsCause NoMemory before after = after ≡ before
 IsCause Failed before after = Rose before after × (before ≤ after)
 
 -- a first part of the text was taken
-pub record CutOff (text : List ℕ) (before after : SinkState) (end : IoError) : Type 0 where
+pub record Interrupted (text : List ℕ) (before after : SinkState) (end : IoError) : Type 0 where
   pub part : ℕ
   pub within : part ≤ length text
   pub written : Adds before.taken (take part text) after.taken
@@ -24,7 +24,7 @@ pub record CutOff (text : List ℕ) (before after : SinkState) (end : IoError) :
 -- THE TEXT WAS WRITTEN, or a first part of it where writing ended before
 abbrev pub Wrote : {A : Type 0} → List ℕ → SinkState → SinkState → Result A IoError → Type 0
 Wrote text before after (Ok done) = TookText text before after
-Wrote text before after (Err end) = CutOff text before after end
+Wrote text before after (Err end) = Interrupted text before after end
 
 -- a first part of the line was taken, and not all of it, and a fault was counted
 pub record LineFailed (line : List ℕ) (before after : SinkState) : Type 0 where
@@ -33,11 +33,11 @@ pub record LineFailed (line : List ℕ) (before after : SinkState) : Type 0 wher
   pub never_falls : before.faults ≤ after.faults
 
 -- why the line was not written: for want of memory, and then nothing was handed in, or because a write failed
-abbrev pub LineCut : List ℕ → SinkState → SinkState → IoError → Type 0
-LineCut line before after NoMemory = after ≡ before
-LineCut line before after Failed = LineFailed line before after
+abbrev pub LineInterrupted : List ℕ → SinkState → SinkState → IoError → Type 0
+LineInterrupted line before after NoMemory = after ≡ before
+LineInterrupted line before after Failed = LineFailed line before after
 
 -- THE LINE WAS WRITTEN, or why not
 abbrev pub WroteLine : {A : Type 0} → List ℕ → SinkState → SinkState → Result A IoError → Type 0
 WroteLine line before after (Ok done) = TookText line before after
-WroteLine line before after (Err end) = LineCut line before after end
+WroteLine line before after (Err end) = LineInterrupted line before after end

@@ -1,5 +1,5 @@
 -- A signature's parts, one after another.
-use Rattle.std.proofs.Common.{◌≡◌, inl, inr, ℕ, List, Option, Some, None, codes, ap, ◌∙◌}
+use Rattle.std.proofs.Common.{◌≡◌, inr, ℕ, List, Option, Some, None, codes, ap, ◌∙◌}
 use Rattle.std.specs.Prelude.{unwrap_or}
 use Rattle.serde_json.specs.Data.{Data, null}
 use Rattle.serde_json.specs.Find.{get}
@@ -10,7 +10,7 @@ use Rattle.ffi3_script_rules.proofs.FirstSignatureFaults.{signature_found_by_fir
 use Rattle.ffi3_script_rules.specs.SignatureRefusal.{IsNoSignature}
 use Rattle.ffi3_json.specs.Reports.{Reports}
 use Rattle.ffi3_json.specs.declared.fault.ScriptFault.{ScriptFault}
-use Rattle.ffi3_json.proofs.Tellings.{tells_more, tells_part, tells_made}
+use Rattle.ffi3_json.proofs.Tellings.{tells_more, tells_made}
 
 then_fault : {A B : Type 0} (f : A → Read B) (x : Read A) (p : Path) (r : Reason) → x ≡ fault p r → and_then f x ≡ fault p r
 then_fault f x p r e = ap (and_then f) e
@@ -57,9 +57,8 @@ pub shapes-all : (d : Data) (path : Path) (t : Tree) (ts : List Tree) (n : Optio
 shapes-all d path t ts n e0 e1 e2 e3 = shapes-most d path t ts e0 e1 e2 ∙ ap (λ x. read_map (λ fixed. record { result_type = t; arguments = ts; fixed = fixed }) x) e3
 
 -- a fault of the shapes is the signature's
-pub tells_shape : (d : Data) (path : Path) (e : ScriptFault) → Reports (λ p r. read_shapes d path ≡ fault p r) e → Reports (λ p r. read_signature d path ≡ fault p r) e
-tells_shape d path e t =
-    tells_part (read_signature d path) (read_shapes d path) (λ p r is. then_fault _ (read_shapes d path) p r is) e t
+pub shapes_fault : (d : Data) (path : Path) (p : Path) (r : Reason) → read_shapes d path ≡ fault p r → read_signature d path ≡ fault p r
+shapes_fault d path p r is = then_fault _ (read_shapes d path) p r is
 
 -- so is the first fault of a signature whose shapes were read
 pub tells_own : (d : Data) (path : Path) (s : Signature) (f : SignatureFault) → read_shapes d path ≡ read s → IsFirstSignatureFault s f
@@ -73,9 +72,6 @@ read_right d path s shapes right =
     then_read _ (read_shapes d path) s shapes ∙ ap (unless_faulty path s) (signature_none_found s right)
 
 -- ---- the same by the order of faults
-
-pub tells_no_shape : (d : Data) (path : Path) (e : ScriptFault) → Reports (λ p r. read_shapes d path ≡ fault p r) e → Reports (IsNoSignature d path) e
-tells_no_shape d path e t = tells_more {P = λ p r. read_shapes d path ≡ fault p r} {Q = IsNoSignature d path} (λ p r is. inl is) e t
 
 pub tells_first : (d : Data) (path : Path) (s : Signature) (f : SignatureFault) → read_shapes d path ≡ read s → IsFirstSignatureFault s f
     → (e : ScriptFault) → Reports (λ p r. (p ≡ place_of_fault path f) × (r ≡ reason_of_fault f)) e → Reports (IsNoSignature d path) e

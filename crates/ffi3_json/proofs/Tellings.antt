@@ -1,5 +1,5 @@
 -- What a refusal tells, told of another value.
-use Rattle.std.proofs.Common.{◌≡◌, sym, ◌∙◌}
+use Rattle.std.proofs.Common.{◌≡◌, sym, ◌∙◌, subst, Result, Ok, Err, IfErr, IsErrAnd}
 use Rattle.ffi3_script_rules.specs.Language.{Path, Reason, Read, fault}
 use Rattle.ffi3_json.specs.ReasonOf.{reason_of}
 use Rattle.ffi3_json.specs.Reports.{Reports}
@@ -28,3 +28,12 @@ tells_part x y f TooLong t = t
 tells_part x y f BadJson t = t
 tells_part x y f (BadScript path reason) t = f path (reason_of reason) t
 tells_part x y f NoMemory t = tt
+
+-- what `?` hands on is told of another value
+pub handed_on : {A : Type 0} (P Q : Path → Reason → Type 0) → ((p : Path) (r : Reason) → P p r → Q p r) → (x : Result A ScriptFault) (e : ScriptFault) → IsErrAnd x (λ f. f ≡ e) → Reports P e → IfErr x (Reports Q)
+handed_on P Q more (Ok a) e is t = tt
+handed_on P Q more (Err f) e is t = tells_more {P = P} {Q = Q} more f (subst (Reports P) (sym is) t)
+
+-- the fault is that of a part, handed on by `?`
+pub part_handed_on : {A B C : Type 0} (x : Read A) (y : Read B) → ((p : Path) (r : Reason) → y ≡ fault p r → x ≡ fault p r) → (z : Result C ScriptFault) (e : ScriptFault) → IsErrAnd z (λ f. f ≡ e) → Reports (λ p r. y ≡ fault p r) e → IfErr z (Reports (λ p r. x ≡ fault p r))
+part_handed_on x y more z e is t = handed_on (λ p r. y ≡ fault p r) (λ p r. x ≡ fault p r) more z e is t

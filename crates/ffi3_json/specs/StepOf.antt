@@ -3,7 +3,13 @@ use Rattle.std.specs.Prelude.{string_bytes}
 use Rattle.ffi3_script_rules.specs.Step.{PathStep, key, number}
 use Rattle.ffi3_json.specs.declared.place.Step.{Step}
 use Rattle.ffi3_json.specs.declared.place.Step.TheVariants.{Key, Number}
+use Rattle.ffi3_json.specs.declared.way.BorrowedStep.{BorrowedStep}
+use Rattle.ffi3_json.specs.declared.way.BorrowedStep.TheVariants as borrowed
 
 abbrev pub step_of : Step → PathStep
 step_of (Key k) = key (string_bytes k)
 step_of (Number n) = number n
+
+abbrev pub borrowed_step_of : BorrowedStep → PathStep
+borrowed_step_of (borrowed.Key k) = key k.now
+borrowed_step_of (borrowed.Number n) = number n

@@ -1,8 +1,8 @@
 // From bytes to a JSON value.
-ghost use Rattle.std.specs.Prelude.{IfOk, IfErr};
+ghost use Rattle.std.specs.Prelude.{◌+◌, IfOk, IfErr};
 ghost use Rattle.serde_json.specs.View.{view};
 ghost use Rattle.ffi3_script_rules.specs.Language.{HasShortArrays};
-ghost use Rattle.ffi3_script_rules.specs.Reading.{IsJson};
+ghost use Rattle.ffi3_script_rules.specs.Reading.{IsJson, max_length};
 ghost use Rattle.ffi3_json.specs.Reports.{IsCauseOf};
 ghost use Rattle.ffi3_json.specs.Within.{HasArraysWithin};
 
@@ -14,7 +14,7 @@ use std::alloc::Global;
 pub fn parse(alloc: Global, bytes: &[u8]) -> Result<Json, ScriptFault>
     ensures ok { IfOk result (λ v. IsJson bytes.now (view v)) }
     ensures short { IfOk result (λ v. HasShortArrays (view v)) }
-    ensures few { IfOk result (λ v. HasArraysWithin 1048577 (view v)) }
+    ensures few { IfOk result (λ v. HasArraysWithin (max_length + 1) (view v)) }
     ensures err { IfErr result (IsCauseOf bytes.now) }
 {
     if bytes.len() > MAX_LENGTH {

@@ -11,6 +11,7 @@ mod signature;
 #[cfg(test)]
 mod tests;
 mod types;
+mod way;
 
 pub use fault::{ScriptFault, bad};
 pub use ffi3_types::Bytes;
@@ -18,14 +19,15 @@ pub use ffi3_types::Bytes;
 pub use document::parse;
 pub use ffi3_types::NoMemory;
 pub use keys::{Key, Keys};
-pub use object::check_object;
+pub use object::{check_object, check_object_at};
 pub use place::{Step, Where};
 pub use reason::{Reason, reason_text};
 /// A JSON value.
 use ffi3_type_rules::limits::LONGEST_SCRIPT;
 pub use serde_json::Value as Json;
-pub use signature::{push_way, read_signature, reason_of_type};
-pub use types::{read_node, read_type};
+pub use signature::{bad_type, read_signature, read_signature_at};
+pub use types::{read_type, read_type_at};
+pub use way::Way;
 
 /// The greatest length of a script in bytes.
 pub const MAX_LENGTH: usize = LONGEST_SCRIPT as usize;

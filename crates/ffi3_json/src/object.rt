@@ -6,13 +6,26 @@ ghost use Rattle.ffi3_script_rules.specs.Language.{read, has_only};
 ghost use Rattle.ffi3_json.specs.Reports.{Reports};
 
 use crate::fault::bad;
-use crate::{Json, Keys, Reason, ScriptFault, Where};
+use crate::{Json, Keys, Reason, ScriptFault, Way, Where};
 use serde_json::Map;
 use std::alloc::Global;
 
 /// Whether the value is an object, has no key but these, and each that is not optional. The first of this that is not
 /// so is the fault; of keys that are missing the first in the order of `keys`.
 pub fn check_object(alloc: Global, value: &Json, keys: &Keys, at: &Where) -> Result<(), ScriptFault>
+    ensures ok { OnOk result (language.check_object (view value.now) keys.now at.now ≡ read tt) }
+    ensures err { IfErr result (Reports (λ p r. language.check_object (view value.now) keys.now at.now ≡ language.fault p r)) }
+{
+    check_object_at(alloc, value, keys, &Way::from(at))
+}
+
+/// The same, at a place on the way to a value.
+pub fn check_object_at(
+    alloc: Global,
+    value: &Json,
+    keys: &Keys,
+    at: &Way,
+) -> Result<(), ScriptFault>
     ensures ok { OnOk result (language.check_object (view value.now) keys.now at.now ≡ read tt) }
     ensures err { IfErr result (Reports (λ p r. language.check_object (view value.now) keys.now at.now ≡ language.fault p r)) }
 {

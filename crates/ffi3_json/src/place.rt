@@ -1,5 +1,5 @@
 // A place in a script.
-ghost use Rattle.std.specs.Prelude.{◌≡◌, ◌<◌, ◌++◌, ◌∷◌, [], OnOk, OnErr, IfOk, length, slice_get, Some, take, ◌-◌};
+ghost use Rattle.std.specs.Prelude.{◌≡◌, ◌<◌, ◌++◌, ◌∷◌, [], OnOk, OnErr, IfOk, length, slice_get, Some};
 ghost use Rattle.ffi3_script_rules.specs.Language.{under, at_item};
 ghost use Rattle.ffi3_json.specs.StepOf.{step_of};
 
@@ -90,14 +90,6 @@ impl Where {
         ensures { OnOk result (self.new ≡ at_item self.old i) }
     {
         self.push(Step::Number(i))
-    }
-
-    /// Back by the last step.
-    pub fn pop(&mut self)
-        requires { 0 < length self.old }
-        ensures { self.new ≡ take (length self.old - 1) self.old }
-    {
-        self.steps.truncate(self.steps.len() - 1);
     }
 
     /// An equal place.

@@ -1,21 +1,21 @@
 // Signatures.
-ghost use Rattle.std.specs.Prelude.{◌≡◌, IfOk, IfErr, OnOk, codes};
+ghost use Rattle.std.specs.Prelude.{◌≡◌, IfOk, IfErr, codes};
 ghost use Rattle.serde_json.specs.Find.{get};
 ghost use Rattle.serde_json.specs.View.{view};
 ghost use Rattle.ffi3_script_rules.specs.Language as language;
-ghost use Rattle.ffi3_script_rules.specs.Language.{read, read_shapes, read_fixed, HasShortArrays, signature_keys, inside_type, place_of_type, place_of_fault, reason_of_type_fault, reason_of_fault, left_out_reason, read_type, read_types, value_under, under};
+ghost use Rattle.ffi3_script_rules.specs.Language.{read, read_shapes, read_fixed, HasShortArrays, signature_keys, inside_type, place_of_fault, reason_of_type_fault, reason_of_fault, left_out_reason, read_type, read_types, value_under, under};
 ghost use Rattle.ffi3_script_rules.specs.SignatureRefusal.{IsNoSignature};
 ghost use Rattle.ffi3_type_rules.specs.Signature.{SignatureHasNoFault};
 ghost use Rattle.ffi3_types.specs.TreeOf.{tree_of};
-ghost use Rattle.ffi3_types.specs.FaultOf.{fault_of};
-ghost use Rattle.ffi3_types.specs.SignatureFaultOf.{signature_fault_of, position_of};
+ghost use Rattle.ffi3_types.specs.FaultOf.{fault_of, path_of};
+ghost use Rattle.ffi3_types.specs.SignatureFaultOf.{signature_fault_of};
 ghost use Rattle.ffi3_json.specs.ReasonOf.{reason_of};
 ghost use Rattle.ffi3_json.specs.Reports.{Reports};
 
 use crate::fault::bad;
-use crate::object::check_object;
-use crate::types::{read_list, read_node};
-use crate::{Json, Key, Keys, NoMemory, Reason, ScriptFault, Where};
+use crate::object::check_object_at;
+use crate::types::{read_list, read_type_at};
+use crate::{Json, Key, Keys, NoMemory, Reason, ScriptFault, Way, Where};
 use ffi3_types::{At, FfiType, Fields, Path, Sig, SigFault, TypeFault, check_sig};
 use std::alloc::Global;
 
@@ -32,10 +32,19 @@ pub fn read_signature(alloc: Global, value: &Json, at: &Where) -> Result<Sig, Sc
     ensures right { IfOk result SignatureHasNoFault }
     ensures first { IfErr result (Reports (IsNoSignature (view value.now) at.now)) }
 {
-    let sig = match read_shapes(alloc, value, at) {
-        Ok(sig) => sig,
-        Err(fault) => return Err(fault),
-    };
+    read_signature_at(alloc, value, &Way::from(at))
+}
+
+/// The same, at a place on the way to a value.
+pub fn read_signature_at(alloc: Global, value: &Json, at: &Way) -> Result<Sig, ScriptFault>
+    requires { HasShortArrays (view value.now) }
+    ensures ok { IfOk result (λ s. language.read_signature (view value.now) at.now ≡ read s) }
+    ensures err { IfErr result (Reports (λ p r. language.read_signature (view value.now) at.now ≡ language.fault p r)) }
+    ensures shapes { IfOk result (λ s. read_shapes (view value.now) at.now ≡ read s) }
+    ensures right { IfOk result SignatureHasNoFault }
+    ensures first { IfErr result (Reports (IsNoSignature (view value.now) at.now)) }
+{
+    let sig = read_shapes(alloc, value, at)?;
     match check_sig(&sig) {
         Ok(()) => Ok(sig),
         Err(fault) => Err(told(alloc, at, &fault)),
@@ -43,27 +52,16 @@ pub fn read_signature(alloc: Global, value: &Json, at: &Where) -> Result<Sig, Sc
 }
 
 // The shapes of a signature.
-fn read_shapes(alloc: Global, value: &Json, at: &Where) -> Result<Sig, ScriptFault>
+fn read_shapes(alloc: Global, value: &Json, at: &Way) -> Result<Sig, ScriptFault>
     requires { HasShortArrays (view value.now) }
     ensures ok { IfOk result (λ s. read_shapes (view value.now) at.now ≡ read s) }
     ensures err { IfErr result (Reports (λ p r. read_shapes (view value.now) at.now ≡ language.fault p r)) }
 {
     let keys = signature_keys(alloc)?;
-    if let Err(fault) = check_object(alloc, value, &keys, at) {
-        return Err(fault);
-    }
-    let ret = match read_ret(alloc, value, at) {
-        Ok(ret) => ret,
-        Err(fault) => return Err(fault),
-    };
-    let args = match read_args(alloc, value, at) {
-        Ok(args) => args,
-        Err(fault) => return Err(fault),
-    };
-    let fixed = match read_fixed(alloc, value, at) {
-        Ok(fixed) => fixed,
-        Err(fault) => return Err(fault),
-    };
+    check_object_at(alloc, value, &keys, at)?;
+    let ret = read_ret(alloc, value, at)?;
+    let args = read_args(alloc, value, at)?;
+    let fixed = read_fixed(alloc, value, at)?;
     Ok(Sig::new(ret, args, fixed))
 }
 
@@ -88,46 +86,37 @@ fn signature_keys(alloc: Global) -> Result<Keys, NoMemory>
 }
 
 // The shape of the result. One that is not there is read as null.
-fn read_ret(alloc: Global, value: &Json, at: &Where) -> Result<FfiType, ScriptFault>
+fn read_ret(alloc: Global, value: &Json, at: &Way) -> Result<FfiType, ScriptFault>
     requires { HasShortArrays (view value.now) }
     ensures ok { IfOk result (λ t. read_type (value_under (codes "ret") (view value.now)) (under at.now (codes "ret")) ≡ read (tree_of t)) }
     ensures err { IfErr result (Reports (λ p r. read_type (value_under (codes "ret") (view value.now)) (under at.now (codes "ret")) ≡ language.fault p r)) }
 {
-    let mut place = at.copy(alloc)?;
-    place.push_key(alloc, "ret")?;
+    let place = at.key("ret");
     let Some(ret) = value.get("ret") else {
         return Err(bad(alloc, &place, Reason::NotAType));
     };
-    match read_node(alloc, ret, &mut place) {
-        Ok(ty) => Ok(ty),
-        Err(fault) => Err(fault),
-    }
+    read_type_at(alloc, ret, &place)
 }
 
 // The shapes of the arguments. An array that is not there is read as null.
-fn read_args(alloc: Global, value: &Json, at: &Where) -> Result<Fields, ScriptFault>
+fn read_args(alloc: Global, value: &Json, at: &Way) -> Result<Fields, ScriptFault>
     requires { HasShortArrays (view value.now) }
     ensures ok { IfOk result (λ ts. read_types (value_under (codes "args") (view value.now)) (under at.now (codes "args")) ≡ read ts) }
     ensures err { IfErr result (Reports (λ p r. read_types (value_under (codes "args") (view value.now)) (under at.now (codes "args")) ≡ language.fault p r)) }
 {
-    let mut place = at.copy(alloc)?;
-    place.push_key(alloc, "args")?;
+    let place = at.key("args");
     let Some(args) = value.get("args") else {
         return Err(bad(alloc, &place, Reason::NotAnArray));
     };
-    match read_list(alloc, args, &mut place) {
-        Ok(types) => Ok(types),
-        Err(fault) => Err(fault),
-    }
+    read_list(alloc, args, &place)
 }
 
 // The number of fixed arguments, where there is one.
-fn read_fixed(alloc: Global, value: &Json, at: &Where) -> Result<Option<u32>, ScriptFault>
+fn read_fixed(alloc: Global, value: &Json, at: &Way) -> Result<Option<u32>, ScriptFault>
     ensures ok { IfOk result (λ n. read_fixed (get (codes "fixed") (view value.now)) (under at.now (codes "fixed")) ≡ read n) }
     ensures err { IfErr result (Reports (λ p r. read_fixed (get (codes "fixed") (view value.now)) (under at.now (codes "fixed")) ≡ language.fault p r)) }
 {
-    let mut place = at.copy(alloc)?;
-    place.push_key(alloc, "fixed")?;
+    let place = at.key("fixed");
     let Some(count) = value.get("fixed") else {
         return Ok(None);
     };
@@ -142,79 +131,59 @@ fn read_fixed(alloc: Global, value: &Json, at: &Where) -> Result<Option<u32>, Sc
 }
 
 // The fault of the signature at a place, as that of a script.
-fn told(alloc: Global, at: &Where, fault: &SigFault) -> ScriptFault
+fn told(alloc: Global, at: &Way, fault: &SigFault) -> ScriptFault
     ensures { Reports (λ p r. (p ≡ place_of_fault at.now (signature_fault_of fault.now)) × (r ≡ reason_of_fault (signature_fault_of fault.now))) result }
 {
-    match place_of(alloc, at, fault) {
+    let args = at.key("args");
+    match fault {
+        SigFault::TooMany { n } => bad(alloc, &args, Reason::TooManyArguments { n: *n }),
+        SigFault::BadType {
+            at: At::Ret,
+            fault: inner,
+        } => bad_type(alloc, &at.key("ret"), inner),
+        SigFault::BadType {
+            at: At::Arg(i),
+            fault: inner,
+        } => bad_type(alloc, &args.item(*i), inner),
+        SigFault::BadFixed { fixed, n } => bad(
+            alloc,
+            &at.key("fixed"),
+            Reason::BadFixed {
+                fixed: *fixed,
+                n: *n,
+            },
+        ),
+        SigFault::BadArgType { i } => bad(alloc, &args.item(*i), Reason::BadVariadicArgument),
+    }
+}
+
+/// The fault of the type at a place, as that of a script.
+pub fn bad_type(alloc: Global, at: &Way, fault: &TypeFault) -> ScriptFault
+    ensures { Reports (λ p r. (p ≡ inside_type at.now (path_of fault.now)) × (r ≡ reason_of_type_fault (fault_of fault.now))) result }
+{
+    match place_inside(alloc, at, fault.path()) {
         Ok(path) => ScriptFault::BadScript {
             path,
-            why: reason_of(fault),
+            why: reason_of_type(fault),
         },
         Err(_) => ScriptFault::NoMemory,
     }
 }
 
-// Where the fault of the signature at a place stands.
-fn place_of(alloc: Global, at: &Where, fault: &SigFault) -> Result<Where, NoMemory>
-    ensures { IfOk result (λ w. w ≡ place_of_fault at.now (signature_fault_of fault.now)) }
+// Where the node in a type stands that the way leads to.
+fn place_inside(alloc: Global, at: &Way, way: &Path) -> Result<Where, NoMemory>
+    ensures { IfOk result (λ w. w ≡ inside_type at.now way.now) }
 {
-    let mut place = at.copy(alloc)?;
-    match fault {
-        SigFault::TooMany { .. } => place.push_key(alloc, "args")?,
-        SigFault::BadType {
-            at: position,
-            fault: inner,
-        } => {
-            push_position(alloc, &mut place, position)?;
-            push_way(alloc, &mut place, inner.path())?;
-        }
-        SigFault::BadFixed { .. } => place.push_key(alloc, "fixed")?,
-        SigFault::BadArgType { i } => push_position(alloc, &mut place, &At::Arg(*i))?,
-    }
-    Ok(place)
-}
-
-// On from a signature to one of its types.
-fn push_position(alloc: Global, place: &mut Where, position: &At) -> Result<(), NoMemory>
-    ensures { OnOk result (place.new ≡ place_of_type place.old (position_of position.now)) }
-{
-    match position {
-        At::Ret => place.push_key(alloc, "ret"),
-        At::Arg(i) => {
-            place.push_key(alloc, "args")?;
-            place.push_number(*i)
-        }
-    }
-}
-
-/// On from a type to the node in it that the way leads to.
-pub fn push_way(alloc: Global, place: &mut Where, way: &Path) -> Result<(), NoMemory>
-    ensures { OnOk result (place.new ≡ inside_type place.old way.now) }
-{
+    let mut place = at.owned(alloc)?;
     for i in 0..way.len() {
         place.push_key(alloc, "struct")?;
         place.push_number(*way.get(i))?;
     }
-    Ok(())
+    Ok(place)
 }
 
-// Why a signature with this fault is no part of a script.
-fn reason_of(fault: &SigFault) -> Reason
-    ensures { reason_of result ≡ reason_of_fault (signature_fault_of fault.now) }
-{
-    match fault {
-        SigFault::TooMany { n } => Reason::TooManyArguments { n: *n },
-        SigFault::BadType { fault: inner, .. } => reason_of_type(inner),
-        SigFault::BadFixed { fixed, n } => Reason::BadFixed {
-            fixed: *fixed,
-            n: *n,
-        },
-        SigFault::BadArgType { .. } => Reason::BadVariadicArgument,
-    }
-}
-
-/// Why a type with this fault is no part of a script.
-pub fn reason_of_type(fault: &TypeFault) -> Reason
+// Why a type with this fault is no part of a script.
+fn reason_of_type(fault: &TypeFault) -> Reason
     ensures { reason_of result ≡ reason_of_type_fault (fault_of fault.now) }
 {
     match fault {

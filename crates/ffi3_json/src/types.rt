@@ -1,5 +1,5 @@
 // Types.
-ghost use Rattle.std.specs.Prelude.{◌≡◌, IfOk, IfErr, OnOk};
+ghost use Rattle.std.specs.Prelude.{◌≡◌, IfOk, IfErr};
 ghost use Rattle.serde_json.specs.View.{view};
 ghost use Rattle.ffi3_script_rules.specs.Language as language;
 ghost use Rattle.ffi3_script_rules.specs.Language.{read, HasShortArrays};
@@ -7,7 +7,7 @@ ghost use Rattle.ffi3_types.specs.TreeOf.{tree_of};
 ghost use Rattle.ffi3_json.specs.Reports.{Reports};
 
 use crate::fault::bad;
-use crate::{Json, NoMemory, Reason, ScriptFault, Where};
+use crate::{Json, Reason, ScriptFault, Way, Where};
 use ffi3_types::{FfiType, Fields};
 use std::alloc::Global;
 
@@ -18,17 +18,15 @@ pub fn read_type(alloc: Global, value: &Json, at: &Where) -> Result<FfiType, Scr
     ensures ok { IfOk result (λ t. language.read_type (view value.now) at.now ≡ read (tree_of t)) }
     ensures err { IfErr result (Reports (λ p r. language.read_type (view value.now) at.now ≡ language.fault p r)) }
 {
-    let mut place = at.copy(alloc)?;
-    read_node(alloc, value, &mut place)
+    read_type_at(alloc, value, &Way::from(at))
 }
 
-/// The same, at a place that it leaves as it was where it reads a type.
+/// The same, at a place on the way to a value.
 #[cycle(types)]
-pub fn read_node(alloc: Global, value: &Json, at: &mut Where) -> Result<FfiType, ScriptFault>
+pub fn read_type_at(alloc: Global, value: &Json, at: &Way) -> Result<FfiType, ScriptFault>
     requires { HasShortArrays (view value.now) }
-    ensures place { OnOk result (at.new ≡ at.old) }
-    ensures ok { IfOk result (λ t. language.read_type (view value.now) at.old ≡ read (tree_of t)) }
-    ensures err { IfErr result (Reports (λ p r. language.read_type (view value.now) at.old ≡ language.fault p r)) }
+    ensures ok { IfOk result (λ t. language.read_type (view value.now) at.now ≡ read (tree_of t)) }
+    ensures err { IfErr result (Reports (λ p r. language.read_type (view value.now) at.now ≡ language.fault p r)) }
 {
     if let Some(name) = value.as_str() {
         return match FfiType::from_name(name) {
@@ -45,34 +43,23 @@ pub fn read_node(alloc: Global, value: &Json, at: &mut Where) -> Result<FfiType,
     if members.len() != 1 {
         return Err(bad(alloc, at, Reason::NotAType));
     }
-    at.push_key(alloc, "struct")?;
-    let types = match read_list(alloc, inside, at) {
-        Ok(types) => types,
-        Err(fault) => return Err(fault),
-    };
-    at.pop();
+    let types = read_list(alloc, inside, &at.key("struct"))?;
     Ok(FfiType::Struct(types))
 }
 
 // The types that an array of them has.
 #[cycle(types)]
-pub(crate) fn read_list(alloc: Global, value: &Json, at: &mut Where) -> Result<Fields, ScriptFault>
+pub(crate) fn read_list(alloc: Global, value: &Json, at: &Way) -> Result<Fields, ScriptFault>
     requires { HasShortArrays (view value.now) }
-    ensures place { OnOk result (at.new ≡ at.old) }
-    ensures ok { IfOk result (λ ts. language.read_types (view value.now) at.old ≡ read ts) }
-    ensures err { IfErr result (Reports (λ p r. language.read_types (view value.now) at.old ≡ language.fault p r)) }
+    ensures ok { IfOk result (λ ts. language.read_types (view value.now) at.now ≡ read ts) }
+    ensures err { IfErr result (Reports (λ p r. language.read_types (view value.now) at.now ≡ language.fault p r)) }
 {
     let Some(items) = value.as_array() else {
         return Err(bad(alloc, at, Reason::NotAnArray));
     };
     let mut types = Fields::new(alloc);
     for i in 0..items.len() {
-        at.push_number(i as u32)?;
-        let ty = match read_node(alloc, &items[i], at) {
-            Ok(ty) => ty,
-            Err(fault) => return Err(fault),
-        };
-        at.pop();
+        let ty = read_type_at(alloc, &items[i], &at.item(i as u32))?;
         types.push(ty)?;
     }
     Ok(types)

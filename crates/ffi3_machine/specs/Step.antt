@@ -116,7 +116,7 @@ IsAligned Aarch64 pc = pc % 4 ≡ 0
 IsAligned Riscv pc = pc % 4 ≡ 0
 
 -- the instruction stands wholly in the code region at pc
-pub record Stands (isa : Isa) (s : State) (instr : Instr) (size : ℕ) : Type 0 where
+pub record IsInstructionAt (isa : Isa) (s : State) (instr : Instr) (size : ℕ) : Type 0 where
   pub low : CODE ≤ s.pc
   pub aligned : IsAligned isa s.pc
   pub listed : IsListed isa (drop (s.pc - CODE) s.code) instr size
@@ -126,7 +126,7 @@ pub record StepsBy (isa : Isa) (before after : State) : Type 0 where
   pub instr : Instr
   pub size : ℕ
   pub change : Change
-  pub stands : Stands isa before instr size
+  pub stands : IsInstructionAt isa before instr size
   pub does : change_of isa instr size before ≡ Some change
   pub is_after : after ≡ changed isa change before
 

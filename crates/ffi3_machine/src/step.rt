@@ -5,7 +5,7 @@ ghost use Rattle.ffi3_isa.specs.Registers.{HasRegistersBelow};
 ghost use Rattle.ffi3_type_rules.specs.Isa.{isa_of};
 ghost use Rattle.ffi3_machine.specs.State.{IsMachine, State};
 ghost use Rattle.ffi3_machine.specs.Step.{
-  Stands,
+  IsInstructionAt,
   Steps,
   change_of,
   changed,
@@ -60,8 +60,8 @@ impl Machine {
 
     // The instruction that stands wholly in the code region at pc, and how many bytes it has.
     fn decoded(&self) -> Option<(Instr, u8)>
-        ensures stands { IfSome result (λ p. Stands (isa_of self.now.target) self.now p.0 p.1) }
-        ensures only { (i : Instr) (n : ℕ) → Stands (isa_of self.now.target) self.now i n → result ≡ Some (i, n) }
+        ensures stands { IfSome result (λ p. IsInstructionAt (isa_of self.now.target) self.now p.0 p.1) }
+        ensures only { (i : Instr) (n : ℕ) → IsInstructionAt (isa_of self.now.target) self.now i n → result ≡ Some (i, n) }
         ensures registers { IfSome result (λ p. HasRegistersBelow 32 p.0) }
     {
         let pc = self.pc();

@@ -1,8 +1,9 @@
 // The bodies of the functions, and main.
 ghost use Rattle.std.specs.Prelude.{◌≡◌, ◌<◌, ◌≤◌, ◌+◌, ◌++◌, ◌∷◌, [], IfOk, OnOk, length};
+ghost use Rattle.ffi3_type_rules.specs.declared.limits.TheConstants.{MOST_CALLS};
 ghost use Rattle.ffi3_script_rules.specs.Script as script;
 ghost use Rattle.ffi3_script_rules.specs.Made.{does, makes, total_of};
-ghost use Rattle.ffi3_script_body.specs.ExprOf.{expression_of, expressions_in, act_of, script_move_of, script_moves_of};
+ghost use Rattle.ffi3_script_body.specs.ExprOf.{expression_of, act_of, script_move_of, script_moves_of};
 
 use crate::filling::{arguments, number};
 use crate::summing::{boxed, sum, with_arguments};
@@ -46,7 +47,7 @@ fn makes(alloc: Global, s: u32) -> Result<ScriptMove, NoMemory>
 
 // The total of call `j` of main.
 fn total_of(alloc: Global, j: u32) -> Result<Expr, NoMemory>
-    requires { j ≤ 1000 }
+    requires { j ≤ MOST_CALLS }
     ensures { IfOk result (λ e. expression_of e ≡ total_of j) }
 {
     if j == 0 {
@@ -57,7 +58,7 @@ fn total_of(alloc: Global, j: u32) -> Result<Expr, NoMemory>
 
 impl Shapes {
     ghost use Rattle.std.specs.Prelude.{◌≡◌, ◌<◌, ◌≤◌, ◌+◌, IfOk, OnOk, length};
-    ghost use Rattle.ffi3_script_rules.specs.Made.{types_at, made_call, made_body, made_main, made_calls, own_total};
+    ghost use Rattle.ffi3_script_rules.specs.Made.{types_at, made_call, made_body, made_main, own_total};
     ghost use Rattle.ffi3_script_body.specs.ExprOf.{expression_of, script_move_of, script_moves_of};
     ghost use Rattle.ffi3_made.specs.KindOf.{state_of};
     ghost use Rattle.ffi3_made.specs.ShapesOf.{types_in};
@@ -108,10 +109,10 @@ impl Shapes {
         draws: &mut Draws,
         calls: u32,
     ) -> Result<Vec<ScriptMove>, NoMemory>
-        requires { calls ≤ 1000 }
+        requires { calls ≤ MOST_CALLS }
         ensures are { IfOk result
             (λ ms. script_moves_of ms.items ≡ made_main (types_in self.now) calls (state_of draws.old)) }
-        ensures few { IfOk result (λ ms. length ms.items ≤ 1006) }
+        ensures few { IfOk result (λ ms. length ms.items ≤ MOST_CALLS + 6) }
     {
         let mut moves = Vec::new(alloc);
         push(&mut moves, makes(alloc, 0)?)?;

@@ -1,6 +1,5 @@
 // The argument types of the four functions.
 ghost use Rattle.std.specs.Prelude.{◌≡◌, ◌<◌, ◌≤◌, ◌++◌, ◌∷◌, [], IfOk, OnOk, length, map};
-ghost use Rattle.ffi3_type_rules.specs.Tree.{scalar, u64};
 ghost use Rattle.ffi3_script_rules.specs.Made.{drawn_arguments, after_arguments, made_signature};
 ghost use Rattle.ffi3_made.specs.KindOf.{types_of, state_of};
 

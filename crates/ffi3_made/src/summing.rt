@@ -1,5 +1,5 @@
 // Sums of the integers that a function is handed.
-ghost use Rattle.std.specs.Prelude.{◌≡◌, ◌≤◌, ◌^◌, IfOk, length};
+ghost use Rattle.std.specs.Prelude.{◌≡◌, ◌≤◌, IfOk, length};
 ghost use Rattle.ffi3_types.specs.TreeOf.{tree_of};
 ghost use Rattle.ffi3_type_rules.specs.Tree.{u64};
 ghost use Rattle.ffi3_type_rules.specs.Integer.{scalar_of};

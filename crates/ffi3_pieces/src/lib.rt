@@ -28,6 +28,7 @@ use ffi3_cif::{Cif, Runs};
 use ffi3_machine::Machine;
 use ffi3_place::parts::{argument, count_of, size_of};
 use ffi3_place::{Abi, Ext, Loc, Piece, Pieces, Place, Res};
+use ffi3_type_rules::limits::LARGEST_STRUCT;
 use ffi3_types::FfiType;
 use ffi3_values::{Value, Values, number, widen, write_bytes};
 use load::word_of;
@@ -264,7 +265,7 @@ pub fn store_pieces(machine: &mut Machine, base: u64, pieces: &Pieces, ty: &FfiT
     ensures stays { Stays base (piece_locs pieces.now) machine.old machine.new }
     ensures within { (room : ℕ) → AllByRecursion (IsPlace room) (piece_locs pieces.now) → WroteWithin base (base + room) machine.old machine.new }
 {
-    let mut room = [0; 1024];
+    let mut room = [0; LARGEST_STRUCT as usize];
     let bytes = &mut room[..size_of(ty) as usize];
     store_each(machine, base, pieces, ty, value, bytes);
 }
@@ -292,7 +293,7 @@ fn store_direct(
     ensures stays { Stays base (piece_locs pieces.now) machine.old machine.new }
     ensures within { (room : ℕ) → AllByRecursion (IsPlace room) (piece_locs pieces.now) → WroteWithin base (base + room) machine.old machine.new }
 {
-    let mut room = [0; 1024];
+    let mut room = [0; LARGEST_STRUCT as usize];
     let bytes = &mut room[..size_of(ty) as usize];
     store_runs(machine, base, runs, ty, value, bytes);
     store_each(machine, base, pieces, ty, value, bytes);
@@ -313,7 +314,7 @@ fn store_copy(machine: &mut Machine, base: u64, at: Loc, copy: u32, ty: &FfiType
     let _m = machine.sp();
     let start = base + copy as u64;
     let size = size_of(ty);
-    let mut room = [0; 1024];
+    let mut room = [0; LARGEST_STRUCT as usize];
     let bytes = &mut room[..size as usize];
     bytes.copy_from_slice(machine.lend_stack(start, size));
     write_bytes(ty, value, bytes);

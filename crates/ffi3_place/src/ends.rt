@@ -1,5 +1,6 @@
 // Where copies and buffers end in the frame of a call, and the plan that ends with them: alike by every standard.
-ghost use Rattle.std.specs.Prelude.{◌≡◌, ◌≤◌, ◌+◌, ℕ, true};
+ghost use Rattle.std.specs.Prelude.{◌<◌, ◌^◌, ◌≡◌, ◌≤◌, ◌+◌, ℕ, true};
+ghost use Rattle.ffi3_type_rules.specs.declared.limits.TheConstants.{LARGEST_STRUCT, STACK_BYTES};
 ghost use Rattle.ffi3_type_rules.specs.Tree.{Tree};
 ghost use Rattle.ffi3_type_rules.specs.Fault.{IsResultType};
 ghost use Rattle.ffi3_type_rules.specs.Signature.{SignatureHasNoFault};
@@ -16,7 +17,7 @@ use ffi3_types::{FfiType, Sig};
 pub fn copy_end(place: &Place, ty: &FfiType, end: u64) -> u64
     requires { IsResultType (tree_of ty.now) }
     ensures value { (start : ℕ → Tree → ℕ) (spot : Spot) → place.now ≡ place_at start end (tree_of ty.now) spot → result ≡ copy_end start end (tree_of ty.now) spot }
-    ensures low { (spot : Spot) → place.now ≡ place_at at_once end (tree_of ty.now) spot → result ≤ end + 1031 }
+    ensures low { (spot : Spot) → place.now ≡ place_at at_once end (tree_of ty.now) spot → result ≤ end + (LARGEST_STRUCT + 7) }
 {
     match place {
         Place::Direct(_) => end,
@@ -27,9 +28,9 @@ pub fn copy_end(place: &Place, ty: &FfiType, end: u64) -> u64
 /// Where the buffer of a hidden result ends. Without one, that is `end`, where what stands before it ends.
 pub fn buffer_end(res: &Res, ty: &FfiType, end: u64) -> u64
     requires right { IsResultType (tree_of ty.now) }
-    requires low { end ≤ 4294967295 }
+    requires low { end < 2 ^ 32 }
     ensures value { (start : ℕ → Tree → ℕ) (spot : ResultSpot) → res.now ≡ result_at start end (tree_of ty.now) spot → result ≡ buffer_end start end (tree_of ty.now) spot }
-    ensures low { result ≤ 4294968326 }
+    ensures low { result < 2 ^ 32 + (LARGEST_STRUCT + 7) }
 {
     match res {
         Res::Nothing => end,
@@ -41,8 +42,8 @@ pub fn buffer_end(res: &Res, ty: &FfiType, end: u64) -> u64
 /// The plan of a call from its places: the last copy or buffer ends at `end`, and the return address and the callee's save area take `area` bytes.
 pub fn planned(sig: &Sig, places: Places, res: Res, end: u64, area: u64, vectors: u8) -> Plan
     requires right { SignatureHasNoFault sig.now }
-    requires low { end ≤ 4294968326 }
-    requires small { area ≤ 65536 }
+    requires low { end < 2 ^ 32 + (LARGEST_STRUCT + 7) }
+    requires small { area ≤ STACK_BYTES }
     ensures { result ≡ planned sig.now places res end area vectors }
 {
     let frame = round_up(end, 16);

@@ -1,6 +1,7 @@
 // The parts of a signature without fault, and the pieces of its values, as every standard needs them.
 ghost use Rattle.std.specs.Prelude.{◌≡◌, ◌<◌, ◌≤◌, ◌*◌, length, IfOk, true};
 ghost use Rattle.std.specs.List.{sum_by};
+ghost use Rattle.ffi3_type_rules.specs.declared.limits.TheConstants.{ARGUMENT_BYTES, LARGEST_STRUCT};
 ghost use Rattle.ffi3_type_rules.specs.Tree.{Scalar, scalar, tree_at};
 ghost use Rattle.ffi3_type_rules.specs.Layout.{size_of, leaves_of, leaf_at};
 ghost use Rattle.ffi3_type_rules.specs.Integer.{is_floating};
@@ -49,7 +50,7 @@ pub fn result_type(sig: &Sig) -> &FfiType
 pub fn sizes_of(sig: &Sig) -> u64
     requires { SignatureHasNoFault sig.now }
     ensures value { result ≡ sum_by (λ t. round8 (size_of t)) sig.now.arguments }
-    ensures bound { result ≤ 66048 }
+    ensures bound { result ≤ ARGUMENT_BYTES }
 {
     let mut all = 0;
     for i in 0..count_of(sig) {
@@ -64,7 +65,7 @@ pub fn sizes_of(sig: &Sig) -> u64
 pub fn size_of(ty: &FfiType) -> u64
     requires { IsResultType (tree_of ty.now) }
     ensures value { result ≡ size_of (tree_of ty.now) }
-    ensures small { result ≤ 1024 }
+    ensures small { result ≤ LARGEST_STRUCT }
 {
     ty.size()
 }
@@ -136,10 +137,10 @@ pub fn leaf_piece(ty: &FfiType, i: u32, loc: Loc, ext: Ext) -> Piece
     }
 }
 
-/// A value's doublewords on the stack, from byte `start` of the stack arguments on. A narrow integer is extended by its sign. 66048 bytes is what the arguments before it take at most.
+/// A value's doublewords on the stack, from byte `start` of the stack arguments on. A narrow integer is extended by its sign.
 pub fn pieces_on_stack(alloc: Global, ty: &FfiType, start: u64) -> Result<Pieces, NoMemory>
     requires right { IsResultType (tree_of ty.now) }
-    requires low { start ≤ 66048 }
+    requires low { start ≤ ARGUMENT_BYTES }
     ensures { IfOk result (λ p. p ≡ stack_pieces start (tree_of ty.now)) }
 {
     let ext = widening(ty);

@@ -1,10 +1,13 @@
--- Tests for registers that are none of a list, that are one of it, and that are apart; and for what holds of each of a list.
-use Rattle.std.proofs.Common.{◌≡◌, ℕ, Bool, true, false, not, ◌&&◌, ◌||◌, eqb, List, [], ◌∷◌, ap, subst, refl, arith}
+-- Tests for registers that are none of a list, that are one of it, that are apart, and that an instruction set has; and for what holds of each of a list.
+use Rattle.std.proofs.Common.{◌≡◌, ℕ, Bool, true, false, not, ◌&&◌, ◌||◌, eqb, ltb, List, [], ◌∷◌, ap, subst, refl, arith}
 use Rattle.std.specs.List.{AllByRecursion, list_all}
+use Rattle.std.proofs.lemmas.Bool.{ltb-true}
 use Rattle.std.proofs.lemmas.Bool.Decides.{nat_tests}
+use Rattle.ffi3_type_rules.specs.declared.Isa.{Isa}
 use Rattle.ffi3_place_rules.specs.declared.Loc.{Loc}
 use Rattle.ffi3_place_rules.specs.declared.Loc.TheVariants.{G, F, S}
-use Rattle.ffi3_place_rules.specs.Sound.{Apart, AreApart, IsNoneOf, IsOneOf}
+use Rattle.ffi3_place_rules.specs.Isa.{general_registers, floating_registers}
+use Rattle.ffi3_place_rules.specs.Sound.{Apart, AreApart, IsNoneOf, IsOneOf, LiesIn}
 use Rattle.ffi3_place_rules.proofs.Tests.{and_left, and_right}
 use Rattle.ffi3_place_rules.proofs.Covered.{any_later}
 
@@ -85,6 +88,21 @@ each_none_of others ls h = each_by (is_none_of others) (IsNoneOf others) (none_o
 
 pub each_one_of : (places ls : List Loc) → list_all (is_one_of places) ls ≡ true → AllByRecursion (IsOneOf places) ls
 each_one_of places ls h = each_by (is_one_of places) (IsOneOf places) (one_of places) ls h
+
+-- ---- registers that the instruction set has
+
+abbrev pub is_register : Isa → Loc → Bool
+is_register isa (G r) = ltb r (general_registers isa)
+is_register isa (F r) = ltb r (floating_registers isa)
+is_register isa (S n) = false
+
+exists : (isa : Isa) (l : Loc) → is_register isa l ≡ true → LiesIn isa 0 l
+exists isa (G r) h = ltb-true r (general_registers isa) h
+exists isa (F r) h = ltb-true r (floating_registers isa) h
+exists isa (S n) h = cc
+
+pub each_exists : (isa : Isa) (ls : List Loc) → list_all (is_register isa) ls ≡ true → AllByRecursion (LiesIn isa 0) ls
+each_exists isa ls h = each_by (is_register isa) (LiesIn isa 0) (exists isa) ls h
 
 -- ---- apart
 

@@ -1,4 +1,4 @@
--- What a machine's journal records: an entry or a return, with the machine's image at that moment.
+-- What a machine's journal records: an entry or a return, with the machine's image at that moment. (This library's; what stands in it is the standard's, by `Holds`.)
 use Rattle.std.specs.Prelude.{ℕ}
 use Rattle.ffi3_place_rules.specs.Image.{Image}
 

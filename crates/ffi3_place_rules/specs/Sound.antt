@@ -1,4 +1,4 @@
--- What the places of a signature keep, whatever the standard.
+-- What the places of a signature keep, whatever the standard. (No standard states these laws: each follows from its rules, and is proved of them.)
 use Rattle.std.specs.Prelude.{◌≡◌, ◌≢◌, ℕ, zero, suc, ◌+◌, ◌/◌, ◌%◌, ◌<◌, ◌≤◌, ◌⊎◌, ⊤, Bool, true, false, ◌&&◌, nat_lt, List, [], ◌∷◌, ◌++◌, map, Option, Some, None}
 use Rattle.std.specs.List.{AllByRecursion, Any, flat_map}
 use Rattle.ffi3_type_rules.specs.Tree.{Tree, void, scalar}
@@ -219,7 +219,7 @@ pub record IsSound (std : Standard) (s : Signature) : Type 0 where
   pub result_allowed : AllByRecursion (IsNoneOf (closed_to_results std)) (result_locs (plan_of std s).res)
   pub result_has_all : ResultHasAll s.result_type (plan_of std s).res
   pub result_filled : ResultIsFilled std s.result_type (plan_of std s).res
-  -- a call keeps the stack pointer at multiples of 16
+  -- a call keeps the stack pointer at multiples of 16 (psABI AMD64 3.2.2 "The Stack Frame"; AAPCS64, "The Stack"; RISC-V ELF psABI, "Integer Calling Convention")
   pub frame_aligned : frame_of std s % 16 ≡ 0
   pub need_aligned : need_of std s % 16 ≡ 0
 

@@ -1,11 +1,10 @@
 // The words in which the definitions of `specs/` speak of places: plain data, with no code of its own but lists.
 #![tactic(auto)]
 
-ghost use Rattle.std.specs.Prelude.{◌≡◌, ◌<◌, ◌++◌, [], ◌∷◌, length, slice_index_or, OnOk, OnErr};
+mod listed;
 
+pub use listed::Listed;
 pub use std::alloc::AllocError as NoMemory;
-use std::alloc::Global;
-use std::marker::Model;
 
 /// A general register, a floating register, or a byte offset from the first stack argument.
 #[derive(Clone, Copy, Debug, PartialEq, Eq)]
@@ -20,11 +19,11 @@ pub enum Loc {
 pub enum Ext {
     /// Anything.
     Free,
-    /// An integer is extended by its sign to 64 bits.
+    /// An integer is extended to 64 bits, by sign or by zeros as its type is.
     Widen,
-    /// An integer is extended by its sign to 32 bits, and from there by its upper bit to 64.
+    /// An integer is extended to 32 bits, by sign or by zeros as its type is, and from there by its upper bit to 64.
     Riscv,
-    /// The upper 32 bits are all ones.
+    /// The upper 32 bits are all ones: the float is NaN-boxed.
     Boxed,
 }
 
@@ -38,54 +37,7 @@ pub struct Piece {
 }
 
 /// The pieces of one value.
-#[derive(Debug, Drop)]
-pub struct Pieces {
-    items: Vec<Piece>,
-}
-
-impl Model for Pieces {
-    ghost use Rattle.std.specs.Prelude.{List};
-    ghost use Rattle.ffi3_place_rules.specs.declared.Piece.{Piece};
-
-    ghost Value = { List Piece };
-
-    ghost view = { λ f. f.items.items };
-}
-
-impl Pieces {
-    /// No pieces.
-    pub fn new(alloc: Global) -> Pieces
-        ensures { result ≡ [] }
-    {
-        Pieces {
-            items: Vec::new(alloc),
-        }
-    }
-
-    /// One more piece. Refused, it leaves the list as it was.
-    pub fn push(&mut self, item: Piece) -> Result<(), NoMemory>
-        ensures ok { OnOk result (self.new ≡ self.old ++ item ∷ []) }
-        ensures err { OnErr result (self.new ≡ self.old) }
-    {
-        self.items.push(item)?;
-        Ok(())
-    }
-
-    /// How many pieces there are.
-    pub fn len(&self) -> usize
-        ensures { result ≡ length self.now }
-    {
-        self.items.len()
-    }
-
-    /// Piece `i`.
-    pub fn get(&self, i: usize) -> &Piece
-        requires { i < length self.now }
-        ensures { result.now ≡ slice_index_or self.now i result.now }
-    {
-        &self.items[i]
-    }
-}
+pub type Pieces = Listed<Piece>;
 
 /// Where an argument stands: in pieces, or as the address at `at` of a copy, `copy` bytes from the frame's start.
 #[derive(Debug, Drop)]
@@ -95,54 +47,7 @@ pub enum Place {
 }
 
 /// One place for each argument.
-#[derive(Debug, Drop)]
-pub struct Places {
-    items: Vec<Place>,
-}
-
-impl Model for Places {
-    ghost use Rattle.std.specs.Prelude.{List};
-    ghost use Rattle.ffi3_place_rules.specs.declared.Place.{Place};
-
-    ghost Value = { List Place };
-
-    ghost view = { λ f. f.items.items };
-}
-
-impl Places {
-    /// No places.
-    pub fn new(alloc: Global) -> Places
-        ensures { result ≡ [] }
-    {
-        Places {
-            items: Vec::new(alloc),
-        }
-    }
-
-    /// One more place. Refused, it drops the place and leaves the list as it was.
-    pub fn push(&mut self, item: Place) -> Result<(), NoMemory>
-        ensures ok { OnOk result (self.new ≡ self.old ++ item ∷ []) }
-        ensures err { OnErr result (self.new ≡ self.old) }
-    {
-        self.items.push(item)?;
-        Ok(())
-    }
-
-    /// How many places there are.
-    pub fn len(&self) -> usize
-        ensures { result ≡ length self.now }
-    {
-        self.items.len()
-    }
-
-    /// The place of argument `i`.
-    pub fn get(&self, i: usize) -> &Place
-        requires { i < length self.now }
-        ensures { result.now ≡ slice_index_or self.now i result.now }
-    {
-        &self.items[i]
-    }
-}
+pub type Places = Listed<Place>;
 
 /// Where a result stands: nowhere, in pieces, or in a buffer of the caller, `buffer` bytes from the frame's start, whose address is at `at`.
 #[derive(Debug, Drop)]

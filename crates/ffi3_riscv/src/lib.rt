@@ -2,6 +2,7 @@
 #![tactic(auto)]
 
 ghost use Rattle.std.specs.Prelude.{◌≡◌, ◌<◌, ◌≤◌, ◌+◌, ◌*◌, ◌/◌, ◌^◌, length, IfOk, [], ◌∷◌, true, false, cond};
+ghost use Rattle.ffi3_type_rules.specs.declared.limits.TheConstants.{ARGUMENT_BYTES, MOST_ARGUMENTS};
 ghost use Rattle.ffi3_type_rules.specs.Tree.{Scalar, scalar};
 ghost use Rattle.ffi3_type_rules.specs.Layout.{size_of, leaves_of, leaf_at};
 ghost use Rattle.ffi3_type_rules.specs.Integer.{is_floating};
@@ -151,7 +152,7 @@ fn floats_of(shape: Shape) -> u64
 /// Whether enough registers are free for a value of this shape.
 fn registers_suffice(before: Used, shape: Shape) -> bool
     requires few { before.floats ≤ 8 }
-    requires low { before.words ≤ 1024 }
+    requires low { before.words ≤ 16 * MOST_ARGUMENTS }
     ensures { result ≡ registers_suffice before shape }
 {
     match shape {
@@ -168,7 +169,7 @@ fn registers_suffice(before: Used, shape: Shape) -> bool
 fn passed_as(before: Used, fixed: bool, ty: &FfiType) -> Shape
     requires right { IsResultType (tree_of ty.now) }
     requires few { before.floats ≤ 8 }
-    requires low { before.words ≤ 1024 }
+    requires low { before.words ≤ 16 * MOST_ARGUMENTS }
     ensures value { result ≡ passed_as before fixed (tree_of ty.now) }
     ensures small { words_of result ≤ 2 }
     ensures room { before.floats + floats_of result ≤ 8 }
@@ -183,7 +184,7 @@ fn passed_as(before: Used, fixed: bool, ty: &FfiType) -> Shape
 
 fn used_with(before: Used, shape: Shape) -> Used
     requires few { before.floats ≤ 8 }
-    requires low { before.words ≤ 1024 }
+    requires low { before.words ≤ 16 * MOST_ARGUMENTS }
     requires small { words_of shape ≤ 2 }
     ensures { result ≡ used_with before shape }
 {
@@ -195,7 +196,7 @@ fn used_with(before: Used, shape: Shape) -> Used
 
 /// Word `k` of the stream of integer words: a0 to a7, and then the stack.
 fn word(k: u64) -> Loc
-    requires { k ≤ 2048 }
+    requires { k ≤ 32 * MOST_ARGUMENTS }
     ensures { result ≡ word k }
 {
     if k < 8 {
@@ -229,7 +230,7 @@ fn boxed(kind: &FfiType) -> Ext
 /// A value's doublewords, in the stream of words from number `first` on.
 fn word_pieces(alloc: Global, ty: &FfiType, first: u64, count: u64) -> Result<Pieces, NoMemory>
     requires right { IsResultType (tree_of ty.now) }
-    requires low { first ≤ 1024 }
+    requires low { first ≤ 16 * MOST_ARGUMENTS }
     requires all { count ≡ doublewords (tree_of ty.now) }
     requires few { count ≤ 2 }
     ensures { IfOk result (λ p. p ≡ word_pieces first (tree_of ty.now) count) }
@@ -291,8 +292,8 @@ fn place_of(
     requires right { IsResultType (tree_of ty.now) }
     requires suits { Suits (size_of (tree_of ty.now)) (leaves_of (tree_of ty.now)) shape }
     requires room { HasRoom before shape }
-    requires low { before.words ≤ 1024 }
-    requires near { copy ≤ 131072 }
+    requires low { before.words ≤ 16 * MOST_ARGUMENTS }
+    requires near { copy ≤ 2 * ARGUMENT_BYTES }
     ensures { IfOk result (λ p. p ≡ place_at at_once copy (tree_of ty.now) (spot_of before (tree_of ty.now) shape)) }
 {
     match shape {
@@ -367,7 +368,7 @@ fn at_first(ty: &FfiType) -> Used
 fn used_by_all(sig: &Sig) -> Used
     requires { SignatureHasNoFault sig.now }
     ensures value { result ≡ used_by_all sig.now }
-    ensures low { result.words ≤ 129 }
+    ensures low { result.words ≤ 2 * MOST_ARGUMENTS + 1 }
 {
     let mut before = at_first(result_type(sig));
     for i in 0..count_of(sig) {
@@ -379,7 +380,7 @@ fn used_by_all(sig: &Sig) -> Used
 
 /// The bytes of the words that stand on the stack.
 fn stack_of(used: Used) -> u64
-    requires { used.words ≤ 1024 }
+    requires { used.words ≤ 16 * MOST_ARGUMENTS }
     ensures value { result ≡ stack_of used }
     ensures small { result ≤ 8 * used.words }
 {
@@ -399,10 +400,10 @@ struct Placed {
 
 fn place_all(alloc: Global, sig: &Sig, start: u64) -> Result<Placed, NoMemory>
     requires right { SignatureHasNoFault sig.now }
-    requires near { start ≤ 2048 }
+    requires near { start ≤ 32 * MOST_ARGUMENTS }
     ensures places { IfOk result (λ p. p.places ≡ places_from at_once start sig.now.arguments (spots_after sig.now.fixed (used_at_first sig.now.result_type) 0 sig.now.arguments)) }
     ensures end { IfOk result (λ p. p.end ≡ copies_end at_once start sig.now.arguments (spots_after sig.now.fixed (used_at_first sig.now.result_type) 0 sig.now.arguments)) }
-    ensures near { IfOk result (λ p. p.end ≤ start + 66048) }
+    ensures near { IfOk result (λ p. p.end ≤ start + ARGUMENT_BYTES) }
 {
     let mut before = at_first(result_type(sig));
     let mut copy = start;
@@ -421,7 +422,7 @@ fn place_all(alloc: Global, sig: &Sig, start: u64) -> Result<Placed, NoMemory>
 /// A result's place is that of an argument, and its buffer takes the place of a copy.
 fn place_result(alloc: Global, ty: &FfiType, buffer: u64) -> Result<Res, NoMemory>
     requires right { IsResultType (tree_of ty.now) }
-    requires near { buffer ≤ 131072 }
+    requires near { buffer ≤ 2 * ARGUMENT_BYTES }
     ensures { IfOk result (λ r. r ≡ result_at at_once buffer (tree_of ty.now) (result_spot_of (tree_of ty.now))) }
 {
     if let FfiType::Void = ty {

@@ -1,27 +1,14 @@
 -- The standard agrees with the machine: what it names of it is what the machine has, and its registers do not get in one another's way.
-use Rattle.std.proofs.Common.{◌≡◌, ℕ, Bool, true, false, ltb, refl, arith}
-use Rattle.std.proofs.lemmas.Bool.{ltb-true}
+use Rattle.std.proofs.Common.{◌≡◌, ℕ, false, refl, arith}
 use Rattle.std.proofs.lemmas.Bool.Decides.{nat_tests}
-use Rattle.ffi3_type_rules.specs.declared.Isa.{Isa}
 use Rattle.ffi3_type_rules.specs.declared.Isa.TheVariants as isa
 use Rattle.ffi3_place_rules.specs.declared.Loc.{Loc}
 use Rattle.ffi3_place_rules.specs.declared.Loc.TheVariants.{G, F, S}
-use Rattle.ffi3_place_rules.specs.Isa.{general_registers, floating_registers, TakesWrites, is_zero_register}
-use Rattle.ffi3_place_rules.specs.Sound.{IsNoneOf, LiesIn, closed_to_arguments}
+use Rattle.ffi3_place_rules.specs.Isa.{TakesWrites, is_zero_register}
+use Rattle.ffi3_place_rules.specs.Sound.{IsNoneOf, closed_to_arguments}
 use Rattle.ffi3_place_rules.specs.Agrees.{given_back, saved_registers, special, AgreesWithMachine}
-use Rattle.ffi3_place_rules.proofs.Forbidden.{each_by, each_none_of, each_one_of, apart_all}
+use Rattle.ffi3_place_rules.proofs.Forbidden.{each_exists, each_none_of, each_one_of, apart_all}
 use Rattle.ffi3_riscv_rules.specs.Riscv.{callee_saved, passing, riscv}
-
--- a test for registers that the instruction set has
-abbrev has_register : Isa → Loc → Bool
-has_register isa (G r) = ltb r (general_registers isa)
-has_register isa (F r) = ltb r (floating_registers isa)
-has_register isa (S n) = false
-
-exists : (isa : Isa) (l : Loc) → has_register isa l ≡ true → LiesIn isa 0 l
-exists isa (G r) h = ltb-true r (general_registers isa) h
-exists isa (F r) h = ltb-true r (floating_registers isa) h
-exists isa (S n) h = cc
 
 -- only zero drops a write, and it is reserved
 written : (l : Loc) → IsNoneOf riscv.reserved l → TakesWrites isa.Riscv l
@@ -41,10 +28,10 @@ agrees = record {
   closure_register = refl;
   trampoline = refl;
   written = written;
-  preserved_exist = each_by (has_register isa.Riscv) (LiesIn isa.Riscv 0) (exists isa.Riscv) callee_saved refl;
+  preserved_exist = each_exists isa.Riscv callee_saved refl;
   preserved_apart = apart_all callee_saved refl;
   preserved_plain = each_none_of (special riscv) callee_saved refl;
-  arguments_exist = each_by (has_register isa.Riscv) (LiesIn isa.Riscv 0) (exists isa.Riscv) passing refl;
+  arguments_exist = each_exists isa.Riscv passing refl;
   arguments_apart = apart_all passing refl;
   arguments_plain = each_none_of (closed_to_arguments riscv) passing refl;
   count_exists = tt;

@@ -155,6 +155,7 @@ abbrev pub used_at_start : Used → Bool → Tree → Used
 used_at_start end fixed t =
     record { words = first_word fixed t end.words; floats = end.floats }
 
+-- what is used once a value of this shape is placed behind what was used before
 abbrev pub used_with : Used → Shape → Used
 used_with before shape =
     record { words = before.words + words_of shape; floats = before.floats + floats_of shape }
@@ -183,6 +184,7 @@ used_after fixed end i (t ∷ ts) =
 
 -- ---- results
 
+-- what is used where nothing is placed yet
 abbrev pub unused : Used
 unused = record { words = 0; floats = 0 }
 
@@ -211,6 +213,7 @@ abbrev pub used_at_first : Tree → Used
 used_at_first result_type =
     record { words = cond (is_by_reference (result_shape result_type)) 1 0; floats = 0 }
 
+-- what all arguments use, and the hidden pointer before them
 abbrev pub used_by_all : Signature → Used
 used_by_all s = used_after s.fixed (used_at_first s.result_type) 0 s.arguments
 

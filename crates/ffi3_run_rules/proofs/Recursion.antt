@@ -8,14 +8,14 @@ use Rattle.ffi3_run_rules.specs.Recursion.{IsPlainRecursion}
 use Rattle.ffi3_run_rules.specs.Meaning.{Program, Activation, Acts, Effect, ends, stops, prints, goes_on, enters, End, returned, stopped, Outcome, stops_with, follows, resumed, resumed_after, with_result, effect_of, next_move, after, called, line, act, act_within}
 
 -- the moves never rise, and fuel beyond the moves left changes nothing
-abbrev Falls : Acts → Type 0
-Falls acts = (a : Activation) (c : Closures) (m : ℕ) → (acts a c m).moves ≤ m
+abbrev NeverRises : Acts → Type 0
+NeverRises acts = (a : Activation) (c : Closures) (m : ℕ) → (acts a c m).moves ≤ m
 
-falls_resumed : (acts : Acts) → Falls acts → (a : Activation) (ptr sig : ℕ) (args : List ValueTree) (o : Outcome) (e : End) (m : ℕ) → o.moves ≤ m → (resumed acts a ptr sig args o e).moves ≤ m
+falls_resumed : (acts : Acts) → NeverRises acts → (a : Activation) (ptr sig : ℕ) (args : List ValueTree) (o : Outcome) (e : End) (m : ℕ) → o.moves ≤ m → (resumed acts a ptr sig args o e).moves ≤ m
 falls_resumed acts h a ptr sig args o (stopped stop) m l = l
 falls_resumed acts h a ptr sig args o (returned r) m l = let k = h (with_result a r) o.closures o.moves in omega (arith, k, l)
 
-falls_follows : (acts : Acts) → Falls acts → (a : Activation) (c : Closures) (m : ℕ) (d : Effect) → (follows acts a c m d).moves ≤ m
+falls_follows : (acts : Acts) → NeverRises acts → (a : Activation) (c : Closures) (m : ℕ) (d : Effect) → (follows acts a c m d).moves ≤ m
 falls_follows acts h a c m (ends v) = omega arith
 falls_follows acts h a c m (stops stop) = omega arith
 falls_follows acts h a c m (prints t v) = h (with_result a void_value) c m
@@ -23,7 +23,7 @@ falls_follows acts h a c m (goes_on r c') = h (with_result a r) c' m
 falls_follows acts h a c m (enters ptr sig callee) =
     let o = acts callee c m in falls_resumed acts h a ptr sig callee.arguments o o.end m (h callee c m)
 
-pub falls : (p : Program) (fuel : ℕ) → Falls (act_within p fuel)
+pub falls : (p : Program) (fuel : ℕ) → NeverRises (act_within p fuel)
 unfolding act_within
 falls p zero a c m = omega arith
 falls p (suc fuel) a c zero = omega arith
@@ -38,7 +38,7 @@ agree_resumed f g m h a ptr sig args o (stopped stop) l = refl
 agree_resumed f g m h a ptr sig args o (returned r) l =
     ap (after (called ptr sig args o.call_tree (Some r))) (h (with_result a r) o.closures o.moves l)
 
-agree_follows : (f g : Acts) → Falls g → (a : Activation) (c : Closures) (m : ℕ) (d : Effect) → Agree f g m → follows f a c m d ≡ follows g a c m d
+agree_follows : (f g : Acts) → NeverRises g → (a : Activation) (c : Closures) (m : ℕ) (d : Effect) → Agree f g m → follows f a c m d ≡ follows g a c m d
 agree_follows f g l a c m (ends v) h = refl
 agree_follows f g l a c m (stops stop) h = refl
 agree_follows f g l a c m (prints t v) h = ap (after (line t v)) (h (with_result a void_value) c m (omega arith))

@@ -66,7 +66,7 @@ events_in (Leave sig r ∷ rest) = events_in rest + 1
 events_in (Line t v ∷ rest) = events_in rest
 events_in (StopLine stop ∷ rest) = events_in rest
 
--- THE JOURNAL IS THAT OF THESE HAPPENINGS, as far as it goes, on a machine that began: from the top of the stack down, with reserved registers 0
+-- THE JOURNAL ANSWERS TO THIS TRACE, as far as it goes, on a machine that began: from the top of the stack down, with reserved registers 0
 abbrev pub JournalOf : Standard → List Signature → List TraceItem → List Event → Type 0
 JournalOf std signatures trace journal =
     Answers std stack_top (λ at. 0) signatures 0 [] trace journal

@@ -21,7 +21,7 @@ use Rattle.ffi3_board.specs.Going.{HasGoneIn, HasGoneBack}
 use Rattle.ffi3_board.specs.Path.{call_inside, calls_of, result_type_at}
 use Rattle.ffi3_board.specs.Served.{HasAccepted}
 use Rattle.ffi3_board.proofs.Blocks.{AreAbove, StaysFrom}
-use Rattle.ffi3_runner.specs.Agreeing.{seen_by, InnermostStands, IsStanding, WillStand, AllWillStand, AllStand}
+use Rattle.ffi3_runner.specs.Agreeing.{seen_by, InnermostStands, IsStanding, WillStand, AllWillStand, PositionsAgree}
 use Rattle.ffi3_runner.proofs.Seen.{standing_kept, will_kept, all_will_kept, now_stands, stays_equal, all_above}
 
 last_first : {X : Type 0} (xs : List X) (x : X) → reverse (xs ++ x ∷ []) ≡ x ∷ reverse xs
@@ -32,7 +32,7 @@ module _ (s : Script) (natives : List NamedNative) (ss : List Signature) (m m' :
   outer = reverse b.suspended.items
 
   -- A CALL WAS ENTERED
-  pub entered_stands : (closure : Closure) (standing : Standing) (sig : ℕ) (a : Activation Standing) → HasGoneIn closure standing sig a b b' → AreAbove low (calls_of b.served outer) → AllWillStand s natives ss m b.served outer → WillStand s natives ss m (call_inside b.served outer) a (signature_at ss sig) → ask.who_of standing ≡ function closure.func → ((z : SeenActivation) → z.signature ≡ signature_at ss sig → z.results ≡ [] → StandingAgrees s natives z standing) → AllStand s natives ss m' b'
+  pub entered_stands : (closure : Closure) (standing : Standing) (sig : ℕ) (a : Activation Standing) → HasGoneIn closure standing sig a b b' → AreAbove low (calls_of b.served outer) → AllWillStand s natives ss m b.served outer → WillStand s natives ss m (call_inside b.served outer) a (signature_at ss sig) → ask.who_of standing ≡ function closure.func → ((z : SeenActivation) → z.signature ≡ signature_at ss sig → z.results ≡ [] → StandingAgrees s natives z standing) → PositionsAgree s natives ss m' b'
   entered_stands closure standing sig a gone above others will who agrees =
       let w : Waiting Standing = record { activation = a; call = gone.call } in
       let new : Activation Standing = record { who = Function closure.func; standing = standing; user = closure.user; results = [] } in
@@ -52,7 +52,7 @@ module _ (s : Script) (natives : List NamedNative) (ss : List Signature) (m m' :
       }
 
   -- A CALL RETURNED
-  pub returned_stands : (r : ValueTree) → HasGoneBack r b b' → AreAbove low (calls_of b'.served (reverse b'.suspended.items)) → AllWillStand s natives ss m b.served outer → fits (result_type_at ss (call_inside b.served outer)) r ≡ true → AllStand s natives ss m' b'
+  pub returned_stands : (r : ValueTree) → HasGoneBack r b b' → AreAbove low (calls_of b'.served (reverse b'.suspended.items)) → AllWillStand s natives ss m b.served outer → fits (result_type_at ss (call_inside b.served outer)) r ≡ true → PositionsAgree s natives ss m' b'
   returned_stands r gone above others it =
       let w = gone.waited in
       let left = reverse b'.suspended.items in
@@ -70,7 +70,7 @@ module _ (s : Script) (natives : List NamedNative) (ss : List Signature) (m m' :
       }
 
 -- A CALL WAS ACCEPTED, and nothing waits for it
-pub accepted_stands : (s : Script) (natives : List NamedNative) (ss : List Signature) (m : State) (b b' : Board Standing) (closure : Closure) (standing : Standing) → HasAccepted closure standing b b' → b.suspended.items ≡ [] → ask.who_of standing ≡ function closure.func → ((z : SeenActivation) → z.signature ≡ signature_at ss closure.sig → z.results ≡ [] → StandingAgrees s natives z standing) → AllStand s natives ss m b'
+pub accepted_stands : (s : Script) (natives : List NamedNative) (ss : List Signature) (m : State) (b b' : Board Standing) (closure : Closure) (standing : Standing) → HasAccepted closure standing b b' → b.suspended.items ≡ [] → ask.who_of standing ≡ function closure.func → ((z : SeenActivation) → z.signature ≡ signature_at ss closure.sig → z.results ≡ [] → StandingAgrees s natives z standing) → PositionsAgree s natives ss m b'
 accepted_stands s natives ss m b b' closure standing gone none who agrees =
     let new : Activation Standing = record { who = Function closure.func; standing = standing; user = closure.user; results = [] } in
     let items : b'.suspended.items ≡ [] = gone.suspended ∙ none in
@@ -82,7 +82,7 @@ accepted_stands s natives ss m b b' closure standing gone none who agrees =
     record { innermost = subst Q (sym gone.innermost) (subst P (sym call) here); others = subst R (sym items) tt }
 
 -- THE INNERMOST ACTIVATION GOES ON, on a stack that is the same
-pub went_stands : (s : Script) (natives : List NamedNative) (ss : List Signature) (m m' : State) (b b' : Board Standing) (x : Activation Standing) → m'.stack ≡ m.stack → b'.innermost ≡ Some x → b'.served ≡ b.served → b'.suspended.items ≡ b.suspended.items → IsStanding s natives ss m (call_inside b.served (reverse b.suspended.items)) x → AllWillStand s natives ss m b.served (reverse b.suspended.items) → AllStand s natives ss m' b'
+pub went_stands : (s : Script) (natives : List NamedNative) (ss : List Signature) (m m' : State) (b b' : Board Standing) (x : Activation Standing) → m'.stack ≡ m.stack → b'.innermost ≡ Some x → b'.served ≡ b.served → b'.suspended.items ≡ b.suspended.items → IsStanding s natives ss m (call_inside b.served (reverse b.suspended.items)) x → AllWillStand s natives ss m b.served (reverse b.suspended.items) → PositionsAgree s natives ss m' b'
 went_stands s natives ss m m' b b' x stack innermost served items stands others =
     let outer = reverse b.suspended.items in
     let stays = stays_equal m m' stack in

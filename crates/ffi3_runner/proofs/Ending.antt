@@ -12,9 +12,9 @@ use Rattle.ffi3_run_rules.specs.Journal.{JournalOf, IsWhole, stack_top}
 use Rattle.ffi3_run_rules.specs.Lines.{at_start, text, text_of_run}
 use Rattle.ffi3_run_rules.specs.Meaning.{Program, End, returned, stopped, meaning_of, peak_of}
 use Rattle.ffi3_run_rules.specs.Trace.{TraceItem, trace_of}
-use Rattle.ffi3_turn_rules.specs.Cut.{past_all, next_text, begun}
+use Rattle.ffi3_turn_rules.specs.Interrupted.{past_all, next_text, begun}
 use Rattle.ffi3_turn_rules.specs.Depth.{deepest}
-use Rattle.ffi3_turn_rules.specs.Left.{left_of}
+use Rattle.ffi3_turn_rules.specs.Remainder.{remainder_of}
 use Rattle.ffi3_turn_rules.specs.MainTracing.{main_tracing}
 use Rattle.ffi3_turn_rules.specs.SoFar.{main_base}
 use Rattle.ffi3_turn_rules.proofs.Coming.{main_is_over, main_was_cut}
@@ -28,9 +28,9 @@ use Rattle.ffi3_io.proofs.Adding.{Adds-along}
 use Rattle.ffi3_io.proofs.Writing.{whole_part}
 use Rattle.ffi3_ask.specs.declared.standing.Standing.{Standing}
 use Rattle.ffi3_board.specs.declared.board.Board.{Board}
-use Rattle.ffi3_board.specs.Turned.{IsEnded, WasCutOff, is_in_line}
+use Rattle.ffi3_board.specs.Turned.{IsEnded, WasInterrupted, is_in_line}
 use Rattle.ffi3_runner.specs.Ran.{Ran}
-use Rattle.ffi3_runner.specs.RunCut.{RunWasCut}
+use Rattle.ffi3_runner.specs.RunInterrupted.{RunWasInterrupted}
 use Rattle.ffi3_runner.specs.RunMatches.{RunMatches, WrotePart}
 use Rattle.ffi3_runner.specs.declared.run.RunEnd.{RunEnd}
 use Rattle.ffi3_runner.specs.declared.run.RunEnd.TheVariants as run
@@ -44,7 +44,7 @@ no_fewer : (a b : ℕ) → b ≡ a → a ≤ b
 no_fewer a b same = omega arith
 
 module _ (p : Program) (std : Standard) (trace : Bool) (b : Board Standing) (m : State) (o o' : SinkState) where
-  ended : (end : End) (closures : Closures) (moves : ℕ) → IsEnded p (main_base std) (left_of (meaning_of p)) (main_beginning trace std o) end closures moves m o' → RunMatches (main_tracing trace std) std p o o' m
+  ended : (end : End) (closures : Closures) (moves : ℕ) → IsEnded p (main_base std) (remainder_of (meaning_of p)) (main_beginning trace std o) end closures moves m o' → RunMatches (main_tracing trace std) std p o o' m
   ended end closures moves h =
       let over = main_is_over p std end closures moves h.events h.over in
       let P = λ (l : List Event). JournalOf std p.signatures (trace_of p) l in
@@ -59,19 +59,19 @@ module _ (p : Program) (std : Standard) (trace : Bool) (b : Board Standing) (m :
         mark = reaches stack_top m.mark (deepest p 0 (trace_of p)) (peak_of p (meaning_of p).call_tree) (deepest_is_peak p) h.mark;
       }
 
-  whole_written : (end : End) (closures : Closures) (moves : ℕ) → IsEnded p (main_base std) (left_of (meaning_of p)) (main_beginning trace std o) end closures moves m o' → WrotePart (main_tracing trace std) p o o'
+  whole_written : (end : End) (closures : Closures) (moves : ℕ) → IsEnded p (main_base std) (remainder_of (meaning_of p)) (main_beginning trace std o) end closures moves m o' → WrotePart (main_tracing trace std) p o o'
   whole_written end closures moves h =
       whole_part o.taken o'.taken (text_of_run (main_tracing trace std) p) h.written.added
 
-  part_written : (why : IoError) → WasCutOff p (main_base std) (left_of (meaning_of p)) (main_beginning trace std o) why m o' → WrotePart (main_tracing trace std) p o o'
+  part_written : (why : IoError) → WasInterrupted p (main_base std) (remainder_of (meaning_of p)) (main_beginning trace std o) why m o' → WrotePart (main_tracing trace std) p o o'
   part_written why h =
       let cut = main_was_cut (main_tracing trace std) p std (is_in_line why) h.happened h.text h.events h.cut in
       let text_is : text_of_run (main_tracing trace std) p ≡ h.text ++ cut.1.0 = cut.1.1 in
       let first : take (length h.text) (text_of_run (main_tracing trace std) p) ≡ h.text = ap (take (length h.text)) text_is ∙ take-append-le (length h.text) h.text cut.1.0 (omega arith) ∙ take-length h.text in
       (length h.text, Adds-along o.taken o'.taken h.text (take (length h.text) (text_of_run (main_tracing trace std) p)) (sym first) h.written)
 
-  -- what is told of a run that was cut off
-  cut_off : (why : IoError) → WasCutOff p (main_base std) (left_of (meaning_of p)) (main_beginning trace std o) why m o' → RunWasCut (main_tracing trace std) std p (is_in_line why) o o' m
+  -- what is told of a run that was interrupted
+  cut_off : (why : IoError) → WasInterrupted p (main_base std) (remainder_of (meaning_of p)) (main_beginning trace std o) why m o' → RunWasInterrupted (main_tracing trace std) std p (is_in_line why) o o' m
   cut_off why h =
       let k = h.cut in
       let P = λ (l : List Event). JournalOf std p.signatures (k.done ++ begun k.recorded k.later) l in
@@ -96,7 +96,7 @@ module _ (p : Program) (std : Standard) (trace : Bool) (b : Board Standing) (m :
       }
 
   abbrev Answer : RunEnd → Type 0
-  Answer t = Ran p (main_base std) (left_of (meaning_of p)) (main_beginning trace std o) b m o' t
+  Answer t = Ran p (main_base std) (remainder_of (meaning_of p)) (main_beginning trace std o) b m o' t
 
   pub ran_done : (t : RunEnd) → Answer t → t ≡ run.Done → RunMatches (main_tracing trace std) std p o o' m
   ran_done run.Done ran is = ended (returned ran.result) b.table b.moves ran.ended
@@ -141,13 +141,13 @@ module _ (p : Program) (std : Standard) (trace : Bool) (b : Board Standing) (m :
   ran_failed run.NoMemory ran is = cc
   ran_failed run.Failed ran is = ran.cause.0
 
-  pub ran_cut_by_memory : (t : RunEnd) → Answer t → t ≡ run.NoMemory → RunWasCut (main_tracing trace std) std p false o o' m
+  pub ran_cut_by_memory : (t : RunEnd) → Answer t → t ≡ run.NoMemory → RunWasInterrupted (main_tracing trace std) std p false o o' m
   ran_cut_by_memory run.Done ran is = cc
   ran_cut_by_memory (run.Stopped stop) ran is = cc
   ran_cut_by_memory run.NoMemory ran is = cut_off cut.NoMemory ran
   ran_cut_by_memory run.Failed ran is = cc
 
-  pub ran_cut_by_write : (t : RunEnd) → Answer t → t ≡ run.Failed → RunWasCut (main_tracing trace std) std p true o o' m
+  pub ran_cut_by_write : (t : RunEnd) → Answer t → t ≡ run.Failed → RunWasInterrupted (main_tracing trace std) std p true o o' m
   ran_cut_by_write run.Done ran is = cc
   ran_cut_by_write (run.Stopped stop) ran is = cc
   ran_cut_by_write run.NoMemory ran is = cc

@@ -9,9 +9,9 @@ use Rattle.ffi3_place_rules.specs.Standard.{Standard}
 use Rattle.ffi3_run_rules.specs.Meaning.{main, meaning_of}
 use Rattle.ffi3_run_rules.specs.Move.{no_signature}
 use Rattle.ffi3_run_rules.specs.Trace.{TraceItem}
-use Rattle.ffi3_turn_rules.specs.Left.{Left, left_of}
+use Rattle.ffi3_turn_rules.specs.Remainder.{Remainder, remainder_of}
 use Rattle.ffi3_turn_rules.specs.SoFar.{Base, main_base}
-use Rattle.ffi3_turn_rules.specs.Told.{IsTracingOf}
+use Rattle.ffi3_turn_rules.specs.TracingOf.{IsTracingOf}
 use Rattle.ffi3_turn_rules.proofs.TracedCalls.{main_is_traced}
 use Rattle.ffi3_machine.specs.State.{State, begun}
 use Rattle.ffi3_io.specs.Sink.{SinkState}
@@ -29,7 +29,7 @@ use Rattle.ffi3_board.specs.declared.board.Board.{Board}
 use Rattle.ffi3_board.specs.Between.{Beginning}
 use Rattle.ffi3_board.specs.Path.{call_inside, who_of}
 use Rattle.ffi3_board.specs.Turned.{StandsAt}
-use Rattle.ffi3_runner.specs.Agreeing.{seen_by_main, IsStanding, AllWillStand, AllStand}
+use Rattle.ffi3_runner.specs.Agreeing.{seen_by_main, IsStanding, AllWillStand, PositionsAgree}
 use Rattle.ffi3_runner.specs.Ran.{Ran}
 use Rattle.ffi3_runner.specs.Running.{IsNew, IsPrepared, program}
 use Rattle.ffi3_runner.specs.Started.{main_beginning}
@@ -37,7 +37,7 @@ use Rattle.ffi3_runner.specs.declared.run.RunEnd.{RunEnd}
 use Rattle.ffi3_runner.proofs.Starting.{stands_at_start}
 
 -- main stands before its first move
-pub main_stands : (s : Script) (natives : List NamedNative) (ss : List Signature) (m : State) (b : Board Standing) → IsNew b → (a : Activation Standing) → a.who ≡ Main → a.results ≡ [] → ask.who_of a.standing ≡ main → ((z : SeenActivation) → z.signature ≡ no_signature → z.results ≡ [] → StandingAgrees s natives z a.standing) → AllStand s natives ss m (record b { innermost = Some a })
+pub main_stands : (s : Script) (natives : List NamedNative) (ss : List Signature) (m : State) (b : Board Standing) → IsNew b → (a : Activation Standing) → a.who ≡ Main → a.results ≡ [] → ask.who_of a.standing ≡ main → ((z : SeenActivation) → z.signature ≡ no_signature → z.results ≡ [] → StandingAgrees s natives z a.standing) → PositionsAgree s natives ss m (record b { innermost = Some a })
 main_stands s natives ss m b new a is_main none who agrees =
     let here : IsStanding s natives ss m None a = record { who = ap who_of is_main ∙ sym who; agrees = agrees (seen_by_main a) refl none } in
     let P = λ (o : Option OpenCall). IsStanding s natives ss m o a in
@@ -46,18 +46,18 @@ main_stands s natives ss m b new a is_main none who agrees =
     record { innermost = subst P (sym call) here; others = subst Q (sym new.suspended) tt }
 
 module _ (std : Standard) (s : Script) (natives : List NamedNative) (cifs : List Signature) (prepared : IsPrepared std s natives cifs) (agrees : AgreesWithMachine std) (target : Target) (target_is : std.target ≡ target) (k l : ℕ) (m : State) (begins : m ≡ begun target k l) (o : SinkState) (b : Board Standing) (new : IsNew b) (a : Activation Standing) (who : a.who ≡ Main) (user : a.user ≡ 0) (results : a.results ≡ []) (trace : Bool) where
-  pub starts_here : StandsAt (program std s natives) (main_base std) (left_of (meaning_of (program std s natives))) (main_beginning trace std o) [] [] (record b { innermost = Some a }) m o
+  pub starts_here : StandsAt (program std s natives) (main_base std) (remainder_of (meaning_of (program std s natives))) (main_beginning trace std o) [] [] (record b { innermost = Some a }) m o
   starts_here =
-      let P = λ (x : State). StandsAt (program std s natives) (main_base std) (left_of (meaning_of (program std s natives))) (main_beginning trace std o) [] [] (record b { innermost = Some a }) x o in
+      let P = λ (x : State). StandsAt (program std s natives) (main_base std) (remainder_of (meaning_of (program std s natives))) (main_beginning trace std o) [] [] (record b { innermost = Some a }) x o in
       let same : begun std.target k l ≡ m = ap (λ (t : Target). begun t k l) target_is ∙ sym begins in
       subst P same (stands_at_start (program std s natives) std refl agrees k l o trace b new a who user results)
 
 -- where a run of main starts
-module _ (std : Standard) (s : Script) (natives : List NamedNative) (cifs : List Signature) (prepared : IsPrepared std s natives cifs) (trace : Bool) (m : State) (o : SinkState) (b : Board Standing) (stands : StandsAt (program std s natives) (main_base std) (left_of (meaning_of (program std s natives))) (main_beginning trace std o) [] [] b m o) where
-  pub start_between : (base : Base) × (all : Left) × (first : Beginning) × (own : List TraceItem) × (events : List Event) × (base.standard ≡ std) × IsTracingOf (program std s natives) base trace first.tracing × StandsAt (program std s natives) base all first own events b m o
+module _ (std : Standard) (s : Script) (natives : List NamedNative) (cifs : List Signature) (prepared : IsPrepared std s natives cifs) (trace : Bool) (m : State) (o : SinkState) (b : Board Standing) (stands : StandsAt (program std s natives) (main_base std) (remainder_of (meaning_of (program std s natives))) (main_beginning trace std o) [] [] b m o) where
+  pub start_between : (base : Base) × (all : Remainder) × (first : Beginning) × (own : List TraceItem) × (events : List Event) × (base.standard ≡ std) × IsTracingOf (program std s natives) base trace first.tracing × StandsAt (program std s natives) base all first own events b m o
   start_between =
-      (main_base std, left_of (meaning_of (program std s natives)), main_beginning trace std o, [], [], refl, main_is_traced (program std s natives) std trace, stands)
+      (main_base std, remainder_of (meaning_of (program std s natives)), main_beginning trace std o, [], [], refl, main_is_traced (program std s natives) std trace, stands)
 
-  pub main_ran : (b' : Board Standing) (m' : State) (o' : SinkState) (t : RunEnd) → ((base : Base) (all : Left) (first : Beginning) (own : List TraceItem) (events : List Event) → base.standard ≡ std → IsTracingOf (program std s natives) base trace first.tracing → StandsAt (program std s natives) base all first own events b m o → Ran (program std s natives) base all first b' m' o' t) → Ran (program std s natives) (main_base std) (left_of (meaning_of (program std s natives))) (main_beginning trace std o) b' m' o' t
+  pub main_ran : (b' : Board Standing) (m' : State) (o' : SinkState) (t : RunEnd) → ((base : Base) (all : Remainder) (first : Beginning) (own : List TraceItem) (events : List Event) → base.standard ≡ std → IsTracingOf (program std s natives) base trace first.tracing → StandsAt (program std s natives) base all first own events b m o → Ran (program std s natives) base all first b' m' o' t) → Ran (program std s natives) (main_base std) (remainder_of (meaning_of (program std s natives))) (main_beginning trace std o) b' m' o' t
   main_ran b' m' o' t ran =
-      ran (main_base std) (left_of (meaning_of (program std s natives))) (main_beginning trace std o) [] [] refl (main_is_traced (program std s natives) std trace) stands
+      ran (main_base std) (remainder_of (meaning_of (program std s natives))) (main_beginning trace std o) [] [] refl (main_is_traced (program std s natives) std trace) stands

@@ -24,9 +24,9 @@ use Rattle.ffi3_run_rules.specs.declared.Stop.{Stop}
 use Rattle.ffi3_run_rules.specs.Meaning as meaning
 use Rattle.ffi3_run_rules.specs.Move as run
 use Rattle.ffi3_run_rules.specs.Trace.{TraceItem}
-use Rattle.ffi3_turn_rules.specs.Left.{Left}
+use Rattle.ffi3_turn_rules.specs.Remainder.{Remainder}
 use Rattle.ffi3_turn_rules.specs.SoFar.{Base}
-use Rattle.ffi3_board.specs.Between.{Beginning, Moment, IsAsking}
+use Rattle.ffi3_board.specs.Between.{Beginning, RunState, IsAsking}
 use Rattle.ffi3_board.specs.Known.{LeadsTo}
 use Rattle.ffi3_ask.specs.Handed.{signatures_in}
 use Rattle.ffi3_runner.specs.Running.{program, IsPrepared}
@@ -47,7 +47,7 @@ own_is p ss func sig own z are known same site =
     site ∙ same ∙ ap (λ (k : ℕ). signature_at ss k) known ∙ ap (λ (l : List Signature). signature_at l (function_at p func).signature) are
 
 -- what a call leads to, by what a run is prepared with
-pub does_at : (std : Standard) (s : Script) (natives : List NamedNative) (cifs : List Signature) (prepared : IsPrepared std s natives cifs) (ptr sig : ℕ) (args : List ValueTree) (r : Result Closure Stop) (base : Base) (all : Left) (first : Beginning) (own : List TraceItem) (events : List Event) (x : Moment) (asked : run.Move) → IsAsking (program std s natives) base all first own events x asked → ((p : Program) (a : meaning.Activation) (given : List ValueTree) → p.signatures ≡ cifs → p.need ≡ need_of std → a.left + STACK ≡ x.machine.sp → LeadsTo p a x.closures ptr sig given r) → LeadsTo (program std s natives) x.innermost x.closures ptr sig args r
+pub does_at : (std : Standard) (s : Script) (natives : List NamedNative) (cifs : List Signature) (prepared : IsPrepared std s natives cifs) (ptr sig : ℕ) (args : List ValueTree) (r : Result Closure Stop) (base : Base) (all : Remainder) (first : Beginning) (own : List TraceItem) (events : List Event) (x : RunState) (asked : run.Move) → IsAsking (program std s natives) base all first own events x asked → ((p : Program) (a : meaning.Activation) (given : List ValueTree) → p.signatures ≡ cifs → p.need ≡ need_of std → a.left + STACK ≡ x.machine.sp → LeadsTo p a x.closures ptr sig given r) → LeadsTo (program std s natives) x.innermost x.closures ptr sig args r
 does_at std s natives cifs prepared ptr sig args r base all first own events x asked is does =
     does (program std s natives) x.innermost args (sym prepared.are) refl is.between.left
 

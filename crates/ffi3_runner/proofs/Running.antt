@@ -6,9 +6,9 @@ use Rattle.ffi3_place_rules.specs.Standard.{Standard}
 use Rattle.ffi3_run_rules.specs.declared.Stop.{Stop}
 use Rattle.ffi3_run_rules.specs.Meaning.{Program}
 use Rattle.ffi3_run_rules.specs.Trace.{TraceItem}
-use Rattle.ffi3_turn_rules.specs.Left.{Left}
+use Rattle.ffi3_turn_rules.specs.Remainder.{Remainder}
 use Rattle.ffi3_turn_rules.specs.SoFar.{Base}
-use Rattle.ffi3_turn_rules.specs.Told.{IsTracingOf}
+use Rattle.ffi3_turn_rules.specs.TracingOf.{IsTracingOf}
 use Rattle.ffi3_machine.specs.State.{State}
 use Rattle.ffi3_io.specs.Sink.{SinkState}
 use Rattle.ffi3_ask.specs.declared.standing.Standing.{Standing}
@@ -24,7 +24,7 @@ use Rattle.ffi3_runner.proofs.Turning.{went_on}
 -- what a move's answer says, from any moment
 abbrev pub Turns : Standard → (trace : Bool) → Program → Board Standing → State → SinkState → Board Standing → State → SinkState → Turn → Type 0
 Turns std trace p b m o b' m' o' t =
-    (base : Base) (all : Left) (first : Beginning) (own : List TraceItem) (events : List Event) → base.standard ≡ std → IsTracingOf p base trace first.tracing → StandsAt p base all first own events b m o → Turned p base all first own b.moves b' m' o' t
+    (base : Base) (all : Remainder) (first : Beginning) (own : List TraceItem) (events : List Event) → base.standard ≡ std → IsTracingOf p base trace first.tracing → StandsAt p base all first own events b m o → Turned p base all first own b.moves b' m' o' t
 
 module _ (std : Standard) (trace : Bool) (p : Program) (b₀ b b' : Board Standing) (m₀ m m' : State) (o₀ o o' : SinkState) where
   pub comes_nowhere : ComesTo std trace p b₀ m₀ o₀ b₀ m₀ o₀
@@ -38,14 +38,14 @@ module _ (std : Standard) (trace : Bool) (p : Program) (b₀ b b' : Board Standi
         (k.0 ++ went.more, went.events, went.stands)
 
     -- the moves fall
-    pub falls : t ≡ turn.More → (base : Base) (all : Left) (first : Beginning) (own : List TraceItem) (events : List Event) → base.standard ≡ std → IsTracingOf p base trace first.tracing → StandsAt p base all first own events b₀ m₀ o₀ → b'.moves < b.moves
+    pub falls : t ≡ turn.More → (base : Base) (all : Remainder) (first : Beginning) (own : List TraceItem) (events : List Event) → base.standard ≡ std → IsTracingOf p base trace first.tracing → StandsAt p base all first own events b₀ m₀ o₀ → b'.moves < b.moves
     falls more base all first own events standard tracing h =
         let k = since base all first own events standard tracing h in
         let went = went_on p base all first k.0 b.moves b' m' o' t (turned base all first k.0 k.1 standard tracing k.2) more in
         let counted : b.moves ≡ suc b'.moves = went.counted in
         omega (arith, counted)
 
-    module _ (base : Base) (all : Left) (first : Beginning) (own : List TraceItem) (events : List Event) (standard : base.standard ≡ std) (tracing : IsTracingOf p base trace first.tracing) (h : StandsAt p base all first own events b₀ m₀ o₀) where
+    module _ (base : Base) (all : Remainder) (first : Beginning) (own : List TraceItem) (events : List Event) (standard : base.standard ≡ std) (tracing : IsTracingOf p base trace first.tracing) (h : StandsAt p base all first own events b₀ m₀ o₀) where
       at : Turned p base all first (since base all first own events standard tracing h).0 b.moves b' m' o' t
       at =
           let k = since base all first own events standard tracing h in

@@ -7,7 +7,6 @@ use Rattle.ffi3_machine.specs.State.{State, stack_at}
 use Rattle.ffi3_script_rules.specs.Natives.{NamedNative}
 use Rattle.ffi3_body.specs.SeenActivation.{SeenActivation}
 use Rattle.ffi3_script.specs.declared.script.Script.{Script}
-use Rattle.ffi3_ask.specs.Stands as ask
 use Rattle.ffi3_ask.specs.Stands.{StandingAgrees}
 use Rattle.ffi3_script_body.specs.Agrees.{one_more}
 use Rattle.ffi3_ask.specs.declared.standing.Standing.{Standing}

@@ -9,9 +9,9 @@ use Rattle.ffi3_run_rules.specs.declared.Closure.{Closure}
 use Rattle.ffi3_run_rules.specs.Closures.{Closures, closure_at}
 use Rattle.ffi3_run_rules.specs.Meaning.{Program}
 use Rattle.ffi3_run_rules.specs.Trace.{TraceItem}
-use Rattle.ffi3_turn_rules.specs.Left.{Left}
+use Rattle.ffi3_turn_rules.specs.Remainder.{Remainder}
 use Rattle.ffi3_turn_rules.specs.SoFar.{Base}
-use Rattle.ffi3_turn_rules.specs.Told.{IsTracingOf}
+use Rattle.ffi3_turn_rules.specs.TracingOf.{IsTracingOf}
 use Rattle.ffi3_machine.specs.State.{State}
 use Rattle.ffi3_io.specs.Sink.{SinkState}
 use Rattle.ffi3_io.specs.Written.{TookText}
@@ -20,7 +20,7 @@ use Rattle.ffi3_invoke.specs.Calls.{entered_closure, entry_at}
 use Rattle.ffi3_ask.specs.declared.standing.Standing.{Standing}
 use Rattle.ffi3_board.specs.declared.board.Board.{Board}
 use Rattle.ffi3_board.specs.Between.{Beginning}
-use Rattle.ffi3_board.specs.Accepted.{WasCutAtEntry}
+use Rattle.ffi3_board.specs.Accepted.{WasInterruptedAtEntry}
 use Rattle.ffi3_board.specs.Served.{ShowsCall, served_base, served_beginning, served_left, served_tracing}
 use Rattle.ffi3_board.specs.TraceLines.{entry_lines}
 use Rattle.ffi3_board.proofs.Accepting.{served_is_traced}
@@ -53,13 +53,13 @@ module _ (std : Standard) (trace : Bool) (p : Program) (b b₁ : Board Standing)
 
   module _ (begins : (arguments : List ValueTree) → ShowsCall std (signature_at cifs found.sig) arguments m → TookText (entry_lines trace std s (entry_at std s m) arguments) o o₁ × StandsAt p base (served_left std p found arguments m b.table b.moves) first [] [] b₁ m₁ o₁) where
     -- the run stands after the call's entry
-    pub served_between : (closure : Closure) (arguments : List ValueTree) → IsAtEntry std p b.table m closure arguments → (base : Base) × (all : Left) × (first : Beginning) × (own : List TraceItem) × (events : List Event) × (base.standard ≡ std) × IsTracingOf p base trace first.tracing × StandsAt p base all first own events b₁ m₁ o₁
+    pub served_between : (closure : Closure) (arguments : List ValueTree) → IsAtEntry std p b.table m closure arguments → (base : Base) × (all : Remainder) × (first : Beginning) × (own : List TraceItem) × (events : List Event) × (base.standard ≡ std) × IsTracingOf p base trace first.tracing × StandsAt p base all first own events b₁ m₁ o₁
     served_between closure arguments at =
         let shows = shows_found std p b.table m found closure arguments cifs are live at in
         (base, served_left std p found arguments m b.table b.moves, first, [], [], refl, served_is_traced p std found.sig m trace, (begins arguments shows).1)
 
     -- THE CALL RAN
-    pub call_served : (b' : Board Standing) (m' : State) (o' : SinkState) (t : RunEnd) → ((base : Base) (all : Left) (first : Beginning) (own : List TraceItem) (events : List Event) → base.standard ≡ std → IsTracingOf p base trace first.tracing → StandsAt p base all first own events b₁ m₁ o₁ → Ran p base all first b' m' o' t) → Served std trace p b m o b' m' o' t
+    pub call_served : (b' : Board Standing) (m' : State) (o' : SinkState) (t : RunEnd) → ((base : Base) (all : Remainder) (first : Beginning) (own : List TraceItem) (events : List Event) → base.standard ≡ std → IsTracingOf p base trace first.tracing → StandsAt p base all first own events b₁ m₁ o₁ → Ran p base all first b' m' o' t) → Served std trace p b m o b' m' o' t
     call_served b' m' o' t ran = λ closure arguments at.
         let same = one_closure b.table (entered_closure m) found closure live at.live in
         let shows = shows_found std p b.table m found closure arguments cifs are live at in
@@ -71,8 +71,8 @@ module _ (std : Standard) (trace : Bool) (p : Program) (b b₁ : Board Standing)
         } in
         inl (subst (λ (c : Closure). HasRun std trace p c arguments b m o b' m' o' t) same here)
 
-  -- OR IT WAS CUT OFF AT ITS ENTRY
-  pub call_cut_off : (why : IoError) (t : RunEnd) → t ≡ end_of why → ((arguments : List ValueTree) → ShowsCall std (signature_at cifs found.sig) arguments m → WasCutAtEntry std s arguments trace why m m₁ o o₁) → Served std trace p b m o b₁ m₁ o₁ t
+  -- OR IT WAS INTERRUPTED AT ITS ENTRY
+  pub call_cut_off : (why : IoError) (t : RunEnd) → t ≡ end_of why → ((arguments : List ValueTree) → ShowsCall std (signature_at cifs found.sig) arguments m → WasInterruptedAtEntry std s arguments trace why m m₁ o o₁) → Served std trace p b m o b₁ m₁ o₁ t
   call_cut_off why t answer cuts = λ closure arguments at.
       let same = one_closure b.table (entered_closure m) found closure live at.live in
       let shows = shows_found std p b.table m found closure arguments cifs are live at in

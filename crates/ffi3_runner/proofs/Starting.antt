@@ -12,7 +12,7 @@ use Rattle.ffi3_place_rules.specs.Isa.{reserved_places}
 use Rattle.ffi3_place_rules.specs.Standard.{Standard, need_of}
 use Rattle.ffi3_run_rules.specs.Closures.{Closures, no_closures}
 use Rattle.ffi3_run_rules.specs.Meaning.{Program, meaning_of, main_call, most_moves, stack_size}
-use Rattle.ffi3_turn_rules.specs.Left.{left_of}
+use Rattle.ffi3_turn_rules.specs.Remainder.{remainder_of}
 use Rattle.ffi3_turn_rules.specs.SoFar.{main_base}
 use Rattle.ffi3_turn_rules.proofs.Coming.{comes_from}
 use Rattle.ffi3_machine.specs.State.{State, begun, begun_code, begun_general, image_of, scribbled_general}
@@ -25,7 +25,7 @@ use Rattle.ffi3_board.specs.declared.activation.OpenCall.{OpenCall}
 use Rattle.ffi3_board.specs.declared.activation.Waiting.{Waiting}
 use Rattle.ffi3_board.specs.declared.activation.Who.TheVariants.{Main}
 use Rattle.ffi3_board.specs.declared.board.Board.{Board}
-use Rattle.ffi3_board.specs.Between.{Moment, IsBetween, moment, moment_with}
+use Rattle.ffi3_board.specs.Between.{RunState, IsBetween, run_state, run_state_with}
 use Rattle.ffi3_board.specs.Path.{acting, who_of}
 use Rattle.ffi3_board.specs.Turned.{StandsAt}
 use Rattle.ffi3_board.proofs.Closed.{none_known}
@@ -43,7 +43,7 @@ module _ (p : Program) (std : Standard) (needs : p.need ≡ need_of std) (agrees
   abbrev machine : State
   machine = begun std.target k l
 
-  abbrev start : Moment
+  abbrev start : RunState
   start = record {
     innermost = main_call;
     suspended = [];
@@ -59,7 +59,7 @@ module _ (p : Program) (std : Standard) (needs : p.need ≡ need_of std) (agrees
       let P = λ (locs : List Loc). AllByRecursion (λ at. register (image_of 0 machine) at ≡ 0) locs in
       subst P (sym agrees.reserved) (none_reserved (isa_of std.target) machine.floating machine.sp (image_of 0 machine).stack)
 
-  pub starts : HoldsMap std.target no_closures (begun_code (isa_of std.target)) → IsBetween p (main_base std) (left_of (meaning_of p)) (main_beginning trace std o) [] [] start
+  pub starts : HoldsMap std.target no_closures (begun_code (isa_of std.target)) → IsBetween p (main_base std) (remainder_of (meaning_of p)) (main_beginning trace std o) [] [] start
   starts holds = record {
     needs = needs;
     count = refl;
@@ -85,16 +85,16 @@ module _ (p : Program) (std : Standard) (needs : p.need ≡ need_of std) (agrees
     acts =
         λ i. record { who = who_of (who i); arguments = []; user = user i; left = stack_size; results = results i }
 
-    moment_is : moment p.signatures a b machine o ≡ start
-    moment_is =
-        ap (λ (s : Option OpenCall). moment_with p.signatures s (reverse b.suspended.items) b.table b.moves machine o a) new.served
-        ∙ ap (λ (w : List (Waiting Standing)). moment_with p.signatures None (reverse w) b.table b.moves machine o a) new.suspended
-        ∙ ap (λ (c : Closures). moment_with p.signatures None [] c b.moves machine o a) new.closures
-        ∙ ap (λ (n : ℕ). moment_with p.signatures None [] no_closures n machine o a) new.moves
+    run_state_is : run_state p.signatures a b machine o ≡ start
+    run_state_is =
+        ap (λ (s : Option OpenCall). run_state_with p.signatures s (reverse b.suspended.items) b.table b.moves machine o a) new.served
+        ∙ ap (λ (w : List (Waiting Standing)). run_state_with p.signatures None (reverse w) b.table b.moves machine o a) new.suspended
+        ∙ ap (λ (c : Closures). run_state_with p.signatures None [] c b.moves machine o a) new.closures
+        ∙ ap (λ (n : ℕ). run_state_with p.signatures None [] no_closures n machine o a) new.moves
         ∙ (λ i. record { innermost = acts i; suspended = []; calls = []; closures = no_closures; moves = most_moves; machine = machine; output = o })
 
-    pub stands_at_start : StandsAt p (main_base std) (left_of (meaning_of p)) (main_beginning trace std o) [] [] (record b { innermost = Some a }) machine o
+    pub stands_at_start : StandsAt p (main_base std) (remainder_of (meaning_of p)) (main_beginning trace std o) [] [] (record b { innermost = Some a }) machine o
     stands_at_start =
         let P = λ (c : Closures). HoldsMap std.target c (begun_code (isa_of std.target)) in
         let holds = subst P new.closures (new.begins std.target) in
-        subst (λ (x : Moment). IsBetween p (main_base std) (left_of (meaning_of p)) (main_beginning trace std o) [] [] x) (sym moment_is) (starts holds)
+        subst (λ (x : RunState). IsBetween p (main_base std) (remainder_of (meaning_of p)) (main_beginning trace std o) [] [] x) (sym run_state_is) (starts holds)

@@ -57,6 +57,6 @@ InnermostStands s natives signatures m call None = ⊥
 InnermostStands s natives signatures m call (Some a) = IsStanding s natives signatures m call a
 
 -- ALL ACTIVATIONS STAND IN THEIR BODIES: the innermost where its next move is asked for, those around it where the move after their call's result is.
-pub record AllStand (s : Script) (natives : List NamedNative) (signatures : List Signature) (m : State) (b : Board Standing) : Type 0 where
+pub record PositionsAgree (s : Script) (natives : List NamedNative) (signatures : List Signature) (m : State) (b : Board Standing) : Type 0 where
   pub innermost : InnermostStands s natives signatures m (call_inside b.served (reverse b.suspended.items)) b.innermost
   pub others : AllWillStand s natives signatures m b.served (reverse b.suspended.items)

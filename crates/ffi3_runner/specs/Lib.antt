@@ -1,7 +1,7 @@
 pub mod Agreeing
 pub mod Running
 pub mod RunMatches
-pub mod RunCut
+pub mod RunInterrupted
 pub mod Ran
 pub mod Started
 pub mod Serving

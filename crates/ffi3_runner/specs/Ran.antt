@@ -4,27 +4,27 @@ use Rattle.ffi3_place_rules.specs.Event.{Event}
 use Rattle.ffi3_place_rules.specs.Standard.{Standard}
 use Rattle.ffi3_run_rules.specs.Trace.{TraceItem}
 use Rattle.ffi3_run_rules.specs.Meaning.{Program, stopped}
-use Rattle.ffi3_turn_rules.specs.Left.{Left}
+use Rattle.ffi3_turn_rules.specs.Remainder.{Remainder}
 use Rattle.ffi3_turn_rules.specs.SoFar.{Base}
-use Rattle.ffi3_turn_rules.specs.Told.{IsTracingOf}
+use Rattle.ffi3_turn_rules.specs.TracingOf.{IsTracingOf}
 use Rattle.ffi3_machine.specs.State.{State}
 use Rattle.ffi3_io.specs.Sink.{SinkState}
 use Rattle.ffi3_io.specs.declared.IoError.TheVariants as cut
 use Rattle.ffi3_ask.specs.declared.standing.Standing.{Standing}
 use Rattle.ffi3_board.specs.declared.board.Board.{Board}
 use Rattle.ffi3_board.specs.Between.{Beginning}
-use Rattle.ffi3_board.specs.Turned.{IsDone, IsEnded, StandsAt, WasCutOff}
+use Rattle.ffi3_board.specs.Turned.{IsDone, IsEnded, StandsAt, WasInterrupted}
 use Rattle.ffi3_runner.specs.declared.run.RunEnd.{RunEnd}
 use Rattle.ffi3_runner.specs.declared.run.RunEnd.TheVariants as run
 
 -- WHAT A RUN'S ANSWER SAYS
-abbrev pub Ran : Program → Base → Left → Beginning → Board Standing → State → SinkState → RunEnd → Type 0
+abbrev pub Ran : Program → Base → Remainder → Beginning → Board Standing → State → SinkState → RunEnd → Type 0
 Ran p base all first b m output run.Done = IsDone p base all first b m output
 Ran p base all first b m output (run.Stopped stop) = IsEnded p base all first (stopped stop) b.table b.moves m output
-Ran p base all first b m output run.NoMemory = WasCutOff p base all first cut.NoMemory m output
-Ran p base all first b m output run.Failed = WasCutOff p base all first cut.Failed m output
+Ran p base all first b m output run.NoMemory = WasInterrupted p base all first cut.NoMemory m output
+Ran p base all first b m output run.Failed = WasInterrupted p base all first cut.Failed m output
 
 -- A RUN OF MAIN, traced or not, COMES FROM one moment to another: where it stands at the first it stands at the second, with more done.
 abbrev pub ComesTo : Standard → (trace : Bool) → Program → Board Standing → State → SinkState → Board Standing → State → SinkState → Type 0
 ComesTo std trace p b m output b' m' output' =
-    (base : Base) (all : Left) (first : Beginning) (own : List TraceItem) (events : List Event) → base.standard ≡ std → IsTracingOf p base trace first.tracing → StandsAt p base all first own events b m output → (own' : List TraceItem) × (events' : List Event) × StandsAt p base all first own' events' b' m' output'
+    (base : Base) (all : Remainder) (first : Beginning) (own : List TraceItem) (events : List Event) → base.standard ≡ std → IsTracingOf p base trace first.tracing → StandsAt p base all first own events b m output → (own' : List TraceItem) × (events' : List Event) × StandsAt p base all first own' events' b' m' output'

@@ -14,7 +14,7 @@ use Rattle.ffi3_io.specs.declared.IoError.TheVariants as cut
 use Rattle.ffi3_invoke.specs.Calls.{entered_closure, entry_at}
 use Rattle.ffi3_ask.specs.declared.standing.Standing.{Standing}
 use Rattle.ffi3_board.specs.declared.board.Board.{Board}
-use Rattle.ffi3_board.specs.Accepted.{WasCutAtEntry}
+use Rattle.ffi3_board.specs.Accepted.{WasInterruptedAtEntry}
 use Rattle.ffi3_board.specs.Served.{ShowsCall, served_base, served_beginning, served_left, served_tracing}
 use Rattle.ffi3_board.specs.TraceLines.{entry_lines}
 use Rattle.ffi3_runner.specs.Ran.{Ran}
@@ -26,7 +26,7 @@ pub record IsAtEntry (std : Standard) (p : Program) (closures : Closures) (m : S
   pub live : closure_at closures (entered_closure m) ≡ Some closure
   pub shows : ShowsCall std (signature_at p.signatures closure.sig) arguments m
 
--- what a run came to that was cut off
+-- what a run came to that was interrupted
 abbrev pub end_of : IoError → RunEnd
 end_of cut.NoMemory = run.NoMemory
 end_of cut.Failed = run.Failed
@@ -38,11 +38,11 @@ module _ (std : Standard) (trace : Bool) (p : Program) (closure : Closure) (argu
     pub entry : TookText (entry_lines trace std (signature_at p.signatures closure.sig) (entry_at std (signature_at p.signatures closure.sig) m) arguments) output told
     pub ran : Ran p (served_base std p.signatures closure.sig m) (served_left std p closure arguments m b.table b.moves) (served_beginning std (signature_at p.signatures closure.sig) m told (served_tracing trace std p.signatures closure.sig m)) b' m' output' end
 
-  -- or it was cut off in the lines of its entry, or before them
+  -- or it was interrupted in the lines of its entry, or before them
   pub record HasNotRun (m' : State) (output' : SinkState) (end : RunEnd) : Type 0 where
     pub why : IoError
     pub answer : end ≡ end_of why
-    pub cut_off : WasCutAtEntry std (signature_at p.signatures closure.sig) arguments trace why m m' output output'
+    pub cut_off : WasInterruptedAtEntry std (signature_at p.signatures closure.sig) arguments trace why m m' output output'
 
 -- WHAT CAME OF A CALL THAT IS SERVED, whatever closure and values the machine showed
 abbrev pub Served : Standard → (trace : Bool) → Program → Board Standing → State → SinkState → Board Standing → State → SinkState → RunEnd → Type 0

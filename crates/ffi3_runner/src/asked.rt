@@ -1,13 +1,12 @@
 //! What an activation's function asks for.
-ghost use Rattle.std.specs.Prelude.{◌≡◌, ◌+◌, ◌<◌, ◌≤◌, ◌^◌, IfOk, List, length, map};
+ghost use Rattle.std.specs.Prelude.{◌≡◌, ◌+◌, ◌<◌, ◌≤◌, ◌^◌, IfOk, length};
 ghost use Rattle.ffi3_type_rules.specs.declared.limits.TheConstants.{STACK, STACK_TOP};
 ghost use Rattle.ffi3_type_rules.specs.Signature.{signature_at};
 ghost use Rattle.ffi3_place_rules.specs.Standard.{Standard, block_bytes};
-ghost use Rattle.ffi3_script_rules.specs.Natives.{NamedNative};
 ghost use Rattle.ffi3_script.specs.ScriptOf.{natives_of};
 ghost use Rattle.ffi3_body.specs.MoveOf.{move_of};
 ghost use Rattle.ffi3_ask.specs.Asked.{IsAsked};
-ghost use Rattle.ffi3_ask.specs.Handed.{handed_in, signatures_in};
+ghost use Rattle.ffi3_ask.specs.Handed.{handed, signatures_in};
 ghost use Rattle.ffi3_ask.specs.Stands.{StandingAgrees};
 ghost use Rattle.ffi3_script_body.specs.Agrees.{one_more};
 ghost use Rattle.ffi3_ask.specs.Stands as ask;
@@ -30,12 +29,12 @@ pub(crate) fn asked_by_main(
     current: &mut Activation<Standing>,
 ) -> Result<Move, NoMemory>
     requires beside { natives_of script.now ≤ length natives.now.items }
-    requires few_signatures { length (signatures_in (map (λ b. handed_in (title b) (meaning b) (signatures b)) natives.now.items)) < 2 ^ 31 }
-    requires agrees { StandingAgrees script.now (map (λ b. handed_in (title b) (meaning b) (signatures b)) natives.now.items) (seen_by_main current.old) current.old.standing }
-    ensures asked { let handed : List NamedNative = map (λ b. handed_in (title b) (meaning b) (signatures b)) natives.now.items in
+    requires few_signatures { length (signatures_in (handed title meaning signatures natives.now.items)) < 2 ^ 31 }
+    requires agrees { StandingAgrees script.now (handed title meaning signatures natives.now.items) (seen_by_main current.old) current.old.standing }
+    ensures asked { let all = handed title meaning signatures natives.now.items in
         (std : Standard) → IfOk result
-        (λ m. IsAsked (program std script.now handed) (ask.who_of current.old.standing) (seen_by_main current.old)
-        (λ r. StandingAgrees script.now handed (one_more (seen_by_main current.old) r) current.new.standing) (move_of m)) }
+        (λ m. IsAsked (program std script.now all) (ask.who_of current.old.standing) (seen_by_main current.old)
+        (λ r. StandingAgrees script.now all (one_more (seen_by_main current.old) r) current.new.standing) (move_of m)) }
     ensures who { ask.who_of current.new.standing ≡ ask.who_of current.old.standing }
     ensures same { current.new ≡ record current.old { standing = current.new.standing } }
 {
@@ -55,17 +54,17 @@ pub(crate) fn asked_by_callee<A: Abi>(
     current: &mut Activation<Standing>,
 ) -> Result<Move, NoMemory>
     requires beside { natives_of script.now ≤ length natives.now.items }
-    requires few_signatures { length (signatures_in (map (λ b. handed_in (title b) (meaning b) (signatures b)) natives.now.items)) < 2 ^ 31 }
+    requires few_signatures { length (signatures_in (handed title meaning signatures natives.now.items)) < 2 ^ 31 }
     requires below { call.now.sig < length cifs.now }
     requires block { call.now.incoming.block ≡ machine.now.sp }
     requires low { STACK ≤ machine.now.sp }
     requires high { machine.now.sp + block_bytes (signature_at cifs.now call.now.sig) ≤ STACK_TOP }
-    requires agrees { StandingAgrees script.now (map (λ b. handed_in (title b) (meaning b) (signatures b)) natives.now.items)
+    requires agrees { StandingAgrees script.now (handed title meaning signatures natives.now.items)
         (seen_by_callee cifs.now machine.now call.now current.old) current.old.standing }
-    ensures asked { let handed : List NamedNative = map (λ b. handed_in (title b) (meaning b) (signatures b)) natives.now.items in
+    ensures asked { let all = handed title meaning signatures natives.now.items in
         (std : Standard) → IfOk result
-        (λ m. IsAsked (program std script.now handed) (ask.who_of current.old.standing) (seen_by_callee cifs.now machine.now call.now current.old)
-        (λ r. StandingAgrees script.now handed (one_more (seen_by_callee cifs.now machine.now call.now current.old) r) current.new.standing) (move_of m)) }
+        (λ m. IsAsked (program std script.now all) (ask.who_of current.old.standing) (seen_by_callee cifs.now machine.now call.now current.old)
+        (λ r. StandingAgrees script.now all (one_more (seen_by_callee cifs.now machine.now call.now current.old) r) current.new.standing) (move_of m)) }
     ensures who { ask.who_of current.new.standing ≡ ask.who_of current.old.standing }
     ensures same { current.new ≡ record current.old { standing = current.new.standing } }
 {

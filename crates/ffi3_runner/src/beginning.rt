@@ -1,13 +1,13 @@
 //! The beginning of a run of main.
-ghost use Rattle.std.specs.Prelude.{◌≡◌, Bool, [], map};
+ghost use Rattle.std.specs.Prelude.{◌≡◌, Bool, []};
 ghost use Rattle.ffi3_run_rules.specs.Meaning.{meaning_of};
-ghost use Rattle.ffi3_turn_rules.specs.Left.{left_of};
+ghost use Rattle.ffi3_turn_rules.specs.Remainder.{remainder_of};
 ghost use Rattle.ffi3_turn_rules.specs.SoFar.{main_base};
 ghost use Rattle.ffi3_machine.specs.State.{State, begun};
 ghost use Rattle.ffi3_io.specs.Sink.{SinkState};
-ghost use Rattle.ffi3_ask.specs.Handed.{handed_in};
+ghost use Rattle.ffi3_ask.specs.Handed.{handed};
 ghost use Rattle.ffi3_board.specs.Turned.{StandsAt};
-ghost use Rattle.ffi3_runner.specs.Agreeing.{AllStand};
+ghost use Rattle.ffi3_runner.specs.Agreeing.{PositionsAgree};
 ghost use Rattle.ffi3_runner.specs.Running.{IsNew, IsPrepared, program};
 ghost use Rattle.ffi3_runner.specs.Started.{main_beginning};
 
@@ -20,12 +20,12 @@ use ffi3_values::Values;
 impl<'a, A: Abi> Prepared<'a, A> {
     // Puts main's activation on the board, before its first move.
     pub(crate) fn start(&self, board: &mut Board<Standing>)
-        requires prepared { IsPrepared A.standard self.now.script.now (map (λ b. handed_in (title b) (meaning b) (signatures b)) self.now.natives.now.items) self.now.cifs }
+        requires prepared { IsPrepared A.standard self.now.script.now (handed title meaning signatures self.now.natives.now.items) self.now.cifs }
         requires new { IsNew board.old }
-        ensures standing { (m : State) → AllStand self.now.script.now (map (λ b. handed_in (title b) (meaning b) (signatures b)) self.now.natives.now.items) self.now.cifs m board.new }
-        ensures between { let p = program A.standard self.now.script.now (map (λ b. handed_in (title b) (meaning b) (signatures b)) self.now.natives.now.items) in
+        ensures standing { (m : State) → PositionsAgree self.now.script.now (handed title meaning signatures self.now.natives.now.items) self.now.cifs m board.new }
+        ensures between { let p = program A.standard self.now.script.now (handed title meaning signatures self.now.natives.now.items) in
             (trace : Bool) (m : State) (output : SinkState) → m ≡ begun A.TARGET m.spare_events m.spare_bytes →
-            StandsAt p (main_base A.standard) (left_of (meaning_of p)) (main_beginning trace A.standard output) [] [] board.new m output }
+            StandsAt p (main_base A.standard) (remainder_of (meaning_of p)) (main_beginning trace A.standard output) [] [] board.new m output }
     {
         let alloc = self.alloc;
         board.innermost = Some(Activation {

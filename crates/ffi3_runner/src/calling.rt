@@ -1,5 +1,5 @@
 //! What the innermost activation asks for, and a call.
-ghost use Rattle.std.specs.Prelude.{◌≡◌, ℕ, ◌+◌, ◌<◌, ◌≤◌, ◌^◌, IfOk, List, None, Some, length, map, reverse, suc, true};
+ghost use Rattle.std.specs.Prelude.{◌≡◌, ℕ, ◌+◌, ◌<◌, ◌≤◌, ◌^◌, IfOk, List, None, Some, length, reverse, suc, true};
 ghost use Rattle.ffi3_type_rules.specs.Signature.{signature_at};
 ghost use Rattle.ffi3_type_rules.specs.Tree.{trees_of};
 ghost use Rattle.ffi3_type_rules.specs.Value.{all_fit, values_of};
@@ -8,22 +8,21 @@ ghost use Rattle.ffi3_place_rules.specs.Event.{Event};
 ghost use Rattle.ffi3_run_rules.specs.Journal.{Entered};
 ghost use Rattle.ffi3_run_rules.specs.Move as asks;
 ghost use Rattle.ffi3_run_rules.specs.Trace.{TraceItem};
-ghost use Rattle.ffi3_turn_rules.specs.Left.{Left};
+ghost use Rattle.ffi3_turn_rules.specs.Remainder.{Remainder};
 ghost use Rattle.ffi3_turn_rules.specs.SoFar.{Base};
-ghost use Rattle.ffi3_turn_rules.specs.Told.{IsTracingOf};
-ghost use Rattle.ffi3_script_rules.specs.Natives.{NamedNative};
+ghost use Rattle.ffi3_turn_rules.specs.TracingOf.{IsTracingOf};
 ghost use Rattle.ffi3_script.specs.ScriptOf.{natives_of};
 ghost use Rattle.ffi3_body.specs.MoveOf.{move_of};
 ghost use Rattle.ffi3_ask.specs.Asked.{IsAsked};
-ghost use Rattle.ffi3_ask.specs.Handed.{handed_in, signatures_in};
+ghost use Rattle.ffi3_ask.specs.Handed.{handed, signatures_in};
 ghost use Rattle.ffi3_ask.specs.Stands.{StandingAgrees};
 ghost use Rattle.ffi3_script_body.specs.Agrees.{one_more};
 ghost use Rattle.ffi3_ask.specs.Stands as ask;
-ghost use Rattle.ffi3_board.specs.Between.{Beginning, IsAsking, moment};
+ghost use Rattle.ffi3_board.specs.Between.{Beginning, IsAsking, run_state};
 ghost use Rattle.ffi3_board.specs.Path.{call_inside, calls_of};
 ghost use Rattle.ffi3_board.specs.Stack.{HoldsCalls};
 ghost use Rattle.ffi3_board.specs.Turned.{StandsAt, Turned};
-ghost use Rattle.ffi3_runner.specs.Agreeing.{AllStand, AllWillStand, IsStanding, WillStand, seen_by};
+ghost use Rattle.ffi3_runner.specs.Agreeing.{PositionsAgree, AllWillStand, IsStanding, WillStand, seen_by};
 ghost use Rattle.ffi3_runner.specs.Running.{IsPrepared, program};
 
 use crate::asked::{asked_by_callee, asked_by_main};
@@ -44,16 +43,16 @@ impl<'a, A: Abi> Prepared<'a, A> {
         machine: &Machine,
         current: &mut Activation<Standing>,
     ) -> Result<Move, NoMemory>
-        requires prepared { IsPrepared A.standard self.now.script.now (map (λ b. handed_in (title b) (meaning b) (signatures b)) self.now.natives.now.items) self.now.cifs }
+        requires prepared { IsPrepared A.standard self.now.script.now (handed title meaning signatures self.now.natives.now.items) self.now.cifs }
         requires holds { (held : Loc → ℕ) × (top : ℕ) × (entered : List Entered) ×
             HoldsCalls A.standard self.now.cifs held top machine.now (calls_of board.now.served (reverse board.now.suspended.items)) entered }
-        requires stands { IsStanding self.now.script.now (map (λ b. handed_in (title b) (meaning b) (signatures b)) self.now.natives.now.items) self.now.cifs machine.now
+        requires stands { IsStanding self.now.script.now (handed title meaning signatures self.now.natives.now.items) self.now.cifs machine.now
             (call_inside board.now.served (reverse board.now.suspended.items)) current.old }
-        ensures asked { let handed : List NamedNative = map (λ b. handed_in (title b) (meaning b) (signatures b)) self.now.natives.now.items in
+        ensures asked { let all = handed title meaning signatures self.now.natives.now.items in
             let call = call_inside board.now.served (reverse board.now.suspended.items) in
             IfOk result
-            (λ m. IsAsked (program A.standard self.now.script.now handed) (ask.who_of current.old.standing) (seen_by self.now.cifs machine.now call current.old)
-            (λ r. StandingAgrees self.now.script.now handed (one_more (seen_by self.now.cifs machine.now call current.old) r) current.new.standing) (move_of m)) }
+            (λ m. IsAsked (program A.standard self.now.script.now all) (ask.who_of current.old.standing) (seen_by self.now.cifs machine.now call current.old)
+            (λ r. StandingAgrees self.now.script.now all (one_more (seen_by self.now.cifs machine.now call current.old) r) current.new.standing) (move_of m)) }
         ensures who { ask.who_of current.new.standing ≡ ask.who_of current.old.standing }
         ensures same { current.new ≡ record current.old { standing = current.new.standing } }
     {
@@ -94,24 +93,24 @@ impl<'a, A: Abi> Prepared<'a, A> {
         args: &Values,
         trace: bool,
     ) -> Turn
-        requires prepared { IsPrepared A.standard self.now.script.now (map (λ b. handed_in (title b) (meaning b) (signatures b)) self.now.natives.now.items) self.now.cifs }
+        requires prepared { IsPrepared A.standard self.now.script.now (handed title meaning signatures self.now.natives.now.items) self.now.cifs }
         requires site { sig < length self.now.cifs }
         requires fit { all_fit (trees_of (signature_at self.now.cifs sig).arguments) (values_of args.now) ≡ true }
-        requires others { AllWillStand self.now.script.now (map (λ b. handed_in (title b) (meaning b) (signatures b)) self.now.natives.now.items) self.now.cifs machine.old
+        requires others { AllWillStand self.now.script.now (handed title meaning signatures self.now.natives.now.items) self.now.cifs machine.old
             board.old.served (reverse board.old.suspended.items) }
-        requires will { WillStand self.now.script.now (map (λ b. handed_in (title b) (meaning b) (signatures b)) self.now.natives.now.items) self.now.cifs machine.old
+        requires will { WillStand self.now.script.now (handed title meaning signatures self.now.natives.now.items) self.now.cifs machine.old
             (call_inside board.old.served (reverse board.old.suspended.items)) current (signature_at self.now.cifs sig) }
-        requires asking { let p = program A.standard self.now.script.now (map (λ b. handed_in (title b) (meaning b) (signatures b)) self.now.natives.now.items) in
-            (base : Base) × (all : Left) × (first : Beginning) × (own : List TraceItem) × (events : List Event) ×
+        requires asking { let p = program A.standard self.now.script.now (handed title meaning signatures self.now.natives.now.items) in
+            (base : Base) × (all : Remainder) × (first : Beginning) × (own : List TraceItem) × (events : List Event) ×
             (base.standard ≡ A.standard) ×
-            IsAsking p base all first own events (moment p.signatures current board.old machine.old (O.state output.old)) (asks.call ptr sig args.now) }
-        ensures turned { let p = program A.standard self.now.script.now (map (λ b. handed_in (title b) (meaning b) (signatures b)) self.now.natives.now.items) in
-            (base : Base) (all : Left) (first : Beginning) (own : List TraceItem) (events : List Event) →
+            IsAsking p base all first own events (run_state p.signatures current board.old machine.old (O.state output.old)) (asks.call ptr sig args.now) }
+        ensures turned { let p = program A.standard self.now.script.now (handed title meaning signatures self.now.natives.now.items) in
+            (base : Base) (all : Remainder) (first : Beginning) (own : List TraceItem) (events : List Event) →
             base.standard ≡ A.standard → IsTracingOf p base trace first.tracing →
-            IsAsking p base all first own events (moment p.signatures current board.old machine.old (O.state output.old)) (asks.call ptr sig args.now) →
+            IsAsking p base all first own events (run_state p.signatures current board.old machine.old (O.state output.old)) (asks.call ptr sig args.now) →
             Turned p base all first own (suc board.old.moves) board.new machine.new (O.state output.new) result }
         ensures standing { result ≡ Turn.More →
-            AllStand self.now.script.now (map (λ b. handed_in (title b) (meaning b) (signatures b)) self.now.natives.now.items) self.now.cifs machine.new board.new }
+            PositionsAgree self.now.script.now (handed title meaning signatures self.now.natives.now.items) self.now.cifs machine.new board.new }
     {
         let closure = match board.callee(machine, &self.cifs, ptr, sig) {
             Ok(closure) => closure,

@@ -1,9 +1,9 @@
 //! A call that is served.
-ghost use Rattle.std.specs.Prelude.{List, map};
+ghost use Rattle.std.specs.Prelude.{List};
 ghost use Rattle.ffi3_type_rules.specs.Value.{ValueTree};
 ghost use Rattle.ffi3_run_rules.specs.declared.Closure.{Closure};
 ghost use Rattle.ffi3_closures.specs.Slots.{HoldsMap};
-ghost use Rattle.ffi3_ask.specs.Handed.{handed_in};
+ghost use Rattle.ffi3_ask.specs.Handed.{handed};
 ghost use Rattle.ffi3_board.specs.Served.{IsIdle};
 ghost use Rattle.ffi3_runner.specs.Running.{IsPrepared, program};
 ghost use Rattle.ffi3_runner.specs.Serving.{IsAtEntry, Served};
@@ -27,12 +27,12 @@ impl<'a, A: Abi> Prepared<'a, A> {
         output: &mut O,
         trace: bool,
     ) -> RunEnd
-        requires prepared { IsPrepared A.standard self.now.script.now (map (λ b. handed_in (title b) (meaning b) (signatures b)) self.now.natives.now.items) self.now.cifs }
-        requires idle { IsIdle (program A.standard self.now.script.now (map (λ b. handed_in (title b) (meaning b) (signatures b)) self.now.natives.now.items)) board.old }
+        requires prepared { IsPrepared A.standard self.now.script.now (handed title meaning signatures self.now.natives.now.items) self.now.cifs }
+        requires idle { IsIdle (program A.standard self.now.script.now (handed title meaning signatures self.now.natives.now.items)) board.old }
         requires holds { HoldsMap machine.old.target board.old.table machine.old.code }
         requires entry { (closure : Closure) × (arguments : List ValueTree) ×
-            IsAtEntry A.standard (program A.standard self.now.script.now (map (λ b. handed_in (title b) (meaning b) (signatures b)) self.now.natives.now.items)) board.old.table machine.old closure arguments }
-        ensures { Served A.standard trace (program A.standard self.now.script.now (map (λ b. handed_in (title b) (meaning b) (signatures b)) self.now.natives.now.items))
+            IsAtEntry A.standard (program A.standard self.now.script.now (handed title meaning signatures self.now.natives.now.items)) board.old.table machine.old closure arguments }
+        ensures { Served A.standard trace (program A.standard self.now.script.now (handed title meaning signatures self.now.natives.now.items))
             board.old machine.old (O.state output.old) board.new machine.new (O.state output.new) result }
     {
         let Some(closure) = board.table.find(entered_closure(machine)) else {

@@ -1,9 +1,9 @@
 //! What a run is prepared with.
-ghost use Rattle.std.specs.Prelude.{◌≡◌, ◌<◌, ◌+◌, ◌^◌, IfOk, length, map};
+ghost use Rattle.std.specs.Prelude.{◌≡◌, ◌+◌, IfOk};
 ghost use Rattle.ffi3_place_rules.specs.Standard.{Standard};
 ghost use Rattle.ffi3_script_rules.specs.Natives.{program_beside};
 ghost use Rattle.ffi3_script.specs.ScriptOf.{script_of};
-ghost use Rattle.ffi3_ask.specs.Handed.{handed_in, signatures_in};
+ghost use Rattle.ffi3_ask.specs.Handed.{AreFew, handed};
 ghost use Rattle.ffi3_type_rules.specs.Signature.{SignatureHasNoFault};
 
 use ffi3_ask::{Native, signature, signatures};
@@ -43,10 +43,9 @@ pub fn prepare_all<A: Abi>(
     script: &Script,
     natives: &Vec<Box<dyn Native>>,
 ) -> Result<Cifs<A>, NoMemory>
-    requires few { length natives.now.items < 2 ^ 31 }
-    requires few_signatures { length (signatures_in (map (λ b. handed_in (title b) (meaning b) (signatures b)) natives.now.items)) < 2 ^ 31 }
+    requires { AreFew title meaning signatures natives.now.items }
     ensures { (std : Standard) → IfOk result (λ cifs. cifs ≡
-        (program_beside std (map (λ b. handed_in (title b) (meaning b) (signatures b)) natives.now.items) (script_of script.now)).signatures) }
+        (program_beside std (handed title meaning signatures natives.now.items) (script_of script.now)).signatures) }
 {
     let mut cifs = Cifs::new(alloc);
     for number in 0..signatures(script, natives) {

@@ -1,14 +1,14 @@
 //! Moves until a run ends.
-ghost use Rattle.std.specs.Prelude.{◌≡◌, List, map};
+ghost use Rattle.std.specs.Prelude.{◌≡◌, List};
 ghost use Rattle.ffi3_place_rules.specs.Event.{Event};
 ghost use Rattle.ffi3_run_rules.specs.Trace.{TraceItem};
-ghost use Rattle.ffi3_turn_rules.specs.Left.{Left};
+ghost use Rattle.ffi3_turn_rules.specs.Remainder.{Remainder};
 ghost use Rattle.ffi3_turn_rules.specs.SoFar.{Base};
-ghost use Rattle.ffi3_turn_rules.specs.Told.{IsTracingOf};
-ghost use Rattle.ffi3_ask.specs.Handed.{handed_in};
+ghost use Rattle.ffi3_turn_rules.specs.TracingOf.{IsTracingOf};
+ghost use Rattle.ffi3_ask.specs.Handed.{handed};
 ghost use Rattle.ffi3_board.specs.Between.{Beginning};
 ghost use Rattle.ffi3_board.specs.Turned.{StandsAt};
-ghost use Rattle.ffi3_runner.specs.Agreeing.{AllStand};
+ghost use Rattle.ffi3_runner.specs.Agreeing.{PositionsAgree};
 ghost use Rattle.ffi3_runner.specs.Ran.{Ran};
 ghost use Rattle.ffi3_runner.specs.Serving.{end_of};
 ghost use Rattle.ffi3_runner.specs.Running.{IsPrepared, program};
@@ -34,7 +34,7 @@ pub enum RunEnd {
 }
 
 impl RunEnd {
-    // What a run came to that was cut off.
+    // What a run came to that was interrupted.
     pub(crate) fn cut_off(why: IoError) -> RunEnd
         ensures { result ≡ end_of why }
     {
@@ -54,14 +54,14 @@ impl<'a, A: Abi> Prepared<'a, A> {
         output: &mut O,
         trace: bool,
     ) -> RunEnd
-        requires prepared { IsPrepared A.standard self.now.script.now (map (λ b. handed_in (title b) (meaning b) (signatures b)) self.now.natives.now.items) self.now.cifs }
-        requires standing { AllStand self.now.script.now (map (λ b. handed_in (title b) (meaning b) (signatures b)) self.now.natives.now.items) self.now.cifs machine.old board.old }
-        requires between { (base : Base) × (all : Left) × (first : Beginning) × (own : List TraceItem) × (events : List Event) ×
+        requires prepared { IsPrepared A.standard self.now.script.now (handed title meaning signatures self.now.natives.now.items) self.now.cifs }
+        requires standing { PositionsAgree self.now.script.now (handed title meaning signatures self.now.natives.now.items) self.now.cifs machine.old board.old }
+        requires between { (base : Base) × (all : Remainder) × (first : Beginning) × (own : List TraceItem) × (events : List Event) ×
             (base.standard ≡ A.standard) ×
-            IsTracingOf (program A.standard self.now.script.now (map (λ b. handed_in (title b) (meaning b) (signatures b)) self.now.natives.now.items)) base trace first.tracing ×
-            StandsAt (program A.standard self.now.script.now (map (λ b. handed_in (title b) (meaning b) (signatures b)) self.now.natives.now.items)) base all first own events board.old machine.old (O.state output.old) }
-        ensures { let p = program A.standard self.now.script.now (map (λ b. handed_in (title b) (meaning b) (signatures b)) self.now.natives.now.items) in
-            (base : Base) (all : Left) (first : Beginning) (own : List TraceItem) (events : List Event) →
+            IsTracingOf (program A.standard self.now.script.now (handed title meaning signatures self.now.natives.now.items)) base trace first.tracing ×
+            StandsAt (program A.standard self.now.script.now (handed title meaning signatures self.now.natives.now.items)) base all first own events board.old machine.old (O.state output.old) }
+        ensures { let p = program A.standard self.now.script.now (handed title meaning signatures self.now.natives.now.items) in
+            (base : Base) (all : Remainder) (first : Beginning) (own : List TraceItem) (events : List Event) →
             base.standard ≡ A.standard → IsTracingOf p base trace first.tracing →
             StandsAt p base all first own events board.old machine.old (O.state output.old) →
             Ran p base all first board.new machine.new (O.state output.new) result }

@@ -1,25 +1,25 @@
 //! The runner: what a run is prepared with, and its board.
-ghost use Rattle.std.specs.Prelude.{◌≡◌, ◌<◌, ◌≤◌, ◌^◌, Bool, IfOk, List, [], false, length, map, true};
+ghost use Rattle.std.specs.Prelude.{◌≡◌, ◌<◌, ◌≤◌, ◌^◌, Bool, IfOk, List, [], false, length, true};
 ghost use Rattle.ffi3_type_rules.specs.Value.{ValueTree, void_value};
 ghost use Rattle.ffi3_place_rules.specs.Event.{Event};
 ghost use Rattle.ffi3_run_rules.specs.Meaning.{meaning_of, returned, stopped};
 ghost use Rattle.ffi3_run_rules.specs.declared.Closure.{Closure};
 ghost use Rattle.ffi3_run_rules.specs.declared.Stop.{Stop};
 ghost use Rattle.ffi3_run_rules.specs.Trace.{TraceItem};
-ghost use Rattle.ffi3_turn_rules.specs.Left.{Left, left_of};
+ghost use Rattle.ffi3_turn_rules.specs.Remainder.{Remainder, remainder_of};
 ghost use Rattle.ffi3_turn_rules.specs.MainTracing.{main_tracing};
 ghost use Rattle.ffi3_turn_rules.specs.SoFar.{Base, main_base};
-ghost use Rattle.ffi3_turn_rules.specs.Told.{IsTracingOf};
+ghost use Rattle.ffi3_turn_rules.specs.TracingOf.{IsTracingOf};
 ghost use Rattle.ffi3_script.specs.ScriptOf.{natives_of};
 ghost use Rattle.ffi3_machine.specs.State.{State, begun};
 ghost use Rattle.ffi3_closures.specs.Slots.{HoldsMap};
 ghost use Rattle.ffi3_io.specs.Sink.{Rose, SinkState};
-ghost use Rattle.ffi3_ask.specs.Handed.{handed_in, signatures_in};
+ghost use Rattle.ffi3_ask.specs.Handed.{handed, signatures_in};
 ghost use Rattle.ffi3_board.specs.Between.{Beginning};
 ghost use Rattle.ffi3_board.specs.Served.{IsIdle};
 ghost use Rattle.ffi3_board.specs.Turned.{StandsAt, Turned};
-ghost use Rattle.ffi3_runner.specs.Agreeing.{AllStand};
-ghost use Rattle.ffi3_runner.specs.RunCut.{RunWasCut};
+ghost use Rattle.ffi3_runner.specs.Agreeing.{PositionsAgree};
+ghost use Rattle.ffi3_runner.specs.RunInterrupted.{RunWasInterrupted};
 ghost use Rattle.ffi3_runner.specs.RunMatches.{RunMatches, WrotePart};
 ghost use Rattle.ffi3_runner.specs.Serving.{IsAtEntry, Served};
 ghost use Rattle.ffi3_runner.specs.Started.{MainHasReturned, main_beginning};
@@ -54,9 +54,9 @@ impl<'a, A: Abi> Runner<'a, A> {
     ) -> Result<Self, NoMemory>
         requires beside { natives_of script.now ≤ length natives.now.items }
         requires few_natives { length natives.now.items < 2 ^ 31 }
-        requires few_signatures { length (signatures_in (map (λ b. handed_in (title b) (meaning b) (signatures b)) natives.now.items)) < 2 ^ 31 }
+        requires few_signatures { length (signatures_in (handed title meaning signatures natives.now.items)) < 2 ^ 31 }
         ensures prepared { IfOk result (λ r. IsPrepared A.standard r.prepared.script.now
-            (map (λ b. handed_in (title b) (meaning b) (signatures b)) r.prepared.natives.now.items) r.prepared.cifs) }
+            (handed title meaning signatures r.prepared.natives.now.items) r.prepared.cifs) }
         ensures new { IfOk result (λ r. IsNew r.board) }
         ensures going { IfOk result (λ r. r.over ≡ false) }
         ensures script { IfOk result (λ r. r.prepared.script.now ≡ script.now) }
@@ -80,7 +80,7 @@ impl<'a, A: Abi> Runner<'a, A> {
         })
     }
 
-    /// Whether the run is over: once a `turn`, also one inside `run_main`, answered other than
+    /// Whether the run is over: once a `turn`, also one inside `run_main`, returned other than
     /// `More`, or `serve` other than `Done`.
     pub fn ended(&self) -> bool
         ensures { result ≡ self.now.over }
@@ -111,13 +111,13 @@ impl<'a, A: Abi> Runner<'a, A> {
 
     /// Puts main's activation on the board, before its first move. It takes no memory.
     pub fn start(&mut self)
-        requires prepared { IsPrepared A.standard self.old.prepared.script.now (map (λ b. handed_in (title b) (meaning b) (signatures b)) self.old.prepared.natives.now.items) self.old.prepared.cifs }
+        requires prepared { IsPrepared A.standard self.old.prepared.script.now (handed title meaning signatures self.old.prepared.natives.now.items) self.old.prepared.cifs }
         requires new { IsNew self.old.board }
         ensures standing { (m : State) →
-            AllStand self.old.prepared.script.now (map (λ b. handed_in (title b) (meaning b) (signatures b)) self.old.prepared.natives.now.items) self.old.prepared.cifs m self.new.board }
-        ensures between { let p = program A.standard self.old.prepared.script.now (map (λ b. handed_in (title b) (meaning b) (signatures b)) self.old.prepared.natives.now.items) in
+            PositionsAgree self.old.prepared.script.now (handed title meaning signatures self.old.prepared.natives.now.items) self.old.prepared.cifs m self.new.board }
+        ensures between { let p = program A.standard self.old.prepared.script.now (handed title meaning signatures self.old.prepared.natives.now.items) in
             (trace : Bool) (m : State) (output : SinkState) → m ≡ begun A.TARGET m.spare_events m.spare_bytes →
-            StandsAt p (main_base A.standard) (left_of (meaning_of p)) (main_beginning trace A.standard output) [] [] self.new.board m output }
+            StandsAt p (main_base A.standard) (remainder_of (meaning_of p)) (main_beginning trace A.standard output) [] [] self.new.board m output }
         ensures prepared { self.new.prepared ≡ self.old.prepared }
         ensures going { self.new.over ≡ self.old.over }
     {
@@ -127,19 +127,19 @@ impl<'a, A: Abi> Runner<'a, A> {
     /// Does one move of the innermost activation. It is counted, and none is asked for where none
     /// is left. With `trace` an entry or a return is told as soon as it is recorded, in two lines.
     pub fn turn<O: Sink>(&mut self, machine: &mut Machine, output: &mut O, trace: bool) -> Turn
-        requires prepared { IsPrepared A.standard self.old.prepared.script.now (map (λ b. handed_in (title b) (meaning b) (signatures b)) self.old.prepared.natives.now.items) self.old.prepared.cifs }
-        requires standing { AllStand self.old.prepared.script.now (map (λ b. handed_in (title b) (meaning b) (signatures b)) self.old.prepared.natives.now.items) self.old.prepared.cifs machine.old self.old.board }
-        requires between { (base : Base) × (all : Left) × (first : Beginning) × (own : List TraceItem) × (events : List Event) ×
+        requires prepared { IsPrepared A.standard self.old.prepared.script.now (handed title meaning signatures self.old.prepared.natives.now.items) self.old.prepared.cifs }
+        requires standing { PositionsAgree self.old.prepared.script.now (handed title meaning signatures self.old.prepared.natives.now.items) self.old.prepared.cifs machine.old self.old.board }
+        requires between { (base : Base) × (all : Remainder) × (first : Beginning) × (own : List TraceItem) × (events : List Event) ×
             (base.standard ≡ A.standard) ×
-            IsTracingOf (program A.standard self.old.prepared.script.now (map (λ b. handed_in (title b) (meaning b) (signatures b)) self.old.prepared.natives.now.items)) base trace first.tracing ×
-            StandsAt (program A.standard self.old.prepared.script.now (map (λ b. handed_in (title b) (meaning b) (signatures b)) self.old.prepared.natives.now.items)) base all first own events self.old.board machine.old (O.state output.old) }
-        ensures turned { let p = program A.standard self.old.prepared.script.now (map (λ b. handed_in (title b) (meaning b) (signatures b)) self.old.prepared.natives.now.items) in
-            (base : Base) (all : Left) (first : Beginning) (own : List TraceItem) (events : List Event) →
+            IsTracingOf (program A.standard self.old.prepared.script.now (handed title meaning signatures self.old.prepared.natives.now.items)) base trace first.tracing ×
+            StandsAt (program A.standard self.old.prepared.script.now (handed title meaning signatures self.old.prepared.natives.now.items)) base all first own events self.old.board machine.old (O.state output.old) }
+        ensures turned { let p = program A.standard self.old.prepared.script.now (handed title meaning signatures self.old.prepared.natives.now.items) in
+            (base : Base) (all : Remainder) (first : Beginning) (own : List TraceItem) (events : List Event) →
             base.standard ≡ A.standard → IsTracingOf p base trace first.tracing →
             StandsAt p base all first own events self.old.board machine.old (O.state output.old) →
             Turned p base all first own self.old.board.moves self.new.board machine.new (O.state output.new) result }
         ensures standing { result ≡ Turn.More →
-            AllStand self.old.prepared.script.now (map (λ b. handed_in (title b) (meaning b) (signatures b)) self.old.prepared.natives.now.items) self.old.prepared.cifs machine.new self.new.board }
+            PositionsAgree self.old.prepared.script.now (handed title meaning signatures self.old.prepared.natives.now.items) self.old.prepared.cifs machine.new self.new.board }
         ensures prepared { self.new.prepared ≡ self.old.prepared }
         ensures going { result ≡ Turn.More → self.new.over ≡ self.old.over }
         ensures over { (result ≡ Turn.More → ⊥) → self.new.over ≡ true }
@@ -160,32 +160,32 @@ impl<'a, A: Abi> Runner<'a, A> {
         output: &mut O,
         trace: bool,
     ) -> RunEnd
-        requires prepared { IsPrepared A.standard self.old.prepared.script.now (map (λ b. handed_in (title b) (meaning b) (signatures b)) self.old.prepared.natives.now.items) self.old.prepared.cifs }
+        requires prepared { IsPrepared A.standard self.old.prepared.script.now (handed title meaning signatures self.old.prepared.natives.now.items) self.old.prepared.cifs }
         requires new { IsNew self.old.board }
         requires begun { machine.old ≡ begun A.TARGET machine.old.spare_events machine.old.spare_bytes }
         ensures done { result ≡ RunEnd.Done →
-            RunMatches (main_tracing trace A.standard) A.standard (program A.standard self.old.prepared.script.now (map (λ b. handed_in (title b) (meaning b) (signatures b)) self.old.prepared.natives.now.items))
+            RunMatches (main_tracing trace A.standard) A.standard (program A.standard self.old.prepared.script.now (handed title meaning signatures self.old.prepared.natives.now.items))
             (O.state output.old) (O.state output.new) machine.new }
         ensures returns { result ≡ RunEnd.Done →
-            (meaning_of (program A.standard self.old.prepared.script.now (map (λ b. handed_in (title b) (meaning b) (signatures b)) self.old.prepared.natives.now.items))).end ≡ returned void_value }
+            (meaning_of (program A.standard self.old.prepared.script.now (handed title meaning signatures self.old.prepared.natives.now.items))).end ≡ returned void_value }
         ensures stopped { (stop : Stop) → result ≡ RunEnd.Stopped stop →
-            RunMatches (main_tracing trace A.standard) A.standard (program A.standard self.old.prepared.script.now (map (λ b. handed_in (title b) (meaning b) (signatures b)) self.old.prepared.natives.now.items))
+            RunMatches (main_tracing trace A.standard) A.standard (program A.standard self.old.prepared.script.now (handed title meaning signatures self.old.prepared.natives.now.items))
             (O.state output.old) (O.state output.new) machine.new }
         ensures stops { (stop : Stop) → result ≡ RunEnd.Stopped stop →
-            (meaning_of (program A.standard self.old.prepared.script.now (map (λ b. handed_in (title b) (meaning b) (signatures b)) self.old.prepared.natives.now.items))).end ≡ stopped stop }
+            (meaning_of (program A.standard self.old.prepared.script.now (handed title meaning signatures self.old.prepared.natives.now.items))).end ≡ stopped stop }
         ensures no_memory { result ≡ RunEnd.NoMemory → (O.state output.new).faults ≡ (O.state output.old).faults }
         ensures failed { result ≡ RunEnd.Failed → Rose (O.state output.old).faults (O.state output.new).faults }
         ensures cut_by_memory { result ≡ RunEnd.NoMemory →
-            RunWasCut (main_tracing trace A.standard) A.standard (program A.standard self.old.prepared.script.now (map (λ b. handed_in (title b) (meaning b) (signatures b)) self.old.prepared.natives.now.items)) false
+            RunWasInterrupted (main_tracing trace A.standard) A.standard (program A.standard self.old.prepared.script.now (handed title meaning signatures self.old.prepared.natives.now.items)) false
             (O.state output.old) (O.state output.new) machine.new }
         ensures cut_by_write { result ≡ RunEnd.Failed →
-            RunWasCut (main_tracing trace A.standard) A.standard (program A.standard self.old.prepared.script.now (map (λ b. handed_in (title b) (meaning b) (signatures b)) self.old.prepared.natives.now.items)) true
+            RunWasInterrupted (main_tracing trace A.standard) A.standard (program A.standard self.old.prepared.script.now (handed title meaning signatures self.old.prepared.natives.now.items)) true
             (O.state output.old) (O.state output.new) machine.new }
         ensures never_falls { (O.state output.old).faults ≤ (O.state output.new).faults }
-        ensures part { WrotePart (main_tracing trace A.standard) (program A.standard self.old.prepared.script.now (map (λ b. handed_in (title b) (meaning b) (signatures b)) self.old.prepared.natives.now.items))
+        ensures part { WrotePart (main_tracing trace A.standard) (program A.standard self.old.prepared.script.now (handed title meaning signatures self.old.prepared.natives.now.items))
             (O.state output.old) (O.state output.new) }
         ensures left { result ≡ RunEnd.Done →
-            MainHasReturned (program A.standard self.old.prepared.script.now (map (λ b. handed_in (title b) (meaning b) (signatures b)) self.old.prepared.natives.now.items)) self.new.board machine.new }
+            MainHasReturned (program A.standard self.old.prepared.script.now (handed title meaning signatures self.old.prepared.natives.now.items)) self.new.board machine.new }
         ensures prepared { self.new.prepared ≡ self.old.prepared }
         ensures over { self.new.over ≡ true }
     {
@@ -199,12 +199,12 @@ impl<'a, A: Abi> Runner<'a, A> {
     /// moves until the entered activation has left. Closure and arguments are learned from the machine
     /// alone. With `trace` entries and returns are told, the entered one's first.
     pub fn serve<O: Sink>(&mut self, machine: &mut Machine, output: &mut O, trace: bool) -> RunEnd
-        requires prepared { IsPrepared A.standard self.old.prepared.script.now (map (λ b. handed_in (title b) (meaning b) (signatures b)) self.old.prepared.natives.now.items) self.old.prepared.cifs }
-        requires idle { IsIdle (program A.standard self.old.prepared.script.now (map (λ b. handed_in (title b) (meaning b) (signatures b)) self.old.prepared.natives.now.items)) self.old.board }
+        requires prepared { IsPrepared A.standard self.old.prepared.script.now (handed title meaning signatures self.old.prepared.natives.now.items) self.old.prepared.cifs }
+        requires idle { IsIdle (program A.standard self.old.prepared.script.now (handed title meaning signatures self.old.prepared.natives.now.items)) self.old.board }
         requires holds { HoldsMap machine.old.target self.old.board.table machine.old.code }
         requires entry { (closure : Closure) × (arguments : List ValueTree) ×
-            IsAtEntry A.standard (program A.standard self.old.prepared.script.now (map (λ b. handed_in (title b) (meaning b) (signatures b)) self.old.prepared.natives.now.items)) self.old.board.table machine.old closure arguments }
-        ensures served { Served A.standard trace (program A.standard self.old.prepared.script.now (map (λ b. handed_in (title b) (meaning b) (signatures b)) self.old.prepared.natives.now.items))
+            IsAtEntry A.standard (program A.standard self.old.prepared.script.now (handed title meaning signatures self.old.prepared.natives.now.items)) self.old.board.table machine.old closure arguments }
+        ensures served { Served A.standard trace (program A.standard self.old.prepared.script.now (handed title meaning signatures self.old.prepared.natives.now.items))
             self.old.board machine.old (O.state output.old) self.new.board machine.new (O.state output.new) result }
         ensures prepared { self.new.prepared ≡ self.old.prepared }
         ensures going { result ≡ RunEnd.Done → self.new.over ≡ self.old.over }

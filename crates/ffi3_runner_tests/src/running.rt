@@ -1,7 +1,7 @@
 //! A script that is run from a machine as it begins.
-ghost use Rattle.std.specs.Prelude.{◌<◌, ◌≤◌, ◌^◌, IfOk, IfSome, List, length, map};
+ghost use Rattle.std.specs.Prelude.{◌<◌, ◌≤◌, ◌^◌, IfOk, IfSome, List, length};
 ghost use Rattle.ffi3_script.specs.ScriptOf.{natives_of};
-ghost use Rattle.ffi3_ask.specs.Handed.{handed_in, signatures_in};
+ghost use Rattle.ffi3_ask.specs.Handed.{handed, signatures_in};
 
 use ffi3_body::Native;
 use ffi3_io::MemSink;
@@ -66,7 +66,7 @@ fn run<A: Abi>(
 ) -> Result<Ran, NoMemory>
     requires beside { natives_of script.now ≤ length natives.now.items }
     requires few_natives { length natives.now.items < 2 ^ 31 }
-    requires few_signatures { length (signatures_in (map (λ b. handed_in (title b) (meaning b) (signatures b)) natives.now.items)) < 2 ^ 31 }
+    requires few_signatures { length (signatures_in (handed title meaning signatures natives.now.items)) < 2 ^ 31 }
 {
     let mut machine = Machine::new(alloc)?;
     machine.begin(A::TARGET);
@@ -89,7 +89,7 @@ pub fn run_script<A: Abi>(
     text: &str,
 ) -> Result<Option<Ran>, NoMemory>
     requires few_natives { length natives.now.items < 2 ^ 31 }
-    requires few_signatures { length (signatures_in (map (λ b. handed_in (title b) (meaning b) (signatures b)) natives.now.items)) < 2 ^ 31 }
+    requires few_signatures { length (signatures_in (handed title meaning signatures natives.now.items)) < 2 ^ 31 }
 {
     match read_beside(alloc, natives, text)? {
         Some(script) => Ok(Some(run::<A>(alloc, natives, &script)?)),

@@ -1,6 +1,6 @@
 //! Scripts of functions that call one another, with no native among them.
-ghost use Rattle.std.specs.Prelude.{◌<◌, ◌^◌, List, length, map};
-ghost use Rattle.ffi3_ask.specs.Handed.{handed_in, signatures_in};
+ghost use Rattle.std.specs.Prelude.{◌<◌, ◌^◌, List, length};
+ghost use Rattle.ffi3_ask.specs.Handed.{handed, signatures_in};
 
 use crate::{Native, Ran, RunEnd, Stop, run_script};
 use ffi3_aapcs64::Aapcs64;
@@ -39,7 +39,7 @@ fn check_by<A: Abi>(
     wanted: &Wanted,
 ) -> Result<(), Fail>
     requires few_natives { length natives.now.items < 2 ^ 31 }
-    requires few_signatures { length (signatures_in (map (λ b. handed_in (title b) (meaning b) (signatures b)) natives.now.items)) < 2 ^ 31 }
+    requires few_signatures { length (signatures_in (handed title meaning signatures natives.now.items)) < 2 ^ 31 }
 {
     let Some(ran) = run_script::<A>(alloc, natives, script)? else {
         return Err("no script".into());
@@ -57,7 +57,7 @@ pub fn check(
     wanted: &[Wanted; 3],
 ) -> Result<(), Fail>
     requires few_natives { length natives.now.items < 2 ^ 31 }
-    requires few_signatures { length (signatures_in (map (λ b. handed_in (title b) (meaning b) (signatures b)) natives.now.items)) < 2 ^ 31 }
+    requires few_signatures { length (signatures_in (handed title meaning signatures natives.now.items)) < 2 ^ 31 }
 {
     check_by::<Amd64>(rt, alloc, natives, script, &wanted[0])?;
     check_by::<Aapcs64>(rt, alloc, natives, script, &wanted[1])?;

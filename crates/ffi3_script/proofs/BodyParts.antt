@@ -1,17 +1,19 @@
 -- The moves of a body, one after another, and its last.
-use Rattle.std.proofs.Common.{◌≡◌, ℕ, zero, suc, ◌+◌, ◌-◌, ◌==◌, ◌<◌, List, [], ◌∷◌, ◌++◌, length, drop, get_or, Option, option_map, string_bytes, refl, sym, ap, ◌∙◌, arith, false}
-use Rattle.std.specs.Prelude.{slice_index_or}
+use Rattle.std.proofs.Common.{◌≡◌, ℕ, zero, suc, ◌+◌, ◌-◌, ◌==◌, ◌<◌, List, [], ◌∷◌, ◌++◌, length, drop, get_or, Option, option_map, string_bytes, refl, sym, ap, ◌∙◌, arith, Bool, false}
+use Rattle.std.specs.Prelude.{slice_index_or, if◌then◌else◌}
+use Rattle.serde_json.specs.Data.{Data, null, boolean, number, string, array, object, Items}
 use Rattle.serde_json.specs.View.{view, items_view}
 use Rattle.serde_json.specs.declared.value.Value.{Value}
 use Rattle.ffi3_type_rules.specs.Tree.{Tree}
-use Rattle.ffi3_script_rules.specs.Language.{Path, Read, read, at_item}
+use Rattle.ffi3_script_rules.specs.Language.{Path, Reason, Read, read, fault, and_then, at_item, no_return_at_the_end}
 use Rattle.ffi3_script_rules.specs.Script as script
 use Rattle.ffi3_script_rules.specs.Values.{Given}
-use Rattle.ffi3_script_rules.specs.Bodies.{Surroundings, read_move, read_moves, given_by, type_of_act, always_returns, ends}
+use Rattle.ffi3_script_rules.specs.Bodies.{Surroundings, read_move, read_moves, read_body, if_ended, items_at, given_by, type_of_act, always_returns, ends}
 use Rattle.ffi3_json.proofs.Objects.{next}
 use Rattle.ffi3_script_body.specs.ExprOf.{act_of, script_move_of, script_moves_of}
 use Rattle.ffi3_script.specs.ScopeOf.{given_of}
 use Rattle.ffi3_script_body.specs.declared.moves.ScriptMove.{ScriptMove}
+use Rattle.ffi3_script.proofs.Steps.{then_fault, then_read}
 use Rattle.ffi3_script.proofs.Loops.{before, first_and, one_more, mapped-more}
 
 given-more : (names : List (Option (List ℕ))) (types : List Tree) (n : Option (List ℕ)) (t : Tree) → length names ≡ length types → given_of (names ++ n ∷ []) (types ++ t ∷ []) ≡ given_of names types ++ record { name = n; type = t } ∷ []
@@ -53,3 +55,27 @@ ends-last (m ∷ n ∷ ms) (suc i) d e = ends-last (n ∷ ms) i d (omega arith)
 pub last-index : (n : ℕ) → false ≡ (n == 0) → n - 1 + 1 ≡ n
 last-index zero e = absurd (cc)
 last-index (suc n) e = omega arith
+
+-- the array of a body, and then its end
+body-of : (s : Surroundings) (path : Path) (d : Data) → read_body s d path ≡ and_then (λ ds. and_then (if_ended path) (read_moves s [] ds path 0)) (items_at d path)
+body-of s path null = refl
+body-of s path (boolean b) = refl
+body-of s path (number n) = refl
+body-of s path (string t) = refl
+body-of s path (array ds) = refl
+body-of s path (object ms) = refl
+
+module _ (s : Surroundings) (d : Data) (path : Path) where
+  pub body-refused : (p : Path) (r : Reason) → items_at d path ≡ fault p r → read_body s d path ≡ fault p r
+  body-refused p r e = body-of s path d ∙ then_fault _ (items_at d path) p r e
+
+  module _ (ds : Items) (is : items_at d path ≡ read ds) where
+    moves-next : read_body s d path ≡ and_then (if_ended path) (read_moves s [] ds path 0)
+    moves-next = body-of s path d ∙ then_read _ (items_at d path) ds is
+
+    pub moves-refused : (p : Path) (r : Reason) → read_moves s [] ds path 0 ≡ fault p r → read_body s d path ≡ fault p r
+    moves-refused p r e = moves-next ∙ then_fault (if_ended path) (read_moves s [] ds path 0) p r e
+
+    module _ (ms : List script.ScriptMove) (e : read_moves s [] ds path 0 ≡ read ms) (b : Bool) (last : ends ms ≡ b) where
+      pub body-ended : read_body s d path ≡ (if b then read ms else fault path no_return_at_the_end)
+      body-ended = moves-next ∙ then_read (if_ended path) (read_moves s [] ds path 0) ms e ∙ ap (λ c. if c then read ms else fault path no_return_at_the_end) last

@@ -1,5 +1,5 @@
 -- What a fault of reading tells of the bytes.
-use Rattle.std.proofs.Common.{◌≡◌, ℕ, List}
+use Rattle.std.proofs.Common.{◌≡◌, ℕ, List, Result, Ok, Err, IfErr, IsErrAnd, sym, subst}
 use Rattle.serde_json.specs.Data.{Data}
 use Rattle.ffi3_script_rules.specs.Language.{read, fault}
 use Rattle.ffi3_script_rules.specs.Script.{Script}
@@ -27,3 +27,8 @@ module _ (natives : List (List ℕ)) (bytes : List ℕ) where
 
   pub accepted : (d : Data) → IsJson bytes d → (s : Script) → read_script natives d ≡ read s → IsTheReading natives bytes (script s)
   accepted d is s h = the_reading natives bytes (script s) (d, is, h)
+
+  -- by `?`
+  pub refusal_handed_on : {A : Type 0} (e : ScriptFault) → IsScriptRefusal natives bytes e → (z : Result A ScriptFault) → IsErrAnd z (λ f. f ≡ e) → IfErr z (IsScriptRefusal natives bytes)
+  refusal_handed_on e told (Ok a) is = tt
+  refusal_handed_on e told (Err f) is = subst (IsScriptRefusal natives bytes) (sym is) told

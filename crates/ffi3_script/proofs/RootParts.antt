@@ -8,8 +8,11 @@ use Rattle.serde_json.specs.Find.{get, get_member, as_array, as_number, as_u64}
 use Rattle.std.specs.Ordering.{nat_cmp}
 use Rattle.std.specs.Cmp.Lexicographic.{slice_cmp}
 use Rattle.ffi3_type_rules.specs.Signature.{Signature}
-use Rattle.ffi3_script_rules.specs.Language.{Path, Reason, Read, read, fault, and_then, under, value_under, check_object}
-use Rattle.ffi3_script_rules.specs.Bodies.{Heading, script_keys, version_of, items_at, read_signatures, read_headings, read_rest, read_script}
+use Rattle.ffi3_script_rules.specs.Language.{Path, Reason, Read, read, fault, and_then, read_map, under, value_under, Key, check_object}
+use Rattle.ffi3_script_rules.specs.Script.{Script, ScriptFunction, ScriptMove}
+use Rattle.ffi3_script_rules.specs.Bodies.{Heading, script_keys, version_of, items_at, read_signatures, read_headings, read_body, read_bodies, read_rest, read_script}
+use Rattle.ffi3_run_rules.specs.Move.{no_signature}
+use Rattle.ffi3_script.specs.PartsOf.{bodies_and_main}
 use Rattle.ffi3_json.specs.Within.{HasArraysWithin, HaveMembersWithin}
 use Rattle.ffi3_json.proofs.Objects.{found, array_is}
 use Rattle.ffi3_script.proofs.Steps.{then_fault, then_read}
@@ -45,35 +48,86 @@ within-items n name d inside ds there is within = subst (HasArraysWithin n) (arr
 abbrev pub version_at : Data → Path → Read ⊤
 version_at d path = version_of (option_and_then as_u64 (as_number (value_under (codes "version") d))) (under path (codes "version"))
 
-abbrev pub signatures_at : Items → Path → Read (List Signature)
-signatures_at ss path = read_signatures ss (under path (codes "signatures")) 0
+-- what is left behind the signatures, with the functions at a place
+abbrev functions_left : List (List ℕ) → Data → List Signature → Path → Read Script
+functions_left natives d signatures place =
+    and_then
+    (λ fs. and_then (read_rest natives d signatures fs) (read_headings (length signatures) [] fs place 0))
+    (items_at (value_under (codes "functions") d) place)
 
-module _ (natives : List (List ℕ)) (d : Data) where
-  abbrev pub object_in : Read ⊤
-  object_in = check_object d script_keys []
+-- what is left behind the items of the signatures, which stand at a place
+abbrev rest_at : List (List ℕ) → Data → Path → Path → Items → Read Script
+rest_at natives d path on ss =
+    and_then (λ signatures. functions_left natives d signatures (under path (codes "functions"))) (read_signatures ss on 0)
 
-  abbrev pub version_in : Read ⊤
-  version_in = version_of (option_and_then as_u64 (as_number (value_under (codes "version") d))) (under [] (codes "version"))
+-- the language has it at the root
+abbrev script_at : List (List ℕ) → Data → List Key → Path → Read Script
+script_at natives d keys path =
+    and_then
+    (λ checked. and_then
+    (λ version. and_then (rest_at natives d path (under path (codes "signatures"))) (items_at (value_under (codes "signatures") d) (under path (codes "signatures"))))
+    (version_at d path))
+    (check_object d keys path)
 
-  abbrev pub items_in : List ℕ → Read Items
-  items_in name = items_at (value_under name d) (under [] name)
+module _ (natives : List (List ℕ)) (d : Data) (path : Path) (root : path ≡ []) (keys : List Key) (keys_are : keys ≡ script_keys) (e0 : check_object d keys path ≡ read tt) (e1 : version_at d path ≡ read tt)
+    (on : Path) (on_is : on ≡ under path (codes "signatures")) where
+  signatures-next : read_script natives d ≡ and_then (rest_at natives d path on) (items_at (value_under (codes "signatures") d) on)
+  signatures-next =
+      ap (script_at natives d script_keys) (sym root) ∙ ap (λ k. script_at natives d k path) (sym keys_are)
+      ∙ then_read _ (check_object d keys path) tt e0 ∙ then_read _ (version_at d path) tt e1
+      ∙ ap (λ q. and_then (rest_at natives d path q) (items_at (value_under (codes "signatures") d) q)) (sym on_is)
 
-  abbrev pub signatures_in : Items → Read (List Signature)
-  signatures_in ss = read_signatures ss (under [] (codes "signatures")) 0
+  pub root-items : (p : Path) (r : Reason) → items_at (value_under (codes "signatures") d) on ≡ fault p r → read_script natives d ≡ fault p r
+  root-items p r e = signatures-next ∙ then_fault _ (items_at (value_under (codes "signatures") d) on) p r e
 
-  abbrev pub headings_in : List Signature → Items → Read (List Heading)
-  headings_in signatures fs = read_headings (length signatures) [] fs (under [] (codes "functions")) 0
+  module _ (ss : Items) (e2 : items_at (value_under (codes "signatures") d) on ≡ read ss) where
+    root-until : read_script natives d ≡ rest_at natives d path on ss
+    root-until = signatures-next ∙ then_read _ (items_at (value_under (codes "signatures") d) on) ss e2
 
-  module _ (e0 : object_in ≡ read tt) where
-    module _ (e1 : version_in ≡ read tt) where
-      module _ (ss : Items) (e2 : items_in (codes "signatures") ≡ read ss) where
-        module _ (signatures : List Signature) (e3 : signatures_in ss ≡ read signatures) where
-          root-until : read_script natives d ≡ and_then (λ fs. and_then (read_rest natives d signatures fs) (headings_in signatures fs)) (items_in (codes "functions"))
-          root-until = then_read _ object_in tt e0 ∙ then_read _ version_in tt e1 ∙ then_read _ (items_in (codes "signatures")) ss e2 ∙ then_read _ (signatures_in ss) signatures e3
+    pub root-signatures : (p : Path) (r : Reason) → read_signatures ss on 0 ≡ fault p r → read_script natives d ≡ fault p r
+    root-signatures p r e = root-until ∙ then_fault _ (read_signatures ss on 0) p r e
 
-          pub root-functions : (p : Path) (r : Reason) → items_in (codes "functions") ≡ fault p r → read_script natives d ≡ fault p r
-          root-functions p r e = root-until ∙ then_fault _ (items_in (codes "functions")) p r e
+    module _ (signatures : List Signature) (e3 : read_signatures ss on 0 ≡ read signatures) (place : Path) (place_is : place ≡ under path (codes "functions")) where
+      functions-next : read_script natives d ≡ functions_left natives d signatures place
+      functions-next = root-until ∙ then_read _ (read_signatures ss on 0) signatures e3 ∙ ap (functions_left natives d signatures) (sym place_is)
 
-          module _ (fs : Items) (e4 : items_in (codes "functions") ≡ read fs) where
-            pub root-rest : (hs : List Heading) → headings_in signatures fs ≡ read hs → read_script natives d ≡ read_rest natives d signatures fs hs
-            root-rest hs e = root-until ∙ then_read _ (items_in (codes "functions")) fs e4 ∙ then_read _ (headings_in signatures fs) hs e
+      pub root-functions : (p : Path) (r : Reason) → items_at (value_under (codes "functions") d) place ≡ fault p r → read_script natives d ≡ fault p r
+      root-functions p r e = functions-next ∙ then_fault _ (items_at (value_under (codes "functions") d) place) p r e
+
+      module _ (fs : Items) (e4 : items_at (value_under (codes "functions") d) place ≡ read fs) where
+        headings-next : read_script natives d ≡ and_then (read_rest natives d signatures fs) (read_headings (length signatures) [] fs place 0)
+        headings-next = functions-next ∙ then_read _ (items_at (value_under (codes "functions") d) place) fs e4
+
+        pub root-headings : (p : Path) (r : Reason) → read_headings (length signatures) [] fs place 0 ≡ fault p r → read_script natives d ≡ fault p r
+        root-headings p r e = headings-next ∙ then_fault _ (read_headings (length signatures) [] fs place 0) p r e
+
+        pub root-rest : (hs : List Heading) → read_headings (length signatures) [] fs place 0 ≡ read hs → read_script natives d ≡ read_rest natives d signatures fs hs
+        root-rest hs e = headings-next ∙ then_read _ (read_headings (length signatures) [] fs place 0) hs e
+
+-- ---- the bodies and main
+
+module _ (signatures : List Signature) (names : List (List ℕ)) (hs : List Heading) (fs : Items) (d : Data) (path on : Path) (on_is : on ≡ under path (codes "functions")) (own : Signature) (own_is : own ≡ no_signature) where
+  abbrev functions_at : Read (List ScriptFunction)
+  functions_at = read_bodies signatures names hs fs on 0
+
+  abbrev main_at : Read (List ScriptMove)
+  main_at = read_body (record { signatures = signatures; functions = names; own = own }) (value_under (codes "main") d) (under path (codes "main"))
+
+  bodies-are : bodies_and_main signatures names hs fs d path ≡ and_then (λ functions. read_map (λ main. record { signatures = signatures; functions = functions; main = main }) main_at) functions_at
+  bodies-are = λ i.
+      and_then
+      (λ functions. read_map (λ main. record { signatures = signatures; functions = functions; main = main }) (read_body (record { signatures = signatures; functions = names; own = sym own_is i }) (value_under (codes "main") d) (under path (codes "main"))))
+      (read_bodies signatures names hs fs (sym on_is i) 0)
+
+  pub functions-refused : (p : Path) (r : Reason) → functions_at ≡ fault p r → bodies_and_main signatures names hs fs d path ≡ fault p r
+  functions-refused p r e = bodies-are ∙ then_fault _ functions_at p r e
+
+  module _ (functions : List ScriptFunction) (e0 : functions_at ≡ read functions) where
+    main-next : bodies_and_main signatures names hs fs d path ≡ read_map (λ main. record { signatures = signatures; functions = functions; main = main }) main_at
+    main-next = bodies-are ∙ then_read _ functions_at functions e0
+
+    pub main-refused : (p : Path) (r : Reason) → main_at ≡ fault p r → bodies_and_main signatures names hs fs d path ≡ fault p r
+    main-refused p r e = main-next ∙ ap (read_map (λ main. record { signatures = signatures; functions = functions; main = main })) e
+
+    pub bodies-read : (main : List ScriptMove) → main_at ≡ read main → bodies_and_main signatures names hs fs d path ≡ read (record { signatures = signatures; functions = functions; main = main })
+    bodies-read main e = main-next ∙ ap (read_map (λ main. record { signatures = signatures; functions = functions; main = main })) e

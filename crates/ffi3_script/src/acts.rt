@@ -19,7 +19,7 @@ use crate::fields::{
 use crate::heads::{read_function, read_signature_number};
 use crate::scope::{Globals, Scope};
 use crate::{Act, NoMemory, ScriptMove};
-use ffi3_json::{Json, Key, Keys, Reason, ScriptFault, Where, bad, check_object};
+use ffi3_json::{Json, Key, Keys, Reason, ScriptFault, Way, bad, check_object_at};
 use ffi3_types::FfiType;
 use std::alloc::Global;
 
@@ -134,36 +134,23 @@ fn read_call(
     globals: &Globals,
     scope: &Scope,
     value: &Json,
-    at: &mut Where,
+    at: &Way,
 ) -> Result<NamedAct, ScriptFault>
     requires short { HasShortArrays (view value.now) }
     requires even { IsEven scope.now }
     ensures within { IfOk result (λ d. CallsWithin (length globals.now.sigs.now) d.act) }
-    ensures place { OnOk result (at.new ≡ at.old) }
     ensures ok { IfOk result
         (λ d. read_call (surroundings_of globals.now scope.now) (given_in scope.now)
-        (scope_of scope.now) None (view value.now) at.old ≡ read (move_by None d)) }
+        (scope_of scope.now) None (view value.now) at.now ≡ read (move_by None d)) }
     ensures err { IfErr result
         (Reports (λ p r. read_call (surroundings_of globals.now scope.now) (given_in scope.now)
-        (scope_of scope.now) None (view value.now) at.old ≡ language.fault p r)) }
+        (scope_of scope.now) None (view value.now) at.now ≡ language.fault p r)) }
 {
-    let ptr = match read_pointer(alloc, scope, "call", value, at) {
-        Ok(ptr) => ptr,
-        Err(fault) => return Err(fault),
-    };
-    let i = match read_signature_number(alloc, globals.sigs, value, at) {
-        Ok(i) => i,
-        Err(fault) => return Err(fault),
-    };
+    let ptr = read_pointer(alloc, scope, "call", value, at)?;
+    let i = read_signature_number(alloc, globals.sigs, value, at)?;
     let sig = globals.sigs.get(i as usize);
-    let args = match read_arguments(alloc, scope, sig.args(), value, at) {
-        Ok(args) => args,
-        Err(fault) => return Err(fault),
-    };
-    let name = match read_name(alloc, scope, sig.ret(), value, at) {
-        Ok(name) => name,
-        Err(fault) => return Err(fault),
-    };
+    let args = read_arguments(alloc, scope, sig.args(), value, at)?;
+    let name = read_name(alloc, scope, sig.ret(), value, at)?;
     Ok(NamedAct {
         act: Act::Call { ptr, sig: i, args },
         name,
@@ -176,32 +163,22 @@ fn read_make(
     globals: &Globals,
     scope: &Scope,
     value: &Json,
-    at: &mut Where,
+    at: &Way,
 ) -> Result<NamedAct, ScriptFault>
     requires short { HasShortArrays (view value.now) }
     requires even { IsEven scope.now }
     requires few { length globals.now.functions.now < 2 ^ 32 }
     ensures within { IfOk result (λ d. CallsWithin (length globals.now.sigs.now) d.act) }
-    ensures place { OnOk result (at.new ≡ at.old) }
     ensures ok { IfOk result
         (λ d. read_make (surroundings_of globals.now scope.now) (given_in scope.now)
-        (scope_of scope.now) None (view value.now) at.old ≡ read (move_by None d)) }
+        (scope_of scope.now) None (view value.now) at.now ≡ read (move_by None d)) }
     ensures err { IfErr result
         (Reports (λ p r. read_make (surroundings_of globals.now scope.now) (given_in scope.now)
-        (scope_of scope.now) None (view value.now) at.old ≡ language.fault p r)) }
+        (scope_of scope.now) None (view value.now) at.now ≡ language.fault p r)) }
 {
-    let func = match read_function(alloc, globals.functions, value, at) {
-        Ok(func) => func,
-        Err(fault) => return Err(fault),
-    };
-    let user = match read_user(alloc, scope, value, at) {
-        Ok(user) => user,
-        Err(fault) => return Err(fault),
-    };
-    let name = match read_name(alloc, scope, &FfiType::Pointer, value, at) {
-        Ok(name) => name,
-        Err(fault) => return Err(fault),
-    };
+    let func = read_function(alloc, globals.functions, value, at)?;
+    let user = read_user(alloc, scope, value, at)?;
+    let name = read_name(alloc, scope, &FfiType::Pointer, value, at)?;
     Ok(NamedAct {
         act: Act::Make { func, user },
         name,
@@ -222,35 +199,34 @@ fn read_act(
     scope: &Scope,
     kind: Kind,
     value: &Json,
-    at: &mut Where,
+    at: &Way,
 ) -> Result<NamedAct, ScriptFault>
     requires short { HasShortArrays (view value.now) }
     requires even { IsEven scope.now }
     requires few { length globals.now.functions.now < 2 ^ 32 }
     ensures within { IfOk result (λ d. CallsWithin (length globals.now.sigs.now) d.act) }
-    ensures place { OnOk result (at.new ≡ at.old) }
     ensures ok { IfOk result
         (λ d. read_act (surroundings_of globals.now scope.now) (given_in scope.now) (scope_of scope.now)
-        (kind_from kind) (view value.now) at.old None ≡ read (move_by None d)) }
+        (kind_from kind) (view value.now) at.now None ≡ read (move_by None d)) }
     ensures err { IfErr result
         (Reports (λ p r. read_act (surroundings_of globals.now scope.now) (given_in scope.now) (scope_of scope.now)
-        (kind_from kind) (view value.now) at.old None ≡ language.fault p r)) }
+        (kind_from kind) (view value.now) at.now None ≡ language.fault p r)) }
 {
     match kind {
         Kind::Call => read_call(alloc, globals, scope, value, at),
         Kind::Make => read_make(alloc, globals, scope, value, at),
-        Kind::Free => match read_pointer(alloc, scope, "free", value, at) {
-            Ok(ptr) => Ok(unnamed(Act::Free { ptr })),
-            Err(fault) => Err(fault),
-        },
-        Kind::Print => match read_printed(alloc, scope, value, at) {
-            Ok(printed) => Ok(unnamed(Act::Print(printed))),
-            Err(fault) => Err(fault),
-        },
-        Kind::Return => match read_result(alloc, scope, scope.own.ret(), value, at) {
-            Ok(act) => Ok(unnamed(act)),
-            Err(fault) => Err(fault),
-        },
+        Kind::Free => {
+            let ptr = read_pointer(alloc, scope, "free", value, at)?;
+            Ok(unnamed(Act::Free { ptr }))
+        }
+        Kind::Print => {
+            let printed = read_printed(alloc, scope, value, at)?;
+            Ok(unnamed(Act::Print(printed)))
+        }
+        Kind::Return => {
+            let act = read_result(alloc, scope, scope.own.ret(), value, at)?;
+            Ok(unnamed(act))
+        }
     }
 }
 
@@ -260,37 +236,29 @@ pub(crate) fn read_move(
     globals: &Globals,
     scope: &Scope,
     value: &Json,
-    at: &mut Where,
+    at: &Way,
 ) -> Result<ScriptMove, ScriptFault>
     requires short { HasShortArrays (view value.now) }
     requires even { IsEven scope.now }
     requires few { length globals.now.functions.now < 2 ^ 32 }
     ensures within { IfOk result (λ m. CallsWithin (length globals.now.sigs.now) m.act) }
-    ensures place { OnOk result (at.new ≡ at.old) }
     ensures ok { IfOk result
-        (λ m. read_move (surroundings_of globals.now scope.now) (given_in scope.now) (view value.now) at.old
+        (λ m. read_move (surroundings_of globals.now scope.now) (given_in scope.now) (view value.now) at.now
         ≡ read (script_move_of m)) }
     ensures err { IfErr result
-        (Reports (λ p r. read_move (surroundings_of globals.now scope.now) (given_in scope.now) (view value.now) at.old
+        (Reports (λ p r. read_move (surroundings_of globals.now scope.now) (given_in scope.now) (view value.now) at.now
         ≡ language.fault p r)) }
 {
     let Some(kind) = kind_of(value) else {
         return Err(bad(alloc, at, Reason::NotAMove));
     };
     let keys = keys_of(alloc, kind)?;
-    if let Err(fault) = check_object(alloc, value, &keys, at) {
-        return Err(fault);
-    }
-    let condition = match read_condition(alloc, scope, value, at) {
-        Ok(condition) => condition,
-        Err(fault) => return Err(fault),
-    };
-    match read_act(alloc, globals, scope, kind, value, at) {
-        Ok(NamedAct { act, name }) => Ok(ScriptMove {
-            condition,
-            act,
-            name,
-        }),
-        Err(fault) => Err(fault),
-    }
+    check_object_at(alloc, value, &keys, at)?;
+    let condition = read_condition(alloc, scope, value, at)?;
+    let NamedAct { act, name } = read_act(alloc, globals, scope, kind, value, at)?;
+    Ok(ScriptMove {
+        condition,
+        act,
+        name,
+    })
 }

@@ -13,10 +13,11 @@ ghost use Rattle.ffi3_script.specs.ScopeOf.{given_of, surroundings_in};
 ghost use Rattle.ffi3_script.specs.Numbers.{CallsWithin};
 
 use crate::acts::read_move;
+use crate::arrays::items_under;
 use crate::index::NameIndex;
 use crate::scope::{Globals, Scope};
 use crate::{Act, NoMemory, ScriptMove};
-use ffi3_json::{Json, Reason, ScriptFault, Where, bad};
+use ffi3_json::{Json, Reason, ScriptFault, Way, bad};
 use ffi3_types::{FfiType, Fields, Sig, Sigs};
 use std::alloc::Global;
 
@@ -77,25 +78,21 @@ fn read_next(
     names: &NameIndex,
     types: &Fields,
     value: &Json,
-    at: &mut Where,
+    at: &Way,
 ) -> Result<ScriptMove, ScriptFault>
     requires short { HasShortArrays (view value.now) }
     requires even { length names.now ≡ length types.now }
     requires few { length globals.now.functions.now < 2 ^ 32 }
     ensures within { IfOk result (λ m. CallsWithin (length globals.now.sigs.now) m.act) }
-    ensures place { OnOk result (at.new ≡ at.old) }
     ensures ok { IfOk result
-        (λ m. read_move (surroundings_in globals.now own.now) (given_of names.now types.now) (view value.now) at.old
+        (λ m. read_move (surroundings_in globals.now own.now) (given_of names.now types.now) (view value.now) at.now
         ≡ read (script_move_of m)) }
     ensures err { IfErr result
         (Reports (λ p r. read_move (surroundings_in globals.now own.now) (given_of names.now types.now)
-        (view value.now) at.old ≡ language.fault p r)) }
+        (view value.now) at.now ≡ language.fault p r)) }
 {
     let scope = Scope { own, names, types };
-    match read_move(alloc, globals, &scope, value, at) {
-        Ok(one) => Ok(one),
-        Err(fault) => Err(fault),
-    }
+    read_move(alloc, globals, &scope, value, at)
 }
 
 // The moves that the items of an array are, in a body of this signature.
@@ -104,29 +101,31 @@ fn read_moves(
     globals: &Globals,
     own: &Sig,
     items: &Vec<Json>,
-    at: &mut Where,
+    at: &Way,
 ) -> Result<Vec<ScriptMove>, ScriptFault>
     requires short { HaveShortArrays (items_view items.now.items) }
     requires count { length items.now.items < 2 ^ 32 }
     requires few { length globals.now.functions.now < 2 ^ 32 }
-    ensures place { OnOk result (at.new ≡ at.old) }
     ensures ok { IfOk result
-        (λ ms. read_moves (surroundings_in globals.now own.now) [] (items_view items.now.items) at.old 0
+        (λ ms. read_moves (surroundings_in globals.now own.now) [] (items_view items.now.items) at.now 0
         ≡ read (script_moves_of ms.items)) }
     ensures err { IfErr result
-        (Reports (λ p r. read_moves (surroundings_in globals.now own.now) [] (items_view items.now.items) at.old 0
+        (Reports (λ p r. read_moves (surroundings_in globals.now own.now) [] (items_view items.now.items) at.now 0
         ≡ language.fault p r)) }
 {
     let mut names = NameIndex::new(alloc);
     let mut types = Fields::new(alloc);
     let mut moves = Vec::new(alloc);
     for i in 0..items.len() {
-        at.push_number(i as u32)?;
-        let one = match read_next(alloc, globals, own, &names, &types, &items[i], at) {
-            Ok(one) => one,
-            Err(fault) => return Err(fault),
-        };
-        at.pop();
+        let one = read_next(
+            alloc,
+            globals,
+            own,
+            &names,
+            &types,
+            &items[i],
+            &at.item(i as u32),
+        )?;
         push_move(alloc, globals.sigs, one, &mut names, &mut types, &mut moves)?;
     }
     Ok(moves)
@@ -170,32 +169,22 @@ pub(crate) fn read_body(
     own: &Sig,
     name: &str,
     value: &Json,
-    at: &mut Where,
+    at: &Way,
 ) -> Result<Vec<ScriptMove>, ScriptFault>
     requires short { HasShortArrays (view value.now) }
     requires few { length globals.now.functions.now < 2 ^ 32 }
-    ensures place { OnOk result (at.new ≡ at.old) }
     ensures ok { IfOk result
         (λ ms. read_body (surroundings_in globals.now own.now) (value_under name.now (view value.now))
-        (under at.old name.now) ≡ read (script_moves_of ms.items)) }
+        (under at.now name.now) ≡ read (script_moves_of ms.items)) }
     ensures err { IfErr result
         (Reports (λ p r. read_body (surroundings_in globals.now own.now) (value_under name.now (view value.now))
-        (under at.old name.now) ≡ language.fault p r)) }
+        (under at.now name.now) ≡ language.fault p r)) }
 {
-    at.push_key(alloc, name)?;
-    let Some(body) = value.get(name) else {
-        return Err(bad(alloc, at, Reason::NotAnArray));
-    };
-    let Some(items) = body.as_array() else {
-        return Err(bad(alloc, at, Reason::NotAnArray));
-    };
-    let moves = match read_moves(alloc, globals, own, items, at) {
-        Ok(moves) => moves,
-        Err(fault) => return Err(fault),
-    };
+    let place = at.key(name);
+    let items = items_under(alloc, name, value, &place)?;
+    let moves = read_moves(alloc, globals, own, items, &place)?;
     if !ends(&moves) {
-        return Err(bad(alloc, at, Reason::NoReturnAtTheEnd));
+        return Err(bad(alloc, &place, Reason::NoReturnAtTheEnd));
     }
-    at.pop();
     Ok(moves)
 }

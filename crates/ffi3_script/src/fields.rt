@@ -1,5 +1,5 @@
 // The fields of moves.
-ghost use Rattle.std.specs.Prelude.{◌≡◌, ℕ, IfOk, IfErr, OnOk, codes, string_bytes, option_map};
+ghost use Rattle.std.specs.Prelude.{◌≡◌, ℕ, IfOk, IfErr, codes, string_bytes, option_map};
 ghost use Rattle.serde_json.specs.Find.{get};
 ghost use Rattle.serde_json.specs.View.{view};
 ghost use Rattle.ffi3_types.specs.TreeOf.{tree_of};
@@ -13,11 +13,12 @@ ghost use Rattle.ffi3_script_body.specs.ExprOf.{expression_of, expressions_in, t
 ghost use Rattle.ffi3_script.specs.Numbers.{CallsWithin};
 ghost use Rattle.ffi3_script.specs.ScopeOf.{scope_of, given_in, IsEven};
 
+use crate::arrays::items_under;
 use crate::heads::new_name;
 use crate::scope::Scope;
 use crate::values::{read_typed, read_value, read_values};
 use crate::{Act, Expr, TypedExpr};
-use ffi3_json::{Bytes, Json, Reason, ScriptFault, Where, bad};
+use ffi3_json::{Bytes, Json, Reason, ScriptFault, Way, bad};
 use ffi3_types::{FfiType, Fields};
 use std::alloc::Global;
 
@@ -27,29 +28,24 @@ pub(crate) fn read_name(
     scope: &Scope,
     ty: &FfiType,
     value: &Json,
-    at: &mut Where,
+    at: &Way,
 ) -> Result<Option<String>, ScriptFault>
     requires even { IsEven scope.now }
-    ensures place { OnOk result (at.new ≡ at.old) }
     ensures ok { IfOk result
         (λ name. read_name (given_in scope.now) (tree_of ty.now) (get (codes "as") (view value.now))
-        (under at.old (codes "as")) ≡ read (option_map string_bytes name)) }
+        (under at.now (codes "as")) ≡ read (option_map string_bytes name)) }
     ensures err { IfErr result
         (Reports (λ p r. read_name (given_in scope.now) (tree_of ty.now) (get (codes "as") (view value.now))
-        (under at.old (codes "as")) ≡ language.fault p r)) }
+        (under at.now (codes "as")) ≡ language.fault p r)) }
 {
     let Some(named) = value.get("as") else {
         return Ok(None);
     };
-    at.push_key(alloc, "as")?;
-    let name = match new_name(alloc, scope.names, named, at) {
-        Ok(name) => name,
-        Err(fault) => return Err(fault),
-    };
+    let place = at.key("as");
+    let name = new_name(alloc, scope.names, named, &place)?;
     if let FfiType::Void = ty {
-        return Err(bad(alloc, at, Reason::VoidResult));
+        return Err(bad(alloc, &place, Reason::VoidResult));
     }
-    at.pop();
     Ok(Some(name))
 }
 
@@ -58,30 +54,25 @@ pub(crate) fn read_condition(
     alloc: Global,
     scope: &Scope,
     value: &Json,
-    at: &mut Where,
+    at: &Way,
 ) -> Result<Option<TypedExpr>, ScriptFault>
     requires short { HasShortArrays (view value.now) }
     requires even { IsEven scope.now }
-    ensures place { OnOk result (at.new ≡ at.old) }
     ensures ok { IfOk result
-        (λ c. read_condition (scope_of scope.now) (get (codes "when") (view value.now)) (under at.old (codes "when"))
+        (λ c. read_condition (scope_of scope.now) (get (codes "when") (view value.now)) (under at.now (codes "when"))
         ≡ read (option_map typed_of c)) }
     ensures err { IfErr result
         (Reports (λ p r. read_condition (scope_of scope.now) (get (codes "when") (view value.now))
-        (under at.old (codes "when")) ≡ language.fault p r)) }
+        (under at.now (codes "when")) ≡ language.fault p r)) }
 {
     let Some(when) = value.get("when") else {
         return Ok(None);
     };
-    at.push_key(alloc, "when")?;
-    let condition = match read_typed(alloc, scope, when, at) {
-        Ok(condition) => condition,
-        Err(fault) => return Err(fault),
-    };
+    let place = at.key("when");
+    let condition = read_typed(alloc, scope, when, &place)?;
     if !condition.ty.is_number() {
-        return Err(bad(alloc, at, Reason::WrongType));
+        return Err(bad(alloc, &place, Reason::WrongType));
     }
-    at.pop();
     Ok(Some(condition))
 }
 
@@ -91,34 +82,23 @@ pub(crate) fn read_arguments(
     scope: &Scope,
     types: &Fields,
     value: &Json,
-    at: &mut Where,
+    at: &Way,
 ) -> Result<Vec<Expr>, ScriptFault>
     requires short { HasShortArrays (view value.now) }
     requires even { IsEven scope.now }
-    ensures place { OnOk result (at.new ≡ at.old) }
     ensures ok { IfOk result
         (λ es. read_arguments (scope_of scope.now) types.now (value_under (codes "args") (view value.now))
-        (under at.old (codes "args")) ≡ read (expressions_in es.items)) }
+        (under at.now (codes "args")) ≡ read (expressions_in es.items)) }
     ensures err { IfErr result
         (Reports (λ p r. read_arguments (scope_of scope.now) types.now (value_under (codes "args") (view value.now))
-        (under at.old (codes "args")) ≡ language.fault p r)) }
+        (under at.now (codes "args")) ≡ language.fault p r)) }
 {
-    at.push_key(alloc, "args")?;
-    let Some(args) = value.get("args") else {
-        return Err(bad(alloc, at, Reason::NotAnArray));
-    };
-    let Some(items) = args.as_array() else {
-        return Err(bad(alloc, at, Reason::NotAnArray));
-    };
+    let place = at.key("args");
+    let items = items_under(alloc, "args", value, &place)?;
     if items.len() != types.len() {
-        return Err(bad(alloc, at, Reason::WrongCount));
+        return Err(bad(alloc, &place, Reason::WrongCount));
     }
-    let args = match read_values(alloc, scope, types, items, at) {
-        Ok(args) => args,
-        Err(fault) => return Err(fault),
-    };
-    at.pop();
-    Ok(args)
+    read_values(alloc, scope, types, items, &place)
 }
 
 /// The pointer that a move has under a key.
@@ -127,28 +107,22 @@ pub(crate) fn read_pointer(
     scope: &Scope,
     name: &str,
     value: &Json,
-    at: &mut Where,
+    at: &Way,
 ) -> Result<Expr, ScriptFault>
     requires short { HasShortArrays (view value.now) }
     requires even { IsEven scope.now }
-    ensures place { OnOk result (at.new ≡ at.old) }
     ensures ok { IfOk result
         (λ e. values.read_value (scope_of scope.now) (scalar pointer) (value_under name.now (view value.now))
-        (under at.old name.now) ≡ read (expression_of e)) }
+        (under at.now name.now) ≡ read (expression_of e)) }
     ensures err { IfErr result
         (Reports (λ p r. values.read_value (scope_of scope.now) (scalar pointer) (value_under name.now (view value.now))
-        (under at.old name.now) ≡ language.fault p r)) }
+        (under at.now name.now) ≡ language.fault p r)) }
 {
-    at.push_key(alloc, name)?;
+    let place = at.key(name);
     let Some(inside) = value.get(name) else {
-        return Err(bad(alloc, at, Reason::NotAValue));
+        return Err(bad(alloc, &place, Reason::NotAValue));
     };
-    let ptr = match read_value(alloc, scope, &FfiType::Pointer, inside, at) {
-        Ok(ptr) => ptr,
-        Err(fault) => return Err(fault),
-    };
-    at.pop();
-    Ok(ptr)
+    read_value(alloc, scope, &FfiType::Pointer, inside, &place)
 }
 
 /// The user data of a closure that a move makes: 0 where it gives none.
@@ -156,17 +130,16 @@ pub(crate) fn read_user(
     alloc: Global,
     scope: &Scope,
     value: &Json,
-    at: &mut Where,
+    at: &Way,
 ) -> Result<Expr, ScriptFault>
     requires short { HasShortArrays (view value.now) }
     requires even { IsEven scope.now }
-    ensures place { OnOk result (at.new ≡ at.old) }
     ensures ok { IfOk result
-        (λ e. read_user (scope_of scope.now) (get (codes "user") (view value.now)) (under at.old (codes "user"))
+        (λ e. read_user (scope_of scope.now) (get (codes "user") (view value.now)) (under at.now (codes "user"))
         ≡ read (expression_of e)) }
     ensures err { IfErr result
         (Reports (λ p r. read_user (scope_of scope.now) (get (codes "user") (view value.now))
-        (under at.old (codes "user")) ≡ language.fault p r)) }
+        (under at.now (codes "user")) ≡ language.fault p r)) }
 {
     let Some(_) = value.get("user") else {
         let zero = [0; 8];
@@ -180,77 +153,43 @@ pub(crate) fn read_printed(
     alloc: Global,
     scope: &Scope,
     value: &Json,
-    at: &mut Where,
+    at: &Way,
 ) -> Result<TypedExpr, ScriptFault>
     requires short { HasShortArrays (view value.now) }
     requires even { IsEven scope.now }
-    ensures place { OnOk result (at.new ≡ at.old) }
     ensures ok { IfOk result
         (λ v. values.read_typed (scope_of scope.now) (value_under (codes "print") (view value.now))
-        (under at.old (codes "print")) ≡ read (typed_of v)) }
+        (under at.now (codes "print")) ≡ read (typed_of v)) }
     ensures err { IfErr result
         (Reports (λ p r. values.read_typed (scope_of scope.now) (value_under (codes "print") (view value.now))
-        (under at.old (codes "print")) ≡ language.fault p r)) }
+        (under at.now (codes "print")) ≡ language.fault p r)) }
 {
-    at.push_key(alloc, "print")?;
+    let place = at.key("print");
     let Some(inside) = value.get("print") else {
-        return Err(bad(alloc, at, Reason::NotAValue));
+        return Err(bad(alloc, &place, Reason::NotAValue));
     };
-    let printed = match read_typed(alloc, scope, inside, at) {
-        Ok(printed) => printed,
-        Err(fault) => return Err(fault),
-    };
-    at.pop();
-    Ok(printed)
+    read_typed(alloc, scope, inside, &place)
 }
 
-/// The return that a move is, from a body whose result is of this type.
+/// The return that a move is, from a body whose result is of this type. What is not there is read as null.
 pub(crate) fn read_result(
     alloc: Global,
     scope: &Scope,
     ty: &FfiType,
     value: &Json,
-    at: &mut Where,
+    at: &Way,
 ) -> Result<Act, ScriptFault>
     requires short { HasShortArrays (view value.now) }
     requires even { IsEven scope.now }
     ensures within { IfOk result (λ a. (count : ℕ) → CallsWithin count a) }
-    ensures place { OnOk result (at.new ≡ at.old) }
     ensures ok { IfOk result
         (λ a. read_result (scope_of scope.now) (tree_of ty.now) (value_under (codes "return") (view value.now))
-        (under at.old (codes "return")) ≡ read (act_of a)) }
+        (under at.now (codes "return")) ≡ read (act_of a)) }
     ensures err { IfErr result
         (Reports (λ p r. read_result (scope_of scope.now) (tree_of ty.now) (value_under (codes "return") (view value.now))
-        (under at.old (codes "return")) ≡ language.fault p r)) }
+        (under at.now (codes "return")) ≡ language.fault p r)) }
 {
-    at.push_key(alloc, "return")?;
-    let act = match read_returned(alloc, scope, ty, value, at) {
-        Ok(act) => act,
-        Err(fault) => return Err(fault),
-    };
-    at.pop();
-    Ok(act)
-}
-
-// The same, at the place under `return`. What is not there is read as null.
-fn read_returned(
-    alloc: Global,
-    scope: &Scope,
-    ty: &FfiType,
-    value: &Json,
-    at: &mut Where,
-) -> Result<Act, ScriptFault>
-    requires short { HasShortArrays (view value.now) }
-    requires even { IsEven scope.now }
-    ensures within { IfOk result (λ a. (count : ℕ) → CallsWithin count a) }
-    ensures place { OnOk result (at.new ≡ at.old) }
-    ensures ok { IfOk result
-        (λ a. read_result (scope_of scope.now) (tree_of ty.now) (value_under (codes "return") (view value.now)) at.old
-        ≡ read (act_of a)) }
-    ensures err { IfErr result
-        (Reports (λ p r. read_result (scope_of scope.now) (tree_of ty.now) (value_under (codes "return")
-        (view value.now)) at.old ≡ language.fault p r)) }
-{
+    let place = at.key("return");
     if let FfiType::Void = ty {
         let Some(inside) = value.get("return") else {
             return Ok(Act::ReturnVoid);
@@ -258,13 +197,11 @@ fn read_returned(
         if inside.is_null() {
             return Ok(Act::ReturnVoid);
         }
-        return Err(bad(alloc, at, Reason::NotNull));
+        return Err(bad(alloc, &place, Reason::NotNull));
     }
     let Some(inside) = value.get("return") else {
-        return Err(bad(alloc, at, Reason::NotAValue));
+        return Err(bad(alloc, &place, Reason::NotAValue));
     };
-    match read_value(alloc, scope, ty, inside, at) {
-        Ok(value) => Ok(Act::Return(value)),
-        Err(fault) => Err(fault),
-    }
+    let value = read_value(alloc, scope, ty, inside, &place)?;
+    Ok(Act::Return(value))
 }

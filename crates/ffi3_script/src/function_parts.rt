@@ -14,7 +14,7 @@ use crate::bodies::read_body;
 use crate::headings::Heading;
 use crate::scope::Globals;
 use crate::{NoMemory, ScriptMove};
-use ffi3_json::{Json, ScriptFault, Where};
+use ffi3_json::{Json, ScriptFault, Way};
 use std::alloc::Global;
 
 /// A function of a script: its name, the number of its signature, its moves.
@@ -31,26 +31,22 @@ fn read_part(
     globals: &Globals,
     heading: &Heading,
     value: &Json,
-    at: &mut Where,
+    at: &Way,
 ) -> Result<FunctionPart, ScriptFault>
     requires short { HasShortArrays (view value.now) }
     requires few { length globals.now.functions.now < 2 ^ 32 }
     requires within { heading.now.sig < length globals.now.sigs.now }
     ensures headed { IfOk result (IsHeaded heading.now) }
-    ensures place { OnOk result (at.new ≡ at.old) }
     ensures ok { IfOk result
         (λ f. read_body (surroundings_in globals.now (signature_at globals.now.sigs.now heading.now.sig))
-        (value_under (codes "body") (view value.now)) (under at.old (codes "body"))
+        (value_under (codes "body") (view value.now)) (under at.now (codes "body"))
         ≡ read (script_moves_of f.moves.items)) }
     ensures err { IfErr result
         (Reports (λ p r. read_body (surroundings_in globals.now (signature_at globals.now.sigs.now heading.now.sig))
-        (value_under (codes "body") (view value.now)) (under at.old (codes "body")) ≡ language.fault p r)) }
+        (value_under (codes "body") (view value.now)) (under at.now (codes "body")) ≡ language.fault p r)) }
 {
     let own = globals.sigs.get(heading.sig as usize);
-    let moves = match read_body(alloc, globals, own, "body", value, at) {
-        Ok(moves) => moves,
-        Err(fault) => return Err(fault),
-    };
+    let moves = read_body(alloc, globals, own, "body", value, at)?;
     Ok(FunctionPart {
         name: String::from_str(alloc, heading.name.as_str())?,
         sig: heading.sig,
@@ -72,29 +68,23 @@ pub(crate) fn read_parts(
     globals: &Globals,
     headings: &Vec<Heading>,
     items: &Vec<Json>,
-    at: &mut Where,
+    at: &Way,
 ) -> Result<Vec<FunctionPart>, ScriptFault>
     requires short { HaveShortArrays (items_view items.now.items) }
     requires count { length items.now.items < 2 ^ 32 }
     requires few { length globals.now.functions.now < 2 ^ 32 }
     requires within { All (λ h. h.sig < length globals.now.sigs.now) headings.now.items }
     requires same { length headings.now.items ≡ length items.now.items }
-    ensures place { OnOk result (at.new ≡ at.old) }
     ensures ok { IfOk result
         (λ fs. read_bodies globals.now.sigs.now globals.now.functions.now (headings_of headings.now.items)
-        (items_view items.now.items) at.old 0 ≡ read (map part_of fs.items)) }
+        (items_view items.now.items) at.now 0 ≡ read (map part_of fs.items)) }
     ensures err { IfErr result
         (Reports (λ p r. read_bodies globals.now.sigs.now globals.now.functions.now (headings_of headings.now.items)
-        (items_view items.now.items) at.old 0 ≡ language.fault p r)) }
+        (items_view items.now.items) at.now 0 ≡ language.fault p r)) }
 {
     let mut parts = Vec::new(alloc);
     for i in 0..items.len() {
-        at.push_number(i as u32)?;
-        let part = match read_part(alloc, globals, &headings[i], &items[i], at) {
-            Ok(part) => part,
-            Err(fault) => return Err(fault),
-        };
-        at.pop();
+        let part = read_part(alloc, globals, &headings[i], &items[i], &at.item(i as u32))?;
         push_part(&mut parts, part)?;
     }
     Ok(parts)

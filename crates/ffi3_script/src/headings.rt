@@ -13,7 +13,7 @@ use crate::NoMemory;
 use crate::acts::add_key;
 use crate::functions::FunctionNames;
 use crate::heads::{new_name, read_signature_number};
-use ffi3_json::{Json, Keys, Reason, ScriptFault, Where, bad, check_object};
+use ffi3_json::{Json, Keys, Reason, ScriptFault, Way, bad, check_object_at};
 use ffi3_types::Sigs;
 use std::alloc::Global;
 
@@ -47,26 +47,20 @@ fn read_function_name(
     alloc: Global,
     earlier: &FunctionNames,
     value: &Json,
-    at: &mut Where,
+    at: &Way,
 ) -> Result<String, ScriptFault>
-    ensures place { OnOk result (at.new ≡ at.old) }
     ensures ok { IfOk result
         (λ name. new_name (is_one_of earlier.now) (as_str (value_under (codes "name") (view value.now)))
-        (under at.old (codes "name")) ≡ read (string_bytes name)) }
+        (under at.now (codes "name")) ≡ read (string_bytes name)) }
     ensures err { IfErr result
         (Reports (λ p r. new_name (is_one_of earlier.now) (as_str (value_under (codes "name") (view value.now)))
-        (under at.old (codes "name")) ≡ language.fault p r)) }
+        (under at.now (codes "name")) ≡ language.fault p r)) }
 {
-    at.push_key(alloc, "name")?;
+    let place = at.key("name");
     let Some(named) = value.get("name") else {
-        return Err(bad(alloc, at, Reason::BadName));
+        return Err(bad(alloc, &place, Reason::BadName));
     };
-    let name = match new_name(alloc, earlier.index(), named, at) {
-        Ok(name) => name,
-        Err(fault) => return Err(fault),
-    };
-    at.pop();
-    Ok(name)
+    new_name(alloc, earlier.index(), named, &place)
 }
 
 // The heading of the function that the value at a place is, after functions of these names.
@@ -75,27 +69,18 @@ fn read_heading(
     sigs: &Sigs,
     earlier: &FunctionNames,
     value: &Json,
-    at: &mut Where,
+    at: &Way,
 ) -> Result<Heading, ScriptFault>
     ensures within { IfOk result (λ h. h.sig < length sigs.now) }
-    ensures place { OnOk result (at.new ≡ at.old) }
     ensures ok { IfOk result
-        (λ h. read_heading (length sigs.now) earlier.now (view value.now) at.old ≡ read (heading_of h)) }
+        (λ h. read_heading (length sigs.now) earlier.now (view value.now) at.now ≡ read (heading_of h)) }
     ensures err { IfErr result
-        (Reports (λ p r. read_heading (length sigs.now) earlier.now (view value.now) at.old ≡ language.fault p r)) }
+        (Reports (λ p r. read_heading (length sigs.now) earlier.now (view value.now) at.now ≡ language.fault p r)) }
 {
     let keys = function_keys(alloc)?;
-    if let Err(fault) = check_object(alloc, value, &keys, at) {
-        return Err(fault);
-    }
-    let name = match read_function_name(alloc, earlier, value, at) {
-        Ok(name) => name,
-        Err(fault) => return Err(fault),
-    };
-    let sig = match read_signature_number(alloc, sigs, value, at) {
-        Ok(sig) => sig,
-        Err(fault) => return Err(fault),
-    };
+    check_object_at(alloc, value, &keys, at)?;
+    let name = read_function_name(alloc, earlier, value, at)?;
+    let sig = read_signature_number(alloc, sigs, value, at)?;
     Ok(Heading { name, sig })
 }
 
@@ -119,28 +104,22 @@ pub(crate) fn read_headings(
     alloc: Global,
     sigs: &Sigs,
     items: &Vec<Json>,
-    at: &mut Where,
+    at: &Way,
 ) -> Result<Headings, ScriptFault>
     requires { length items.now.items < 2 ^ 32 }
     ensures within { IfOk result (λ h. All (λ x. x.sig < length sigs.now) h.list.items) }
     ensures count { IfOk result (λ h. length h.list.items ≡ length items.now.items) }
     ensures names { IfOk result (λ h. h.names ≡ names_of (headings_of h.list.items)) }
-    ensures place { OnOk result (at.new ≡ at.old) }
     ensures ok { IfOk result
-        (λ h. read_headings (length sigs.now) [] (items_view items.now.items) at.old 0 ≡ read
+        (λ h. read_headings (length sigs.now) [] (items_view items.now.items) at.now 0 ≡ read
         (headings_of h.list.items)) }
     ensures err { IfErr result
-        (Reports (λ p r. read_headings (length sigs.now) [] (items_view items.now.items) at.old 0 ≡ language.fault p r)) }
+        (Reports (λ p r. read_headings (length sigs.now) [] (items_view items.now.items) at.now 0 ≡ language.fault p r)) }
 {
     let mut names = FunctionNames::new(alloc);
     let mut list = Vec::new(alloc);
     for i in 0..items.len() {
-        at.push_number(i as u32)?;
-        let heading = match read_heading(alloc, sigs, &names, &items[i], at) {
-            Ok(heading) => heading,
-            Err(fault) => return Err(fault),
-        };
-        at.pop();
+        let heading = read_heading(alloc, sigs, &names, &items[i], &at.item(i as u32))?;
         push_heading(alloc, heading, &mut names, &mut list)?;
     }
     Ok(Headings { names, list })

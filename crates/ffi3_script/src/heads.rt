@@ -1,5 +1,5 @@
 // Names, and the numbers of signatures and functions.
-ghost use Rattle.std.specs.Prelude.{◌≡◌, ◌<◌, ◌^◌, IfOk, IfErr, OnOk, length, codes, string_bytes};
+ghost use Rattle.std.specs.Prelude.{◌≡◌, ◌<◌, ◌^◌, IfOk, IfErr, length, codes, string_bytes};
 ghost use Rattle.std.specs.List.{list_all};
 ghost use Rattle.serde_json.specs.Find.{as_str};
 ghost use Rattle.serde_json.specs.View.{view};
@@ -11,7 +11,7 @@ ghost use Rattle.ffi3_script.specs.Taken.{is_taken};
 
 use crate::functions::FunctionNames;
 use crate::index::NameIndex;
-use ffi3_json::{Json, Reason, ScriptFault, Where, bad};
+use ffi3_json::{Json, Reason, ScriptFault, Way, bad};
 use ffi3_types::Sigs;
 use std::alloc::Global;
 
@@ -50,7 +50,7 @@ pub(crate) fn new_name(
     alloc: Global,
     names: &NameIndex,
     value: &Json,
-    at: &Where,
+    at: &Way,
 ) -> Result<String, ScriptFault>
     ensures ok { IfOk result
         (λ name. new_name (is_taken names.now) (as_str (view value.now)) at.now ≡ read (string_bytes name)) }
@@ -74,28 +74,26 @@ pub(crate) fn read_signature_number(
     alloc: Global,
     sigs: &Sigs,
     value: &Json,
-    at: &mut Where,
+    at: &Way,
 ) -> Result<u32, ScriptFault>
-    ensures place { OnOk result (at.new ≡ at.old) }
     ensures below { IfOk result (λ i. i < length sigs.now) }
     ensures ok { IfOk result
         (λ i. read_signature_number (length sigs.now) (value_under (codes "sig") (view value.now))
-        (under at.old (codes "sig")) ≡ read i) }
+        (under at.now (codes "sig")) ≡ read i) }
     ensures err { IfErr result
         (Reports (λ p r. read_signature_number (length sigs.now) (value_under (codes "sig") (view value.now))
-        (under at.old (codes "sig")) ≡ language.fault p r)) }
+        (under at.now (codes "sig")) ≡ language.fault p r)) }
 {
-    at.push_key(alloc, "sig")?;
+    let place = at.key("sig");
     let Some(sig) = value.get("sig") else {
-        return Err(bad(alloc, at, Reason::NoSuchSignature));
+        return Err(bad(alloc, &place, Reason::NoSuchSignature));
     };
     let Some(i) = sig.as_u64() else {
-        return Err(bad(alloc, at, Reason::NoSuchSignature));
+        return Err(bad(alloc, &place, Reason::NoSuchSignature));
     };
     if i >= sigs.len() as u64 {
-        return Err(bad(alloc, at, Reason::NoSuchSignature));
+        return Err(bad(alloc, &place, Reason::NoSuchSignature));
     }
-    at.pop();
     Ok(i as u32)
 }
 
@@ -104,27 +102,25 @@ pub(crate) fn read_function(
     alloc: Global,
     functions: &FunctionNames,
     value: &Json,
-    at: &mut Where,
+    at: &Way,
 ) -> Result<u32, ScriptFault>
     requires few { length functions.now < 2 ^ 32 }
-    ensures place { OnOk result (at.new ≡ at.old) }
     ensures ok { IfOk result
         (λ k. read_function functions.now (as_str (value_under (codes "make") (view value.now)))
-        (under at.old (codes "make")) ≡ read k) }
+        (under at.now (codes "make")) ≡ read k) }
     ensures err { IfErr result
         (Reports (λ p r. read_function functions.now (as_str (value_under (codes "make") (view value.now)))
-        (under at.old (codes "make")) ≡ language.fault p r)) }
+        (under at.now (codes "make")) ≡ language.fault p r)) }
 {
-    at.push_key(alloc, "make")?;
+    let place = at.key("make");
     let Some(make) = value.get("make") else {
-        return Err(bad(alloc, at, Reason::NoSuchFunction));
+        return Err(bad(alloc, &place, Reason::NoSuchFunction));
     };
     let Some(name) = make.as_str() else {
-        return Err(bad(alloc, at, Reason::NoSuchFunction));
+        return Err(bad(alloc, &place, Reason::NoSuchFunction));
     };
     let Some(k) = functions.find(name) else {
-        return Err(bad(alloc, at, Reason::NoSuchFunction));
+        return Err(bad(alloc, &place, Reason::NoSuchFunction));
     };
-    at.pop();
     Ok(k as u32)
 }

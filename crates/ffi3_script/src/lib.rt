@@ -2,6 +2,7 @@
 #![tactic(auto)]
 
 mod acts;
+mod arrays;
 mod bodies;
 mod fields;
 mod forms;

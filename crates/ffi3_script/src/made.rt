@@ -1,5 +1,6 @@
 // The script that the bench runs.
 ghost use Rattle.std.specs.Prelude.{◌≡◌, ◌<◌, ◌≤◌, ◌+◌, ◌^◌, ◌++◌, ◌∷◌, [], All, IfOk, length, map, codes};
+ghost use Rattle.ffi3_type_rules.specs.declared.limits.TheConstants.{MOST_CALLS};
 ghost use Rattle.ffi3_script_rules.specs.Made.{made, made_function};
 ghost use Rattle.ffi3_made.specs.ShapesOf.{types_in};
 ghost use Rattle.ffi3_script.specs.PartsOf.{part_of};
@@ -47,9 +48,9 @@ fn made_functions(alloc: Global, shapes: &Shapes) -> Result<Vec<FunctionPart>, N
     Ok(functions)
 }
 
-/// The script that `bench` runs, made from a seed and a number of calls: 1 to 1000 in its words. It has no natives.
+/// The script that `bench` runs, made from a seed and a number of calls: 1 to 1,000 in its words. It has no natives.
 pub fn made_script(alloc: Global, seed: u32, calls: u32) -> Result<Script, NoMemory>
-    requires { calls ≤ 1000 }
+    requires { calls ≤ MOST_CALLS }
     ensures is { IfOk result (λ s. script_of s ≡ made seed calls) }
     ensures natives { IfOk result (λ s. natives_of s ≡ 0) }
 {

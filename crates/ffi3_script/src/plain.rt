@@ -4,7 +4,7 @@ ghost use Rattle.serde_json.specs.Find.{as_number, as_u64, as_str};
 ghost use Rattle.serde_json.specs.View.{view, number_view};
 ghost use Rattle.ffi3_type_rules.specs.Integer.{is_number_type, scalar_of};
 ghost use Rattle.ffi3_types.specs.TreeOf.{tree_of};
-ghost use Rattle.ffi3_script_rules.specs.Language.{read, fault, at_item, HasShortArrays};
+ghost use Rattle.ffi3_script_rules.specs.Language.{read, fault, HasShortArrays};
 ghost use Rattle.ffi3_script_rules.specs.Script as script;
 ghost use Rattle.ffi3_script_rules.specs.Values.{typed, in_range, read_number, read_text};
 ghost use Rattle.ffi3_script_rules.specs.Values.{argument_of, result_of, user_of, element_of, against, cast_of};
@@ -15,7 +15,7 @@ ghost use Rattle.ffi3_script.specs.ScopeOf.{scope_of};
 
 use crate::scope::Scope;
 use crate::{Expr, NoMemory, TypedExpr};
-use ffi3_json::{Json, Reason, ScriptFault, Where, bad, push_way, read_node, reason_of_type};
+use ffi3_json::{Json, Reason, ScriptFault, Way, bad, bad_type, read_type_at};
 use ffi3_types::{Bytes, FfiType, Fields, check_type, same_type};
 use ffi3_values::{Value, integer};
 use hex::FromHex;
@@ -90,7 +90,7 @@ pub(crate) fn read_number(
     alloc: Global,
     ty: &FfiType,
     n: &Number,
-    at: &Where,
+    at: &Way,
 ) -> Result<Expr, ScriptFault>
     ensures ok { IfOk result (λ e. read_number (tree_of ty.now) (number_view n.now) at.now ≡ read (expression_of e)) }
     ensures err { IfErr result (Reports (λ p r. read_number (tree_of ty.now) (number_view n.now) at.now ≡ fault p r)) }
@@ -115,7 +115,7 @@ pub(crate) fn read_text(
     alloc: Global,
     ty: &FfiType,
     text: &str,
-    at: &Where,
+    at: &Way,
 ) -> Result<Expr, ScriptFault>
     ensures ok { IfOk result (λ e. read_text (tree_of ty.now) text.now at.now ≡ read (expression_of e)) }
     ensures err { IfErr result (Reports (λ p r. read_text (tree_of ty.now) text.now at.now ≡ fault p r)) }
@@ -138,7 +138,7 @@ pub(crate) fn argument_of(
     alloc: Global,
     scope: &Scope,
     value: &Json,
-    at: &Where,
+    at: &Way,
 ) -> Result<TypedExpr, ScriptFault>
     ensures ok { IfOk result
         (λ v. argument_of (scope_of scope.now).arguments (option_and_then as_u64 (as_number (view value.now))) at.now
@@ -165,7 +165,7 @@ pub(crate) fn result_of(
     alloc: Global,
     scope: &Scope,
     value: &Json,
-    at: &Where,
+    at: &Way,
 ) -> Result<TypedExpr, ScriptFault>
     requires { length scope.now.names.now ≡ length scope.now.types.now }
     ensures ok { IfOk result
@@ -188,7 +188,7 @@ pub(crate) fn result_of(
 }
 
 /// The user data of the closure.
-pub(crate) fn user_of(alloc: Global, value: &Json, at: &Where) -> Result<TypedExpr, ScriptFault>
+pub(crate) fn user_of(alloc: Global, value: &Json, at: &Way) -> Result<TypedExpr, ScriptFault>
     ensures ok { IfOk result (λ v. user_of (view value.now) at.now ≡ read (typed_of v)) }
     ensures err { IfErr result (Reports (λ p r. user_of (view value.now) at.now ≡ fault p r)) }
 {
@@ -207,7 +207,7 @@ pub(crate) fn element_of(
     value: Expr,
     fields: &Fields,
     number: &Json,
-    at: &Where,
+    at: &Way,
 ) -> Result<TypedExpr, ScriptFault>
     ensures ok { IfOk result
         (λ v. element_of (expression_of value) fields.now (option_and_then as_u64 (as_number (view number.now))) at.now
@@ -234,7 +234,7 @@ pub(crate) fn against(
     alloc: Global,
     ty: &FfiType,
     value: TypedExpr,
-    at: &Where,
+    at: &Way,
 ) -> Result<Expr, ScriptFault>
     ensures ok { IfOk result (λ e. against (tree_of ty.now) at.now (typed_of value) ≡ read (expression_of e)) }
     ensures err { IfErr result (Reports (λ p r. against (tree_of ty.now) at.now (typed_of value) ≡ fault p r)) }
@@ -251,7 +251,7 @@ pub(crate) fn cast_of(
     alloc: Global,
     to: &FfiType,
     value: TypedExpr,
-    at: &Where,
+    at: &Way,
 ) -> Result<Expr, ScriptFault>
     ensures ok { IfOk result
         (λ e. cast_of (scalar_of (tree_of to.now)) at.now (typed_of value) ≡ read (expression_of e)) }
@@ -266,42 +266,15 @@ pub(crate) fn cast_of(
     Ok(Expr::Cast(ty, to.copy(alloc)?, value))
 }
 
-// A type that may be an argument's. The place is left as it was where one is read.
-fn read_right_type(alloc: Global, value: &Json, at: &mut Where) -> Result<FfiType, ScriptFault>
+/// A type that may be an argument's.
+pub(crate) fn read_right_type(alloc: Global, value: &Json, at: &Way) -> Result<FfiType, ScriptFault>
     requires { HasShortArrays (view value.now) }
-    ensures place { OnOk result (at.new ≡ at.old) }
-    ensures ok { IfOk result (λ t. read_right_type (view value.now) at.old ≡ read (tree_of t)) }
-    ensures err { IfErr result (Reports (λ p r. read_right_type (view value.now) at.old ≡ fault p r)) }
+    ensures ok { IfOk result (λ t. read_right_type (view value.now) at.now ≡ read (tree_of t)) }
+    ensures err { IfErr result (Reports (λ p r. read_right_type (view value.now) at.now ≡ fault p r)) }
 {
-    let ty = match read_node(alloc, value, at) {
-        Ok(ty) => ty,
-        Err(fault) => return Err(fault),
-    };
+    let ty = read_type_at(alloc, value, at)?;
     match check_type(&ty, false) {
         Ok(()) => Ok(ty),
-        Err(fault) => {
-            push_way(alloc, at, fault.path())?;
-            Err(bad(alloc, at, reason_of_type(&fault)))
-        }
+        Err(fault) => Err(bad_type(alloc, at, &fault)),
     }
-}
-
-/// A type that may be an argument's, as the first item of an array. The place is left as it was where one is read.
-pub(crate) fn read_first_type(
-    alloc: Global,
-    item: &Json,
-    at: &mut Where,
-) -> Result<FfiType, ScriptFault>
-    requires { HasShortArrays (view item.now) }
-    ensures place { OnOk result (at.new ≡ at.old) }
-    ensures ok { IfOk result (λ t. read_right_type (view item.now) (at_item at.old 0) ≡ read (tree_of t)) }
-    ensures err { IfErr result (Reports (λ p r. read_right_type (view item.now) (at_item at.old 0) ≡ fault p r)) }
-{
-    at.push_number(0)?;
-    let ty = match read_right_type(alloc, item, at) {
-        Ok(ty) => ty,
-        Err(fault) => return Err(fault),
-    };
-    at.pop();
-    Ok(ty)
 }

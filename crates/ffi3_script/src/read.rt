@@ -27,14 +27,8 @@ pub fn read_script(alloc: Global, bytes: &[u8], natives: &Names) -> Result<Scrip
     ensures natives { IfOk result (λ s. natives_of s ≡ length natives.now) }
     ensures err { IfErr result (IsScriptRefusal natives.now bytes.now) }
 {
-    let value = match parse(alloc, bytes) {
-        Ok(value) => value,
-        Err(fault) => return Err(fault),
-    };
-    let parts = match read_root(alloc, &value, natives) {
-        Ok(parts) => parts,
-        Err(fault) => return Err(fault),
-    };
+    let value = parse(alloc, bytes)?;
+    let parts = read_root(alloc, &value, natives)?;
     Ok(script_of(alloc, parts, natives.len() as u32)?)
 }
 

@@ -1,24 +1,28 @@
 // The whole of a script.
-ghost use Rattle.std.specs.Prelude.{◌≡◌, ◌<◌, ◌≤◌, ◌^◌, ◌++◌, [], All, IfOk, IfErr};
-ghost use Rattle.std.specs.Prelude.{OnOk, length, map, codes, option_and_then};
+ghost use Rattle.std.specs.Prelude.{◌≡◌, ◌+◌, ◌<◌, ◌≤◌, ◌^◌, ◌++◌, [], All, IfOk, IfErr};
+ghost use Rattle.std.specs.Prelude.{OnOk, length, codes, option_and_then};
 ghost use Rattle.serde_json.specs.Find.{as_number, as_u64};
 ghost use Rattle.serde_json.specs.View.{view, items_view};
 ghost use Rattle.ffi3_script_rules.specs.Language as language;
 ghost use Rattle.ffi3_script_rules.specs.Language.{read, under, value_under, HasShortArrays, HaveShortArrays};
-ghost use Rattle.ffi3_script_rules.specs.Bodies.{script_keys, version_of, items_at, read_signatures, read_headings};
-ghost use Rattle.ffi3_script_rules.specs.Bodies.{read_bodies, read_rest, read_script, names_of};
+ghost use Rattle.ffi3_script_rules.specs.Bodies.{script_keys, version_of, read_signatures, read_headings};
+ghost use Rattle.ffi3_script_rules.specs.Bodies.{read_rest, read_script, names_of};
+ghost use Rattle.ffi3_script_rules.specs.Reading.{max_length};
 ghost use Rattle.ffi3_json.specs.Reports.{Reports};
 ghost use Rattle.ffi3_json.specs.Within.{HasArraysWithin};
-ghost use Rattle.ffi3_script.specs.PartsOf.{headings_of, part_of, script_in, bodies_and_main};
+ghost use Rattle.ffi3_script.specs.PartsOf.{headings_of, script_in, bodies_and_main};
 
 use crate::acts::add_key;
+use crate::arrays::items_under;
 use crate::bodies::read_body;
 use crate::function_parts::{FunctionPart, read_parts};
 use crate::functions::FunctionNames;
 use crate::headings::{Heading, Headings, read_headings};
 use crate::scope::Globals;
 use crate::{Names, NoMemory, ScriptMove};
-use ffi3_json::{Json, Keys, Reason, ScriptFault, Where, bad, check_object, read_signature};
+use ffi3_json::{
+    Json, Keys, Reason, ScriptFault, Way, Where, bad, check_object_at, read_signature_at,
+};
 use ffi3_types::{FfiType, Fields, Sig, Sigs};
 use std::alloc::Global;
 
@@ -50,130 +54,41 @@ fn script_keys(alloc: Global) -> Result<Keys, NoMemory>
 }
 
 // The version, which is 1.
-fn read_version(alloc: Global, value: &Json, at: &mut Where) -> Result<(), ScriptFault>
-    ensures place { OnOk result (at.new ≡ at.old) }
+fn read_version(alloc: Global, value: &Json, at: &Way) -> Result<(), ScriptFault>
     ensures ok { OnOk result
         (version_of (option_and_then as_u64 (as_number (value_under (codes "version") (view value.now))))
-        (under at.old (codes "version")) ≡ read tt) }
+        (under at.now (codes "version")) ≡ read tt) }
     ensures err { IfErr result
         (Reports (λ p r. version_of (option_and_then as_u64 (as_number (value_under (codes "version") (view value.now))))
-        (under at.old (codes "version")) ≡ language.fault p r)) }
+        (under at.now (codes "version")) ≡ language.fault p r)) }
 {
-    at.push_key(alloc, "version")?;
+    let place = at.key("version");
     let Some(version) = value.get("version") else {
-        return Err(bad(alloc, at, Reason::VersionNotKnown));
+        return Err(bad(alloc, &place, Reason::VersionNotKnown));
     };
     let Some(n) = version.as_u64() else {
-        return Err(bad(alloc, at, Reason::VersionNotKnown));
+        return Err(bad(alloc, &place, Reason::VersionNotKnown));
     };
     if n != 1 {
-        return Err(bad(alloc, at, Reason::VersionNotKnown));
+        return Err(bad(alloc, &place, Reason::VersionNotKnown));
     }
-    at.pop();
     Ok(())
 }
 
-// The items of the array that a value has under a key.
-fn items_under<'a>(
-    alloc: Global,
-    name: &str,
-    value: &'a Json,
-    at: &mut Where,
-) -> Result<&'a Vec<Json>, ScriptFault>
-    requires short { HasShortArrays (view value.now) }
-    requires within { HasArraysWithin 1048577 (view value.now) }
-    ensures place { OnOk result (at.new ≡ at.old) }
-    ensures short { IfOk result (λ items. HaveShortArrays (items_view items.now.items)) }
-    ensures few { IfOk result (λ items. length items.now.items ≤ 1048577) }
-    ensures ok { IfOk result
-        (λ items. items_at (value_under name.now (view value.now)) (under at.old name.now) ≡ read
-        (items_view items.now.items)) }
-    ensures err { IfErr result
-        (Reports (λ p r. items_at (value_under name.now (view value.now)) (under at.old name.now) ≡ language.fault p r)) }
-{
-    at.push_key(alloc, name)?;
-    let Some(inside) = value.get(name) else {
-        return Err(bad(alloc, at, Reason::NotAnArray));
-    };
-    let Some(items) = inside.as_array() else {
-        return Err(bad(alloc, at, Reason::NotAnArray));
-    };
-    at.pop();
-    Ok(items)
-}
-
 // The signatures that the items of an array are.
-fn read_each_signature(
-    alloc: Global,
-    items: &Vec<Json>,
-    at: &mut Where,
-) -> Result<Sigs, ScriptFault>
+fn read_signatures(alloc: Global, items: &Vec<Json>, at: &Way) -> Result<Sigs, ScriptFault>
     requires short { HaveShortArrays (items_view items.now.items) }
-    requires few { length items.now.items ≤ 1048577 }
-    ensures place { OnOk result (at.new ≡ at.old) }
-    ensures ok { IfOk result (λ ss. read_signatures (items_view items.now.items) at.old 0 ≡ read ss) }
+    requires few { length items.now.items ≤ max_length + 1 }
+    ensures ok { IfOk result (λ ss. read_signatures (items_view items.now.items) at.now 0 ≡ read ss) }
     ensures err { IfErr result
-        (Reports (λ p r. read_signatures (items_view items.now.items) at.old 0 ≡ language.fault p r)) }
+        (Reports (λ p r. read_signatures (items_view items.now.items) at.now 0 ≡ language.fault p r)) }
 {
     let mut sigs = Sigs::new(alloc);
     for i in 0..items.len() {
-        at.push_number(i as u32)?;
-        let sig = match read_signature(alloc, &items[i], at) {
-            Ok(sig) => sig,
-            Err(fault) => return Err(fault),
-        };
-        at.pop();
+        let sig = read_signature_at(alloc, &items[i], &at.item(i as u32))?;
         sigs.push(sig)?;
     }
     Ok(sigs)
-}
-
-// The same, from the root.
-fn read_signatures(alloc: Global, items: &Vec<Json>, at: &mut Where) -> Result<Sigs, ScriptFault>
-    requires short { HaveShortArrays (items_view items.now.items) }
-    requires few { length items.now.items ≤ 1048577 }
-    ensures place { OnOk result (at.new ≡ at.old) }
-    ensures ok { IfOk result
-        (λ ss. read_signatures (items_view items.now.items) (under at.old (codes "signatures")) 0 ≡ read ss) }
-    ensures err { IfErr result
-        (Reports (λ p r. read_signatures (items_view items.now.items) (under at.old (codes "signatures")) 0
-        ≡ language.fault p r)) }
-{
-    at.push_key(alloc, "signatures")?;
-    let sigs = match read_each_signature(alloc, items, at) {
-        Ok(sigs) => sigs,
-        Err(fault) => return Err(fault),
-    };
-    at.pop();
-    Ok(sigs)
-}
-
-// The headings of the functions, from the root.
-fn read_functions(
-    alloc: Global,
-    sigs: &Sigs,
-    items: &Vec<Json>,
-    at: &mut Where,
-) -> Result<Headings, ScriptFault>
-    requires { length items.now.items ≤ 1048577 }
-    ensures within { IfOk result (λ h. All (λ x. x.sig < length sigs.now) h.list.items) }
-    ensures count { IfOk result (λ h. length h.list.items ≡ length items.now.items) }
-    ensures names { IfOk result (λ h. h.names ≡ names_of (headings_of h.list.items)) }
-    ensures place { OnOk result (at.new ≡ at.old) }
-    ensures ok { IfOk result
-        (λ h. read_headings (length sigs.now) [] (items_view items.now.items) (under at.old (codes "functions")) 0
-        ≡ read (headings_of h.list.items)) }
-    ensures err { IfErr result
-        (Reports (λ p r. read_headings (length sigs.now) [] (items_view items.now.items)
-        (under at.old (codes "functions")) 0 ≡ language.fault p r)) }
-{
-    at.push_key(alloc, "functions")?;
-    let headings = match read_headings(alloc, sigs, items, at) {
-        Ok(headings) => headings,
-        Err(fault) => return Err(fault),
-    };
-    at.pop();
-    Ok(headings)
 }
 
 // The names of the natives, after those of the functions.
@@ -186,36 +101,6 @@ fn push_natives(alloc: Global, names: &mut FunctionNames, natives: &Names) -> Re
     Ok(())
 }
 
-// The functions of these headings, from the root.
-fn read_function_bodies(
-    alloc: Global,
-    globals: &Globals,
-    headings: &Vec<Heading>,
-    items: &Vec<Json>,
-    at: &mut Where,
-) -> Result<Vec<FunctionPart>, ScriptFault>
-    requires short { HaveShortArrays (items_view items.now.items) }
-    requires count { length items.now.items ≤ 1048577 }
-    requires few { length globals.now.functions.now < 2 ^ 32 }
-    requires within { All (λ h. h.sig < length globals.now.sigs.now) headings.now.items }
-    requires same { length headings.now.items ≡ length items.now.items }
-    ensures place { OnOk result (at.new ≡ at.old) }
-    ensures ok { IfOk result
-        (λ fs. read_bodies globals.now.sigs.now globals.now.functions.now (headings_of headings.now.items)
-        (items_view items.now.items) (under at.old (codes "functions")) 0 ≡ read (map part_of fs.items)) }
-    ensures err { IfErr result
-        (Reports (λ p r. read_bodies globals.now.sigs.now globals.now.functions.now (headings_of headings.now.items)
-        (items_view items.now.items) (under at.old (codes "functions")) 0 ≡ language.fault p r)) }
-{
-    at.push_key(alloc, "functions")?;
-    let functions = match read_parts(alloc, globals, headings, items, at) {
-        Ok(functions) => functions,
-        Err(fault) => return Err(fault),
-    };
-    at.pop();
-    Ok(functions)
-}
-
 // The bodies of these functions, and then main.
 fn read_all_bodies(
     alloc: Global,
@@ -223,32 +108,25 @@ fn read_all_bodies(
     headings: &Vec<Heading>,
     items: &Vec<Json>,
     value: &Json,
-    at: &mut Where,
+    at: &Way,
 ) -> Result<AllBodies, ScriptFault>
     requires short { HasShortArrays (view value.now) }
     requires items_short { HaveShortArrays (items_view items.now.items) }
-    requires count { length items.now.items ≤ 1048577 }
+    requires count { length items.now.items ≤ max_length + 1 }
     requires few { length globals.now.functions.now < 2 ^ 32 }
     requires within { All (λ h. h.sig < length globals.now.sigs.now) headings.now.items }
     requires same { length headings.now.items ≡ length items.now.items }
-    ensures place { OnOk result (at.new ≡ at.old) }
     ensures ok { IfOk result
         (λ b. bodies_and_main globals.now.sigs.now globals.now.functions.now (headings_of headings.now.items)
-        (items_view items.now.items) (view value.now) at.old
+        (items_view items.now.items) (view value.now) at.now
         ≡ read (script_in globals.now.sigs.now b.functions.items b.main.items)) }
     ensures err { IfErr result
         (Reports (λ p r. bodies_and_main globals.now.sigs.now globals.now.functions.now (headings_of headings.now.items)
-        (items_view items.now.items) (view value.now) at.old ≡ language.fault p r)) }
+        (items_view items.now.items) (view value.now) at.now ≡ language.fault p r)) }
 {
-    let functions = match read_function_bodies(alloc, globals, headings, items, at) {
-        Ok(functions) => functions,
-        Err(fault) => return Err(fault),
-    };
     let own = Sig::new(FfiType::Void, Fields::new(alloc), None);
-    let main = match read_body(alloc, globals, &own, "main", value, at) {
-        Ok(main) => main,
-        Err(fault) => return Err(fault),
-    };
+    let functions = read_parts(alloc, globals, headings, items, &at.key("functions"))?;
+    let main = read_body(alloc, globals, &own, "main", value, at)?;
     Ok(AllBodies { functions, main })
 }
 
@@ -260,16 +138,16 @@ fn read_rest(
     headings: Headings,
     items: &Vec<Json>,
     value: &Json,
-    at: &mut Where,
+    at: &Way,
 ) -> Result<AllBodies, ScriptFault>
     requires short { HasShortArrays (view value.now) }
     requires items_short { HaveShortArrays (items_view items.now.items) }
-    requires count { length items.now.items ≤ 1048577 }
+    requires count { length items.now.items ≤ max_length + 1 }
     requires few { length natives.now < 2 ^ 31 }
     requires within { All (λ h. h.sig < length sigs.now) headings.list.items }
     requires same { length headings.list.items ≡ length items.now.items }
     requires names { headings.names ≡ names_of (headings_of headings.list.items) }
-    requires root { at.old ≡ [] }
+    requires root { at.now ≡ [] }
     ensures ok { IfOk result
         (λ b. read_rest natives.now (view value.now) sigs.now (items_view items.now.items)
         (headings_of headings.list.items) ≡ read (script_in sigs.now b.functions.items b.main.items)) }
@@ -283,49 +161,30 @@ fn read_rest(
         sigs,
         functions: &names,
     };
-    match read_all_bodies(alloc, &globals, &list, items, value, at) {
-        Ok(bodies) => Ok(bodies),
-        Err(fault) => Err(fault),
-    }
+    read_all_bodies(alloc, &globals, &list, items, value, at)
 }
 
 /// The script that a JSON value is, beside natives of these names.
 pub(crate) fn read_root(alloc: Global, value: &Json, natives: &Names) -> Result<Parts, ScriptFault>
     requires short { HasShortArrays (view value.now) }
-    requires within { HasArraysWithin 1048577 (view value.now) }
+    requires within { HasArraysWithin (max_length + 1) (view value.now) }
     requires few { length natives.now < 2 ^ 31 }
     ensures ok { IfOk result
         (λ p. read_script natives.now (view value.now) ≡ read (script_in p.sigs p.functions.items p.main.items)) }
     ensures err { IfErr result (Reports (λ p r. read_script natives.now (view value.now) ≡ language.fault p r)) }
 {
-    let mut at = Where::new(alloc);
+    let root = Where::new(alloc);
+    let at = Way::from(&root);
     let keys = script_keys(alloc)?;
-    if let Err(fault) = check_object(alloc, value, &keys, &at) {
-        return Err(fault);
-    }
-    if let Err(fault) = read_version(alloc, value, &mut at) {
-        return Err(fault);
-    }
-    let signatures = match items_under(alloc, "signatures", value, &mut at) {
-        Ok(signatures) => signatures,
-        Err(fault) => return Err(fault),
-    };
-    let sigs = match read_signatures(alloc, signatures, &mut at) {
-        Ok(sigs) => sigs,
-        Err(fault) => return Err(fault),
-    };
-    let functions = match items_under(alloc, "functions", value, &mut at) {
-        Ok(functions) => functions,
-        Err(fault) => return Err(fault),
-    };
-    let headings = match read_functions(alloc, &sigs, functions, &mut at) {
-        Ok(headings) => headings,
-        Err(fault) => return Err(fault),
-    };
-    let bodies = match read_rest(alloc, natives, &sigs, headings, functions, value, &mut at) {
-        Ok(bodies) => bodies,
-        Err(fault) => return Err(fault),
-    };
+    check_object_at(alloc, value, &keys, &at)?;
+    read_version(alloc, value, &at)?;
+    let place = at.key("signatures");
+    let signatures = items_under(alloc, "signatures", value, &place)?;
+    let sigs = read_signatures(alloc, signatures, &place)?;
+    let place = at.key("functions");
+    let functions = items_under(alloc, "functions", value, &place)?;
+    let headings = read_headings(alloc, &sigs, functions, &place)?;
+    let bodies = read_rest(alloc, natives, &sigs, headings, functions, value, &at)?;
     Ok(Parts {
         sigs,
         functions: bodies.functions,

@@ -1,8 +1,8 @@
 // Values of a script, as they are read.
-ghost use Rattle.std.specs.Prelude.{◌≡◌, IfOk, IfErr, OnOk, length};
+ghost use Rattle.std.specs.Prelude.{◌≡◌, IfOk, IfErr, length};
 ghost use Rattle.serde_json.specs.View.{view, items_view};
 ghost use Rattle.ffi3_types.specs.TreeOf.{tree_of};
-ghost use Rattle.ffi3_script_rules.specs.Language.{read, fault, HasShortArrays, HaveShortArrays, at_item, under};
+ghost use Rattle.ffi3_script_rules.specs.Language.{read, fault, HasShortArrays, HaveShortArrays, under};
 ghost use Rattle.ffi3_script_rules.specs.Values.{read_value, read_values, read_typed, read_field, read_of, form_named};
 ghost use Rattle.ffi3_json.specs.Reports.{Reports};
 ghost use Rattle.ffi3_script_body.specs.ExprOf.{expression_of, expressions_in, typed_of};
@@ -11,32 +11,30 @@ ghost use Rattle.ffi3_script.specs.Shapes.{typed_form_of, typed_under, value_und
 
 use crate::forms::{Form, TypedForm, form_named, is_untyped, only_member, two_items};
 use crate::plain::{
-    against, argument_of, cast_of, difference, element_of, push, read_first_type, read_number,
+    against, argument_of, cast_of, difference, element_of, push, read_number, read_right_type,
     read_text, result_of, sum, typed_as, user_of,
 };
 use crate::scope::Scope;
 use crate::{Expr, TypedExpr};
-use ffi3_json::{Json, Reason, ScriptFault, Where, bad};
+use ffi3_json::{Json, Reason, ScriptFault, Way, bad};
 use ffi3_types::{FfiType, Fields};
 use std::alloc::Global;
 
-/// The value of a type that a JSON value at a place is. The place is left as it was where one is read, here and in each
-/// function below.
+/// The value of a type that a JSON value at a place is.
 #[cycle(values)]
 pub(crate) fn read_value(
     alloc: Global,
     scope: &Scope,
     ty: &FfiType,
     value: &Json,
-    at: &mut Where,
+    at: &Way,
 ) -> Result<Expr, ScriptFault>
     requires short { HasShortArrays (view value.now) }
     requires even { length scope.now.names.now ≡ length scope.now.types.now }
-    ensures place { OnOk result (at.new ≡ at.old) }
     ensures ok { IfOk result
-        (λ e. read_value (scope_of scope.now) (tree_of ty.now) (view value.now) at.old ≡ read (expression_of e)) }
+        (λ e. read_value (scope_of scope.now) (tree_of ty.now) (view value.now) at.now ≡ read (expression_of e)) }
     ensures err { IfErr result
-        (Reports (λ p r. read_value (scope_of scope.now) (tree_of ty.now) (view value.now) at.old ≡ fault p r)) }
+        (Reports (λ p r. read_value (scope_of scope.now) (tree_of ty.now) (view value.now) at.now ≡ fault p r)) }
 {
     if let Some(n) = value.as_number() {
         return read_number(alloc, ty, n, at);
@@ -51,44 +49,13 @@ pub(crate) fn read_value(
         if items.len() != fields.len() {
             return Err(bad(alloc, at, Reason::WrongCount));
         }
-        return match read_values(alloc, scope, fields, items, at) {
-            Ok(values) => Ok(Expr::of_elements(values)),
-            Err(fault) => Err(fault),
-        };
+        let values = read_values(alloc, scope, fields, items, at)?;
+        return Ok(Expr::of_elements(values));
     }
     let Some((name, inside)) = only_member(value) else {
         return Err(bad(alloc, at, Reason::NotAValue));
     };
     read_form(alloc, scope, ty, name, inside, at)
-}
-
-// The value of a type that an array's item of this number is.
-#[cycle(values)]
-fn read_item(
-    alloc: Global,
-    scope: &Scope,
-    ty: &FfiType,
-    item: &Json,
-    i: u32,
-    at: &mut Where,
-) -> Result<Expr, ScriptFault>
-    requires short { HasShortArrays (view item.now) }
-    requires even { length scope.now.names.now ≡ length scope.now.types.now }
-    ensures place { OnOk result (at.new ≡ at.old) }
-    ensures ok { IfOk result
-        (λ e. read_value (scope_of scope.now) (tree_of ty.now) (view item.now) (at_item at.old i)
-        ≡ read (expression_of e)) }
-    ensures err { IfErr result
-        (Reports (λ p r. read_value (scope_of scope.now) (tree_of ty.now) (view item.now) (at_item at.old i)
-        ≡ fault p r)) }
-{
-    at.push_number(i)?;
-    let value = match read_value(alloc, scope, ty, item, at) {
-        Ok(value) => value,
-        Err(fault) => return Err(fault),
-    };
-    at.pop();
-    Ok(value)
 }
 
 /// The values of these types that an array's items are, one for each.
@@ -98,24 +65,21 @@ pub(crate) fn read_values(
     scope: &Scope,
     types: &Fields,
     items: &Vec<Json>,
-    at: &mut Where,
+    at: &Way,
 ) -> Result<Vec<Expr>, ScriptFault>
     requires short { HaveShortArrays (items_view items.now.items) }
     requires even { length scope.now.names.now ≡ length scope.now.types.now }
     requires count { length items.now.items ≡ length types.now }
-    ensures place { OnOk result (at.new ≡ at.old) }
     ensures ok { IfOk result
-        (λ es. read_values (scope_of scope.now) types.now (items_view items.now.items) at.old 0
+        (λ es. read_values (scope_of scope.now) types.now (items_view items.now.items) at.now 0
         ≡ read (expressions_in es.items)) }
     ensures err { IfErr result
-        (Reports (λ p r. read_values (scope_of scope.now) types.now (items_view items.now.items) at.old 0 ≡ fault p r)) }
+        (Reports (λ p r. read_values (scope_of scope.now) types.now (items_view items.now.items) at.now 0 ≡ fault p r)) }
 {
     let mut values = Vec::new(alloc);
     for i in 0..types.len() {
-        match read_item(alloc, scope, types.get(i), &items[i], i as u32, at) {
-            Ok(value) => push(&mut values, value)?,
-            Err(fault) => return Err(fault),
-        }
+        let value = read_value(alloc, scope, types.get(i), &items[i], &at.item(i as u32))?;
+        push(&mut values, value)?;
     }
     Ok(values)
 }
@@ -128,48 +92,38 @@ fn read_form(
     ty: &FfiType,
     name: &str,
     inside: &Json,
-    at: &mut Where,
+    at: &Way,
 ) -> Result<Expr, ScriptFault>
     requires short { HasShortArrays (view inside.now) }
     requires even { length scope.now.names.now ≡ length scope.now.types.now }
-    ensures place { OnOk result (at.new ≡ at.old) }
     ensures ok { IfOk result
-        (λ e. value_under_form (scope_of scope.now) (tree_of ty.now) name.now (view inside.now) at.old
+        (λ e. value_under_form (scope_of scope.now) (tree_of ty.now) name.now (view inside.now) at.now
         (form_named name.now) ≡ read (expression_of e)) }
     ensures err { IfErr result
-        (Reports (λ p r. value_under_form (scope_of scope.now) (tree_of ty.now) name.now (view inside.now) at.old
+        (Reports (λ p r. value_under_form (scope_of scope.now) (tree_of ty.now) name.now (view inside.now) at.now
         (form_named name.now) ≡ fault p r)) }
 {
     match form_named(name) {
         Form::Unknown => Err(bad(alloc, at, Reason::NotAValue)),
-        Form::Typed(form) => match read_own(alloc, scope, form, name, inside, at) {
-            Ok(value) => against(alloc, ty, value, at),
-            Err(fault) => Err(fault),
-        },
-        Form::Add => match read_terms(alloc, scope, ty, name, inside, at) {
-            Ok((a, b)) => Ok(sum(alloc, ty, a, b)?),
-            Err(fault) => Err(fault),
-        },
-        Form::Sub => match read_terms(alloc, scope, ty, name, inside, at) {
-            Ok((a, b)) => Ok(difference(alloc, ty, a, b)?),
-            Err(fault) => Err(fault),
-        },
+        Form::Typed(form) => {
+            let value = read_own(alloc, scope, form, name, inside, at)?;
+            against(alloc, ty, value, at)
+        }
+        Form::Add => {
+            let (a, b) = read_terms(alloc, scope, ty, name, inside, at)?;
+            Ok(sum(alloc, ty, a, b)?)
+        }
+        Form::Sub => {
+            let (a, b) = read_terms(alloc, scope, ty, name, inside, at)?;
+            Ok(difference(alloc, ty, a, b)?)
+        }
         Form::Cast => {
             if !ty.is_number() {
                 return Err(bad(alloc, at, Reason::WrongType));
             }
-            at.push_key(alloc, name)?;
-            let value = match read_typed(alloc, scope, inside, at) {
-                Ok(value) => value,
-                Err(fault) => return Err(fault),
-            };
-            match cast_of(alloc, ty, value, at) {
-                Ok(value) => {
-                    at.pop();
-                    Ok(value)
-                }
-                Err(fault) => Err(fault),
-            }
+            let place = (&*at).key(name);
+            let value = read_typed(alloc, scope, inside, &place)?;
+            cast_of(alloc, ty, value, &place)
         }
     }
 }
@@ -182,34 +136,26 @@ fn read_terms(
     ty: &FfiType,
     name: &str,
     inside: &Json,
-    at: &mut Where,
+    at: &Way,
 ) -> Result<(Expr, Expr), ScriptFault>
     requires short { HasShortArrays (view inside.now) }
     requires even { length scope.now.names.now ≡ length scope.now.types.now }
-    ensures place { OnOk result (at.new ≡ at.old) }
     ensures ok { IfOk result
-        (λ p. read_terms (scope_of scope.now) (tree_of ty.now) name.now (view inside.now) at.old
+        (λ p. read_terms (scope_of scope.now) (tree_of ty.now) name.now (view inside.now) at.now
         ≡ read (expression_of p.0, expression_of p.1)) }
     ensures err { IfErr result
-        (Reports (λ p r. read_terms (scope_of scope.now) (tree_of ty.now) name.now (view inside.now) at.old
+        (Reports (λ p r. read_terms (scope_of scope.now) (tree_of ty.now) name.now (view inside.now) at.now
         ≡ fault p r)) }
 {
     if !ty.is_integer() {
         return Err(bad(alloc, at, Reason::WrongType));
     }
-    at.push_key(alloc, name)?;
+    let place = (&*at).key(name);
     let Some((first, second)) = two_items(inside) else {
-        return Err(bad(alloc, at, Reason::WrongCount));
+        return Err(bad(alloc, &place, Reason::WrongCount));
     };
-    let a = match read_item(alloc, scope, ty, first, 0, at) {
-        Ok(a) => a,
-        Err(fault) => return Err(fault),
-    };
-    let b = match read_item(alloc, scope, ty, second, 1, at) {
-        Ok(b) => b,
-        Err(fault) => return Err(fault),
-    };
-    at.pop();
+    let a = read_value(alloc, scope, ty, first, &place.item(0))?;
+    let b = read_value(alloc, scope, ty, second, &place.item(1))?;
     Ok((a, b))
 }
 
@@ -219,13 +165,12 @@ pub(crate) fn read_typed(
     alloc: Global,
     scope: &Scope,
     value: &Json,
-    at: &mut Where,
+    at: &Way,
 ) -> Result<TypedExpr, ScriptFault>
     requires short { HasShortArrays (view value.now) }
     requires even { length scope.now.names.now ≡ length scope.now.types.now }
-    ensures place { OnOk result (at.new ≡ at.old) }
-    ensures ok { IfOk result (λ v. read_typed (scope_of scope.now) (view value.now) at.old ≡ read (typed_of v)) }
-    ensures err { IfErr result (Reports (λ p r. read_typed (scope_of scope.now) (view value.now) at.old ≡ fault p r)) }
+    ensures ok { IfOk result (λ v. read_typed (scope_of scope.now) (view value.now) at.now ≡ read (typed_of v)) }
+    ensures err { IfErr result (Reports (λ p r. read_typed (scope_of scope.now) (view value.now) at.now ≡ fault p r)) }
 {
     if is_untyped(value) {
         return Err(bad(alloc, at, Reason::NoTypeOfItsOwn));
@@ -248,16 +193,15 @@ fn read_own(
     form: TypedForm,
     name: &str,
     inside: &Json,
-    at: &mut Where,
+    at: &Way,
 ) -> Result<TypedExpr, ScriptFault>
     requires short { HasShortArrays (view inside.now) }
     requires even { length scope.now.names.now ≡ length scope.now.types.now }
-    ensures place { OnOk result (at.new ≡ at.old) }
     ensures ok { IfOk result
-        (λ v. typed_under (scope_of scope.now) name.now (view inside.now) at.old (typed_form_of form)
+        (λ v. typed_under (scope_of scope.now) name.now (view inside.now) at.now (typed_form_of form)
         ≡ read (typed_of v)) }
     ensures err { IfErr result
-        (Reports (λ p r. typed_under (scope_of scope.now) name.now (view inside.now) at.old (typed_form_of form)
+        (Reports (λ p r. typed_under (scope_of scope.now) name.now (view inside.now) at.now (typed_form_of form)
         ≡ fault p r)) }
 {
     match form {
@@ -276,30 +220,24 @@ fn read_field(
     scope: &Scope,
     name: &str,
     inside: &Json,
-    at: &mut Where,
+    at: &Way,
 ) -> Result<TypedExpr, ScriptFault>
     requires short { HasShortArrays (view inside.now) }
     requires even { length scope.now.names.now ≡ length scope.now.types.now }
-    ensures place { OnOk result (at.new ≡ at.old) }
     ensures ok { IfOk result
-        (λ v. read_field (scope_of scope.now) (view inside.now) (under at.old name.now) at.old ≡ read (typed_of v)) }
+        (λ v. read_field (scope_of scope.now) (view inside.now) (under at.now name.now) at.now ≡ read (typed_of v)) }
     ensures err { IfErr result
-        (Reports (λ p r. read_field (scope_of scope.now) (view inside.now) (under at.old name.now) at.old ≡ fault p r)) }
+        (Reports (λ p r. read_field (scope_of scope.now) (view inside.now) (under at.now name.now) at.now ≡ fault p r)) }
 {
-    at.push_key(alloc, name)?;
+    let place = (&*at).key(name);
     let Some((inner, number)) = two_items(inside) else {
-        return Err(bad(alloc, at, Reason::WrongCount));
+        return Err(bad(alloc, &place, Reason::WrongCount));
     };
-    at.push_number(0)?;
-    let TypedExpr { ty, value } = match read_typed(alloc, scope, inner, at) {
-        Ok(value) => value,
-        Err(fault) => return Err(fault),
-    };
+    let first = place.item(0);
+    let TypedExpr { ty, value } = read_typed(alloc, scope, inner, &first)?;
     let FfiType::Struct(fields) = &ty else {
-        return Err(bad(alloc, at, Reason::WrongType));
+        return Err(bad(alloc, &first, Reason::WrongType));
     };
-    at.pop();
-    at.pop();
     element_of(alloc, value, fields, number, at)
 }
 
@@ -310,28 +248,20 @@ fn read_of(
     scope: &Scope,
     name: &str,
     inside: &Json,
-    at: &mut Where,
+    at: &Way,
 ) -> Result<TypedExpr, ScriptFault>
     requires short { HasShortArrays (view inside.now) }
     requires even { length scope.now.names.now ≡ length scope.now.types.now }
-    ensures place { OnOk result (at.new ≡ at.old) }
     ensures ok { IfOk result
-        (λ v. read_of (scope_of scope.now) (view inside.now) (under at.old name.now) ≡ read (typed_of v)) }
+        (λ v. read_of (scope_of scope.now) (view inside.now) (under at.now name.now) ≡ read (typed_of v)) }
     ensures err { IfErr result
-        (Reports (λ p r. read_of (scope_of scope.now) (view inside.now) (under at.old name.now) ≡ fault p r)) }
+        (Reports (λ p r. read_of (scope_of scope.now) (view inside.now) (under at.now name.now) ≡ fault p r)) }
 {
-    at.push_key(alloc, name)?;
+    let place = (&*at).key(name);
     let Some((first, second)) = two_items(inside) else {
-        return Err(bad(alloc, at, Reason::WrongCount));
+        return Err(bad(alloc, &place, Reason::WrongCount));
     };
-    let ty = match read_first_type(alloc, first, at) {
-        Ok(ty) => ty,
-        Err(fault) => return Err(fault),
-    };
-    let value = match read_item(alloc, scope, &ty, second, 1, at) {
-        Ok(value) => value,
-        Err(fault) => return Err(fault),
-    };
-    at.pop();
+    let ty = read_right_type(alloc, first, &place.item(0))?;
+    let value = read_value(alloc, scope, &ty, second, &place.item(1))?;
     Ok(typed_as(alloc, ty, value)?)
 }

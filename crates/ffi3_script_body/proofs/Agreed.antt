@@ -2,7 +2,7 @@
 use Rattle.std.proofs.Common.{◌≡◌, ℕ, ◌+◌, ◌-◌, ◌<◌, ◌≤◌, Bool, true, false, List, [], ◌∷◌, ◌++◌, length, take, drop, map, Option, Some, None, refl, ap, sym, ◌∙◌, subst, arith, length-append, get_or}
 use Rattle.std.specs.Prelude.{option_map}
 use Rattle.std.specs.List.{list_all}
-use Rattle.std.proofs.lemmas.Bool.{ltb-true, lt-ltb}
+use Rattle.std.proofs.lemmas.Bool.{ltb-true, lt-ltb, both_ways}
 use Rattle.std.proofs.lemmas.List.{length-drop, take_all, get_or-drop, get_or_append_left, take-append-le}
 use Rattle.ffi3_type_rules.specs.Tree.{Tree, trees_of}
 use Rattle.ffi3_type_rules.specs.Signature.{Signature}
@@ -19,9 +19,9 @@ use Rattle.ffi3_script_rules.proofs.BodyRules.{is_next}
 use Rattle.ffi3_script_body.specs.ExprOf.{act_of, typed_of, script_move_of}
 use Rattle.ffi3_script_body.specs.Own.{is_below}
 use Rattle.ffi3_script_body.specs.BodyOf.{moves_of, signature_of, signatures_of, setting_of, meaning_of}
-use Rattle.ffi3_script_body.specs.KnownOf.{Past, pasts_of, value_by, past_type, past_value, is_there, known_from}
+use Rattle.ffi3_script_body.specs.KnownOf.{Past, pasts_of, value_by, past_type, past_value, is_there}
 use Rattle.ffi3_script_body.specs.Walked.{Walked}
-use Rattle.ffi3_script_body.specs.Agrees.{Agrees, one_more, first_is_done}
+use Rattle.ffi3_script_body.specs.Agrees.{Agrees, pasts_at, known_at, one_more, first_is_done}
 use Rattle.ffi3_script_body.specs.declared.body.ScriptBody.{ScriptBody}
 use Rattle.ffi3_script_body.specs.declared.cursor.Cursor.{Cursor}
 use Rattle.ffi3_script_body.specs.declared.moves.ScriptMove.{ScriptMove}
@@ -68,30 +68,21 @@ walked_longer s a next pasts taken ms r w =
 
 pub agrees_more : (b : ScriptBody) (a : SeenActivation) (c : Cursor) (r : ValueTree) → Agrees b a c → Agrees b (one_more a r) c
 agrees_more b a c r g =
-    let ps = pasts_of (take c.first b.moves.items) (drop c.first b.moves.items) c.marks.items in
+    let ps = pasts_at b c in
     let same = values_same b.sigs.value a.results (r ∷ []) ps g.walked.there in
     record {
       below = g.below;
       ready = λ h. subst (λ vs. first_is_done (record { arguments = arguments_of a; user = a.user; outcomes = vs }) (drop (c.first + length c.marks.items) (moves_of b)) ≡ true) (sym same) (g.ready h);
-      walked = walked_longer (setting_of b) a (meaning_of b (arguments_of a) a.user) (pasts_of (take c.first b.moves.items) (drop c.first b.moves.items) c.marks.items) c.taken (drop (c.first + length c.marks.items) (moves_of b)) r g.walked;
+      walked = walked_longer (setting_of b) a (meaning_of b (arguments_of a) a.user) ps c.taken (drop (c.first + length c.marks.items) (moves_of b)) r g.walked;
     }
 
 -- ---- cursors
-
-not_both : (x : Bool) → x ≡ true → x ≡ false → ⊥
-not_both true h k = cc
-not_both false h k = cc
 
 unready : (x y : Bool) → (x ≡ true → y ≡ true) → y ≡ false → x ≡ false
 unready true y h k =
     let e = h refl in
     cc
 unready false y h k = refl
-
--- the moves that it has passed
-abbrev pub pasts_at : ScriptBody → Cursor → List Past
-pasts_at b c =
-    pasts_of (take c.first b.moves.items) (drop c.first b.moves.items) c.marks.items
 
 pub pasts_are : (b : ScriptBody) (c : Cursor) (ms ns : List ScriptMove) (rs : List (Option ℕ)) → ms ≡ b.moves.items → ns ≡ b.moves.items → rs ≡ c.marks.items → pasts_of (take c.first ms) (take (length ns - c.first) (drop c.first ns)) rs ≡ pasts_at b c
 pasts_are b c ms ns rs ms_are ns_are rs_are =
@@ -110,22 +101,14 @@ module _ (b : ScriptBody) (a : SeenActivation) where
       let below = left_below b.moves.items i w.ended in
       record {
         below = omega (arith, at, below);
-        ready = λ h. absurd (not_both c.ready h unready);
+        ready = λ h. absurd (both_ways c.ready unready h);
         walked = subst (WalkedBy c.first c.marks.items c.taken) (sym at) (subst (λ k. WalkedBy c.first c.marks.items k i) (sym t) (subst (λ rs. WalkedBy c.first rs taken i) (sym m) (subst (λ k. WalkedBy k marks taken i) (sym f) w)));
       }
-
-  pub new_agrees : (c : Cursor) → a.signature ≡ signature_of b → c.first ≡ 0 → c.marks.items ≡ [] → c.taken ≡ 0 → c.ready ≡ false → Agrees b a c
-  new_agrees c own f m t unready =
-      agrees_at c 0 0 0 [] f m t unready (omega arith) (walked_none b.sigs.value b.functions (signature_of b) a (moves_of b) own b.typed)
 
   pub skipped_agrees : (c : Cursor) (n : ℕ) → a.signature ≡ signature_of b → ResultsFollow (signatures_of b) (meaning_of b) (arguments_of a) a.user a.results → n ≤ b.always → n ≤ length a.results → c.first ≡ n → c.marks.items ≡ [] → c.taken ≡ n → c.ready ≡ false → Agrees b a c
   skipped_agrees c n own follow few within f m t unready =
       let none = walked_none b.sigs.value b.functions (signature_of b) a (moves_of b) own b.typed in
       agrees_at c n n n [] f m t unready (omega arith) (walked_always (setting_of b) a (meaning_of b (arguments_of a) a.user) b.right follow b.moves.items (take n b.moves.items) (drop n b.moves.items) b.always n none b.always_done few within refl)
-
-  -- what the body knows where the cursor stands
-  abbrev pub known_at : Cursor → meaning.Known
-  known_at c = known_from b.sigs.value a (pasts_at b c)
 
   module _ (c : Cursor) (m : ScriptMove) (g : Agrees b a c) (m_is : m ≡ get_or b.moves.items (c.first + length c.marks.items) m) where
     -- the move at which it stands, and those after it
@@ -134,31 +117,31 @@ module _ (b : ScriptBody) (a : SeenActivation) where
         subst (Walked (setting_of b) a (meaning_of b (arguments_of a) a.user) (pasts_at b c) c.taken) (moves_from b.moves.items (c.first + length c.marks.items) m g.below m_is) g.walked
 
     -- what it knows of this move
-    pub knows : c.ready ≡ true → is_done (known_at c) (option_map typed_of m.condition) ≡ true
+    pub knows : c.ready ≡ true → is_done (known_at b a c) (option_map typed_of m.condition) ≡ true
     knows h =
-        ap (first_is_done (known_at c)) (sym (moves_from b.moves.items (c.first + length c.marks.items) m g.below m_is)) ∙ g.ready h
+        ap (first_is_done (known_at b a c)) (sym (moves_from b.moves.items (c.first + length c.marks.items) m g.below m_is)) ∙ g.ready h
 
     -- it knows that this move is done
-    pub ready_agrees : is_done (known_at c) (option_map typed_of m.condition) ≡ true → Agrees b a (record { first = c.first; marks = c.marks; taken = c.taken; ready = true })
+    pub ready_agrees : is_done (known_at b a c) (option_map typed_of m.condition) ≡ true → Agrees b a (record { first = c.first; marks = c.marks; taken = c.taken; ready = true })
     ready_agrees done =
-        let ready : first_is_done (known_at c) (drop (c.first + length c.marks.items) (moves_of b)) ≡ true = ap (first_is_done (known_at c)) (moves_from b.moves.items (c.first + length c.marks.items) m g.below m_is) ∙ done in
+        let ready : first_is_done (known_at b a c) (drop (c.first + length c.marks.items) (moves_of b)) ≡ true = ap (first_is_done (known_at b a c)) (moves_from b.moves.items (c.first + length c.marks.items) m g.below m_is) ∙ done in
         record { below = g.below; ready = λ h. ready; walked = g.walked }
 
-    pub next_is : is_done (known_at c) (option_map typed_of m.condition) ≡ true → c.taken ≡ length a.results → meaning_of b (arguments_of a) a.user a.results ≡ meaning.move_of (known_at c) (act_of m.act)
+    pub next_is : is_done (known_at b a c) (option_map typed_of m.condition) ≡ true → c.taken ≡ length a.results → meaning_of b (arguments_of a) a.user a.results ≡ meaning.move_of (known_at b a c) (act_of m.act)
     next_is done all =
-        is_next (setting_of b) (meaning_of b (arguments_of a) a.user) a.results c.taken (script_move_of m) (drop (c.first + length c.marks.items + 1) (moves_of b)) (known_at c) all done stands.left
+        is_next (setting_of b) (meaning_of b (arguments_of a) a.user) a.results c.taken (script_move_of m) (drop (c.first + length c.marks.items + 1) (moves_of b)) (known_at b a c) all done stands.left
 
     more_pasts : (r : Option ℕ) → pasts_of (take c.first b.moves.items) (drop c.first b.moves.items) (c.marks.items ++ r ∷ []) ≡ pasts_at b c ++ record { act = act_of m.act; result = r } ∷ []
     more_pasts r =
         pasts_more (take c.first b.moves.items) (drop c.first b.moves.items) c.marks.items (c.marks.items ++ r ∷ []) r m refl (omega (arith, g.below, length-drop c.first b.moves.items)) (m_is ∙ sym (get_or-drop c.first b.moves.items (length c.marks.items) m))
 
-    pub done_agrees : (d : Cursor) → ResultsFollow (signatures_of b) (meaning_of b) (arguments_of a) a.user a.results → c.taken < length a.results → is_done (known_at c) (option_map typed_of m.condition) ≡ true → d.first ≡ c.first → d.marks.items ≡ c.marks.items ++ Some c.taken ∷ [] → d.taken ≡ c.taken + 1 → d.ready ≡ false → Agrees b a d
+    pub done_agrees : (d : Cursor) → ResultsFollow (signatures_of b) (meaning_of b) (arguments_of a) a.user a.results → c.taken < length a.results → is_done (known_at b a c) (option_map typed_of m.condition) ≡ true → d.first ≡ c.first → d.marks.items ≡ c.marks.items ++ Some c.taken ∷ [] → d.taken ≡ c.taken + 1 → d.ready ≡ false → Agrees b a d
     done_agrees d follow below done f marks t unready =
         let p : Past = record { act = act_of m.act; result = Some c.taken } in
         let at : c.first + length c.marks.items + 1 ≡ c.first + length (c.marks.items ++ Some c.taken ∷ []) = omega (arith, length-append c.marks.items (Some c.taken ∷ [])) in
         agrees_at d c.first (c.taken + 1) (c.first + length c.marks.items + 1) (c.marks.items ++ Some c.taken ∷ []) f marks t unready at (walked_done (setting_of b) a (meaning_of b (arguments_of a) a.user) (pasts_at b c) c.taken (script_move_of m) (drop (c.first + length c.marks.items + 1) (moves_of b)) stands b.right p refl _ (c.taken + 1) (more_pasts (Some c.taken)) refl (follow c.taken below) refl done below)
 
-    pub undone_agrees : (d : Cursor) → is_done (known_at c) (option_map typed_of m.condition) ≡ false → d.first ≡ c.first → d.marks.items ≡ c.marks.items ++ None ∷ [] → d.taken ≡ c.taken → d.ready ≡ c.ready → Agrees b a d
+    pub undone_agrees : (d : Cursor) → is_done (known_at b a c) (option_map typed_of m.condition) ≡ false → d.first ≡ c.first → d.marks.items ≡ c.marks.items ++ None ∷ [] → d.taken ≡ c.taken → d.ready ≡ c.ready → Agrees b a d
     undone_agrees d undone f marks t same =
         let p : Past = record { act = act_of m.act; result = None } in
         let at : c.first + length c.marks.items + 1 ≡ c.first + length (c.marks.items ++ None ∷ []) = omega (arith, length-append c.marks.items (None ∷ [])) in

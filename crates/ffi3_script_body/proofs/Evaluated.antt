@@ -3,7 +3,7 @@ use Rattle.std.proofs.Common.{◌≡◌, ℕ, ◌<◌, Bool, true, false, List, 
 use Rattle.std.specs.Prelude.{slice_index_or, nat_lt}
 use Rattle.std.proofs.lemmas.Bool.{ltb-true}
 use Rattle.ffi3_type_rules.specs.Tree.{Tree, void, scalar, left_out, structure, tree_at, list_of, elements_of, trees_of-list_of, pointer, Scalar}
-use Rattle.ffi3_type_rules.specs.Integer.{is_number_type, scalar_of}
+use Rattle.ffi3_type_rules.specs.Integer.{scalar_of}
 use Rattle.ffi3_type_rules.specs.Value.{ValueTree, struct_value, void_value, fits}
 use Rattle.ffi3_type_rules.specs.Value as values
 use Rattle.ffi3_type_rules.proofs.ValueElements.{fitting_lengths}
@@ -52,9 +52,6 @@ pub own_typed : (k : Kinds) (t : Tree) (e : Expression) → has_own_type e ≡ t
 own_typed k t e own h =
     subst (λ u. has_type k u e ≡ true) (sym (own_type-is k t e own h)) h
 
-pub own_fits : (k : Kinds) (t : Tree) (e : Expression) (v : ValueTree) → has_own_type e ≡ true → has_type k t e ≡ true → fits (own_type k e) v ≡ true → fits t v ≡ true
-own_fits k t e v own h = subst (λ u. fits u v ≡ true) (own_type-is k t e own h)
-
 -- the number of an element lies in the list of elements
 pub element_there : (u : Tree) (vs : List ValueTree) (i : ℕ) (t : Tree) → fits u (struct_value (values.values_of vs)) ≡ true → is_at (elements_of u) i t ≡ true → i < length vs
 element_there (structure ts) vs i t h here =
@@ -75,9 +72,3 @@ number_scalar s (scalar r) h = sym (scalars_are_same s r (and_left (same_scalar 
 number_scalar s void h = cc
 number_scalar s (left_out k) h = cc
 number_scalar s (structure ts) h = cc
-
-pub number_type : (s : Scalar) (t : Tree) → is_number_of s t ≡ true → is_number_type t ≡ true
-number_type s (scalar r) h = and_right (same_scalar s r) _ h
-number_type s void h = cc
-number_type s (left_out k) h = cc
-number_type s (structure ts) h = cc

@@ -11,12 +11,12 @@ use Rattle.ffi3_types.specs.TreeOf.{tree_of}
 use Rattle.ffi3_script_rules.specs.Script as script
 use Rattle.ffi3_script_rules.specs.Meaning.{Known, value_of, values_of}
 use Rattle.ffi3_script_rules.specs.Typed.{Kinds, has_type, have_types, own_type, is_at, is_integer_of, is_number_of, is_struct}
-use Rattle.ffi3_script_rules.proofs.Fits.{number_by_integer}
+use Rattle.ffi3_script_rules.proofs.Fits.{number_by_integer, values_of-list_of_values}
 use Rattle.ffi3_script_rules.proofs.Tests.{and_left, and_right}
 use Rattle.ffi3_script_body.specs.ExprOf.{expression_of, expressions_in}
 use Rattle.ffi3_script_body.specs.declared.expr.Expr.{Expr, Constant, Composed, Composed', Argument, Outcome, User, Element, Element', TypedAs, TypedAs', Sum, Sum', Difference, Difference', Cast, Cast', roll-Expr, roll-out-Expr}
 use Rattle.ffi3_script_body.specs.declared.expr.Expr.TheVariants.{rolls-Composed, outs-Composed'}
-use Rattle.ffi3_script_body.proofs.Rows.{composed_is, values_and_back}
+use Rattle.ffi3_script_body.proofs.Rows.{composed_is}
 use Rattle.ffi3_script_body.proofs.Evaluated.{has_own_type, number_scalar}
 
 -- ---- types
@@ -148,7 +148,7 @@ in_composed e es is =
 module _ (k : Known) (e : Expr) where
   pub composed_value : (es : Vec Expr Global) (vs : List ValueTree) → e ≡ Composed es → vs ≡ list_of_values (values_of k (expressions_in es.items)) → struct_value (values.values_of vs) ≡ value_of k (expression_of e)
   composed_value es vs is are =
-      ap (λ ws. struct_value (values.values_of ws)) are ∙ ap struct_value (values_and_back (values_of k (expressions_in es.items))) ∙ ap (value_of k) (sym (ap expression_of is ∙ composed_is es))
+      ap (λ ws. struct_value (values.values_of ws)) are ∙ ap struct_value (values_of-list_of_values (values_of k (expressions_in es.items))) ∙ ap (value_of k) (sym (ap expression_of is ∙ composed_is es))
 
   module _ (t : Tree) (ty : FfiType) (a b : Box Expr Global) (v w : ValueTree) (is_number : is_number_of (scalar_of (tree_of ty)) t ≡ true) (v_is : v ≡ value_of k (expression_of a.value)) (w_is : w ≡ value_of k (expression_of b.value)) where
     pub sum_value : e ≡ Sum ty a b → leaf_value (sum_of (scalar_of t) (bytes_of v) (bytes_of w)) ≡ value_of k (expression_of e)

@@ -1,7 +1,7 @@
 -- The elements of a struct's value, as a list.
 use Rattle.std.proofs.Common.{◌≡◌, ℕ, zero, suc, ◌+◌, ◌<◌, ◌≤◌, true, List, [], ◌∷◌, ◌++◌, Vec, Global, length, map, take, refl, ap, sym, ◌∙◌, subst, arith, get_or}
 use Rattle.ffi3_type_rules.specs.Tree.{Tree, trees_of, tree_at}
-use Rattle.ffi3_type_rules.specs.Value.{ValueTree, ValueTrees, no_values, value, list_of_values}
+use Rattle.ffi3_type_rules.specs.Value.{ValueTree, list_of_values}
 use Rattle.ffi3_type_rules.specs.Value as values
 use Rattle.ffi3_script_rules.specs.Script.{expression}
 use Rattle.ffi3_script_rules.specs.Script as script
@@ -76,7 +76,3 @@ evaluated-all k (e ∷ es) (suc i) n =
 pub list_and_back : (vs : List ValueTree) → list_of_values (values.values_of vs) ≡ vs
 list_and_back [] = refl
 list_and_back (v ∷ vs) = ap (λ ws. v ∷ ws) (list_and_back vs)
-
-pub values_and_back : (vs : ValueTrees) → values.values_of (list_of_values vs) ≡ vs
-values_and_back no_values = refl
-values_and_back (value v vs) = ap (value v) (values_and_back vs)

@@ -37,12 +37,6 @@ moves_from ms i m below is =
         ap (λ y. script_move_of y ∷ script_moves_of ns) (sym is)
     moves_from_suc (x ∷ ns) (suc j) n below is = moves_from_suc ns j n (omega arith) is
 
--- no moves are left behind the last
-pub none_left : (ms : List ScriptMove) (i : ℕ) → length ms ≡ i → drop i (script_moves_of ms) ≡ []
-none_left [] i n = search
-none_left (m ∷ ms) zero n = absurd (omega arith)
-none_left (m ∷ ms) (suc i) n = none_left ms i (omega arith)
-
 -- a test holds of one more
 all_more : {A : Type 0} (p : A → Bool) (xs : List A) (x : A) → list_all p xs ≡ true → p x ≡ true → list_all p (xs ++ x ∷ []) ≡ true
 all_more p [] x h last = both (p x) true last refl

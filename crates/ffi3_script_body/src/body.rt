@@ -65,14 +65,14 @@ fn unconditional(moves: &[ScriptMove]) -> u32
 }
 
 impl ScriptBody {
-    ghost use Rattle.std.specs.Prelude.{◌≡◌, ◌<◌, ◌^◌, length, true};
+    ghost use Rattle.std.specs.Prelude.{◌≡◌, ◌<◌, ◌^◌, get_or, length, true};
     ghost use Rattle.std.specs.List.{list_all};
     ghost use Rattle.ffi3_script_rules.specs.Typed.{body_is_typed, signature_is_right};
     ghost use Rattle.ffi3_script_body.specs.ExprOf.{script_moves_of};
     ghost use Rattle.ffi3_script_body.specs.Own.{own_of, is_below};
     ghost use Rattle.ffi3_script_body.specs.KindOf.{kind_of_act, act_at};
     ghost use Rattle.ffi3_script_body.specs.BodyOf.{moves_of, signatures_of, functions_of, signature_of, setting_of, meaning_of};
-    ghost use Rattle.ffi3_script_body.specs.Agrees.{Agrees, passed, taken_by, one_more};
+    ghost use Rattle.ffi3_script_body.specs.Agrees.{Agrees, kinds_at, known_at, passed, taken_by, one_more};
     ghost use Rattle.std.specs.Prelude.{◌+◌, IfOk, IfSome, None};
     ghost use Rattle.ffi3_type_rules.specs.Value.{ValueTree};
     ghost use Rattle.ffi3_run_rules.specs.Move.{MoveFits};
@@ -172,6 +172,26 @@ impl ScriptBody {
         }
     }
 
+    // The move at which the cursor stands.
+    fn move_at(&self, cursor: &Cursor) -> &ScriptMove
+        requires { passed cursor.now < length self.now.moves.items }
+        ensures { result.now ≡ get_or self.now.moves.items (passed cursor.now) result.now }
+    {
+        &self.moves[cursor.first as usize + cursor.marks.len()]
+    }
+
+    // What is known where the cursor stands.
+    fn known_at<'a, 'b, 'c>(&'a self, cursor: &'b Cursor, seen: &'b Seen<'c>) -> Known<'a, 'b, 'c>
+        requires { Agrees self.now seen.now cursor.now }
+        ensures kinds { kinds_of result ≡ kinds_at self.now seen.now cursor.now }
+        ensures is { known_of result ≡ known_at self.now seen.now cursor.now }
+    {
+        let first = cursor.first as usize;
+        let done = &self.moves[..first];
+        let later = &self.moves[first..];
+        Known::new(&self.sigs, done, later, cursor.marks.as_slice(), seen)
+    }
+
     // One move: it is the next one, where it is done and has no result yet; or else it is passed.
     fn step(
         &self,
@@ -190,11 +210,8 @@ impl ScriptBody {
         ensures agrees { Agrees self.now seen.now cursor.new }
         ensures on { IfOk result (λ o. o ≡ None → passed cursor.new ≡ passed cursor.old + 1) }
     {
-        let first = cursor.first as usize;
-        let m = &self.moves[first + cursor.marks.len()];
-        let done = &self.moves[..first];
-        let later = &self.moves[first..];
-        let known = Known::new(&self.sigs, done, later, cursor.marks.as_slice(), seen);
+        let m = self.move_at(cursor);
+        let known = self.known_at(cursor, seen);
         if is_ready(alloc, cursor.ready, &known, &m.condition)? {
             if cursor.taken == seen.results() {
                 let next = self.move_of(alloc, &known, &m.act)?;

@@ -90,9 +90,6 @@ mutual
 pub right_by_none : (outer : ℕ) (as_result : Bool) (t : Tree) → first_fault outer as_result t ≡ None → HasNoFault outer as_result t
 right_by_none outer as_result t e = subst (Answers outer as_result t) e (answers outer as_result t)
 
-pub first_by_some : (outer : ℕ) (as_result : Bool) (t : Tree) (f : Found) → first_fault outer as_result t ≡ Some f → IsFirstFault outer as_result t f.0 f.1
-first_by_some outer as_result t f e = subst (Answers outer as_result t) e (answers outer as_result t)
-
 -- ---- no other fault is the first
 
 rank_low : (f : Fault) → rank f ≤ 2

@@ -142,9 +142,6 @@ signature_answers s = by_count s (nat_lt 64 (length s.arguments)) refl
 pub signature_right_by_none : (s : Signature) → first_signature_fault s ≡ None → SignatureHasNoFault s
 signature_right_by_none s e = subst (SignatureAnswers s) e (signature_answers s)
 
-pub signature_first_by_some : (s : Signature) (f : SignatureFault) → first_signature_fault s ≡ Some f → IsFirstSignatureFault s f
-signature_first_by_some s f e = subst (SignatureAnswers s) e (signature_answers s)
-
 -- ---- no other fault is the first
 
 -- two faults of one kind and of one argument, of which each is the first there, are the same

@@ -1,9 +1,9 @@
 -- WELL-TYPED VALUES FIT THEIR TYPES, and the moves of a well-typed body fit.
-use Rattle.std.proofs.Common.{◌≡◌, ℕ, zero, ◌+◌, ◌<◌, suc, Bool, true, false, Option, Some, None, List, [], ◌∷◌, ◌++◌, length, take, refl, ap, ◌∙◌, sym, subst, arith}
+use Rattle.std.proofs.Common.{◌≡◌, ℕ, ◌<◌, suc, Bool, true, false, Option, Some, None, List, [], ◌∷◌, ◌++◌, length, take, refl, ap, ◌∙◌, subst, arith}
 use Rattle.std.specs.Prelude.{slice_index_or, nat_lt, ◌&&◌, is_none}
 use Rattle.std.specs.Int.{w64, to_le_bytes}
 use Rattle.std.specs.List.{list_all}
-use Rattle.std.proofs.lemmas.Bool.{eq-eqb, eqb-true, ltb-true}
+use Rattle.std.proofs.lemmas.Bool.{eq-eqb, ltb-true}
 use Rattle.ffi3_type_rules.specs.Tree.{Scalar, u8, s8, u16, s16, u32, s32, u64, s64, float, double, pointer, Tree, void, scalar, left_out, structure, Trees, no_trees, tree, tree_at, trees_of, list_of, elements_of, trees_of-list_of}
 use Rattle.ffi3_type_rules.specs.Integer.{is_integer, is_number, bytes_of_number, number_of, sum_of}
 use Rattle.ffi3_type_rules.specs.Layout.{scalar_size}
@@ -12,18 +12,18 @@ use Rattle.ffi3_type_rules.specs.Signature.{Signature, signature_at}
 use Rattle.ffi3_type_rules.specs.Value as values
 use Rattle.ffi3_type_rules.proofs.ValueElements.{fitting_element}
 use Rattle.ffi3_type_rules.proofs.Widened.{length-bytes_of_number}
-use Rattle.ffi3_script_rules.specs.Script.{Expression, constant, composed, argument, outcome, user_data, element, typed_as, sum, difference, cast, Expressions, no_expressions, expression, Act, call, make, free, print, return, return_void, ScriptMove, ScriptFunction, Script, Typed}
-use Rattle.ffi3_run_rules.specs.Move.{Move, MoveFits, result_type_of, no_signature}
+use Rattle.ffi3_script_rules.specs.Script.{Expression, constant, composed, argument, outcome, user_data, element, typed_as, sum, difference, cast, Expressions, no_expressions, expression, Act, call, make, free, print, return, return_void, ScriptMove, Typed}
+use Rattle.ffi3_run_rules.specs.Move.{Move, MoveFits, result_type_of}
 use Rattle.ffi3_script_rules.specs.FirstFault.{first_fault}
 use Rattle.ffi3_script_rules.specs.Bodies.{type_of_act, is_return, ends}
 use Rattle.ffi3_script_rules.specs.Meaning.{Known, value_of, values_of, element_value, difference_of, is_done, move_of, next_by, next_of, knows_too, behaviour_of, known}
-use Rattle.ffi3_script_rules.specs.Typed.{Kinds, is_at, own_type, is_scalar_of, is_integer_of, is_number_of, is_struct, trees_in, has_type, have_types, same_scalar, Setting, is_right, signature_is_right, act_is_typed, gives_too, moves_are_typed, body_is_typed, function_is_typed, script_is_typed, IsOfType, is_condition}
+use Rattle.ffi3_script_rules.specs.Typed.{Kinds, is_at, own_type, is_scalar_of, is_integer_of, is_number_of, is_struct, trees_in, has_type, have_types, same_scalar, Setting, is_right, signature_is_right, act_is_typed, gives_too, moves_are_typed, body_is_typed, IsOfType, is_condition}
 use Rattle.ffi3_script_rules.proofs.Tests.{and_left, and_right, both, types_are_same, scalars_are_same}
 use Rattle.ffi3_script_rules.proofs.FirstFaults.{right_by_none}
 use Rattle.ffi3_script_rules.proofs.RightTypes.{is_none-none, zero_fits, any_result_type_is_right}
 
 -- the list of values and back
-values_of-list_of_values : (vs : ValueTrees) → values.values_of (list_of_values vs) ≡ vs
+pub values_of-list_of_values : (vs : ValueTrees) → values.values_of (list_of_values vs) ≡ vs
 values_of-list_of_values no_values = refl
 values_of-list_of_values (value v vs) = ap (value v) (values_of-list_of_values vs)
 
@@ -121,20 +121,6 @@ module _ (kinds : Kinds) (k : Known) (arguments : all_fit (trees_of kinds.argume
     values_fit (tree t ts) no_expressions h = cc
     values_fit (tree t ts) (expression e es) h =
         both (fits t (value_of k e)) _ (value_fits t e (and_left (has_type kinds t e) _ h)) (values_fit ts es (and_right (has_type kinds t e) _ h))
-
--- the bytes of a value that fits a scalar are as many as the scalar has
-pub scalar_bytes : (s : Scalar) (v : ValueTree) → fits (scalar s) v ≡ true → length (bytes_of v) ≡ scalar_size s
-scalar_bytes s void_value h = cc
-scalar_bytes s (leaf_value bytes) h = eqb-true (length bytes) (scalar_size s) h
-scalar_bytes s (struct_value vs) h = cc
-
-pub number_bytes : (s : Scalar) (t : Tree) (v : ValueTree) → is_number_of s t ≡ true → fits t v ≡ true → length (bytes_of v) ≡ scalar_size s
-number_bytes s (scalar r) v n h =
-    let same = scalars_are_same s r (and_left (same_scalar s r) _ n) in
-    scalar_bytes r v h ∙ ap scalar_size (sym same)
-number_bytes s void v n h = cc
-number_bytes s (left_out k) v n h = cc
-number_bytes s (structure ts) v n h = cc
 
 -- ---- moves
 
@@ -234,36 +220,3 @@ module _ (s : Setting) (right : list_all signature_is_right s.signatures ≡ tru
 pub body_fits : (signatures : List Signature) (functions : ℕ) (own : Signature) (ms : List ScriptMove) (arguments : List ValueTree) (user : ℕ) (results : List ValueTree) → list_all signature_is_right signatures ≡ true → body_is_typed signatures functions own ms ≡ true → all_fit (trees_of own.arguments) (values.values_of arguments) ≡ true → ((i : ℕ) → i < length results → IsOfType (slice_index_or results i void_value) (result_type_of signatures (behaviour_of signatures ms arguments user (take i results)))) → MoveFits signatures functions own.result_type (behaviour_of signatures ms arguments user results)
 body_fits signatures functions own ms arguments user results right typed fit follow =
     moves_fit (record { signatures = signatures; functions = functions; result_type = own.result_type }) right (record { arguments = own.arguments; outcomes = [] }) ms (known arguments user) results fit refl (and_left (ends ms) _ typed) (and_right (ends ms) _ typed) follow
-
--- ---- a well-typed script
-
--- one of a list whose items all pass a test
-item_passes : {A : Type 0} (p : A → Bool) (xs : List A) (i : ℕ) (d : A) → list_all p xs ≡ true → i < length xs → p (slice_index_or xs i d) ≡ true
-item_passes p [] i d each below = absurd (omega arith)
-item_passes p (x ∷ xs) zero d each below = and_left (p x) _ each
-item_passes p (x ∷ xs) (suc i) d each below =
-    item_passes p xs i d (and_right (p x) _ each) (omega arith)
-
-module _ (natives : ℕ) (script : Script) (typed : script_is_typed natives script ≡ true) where
-  pub signatures_are_right : list_all signature_is_right script.signatures ≡ true
-  signatures_are_right = and_left (list_all signature_is_right script.signatures) _ typed
-
-  pub function_is_right : (i : ℕ) (d : ScriptFunction) → i < length script.functions → function_is_typed script.signatures (length script.functions + natives) (slice_index_or script.functions i d) ≡ true
-  function_is_right i d below =
-      let each = function_is_typed script.signatures (length script.functions + natives) in
-      item_passes each script.functions i d (and_left (list_all each script.functions) _ (and_right (list_all signature_is_right script.signatures) _ typed)) below
-
-  pub main_is_right : body_is_typed script.signatures (length script.functions + natives) no_signature script.main ≡ true
-  main_is_right =
-      and_right (list_all (function_is_typed script.signatures (length script.functions + natives)) script.functions) _ (and_right (list_all signature_is_right script.signatures) _ typed)
-
-  -- WHAT A FUNCTION DOES NEXT FITS, from arguments that fit its signature and after results that follow
-  pub function_fits : (i : ℕ) (d : ScriptFunction) (arguments : List ValueTree) (user : ℕ) (results : List ValueTree) → i < length script.functions → all_fit (trees_of (signature_at script.signatures (slice_index_or script.functions i d).signature).arguments) (values.values_of arguments) ≡ true → Follow script.signatures (λ rs. behaviour_of script.signatures (slice_index_or script.functions i d).body arguments user rs) results → MoveFits script.signatures (length script.functions + natives) (signature_at script.signatures (slice_index_or script.functions i d).signature).result_type (behaviour_of script.signatures (slice_index_or script.functions i d).body arguments user results)
-  function_fits i d arguments user results below fit follow =
-      let f = slice_index_or script.functions i d in
-      body_fits script.signatures (length script.functions + natives) (signature_at script.signatures f.signature) f.body arguments user results signatures_are_right (and_right (nat_lt f.signature (length script.signatures)) _ (function_is_right i d below)) fit follow
-
-  -- so does main
-  pub main_fits : (user : ℕ) (results : List ValueTree) → Follow script.signatures (λ rs. behaviour_of script.signatures script.main [] user rs) results → MoveFits script.signatures (length script.functions + natives) void (behaviour_of script.signatures script.main [] user results)
-  main_fits user results follow =
-      body_fits script.signatures (length script.functions + natives) no_signature script.main [] user results signatures_are_right main_is_right refl follow

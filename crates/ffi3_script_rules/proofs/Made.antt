@@ -1,25 +1,22 @@
 -- THE MADE SCRIPT IS WELL TYPED, whatever is drawn.
-use Rattle.std.proofs.Common.{◌≡◌, ℕ, zero, suc, ◌+◌, ◌<◌, ◌≤◌, ◌%◌, ◌/◌, Bool, true, false, List, [], ◌∷◌, ◌++◌, length, map, drop, get_or, Option, Some, None, refl, ap, ◌∙◌, sym, subst, arith}
+use Rattle.std.proofs.Common.{◌≡◌, ℕ, zero, suc, ◌+◌, ◌<◌, ◌≤◌, ◌/◌, Bool, true, false, List, [], ◌∷◌, ◌++◌, length, map, drop, Option, Some, None, refl, ap, ◌∙◌, sym, subst, arith}
 use Rattle.std.specs.Prelude.{◌&&◌, if◌then◌else◌, nat_lt, ⊤, option_map, is_none}
 use Rattle.std.specs.List.{list_all}
 use Rattle.std.proofs.lemmas.Nat.{mod_below}
 use Rattle.std.proofs.lemmas.Bool.{lt-ltb, le-ltb}
 use Rattle.std.proofs.lemmas.List.{length-append}
-use Rattle.std.proofs.Math.Seq.{get_or-append_seam, drop-append_seam}
-use Rattle.ffi3_type_rules.specs.Tree.{Tree, void, scalar, structure, tree_at, trees_of, struct_of, elements_of, list_of, Scalar, u8, s32, u64, float, double, pointer}
-use Rattle.ffi3_type_rules.specs.Integer.{is_integer}
+use Rattle.std.proofs.Math.Seq.{get_or-append_seam}
+use Rattle.ffi3_type_rules.specs.Tree.{Tree, void, scalar, tree_at, trees_of, struct_of, elements_of, u8, s32, u64, float, double, pointer}
 use Rattle.ffi3_type_rules.specs.Layout.{least_multiple}
-use Rattle.ffi3_type_rules.specs.Signature.{Signature, signature_at, at_argument, SignatureFault, too_many}
+use Rattle.ffi3_type_rules.specs.Signature.{Signature, at_argument, SignatureFault, too_many}
 use Rattle.ffi3_type_rules.specs.Same.{same_tree}
 use Rattle.ffi3_run_rules.specs.Move.{no_signature}
-use Rattle.ffi3_run_rules.specs.Closures.{slot_address}
-use Rattle.ffi3_script_rules.specs.FirstFault.{first_fault, first_in_arguments, first_signature_fault, or_else, at_position}
-use Rattle.ffi3_script_rules.specs.Script.{Expression, argument, outcome, element, sum, cast, expressions_of, call, make, print, return, return_void, ScriptMove}
+use Rattle.ffi3_script_rules.specs.FirstFault.{first_fault, first_in_arguments, or_else, at_position}
+use Rattle.ffi3_script_rules.specs.Script.{Expression, argument, outcome, element, sum, cast, expressions_of, return, ScriptMove}
 use Rattle.ffi3_script_rules.specs.Bodies.{ends, type_of_act}
 use Rattle.ffi3_script_rules.specs.Typed.{Kinds, Setting, is_at, own_type, has_type, have_types, act_is_typed, moves_are_typed, gives_too, body_is_typed, signature_is_right, script_is_typed, function_is_typed}
-use Rattle.ffi3_script_rules.specs.Made.{drawn, next_state, made_type, drawn_types, drawn_arguments, state_before, made_types, types_at, made_signature, number, leaves_in, filled, filled_arguments, with_leaves, with_arguments, does, made_call, own_total, made_body, made_function, total_of, made_calls, makes, made_main, script_from, made}
+use Rattle.ffi3_script_rules.specs.Made.{drawn, next_state, made_type, drawn_types, drawn_arguments, state_before, made_signature, leaves_in, filled, filled_arguments, with_leaves, with_arguments, does, made_call, own_total, made_function, total_of, made_calls, made_main, script_from, made}
 use Rattle.ffi3_script_rules.proofs.Tests.{both, type_is_itself}
-use Rattle.ffi3_script_rules.proofs.RightTypes.{is_none-none}
 
 -- ---- draws
 

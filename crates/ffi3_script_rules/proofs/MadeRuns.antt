@@ -1,16 +1,16 @@
 -- THE MADE SCRIPT RETURNS, by any standard by which no call of its four signatures needs more than a quarter of the stack: it makes at most 8,006 moves, calls are at most four deep, and its text is one line, a number below 2^64.
 use Rattle.std.proofs.Common.{◌≡◌, ℕ, zero, suc, ◌+◌, ◌*◌, ◌<◌, ◌≤◌, ◌^◌, ◌-◌, Bool, true, false, List, [], ◌∷◌, ◌++◌, length, map, Option, Some, None, refl, ap, ◌∙◌, sym, subst, arith, append_assoc, append-nil, lit<, lit≤, take}
-use Rattle.std.specs.Prelude.{◌&&◌, if◌then◌else◌, nat_lt, ℤ, pos, negsuc, ◌+ℤ◌, slice_index_or, replicate, max, ⊤}
-use Rattle.std.specs.Int.{w64, from_le_bytes, to_le_bytes}
+use Rattle.std.specs.Prelude.{if◌then◌else◌, nat_lt, ℤ, pos, negsuc, ◌+ℤ◌, slice_index_or, replicate}
+use Rattle.std.specs.Int.{w64, from_le_bytes}
 use Rattle.std.specs.Fmt.{decimal}
 use Rattle.std.proofs.lemmas.Bool.{le-ltb}
 use Rattle.std.proofs.lemmas.Nat.{from_le_bytes-to_le_bytes_8, mod_below}
 use Rattle.std.proofs.lemmas.List.{length-append}
 use Rattle.ffi3_type_rules.proofs.Values.{get_or-append_at}
-use Rattle.ffi3_type_rules.specs.Tree.{Tree, void, scalar, left_out, structure, Trees, no_trees, tree, Scalar, u8, s8, u16, s16, u32, s32, u64, s64, float, double, pointer}
+use Rattle.ffi3_type_rules.specs.Tree.{Tree, void, scalar, left_out, structure, Trees, no_trees, tree, Scalar, u64, pointer}
 use Rattle.ffi3_type_rules.specs.Integer.{bytes_of_number, number_of, modulo, is_integer}
 use Rattle.ffi3_type_rules.specs.Signature.{Signature, signature_at}
-use Rattle.ffi3_type_rules.specs.Same.{same_tree, same_list, same_signature}
+use Rattle.ffi3_type_rules.specs.Same.{same_list, same_signature}
 use Rattle.ffi3_type_rules.specs.Value.{ValueTree, void_value, leaf_value, bytes_of, list_of_values}
 use Rattle.ffi3_type_rules.specs.ValueText.{value_text_of}
 use Rattle.ffi3_place_rules.specs.Standard.{Standard, need_of}
@@ -20,13 +20,13 @@ use Rattle.ffi3_run_rules.specs.Move as run
 use Rattle.ffi3_run_rules.specs.Closures.{Closures, no_closures, slot_address, closure_at}
 use Rattle.ffi3_run_rules.specs.Trace.{TraceItem, Enter, Leave, written_out}
 use Rattle.ffi3_run_rules.specs.Lines.{Point, past, at_start, untraced, text, text_of_run, a_line}
-use Rattle.ffi3_run_rules.specs.Meaning.{Program, Activation, Who, main, function, with_result, next_move, End, returned, Outcome, CallTree, no_nodes, node, line, called, Effect, enters, goes_on, at_closure, call_of, effect_of, follows, resumed, resumed_after, after, act, main_call, meaning_of, pointer_value, stack_size, most_moves, need_at}
+use Rattle.ffi3_run_rules.specs.Meaning.{Program, Activation, main, function, with_result, next_move, returned, Outcome, CallTree, node, called, enters, goes_on, at_closure, call_of, effect_of, follows, resumed, resumed_after, after, act, meaning_of, pointer_value, stack_size, most_moves, need_at}
 use Rattle.ffi3_run_rules.proofs.Recursion.{act-is}
 use Rattle.ffi3_run_rules.proofs.Texts.{untraced-append, untraced_anywhere}
 use Rattle.ffi3_script_rules.specs.Script.{Expression, argument, outcome, element, sum, cast, expressions_of}
 use Rattle.ffi3_script_rules.specs.Meaning.{Known, value_of, values_of, address_of, known, next_of, program_of}
-use Rattle.ffi3_script_rules.specs.Made.{drawn, next_state, made_types, state_before, types_at, made_signature, number, filled, filled_arguments, leaves_in, with_leaves, with_elements, with_arguments, own_total, made_calls, total_of, script_from, made}
-use Rattle.ffi3_script_rules.proofs.Tests.{type_is_itself, both}
+use Rattle.ffi3_script_rules.specs.Made.{drawn, next_state, made_types, state_before, types_at, made_signature, number, filled_arguments, leaves_in, with_leaves, with_elements, with_arguments, own_total, made_calls, total_of, script_from, made}
+use Rattle.ffi3_script_rules.proofs.Tests.{both, if_true, if_false, types_are_themselves}
 use Rattle.ffi3_script_rules.proofs.Made.{drawn_below}
 
 -- ---- words
@@ -145,21 +145,8 @@ module _ (p : Program) where
 
 -- ---- what a call needs
 
-list_is_itself : (ts : List Tree) → same_list ts ts ≡ true
-list_is_itself [] = refl
-list_is_itself (t ∷ ts) = both (same_tree t t) (same_list ts ts) (type_is_itself t) (list_is_itself ts)
-
 same_made : (ts : List Tree) → same_signature (made_signature ts) (made_signature ts) ≡ true
-same_made ts = both (same_list (ts ++ scalar u64 ∷ []) (ts ++ scalar u64 ∷ [])) true (list_is_itself (ts ++ scalar u64 ∷ [])) refl
-
--- a test that holds, and one that fails
-chosen : {A : Type 0} (b : Bool) (x y : A) → b ≡ true → (if b then x else y) ≡ x
-chosen true x y h = refl
-chosen false x y h = cc
-
-passed_over : {A : Type 0} (b : Bool) (x y : A) → b ≡ false → (if b then x else y) ≡ y
-passed_over true x y h = cc
-passed_over false x y h = refl
+same_made ts = both (same_list (ts ++ scalar u64 ∷ []) (ts ++ scalar u64 ∷ [])) true (types_are_themselves (ts ++ scalar u64 ∷ [])) refl
 
 -- ---- the script
 
@@ -220,8 +207,8 @@ module _ (standard : Standard) (t0 t1 t2 t3 : List Tree) (count first : ℕ) (li
   enters_at : (s : ℕ) (a : Activation) (args : List ValueTree) → s < 4 → 16384 ≤ a.left → effect_of p a made_closures (run.call (slot_address s) s args) ≡ enters (slot_address s) s (callee s args (a.left - need_at p s))
   enters_at s a args below room =
       ap (λ (c : Option Closure). at_closure c (slot_address s) (call_of p a (slot_address s) s args)) (there_at s below)
-      ∙ chosen (same_signature (signature_at p.signatures s) (signature_at p.signatures s)) _ _ (same_at s below)
-      ∙ passed_over (nat_lt a.left (need_at p s)) _ _ (le-ltb a.left (need_at p s) (omega (arith, room, little s below)))
+      ∙ if_true (same_signature (signature_at p.signatures s) (signature_at p.signatures s)) _ _ (same_at s below)
+      ∙ if_false (nat_lt a.left (need_at p s)) _ _ (le-ltb a.left (need_at p s) (omega (arith, room, little s below)))
 
   abbrev Runs : ℕ → Type 0
   Runs s = (args : List ValueTree) (left k m : ℕ) → IsWord (slice_index_or args (length (types_at types s)) void_value) → 16384 * s ≤ left → m + (2 * s + 1) ≤ k → Comes IsWord IsSilent made_closures m (act p (callee s args left) made_closures k)

@@ -18,10 +18,6 @@ pub test_held : {A : Type 0} (b : Bool) (r : Read A) (path : Path) (reason : Rea
 test_held true r path reason a h = (refl, h)
 test_held false r path reason a h = absurd (cc)
 
-pub test_failed : {A : Type 0} (b : Bool) (r : Read A) (path : Path) (reason : Reason) (a : A) → (if b then fault path reason else r) ≡ read a → (b ≡ false) × (r ≡ read a)
-test_failed true r path reason a h = absurd (cc)
-test_failed false r path reason a h = (refl, h)
-
 -- what is at a place of a list
 pub got : {X : Type 0} (xs : List X) (i : ℕ) (x d : X) → slice_get xs i ≡ Some x → (i < length xs) × (slice_index_or xs i d ≡ x)
 got [] i x d h = absurd (cc)

@@ -1,24 +1,27 @@
--- What tests tell: of types that are the same, and of conjunctions.
-use Rattle.std.proofs.Common.{◌≡◌, ℕ, Bool, true, false, [], ◌∷◌, refl, ap, ◌∙◌, sym}
-use Rattle.std.specs.Prelude.{◌&&◌, slice_index_or}
+-- What tests tell: of types that are the same, of conjunctions, and of a choice.
+use Rattle.std.proofs.Common.{◌≡◌, ℕ, Bool, true, false, List, [], ◌∷◌, refl, ap, ◌∙◌, sym}
+use Rattle.std.specs.Prelude.{◌&&◌, if◌then◌else◌, slice_index_or}
 use Rattle.std.proofs.lemmas.Bool.{eqb-true, eq-eqb}
 use Rattle.ffi3_type_rules.specs.Tree.{Scalar, u8, s8, u16, s16, u32, s32, u64, s64, float, double, pointer, scalar_number, LeftOutKind, long_double, complex, vector, Tree, void, scalar, left_out, structure, Trees, no_trees, tree}
-use Rattle.ffi3_type_rules.specs.Same.{same_tree, same_trees}
+use Rattle.ffi3_type_rules.specs.Same.{same_tree, same_trees, same_list}
+pub use Rattle.ffi3_place_rules.proofs.Tests.{and_left, and_right}
 use Rattle.ffi3_script_rules.specs.Typed.{same_scalar}
 
 -- ---- conjunctions
 
-pub and_left : (a b : Bool) → (a && b) ≡ true → a ≡ true
-and_left true b h = refl
-and_left false b h = cc
-
-pub and_right : (a b : Bool) → (a && b) ≡ true → b ≡ true
-and_right true b h = h
-and_right false b h = cc
-
 pub both : (a b : Bool) → a ≡ true → b ≡ true → (a && b) ≡ true
 both true b h k = k
 both false b h k = cc
+
+-- ---- a choice
+
+pub if_true : {A : Type 0} (b : Bool) (x y : A) → b ≡ true → (if b then x else y) ≡ x
+if_true true x y h = refl
+if_true false x y h = cc
+
+pub if_false : {A : Type 0} (b : Bool) (x y : A) → b ≡ false → (if b then x else y) ≡ y
+if_false true x y h = cc
+if_false false x y h = refl
 
 -- ---- types
 
@@ -79,3 +82,8 @@ mutual
   list_is_itself no_trees = refl
   list_is_itself (tree t ts) =
       both (same_tree t t) (same_trees ts ts) (type_is_itself t) (list_is_itself ts)
+
+pub types_are_themselves : (ts : List Tree) → same_list ts ts ≡ true
+types_are_themselves [] = refl
+types_are_themselves (t ∷ ts) =
+    both (same_tree t t) (same_list ts ts) (type_is_itself t) (types_are_themselves ts)

@@ -1,5 +1,5 @@
 -- A call whose arguments are passed, and then all overwritten that a callee must not look at, is shown at its entry.
-use Rattle.std.proofs.Common.{◌≡◌, ℕ, ◌+◌, ◌≤◌, List, ◌++◌, get_or, refl, ap, sym, ◌∙◌, subst, arith}
+use Rattle.std.proofs.Common.{◌≡◌, ℕ, ◌+◌, ◌<◌, ◌≤◌, true, List, ◌++◌, get_or, refl, ap, sym, ◌∙◌, subst, arith}
 use Rattle.std.specs.Prelude.{slice_index}
 use Rattle.std.specs.List.{AllByRecursion}
 use Rattle.ffi3_type_rules.specs.declared.limits.TheConstants.{STACK, STACK_TOP}
@@ -7,18 +7,19 @@ use Rattle.ffi3_type_rules.specs.Isa.{isa_of}
 use Rattle.ffi3_type_rules.specs.Signature.{Signature}
 use Rattle.ffi3_type_rules.specs.Value.{ValueTree}
 use Rattle.ffi3_place_rules.specs.declared.Loc.{Loc}
-use Rattle.ffi3_place_rules.specs.declared.Loc.TheVariants.{G}
+use Rattle.ffi3_place_rules.specs.declared.Loc.TheVariants.{G, S}
 use Rattle.ffi3_place_rules.specs.Isa.{closure_register}
 use Rattle.ffi3_place_rules.specs.Standard.{Standard, block_bytes, frame_of, need_of}
 use Rattle.ffi3_place_rules.specs.Agrees.{AgreesWithMachine}
 use Rattle.ffi3_place_rules.specs.Sound.{closed_to_arguments, closed_to_results, listed}
 use Rattle.ffi3_machine.specs.State.{State, HasReturnAddress}
-use Rattle.ffi3_pieces.specs.Stored.{word_in}
+use Rattle.ffi3_pieces.specs.Stored.{IsPlace, byte_of, stack_byte, word_in}
 use Rattle.ffi3_pieces.proofs.Lawful.{each_first, each_rest}
-use Rattle.ffi3_callee.specs.Poison.{IsPoisoned}
+use Rattle.ffi3_callee.specs.Poison.{IsPoisoned, is_free}
 use Rattle.ffi3_callee.specs.Received.{OwnsAtEntry}
 use Rattle.ffi3_invoke.specs.Calls.{HasPassed, entered_closure}
 use Rattle.ffi3_board.specs.Served.{ShowsCall}
+use Rattle.ffi3_serve_tests.specs.Shown.{IsOverwritten}
 
 -- no argument stands in the closure register
 closed_closure : (std : Standard) (P : Loc → Type 0) → AgreesWithMachine std → AllByRecursion P (closed_to_arguments std) → P (G (closure_register (isa_of std.target)))
@@ -48,3 +49,12 @@ module _ (std : Standard) (s : Signature) (agrees : AgreesWithMachine std) (valu
         events = omega (arith, events, passed.spare_events, is.within.spare_events);
         bytes = omega (arith, bytes, passed.spare_bytes, is.within.spare_bytes);
       }
+
+-- the stack pointer stays, and so the frame begins where it did
+pub overwritten : (std : Standard) (s : Signature) (byte : ℕ) (a b : State) → IsPoisoned std s (a.sp + std.link) byte a b → IsOverwritten std s byte b
+overwritten std s byte a b is =
+    let base : a.sp + std.link ≡ b.sp + std.link = ap (λ n. n + std.link) (sym is.sp) in
+    record {
+      registers = subst (λ n. (l : Loc) (k : ℕ) → IsPlace 0 l → k < 8 → is_free std s l k ≡ true → byte_of n b l k ≡ byte) base is.register_free;
+      frame = subst (λ at. (n : ℕ) → is_free std s (S n) 0 ≡ true → stack_byte b (at + n) ≡ byte) base is.frame_free;
+    }

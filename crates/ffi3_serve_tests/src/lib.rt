@@ -6,5 +6,5 @@ mod showing;
 #[cfg(test)]
 mod tests;
 
-pub use serving::{Came, call_after_main, take_text};
+pub use serving::{ServedOutcome, call_after_main, take_text};
 pub use showing::{show_at, show_call, takes};

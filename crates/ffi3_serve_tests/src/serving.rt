@@ -1,5 +1,5 @@
 //! A call that is served, and its result's text.
-ghost use Rattle.std.specs.Prelude.{◌≡◌, ◌+◌, ◌<◌, ◌≤◌, ◌^◌, IfOk, List, length, map};
+ghost use Rattle.std.specs.Prelude.{◌≡◌, ◌+◌, ◌<◌, ◌≤◌, ◌^◌, IfOk, List, length};
 ghost use Rattle.ffi3_type_rules.specs.declared.limits.TheConstants.{STACK, STACK_TOP};
 ghost use Rattle.ffi3_type_rules.specs.Value.{ValueTree};
 ghost use Rattle.ffi3_type_rules.specs.ValueText.{value_text_of};
@@ -7,7 +7,7 @@ ghost use Rattle.ffi3_place_rules.specs.Holds.{OwnResult};
 ghost use Rattle.ffi3_place_rules.specs.Standard.{frame_of};
 ghost use Rattle.ffi3_machine.specs.State.{image_of};
 ghost use Rattle.ffi3_script.specs.ScriptOf.{natives_of};
-ghost use Rattle.ffi3_ask.specs.Handed.{handed_in, signatures_in};
+ghost use Rattle.ffi3_ask.specs.Handed.{handed, signatures_in};
 
 use crate::showing::show_at;
 use ffi3_body::Native;
@@ -45,7 +45,7 @@ pub fn take_text<A: Abi>(
 
 /// What a call that was served came to.
 #[derive(Drop)]
-pub struct Came {
+pub struct ServedOutcome {
     pub text: Bytes,
     pub moves_left: u32,
 }
@@ -59,10 +59,10 @@ pub fn call_after_main<A: Abi>(
     value: Value,
     ptr: u64,
     byte: u8,
-) -> Result<Option<Came>, NoMemory>
+) -> Result<Option<ServedOutcome>, NoMemory>
     requires beside { natives_of script.now ≤ length natives.now.items }
     requires few_natives { length natives.now.items < 2 ^ 31 }
-    requires few_signatures { length (signatures_in (map (λ b. handed_in (title b) (meaning b) (signatures b)) natives.now.items)) < 2 ^ 31 }
+    requires few_signatures { length (signatures_in (handed title meaning signatures natives.now.items)) < 2 ^ 31 }
 {
     let mut machine = Machine::new(alloc)?;
     machine.begin(A::TARGET);
@@ -87,7 +87,7 @@ pub fn call_after_main<A: Abi>(
         return Ok(None);
     }
     let text = take_text(alloc, &mut machine, runner.cifs().get(sig))?;
-    Ok(Some(Came {
+    Ok(Some(ServedOutcome {
         text,
         moves_left: runner.moves_left(),
     }))

@@ -1,7 +1,7 @@
 //! A call from outside, up to the closure's entry.
 ghost use Rattle.std.specs.Prelude.{◌≡◌, ◌+◌, ◌≤◌, ◌∷◌, [], IfOk, IfSome, IsSome, true};
 ghost use Rattle.ffi3_type_rules.specs.declared.limits.TheConstants.{STACK, STACK_TOP};
-ghost use Rattle.ffi3_type_rules.specs.Signature.{SignatureHasNoFault};
+ghost use Rattle.ffi3_type_rules.specs.Signature.{SignatureHasNoFault, signature_at};
 ghost use Rattle.ffi3_type_rules.specs.Tree.{trees_of};
 ghost use Rattle.ffi3_type_rules.specs.Value.{all_fit, values_of};
 ghost use Rattle.ffi3_values.specs.ValueOf.{value_of};
@@ -11,7 +11,7 @@ ghost use Rattle.ffi3_machine.specs.State.{IsSlot};
 ghost use Rattle.ffi3_closures.specs.Slots.{HoldsMap};
 ghost use Rattle.ffi3_invoke.specs.Calls.{entered_closure};
 ghost use Rattle.ffi3_board.specs.Served.{ShowsCall};
-ghost use Rattle.ffi3_serve_tests.specs.Shown.{IsShown};
+ghost use Rattle.ffi3_serve_tests.specs.Shown.{IsOverwritten, IsShown};
 
 use ffi3_callee::poison;
 use ffi3_caller::room_for;
@@ -24,7 +24,8 @@ use ffi3_types::{NoMemory, Sig};
 use ffi3_values::{Value, Values, fits};
 use std::alloc::Global;
 
-/// Stores the values, calls the closure at `ptr`, runs its trampoline, and overwrites all that a callee must not look at.
+/// Stores the values, calls the closure at `ptr`, runs its trampoline, and writes the byte over all that a callee must not look
+/// at.
 pub fn show_call<A: Abi>(
     machine: &mut Machine,
     table: &Table,
@@ -44,6 +45,7 @@ pub fn show_call<A: Abi>(
     requires bytes { A.standard.link + frame_of A.standard cif.now + frame_of A.standard cif.now ≤ machine.old.spare_bytes }
     ensures shows { ShowsCall A.standard cif.now values.now machine.new }
     ensures closure { entered_closure machine.new ≡ ptr }
+    ensures overwritten { IsOverwritten A.standard cif.now byte machine.new }
     ensures target { machine.new.target ≡ machine.old.target }
     ensures code { machine.new.code ≡ machine.old.code }
 {
@@ -58,11 +60,13 @@ pub fn takes(sig: &Sig, value: &Value) -> bool
     requires { SignatureHasNoFault sig.now }
     ensures { result ≡ all_fit (trees_of sig.now.arguments) (values_of (value_of value.now ∷ [])) }
 {
-    sig.count() == 1 && fits(value, sig.arg(0))
+    let alone = sig.count() == 1;
+    alone && fits(value, sig.arg(0))
 }
 
-/// Shows the machine a call with one value of the live closure at `ptr`, and says by which signature. None where no closure is
-/// live there, its signature does not take the value alone, or the stack has no room.
+/// Shows the machine a call with one value of the live closure at `ptr`, with the byte over all that its callee must not look at,
+/// and says by which signature. None where no closure is live there, its signature does not take the value alone, or the stack
+/// has no room.
 pub fn show_at<A: Abi>(
     alloc: Global,
     machine: &mut Machine,
@@ -77,6 +81,7 @@ pub fn show_at<A: Abi>(
     requires top { machine.old.sp ≤ STACK_TOP }
     requires holds { HoldsMap machine.old.target table.now machine.old.code }
     ensures shown { IfOk result (λ o. IfSome o (λ sig. IsShown A.standard cifs.now table.now (value_of value ∷ []) sig machine.new)) }
+    ensures overwritten { IfOk result (λ o. IfSome o (λ sig. IsOverwritten A.standard (signature_at cifs.now sig) byte machine.new)) }
     ensures holds { HoldsMap machine.new.target table.now machine.new.code }
 {
     let Some(closure) = table.find(ptr) else {

@@ -1,7 +1,8 @@
 -- The words of registers, one after another.
-use Rattle.std.proofs.Common.{◌≡◌, ℕ, zero, suc, ◌+◌, ◌<◌, ◌≤◌, List, [], ◌∷◌, ◌++◌, length, map, take, refl, ap, sym, ◌∙◌, subst, arith, append_assoc, append-nil}
+use Rattle.std.proofs.Common.{◌≡◌, ℕ, zero, suc, ◌+◌, ◌<◌, ◌≤◌, List, [], ◌∷◌, ◌++◌, length, map, take, ap, sym, ◌∙◌, subst, arith, append_assoc, append-nil}
 use Rattle.std.specs.Prelude.{slice_index_or}
 use Rattle.std.specs.List.{AllByRecursion, concat}
+use Rattle.std.proofs.lemmas.List.{take_all}
 use Rattle.ffi3_type_rules.specs.declared.Isa.{Isa}
 use Rattle.ffi3_type_rules.specs.declared.Isa.TheVariants.{Amd64, Aarch64, Riscv}
 use Rattle.ffi3_place_rules.specs.declared.Loc.{Loc}
@@ -39,12 +40,6 @@ module _ (text : Loc → List ℕ) where
       let more : suc k ≡ k + 1 = omega arith in
       wrote ∙ ap (λ t. t ++ text at) n ∙ append_assoc before (concat (map text (take k ls))) (text at) ∙ ap (λ t. before ++ t) (sym (one_more ls k at below is)) ∙ ap (λ j. before ++ concat (map text (take j ls))) more
 
-  take_all : (ls : List Loc) (k : ℕ) → length ls ≤ k → take k ls ≡ ls
-  take_all [] zero past = refl
-  take_all [] (suc k) past = refl
-  take_all (l ∷ ls) zero past = absurd (omega arith)
-  take_all (l ∷ ls) (suc k) past = ap (λ ms. l ∷ ms) (take_all ls k (omega arith))
-
   pub texts_end : (ls : List Loc) (k : ℕ) (before now : List ℕ) → length ls ≤ k → now ≡ before ++ concat (map text (take k ls)) → now ≡ before ++ concat (map text ls)
   texts_end ls k before now past n =
-      n ∙ ap (λ ms. before ++ concat (map text ms)) (take_all ls k past)
+      n ∙ ap (λ ms. before ++ concat (map text ms)) (take_all k ls past)

@@ -1,26 +1,26 @@
 -- How far a run comes by each kind of move.
-use Rattle.std.proofs.Common.{◌≡◌, Bool, ℕ, suc, ◌+◌, ◌≤◌, max, List, [], ◌∷◌, ◌++◌, length, refl, sym, ap, ◌∙◌, subst, append-nil, length-append, arith}
+use Rattle.std.proofs.Common.{◌≡◌, Bool, ℕ, suc, ◌+◌, ◌≤◌, max, List, [], ◌∷◌, ◌++◌, length, refl, sym, ap, ◌∙◌, subst, append-nil, arith}
 use Rattle.ffi3_type_rules.specs.Tree.{Tree}
-use Rattle.ffi3_type_rules.specs.Signature.{Signature, signature_at}
+use Rattle.ffi3_type_rules.specs.Signature.{signature_at}
 use Rattle.ffi3_type_rules.specs.Value.{ValueTree, void_value}
-use Rattle.ffi3_place_rules.specs.Standard.{Standard, need_of}
+use Rattle.ffi3_place_rules.specs.Standard.{Standard}
 use Rattle.ffi3_place_rules.specs.Event.{Event}
 use Rattle.ffi3_run_rules.specs.Closures.{Closures}
 use Rattle.ffi3_run_rules.specs.Meaning.{Program, Activation, Effect, ends, prints, goes_on, enters, End, effect_of, next_move, meaning_of, need_at}
 use Rattle.ffi3_run_rules.specs.Trace.{TraceItem, Enter, Line, Leave, trace_of}
-use Rattle.ffi3_run_rules.specs.Journal.{Entered, needs, stack_top, IsEntry, IsReturn, IsWhole, JournalOf}
+use Rattle.ffi3_run_rules.specs.Journal.{Entered, stack_top, IsEntry, IsReturn, IsWhole, JournalOf}
 use Rattle.ffi3_run_rules.specs.Lines.{at_start, Tracing, text, text_of_run}
-use Rattle.ffi3_turn_rules.specs.Left.{Left, Bottom, left_of, before, only, Suspended, rest, alone, inside, awaited}
+use Rattle.ffi3_turn_rules.specs.Remainder.{Remainder, remainder_of, before, only, Suspended, rest, alone, inside, awaited}
 use Rattle.ffi3_turn_rules.specs.Step.{acts_on}
 use Rattle.ffi3_turn_rules.specs.Depth.{depth_after, depth_at, deepest, depth_of}
 use Rattle.ffi3_turn_rules.specs.Open.{AnswersTo, open_calls, unreturned}
-use Rattle.ffi3_turn_rules.specs.Cut.{WasCut}
-use Rattle.ffi3_turn_rules.specs.SoFar.{Base, main_base, text_start, text_after, Position, left_at_position, open_at, Answer, HasComeTo, IsOver, IsCutOff}
+use Rattle.ffi3_turn_rules.specs.Interrupted.{TraceWasInterrupted}
+use Rattle.ffi3_turn_rules.specs.SoFar.{Base, main_base, text_start, text_after, Position, left_at_position, open_at, Answer, HasComeTo, IsOver, IsInterrupted}
 use Rattle.ffi3_turn_rules.proofs.Steps.{rest_prints, rest_goes_on, rest_enters, rest_returns, follows_then}
 use Rattle.ffi3_turn_rules.proofs.Depths.{depth_at-append, deepest-append, ends_below}
-use Rattle.ffi3_turn_rules.proofs.Nested.{enters_left, nested_on, nested_depth}
-use Rattle.ffi3_turn_rules.proofs.Opens.{answers_then, one_line, one_entry, one_return, nothing_yet, opens_enter, unreturned_enter, unreturned_leave, needs_are, depth_enter, depth_leave}
-use Rattle.ffi3_turn_rules.proofs.Cuts.{cut_then, cut_journal, cut_text}
+use Rattle.ffi3_turn_rules.proofs.Nested.{enters_left, nested_on}
+use Rattle.ffi3_turn_rules.proofs.Opens.{answers_then, one_line, one_entry, one_return, nothing_yet, opens_enter, unreturned_enter, unreturned_leave, depth_enter, depth_leave}
+use Rattle.ffi3_turn_rules.proofs.Interruptions.{cut_then, cut_journal, cut_text}
 
 -- ---- the peak so far
 
@@ -57,7 +57,7 @@ without_first : (inner base : List Event) (entry : Event) (others : List Event) 
 without_first [] base entry others s outer is counted = absurd (omega (arith, counted))
 without_first (e ∷ inner) base entry others s outer is counted = (inner, cc, omega (arith, counted))
 
-module _ (p : Program) (b : Base) (all : Left) (own : List TraceItem) (events : List Event) (a : Activation) (closures : Closures) (moves : ℕ) where
+module _ (p : Program) (b : Base) (all : Remainder) (own : List TraceItem) (events : List Event) (a : Activation) (closures : Closures) (moves : ℕ) where
   abbrev at_path : List Suspended → Position
   at_path outer = record { path = record { innermost = a; suspended = outer }; closures = closures; moves = suc moves }
 
@@ -135,7 +135,7 @@ first_of_them [] base s outer is = absurd (omega (arith, is))
 first_of_them (e ∷ inner) base s outer is = (e, inner ++ base, refl)
 
 -- the entry of the call that is awaited
-pub innermost_entry : (p : Program) (b : Base) (all : Left) (own : List TraceItem) (events : List Event) (x : Position) (s : Suspended) (outer : List Suspended) → HasComeTo p b all own events x → x.path.suspended ≡ s ∷ outer → (entry : Event) × (others : List Event) × (unreturned b.entries events ≡ entry ∷ others)
+pub innermost_entry : (p : Program) (b : Base) (all : Remainder) (own : List TraceItem) (events : List Event) (x : Position) (s : Suspended) (outer : List Suspended) → HasComeTo p b all own events x → x.path.suspended ≡ s ∷ outer → (entry : Event) × (others : List Event) × (unreturned b.entries events ≡ entry ∷ others)
 innermost_entry p b all own events x s outer h is =
     let k = first_of_them h.inner b.entries s outer (h.counted ∙ ap (λ (l : List Suspended). length l) is) in
     (k.0, k.1, h.entries_are ∙ k.2)
@@ -145,60 +145,39 @@ none_of_them [] base is = refl
 none_of_them (e ∷ inner) base is = absurd (omega (arith, is))
 
 -- where nothing is suspended, the calls are open that were open at the beginning
-pub open_alone : (p : Program) (b : Base) (all : Left) (own : List TraceItem) (events : List Event) (x : Position) → HasComeTo p b all own events x → x.path.suspended ≡ [] → open_at p b x.path.suspended events ≡ open_at p b [] []
+pub open_alone : (p : Program) (b : Base) (all : Remainder) (own : List TraceItem) (events : List Event) (x : Position) → HasComeTo p b all own events x → x.path.suspended ≡ [] → open_at p b x.path.suspended events ≡ open_at p b [] []
 open_alone p b all own events x h is =
     ap (λ (l : List Suspended). open_at p b l events) is
     ∙ ap (open_calls p.signatures (awaited b.bottom [])) (h.entries_are ∙ none_of_them h.inner b.entries (h.counted ∙ ap (λ (l : List Suspended). length l) is))
 
-awaited_length : (bottom : Bottom) (outer : List Suspended) → length (awaited bottom outer) ≡ length outer + length (awaited bottom [])
-awaited_length bottom [] = omega arith
-awaited_length bottom (s ∷ outer) = let k = awaited_length bottom outer in omega (arith, k)
-
--- the stack that is left is all that open calls do not take
-pub room_left : (p : Program) (b : Base) (all : Left) (own : List TraceItem) (events : List Event) (x : Position) → HasComeTo p b all own events x → x.path.innermost.left + depth_at p (depth_of p (awaited b.bottom [])) own ≡ b.room + depth_of p (awaited b.bottom [])
-room_left p b all own events x h =
-    let k = nested_depth p b.room b.bottom x.path.innermost x.path.suspended h.nested in
-    ap (λ (n : ℕ). x.path.innermost.left + n) h.depth ∙ k
-
--- the same by the entries of the open calls, where the program's needs are the standard's
-pub room_by_needs : (p : Program) (b : Base) (all : Left) (own : List TraceItem) (events : List Event) (x : Position) → HasComeTo p b all own events x → length (awaited b.bottom []) ≡ length b.entries → ((s : Signature) → p.need s ≡ need_of b.standard s) → x.path.innermost.left + needs b.standard (open_at p b x.path.suspended events) ≡ b.room + depth_of p (awaited b.bottom [])
-room_by_needs p b all own events x h began same =
-    let outer = x.path.suspended in
-    let longer = awaited_length b.bottom outer in
-    let inner : length h.inner ≡ length x.path.suspended = h.counted in
-    let sizes : length (unreturned b.entries events) ≡ length h.inner + length b.entries = ap (λ (l : List Event). length l) h.entries_are ∙ length-append h.inner b.entries in
-    let counted : length (awaited b.bottom x.path.suspended) ≡ length (unreturned b.entries events) = omega (arith, longer, inner, sizes, began) in
-    ap (λ (n : ℕ). x.path.innermost.left + n) (needs_are p b.standard same (awaited b.bottom outer) (unreturned b.entries events) counted)
-    ∙ nested_depth p b.room b.bottom x.path.innermost outer h.nested
-
 -- ---- the end
 
-module _ (p : Program) (b : Base) (all : Left) (own : List TraceItem) (events : List Event) (x : Position) (h : HasComeTo p b all own events x) where
+module _ (p : Program) (b : Base) (all : Remainder) (own : List TraceItem) (events : List Event) (x : Position) (h : HasComeTo p b all own events x) where
   -- only this trace is left, and it is done too
   pub comes_to_end : (last : List TraceItem) (more : List Event) (end : End) (closures : Closures) (moves : ℕ) (calls : List Entered) → left_at_position p b x ≡ only last end closures moves → AnswersTo b.standard b.top b.held p.signatures (b.count + length events) (open_at p b x.path.suspended events) last more calls → IsOver p b all end closures moves (events ++ more)
   comes_to_end last more end closures moves calls is answers =
       let ends : all ≡ before own (only last end closures moves) = h.follows ∙ ap (before own) is in
       let P : List TraceItem → Type 0 = λ l. Answer p b l (events ++ more) calls in
       record {
-        end_is = ap (λ (l : Left). l.end) ends;
-        closures_are = ap (λ (l : Left). l.closures) ends;
-        moves_are = ap (λ (l : Left). l.moves) ends;
+        end_is = ap (λ (l : Remainder). l.end) ends;
+        closures_are = ap (λ (l : Remainder). l.closures) ends;
+        moves_are = ap (λ (l : Remainder). l.moves) ends;
         left_open = calls;
-        answers = subst P (sym (ap (λ (l : Left). l.trace) ends)) (answers_then b.standard b.top b.held p.signatures b.count (open_at p b [] []) (open_at p b x.path.suspended events) calls own last events more h.answers answers);
+        answers = subst P (sym (ap (λ (l : Remainder). l.trace) ends)) (answers_then b.standard b.top b.held p.signatures b.count (open_at p b [] []) (open_at p b x.path.suspended events) calls own last events more h.answers answers);
       }
 
-  -- the run is cut off in what is left
-  pub comes_to_cut : (tracing : Tracing) (in_line : Bool) (happened : List TraceItem) (written : List ℕ) (more : List Event) → WasCut b.standard b.top b.held tracing p.signatures (text_after p b own) (b.count + length events) (open_at p b x.path.suspended events) in_line (left_at_position p b x).trace happened written more → IsCutOff tracing p b in_line all (own ++ happened) (text tracing p.signatures (text_start p b) own ++ written) (events ++ more)
+  -- the run is interrupted in what is left
+  pub comes_to_cut : (tracing : Tracing) (in_line : Bool) (happened : List TraceItem) (written : List ℕ) (more : List Event) → TraceWasInterrupted b.standard b.top b.held tracing p.signatures (text_after p b own) (b.count + length events) (open_at p b x.path.suspended events) in_line (left_at_position p b x).trace happened written more → IsInterrupted tracing p b in_line all (own ++ happened) (text tracing p.signatures (text_start p b) own ++ written) (events ++ more)
   comes_to_cut tracing in_line happened written more cut =
-      let P : List TraceItem → Type 0 = λ l. WasCut b.standard b.top b.held tracing p.signatures (text_start p b) b.count (open_at p b [] []) in_line l (own ++ happened) (text tracing p.signatures (text_start p b) own ++ written) (events ++ more) in
-      subst P (sym (ap (λ (l : Left). l.trace) h.follows)) (cut_then b.standard b.top b.held tracing p.signatures in_line (text_start p b) b.count (open_at p b [] []) (open_at p b x.path.suspended events) own (left_at_position p b x).trace happened events more written h.answers cut)
+      let P : List TraceItem → Type 0 = λ l. TraceWasInterrupted b.standard b.top b.held tracing p.signatures (text_start p b) b.count (open_at p b [] []) in_line l (own ++ happened) (text tracing p.signatures (text_start p b) own ++ written) (events ++ more) in
+      subst P (sym (ap (λ (l : Remainder). l.trace) h.follows)) (cut_then b.standard b.top b.held tracing p.signatures in_line (text_start p b) b.count (open_at p b [] []) (open_at p b x.path.suspended events) own (left_at_position p b x).trace happened events more written h.answers cut)
 
 -- A RUN OF MAIN THAT IS OVER has the journal of its program's direct meaning, whole.
-pub main_is_over : (p : Program) (std : Standard) (end : End) (closures : Closures) (moves : ℕ) (events : List Event) → IsOver p (main_base std) (left_of (meaning_of p)) end closures moves events → ((meaning_of p).end ≡ end) × ((meaning_of p).closures ≡ closures) × JournalOf std p.signatures (trace_of p) events × IsWhole (trace_of p) events
+pub main_is_over : (p : Program) (std : Standard) (end : End) (closures : Closures) (moves : ℕ) (events : List Event) → IsOver p (main_base std) (remainder_of (meaning_of p)) end closures moves events → ((meaning_of p).end ≡ end) × ((meaning_of p).closures ≡ closures) × JournalOf std p.signatures (trace_of p) events × IsWhole (trace_of p) events
 main_is_over p std end closures moves events h = (h.end_is, h.closures_are, h.answers.answers, h.answers.whole)
 
--- A RUN OF MAIN THAT WAS CUT OFF has a first part of the text, and the journal as far as it goes.
-pub main_was_cut : (tracing : Tracing) (p : Program) (std : Standard) (in_line : Bool) (happened : List TraceItem) (written : List ℕ) (events : List Event) → IsCutOff tracing p (main_base std) in_line (left_of (meaning_of p)) happened written events → JournalOf std p.signatures (trace_of p) events × ((unwritten : List ℕ) × (text_of_run tracing p ≡ written ++ unwritten))
+-- A RUN OF MAIN THAT WAS INTERRUPTED has a first part of the text, and the journal as far as it goes.
+pub main_was_cut : (tracing : Tracing) (p : Program) (std : Standard) (in_line : Bool) (happened : List TraceItem) (written : List ℕ) (events : List Event) → IsInterrupted tracing p (main_base std) in_line (remainder_of (meaning_of p)) happened written events → JournalOf std p.signatures (trace_of p) events × ((unwritten : List ℕ) × (text_of_run tracing p ≡ written ++ unwritten))
 main_was_cut tracing p std in_line happened written events cut = (
   cut_journal std stack_top (λ at. 0) tracing p.signatures in_line at_start 0 [] (trace_of p) happened written events cut,
   cut_text std stack_top (λ at. 0) tracing p.signatures in_line at_start 0 [] (trace_of p) happened written events cut,

@@ -28,10 +28,6 @@ deepest-append p depth (h ∷ a) b =
     let k : deepest p (depth_after p depth h) (a ++ b) ≡ max (deepest p (depth_after p depth h) a) (deepest p (depth_at p (depth_after p depth h) a) b) = deepest-append p (depth_after p depth h) a b in
     omega (arith, k)
 
--- so is no part deeper than the whole
-pub part_below : (p : Program) (depth : ℕ) (a b : List TraceItem) → deepest p depth a ≤ deepest p depth (a ++ b)
-part_below p depth a b = let k = deepest-append p depth a b in omega (arith, k)
-
 -- the end counts
 pub ends_below : (p : Program) (depth : ℕ) (a : List TraceItem) → depth_at p depth a ≤ deepest p depth a
 ends_below p depth [] = omega arith
@@ -143,11 +139,3 @@ deepest_is_peak p =
     let k = deepest_of_act p main_call no_closures most_moves 0 in
     let none : 0 + peak_of p (meaning_of p).call_tree ≡ peak_of p (meaning_of p).call_tree = omega arith in
     k ∙ none
-
-level_at : (p : Program) (e : End) (r : ValueTree) (trace : List TraceItem) → e ≡ returned r → IsLevel p e trace → (depth : ℕ) → depth_at p depth trace ≡ depth
-level_at p e r trace is h = subst (λ (x : End). IsLevel p x trace) is h
-
--- an activation that returns leaves the stack as it found it
-pub level_of_act : (p : Program) (a : Activation) (c : Closures) (m depth : ℕ) (r : ValueTree) → (act p a c m).end ≡ returned r → depth_at p depth (written_out (act p a c m).call_tree) ≡ depth
-level_of_act p a c m depth r is =
-    level_at p (act p a c m).end r (written_out (act p a c m).call_tree) is (act_deep p a c m).level depth

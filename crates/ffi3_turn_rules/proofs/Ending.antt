@@ -1,4 +1,4 @@
--- How a run that has come to a point ends there, or is cut off.
+-- How a run that has come to a point ends there, or is interrupted.
 use Rattle.std.proofs.Common.{◌≡◌, ◌<◌, ◌+◌, Bool, true, false, ℕ, suc, List, [], ◌∷◌, ◌++◌, length, take, refl, sym, ap, ◌∙◌, subst, append-nil}
 use Rattle.ffi3_type_rules.specs.Tree.{Tree}
 use Rattle.ffi3_type_rules.specs.Signature.{signature_at}
@@ -12,17 +12,17 @@ use Rattle.ffi3_run_rules.specs.Meaning.{Program, Activation, Effect, ends, stop
 use Rattle.ffi3_run_rules.specs.Trace.{TraceItem, Enter, Line, Leave, StopLine}
 use Rattle.ffi3_run_rules.specs.Journal.{Entered, IsEntry, IsReturn}
 use Rattle.ffi3_run_rules.specs.Lines.{Tracing, a_line, enter_lines, item_text, leave_lines, stop_text, text}
-use Rattle.ffi3_turn_rules.specs.Left.{Left, only, Suspended, Bottom, as_main, served, Path, rest, alone, inside, awaited, awaited_below}
+use Rattle.ffi3_turn_rules.specs.Remainder.{Remainder, only, Suspended, Bottom, as_main, served, Path, rest, alone, inside, awaited, awaited_below}
 use Rattle.ffi3_turn_rules.specs.Step.{acts_on}
 use Rattle.ffi3_turn_rules.specs.Open.{AnswersTo, open_calls, unreturned}
-use Rattle.ffi3_turn_rules.specs.Cut.{IsPart, HasItsEvent, WasCut}
-use Rattle.ffi3_turn_rules.specs.SoFar.{Base, text_start, text_after, Position, left_at_position, open_at, HasComeTo, IsOver, IsCutOff}
+use Rattle.ffi3_turn_rules.specs.Interrupted.{IsPart, HasItsEvent, TraceWasInterrupted}
+use Rattle.ffi3_turn_rules.specs.SoFar.{Base, text_start, text_after, Position, left_at_position, open_at, HasComeTo, IsOver, IsInterrupted}
 use Rattle.ffi3_turn_rules.proofs.Steps.{rest_at_limit, rest_stops, rest_prints, rest_enters, rest_returns, rest_ends, rest_leaves}
 use Rattle.ffi3_turn_rules.proofs.Opens.{nothing_yet, one_stop, one_entry, one_return}
-use Rattle.ffi3_turn_rules.proofs.Cuts.{cut_unrecorded, cut_recorded, no_event_yet}
+use Rattle.ffi3_turn_rules.proofs.Interruptions.{cut_unrecorded, cut_recorded, no_event_yet}
 use Rattle.ffi3_turn_rules.proofs.Coming.{comes_to_end, comes_to_cut, open_alone}
 
-module _ (p : Program) (b : Base) (all : Left) (own : List TraceItem) (events : List Event) where
+module _ (p : Program) (b : Base) (all : Remainder) (own : List TraceItem) (events : List Event) where
   -- over without another event
   over_as_it_is : (end : End) (closures : Closures) (moves : ℕ) → IsOver p b all end closures moves (events ++ []) → IsOver p b all end closures moves events
   over_as_it_is end closures moves h = subst (λ (l : List Event). IsOver p b all end closures moves l) (append-nil events) h
@@ -34,14 +34,14 @@ module _ (p : Program) (b : Base) (all : Left) (own : List TraceItem) (events : 
       let calls = open_at p b path.suspended events in
       over_as_it_is (stopped MoveLimit) closures 0 (comes_to_end p b all own events x h (StopLine MoveLimit ∷ []) [] (stopped MoveLimit) closures 0 calls (rest_at_limit p b.bottom path closures) (one_stop b.standard b.top b.held p.signatures (b.count + length events) calls MoveLimit))
 
-  -- cut off with nothing more done, and without another event
-  as_it_is : (tracing : Tracing) (in_line : Bool) (happened : List TraceItem) (written : List ℕ) (xs : List Event) → IsCutOff tracing p b in_line all (happened ++ []) written (xs ++ []) → IsCutOff tracing p b in_line all happened written xs
+  -- interrupted with nothing more done, and without another event
+  as_it_is : (tracing : Tracing) (in_line : Bool) (happened : List TraceItem) (written : List ℕ) (xs : List Event) → IsInterrupted tracing p b in_line all (happened ++ []) written (xs ++ []) → IsInterrupted tracing p b in_line all happened written xs
   as_it_is tracing in_line happened written xs k =
-      let P : List TraceItem → Type 0 = λ l. IsCutOff tracing p b in_line all l written (xs ++ []) in
-      let Q : List Event → Type 0 = λ l. IsCutOff tracing p b in_line all happened written l in
+      let P : List TraceItem → Type 0 = λ l. IsInterrupted tracing p b in_line all l written (xs ++ []) in
+      let Q : List Event → Type 0 = λ l. IsInterrupted tracing p b in_line all happened written l in
       subst Q (append-nil xs) (subst P (append-nil happened) k)
 
-  -- ---- cut off before or in the next item, from where its run has come to
+  -- ---- interrupted before or in the next item, from where its run has come to
 
   module _ (tracing : Tracing) (x : Position) (h : HasComeTo p b all own events x) where
     -- the text so far
@@ -52,30 +52,30 @@ module _ (p : Program) (b : Base) (all : Left) (own : List TraceItem) (events : 
     opened = open_at p b x.path.suspended events
 
     -- between two moves, for want of memory
-    pub cut_here : IsCutOff tracing p b false all own so_far events
+    pub cut_here : IsInterrupted tracing p b false all own so_far events
     cut_here =
         let left = (left_at_position p b x).trace in
         let k = comes_to_cut p b all own events x h tracing false [] [] [] (cut_unrecorded b.standard b.top b.held tracing p.signatures false (text_after p b own) (b.count + length events) opened left 0 refl (no_event_yet left)) in
-        as_it_is tracing false own so_far events (subst (λ (l : List ℕ). IsCutOff tracing p b false all (own ++ []) l (events ++ [])) (append-nil so_far) k)
+        as_it_is tracing false own so_far events (subst (λ (l : List ℕ). IsInterrupted tracing p b false all (own ++ []) l (events ++ [])) (append-nil so_far) k)
 
     -- in the lines of the next item, which has no event
-    pub cut_in_item : (next : TraceItem) (later : Left) (part : ℕ) → left_at_position p b x ≡ record later { trace = next ∷ later.trace } → part < length (item_text tracing p.signatures (text_after p b own) next) → HasItsEvent false true (next ∷ later.trace) → IsCutOff tracing p b true all own (so_far ++ take part (item_text tracing p.signatures (text_after p b own) next)) events
+    pub cut_in_item : (next : TraceItem) (later : Remainder) (part : ℕ) → left_at_position p b x ≡ record later { trace = next ∷ later.trace } → part < length (item_text tracing p.signatures (text_after p b own) next) → HasItsEvent false true (next ∷ later.trace) → IsInterrupted tracing p b true all own (so_far ++ take part (item_text tracing p.signatures (text_after p b own) next)) events
     cut_in_item next later part is short its_event =
         let line = item_text tracing p.signatures (text_after p b own) next in
-        let P : List TraceItem → Type 0 = λ l. WasCut b.standard b.top b.held tracing p.signatures (text_after p b own) (b.count + length events) opened true l [] (take part line) [] in
+        let P : List TraceItem → Type 0 = λ l. TraceWasInterrupted b.standard b.top b.held tracing p.signatures (text_after p b own) (b.count + length events) opened true l [] (take part line) [] in
         let cut = cut_unrecorded b.standard b.top b.held tracing p.signatures true (text_after p b own) (b.count + length events) opened (next ∷ later.trace) part short its_event in
-        as_it_is tracing true own (so_far ++ take part line) events (comes_to_cut p b all own events x h tracing true [] (take part line) [] (subst P (sym (ap (λ (l : Left). l.trace) is)) cut))
+        as_it_is tracing true own (so_far ++ take part line) events (comes_to_cut p b all own events x h tracing true [] (take part line) [] (subst P (sym (ap (λ (l : Remainder). l.trace) is)) cut))
 
     -- after the event of the next item, in its lines or before them
-    pub cut_after_event : (in_line : Bool) (next : TraceItem) (later : Left) (e : Event) (calls' : List Entered) (part : ℕ) → left_at_position p b x ≡ record later { trace = next ∷ later.trace } → AnswersTo b.standard b.top b.held p.signatures (b.count + length events) opened (next ∷ []) (e ∷ []) calls' → IsPart in_line part (length (item_text tracing p.signatures (text_after p b own) next)) → HasItsEvent true in_line (next ∷ later.trace) → IsCutOff tracing p b in_line all (own ++ next ∷ []) (so_far ++ take part (item_text tracing p.signatures (text_after p b own) next)) (events ++ e ∷ [])
+    pub cut_after_event : (in_line : Bool) (next : TraceItem) (later : Remainder) (e : Event) (calls' : List Entered) (part : ℕ) → left_at_position p b x ≡ record later { trace = next ∷ later.trace } → AnswersTo b.standard b.top b.held p.signatures (b.count + length events) opened (next ∷ []) (e ∷ []) calls' → IsPart in_line part (length (item_text tracing p.signatures (text_after p b own) next)) → HasItsEvent true in_line (next ∷ later.trace) → IsInterrupted tracing p b in_line all (own ++ next ∷ []) (so_far ++ take part (item_text tracing p.signatures (text_after p b own) next)) (events ++ e ∷ [])
     cut_after_event in_line next later e calls' part is answers proper its_event =
         let line = item_text tracing p.signatures (text_after p b own) next in
-        let P : List TraceItem → Type 0 = λ l. WasCut b.standard b.top b.held tracing p.signatures (text_after p b own) (b.count + length events) opened in_line l (next ∷ []) (take part line) (e ∷ []) in
+        let P : List TraceItem → Type 0 = λ l. TraceWasInterrupted b.standard b.top b.held tracing p.signatures (text_after p b own) (b.count + length events) opened in_line l (next ∷ []) (take part line) (e ∷ []) in
         let cut = cut_recorded b.standard b.top b.held tracing p.signatures in_line (text_after p b own) (b.count + length events) opened calls' next later.trace e part proper its_event answers in
-        comes_to_cut p b all own events x h tracing in_line (next ∷ []) (take part line) (e ∷ []) (subst P (sym (ap (λ (l : Left). l.trace) is)) cut)
+        comes_to_cut p b all own events x h tracing in_line (next ∷ []) (take part line) (e ∷ []) (subst P (sym (ap (λ (l : Remainder). l.trace) is)) cut)
 
-  -- no move is left, and the run is cut off in the line that says so
-  pub cut_in_limit : (tracing : Tracing) (path : Path) (closures : Closures) (part : ℕ) → HasComeTo p b all own events (record { path = path; closures = closures; moves = 0 }) → part < length (a_line (stop_text p.signatures MoveLimit)) → IsCutOff tracing p b true all own (text tracing p.signatures (text_start p b) own ++ take part (a_line (stop_text p.signatures MoveLimit))) events
+  -- no move is left, and the run is interrupted in the line that says so
+  pub cut_in_limit : (tracing : Tracing) (path : Path) (closures : Closures) (part : ℕ) → HasComeTo p b all own events (record { path = path; closures = closures; moves = 0 }) → part < length (a_line (stop_text p.signatures MoveLimit)) → IsInterrupted tracing p b true all own (text tracing p.signatures (text_start p b) own ++ take part (a_line (stop_text p.signatures MoveLimit))) events
   cut_in_limit tracing path closures part h short =
       cut_in_item tracing (record { path = path; closures = closures; moves = 0 }) h (StopLine MoveLimit) (only [] (stopped MoveLimit) closures 0) part (rest_at_limit p b.bottom path closures) short refl
 
@@ -97,28 +97,28 @@ module _ (p : Program) (b : Base) (all : Left) (own : List TraceItem) (events : 
     stops_here stop is =
         over_as_it_is (stopped stop) closures moves (comes_to_end p b all own events here h (StopLine stop ∷ []) [] (stopped stop) closures moves calls (rest_stops p b.bottom a outer closures moves stop is) (one_stop b.standard b.top b.held p.signatures count calls stop))
 
-    -- ---- cut off in a move
+    -- ---- interrupted in a move
 
     module _ (tracing : Tracing) where
       abbrev written : List ℕ → List ℕ
       written more = text tracing p.signatures (text_start p b) own ++ more
 
       -- in a line
-      pub cut_in_print : (t : Tree) (v : ValueTree) (part : ℕ) → does (prints t v) → part < length (a_line (value_text_of t v)) → IsCutOff tracing p b true all own (written (take part (a_line (value_text_of t v)))) events
+      pub cut_in_print : (t : Tree) (v : ValueTree) (part : ℕ) → does (prints t v) → part < length (a_line (value_text_of t v)) → IsInterrupted tracing p b true all own (written (take part (a_line (value_text_of t v)))) events
       cut_in_print t v part is short =
           cut_in_item tracing here h (Line t v) (rest p b.bottom (acts_on a void_value outer) closures moves) part (rest_prints p b.bottom a outer closures moves t v is) short refl
 
-      pub cut_in_stop : (stop : Stop) (part : ℕ) → does (stops stop) → part < length (a_line (stop_text p.signatures stop)) → IsCutOff tracing p b true all own (written (take part (a_line (stop_text p.signatures stop)))) events
+      pub cut_in_stop : (stop : Stop) (part : ℕ) → does (stops stop) → part < length (a_line (stop_text p.signatures stop)) → IsInterrupted tracing p b true all own (written (take part (a_line (stop_text p.signatures stop)))) events
       cut_in_stop stop part is short =
           cut_in_item tracing here h (StopLine stop) (only [] (stopped stop) closures moves) part (rest_stops p b.bottom a outer closures moves stop is) short refl
 
       -- after an entry, in the lines that tell it or before them
-      pub cut_in_entry : (in_line : Bool) (ptr sig : ℕ) (callee : Activation) (e : Event) (part : ℕ) → does (enters ptr sig callee) → IsEntry b.standard b.top b.held calls count ptr (signature_at p.signatures sig) callee.arguments e → IsPart in_line part (length (enter_lines tracing (text_after p b own) ptr (signature_at p.signatures sig) callee.arguments)) → IsCutOff tracing p b in_line all (own ++ Enter ptr sig callee.arguments ∷ []) (written (take part (enter_lines tracing (text_after p b own) ptr (signature_at p.signatures sig) callee.arguments))) (events ++ e ∷ [])
+      pub cut_in_entry : (in_line : Bool) (ptr sig : ℕ) (callee : Activation) (e : Event) (part : ℕ) → does (enters ptr sig callee) → IsEntry b.standard b.top b.held calls count ptr (signature_at p.signatures sig) callee.arguments e → IsPart in_line part (length (enter_lines tracing (text_after p b own) ptr (signature_at p.signatures sig) callee.arguments)) → IsInterrupted tracing p b in_line all (own ++ Enter ptr sig callee.arguments ∷ []) (written (take part (enter_lines tracing (text_after p b own) ptr (signature_at p.signatures sig) callee.arguments))) (events ++ e ∷ [])
       cut_in_entry in_line ptr sig callee e part is entry proper =
           cut_after_event tracing here h in_line (Enter ptr sig callee.arguments) (rest p b.bottom (inside callee sig a outer) closures moves) e (record { signature = signature_at p.signatures sig; event = e } ∷ calls) part (rest_enters p b.bottom a outer closures moves ptr sig callee is) (one_entry b.standard b.top b.held p.signatures count calls ptr sig callee.arguments e entry) proper (λ _. refl)
 
   -- after a return to the activation that waits for it, in the lines that tell it or before them
-  pub cut_in_return : (in_line : Bool) (a : Activation) (s : Suspended) (outer : List Suspended) (closures : Closures) (moves : ℕ) (v : ValueTree) (entry e : Event) (others : List Event) (tracing : Tracing) (part : ℕ) → HasComeTo p b all own events (record { path = record { innermost = a; suspended = s ∷ outer }; closures = closures; moves = suc moves }) → effect_of p a closures (next_move p a) ≡ ends v → unreturned b.entries events ≡ entry ∷ others → IsReturn b.standard (record { signature = signature_at p.signatures s.signature; event = entry }) v e → IsPart in_line part (length (leave_lines tracing (text_after p b own).calls v)) → IsCutOff tracing p b in_line all (own ++ Leave s.signature v ∷ []) (text tracing p.signatures (text_start p b) own ++ take part (leave_lines tracing (text_after p b own).calls v)) (events ++ e ∷ [])
+  pub cut_in_return : (in_line : Bool) (a : Activation) (s : Suspended) (outer : List Suspended) (closures : Closures) (moves : ℕ) (v : ValueTree) (entry e : Event) (others : List Event) (tracing : Tracing) (part : ℕ) → HasComeTo p b all own events (record { path = record { innermost = a; suspended = s ∷ outer }; closures = closures; moves = suc moves }) → effect_of p a closures (next_move p a) ≡ ends v → unreturned b.entries events ≡ entry ∷ others → IsReturn b.standard (record { signature = signature_at p.signatures s.signature; event = entry }) v e → IsPart in_line part (length (leave_lines tracing (text_after p b own).calls v)) → IsInterrupted tracing p b in_line all (own ++ Leave s.signature v ∷ []) (text tracing p.signatures (text_start p b) own ++ take part (leave_lines tracing (text_after p b own).calls v)) (events ++ e ∷ [])
   cut_in_return in_line a s outer closures moves v entry e others tracing part h is top back proper =
       let x : Position = record { path = record { innermost = a; suspended = s ∷ outer }; closures = closures; moves = suc moves } in
       let call : Entered = record { signature = signature_at p.signatures s.signature; event = entry } in
@@ -129,7 +129,7 @@ module _ (p : Program) (b : Base) (all : Left) (own : List TraceItem) (events : 
 
 -- ---- a return out of the run
 
-module _ (p : Program) (b : Base) (all : Left) (own : List TraceItem) (events : List Event) (a : Activation) (closures : Closures) (moves : ℕ) (v : ValueTree) (h : HasComeTo p b all own events (record { path = alone a; closures = closures; moves = suc moves })) (is : effect_of p a closures (next_move p a) ≡ ends v) where
+module _ (p : Program) (b : Base) (all : Remainder) (own : List TraceItem) (events : List Event) (a : Activation) (closures : Closures) (moves : ℕ) (v : ValueTree) (h : HasComeTo p b all own events (record { path = alone a; closures = closures; moves = suc moves })) (is : effect_of p a closures (next_move p a) ≡ ends v) where
   abbrev standing : Position
   standing = record { path = alone a; closures = closures; moves = suc moves }
 
@@ -163,7 +163,7 @@ module _ (p : Program) (b : Base) (all : Left) (own : List TraceItem) (events : 
     served_ends =
         comes_to_end p b all own events standing h (Leave sig v ∷ []) (e ∷ []) (returned v) closures moves [] served_leaves served_answers
 
-    -- or the run is cut off in the lines that tell it or before them
-    pub cut_in_served_return : (in_line : Bool) (tracing : Tracing) (part : ℕ) → IsPart in_line part (length (leave_lines tracing (text_after p b own).calls v)) → IsCutOff tracing p b in_line all (own ++ Leave sig v ∷ []) (text tracing p.signatures (text_start p b) own ++ take part (leave_lines tracing (text_after p b own).calls v)) (events ++ e ∷ [])
+    -- or the run is interrupted in the lines that tell it or before them
+    pub cut_in_served_return : (in_line : Bool) (tracing : Tracing) (part : ℕ) → IsPart in_line part (length (leave_lines tracing (text_after p b own).calls v)) → IsInterrupted tracing p b in_line all (own ++ Leave sig v ∷ []) (text tracing p.signatures (text_start p b) own ++ take part (leave_lines tracing (text_after p b own).calls v)) (events ++ e ∷ [])
     cut_in_served_return in_line tracing part proper =
         cut_after_event p b all own events tracing standing h in_line (Leave sig v) (only [] (returned v) closures moves) e [] part served_leaves served_answers proper (λ _. refl)

@@ -2,7 +2,7 @@ mod Rows
 pub mod Steps
 pub mod Depths
 pub mod Opens
-pub mod Cuts
+pub mod Interruptions
 pub mod Nested
 pub mod Coming
 pub mod Ending

@@ -8,21 +8,13 @@ use Rattle.ffi3_run_rules.specs.declared.Stop.TheVariants.{TableFull, StackFull,
 use Rattle.ffi3_run_rules.specs.Closures.{Closures, no_closures, closure_at, slots, first_free, slot_address, with_closure, freed}
 use Rattle.ffi3_run_rules.specs.Move.{Move, call, make, free, print, return}
 use Rattle.ffi3_run_rules.specs.Meaning.{Program, Activation, Acts, Effect, ends, prints, enters, stops, goes_on, End, returned, stopped, Outcome, follows, resumed, act, act_within, next_move, peak_of, meaning_of, main_call, most_moves, stack_size, at_closure, call_of, callee_of, with_result, effect_of, need_at, function_at, pointer_value}
-use Rattle.ffi3_turn_rules.specs.Left.{Suspended, Bottom, awaited}
-use Rattle.ffi3_turn_rules.specs.Depth.{depth_of, IsNested}
+use Rattle.ffi3_turn_rules.specs.Remainder.{Suspended}
+use Rattle.ffi3_turn_rules.specs.Depth.{IsNested}
 
 -- a result leaves the stack as it is
 pub nested_on : (p : Program) (room : ℕ) (a : Activation) (r : ValueTree) (outer : List Suspended) → IsNested p room a outer → IsNested p room (with_result a r) outer
 nested_on p room a r [] h = h
 nested_on p room a r (s ∷ outer) h = h
-
--- the whole stack is what is left and what the open calls take
-pub nested_depth : (p : Program) (room : ℕ) (bottom : Bottom) (a : Activation) (outer : List Suspended) → IsNested p room a outer → a.left + depth_of p (awaited bottom outer) ≡ room + depth_of p (awaited bottom [])
-nested_depth p room bottom a [] h = ap (λ (n : ℕ). n + depth_of p (awaited bottom [])) h
-nested_depth p room bottom a (s ∷ outer) h =
-    let own : a.left + need_at p s.signature ≡ s.activation.left = h.0 in
-    let others : s.activation.left + depth_of p (awaited bottom outer) ≡ room + depth_of p (awaited bottom []) = nested_depth p room bottom s.activation outer h.1 in
-    omega (arith, own, others)
 
 -- ---- an entry takes the need of its signature
 

@@ -1,20 +1,20 @@
 -- Events that answer to traces one after another, and the calls that stay open.
-use Rattle.std.proofs.Common.{◌≡◌, ℕ, ◌+◌, ◌-◌, List, [], ◌∷◌, ◌++◌, length, map, refl, sym, ap, ◌∙◌, subst, append_assoc, append-nil, length-append, arith}
+use Rattle.std.proofs.Common.{◌≡◌, ℕ, ◌+◌, ◌-◌, List, [], ◌∷◌, ◌++◌, length, refl, sym, ap, ◌∙◌, subst, append_assoc, append-nil, length-append, arith}
 use Rattle.ffi3_type_rules.specs.Tree.{Tree}
 use Rattle.ffi3_type_rules.specs.Signature.{Signature, signature_at}
 use Rattle.ffi3_type_rules.specs.Value.{ValueTree}
 use Rattle.ffi3_place_rules.specs.declared.Loc.{Loc}
-use Rattle.ffi3_place_rules.specs.Standard.{Standard, need_of}
+use Rattle.ffi3_place_rules.specs.Standard.{Standard}
 use Rattle.ffi3_place_rules.specs.Event.{Event, EventKind, enters, leaves}
 use Rattle.ffi3_run_rules.specs.declared.Stop.{Stop}
 use Rattle.ffi3_run_rules.specs.Trace.{TraceItem, Enter, Line, Leave, StopLine}
-use Rattle.ffi3_run_rules.specs.Journal.{Entered, Answers, IsEntry, IsReturn, IsWhole, JournalOf, events_in, stack_top, needs}
+use Rattle.ffi3_run_rules.specs.Journal.{Entered, Answers, IsEntry, IsReturn, events_in}
 use Rattle.ffi3_run_rules.specs.Lines.{Point, past, Tracing, item_text, text}
 use Rattle.ffi3_run_rules.specs.Meaning.{Program, need_at}
 use Rattle.ffi3_turn_rules.specs.Depth.{depth_at, depth_of}
 use Rattle.ffi3_turn_rules.proofs.Depths.{depth_at-append}
 use Rattle.ffi3_turn_rules.specs.Open.{after_event, unreturned, open_calls, open_after, AnswersTo}
-use Rattle.ffi3_turn_rules.specs.Cut.{past_all}
+use Rattle.ffi3_turn_rules.specs.Interrupted.{past_all}
 use Rattle.ffi3_turn_rules.specs.Laws.{TextGoesByParts}
 
 pub past_all-append : (ss : List Signature) (at : Point) (a b : List TraceItem) → past_all ss at (a ++ b) ≡ past_all ss (past_all ss at a) b
@@ -155,60 +155,14 @@ module _ (std : Standard) (top : ℕ) (held : Loc → ℕ) (ss : List Signature)
   pub one_return : (n : ℕ) (entry : Entered) (calls : List Entered) (sig : ℕ) (r : ValueTree) (e : Event) → IsReturn std entry r e → Goes n (entry ∷ calls) (Leave sig r ∷ []) (e ∷ []) calls
   one_return n entry calls sig r e is = record { answers = (is, tt); whole = refl; left_open = refl }
 
-  -- ---- the open calls by the events alone
-
-  pub entries_are : (n : ℕ) (calls : List Entered) (trace : List TraceItem) (events : List Event) → Answer n calls trace events → length events ≡ events_in trace → map (λ (c : Entered). c.event) (open_after ss calls trace events) ≡ unreturned (map (λ (c : Entered). c.event) calls) events
-  entries_are n calls [] [] h whole = refl
-  entries_are n calls [] (e ∷ events) h whole = elim h [ ]
-  entries_are n calls (Line t v ∷ later) events h whole =
-      entries_are n calls later events (line_of n calls t v later events h) whole
-  entries_are n calls (StopLine stop ∷ later) events h whole =
-      entries_are n calls later events (stop_of n calls stop later events h) whole
-  entries_are n calls (Enter ptr sig args ∷ later) [] h whole = absurd (omega (arith, whole))
-  entries_are n calls (Enter ptr sig args ∷ later) (e ∷ events) h whole =
-      entries_are (n + 1) (entered sig e ∷ calls) later events h.1 (omega (arith, whole))
-      ∙ ap (λ (k : EventKind). unreturned (after_event k e (map (λ (c : Entered). c.event) calls)) events) (sym h.0.kind)
-  entries_are n calls (Leave sig r ∷ later) [] h whole = absurd (omega (arith, whole))
-  entries_are n [] (Leave sig r ∷ later) (e ∷ events) h whole = elim h [ ]
-  entries_are n (entry ∷ calls) (Leave sig r ∷ later) (e ∷ events) h whole =
-      entries_are (n + 1) calls later events h.1 (omega (arith, whole))
-      ∙ ap (λ (k : EventKind). unreturned (after_event k e (entry.event ∷ map (λ (c : Entered). c.event) calls)) events) (sym h.0.kind)
-
   -- ---- the open calls of a path
 
   pub opens_enter : (sig : ℕ) (sigs : List ℕ) (entries xs : List Event) (e : Event) → e.kind ≡ enters → open_calls ss (sig ∷ sigs) (unreturned entries (xs ++ e ∷ [])) ≡ entered sig e ∷ open_calls ss sigs (unreturned entries xs)
   opens_enter sig sigs entries xs e is =
       ap (λ (l : List Event). open_calls ss (sig ∷ sigs) l) (unreturned_enter entries xs e is)
 
-  opens_tail : (sig : ℕ) (sigs : List ℕ) (entries : List Event) (e : Event) (entry : Entered) (outer : List Entered) → open_calls ss (sig ∷ sigs) entries ≡ entry ∷ outer → open_calls ss sigs (after_event leaves e entries) ≡ outer
-  opens_tail sig sigs [] e entry outer is = cc
-  opens_tail sig sigs (x ∷ entries) e entry outer is = cc
+-- ---- the depth that a trace came to, where it is what the open calls take
 
-  pub opens_leave : (sig : ℕ) (sigs : List ℕ) (entries xs : List Event) (e : Event) (entry : Entered) (outer : List Entered) → open_calls ss (sig ∷ sigs) (unreturned entries xs) ≡ entry ∷ outer → e.kind ≡ leaves → open_calls ss sigs (unreturned entries (xs ++ e ∷ [])) ≡ outer
-  opens_leave sig sigs entries xs e entry outer is kind =
-      ap (open_calls ss sigs) (unreturned-append entries xs (e ∷ []) ∙ ap (λ (k : EventKind). after_event k e (unreturned entries xs)) kind)
-      ∙ opens_tail sig sigs (unreturned entries xs) e entry outer is
-
--- ---- a whole run
-
--- THE JOURNAL OF A RUN, and that it is whole, by events that answer from no open call
-pub answers_journal : (std : Standard) (ss : List Signature) (trace : List TraceItem) (events : List Event) (last : List Entered) → AnswersTo std stack_top (λ at. 0) ss 0 [] trace events last → JournalOf std ss trace events × IsWhole trace events
-answers_journal std ss trace events last h = (h.answers, h.whole)
-
-pub journal_answers : (std : Standard) (ss : List Signature) (trace : List TraceItem) (events : List Event) → JournalOf std ss trace events → IsWhole trace events → AnswersTo std stack_top (λ at. 0) ss 0 [] trace events (open_after ss [] trace events)
-journal_answers std ss trace events journal whole =
-    record { answers = journal; whole = whole; left_open = refl }
-
--- the bytes that open calls take
-pub needs_are : (p : Program) (std : Standard) → ((s : Signature) → p.need s ≡ need_of std s) → (sigs : List ℕ) (entries : List Event) → length sigs ≡ length entries → needs std (open_calls p.signatures sigs entries) ≡ depth_of p sigs
-needs_are p std same [] entries counted = refl
-needs_are p std same (sig ∷ sigs) [] counted = absurd (omega (arith, counted))
-needs_are p std same (sig ∷ sigs) (e ∷ entries) counted =
-    let own : p.need (signature_at p.signatures sig) ≡ need_of std (signature_at p.signatures sig) = same (signature_at p.signatures sig) in
-    let others : needs std (open_calls p.signatures sigs entries) ≡ depth_of p sigs = needs_are p std same sigs entries (omega (arith, counted)) in
-    omega (arith, own, others)
-
--- and they are the depth that the trace came to
 pub depth_enter : (p : Program) (depth : ℕ) (own : List TraceItem) (ptr sig : ℕ) (args : List ValueTree) (sigs : List ℕ) → depth_at p depth own ≡ depth_of p sigs → depth_at p depth (own ++ Enter ptr sig args ∷ []) ≡ depth_of p (sig ∷ sigs)
 depth_enter p depth own ptr sig args sigs is =
     let same : depth_of p sigs + need_at p sig ≡ need_at p sig + depth_of p sigs = omega arith in

@@ -9,7 +9,7 @@ use Rattle.ffi3_run_rules.specs.Closures.{Closures, no_closures, with_closure}
 use Rattle.ffi3_run_rules.specs.Move.{call, make, print, return, Behaviour}
 use Rattle.ffi3_run_rules.specs.Meaning.{Program, Activation, main, function, act, act_within, pointer_value}
 use Rattle.ffi3_run_rules.specs.Trace.{Enter, Line, Leave, trace_of}
-use Rattle.ffi3_turn_rules.specs.Left.{as_main, served, rest, alone}
+use Rattle.ffi3_turn_rules.specs.Remainder.{as_main, served, rest, alone}
 use Rattle.ffi3_turn_rules.specs.Depth.{depth_at, deepest}
 
 abbrev n64 : ℕ → ValueTree

@@ -6,35 +6,35 @@ use Rattle.ffi3_run_rules.specs.declared.Stop.{Stop}
 use Rattle.ffi3_run_rules.specs.declared.Stop.TheVariants.{MoveLimit}
 use Rattle.ffi3_run_rules.specs.Closures.{Closures, no_closures}
 use Rattle.ffi3_run_rules.specs.Meaning.{Program, Activation, Effect, ends, stops, prints, goes_on, enters, End, returned, stopped, Outcome, follows, resumed, with_result, effect_of, next_move, act, act_within, called, main_call, most_moves, meaning_of}
-use Rattle.ffi3_run_rules.specs.Trace.{TraceItem, Enter, Line, Leave, written_out, written_out_one, trace_of}
+use Rattle.ffi3_run_rules.specs.Trace.{TraceItem, Enter, Line, Leave, written_out, written_out_one}
 use Rattle.ffi3_run_rules.proofs.Recursion.{act-is}
-use Rattle.ffi3_turn_rules.specs.Left.{Left, left_of, before, only, only_stops, Suspended, Bottom, as_main, served, Path, resumed_at, left_at, finished, through, rest, alone, inside}
+use Rattle.ffi3_turn_rules.specs.Remainder.{Remainder, remainder_of, before, only, only_stops, Suspended, Bottom, as_main, served, Path, resumed_at, left_at, finished, through, rest, alone, inside}
 use Rattle.ffi3_turn_rules.specs.Step.{step_of, left_before}
 use Rattle.ffi3_turn_rules.specs.Laws.{GoesByStep, ServesAlike, result_of}
 
 -- ---- what happens before may be set before all that is left
 
-pub before-before : (a b : List TraceItem) (l : Left) → before a (before b l) ≡ before (a ++ b) l
+pub before-before : (a b : List TraceItem) (l : Remainder) → before a (before b l) ≡ before (a ++ b) l
 before-before a b l =
     ap (λ (h : List TraceItem). record l { trace = h }) (sym (append_assoc a b l.trace))
 
-resumed-before : (p : Program) (s : Suspended) (own : List TraceItem) (l : Left) (e : End) → resumed_at p s (before own l) e ≡ before own (resumed_at p s l e)
+resumed-before : (p : Program) (s : Suspended) (own : List TraceItem) (l : Remainder) (e : End) → resumed_at p s (before own l) e ≡ before own (resumed_at p s l e)
 resumed-before p s own l (stopped stop) = refl
 resumed-before p s own l (returned r) =
-    let next = left_of (act p (with_result s.activation r) l.closures l.moves) in
+    let next = remainder_of (act p (with_result s.activation r) l.closures l.moves) in
     ap (λ (h : List TraceItem). before h next) (append_assoc own l.trace (Leave s.signature r ∷ []))
     ∙ sym (before-before own (l.trace ++ Leave s.signature r ∷ []) next)
 
-left-before : (sig : ℕ) (own : List TraceItem) (l : Left) (e : End) → left_at sig (before own l) e ≡ before own (left_at sig l e)
+left-before : (sig : ℕ) (own : List TraceItem) (l : Remainder) (e : End) → left_at sig (before own l) e ≡ before own (left_at sig l e)
 left-before sig own l (stopped stop) = refl
 left-before sig own l (returned r) =
     ap (λ (h : List TraceItem). record l { trace = h }) (append_assoc own l.trace (Leave sig r ∷ []))
 
-finished-before : (bottom : Bottom) (own : List TraceItem) (l : Left) → finished bottom (before own l) ≡ before own (finished bottom l)
+finished-before : (bottom : Bottom) (own : List TraceItem) (l : Remainder) → finished bottom (before own l) ≡ before own (finished bottom l)
 finished-before as_main own l = refl
 finished-before (served sig) own l = left-before sig own l l.end
 
-pub through-before : (p : Program) (bottom : Bottom) (outer : List Suspended) (own : List TraceItem) (l : Left) → through p bottom outer (before own l) ≡ before own (through p bottom outer l)
+pub through-before : (p : Program) (bottom : Bottom) (outer : List Suspended) (own : List TraceItem) (l : Remainder) → through p bottom outer (before own l) ≡ before own (through p bottom outer l)
 through-before p bottom [] own l = finished-before bottom own l
 through-before p bottom (s ∷ outer) own l =
     ap (through p bottom outer) (resumed-before p s own l l.end) ∙ through-before p bottom outer own (resumed_at p s l l.end)
@@ -46,7 +46,7 @@ through_stops p (served sig) [] stop closures moves = refl
 through_stops p bottom (s ∷ outer) stop closures moves = through_stops p bottom outer stop closures moves
 
 -- a call written out: its entry, and what is left of its caller's path
-entered_at : (p : Program) (a : Activation) (ptr sig : ℕ) (args : List ValueTree) (o : Outcome) (e : End) → left_of (resumed (act p) a ptr sig args o e) ≡ before (Enter ptr sig args ∷ []) (resumed_at p (record { activation = a; signature = sig }) (left_of o) e)
+entered_at : (p : Program) (a : Activation) (ptr sig : ℕ) (args : List ValueTree) (o : Outcome) (e : End) → remainder_of (resumed (act p) a ptr sig args o e) ≡ before (Enter ptr sig args ∷ []) (resumed_at p (record { activation = a; signature = sig }) (remainder_of o) e)
 entered_at p a ptr sig args o (stopped stop) =
     ap (λ (h : List TraceItem). only (Enter ptr sig args ∷ h) o.end o.closures o.moves) (append-nil (written_out o.call_tree ++ []) ∙ append-nil (written_out o.call_tree))
 entered_at p a ptr sig args o (returned r) = refl
@@ -63,16 +63,16 @@ module _ (p : Program) (bottom : Bottom) (a : Activation) (outer : List Suspende
   abbrev standing : List Suspended → Path
   standing around = record { innermost = a; suspended = around }
 
-  by_effect : (d : Effect) → effect_of p a closures (next_move p a) ≡ d → (around : List Suspended) → rest p bottom (standing around) closures (suc moves) ≡ through p bottom around (left_of (follows (act p) a closures moves d))
+  by_effect : (d : Effect) → effect_of p a closures (next_move p a) ≡ d → (around : List Suspended) → rest p bottom (standing around) closures (suc moves) ≡ through p bottom around (remainder_of (follows (act p) a closures moves d))
   by_effect d is around =
-      ap (λ (o : Outcome). through p bottom around (left_of o)) (act-is p a closures moves ∙ ap (follows (act p) a closures moves) is)
+      ap (λ (o : Outcome). through p bottom around (remainder_of o)) (act-is p a closures moves ∙ ap (follows (act p) a closures moves) is)
 
   pub rest_stops : (stop : Stop) → effect_of p a closures (next_move p a) ≡ stops stop → rest p bottom (standing outer) closures (suc moves) ≡ only_stops stop closures moves
   rest_stops stop is = by_effect (stops stop) is outer ∙ through_stops p bottom outer stop closures moves
 
   pub rest_prints : (t : Tree) (v : ValueTree) → effect_of p a closures (next_move p a) ≡ prints t v → rest p bottom (standing outer) closures (suc moves) ≡ before (Line t v ∷ []) (rest p bottom (record { innermost = with_result a void_value; suspended = outer }) closures moves)
   rest_prints t v is =
-      by_effect (prints t v) is outer ∙ through-before p bottom outer (Line t v ∷ []) (left_of (act p (with_result a void_value) closures moves))
+      by_effect (prints t v) is outer ∙ through-before p bottom outer (Line t v ∷ []) (remainder_of (act p (with_result a void_value) closures moves))
 
   pub rest_goes_on : (r : ValueTree) (closures' : Closures) → effect_of p a closures (next_move p a) ≡ goes_on r closures' → rest p bottom (standing outer) closures (suc moves) ≡ rest p bottom (record { innermost = with_result a r; suspended = outer }) closures' moves
   rest_goes_on r closures' is = by_effect (goes_on r closures') is outer
@@ -82,12 +82,12 @@ module _ (p : Program) (bottom : Bottom) (a : Activation) (outer : List Suspende
       let o = act p callee closures moves in
       by_effect (enters ptr sig callee) is outer
       ∙ ap (through p bottom outer) (entered_at p a ptr sig callee.arguments o o.end)
-      ∙ through-before p bottom outer (Enter ptr sig callee.arguments ∷ []) (resumed_at p (record { activation = a; signature = sig }) (left_of o) o.end)
+      ∙ through-before p bottom outer (Enter ptr sig callee.arguments ∷ []) (resumed_at p (record { activation = a; signature = sig }) (remainder_of o) o.end)
 
   -- a return, to the activation that waits for it
   pub rest_returns : (s : Suspended) (v : ValueTree) → effect_of p a closures (next_move p a) ≡ ends v → rest p bottom (standing (s ∷ outer)) closures (suc moves) ≡ before (Leave s.signature v ∷ []) (rest p bottom (record { innermost = with_result s.activation v; suspended = outer }) closures moves)
   rest_returns s v is =
-      by_effect (ends v) is (s ∷ outer) ∙ through-before p bottom outer (Leave s.signature v ∷ []) (left_of (act p (with_result s.activation v) closures moves))
+      by_effect (ends v) is (s ∷ outer) ∙ through-before p bottom outer (Leave s.signature v ∷ []) (remainder_of (act p (with_result s.activation v) closures moves))
 
 -- main returns
 pub rest_ends : (p : Program) (a : Activation) (closures : Closures) (moves : ℕ) (v : ValueTree) → effect_of p a closures (next_move p a) ≡ ends v → rest p as_main (alone a) closures (suc moves) ≡ only [] (returned v) closures moves
@@ -100,14 +100,11 @@ rest_leaves p a sig closures moves v is = by_effect p (served sig) a [] closures
 -- ---- a whole run
 
 -- THE MEANING OF A PROGRAM IS WHAT IS LEFT AT MAIN, with no closures and all moves
-pub meaning_is_rest : (p : Program) → left_of (meaning_of p) ≡ rest p as_main (alone main_call) no_closures most_moves
+pub meaning_is_rest : (p : Program) → remainder_of (meaning_of p) ≡ rest p as_main (alone main_call) no_closures most_moves
 meaning_is_rest p = refl
 
-pub trace_is_rest : (p : Program) → trace_of p ≡ (rest p as_main (alone main_call) no_closures most_moves).trace
-trace_is_rest p = refl
-
 -- A CALL IS ITS ENTRY AND WHAT IS LEFT WHERE IT IS SERVED
-served_at : (ptr sig : ℕ) (args : List ValueTree) (o : Outcome) (e : End) → written_out_one (called ptr sig args o.call_tree (result_of e)) ≡ Enter ptr sig args ∷ (left_at sig (left_of o) e).trace
+served_at : (ptr sig : ℕ) (args : List ValueTree) (o : Outcome) (e : End) → written_out_one (called ptr sig args o.call_tree (result_of e)) ≡ Enter ptr sig args ∷ (left_at sig (remainder_of o) e).trace
 served_at ptr sig args o (returned r) = refl
 served_at ptr sig args o (stopped stop) = ap (λ (h : List TraceItem). Enter ptr sig args ∷ h) (append-nil (written_out o.call_tree))
 
@@ -134,5 +131,5 @@ goes_by_step p = record {
 }
 
 -- what follows, and then what follows after that
-pub follows_then : (first mid last : Left) (a b : List TraceItem) → first ≡ before a mid → mid ≡ before b last → first ≡ before (a ++ b) last
+pub follows_then : (first mid last : Remainder) (a b : List TraceItem) → first ≡ before a mid → mid ≡ before b last → first ≡ before (a ++ b) last
 follows_then first mid last a b one two = one ∙ ap (before a) two ∙ before-before a b last

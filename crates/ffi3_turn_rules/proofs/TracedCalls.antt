@@ -18,11 +18,11 @@ use Rattle.ffi3_run_rules.specs.Trace.{TraceItem, Enter, Line, Leave, StopLine}
 use Rattle.ffi3_run_rules.specs.Journal.{Entered, needs, Answers, IsEntry, IsReturn, events_in}
 use Rattle.ffi3_run_rules.specs.Lines.{OpenCall, Point, past, traced, a_line, address_text, word_text, sp_at_call, keep_text, leave_text, enter_lines, leave_lines}
 use Rattle.ffi3_run_rules.proofs.Texts.{registers_text}
-use Rattle.ffi3_turn_rules.specs.Left.{Left}
+use Rattle.ffi3_turn_rules.specs.Remainder.{Remainder}
 use Rattle.ffi3_turn_rules.specs.Open.{open_after}
-use Rattle.ffi3_turn_rules.specs.Cut.{past_all}
+use Rattle.ffi3_turn_rules.specs.Interrupted.{past_all}
 use Rattle.ffi3_turn_rules.specs.SoFar.{Base, main_base, text_start, text_after, Position, open_at, HasComeTo}
-use Rattle.ffi3_turn_rules.specs.Told.{IsTold, AreTold, IsTraced, IsTracingOf}
+use Rattle.ffi3_turn_rules.specs.TracingOf.{IsTracedAsEntered, AreTracedAsEntered, IsTraced, IsTracingOf}
 use Rattle.ffi3_turn_rules.specs.MainTracing.{main_tracing}
 use Rattle.ffi3_turn_rules.proofs.Opens.{line_of, stop_of}
 
@@ -52,7 +52,7 @@ still_there f entry return (at ∷ registers) is kept =
 -- ---- open calls
 
 -- the stack that they take, as the text counts it
-told_needs : (std : Standard) (top : ℕ) (leaves : ℕ → Loc → ℕ) (es : List Entered) (cs : List OpenCall) → AreTold std top leaves es cs → sum_by (λ (c : OpenCall). need_of std c.signature) cs ≡ needs std es
+told_needs : (std : Standard) (top : ℕ) (leaves : ℕ → Loc → ℕ) (es : List Entered) (cs : List OpenCall) → AreTracedAsEntered std top leaves es cs → sum_by (λ (c : OpenCall). need_of std c.signature) cs ≡ needs std es
 told_needs std top leaves [] [] told = refl
 told_needs std top leaves (e ∷ es) (c ∷ cs) told =
     let rest = told_needs std top leaves es cs told.1 in
@@ -75,7 +75,7 @@ past_events ss at (Leave sig r ∷ later) =
     omega (arith, k)
 
 module _ (std : Standard) (top : ℕ) (held : Loc → ℕ) (ss : List Signature) (leaves : ℕ → Loc → ℕ) (count : ℕ) (later_on : (n : ℕ) (at : Loc) → count ≤ n → leaves n at ≡ scribble n at) where
-  calls_told : (n : ℕ) → count ≤ n → (calls : List Entered) (cs : List OpenCall) (own : List TraceItem) (events : List Event) → AreTold std top leaves calls cs → Answers std top held ss n calls own events → length events ≡ events_in own → AreTold std top leaves (open_after ss calls own events) (past_all ss (record { events = n; calls = cs }) own).calls
+  calls_told : (n : ℕ) → count ≤ n → (calls : List Entered) (cs : List OpenCall) (own : List TraceItem) (events : List Event) → AreTracedAsEntered std top leaves calls cs → Answers std top held ss n calls own events → length events ≡ events_in own → AreTracedAsEntered std top leaves (open_after ss calls own events) (past_all ss (record { events = n; calls = cs }) own).calls
   calls_told n least calls cs [] [] told h whole = told
   calls_told n least calls cs [] (e ∷ events) told h whole = elim h [ ]
   calls_told n least calls cs (Line t v ∷ later) events told h whole =
@@ -84,7 +84,7 @@ module _ (std : Standard) (top : ℕ) (held : Loc → ℕ) (ss : List Signature)
       calls_told n least calls cs later events told (stop_of std top held ss n calls stop later events h) whole
   calls_told n least calls cs (Enter ptr sig args ∷ later) [] told h whole = absurd (omega (arith, whole))
   calls_told n least calls cs (Enter ptr sig args ∷ later) (e ∷ events) told h whole =
-      let newest : IsTold std top leaves calls (record { signature = signature_at ss sig; event = e }) (record { signature = signature_at ss sig; entry = n }) =
+      let newest : IsTracedAsEntered std top leaves calls (record { signature = signature_at ss sig; event = e }) (record { signature = signature_at ss sig; entry = n }) =
       record { signature = refl; sp = h.0.sp; preserved = as_left (leaves n) (scribble n) e.image (λ at. later_on n at least) std.preserved h.0.preserved } in
       calls_told (n + 1) (omega (arith, least)) (record { signature = signature_at ss sig; event = e } ∷ calls) (record { signature = signature_at ss sig; entry = n } ∷ cs) later events (newest, told) h.1 (omega (arith, whole))
   calls_told n least calls cs (Leave sig r ∷ later) [] told h whole = absurd (omega (arith, whole))
@@ -104,7 +104,7 @@ module _ (std : Standard) (top : ℕ) (leaves : ℕ → Loc → ℕ) where
   return_line s v sp =
       a_line (codes "leave sp " ++ address_text sp ++ codes " " ++ value_text_of s.result_type v)
 
-  entry_told : (held : Loc → ℕ) (outer : List Entered) (at : Point) (n ptr : ℕ) (s : Signature) (args : List ValueTree) (e : Event) → AreTold std top leaves outer at.calls → at.events ≡ n → ((l : Loc) → leaves n l ≡ scribble n l) → IsEntry std top held outer n ptr s args e → enter_lines (traced std top leaves) at ptr s args ≡ entry_line s args ptr e.image.sp ++ a_line (codes "keep" ++ registers_text (register e.image) std.preserved)
+  entry_told : (held : Loc → ℕ) (outer : List Entered) (at : Point) (n ptr : ℕ) (s : Signature) (args : List ValueTree) (e : Event) → AreTracedAsEntered std top leaves outer at.calls → at.events ≡ n → ((l : Loc) → leaves n l ≡ scribble n l) → IsEntry std top held outer n ptr s args e → enter_lines (traced std top leaves) at ptr s args ≡ entry_line s args ptr e.image.sp ++ a_line (codes "keep" ++ registers_text (register e.image) std.preserved)
   entry_told held outer at n ptr s args e told counted left is =
       let below = told_needs std top leaves outer at.calls told in
       let stood : e.image.sp + (std.link + frame_of std s + needs std outer) ≡ top = is.sp in
@@ -114,7 +114,7 @@ module _ (std : Standard) (top : ℕ) (leaves : ℕ → Loc → ℕ) where
       ap (λ (k : ℕ). entry_line s args ptr k ++ a_line (keep_text std (leaves at.events))) sp
       ∙ ap (λ (l : List ℕ). entry_line s args ptr e.image.sp ++ a_line l) keep
 
-  return_told : (s : Signature) (entry : Event) (outer : List Entered) (cs : List OpenCall) (v : ValueTree) (e : Event) → AreTold std top leaves (record { signature = s; event = entry } ∷ outer) cs → IsReturn std (record { signature = s; event = entry }) v e → leave_lines (traced std top leaves) cs v ≡ return_line s v e.image.sp ++ a_line (codes "keep" ++ registers_text (register e.image) std.preserved)
+  return_told : (s : Signature) (entry : Event) (outer : List Entered) (cs : List OpenCall) (v : ValueTree) (e : Event) → AreTracedAsEntered std top leaves (record { signature = s; event = entry } ∷ outer) cs → IsReturn std (record { signature = s; event = entry }) v e → leave_lines (traced std top leaves) cs v ≡ return_line s v e.image.sp ++ a_line (codes "keep" ++ registers_text (register e.image) std.preserved)
   return_told s entry outer [] v e told back = absurd told
   return_told s entry outer (c ∷ cs) v e told back =
       let below = told_needs std top leaves outer cs told.1 in
@@ -130,11 +130,11 @@ module _ (std : Standard) (top : ℕ) (leaves : ℕ → Loc → ℕ) where
 
 -- ---- of a run that has come to a point
 
-module _ (p : Program) (b : Base) (leaves : ℕ → Loc → ℕ) (is_traced : IsTraced p b leaves) (all : Left) (own : List TraceItem) (events : List Event) (x : Position) (h : HasComeTo p b all own events x) where
+module _ (p : Program) (b : Base) (leaves : ℕ → Loc → ℕ) (is_traced : IsTraced p b leaves) (all : Remainder) (own : List TraceItem) (events : List Event) (x : Position) (h : HasComeTo p b all own events x) where
   -- THE OPEN CALLS ARE THOSE OF THE TEXT
-  open_told : AreTold b.standard b.top leaves (open_at p b x.path.suspended events) (text_after p b own).calls
+  open_told : AreTracedAsEntered b.standard b.top leaves (open_at p b x.path.suspended events) (text_after p b own).calls
   open_told =
-      let P : List Entered → Type 0 = λ l. AreTold b.standard b.top leaves l (text_after p b own).calls in
+      let P : List Entered → Type 0 = λ l. AreTracedAsEntered b.standard b.top leaves l (text_after p b own).calls in
       subst P h.answers.left_open (calls_told b.standard b.top b.held p.signatures leaves b.count is_traced.later b.count (omega arith) (open_at p b [] []) (text_start p b).calls own events is_traced.open_calls h.answers.answers h.answers.whole)
 
   -- and the next event has the text's number
@@ -150,7 +150,7 @@ module _ (p : Program) (b : Base) (leaves : ℕ → Loc → ℕ) (is_traced : Is
   -- THE LINES OF A RETURN tell the stack pointer and the preserved registers of its event
   pub leave_lines_are : (s : Signature) (entry : Event) (outer : List Entered) (v : ValueTree) (e : Event) → open_at p b x.path.suspended events ≡ record { signature = s; event = entry } ∷ outer → IsReturn b.standard (record { signature = s; event = entry }) v e → leave_lines (traced b.standard b.top leaves) (text_after p b own).calls v ≡ a_line (codes "leave sp " ++ address_text e.image.sp ++ codes " " ++ value_text_of s.result_type v) ++ a_line (codes "keep" ++ registers_text (register e.image) b.standard.preserved)
   leave_lines_are s entry outer v e opened back =
-      let P : List Entered → Type 0 = λ l. AreTold b.standard b.top leaves l (text_after p b own).calls in
+      let P : List Entered → Type 0 = λ l. AreTracedAsEntered b.standard b.top leaves l (text_after p b own).calls in
       return_told b.standard b.top leaves s entry outer (text_after p b own).calls v e (subst P opened open_told) back
 
 -- ---- of a run of main

@@ -2,7 +2,7 @@
 use Rattle.std.specs.Prelude.{◌≡◌, ℕ, ◌+◌, ◌-◌, max, List, [], ◌∷◌}
 use Rattle.ffi3_run_rules.specs.Meaning.{Program, Activation, need_at}
 use Rattle.ffi3_run_rules.specs.Trace.{TraceItem, Enter, Line, Leave, StopLine}
-use Rattle.ffi3_turn_rules.specs.Left.{Suspended}
+use Rattle.ffi3_turn_rules.specs.Remainder.{Suspended}
 
 -- the bytes that are taken after one item more
 abbrev pub depth_after : Program → ℕ → TraceItem → ℕ

@@ -9,10 +9,10 @@ use Rattle.ffi3_run_rules.specs.Meaning.{Program, End, stack_size}
 use Rattle.ffi3_run_rules.specs.Trace.{TraceItem}
 use Rattle.ffi3_run_rules.specs.Journal.{Entered, stack_top}
 use Rattle.ffi3_run_rules.specs.Lines.{OpenCall, Point, Tracing}
-use Rattle.ffi3_turn_rules.specs.Left.{Left, before, Suspended, Bottom, as_main, served, Path, rest, awaited}
+use Rattle.ffi3_turn_rules.specs.Remainder.{Remainder, before, Suspended, Bottom, as_main, served, Path, rest, awaited}
 use Rattle.ffi3_turn_rules.specs.Depth.{depth_at, depth_of, IsNested}
 use Rattle.ffi3_turn_rules.specs.Open.{unreturned, open_calls, AnswersTo}
-use Rattle.ffi3_turn_rules.specs.Cut.{past_all, WasCut}
+use Rattle.ffi3_turn_rules.specs.Interrupted.{past_all, TraceWasInterrupted}
 
 -- what a run begins with: the top of its stack and the bytes left below it, what reserved registers hold, the number of events before it, and the entries of the calls that are open
 pub record Base : Type 0 where
@@ -49,7 +49,7 @@ pub record Position : Type 0 where
   pub closures : Closures
   pub moves : ℕ
 
-abbrev pub left_at_position : Program → Base → Position → Left
+abbrev pub left_at_position : Program → Base → Position → Remainder
 left_at_position p b x = rest p b.bottom x.path x.closures x.moves
 
 -- the open calls, with these activations suspended after these events
@@ -62,7 +62,7 @@ abbrev pub Answer : Program → Base → List TraceItem → List Event → List 
 Answer p b trace events left_open = AnswersTo b.standard b.top b.held p.signatures b.count (open_at p b [] []) trace events left_open
 
 -- THE RUN HAS COME TO A POINT: of all that was left this trace is done, these events answer to it, and the path's calls are open, with the entries of the inner ones before those of the beginning.
-pub record HasComeTo (p : Program) (b : Base) (all : Left) (own : List TraceItem) (events : List Event) (x : Position) : Type 0 where
+pub record HasComeTo (p : Program) (b : Base) (all : Remainder) (own : List TraceItem) (events : List Event) (x : Position) : Type 0 where
   pub follows : all ≡ before own (left_at_position p b x)
   pub answers : Answer p b own events (open_at p b x.path.suspended events)
   pub inner : List Event
@@ -72,13 +72,13 @@ pub record HasComeTo (p : Program) (b : Base) (all : Left) (own : List TraceItem
   pub nested : IsNested p b.room x.path.innermost x.path.suspended
 
 -- THE RUN IS OVER: all that was left is done.
-pub record IsOver (p : Program) (b : Base) (all : Left) (end : End) (closures : Closures) (moves : ℕ) (events : List Event) : Type 0 where
+pub record IsOver (p : Program) (b : Base) (all : Remainder) (end : End) (closures : Closures) (moves : ℕ) (events : List Event) : Type 0 where
   pub end_is : all.end ≡ end
   pub closures_are : all.closures ≡ closures
   pub moves_are : all.moves ≡ moves
   pub left_open : List Entered
   pub answers : Answer p b all.trace events left_open
 
--- THE RUN WAS CUT OFF since it began: of all that was left this happened, these bytes are written, and these events are recorded.
-abbrev pub IsCutOff : Tracing → Program → Base → (in_line : Bool) → Left → (happened : List TraceItem) → (written : List ℕ) → List Event → Type 0
-IsCutOff tracing p b in_line all happened written events = WasCut b.standard b.top b.held tracing p.signatures (text_start p b) b.count (open_at p b [] []) in_line all.trace happened written events
+-- THE RUN WAS INTERRUPTED since it began: of all that was left this happened, these bytes are written, and these events are recorded.
+abbrev pub IsInterrupted : Tracing → Program → Base → (in_line : Bool) → Remainder → (happened : List TraceItem) → (written : List ℕ) → List Event → Type 0
+IsInterrupted tracing p b in_line all happened written events = TraceWasInterrupted b.standard b.top b.held tracing p.signatures (text_start p b) b.count (open_at p b [] []) in_line all.trace happened written events

@@ -4,7 +4,7 @@ use Rattle.ffi3_type_rules.specs.Value.{ValueTree, void_value}
 use Rattle.ffi3_run_rules.specs.Closures.{Closures}
 use Rattle.ffi3_run_rules.specs.Meaning.{Program, Activation, Effect, ends, stops, prints, goes_on, enters, End, returned, stopped, with_result, effect_of, next_move}
 use Rattle.ffi3_run_rules.specs.Trace.{TraceItem, Enter, Line, Leave, StopLine}
-use Rattle.ffi3_turn_rules.specs.Left.{Left, before, only, Suspended, Bottom, as_main, served, Path, rest, inside}
+use Rattle.ffi3_turn_rules.specs.Remainder.{Remainder, before, only, Suspended, Bottom, as_main, served, Path, rest, inside}
 
 -- the run stands at a path, or it is over
 pub data Step : Type 0 where
@@ -39,6 +39,6 @@ step p bottom path closures =
     step_of bottom path.innermost path.suspended closures (effect_of p path.innermost closures (next_move p path.innermost))
 
 -- what was left before the step, by what is left after it
-abbrev pub left_before : Program → Bottom → ℕ → Step → Left
+abbrev pub left_before : Program → Bottom → ℕ → Step → Remainder
 left_before p bottom moves (on own path closures) = before own (rest p bottom path closures moves)
 left_before p bottom moves (over own end closures) = only own end closures moves

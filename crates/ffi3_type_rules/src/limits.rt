@@ -4,12 +4,17 @@
 pub const MOST_ARGUMENTS: u64 = 64;
 /// The size of the largest struct in bytes.
 pub const LARGEST_STRUCT: u64 = 1_024;
+/// The most bytes of stack that a call's arguments take, each with the end of its last doubleword:
+/// `MOST_ARGUMENTS` times `LARGEST_STRUCT + 8`.
+pub const ARGUMENT_BYTES: u64 = 66_048;
 /// How deep structs stand in one another at most.
 pub const DEEPEST_NESTING: u64 = 16;
 /// The bytes of the longest script.
 pub const LONGEST_SCRIPT: u64 = 1_048_576;
 /// The most moves of a run.
 pub const MOST_MOVES: u64 = 10_000;
+/// The most calls of a made script, which `bench` runs.
+pub const MOST_CALLS: u64 = 1_000;
 
 /// The most closures that are live together, each in a slot of its own.
 pub const SLOTS: u64 = 256;

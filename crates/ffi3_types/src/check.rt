@@ -1,5 +1,6 @@
 // The first fault of a type.
 ghost use Rattle.std.specs.Prelude.{◌≡◌, ◌<◌, ◌≤◌, ◌+◌, ℕ, length, OnOk, IfErr, Bool, false};
+ghost use Rattle.ffi3_type_rules.specs.declared.limits.TheConstants.{DEEPEST_NESTING};
 ghost use Rattle.ffi3_type_rules.specs.Tree.{struct_of, tree_at};
 ghost use Rattle.ffi3_type_rules.specs.Fault.{HasNoFault, IsFirstFault};
 ghost use Rattle.ffi3_types.specs.TreeOf.{tree_of};
@@ -7,6 +8,7 @@ ghost use Rattle.ffi3_types.specs.FaultOf.{path_of, fault_of};
 ghost use Rattle.ffi3_types.specs.FirstElement.{NoElementHasFault, IsFirstInElements};
 
 use crate::{FfiType, Fields, Path, TypeFault};
+use ffi3_type_rules::limits::{DEEPEST_NESTING, LARGEST_STRUCT};
 
 /// Whether the type can be an argument or, `as_result`, a result; otherwise its first fault,
 /// going through the tree from the front: a node's own fault comes before those of its
@@ -21,11 +23,11 @@ pub fn check_type(ty: &FfiType, as_result: bool) -> Result<(), TypeFault>
 
 #[cycle(check)]
 fn check_node(ty: &FfiType, outer: u32, as_result: bool) -> Result<(), TypeFault>
-    requires { outer ≤ 16 }
+    requires { outer ≤ DEEPEST_NESTING }
     ensures ok { OnOk result (HasNoFault outer as_result (tree_of ty.now)) }
     ensures err { IfErr result
         (λ e. IsFirstFault outer as_result (tree_of ty.now) (path_of e) (fault_of e)) }
-    ensures room { IfErr result (λ e. outer + length (path_of e) ≤ 16) }
+    ensures room { IfErr result (λ e. outer + length (path_of e) ≤ DEEPEST_NESTING) }
 {
     match ty {
         FfiType::Void => {
@@ -48,7 +50,7 @@ fn check_node(ty: &FfiType, outer: u32, as_result: bool) -> Result<(), TypeFault
             kind: FfiType::Vector,
         }),
         FfiType::Struct(fields) => {
-            if outer >= 16 {
+            if outer as u64 >= DEEPEST_NESTING {
                 return Err(TypeFault::TooDeep { path: Path::new() });
             }
             if fields.len() == 0 {
@@ -58,7 +60,7 @@ fn check_node(ty: &FfiType, outer: u32, as_result: bool) -> Result<(), TypeFault
                 return Err(fault);
             }
             let size = fields.extent().size;
-            if size > 1024 {
+            if size > LARGEST_STRUCT {
                 Err(TypeFault::TooLarge {
                     path: Path::new(),
                     size,
@@ -84,11 +86,11 @@ fn check_node(ty: &FfiType, outer: u32, as_result: bool) -> Result<(), TypeFault
 #[cycle(check)]
 fn check_elements(fields: &Fields, outer: u32) -> Result<(), TypeFault>
     requires inside { 0 < outer }
-    requires shallow { outer ≤ 16 }
+    requires shallow { outer ≤ DEEPEST_NESTING }
     ensures ok { OnOk result (NoElementHasFault outer fields.now (length fields.now)) }
     ensures err { IfErr result
         (λ e. IsFirstInElements outer fields.now (path_of e) (fault_of e)) }
-    ensures room { IfErr result (λ e. outer + length (path_of e) ≤ 17) }
+    ensures room { IfErr result (λ e. outer + length (path_of e) ≤ DEEPEST_NESTING + 1) }
 {
     for i in 0..fields.len() {
         if let Err(fault) = check_node(fields.get(i), outer, false) {

@@ -1,5 +1,6 @@
 // Size, alignment and the elements' offsets.
 ghost use Rattle.std.specs.Prelude.{◌≡◌, ◌+◌, ◌<◌, ◌≤◌, All, length, true};
+ghost use Rattle.ffi3_type_rules.specs.declared.limits.TheConstants.{LARGEST_STRUCT};
 ghost use Rattle.ffi3_type_rules.specs.Tree.{struct_of, tree_at, trees_of, elements_of};
 ghost use Rattle.ffi3_type_rules.specs.Layout.{size_of, align_of, offset_of, layouts, end_before, align_before};
 ghost use Rattle.ffi3_type_rules.specs.Fault.{IsResultType};
@@ -47,7 +48,7 @@ impl FfiType {
 
     #[cycle(extent)]
     pub(crate) fn extent(&self) -> Extent
-        requires { size_of (tree_of self.now) ≤ 1024 }
+        requires { size_of (tree_of self.now) ≤ LARGEST_STRUCT }
         ensures size { result.size ≡ size_of (tree_of self.now) }
         ensures align { result.align ≡ align_of (tree_of self.now) }
     {
@@ -79,7 +80,7 @@ impl Fields {
 
     #[cycle(extent)]
     pub(crate) fn extent(&self) -> Extent
-        requires { All (λ t. size_of t ≤ 1024) self.now }
+        requires { All (λ t. size_of t ≤ LARGEST_STRUCT) self.now }
         ensures size { result.size ≡ size_of (struct_of self.now) }
         ensures align { result.align ≡ align_of (struct_of self.now) }
     {
@@ -93,7 +94,7 @@ impl Fields {
     /// Where the first `n` elements end, without padding after them, and their alignment.
     #[cycle(extent)]
     fn front(&self, n: usize) -> Extent
-        requires small { All (λ t. size_of t ≤ 1024) self.now }
+        requires small { All (λ t. size_of t ≤ LARGEST_STRUCT) self.now }
         requires in_range { n ≤ length self.now }
         ensures end { result.size ≡ end_before (layouts (trees_of self.now)) n }
         ensures align { result.align ≡ align_before (layouts (trees_of self.now)) n }

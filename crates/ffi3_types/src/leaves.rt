@@ -1,5 +1,6 @@
 // The scalars of a type.
 ghost use Rattle.std.specs.Prelude.{◌≡◌, ◌<◌, ◌≤◌, All, length, true};
+ghost use Rattle.ffi3_type_rules.specs.declared.limits.TheConstants.{LARGEST_STRUCT};
 ghost use Rattle.ffi3_type_rules.specs.Tree.{struct_of, scalar};
 ghost use Rattle.ffi3_type_rules.specs.Layout.{size_of, leaves_of, leaf_at};
 ghost use Rattle.ffi3_type_rules.specs.Fault.{IsResultType};
@@ -35,7 +36,7 @@ impl FfiType {
 
     #[cycle(count_leaves)]
     fn count_leaves(&self) -> u32
-        requires { size_of (tree_of self.now) ≤ 1024 }
+        requires { size_of (tree_of self.now) ≤ LARGEST_STRUCT }
         ensures { result ≡ length (leaves_of (tree_of self.now)) }
     {
         match self {
@@ -57,7 +58,7 @@ impl FfiType {
 
     #[cycle(find_leaf)]
     fn find_leaf(&self, i: u32) -> Leaf
-        requires small { size_of (tree_of self.now) ≤ 1024 }
+        requires small { size_of (tree_of self.now) ≤ LARGEST_STRUCT }
         requires in_range { i < length (leaves_of (tree_of self.now)) }
         ensures at { result.at ≡ (leaf_at (tree_of self.now) i).at }
         ensures kind { tree_of result.kind ≡ scalar (leaf_at (tree_of self.now) i).kind }
@@ -89,7 +90,7 @@ impl FfiType {
 impl Fields {
     #[cycle(count_leaves)]
     fn count_leaves(&self) -> u32
-        requires { size_of (struct_of self.now) ≤ 1024 }
+        requires { size_of (struct_of self.now) ≤ LARGEST_STRUCT }
         ensures { result ≡ length (leaves_of (struct_of self.now)) }
     {
         let mut total = 0;
@@ -101,7 +102,7 @@ impl Fields {
 
     #[cycle(find_leaf)]
     fn find_leaf(&self, i: u32) -> Leaf
-        requires small { size_of (struct_of self.now) ≤ 1024 }
+        requires small { size_of (struct_of self.now) ≤ LARGEST_STRUCT }
         requires in_range { i < length (leaves_of (struct_of self.now)) }
         ensures at { result.at ≡ (leaf_at (struct_of self.now) i).at }
         ensures kind { tree_of result.kind ≡ scalar (leaf_at (struct_of self.now) i).kind }

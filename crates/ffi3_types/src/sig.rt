@@ -6,6 +6,7 @@ ghost use Rattle.ffi3_types.specs.TreeOf.{tree_of};
 ghost use Rattle.ffi3_types.specs.SignatureFaultOf.{signature_fault_of};
 
 use crate::{FfiType, Fields, NoMemory, TypeFault, check_type, same_fields, same_type};
+use ffi3_type_rules::limits::MOST_ARGUMENTS;
 use std::alloc::Global;
 use std::marker::Model;
 use thiserror::Error;
@@ -149,7 +150,7 @@ pub fn check_sig(sig: &Sig) -> Result<(), SigFault>
     ensures err { IfErr result (λ e. IsFirstSignatureFault sig.now (signature_fault_of e)) }
 {
     let n = sig.count();
-    if n > 64 {
+    if n as u64 > MOST_ARGUMENTS {
         return Err(SigFault::TooMany { n });
     }
     if let Err(fault) = check_type(sig.ret(), true) {

@@ -1,5 +1,5 @@
 -- Numbers as their decimal digits, with no sign and no leading zero.
-use Rattle.std.proofs.Common.{◌≡◌, ◌≢◌, ◌∙◌, ◌&&◌, ◌==◌, ◌<◌, ◌≤◌, ◌^◌, ℕ, Bool, true, false, cond, List, [], ◌∷◌, Option, Some, None, nat_lt, decimal, get_or, arith, refl, sym, ap, ap₂, subst, lt-ltb, ltb-true, ne_eqb, true≢false}
+use Rattle.std.proofs.Common.{◌≡◌, ◌≢◌, ◌∙◌, ◌&&◌, ◌==◌, ◌<◌, ◌^◌, ℕ, Bool, true, false, cond, [], ◌∷◌, Option, Some, None, nat_lt, decimal, get_or, arith, refl, sym, ap, subst, lt-ltb, ltb-true, ne_eqb, true≢false}
 use Rattle.std.specs.Option.{option_and_then}
 use Rattle.std.specs.Str.{bytes_eq}
 use Rattle.std.specs.Str.Parse.{AllDigits, IsNumeral, digits_value, without_leading_plus}

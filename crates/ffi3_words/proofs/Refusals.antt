@@ -1,5 +1,5 @@
 -- Words that are refused are not taken.
-use Rattle.std.proofs.Common.{◌≡◌, ◌∙◌, List, codes, Option, Some, None, inl, inr, sym, subst}
+use Rattle.std.proofs.Common.{◌≡◌, ◌∙◌, List, Option, Some, None, inl, inr, sym, subst}
 use Rattle.clap.specs.Words.{Row, Text, subcommand_of}
 use Rattle.ffi3_words.specs.declared.words.Request.{Request}
 use Rattle.ffi3_words.specs.WordCommands.{Addresses, LacksNumbers, asked, program}

@@ -1,5 +1,5 @@
 -- Stated words are taken, and read as what they state.
-use Rattle.std.proofs.Common.{◌≡◌, ◌∙◌, ◌<◌, ◌≤◌, ◌^◌, ℕ, decimal, arith, true, false, List, [], ◌∷◌, codes, Some, inl, inr, refl, sym, ap, subst}
+use Rattle.std.proofs.Common.{◌≡◌, true, false, List, [], ◌∷◌, codes, Some, inl, inr, refl, sym, subst}
 use Rattle.clap.specs.Words.{Text, fault_of, subcommand_of}
 use Rattle.clap.proofs.OnLiterals.{clap_on_literals}
 use Rattle.ffi3_type_rules.specs.declared.Target.{Target}

@@ -8,6 +8,7 @@ use Rattle.clap.specs.Words.{App, Row, Rule, Shape, Text, first_of, new_app, new
 use Rattle.clap.specs.declared.builder.action.ArgAction.TheVariants.{SetTrue}
 use Rattle.clap.specs.declared.builder.value_parser.ValueParser.{ValueParser}
 use Rattle.clap.specs.declared.builder.value_parser.ValueParser.TheVariants as vp
+use Rattle.ffi3_type_rules.specs.declared.limits.TheConstants.{MOST_CALLS}
 use Rattle.ffi3_type_rules.specs.declared.Target.{Target}
 use Rattle.ffi3_type_rules.specs.declared.Target.TheVariants.{Amd64, Aapcs64, Riscv}
 use Rattle.ffi3_words.specs.declared.words.Request.{Request}
@@ -113,7 +114,7 @@ number_of word =
 
 abbrev pub with_calls : ℕ → ℕ → Option Request
 with_calls seed calls =
-    cond (nat_le 1 calls && nat_le calls 1000) (Some (Bench seed calls)) None
+    cond (nat_le 1 calls && nat_le calls MOST_CALLS) (Some (Bench seed calls)) None
 
 -- what `bench` asks for: a seed of 32 bits, and 1 to 1000 calls
 abbrev pub bench_of : Option Text → Option Text → Option Request

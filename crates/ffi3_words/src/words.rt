@@ -8,6 +8,7 @@ use crate::command::program;
 use crate::help;
 use clap::error::ErrorKind;
 use clap::{ArgMatches, Error};
+use ffi3_type_rules::limits::MOST_CALLS;
 use ffi3_types::Target;
 use itoa::Buffer;
 use std::alloc::Global;
@@ -106,7 +107,7 @@ fn bench_of(seed: Option<&str>, calls: Option<&str>) -> Option<Request>
 {
     let seed = number_of(seed?)?;
     let calls = number_of(calls?)?;
-    if 1 <= calls && calls <= 1000 {
+    if 1 <= calls && calls as u64 <= MOST_CALLS {
         return Some(Request::Bench { seed, calls });
     }
     None

@@ -1,8 +1,7 @@
-use Rattle.std.proofs.Common.{refl, inl, map}
+use Rattle.std.proofs.Common.{refl, inl}
 use Rattle.ffi3_script.specs.ScriptOf.{script_of}
 use Rattle.ffi3_script_rules.specs.Reading.{script}
-use Rattle.ffi3_script_rules.specs.Natives.{NamedNative}
-use Rattle.ffi3_ask.specs.Handed.{handed_in}
+use Rattle.ffi3_ask.specs.Handed.{handed}
 use Rattle.ffi3_app.specs.Top.{bad_words, no_memory_for_words, write_failed, no_memory, done, failed}
 use Rattle.ffi3_words.specs.declared.words.Request.TheVariants.{Bench}
 use Rattle.ffi3_app.proofs.Saying.{began, says_of_bench, taken_as, nothing_read, read_beside, refused_beside, is_refused, says_refusal, no_fault_counted, fault_counted, refused_not_two, told_not_two, work_not_two, five_not_two, four_not_two}
@@ -26,7 +25,7 @@ returns-in_default-names_of_natives-clause-says g c =
 
 pub returns-in-Err-clause-says : goal.returns-in-Err-clause-says
 returns-in-Err-clause-says g c =
-    says_refusal _ (map {B = NamedNative} (λ b. handed_in ((goal.Native-dyn g (b.vtable, b.value)).Native.title b.value) ((goal.Native-dyn g (b.vtable, b.value)).Body.meaning b.value) ((goal.Native-dyn g (b.vtable, b.value)).Body.signatures b.value)) c.args.natives.now.items) _ _ _ _ _ _ c.in-Ok.request (c.in-Ok.ensures.takes, c.in_default.ensures) refl refl _ _ c.tell_refusal.result c.in-Err.refusal (refused_beside _ _ _ _ _ c.in-Ok-names_of_natives.ensures c.in-Err.ensures.refused) c.tell_refusal.ensures
+    says_refusal _ (handed _ _ _ c.args.natives.now.items) _ _ _ _ _ _ c.in-Ok.request (c.in-Ok.ensures.takes, c.in_default.ensures) refl refl _ _ c.tell_refusal.result c.in-Err.refusal (refused_beside _ _ _ _ _ c.in-Ok-names_of_natives.ensures c.in-Err.ensures.refused) c.tell_refusal.ensures
 
 pub returns-in-Err-clause-knows_words : goal.returns-in-Err-clause-knows_words
 returns-in-Err-clause-knows_words g c r stated =
@@ -38,7 +37,7 @@ returns-in-Ok-work-clause-says g c =
 
 pub returns-in-Ok-work-clause-knows_words : goal.returns-in-Ok-work-clause-knows_words
 returns-in-Ok-work-clause-knows_words g c r stated =
-    work_not_two c.in-Ok.request (map {B = NamedNative} (λ b. handed_in ((goal.Native-dyn g (b.vtable, b.value)).Native.title b.value) ((goal.Native-dyn g (b.vtable, b.value)).Body.meaning b.value) ((goal.Native-dyn g (b.vtable, b.value)).Body.signatures b.value)) c.args.natives.now.items) (script_of c.in-Ok-load.script) _ _ _ _ c.in-Ok-work.status c.in-Ok-work.ensures.done
+    work_not_two c.in-Ok.request (handed _ _ _ c.args.natives.now.items) (script_of c.in-Ok-load.script) _ _ _ _ c.in-Ok-work.status c.in-Ok-work.ensures.done
 
 pub returns-in-Err-NoMemory-work-clause-says : goal.returns-in-Err-NoMemory-work-clause-says
 returns-in-Err-NoMemory-work-clause-says g c =

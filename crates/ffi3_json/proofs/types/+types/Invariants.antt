@@ -7,8 +7,8 @@ use Rattle.ffi3_json.proofs.types.+types.Given as goal
 abbrev pub decreases-read_list : goal.decreases-read_list
 decreases-read_list l = 2 * depth (view l.value.now)
 
-abbrev pub decreases-read_node : goal.decreases-read_node
-decreases-read_node l = 2 * depth (view l.value.now) + 1
+abbrev pub decreases-read_type_at : goal.decreases-read_type_at
+decreases-read_type_at l = 2 * depth (view l.value.now) + 1
 
 abbrev pub invariant-read_list-loop-i : goal.invariant-read_list-loop-i
-invariant-read_list-loop-i l = (l.at ≡ l.initial.at) × (length l.types ≡ l.i) × Done l.items.items l.at l.i l.types
+invariant-read_list-loop-i l = (length l.types ≡ l.i) × Done l.items.items l.at l.i l.types

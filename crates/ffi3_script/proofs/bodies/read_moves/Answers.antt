@@ -1,4 +1,4 @@
-use Rattle.std.proofs.Common.{◌≡◌, [], length, string_bytes, option_map, ap, ◌∙◌, arith}
+use Rattle.std.proofs.Common.{◌≡◌, [], length, string_bytes, option_map, sym, ap, ◌∙◌, arith}
 use Rattle.std.proofs.lemmas.List.{length_push}
 use Rattle.serde_json.specs.View.{view, items_view}
 use Rattle.ffi3_script_rules.specs.Language.{read, at_item}
@@ -6,7 +6,6 @@ use Rattle.ffi3_script_rules.specs.Bodies.{read_move, read_moves, type_of_act}
 use Rattle.ffi3_json.proofs.Items.{short-at}
 use Rattle.ffi3_script_body.specs.ExprOf.{act_of, script_move_of}
 use Rattle.ffi3_script.specs.ScopeOf.{given_of, surroundings_in}
-use Rattle.ffi3_script.proofs.Steps.{back_from_item, at_same}
 use Rattle.ffi3_script.proofs.BodyParts.{moves-turn}
 use Rattle.ffi3_script.proofs.bodies.read_moves.Goals as goal
 
@@ -19,15 +18,12 @@ loop-i-preserved c =
     let vs = c.args.items.now.items in
     let i = c.loop-i.i in
     let x = c.index.result.now in
-    let one = c.in-Ok.one in
+    let one = c.in_ok-one.one in
     let before = c.loop-i.invariant in
     let named = c.in_ok-push_move.ensures.named in
     let typed = c.in_ok-push_move.ensures.typed in
-    let pushed : c.push_number.new.self ≡ at_item c.args.at.now i = c.in_ok-push_number.ensures ∙ ap (λ p. at_item p i) before.place in
-    let was : read_move s (given_of c.loop-i.names c.loop-i.types) (view x) (at_item c.args.at.now i) ≡ read (script_move_of one) =
-    at_same (λ p. read_move s (given_of c.loop-i.names c.loop-i.types) (view x) p) (at_item c.args.at.now i) c.push_number.new.self pushed (read (script_move_of one)) c.in-Ok.ensures.ok in
+    let was : read_move s (given_of c.loop-i.names c.loop-i.types) (view x) (at_item c.args.at.now i) ≡ read (script_move_of one) = ap (read_move s (given_of c.loop-i.names c.loop-i.types) (view x)) (sym c.item.ensures) ∙ c.in_ok-one.ensures.ok in
     record {
-      place = back_from_item c.args.at.now i c.push_number.new.self c.read_next.new.at c.pop.new.self pushed c.in-Ok.ensures.place c.pop.ensures;
       even = omega (arith, ap length named, ap length typed, length_push c.loop-i.names (option_map string_bytes one.name), length_push c.loop-i.types (type_of_act c.args.globals.now.sigs.now (act_of one.act)), before.even);
       count = omega (arith, ap length typed, length_push c.loop-i.types (type_of_act c.args.globals.now.sigs.now (act_of one.act)), before.count);
       so_far = moves-turn s c.loop-i.names c.push_move.new.names c.loop-i.types c.push_move.new.types vs c.args.at.now i x (read_moves s [] (items_view vs) c.args.at.now 0) c.loop-i.moves.items c.push_move.new.moves.items one

@@ -8,8 +8,7 @@ use Rattle.ffi3_script.proofs.bodies.read_moves.Given as goal
 
 abbrev pub invariant-loop-i : goal.invariant-loop-i
 invariant-loop-i l = record {
-  place : l.at ≡ l.initial.at;
   even : length l.names ≡ length l.types;
   count : length l.types ≡ l.i;
-  so_far : read_moves (surroundings_in l.globals l.own) [] (items_view l.items.items) l.initial.at 0 ≡ before (script_moves_of l.moves.items) (read_moves (surroundings_in l.globals l.own) (given_of l.names l.types) (items_view (drop l.i l.items.items)) l.initial.at l.i);
+  so_far : read_moves (surroundings_in l.globals l.own) [] (items_view l.items.items) l.at 0 ≡ before (script_moves_of l.moves.items) (read_moves (surroundings_in l.globals l.own) (given_of l.names l.types) (items_view (drop l.i l.items.items)) l.at l.i);
 }

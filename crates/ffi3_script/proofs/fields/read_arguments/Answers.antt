@@ -2,35 +2,52 @@ use Rattle.std.proofs.Common.{◌≡◌, length, codes, sym, ap, ◌∙◌}
 use Rattle.serde_json.specs.View.{view, items_view}
 use Rattle.ffi3_script_rules.specs.Language.{under, value_under, wrong_count}
 use Rattle.ffi3_script_rules.specs.Values.{read_values}
-use Rattle.ffi3_script_rules.specs.Bodies.{read_arguments}
+use Rattle.ffi3_script_rules.specs.Bodies.{read_arguments, items_at}
+use Rattle.ffi3_json.proofs.Tellings.{tells_made, tells_part, part_handed_on}
 use Rattle.ffi3_script.specs.ScopeOf.{scope_of}
-use Rattle.ffi3_script.proofs.Steps.{tells_here, tells_there}
-use Rattle.ffi3_script.proofs.Arguments.{arguments-miscounted, arguments-counted, short-items}
+use Rattle.ffi3_script.proofs.ReadValues.{ok_by, err_by}
+use Rattle.ffi3_script.proofs.Arguments.{arguments-refused, arguments-miscounted, arguments-counted}
 use Rattle.ffi3_script.proofs.fields.read_arguments.Goals as goal
+
+pub returns-in_err-items-clause-err : goal.returns-in_err-items-clause-err
+returns-in_err-items-clause-err c =
+    let path = c.key-place.result in
+    let d = value_under (codes "args") (view c.args.value.now) in
+    let scope = scope_of c.args.scope.now in
+    part_handed_on (read_arguments scope c.args.types.now d (under c.args.at.now (codes "args"))) (items_at d path)
+    (λ p r e. ap (read_arguments scope c.args.types.now d) (sym c.key-place.ensures) ∙ arguments-refused scope c.args.types.now d path p r e)
+    c.from_residual.result c.in_err-items.field-0.0 c.from_residual.ensures.1 c.in_err-items.ensures.err
 
 pub returns-then-len-clause-err : goal.returns-then-len-clause-err
 returns-then-len-clause-err c =
-    let path = under c.args.at.now (codes "args") in
-    let vs = c.in-Some-as_array.items.now in
-    let differ : length vs.items ≡ length c.args.types.now → ⊥ = λ e. c.if-len.true (c.len.ensures ∙ vs.ok.0 ∙ e ∙ sym c.len-2.ensures.count) in
-    tells_here (read_arguments (scope_of c.args.scope.now) c.args.types.now (value_under (codes "args") (view c.args.value.now)) path) path c.push_key.new.self wrong_count c.in_ok-push_key.ensures
-    (arguments-miscounted (scope_of c.args.scope.now) c.args.types.now (view c.args.value.now) (view c.in-Some.args.now) vs.items path c.in-Some.ensures c.in-Some-as_array.ensures differ) c.bad-then-len.result c.bad-then-len.ensures
+    let path = c.key-place.result in
+    let vs = c.in_ok-items.items.now in
+    let d = value_under (codes "args") (view c.args.value.now) in
+    let scope = scope_of c.args.scope.now in
+    let ts = c.args.types.now in
+    let differ : length vs.items ≡ length ts → ⊥ = λ e. c.if-len.true (c.len.ensures ∙ vs.ok.0 ∙ e ∙ sym c.len-2.ensures.count) in
+    tells_made (read_arguments scope ts d (under c.args.at.now (codes "args"))) path wrong_count
+    (ap (read_arguments scope ts d) (sym c.key-place.ensures) ∙ arguments-miscounted scope ts d path vs.items c.in_ok-items.ensures.ok differ) c.bad.result c.bad.ensures
 
-pub read_values-requires-clause-short : goal.read_values-requires-clause-short
-read_values-requires-clause-short c = (short-items (codes "args") (view c.args.value.now) (view c.in-Some.args.now) (items_view c.in-Some-as_array.items.now.items) c.in-Some.ensures c.in-Some-as_array.ensures c.requires.short).1
-
-pub returns-in-Err-clause-err : goal.returns-in-Err-clause-err
-returns-in-Err-clause-err c =
-    let path = under c.args.at.now (codes "args") in
-    let vs = c.in-Some-as_array.items.now in
-    let same : length vs.items ≡ length c.args.types.now = sym vs.ok.0 ∙ sym c.len.ensures ∙ c.if-len.false ∙ c.len-2.ensures.count in
-    tells_there (read_arguments (scope_of c.args.scope.now) c.args.types.now (value_under (codes "args") (view c.args.value.now)) path) (λ q. read_values (scope_of c.args.scope.now) c.args.types.now (items_view vs.items) q 0) path c.push_key.new.self c.in_ok-push_key.ensures
-    (λ p r e. arguments-counted (scope_of c.args.scope.now) c.args.types.now (view c.args.value.now) (view c.in-Some.args.now) vs.items path c.in-Some.ensures c.in-Some-as_array.ensures same ∙ e) c.in-Err.fault c.in-Err.ensures.err
+pub returns-clause-err : goal.returns-clause-err
+returns-clause-err c =
+    let path = c.key-place.result in
+    let vs = c.in_ok-items.items.now in
+    let d = value_under (codes "args") (view c.args.value.now) in
+    let scope = scope_of c.args.scope.now in
+    let ts = c.args.types.now in
+    let same : length vs.items ≡ length ts = sym vs.ok.0 ∙ sym c.len.ensures ∙ c.if-len.false ∙ c.len-2.ensures.count in
+    err_by (λ f told. tells_part (read_arguments scope ts d (under c.args.at.now (codes "args"))) (read_values scope ts (items_view vs.items) path 0)
+    (λ p r is. ap (read_arguments scope ts d) (sym c.key-place.ensures) ∙ arguments-counted scope ts d path vs.items c.in_ok-items.ensures.ok same ∙ is) f told)
+    c.read_values.result c.read_values.ensures.err
 
 pub returns-clause-ok : goal.returns-clause-ok
 returns-clause-ok c =
-    let path = under c.args.at.now (codes "args") in
-    let vs = c.in-Some-as_array.items.now in
-    let same : length vs.items ≡ length c.args.types.now = sym vs.ok.0 ∙ sym c.len.ensures ∙ c.if-len.false ∙ c.len-2.ensures.count in
-    arguments-counted (scope_of c.args.scope.now) c.args.types.now (view c.args.value.now) (view c.in-Some.args.now) vs.items path c.in-Some.ensures c.in-Some-as_array.ensures same
-    ∙ ap (λ q. read_values (scope_of c.args.scope.now) c.args.types.now (items_view vs.items) q 0) (sym c.in_ok-push_key.ensures) ∙ c.in-Ok.ensures.ok
+    let path = c.key-place.result in
+    let vs = c.in_ok-items.items.now in
+    let d = value_under (codes "args") (view c.args.value.now) in
+    let scope = scope_of c.args.scope.now in
+    let ts = c.args.types.now in
+    let same : length vs.items ≡ length ts = sym vs.ok.0 ∙ sym c.len.ensures ∙ c.if-len.false ∙ c.len-2.ensures.count in
+    ok_by (λ es is. ap (read_arguments scope ts d) (sym c.key-place.ensures) ∙ arguments-counted scope ts d path vs.items c.in_ok-items.ensures.ok same ∙ is)
+    c.read_values.result c.read_values.ensures.ok

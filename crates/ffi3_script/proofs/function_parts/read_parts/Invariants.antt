@@ -6,7 +6,4 @@ use Rattle.ffi3_script.proofs.Loops.{before}
 use Rattle.ffi3_script.proofs.function_parts.read_parts.Given as goal
 
 abbrev pub invariant-loop-i : goal.invariant-loop-i
-invariant-loop-i l = record {
-  place : l.at ≡ l.initial.at;
-  so_far : read_bodies l.globals.sigs.now l.globals.functions.now (headings_of l.headings.items) (items_view l.items.items) l.initial.at 0 ≡ before (map part_of l.parts.items) (read_bodies l.globals.sigs.now l.globals.functions.now (headings_of (drop l.i l.headings.items)) (items_view (drop l.i l.items.items)) l.initial.at l.i);
-}
+invariant-loop-i l = read_bodies l.globals.sigs.now l.globals.functions.now (headings_of l.headings.items) (items_view l.items.items) l.at 0 ≡ before (map part_of l.parts.items) (read_bodies l.globals.sigs.now l.globals.functions.now (headings_of (drop l.i l.headings.items)) (items_view (drop l.i l.items.items)) l.at l.i)

@@ -7,9 +7,8 @@ use Rattle.ffi3_script.proofs.headings.read_headings.Given as goal
 
 abbrev pub invariant-loop-i : goal.invariant-loop-i
 invariant-loop-i l = record {
-  place : l.at ≡ l.initial.at;
   count : length l.list.items ≡ l.i;
   within : All (λ h. h.sig < length l.sigs) l.list.items;
   named : l.names ≡ names_of (headings_of l.list.items);
-  so_far : read_headings (length l.sigs) [] (items_view l.items.items) l.initial.at 0 ≡ before (headings_of l.list.items) (read_headings (length l.sigs) l.names (items_view (drop l.i l.items.items)) l.initial.at l.i);
+  so_far : read_headings (length l.sigs) [] (items_view l.items.items) l.at 0 ≡ before (headings_of l.list.items) (read_headings (length l.sigs) l.names (items_view (drop l.i l.items.items)) l.at l.i);
 }

@@ -5,66 +5,52 @@ use Rattle.serde_json.specs.Find.{as_number, as_u64}
 use Rattle.serde_json.specs.View.{view, number_view, items_view}
 use Rattle.serde_json.proofs.Views.{items_len-items_view}
 use Rattle.ffi3_types.specs.TreeOf.{tree_of}
-use Rattle.ffi3_script_rules.specs.Step.{key, number}
 use Rattle.ffi3_script_rules.specs.Language.{read, fault, at_item, under, wrong_type, wrong_count}
 use Rattle.ffi3_script_rules.specs.Values.{read_number, read_value, read_values, read_typed, read_field, read_of, read_right_type, element_of, typed, typed_form, form_named}
 use Rattle.ffi3_json.proofs.Items.{depth-at, short-at}
-use Rattle.ffi3_json.proofs.Paths.{there_and_back}
-use Rattle.ffi3_json.proofs.Tellings.{tells_part, tells_made}
+use Rattle.ffi3_json.proofs.Tellings.{tells_part, tells_made, part_handed_on}
 use Rattle.ffi3_script_body.specs.ExprOf.{expression_of, expressions_in}
 use Rattle.ffi3_script.specs.ScopeOf.{scope_of}
 use Rattle.ffi3_script.specs.Shapes.{typed_form_of, typed_under, value_under_form, read_terms}
 use Rattle.ffi3_script.proofs.ReadValues.{ok_by, err_by, field_first, field_struct, field_wrong, of_second, of_both, two_first, two_second, two_both, terms_are, typed_member, of_number, of_other_count, of_values, of_member, Done, done-more, done-all}
 use Rattle.ffi3_script.proofs.values.+values.Goals as goal
 
-pub read_field-returns-in-Err-clause-err : goal.read_field-returns-in-Err-clause-err
-read_field-returns-in-Err-clause-err t c =
+pub read_field-returns-in_err-ty-clause-err : goal.read_field-returns-in_err-ty-clause-err
+read_field-returns-in_err-ty-clause-err t c =
     let s = scope_of c.args.scope.now in
     let d = view c.args.inside.now in
     let a = view c.in-Some.inner.now in
     let b = view c.in-Some.number.now in
     let path = c.args.at.now in
     let place = under path c.args.name.now in
-    let item : c.push_number.new.self ≡ at_item place 0 = c.in_ok-push_number.ensures ∙ ap (λ p. at_item p 0) c.in_ok-push_key.ensures in
-    tells_part (read_field s d place path) (read_typed s a c.push_number.new.self) (λ p r e. field_first s d a b place path (sym c.in-Some.ensures) p r (ap (read_typed s a) (sym item) ∙ e)) c.in-Err.fault c.in-Err.ensures.err
+    let item : c.item-first.result ≡ at_item place 0 = c.item-first.ensures ∙ ap (λ p. at_item p 0) c.key-place.ensures in
+    part_handed_on (read_field s d place path) (read_typed s a c.item-first.result) (λ p r e. field_first s d a b place path (sym c.in-Some.ensures) p r (ap (read_typed s a) (sym item) ∙ e))
+    c.from_residual.result c.in_err-ty.field-0.0 c.from_residual.ensures.1 c.in_err-ty.ensures.err
 
-pub read_field-returns-in_default-ty : goal.read_field-returns-in_default-ty
-read_field-returns-in_default-ty t c =
+pub read_field-returns-in_default-ty-clause-err : goal.read_field-returns-in_default-ty-clause-err
+read_field-returns-in_default-ty-clause-err t c =
     let s = scope_of c.args.scope.now in
     let d = view c.args.inside.now in
     let a = view c.in-Some.inner.now in
     let b = view c.in-Some.number.now in
     let path = c.args.at.now in
     let place = under path c.args.name.now in
-    let item : c.push_number.new.self ≡ at_item place 0 = c.in_ok-push_number.ensures ∙ ap (λ p. at_item p 0) c.in_ok-push_key.ensures in
-    let here : c.read_typed.new.at ≡ at_item place 0 = c.in-Ok.ensures.place ∙ item in
-    let was = ap (read_typed s a) (sym item) ∙ c.in-Ok.ensures.ok in
-    let wrong = field_wrong s d a b place path (sym c.in-Some.ensures) c.in-Ok.value.ty (expression_of c.in-Ok.value.value) c.in_default-ty.not-Struct was in
-    record {
-      place = tt;
-      ok = tt;
-      err = tells_made (read_field s d place path) c.read_typed.new.at wrong_type (wrong ∙ ap (λ p. fault p wrong_type) (sym here)) c.bad-in_default-ty.result c.bad-in_default-ty.ensures;
-    }
+    let item : c.item-first.result ≡ at_item place 0 = c.item-first.ensures ∙ ap (λ p. at_item p 0) c.key-place.ensures in
+    let own = c.in_ok-ty.field-0 in
+    let wrong = field_wrong s d a b place path (sym c.in-Some.ensures) own.ty (expression_of own.value) c.in_default-ty.not-Struct (ap (read_typed s a) (sym item) ∙ c.in_ok-ty.ensures.ok) in
+    tells_made (read_field s d place path) c.item-first.result wrong_type (wrong ∙ ap (λ p. fault p wrong_type) (sym item)) c.bad-in_default-ty.result c.bad-in_default-ty.ensures
 
--- the place is that of the object again
-field_back : (t : _) (c : goal.read_field-Joined-ty-3 t) → c.pop-2.new.self ≡ c.args.at.now
-field_back t c =
-    let on = c.push_key.new.self in
-    let back : c.pop.new.self ≡ on = there_and_back on (number 0) c.read_typed.new.at c.pop.new.self (c.in-Ok.ensures.place ∙ c.in_ok-push_number.ensures) c.pop.ensures in
-    there_and_back c.args.at.now (key c.args.name.now) c.pop.new.self c.pop-2.new.self (back ∙ c.in_ok-push_key.ensures) c.pop-2.ensures
-
-field_is : (t : _) (c : goal.read_field-Joined-ty-3 t) → read_field (scope_of c.args.scope.now) (view c.args.inside.now) (under c.args.at.now c.args.name.now) c.args.at.now ≡ element_of (expression_of c.in-Ok.value.value) c.in-Struct.fields (option_and_then as_u64 (as_number (view c.in-Some.number.now))) c.pop-2.new.self
+field_is : (t : _) (c : goal.read_field-Joined-ty-3 t) → read_field (scope_of c.args.scope.now) (view c.args.inside.now) (under c.args.at.now c.args.name.now) c.args.at.now ≡ element_of (expression_of c.in_ok-ty.field-0.value) c.in-Struct.fields (option_and_then as_u64 (as_number (view c.in-Some.number.now))) c.args.at.now
 field_is t c =
     let s = scope_of c.args.scope.now in
-    let d = view c.args.inside.now in
     let a = view c.in-Some.inner.now in
     let b = view c.in-Some.number.now in
     let path = c.args.at.now in
     let place = under path c.args.name.now in
-    let e = expression_of c.in-Ok.value.value in
-    let item : c.push_number.new.self ≡ at_item place 0 = c.in_ok-push_number.ensures ∙ ap (λ p. at_item p 0) c.in_ok-push_key.ensures in
-    let was = ap (read_typed s a) (sym item) ∙ c.in-Ok.ensures.ok ∙ ap (λ y. read (typed (tree_of y) e)) c.in-Struct.is in
-    field_struct s d a b place path (sym c.in-Some.ensures) c.in-Struct.fields e was ∙ ap (element_of e c.in-Struct.fields (option_and_then as_u64 (as_number b))) (sym (field_back t c))
+    let e = expression_of c.in_ok-ty.field-0.value in
+    let item : c.item-first.result ≡ at_item place 0 = c.item-first.ensures ∙ ap (λ p. at_item p 0) c.key-place.ensures in
+    let was = ap (read_typed s a) (sym item) ∙ c.in_ok-ty.ensures.ok ∙ ap (λ y. read (typed (tree_of y) e)) c.in-Struct.is in
+    field_struct s (view c.args.inside.now) a b place path (sym c.in-Some.ensures) c.in-Struct.fields e was
 
 pub read_field-returns-clause-ok : goal.read_field-returns-clause-ok
 read_field-returns-clause-ok t c =
@@ -73,20 +59,20 @@ read_field-returns-clause-ok t c =
 pub read_field-returns-clause-err : goal.read_field-returns-clause-err
 read_field-returns-clause-err t c =
     let b = view c.in-Some.number.now in
-    err_by (λ f k. tells_part (read_field (scope_of c.args.scope.now) (view c.args.inside.now) (under c.args.at.now c.args.name.now) c.args.at.now) (element_of (expression_of c.in-Ok.value.value) c.in-Struct.fields (option_and_then as_u64 (as_number b)) c.pop-2.new.self) (λ p r is. field_is t c ∙ is) f k) c.element_of.result c.element_of.ensures.err
+    err_by (λ f k. tells_part (read_field (scope_of c.args.scope.now) (view c.args.inside.now) (under c.args.at.now c.args.name.now) c.args.at.now) (element_of (expression_of c.in_ok-ty.field-0.value) c.in-Struct.fields (option_and_then as_u64 (as_number b)) c.args.at.now) (λ p r is. field_is t c ∙ is) f k) c.element_of.result c.element_of.ensures.err
 
-pub read_of-returns-in-Err-read_item-clause-err : goal.read_of-returns-in-Err-read_item-clause-err
-read_of-returns-in-Err-read_item-clause-err t c =
+pub read_of-returns-in_err-value-clause-err : goal.read_of-returns-in_err-value-clause-err
+read_of-returns-in_err-value-clause-err t c =
     let s = scope_of c.args.scope.now in
     let d = view c.args.inside.now in
     let a = view c.in-Some.first.now in
     let b = view c.in-Some.second.now in
     let place = under c.args.at.now c.args.name.now in
-    let first : c.push_key.new.self ≡ place = c.in_ok-push_key.ensures in
-    let second : c.read_first_type.new.at ≡ place = c.in-Ok.ensures.place ∙ first in
-    let ty = tree_of c.in-Ok.ty in
-    let was : read_right_type a (at_item place 0) ≡ read ty = ap (λ p. read_right_type a (at_item p 0)) (sym first) ∙ c.in-Ok.ensures.ok in
-    tells_part (read_of s d place) (read_value s ty b (at_item c.read_first_type.new.at 1)) (λ p r e. of_second s d a b place (sym c.in-Some.ensures) ty p r was (ap (λ q. read_value s ty b (at_item q 1)) (sym second) ∙ e)) c.in-Err-read_item.fault c.in-Err-read_item.ensures.err
+    let first : c.item.result ≡ at_item place 0 = c.item.ensures ∙ ap (λ p. at_item p 0) c.key-place.ensures in
+    let second : c.item-2.result ≡ at_item place 1 = c.item-2.ensures ∙ ap (λ p. at_item p 1) c.key-place.ensures in
+    let ty = tree_of c.in_ok-ty.ty in
+    part_handed_on (read_of s d place) (read_value s ty b c.item-2.result) (λ p r e. of_second s d a b place (sym c.in-Some.ensures) ty p r (ap (read_right_type a) (sym first) ∙ c.in_ok-ty.ensures.ok) (ap (read_value s ty b) (sym second) ∙ e))
+    c.from_residual-in_err-value.result c.in_err-value.field-0.0 c.from_residual-in_err-value.ensures.1 c.in_err-value.ensures.err
 
 pub read_of-returns-clause-ok : goal.read_of-returns-clause-ok
 read_of-returns-clause-ok t c =
@@ -95,15 +81,13 @@ read_of-returns-clause-ok t c =
     let a = view c.in-Some.first.now in
     let b = view c.in-Some.second.now in
     let place = under c.args.at.now c.args.name.now in
-    let first : c.push_key.new.self ≡ place = c.in_ok-push_key.ensures in
-    let second : c.read_first_type.new.at ≡ place = c.in-Ok.ensures.place ∙ first in
-    let ty = tree_of c.in-Ok.ty in
-    let was : read_right_type a (at_item place 0) ≡ read ty = ap (λ p. read_right_type a (at_item p 0)) (sym first) ∙ c.in-Ok.ensures.ok in
-    let then : read_value s ty b (at_item place 1) ≡ read (expression_of c.in-Ok-read_item.value) = ap (λ q. read_value s ty b (at_item q 1)) (sym second) ∙ c.in-Ok-read_item.ensures.ok in
-    of_both s d a b place (sym c.in-Some.ensures) ty (expression_of c.in-Ok-read_item.value) was then ∙ ap read (sym c.in_ok-typed_as.ensures)
+    let first : c.item.result ≡ at_item place 0 = c.item.ensures ∙ ap (λ p. at_item p 0) c.key-place.ensures in
+    let second : c.item-2.result ≡ at_item place 1 = c.item-2.ensures ∙ ap (λ p. at_item p 1) c.key-place.ensures in
+    let ty = tree_of c.in_ok-ty.ty in
+    of_both s d a b place (sym c.in-Some.ensures) ty (expression_of c.in_ok-value.value) (ap (read_right_type a) (sym first) ∙ c.in_ok-ty.ensures.ok) (ap (read_value s ty b) (sym second) ∙ c.in_ok-value.ensures.ok) ∙ ap read (sym c.in_ok-typed_as.ensures)
 
-pub read_terms-returns-in-Err-clause-err : goal.read_terms-returns-in-Err-clause-err
-read_terms-returns-in-Err-clause-err t c =
+pub read_terms-returns-in_err-a-clause-err : goal.read_terms-returns-in_err-a-clause-err
+read_terms-returns-in_err-a-clause-err t c =
     let s = scope_of c.args.scope.now in
     let d = view c.args.inside.now in
     let a = view c.in-Some.first.now in
@@ -111,15 +95,14 @@ read_terms-returns-in-Err-clause-err t c =
     let path = c.args.at.now in
     let name = c.args.name.now in
     let place = under path name in
-    let first : c.push_key.new.self ≡ place = c.in_ok-push_key.ensures in
+    let first : c.item.result ≡ at_item place 0 = c.item.ensures ∙ ap (λ p. at_item p 0) c.key-place.ensures in
     let ty = tree_of c.args.ty.now in
-    tells_part (read_terms s ty name d path) (read_value s ty a (at_item c.push_key.new.self 0))
-    (λ p r e. terms_are s ty name d path (fault p r) (sym c.is_integer.ensures ∙ c.if-not-is_integer.false) (two_first s ty d a b place (sym c.in-Some.ensures) p r (ap (λ q. read_value s ty a (at_item q 0)) (sym first) ∙ e)))
-    c.in-Err.fault c.in-Err.ensures.err
+    part_handed_on (read_terms s ty name d path) (read_value s ty a c.item.result)
+    (λ p r e. terms_are s ty name d path (fault p r) (sym c.is_integer.ensures ∙ c.if-not-is_integer.false) (two_first s ty d a b place (sym c.in-Some.ensures) p r (ap (read_value s ty a) (sym first) ∙ e)))
+    c.from_residual.result c.in_err-a.field-0.0 c.from_residual.ensures.1 c.in_err-a.ensures.err
 
-pub read_terms-returns-in-Err-read_item-clause-err :
-    goal.read_terms-returns-in-Err-read_item-clause-err
-read_terms-returns-in-Err-read_item-clause-err t c =
+pub read_terms-returns-in_err-b-clause-err : goal.read_terms-returns-in_err-b-clause-err
+read_terms-returns-in_err-b-clause-err t c =
     let s = scope_of c.args.scope.now in
     let d = view c.args.inside.now in
     let a = view c.in-Some.first.now in
@@ -127,14 +110,12 @@ read_terms-returns-in-Err-read_item-clause-err t c =
     let path = c.args.at.now in
     let name = c.args.name.now in
     let place = under path name in
-    let first : c.push_key.new.self ≡ place = c.in_ok-push_key.ensures in
-    let second : c.read_item.new.at ≡ place = c.in-Ok.ensures.place ∙ first in
+    let first : c.item.result ≡ at_item place 0 = c.item.ensures ∙ ap (λ p. at_item p 0) c.key-place.ensures in
+    let second : c.item-2.result ≡ at_item place 1 = c.item-2.ensures ∙ ap (λ p. at_item p 1) c.key-place.ensures in
     let ty = tree_of c.args.ty.now in
-    let x = expression_of c.in-Ok.a in
-    let was : read_value s ty a (at_item place 0) ≡ read x = ap (λ q. read_value s ty a (at_item q 0)) (sym first) ∙ c.in-Ok.ensures.ok in
-    tells_part (read_terms s ty name d path) (read_value s ty b (at_item c.read_item.new.at 1))
-    (λ p r e. terms_are s ty name d path (fault p r) (sym c.is_integer.ensures ∙ c.if-not-is_integer.false) (two_second s ty d a b place (sym c.in-Some.ensures) x p r was (ap (λ q. read_value s ty b (at_item q 1)) (sym second) ∙ e)))
-    c.in-Err-read_item.fault c.in-Err-read_item.ensures.err
+    part_handed_on (read_terms s ty name d path) (read_value s ty b c.item-2.result)
+    (λ p r e. terms_are s ty name d path (fault p r) (sym c.is_integer.ensures ∙ c.if-not-is_integer.false) (two_second s ty d a b place (sym c.in-Some.ensures) (expression_of c.in_ok-a.a) p r (ap (read_value s ty a) (sym first) ∙ c.in_ok-a.ensures.ok) (ap (read_value s ty b) (sym second) ∙ e)))
+    c.from_residual-in_err-b.result c.in_err-b.field-0.0 c.from_residual-in_err-b.ensures.1 c.in_err-b.ensures.err
 
 pub read_terms-returns-clause-ok : goal.read_terms-returns-clause-ok
 read_terms-returns-clause-ok t c =
@@ -145,14 +126,12 @@ read_terms-returns-clause-ok t c =
     let path = c.args.at.now in
     let name = c.args.name.now in
     let place = under path name in
-    let first : c.push_key.new.self ≡ place = c.in_ok-push_key.ensures in
-    let second : c.read_item.new.at ≡ place = c.in-Ok.ensures.place ∙ first in
+    let first : c.item.result ≡ at_item place 0 = c.item.ensures ∙ ap (λ p. at_item p 0) c.key-place.ensures in
+    let second : c.item-2.result ≡ at_item place 1 = c.item-2.ensures ∙ ap (λ p. at_item p 1) c.key-place.ensures in
     let ty = tree_of c.args.ty.now in
-    let x = expression_of c.in-Ok.a in
-    let y = expression_of c.in-Ok-read_item.b in
-    let was : read_value s ty a (at_item place 0) ≡ read x = ap (λ q. read_value s ty a (at_item q 0)) (sym first) ∙ c.in-Ok.ensures.ok in
-    let then : read_value s ty b (at_item place 1) ≡ read y = ap (λ q. read_value s ty b (at_item q 1)) (sym second) ∙ c.in-Ok-read_item.ensures.ok in
-    terms_are s ty name d path (read (x, y)) (sym c.is_integer.ensures ∙ c.if-not-is_integer.false) (two_both s ty d a b place (sym c.in-Some.ensures) x y was then)
+    let x = expression_of c.in_ok-a.a in
+    let y = expression_of c.in_ok-b.b in
+    terms_are s ty name d path (read (x, y)) (sym c.is_integer.ensures ∙ c.if-not-is_integer.false) (two_both s ty d a b place (sym c.in-Some.ensures) x y (ap (read_value s ty a) (sym first) ∙ c.in_ok-a.ensures.ok) (ap (read_value s ty b) (sym second) ∙ c.in_ok-b.ensures.ok))
 
 pub read_typed-returns-in-Typed-clause-ok : goal.read_typed-returns-in-Typed-clause-ok
 read_typed-returns-in-Typed-clause-ok t c =
@@ -188,27 +167,27 @@ read_value-returns-then-len-clause-err t c =
     let other = of_other_count s c.in-Struct.fields d path (items_view vs) (sym c.in-Some-as_array.ensures) (λ same. c.if-len.true (omega (arith, c.len.ensures, c.len-in-Some-as_array.ensures.count, items_len-items_view vs, same))) in
     tells_made (read_value s (tree_of c.args.ty.now) d path) path wrong_count (ap (λ y. read_value s (tree_of y) d path) c.in-Struct.is ∙ other) c.bad-then-len.result c.bad-then-len.ensures
 
-pub read_value-returns-in-Ok-clause-ok : goal.read_value-returns-in-Ok-clause-ok
-read_value-returns-in-Ok-clause-ok t c =
+pub read_value-returns-in-Some-as_array-clause-ok : goal.read_value-returns-in-Some-as_array-clause-ok
+read_value-returns-in-Some-as_array-clause-ok t c =
     let s = scope_of c.args.scope.now in
     let d = view c.args.value.now in
     let path = c.args.at.now in
     let vs = c.in-Some-as_array.items.now.items in
     let same : items_len (items_view vs) ≡ length c.in-Struct.fields = omega (arith, c.len.ensures, c.len-in-Some-as_array.ensures.count, items_len-items_view vs, c.if-len.false) in
     ap (λ y. read_value s (tree_of y) d path) c.in-Struct.is
-    ∙ of_values s c.in-Struct.fields d path (items_view vs) (sym c.in-Some-as_array.ensures) (read (expressions_in c.in-Ok.values.items)) same c.in-Ok.ensures.ok ∙ ap read (sym c.of_elements.ensures)
+    ∙ of_values s c.in-Struct.fields d path (items_view vs) (sym c.in-Some-as_array.ensures) (read (expressions_in c.in_ok-values.values.items)) same c.in_ok-values.ensures.ok ∙ ap read (sym c.of_elements.ensures)
 
-pub read_value-returns-in-Err-clause-err : goal.read_value-returns-in-Err-clause-err
-read_value-returns-in-Err-clause-err t c =
+pub read_value-returns-in_err-values-clause-err : goal.read_value-returns-in_err-values-clause-err
+read_value-returns-in_err-values-clause-err t c =
     let s = scope_of c.args.scope.now in
     let d = view c.args.value.now in
     let path = c.args.at.now in
     let vs = c.in-Some-as_array.items.now.items in
     let ts = c.in-Struct.fields in
     let same : items_len (items_view vs) ≡ length ts = omega (arith, c.len.ensures, c.len-in-Some-as_array.ensures.count, items_len-items_view vs, c.if-len.false) in
-    tells_part (read_value s (tree_of c.args.ty.now) d path) (read_values s ts (items_view vs) path 0)
+    part_handed_on (read_value s (tree_of c.args.ty.now) d path) (read_values s ts (items_view vs) path 0)
     (λ p r is. ap (λ y. read_value s (tree_of y) d path) c.in-Struct.is ∙ of_values s ts d path (items_view vs) (sym c.in-Some-as_array.ensures) (fault p r) same is)
-    c.in-Err.fault c.in-Err.ensures.err
+    c.from_residual.result c.in_err-values.field-0.0 c.from_residual.ensures.1 c.in_err-values.ensures.err
 
 pub read_value-returns-clause-ok : goal.read_value-returns-clause-ok
 read_value-returns-clause-ok t c =
@@ -226,8 +205,8 @@ read_value-returns-clause-err t c =
     let same = of_member s ty d path m.name.now (view m.inside.now) (sym m.ensures) in
     err_by (λ f k. tells_part (read_value s ty d path) (value_under_form s ty m.name.now (view m.inside.now) path (form_named m.name.now)) (λ p r is. same ∙ is) f k) c.read_form.result c.read_form.ensures.err
 
-pub read_values-read_item-requires : goal.read_values-read_item-requires
-read_values-read_item-requires t c =
+pub read_values-read_value-requires : goal.read_values-read_value-requires
+read_values-read_value-requires t c =
     let vs = c.args.items.now.items in
     let below : c.loop-i.i < length vs = omega (arith, c.requires.count, c.len-i-end.ensures.count) in
     (omega (arith, depth-at vs c.loop-i.i c.index.result.now below c.index.ensures), (short-at vs c.loop-i.i c.index.result.now below c.index.ensures c.requires.short, c.requires.even))
@@ -238,22 +217,16 @@ read_values-loop-i-preserved t c =
     let vs = c.args.items.now.items in
     let ts = c.args.types.now in
     let i = c.loop-i.i in
-    let at = c.loop-i.at in
+    let at = c.args.at.now in
     let before = c.loop-i.values.items in
-    let value = c.in-Ok.value in
+    let value = c.in_ok-value.value in
     let below_types : i < length ts = omega (arith, c.len-i-end.ensures.count) in
     let below : i < length vs = omega (arith, c.requires.count) in
-    let one_more : map expression_of c.push.new.values.items ≡ map expression_of before ++ expression_of value ∷ [] = ap (map expression_of) c.in_ok-push-in-Ok.ensures ∙ map-append expression_of before (value ∷ []) in
-    let done = done-more s ts vs at i (map expression_of before) c.index.result.now (tree_of c.get.result.now) below below_types c.index.ensures c.get.ensures.element c.loop-i.invariant.1 (expression_of value) c.in-Ok.ensures.ok in (
-      c.in-Ok.ensures.place ∙ c.loop-i.invariant.0,
-      subst (λ a. Done s ts vs a (i + 1) (map expression_of c.push.new.values.items)) (sym c.in-Ok.ensures.place) (subst (λ es. Done s ts vs at (i + 1) es) (sym one_more) done),
-    )
+    let one_more : map expression_of c.push.new.values.items ≡ map expression_of before ++ expression_of value ∷ [] = ap (map expression_of) c.in_ok-push.ensures ∙ map-append expression_of before (value ∷ []) in
+    let was = ap (read_value s (tree_of c.get.result.now) (view c.index.result.now)) (sym c.item.ensures) ∙ c.in_ok-value.ensures.ok in
+    subst (λ es. Done s ts vs at (i + 1) es) (sym one_more) (done-more s ts vs at i (map expression_of before) c.index.result.now (tree_of c.get.result.now) below below_types c.index.ensures c.get.ensures.element c.loop-i.invariant (expression_of value) was)
 
 pub read_values-returns-clause-ok : goal.read_values-returns-clause-ok
 read_values-returns-clause-ok t c =
-    let s = scope_of c.args.scope.now in
-    let vs = c.args.items.now.items in
-    let ts = c.args.types.now in
-    let i = c.loop-i.i in
     let values = map expression_of c.loop-i.values.items in
-    done-all s ts vs c.args.at.now i values (omega (arith, c.requires.count, c.len-i-end.ensures.count)) (subst (λ a. Done s ts vs a i values) c.loop-i.invariant.0 c.loop-i.invariant.1)
+    done-all (scope_of c.args.scope.now) c.args.types.now c.args.items.now.items c.args.at.now c.loop-i.i values (omega (arith, c.requires.count, c.len-i-end.ensures.count)) c.loop-i.invariant

@@ -1,4 +1,4 @@
-use Rattle.std.proofs.Common.{◌≡◌, ◌+◌, ◌*◌, map}
+use Rattle.std.proofs.Common.{◌+◌, ◌*◌, map}
 use Rattle.serde_json.specs.Data.{depth, items_depth}
 use Rattle.serde_json.specs.View.{view, items_view}
 use Rattle.ffi3_script_body.specs.ExprOf.{expression_of}
@@ -8,9 +8,6 @@ use Rattle.ffi3_script.proofs.values.+values.Given as goal
 
 abbrev pub decreases-read_value : goal.decreases-read_value
 decreases-read_value l = 4 * depth (view l.value.now)
-
-abbrev pub decreases-read_item : goal.decreases-read_item
-decreases-read_item l = 4 * depth (view l.item.now) + 1
 
 abbrev pub decreases-read_values : goal.decreases-read_values
 decreases-read_values l = 4 * items_depth (items_view l.items.now.items) + 2
@@ -34,4 +31,4 @@ abbrev pub decreases-read_of : goal.decreases-read_of
 decreases-read_of l = 4 * depth (view l.inside.now) + 1
 
 abbrev pub invariant-read_values-loop-i : goal.invariant-read_values-loop-i
-invariant-read_values-loop-i l = (l.at ≡ l.initial.at) × Done (scope_of l.scope) l.types l.items.items l.at l.i (map expression_of l.values.items)
+invariant-read_values-loop-i l = Done (scope_of l.scope) l.types l.items.items l.at l.i (map expression_of l.values.items)

@@ -7,14 +7,14 @@ use Rattle.ffi3_type_rules.proofs.Faults.{first_too_deep, first_empty, first_voi
 use Rattle.ffi3_types.proofs.Scalars.{one_scalar}
 use Rattle.ffi3_types.proofs.check.+check.Goals as goal
 
-pub check_node-returns-then-outer-ge16-clause-err : goal.check_node-returns-then-outer-ge16-clause-err
-check_node-returns-then-outer-ge16-clause-err t c =
-    rw (c.in-Struct.is, c.new-then-outer-ge16.ensures) (first_too_deep c.in-Struct.fields (omega arith))
+pub check_node-returns-then-outer-ge-DEEPEST_NESTING-clause-err : goal.check_node-returns-then-outer-ge-DEEPEST_NESTING-clause-err
+check_node-returns-then-outer-ge-DEEPEST_NESTING-clause-err t c =
+    rw (c.in-Struct.is, c.new-then-outer-ge-DEEPEST_NESTING.ensures) (first_too_deep c.in-Struct.fields (omega arith))
 
 pub check_node-returns-then-len-eq0-clause-err : goal.check_node-returns-then-len-eq0-clause-err
 check_node-returns-then-len-eq0-clause-err t c =
     let empty : c.in-Struct.fields ≡ [] = nil_from_length _ (omega arith) in
-    rw (c.in-Struct.is, c.new-then-len-eq0.ensures, empty) (first_empty c.if-outer-ge16.false)
+    rw (c.in-Struct.is, c.new-then-len-eq0.ensures, empty) (first_empty c.if-outer-ge-DEEPEST_NESTING.false)
 
 pub check_node-extent-size-requires : goal.check_node-extent-size-requires
 check_node-extent-size-requires t c k d below =
@@ -41,16 +41,16 @@ pub check_node-returns-in-Vector-clause-err : goal.check_node-returns-in-Vector-
 check_node-returns-in-Vector-clause-err t c =
     rw (c.in-Vector.is, c.new-in-Vector.ensures) (first_left_out vector)
 
-pub check_node-returns-then-size-gt1024-clause-err : goal.check_node-returns-then-size-gt1024-clause-err
-check_node-returns-then-size-gt1024-clause-err t c =
+pub check_node-returns-then-size-gt-LARGEST_STRUCT-clause-err : goal.check_node-returns-then-size-gt-LARGEST_STRUCT-clause-err
+check_node-returns-then-size-gt-LARGEST_STRUCT-clause-err t c =
     let sized = c.extent-size.ensures.size in
-    let first = first_too_large c.in-Struct.fields c.if-outer-ge16.false (omega arith) c.in_default.ensures.ok (omega arith) in
-    rw (c.in-Struct.is, c.new-then-size-gt1024.ensures, sized) first
+    let first = first_too_large c.in-Struct.fields c.if-outer-ge-DEEPEST_NESTING.false (omega arith) c.in_default.ensures.ok (omega arith) in
+    rw (c.in-Struct.is, c.new-then-size-gt-LARGEST_STRUCT.ensures, sized) first
 
-pub check_node-returns-else-size-gt1024-clause-ok : goal.check_node-returns-else-size-gt1024-clause-ok
-check_node-returns-else-size-gt1024-clause-ok t c =
+pub check_node-returns-else-size-gt-LARGEST_STRUCT-clause-ok : goal.check_node-returns-else-size-gt-LARGEST_STRUCT-clause-ok
+check_node-returns-else-size-gt-LARGEST_STRUCT-clause-ok t c =
     let sized = c.extent-size.ensures.size in
-    rw c.in-Struct.is (struct_is_right c.in-Struct.fields c.if-outer-ge16.false (omega arith) c.in_default.ensures.ok (omega arith))
+    rw c.in-Struct.is (struct_is_right c.in-Struct.fields c.if-outer-ge-DEEPEST_NESTING.false (omega arith) c.in_default.ensures.ok (omega arith))
 
 pub check_node-returns-in-U8 : goal.check_node-returns-in-U8
 check_node-returns-in-U8 t c =
@@ -60,5 +60,5 @@ check_node-returns-in-U8 t c =
 pub check_node-returns-in-Err-clause-err : goal.check_node-returns-in-Err-clause-err
 check_node-returns-in-Err-clause-err t c =
     let e = c.in-Err.ensures.err in
-    let first = first_inside c.in-Struct.fields c.if-outer-ge16.false (omega arith) e.number e.rest _ e.in_range e.none_before e.first in
+    let first = first_inside c.in-Struct.fields c.if-outer-ge-DEEPEST_NESTING.false (omega arith) e.number e.rest _ e.in_range e.none_before e.first in
     rw (c.in-Struct.is, e.path_is) first

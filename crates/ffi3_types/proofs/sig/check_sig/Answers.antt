@@ -5,8 +5,8 @@ use Rattle.ffi3_type_rules.specs.Signature.{is_promoted}
 use Rattle.ffi3_type_rules.proofs.Signatures.{first_too_many, first_in_result, first_in_argument, first_bad_fixed, first_promoted}
 use Rattle.ffi3_types.proofs.sig.check_sig.Goals as goal
 
-pub returns-then-n-gt64-clause-err : goal.returns-then-n-gt64-clause-err
-returns-then-n-gt64-clause-err c = rw c.count-n.ensures (first_too_many c.args.sig.now (omega arith))
+pub returns-then-n-gt-MOST_ARGUMENTS-clause-err : goal.returns-then-n-gt-MOST_ARGUMENTS-clause-err
+returns-then-n-gt-MOST_ARGUMENTS-clause-err c = rw c.count-n.ensures (first_too_many c.args.sig.now (omega arith))
 
 pub returns-in-Err-clause-err : goal.returns-in-Err-clause-err
 returns-in-Err-clause-err c =

@@ -1,4 +1,4 @@
-use Rattle.std.proofs.Common.{rules, ◌≡◌, ◌∙◌, decimal, true, false, sym, ap, arith}
+use Rattle.std.proofs.Common.{◌≡◌, ◌∙◌, decimal, true, false, sym, ap, arith}
 use Rattle.std.specs.Str.{bytes_eq}
 use Rattle.ffi3_words.proofs.Numbers.{no_numeral, other_text, written_as}
 use Rattle.ffi3_words.proofs.words.number_of.Goals as goal

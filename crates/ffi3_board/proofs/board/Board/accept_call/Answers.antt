@@ -1,17 +1,14 @@
-use Rattle.std.proofs.Common.{◌≡◌, ◌+◌, ◌<◌, ◌≤◌, length, Some, List, [], ◌∷◌, ◌++◌, reverse, refl, sym, ap, ◌∙◌, subst, arith, length-append}
+use Rattle.std.proofs.Common.{◌≡◌, ◌<◌, length, Some, List, [], ◌∷◌, reverse, refl, sym, ap, ◌∙◌, subst, arith, length-append}
 use Rattle.ffi3_type_rules.specs.Signature.{Signature, signature_at}
-use Rattle.ffi3_place_rules.specs.Standard.{block_bytes, frame_of}
-use Rattle.ffi3_machine.specs.State.{after_enter}
-use Rattle.ffi3_callee.specs.Received.{IsIncoming, IsReceived}
-use Rattle.ffi3_invoke.specs.Calls.{IsInCallee, entry_at}
+use Rattle.ffi3_invoke.specs.Calls.{entry_at}
 use Rattle.ffi3_board.specs.declared.activation.Activation.{Activation}
 use Rattle.ffi3_board.specs.declared.activation.OpenCall.{OpenCall}
 use Rattle.ffi3_board.specs.declared.activation.Waiting.{Waiting}
-use Rattle.ffi3_board.specs.declared.activation.Who.TheVariants.{Function}
-use Rattle.ffi3_board.specs.Between.{IsBetween, moment_with}
+use Rattle.ffi3_board.specs.Between.{IsBetween, run_state_with}
+use Rattle.ffi3_board.specs.Going.{activation_of}
 use Rattle.ffi3_board.specs.Served.{ShowsCall, served_base, served_beginning, served_left, served_tracing}
-use Rattle.ffi3_board.proofs.Accepting.{cut_at_entry, entry_told, served_begins}
-use Rattle.ffi3_board.proofs.Transports.{cut_as, entry_told_as}
+use Rattle.ffi3_board.proofs.Accepting.{WasAccepted, cut_at_entry, entry_told, served_begins}
+use Rattle.ffi3_board.proofs.Transports.{cut_as, entry_told_as, numbered}
 use Rattle.ffi3_io.proofs.Writing.{took_as}
 use Rattle.ffi3_place_rules.specs.Event.{Event}
 use Rattle.ffi3_board.proofs.board.Board.accept_call.Goals as goal
@@ -77,18 +74,16 @@ returns-in-Err-clause-accepted g c = λ p arguments signatures needs shown holds
     let closure = c.args.closure in
     let incoming = c.accept-incoming.result in
     let e = c.accept-incoming.ensures in
-    let same : signature_at p.signatures closure.sig ≡ c.get-cif.result.now = ap (λ (l : List Signature). signature_at l closure.sig) signatures ∙ sym c.get-cif.ensures in
-    let shows = subst (λ (s : Signature). ShowsCall std s arguments m) (sym c.get-cif.ensures ∙ sym same) shown in
-    let enough = subst (λ (s : Signature). std.link + frame_of std s + frame_of std s ≤ m.spare_bytes) same shows.bytes in
-    let is_below = subst (λ (l : List Signature). closure.sig < length l) (sym signatures) c.requires.below in
-    let events = subst (λ (s : Signature). m'.events ≡ m.events ++ entry_at std s m ∷ []) (sym same) e.events in
-    let received = subst (λ (s : Signature). IsReceived std s (after_enter (std.link + frame_of std s) m) m') (sym same) e.received in
-    let is_incoming = subst (λ (s : Signature). IsIncoming std s incoming) (sym same) e.incoming in
-    let sp = subst (λ (s : Signature). m'.sp + block_bytes s + std.save ≡ m.sp) (sym same) e.sp in
-    let spare_bytes = subst (λ (s : Signature). m'.spare_bytes + (std.link + frame_of std s) ≡ m.spare_bytes) (sym same) e.spare_bytes in
-    let callee = subst (λ (s : Signature). IsInCallee std (record { signature = s; event = entry_at std s m }) m') (sym same) (e.in_callee shows.return_address shows.events enough) in
-    let told = entry_told_as c.args.trace std std c.get-cif.result.now (signature_at p.signatures closure.sig) m' _ refl (sym same) (entry_told p std closure arguments m m' incoming o b.table b.moves (served_tracing c.args.trace std p.signatures closure.sig m) needs is_below shows holds known few events received is_incoming e.block sp e.within e.spare_events spare_bytes callee c.args.trace) in
-    cut_at_entry p std closure arguments m m' incoming o b.table b.moves (served_tracing c.args.trace std p.signatures closure.sig m) needs is_below shows holds known few events received is_incoming e.block sp e.within e.spare_events spare_bytes callee c.args.trace c.in-Err.why o' (cut_as _ _ o o' c.in-Err.why told c.in-Err.ensures)
+    let s = c.get-cif.result.now in
+    let same : signature_at p.signatures closure.sig ≡ s = sym (numbered p c.args.cifs.now closure.sig s signatures c.get-cif.ensures) in
+    let here = subst (λ (t : Signature). ShowsCall std t arguments m) (sym c.get-cif.ensures) shown in
+    let accepted : WasAccepted std s m m' incoming = record { events = e.events; received = e.received; incoming_is = e.incoming; block = e.block; sp = e.sp; within = e.within; spare_events = e.spare_events; spare_bytes = e.spare_bytes; in_callee = e.in_callee here.return_address here.events here.bytes } in
+    let shows = subst (λ (t : Signature). ShowsCall std t arguments m) (sym same) here in
+    let is = subst (λ (t : Signature). WasAccepted std t m m' incoming) (sym same) accepted in
+    let below = subst (λ (l : List Signature). closure.sig < length l) (sym signatures) c.requires.below in
+    let tracing = served_tracing c.args.trace std p.signatures closure.sig m in
+    let lines = entry_told_as c.args.trace std std s (signature_at p.signatures closure.sig) m' _ refl (sym same) (entry_told p std closure arguments m m' incoming o b.table b.moves tracing needs below shows holds known few is c.args.trace) in
+    cut_at_entry p std closure arguments m m' incoming o b.table b.moves tracing needs below shows holds known few is c.args.trace c.in-Err.why o' (cut_as _ _ o o' c.in-Err.why lines c.in-Err.ensures)
 
 pub returns-clause-accepted : goal.returns-clause-accepted
 returns-clause-accepted g c = λ p arguments signatures needs shown holds known few.
@@ -101,18 +96,16 @@ returns-clause-accepted g c = λ p arguments signatures needs shown holds known 
     let closure = c.args.closure in
     let incoming = c.accept-incoming.result in
     let e = c.accept-incoming.ensures in
-    let same : signature_at p.signatures closure.sig ≡ c.get-cif.result.now = ap (λ (l : List Signature). signature_at l closure.sig) signatures ∙ sym c.get-cif.ensures in
-    let shows = subst (λ (s : Signature). ShowsCall std s arguments m) (sym c.get-cif.ensures ∙ sym same) shown in
-    let enough = subst (λ (s : Signature). std.link + frame_of std s + frame_of std s ≤ m.spare_bytes) same shows.bytes in
-    let is_below = subst (λ (l : List Signature). closure.sig < length l) (sym signatures) c.requires.below in
-    let events = subst (λ (s : Signature). m'.events ≡ m.events ++ entry_at std s m ∷ []) (sym same) e.events in
-    let received = subst (λ (s : Signature). IsReceived std s (after_enter (std.link + frame_of std s) m) m') (sym same) e.received in
-    let is_incoming = subst (λ (s : Signature). IsIncoming std s incoming) (sym same) e.incoming in
-    let sp = subst (λ (s : Signature). m'.sp + block_bytes s + std.save ≡ m.sp) (sym same) e.sp in
-    let spare_bytes = subst (λ (s : Signature). m'.spare_bytes + (std.link + frame_of std s) ≡ m.spare_bytes) (sym same) e.spare_bytes in
-    let callee = subst (λ (s : Signature). IsInCallee std (record { signature = s; event = entry_at std s m }) m') (sym same) (e.in_callee shows.return_address shows.events enough) in
-    let told = took_as o o' _ _ (entry_told_as c.args.trace std std c.get-cif.result.now (signature_at p.signatures closure.sig) m' _ refl (sym same) (entry_told p std closure arguments m m' incoming o b.table b.moves (served_tracing c.args.trace std p.signatures closure.sig m) needs is_below shows holds known few events received is_incoming e.block sp e.within e.spare_events spare_bytes callee c.args.trace)) c.in_default.ensures in
-    let a : Activation g.row.S.Denot = record { who = Function closure.func; standing = c.args.standing; user = closure.user; results = c.new.result } in
+    let s = c.get-cif.result.now in
+    let same : signature_at p.signatures closure.sig ≡ s = sym (numbered p c.args.cifs.now closure.sig s signatures c.get-cif.ensures) in
+    let here = subst (λ (t : Signature). ShowsCall std t arguments m) (sym c.get-cif.ensures) shown in
+    let accepted : WasAccepted std s m m' incoming = record { events = e.events; received = e.received; incoming_is = e.incoming; block = e.block; sp = e.sp; within = e.within; spare_events = e.spare_events; spare_bytes = e.spare_bytes; in_callee = e.in_callee here.return_address here.events here.bytes } in
+    let shows = subst (λ (t : Signature). ShowsCall std t arguments m) (sym same) here in
+    let is = subst (λ (t : Signature). WasAccepted std t m m' incoming) (sym same) accepted in
+    let below = subst (λ (l : List Signature). closure.sig < length l) (sym signatures) c.requires.below in
+    let tracing = served_tracing c.args.trace std p.signatures closure.sig m in
+    let lines = entry_told_as c.args.trace std std s (signature_at p.signatures closure.sig) m' _ refl (sym same) (entry_told p std closure arguments m m' incoming o b.table b.moves tracing needs below shows holds known few is c.args.trace) in
     let call : OpenCall = record { sig = closure.sig; incoming = incoming } in
-    let P = λ (l : List (Waiting g.row.S.Denot)). IsBetween p (served_base std p.signatures closure.sig m) (served_left std p closure arguments m b.table b.moves) (served_beginning std (signature_at p.signatures closure.sig) m o' (served_tracing c.args.trace std p.signatures closure.sig m)) [] [] (moment_with p.signatures (Some call) (reverse l) b.table b.moves m' o' a) in
-    (told, subst P (sym c.requires.alone) (served_begins p std closure arguments m m' incoming o' b.table b.moves (served_tracing c.args.trace std p.signatures closure.sig m) needs is_below shows holds known few events received is_incoming e.block sp e.within e.spare_events spare_bytes callee a refl refl c.new.ensures))
+    let P = λ (l : List (Waiting g.row.S.Denot)) (a : Activation g.row.S.Denot). IsBetween p (served_base std p.signatures closure.sig m) (served_left std p closure arguments m b.table b.moves) (served_beginning std (signature_at p.signatures closure.sig) m o' tracing) [] [] (run_state_with p.signatures (Some call) (reverse l) b.table b.moves m' o' a) in
+    let begins = served_begins p std closure arguments m m' incoming o' b.table b.moves tracing needs below shows holds known few is c.args.standing in
+    (took_as o o' _ _ lines c.in_default.ensures, subst (P b.suspended.items) (sym c.of_closure.ensures) (subst (λ (l : List (Waiting g.row.S.Denot)). P l (activation_of closure c.args.standing)) (sym c.requires.alone) begins))

@@ -1,4 +1,4 @@
-use Rattle.std.proofs.Common.{◌≡◌, ℕ, ◌+◌, ◌-◌, ◌<◌, ◌≤◌, Bool, true, false, List, sym, ap, ◌∙◌, arith}
+use Rattle.std.proofs.Common.{◌≡◌, ℕ, ◌+◌, ◌-◌, ◌<◌, ◌≤◌, Bool, true, false, sym, ap, ◌∙◌, arith}
 use Rattle.std.proofs.lemmas.Bool.{lt-ltb, le-ltb}
 use Rattle.ffi3_type_rules.specs.declared.limits.TheConstants.{STACK}
 use Rattle.ffi3_type_rules.specs.Signature.{Signature, signature_at}
@@ -8,11 +8,8 @@ use Rattle.ffi3_run_rules.specs.Meaning.{Program, stops, need_at}
 use Rattle.ffi3_caller.specs.declared.StackFull as caller
 use Rattle.ffi3_board.proofs.Acts.{call_is_wrong, call_has_no_room, call_enters}
 use Rattle.ffi3_board.proofs.Tests.{same_signatures, other_signatures}
+use Rattle.ffi3_board.proofs.Transports.{numbered}
 use Rattle.ffi3_board.proofs.board.Board.callee.Goals as goal
-
--- a signature by its number in the program, where the lists are the same
-numbered : (p : Program) (ss : List Signature) (i : ℕ) (s : Signature) → p.signatures ≡ ss → s ≡ signature_at ss i → s ≡ signature_at p.signatures i
-numbered p ss i s same is = is ∙ ap (λ (l : List Signature). signature_at l i) (sym same)
 
 differ : (a b s r : Signature) (test : Bool) → s ≡ a → r ≡ b → test ≡ false → (s ≡ r → test ≡ true) → a ≡ b → ⊥
 differ a b s r test s_is r_is is_false same e =

@@ -8,7 +8,7 @@ use Rattle.ffi3_run_rules.specs.Move.{free}
 use Rattle.ffi3_run_rules.specs.Meaning.{goes_on}
 use Rattle.ffi3_machine.specs.State.{State, free_slot}
 use Rattle.ffi3_board.specs.Going.{StoppedBy}
-use Rattle.ffi3_board.specs.Between.{moment}
+use Rattle.ffi3_board.specs.Between.{run_state}
 use Rattle.ffi3_board.specs.Known.{AreKnown}
 use Rattle.ffi3_board.specs.Turned.{Turned}
 use Rattle.ffi3_board.proofs.Acts.{free_finds_none, free_goes_on}
@@ -24,7 +24,7 @@ returns-in-Some-clause-turned g c = λ p base all first own events signatures is
     let a = c.args.current in
     let m = c.args.machine.now in
     let table = c.free.new.self in
-    let x = moment p.signatures a b m o in
+    let x = run_state p.signatures a b m o in
     let live = sym c.free.ensures.value ∙ c.in-Some.is in
     let freed = c.in-Some.ensures.freed in
     let does = free_goes_on p x.innermost b.table c.args.ptr _ live ∙ ap (goes_on void_value) (sym freed) in
@@ -37,7 +37,7 @@ returns-in-None-clause-turned g c = λ p base all first own events signatures is
     let o' = g.O.Sink.state c.stop.new.output in
     let b = c.args.self.now in
     let m = c.args.machine.now in
-    let x = moment p.signatures c.args.current b m o in
+    let x = run_state p.signatures c.args.current b m o in
     let none = sym c.free.ensures.value ∙ c.in-None.is in
     let does = free_finds_none p x.innermost b.table c.args.ptr none in
     let by = subst (λ (ss : List Signature). StoppedBy ss (NoClosure c.args.ptr) o o' c.stop.result) (sym signatures) c.stop.ensures in

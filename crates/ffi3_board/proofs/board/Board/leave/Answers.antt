@@ -7,12 +7,12 @@ use Rattle.ffi3_run_rules.specs.Trace.{Leave}
 use Rattle.ffi3_board.specs.declared.activation.Waiting.{Waiting}
 use Rattle.ffi3_io.proofs.Writing.{took_as}
 use Rattle.ffi3_io.specs.declared.IoError.TheVariants as cut
-use Rattle.ffi3_board.specs.Between.{IsAsking, moment_with}
+use Rattle.ffi3_board.specs.Between.{RunState, IsAsking, run_state_with}
 use Rattle.ffi3_board.specs.TraceLines.{last_event}
 use Rattle.ffi3_board.specs.Going.{GoneOn}
 use Rattle.ffi3_board.specs.Path.{call_inside, calls_of, result_type_at}
 use Rattle.ffi3_board.specs.Stack.{HoldsCalls}
-use Rattle.ffi3_board.proofs.Boarding.{goes, goes_off, gone_back, call_returned, return_cut_off, return_lines_told, popped_holds, reverse-last}
+use Rattle.ffi3_board.proofs.Boarding.{goes, goes_off, gone_back, call_returned, return_cut_off, return_lines_told, popped_holds, popped_state}
 use Rattle.ffi3_board.proofs.Opened.{is_called, is_incoming}
 use Rattle.ffi3_board.proofs.Transports.{cut_as, ended_as, return_told_as}
 use Rattle.ffi3_board.proofs.board.Board.leave.Goals as goal
@@ -38,7 +38,7 @@ returns-in_default-clause-turned g c = λ p base all first own events current st
     let output = g.O.Sink.state c.args.output.now in
     let none : b.suspended.items ≡ [] = search rules in
     let none' : c.pop.new.self.items ≡ [] = search rules in
-    let P = λ (l : List (Waiting g.row.S.Denot)). IsAsking p base all first own events (moment_with p.signatures b.served (reverse l) b.table b.moves m output current) (return v) in
+    let P = λ (l : List (Waiting g.row.S.Denot)). IsAsking p base all first own events (run_state_with p.signatures b.served (reverse l) b.table b.moves m output current) (return v) in
     c.leave_run.ensures.turned p base all first own events current standard signatures tracing (subst P (none ∙ sym none') is)
 
 pub end_with-requires-clause-called : goal.end_with-requires-clause-called
@@ -76,9 +76,7 @@ returns-clause-turned g c = λ p base all first own events current standard sign
     let w = c.in-Some.field-0 in
     let outer = reverse c.pop.new.self.items in
     let mid = record b { suspended = c.pop.new.self } in
-    let turned : reverse b.suspended.items ≡ w ∷ outer = ap (λ (l : List (Waiting g.row.S.Denot)). reverse l) c.in-Some.ensures.items ∙ reverse-last c.pop.new.self.items w in
-    let P = λ (l : List (Waiting g.row.S.Denot)). IsAsking p base all first own events (moment_with p.signatures b.served l b.table b.moves m o current) (return v) in
-    let asks = subst P turned is in
+    let asks = subst (λ (x : RunState). IsAsking p base all first own events x (return v)) (popped_state p.signatures current b m o c.pop.new.self.items w c.in-Some.ensures.items) is in
     let site = ap (λ (l : List Signature). signature_at l w.call.sig) (sym signatures) in
     let ended = ended_as g.A.Abi.standard base.standard (signature_at c.args.cifs.now w.call.sig) (signature_at p.signatures w.call.sig) v m m' (sym standard) site c.in-Ok.ensures.ended in
     let lines = return_lines_told p base all first own events b.served w outer b.table b.moves m o current v asks m' ended c.args.trace tracing in
@@ -96,9 +94,7 @@ returns-in-Err-clause-turned g c = λ p base all first own events current standa
     let o = g.O.Sink.state c.args.output.now in
     let w = c.in-Some.field-0 in
     let outer = reverse c.pop.new.self.items in
-    let turned : reverse b.suspended.items ≡ w ∷ outer = ap (λ (l : List (Waiting g.row.S.Denot)). reverse l) c.in-Some.ensures.items ∙ reverse-last c.pop.new.self.items w in
-    let P = λ (l : List (Waiting g.row.S.Denot)). IsAsking p base all first own events (moment_with p.signatures b.served l b.table b.moves m o current) (return v) in
-    let asks = subst P turned is in
+    let asks = subst (λ (x : RunState). IsAsking p base all first own events x (return v)) (popped_state p.signatures current b m o c.pop.new.self.items w c.in-Some.ensures.items) is in
     let site = ap (λ (l : List Signature). signature_at l w.call.sig) (sym signatures) in
     let ended = ended_as g.A.Abi.standard base.standard (signature_at c.args.cifs.now w.call.sig) (signature_at p.signatures w.call.sig) v m m' (sym standard) site c.in-Err.ensures.ended in
     return_cut_off p base all first own events b.served w outer b.table b.moves m o current v asks m' ended cut.NoMemory o refl
@@ -113,9 +109,7 @@ returns-in-Err-tell_return-clause-turned g c = λ p base all first own events cu
     let o' = g.O.Sink.state c.tell_return.new.output in
     let w = c.in-Some.field-0 in
     let outer = reverse c.pop.new.self.items in
-    let turned : reverse b.suspended.items ≡ w ∷ outer = ap (λ (l : List (Waiting g.row.S.Denot)). reverse l) c.in-Some.ensures.items ∙ reverse-last c.pop.new.self.items w in
-    let P = λ (l : List (Waiting g.row.S.Denot)). IsAsking p base all first own events (moment_with p.signatures b.served l b.table b.moves m o current) (return v) in
-    let asks = subst P turned is in
+    let asks = subst (λ (x : RunState). IsAsking p base all first own events x (return v)) (popped_state p.signatures current b m o c.pop.new.self.items w c.in-Some.ensures.items) is in
     let site = ap (λ (l : List Signature). signature_at l w.call.sig) (sym signatures) in
     let ended = ended_as g.A.Abi.standard base.standard (signature_at c.args.cifs.now w.call.sig) (signature_at p.signatures w.call.sig) v m m' (sym standard) site c.in-Ok.ensures.ended in
     let lines = return_lines_told p base all first own events b.served w outer b.table b.moves m o current v asks m' ended c.args.trace tracing in

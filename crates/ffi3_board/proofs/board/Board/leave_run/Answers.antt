@@ -1,17 +1,16 @@
-use Rattle.std.proofs.Common.{◌≡◌, suc, true, List, [], Option, Some, None, reverse, sym, ap, ◌∙◌, subst, rules}
-use Rattle.ffi3_type_rules.specs.Signature.{Signature, signature_at}
+use Rattle.std.proofs.Common.{◌≡◌, suc, true, Option, Some, None, sym, subst, rules}
+use Rattle.ffi3_type_rules.specs.Signature.{signature_at}
 use Rattle.ffi3_type_rules.specs.Value.{fits}
 use Rattle.ffi3_values.specs.ValueOf.{value_of}
 use Rattle.ffi3_run_rules.specs.Move.{return}
 use Rattle.ffi3_io.proofs.Writing.{took_as}
 use Rattle.ffi3_board.specs.declared.activation.OpenCall.{OpenCall}
-use Rattle.ffi3_board.specs.declared.activation.Waiting.{Waiting}
-use Rattle.ffi3_board.specs.Between.{IsAsking, moment_with}
+use Rattle.ffi3_board.specs.Between.{RunState, IsAsking}
 use Rattle.ffi3_board.specs.Path.{result_type_at}
 use Rattle.ffi3_board.specs.TraceLines.{last_event}
-use Rattle.ffi3_board.proofs.Boarding.{goes_off}
+use Rattle.ffi3_board.proofs.Boarding.{goes_off, outermost_state}
 use Rattle.ffi3_board.proofs.Served.{is_done, lines_told, main_returns, served_cut, served_returns}
-use Rattle.ffi3_board.proofs.Transports.{cut_as, return_told_as, returned_as}
+use Rattle.ffi3_board.proofs.Transports.{cut_as, numbered, return_told_as, returned_as}
 use Rattle.ffi3_board.proofs.board.Board.leave_run.Goals as goal
 
 pub returns-in_default-clause-turned : goal.returns-in_default-clause-turned
@@ -21,9 +20,7 @@ returns-in_default-clause-turned g c = λ p base all first own events current st
     let o = g.O.Sink.state c.args.output.now in
     let v = value_of c.args.value.now in
     let not_served : b.served ≡ None = search rules in
-    let P = λ (l : List (Waiting g.row.S.Denot)). IsAsking p base all first own events (moment_with p.signatures b.served (reverse l) b.table b.moves m o current) (return v) in
-    let Q = λ (k : Option OpenCall). IsAsking p base all first own events (moment_with p.signatures k [] b.table b.moves m o current) (return v) in
-    let asks = subst Q not_served (subst P c.requires.alone is) in
+    let asks = subst (λ (x : RunState). IsAsking p base all first own events x (return v)) (outermost_state p.signatures current b m o None c.requires.alone not_served) is in
     let it = subst (λ (k : Option OpenCall). fits (result_type_at c.args.cifs.now k) v ≡ true) not_served c.requires.fits in
     is_done p base all first v m o _ c.requires.taken c.requires.alone c.take.ensures.after (main_returns p base all first own events b.table b.moves m o current v asks it)
 
@@ -37,10 +34,8 @@ returns-in-Ok-clause-turned g c = λ p base all first own events current standar
     let v = value_of c.args.value.now in
     let call : OpenCall = c.in-Some.field-0 in
     let is_served : b.served ≡ Some call = search rules in
-    let P = λ (l : List (Waiting g.row.S.Denot)). IsAsking p base all first own events (moment_with p.signatures b.served (reverse l) b.table b.moves m o current) (return v) in
-    let Q = λ (k : Option OpenCall). IsAsking p base all first own events (moment_with p.signatures k [] b.table b.moves m o current) (return v) in
-    let asks = subst Q is_served (subst P c.requires.alone is) in
-    let site = c.get-cif.ensures ∙ ap (λ (l : List Signature). signature_at l call.sig) (sym signatures) in
+    let asks = subst (λ (x : RunState). IsAsking p base all first own events x (return v)) (outermost_state p.signatures current b m o (Some call) c.requires.alone is_served) is in
+    let site = numbered p c.args.cifs.now call.sig c.get-cif.result.now signatures c.get-cif.ensures in
     let given = returned_as g.A.Abi.standard base.standard c.get-cif.result.now (signature_at p.signatures call.sig) v m m' (sym standard) site c.give_back.ensures in
     let lines = lines_told p base all first own events b.table b.moves m o current v call asks m' given c.args.trace tracing in
     let told = took_as o o' _ _ (return_told_as c.args.trace g.A.Abi.standard base.standard c.get-cif.result.now (signature_at p.signatures call.sig) (last_event m'.events) v _ (sym standard) site lines) c.in-Ok.ensures in
@@ -56,10 +51,8 @@ returns-in-Err-clause-turned g c = λ p base all first own events current standa
     let v = value_of c.args.value.now in
     let call : OpenCall = c.in-Some.field-0 in
     let is_served : b.served ≡ Some call = search rules in
-    let P = λ (l : List (Waiting g.row.S.Denot)). IsAsking p base all first own events (moment_with p.signatures b.served (reverse l) b.table b.moves m o current) (return v) in
-    let Q = λ (k : Option OpenCall). IsAsking p base all first own events (moment_with p.signatures k [] b.table b.moves m o current) (return v) in
-    let asks = subst Q is_served (subst P c.requires.alone is) in
-    let site = c.get-cif.ensures ∙ ap (λ (l : List Signature). signature_at l call.sig) (sym signatures) in
+    let asks = subst (λ (x : RunState). IsAsking p base all first own events x (return v)) (outermost_state p.signatures current b m o (Some call) c.requires.alone is_served) is in
+    let site = numbered p c.args.cifs.now call.sig c.get-cif.result.now signatures c.get-cif.ensures in
     let given = returned_as g.A.Abi.standard base.standard c.get-cif.result.now (signature_at p.signatures call.sig) v m m' (sym standard) site c.give_back.ensures in
     let lines = lines_told p base all first own events b.table b.moves m o current v call asks m' given c.args.trace tracing in
     let told = return_told_as c.args.trace g.A.Abi.standard base.standard c.get-cif.result.now (signature_at p.signatures call.sig) (last_event m'.events) v _ (sym standard) site lines in

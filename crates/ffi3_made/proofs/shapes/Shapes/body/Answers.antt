@@ -1,6 +1,6 @@
 use Rattle.std.proofs.Common.{◌≡◌, [], ◌∷◌, ◌++◌, ◌-◌, ap, ◌∙◌}
 use Rattle.ffi3_type_rules.specs.Tree.{u64}
-use Rattle.ffi3_script_rules.specs.Script.{outcome, sum}
+use Rattle.ffi3_script_rules.specs.Script.{sum}
 use Rattle.ffi3_script_rules.specs.Made.{made_call, types_at, own_total, with_arguments}
 use Rattle.ffi3_script_body.specs.ExprOf.{expression_of}
 use Rattle.ffi3_made.specs.ShapesOf.{types_in}

@@ -9,7 +9,7 @@ use Rattle.ffi3_run_rules.specs.Move.{call, make, free, print, return}
 use Rattle.ffi3_body.specs.MoveOf.{move_of}
 use Rattle.ffi3_ask.specs.declared.standing.Standing.{Standing}
 use Rattle.ffi3_board.specs.declared.board.Board.{Board}
-use Rattle.ffi3_board.specs.Between.{moment}
+use Rattle.ffi3_board.specs.Between.{run_state}
 use Rattle.ffi3_board.specs.Path.{call_inside}
 use Rattle.ffi3_run_rules.specs.Meaning.{pointer_value}
 use Rattle.ffi3_board.specs.Going.{and_result}
@@ -46,7 +46,7 @@ returns-in_default-asked-clause-turned g c = λ base all first own events standa
     let m = c.args.machine.now in
     let o = g.O.Sink.state c.args.output.now in
     let is : b.innermost ≡ Some a = search rules in
-    cut_between _ base all first own events (moment _ a b m o) m (looks_as_itself m) (between_of _ base all first own events b a m o is h)
+    cut_between _ base all first own events (run_state _ a b m o) m (looks_as_itself m) (between_of _ base all first own events b a m o is h)
 
 pub sig_of-sig-requires-clause-below : goal.sig_of-sig-requires-clause-below
 sig_of-sig-requires-clause-below g c =

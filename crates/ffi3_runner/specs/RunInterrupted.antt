@@ -1,0 +1,30 @@
+-- WHAT A RUN TELLS THAT WAS INTERRUPTED, against the direct meaning of its program: by a write that failed, which is in an item's lines, or by want of memory, elsewhere.
+use Rattle.std.specs.Prelude.{◌≡◌, ℕ, ◌+◌, ◌≤◌, Bool, List, ◌++◌, length, take}
+use Rattle.ffi3_io.specs.Sink.{Adds, SinkState}
+use Rattle.ffi3_place_rules.specs.Standard.{Standard}
+use Rattle.ffi3_run_rules.specs.Closures.{Closures}
+use Rattle.ffi3_run_rules.specs.Journal.{JournalOf, IsWhole, stack_top}
+use Rattle.ffi3_run_rules.specs.Lines.{Tracing, at_start, text}
+use Rattle.ffi3_run_rules.specs.Meaning.{Program}
+use Rattle.ffi3_run_rules.specs.Trace.{TraceItem, trace_of}
+use Rattle.ffi3_turn_rules.specs.Interrupted.{past_all, next_text, begun, IsPart, HasItsEvent}
+use Rattle.ffi3_turn_rules.specs.Depth.{deepest}
+use Rattle.ffi3_machine.specs.State.{State}
+use Rattle.ffi3_closures.specs.Slots.{HoldsMap}
+
+-- THE RUN IS TOLD IN PART. A first part of its trace is done. The output took the text of that, and of the next item's lines a proper part where it was interrupted in them, and nothing elsewhere. An event is recorded before its lines; the journal answers wholly to what is done and to the item whose event came last, if that is the next. No byte was written beyond the stack that those calls take.
+pub record RunWasInterrupted (tracing : Tracing) (std : Standard) (p : Program) (in_line : Bool) (before after : SinkState) (machine : State) : Type 0 where
+  pub done : List TraceItem
+  pub later : List TraceItem
+  pub all : trace_of p ≡ done ++ later
+  pub part : ℕ
+  pub proper : IsPart in_line part (length (next_text tracing p.signatures (past_all p.signatures at_start done) later))
+  pub written : Adds before.taken (text tracing p.signatures at_start done ++ take part (next_text tracing p.signatures (past_all p.signatures at_start done) later)) after.taken
+  pub recorded : Bool
+  pub its_event : HasItsEvent recorded in_line later
+  pub journal : JournalOf std p.signatures (done ++ begun recorded later) machine.events
+  pub whole : IsWhole (done ++ begun recorded later) machine.events
+  pub mark : stack_top ≤ machine.mark + deepest p 0 (done ++ begun recorded later)
+  pub target : machine.target ≡ std.target
+  pub closures : Closures
+  pub code : HoldsMap std.target closures machine.code

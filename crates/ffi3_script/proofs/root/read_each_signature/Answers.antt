@@ -1,6 +1,0 @@
-use Rattle.std.proofs.Common.{arith}
-use Rattle.ffi3_json.proofs.Items.{short-at}
-use Rattle.ffi3_script.proofs.root.read_each_signature.Goals as goal
-
-pub read_signature-requires : goal.read_signature-requires
-read_signature-requires c = short-at c.args.items.now.items c.loop-i.i c.index.result.now (omega arith) c.index.ensures c.requires.short

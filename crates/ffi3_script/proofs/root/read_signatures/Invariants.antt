@@ -1,0 +1,11 @@
+use Rattle.std.proofs.Common.{◌≡◌, length, drop}
+use Rattle.serde_json.specs.View.{items_view}
+use Rattle.ffi3_script_rules.specs.Bodies.{read_signatures}
+use Rattle.ffi3_script.proofs.Loops.{before}
+use Rattle.ffi3_script.proofs.root.read_signatures.Given as goal
+
+abbrev pub invariant-loop-i : goal.invariant-loop-i
+invariant-loop-i l = record {
+  count : length l.sigs ≡ l.i;
+  so_far : read_signatures (items_view l.items.items) l.at 0 ≡ before l.sigs (read_signatures (items_view (drop l.i l.items.items)) l.at l.i);
+}
