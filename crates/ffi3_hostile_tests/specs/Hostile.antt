@@ -1,13 +1,11 @@
 -- Natives that nest, loop or take what they can: by which signature each is called, and what it does.
-use Rattle.std.specs.Prelude.{ℕ, ℤ, pos, negsuc, ◌==◌, if◌then◌else◌, List, [], ◌∷◌, None, codes, slice_index_or}
+use Rattle.std.specs.Prelude.{ℕ, ℤ, pos, negsuc, ◌==◌, if◌then◌else◌, List, [], ◌∷◌, None, slice_index_or}
 use Rattle.std.specs.Int.{w64, from_le_bytes}
 use Rattle.ffi3_type_rules.specs.Tree.{scalar, void, pointer, s64, s8}
 use Rattle.ffi3_type_rules.specs.Signature.{Signature}
 use Rattle.ffi3_type_rules.specs.Integer.{bytes_of_number, sum_of, widened}
 use Rattle.ffi3_type_rules.specs.Value.{ValueTree, void_value, leaf_value, bytes_of}
 use Rattle.ffi3_run_rules.specs.Move.{Behaviour, Move, call, make, free, print, return}
-use Rattle.ffi3_hostile_tests.specs.declared.endless.EndlessMove.{EndlessMove}
-use Rattle.ffi3_hostile_tests.specs.declared.endless.EndlessMove.TheVariants.{MakeItself, PrintOne}
 
 -- sint64(pointer,sint64)
 abbrev pub again_signature : Signature
@@ -53,12 +51,10 @@ abbrev pub drop_behaviour : Behaviour
 drop_behaviour arguments user [] = free (address arguments)
 drop_behaviour arguments user (_ ∷ _) = return (number (pos 5))
 
--- FLOOD makes itself without end, and TALKER prints 1 without end.
-abbrev pub endless_behaviour : EndlessMove → Behaviour
-endless_behaviour MakeItself arguments user results = make 0 0
-endless_behaviour PrintOne arguments user results =
-    print (scalar s8) (leaf_value (bytes_of_number s8 (pos 1)))
+-- FLOOD makes itself without end.
+abbrev pub flood_behaviour : Behaviour
+flood_behaviour arguments user results = make 0 0
 
-abbrev pub endless_title : EndlessMove → List ℕ
-endless_title MakeItself = codes "flood"
-endless_title PrintOne = codes "talker"
+-- TALKER prints 1 without end.
+abbrev pub talker_behaviour : Behaviour
+talker_behaviour arguments user results = print (scalar s8) (leaf_value (bytes_of_number s8 (pos 1)))

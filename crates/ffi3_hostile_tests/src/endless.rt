@@ -1,5 +1,6 @@
 //! Natives that never return.
-ghost use Rattle.std.specs.Prelude.{◌≡◌, IfOk};
+ghost use Rattle.std.specs.Prelude.{◌≡◌, ◌∷◌, [], IfOk};
+ghost use Rattle.ffi3_hostile_tests.specs.Hostile.{nothing_signature};
 
 use ffi3_body::{Body, Move, Native, Seen};
 use ffi3_types::{FfiType, Fields, NoMemory, Sig, Sigs};
@@ -7,50 +8,113 @@ use ffi3_values::integer;
 use std::alloc::Global;
 use std::marker::Model;
 
-/// What a native does again and again.
-#[derive(Debug, Drop, Clone, Copy)]
-pub enum EndlessMove {
-    /// It makes a closure of itself.
-    MakeItself,
-    /// It prints 1 as a sint8.
-    PrintOne,
+// void(), alone
+fn nothing_sigs(alloc: Global) -> Result<Sigs, NoMemory>
+    ensures { IfOk result (λ a. a ≡ nothing_signature ∷ []) }
+{
+    let mut sigs = Sigs::new(alloc);
+    sigs.push(Sig::new(FfiType::Void, Fields::new(alloc), None))?;
+    Ok(sigs)
 }
 
-/// Does one thing without end, and is named after it, `flood` or `talker`: `void()`. Contracts see which.
+/// Makes closures of itself: `void()`.
 #[derive(Debug, Drop)]
-pub struct Endless {
-    repeated: EndlessMove,
+pub struct Flood {
     sigs: Sigs,
 }
 
-impl Model for Endless {
-    ghost use Rattle.std.specs.Prelude.{◌≡◌, ◌∷◌, []};
-    ghost use Rattle.ffi3_hostile_tests.specs.declared.endless.EndlessMove.{EndlessMove};
+impl Model for Flood {
+    ghost use Rattle.std.specs.Prelude.{◌≡◌, ◌∷◌, [], List};
+    ghost use Rattle.ffi3_type_rules.specs.Signature.{Signature, signature_list_code};
     ghost use Rattle.ffi3_hostile_tests.specs.Hostile.{nothing_signature};
 
-    ghost Value = { EndlessMove };
+    ghost Value = { List Signature };
 
-    ghost view = { λ a. a.repeated };
+    ghost coded = { signature_list_code };
+
+    ghost view = { λ a. a.sigs };
 
     ghost invariant = { λ a. a.sigs ≡ nothing_signature ∷ [] };
 }
 
-impl Endless {
-    /// The native that does this. It takes memory for its signature.
-    pub fn new(alloc: Global, repeated: EndlessMove) -> Result<Endless, NoMemory>
-        ensures { IfOk result (λ a. a ≡ repeated) }
+impl Flood {
+    /// The native. It takes memory for its signature.
+    pub fn new(alloc: Global) -> Result<Flood, NoMemory>
+        ensures { IfOk result (λ a. a ≡ nothing_signature ∷ []) }
     {
-        let mut sigs = Sigs::new(alloc);
-        sigs.push(Sig::new(FfiType::Void, Fields::new(alloc), None))?;
-        Ok(Endless { repeated, sigs })
+        Ok(Flood {
+            sigs: nothing_sigs(alloc)?,
+        })
     }
 }
 
-impl Body for Endless {
+impl Body for Flood {
     ghost use Rattle.std.specs.Prelude.{◌∷◌, []};
-    ghost use Rattle.ffi3_hostile_tests.specs.Hostile.{endless_behaviour, nothing_signature};
+    ghost use Rattle.ffi3_hostile_tests.specs.Hostile.{flood_behaviour, nothing_signature};
 
-    ghost meaning = { endless_behaviour };
+    ghost meaning = { λ a. flood_behaviour };
+
+    ghost signature = { λ a. nothing_signature };
+
+    ghost signatures = { λ a. nothing_signature ∷ [] };
+
+    ghost functions = { λ a. 1 };
+
+    fn next(&self, _alloc: Global, _seen: &Seen) -> Result<Move, NoMemory> {
+        Ok(Move::Make { func: 0, user: 0 })
+    }
+}
+
+impl Native for Flood {
+    ghost use Rattle.std.specs.Prelude.{codes};
+
+    ghost title = { λ a. codes "flood" };
+
+    fn name(&self) -> &str {
+        "flood"
+    }
+
+    fn sigs(&self) -> &Sigs {
+        &self.sigs
+    }
+}
+
+/// Prints 1 as a sint8: `void()`.
+#[derive(Debug, Drop)]
+pub struct Talker {
+    sigs: Sigs,
+}
+
+impl Model for Talker {
+    ghost use Rattle.std.specs.Prelude.{◌≡◌, ◌∷◌, [], List};
+    ghost use Rattle.ffi3_type_rules.specs.Signature.{Signature, signature_list_code};
+    ghost use Rattle.ffi3_hostile_tests.specs.Hostile.{nothing_signature};
+
+    ghost Value = { List Signature };
+
+    ghost coded = { signature_list_code };
+
+    ghost view = { λ a. a.sigs };
+
+    ghost invariant = { λ a. a.sigs ≡ nothing_signature ∷ [] };
+}
+
+impl Talker {
+    /// The native. It takes memory for its signature.
+    pub fn new(alloc: Global) -> Result<Talker, NoMemory>
+        ensures { IfOk result (λ a. a ≡ nothing_signature ∷ []) }
+    {
+        Ok(Talker {
+            sigs: nothing_sigs(alloc)?,
+        })
+    }
+}
+
+impl Body for Talker {
+    ghost use Rattle.std.specs.Prelude.{◌∷◌, []};
+    ghost use Rattle.ffi3_hostile_tests.specs.Hostile.{nothing_signature, talker_behaviour};
+
+    ghost meaning = { λ a. talker_behaviour };
 
     ghost signature = { λ a. nothing_signature };
 
@@ -59,26 +123,21 @@ impl Body for Endless {
     ghost functions = { λ a. 1 };
 
     fn next(&self, alloc: Global, _seen: &Seen) -> Result<Move, NoMemory> {
-        match self.repeated {
-            EndlessMove::MakeItself => Ok(Move::Make { func: 0, user: 0 }),
-            EndlessMove::PrintOne => Ok(Move::Print {
-                ty: FfiType::S8,
-                value: integer(alloc, &FfiType::S8, 1)?,
-            }),
-        }
+        let value = integer(alloc, &FfiType::S8, 1)?;
+        Ok(Move::Print {
+            ty: FfiType::S8,
+            value,
+        })
     }
 }
 
-impl Native for Endless {
-    ghost use Rattle.ffi3_hostile_tests.specs.Hostile.{endless_title};
+impl Native for Talker {
+    ghost use Rattle.std.specs.Prelude.{codes};
 
-    ghost title = { endless_title };
+    ghost title = { λ a. codes "talker" };
 
     fn name(&self) -> &str {
-        match self.repeated {
-            EndlessMove::MakeItself => "flood",
-            EndlessMove::PrintOne => "talker",
-        }
+        "talker"
     }
 
     fn sigs(&self) -> &Sigs {

@@ -10,4 +10,4 @@ mod runs;
 
 pub use again::Again;
 pub use drop_self::DropSelf;
-pub use endless::{Endless, EndlessMove};
+pub use endless::{Flood, Talker};

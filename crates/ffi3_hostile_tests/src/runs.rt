@@ -1,8 +1,8 @@
 //! Scripts that call these natives.
-ghost use Rattle.std.specs.Prelude.{◌<◌, ◌^◌, List, length};
-ghost use Rattle.ffi3_ask.specs.Handed.{handed, signatures_in};
+ghost use Rattle.std.specs.Prelude.{◌<◌, ◌^◌, List, length, map};
+ghost use Rattle.ffi3_ask.specs.Handed.{handed_in, signatures_in};
 
-use crate::{Again, DropSelf, Endless, EndlessMove};
+use crate::{Again, DropSelf, Flood, Talker};
 use ffi3_aapcs64::Aapcs64;
 use ffi3_amd64::Amd64;
 use ffi3_body::Native;
@@ -24,7 +24,7 @@ fn check<A: Abi>(
     moves_left: u32,
 ) -> Result<(), Fail>
     requires few_natives { length natives.now.items < 2 ^ 31 }
-    requires few_signatures { length (signatures_in (handed title meaning signatures natives.now.items)) < 2 ^ 31 }
+    requires few_signatures { length (signatures_in (map (λ b. handed_in (title b) (meaning b) (signatures b)) natives.now.items)) < 2 ^ 31 }
 {
     let Some(ran) = run_script::<A>(alloc, natives, script)? else {
         return Err("no script".into());
@@ -117,33 +117,29 @@ fn again_nests_until_the_stack_is_full(rt: HostRuntime) -> Result<(), Fail> {
     )
 }
 
-/// The run of a script beside natives, by each standard.
+/// The run of a script beside the three other natives, by each standard.
 fn check_on_each(
     rt: &impl Abort,
     alloc: Global,
-    natives: &Vec<Box<dyn Native>>,
     script: &str,
     text: &[u8],
     end: RunEnd,
     moves_left: u32,
-) -> Result<(), Fail>
-    requires few_natives { length natives.now.items < 2 ^ 31 }
-    requires few_signatures { length (signatures_in (handed title meaning signatures natives.now.items)) < 2 ^ 31 }
-{
-    check::<Amd64>(rt, alloc, natives, script, text, end, moves_left)?;
-    check::<Aapcs64>(rt, alloc, natives, script, text, end, moves_left)?;
-    check::<Riscv>(rt, alloc, natives, script, text, end, moves_left)
+) -> Result<(), Fail> {
+    let mut natives: Vec<Box<dyn Native>> = Vec::new(alloc);
+    natives.push(Box::new(alloc, DropSelf::new(alloc)?)?)?;
+    natives.push(Box::new(alloc, Flood::new(alloc)?)?)?;
+    natives.push(Box::new(alloc, Talker::new(alloc)?)?)?;
+    check::<Amd64>(rt, alloc, &natives, script, text, end, moves_left)?;
+    check::<Aapcs64>(rt, alloc, &natives, script, text, end, moves_left)?;
+    check::<Riscv>(rt, alloc, &natives, script, text, end, moves_left)
 }
 
 #[test]
 fn a_native_frees_its_closure(rt: HostRuntime) -> Result<(), Fail> {
-    let alloc = rt.alloc();
-    let mut natives: Vec<Box<dyn Native>> = Vec::new(alloc);
-    natives.push(Box::new(alloc, DropSelf::new(alloc)?)?)?;
     check_on_each(
         &rt,
-        alloc,
-        &natives,
+        rt.alloc(),
         DROP_SELF,
         b"5\nstop: no closure at 0x10000\n",
         RunEnd::Stopped(Stop::NoClosure { ptr: 0x1_0000 }),
@@ -153,13 +149,9 @@ fn a_native_frees_its_closure(rt: HostRuntime) -> Result<(), Fail> {
 
 #[test]
 fn closures_without_end_fill_the_table(rt: HostRuntime) -> Result<(), Fail> {
-    let alloc = rt.alloc();
-    let mut natives: Vec<Box<dyn Native>> = Vec::new(alloc);
-    natives.push(Box::new(alloc, Endless::new(alloc, EndlessMove::MakeItself)?)?)?;
     check_on_each(
         &rt,
-        alloc,
-        &natives,
+        rt.alloc(),
         FLOOD,
         b"stop: closure table full\n",
         RunEnd::Stopped(Stop::TableFull),
@@ -170,8 +162,6 @@ fn closures_without_end_fill_the_table(rt: HostRuntime) -> Result<(), Fail> {
 #[test]
 fn lines_without_end_use_up_the_moves(rt: HostRuntime) -> Result<(), Fail> {
     let alloc = rt.alloc();
-    let mut natives: Vec<Box<dyn Native>> = Vec::new(alloc);
-    natives.push(Box::new(alloc, Endless::new(alloc, EndlessMove::PrintOne)?)?)?;
     let mut text = Vec::new(alloc);
     for _ in 0..9_998usize {
         text.extend_from_slice(b"1\n")?;
@@ -180,7 +170,6 @@ fn lines_without_end_use_up_the_moves(rt: HostRuntime) -> Result<(), Fail> {
     check_on_each(
         &rt,
         alloc,
-        &natives,
         TALKER,
         text.as_slice(),
         RunEnd::Stopped(Stop::MoveLimit),
