@@ -1,5 +1,5 @@
 #!/bin/sh
-# Times the reading of scripts of 64 KiB, 256 KiB and 1 MiB, side by side: `ffi3 layout` reads a script whole and writes two lines.
+# Times the reading of scripts of 64 KiB, 256 KiB and 1 MiB, one after another: `ffi3 layout` reads a script whole and writes two lines.
 # Run it as `bench/reading.sh PROGRAM`, where PROGRAM is a built ffi3.
 set -eu
 program=$1

@@ -1,4 +1,4 @@
-// The Arm AAPCS64 calling standard.
+//! The Arm AAPCS64 calling standard.
 #![tactic(auto)]
 
 ghost use Rattle.std.specs.Prelude.{◌≡◌, ◌<◌, ◌≤◌, ◌+◌, ◌*◌, cond, length, IfOk, true, false};

@@ -1,4 +1,4 @@
-// The System V AMD64 calling standard.
+//! The System V AMD64 calling standard.
 #![tactic(auto)]
 
 ghost use Rattle.std.specs.Prelude.{◌*◌, ◌≡◌, ◌<◌, ◌≤◌, ◌+◌, length, slice_index, IfOk, [], true, false};

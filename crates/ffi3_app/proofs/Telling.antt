@@ -4,7 +4,7 @@ use Rattle.std.specs.Prelude.{Some, slice_get}
 use Rattle.std.proofs.lemmas.List.{drop_more}
 use Rattle.std.proofs.lemmas.Option.{get_or_from_slice_get}
 use Rattle.ffi3_script_rules.specs.Step.{PathStep}
-use Rattle.ffi3_script_rules.specs.Language.{Path}
+use Rattle.ffi3_script_rules.specs.Language.{JsonPath}
 use Rattle.ffi3_script_rules.specs.ReasonText.{text_of_step, text_of_steps}
 use Rattle.ffi3_io.specs.Sink.{SinkState}
 use Rattle.ffi3_app.specs.Top.{ReportsFault}
@@ -12,7 +12,7 @@ use Rattle.ffi3_app.specs.Refusals.{refusal_line, refusal_status, HasPlace, Tell
 use Rattle.ffi3_app.specs.declared.load.Refusal.{Refusal}
 
 -- one step more of a path
-pub step_on : (path : Path) (i : ℕ) (s : PathStep) (text text' all : List ℕ) → i < length path → slice_get path i ≡ Some s → text ++ text_of_steps (drop i path) ≡ all → text' ≡ text ++ text_of_step s → text' ++ text_of_steps (drop (i + 1) path) ≡ all
+pub step_on : (path : JsonPath) (i : ℕ) (s : PathStep) (text text' all : List ℕ) → i < length path → slice_get path i ≡ Some s → text ++ text_of_steps (drop i path) ≡ all → text' ≡ text ++ text_of_step s → text' ++ text_of_steps (drop (i + 1) path) ≡ all
 step_on path i s text text' all below is before on =
     let there : s ≡ get_or path i s = sym (get_or_from_slice_get path i s s is) in
     let here : text_of_steps (drop i path) ≡ text_of_step s ++ text_of_steps (drop (i + 1) path) = ap text_of_steps (drop_more path i s below) ∙ ap (λ t. text_of_step t ++ text_of_steps (drop (i + 1) path)) (sym there) in

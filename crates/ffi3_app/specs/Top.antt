@@ -6,7 +6,7 @@ use Rattle.ffi3_place_rules.specs.Standard.{Standard}
 use Rattle.ffi3_run_rules.specs.Meaning.{End, returned, stopped, meaning_of}
 use Rattle.ffi3_run_rules.specs.Lines.{a_line}
 use Rattle.ffi3_turn_rules.specs.MainTracing.{main_tracing}
-use Rattle.ffi3_script_rules.specs.Language.{Path}
+use Rattle.ffi3_script_rules.specs.Language.{JsonPath}
 use Rattle.ffi3_script_rules.specs.ReasonText.{text_of_path, text_of_reason}
 use Rattle.ffi3_script_rules.specs.Script.{Script}
 use Rattle.ffi3_script_rules.specs.Meaning.{program_of}
@@ -37,7 +37,7 @@ abbrev pub no_memory_line : List ℕ
 no_memory_line = a_line (codes "ffi3: out of memory")
 
 -- a place of a script, and what is told of it
-abbrev pub located_line : Path → List ℕ → List ℕ
+abbrev pub located_line : JsonPath → List ℕ → List ℕ
 located_line path words = a_line (codes "ffi3: " ++ text_of_path path ++ codes ": " ++ words)
 
 -- THE LINE OF WHAT IS REFUSED: what the input is read as is no script

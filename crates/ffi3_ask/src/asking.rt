@@ -21,7 +21,7 @@ use std::alloc::Global;
 
 /// What an activation's function asks for next, by the numbers of the run. After any result of the move's type, where it
 /// stands agrees with what it has seen then: so all calls in an activation pass each move of a script's body once. Where
-/// memory was refused, it stands where it stood, or further on at the same moves.
+/// memory was refused it may stand further on, and still agrees with what was seen.
 pub fn ask(
     alloc: Global,
     script: &Script,

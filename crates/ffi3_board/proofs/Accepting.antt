@@ -36,7 +36,7 @@ use Rattle.ffi3_board.specs.declared.activation.OpenCall.{OpenCall}
 use Rattle.ffi3_board.specs.Going.{activation_of}
 use Rattle.ffi3_board.specs.Known.{AreKnown}
 use Rattle.ffi3_board.specs.Between.{Beginning, RunState, IsMarkOf, IsBetween, run_state_with}
-use Rattle.ffi3_board.specs.Path.{acting, arguments_at}
+use Rattle.ffi3_board.specs.Activations.{acting, arguments_at}
 use Rattle.ffi3_board.specs.Accepted.{WasInterruptedAtEntry}
 use Rattle.ffi3_board.specs.TraceLines.{last_event, entry_lines}
 use Rattle.ffi3_io.specs.Written.{LineInterrupted}

@@ -13,7 +13,7 @@ use Rattle.ffi3_body.specs.SeenActivation.{arguments_in}
 use Rattle.ffi3_board.specs.declared.activation.OpenCall.{OpenCall}
 use Rattle.ffi3_board.specs.declared.activation.Activation.{Activation}
 use Rattle.ffi3_board.specs.declared.activation.Waiting.{Waiting}
-use Rattle.ffi3_board.specs.Path.{who_of, left_below, arguments_at, calls_below, acting, call_inside, suspended_at, calls_of}
+use Rattle.ffi3_board.specs.Activations.{who_of, left_below, arguments_at, calls_below, acting, call_inside, suspended_at, calls_of}
 use Rattle.ffi3_board.specs.Stack.{caller_sp, OpenStand}
 use Rattle.ffi3_board.proofs.Opened.{caller_above}
 

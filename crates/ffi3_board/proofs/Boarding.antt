@@ -39,7 +39,7 @@ use Rattle.ffi3_board.specs.declared.board.Turn.{Turn}
 use Rattle.ffi3_board.specs.declared.board.Turn.TheVariants as turn
 use Rattle.ffi3_board.specs.Between.{Beginning, RunState, asking, IsBetween, IsAsking, run_state, run_state_with, open_calls_at}
 use Rattle.ffi3_board.specs.Going.{StoppedBy, GoneOn, HasGoneBack, activation_of, and_result}
-use Rattle.ffi3_board.specs.Path.{acting, arguments_at, call_inside, suspended_at, calls_of}
+use Rattle.ffi3_board.specs.Activations.{acting, arguments_at, call_inside, suspended_at, calls_of}
 use Rattle.ffi3_board.specs.TraceLines.{last_event, entry_lines, return_lines}
 use Rattle.ffi3_board.specs.Turned.{IsEnded, WasInterrupted, LooksAs, turn_of, WentOn, Turned}
 use Rattle.ffi3_io.specs.Written.{LineInterrupted}

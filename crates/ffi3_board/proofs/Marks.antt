@@ -7,7 +7,7 @@ use Rattle.ffi3_run_rules.specs.Trace.{TraceItem}
 use Rattle.ffi3_turn_rules.specs.Remainder.{Suspended}
 use Rattle.ffi3_turn_rules.specs.SoFar.{Base, text_start, text_after}
 use Rattle.ffi3_turn_rules.proofs.Opens.{text_one}
-use Rattle.ffi3_board.specs.Between.{IsMarkOf, AreFew, text_so_far}
+use Rattle.ffi3_board.specs.Between.{IsMarkOf, ResultsWithinMoves, text_so_far}
 
 pub mark_same : (top first deep deep' mark mark' : ℕ) → deep' ≡ deep → mark' ≡ mark → IsMarkOf top first deep mark → IsMarkOf top first deep' mark'
 mark_same top first deep deep' mark mark' same is (inl h) = inl (omega (arith, is, h))
@@ -41,7 +41,7 @@ mark_leave top first deep deep' mark sp mark' depth at within low same (inr h) =
 
 -- ---- results
 
-pub fewer : (moves : ℕ) (outer : List Suspended) → AreFew (suc moves) outer → AreFew moves outer
+pub fewer : (moves : ℕ) (outer : List Suspended) → ResultsWithinMoves (suc moves) outer → ResultsWithinMoves moves outer
 fewer moves [] h = tt
 fewer moves (s ∷ outer) h = (omega (arith, h.0), fewer moves outer h.1)
 

@@ -108,24 +108,24 @@ module _ (p : Program) (base : Base) (all : Remainder) (first : Beginning) (own 
   -- ---- no move is left
 
   module _ (x : RunState) (none : x.moves ≡ 0) (h : IsBetween p base all first own events x) where
-    at_limit : HasComeTo p base all own events (record { path = (position x).path; closures = x.closures; moves = 0 })
+    at_limit : HasComeTo p base all own events (record { call_stack = (position x).call_stack; closures = x.closures; moves = 0 })
     at_limit =
-        let P = λ (n : ℕ). HasComeTo p base all own events (record { path = (position x).path; closures = x.closures; moves = n }) in
+        let P = λ (n : ℕ). HasComeTo p base all own events (record { call_stack = (position x).call_stack; closures = x.closures; moves = n }) in
         subst P none h.come
 
     limit_left : left_at_position p base (position x) ≡ only_stops MoveLimit x.closures 0
     limit_left =
-        ap (λ (n : ℕ). rest p base.bottom (position x).path x.closures n) none ∙ rest_at_limit p base.bottom (position x).path x.closures
+        ap (λ (n : ℕ). rest p base.bottom (position x).call_stack x.closures n) none ∙ rest_at_limit p base.bottom (position x).call_stack x.closures
 
     pub limit_ends : (output : SinkState) → TookText (a_line (stop_text p.signatures MoveLimit)) x.output output → IsEnded p base all first (stopped MoveLimit) x.closures x.moves x.machine output
     limit_ends output took =
-        let over = ending.limit_here p base all own events (position x).path x.closures at_limit in
+        let over = ending.limit_here p base all own events (position x).call_stack x.closures at_limit in
         let E = λ (n : ℕ). IsEnded p base all first (stopped MoveLimit) x.closures n x.machine output in
         subst E (sym none) (stop_written x h MoveLimit 0 limit_left over output took)
 
     pub limit_failed : (output : SinkState) → LineFailed (a_line (stop_text p.signatures MoveLimit)) x.output output → WasInterrupted p base all first cut.Failed x.machine output
     limit_failed output failed =
-        line_failed x h output (a_line (stop_text p.signatures MoveLimit)) failed (ending.cut_in_limit p base all own events first.tracing (position x).path x.closures failed.part.0 at_limit failed.part.1)
+        line_failed x h output (a_line (stop_text p.signatures MoveLimit)) failed (ending.cut_in_limit p base all own events first.tracing (position x).call_stack x.closures failed.part.0 at_limit failed.part.1)
 
   -- ---- a move that is asked for
 
@@ -156,7 +156,7 @@ module _ (p : Program) (base : Base) (all : Remainder) (first : Beginning) (own 
     pub main_ends : (v : ValueTree) → effect_of p x.innermost x.closures asked ≡ ends v → x.suspended ≡ [] → base.bottom ≡ as_main → IsEnded p base all first (returned v) x.closures x.moves x.machine x.output
     main_ends v does none main =
         let h = is.between in
-        let P = λ (l : List Suspended). HasComeTo p base all own events (record { path = record { innermost = a; suspended = l }; closures = x.closures; moves = suc x.moves }) in
+        let P = λ (l : List Suspended). HasComeTo p base all own events (record { call_stack = record { innermost = a; suspended = l }; closures = x.closures; moves = suc x.moves }) in
         let come = subst P none h.come in
         let Q = λ (bottom : Bottom). rest p bottom (alone a) x.closures (suc x.moves) ≡ only [] (returned v) x.closures x.moves in
         let left : rest p base.bottom (alone a) x.closures (suc x.moves) ≡ only [] (returned v) x.closures x.moves = subst Q (sym main) (rest_ends p a x.closures x.moves v (does_so (ends v) does)) in

@@ -116,7 +116,7 @@ cause_from why a b c is h = subst (λ (n : ℕ). IsCause why n c) is h
 
 module _ (p : Program) (b : Base) (all : Remainder) (own : List TraceItem) (events : List Event) (x : Position) (h : HasComeTo p b all own events x) (tracing : Tracing) where
   -- THE LINES OF AN ENTRY, where the run is traced and where it is not
-  pub entry_lines_are : (trace : Bool) → IsTracingOf p b trace tracing → (ptr : ℕ) (s : Signature) (args : List ValueTree) (e : Event) → IsEntry b.standard b.top b.held (open_at p b x.path.suspended events) (b.count + length events) ptr s args e → entry_lines trace b.standard s e args ≡ enter_lines tracing (text_after p b own) ptr s args
+  pub entry_lines_are : (trace : Bool) → IsTracingOf p b trace tracing → (ptr : ℕ) (s : Signature) (args : List ValueTree) (e : Event) → IsEntry b.standard b.top b.held (open_at p b x.call_stack.suspended events) (b.count + length events) ptr s args e → entry_lines trace b.standard s e args ≡ enter_lines tracing (text_after p b own) ptr s args
   entry_lines_are false is ptr s args e entry =
       sym (ap (λ (t : Tracing). enter_lines t (text_after p b own) ptr s args) is)
   entry_lines_are true is ptr s args e entry =
@@ -126,7 +126,7 @@ module _ (p : Program) (b : Base) (all : Remainder) (own : List TraceItem) (even
       ∙ sym (ap (λ (t : Tracing). enter_lines t (text_after p b own) ptr s args) is.1)
 
   -- THE LINES OF A RETURN
-  pub return_lines_are : (trace : Bool) → IsTracingOf p b trace tracing → (s : Signature) (entry : Event) (outer : List Entered) (v : ValueTree) (e : Event) → open_at p b x.path.suspended events ≡ record { signature = s; event = entry } ∷ outer → IsReturn b.standard (record { signature = s; event = entry }) v e → return_lines trace b.standard s e v ≡ leave_lines tracing (text_after p b own).calls v
+  pub return_lines_are : (trace : Bool) → IsTracingOf p b trace tracing → (s : Signature) (entry : Event) (outer : List Entered) (v : ValueTree) (e : Event) → open_at p b x.call_stack.suspended events ≡ record { signature = s; event = entry } ∷ outer → IsReturn b.standard (record { signature = s; event = entry }) v e → return_lines trace b.standard s e v ≡ leave_lines tracing (text_after p b own).calls v
   return_lines_are false is s entry outer v e opened back =
       sym (ap (λ (t : Tracing). leave_lines t (text_after p b own).calls v) is)
   return_lines_are true is s entry outer v e opened back =

@@ -24,7 +24,7 @@ use Rattle.ffi3_board.specs.declared.activation.Waiting.{Waiting}
 use Rattle.ffi3_board.specs.declared.board.Board.{Board}
 use Rattle.ffi3_board.specs.Known.{AreKnown}
 use Rattle.ffi3_board.specs.Outermost.{AreEntriesOf}
-use Rattle.ffi3_board.specs.Path.{acting, call_inside, suspended_at, calls_of}
+use Rattle.ffi3_board.specs.Activations.{acting, call_inside, suspended_at, calls_of}
 use Rattle.ffi3_board.specs.Stack.{HoldsCalls, frames}
 
 -- what a run found as it began: the journal, the mark, what the output had taken, the stack, and the room in the journal beside that for the returns of the calls that were open; and how it is traced
@@ -53,7 +53,7 @@ asking x = record x { moves = suc x.moves }
 
 abbrev pub position : RunState → Position
 position x = record {
-  path = record { innermost = x.innermost; suspended = x.suspended };
+  call_stack = record { innermost = x.innermost; suspended = x.suspended };
   closures = x.closures;
   moves = x.moves;
 }
@@ -71,9 +71,9 @@ abbrev pub IsMarkOf : (top first deep mark : ℕ) → Type 0
 IsMarkOf top first deep mark = (first ≤ mark) ⊎ (top ≤ mark + deep)
 
 -- each activation that waits has no more results than moves were done
-abbrev pub AreFew : ℕ → List Suspended → Type 0
-AreFew moves [] = ⊤
-AreFew moves (s ∷ outer) = (length s.activation.results + moves ≤ most_moves) × AreFew moves outer
+abbrev pub ResultsWithinMoves : ℕ → List Suspended → Type 0
+ResultsWithinMoves moves [] = ⊤
+ResultsWithinMoves moves (s ∷ outer) = (length s.activation.results + moves ≤ most_moves) × ResultsWithinMoves moves outer
 
 -- the calls that are open at this moment, after these events of the run
 abbrev pub open_calls_at : Program → Base → List Event → RunState → List Entered
@@ -85,7 +85,7 @@ pub record KeepsFound (base : Base) (first : Beginning) (entered : List Entered)
   pub events : first.spare_events + length entered ≤ m.spare_events
   pub bytes : first.spare_bytes + frames base.standard entered ≤ m.spare_bytes
 
--- WHAT HOLDS BETWEEN TWO MOVES of a run with this base, of which all this was left as it began: this trace is done of it, these events answer to it, and the path's calls stand on the machine's stack.
+-- WHAT HOLDS BETWEEN TWO MOVES of a run with this base, of which all this was left as it began: this trace is done of it, these events answer to it, and the call stack's calls stand on the machine's stack.
 pub record IsBetween (p : Program) (base : Base) (all : Remainder) (first : Beginning) (own : List TraceItem) (events : List Event) (x : RunState) : Type 0 where
   pub needs : p.need ≡ need_of base.standard
   pub count : base.count ≡ length first.events
@@ -100,7 +100,7 @@ pub record IsBetween (p : Program) (base : Base) (all : Remainder) (first : Begi
   pub holds : HoldsMap base.standard.target x.closures x.machine.code
   pub known : AreKnown p x.closures
   pub few : length x.innermost.results + x.moves ≤ most_moves
-  pub others_few : AreFew x.moves x.suspended
+  pub others_few : ResultsWithinMoves x.moves x.suspended
   pub found : KeepsFound base first (open_calls_at p base events x) x.machine
   pub outermost : AreEntriesOf base.bottom base.entries
 

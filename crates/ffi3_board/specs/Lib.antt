@@ -1,7 +1,7 @@
 pub mod StopSigs
 pub mod TraceLines
 pub mod Known
-pub mod Path
+pub mod Activations
 pub mod Stack
 pub mod Going
 pub mod Outermost

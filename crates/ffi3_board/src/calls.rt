@@ -21,7 +21,7 @@ ghost use Rattle.ffi3_invoke.specs.Calls.{HasEnded, IsCalled};
 ghost use Rattle.ffi3_board.specs.Between.{Beginning, IsAsking, run_state};
 ghost use Rattle.ffi3_board.specs.Going.{HasGoneBack, HasGoneIn};
 ghost use Rattle.ffi3_board.specs.Known.{CanEnter};
-ghost use Rattle.ffi3_board.specs.Path.{AreShort, call_inside, calls_of, result_type_at};
+ghost use Rattle.ffi3_board.specs.Activations.{AreShort, call_inside, calls_of, result_type_at};
 ghost use Rattle.ffi3_board.specs.Stack.{HoldsCalls};
 ghost use Rattle.ffi3_board.specs.Turned.{Turned};
 

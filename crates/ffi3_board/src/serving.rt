@@ -16,7 +16,7 @@ ghost use Rattle.ffi3_closures.specs.Slots.{HoldsMap};
 ghost use Rattle.ffi3_board.specs.Accepted.{Accepted};
 ghost use Rattle.ffi3_board.specs.Between.{Beginning, IsAsking, run_state};
 ghost use Rattle.ffi3_board.specs.Known.{AreKnown};
-ghost use Rattle.ffi3_board.specs.Path.{calls_below, result_type_at};
+ghost use Rattle.ffi3_board.specs.Activations.{calls_below, result_type_at};
 ghost use Rattle.ffi3_board.specs.Served.{HasAccepted, ShowsCall};
 ghost use Rattle.ffi3_board.specs.Stack.{HoldsCalls};
 ghost use Rattle.ffi3_board.specs.Turned.{Turned};

@@ -1,4 +1,4 @@
-// What a function does: one move at a time, each a function of what its activation has seen.
+//! What a function does: one move at a time, each a function of what its activation has seen.
 #![tactic(auto)]
 
 ghost use Rattle.std.specs.Prelude.{◌≡◌, ◌<◌, IfOk, length, All, ℕ, List};

@@ -26,7 +26,7 @@ fn word_at<A: Abi>(i: u8) -> SaveWord
     A::saved_word(i)
 }
 
-// A hidden result's address, or 0.
+/// A hidden result's address, or 0.
 pub fn hidden_word(machine: &Machine, base: u64, hidden: Option<Loc>) -> u64
     requires low { STACK ≤ base }
     requires high { base ≤ STACK_TOP }
@@ -54,8 +54,8 @@ fn word_to_save(machine: &Machine, base: u64, hidden: Option<Loc>, word: SaveWor
     }
 }
 
-// Saves registers and a hidden result's address, one word behind the other from an address on.
-// Stack places count from the address `base`.
+/// Saves registers and a hidden result's address, one word behind the other from an address on.
+/// Stack places count from the address `base`.
 pub fn save_words<A: Abi>(machine: &mut Machine, from: u64, base: u64, hidden: Option<Loc>)
     requires low { STACK ≤ from }
     requires below { from + 8 * length A.standard.save_area ≤ base }
@@ -73,7 +73,7 @@ pub fn save_words<A: Abi>(machine: &mut Machine, from: u64, base: u64, hidden: O
     }
 }
 
-// Sets a register.
+/// Sets a register.
 pub fn set_register(machine: &mut Machine, at: Loc, word: u64)
     requires register { IsRestorable machine.old.target (SaveWord.Register at) }
     ensures is { word_in STACK_TOP machine.new at ≡ word }
@@ -100,7 +100,7 @@ fn restore_word(machine: &mut Machine, from: u64, i: u32, word: SaveWord)
     }
 }
 
-// Gives the saved registers back.
+/// Gives the saved registers back.
 pub fn restore_words<A: Abi>(machine: &mut Machine, from: u64)
     requires low { STACK ≤ from }
     requires high { from + 8 * length A.standard.save_area ≤ STACK_TOP }

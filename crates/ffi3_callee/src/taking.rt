@@ -79,7 +79,7 @@ fn copy_registers(machine: &mut Machine, base: u64, pieces: &Pieces, to: u64)
     }
 }
 
-// Copies an argument from its place to an address: what stands on the stack by runs, a copy by reference from the address that is found. Stack places count from the address `base`.
+/// Copies an argument from its place to an address: what stands on the stack by runs, a copy by reference from the address that is found. Stack places count from the address `base`.
 pub fn copy_argument(
     machine: &mut Machine,
     base: u64,

@@ -1,4 +1,4 @@
-// Prepared call interfaces.
+//! Prepared call interfaces.
 #![tactic(auto)]
 
 ghost use Rattle.std.specs.Prelude.{◌≡◌, ◌<◌, length, IfOk, IfErr, IsSomeAnd, None, Some, slice_get};

@@ -14,7 +14,7 @@ use ffi3_values::{Value, Values, add, integer, widen};
 use std::alloc::Global;
 use std::marker::Model;
 
-/// On a number above 0 it calls argument 0 with itself and one less, and returns one more than the result:
+/// On a number other than 0 it calls argument 0 with itself and one less, and returns one more than the result:
 /// `sint64(pointer,sint64)`.
 #[derive(Debug, Drop)]
 pub struct Again {

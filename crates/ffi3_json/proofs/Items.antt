@@ -1,58 +1,81 @@
--- Arrays of types, item by item.
-use Rattle.std.proofs.Common.{◌≡◌, ℕ, zero, suc, ◌+◌, ◌<◌, ◌≤◌, List, [], ◌∷◌, ◌++◌, length, drop, get_or, refl, sym, ap, subst, ◌∙◌, append_assoc, append-nil, arith}
+-- Items of an array, one by one, and arrays of types.
+use Rattle.std.proofs.Common.{◌≡◌, ℕ, zero, suc, ◌+◌, ◌<◌, ◌≤◌, List, [], ◌∷◌, ◌++◌, length, get_or, refl, sym, ap, ◌∙◌, append_assoc, append-nil, arith}
 use Rattle.std.specs.Prelude.{slice_index_or}
-use Rattle.ffi3_json.proofs.Objects.{next, none_left}
-use Rattle.serde_json.specs.Data.{depth, items_depth}
+use Rattle.serde_json.specs.Data.{Items, no_items, item, depth, items_depth}
+use Rattle.serde_json.specs.Events.{items_len}
 use Rattle.serde_json.specs.View.{view, items_view}
 use Rattle.serde_json.specs.declared.value.Value.{Value}
 use Rattle.ffi3_type_rules.specs.Tree.{Tree}
-use Rattle.ffi3_script_rules.specs.Language.{Path, Reason, Read, read, fault, read_map, and_then, at_item, read_type, read_each, HasShortArrays, HaveShortArrays}
+use Rattle.ffi3_script_rules.specs.Language.{JsonPath, Reason, Read, read, fault, read_map, and_then, at_item, read_type, read_each, HasShortArrays, HaveShortArrays}
+use Rattle.ffi3_json.specs.Parts.{item_at, items_from}
 
-pub short-item : (vs : List Value) (i : ℕ) (d : Value) → i < length vs → HaveShortArrays (items_view vs) → HasShortArrays (view (get_or vs i d))
-short-item [] i d below short = absurd (omega arith)
-short-item (v ∷ vs) zero d below short = short.0
-short-item (v ∷ vs) (suc i) d below short = short-item vs i d (omega arith) short.1
+-- ---- an item, and those after it
 
-pub depth-item : (vs : List Value) (i : ℕ) (d : Value) → i < length vs → depth (view (get_or vs i d)) ≤ items_depth (items_view vs)
-depth-item [] i d below = absurd (omega arith)
-depth-item (v ∷ vs) zero d below = omega arith
-depth-item (v ∷ vs) (suc i) d below = omega (arith, depth-item vs i d (omega arith))
+next : (ds : Items) (i : ℕ) → i < items_len ds → items_from i ds ≡ item (item_at ds i) (items_from (suc i) ds)
+next no_items i below = absurd (omega arith)
+next (item d ds) zero below = refl
+next (item d ds) (suc i) below = next ds i (omega arith)
 
-pub short-at : (vs : List Value) (i : ℕ) (x : Value) → i < length vs → x ≡ slice_index_or vs i x → HaveShortArrays (items_view vs) → HasShortArrays (view x)
-short-at vs i x below is short = subst (λ y. HasShortArrays (view y)) (sym is) (short-item vs i x below short)
+pub item_next : (ds : Items) (i : ℕ) → i < items_len ds → items_from i ds ≡ item (item_at ds i) (items_from (i + 1) ds)
+item_next ds i below =
+    let one : suc i ≡ i + 1 = omega arith in
+    next ds i below ∙ ap (λ k. item (item_at ds i) (items_from k ds)) one
 
-pub depth-at : (vs : List Value) (i : ℕ) (x : Value) → i < length vs → x ≡ slice_index_or vs i x → depth (view x) ≤ items_depth (items_view vs)
-depth-at vs i x below is = subst (λ y. depth (view y) ≤ items_depth (items_view vs)) (sym is) (depth-item vs i x below)
+pub items_none_left : (ds : Items) (i : ℕ) → items_len ds ≤ i → items_from i ds ≡ no_items
+items_none_left no_items zero end = refl
+items_none_left no_items (suc i) end = refl
+items_none_left (item d ds) zero end = absurd (omega arith)
+items_none_left (item d ds) (suc i) end = items_none_left ds i (omega arith)
+
+pub item-short : (ds : Items) (i : ℕ) → HaveShortArrays ds → HasShortArrays (item_at ds i)
+item-short no_items i short = tt
+item-short (item d ds) zero short = short.0
+item-short (item d ds) (suc i) short = item-short ds i short.1
+
+pub item-depth : (ds : Items) (i : ℕ) → depth (item_at ds i) ≤ items_depth ds
+item-depth no_items i = omega arith
+item-depth (item d ds) zero = omega arith
+item-depth (item d ds) (suc i) = omega (arith, item-depth ds i)
+
+view_at : (vs : List Value) (i : ℕ) (v : Value) → i < length vs → view (get_or vs i v) ≡ item_at (items_view vs) i
+view_at [] i v below = absurd (omega arith)
+view_at (x ∷ vs) zero v below = refl
+view_at (x ∷ vs) (suc i) v below = view_at vs i v (omega arith)
+
+pub item_is : (vs : List Value) (i : ℕ) (x : Value) → i < length vs → x ≡ slice_index_or vs i x → view x ≡ item_at (items_view vs) i
+item_is vs i x below is = ap view is ∙ view_at vs i x below
+
+-- ---- arrays of types
 
 joined : (done : List Tree) (t : Tree) (r : Read (List Tree)) → read_map (λ ts. done ++ ts) (read_map (λ ts. t ∷ ts) r) ≡ read_map (λ ts. (done ++ t ∷ []) ++ ts) r
 joined done t (read ts) = ap read (sym (append_assoc done (t ∷ []) ts))
 joined done t (fault path reason) = refl
 
 -- after i items these types were read
-abbrev pub Done : List Value → Path → ℕ → List Tree → Type 0
-Done vs path i done = read_each (items_view vs) path 0 ≡ read_map (λ ts. done ++ ts) (read_each (items_view (drop i vs)) path i)
+abbrev pub Done : Items → JsonPath → ℕ → List Tree → Type 0
+Done ds path i done = read_each ds path 0 ≡ read_map (λ ts. done ++ ts) (read_each (items_from i ds) path i)
 
-pub done-none : (vs : List Value) (path : Path) → Done vs path 0 []
-done-none vs path = none (read_each (items_view vs) path 0) where
+pub done-none : (ds : Items) (path : JsonPath) → Done ds path 0 []
+done-none ds path = none (read_each ds path 0) where
   none : (r : Read (List Tree)) → r ≡ read_map (λ ts. ts) r
   none (read ts) = refl
   none (fault place reason) = refl
 
-here : (vs : List Value) (path : Path) (i : ℕ) (done : List Tree) (x : Value) → i < length vs → x ≡ slice_index_or vs i x → Done vs path i done
-    → read_each (items_view vs) path 0 ≡ read_map (λ ts. done ++ ts) (and_then (λ t. read_map (λ ts. t ∷ ts) (read_each (items_view (drop (i + 1) vs)) path (i + 1))) (read_type (view x) (at_item path i)))
-here vs path i done x below is so_far = so_far ∙ ap (λ us. read_map (λ ts. done ++ ts) (read_each (items_view us) path i)) (next vs i x below is)
+here : (ds : Items) (path : JsonPath) (i : ℕ) (done : List Tree) → i < items_len ds → Done ds path i done
+    → read_each ds path 0 ≡ read_map (λ ts. done ++ ts) (and_then (λ t. read_map (λ ts. t ∷ ts) (read_each (items_from (i + 1) ds) path (i + 1))) (read_type (item_at ds i) (at_item path i)))
+here ds path i done below so_far = so_far ∙ ap (λ es. read_map (λ ts. done ++ ts) (read_each es path i)) (item_next ds i below)
 
-pub done-more : (vs : List Value) (path : Path) (i : ℕ) (done : List Tree) (x : Value) (t : Tree) → i < length vs → x ≡ slice_index_or vs i x → Done vs path i done
-    → read_type (view x) (at_item path i) ≡ read t → Done vs path (i + 1) (done ++ t ∷ [])
-done-more vs path i done x t below is so_far e =
-    let more : Read (List Tree) = read_each (items_view (drop (i + 1) vs)) path (i + 1) in
-    here vs path i done x below is so_far ∙ ap (λ r. read_map (λ ts. done ++ ts) (and_then (λ u. read_map (λ ts. u ∷ ts) more) r)) e ∙ joined done t more
+pub done-more : (ds : Items) (path : JsonPath) (i : ℕ) (done : List Tree) (t : Tree) → i < items_len ds → Done ds path i done
+    → read_type (item_at ds i) (at_item path i) ≡ read t → Done ds path (i + 1) (done ++ t ∷ [])
+done-more ds path i done t below so_far e =
+    let more : Read (List Tree) = read_each (items_from (i + 1) ds) path (i + 1) in
+    here ds path i done below so_far ∙ ap (λ r. read_map (λ ts. done ++ ts) (and_then (λ u. read_map (λ ts. u ∷ ts) more) r)) e ∙ joined done t more
 
-pub done-fault : (vs : List Value) (path : Path) (i : ℕ) (done : List Tree) (x : Value) (place : Path) (reason : Reason) → i < length vs → x ≡ slice_index_or vs i x → Done vs path i done
-    → read_type (view x) (at_item path i) ≡ fault place reason → read_each (items_view vs) path 0 ≡ fault place reason
-done-fault vs path i done x place reason below is so_far e =
-    let more : Read (List Tree) = read_each (items_view (drop (i + 1) vs)) path (i + 1) in
-    here vs path i done x below is so_far ∙ ap (λ r. read_map (λ ts. done ++ ts) (and_then (λ u. read_map (λ ts. u ∷ ts) more) r)) e
+pub done-fault : (ds : Items) (path : JsonPath) (i : ℕ) (done : List Tree) (place : JsonPath) (reason : Reason) → i < items_len ds → Done ds path i done
+    → read_type (item_at ds i) (at_item path i) ≡ fault place reason → read_each ds path 0 ≡ fault place reason
+done-fault ds path i done place reason below so_far e =
+    let more : Read (List Tree) = read_each (items_from (i + 1) ds) path (i + 1) in
+    here ds path i done below so_far ∙ ap (λ r. read_map (λ ts. done ++ ts) (and_then (λ u. read_map (λ ts. u ∷ ts) more) r)) e
 
-pub done-all : (vs : List Value) (path : Path) (i : ℕ) (done : List Tree) → length vs ≤ i → Done vs path i done → read_each (items_view vs) path 0 ≡ read done
-done-all vs path i done end so_far = so_far ∙ ap (λ us. read_map (λ ts. done ++ ts) (read_each (items_view us) path i)) (none_left vs i end) ∙ ap read (append-nil done)
+pub done-all : (ds : Items) (path : JsonPath) (i : ℕ) (done : List Tree) → items_len ds ≤ i → Done ds path i done → read_each ds path 0 ≡ read done
+done-all ds path i done end so_far = so_far ∙ ap (λ es. read_map (λ ts. done ++ ts) (read_each es path i)) (items_none_left ds i end) ∙ ap read (append-nil done)

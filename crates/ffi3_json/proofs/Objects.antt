@@ -9,11 +9,12 @@ use Rattle.serde_json.specs.Data.{Data, null, boolean, number, string, array, ob
 use Rattle.serde_json.specs.Find.{get, get_member, as_object, as_array}
 use Rattle.serde_json.specs.Events.{members_len}
 use Rattle.ffi3_type_rules.specs.Tree.{struct_of}
-use Rattle.ffi3_script_rules.specs.Language.{Path, fault, read_map, not_a_type, under, read_types, read_struct, HasShortArrays, HaveShortMembers, is_key_of, has_only, first_missing}
+use Rattle.ffi3_script_rules.specs.Language.{JsonPath, fault, read_map, not_a_type, under, read_types, read_struct, HasShortArrays, HaveShortMembers, is_key_of, has_only, first_missing}
 use Rattle.ffi3_script_rules.specs.Language as language
 use Rattle.serde_json.specs.View.{members_view}
 use Rattle.serde_json.proofs.Views.{Entry}
 use Rattle.ffi3_json.specs.KeyOf.{key_of}
+use Rattle.ffi3_json.specs.Parts.{member_in, only_member}
 use Rattle.ffi3_json.specs.declared.keys.Key.{Key}
 
 some_is : {A : Type 0} {x y : A} → Some x ≡ Some y → x ≡ y
@@ -53,19 +54,19 @@ this Less d inside e = absurd (none_not_some e)
 this Equal d inside e = (refl, some_is e)
 this Greater d inside e = absurd (none_not_some e)
 
-pub struct-none : (ms : Members) (path : Path) → get_member (codes "struct") ms ≡ None → read_struct ms path ≡ fault path not_a_type
+pub struct-none : (ms : Members) (path : JsonPath) → get_member (codes "struct") ms ≡ None → read_struct ms path ≡ fault path not_a_type
 struct-none no_members path e = refl
 struct-none (member name d no_members) path e =
     let other : bytes_eq (codes "struct") name ≡ false = sym (is_eq-slice_cmp (codes "struct") name) ∙ not_this (slice_cmp nat_cmp (codes "struct") name) d e in
     rw other refl
 struct-none (member name d (member k x ms)) path e = refl
 
-pub struct-many : (ms : Members) (path : Path) → (members_len ms ≡ 1 → ⊥) → read_struct ms path ≡ fault path not_a_type
+pub struct-many : (ms : Members) (path : JsonPath) → (members_len ms ≡ 1 → ⊥) → read_struct ms path ≡ fault path not_a_type
 struct-many no_members path h = refl
 struct-many (member name d no_members) path h = absurd (h refl)
 struct-many (member name d (member k x ms)) path h = refl
 
-pub struct-one : (ms : Members) (inside : Data) (path : Path) → get_member (codes "struct") ms ≡ Some inside → members_len ms ≡ 1
+pub struct-one : (ms : Members) (inside : Data) (path : JsonPath) → get_member (codes "struct") ms ≡ Some inside → members_len ms ≡ 1
     → read_struct ms path ≡ read_map struct_of (read_types inside (under path (codes "struct")))
 struct-one no_members inside path e one = absurd (none_not_some e)
 struct-one (member name d no_members) inside path e one =
@@ -155,6 +156,8 @@ member_unknown keys all es left e so_far is unknown =
 pub members_end : (keys : List language.Key) (all : Members) (es : List Entry) → has_only keys all ≡ has_only keys (members_view es) → es ≡ [] → true ≡ has_only keys all
 members_end keys all es so_far is = sym (so_far ∙ ap (λ x. has_only keys (members_view x)) is)
 
+-- ---- what is known of the parts of a value
+
 pub short-get : (k : List ℕ) (d inside : Data) → get k d ≡ Some inside → HasShortArrays d → HasShortArrays inside
 short-get k null inside e short = absurd (none_not_some e)
 short-get k (boolean b) inside e short = absurd (none_not_some e)
@@ -162,3 +165,21 @@ short-get k (number n) inside e short = absurd (none_not_some e)
 short-get k (string s) inside e short = absurd (none_not_some e)
 short-get k (array ds) inside e short = absurd (none_not_some e)
 short-get k (object ms) inside e short = short-member k ms inside e short
+
+pub depth-get : (k : List ℕ) (d inside : Data) → get k d ≡ Some inside → depth inside < depth d
+depth-get k null inside e = absurd (none_not_some e)
+depth-get k (boolean b) inside e = absurd (none_not_some e)
+depth-get k (number n) inside e = absurd (none_not_some e)
+depth-get k (string s) inside e = absurd (none_not_some e)
+depth-get k (array ds) inside e = absurd (none_not_some e)
+depth-get k (object ms) inside e = omega (arith, depth-member k ms inside e)
+
+-- ---- the one member of an object
+
+not_one : (ms : Members) → (members_len ms ≡ 1 → ⊥) → None ≡ member_in ms
+not_one no_members h = refl
+not_one (member name d no_members) h = absurd (h refl)
+not_one (member name d (member k x ms)) h = refl
+
+pub no_only_member : (d : Data) (ms : Members) → as_object d ≡ Some ms → (members_len ms ≡ 1 → ⊥) → None ≡ only_member d
+no_only_member d ms e h = not_one ms h ∙ ap only_member (sym (object_is d ms e))

@@ -1,13 +1,13 @@
 -- What a refusal tells.
 use Rattle.std.specs.Prelude.{ℕ, ◌<◌, List, length}
-use Rattle.ffi3_script_rules.specs.Language.{Path, Reason}
+use Rattle.ffi3_script_rules.specs.Language.{JsonPath, Reason}
 use Rattle.ffi3_script_rules.specs.Reading.{max_length, IsNotJson}
 use Rattle.ffi3_json.specs.ReasonOf.{reason_of}
 use Rattle.ffi3_json.specs.declared.fault.ScriptFault.{ScriptFault}
 use Rattle.ffi3_json.specs.declared.fault.ScriptFault.TheVariants.{TooLong, BadJson, BadScript, NoMemory}
 
 -- The fault is that of a value, and its place and reason are as said. Memory alone is free.
-abbrev pub Reports : (Path → Reason → Type 0) → ScriptFault → Type 0
+abbrev pub Reports : (JsonPath → Reason → Type 0) → ScriptFault → Type 0
 Reports says TooLong = ⊥
 Reports says BadJson = ⊥
 Reports says (BadScript path why) = says path (reason_of why)

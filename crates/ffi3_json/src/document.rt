@@ -10,7 +10,7 @@ use crate::{Json, MAX_LENGTH, ScriptFault};
 use std::alloc::Global;
 
 /// The value that the bytes are a JSON text of. More than 1,048,576 bytes are `TooLong`; what is no JSON in UTF-8
-/// (RFC 8259) is `BadJson`. An array of the value has at most as many items as the text has bytes, and one.
+/// (RFC 8259) is `BadJson`. An array of the value has at most 1,048,577 items.
 pub fn parse(alloc: Global, bytes: &[u8]) -> Result<Json, ScriptFault>
     ensures ok { IfOk result (λ v. IsJson bytes.now (view v)) }
     ensures short { IfOk result (λ v. HasShortArrays (view v)) }

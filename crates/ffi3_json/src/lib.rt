@@ -1,9 +1,10 @@
-// JSON objects, types and signatures of a script, with the place and reason of the first fault.
+//! JSON objects, types and signatures of a script, with the place and reason of the first fault.
 #![tactic(auto)]
 
 mod document;
 mod fault;
 mod keys;
+mod node;
 mod object;
 mod place;
 mod reason;
@@ -13,21 +14,21 @@ mod tests;
 mod types;
 mod way;
 
+pub use document::parse;
 pub use fault::{ScriptFault, bad};
 pub use ffi3_types::Bytes;
 /// A want of memory: the one answer that no clause ties to a cause.
-pub use document::parse;
 pub use ffi3_types::NoMemory;
 pub use keys::{Key, Keys};
+pub use node::{Node, Nodes};
 pub use object::{check_object, check_object_at};
 pub use place::{Step, Where};
 pub use reason::{Reason, reason_text};
 /// A JSON value.
-use ffi3_type_rules::limits::LONGEST_SCRIPT;
 pub use serde_json::Value as Json;
 pub use signature::{bad_type, read_signature, read_signature_at};
 pub use types::{read_type, read_type_at};
 pub use way::Way;
 
 /// The greatest length of a script in bytes.
-pub const MAX_LENGTH: usize = LONGEST_SCRIPT as usize;
+pub const MAX_LENGTH: usize = ffi3_type_rules::limits::LONGEST_SCRIPT as usize;

@@ -15,7 +15,7 @@ ghost use Rattle.ffi3_json.specs.Reports.{Reports};
 use crate::fault::bad;
 use crate::object::check_object_at;
 use crate::types::{read_list, read_type_at};
-use crate::{Json, Key, Keys, NoMemory, Reason, ScriptFault, Way, Where};
+use crate::{Json, Key, Keys, NoMemory, Node, Reason, ScriptFault, Way, Where};
 use ffi3_types::{At, FfiType, Fields, Path, Sig, SigFault, TypeFault, check_sig};
 use std::alloc::Global;
 
@@ -32,17 +32,16 @@ pub fn read_signature(alloc: Global, value: &Json, at: &Where) -> Result<Sig, Sc
     ensures right { IfOk result SignatureHasNoFault }
     ensures first { IfErr result (Reports (IsNoSignature (view value.now) at.now)) }
 {
-    read_signature_at(alloc, value, &Way::from(at))
+    read_signature_at(alloc, &Node::of(value), &Way::from(at))
 }
 
 /// The same, at a place on the way to a value.
-pub fn read_signature_at(alloc: Global, value: &Json, at: &Way) -> Result<Sig, ScriptFault>
-    requires { HasShortArrays (view value.now) }
-    ensures ok { IfOk result (λ s. language.read_signature (view value.now) at.now ≡ read s) }
-    ensures err { IfErr result (Reports (λ p r. language.read_signature (view value.now) at.now ≡ language.fault p r)) }
-    ensures shapes { IfOk result (λ s. read_shapes (view value.now) at.now ≡ read s) }
+pub fn read_signature_at(alloc: Global, value: &Node, at: &Way) -> Result<Sig, ScriptFault>
+    ensures ok { IfOk result (λ s. language.read_signature value.now at.now ≡ read s) }
+    ensures err { IfErr result (Reports (λ p r. language.read_signature value.now at.now ≡ language.fault p r)) }
+    ensures shapes { IfOk result (λ s. read_shapes value.now at.now ≡ read s) }
     ensures right { IfOk result SignatureHasNoFault }
-    ensures first { IfErr result (Reports (IsNoSignature (view value.now) at.now)) }
+    ensures first { IfErr result (Reports (IsNoSignature value.now at.now)) }
 {
     let sig = read_shapes(alloc, value, at)?;
     match check_sig(&sig) {
@@ -52,13 +51,12 @@ pub fn read_signature_at(alloc: Global, value: &Json, at: &Way) -> Result<Sig, S
 }
 
 // The shapes of a signature.
-fn read_shapes(alloc: Global, value: &Json, at: &Way) -> Result<Sig, ScriptFault>
-    requires { HasShortArrays (view value.now) }
-    ensures ok { IfOk result (λ s. read_shapes (view value.now) at.now ≡ read s) }
-    ensures err { IfErr result (Reports (λ p r. read_shapes (view value.now) at.now ≡ language.fault p r)) }
+fn read_shapes(alloc: Global, value: &Node, at: &Way) -> Result<Sig, ScriptFault>
+    ensures ok { IfOk result (λ s. read_shapes value.now at.now ≡ read s) }
+    ensures err { IfErr result (Reports (λ p r. read_shapes value.now at.now ≡ language.fault p r)) }
 {
     let keys = signature_keys(alloc)?;
-    check_object_at(alloc, value, &keys, at)?;
+    check_object_at(alloc, value.json(), &keys, at)?;
     let ret = read_ret(alloc, value, at)?;
     let args = read_args(alloc, value, at)?;
     let fixed = read_fixed(alloc, value, at)?;
@@ -86,41 +84,39 @@ fn signature_keys(alloc: Global) -> Result<Keys, NoMemory>
 }
 
 // The shape of the result. One that is not there is read as null.
-fn read_ret(alloc: Global, value: &Json, at: &Way) -> Result<FfiType, ScriptFault>
-    requires { HasShortArrays (view value.now) }
-    ensures ok { IfOk result (λ t. read_type (value_under (codes "ret") (view value.now)) (under at.now (codes "ret")) ≡ read (tree_of t)) }
-    ensures err { IfErr result (Reports (λ p r. read_type (value_under (codes "ret") (view value.now)) (under at.now (codes "ret")) ≡ language.fault p r)) }
+fn read_ret(alloc: Global, value: &Node, at: &Way) -> Result<FfiType, ScriptFault>
+    ensures ok { IfOk result (λ t. read_type (value_under (codes "ret") value.now) (under at.now (codes "ret")) ≡ read (tree_of t)) }
+    ensures err { IfErr result (Reports (λ p r. read_type (value_under (codes "ret") value.now) (under at.now (codes "ret")) ≡ language.fault p r)) }
 {
     let place = at.key("ret");
     let Some(ret) = value.get("ret") else {
         return Err(bad(alloc, &place, Reason::NotAType));
     };
-    read_type_at(alloc, ret, &place)
+    read_type_at(alloc, &ret, &place)
 }
 
 // The shapes of the arguments. An array that is not there is read as null.
-fn read_args(alloc: Global, value: &Json, at: &Way) -> Result<Fields, ScriptFault>
-    requires { HasShortArrays (view value.now) }
-    ensures ok { IfOk result (λ ts. read_types (value_under (codes "args") (view value.now)) (under at.now (codes "args")) ≡ read ts) }
-    ensures err { IfErr result (Reports (λ p r. read_types (value_under (codes "args") (view value.now)) (under at.now (codes "args")) ≡ language.fault p r)) }
+fn read_args(alloc: Global, value: &Node, at: &Way) -> Result<Fields, ScriptFault>
+    ensures ok { IfOk result (λ ts. read_types (value_under (codes "args") value.now) (under at.now (codes "args")) ≡ read ts) }
+    ensures err { IfErr result (Reports (λ p r. read_types (value_under (codes "args") value.now) (under at.now (codes "args")) ≡ language.fault p r)) }
 {
     let place = at.key("args");
     let Some(args) = value.get("args") else {
         return Err(bad(alloc, &place, Reason::NotAnArray));
     };
-    read_list(alloc, args, &place)
+    read_list(alloc, &args, &place)
 }
 
 // The number of fixed arguments, where there is one.
-fn read_fixed(alloc: Global, value: &Json, at: &Way) -> Result<Option<u32>, ScriptFault>
-    ensures ok { IfOk result (λ n. read_fixed (get (codes "fixed") (view value.now)) (under at.now (codes "fixed")) ≡ read n) }
-    ensures err { IfErr result (Reports (λ p r. read_fixed (get (codes "fixed") (view value.now)) (under at.now (codes "fixed")) ≡ language.fault p r)) }
+fn read_fixed(alloc: Global, value: &Node, at: &Way) -> Result<Option<u32>, ScriptFault>
+    ensures ok { IfOk result (λ n. read_fixed (get (codes "fixed") value.now) (under at.now (codes "fixed")) ≡ read n) }
+    ensures err { IfErr result (Reports (λ p r. read_fixed (get (codes "fixed") value.now) (under at.now (codes "fixed")) ≡ language.fault p r)) }
 {
     let place = at.key("fixed");
     let Some(count) = value.get("fixed") else {
         return Ok(None);
     };
-    let Some(n) = count.as_u64() else {
+    let Some(n) = count.json().as_u64() else {
         return Err(bad(alloc, &place, Reason::NotACount));
     };
     if n < 4_294_967_296 {

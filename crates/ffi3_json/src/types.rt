@@ -7,7 +7,7 @@ ghost use Rattle.ffi3_types.specs.TreeOf.{tree_of};
 ghost use Rattle.ffi3_json.specs.Reports.{Reports};
 
 use crate::fault::bad;
-use crate::{Json, Reason, ScriptFault, Way, Where};
+use crate::{Json, Node, Reason, ScriptFault, Way, Where};
 use ffi3_types::{FfiType, Fields};
 use std::alloc::Global;
 
@@ -18,23 +18,23 @@ pub fn read_type(alloc: Global, value: &Json, at: &Where) -> Result<FfiType, Scr
     ensures ok { IfOk result (λ t. language.read_type (view value.now) at.now ≡ read (tree_of t)) }
     ensures err { IfErr result (Reports (λ p r. language.read_type (view value.now) at.now ≡ language.fault p r)) }
 {
-    read_type_at(alloc, value, &Way::from(at))
+    read_type_at(alloc, &Node::of(value), &Way::from(at))
 }
 
 /// The same, at a place on the way to a value.
 #[cycle(types)]
-pub fn read_type_at(alloc: Global, value: &Json, at: &Way) -> Result<FfiType, ScriptFault>
-    requires { HasShortArrays (view value.now) }
-    ensures ok { IfOk result (λ t. language.read_type (view value.now) at.now ≡ read (tree_of t)) }
-    ensures err { IfErr result (Reports (λ p r. language.read_type (view value.now) at.now ≡ language.fault p r)) }
+pub fn read_type_at(alloc: Global, value: &Node, at: &Way) -> Result<FfiType, ScriptFault>
+    ensures ok { IfOk result (λ t. language.read_type value.now at.now ≡ read (tree_of t)) }
+    ensures err { IfErr result (Reports (λ p r. language.read_type value.now at.now ≡ language.fault p r)) }
 {
-    if let Some(name) = value.as_str() {
+    let json = value.json();
+    if let Some(name) = json.as_str() {
         return match FfiType::from_name(name) {
             Some(ty) => Ok(ty),
             None => Err(bad(alloc, at, Reason::UnknownType)),
         };
     }
-    let Some(members) = value.as_object() else {
+    let Some(members) = json.as_object() else {
         return Err(bad(alloc, at, Reason::NotAType));
     };
     let Some(inside) = value.get("struct") else {
@@ -43,23 +43,22 @@ pub fn read_type_at(alloc: Global, value: &Json, at: &Way) -> Result<FfiType, Sc
     if members.len() != 1 {
         return Err(bad(alloc, at, Reason::NotAType));
     }
-    let types = read_list(alloc, inside, &at.key("struct"))?;
+    let types = read_list(alloc, &inside, &at.key("struct"))?;
     Ok(FfiType::Struct(types))
 }
 
 // The types that an array of them has.
 #[cycle(types)]
-pub(crate) fn read_list(alloc: Global, value: &Json, at: &Way) -> Result<Fields, ScriptFault>
-    requires { HasShortArrays (view value.now) }
-    ensures ok { IfOk result (λ ts. language.read_types (view value.now) at.now ≡ read ts) }
-    ensures err { IfErr result (Reports (λ p r. language.read_types (view value.now) at.now ≡ language.fault p r)) }
+pub(crate) fn read_list(alloc: Global, value: &Node, at: &Way) -> Result<Fields, ScriptFault>
+    ensures ok { IfOk result (λ ts. language.read_types value.now at.now ≡ read ts) }
+    ensures err { IfErr result (Reports (λ p r. language.read_types value.now at.now ≡ language.fault p r)) }
 {
-    let Some(items) = value.as_array() else {
+    let Some(items) = value.items() else {
         return Err(bad(alloc, at, Reason::NotAnArray));
     };
     let mut types = Fields::new(alloc);
     for i in 0..items.len() {
-        let ty = read_type_at(alloc, &items[i], &at.item(i as u32))?;
+        let ty = read_type_at(alloc, &items.get(i), &at.item(i as u32))?;
         types.push(ty)?;
     }
     Ok(types)

@@ -24,7 +24,7 @@ pub struct Event {
     pub sp: u64,
 }
 
-// An event, and the range of its stack's bytes.
+/// An event, and the range of its stack's bytes.
 #[derive(Clone, Copy)]
 pub struct Entry {
     event: Event,

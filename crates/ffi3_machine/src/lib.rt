@@ -57,7 +57,7 @@ use std::alloc::Global;
 use std::marker::Model;
 pub use step::Trap;
 
-/// Registers, stack, code region and journal. General and floating registers go by their numbers in the target's standard; sp is apart.
+/// Registers, stack, code region and journal. General and floating registers go by their numbers in the target's instructions; sp is apart.
 #[derive(Drop)]
 pub struct Machine {
     target: Target,

@@ -7,7 +7,7 @@ ghost use Rattle.ffi3_pieces.specs.Stored.{AreBytesOf, IsPieceLoaded, IsPlace, I
 use ffi3_machine::Machine;
 use ffi3_place::{Loc, Piece};
 
-// The number of eight bytes, the lowest first.
+/// The number of eight bytes, the lowest first.
 pub fn word_of(bytes: [u8; 8]) -> u64
     ensures { to_le_bytes w64 result ≡ bytes }
 {

@@ -43,7 +43,7 @@ fn store_run(
     machine.store_stack(start, &bytes[from..to]);
 }
 
-// Stores the runs of a value's bytes. Padding keeps what stood there. `bytes` are as many as the value has, whatever they hold.
+/// Stores the runs of a value's bytes. Padding keeps what stood there. `bytes` are as many as the value has, whatever they hold.
 pub fn store_runs(
     machine: &mut Machine,
     base: u64,

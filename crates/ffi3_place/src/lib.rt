@@ -1,4 +1,4 @@
-// Places of arguments and results, the trait of a calling standard, and what the standards share.
+//! Places of arguments and results, the trait of a calling standard, and what the standards share.
 #![tactic(auto)]
 
 ghost use Rattle.std.specs.Prelude.{◌≡◌, ℕ, ◌*◌, ◌<◌, IfOk, length, slice_index_or};
@@ -30,13 +30,14 @@ pub trait Abi {
 
     ghost PASSING: { ℕ };
 
-    /// Bytes of the area in which a callee saves the registers that it preserves.
+    /// Bytes of the area in which a callee saves the registers that it preserves, the link register and the address of a
+    /// hidden result, where the standard has them.
     const SAVE: u64;
 
     /// Bytes of the return address on the stack.
     const LINK: u64;
 
-    /// The standard's name.
+    /// The target whose calls follow the standard.
     const TARGET: Target;
 
     /// How many registers a callee preserves, the stack pointer aside.

@@ -1,4 +1,4 @@
-// The words in which the definitions of `specs/` speak of places: plain data, with no code of its own but lists.
+//! The words in which the definitions of `specs/` speak of places: plain data, with no code of its own but lists.
 #![tactic(auto)]
 
 mod listed;

@@ -1,4 +1,4 @@
-// The RISC-V calling standard with LP64D.
+//! The RISC-V calling standard with LP64D.
 #![tactic(auto)]
 
 ghost use Rattle.std.specs.Prelude.{◌≡◌, ◌<◌, ◌≤◌, ◌+◌, ◌*◌, ◌/◌, ◌^◌, length, IfOk, [], ◌∷◌, true, false, cond};

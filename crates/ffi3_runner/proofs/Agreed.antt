@@ -18,7 +18,7 @@ use Rattle.ffi3_board.specs.declared.activation.Waiting.{Waiting}
 use Rattle.ffi3_board.specs.declared.activation.Who.TheVariants.{Function}
 use Rattle.ffi3_board.specs.declared.board.Board.{Board}
 use Rattle.ffi3_board.specs.Going.{HasGoneIn, HasGoneBack}
-use Rattle.ffi3_board.specs.Path.{call_inside, calls_of, result_type_at}
+use Rattle.ffi3_board.specs.Activations.{call_inside, calls_of, result_type_at}
 use Rattle.ffi3_board.specs.Served.{HasAccepted}
 use Rattle.ffi3_board.proofs.Blocks.{AreAbove, StaysFrom}
 use Rattle.ffi3_runner.specs.Agreeing.{seen_by, InnermostStands, IsStanding, WillStand, AllWillStand, PositionsAgree}

@@ -13,7 +13,7 @@ use Rattle.ffi3_ask.specs.declared.standing.Standing.{Standing}
 use Rattle.ffi3_board.specs.declared.activation.Activation.{Activation}
 use Rattle.ffi3_board.specs.declared.activation.OpenCall.{OpenCall}
 use Rattle.ffi3_board.specs.declared.activation.Waiting.{Waiting}
-use Rattle.ffi3_board.specs.Path.{calls_below, calls_of}
+use Rattle.ffi3_board.specs.Activations.{calls_below, calls_of}
 use Rattle.ffi3_board.specs.Stack.{HoldsCalls}
 use Rattle.ffi3_board.proofs.Boarding.{popped_holds, reverse-last}
 use Rattle.ffi3_board.proofs.Opened.{block_at, is_incoming, sig_below}

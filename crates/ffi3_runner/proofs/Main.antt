@@ -27,7 +27,7 @@ use Rattle.ffi3_board.specs.declared.activation.Waiting.{Waiting}
 use Rattle.ffi3_board.specs.declared.activation.Who.TheVariants.{Main}
 use Rattle.ffi3_board.specs.declared.board.Board.{Board}
 use Rattle.ffi3_board.specs.Between.{Beginning}
-use Rattle.ffi3_board.specs.Path.{call_inside, who_of}
+use Rattle.ffi3_board.specs.Activations.{call_inside, who_of}
 use Rattle.ffi3_board.specs.Turned.{StandsAt}
 use Rattle.ffi3_runner.specs.Agreeing.{seen_by_main, IsStanding, AllWillStand, PositionsAgree}
 use Rattle.ffi3_runner.specs.Ran.{Ran}

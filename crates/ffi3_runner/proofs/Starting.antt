@@ -26,7 +26,7 @@ use Rattle.ffi3_board.specs.declared.activation.Waiting.{Waiting}
 use Rattle.ffi3_board.specs.declared.activation.Who.TheVariants.{Main}
 use Rattle.ffi3_board.specs.declared.board.Board.{Board}
 use Rattle.ffi3_board.specs.Between.{RunState, IsBetween, run_state, run_state_with}
-use Rattle.ffi3_board.specs.Path.{acting, who_of}
+use Rattle.ffi3_board.specs.Activations.{acting, who_of}
 use Rattle.ffi3_board.specs.Turned.{StandsAt}
 use Rattle.ffi3_board.proofs.Closed.{none_known}
 use Rattle.ffi3_runner.specs.Running.{IsNew}

@@ -28,9 +28,9 @@ use Rattle.ffi3_board.specs.declared.activation.Activation.{Activation}
 use Rattle.ffi3_board.specs.declared.activation.OpenCall.{OpenCall}
 use Rattle.ffi3_board.specs.declared.activation.Waiting.{Waiting}
 use Rattle.ffi3_board.specs.declared.board.Board.{Board}
-use Rattle.ffi3_board.specs.Between.{Beginning, AreFew, IsBetween, IsAsking, run_state}
+use Rattle.ffi3_board.specs.Between.{Beginning, ResultsWithinMoves, IsBetween, IsAsking, run_state}
 use Rattle.ffi3_board.specs.Going.{and_result}
-use Rattle.ffi3_board.specs.Path.{who_of, acting, arguments_at, call_inside, suspended_at, result_type_at, AreShort}
+use Rattle.ffi3_board.specs.Activations.{who_of, acting, arguments_at, call_inside, suspended_at, result_type_at, AreShort}
 use Rattle.ffi3_board.specs.Turned.{StandsAt, StandsWith, Turned, WentOn}
 use Rattle.ffi3_board.specs.declared.board.Turn.{Turn}
 use Rattle.ffi3_board.specs.declared.board.Turn.TheVariants as turn
@@ -80,7 +80,7 @@ module _ (p : Program) (base : Base) (all : Remainder) (first : Beginning) (own 
 
 -- ---- numbers
 
-pub short_by_few : (ss : List Signature) (m : State) (served : Option OpenCall) (outer : List (Waiting Standing)) (moves : ℕ) → AreFew moves (suspended_at ss m served outer) → AreShort outer
+pub short_by_few : (ss : List Signature) (m : State) (served : Option OpenCall) (outer : List (Waiting Standing)) (moves : ℕ) → ResultsWithinMoves moves (suspended_at ss m served outer) → AreShort outer
 short_by_few ss m served [] moves h = tt
 short_by_few ss m served (w ∷ outer) moves h =
     let few : length w.activation.results + moves ≤ most_moves = h.0 in

@@ -16,7 +16,7 @@ use Rattle.ffi3_board.specs.declared.activation.Activation.{Activation}
 use Rattle.ffi3_board.specs.declared.activation.OpenCall.{OpenCall}
 use Rattle.ffi3_board.specs.declared.activation.Waiting.{Waiting}
 use Rattle.ffi3_board.specs.declared.board.Board.{Board}
-use Rattle.ffi3_board.specs.Path.{who_of, call_inside}
+use Rattle.ffi3_board.specs.Activations.{who_of, call_inside}
 
 -- what main's activation has seen
 abbrev pub seen_by_main : Activation Standing → SeenActivation

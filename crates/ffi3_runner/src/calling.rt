@@ -19,7 +19,7 @@ ghost use Rattle.ffi3_ask.specs.Stands.{StandingAgrees};
 ghost use Rattle.ffi3_script_body.specs.Agrees.{one_more};
 ghost use Rattle.ffi3_ask.specs.Stands as ask;
 ghost use Rattle.ffi3_board.specs.Between.{Beginning, IsAsking, run_state};
-ghost use Rattle.ffi3_board.specs.Path.{call_inside, calls_of};
+ghost use Rattle.ffi3_board.specs.Activations.{call_inside, calls_of};
 ghost use Rattle.ffi3_board.specs.Stack.{HoldsCalls};
 ghost use Rattle.ffi3_board.specs.Turned.{StandsAt, Turned};
 ghost use Rattle.ffi3_runner.specs.Agreeing.{PositionsAgree, AllWillStand, IsStanding, WillStand, seen_by};

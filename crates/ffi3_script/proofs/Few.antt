@@ -7,7 +7,7 @@ use Rattle.serde_json.specs.Find.{get, as_number, as_u64}
 use Rattle.serde_json.specs.Events.{items_len}
 use Rattle.ffi3_type_rules.specs.Signature.{Signature, signature_at}
 use Rattle.ffi3_run_rules.specs.Move.{no_signature}
-use Rattle.ffi3_script_rules.specs.Language.{Path, read, read_signature, at_item, under, value_under, check_object, no_return_at_the_end}
+use Rattle.ffi3_script_rules.specs.Language.{JsonPath, read, read_signature, at_item, under, value_under, check_object, no_return_at_the_end}
 use Rattle.ffi3_script_rules.specs.Script.{ScriptMove, ScriptFunction, Script}
 use Rattle.ffi3_script_rules.specs.Values.{Given}
 use Rattle.ffi3_script_rules.specs.Bodies.{Surroundings, read_move, read_moves, given_by, read_body, if_ended, ends, Heading, read_bodies, names_of, read_rest, read_script, script_keys, version_of, items_at, read_signatures, read_headings}
@@ -15,7 +15,7 @@ use Rattle.ffi3_script_rules.proofs.ReadParts.{first_was_read, part_was_read, sa
 use Rattle.ffi3_json.specs.Within.{HasArraysWithin, HaveArraysWithin}
 use Rattle.ffi3_script.proofs.RootParts.{within-get}
 
-moves-count : (s : Surroundings) (given : List Given) (ds : Items) (path : Path) (i : ℕ) (ms : List ScriptMove) → read_moves s given ds path i ≡ read ms → length ms ≡ items_len ds
+moves-count : (s : Surroundings) (given : List Given) (ds : Items) (path : JsonPath) (i : ℕ) (ms : List ScriptMove) → read_moves s given ds path i ≡ read ms → length ms ≡ items_len ds
 moves-count s given no_items path i ms h = subst (λ (ns : List ScriptMove). length ns ≡ 0) (same_read [] ms h) refl
 moves-count s given (item d ds) path i ms h =
     let m = first_was_read _ (read_move s given d (at_item path i)) ms h in
@@ -30,7 +30,7 @@ within-under : (n : ℕ) (k : List ℕ) (d : Data) → HasArraysWithin n d → H
 within-under n k d within = within-option n k d (get k d) refl within
 
 module _ (n : ℕ) where
-  body-few : (s : Surroundings) (d : Data) (path : Path) (ms : List ScriptMove) → HasArraysWithin n d → read_body s d path ≡ read ms → length ms ≤ n
+  body-few : (s : Surroundings) (d : Data) (path : JsonPath) (ms : List ScriptMove) → HasArraysWithin n d → read_body s d path ≡ read ms → length ms ≤ n
   body-few s (array ds) path ms within h =
       let was = first_was_read (if_ended path) (read_moves s [] ds path 0) ms h in
       let held = test_held (ends was.0) (read was.0) path no_return_at_the_end ms was.2 in
@@ -44,7 +44,7 @@ module _ (n : ℕ) where
   abbrev pub HasFewMoves : ScriptFunction → Type 0
   HasFewMoves f = length f.body ≤ n
 
-  bodies-few : (ss : List Signature) (names : List (List ℕ)) (hs : List Heading) (ds : Items) (path : Path) (i : ℕ) (fs : List ScriptFunction) → HaveArraysWithin n ds → read_bodies ss names hs ds path i ≡ read fs
+  bodies-few : (ss : List Signature) (names : List (List ℕ)) (hs : List Heading) (ds : Items) (path : JsonPath) (i : ℕ) (fs : List ScriptFunction) → HaveArraysWithin n ds → read_bodies ss names hs ds path i ≡ read fs
       → (length fs ≤ items_len ds) × All HasFewMoves fs
   bodies-few ss names [] no_items path i fs within h = subst (λ gs. (length gs ≤ 0) × All HasFewMoves gs) (same_read [] fs h) (omega arith, All-nil HasFewMoves)
   bodies-few ss names (h ∷ hs) no_items path i fs within e = subst (λ gs. (length gs ≤ 0) × All HasFewMoves gs) (same_read [] fs e) (omega arith, All-nil HasFewMoves)
@@ -58,7 +58,7 @@ module _ (n : ℕ) where
       let others = bodies-few ss names hs ds path (i + 1) rest.0 within.1 rest.1 in
       subst (λ gs. (length gs ≤ suc (items_len ds)) × All HasFewMoves gs) rest.2 (omega (arith, others.0), All-cons HasFewMoves _ rest.0 few others.1)
 
-  items-within : (d : Data) (path : Path) (ds : Items) → HasArraysWithin n d → items_at d path ≡ read ds → HasArraysWithin n (array ds)
+  items-within : (d : Data) (path : JsonPath) (ds : Items) → HasArraysWithin n d → items_at d path ≡ read ds → HasArraysWithin n (array ds)
   items-within (array es) path ds within h = subst (λ fs. HasArraysWithin n (array fs)) (same_read es ds h) within
   items-within null path ds within h = cc
   items-within (boolean b) path ds within h = cc
@@ -66,7 +66,7 @@ module _ (n : ℕ) where
   items-within (string text) path ds within h = cc
   items-within (object os) path ds within h = cc
 
-  signatures-count : (ds : Items) (path : Path) (i : ℕ) (ss : List Signature) → read_signatures ds path i ≡ read ss → length ss ≡ items_len ds
+  signatures-count : (ds : Items) (path : JsonPath) (i : ℕ) (ss : List Signature) → read_signatures ds path i ≡ read ss → length ss ≡ items_len ds
   signatures-count no_items path i ss h =
       subst (λ (rs : List Signature). length rs ≡ 0) (same_read [] ss h) refl
   signatures-count (item d ds) path i ss h =

@@ -3,23 +3,23 @@ use Rattle.std.proofs.Common.{◌≡◌, ℕ, ◌+◌, ◌<◌, ◌||◌, List, 
 use Rattle.std.specs.Prelude.{slice_index_or}
 use Rattle.std.specs.List.{list_any}
 use Rattle.std.proofs.lemmas.List.{map-append}
-use Rattle.serde_json.specs.Data.{Data}
+use Rattle.serde_json.specs.Data.{Data, Items, item}
+use Rattle.serde_json.specs.Events.{items_len}
 use Rattle.serde_json.specs.Find.{get, as_str}
-use Rattle.serde_json.specs.View.{view, items_view}
-use Rattle.serde_json.specs.declared.value.Value.{Value}
 use Rattle.ffi3_type_rules.specs.Signature.{Signature, signature_at}
-use Rattle.ffi3_script_rules.specs.Language.{Path, Reason, Read, read, fault, read_map, and_then, at_item, under, value_under}
+use Rattle.ffi3_script_rules.specs.Language.{JsonPath, Reason, Read, read, fault, read_map, and_then, at_item, under, value_under}
 use Rattle.ffi3_script_rules.specs.Script as script
 use Rattle.ffi3_script_rules.specs.Values.{is_name_of}
 use Rattle.ffi3_script_rules.specs.Bodies as bodies
 use Rattle.ffi3_script_rules.specs.Bodies.{is_one_of, new_name, read_heading, read_headings, names_of, function_of, read_body, read_bodies}
+use Rattle.ffi3_json.specs.Parts.{item_at, items_from}
 use Rattle.ffi3_json.proofs.Objects.{next}
 use Rattle.ffi3_script.specs.Taken.{is_taken}
 use Rattle.ffi3_script_body.specs.ExprOf.{script_moves_of}
 use Rattle.ffi3_script.specs.PartsOf.{heading_of, headings_of, part_of, IsHeaded}
 use Rattle.ffi3_script.specs.declared.headings.Heading.{Heading}
 use Rattle.ffi3_script.specs.declared.function_parts.FunctionPart.{FunctionPart}
-use Rattle.ffi3_script.proofs.Loops.{before, first_and, one_more, one_fault, mapped-more}
+use Rattle.ffi3_script.proofs.Loops.{before, next_item, first_and, one_more, one_fault, mapped-more}
 use Rattle.ffi3_script.proofs.Given.{any-position, new_name-same}
 use Rattle.ffi3_script.proofs.Steps.{under-is}
 
@@ -36,25 +36,25 @@ names-more old one new names more e pushed named =
     named ∙ ap (λ ns. ns ++ string_bytes one.name ∷ []) e ∙ sym (ap names_of (mapped-more heading_of old one new pushed) ∙ map-append (λ (h : bodies.Heading). h.name) (headings_of old) (heading_of one ∷ []))
 
 -- one more heading was read
-pub headings-turn : (count : ℕ) (names more_names : List (List ℕ)) (vs : List Value) (path : Path) (i : ℕ) (x : Value) (whole : Read (List bodies.Heading)) (hs more : List Heading) (one : Heading)
-    → i < length vs → x ≡ slice_index_or vs i x → whole ≡ before (headings_of hs) (read_headings count names (items_view (drop i vs)) path i)
-    → read_heading count names (view x) (at_item path i) ≡ read (heading_of one) → more_names ≡ names ++ string_bytes one.name ∷ [] → more ≡ hs ++ one ∷ []
-    → whole ≡ before (headings_of more) (read_headings count more_names (items_view (drop (i + 1) vs)) path (i + 1))
-headings-turn count names more_names vs path i x whole hs more one below is so_far e named pushed =
-    let rest : List (List ℕ) → Read (List bodies.Heading) = λ ns. read_headings count ns (items_view (drop (i + 1) vs)) path (i + 1) in
+pub headings-turn : (count : ℕ) (names more_names : List (List ℕ)) (ds : Items) (path : JsonPath) (i : ℕ) (x : Data) (whole : Read (List bodies.Heading)) (hs more : List Heading) (one : Heading)
+    → i < items_len ds → x ≡ item_at ds i → whole ≡ before (headings_of hs) (read_headings count names (items_from i ds) path i)
+    → read_heading count names x (at_item path i) ≡ read (heading_of one) → more_names ≡ names ++ string_bytes one.name ∷ [] → more ≡ hs ++ one ∷ []
+    → whole ≡ before (headings_of more) (read_headings count more_names (items_from (i + 1) ds) path (i + 1))
+headings-turn count names more_names ds path i x whole hs more one below is so_far e named pushed =
+    let rest : List (List ℕ) → Read (List bodies.Heading) = λ ns. read_headings count ns (items_from (i + 1) ds) path (i + 1) in
     let more_of : bodies.Heading → Read (List bodies.Heading) = λ h. rest (names ++ h.name ∷ []) in
-    let here : whole ≡ before (headings_of hs) (first_and more_of (read_heading count names (view x) (at_item path i))) = so_far ∙ ap (λ us. before (headings_of hs) (read_headings count names (items_view us) path i)) (next vs i x below is) in
-    one_more whole (headings_of hs) more_of (read_heading count names (view x) (at_item path i)) here (heading_of one) e
+    let here : whole ≡ before (headings_of hs) (first_and more_of (read_heading count names x (at_item path i))) = so_far ∙ ap (λ es. before (headings_of hs) (read_headings count names es path i)) (next_item ds i x below is) in
+    one_more whole (headings_of hs) more_of (read_heading count names x (at_item path i)) here (heading_of one) e
     ∙ ap (λ ns. before (headings_of hs ++ heading_of one ∷ []) (rest ns)) (sym named)
     ∙ ap (λ done. before done (rest more_names)) (sym (mapped-more heading_of hs one more pushed))
 
-pub headings-fault : (count : ℕ) (names : List (List ℕ)) (vs : List Value) (path : Path) (i : ℕ) (x : Value) (whole : Read (List bodies.Heading)) (done : List bodies.Heading) (p : Path) (r : Reason)
-    → i < length vs → x ≡ slice_index_or vs i x → whole ≡ before done (read_headings count names (items_view (drop i vs)) path i)
-    → read_heading count names (view x) (at_item path i) ≡ fault p r → whole ≡ fault p r
-headings-fault count names vs path i x whole done p r below is so_far e =
-    let more_of : bodies.Heading → Read (List bodies.Heading) = λ h. read_headings count (names ++ h.name ∷ []) (items_view (drop (i + 1) vs)) path (i + 1) in
-    let here : whole ≡ before done (first_and more_of (read_heading count names (view x) (at_item path i))) = so_far ∙ ap (λ us. before done (read_headings count names (items_view us) path i)) (next vs i x below is) in
-    one_fault whole done more_of (read_heading count names (view x) (at_item path i)) here p r e
+pub headings-fault : (count : ℕ) (names : List (List ℕ)) (ds : Items) (path : JsonPath) (i : ℕ) (x : Data) (whole : Read (List bodies.Heading)) (done : List bodies.Heading) (p : JsonPath) (r : Reason)
+    → i < items_len ds → x ≡ item_at ds i → whole ≡ before done (read_headings count names (items_from i ds) path i)
+    → read_heading count names x (at_item path i) ≡ fault p r → whole ≡ fault p r
+headings-fault count names ds path i x whole done p r below is so_far e =
+    let more_of : bodies.Heading → Read (List bodies.Heading) = λ h. read_headings count (names ++ h.name ∷ []) (items_from (i + 1) ds) path (i + 1) in
+    let here : whole ≡ before done (first_and more_of (read_heading count names x (at_item path i))) = so_far ∙ ap (λ es. before done (read_headings count names es path i)) (next_item ds i x below is) in
+    one_fault whole done more_of (read_heading count names x (at_item path i)) here p r e
 
 -- ---- bodies
 
@@ -62,22 +62,22 @@ regrouped : {A B : Type 0} (f : A → B) (rest : Read (List B)) (first : Read A)
 regrouped f rest (read a) = refl
 regrouped f rest (fault p r) = refl
 
-module _ (ss : List Signature) (names : List (List ℕ)) (hs : List Heading) (h : Heading) (vs : List Value) (path : Path) (i : ℕ) (x : Value) (whole : Read (List script.ScriptFunction)) (done : List script.ScriptFunction)
-    (among : i < length hs) (h_is : h ≡ slice_index_or hs i h) (below : i < length vs) (is : x ≡ slice_index_or vs i x)
-    (so_far : whole ≡ before done (read_bodies ss names (headings_of (drop i hs)) (items_view (drop i vs)) path i)) where
+module _ (ss : List Signature) (names : List (List ℕ)) (hs : List Heading) (h : Heading) (ds : Items) (path : JsonPath) (i : ℕ) (x : Data) (whole : Read (List script.ScriptFunction)) (done : List script.ScriptFunction)
+    (among : i < length hs) (h_is : h ≡ slice_index_or hs i h) (below : i < items_len ds) (is : x ≡ item_at ds i)
+    (so_far : whole ≡ before done (read_bodies ss names (headings_of (drop i hs)) (items_from i ds) path i)) where
   abbrev pub body_here : Read (List script.ScriptMove)
-  body_here = read_body (record { signatures = ss; functions = names; own = signature_at ss h.sig }) (value_under (codes "body") (view x)) (under (at_item path i) (codes "body"))
+  body_here = read_body (record { signatures = ss; functions = names; own = signature_at ss h.sig }) (value_under (codes "body") x) (under (at_item path i) (codes "body"))
 
   abbrev rest_here : Read (List script.ScriptFunction)
-  rest_here = read_bodies ss names (headings_of (drop (i + 1) hs)) (items_view (drop (i + 1) vs)) path (i + 1)
+  rest_here = read_bodies ss names (headings_of (drop (i + 1) hs)) (items_from (i + 1) ds) path (i + 1)
 
   part-here : whole ≡ before done (first_and (λ f. rest_here) (read_map (function_of (heading_of h)) body_here))
   part-here =
-      so_far ∙ ap (λ us. before done (read_bodies ss names (headings_of (drop i hs)) (items_view us) path i)) (next vs i x below is)
-      ∙ ap (λ gs. before done (read_bodies ss names (headings_of gs) (items_view (x ∷ drop (i + 1) vs)) path i)) (next hs i h among h_is)
+      so_far ∙ ap (λ es. before done (read_bodies ss names (headings_of (drop i hs)) es path i)) (next_item ds i x below is)
+      ∙ ap (λ gs. before done (read_bodies ss names (headings_of gs) (item x (items_from (i + 1) ds)) path i)) (next hs i h among h_is)
       ∙ ap (before done) (regrouped (function_of (heading_of h)) rest_here body_here)
 
-  pub part-fault : (p : Path) (r : Reason) → body_here ≡ fault p r → whole ≡ fault p r
+  pub part-fault : (p : JsonPath) (r : Reason) → body_here ≡ fault p r → whole ≡ fault p r
   part-fault p r e = one_fault whole done (λ f. rest_here) (read_map (function_of (heading_of h)) body_here) part-here p r (ap (read_map (function_of (heading_of h))) e)
 
   pub part-turn : (parts more : List FunctionPart) (one : FunctionPart) → done ≡ map part_of parts → IsHeaded h one → more ≡ parts ++ one ∷ [] → body_here ≡ read (script_moves_of one.moves.items) → whole ≡ before (map part_of more) rest_here
@@ -90,7 +90,7 @@ module _ (ss : List Signature) (names : List (List ℕ)) (hs : List Heading) (h 
 
 -- ---- the name of a function
 
-pub name-is : (earlier : List (List ℕ)) (index : List (Option (List ℕ))) (d named : Data) (path : Path) → index ≡ map (λ n. Some n) earlier → Some named ≡ get (codes "name") d
+pub name-is : (earlier : List (List ℕ)) (index : List (Option (List ℕ))) (d named : Data) (path : JsonPath) → index ≡ map (λ n. Some n) earlier → Some named ≡ get (codes "name") d
     → new_name (is_one_of earlier) (as_str (value_under (codes "name") d)) path ≡ new_name (is_taken index) (as_str named) path
 name-is earlier index d named path e there =
     ap (λ x. new_name (is_one_of earlier) (as_str x) path) (under-is (codes "name") d named there)

@@ -6,7 +6,7 @@ use Rattle.std.proofs.lemmas.Bool.Decides.{nat_tests}
 use Rattle.serde_json.specs.Data.{Data}
 use Rattle.serde_json.specs.Find.{get, as_str}
 use Rattle.ffi3_type_rules.specs.Tree.{Tree}
-use Rattle.ffi3_script_rules.specs.Language.{Path, Reason, read, fault, and_then, void_result, bad_name, name_twice}
+use Rattle.ffi3_script_rules.specs.Language.{JsonPath, Reason, read, fault, and_then, void_result, bad_name, name_twice}
 use Rattle.ffi3_script_rules.specs.Values.{is_name_of, has_name}
 use Rattle.ffi3_script_rules.specs.Bodies.{is_name, new_name, is_given, is_void_type, read_name, name_of_result}
 use Rattle.ffi3_types.specs.TreeOf.{tree_of}
@@ -39,20 +39,20 @@ any-given name (n ∷ names) (t ∷ types) even = ap (λ b. is_name_of name n ||
 pub given-taken : (names : List (Option (List ℕ))) (types : List Tree) → length names ≡ length types → (name : List ℕ) → is_given (given_of names types) name ≡ is_taken names name
 given-taken names types even name = any-given name names types even ∙ any-position (is_name_of name) names
 
-pub new_name-same : (f g : List ℕ → Bool) → ((name : List ℕ) → f name ≡ g name) → (o : Option (List ℕ)) (path : Path) → new_name f o path ≡ new_name g o path
+pub new_name-same : (f g : List ℕ → Bool) → ((name : List ℕ) → f name ≡ g name) → (o : Option (List ℕ)) (path : JsonPath) → new_name f o path ≡ new_name g o path
 new_name-same f g same None path = refl
 new_name-same f g same (Some name) path =
     ap (λ b. cond (not (is_name name)) (fault path bad_name) (cond b (fault path name_twice) (read name))) (same name)
 
 -- ---- the name of a result
 
-module _ (names : List (Option (List ℕ))) (types : List Tree) (even : length names ≡ length types) (t : Tree) (d named : Data) (path : Path) (there : Some named ≡ get (codes "as") d) where
+module _ (names : List (Option (List ℕ))) (types : List Tree) (even : length names ≡ length types) (t : Tree) (d named : Data) (path : JsonPath) (there : Some named ≡ get (codes "as") d) where
   named-is : read_name (given_of names types) t (get (codes "as") d) path ≡ and_then (name_of_result t path) (new_name (is_taken names) (as_str named) path)
   named-is =
       ap (λ o. read_name (given_of names types) t o path) (sym there)
       ∙ ap (and_then (name_of_result t path)) (new_name-same (is_given (given_of names types)) (is_taken names) (given-taken names types even) (as_str named) path)
 
-  pub name-fault : (p : Path) (r : Reason) → new_name (is_taken names) (as_str named) path ≡ fault p r → read_name (given_of names types) t (get (codes "as") d) path ≡ fault p r
+  pub name-fault : (p : JsonPath) (r : Reason) → new_name (is_taken names) (as_str named) path ≡ fault p r → read_name (given_of names types) t (get (codes "as") d) path ≡ fault p r
   name-fault p r e = named-is ∙ ap (and_then (name_of_result t path)) e
 
   name-of : (name : List ℕ) → new_name (is_taken names) (as_str named) path ≡ read name → read_name (given_of names types) t (get (codes "as") d) path ≡ name_of_result t path name

@@ -4,7 +4,7 @@ use Rattle.std.specs.Prelude.{slice_get}
 use Rattle.std.specs.List.{position_or_len}
 use Rattle.std.proofs.lemmas.List.Quantifiers.{position-Some}
 use Rattle.ffi3_type_rules.specs.Tree.{Tree, tree_at}
-use Rattle.ffi3_script_rules.specs.Language.{Path, read, fault, no_such_result}
+use Rattle.ffi3_script_rules.specs.Language.{JsonPath, read, fault, no_such_result}
 use Rattle.ffi3_script_rules.specs.Script.{outcome}
 use Rattle.ffi3_script_rules.specs.Values.{has_name, is_name_of, result_of, result_number, typed_result, typed}
 use Rattle.ffi3_script.specs.ScopeOf.{given_of}
@@ -23,13 +23,13 @@ found : (name : List ℕ) (names : List (Option (List ℕ))) (types : List Tree)
 found name names types h =
     λ i. cond (nat_lt (place name names types h i) (count names types h i)) (Some (place name names types h i)) None
 
-type_of : (i : ℕ) (path : Path) (names : List (Option (List ℕ))) (types : List Tree) (j : ℕ) → length names ≡ length types → j < length types → typed_result i path (slice_get (given_of names types) j) ≡ read (typed (tree_at types j) (outcome i))
+type_of : (i : ℕ) (path : JsonPath) (names : List (Option (List ℕ))) (types : List Tree) (j : ℕ) → length names ≡ length types → j < length types → typed_result i path (slice_get (given_of names types) j) ≡ read (typed (tree_at types j) (outcome i))
 type_of i path [] types j h below = absurd (omega arith)
 type_of i path (n ∷ names) [] j h below = absurd (omega arith)
 type_of i path (n ∷ names) (t ∷ types) zero h below = refl
 type_of i path (n ∷ names) (t ∷ types) (suc j) h below = type_of i path names types j (omega arith) (omega arith)
 
-module _ (name : List ℕ) (names : List (Option (List ℕ))) (types : List Tree) (path : Path) (even : length names ≡ length types) where
+module _ (name : List ℕ) (names : List (Option (List ℕ))) (types : List Tree) (path : JsonPath) (even : length names ≡ length types) where
   pub no_result : position (is_name_of name) names ≡ None → result_of (given_of names types) (Some name) path ≡ fault path no_such_result
   no_result h = ap (λ o. result_number (given_of names types) o path) (found name names types even ∙ h)
 

@@ -10,7 +10,7 @@ use Rattle.ffi3_type_rules.specs.Same.{same_tree}
 use Rattle.ffi3_types.specs.declared.FfiType.{FfiType}
 use Rattle.ffi3_types.specs.TreeOf.{tree_of}
 use Rattle.ffi3_types.proofs.Trees.{tree_of-inj}
-use Rattle.ffi3_script_rules.specs.Language.{Path, Read, read, fault, and_then, read_type, inside_type, reason_of_type_fault, wrong_type}
+use Rattle.ffi3_script_rules.specs.Language.{JsonPath, Read, read, fault, and_then, read_type, inside_type, reason_of_type_fault, wrong_type}
 use Rattle.ffi3_script_rules.specs.Script.{Expression}
 use Rattle.ffi3_script_rules.specs.Values.{against, typed, read_right_type, right_type}
 use Rattle.ffi3_script_rules.proofs.FirstFaults.{found_by_first, none_found}
@@ -33,18 +33,18 @@ same_by own ty true iff =
 same_by own ty false iff =
     not_so (same_tree (tree_of own) (tree_of ty)) (λ h. false≢true (iff.1 (tree_of-inj own ty (types_are_same (tree_of own) (tree_of ty) h))))
 
-pub against-is : (own ty : FfiType) (path : Path) (e : Expression) (b r : Bool) → (IsTrue b ↔ (own ≡ ty)) → b ≡ r
+pub against-is : (own ty : FfiType) (path : JsonPath) (e : Expression) (b r : Bool) → (IsTrue b ↔ (own ≡ ty)) → b ≡ r
     → against (tree_of ty) path (typed (tree_of own) e) ≡ (if r then read e else fault path wrong_type)
 against-is own ty path e b r iff is =
     ap (λ x. if x then read e else fault path wrong_type) (same_by own ty b iff ∙ is)
 
 -- ---- a type that may be an argument's
 
-pub right_type-ok : (d : Data) (path : Path) (t : Tree) → read_type d path ≡ read t → IsArgumentType t → read_right_type d path ≡ read t
+pub right_type-ok : (d : Data) (path : JsonPath) (t : Tree) → read_type d path ≡ read t → IsArgumentType t → read_right_type d path ≡ read t
 right_type-ok d path t was right =
     then_read _ (read_type d path) t was ∙ ap (right_type path t) (none_found 0 false t right)
 
-pub right_type-fault : (d : Data) (path : Path) (t : Tree) (way : List ℕ) (f : type_fault.Fault) → read_type d path ≡ read t → IsFirstFault 0 false t way f
+pub right_type-fault : (d : Data) (path : JsonPath) (t : Tree) (way : List ℕ) (f : type_fault.Fault) → read_type d path ≡ read t → IsFirstFault 0 false t way f
     → read_right_type d path ≡ fault (inside_type path way) (reason_of_type_fault f)
 right_type-fault d path t way f was first =
     then_read _ (read_type d path) t was ∙ ap (right_type path t) (found_by_first 0 false t way f first)

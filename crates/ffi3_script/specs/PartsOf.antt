@@ -2,7 +2,7 @@
 use Rattle.std.specs.Prelude.{◌≡◌, ℕ, List, map, string_bytes, codes}
 use Rattle.serde_json.specs.Data.{Data, Items}
 use Rattle.ffi3_run_rules.specs.Move.{no_signature}
-use Rattle.ffi3_script_rules.specs.Language.{Read, Path, and_then, read_map, under, value_under}
+use Rattle.ffi3_script_rules.specs.Language.{Read, JsonPath, and_then, read_map, under, value_under}
 use Rattle.ffi3_script_rules.specs.Bodies.{read_body, read_bodies}
 use Rattle.ffi3_type_rules.specs.Signature.{Signature}
 use Rattle.ffi3_script_rules.specs.Script as script
@@ -31,7 +31,7 @@ script_in signatures functions main = record {
 }
 
 -- The bodies of functions of these headings, and then main. The language has it at the root, and the names are those of the functions and then of the natives.
-abbrev pub bodies_and_main : List Signature → List (List ℕ) → List bodies.Heading → Items → Data → Path → Read script.Script
+abbrev pub bodies_and_main : List Signature → List (List ℕ) → List bodies.Heading → Items → Data → JsonPath → Read script.Script
 bodies_and_main signatures names hs fs d path =
     and_then
     (λ functions. read_map

@@ -1,8 +1,8 @@
--- Objects of one member, arrays of two items, and forms of values.
+-- Arrays of two items, and forms of values.
 use Rattle.std.specs.Prelude.{ℕ, List, Option, Some, None, Bool, true, false, if◌then◌else◌}
-use Rattle.serde_json.specs.Data.{Data, null, boolean, number, string, array, object, Items, no_items, item, Members, no_members, member}
+use Rattle.serde_json.specs.Data.{Data, null, boolean, number, string, array, object, Items, no_items, item}
 use Rattle.ffi3_type_rules.specs.Tree.{Tree}
-use Rattle.ffi3_script_rules.specs.Language.{Read, fault, Path, under, wrong_type}
+use Rattle.ffi3_script_rules.specs.Language.{Read, fault, JsonPath, under, wrong_type}
 use Rattle.ffi3_script_rules.specs.Script.{Expression}
 use Rattle.ffi3_script_rules.specs.Script as script
 use Rattle.ffi3_script_rules.specs.Values as values
@@ -11,20 +11,6 @@ use Rattle.ffi3_script.specs.declared.forms.TypedForm.{TypedForm}
 use Rattle.ffi3_script.specs.declared.forms.TypedForm.TheVariants.{Arg, Res, User, Field, Of}
 use Rattle.ffi3_script.specs.declared.forms.Form.{Form}
 use Rattle.ffi3_script.specs.declared.forms.Form.TheVariants.{Typed, Add, Sub, Cast, Unknown}
-
--- the one member of an object that has no other
-abbrev pub member_in : Members → Option (List ℕ × Data)
-member_in no_members = None
-member_in (member name d no_members) = Some (name, d)
-member_in (member name d (member other e ms)) = None
-
-abbrev pub only_member : Data → Option (List ℕ × Data)
-only_member null = None
-only_member (boolean b) = None
-only_member (number n) = None
-only_member (string s) = None
-only_member (array ds) = None
-only_member (object ms) = member_in ms
 
 -- the items of an array of two
 abbrev pub two_in : Items → Option (Data × Data)
@@ -66,16 +52,16 @@ form_of Cast = values.cast_form
 form_of Unknown = values.no_form
 
 -- a value with a type of its own, of a form, with this under its key
-abbrev pub typed_under : Scope → List ℕ → Data → Path → values.TypedForm → Read script.Typed
+abbrev pub typed_under : Scope → List ℕ → Data → JsonPath → values.TypedForm → Read script.Typed
 typed_under scope name d path form =
     typed_by scope d path (λ _. read_field scope d (under path name) path) (λ _. read_of scope d (under path name)) form
 
 -- a value against a type, of a form, with this under its key
-abbrev pub value_under_form : Scope → Tree → List ℕ → Data → Path → values.Form → Read Expression
+abbrev pub value_under_form : Scope → Tree → List ℕ → Data → JsonPath → values.Form → Read Expression
 value_under_form scope t name d path form =
     value_by t path (under path name) (typed_under scope name d path) (λ _. read_two scope t d (under path name)) (λ _. read_typed scope d (under path name)) form
 
 -- the two values of a sum or difference, after its type
-abbrev pub read_terms : Scope → Tree → List ℕ → Data → Path → Read Pair
+abbrev pub read_terms : Scope → Tree → List ℕ → Data → JsonPath → Read Pair
 read_terms scope t name d path =
     if is_integer_type t then read_two scope t d (under path name) else fault path wrong_type

@@ -2,9 +2,8 @@
 ghost use Rattle.std.specs.Prelude.{◌≡◌, ◌<◌, ◌^◌, ◌++◌, ◌∷◌, [], IfOk, IfErr, OnOk, None};
 ghost use Rattle.std.specs.Prelude.{true, false, length, codes, option_map};
 ghost use Rattle.serde_json.specs.Find.{get};
-ghost use Rattle.serde_json.specs.View.{view};
 ghost use Rattle.ffi3_script_rules.specs.Language as language;
-ghost use Rattle.ffi3_script_rules.specs.Language.{read, HasShortArrays};
+ghost use Rattle.ffi3_script_rules.specs.Language.{read};
 ghost use Rattle.ffi3_script_rules.specs.Bodies.{kind_of, keys_of, read_call, read_make, read_act, read_move};
 ghost use Rattle.ffi3_json.specs.Reports.{Reports};
 ghost use Rattle.ffi3_script_body.specs.ExprOf.{script_move_of};
@@ -19,7 +18,7 @@ use crate::fields::{
 use crate::heads::{read_function, read_signature_number};
 use crate::scope::{Globals, Scope};
 use crate::{Act, NoMemory, ScriptMove};
-use ffi3_json::{Json, Key, Keys, Reason, ScriptFault, Way, bad, check_object_at};
+use ffi3_json::{Key, Keys, Node, Reason, ScriptFault, Way, bad, check_object_at};
 use ffi3_types::FfiType;
 use std::alloc::Global;
 
@@ -34,8 +33,8 @@ pub(crate) enum Kind {
 }
 
 // The kind of the move that a value is: where it has the keys of several, the first of them.
-fn kind_of(value: &Json) -> Option<Kind>
-    ensures { option_map kind_from result ≡ kind_of (view value.now) }
+fn kind_of(value: &Node) -> Option<Kind>
+    ensures { option_map kind_from result ≡ kind_of value.now }
 {
     if value.get("call").is_some() {
         return Some(Kind::Call);
@@ -133,18 +132,17 @@ fn read_call(
     alloc: Global,
     globals: &Globals,
     scope: &Scope,
-    value: &Json,
+    value: &Node,
     at: &Way,
 ) -> Result<NamedAct, ScriptFault>
-    requires short { HasShortArrays (view value.now) }
     requires even { IsEven scope.now }
     ensures within { IfOk result (λ d. CallsWithin (length globals.now.sigs.now) d.act) }
     ensures ok { IfOk result
         (λ d. read_call (surroundings_of globals.now scope.now) (given_in scope.now)
-        (scope_of scope.now) None (view value.now) at.now ≡ read (move_by None d)) }
+        (scope_of scope.now) None value.now at.now ≡ read (move_by None d)) }
     ensures err { IfErr result
         (Reports (λ p r. read_call (surroundings_of globals.now scope.now) (given_in scope.now)
-        (scope_of scope.now) None (view value.now) at.now ≡ language.fault p r)) }
+        (scope_of scope.now) None value.now at.now ≡ language.fault p r)) }
 {
     let ptr = read_pointer(alloc, scope, "call", value, at)?;
     let i = read_signature_number(alloc, globals.sigs, value, at)?;
@@ -162,19 +160,18 @@ fn read_make(
     alloc: Global,
     globals: &Globals,
     scope: &Scope,
-    value: &Json,
+    value: &Node,
     at: &Way,
 ) -> Result<NamedAct, ScriptFault>
-    requires short { HasShortArrays (view value.now) }
     requires even { IsEven scope.now }
     requires few { length globals.now.functions.now < 2 ^ 32 }
     ensures within { IfOk result (λ d. CallsWithin (length globals.now.sigs.now) d.act) }
     ensures ok { IfOk result
         (λ d. read_make (surroundings_of globals.now scope.now) (given_in scope.now)
-        (scope_of scope.now) None (view value.now) at.now ≡ read (move_by None d)) }
+        (scope_of scope.now) None value.now at.now ≡ read (move_by None d)) }
     ensures err { IfErr result
         (Reports (λ p r. read_make (surroundings_of globals.now scope.now) (given_in scope.now)
-        (scope_of scope.now) None (view value.now) at.now ≡ language.fault p r)) }
+        (scope_of scope.now) None value.now at.now ≡ language.fault p r)) }
 {
     let func = read_function(alloc, globals.functions, value, at)?;
     let user = read_user(alloc, scope, value, at)?;
@@ -198,19 +195,18 @@ fn read_act(
     globals: &Globals,
     scope: &Scope,
     kind: Kind,
-    value: &Json,
+    value: &Node,
     at: &Way,
 ) -> Result<NamedAct, ScriptFault>
-    requires short { HasShortArrays (view value.now) }
     requires even { IsEven scope.now }
     requires few { length globals.now.functions.now < 2 ^ 32 }
     ensures within { IfOk result (λ d. CallsWithin (length globals.now.sigs.now) d.act) }
     ensures ok { IfOk result
         (λ d. read_act (surroundings_of globals.now scope.now) (given_in scope.now) (scope_of scope.now)
-        (kind_from kind) (view value.now) at.now None ≡ read (move_by None d)) }
+        (kind_from kind) value.now at.now None ≡ read (move_by None d)) }
     ensures err { IfErr result
         (Reports (λ p r. read_act (surroundings_of globals.now scope.now) (given_in scope.now) (scope_of scope.now)
-        (kind_from kind) (view value.now) at.now None ≡ language.fault p r)) }
+        (kind_from kind) value.now at.now None ≡ language.fault p r)) }
 {
     match kind {
         Kind::Call => read_call(alloc, globals, scope, value, at),
@@ -235,25 +231,24 @@ pub(crate) fn read_move(
     alloc: Global,
     globals: &Globals,
     scope: &Scope,
-    value: &Json,
+    value: &Node,
     at: &Way,
 ) -> Result<ScriptMove, ScriptFault>
-    requires short { HasShortArrays (view value.now) }
     requires even { IsEven scope.now }
     requires few { length globals.now.functions.now < 2 ^ 32 }
     ensures within { IfOk result (λ m. CallsWithin (length globals.now.sigs.now) m.act) }
     ensures ok { IfOk result
-        (λ m. read_move (surroundings_of globals.now scope.now) (given_in scope.now) (view value.now) at.now
+        (λ m. read_move (surroundings_of globals.now scope.now) (given_in scope.now) value.now at.now
         ≡ read (script_move_of m)) }
     ensures err { IfErr result
-        (Reports (λ p r. read_move (surroundings_of globals.now scope.now) (given_in scope.now) (view value.now) at.now
+        (Reports (λ p r. read_move (surroundings_of globals.now scope.now) (given_in scope.now) value.now at.now
         ≡ language.fault p r)) }
 {
     let Some(kind) = kind_of(value) else {
         return Err(bad(alloc, at, Reason::NotAMove));
     };
     let keys = keys_of(alloc, kind)?;
-    check_object_at(alloc, value, &keys, at)?;
+    check_object_at(alloc, value.json(), &keys, at)?;
     let condition = read_condition(alloc, scope, value, at)?;
     let NamedAct { act, name } = read_act(alloc, globals, scope, kind, value, at)?;
     Ok(ScriptMove {

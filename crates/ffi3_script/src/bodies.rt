@@ -1,10 +1,9 @@
 // Bodies: arrays of moves.
 ghost use Rattle.std.specs.Prelude.{◌≡◌, ◌+◌, ◌<◌, ◌^◌, ◌++◌, ◌∷◌, [], IfOk};
 ghost use Rattle.std.specs.Prelude.{IfErr, OnOk, length, option_map, string_bytes};
-ghost use Rattle.serde_json.specs.View.{view, items_view};
 ghost use Rattle.ffi3_types.specs.TreeOf.{tree_of};
 ghost use Rattle.ffi3_script_rules.specs.Language as language;
-ghost use Rattle.ffi3_script_rules.specs.Language.{read, under, value_under, HasShortArrays, HaveShortArrays};
+ghost use Rattle.ffi3_script_rules.specs.Language.{read, under, value_under};
 ghost use Rattle.ffi3_script_rules.specs.Bodies.{type_of_act, is_return, always_returns, ends};
 ghost use Rattle.ffi3_script_rules.specs.Bodies.{read_move, read_moves, read_body};
 ghost use Rattle.ffi3_json.specs.Reports.{Reports};
@@ -17,7 +16,7 @@ use crate::arrays::items_under;
 use crate::index::NameIndex;
 use crate::scope::{Globals, Scope};
 use crate::{Act, NoMemory, ScriptMove};
-use ffi3_json::{Json, Reason, ScriptFault, Way, bad};
+use ffi3_json::{Node, Nodes, Reason, ScriptFault, Way, bad};
 use ffi3_types::{FfiType, Fields, Sig, Sigs};
 use std::alloc::Global;
 
@@ -77,19 +76,18 @@ fn read_next(
     own: &Sig,
     names: &NameIndex,
     types: &Fields,
-    value: &Json,
+    value: &Node,
     at: &Way,
 ) -> Result<ScriptMove, ScriptFault>
-    requires short { HasShortArrays (view value.now) }
     requires even { length names.now ≡ length types.now }
     requires few { length globals.now.functions.now < 2 ^ 32 }
     ensures within { IfOk result (λ m. CallsWithin (length globals.now.sigs.now) m.act) }
     ensures ok { IfOk result
-        (λ m. read_move (surroundings_in globals.now own.now) (given_of names.now types.now) (view value.now) at.now
+        (λ m. read_move (surroundings_in globals.now own.now) (given_of names.now types.now) value.now at.now
         ≡ read (script_move_of m)) }
     ensures err { IfErr result
         (Reports (λ p r. read_move (surroundings_in globals.now own.now) (given_of names.now types.now)
-        (view value.now) at.now ≡ language.fault p r)) }
+        value.now at.now ≡ language.fault p r)) }
 {
     let scope = Scope { own, names, types };
     read_move(alloc, globals, &scope, value, at)
@@ -100,18 +98,15 @@ fn read_moves(
     alloc: Global,
     globals: &Globals,
     own: &Sig,
-    items: &Vec<Json>,
+    items: &Nodes,
     at: &Way,
 ) -> Result<Vec<ScriptMove>, ScriptFault>
-    requires short { HaveShortArrays (items_view items.now.items) }
-    requires count { length items.now.items < 2 ^ 32 }
     requires few { length globals.now.functions.now < 2 ^ 32 }
     ensures ok { IfOk result
-        (λ ms. read_moves (surroundings_in globals.now own.now) [] (items_view items.now.items) at.now 0
+        (λ ms. read_moves (surroundings_in globals.now own.now) [] items.now at.now 0
         ≡ read (script_moves_of ms.items)) }
     ensures err { IfErr result
-        (Reports (λ p r. read_moves (surroundings_in globals.now own.now) [] (items_view items.now.items) at.now 0
-        ≡ language.fault p r)) }
+        (Reports (λ p r. read_moves (surroundings_in globals.now own.now) [] items.now at.now 0 ≡ language.fault p r)) }
 {
     let mut names = NameIndex::new(alloc);
     let mut types = Fields::new(alloc);
@@ -123,7 +118,7 @@ fn read_moves(
             own,
             &names,
             &types,
-            &items[i],
+            &items.get(i),
             &at.item(i as u32),
         )?;
         push_move(alloc, globals.sigs, one, &mut names, &mut types, &mut moves)?;
@@ -168,21 +163,20 @@ pub(crate) fn read_body(
     globals: &Globals,
     own: &Sig,
     name: &str,
-    value: &Json,
+    value: &Node,
     at: &Way,
 ) -> Result<Vec<ScriptMove>, ScriptFault>
-    requires short { HasShortArrays (view value.now) }
     requires few { length globals.now.functions.now < 2 ^ 32 }
     ensures ok { IfOk result
-        (λ ms. read_body (surroundings_in globals.now own.now) (value_under name.now (view value.now))
+        (λ ms. read_body (surroundings_in globals.now own.now) (value_under name.now value.now)
         (under at.now name.now) ≡ read (script_moves_of ms.items)) }
     ensures err { IfErr result
-        (Reports (λ p r. read_body (surroundings_in globals.now own.now) (value_under name.now (view value.now))
+        (Reports (λ p r. read_body (surroundings_in globals.now own.now) (value_under name.now value.now)
         (under at.now name.now) ≡ language.fault p r)) }
 {
     let place = at.key(name);
     let items = items_under(alloc, name, value, &place)?;
-    let moves = read_moves(alloc, globals, own, items, &place)?;
+    let moves = read_moves(alloc, globals, own, &items, &place)?;
     if !ends(&moves) {
         return Err(bad(alloc, &place, Reason::NoReturnAtTheEnd));
     }

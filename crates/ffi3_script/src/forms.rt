@@ -1,10 +1,9 @@
 // Forms of values.
-ghost use Rattle.std.specs.Prelude.{◌≡◌, option_map};
-ghost use Rattle.serde_json.specs.View.{view};
+ghost use Rattle.std.specs.Prelude.{◌≡◌};
 ghost use Rattle.ffi3_script_rules.specs.Values.{form_named};
-ghost use Rattle.ffi3_script.specs.Shapes.{only_member, two_items, is_untyped, form_of};
+ghost use Rattle.ffi3_script.specs.Shapes.{two_items, is_untyped, form_of};
 
-use ffi3_json::Json;
+use ffi3_json::Node;
 
 /// The forms of values that have a type of their own.
 #[derive(Clone, Copy)]
@@ -53,37 +52,22 @@ pub(crate) fn form_named(name: &str) -> Form
 }
 
 /// Whether the value is a number, a text or an array.
-pub(crate) fn is_untyped(value: &Json) -> bool
-    ensures { result ≡ is_untyped (view value.now) }
+pub(crate) fn is_untyped(value: &Node) -> bool
+    ensures { result ≡ is_untyped value.now }
 {
-    value.is_number() || value.is_string() || value.is_array()
-}
-
-/// Key and value of an object's one member. None where the value is no object, or has another number of members.
-pub(crate) fn only_member(value: &Json) -> Option<(&str, &Json)>
-    ensures { option_map (λ m. (m.0.now, view m.1.now)) result ≡ only_member (view value.now) }
-{
-    let Some(members) = value.as_object() else {
-        return None;
-    };
-    if members.len() != 1 {
-        return None;
-    }
-    match members.iter().next() {
-        Some((name, inside)) => Some((name.as_str(), inside)),
-        None => None,
-    }
+    let json = value.json();
+    json.is_number() || json.is_string() || json.is_array()
 }
 
 /// The items of an array of two. None where the value is no array, or has another number of items.
-pub(crate) fn two_items(value: &Json) -> Option<(&Json, &Json)>
-    ensures { option_map (λ p. (view p.0.now, view p.1.now)) result ≡ two_items (view value.now) }
+pub(crate) fn two_items<'a>(value: &Node<'a>) -> Option<(Node<'a>, Node<'a>)>
+    ensures { result ≡ two_items value.now }
 {
-    let Some(items) = value.as_array() else {
+    let Some(items) = value.items() else {
         return None;
     };
     if items.len() != 2 {
         return None;
     }
-    Some((&items[0], &items[1]))
+    Some((items.get(0), items.get(1)))
 }

@@ -1,9 +1,9 @@
 // The functions of a script, with their bodies.
 ghost use Rattle.std.specs.Prelude.{◌≡◌, ◌<◌, ◌^◌, ◌++◌, ◌∷◌, [], All, IfOk, IfErr, OnOk, length, map, codes};
-ghost use Rattle.serde_json.specs.View.{view, items_view};
+ghost use Rattle.serde_json.specs.Events.{items_len};
 ghost use Rattle.ffi3_type_rules.specs.Signature.{signature_at};
 ghost use Rattle.ffi3_script_rules.specs.Language as language;
-ghost use Rattle.ffi3_script_rules.specs.Language.{read, under, value_under, HasShortArrays, HaveShortArrays};
+ghost use Rattle.ffi3_script_rules.specs.Language.{read, under, value_under};
 ghost use Rattle.ffi3_script_rules.specs.Bodies.{read_body, read_bodies};
 ghost use Rattle.ffi3_json.specs.Reports.{Reports};
 ghost use Rattle.ffi3_script_body.specs.ExprOf.{script_moves_of};
@@ -14,7 +14,7 @@ use crate::bodies::read_body;
 use crate::headings::Heading;
 use crate::scope::Globals;
 use crate::{NoMemory, ScriptMove};
-use ffi3_json::{Json, ScriptFault, Way};
+use ffi3_json::{Node, Nodes, ScriptFault, Way};
 use std::alloc::Global;
 
 /// A function of a script: its name, the number of its signature, its moves.
@@ -30,20 +30,18 @@ fn read_part(
     alloc: Global,
     globals: &Globals,
     heading: &Heading,
-    value: &Json,
+    value: &Node,
     at: &Way,
 ) -> Result<FunctionPart, ScriptFault>
-    requires short { HasShortArrays (view value.now) }
     requires few { length globals.now.functions.now < 2 ^ 32 }
     requires within { heading.now.sig < length globals.now.sigs.now }
     ensures headed { IfOk result (IsHeaded heading.now) }
     ensures ok { IfOk result
         (λ f. read_body (surroundings_in globals.now (signature_at globals.now.sigs.now heading.now.sig))
-        (value_under (codes "body") (view value.now)) (under at.now (codes "body"))
-        ≡ read (script_moves_of f.moves.items)) }
+        (value_under (codes "body") value.now) (under at.now (codes "body")) ≡ read (script_moves_of f.moves.items)) }
     ensures err { IfErr result
         (Reports (λ p r. read_body (surroundings_in globals.now (signature_at globals.now.sigs.now heading.now.sig))
-        (value_under (codes "body") (view value.now)) (under at.now (codes "body")) ≡ language.fault p r)) }
+        (value_under (codes "body") value.now) (under at.now (codes "body")) ≡ language.fault p r)) }
 {
     let own = globals.sigs.get(heading.sig as usize);
     let moves = read_body(alloc, globals, own, "body", value, at)?;
@@ -67,24 +65,28 @@ pub(crate) fn read_parts(
     alloc: Global,
     globals: &Globals,
     headings: &Vec<Heading>,
-    items: &Vec<Json>,
+    items: &Nodes,
     at: &Way,
 ) -> Result<Vec<FunctionPart>, ScriptFault>
-    requires short { HaveShortArrays (items_view items.now.items) }
-    requires count { length items.now.items < 2 ^ 32 }
     requires few { length globals.now.functions.now < 2 ^ 32 }
     requires within { All (λ h. h.sig < length globals.now.sigs.now) headings.now.items }
-    requires same { length headings.now.items ≡ length items.now.items }
+    requires same { length headings.now.items ≡ items_len items.now }
     ensures ok { IfOk result
         (λ fs. read_bodies globals.now.sigs.now globals.now.functions.now (headings_of headings.now.items)
-        (items_view items.now.items) at.now 0 ≡ read (map part_of fs.items)) }
+        items.now at.now 0 ≡ read (map part_of fs.items)) }
     ensures err { IfErr result
         (Reports (λ p r. read_bodies globals.now.sigs.now globals.now.functions.now (headings_of headings.now.items)
-        (items_view items.now.items) at.now 0 ≡ language.fault p r)) }
+        items.now at.now 0 ≡ language.fault p r)) }
 {
     let mut parts = Vec::new(alloc);
     for i in 0..items.len() {
-        let part = read_part(alloc, globals, &headings[i], &items[i], &at.item(i as u32))?;
+        let part = read_part(
+            alloc,
+            globals,
+            &headings[i],
+            &items.get(i),
+            &at.item(i as u32),
+        )?;
         push_part(&mut parts, part)?;
     }
     Ok(parts)

@@ -1,7 +1,7 @@
 // The names and signatures of functions.
-ghost use Rattle.std.specs.Prelude.{◌≡◌, ◌<◌, ◌^◌, ◌++◌, ◌∷◌, [], All, IfOk, IfErr, OnOk, length, codes, string_bytes};
+ghost use Rattle.std.specs.Prelude.{◌≡◌, ◌<◌, ◌++◌, ◌∷◌, [], All, IfOk, IfErr, OnOk, length, codes, string_bytes};
+ghost use Rattle.serde_json.specs.Events.{items_len};
 ghost use Rattle.serde_json.specs.Find.{as_str};
-ghost use Rattle.serde_json.specs.View.{view, items_view};
 ghost use Rattle.ffi3_script_rules.specs.Language as language;
 ghost use Rattle.ffi3_script_rules.specs.Language.{read, under, value_under};
 ghost use Rattle.ffi3_script_rules.specs.Bodies.{is_one_of, new_name, function_keys, read_heading};
@@ -13,7 +13,7 @@ use crate::NoMemory;
 use crate::acts::add_key;
 use crate::functions::FunctionNames;
 use crate::heads::{new_name, read_signature_number};
-use ffi3_json::{Json, Keys, Reason, ScriptFault, Way, bad, check_object_at};
+use ffi3_json::{Keys, Node, Nodes, Reason, ScriptFault, Way, bad, check_object_at};
 use ffi3_types::Sigs;
 use std::alloc::Global;
 
@@ -46,21 +46,21 @@ fn function_keys(alloc: Global) -> Result<Keys, NoMemory>
 fn read_function_name(
     alloc: Global,
     earlier: &FunctionNames,
-    value: &Json,
+    value: &Node,
     at: &Way,
 ) -> Result<String, ScriptFault>
     ensures ok { IfOk result
-        (λ name. new_name (is_one_of earlier.now) (as_str (value_under (codes "name") (view value.now)))
+        (λ name. new_name (is_one_of earlier.now) (as_str (value_under (codes "name") value.now))
         (under at.now (codes "name")) ≡ read (string_bytes name)) }
     ensures err { IfErr result
-        (Reports (λ p r. new_name (is_one_of earlier.now) (as_str (value_under (codes "name") (view value.now)))
+        (Reports (λ p r. new_name (is_one_of earlier.now) (as_str (value_under (codes "name") value.now))
         (under at.now (codes "name")) ≡ language.fault p r)) }
 {
     let place = at.key("name");
     let Some(named) = value.get("name") else {
         return Err(bad(alloc, &place, Reason::BadName));
     };
-    new_name(alloc, earlier.index(), named, &place)
+    new_name(alloc, earlier.index(), &named, &place)
 }
 
 // The heading of the function that the value at a place is, after functions of these names.
@@ -68,17 +68,16 @@ fn read_heading(
     alloc: Global,
     sigs: &Sigs,
     earlier: &FunctionNames,
-    value: &Json,
+    value: &Node,
     at: &Way,
 ) -> Result<Heading, ScriptFault>
     ensures within { IfOk result (λ h. h.sig < length sigs.now) }
-    ensures ok { IfOk result
-        (λ h. read_heading (length sigs.now) earlier.now (view value.now) at.now ≡ read (heading_of h)) }
+    ensures ok { IfOk result (λ h. read_heading (length sigs.now) earlier.now value.now at.now ≡ read (heading_of h)) }
     ensures err { IfErr result
-        (Reports (λ p r. read_heading (length sigs.now) earlier.now (view value.now) at.now ≡ language.fault p r)) }
+        (Reports (λ p r. read_heading (length sigs.now) earlier.now value.now at.now ≡ language.fault p r)) }
 {
     let keys = function_keys(alloc)?;
-    check_object_at(alloc, value, &keys, at)?;
+    check_object_at(alloc, value.json(), &keys, at)?;
     let name = read_function_name(alloc, earlier, value, at)?;
     let sig = read_signature_number(alloc, sigs, value, at)?;
     Ok(Heading { name, sig })
@@ -103,23 +102,21 @@ fn push_heading(
 pub(crate) fn read_headings(
     alloc: Global,
     sigs: &Sigs,
-    items: &Vec<Json>,
+    items: &Nodes,
     at: &Way,
 ) -> Result<Headings, ScriptFault>
-    requires { length items.now.items < 2 ^ 32 }
     ensures within { IfOk result (λ h. All (λ x. x.sig < length sigs.now) h.list.items) }
-    ensures count { IfOk result (λ h. length h.list.items ≡ length items.now.items) }
+    ensures count { IfOk result (λ h. length h.list.items ≡ items_len items.now) }
     ensures names { IfOk result (λ h. h.names ≡ names_of (headings_of h.list.items)) }
     ensures ok { IfOk result
-        (λ h. read_headings (length sigs.now) [] (items_view items.now.items) at.now 0 ≡ read
-        (headings_of h.list.items)) }
+        (λ h. read_headings (length sigs.now) [] items.now at.now 0 ≡ read (headings_of h.list.items)) }
     ensures err { IfErr result
-        (Reports (λ p r. read_headings (length sigs.now) [] (items_view items.now.items) at.now 0 ≡ language.fault p r)) }
+        (Reports (λ p r. read_headings (length sigs.now) [] items.now at.now 0 ≡ language.fault p r)) }
 {
     let mut names = FunctionNames::new(alloc);
     let mut list = Vec::new(alloc);
     for i in 0..items.len() {
-        let heading = read_heading(alloc, sigs, &names, &items[i], &at.item(i as u32))?;
+        let heading = read_heading(alloc, sigs, &names, &items.get(i), &at.item(i as u32))?;
         push_heading(alloc, heading, &mut names, &mut list)?;
     }
     Ok(Headings { names, list })

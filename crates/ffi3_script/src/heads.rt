@@ -2,7 +2,6 @@
 ghost use Rattle.std.specs.Prelude.{◌≡◌, ◌<◌, ◌^◌, IfOk, IfErr, length, codes, string_bytes};
 ghost use Rattle.std.specs.List.{list_all};
 ghost use Rattle.serde_json.specs.Find.{as_str};
-ghost use Rattle.serde_json.specs.View.{view};
 ghost use Rattle.ffi3_script_rules.specs.Language as language;
 ghost use Rattle.ffi3_script_rules.specs.Language.{read, under, value_under};
 ghost use Rattle.ffi3_script_rules.specs.Bodies.{is_name_byte, is_name, new_name, read_signature_number, read_function};
@@ -11,7 +10,7 @@ ghost use Rattle.ffi3_script.specs.Taken.{is_taken};
 
 use crate::functions::FunctionNames;
 use crate::index::NameIndex;
-use ffi3_json::{Json, Reason, ScriptFault, Way, bad};
+use ffi3_json::{Node, Reason, ScriptFault, Way, bad};
 use ffi3_types::Sigs;
 use std::alloc::Global;
 
@@ -49,15 +48,15 @@ fn is_name(name: &str) -> bool
 pub(crate) fn new_name(
     alloc: Global,
     names: &NameIndex,
-    value: &Json,
+    value: &Node,
     at: &Way,
 ) -> Result<String, ScriptFault>
     ensures ok { IfOk result
-        (λ name. new_name (is_taken names.now) (as_str (view value.now)) at.now ≡ read (string_bytes name)) }
+        (λ name. new_name (is_taken names.now) (as_str value.now) at.now ≡ read (string_bytes name)) }
     ensures err { IfErr result
-        (Reports (λ p r. new_name (is_taken names.now) (as_str (view value.now)) at.now ≡ language.fault p r)) }
+        (Reports (λ p r. new_name (is_taken names.now) (as_str value.now) at.now ≡ language.fault p r)) }
 {
-    let Some(name) = value.as_str() else {
+    let Some(name) = value.json().as_str() else {
         return Err(bad(alloc, at, Reason::BadName));
     };
     if !is_name(name) {
@@ -73,22 +72,22 @@ pub(crate) fn new_name(
 pub(crate) fn read_signature_number(
     alloc: Global,
     sigs: &Sigs,
-    value: &Json,
+    value: &Node,
     at: &Way,
 ) -> Result<u32, ScriptFault>
     ensures below { IfOk result (λ i. i < length sigs.now) }
     ensures ok { IfOk result
-        (λ i. read_signature_number (length sigs.now) (value_under (codes "sig") (view value.now))
+        (λ i. read_signature_number (length sigs.now) (value_under (codes "sig") value.now)
         (under at.now (codes "sig")) ≡ read i) }
     ensures err { IfErr result
-        (Reports (λ p r. read_signature_number (length sigs.now) (value_under (codes "sig") (view value.now))
+        (Reports (λ p r. read_signature_number (length sigs.now) (value_under (codes "sig") value.now)
         (under at.now (codes "sig")) ≡ language.fault p r)) }
 {
     let place = at.key("sig");
     let Some(sig) = value.get("sig") else {
         return Err(bad(alloc, &place, Reason::NoSuchSignature));
     };
-    let Some(i) = sig.as_u64() else {
+    let Some(i) = sig.json().as_u64() else {
         return Err(bad(alloc, &place, Reason::NoSuchSignature));
     };
     if i >= sigs.len() as u64 {
@@ -101,22 +100,22 @@ pub(crate) fn read_signature_number(
 pub(crate) fn read_function(
     alloc: Global,
     functions: &FunctionNames,
-    value: &Json,
+    value: &Node,
     at: &Way,
 ) -> Result<u32, ScriptFault>
     requires few { length functions.now < 2 ^ 32 }
     ensures ok { IfOk result
-        (λ k. read_function functions.now (as_str (value_under (codes "make") (view value.now)))
+        (λ k. read_function functions.now (as_str (value_under (codes "make") value.now))
         (under at.now (codes "make")) ≡ read k) }
     ensures err { IfErr result
-        (Reports (λ p r. read_function functions.now (as_str (value_under (codes "make") (view value.now)))
+        (Reports (λ p r. read_function functions.now (as_str (value_under (codes "make") value.now))
         (under at.now (codes "make")) ≡ language.fault p r)) }
 {
     let place = at.key("make");
     let Some(make) = value.get("make") else {
         return Err(bad(alloc, &place, Reason::NoSuchFunction));
     };
-    let Some(name) = make.as_str() else {
+    let Some(name) = make.json().as_str() else {
         return Err(bad(alloc, &place, Reason::NoSuchFunction));
     };
     let Some(k) = functions.find(name) else {

@@ -1,10 +1,10 @@
 // What reading a value does besides reading the values inside it.
 ghost use Rattle.std.specs.Prelude.{◌≡◌, ◌++◌, ◌∷◌, [], IfOk, IfErr, OnOk, option_and_then, length, true};
 ghost use Rattle.serde_json.specs.Find.{as_number, as_u64, as_str};
-ghost use Rattle.serde_json.specs.View.{view, number_view};
+ghost use Rattle.serde_json.specs.View.{number_view};
 ghost use Rattle.ffi3_type_rules.specs.Integer.{is_number_type, scalar_of};
 ghost use Rattle.ffi3_types.specs.TreeOf.{tree_of};
-ghost use Rattle.ffi3_script_rules.specs.Language.{read, fault, HasShortArrays};
+ghost use Rattle.ffi3_script_rules.specs.Language.{read, fault};
 ghost use Rattle.ffi3_script_rules.specs.Script as script;
 ghost use Rattle.ffi3_script_rules.specs.Values.{typed, in_range, read_number, read_text};
 ghost use Rattle.ffi3_script_rules.specs.Values.{argument_of, result_of, user_of, element_of, against, cast_of};
@@ -15,7 +15,7 @@ ghost use Rattle.ffi3_script.specs.ScopeOf.{scope_of};
 
 use crate::scope::Scope;
 use crate::{Expr, NoMemory, TypedExpr};
-use ffi3_json::{Json, Reason, ScriptFault, Way, bad, bad_type, read_type_at};
+use ffi3_json::{Node, Reason, ScriptFault, Way, bad, bad_type, read_type_at};
 use ffi3_types::{Bytes, FfiType, Fields, check_type, same_type};
 use ffi3_values::{Value, integer};
 use hex::FromHex;
@@ -137,17 +137,17 @@ pub(crate) fn read_text(
 pub(crate) fn argument_of(
     alloc: Global,
     scope: &Scope,
-    value: &Json,
+    value: &Node,
     at: &Way,
 ) -> Result<TypedExpr, ScriptFault>
     ensures ok { IfOk result
-        (λ v. argument_of (scope_of scope.now).arguments (option_and_then as_u64 (as_number (view value.now))) at.now
+        (λ v. argument_of (scope_of scope.now).arguments (option_and_then as_u64 (as_number value.now)) at.now
         ≡ read (typed_of v)) }
     ensures err { IfErr result
-        (Reports (λ p r. argument_of (scope_of scope.now).arguments (option_and_then as_u64 (as_number (view value.now)))
+        (Reports (λ p r. argument_of (scope_of scope.now).arguments (option_and_then as_u64 (as_number value.now))
         at.now ≡ fault p r)) }
 {
-    let Some(i) = value.as_u64() else {
+    let Some(i) = value.json().as_u64() else {
         return Err(bad(alloc, at, Reason::NoSuchArgument));
     };
     if i >= scope.own.count() as u64 {
@@ -164,16 +164,15 @@ pub(crate) fn argument_of(
 pub(crate) fn result_of(
     alloc: Global,
     scope: &Scope,
-    value: &Json,
+    value: &Node,
     at: &Way,
 ) -> Result<TypedExpr, ScriptFault>
     requires { length scope.now.names.now ≡ length scope.now.types.now }
-    ensures ok { IfOk result
-        (λ v. result_of (scope_of scope.now).given (as_str (view value.now)) at.now ≡ read (typed_of v)) }
+    ensures ok { IfOk result (λ v. result_of (scope_of scope.now).given (as_str value.now) at.now ≡ read (typed_of v)) }
     ensures err { IfErr result
-        (Reports (λ p r. result_of (scope_of scope.now).given (as_str (view value.now)) at.now ≡ fault p r)) }
+        (Reports (λ p r. result_of (scope_of scope.now).given (as_str value.now) at.now ≡ fault p r)) }
 {
-    let Some(name) = value.as_str() else {
+    let Some(name) = value.json().as_str() else {
         return Err(bad(alloc, at, Reason::NoSuchResult));
     };
     let Some(i) = scope.names.find(name) else {
@@ -188,11 +187,11 @@ pub(crate) fn result_of(
 }
 
 /// The user data of the closure.
-pub(crate) fn user_of(alloc: Global, value: &Json, at: &Way) -> Result<TypedExpr, ScriptFault>
-    ensures ok { IfOk result (λ v. user_of (view value.now) at.now ≡ read (typed_of v)) }
-    ensures err { IfErr result (Reports (λ p r. user_of (view value.now) at.now ≡ fault p r)) }
+pub(crate) fn user_of(alloc: Global, value: &Node, at: &Way) -> Result<TypedExpr, ScriptFault>
+    ensures ok { IfOk result (λ v. user_of value.now at.now ≡ read (typed_of v)) }
+    ensures err { IfErr result (Reports (λ p r. user_of value.now at.now ≡ fault p r)) }
 {
-    match value.as_bool() {
+    match value.json().as_bool() {
         Some(true) => Ok(TypedExpr {
             ty: FfiType::Pointer,
             value: Expr::User,
@@ -206,18 +205,18 @@ pub(crate) fn element_of(
     alloc: Global,
     value: Expr,
     fields: &Fields,
-    number: &Json,
+    number: &Node,
     at: &Way,
 ) -> Result<TypedExpr, ScriptFault>
     ensures ok { IfOk result
-        (λ v. element_of (expression_of value) fields.now (option_and_then as_u64 (as_number (view number.now))) at.now
+        (λ v. element_of (expression_of value) fields.now (option_and_then as_u64 (as_number number.now)) at.now
         ≡ read (typed_of v)) }
     ensures err { IfErr result
         (Reports (λ p r. element_of (expression_of value) fields.now
-        (option_and_then as_u64 (as_number (view number.now))) at.now ≡ fault p r)) }
+        (option_and_then as_u64 (as_number number.now)) at.now ≡ fault p r)) }
 {
     let value = boxed(alloc, value)?;
-    let Some(i) = number.as_u64() else {
+    let Some(i) = number.json().as_u64() else {
         return Err(bad(alloc, at, Reason::NoSuchField));
     };
     if i >= fields.len() as u64 {
@@ -267,10 +266,9 @@ pub(crate) fn cast_of(
 }
 
 /// A type that may be an argument's.
-pub(crate) fn read_right_type(alloc: Global, value: &Json, at: &Way) -> Result<FfiType, ScriptFault>
-    requires { HasShortArrays (view value.now) }
-    ensures ok { IfOk result (λ t. read_right_type (view value.now) at.now ≡ read (tree_of t)) }
-    ensures err { IfErr result (Reports (λ p r. read_right_type (view value.now) at.now ≡ fault p r)) }
+pub(crate) fn read_right_type(alloc: Global, value: &Node, at: &Way) -> Result<FfiType, ScriptFault>
+    ensures ok { IfOk result (λ t. read_right_type value.now at.now ≡ read (tree_of t)) }
+    ensures err { IfErr result (Reports (λ p r. read_right_type value.now at.now ≡ fault p r)) }
 {
     let ty = read_type_at(alloc, value, at)?;
     match check_type(&ty, false) {

@@ -13,7 +13,7 @@ ghost use Rattle.ffi3_script.specs.ScriptOf.{script_of, natives_of};
 use crate::function_parts::FunctionPart;
 use crate::root::{Parts, read_root};
 use crate::{Names, NoMemory, Script, ScriptBody, ScriptFunction};
-use ffi3_json::{ScriptFault, parse};
+use ffi3_json::{Node, ScriptFault, parse};
 use ffi3_types::Sigs;
 use std::alloc::Global;
 use std::rc::Rc;
@@ -28,7 +28,7 @@ pub fn read_script(alloc: Global, bytes: &[u8], natives: &Names) -> Result<Scrip
     ensures err { IfErr result (IsScriptRefusal natives.now bytes.now) }
 {
     let value = parse(alloc, bytes)?;
-    let parts = read_root(alloc, &value, natives)?;
+    let parts = read_root(alloc, &Node::of(&value), natives)?;
     Ok(script_of(alloc, parts, natives.len() as u32)?)
 }
 

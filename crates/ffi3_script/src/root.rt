@@ -2,9 +2,9 @@
 ghost use Rattle.std.specs.Prelude.{◌≡◌, ◌+◌, ◌<◌, ◌≤◌, ◌^◌, ◌++◌, [], All, IfOk, IfErr};
 ghost use Rattle.std.specs.Prelude.{OnOk, length, codes, option_and_then};
 ghost use Rattle.serde_json.specs.Find.{as_number, as_u64};
-ghost use Rattle.serde_json.specs.View.{view, items_view};
+ghost use Rattle.serde_json.specs.Events.{items_len};
 ghost use Rattle.ffi3_script_rules.specs.Language as language;
-ghost use Rattle.ffi3_script_rules.specs.Language.{read, under, value_under, HasShortArrays, HaveShortArrays};
+ghost use Rattle.ffi3_script_rules.specs.Language.{read, under, value_under};
 ghost use Rattle.ffi3_script_rules.specs.Bodies.{script_keys, version_of, read_signatures, read_headings};
 ghost use Rattle.ffi3_script_rules.specs.Bodies.{read_rest, read_script, names_of};
 ghost use Rattle.ffi3_script_rules.specs.Reading.{max_length};
@@ -21,7 +21,7 @@ use crate::headings::{Heading, Headings, read_headings};
 use crate::scope::Globals;
 use crate::{Names, NoMemory, ScriptMove};
 use ffi3_json::{
-    Json, Keys, Reason, ScriptFault, Way, Where, bad, check_object_at, read_signature_at,
+    Keys, Node, Nodes, Reason, ScriptFault, Way, Where, bad, check_object_at, read_signature_at,
 };
 use ffi3_types::{FfiType, Fields, Sig, Sigs};
 use std::alloc::Global;
@@ -54,19 +54,19 @@ fn script_keys(alloc: Global) -> Result<Keys, NoMemory>
 }
 
 // The version, which is 1.
-fn read_version(alloc: Global, value: &Json, at: &Way) -> Result<(), ScriptFault>
+fn read_version(alloc: Global, value: &Node, at: &Way) -> Result<(), ScriptFault>
     ensures ok { OnOk result
-        (version_of (option_and_then as_u64 (as_number (value_under (codes "version") (view value.now))))
+        (version_of (option_and_then as_u64 (as_number (value_under (codes "version") value.now)))
         (under at.now (codes "version")) ≡ read tt) }
     ensures err { IfErr result
-        (Reports (λ p r. version_of (option_and_then as_u64 (as_number (value_under (codes "version") (view value.now))))
+        (Reports (λ p r. version_of (option_and_then as_u64 (as_number (value_under (codes "version") value.now)))
         (under at.now (codes "version")) ≡ language.fault p r)) }
 {
     let place = at.key("version");
     let Some(version) = value.get("version") else {
         return Err(bad(alloc, &place, Reason::VersionNotKnown));
     };
-    let Some(n) = version.as_u64() else {
+    let Some(n) = version.json().as_u64() else {
         return Err(bad(alloc, &place, Reason::VersionNotKnown));
     };
     if n != 1 {
@@ -76,16 +76,13 @@ fn read_version(alloc: Global, value: &Json, at: &Way) -> Result<(), ScriptFault
 }
 
 // The signatures that the items of an array are.
-fn read_signatures(alloc: Global, items: &Vec<Json>, at: &Way) -> Result<Sigs, ScriptFault>
-    requires short { HaveShortArrays (items_view items.now.items) }
-    requires few { length items.now.items ≤ max_length + 1 }
-    ensures ok { IfOk result (λ ss. read_signatures (items_view items.now.items) at.now 0 ≡ read ss) }
-    ensures err { IfErr result
-        (Reports (λ p r. read_signatures (items_view items.now.items) at.now 0 ≡ language.fault p r)) }
+fn read_signatures(alloc: Global, items: &Nodes, at: &Way) -> Result<Sigs, ScriptFault>
+    ensures ok { IfOk result (λ ss. read_signatures items.now at.now 0 ≡ read ss) }
+    ensures err { IfErr result (Reports (λ p r. read_signatures items.now at.now 0 ≡ language.fault p r)) }
 {
     let mut sigs = Sigs::new(alloc);
     for i in 0..items.len() {
-        let sig = read_signature_at(alloc, &items[i], &at.item(i as u32))?;
+        let sig = read_signature_at(alloc, &items.get(i), &at.item(i as u32))?;
         sigs.push(sig)?;
     }
     Ok(sigs)
@@ -106,23 +103,19 @@ fn read_all_bodies(
     alloc: Global,
     globals: &Globals,
     headings: &Vec<Heading>,
-    items: &Vec<Json>,
-    value: &Json,
+    items: &Nodes,
+    value: &Node,
     at: &Way,
 ) -> Result<AllBodies, ScriptFault>
-    requires short { HasShortArrays (view value.now) }
-    requires items_short { HaveShortArrays (items_view items.now.items) }
-    requires count { length items.now.items ≤ max_length + 1 }
     requires few { length globals.now.functions.now < 2 ^ 32 }
     requires within { All (λ h. h.sig < length globals.now.sigs.now) headings.now.items }
-    requires same { length headings.now.items ≡ length items.now.items }
+    requires same { length headings.now.items ≡ items_len items.now }
     ensures ok { IfOk result
         (λ b. bodies_and_main globals.now.sigs.now globals.now.functions.now (headings_of headings.now.items)
-        (items_view items.now.items) (view value.now) at.now
-        ≡ read (script_in globals.now.sigs.now b.functions.items b.main.items)) }
+        items.now value.now at.now ≡ read (script_in globals.now.sigs.now b.functions.items b.main.items)) }
     ensures err { IfErr result
         (Reports (λ p r. bodies_and_main globals.now.sigs.now globals.now.functions.now (headings_of headings.now.items)
-        (items_view items.now.items) (view value.now) at.now ≡ language.fault p r)) }
+        items.now value.now at.now ≡ language.fault p r)) }
 {
     let own = Sig::new(FfiType::Void, Fields::new(alloc), None);
     let functions = read_parts(alloc, globals, headings, items, &at.key("functions"))?;
@@ -136,23 +129,21 @@ fn read_rest(
     natives: &Names,
     sigs: &Sigs,
     headings: Headings,
-    items: &Vec<Json>,
-    value: &Json,
+    items: &Nodes,
+    value: &Node,
     at: &Way,
 ) -> Result<AllBodies, ScriptFault>
-    requires short { HasShortArrays (view value.now) }
-    requires items_short { HaveShortArrays (items_view items.now.items) }
-    requires count { length items.now.items ≤ max_length + 1 }
+    requires count { items_len items.now ≤ max_length + 1 }
     requires few { length natives.now < 2 ^ 31 }
     requires within { All (λ h. h.sig < length sigs.now) headings.list.items }
-    requires same { length headings.list.items ≡ length items.now.items }
+    requires same { length headings.list.items ≡ items_len items.now }
     requires names { headings.names ≡ names_of (headings_of headings.list.items) }
     requires root { at.now ≡ [] }
     ensures ok { IfOk result
-        (λ b. read_rest natives.now (view value.now) sigs.now (items_view items.now.items)
+        (λ b. read_rest natives.now value.now sigs.now items.now
         (headings_of headings.list.items) ≡ read (script_in sigs.now b.functions.items b.main.items)) }
     ensures err { IfErr result
-        (Reports (λ p r. read_rest natives.now (view value.now) sigs.now (items_view items.now.items)
+        (Reports (λ p r. read_rest natives.now value.now sigs.now items.now
         (headings_of headings.list.items) ≡ language.fault p r)) }
 {
     let Headings { mut names, list } = headings;
@@ -165,26 +156,25 @@ fn read_rest(
 }
 
 /// The script that a JSON value is, beside natives of these names.
-pub(crate) fn read_root(alloc: Global, value: &Json, natives: &Names) -> Result<Parts, ScriptFault>
-    requires short { HasShortArrays (view value.now) }
-    requires within { HasArraysWithin (max_length + 1) (view value.now) }
+pub(crate) fn read_root(alloc: Global, value: &Node, natives: &Names) -> Result<Parts, ScriptFault>
+    requires within { HasArraysWithin (max_length + 1) value.now }
     requires few { length natives.now < 2 ^ 31 }
     ensures ok { IfOk result
-        (λ p. read_script natives.now (view value.now) ≡ read (script_in p.sigs p.functions.items p.main.items)) }
-    ensures err { IfErr result (Reports (λ p r. read_script natives.now (view value.now) ≡ language.fault p r)) }
+        (λ p. read_script natives.now value.now ≡ read (script_in p.sigs p.functions.items p.main.items)) }
+    ensures err { IfErr result (Reports (λ p r. read_script natives.now value.now ≡ language.fault p r)) }
 {
     let root = Where::new(alloc);
     let at = Way::from(&root);
     let keys = script_keys(alloc)?;
-    check_object_at(alloc, value, &keys, &at)?;
+    check_object_at(alloc, value.json(), &keys, &at)?;
     read_version(alloc, value, &at)?;
     let place = at.key("signatures");
     let signatures = items_under(alloc, "signatures", value, &place)?;
-    let sigs = read_signatures(alloc, signatures, &place)?;
+    let sigs = read_signatures(alloc, &signatures, &place)?;
     let place = at.key("functions");
     let functions = items_under(alloc, "functions", value, &place)?;
-    let headings = read_headings(alloc, &sigs, functions, &place)?;
-    let bodies = read_rest(alloc, natives, &sigs, headings, functions, value, &at)?;
+    let headings = read_headings(alloc, &sigs, &functions, &place)?;
+    let bodies = read_rest(alloc, natives, &sigs, headings, &functions, value, &at)?;
     Ok(Parts {
         sigs,
         functions: bodies.functions,

@@ -1,22 +1,22 @@
 // Values of a script, as they are read.
 ghost use Rattle.std.specs.Prelude.{◌≡◌, IfOk, IfErr, length};
-ghost use Rattle.serde_json.specs.View.{view, items_view};
+ghost use Rattle.serde_json.specs.Events.{items_len};
 ghost use Rattle.ffi3_types.specs.TreeOf.{tree_of};
-ghost use Rattle.ffi3_script_rules.specs.Language.{read, fault, HasShortArrays, HaveShortArrays, under};
+ghost use Rattle.ffi3_script_rules.specs.Language.{read, fault, under};
 ghost use Rattle.ffi3_script_rules.specs.Values.{read_value, read_values, read_typed, read_field, read_of, form_named};
 ghost use Rattle.ffi3_json.specs.Reports.{Reports};
 ghost use Rattle.ffi3_script_body.specs.ExprOf.{expression_of, expressions_in, typed_of};
 ghost use Rattle.ffi3_script.specs.ScopeOf.{scope_of};
 ghost use Rattle.ffi3_script.specs.Shapes.{typed_form_of, typed_under, value_under_form, read_terms};
 
-use crate::forms::{Form, TypedForm, form_named, is_untyped, only_member, two_items};
+use crate::forms::{Form, TypedForm, form_named, is_untyped, two_items};
 use crate::plain::{
     against, argument_of, cast_of, difference, element_of, push, read_number, read_right_type,
     read_text, result_of, sum, typed_as, user_of,
 };
 use crate::scope::Scope;
 use crate::{Expr, TypedExpr};
-use ffi3_json::{Json, Reason, ScriptFault, Way, bad};
+use ffi3_json::{Node, Nodes, Reason, ScriptFault, Way, bad};
 use ffi3_types::{FfiType, Fields};
 use std::alloc::Global;
 
@@ -26,36 +26,36 @@ pub(crate) fn read_value(
     alloc: Global,
     scope: &Scope,
     ty: &FfiType,
-    value: &Json,
+    value: &Node,
     at: &Way,
 ) -> Result<Expr, ScriptFault>
-    requires short { HasShortArrays (view value.now) }
     requires even { length scope.now.names.now ≡ length scope.now.types.now }
     ensures ok { IfOk result
-        (λ e. read_value (scope_of scope.now) (tree_of ty.now) (view value.now) at.now ≡ read (expression_of e)) }
+        (λ e. read_value (scope_of scope.now) (tree_of ty.now) value.now at.now ≡ read (expression_of e)) }
     ensures err { IfErr result
-        (Reports (λ p r. read_value (scope_of scope.now) (tree_of ty.now) (view value.now) at.now ≡ fault p r)) }
+        (Reports (λ p r. read_value (scope_of scope.now) (tree_of ty.now) value.now at.now ≡ fault p r)) }
 {
-    if let Some(n) = value.as_number() {
+    let json = value.json();
+    if let Some(n) = json.as_number() {
         return read_number(alloc, ty, n, at);
     }
-    if let Some(text) = value.as_str() {
+    if let Some(text) = json.as_str() {
         return read_text(alloc, ty, text, at);
     }
-    if let Some(items) = value.as_array() {
+    if let Some(items) = value.items() {
         let FfiType::Struct(fields) = ty else {
             return Err(bad(alloc, at, Reason::WrongType));
         };
         if items.len() != fields.len() {
             return Err(bad(alloc, at, Reason::WrongCount));
         }
-        let values = read_values(alloc, scope, fields, items, at)?;
+        let values = read_values(alloc, scope, fields, &items, at)?;
         return Ok(Expr::of_elements(values));
     }
-    let Some((name, inside)) = only_member(value) else {
+    let Some((name, inside)) = value.only_member() else {
         return Err(bad(alloc, at, Reason::NotAValue));
     };
-    read_form(alloc, scope, ty, name, inside, at)
+    read_form(alloc, scope, ty, name, &inside, at)
 }
 
 /// The values of these types that an array's items are, one for each.
@@ -64,21 +64,25 @@ pub(crate) fn read_values(
     alloc: Global,
     scope: &Scope,
     types: &Fields,
-    items: &Vec<Json>,
+    items: &Nodes,
     at: &Way,
 ) -> Result<Vec<Expr>, ScriptFault>
-    requires short { HaveShortArrays (items_view items.now.items) }
     requires even { length scope.now.names.now ≡ length scope.now.types.now }
-    requires count { length items.now.items ≡ length types.now }
+    requires count { items_len items.now ≡ length types.now }
     ensures ok { IfOk result
-        (λ es. read_values (scope_of scope.now) types.now (items_view items.now.items) at.now 0
-        ≡ read (expressions_in es.items)) }
+        (λ es. read_values (scope_of scope.now) types.now items.now at.now 0 ≡ read (expressions_in es.items)) }
     ensures err { IfErr result
-        (Reports (λ p r. read_values (scope_of scope.now) types.now (items_view items.now.items) at.now 0 ≡ fault p r)) }
+        (Reports (λ p r. read_values (scope_of scope.now) types.now items.now at.now 0 ≡ fault p r)) }
 {
     let mut values = Vec::new(alloc);
     for i in 0..types.len() {
-        let value = read_value(alloc, scope, types.get(i), &items[i], &at.item(i as u32))?;
+        let value = read_value(
+            alloc,
+            scope,
+            types.get(i),
+            &items.get(i),
+            &at.item(i as u32),
+        )?;
         push(&mut values, value)?;
     }
     Ok(values)
@@ -91,16 +95,15 @@ fn read_form(
     scope: &Scope,
     ty: &FfiType,
     name: &str,
-    inside: &Json,
+    inside: &Node,
     at: &Way,
 ) -> Result<Expr, ScriptFault>
-    requires short { HasShortArrays (view inside.now) }
     requires even { length scope.now.names.now ≡ length scope.now.types.now }
     ensures ok { IfOk result
-        (λ e. value_under_form (scope_of scope.now) (tree_of ty.now) name.now (view inside.now) at.now
+        (λ e. value_under_form (scope_of scope.now) (tree_of ty.now) name.now inside.now at.now
         (form_named name.now) ≡ read (expression_of e)) }
     ensures err { IfErr result
-        (Reports (λ p r. value_under_form (scope_of scope.now) (tree_of ty.now) name.now (view inside.now) at.now
+        (Reports (λ p r. value_under_form (scope_of scope.now) (tree_of ty.now) name.now inside.now at.now
         (form_named name.now) ≡ fault p r)) }
 {
     match form_named(name) {
@@ -135,17 +138,15 @@ fn read_terms(
     scope: &Scope,
     ty: &FfiType,
     name: &str,
-    inside: &Json,
+    inside: &Node,
     at: &Way,
 ) -> Result<(Expr, Expr), ScriptFault>
-    requires short { HasShortArrays (view inside.now) }
     requires even { length scope.now.names.now ≡ length scope.now.types.now }
     ensures ok { IfOk result
-        (λ p. read_terms (scope_of scope.now) (tree_of ty.now) name.now (view inside.now) at.now
+        (λ p. read_terms (scope_of scope.now) (tree_of ty.now) name.now inside.now at.now
         ≡ read (expression_of p.0, expression_of p.1)) }
     ensures err { IfErr result
-        (Reports (λ p r. read_terms (scope_of scope.now) (tree_of ty.now) name.now (view inside.now) at.now
-        ≡ fault p r)) }
+        (Reports (λ p r. read_terms (scope_of scope.now) (tree_of ty.now) name.now inside.now at.now ≡ fault p r)) }
 {
     if !ty.is_integer() {
         return Err(bad(alloc, at, Reason::WrongType));
@@ -154,8 +155,8 @@ fn read_terms(
     let Some((first, second)) = two_items(inside) else {
         return Err(bad(alloc, &place, Reason::WrongCount));
     };
-    let a = read_value(alloc, scope, ty, first, &place.item(0))?;
-    let b = read_value(alloc, scope, ty, second, &place.item(1))?;
+    let a = read_value(alloc, scope, ty, &first, &place.item(0))?;
+    let b = read_value(alloc, scope, ty, &second, &place.item(1))?;
     Ok((a, b))
 }
 
@@ -164,23 +165,22 @@ fn read_terms(
 pub(crate) fn read_typed(
     alloc: Global,
     scope: &Scope,
-    value: &Json,
+    value: &Node,
     at: &Way,
 ) -> Result<TypedExpr, ScriptFault>
-    requires short { HasShortArrays (view value.now) }
     requires even { length scope.now.names.now ≡ length scope.now.types.now }
-    ensures ok { IfOk result (λ v. read_typed (scope_of scope.now) (view value.now) at.now ≡ read (typed_of v)) }
-    ensures err { IfErr result (Reports (λ p r. read_typed (scope_of scope.now) (view value.now) at.now ≡ fault p r)) }
+    ensures ok { IfOk result (λ v. read_typed (scope_of scope.now) value.now at.now ≡ read (typed_of v)) }
+    ensures err { IfErr result (Reports (λ p r. read_typed (scope_of scope.now) value.now at.now ≡ fault p r)) }
 {
     if is_untyped(value) {
         return Err(bad(alloc, at, Reason::NoTypeOfItsOwn));
     }
-    let Some((name, inside)) = only_member(value) else {
+    let Some((name, inside)) = value.only_member() else {
         return Err(bad(alloc, at, Reason::NotAValue));
     };
     match form_named(name) {
         Form::Unknown => Err(bad(alloc, at, Reason::NotAValue)),
-        Form::Typed(form) => read_own(alloc, scope, form, name, inside, at),
+        Form::Typed(form) => read_own(alloc, scope, form, name, &inside, at),
         _ => Err(bad(alloc, at, Reason::NoTypeOfItsOwn)),
     }
 }
@@ -192,16 +192,14 @@ fn read_own(
     scope: &Scope,
     form: TypedForm,
     name: &str,
-    inside: &Json,
+    inside: &Node,
     at: &Way,
 ) -> Result<TypedExpr, ScriptFault>
-    requires short { HasShortArrays (view inside.now) }
     requires even { length scope.now.names.now ≡ length scope.now.types.now }
     ensures ok { IfOk result
-        (λ v. typed_under (scope_of scope.now) name.now (view inside.now) at.now (typed_form_of form)
-        ≡ read (typed_of v)) }
+        (λ v. typed_under (scope_of scope.now) name.now inside.now at.now (typed_form_of form) ≡ read (typed_of v)) }
     ensures err { IfErr result
-        (Reports (λ p r. typed_under (scope_of scope.now) name.now (view inside.now) at.now (typed_form_of form)
+        (Reports (λ p r. typed_under (scope_of scope.now) name.now inside.now at.now (typed_form_of form)
         ≡ fault p r)) }
 {
     match form {
@@ -219,26 +217,25 @@ fn read_field(
     alloc: Global,
     scope: &Scope,
     name: &str,
-    inside: &Json,
+    inside: &Node,
     at: &Way,
 ) -> Result<TypedExpr, ScriptFault>
-    requires short { HasShortArrays (view inside.now) }
     requires even { length scope.now.names.now ≡ length scope.now.types.now }
     ensures ok { IfOk result
-        (λ v. read_field (scope_of scope.now) (view inside.now) (under at.now name.now) at.now ≡ read (typed_of v)) }
+        (λ v. read_field (scope_of scope.now) inside.now (under at.now name.now) at.now ≡ read (typed_of v)) }
     ensures err { IfErr result
-        (Reports (λ p r. read_field (scope_of scope.now) (view inside.now) (under at.now name.now) at.now ≡ fault p r)) }
+        (Reports (λ p r. read_field (scope_of scope.now) inside.now (under at.now name.now) at.now ≡ fault p r)) }
 {
     let place = (&*at).key(name);
     let Some((inner, number)) = two_items(inside) else {
         return Err(bad(alloc, &place, Reason::WrongCount));
     };
     let first = place.item(0);
-    let TypedExpr { ty, value } = read_typed(alloc, scope, inner, &first)?;
+    let TypedExpr { ty, value } = read_typed(alloc, scope, &inner, &first)?;
     let FfiType::Struct(fields) = &ty else {
         return Err(bad(alloc, &first, Reason::WrongType));
     };
-    element_of(alloc, value, fields, number, at)
+    element_of(alloc, value, fields, &number, at)
 }
 
 // An array of a type, and a value against it.
@@ -247,21 +244,20 @@ fn read_of(
     alloc: Global,
     scope: &Scope,
     name: &str,
-    inside: &Json,
+    inside: &Node,
     at: &Way,
 ) -> Result<TypedExpr, ScriptFault>
-    requires short { HasShortArrays (view inside.now) }
     requires even { length scope.now.names.now ≡ length scope.now.types.now }
     ensures ok { IfOk result
-        (λ v. read_of (scope_of scope.now) (view inside.now) (under at.now name.now) ≡ read (typed_of v)) }
+        (λ v. read_of (scope_of scope.now) inside.now (under at.now name.now) ≡ read (typed_of v)) }
     ensures err { IfErr result
-        (Reports (λ p r. read_of (scope_of scope.now) (view inside.now) (under at.now name.now) ≡ fault p r)) }
+        (Reports (λ p r. read_of (scope_of scope.now) inside.now (under at.now name.now) ≡ fault p r)) }
 {
     let place = (&*at).key(name);
     let Some((first, second)) = two_items(inside) else {
         return Err(bad(alloc, &place, Reason::WrongCount));
     };
-    let ty = read_right_type(alloc, first, &place.item(0))?;
-    let value = read_value(alloc, scope, &ty, second, &place.item(1))?;
+    let ty = read_right_type(alloc, &first, &place.item(0))?;
+    let value = read_value(alloc, scope, &ty, &second, &place.item(1))?;
     Ok(typed_as(alloc, ty, value)?)
 }

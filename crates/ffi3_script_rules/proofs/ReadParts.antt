@@ -1,7 +1,7 @@
 -- Where a step of reading gives a value, each of its parts has given one.
 use Rattle.std.proofs.Common.{◌≡◌, ℕ, zero, suc, ◌<◌, Bool, true, false, List, [], ◌∷◌, length, Some, refl, arith}
 use Rattle.std.specs.Prelude.{slice_get, slice_index_or, if◌then◌else◌}
-use Rattle.ffi3_script_rules.specs.Language.{Read, read, fault, and_then, read_map, Path, Reason}
+use Rattle.ffi3_script_rules.specs.Language.{Read, read, fault, and_then, read_map, JsonPath, Reason}
 
 pub first_was_read : {A B : Type 0} (more : A → Read B) (r : Read A) (b : B) → and_then more r ≡ read b → (a : A) × (r ≡ read a) × (more a ≡ read b)
 first_was_read more (read a) b h = (a, refl, h)
@@ -14,7 +14,7 @@ part_was_read f (fault path reason) b h = absurd (cc)
 pub same_read : {A : Type 0} (a b : A) → read a ≡ read b → a ≡ b
 same_read a b h = cc
 
-pub test_held : {A : Type 0} (b : Bool) (r : Read A) (path : Path) (reason : Reason) (a : A) → (if b then r else fault path reason) ≡ read a → (b ≡ true) × (r ≡ read a)
+pub test_held : {A : Type 0} (b : Bool) (r : Read A) (path : JsonPath) (reason : Reason) (a : A) → (if b then r else fault path reason) ≡ read a → (b ≡ true) × (r ≡ read a)
 test_held true r path reason a h = (refl, h)
 test_held false r path reason a h = absurd (cc)
 

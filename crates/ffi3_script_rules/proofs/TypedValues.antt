@@ -16,7 +16,7 @@ use Rattle.ffi3_type_rules.specs.Layout.{scalar_size}
 use Rattle.ffi3_type_rules.specs.Same.{same_tree}
 use Rattle.ffi3_type_rules.proofs.Widened.{length-bytes_of_number}
 use Rattle.ffi3_script_rules.specs.FirstFault.{Found, first_fault}
-use Rattle.ffi3_script_rules.specs.Language.{Read, read, and_then, read_map, Path, under, at_item, read_type, out_of_range, wrong_type, wrong_count}
+use Rattle.ffi3_script_rules.specs.Language.{Read, read, and_then, read_map, JsonPath, under, at_item, read_type, out_of_range, wrong_type, wrong_count}
 use Rattle.ffi3_script_rules.specs.Script.{Expression, constant, composed, argument, outcome, user_data, element, typed_as, cast, Expressions, no_expressions, expression, Typed}
 use Rattle.ffi3_script_rules.specs.Values.{Given, Scope, read_integer, in_range, read_number, is_floating_type, bytes_or_fault, read_text, typed, against, typed_argument, argument_of, has_name, typed_result, result_number, result_of, user_of, typed_element, element_in, field_of, right_type, read_right_type, TypedForm, arg_form, res_form, user_form, field_form, of_form, Form, typed_form, add_form, sub_form, cast_form, no_form, form_named, is_integer_type, if_integer, cast_of, composed_of, Pair, sum_of, difference_of, typed_by, value_by, own_by, read_value, read_values, read_object, read_two, read_typed, read_typed_object, read_field, read_of}
 use Rattle.ffi3_script_rules.specs.Typed.{Kinds, is_at, own_type, is_scalar_of, is_integer_of, is_number_of, has_type, have_types, same_scalar, is_right, is_right_argument, types_of, kinds_of, scope_is_right}
@@ -82,42 +82,42 @@ module _ (kinds : Kinds) where
   constant_has t s bytes same n =
       subst (λ u. is_scalar_of (length bytes) u ≡ true) (sym same) (eq-eqb (length bytes) (scalar_size s) n)
 
-  integer_has : (t : Tree) (s : Scalar) (z : Option ℤ) (path : Path) (e : Expression) → t ≡ scalar s → read_integer s z path ≡ read e → has_type kinds t e ≡ true
+  integer_has : (t : Tree) (s : Scalar) (z : Option ℤ) (path : JsonPath) (e : Expression) → t ≡ scalar s → read_integer s z path ≡ read e → has_type kinds t e ≡ true
   integer_has t s None path e same h = cc
   integer_has t s (Some z) path e same h =
       let is = same_read (constant (bytes_of_number s z)) e (test_held (in_range s z) (read (constant (bytes_of_number s z))) path out_of_range e h).1 in
       subst (λ f. has_type kinds t f ≡ true) is (constant_has t s (bytes_of_number s z) same (length-bytes_of_number s z))
 
-  pub number_has : (t : Tree) (n : Num) (path : Path) (e : Expression) → read_number t n path ≡ read e → has_type kinds t e ≡ true
+  pub number_has : (t : Tree) (n : Num) (path : JsonPath) (e : Expression) → read_number t n path ≡ read e → has_type kinds t e ≡ true
   number_has t n path e h =
       let held = test_held (is_number_type t) (read_integer (scalar_of t) (as_integer n) path) path wrong_type e h in
       integer_has t (scalar_of t) (as_integer n) path e (number_type t held.0).0 held.1
 
-  text_bytes_have : (t : Tree) (text : List ℕ) (path : Path) (e : Expression) (r : Result (List ℕ) FromHexError) → t ≡ scalar (scalar_of t) → decode_sized text (scalar_size (scalar_of t)) ≡ r → bytes_or_fault path r ≡ read e → has_type kinds t e ≡ true
+  text_bytes_have : (t : Tree) (text : List ℕ) (path : JsonPath) (e : Expression) (r : Result (List ℕ) FromHexError) → t ≡ scalar (scalar_of t) → decode_sized text (scalar_size (scalar_of t)) ≡ r → bytes_or_fault path r ≡ read e → has_type kinds t e ≡ true
   text_bytes_have t text path e (Ok bytes) same is h =
       subst (λ f. has_type kinds t f ≡ true) (same_read (constant bytes) e h) (constant_has t (scalar_of t) bytes same (decoded text (scalar_size (scalar_of t)) bytes is))
   text_bytes_have t text path e (Err x) same is h = cc
 
-  pub text_has : (t : Tree) (text : List ℕ) (path : Path) (e : Expression) → read_text t text path ≡ read e → has_type kinds t e ≡ true
+  pub text_has : (t : Tree) (text : List ℕ) (path : JsonPath) (e : Expression) → read_text t text path ≡ read e → has_type kinds t e ≡ true
   text_has t text path e h =
       let held = test_held (is_floating_type t) (bytes_or_fault path (decode_sized text (scalar_size (scalar_of t)))) path wrong_type e h in
       text_bytes_have t text path e (decode_sized text (scalar_size (scalar_of t))) (floating_type t held.0) refl held.1
 
   -- ---- values with a type of their own, as others use them
 
-  pub against_has : (t : Tree) (path : Path) (v : Typed) (e : Expression) → IsOfItsType kinds v → against t path v ≡ read e → has_type kinds t e ≡ true
+  pub against_has : (t : Tree) (path : JsonPath) (v : Typed) (e : Expression) → IsOfItsType kinds v → against t path v ≡ read e → has_type kinds t e ≡ true
   against_has t path v e good h =
       let held = test_held (same_tree v.type t) (read v.value) path wrong_type e h in
       subst (λ u. has_type kinds u e ≡ true) (types_are_same v.type t held.0) (subst (λ f. has_type kinds v.type f ≡ true) (same_read v.value e held.1) good.has_it)
 
-  cast_has : (t : Tree) (path : Path) (v : Typed) (e : Expression) → is_number_type t ≡ true → IsOfItsType kinds v → cast_of (scalar_of t) path v ≡ read e → has_type kinds t e ≡ true
+  cast_has : (t : Tree) (path : JsonPath) (v : Typed) (e : Expression) → is_number_type t ≡ true → IsOfItsType kinds v → cast_of (scalar_of t) path v ≡ read e → has_type kinds t e ≡ true
   cast_has t path v e is good h =
       let held = test_held (is_number_type v.type) (read (cast (scalar_of v.type) (scalar_of t) v.value)) path wrong_type e h in
       let from = number_type v.type held.0 in
       let inner : has_type kinds (scalar (scalar_of v.type)) v.value ≡ true = subst (λ u. has_type kinds u v.value ≡ true) from.0 good.has_it in
       subst (λ f. has_type kinds t f ≡ true) (same_read (cast (scalar_of v.type) (scalar_of t) v.value) e held.1) (both (is_number_of (scalar_of t) t) _ (number_of_scalar (scalar_of t) t (number_type t is)) (both (is_number (scalar_of v.type)) _ from.1 inner))
 
-  composed_has : (t : Tree) (n : ℕ) (path : Path) (es : Read Expressions) (e : Expression) → ((fs : Expressions) → n ≡ length (elements_of t) → es ≡ read fs → have_types kinds (trees_of (elements_of t)) fs ≡ true) → composed_of t n path es ≡ read e → has_type kinds t e ≡ true
+  composed_has : (t : Tree) (n : ℕ) (path : JsonPath) (es : Read Expressions) (e : Expression) → ((fs : Expressions) → n ≡ length (elements_of t) → es ≡ read fs → have_types kinds (trees_of (elements_of t)) fs ≡ true) → composed_of t n path es ≡ read e → has_type kinds t e ≡ true
   composed_has (structure ts) n path es e each h =
       let held = test_held (n == length (list_of ts)) (read_map composed es) path wrong_count e h in
       let part = part_was_read composed es e held.1 in
@@ -153,19 +153,19 @@ module _ (scope : Scope) (right : scope_is_right scope ≡ true) where
   abbrev kinds : Kinds
   kinds = kinds_of scope
 
-  argument_typed : (i : ℕ) (path : Path) (o : Option Tree) (v : Typed) → slice_get scope.arguments i ≡ o → typed_argument i path o ≡ read v → IsOfItsType kinds v
+  argument_typed : (i : ℕ) (path : JsonPath) (o : Option Tree) (v : Typed) → slice_get scope.arguments i ≡ o → typed_argument i path o ≡ read v → IsOfItsType kinds v
   argument_typed i path None v is h = absurd (cc)
   argument_typed i path (Some t) v is h =
       let there = at_list scope.arguments i t is in
       let fit = passing is_right_argument scope.arguments i t (and_left (list_all is_right_argument scope.arguments) _ right) is in
       subst (IsOfItsType kinds) (same_read (typed t (argument i)) v h) (record { has_it = there.0; is_own = there.1; is_fit = argument_is_result_too t fit })
 
-  pub argument_has : (i : Option ℕ) (path : Path) (v : Typed) → argument_of scope.arguments i path ≡ read v → IsOfItsType kinds v
+  pub argument_has : (i : Option ℕ) (path : JsonPath) (v : Typed) → argument_of scope.arguments i path ≡ read v → IsOfItsType kinds v
   argument_has None path v h = absurd (cc)
   argument_has (Some i) path v h =
       argument_typed i path (slice_get scope.arguments i) v refl h
 
-  result_typed : (i : ℕ) (path : Path) (o : Option Given) (v : Typed) → slice_get scope.given i ≡ o → typed_result i path o ≡ read v → IsOfItsType kinds v
+  result_typed : (i : ℕ) (path : JsonPath) (o : Option Given) (v : Typed) → slice_get scope.given i ≡ o → typed_result i path o ≡ read v → IsOfItsType kinds v
   result_typed i path None v is h = absurd (cc)
   result_typed i path (Some g) v is h =
       let at_types = type_given scope.given i g is in
@@ -173,16 +173,16 @@ module _ (scope : Scope) (right : scope_is_right scope ≡ true) where
       let fit = passing is_right (types_of scope.given) i g.type (and_right (list_all is_right_argument scope.arguments) _ right) at_types in
       subst (IsOfItsType kinds) (same_read (typed g.type (outcome i)) v h) (record { has_it = there.0; is_own = there.1; is_fit = fit })
 
-  numbered_result : (i : Option ℕ) (path : Path) (v : Typed) → result_number scope.given i path ≡ read v → IsOfItsType kinds v
+  numbered_result : (i : Option ℕ) (path : JsonPath) (v : Typed) → result_number scope.given i path ≡ read v → IsOfItsType kinds v
   numbered_result None path v h = absurd (cc)
   numbered_result (Some i) path v h = result_typed i path (slice_get scope.given i) v refl h
 
-  pub result_has : (name : Option (List ℕ)) (path : Path) (v : Typed) → result_of scope.given name path ≡ read v → IsOfItsType kinds v
+  pub result_has : (name : Option (List ℕ)) (path : JsonPath) (v : Typed) → result_of scope.given name path ≡ read v → IsOfItsType kinds v
   result_has None path v h = absurd (cc)
   result_has (Some name) path v h =
       numbered_result (position (has_name name) scope.given) path v h
 
-  pub user_has : (d : Data) (path : Path) (v : Typed) → user_of d path ≡ read v → IsOfItsType kinds v
+  pub user_has : (d : Data) (path : JsonPath) (v : Typed) → user_of d path ≡ read v → IsOfItsType kinds v
   user_has (boolean true) path v h =
       subst (IsOfItsType kinds) (same_read (typed (scalar pointer) user_data) v h) (record { has_it = refl; is_own = refl; is_fit = refl })
   user_has (boolean false) path v h = absurd (cc)
@@ -192,7 +192,7 @@ module _ (scope : Scope) (right : scope_is_right scope ≡ true) where
   user_has (array ds) path v h = absurd (cc)
   user_has (object ms) path v h = absurd (cc)
 
-  element_typed : (ts : Trees) (e : Expression) (i : ℕ) (path : Path) (o : Option Tree) (v : Typed) → has_type kinds (structure ts) e ≡ true → own_type kinds e ≡ structure ts → is_right (structure ts) ≡ true → slice_get (list_of ts) i ≡ o → typed_element e i path o ≡ read v → IsOfItsType kinds v
+  element_typed : (ts : Trees) (e : Expression) (i : ℕ) (path : JsonPath) (o : Option Tree) (v : Typed) → has_type kinds (structure ts) e ≡ true → own_type kinds e ≡ structure ts → is_right (structure ts) ≡ true → slice_get (list_of ts) i ≡ o → typed_element e i path o ≡ read v → IsOfItsType kinds v
   element_typed ts e i path None v has own fit is h = absurd (cc)
   element_typed ts e i path (Some t) v has own fit is h =
       let there = at_list (list_of ts) i t is in
@@ -203,7 +203,7 @@ module _ (scope : Scope) (right : scope_is_right scope ≡ true) where
       let fit_element : is_right t ≡ true = argument_is_result_too t (ap is_right_argument (sym there.1) ∙ none-is_none (first_fault 0 false (tree_at (list_of ts) i)) fit_argument) in
       subst (IsOfItsType kinds) (same_read (typed t (element e i)) v h) (record { has_it = has_element; is_own = ap (λ u. tree_at (elements_of u) i) own ∙ there.1; is_fit = fit_element })
 
-  element_has : (path place : Path) (i : Option ℕ) (e : Expression) (t : Tree) (v : Typed) → has_type kinds t e ≡ true → own_type kinds e ≡ t → is_right t ≡ true → element_in path place i e t ≡ read v → IsOfItsType kinds v
+  element_has : (path place : JsonPath) (i : Option ℕ) (e : Expression) (t : Tree) (v : Typed) → has_type kinds t e ≡ true → own_type kinds e ≡ t → is_right t ≡ true → element_in path place i e t ≡ read v → IsOfItsType kinds v
   element_has path place None e (structure ts) v has own fit h = absurd (cc)
   element_has path place (Some i) e (structure ts) v has own fit h =
       element_typed ts e i path (slice_get (list_of ts) i) v has own fit refl h
@@ -211,16 +211,16 @@ module _ (scope : Scope) (right : scope_is_right scope ≡ true) where
   element_has path place i e (scalar s) v has own fit h = absurd (cc)
   element_has path place i e (left_out k) v has own fit h = absurd (cc)
 
-  pub field_has : (path place : Path) (i : Option ℕ) (v w : Typed) → IsOfItsType kinds v → field_of path place i v ≡ read w → IsOfItsType kinds w
+  pub field_has : (path place : JsonPath) (i : Option ℕ) (v w : Typed) → IsOfItsType kinds v → field_of path place i v ≡ read w → IsOfItsType kinds w
   field_has path place i v w good h =
       element_has path place i v.value v.type w good.has_it good.is_own good.is_fit h
 
-  right_type_is : (path : Path) (t u : Tree) (f : Option Found) → first_fault 0 false t ≡ f → right_type path t f ≡ read u → is_right_argument u ≡ true
+  right_type_is : (path : JsonPath) (t u : Tree) (f : Option Found) → first_fault 0 false t ≡ f → right_type path t f ≡ read u → is_right_argument u ≡ true
   right_type_is path t u None is h =
       subst (λ w. is_right_argument w ≡ true) (same_read t u h) (none-is_none (first_fault 0 false t) is)
   right_type_is path t u (Some f) is h = cc
 
-  pub right_type_has : (d : Data) (path : Path) (t : Tree) → read_right_type d path ≡ read t → is_right_argument t ≡ true
+  pub right_type_has : (d : Data) (path : JsonPath) (t : Tree) → read_right_type d path ≡ read t → is_right_argument t ≡ true
   right_type_has d path t h =
       let was = first_was_read (λ u. right_type path u (first_fault 0 false u)) (read_type d path) t h in
       right_type_is path was.0 t (first_fault 0 false was.0) refl was.2
@@ -234,7 +234,7 @@ module _ (scope : Scope) (right : scope_is_right scope ≡ true) where
   abbrev pub IsGood : Read Typed → Type 0
   IsGood r = (v : Typed) → r ≡ read v → IsOfItsType kinds v
 
-  typed_by_has : (d : Data) (path : Path) (field of : ⊤ → Read Typed) (form : TypedForm) → IsGood (field tt) → IsGood (of tt) → IsGood (typed_by scope d path field of form)
+  typed_by_has : (d : Data) (path : JsonPath) (field of : ⊤ → Read Typed) (form : TypedForm) → IsGood (field tt) → IsGood (of tt) → IsGood (typed_by scope d path field of form)
   typed_by_has d path field of arg_form of_field of_of v h =
       argument_has (option_and_then as_u64 (as_number d)) path v h
   typed_by_has d path field of res_form of_field of_of v h = result_has (as_str d) path v h
@@ -242,28 +242,28 @@ module _ (scope : Scope) (right : scope_is_right scope ≡ true) where
   typed_by_has d path field of field_form of_field of_of v h = of_field v h
   typed_by_has d path field of of_form of_field of_of v h = of_of v h
 
-  own_by_has : (path : Path) (own : TypedForm → Read Typed) (form : Form) → ((f : TypedForm) → IsGood (own f)) → IsGood (own_by path own form)
+  own_by_has : (path : JsonPath) (own : TypedForm → Read Typed) (form : Form) → ((f : TypedForm) → IsGood (own f)) → IsGood (own_by path own form)
   own_by_has path own no_form each v h = absurd (cc)
   own_by_has path own (typed_form f) each v h = each f v h
   own_by_has path own add_form each v h = absurd (cc)
   own_by_has path own sub_form each v h = absurd (cc)
   own_by_has path own cast_form each v h = absurd (cc)
 
-  sum_has : (t : Tree) (path : Path) (two : ⊤ → Read Pair) (e : Expression) → ((p : Pair) → two tt ≡ read p → AreOfType t p) → if_integer t path (λ _. read_map (sum_of (scalar_of t)) (two tt)) ≡ read e → has_type kinds t e ≡ true
+  sum_has : (t : Tree) (path : JsonPath) (two : ⊤ → Read Pair) (e : Expression) → ((p : Pair) → two tt ≡ read p → AreOfType t p) → if_integer t path (λ _. read_map (sum_of (scalar_of t)) (two tt)) ≡ read e → has_type kinds t e ≡ true
   sum_has t path two e each h =
       let held = test_held (is_integer_type t) (read_map (sum_of (scalar_of t)) (two tt)) path wrong_type e h in
       let part = part_was_read (sum_of (scalar_of t)) (two tt) e held.1 in
       let both_have = each part.0 part.1 in
       subst (λ f. has_type kinds t f ≡ true) part.2 (both (is_integer_of (scalar_of t) t) _ (integer_of_scalar (scalar_of t) t (integer_type t held.0)) (both (has_type kinds t part.0.0) _ both_have.0 both_have.1))
 
-  difference_has : (t : Tree) (path : Path) (two : ⊤ → Read Pair) (e : Expression) → ((p : Pair) → two tt ≡ read p → AreOfType t p) → if_integer t path (λ _. read_map (difference_of (scalar_of t)) (two tt)) ≡ read e → has_type kinds t e ≡ true
+  difference_has : (t : Tree) (path : JsonPath) (two : ⊤ → Read Pair) (e : Expression) → ((p : Pair) → two tt ≡ read p → AreOfType t p) → if_integer t path (λ _. read_map (difference_of (scalar_of t)) (two tt)) ≡ read e → has_type kinds t e ≡ true
   difference_has t path two e each h =
       let held = test_held (is_integer_type t) (read_map (difference_of (scalar_of t)) (two tt)) path wrong_type e h in
       let part = part_was_read (difference_of (scalar_of t)) (two tt) e held.1 in
       let both_have = each part.0 part.1 in
       subst (λ f. has_type kinds t f ≡ true) part.2 (both (is_integer_of (scalar_of t) t) _ (integer_of_scalar (scalar_of t) t (integer_type t held.0)) (both (has_type kinds t part.0.0) _ both_have.0 both_have.1))
 
-  value_by_has : (t : Tree) (path place : Path) (own : TypedForm → Read Typed) (two : ⊤ → Read Pair) (inner : ⊤ → Read Typed) (form : Form) (e : Expression) → ((f : TypedForm) → IsGood (own f)) → ((p : Pair) → two tt ≡ read p → AreOfType t p) → IsGood (inner tt) → value_by t path place own two inner form ≡ read e → has_type kinds t e ≡ true
+  value_by_has : (t : Tree) (path place : JsonPath) (own : TypedForm → Read Typed) (two : ⊤ → Read Pair) (inner : ⊤ → Read Typed) (form : Form) (e : Expression) → ((f : TypedForm) → IsGood (own f)) → ((p : Pair) → two tt ≡ read p → AreOfType t p) → IsGood (inner tt) → value_by t path place own two inner form ≡ read e → has_type kinds t e ≡ true
   value_by_has t path place own two inner no_form e of_own of_two of_inner h = cc
   value_by_has t path place own two inner (typed_form f) e of_own of_two of_inner h =
       let was = first_was_read (against t path) (own f) e h in
@@ -280,7 +280,7 @@ module _ (scope : Scope) (right : scope_is_right scope ≡ true) where
 
   mutual
     -- A VALUE THAT IS READ AGAINST A TYPE HAS IT
-    pub value_is_typed : (t : Tree) (d : Data) (path : Path) (e : Expression) → read_value scope t d path ≡ read e → has_type kinds t e ≡ true
+    pub value_is_typed : (t : Tree) (d : Data) (path : JsonPath) (e : Expression) → read_value scope t d path ≡ read e → has_type kinds t e ≡ true
     value_is_typed t null path e h = cc
     value_is_typed t (boolean b) path e h = cc
     value_is_typed t (number n) path e h = number_has kinds t n path e h
@@ -290,7 +290,7 @@ module _ (scope : Scope) (right : scope_is_right scope ≡ true) where
     value_is_typed t (object ms) path e h = object_is_typed t ms path e h
 
     -- one for each type
-    pub values_are_typed : (ts : List Tree) (ds : Items) (path : Path) (i : ℕ) (es : Expressions) → items_len ds ≡ length ts → read_values scope ts ds path i ≡ read es → have_types kinds (trees_of ts) es ≡ true
+    pub values_are_typed : (ts : List Tree) (ds : Items) (path : JsonPath) (i : ℕ) (es : Expressions) → items_len ds ≡ length ts → read_values scope ts ds path i ≡ read es → have_types kinds (trees_of ts) es ≡ true
     values_are_typed [] no_items path i es count h =
         subst (λ fs. have_types kinds no_trees fs ≡ true) (same_read no_expressions es h) refl
     values_are_typed (t ∷ ts) no_items path i es count h = absurd (omega arith)
@@ -301,7 +301,7 @@ module _ (scope : Scope) (right : scope_is_right scope ≡ true) where
         let rest = part_was_read (λ fs. expression was.0 fs) (read_values scope ts ds path (i + 1)) es was.2 in
         subst (λ fs. have_types kinds (tree t (trees_of ts)) fs ≡ true) rest.2 (both (has_type kinds t was.0) _ (value_is_typed t d (at_item path i) was.0 was.1) (values_are_typed ts ds path (i + 1) rest.0 (omega arith) rest.1))
 
-    pub object_is_typed : (t : Tree) (ms : Members) (path : Path) (e : Expression) → read_object scope t ms path ≡ read e → has_type kinds t e ≡ true
+    pub object_is_typed : (t : Tree) (ms : Members) (path : JsonPath) (e : Expression) → read_object scope t ms path ≡ read e → has_type kinds t e ≡ true
     object_is_typed t no_members path e h = cc
     object_is_typed t (member name d no_members) path e h =
         let place = under path name in
@@ -309,7 +309,7 @@ module _ (scope : Scope) (right : scope_is_right scope ≡ true) where
         value_by_has t path place own (λ _. read_two scope t d place) (λ _. read_typed scope d place) (form_named name) e (λ f. typed_by_has d path (λ _. read_field scope d place path) (λ _. read_of scope d place) f (λ v. field_is_typed d place path v) (λ v. of_is_typed d place v)) (λ p. two_are_typed t d place p) (λ v. typed_is_typed d place v) h
     object_is_typed t (member name d (member other x ms)) path e h = cc
 
-    two_are_typed : (t : Tree) (d : Data) (place : Path) (p : Pair) → read_two scope t d place ≡ read p → AreOfType t p
+    two_are_typed : (t : Tree) (d : Data) (place : JsonPath) (p : Pair) → read_two scope t d place ≡ read p → AreOfType t p
     two_are_typed t (array (item d (item e no_items))) place p h =
         let more : Expression → Read Pair = λ a. read_map (λ b. (a, b)) (read_value scope t e (at_item place 1)) in
         let was = first_was_read more (read_value scope t d (at_item place 0)) p h in
@@ -318,7 +318,7 @@ module _ (scope : Scope) (right : scope_is_right scope ≡ true) where
     two_are_typed t _ place p h = absurd (cc)
 
     -- A VALUE THAT IS READ WITH A TYPE OF ITS OWN HAS IT
-    pub typed_is_typed : (d : Data) (path : Path) (v : Typed) → read_typed scope d path ≡ read v → IsOfItsType kinds v
+    pub typed_is_typed : (d : Data) (path : JsonPath) (v : Typed) → read_typed scope d path ≡ read v → IsOfItsType kinds v
     typed_is_typed null path v h = absurd (cc)
     typed_is_typed (boolean b) path v h = absurd (cc)
     typed_is_typed (number n) path v h = absurd (cc)
@@ -326,7 +326,7 @@ module _ (scope : Scope) (right : scope_is_right scope ≡ true) where
     typed_is_typed (array ds) path v h = absurd (cc)
     typed_is_typed (object ms) path v h = typed_object_is_typed ms path v h
 
-    pub typed_object_is_typed : (ms : Members) (path : Path) (v : Typed) → read_typed_object scope ms path ≡ read v → IsOfItsType kinds v
+    pub typed_object_is_typed : (ms : Members) (path : JsonPath) (v : Typed) → read_typed_object scope ms path ≡ read v → IsOfItsType kinds v
     typed_object_is_typed no_members path v h = absurd (cc)
     typed_object_is_typed (member name d no_members) path v h =
         let place = under path name in
@@ -334,13 +334,13 @@ module _ (scope : Scope) (right : scope_is_right scope ≡ true) where
         own_by_has path own (form_named name) (λ f. typed_by_has d path (λ _. read_field scope d place path) (λ _. read_of scope d place) f (λ w. field_is_typed d place path w) (λ w. of_is_typed d place w)) v h
     typed_object_is_typed (member name d (member other x ms)) path v h = absurd (cc)
 
-    pub field_is_typed : (d : Data) (place path : Path) (v : Typed) → read_field scope d place path ≡ read v → IsOfItsType kinds v
+    pub field_is_typed : (d : Data) (place path : JsonPath) (v : Typed) → read_field scope d place path ≡ read v → IsOfItsType kinds v
     field_is_typed (array (item d (item e no_items))) place path v h =
         let was = first_was_read (field_of path (at_item place 0) (option_and_then as_u64 (as_number e))) (read_typed scope d (at_item place 0)) v h in
         field_has path (at_item place 0) (option_and_then as_u64 (as_number e)) was.0 v (typed_is_typed d (at_item place 0) was.0 was.1) was.2
     field_is_typed _ place path v h = absurd (cc)
 
-    pub of_is_typed : (d : Data) (place : Path) (v : Typed) → read_of scope d place ≡ read v → IsOfItsType kinds v
+    pub of_is_typed : (d : Data) (place : JsonPath) (v : Typed) → read_of scope d place ≡ read v → IsOfItsType kinds v
     of_is_typed (array (item d (item e no_items))) place v h =
         let more : Tree → Read Typed = λ t. read_map (λ w. typed t (typed_as t w)) (read_value scope t e (at_item place 1)) in
         let was = first_was_read more (read_right_type d (at_item place 0)) v h in

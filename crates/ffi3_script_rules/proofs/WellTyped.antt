@@ -14,7 +14,7 @@ use Rattle.ffi3_type_rules.specs.Same.{same_tree}
 use Rattle.ffi3_type_rules.specs.Signature.{Signature, SignatureFault, signature_at}
 use Rattle.ffi3_run_rules.specs.Move.{no_signature}
 use Rattle.ffi3_script_rules.specs.FirstFault.{first_signature_fault}
-use Rattle.ffi3_script_rules.specs.Language.{read, read_map, Path, under, at_item, check_object, value_under, unless_faulty, read_shapes, read_signature, no_such_signature, wrong_type, wrong_count, no_return_at_the_end}
+use Rattle.ffi3_script_rules.specs.Language.{read, read_map, JsonPath, under, at_item, check_object, value_under, unless_faulty, read_shapes, read_signature, no_such_signature, wrong_type, wrong_count, no_return_at_the_end}
 use Rattle.ffi3_script_rules.specs.Script.{Expression, constant, Expressions, Typed, Act, call, make, free, print, return, return_void, ScriptMove, ScriptFunction, Script}
 use Rattle.ffi3_script_rules.specs.Values.{Given, Scope, read_value, read_values, read_typed}
 use Rattle.ffi3_script_rules.specs.Bodies.{signature_below, read_signature_number, Surroundings, Kind, call_kind, make_kind, free_kind, print_kind, return_kind, kind_of, keys_of, read_name, condition_of, read_condition, read_arguments, read_call, function_numbered, read_function, read_user, read_make, read_result, unnamed, read_act, scope_of, read_kind, read_move, type_of_act, given_by, read_moves, ends, if_ended, read_body, script_keys, function_keys, items_at, version_of, read_signatures, Heading, new_name, is_one_of, read_heading, read_headings, function_of, read_bodies, names_of, read_rest, read_script}
@@ -26,18 +26,18 @@ use Rattle.ffi3_script_rules.proofs.TypedValues.{IsOfItsType, value_is_typed, va
 
 -- ---- numbers
 
-signature_number : (count : ℕ) (i : Option ℕ) (path : Path) (n : ℕ) → signature_below count i path ≡ read n → nat_lt n count ≡ true
+signature_number : (count : ℕ) (i : Option ℕ) (path : JsonPath) (n : ℕ) → signature_below count i path ≡ read n → nat_lt n count ≡ true
 signature_number count None path n h = cc
 signature_number count (Some i) path n h =
     let held = test_held (nat_lt i count) (read i) path no_such_signature n h in
     subst (λ m. nat_lt m count ≡ true) (same_read i n held.1) held.0
 
-function_found : (names : List (List ℕ)) (p : List ℕ → Bool) (i : Option ℕ) (path : Path) (n : ℕ) → position p names ≡ i → function_numbered i path ≡ read n → nat_lt n (length names) ≡ true
+function_found : (names : List (List ℕ)) (p : List ℕ → Bool) (i : Option ℕ) (path : JsonPath) (n : ℕ) → position p names ≡ i → function_numbered i path ≡ read n → nat_lt n (length names) ≡ true
 function_found names p None path n is h = cc
 function_found names p (Some i) path n is h =
     subst (λ m. nat_lt m (length names) ≡ true) (same_read i n h) (lt-ltb i (length names) (position-Some p names i [] is).0)
 
-function_number : (names : List (List ℕ)) (name : Option (List ℕ)) (path : Path) (n : ℕ) → read_function names name path ≡ read n → nat_lt n (length names) ≡ true
+function_number : (names : List (List ℕ)) (name : Option (List ℕ)) (path : JsonPath) (n : ℕ) → read_function names name path ≡ read n → nat_lt n (length names) ≡ true
 function_number names None path n h = cc
 function_number names (Some name) path n h =
     function_found names (bytes_eq name) (position (bytes_eq name) names) path n refl h
@@ -48,19 +48,19 @@ module _ (scope : Scope) (right : scope_is_right scope ≡ true) where
   abbrev kinds : Kinds
   kinds = kinds_of scope
 
-  conditioned : (path : Path) (v : Typed) (c : Option Typed) → IsOfItsType kinds v → condition_of path v ≡ read c → is_condition kinds c ≡ true
+  conditioned : (path : JsonPath) (v : Typed) (c : Option Typed) → IsOfItsType kinds v → condition_of path v ≡ read c → is_condition kinds c ≡ true
   conditioned path v c good h =
       let held = test_held (is_number_type v.type) (read (Some v)) path wrong_type c h in
       subst (λ o. is_condition kinds o ≡ true) (same_read (Some v) c held.1) (both (is_number_type v.type) _ held.0 good.has_it)
 
-  pub condition_is_typed : (d : Option Data) (path : Path) (c : Option Typed) → read_condition scope d path ≡ read c → is_condition kinds c ≡ true
+  pub condition_is_typed : (d : Option Data) (path : JsonPath) (c : Option Typed) → read_condition scope d path ≡ read c → is_condition kinds c ≡ true
   condition_is_typed None path c h =
       subst (λ o. is_condition kinds o ≡ true) (same_read None c h) refl
   condition_is_typed (Some d) path c h =
       let was = first_was_read (condition_of path) (read_typed scope d path) c h in
       conditioned path was.0 c (typed_is_typed scope right d path was.0 was.1) was.2
 
-  pub arguments_are_typed : (ts : List Tree) (d : Data) (path : Path) (es : Expressions) → read_arguments scope ts d path ≡ read es → have_types kinds (trees_of ts) es ≡ true
+  pub arguments_are_typed : (ts : List Tree) (d : Data) (path : JsonPath) (es : Expressions) → read_arguments scope ts d path ≡ read es → have_types kinds (trees_of ts) es ≡ true
   arguments_are_typed ts (array ds) path es h =
       let held = test_held (items_len ds == length ts) (read_values scope ts ds path 0) path wrong_count es h in
       values_are_typed scope right ts ds path 0 es (eqb-true (items_len ds) (length ts) held.0) held.1
@@ -70,18 +70,18 @@ module _ (scope : Scope) (right : scope_is_right scope ≡ true) where
   arguments_are_typed ts (string s) path es h = cc
   arguments_are_typed ts (object ms) path es h = cc
 
-  user_is_typed : (d : Option Data) (path : Path) (e : Expression) → read_user scope d path ≡ read e → has_type kinds (scalar pointer) e ≡ true
+  user_is_typed : (d : Option Data) (path : JsonPath) (e : Expression) → read_user scope d path ≡ read e → has_type kinds (scalar pointer) e ≡ true
   user_is_typed None path e h =
       subst (λ f. has_type kinds (scalar pointer) f ≡ true) (same_read (constant (bytes_of_number pointer (pos 0))) e h) refl
   user_is_typed (Some d) path e h = value_is_typed scope right (scalar pointer) d path e h
 
   module _ (s : Setting) where
-    return_is_typed : (t : Tree) (d : Data) (path : Path) (a : Act) → s.result_type ≡ t → read_map return (read_value scope t d path) ≡ read a → act_is_typed s kinds a ≡ true
+    return_is_typed : (t : Tree) (d : Data) (path : JsonPath) (a : Act) → s.result_type ≡ t → read_map return (read_value scope t d path) ≡ read a → act_is_typed s kinds a ≡ true
     return_is_typed t d path a is h =
         let part = part_was_read return (read_value scope t d path) a h in
         subst (λ b. act_is_typed s kinds b ≡ true) part.2 (subst (λ u. has_type kinds u part.0 ≡ true) (sym is) (value_is_typed scope right t d path part.0 part.1))
 
-    pub result_is_typed : (t : Tree) (d : Data) (path : Path) (a : Act) → s.result_type ≡ t → read_result scope t d path ≡ read a → act_is_typed s kinds a ≡ true
+    pub result_is_typed : (t : Tree) (d : Data) (path : JsonPath) (a : Act) → s.result_type ≡ t → read_result scope t d path ≡ read a → act_is_typed s kinds a ≡ true
     result_is_typed void null path a is h =
         subst (λ b. act_is_typed s kinds b ≡ true) (same_read return_void a h) (ap (same_tree void) is)
     result_is_typed void (boolean b) path a is h = cc
@@ -102,7 +102,7 @@ module _ (s : Surroundings) (given : List Given) (right : scope_is_right (scope_
   abbrev here : Scope
   here = scope_of s given
 
-  call_is_typed : (c : Option Typed) (d : Data) (path : Path) (m : ScriptMove) → is_condition (kinds_of here) c ≡ true → read_call s given here c d path ≡ read m → IsTypedMove s given m
+  call_is_typed : (c : Option Typed) (d : Data) (path : JsonPath) (m : ScriptMove) → is_condition (kinds_of here) c ≡ true → read_call s given here c d path ≡ read m → IsTypedMove s given m
   call_is_typed c d path m of_condition h =
       let to = first_was_read _ (read_value here (scalar pointer) (value_under (codes "call") d) (under path (codes "call"))) m h in
       let sig = first_was_read _ (read_signature_number (length s.signatures) (value_under (codes "sig") d) (under path (codes "sig"))) m to.2 in
@@ -114,7 +114,7 @@ module _ (s : Surroundings) (given : List Given) (right : scope_is_right (scope_
       let each = arguments_are_typed here right ts (value_under (codes "args") d) (under path (codes "args")) arguments.0 arguments.1 in
       subst (IsTypedMove s given) name.2 (record { condition = of_condition; act = both (nat_lt sig.0 (length s.signatures)) _ below (both (has_type (kinds_of here) (scalar pointer) to.0) _ to_is each) })
 
-  make_is_typed : (c : Option Typed) (d : Data) (path : Path) (m : ScriptMove) → is_condition (kinds_of here) c ≡ true → read_make s given here c d path ≡ read m → IsTypedMove s given m
+  make_is_typed : (c : Option Typed) (d : Data) (path : JsonPath) (m : ScriptMove) → is_condition (kinds_of here) c ≡ true → read_make s given here c d path ≡ read m → IsTypedMove s given m
   make_is_typed c d path m of_condition h =
       let name_of = as_str (value_under (codes "make") d) in
       let number_of = first_was_read _ (read_function s.functions name_of (under path (codes "make"))) m h in
@@ -124,18 +124,18 @@ module _ (s : Surroundings) (given : List Given) (right : scope_is_right (scope_
       let user_is = user_is_typed here right (get (codes "user") d) (under path (codes "user")) user.0 user.1 in
       subst (IsTypedMove s given) name.2 (record { condition = of_condition; act = both (nat_lt number_of.0 (length s.functions)) _ below user_is })
 
-  free_is_typed : (c : Option Typed) (d : Data) (path : Path) (m : ScriptMove) → is_condition (kinds_of here) c ≡ true → read_act s given here free_kind d path c ≡ read m → IsTypedMove s given m
+  free_is_typed : (c : Option Typed) (d : Data) (path : JsonPath) (m : ScriptMove) → is_condition (kinds_of here) c ≡ true → read_act s given here free_kind d path c ≡ read m → IsTypedMove s given m
   free_is_typed c d path m of_condition h =
       let to = part_was_read _ (read_value here (scalar pointer) (value_under (codes "free") d) (under path (codes "free"))) m h in
       subst (IsTypedMove s given) to.2 (record { condition = of_condition; act = value_is_typed here right (scalar pointer) (value_under (codes "free") d) (under path (codes "free")) to.0 to.1 })
 
-  print_is_typed : (c : Option Typed) (d : Data) (path : Path) (m : ScriptMove) → is_condition (kinds_of here) c ≡ true → read_act s given here print_kind d path c ≡ read m → IsTypedMove s given m
+  print_is_typed : (c : Option Typed) (d : Data) (path : JsonPath) (m : ScriptMove) → is_condition (kinds_of here) c ≡ true → read_act s given here print_kind d path c ≡ read m → IsTypedMove s given m
   print_is_typed c d path m of_condition h =
       let what = part_was_read _ (read_typed here (value_under (codes "print") d) (under path (codes "print"))) m h in
       let good = typed_is_typed here right (value_under (codes "print") d) (under path (codes "print")) what.0 what.1 in
       subst (IsTypedMove s given) what.2 (record { condition = of_condition; act = both (is_right what.0.type) _ good.is_fit good.has_it })
 
-  act_is : (kind : Kind) (d : Data) (path : Path) (c : Option Typed) (m : ScriptMove) → is_condition (kinds_of here) c ≡ true → read_act s given here kind d path c ≡ read m → IsTypedMove s given m
+  act_is : (kind : Kind) (d : Data) (path : JsonPath) (c : Option Typed) (m : ScriptMove) → is_condition (kinds_of here) c ≡ true → read_act s given here kind d path c ≡ read m → IsTypedMove s given m
   act_is call_kind d path c m of_condition h = call_is_typed c d path m of_condition h
   act_is make_kind d path c m of_condition h = make_is_typed c d path m of_condition h
   act_is free_kind d path c m of_condition h = free_is_typed c d path m of_condition h
@@ -145,7 +145,7 @@ module _ (s : Surroundings) (given : List Given) (right : scope_is_right (scope_
       let what = part_was_read (unnamed c) (read_result here s.own.result_type (value_under (codes "return") d) place) m h in
       subst (IsTypedMove s given) what.2 (record { condition = of_condition; act = result_is_typed here right (setting_of s) s.own.result_type (value_under (codes "return") d) place what.0 refl what.1 })
 
-  kind_is_typed : (d : Data) (path : Path) (kind : Option Kind) (m : ScriptMove) → read_kind s given d path kind ≡ read m → IsTypedMove s given m
+  kind_is_typed : (d : Data) (path : JsonPath) (kind : Option Kind) (m : ScriptMove) → read_kind s given d path kind ≡ read m → IsTypedMove s given m
   kind_is_typed d path None m h = absurd (cc)
   kind_is_typed d path (Some kind) m h =
       let checked = first_was_read _ (check_object d (keys_of kind) path) m h in
@@ -154,7 +154,7 @@ module _ (s : Surroundings) (given : List Given) (right : scope_is_right (scope_
       act_is kind d path c.0 m (condition_is_typed here right (get (codes "when") d) place c.0 c.1) c.2
 
   -- A MOVE THAT IS READ HAS ITS TYPES
-  pub move_is_typed : (d : Data) (path : Path) (m : ScriptMove) → read_move s given d path ≡ read m → IsTypedMove s given m
+  pub move_is_typed : (d : Data) (path : JsonPath) (m : ScriptMove) → read_move s given d path ≡ read m → IsTypedMove s given m
   move_is_typed d path m h = kind_is_typed d path (kind_of d) m h
 
 -- ---- bodies
@@ -178,7 +178,7 @@ passes_one_more p (u ∷ ts) t each last =
 
 module _ (s : Surroundings) (right : list_all signature_is_right s.signatures ≡ true) (right_arguments : list_all is_right_argument s.own.arguments ≡ true) where
   -- MOVES THAT ARE READ HAVE THEIR TYPES
-  pub moves_are_well_typed : (given : List Given) (ds : Items) (path : Path) (i : ℕ) (ms : List ScriptMove) → list_all is_right (types_of given) ≡ true → read_moves s given ds path i ≡ read ms → moves_are_typed (setting_of s) (kinds_of (scope_of s given)) ms ≡ true
+  pub moves_are_well_typed : (given : List Given) (ds : Items) (path : JsonPath) (i : ℕ) (ms : List ScriptMove) → list_all is_right (types_of given) ≡ true → read_moves s given ds path i ≡ read ms → moves_are_typed (setting_of s) (kinds_of (scope_of s given)) ms ≡ true
   moves_are_well_typed given no_items path i ms right_given h =
       subst (λ ns. moves_are_typed (setting_of s) (kinds_of (scope_of s given)) ns ≡ true) (same_read [] ms h) refl
   moves_are_well_typed given (item d ds) path i ms right_given h =
@@ -193,7 +193,7 @@ module _ (s : Surroundings) (right : list_all signature_is_right s.signatures �
       subst (λ ns. moves_are_typed (setting_of s) (kinds_of (scope_of s given)) ns ≡ true) rest.2 (both (is_condition (kinds_of (scope_of s given)) m.0.condition) _ good.condition (both (act_is_typed (setting_of s) (kinds_of (scope_of s given)) m.0.act) _ good.act others_here))
 
   -- A BODY THAT IS READ IS WELL TYPED
-  pub body_is_well_typed : (d : Data) (path : Path) (ms : List ScriptMove) → read_body s d path ≡ read ms → body_is_typed s.signatures (length s.functions) s.own ms ≡ true
+  pub body_is_well_typed : (d : Data) (path : JsonPath) (ms : List ScriptMove) → read_body s d path ≡ read ms → body_is_typed s.signatures (length s.functions) s.own ms ≡ true
   body_is_well_typed (array ds) path ms h =
       let was = first_was_read (if_ended path) (read_moves s [] ds path 0) ms h in
       let held = test_held (ends was.0) (read was.0) path no_return_at_the_end ms was.2 in
@@ -206,18 +206,18 @@ module _ (s : Surroundings) (right : list_all signature_is_right s.signatures �
 
 -- ---- the whole
 
-unless_faulty_read : (path : Path) (s r : Signature) (f : Option SignatureFault) → first_signature_fault s ≡ f → unless_faulty path s f ≡ read r → signature_is_right r ≡ true
+unless_faulty_read : (path : JsonPath) (s r : Signature) (f : Option SignatureFault) → first_signature_fault s ≡ f → unless_faulty path s f ≡ read r → signature_is_right r ≡ true
 unless_faulty_read path s r None is h =
     subst (λ q. signature_is_right q ≡ true) (same_read s r h) (none-is_none (first_signature_fault s) is)
 unless_faulty_read path s r (Some f) is h = cc
 
 -- A SIGNATURE THAT IS READ IS RIGHT
-pub signature_is_well_typed : (d : Data) (path : Path) (s : Signature) → read_signature d path ≡ read s → signature_is_right s ≡ true
+pub signature_is_well_typed : (d : Data) (path : JsonPath) (s : Signature) → read_signature d path ≡ read s → signature_is_right s ≡ true
 signature_is_well_typed d path s h =
     let was = first_was_read (λ r. unless_faulty path r (first_signature_fault r)) (read_shapes d path) s h in
     unless_faulty_read path was.0 s (first_signature_fault was.0) refl was.2
 
-pub signatures_are_well_typed : (ds : Items) (path : Path) (i : ℕ) (ss : List Signature) → read_signatures ds path i ≡ read ss → list_all signature_is_right ss ≡ true
+pub signatures_are_well_typed : (ds : Items) (path : JsonPath) (i : ℕ) (ss : List Signature) → read_signatures ds path i ≡ read ss → list_all signature_is_right ss ≡ true
 signatures_are_well_typed no_items path i ss h =
     subst (λ rs. list_all signature_is_right rs ≡ true) (same_read [] ss h) refl
 signatures_are_well_typed (item d ds) path i ss h =
@@ -229,7 +229,7 @@ signatures_are_well_typed (item d ds) path i ss h =
 abbrev pub AreNumbered : ℕ → List Heading → Type 0
 AreNumbered count hs = list_all (λ h. nat_lt h.signature count) hs ≡ true
 
-heading_is_numbered : (count : ℕ) (earlier : List (List ℕ)) (d : Data) (path : Path) (h : Heading) → read_heading count earlier d path ≡ read h → nat_lt h.signature count ≡ true
+heading_is_numbered : (count : ℕ) (earlier : List (List ℕ)) (d : Data) (path : JsonPath) (h : Heading) → read_heading count earlier d path ≡ read h → nat_lt h.signature count ≡ true
 heading_is_numbered count earlier d path h e =
     let checked = first_was_read _ (check_object d function_keys path) h e in
     let name = first_was_read _ (new_name (is_one_of earlier) (as_str (value_under (codes "name") d)) (under path (codes "name"))) h checked.2 in
@@ -237,7 +237,7 @@ heading_is_numbered count earlier d path h e =
     let below = signature_number count (option_and_then as_u64 (as_number (value_under (codes "sig") d))) (under path (codes "sig")) sig.0 sig.1 in
     subst (λ g. nat_lt g.signature count ≡ true) sig.2 below
 
-pub headings_are_numbered : (count : ℕ) (earlier : List (List ℕ)) (ds : Items) (path : Path) (i : ℕ) (hs : List Heading) → read_headings count earlier ds path i ≡ read hs → AreNumbered count hs × (length hs ≡ items_len ds)
+pub headings_are_numbered : (count : ℕ) (earlier : List (List ℕ)) (ds : Items) (path : JsonPath) (i : ℕ) (hs : List Heading) → read_headings count earlier ds path i ≡ read hs → AreNumbered count hs × (length hs ≡ items_len ds)
 headings_are_numbered count earlier no_items path i hs e =
     subst (λ gs. AreNumbered count gs × (length gs ≡ 0)) (same_read [] hs e) (refl, refl)
 headings_are_numbered count earlier (item d ds) path i hs e =
@@ -251,7 +251,7 @@ module _ (signatures : List Signature) (names : List (List ℕ)) (right : list_a
   AreTyped fs = list_all (function_is_typed signatures (length names)) fs ≡ true
 
   -- one function for each name and signature
-  pub bodies_are_well_typed : (hs : List Heading) (ds : Items) (path : Path) (i : ℕ) (fs : List ScriptFunction) → AreNumbered (length signatures) hs → length hs ≡ items_len ds → read_bodies signatures names hs ds path i ≡ read fs → AreTyped fs × (length fs ≡ length hs)
+  pub bodies_are_well_typed : (hs : List Heading) (ds : Items) (path : JsonPath) (i : ℕ) (fs : List ScriptFunction) → AreNumbered (length signatures) hs → length hs ≡ items_len ds → read_bodies signatures names hs ds path i ≡ read fs → AreTyped fs × (length fs ≡ length hs)
   bodies_are_well_typed [] no_items path i fs numbered count e =
       subst (λ gs. AreTyped gs × (length gs ≡ 0)) (same_read [] fs e) (refl, refl)
   bodies_are_well_typed (h ∷ hs) no_items path i fs numbered count e = absurd (omega arith)

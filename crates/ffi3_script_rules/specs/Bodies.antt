@@ -9,7 +9,7 @@ use Rattle.ffi3_type_rules.specs.Tree.{Tree, void, scalar, pointer}
 use Rattle.ffi3_type_rules.specs.Integer.{is_number_type, bytes_of_number}
 use Rattle.ffi3_type_rules.specs.Signature.{Signature, signature_at}
 use Rattle.ffi3_run_rules.specs.Move.{no_signature}
-use Rattle.ffi3_script_rules.specs.Language.{Read, read, fault, and_then, read_map, Path, under, at_item, Key, required, optional, check_object, value_under, read_signature, not_an_array, version_not_known, bad_name, name_twice, no_such_signature, no_such_function, not_a_move, void_result, wrong_count, not_null, no_return_at_the_end, wrong_type}
+use Rattle.ffi3_script_rules.specs.Language.{Read, read, fault, and_then, read_map, JsonPath, under, at_item, Key, required, optional, check_object, value_under, read_signature, not_an_array, version_not_known, bad_name, name_twice, no_such_signature, no_such_function, not_a_move, void_result, wrong_count, not_null, no_return_at_the_end, wrong_type}
 use Rattle.ffi3_script_rules.specs.Script.{Expression, constant, Expressions, Typed, Act, call, make, free, print, return, return_void, ScriptMove, ScriptFunction, Script}
 use Rattle.ffi3_script_rules.specs.Values.{Given, Scope, has_name, read_value, read_values, read_typed}
 
@@ -28,7 +28,7 @@ is_one_of [] name = false
 is_one_of (other ∷ names) name = bytes_eq name other || is_one_of names name
 
 -- a name that is not taken
-abbrev pub new_name : (List ℕ → Bool) → Option (List ℕ) → Path → Read (List ℕ)
+abbrev pub new_name : (List ℕ → Bool) → Option (List ℕ) → JsonPath → Read (List ℕ)
 new_name is_taken None path = fault path bad_name
 new_name is_taken (Some name) path =
     if not (is_name name) then fault path bad_name
@@ -36,12 +36,12 @@ new_name is_taken (Some name) path =
     else read name
 
 -- an integer below the number of signatures
-abbrev pub signature_below : ℕ → Option ℕ → Path → Read ℕ
+abbrev pub signature_below : ℕ → Option ℕ → JsonPath → Read ℕ
 signature_below count None path = fault path no_such_signature
 signature_below count (Some i) path =
     if nat_lt i count then read i else fault path no_such_signature
 
-abbrev pub read_signature_number : ℕ → Data → Path → Read ℕ
+abbrev pub read_signature_number : ℕ → Data → JsonPath → Read ℕ
 read_signature_number count d path =
     signature_below count (option_and_then as_u64 (as_number d)) path
 
@@ -89,32 +89,32 @@ abbrev pub is_given : List Given → List ℕ → Bool
 is_given given name = list_any (has_name name) given
 
 -- after the name itself: a void result has none
-abbrev pub name_of_result : Tree → Path → List ℕ → Read (Option (List ℕ))
+abbrev pub name_of_result : Tree → JsonPath → List ℕ → Read (Option (List ℕ))
 name_of_result t path name =
     if is_void_type t then fault path void_result else read (Some name)
 
 -- the name of a result of a type, where there is one
-abbrev pub read_name : List Given → Tree → Option Data → Path → Read (Option (List ℕ))
+abbrev pub read_name : List Given → Tree → Option Data → JsonPath → Read (Option (List ℕ))
 read_name given t None path = read None
 read_name given t (Some d) path =
     and_then (name_of_result t path) (new_name (is_given given) (as_str d) path)
 
 -- a condition is of an integer or pointer type
-abbrev pub condition_of : Path → Typed → Read (Option Typed)
+abbrev pub condition_of : JsonPath → Typed → Read (Option Typed)
 condition_of path v =
     if is_number_type v.type then read (Some v) else fault path wrong_type
 
-abbrev pub read_condition : Scope → Option Data → Path → Read (Option Typed)
+abbrev pub read_condition : Scope → Option Data → JsonPath → Read (Option Typed)
 read_condition scope None path = read None
 read_condition scope (Some d) path = and_then (condition_of path) (read_typed scope d path)
 
 -- one value for each argument of the signature
-abbrev pub read_arguments : Scope → List Tree → Data → Path → Read Expressions
+abbrev pub read_arguments : Scope → List Tree → Data → JsonPath → Read Expressions
 read_arguments scope ts (array ds) path =
     if items_len ds == length ts then read_values scope ts ds path 0 else fault path wrong_count
 read_arguments scope ts _ path = fault path not_an_array
 
-abbrev pub read_call : Surroundings → List Given → Scope → Option Typed → Data → Path → Read ScriptMove
+abbrev pub read_call : Surroundings → List Given → Scope → Option Typed → Data → JsonPath → Read ScriptMove
 read_call s given scope condition d path =
     and_then
     (λ pointer. and_then
@@ -126,22 +126,22 @@ read_call s given scope condition d path =
     (read_signature_number (length s.signatures) (value_under (codes "sig") d) (under path (codes "sig"))))
     (read_value scope (scalar pointer) (value_under (codes "call") d) (under path (codes "call")))
 
-abbrev pub function_numbered : Option ℕ → Path → Read ℕ
+abbrev pub function_numbered : Option ℕ → JsonPath → Read ℕ
 function_numbered None path = fault path no_such_function
 function_numbered (Some k) path = read k
 
 -- a function by its name: the first of the script's, or else of the natives
-abbrev pub read_function : List (List ℕ) → Option (List ℕ) → Path → Read ℕ
+abbrev pub read_function : List (List ℕ) → Option (List ℕ) → JsonPath → Read ℕ
 read_function names None path = fault path no_such_function
 read_function names (Some name) path =
     function_numbered (position (bytes_eq name) names) path
 
 -- user data, 0 where there is none
-abbrev pub read_user : Scope → Option Data → Path → Read Expression
+abbrev pub read_user : Scope → Option Data → JsonPath → Read Expression
 read_user scope None path = read (constant (bytes_of_number pointer (pos 0)))
 read_user scope (Some d) path = read_value scope (scalar pointer) d path
 
-abbrev pub read_make : Surroundings → List Given → Scope → Option Typed → Data → Path → Read ScriptMove
+abbrev pub read_make : Surroundings → List Given → Scope → Option Typed → Data → JsonPath → Read ScriptMove
 read_make s given scope condition d path =
     and_then
     (λ function. and_then
@@ -152,7 +152,7 @@ read_make s given scope condition d path =
     (read_function s.functions (as_str (value_under (codes "make") d)) (under path (codes "make")))
 
 -- null where the function's result is void
-abbrev pub read_result : Scope → Tree → Data → Path → Read Act
+abbrev pub read_result : Scope → Tree → Data → JsonPath → Read Act
 read_result scope void null path = read return_void
 read_result scope void _ path = fault path not_null
 read_result scope t d path = read_map return (read_value scope t d path)
@@ -161,7 +161,7 @@ abbrev pub unnamed : Option Typed → Act → ScriptMove
 unnamed condition act = record { condition = condition; act = act; name = None }
 
 -- the fields of each kind of move, in order, after its condition
-abbrev pub read_act : Surroundings → List Given → Scope → Kind → Data → Path → Option Typed → Read ScriptMove
+abbrev pub read_act : Surroundings → List Given → Scope → Kind → Data → JsonPath → Option Typed → Read ScriptMove
 read_act s given scope call_kind d path condition = read_call s given scope condition d path
 read_act s given scope make_kind d path condition = read_make s given scope condition d path
 read_act s given scope free_kind d path condition =
@@ -174,7 +174,7 @@ read_act s given scope return_kind d path condition =
 abbrev pub scope_of : Surroundings → List Given → Scope
 scope_of s given = record { arguments = s.own.arguments; given = given }
 
-abbrev pub read_kind : Surroundings → List Given → Data → Path → Option Kind → Read ScriptMove
+abbrev pub read_kind : Surroundings → List Given → Data → JsonPath → Option Kind → Read ScriptMove
 read_kind s given d path None = fault path not_a_move
 read_kind s given d path (Some kind) =
     and_then
@@ -184,7 +184,7 @@ read_kind s given d path (Some kind) =
     (check_object d (keys_of kind) path)
 
 -- A MOVE, after moves that give these results
-abbrev pub read_move : Surroundings → List Given → Data → Path → Read ScriptMove
+abbrev pub read_move : Surroundings → List Given → Data → JsonPath → Read ScriptMove
 read_move s given d path = read_kind s given d path (kind_of d)
 
 -- ---- bodies
@@ -199,7 +199,7 @@ abbrev pub given_by : List Signature → ScriptMove → Given
 given_by signatures m = record { name = m.name; type = type_of_act signatures m.act }
 
 -- the moves of an array from number i on
-abbrev pub read_moves : Surroundings → List Given → Items → Path → ℕ → Read (List ScriptMove)
+abbrev pub read_moves : Surroundings → List Given → Items → JsonPath → ℕ → Read (List ScriptMove)
 read_moves s given no_items path i = read []
 read_moves s given (item d ds) path i =
     and_then (λ m. read_map (λ ms. m ∷ ms) (read_moves s (given ++ given_by s.signatures m ∷ []) ds path (i + 1))) (read_move s given d (at_item path i))
@@ -218,11 +218,11 @@ ends [] = false
 ends (m ∷ []) = always_returns m
 ends (m ∷ n ∷ ms) = ends (n ∷ ms)
 
-abbrev pub if_ended : Path → List ScriptMove → Read (List ScriptMove)
+abbrev pub if_ended : JsonPath → List ScriptMove → Read (List ScriptMove)
 if_ended path ms = if ends ms then read ms else fault path no_return_at_the_end
 
 -- A BODY: an array of moves
-abbrev pub read_body : Surroundings → Data → Path → Read (List ScriptMove)
+abbrev pub read_body : Surroundings → Data → JsonPath → Read (List ScriptMove)
 read_body s (array ds) path = and_then (if_ended path) (read_moves s [] ds path 0)
 read_body s _ path = fault path not_an_array
 
@@ -234,17 +234,17 @@ script_keys = required (codes "version") ∷ required (codes "signatures") ∷ r
 abbrev pub function_keys : List Key
 function_keys = required (codes "name") ∷ required (codes "sig") ∷ required (codes "body") ∷ []
 
-abbrev pub items_at : Data → Path → Read Items
+abbrev pub items_at : Data → JsonPath → Read Items
 items_at (array ds) path = read ds
 items_at _ path = fault path not_an_array
 
 -- the integer 1
-abbrev pub version_of : Option ℕ → Path → Read ⊤
+abbrev pub version_of : Option ℕ → JsonPath → Read ⊤
 version_of None path = fault path version_not_known
 version_of (Some n) path = if n == 1 then read tt else fault path version_not_known
 
 -- the signatures of an array from number i on
-abbrev pub read_signatures : Items → Path → ℕ → Read (List Signature)
+abbrev pub read_signatures : Items → JsonPath → ℕ → Read (List Signature)
 read_signatures no_items path i = read []
 read_signatures (item d ds) path i =
     and_then (λ s. read_map (λ ss. s ∷ ss) (read_signatures ds path (i + 1))) (read_signature d (at_item path i))
@@ -254,7 +254,7 @@ pub record Heading : Type 0 where
   pub name : List ℕ
   pub signature : ℕ
 
-abbrev pub read_heading : ℕ → List (List ℕ) → Data → Path → Read Heading
+abbrev pub read_heading : ℕ → List (List ℕ) → Data → JsonPath → Read Heading
 read_heading count earlier d path =
     and_then
     (λ checked. and_then
@@ -265,7 +265,7 @@ read_heading count earlier d path =
     (check_object d function_keys path)
 
 -- those of an array from number i on, after functions of these names
-abbrev pub read_headings : ℕ → List (List ℕ) → Items → Path → ℕ → Read (List Heading)
+abbrev pub read_headings : ℕ → List (List ℕ) → Items → JsonPath → ℕ → Read (List Heading)
 read_headings count earlier no_items path i = read []
 read_headings count earlier (item d ds) path i =
     and_then (λ h. read_map (λ hs. h ∷ hs) (read_headings count (earlier ++ h.name ∷ []) ds path (i + 1))) (read_heading count earlier d (at_item path i))
@@ -274,7 +274,7 @@ abbrev pub function_of : Heading → List ScriptMove → ScriptFunction
 function_of h moves = record { name = h.name; signature = h.signature; body = moves }
 
 -- the bodies of an array's functions from number i on
-abbrev pub read_bodies : List Signature → List (List ℕ) → List Heading → Items → Path → ℕ → Read (List ScriptFunction)
+abbrev pub read_bodies : List Signature → List (List ℕ) → List Heading → Items → JsonPath → ℕ → Read (List ScriptFunction)
 read_bodies signatures names hs no_items path i = read []
 read_bodies signatures names [] (item d ds) path i = read []
 read_bodies signatures names (h ∷ hs) (item d ds) path i =

@@ -53,21 +53,21 @@ pub data Reason : Type 0 where
   no_such_field : Reason
 
 -- the keys and numbers from the root to a value
-abbrev pub Path : Type 0
-Path = List PathStep
+abbrev pub JsonPath : Type 0
+JsonPath = List PathStep
 
 -- the member under a key
-abbrev pub under : Path → List ℕ → Path
+abbrev pub under : JsonPath → List ℕ → JsonPath
 under path name = path ++ key name ∷ []
 
 -- the item of a number
-abbrev pub at_item : Path → ℕ → Path
+abbrev pub at_item : JsonPath → ℕ → JsonPath
 at_item path i = path ++ step.number i ∷ []
 
 -- what a value is read as, or the place and reason of its first fault
 pub data Read (A : Type 0) : Type 0 where
   read : A → Read A
-  fault : Path → Reason → Read A
+  fault : JsonPath → Reason → Read A
 
 -- first the one, and then the other, which may speak of what was read
 abbrev pub and_then : {A B : Type 0} → (A → Read B) → Read A → Read B
@@ -104,12 +104,12 @@ abbrev pub first_missing : List Key → Data → Option (List ℕ)
 first_missing [] d = None
 first_missing (k ∷ keys) d = cond (k.optional || is_some (get k.name d)) (first_missing keys d) (Some k.name)
 
-abbrev pub unless_missing : Path → Option (List ℕ) → Read ⊤
+abbrev pub unless_missing : JsonPath → Option (List ℕ) → Read ⊤
 unless_missing path None = read tt
 unless_missing path (Some name) = fault path (missing_key name)
 
 -- an object; no key but these; each required key
-abbrev pub check_object : Data → List Key → Path → Read ⊤
+abbrev pub check_object : Data → List Key → JsonPath → Read ⊤
 check_object (object ms) keys path = cond (has_only keys ms) (unless_missing path (first_missing keys (object ms))) (fault path unknown_key)
 check_object _ keys path = fault path not_an_object
 
@@ -119,13 +119,13 @@ value_under name d = unwrap_or (get name d) null
 
 -- ---- types
 
-abbrev pub type_of_name : Path → Option Tree → Read Tree
+abbrev pub type_of_name : JsonPath → Option Tree → Read Tree
 type_of_name path None = fault path unknown_type
 type_of_name path (Some t) = read t
 
 -- a text is a name; an object has the one key `struct`
 abbrev mutual
-  pub read_type : Data → Path → Read Tree
+  pub read_type : Data → JsonPath → Read Tree
   read_type null path = fault path not_a_type
   read_type (boolean b) path = fault path not_a_type
   read_type (number n) path = fault path not_a_type
@@ -133,13 +133,13 @@ abbrev mutual
   read_type (string name) path = type_of_name path (type_named name)
   read_type (object ms) path = read_struct ms path
 
-  pub read_struct : Members → Path → Read Tree
+  pub read_struct : Members → JsonPath → Read Tree
   read_struct no_members path = fault path not_a_type
   read_struct (member name d no_members) path = cond (bytes_eq (codes "struct") name) (read_map struct_of (read_types d (under path (codes "struct")))) (fault path not_a_type)
   read_struct (member name d (member other e ms)) path = fault path not_a_type
 
   -- an array of types
-  pub read_types : Data → Path → Read (List Tree)
+  pub read_types : Data → JsonPath → Read (List Tree)
   read_types null path = fault path not_an_array
   read_types (boolean b) path = fault path not_an_array
   read_types (number n) path = fault path not_an_array
@@ -148,7 +148,7 @@ abbrev mutual
   read_types (array ds) path = read_each ds path 0
 
   -- each of the items from number i on, from the left
-  pub read_each : Items → Path → ℕ → Read (List Tree)
+  pub read_each : Items → JsonPath → ℕ → Read (List Tree)
   read_each no_items path i = read []
   read_each (item d ds) path i = and_then (λ t. read_map (λ ts. t ∷ ts) (read_each ds path (i + 1))) (read_type d (at_item path i))
 
@@ -157,17 +157,17 @@ abbrev mutual
 abbrev pub signature_keys : List Key
 signature_keys = required (codes "ret") ∷ required (codes "args") ∷ optional (codes "fixed") ∷ []
 
-abbrev pub count_of : Path → Option ℕ → Read (Option ℕ)
+abbrev pub count_of : JsonPath → Option ℕ → Read (Option ℕ)
 count_of path None = fault path not_a_count
 count_of path (Some n) = cond (nat_lt n (2 ^ 32)) (read (Some n)) (fault path not_a_count)
 
 -- an integer from 0 to 4294967295, where it is there
-abbrev pub read_fixed : Option Data → Path → Read (Option ℕ)
+abbrev pub read_fixed : Option Data → JsonPath → Read (Option ℕ)
 read_fixed None path = read None
 read_fixed (Some d) path = count_of path (option_and_then as_u64 (as_number d))
 
 -- a signature's shapes: the object, ret, args, fixed
-abbrev pub read_shapes : Data → Path → Read Signature
+abbrev pub read_shapes : Data → JsonPath → Read Signature
 read_shapes d path =
     and_then
     (λ checked. and_then
@@ -180,15 +180,15 @@ read_shapes d path =
     (check_object d signature_keys path)
 
 -- the node that a way of element numbers leads to
-abbrev pub inside_type : Path → List ℕ → Path
+abbrev pub inside_type : JsonPath → List ℕ → JsonPath
 inside_type path [] = path
 inside_type path (i ∷ way) = inside_type (at_item (under path (codes "struct")) i) way
 
-abbrev pub place_of_type : Path → Position → Path
+abbrev pub place_of_type : JsonPath → Position → JsonPath
 place_of_type path at_result = under path (codes "ret")
 place_of_type path (at_argument i) = at_item (under path (codes "args")) i
 
-abbrev pub place_of_fault : Path → SignatureFault → Path
+abbrev pub place_of_fault : JsonPath → SignatureFault → JsonPath
 place_of_fault path (too_many n) = under path (codes "args")
 place_of_fault path (bad_type position way f) = inside_type (place_of_type path position) way
 place_of_fault path (signature.bad_fixed n count) = under path (codes "fixed")
@@ -215,12 +215,12 @@ reason_of_fault (bad_type position way f) = reason_of_type_fault f
 reason_of_fault (signature.bad_fixed n count) = bad_fixed n count
 reason_of_fault (bad_argument_type i) = bad_variadic_argument
 
-abbrev pub unless_faulty : Path → Signature → Option SignatureFault → Read Signature
+abbrev pub unless_faulty : JsonPath → Signature → Option SignatureFault → Read Signature
 unless_faulty path s None = read s
 unless_faulty path s (Some f) = fault (place_of_fault path f) (reason_of_fault f)
 
 -- A SIGNATURE: its shapes, and only then its own first fault.
-abbrev pub read_signature : Data → Path → Read Signature
+abbrev pub read_signature : Data → JsonPath → Read Signature
 read_signature d path =
     and_then (λ s. unless_faulty path s (first_signature_fault s)) (read_shapes d path)
 

@@ -4,14 +4,14 @@ use Rattle.serde_json.specs.Data.{Data}
 use Rattle.serde_json.specs.Read.{read}
 use Rattle.ffi3_type_rules.specs.declared.limits.TheConstants.{LONGEST_SCRIPT}
 use Rattle.ffi3_script_rules.specs.Language as language
-use Rattle.ffi3_script_rules.specs.Language.{Path, Reason}
+use Rattle.ffi3_script_rules.specs.Language.{JsonPath, Reason}
 use Rattle.ffi3_script_rules.specs.Script.{Script}
 use Rattle.ffi3_script_rules.specs.Bodies.{read_script}
 
 pub data Reading : Type 0 where
   too_long : Reading
   not_json : Reading
-  bad_script : Path → Reason → Reading
+  bad_script : JsonPath → Reason → Reading
   script : Script → Reading
 
 -- in bytes

@@ -2,7 +2,7 @@
 use Rattle.std.specs.Prelude.{ℕ, List, [], ◌∷◌, ◌++◌, codes}
 use Rattle.std.specs.Fmt.{decimal}
 use Rattle.ffi3_script_rules.specs.Step.{PathStep, key, number}
-use Rattle.ffi3_script_rules.specs.Language.{Path, Reason, not_an_object, not_an_array, unknown_key, missing_key, version_not_known, not_a_type, unknown_type, not_a_count, bad_typedef, left_out_long_double, left_out_complex, left_out_vector, too_large, too_deep, too_many_arguments, bad_fixed, bad_variadic_argument, bad_name, name_twice, no_such_signature, no_such_function, not_a_move, void_result, wrong_count, not_null, no_return_at_the_end, not_an_integer, out_of_range, bad_bytes, wrong_type, not_a_value, no_type_of_its_own, no_such_argument, no_such_result, no_such_field}
+use Rattle.ffi3_script_rules.specs.Language.{JsonPath, Reason, not_an_object, not_an_array, unknown_key, missing_key, version_not_known, not_a_type, unknown_type, not_a_count, bad_typedef, left_out_long_double, left_out_complex, left_out_vector, too_large, too_deep, too_many_arguments, bad_fixed, bad_variadic_argument, bad_name, name_twice, no_such_signature, no_such_function, not_a_move, void_result, wrong_count, not_null, no_return_at_the_end, not_an_integer, out_of_range, bad_bytes, wrong_type, not_a_value, no_type_of_its_own, no_such_argument, no_such_result, no_such_field}
 
 abbrev pub text_of_reason : Reason → List ℕ
 text_of_reason not_an_object = codes "not an object"
@@ -46,10 +46,10 @@ abbrev pub text_of_step : PathStep → List ℕ
 text_of_step (key name) = codes "/" ++ name
 text_of_step (number i) = codes "/" ++ decimal i
 
-abbrev pub text_of_steps : Path → List ℕ
+abbrev pub text_of_steps : JsonPath → List ℕ
 text_of_steps [] = []
 text_of_steps (step ∷ path) = text_of_step step ++ text_of_steps path
 
-abbrev pub text_of_path : Path → List ℕ
+abbrev pub text_of_path : JsonPath → List ℕ
 text_of_path [] = codes "/"
 text_of_path (step ∷ path) = text_of_steps (step ∷ path)

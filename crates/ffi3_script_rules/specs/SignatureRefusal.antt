@@ -2,10 +2,10 @@
 use Rattle.std.specs.Prelude.{◌≡◌, ◌⊎◌}
 use Rattle.serde_json.specs.Data.{Data}
 use Rattle.ffi3_type_rules.specs.Signature.{Signature, SignatureFault, IsFirstSignatureFault}
-use Rattle.ffi3_script_rules.specs.Language.{Path, Reason, read, fault, read_shapes, place_of_fault, reason_of_fault}
+use Rattle.ffi3_script_rules.specs.Language.{JsonPath, Reason, read, fault, read_shapes, place_of_fault, reason_of_fault}
 
 -- the place and reason of the first fault of a signature that stands at a path
-pub record TellsFirstFault (s : Signature) (path place : Path) (reason : Reason) : Type 0 where
+pub record TellsFirstFault (s : Signature) (path place : JsonPath) (reason : Reason) : Type 0 where
   pub first : SignatureFault
   pub is_first : IsFirstSignatureFault s first
   pub alone : (other : SignatureFault) → IsFirstSignatureFault s other → other ≡ first
@@ -13,6 +13,6 @@ pub record TellsFirstFault (s : Signature) (path place : Path) (reason : Reason)
   pub tells : reason ≡ reason_of_fault first
 
 -- THE VALUE AT A PATH IS NO SIGNATURE, for this reason at this place
-abbrev pub IsNoSignature : Data → Path → (place : Path) → (reason : Reason) → Type 0
+abbrev pub IsNoSignature : Data → JsonPath → (place : JsonPath) → (reason : Reason) → Type 0
 IsNoSignature d path place reason =
     (read_shapes d path ≡ fault place reason) ⊎ ((s : Signature) × (read_shapes d path ≡ read s) × TellsFirstFault s path place reason)

@@ -11,7 +11,7 @@ use Rattle.ffi3_type_rules.specs.Integer.{is_number_type, is_signed, scalar_of, 
 use Rattle.ffi3_type_rules.specs.Layout.{scalar_size}
 use Rattle.ffi3_type_rules.specs.Same.{same_tree}
 use Rattle.ffi3_script_rules.specs.FirstFault.{Found, first_fault}
-use Rattle.ffi3_script_rules.specs.Language.{Read, read, fault, and_then, read_map, Path, under, at_item, read_type, inside_type, reason_of_type_fault, wrong_count, not_an_integer, out_of_range, bad_bytes, wrong_type, not_a_value, no_type_of_its_own, no_such_argument, no_such_result, no_such_field}
+use Rattle.ffi3_script_rules.specs.Language.{Read, read, fault, and_then, read_map, JsonPath, under, at_item, read_type, inside_type, reason_of_type_fault, wrong_count, not_an_integer, out_of_range, bad_bytes, wrong_type, not_a_value, no_type_of_its_own, no_such_argument, no_such_result, no_such_field}
 use Rattle.ffi3_script_rules.specs.Script.{Expression, constant, composed, argument, outcome, user_data, element, typed_as, sum, difference, cast, Expressions, no_expressions, expression, Typed}
 
 -- what an earlier move of the body gives: its name, where it has one, and its type
@@ -40,22 +40,22 @@ abbrev pub in_range : Scalar → ℤ → Bool
 in_range s (pos n) = nat_lt n (bound_of s)
 in_range s (negsuc n) = is_signed s && nat_lt n (bound_of s)
 
-abbrev pub read_integer : Scalar → Option ℤ → Path → Read Expression
+abbrev pub read_integer : Scalar → Option ℤ → JsonPath → Read Expression
 read_integer s None path = fault path not_an_integer
 read_integer s (Some z) path =
     if in_range s z then read (constant (bytes_of_number s z)) else fault path out_of_range
 
 -- a number is that of an integer or a pointer
-abbrev pub read_number : Tree → Num → Path → Read Expression
+abbrev pub read_number : Tree → Num → JsonPath → Read Expression
 read_number t n path =
     if is_number_type t then read_integer (scalar_of t) (as_integer n) path else fault path wrong_type
 
-abbrev pub bytes_or_fault : Path → Result (List ℕ) FromHexError → Read Expression
+abbrev pub bytes_or_fault : JsonPath → Result (List ℕ) FromHexError → Read Expression
 bytes_or_fault path (Ok bytes) = read (constant bytes)
 bytes_or_fault path (Err e) = fault path bad_bytes
 
 -- a text is the bytes of a float or double in memory order, two hexadecimal digits each
-abbrev pub read_text : Tree → List ℕ → Path → Read Expression
+abbrev pub read_text : Tree → List ℕ → JsonPath → Read Expression
 read_text t text path =
     if is_floating_type t
     then bytes_or_fault path (decode_sized text (scalar_size (scalar_of t)))
@@ -67,61 +67,61 @@ abbrev pub typed : Tree → Expression → Typed
 typed t e = record { type = t; value = e }
 
 -- the type that is asked for, if there is one, is the value's own
-abbrev pub against : Tree → Path → Typed → Read Expression
+abbrev pub against : Tree → JsonPath → Typed → Read Expression
 against t path v = if same_tree v.type t then read v.value else fault path wrong_type
 
-abbrev pub typed_argument : ℕ → Path → Option Tree → Read Typed
+abbrev pub typed_argument : ℕ → JsonPath → Option Tree → Read Typed
 typed_argument i path None = fault path no_such_argument
 typed_argument i path (Some t) = read (typed t (argument i))
 
 -- an argument of the body, by its number
-abbrev pub argument_of : List Tree → Option ℕ → Path → Read Typed
+abbrev pub argument_of : List Tree → Option ℕ → JsonPath → Read Typed
 argument_of ts None path = fault path no_such_argument
 argument_of ts (Some i) path = typed_argument i path (slice_get ts i)
 
 abbrev pub has_name : List ℕ → Given → Bool
 has_name name g = is_name_of name g.name
 
-abbrev pub typed_result : ℕ → Path → Option Given → Read Typed
+abbrev pub typed_result : ℕ → JsonPath → Option Given → Read Typed
 typed_result i path None = fault path no_such_result
 typed_result i path (Some g) = read (typed g.type (outcome i))
 
-abbrev pub result_number : List Given → Option ℕ → Path → Read Typed
+abbrev pub result_number : List Given → Option ℕ → JsonPath → Read Typed
 result_number given None path = fault path no_such_result
 result_number given (Some i) path = typed_result i path (slice_get given i)
 
 -- the result of an earlier move of the body, by its name
-abbrev pub result_of : List Given → Option (List ℕ) → Path → Read Typed
+abbrev pub result_of : List Given → Option (List ℕ) → JsonPath → Read Typed
 result_of given None path = fault path no_such_result
 result_of given (Some name) path = result_number given (position (has_name name) given) path
 
 -- the user data of the closure
-abbrev pub user_of : Data → Path → Read Typed
+abbrev pub user_of : Data → JsonPath → Read Typed
 user_of (boolean true) path = read (typed (scalar pointer) user_data)
 user_of _ path = fault path not_a_value
 
-abbrev pub typed_element : Expression → ℕ → Path → Option Tree → Read Typed
+abbrev pub typed_element : Expression → ℕ → JsonPath → Option Tree → Read Typed
 typed_element e i path None = fault path no_such_field
 typed_element e i path (Some t) = read (typed t (element e i))
 
-abbrev pub element_of : Expression → List Tree → Option ℕ → Path → Read Typed
+abbrev pub element_of : Expression → List Tree → Option ℕ → JsonPath → Read Typed
 element_of e ts None path = fault path no_such_field
 element_of e ts (Some i) path = typed_element e i path (slice_get ts i)
 
 -- an element, by its number, of a value of a type, which stands at a place of its own
-abbrev pub element_in : Path → Path → Option ℕ → Expression → Tree → Read Typed
+abbrev pub element_in : JsonPath → JsonPath → Option ℕ → Expression → Tree → Read Typed
 element_in path place i e (structure ts) = element_of e (list_of ts) i path
 element_in path place i e _ = fault place wrong_type
 
-abbrev pub field_of : Path → Path → Option ℕ → Typed → Read Typed
+abbrev pub field_of : JsonPath → JsonPath → Option ℕ → Typed → Read Typed
 field_of path place i v = element_in path place i v.value v.type
 
 -- a type that may be an argument's
-abbrev pub right_type : Path → Tree → Option Found → Read Tree
+abbrev pub right_type : JsonPath → Tree → Option Found → Read Tree
 right_type path t None = read t
 right_type path t (Some f) = fault (inside_type path f.0) (reason_of_type_fault f.1)
 
-abbrev pub read_right_type : Data → Path → Read Tree
+abbrev pub read_right_type : Data → JsonPath → Read Tree
 read_right_type d path =
     and_then (λ t. right_type path t (first_fault 0 false t)) (read_type d path)
 
@@ -147,20 +147,20 @@ form_named name =
     cond (bytes_eq name (codes "arg")) (typed_form arg_form) (cond (bytes_eq name (codes "res")) (typed_form res_form) (cond (bytes_eq name (codes "user")) (typed_form user_form) (cond (bytes_eq name (codes "field")) (typed_form field_form) (cond (bytes_eq name (codes "of")) (typed_form of_form) (cond (bytes_eq name (codes "add")) add_form (cond (bytes_eq name (codes "sub")) sub_form (cond (bytes_eq name (codes "cast")) cast_form no_form)))))))
 
 -- sums and differences are of integer types, casts of integers and pointers; looked at before the parts
-abbrev pub if_integer : Tree → Path → (⊤ → Read Expression) → Read Expression
+abbrev pub if_integer : Tree → JsonPath → (⊤ → Read Expression) → Read Expression
 if_integer t path more =
     if is_integer_type t then more tt else fault path wrong_type
 
-abbrev pub if_number : Tree → Path → (⊤ → Read Expression) → Read Expression
+abbrev pub if_number : Tree → JsonPath → (⊤ → Read Expression) → Read Expression
 if_number t path more = if is_number_type t then more tt else fault path wrong_type
 
 -- the typed value of an integer or pointer type that is cast
-abbrev pub cast_of : Scalar → Path → Typed → Read Expression
+abbrev pub cast_of : Scalar → JsonPath → Typed → Read Expression
 cast_of to place v =
     cond (is_number_type v.type) (read (cast (scalar_of v.type) to v.value)) (fault place wrong_type)
 
 -- an array is a struct's value, of as many values as it has elements
-abbrev pub composed_of : Tree → ℕ → Path → Read Expressions → Read Expression
+abbrev pub composed_of : Tree → ℕ → JsonPath → Read Expressions → Read Expression
 composed_of (structure ts) n path es =
     cond (n == length (list_of ts)) (read_map composed es) (fault path wrong_count)
 composed_of _ n path es = fault path wrong_type
@@ -176,7 +176,7 @@ abbrev pub difference_of : Scalar → Pair → Expression
 difference_of s p = difference s p.0 p.1
 
 -- A value with a type of its own, by its form. What stands under the key is a field's or an of's parts, or is looked at here.
-abbrev pub typed_by : Scope → Data → Path → (field of : ⊤ → Read Typed) → TypedForm → Read Typed
+abbrev pub typed_by : Scope → Data → JsonPath → (field of : ⊤ → Read Typed) → TypedForm → Read Typed
 typed_by scope d path field of arg_form =
     argument_of scope.arguments (option_and_then as_u64 (as_number d)) path
 typed_by scope d path field of res_form = result_of scope.given (as_str d) path
@@ -185,7 +185,7 @@ typed_by scope d path field of field_form = field tt
 typed_by scope d path field of of_form = of tt
 
 -- A value against a type, by its form. What stands under the key is that of a typed form, or two values against the type, or a typed value.
-abbrev pub value_by : Tree → Path → Path → (own : TypedForm → Read Typed) → (two : ⊤ → Read Pair) → (inner : ⊤ → Read Typed) → Form → Read Expression
+abbrev pub value_by : Tree → JsonPath → JsonPath → (own : TypedForm → Read Typed) → (two : ⊤ → Read Pair) → (inner : ⊤ → Read Typed) → Form → Read Expression
 value_by t path place own two inner no_form = fault path not_a_value
 value_by t path place own two inner (typed_form form) = and_then (against t path) (own form)
 value_by t path place own two inner add_form =
@@ -196,14 +196,14 @@ value_by t path place own two inner cast_form =
     if_number t path (λ _. and_then (cast_of (scalar_of t) place) (inner tt))
 
 -- the same where no type is asked for
-abbrev pub own_by : Path → (own : TypedForm → Read Typed) → Form → Read Typed
+abbrev pub own_by : JsonPath → (own : TypedForm → Read Typed) → Form → Read Typed
 own_by path own no_form = fault path not_a_value
 own_by path own (typed_form form) = own form
 own_by path own _ = fault path no_type_of_its_own
 
 abbrev mutual
   -- A VALUE AGAINST A TYPE
-  pub read_value : Scope → Tree → Data → Path → Read Expression
+  pub read_value : Scope → Tree → Data → JsonPath → Read Expression
   read_value scope t null path = fault path not_a_value
   read_value scope t (boolean b) path = fault path not_a_value
   read_value scope t (number n) path = read_number t n path
@@ -213,27 +213,27 @@ abbrev mutual
   read_value scope t (object ms) path = read_object scope t ms path
 
   -- the values of an array from number i on, each against its type
-  pub read_values : Scope → List Tree → Items → Path → ℕ → Read Expressions
+  pub read_values : Scope → List Tree → Items → JsonPath → ℕ → Read Expressions
   read_values scope ts no_items path i = read no_expressions
   read_values scope [] (item d ds) path i = read no_expressions
   read_values scope (t ∷ ts) (item d ds) path i =
       and_then (λ e. read_map (λ es. expression e es) (read_values scope ts ds path (i + 1))) (read_value scope t d (at_item path i))
 
   -- an object has one key, by which its form goes
-  pub read_object : Scope → Tree → Members → Path → Read Expression
+  pub read_object : Scope → Tree → Members → JsonPath → Read Expression
   read_object scope t no_members path = fault path not_a_value
   read_object scope t (member name d no_members) path =
       value_by t path (under path name) (typed_by scope d path (λ _. read_field scope d (under path name) path) (λ _. read_of scope d (under path name))) (λ _. read_two scope t d (under path name)) (λ _. read_typed scope d (under path name)) (form_named name)
   read_object scope t (member name d (member other e ms)) path = fault path not_a_value
 
   -- an array of two values
-  pub read_two : Scope → Tree → Data → Path → Read Pair
+  pub read_two : Scope → Tree → Data → JsonPath → Read Pair
   read_two scope t (array (item d (item e no_items))) place =
       and_then (λ a. read_map (λ b. (a, b)) (read_value scope t e (at_item place 1))) (read_value scope t d (at_item place 0))
   read_two scope t _ place = fault place wrong_count
 
   -- A VALUE WITH A TYPE OF ITS OWN
-  pub read_typed : Scope → Data → Path → Read Typed
+  pub read_typed : Scope → Data → JsonPath → Read Typed
   read_typed scope null path = fault path not_a_value
   read_typed scope (boolean b) path = fault path not_a_value
   read_typed scope (number n) path = fault path no_type_of_its_own
@@ -241,20 +241,20 @@ abbrev mutual
   read_typed scope (array ds) path = fault path no_type_of_its_own
   read_typed scope (object ms) path = read_typed_object scope ms path
 
-  pub read_typed_object : Scope → Members → Path → Read Typed
+  pub read_typed_object : Scope → Members → JsonPath → Read Typed
   read_typed_object scope no_members path = fault path not_a_value
   read_typed_object scope (member name d no_members) path =
       own_by path (typed_by scope d path (λ _. read_field scope d (under path name) path) (λ _. read_of scope d (under path name))) (form_named name)
   read_typed_object scope (member name d (member other e ms)) path = fault path not_a_value
 
   -- an array of a struct with a type of its own, and the number of an element
-  pub read_field : Scope → Data → Path → Path → Read Typed
+  pub read_field : Scope → Data → JsonPath → JsonPath → Read Typed
   read_field scope (array (item d (item e no_items))) place path =
       and_then (field_of path (at_item place 0) (option_and_then as_u64 (as_number e))) (read_typed scope d (at_item place 0))
   read_field scope _ place path = fault place wrong_count
 
   -- an array of a type, and a value against it
-  pub read_of : Scope → Data → Path → Read Typed
+  pub read_of : Scope → Data → JsonPath → Read Typed
   read_of scope (array (item d (item e no_items))) place =
       and_then (λ t. read_map (λ v. typed t (typed_as t v)) (read_value scope t e (at_item place 1))) (read_right_type d (at_item place 0))
   read_of scope _ place = fault place wrong_count

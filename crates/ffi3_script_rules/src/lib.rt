@@ -1,2 +1,2 @@
-// The definitions of the script language, over the values of JSON.
+//! The definitions of the script language, over the values of JSON.
 #![tactic(auto)]

@@ -1,4 +1,4 @@
-// Lines that tell layouts, places and what a trace records.
+//! Lines that tell layouts, places and what a trace records.
 #![tactic(auto)]
 
 mod layout;

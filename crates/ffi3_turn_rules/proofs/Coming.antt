@@ -40,7 +40,7 @@ deepest_same p depth own h no_deeper =
 
 -- ---- the beginning
 
-pub comes_from : (p : Program) (b : Base) (a : Activation) (closures : Closures) (moves : ℕ) → a.left ≡ b.room → HasComeTo p b (rest p b.bottom (alone a) closures moves) [] [] (record { path = alone a; closures = closures; moves = moves })
+pub comes_from : (p : Program) (b : Base) (a : Activation) (closures : Closures) (moves : ℕ) → a.left ≡ b.room → HasComeTo p b (rest p b.bottom (alone a) closures moves) [] [] (record { call_stack = alone a; closures = closures; moves = moves })
 comes_from p b a closures moves room = record {
   follows = refl;
   answers = nothing_yet b.standard b.top b.held p.signatures b.count (open_at p b [] []);
@@ -58,13 +58,13 @@ without_first [] base entry others s outer is counted = absurd (omega (arith, co
 without_first (e ∷ inner) base entry others s outer is counted = (inner, cc, omega (arith, counted))
 
 module _ (p : Program) (b : Base) (all : Remainder) (own : List TraceItem) (events : List Event) (a : Activation) (closures : Closures) (moves : ℕ) where
-  abbrev at_path : List Suspended → Position
-  at_path outer = record { path = record { innermost = a; suspended = outer }; closures = closures; moves = suc moves }
+  abbrev at_call_stack : List Suspended → Position
+  at_call_stack outer = record { call_stack = record { innermost = a; suspended = outer }; closures = closures; moves = suc moves }
 
   abbrev asks : Effect → Type 0
   asks d = effect_of p a closures (next_move p a) ≡ d
 
-  pub comes_on : (outer : List Suspended) (r : ValueTree) (closures' : Closures) → HasComeTo p b all own events (at_path outer) → asks (goes_on r closures') → HasComeTo p b all own events (record { path = acts_on a r outer; closures = closures'; moves = moves })
+  pub comes_on : (outer : List Suspended) (r : ValueTree) (closures' : Closures) → HasComeTo p b all own events (at_call_stack outer) → asks (goes_on r closures') → HasComeTo p b all own events (record { call_stack = acts_on a r outer; closures = closures'; moves = moves })
   comes_on outer r closures' h is = record {
     follows = h.follows ∙ ap (before own) (rest_goes_on p b.bottom a outer closures moves r closures' is);
     answers = h.answers;
@@ -75,13 +75,13 @@ module _ (p : Program) (b : Base) (all : Remainder) (own : List TraceItem) (even
     nested = nested_on p b.room a r outer h.nested;
   }
 
-  pub comes_by_print : (outer : List Suspended) (t : Tree) (v : ValueTree) → HasComeTo p b all own events (at_path outer) → asks (prints t v) → HasComeTo p b all (own ++ Line t v ∷ []) events (record { path = acts_on a void_value outer; closures = closures; moves = moves })
+  pub comes_by_print : (outer : List Suspended) (t : Tree) (v : ValueTree) → HasComeTo p b all own events (at_call_stack outer) → asks (prints t v) → HasComeTo p b all (own ++ Line t v ∷ []) events (record { call_stack = acts_on a void_value outer; closures = closures; moves = moves })
   comes_by_print outer t v h is =
       let calls = open_at p b outer events in
       let both = answers_then b.standard b.top b.held p.signatures b.count (open_at p b [] []) calls calls own (Line t v ∷ []) events [] h.answers (one_line b.standard b.top b.held p.signatures (b.count + length events) calls t v) in
       let P : List Event → Type 0 = λ l. Answer p b (own ++ Line t v ∷ []) l (open_at p b outer events) in
       record {
-        follows = follows_then all (left_at_position p b (at_path outer)) (rest p b.bottom (acts_on a void_value outer) closures moves) own (Line t v ∷ []) h.follows (rest_prints p b.bottom a outer closures moves t v is);
+        follows = follows_then all (left_at_position p b (at_call_stack outer)) (rest p b.bottom (acts_on a void_value outer) closures moves) own (Line t v ∷ []) h.follows (rest_prints p b.bottom a outer closures moves t v is);
         answers = subst P (append-nil events) both;
         inner = h.inner;
         entries_are = h.entries_are;
@@ -90,7 +90,7 @@ module _ (p : Program) (b : Base) (all : Remainder) (own : List TraceItem) (even
         nested = nested_on p b.room a void_value outer h.nested;
       }
 
-  pub comes_in : (outer : List Suspended) (ptr sig : ℕ) (callee : Activation) (e : Event) → HasComeTo p b all own events (at_path outer) → asks (enters ptr sig callee) → IsEntry b.standard b.top b.held (open_at p b outer events) (b.count + length events) ptr (signature_at p.signatures sig) callee.arguments e → HasComeTo p b all (own ++ Enter ptr sig callee.arguments ∷ []) (events ++ e ∷ []) (record { path = inside callee sig a outer; closures = closures; moves = moves })
+  pub comes_in : (outer : List Suspended) (ptr sig : ℕ) (callee : Activation) (e : Event) → HasComeTo p b all own events (at_call_stack outer) → asks (enters ptr sig callee) → IsEntry b.standard b.top b.held (open_at p b outer events) (b.count + length events) ptr (signature_at p.signatures sig) callee.arguments e → HasComeTo p b all (own ++ Enter ptr sig callee.arguments ∷ []) (events ++ e ∷ []) (record { call_stack = inside callee sig a outer; closures = closures; moves = moves })
   comes_in outer ptr sig callee e h is entry =
       let calls = open_at p b outer events in
       let next = Enter ptr sig callee.arguments ∷ [] in
@@ -100,7 +100,7 @@ module _ (p : Program) (b : Base) (all : Remainder) (own : List TraceItem) (even
       let P : List Entered → Type 0 = λ l. Answer p b (own ++ Enter ptr sig callee.arguments ∷ []) (events ++ e ∷ []) l in
       let one = unreturned_enter b.entries events e entry.kind in
       record {
-        follows = follows_then all (left_at_position p b (at_path outer)) (rest p b.bottom (inside callee sig a outer) closures moves) own next h.follows (rest_enters p b.bottom a outer closures moves ptr sig callee is);
+        follows = follows_then all (left_at_position p b (at_call_stack outer)) (rest p b.bottom (inside callee sig a outer) closures moves) own next h.follows (rest_enters p b.bottom a outer closures moves ptr sig callee is);
         answers = subst P (sym opens) both;
         inner = e ∷ h.inner;
         entries_are = one ∙ ap (λ (l : List Event). e ∷ l) h.entries_are;
@@ -109,7 +109,7 @@ module _ (p : Program) (b : Base) (all : Remainder) (own : List TraceItem) (even
         nested = (enters_left p a closures (next_move p a) ptr sig callee is, h.nested);
       }
 
-  pub comes_back : (s : Suspended) (outer : List Suspended) (v : ValueTree) (entry e : Event) (others : List Event) → HasComeTo p b all own events (at_path (s ∷ outer)) → asks (ends v) → unreturned b.entries events ≡ entry ∷ others → IsReturn b.standard (record { signature = signature_at p.signatures s.signature; event = entry }) v e → HasComeTo p b all (own ++ Leave s.signature v ∷ []) (events ++ e ∷ []) (record { path = acts_on s.activation v outer; closures = closures; moves = moves })
+  pub comes_back : (s : Suspended) (outer : List Suspended) (v : ValueTree) (entry e : Event) (others : List Event) → HasComeTo p b all own events (at_call_stack (s ∷ outer)) → asks (ends v) → unreturned b.entries events ≡ entry ∷ others → IsReturn b.standard (record { signature = signature_at p.signatures s.signature; event = entry }) v e → HasComeTo p b all (own ++ Leave s.signature v ∷ []) (events ++ e ∷ []) (record { call_stack = acts_on s.activation v outer; closures = closures; moves = moves })
   comes_back s outer v entry e others h is top back =
       let next = Leave s.signature v ∷ [] in
       let call : Entered = record { signature = signature_at p.signatures s.signature; event = entry } in
@@ -121,7 +121,7 @@ module _ (p : Program) (b : Base) (all : Remainder) (own : List TraceItem) (even
       let popped = without_first h.inner b.entries entry others s outer (sym h.entries_are ∙ top) h.counted in
       let Q : List Event → Type 0 = λ l. Answer p b (own ++ Leave s.signature v ∷ []) (events ++ e ∷ []) (open_calls p.signatures (awaited b.bottom outer) l) in
       record {
-        follows = follows_then all (left_at_position p b (at_path (s ∷ outer))) (rest p b.bottom (acts_on s.activation v outer) closures moves) own next h.follows (rest_returns p b.bottom a outer closures moves s v is);
+        follows = follows_then all (left_at_position p b (at_call_stack (s ∷ outer))) (rest p b.bottom (acts_on s.activation v outer) closures moves) own next h.follows (rest_returns p b.bottom a outer closures moves s v is);
         answers = subst Q (sym one) both;
         inner = popped.0;
         entries_are = one ∙ popped.1;
@@ -135,7 +135,7 @@ first_of_them [] base s outer is = absurd (omega (arith, is))
 first_of_them (e ∷ inner) base s outer is = (e, inner ++ base, refl)
 
 -- the entry of the call that is awaited
-pub innermost_entry : (p : Program) (b : Base) (all : Remainder) (own : List TraceItem) (events : List Event) (x : Position) (s : Suspended) (outer : List Suspended) → HasComeTo p b all own events x → x.path.suspended ≡ s ∷ outer → (entry : Event) × (others : List Event) × (unreturned b.entries events ≡ entry ∷ others)
+pub innermost_entry : (p : Program) (b : Base) (all : Remainder) (own : List TraceItem) (events : List Event) (x : Position) (s : Suspended) (outer : List Suspended) → HasComeTo p b all own events x → x.call_stack.suspended ≡ s ∷ outer → (entry : Event) × (others : List Event) × (unreturned b.entries events ≡ entry ∷ others)
 innermost_entry p b all own events x s outer h is =
     let k = first_of_them h.inner b.entries s outer (h.counted ∙ ap (λ (l : List Suspended). length l) is) in
     (k.0, k.1, h.entries_are ∙ k.2)
@@ -145,7 +145,7 @@ none_of_them [] base is = refl
 none_of_them (e ∷ inner) base is = absurd (omega (arith, is))
 
 -- where nothing is suspended, the calls are open that were open at the beginning
-pub open_alone : (p : Program) (b : Base) (all : Remainder) (own : List TraceItem) (events : List Event) (x : Position) → HasComeTo p b all own events x → x.path.suspended ≡ [] → open_at p b x.path.suspended events ≡ open_at p b [] []
+pub open_alone : (p : Program) (b : Base) (all : Remainder) (own : List TraceItem) (events : List Event) (x : Position) → HasComeTo p b all own events x → x.call_stack.suspended ≡ [] → open_at p b x.call_stack.suspended events ≡ open_at p b [] []
 open_alone p b all own events x h is =
     ap (λ (l : List Suspended). open_at p b l events) is
     ∙ ap (open_calls p.signatures (awaited b.bottom [])) (h.entries_are ∙ none_of_them h.inner b.entries (h.counted ∙ ap (λ (l : List Suspended). length l) is))
@@ -154,7 +154,7 @@ open_alone p b all own events x h is =
 
 module _ (p : Program) (b : Base) (all : Remainder) (own : List TraceItem) (events : List Event) (x : Position) (h : HasComeTo p b all own events x) where
   -- only this trace is left, and it is done too
-  pub comes_to_end : (last : List TraceItem) (more : List Event) (end : End) (closures : Closures) (moves : ℕ) (calls : List Entered) → left_at_position p b x ≡ only last end closures moves → AnswersTo b.standard b.top b.held p.signatures (b.count + length events) (open_at p b x.path.suspended events) last more calls → IsOver p b all end closures moves (events ++ more)
+  pub comes_to_end : (last : List TraceItem) (more : List Event) (end : End) (closures : Closures) (moves : ℕ) (calls : List Entered) → left_at_position p b x ≡ only last end closures moves → AnswersTo b.standard b.top b.held p.signatures (b.count + length events) (open_at p b x.call_stack.suspended events) last more calls → IsOver p b all end closures moves (events ++ more)
   comes_to_end last more end closures moves calls is answers =
       let ends : all ≡ before own (only last end closures moves) = h.follows ∙ ap (before own) is in
       let P : List TraceItem → Type 0 = λ l. Answer p b l (events ++ more) calls in
@@ -163,14 +163,14 @@ module _ (p : Program) (b : Base) (all : Remainder) (own : List TraceItem) (even
         closures_are = ap (λ (l : Remainder). l.closures) ends;
         moves_are = ap (λ (l : Remainder). l.moves) ends;
         left_open = calls;
-        answers = subst P (sym (ap (λ (l : Remainder). l.trace) ends)) (answers_then b.standard b.top b.held p.signatures b.count (open_at p b [] []) (open_at p b x.path.suspended events) calls own last events more h.answers answers);
+        answers = subst P (sym (ap (λ (l : Remainder). l.trace) ends)) (answers_then b.standard b.top b.held p.signatures b.count (open_at p b [] []) (open_at p b x.call_stack.suspended events) calls own last events more h.answers answers);
       }
 
   -- the run is interrupted in what is left
-  pub comes_to_cut : (tracing : Tracing) (in_line : Bool) (happened : List TraceItem) (written : List ℕ) (more : List Event) → TraceWasInterrupted b.standard b.top b.held tracing p.signatures (text_after p b own) (b.count + length events) (open_at p b x.path.suspended events) in_line (left_at_position p b x).trace happened written more → IsInterrupted tracing p b in_line all (own ++ happened) (text tracing p.signatures (text_start p b) own ++ written) (events ++ more)
+  pub comes_to_cut : (tracing : Tracing) (in_line : Bool) (happened : List TraceItem) (written : List ℕ) (more : List Event) → TraceWasInterrupted b.standard b.top b.held tracing p.signatures (text_after p b own) (b.count + length events) (open_at p b x.call_stack.suspended events) in_line (left_at_position p b x).trace happened written more → IsInterrupted tracing p b in_line all (own ++ happened) (text tracing p.signatures (text_start p b) own ++ written) (events ++ more)
   comes_to_cut tracing in_line happened written more cut =
       let P : List TraceItem → Type 0 = λ l. TraceWasInterrupted b.standard b.top b.held tracing p.signatures (text_start p b) b.count (open_at p b [] []) in_line l (own ++ happened) (text tracing p.signatures (text_start p b) own ++ written) (events ++ more) in
-      subst P (sym (ap (λ (l : Remainder). l.trace) h.follows)) (cut_then b.standard b.top b.held tracing p.signatures in_line (text_start p b) b.count (open_at p b [] []) (open_at p b x.path.suspended events) own (left_at_position p b x).trace happened events more written h.answers cut)
+      subst P (sym (ap (λ (l : Remainder). l.trace) h.follows)) (cut_then b.standard b.top b.held tracing p.signatures in_line (text_start p b) b.count (open_at p b [] []) (open_at p b x.call_stack.suspended events) own (left_at_position p b x).trace happened events more written h.answers cut)
 
 -- A RUN OF MAIN THAT IS OVER has the journal of its program's direct meaning, whole.
 pub main_is_over : (p : Program) (std : Standard) (end : End) (closures : Closures) (moves : ℕ) (events : List Event) → IsOver p (main_base std) (remainder_of (meaning_of p)) end closures moves events → ((meaning_of p).end ≡ end) × ((meaning_of p).closures ≡ closures) × JournalOf std p.signatures (trace_of p) events × IsWhole (trace_of p) events

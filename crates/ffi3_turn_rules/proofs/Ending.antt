@@ -12,7 +12,7 @@ use Rattle.ffi3_run_rules.specs.Meaning.{Program, Activation, Effect, ends, stop
 use Rattle.ffi3_run_rules.specs.Trace.{TraceItem, Enter, Line, Leave, StopLine}
 use Rattle.ffi3_run_rules.specs.Journal.{Entered, IsEntry, IsReturn}
 use Rattle.ffi3_run_rules.specs.Lines.{Tracing, a_line, enter_lines, item_text, leave_lines, stop_text, text}
-use Rattle.ffi3_turn_rules.specs.Remainder.{Remainder, only, Suspended, Bottom, as_main, served, Path, rest, alone, inside, awaited, awaited_below}
+use Rattle.ffi3_turn_rules.specs.Remainder.{Remainder, only, Suspended, Bottom, as_main, served, CallStack, rest, alone, inside, awaited, awaited_below}
 use Rattle.ffi3_turn_rules.specs.Step.{acts_on}
 use Rattle.ffi3_turn_rules.specs.Open.{AnswersTo, open_calls, unreturned}
 use Rattle.ffi3_turn_rules.specs.Interrupted.{IsPart, HasItsEvent, TraceWasInterrupted}
@@ -28,11 +28,11 @@ module _ (p : Program) (b : Base) (all : Remainder) (own : List TraceItem) (even
   over_as_it_is end closures moves h = subst (λ (l : List Event). IsOver p b all end closures moves l) (append-nil events) h
 
   -- no move is left
-  pub limit_here : (path : Path) (closures : Closures) → HasComeTo p b all own events (record { path = path; closures = closures; moves = 0 }) → IsOver p b all (stopped MoveLimit) closures 0 events
-  limit_here path closures h =
-      let x : Position = record { path = path; closures = closures; moves = 0 } in
-      let calls = open_at p b path.suspended events in
-      over_as_it_is (stopped MoveLimit) closures 0 (comes_to_end p b all own events x h (StopLine MoveLimit ∷ []) [] (stopped MoveLimit) closures 0 calls (rest_at_limit p b.bottom path closures) (one_stop b.standard b.top b.held p.signatures (b.count + length events) calls MoveLimit))
+  pub limit_here : (call_stack : CallStack) (closures : Closures) → HasComeTo p b all own events (record { call_stack = call_stack; closures = closures; moves = 0 }) → IsOver p b all (stopped MoveLimit) closures 0 events
+  limit_here call_stack closures h =
+      let x : Position = record { call_stack = call_stack; closures = closures; moves = 0 } in
+      let calls = open_at p b call_stack.suspended events in
+      over_as_it_is (stopped MoveLimit) closures 0 (comes_to_end p b all own events x h (StopLine MoveLimit ∷ []) [] (stopped MoveLimit) closures 0 calls (rest_at_limit p b.bottom call_stack closures) (one_stop b.standard b.top b.held p.signatures (b.count + length events) calls MoveLimit))
 
   -- interrupted with nothing more done, and without another event
   as_it_is : (tracing : Tracing) (in_line : Bool) (happened : List TraceItem) (written : List ℕ) (xs : List Event) → IsInterrupted tracing p b in_line all (happened ++ []) written (xs ++ []) → IsInterrupted tracing p b in_line all happened written xs
@@ -49,7 +49,7 @@ module _ (p : Program) (b : Base) (all : Remainder) (own : List TraceItem) (even
     so_far = text tracing p.signatures (text_start p b) own
 
     abbrev opened : List Entered
-    opened = open_at p b x.path.suspended events
+    opened = open_at p b x.call_stack.suspended events
 
     -- between two moves, for want of memory
     pub cut_here : IsInterrupted tracing p b false all own so_far events
@@ -75,13 +75,13 @@ module _ (p : Program) (b : Base) (all : Remainder) (own : List TraceItem) (even
         comes_to_cut p b all own events x h tracing in_line (next ∷ []) (take part line) (e ∷ []) (subst P (sym (ap (λ (l : Remainder). l.trace) is)) cut)
 
   -- no move is left, and the run is interrupted in the line that says so
-  pub cut_in_limit : (tracing : Tracing) (path : Path) (closures : Closures) (part : ℕ) → HasComeTo p b all own events (record { path = path; closures = closures; moves = 0 }) → part < length (a_line (stop_text p.signatures MoveLimit)) → IsInterrupted tracing p b true all own (text tracing p.signatures (text_start p b) own ++ take part (a_line (stop_text p.signatures MoveLimit))) events
-  cut_in_limit tracing path closures part h short =
-      cut_in_item tracing (record { path = path; closures = closures; moves = 0 }) h (StopLine MoveLimit) (only [] (stopped MoveLimit) closures 0) part (rest_at_limit p b.bottom path closures) short refl
+  pub cut_in_limit : (tracing : Tracing) (call_stack : CallStack) (closures : Closures) (part : ℕ) → HasComeTo p b all own events (record { call_stack = call_stack; closures = closures; moves = 0 }) → part < length (a_line (stop_text p.signatures MoveLimit)) → IsInterrupted tracing p b true all own (text tracing p.signatures (text_start p b) own ++ take part (a_line (stop_text p.signatures MoveLimit))) events
+  cut_in_limit tracing call_stack closures part h short =
+      cut_in_item tracing (record { call_stack = call_stack; closures = closures; moves = 0 }) h (StopLine MoveLimit) (only [] (stopped MoveLimit) closures 0) part (rest_at_limit p b.bottom call_stack closures) short refl
 
-  module _ (a : Activation) (outer : List Suspended) (closures : Closures) (moves : ℕ) (h : HasComeTo p b all own events (record { path = record { innermost = a; suspended = outer }; closures = closures; moves = suc moves })) where
+  module _ (a : Activation) (outer : List Suspended) (closures : Closures) (moves : ℕ) (h : HasComeTo p b all own events (record { call_stack = record { innermost = a; suspended = outer }; closures = closures; moves = suc moves })) where
     abbrev here : Position
-    here = record { path = record { innermost = a; suspended = outer }; closures = closures; moves = suc moves }
+    here = record { call_stack = record { innermost = a; suspended = outer }; closures = closures; moves = suc moves }
 
     abbrev does : Effect → Type 0
     does d = effect_of p a closures (next_move p a) ≡ d
@@ -118,9 +118,9 @@ module _ (p : Program) (b : Base) (all : Remainder) (own : List TraceItem) (even
           cut_after_event tracing here h in_line (Enter ptr sig callee.arguments) (rest p b.bottom (inside callee sig a outer) closures moves) e (record { signature = signature_at p.signatures sig; event = e } ∷ calls) part (rest_enters p b.bottom a outer closures moves ptr sig callee is) (one_entry b.standard b.top b.held p.signatures count calls ptr sig callee.arguments e entry) proper (λ _. refl)
 
   -- after a return to the activation that waits for it, in the lines that tell it or before them
-  pub cut_in_return : (in_line : Bool) (a : Activation) (s : Suspended) (outer : List Suspended) (closures : Closures) (moves : ℕ) (v : ValueTree) (entry e : Event) (others : List Event) (tracing : Tracing) (part : ℕ) → HasComeTo p b all own events (record { path = record { innermost = a; suspended = s ∷ outer }; closures = closures; moves = suc moves }) → effect_of p a closures (next_move p a) ≡ ends v → unreturned b.entries events ≡ entry ∷ others → IsReturn b.standard (record { signature = signature_at p.signatures s.signature; event = entry }) v e → IsPart in_line part (length (leave_lines tracing (text_after p b own).calls v)) → IsInterrupted tracing p b in_line all (own ++ Leave s.signature v ∷ []) (text tracing p.signatures (text_start p b) own ++ take part (leave_lines tracing (text_after p b own).calls v)) (events ++ e ∷ [])
+  pub cut_in_return : (in_line : Bool) (a : Activation) (s : Suspended) (outer : List Suspended) (closures : Closures) (moves : ℕ) (v : ValueTree) (entry e : Event) (others : List Event) (tracing : Tracing) (part : ℕ) → HasComeTo p b all own events (record { call_stack = record { innermost = a; suspended = s ∷ outer }; closures = closures; moves = suc moves }) → effect_of p a closures (next_move p a) ≡ ends v → unreturned b.entries events ≡ entry ∷ others → IsReturn b.standard (record { signature = signature_at p.signatures s.signature; event = entry }) v e → IsPart in_line part (length (leave_lines tracing (text_after p b own).calls v)) → IsInterrupted tracing p b in_line all (own ++ Leave s.signature v ∷ []) (text tracing p.signatures (text_start p b) own ++ take part (leave_lines tracing (text_after p b own).calls v)) (events ++ e ∷ [])
   cut_in_return in_line a s outer closures moves v entry e others tracing part h is top back proper =
-      let x : Position = record { path = record { innermost = a; suspended = s ∷ outer }; closures = closures; moves = suc moves } in
+      let x : Position = record { call_stack = record { innermost = a; suspended = s ∷ outer }; closures = closures; moves = suc moves } in
       let call : Entered = record { signature = signature_at p.signatures s.signature; event = entry } in
       let calls = open_calls p.signatures (awaited b.bottom outer) others in
       let stands : open_at p b (s ∷ outer) events ≡ call ∷ calls = ap (open_calls p.signatures (s.signature ∷ awaited b.bottom outer)) top in
@@ -129,9 +129,9 @@ module _ (p : Program) (b : Base) (all : Remainder) (own : List TraceItem) (even
 
 -- ---- a return out of the run
 
-module _ (p : Program) (b : Base) (all : Remainder) (own : List TraceItem) (events : List Event) (a : Activation) (closures : Closures) (moves : ℕ) (v : ValueTree) (h : HasComeTo p b all own events (record { path = alone a; closures = closures; moves = suc moves })) (is : effect_of p a closures (next_move p a) ≡ ends v) where
+module _ (p : Program) (b : Base) (all : Remainder) (own : List TraceItem) (events : List Event) (a : Activation) (closures : Closures) (moves : ℕ) (v : ValueTree) (h : HasComeTo p b all own events (record { call_stack = alone a; closures = closures; moves = suc moves })) (is : effect_of p a closures (next_move p a) ≡ ends v) where
   abbrev standing : Position
-  standing = record { path = alone a; closures = closures; moves = suc moves }
+  standing = record { call_stack = alone a; closures = closures; moves = suc moves }
 
   -- main returns
   pub main_ends : b.bottom ≡ as_main → IsOver p b all (returned v) closures moves events

@@ -1,4 +1,4 @@
--- The stack that each activation of a path has left.
+-- The stack that each activation of a call stack has left.
 use Rattle.std.proofs.Common.{◌≡◌, ℕ, zero, suc, ◌+◌, ◌-◌, ◌≤◌, Bool, true, false, List, [], ◌∷◌, Option, Some, None, refl, ap, nat_lt, if◌then◌else◌, ltb-false, arith}
 use Rattle.ffi3_type_rules.specs.Signature.{signature_at}
 use Rattle.ffi3_type_rules.specs.Same.{same_signature}

@@ -155,7 +155,7 @@ module _ (std : Standard) (top : ℕ) (held : Loc → ℕ) (ss : List Signature)
   pub one_return : (n : ℕ) (entry : Entered) (calls : List Entered) (sig : ℕ) (r : ValueTree) (e : Event) → IsReturn std entry r e → Goes n (entry ∷ calls) (Leave sig r ∷ []) (e ∷ []) calls
   one_return n entry calls sig r e is = record { answers = (is, tt); whole = refl; left_open = refl }
 
-  -- ---- the open calls of a path
+  -- ---- the open calls of a call stack
 
   pub opens_enter : (sig : ℕ) (sigs : List ℕ) (entries xs : List Event) (e : Event) → e.kind ≡ enters → open_calls ss (sig ∷ sigs) (unreturned entries (xs ++ e ∷ [])) ≡ entered sig e ∷ open_calls ss sigs (unreturned entries xs)
   opens_enter sig sigs entries xs e is =

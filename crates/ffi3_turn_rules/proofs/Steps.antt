@@ -8,7 +8,7 @@ use Rattle.ffi3_run_rules.specs.Closures.{Closures, no_closures}
 use Rattle.ffi3_run_rules.specs.Meaning.{Program, Activation, Effect, ends, stops, prints, goes_on, enters, End, returned, stopped, Outcome, follows, resumed, with_result, effect_of, next_move, act, act_within, called, main_call, most_moves, meaning_of}
 use Rattle.ffi3_run_rules.specs.Trace.{TraceItem, Enter, Line, Leave, written_out, written_out_one}
 use Rattle.ffi3_run_rules.proofs.Recursion.{act-is}
-use Rattle.ffi3_turn_rules.specs.Remainder.{Remainder, remainder_of, before, only, only_stops, Suspended, Bottom, as_main, served, Path, resumed_at, left_at, finished, through, rest, alone, inside}
+use Rattle.ffi3_turn_rules.specs.Remainder.{Remainder, remainder_of, before, only, only_stops, Suspended, Bottom, as_main, served, CallStack, resumed_at, left_at, finished, through, rest, alone, inside}
 use Rattle.ffi3_turn_rules.specs.Step.{step_of, left_before}
 use Rattle.ffi3_turn_rules.specs.Laws.{GoesByStep, ServesAlike, result_of}
 
@@ -45,7 +45,7 @@ through_stops p as_main [] stop closures moves = refl
 through_stops p (served sig) [] stop closures moves = refl
 through_stops p bottom (s ∷ outer) stop closures moves = through_stops p bottom outer stop closures moves
 
--- a call written out: its entry, and what is left of its caller's path
+-- a call written out: its entry, and what is left of its caller's call stack
 entered_at : (p : Program) (a : Activation) (ptr sig : ℕ) (args : List ValueTree) (o : Outcome) (e : End) → remainder_of (resumed (act p) a ptr sig args o e) ≡ before (Enter ptr sig args ∷ []) (resumed_at p (record { activation = a; signature = sig }) (remainder_of o) e)
 entered_at p a ptr sig args o (stopped stop) =
     ap (λ (h : List TraceItem). only (Enter ptr sig args ∷ h) o.end o.closures o.moves) (append-nil (written_out o.call_tree ++ []) ∙ append-nil (written_out o.call_tree))
@@ -54,13 +54,13 @@ entered_at p a ptr sig args o (returned r) = refl
 -- ---- the moves
 
 -- no move is left
-pub rest_at_limit : (p : Program) (bottom : Bottom) (path : Path) (closures : Closures) → rest p bottom path closures 0 ≡ only_stops MoveLimit closures 0
+pub rest_at_limit : (p : Program) (bottom : Bottom) (call_stack : CallStack) (closures : Closures) → rest p bottom call_stack closures 0 ≡ only_stops MoveLimit closures 0
 unfolding act act_within
-rest_at_limit p bottom path closures = through_stops p bottom path.suspended MoveLimit closures 0
+rest_at_limit p bottom call_stack closures = through_stops p bottom call_stack.suspended MoveLimit closures 0
 
 module _ (p : Program) (bottom : Bottom) (a : Activation) (outer : List Suspended) (closures : Closures) (moves : ℕ) where
   -- where the activation stands
-  abbrev standing : List Suspended → Path
+  abbrev standing : List Suspended → CallStack
   standing around = record { innermost = a; suspended = around }
 
   by_effect : (d : Effect) → effect_of p a closures (next_move p a) ≡ d → (around : List Suspended) → rest p bottom (standing around) closures (suc moves) ≡ through p bottom around (remainder_of (follows (act p) a closures moves d))
@@ -112,7 +112,7 @@ pub served_is_rest : (p : Program) → ServesAlike p
 served_is_rest p = λ ptr sig callee closures moves.
     let o = act p callee closures moves in served_at ptr sig callee.arguments o o.end
 
--- ---- the step of a path, whatever it does
+-- ---- the step of a call stack, whatever it does
 
 by_step : (p : Program) (bottom : Bottom) (a : Activation) (outer : List Suspended) (closures : Closures) (moves : ℕ) (d : Effect) → effect_of p a closures (next_move p a) ≡ d → rest p bottom (record { innermost = a; suspended = outer }) closures (suc moves) ≡ left_before p bottom moves (step_of bottom a outer closures d)
 by_step p as_main a [] closures moves (ends v) is = rest_ends p a closures moves v is
@@ -126,7 +126,7 @@ by_step p bottom a outer closures moves (enters ptr sig callee) is = rest_enters
 pub goes_by_step : (p : Program) → GoesByStep p
 goes_by_step p = record {
   whole = meaning_is_rest p;
-  one = λ bottom path closures moves. by_step p bottom path.innermost path.suspended closures moves (effect_of p path.innermost closures (next_move p path.innermost)) refl;
+  one = λ bottom call_stack closures moves. by_step p bottom call_stack.innermost call_stack.suspended closures moves (effect_of p call_stack.innermost closures (next_move p call_stack.innermost)) refl;
   none = rest_at_limit p;
 }
 

@@ -132,7 +132,7 @@ module _ (std : Standard) (top : ℕ) (leaves : ℕ → Loc → ℕ) where
 
 module _ (p : Program) (b : Base) (leaves : ℕ → Loc → ℕ) (is_traced : IsTraced p b leaves) (all : Remainder) (own : List TraceItem) (events : List Event) (x : Position) (h : HasComeTo p b all own events x) where
   -- THE OPEN CALLS ARE THOSE OF THE TEXT
-  open_told : AreTracedAsEntered b.standard b.top leaves (open_at p b x.path.suspended events) (text_after p b own).calls
+  open_told : AreTracedAsEntered b.standard b.top leaves (open_at p b x.call_stack.suspended events) (text_after p b own).calls
   open_told =
       let P : List Entered → Type 0 = λ l. AreTracedAsEntered b.standard b.top leaves l (text_after p b own).calls in
       subst P h.answers.left_open (calls_told b.standard b.top b.held p.signatures leaves b.count is_traced.later b.count (omega arith) (open_at p b [] []) (text_start p b).calls own events is_traced.open_calls h.answers.answers h.answers.whole)
@@ -143,12 +143,12 @@ module _ (p : Program) (b : Base) (leaves : ℕ → Loc → ℕ) (is_traced : Is
       past_events p.signatures (text_start p b) own ∙ ap (λ (n : ℕ). b.count + n) (sym h.answers.whole)
 
   -- THE LINES OF AN ENTRY tell the stack pointer and the preserved registers of its event
-  pub enter_lines_are : (ptr : ℕ) (s : Signature) (args : List ValueTree) (e : Event) → IsEntry b.standard b.top b.held (open_at p b x.path.suspended events) (b.count + length events) ptr s args e → enter_lines (traced b.standard b.top leaves) (text_after p b own) ptr s args ≡ a_line (codes "enter " ++ address_text ptr ++ codes " sp " ++ address_text e.image.sp ++ codes " (" ++ join_with_byte 44 (value_texts_of (trees_of s.arguments) (values_of args)) ++ codes ")") ++ a_line (codes "keep" ++ registers_text (register e.image) b.standard.preserved)
+  pub enter_lines_are : (ptr : ℕ) (s : Signature) (args : List ValueTree) (e : Event) → IsEntry b.standard b.top b.held (open_at p b x.call_stack.suspended events) (b.count + length events) ptr s args e → enter_lines (traced b.standard b.top leaves) (text_after p b own) ptr s args ≡ a_line (codes "enter " ++ address_text ptr ++ codes " sp " ++ address_text e.image.sp ++ codes " (" ++ join_with_byte 44 (value_texts_of (trees_of s.arguments) (values_of args)) ++ codes ")") ++ a_line (codes "keep" ++ registers_text (register e.image) b.standard.preserved)
   enter_lines_are ptr s args e is =
-      entry_told b.standard b.top leaves b.held (open_at p b x.path.suspended events) (text_after p b own) (b.count + length events) ptr s args e open_told events_told (λ at. is_traced.later (b.count + length events) at (omega arith)) is
+      entry_told b.standard b.top leaves b.held (open_at p b x.call_stack.suspended events) (text_after p b own) (b.count + length events) ptr s args e open_told events_told (λ at. is_traced.later (b.count + length events) at (omega arith)) is
 
   -- THE LINES OF A RETURN tell the stack pointer and the preserved registers of its event
-  pub leave_lines_are : (s : Signature) (entry : Event) (outer : List Entered) (v : ValueTree) (e : Event) → open_at p b x.path.suspended events ≡ record { signature = s; event = entry } ∷ outer → IsReturn b.standard (record { signature = s; event = entry }) v e → leave_lines (traced b.standard b.top leaves) (text_after p b own).calls v ≡ a_line (codes "leave sp " ++ address_text e.image.sp ++ codes " " ++ value_text_of s.result_type v) ++ a_line (codes "keep" ++ registers_text (register e.image) b.standard.preserved)
+  pub leave_lines_are : (s : Signature) (entry : Event) (outer : List Entered) (v : ValueTree) (e : Event) → open_at p b x.call_stack.suspended events ≡ record { signature = s; event = entry } ∷ outer → IsReturn b.standard (record { signature = s; event = entry }) v e → leave_lines (traced b.standard b.top leaves) (text_after p b own).calls v ≡ a_line (codes "leave sp " ++ address_text e.image.sp ++ codes " " ++ value_text_of s.result_type v) ++ a_line (codes "keep" ++ registers_text (register e.image) b.standard.preserved)
   leave_lines_are s entry outer v e opened back =
       let P : List Entered → Type 0 = λ l. AreTracedAsEntered b.standard b.top leaves l (text_after p b own).calls in
       return_told b.standard b.top leaves s entry outer (text_after p b own).calls v e (subst P opened open_told) back

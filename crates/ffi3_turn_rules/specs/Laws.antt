@@ -7,7 +7,7 @@ use Rattle.ffi3_run_rules.specs.Closures.{Closures, no_closures}
 use Rattle.ffi3_run_rules.specs.Meaning.{Program, Activation, End, returned, stopped, called, act, meaning_of, main_call, most_moves, stack_size, peak_of}
 use Rattle.ffi3_run_rules.specs.Trace.{TraceItem, Enter, written_out_one, trace_of}
 use Rattle.ffi3_run_rules.specs.Lines.{Point, Tracing, text}
-use Rattle.ffi3_turn_rules.specs.Remainder.{remainder_of, only_stops, Bottom, as_main, served, Path, rest, alone}
+use Rattle.ffi3_turn_rules.specs.Remainder.{remainder_of, only_stops, Bottom, as_main, served, CallStack, rest, alone}
 use Rattle.ffi3_turn_rules.specs.Step.{step, left_before}
 use Rattle.ffi3_turn_rules.specs.Depth.{deepest}
 use Rattle.ffi3_turn_rules.specs.Interrupted.{past_all}
@@ -15,8 +15,8 @@ use Rattle.ffi3_turn_rules.specs.Interrupted.{past_all}
 -- THE DIRECT MEANING GOES STEP BY STEP: it is what is left at main, and one move leads to what its step says, until none is left.
 pub record GoesByStep (p : Program) : Type 0 where
   pub whole : remainder_of (meaning_of p) ≡ rest p as_main (alone main_call) no_closures most_moves
-  pub one : (bottom : Bottom) (path : Path) (closures : Closures) (moves : ℕ) → rest p bottom path closures (suc moves) ≡ left_before p bottom moves (step p bottom path closures)
-  pub none : (bottom : Bottom) (path : Path) (closures : Closures) → rest p bottom path closures 0 ≡ only_stops MoveLimit closures 0
+  pub one : (bottom : Bottom) (call_stack : CallStack) (closures : Closures) (moves : ℕ) → rest p bottom call_stack closures (suc moves) ≡ left_before p bottom moves (step p bottom call_stack closures)
+  pub none : (bottom : Bottom) (call_stack : CallStack) (closures : Closures) → rest p bottom call_stack closures 0 ≡ only_stops MoveLimit closures 0
 
 -- THE PEAK OF THE CALL TREE is that of its trace, and no run takes more stack than there is.
 pub record PeaksAlike (p : Program) : Type 0 where

@@ -40,7 +40,7 @@ pub data Bottom : Type 0 where
   served : (signature : ℕ) → Bottom
 
 -- the unfinished activations: the innermost, and those around it from the inside out
-pub record Path : Type 0 where
+pub record CallStack : Type 0 where
   pub innermost : Activation
   pub suspended : List Suspended
 
@@ -64,17 +64,17 @@ abbrev pub through : Program → Bottom → List Suspended → Remainder → Rem
 through p bottom [] l = finished bottom l
 through p bottom (s ∷ outer) l = through p bottom outer (resumed_at p s l l.end)
 
--- WHAT IS LEFT OF A RUN that stands at this path, with these closures and moves left
-abbrev pub rest : Program → Bottom → Path → Closures → ℕ → Remainder
-rest p bottom path closures moves =
-    through p bottom path.suspended (remainder_of (act p path.innermost closures moves))
+-- WHAT IS LEFT OF A RUN that stands at this call stack, with these closures and moves left
+abbrev pub rest : Program → Bottom → CallStack → Closures → ℕ → Remainder
+rest p bottom call_stack closures moves =
+    through p bottom call_stack.suspended (remainder_of (act p call_stack.innermost closures moves))
 
--- the path of an activation that nothing waits for
-abbrev pub alone : Activation → Path
+-- the call stack of an activation that nothing waits for
+abbrev pub alone : Activation → CallStack
 alone a = record { innermost = a; suspended = [] }
 
--- the path in an activation that was just entered
-abbrev pub inside : (callee : Activation) → (signature : ℕ) → (caller : Activation) → (outer : List Suspended) → Path
+-- the call stack in an activation that was just entered
+abbrev pub inside : (callee : Activation) → (signature : ℕ) → (caller : Activation) → (outer : List Suspended) → CallStack
 inside callee sig caller outer =
     record { innermost = callee; suspended = record { activation = caller; signature = sig } ∷ outer }
 

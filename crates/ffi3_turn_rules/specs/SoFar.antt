@@ -9,7 +9,7 @@ use Rattle.ffi3_run_rules.specs.Meaning.{Program, End, stack_size}
 use Rattle.ffi3_run_rules.specs.Trace.{TraceItem}
 use Rattle.ffi3_run_rules.specs.Journal.{Entered, stack_top}
 use Rattle.ffi3_run_rules.specs.Lines.{OpenCall, Point, Tracing}
-use Rattle.ffi3_turn_rules.specs.Remainder.{Remainder, before, Suspended, Bottom, as_main, served, Path, rest, awaited}
+use Rattle.ffi3_turn_rules.specs.Remainder.{Remainder, before, Suspended, Bottom, as_main, served, CallStack, rest, awaited}
 use Rattle.ffi3_turn_rules.specs.Depth.{depth_at, depth_of, IsNested}
 use Rattle.ffi3_turn_rules.specs.Open.{unreturned, open_calls, AnswersTo}
 use Rattle.ffi3_turn_rules.specs.Interrupted.{past_all, TraceWasInterrupted}
@@ -45,12 +45,12 @@ text_after p b own = past_all p.signatures (text_start p b) own
 
 -- where a run stands between two moves
 pub record Position : Type 0 where
-  pub path : Path
+  pub call_stack : CallStack
   pub closures : Closures
   pub moves : ℕ
 
 abbrev pub left_at_position : Program → Base → Position → Remainder
-left_at_position p b x = rest p b.bottom x.path x.closures x.moves
+left_at_position p b x = rest p b.bottom x.call_stack x.closures x.moves
 
 -- the open calls, with these activations suspended after these events
 abbrev pub open_at : Program → Base → List Suspended → List Event → List Entered
@@ -61,15 +61,15 @@ open_at p b outer events =
 abbrev pub Answer : Program → Base → List TraceItem → List Event → List Entered → Type 0
 Answer p b trace events left_open = AnswersTo b.standard b.top b.held p.signatures b.count (open_at p b [] []) trace events left_open
 
--- THE RUN HAS COME TO A POINT: of all that was left this trace is done, these events answer to it, and the path's calls are open, with the entries of the inner ones before those of the beginning.
+-- THE RUN HAS COME TO A POINT: of all that was left this trace is done, these events answer to it, and the call stack's calls are open, with the entries of the inner ones before those of the beginning.
 pub record HasComeTo (p : Program) (b : Base) (all : Remainder) (own : List TraceItem) (events : List Event) (x : Position) : Type 0 where
   pub follows : all ≡ before own (left_at_position p b x)
-  pub answers : Answer p b own events (open_at p b x.path.suspended events)
+  pub answers : Answer p b own events (open_at p b x.call_stack.suspended events)
   pub inner : List Event
   pub entries_are : unreturned b.entries events ≡ inner ++ b.entries
-  pub counted : length inner ≡ length x.path.suspended
-  pub depth : depth_at p (depth_of p (awaited b.bottom [])) own ≡ depth_of p (awaited b.bottom x.path.suspended)
-  pub nested : IsNested p b.room x.path.innermost x.path.suspended
+  pub counted : length inner ≡ length x.call_stack.suspended
+  pub depth : depth_at p (depth_of p (awaited b.bottom [])) own ≡ depth_of p (awaited b.bottom x.call_stack.suspended)
+  pub nested : IsNested p b.room x.call_stack.innermost x.call_stack.suspended
 
 -- THE RUN IS OVER: all that was left is done.
 pub record IsOver (p : Program) (b : Base) (all : Remainder) (end : End) (closures : Closures) (moves : ℕ) (events : List Event) : Type 0 where

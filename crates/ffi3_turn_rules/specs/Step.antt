@@ -1,18 +1,18 @@
--- One move of a path: what happens at once, and where the run stands then.
+-- One move of a run: what happens at once, and where the run stands then.
 use Rattle.std.specs.Prelude.{ℕ, List, [], ◌∷◌}
 use Rattle.ffi3_type_rules.specs.Value.{ValueTree, void_value}
 use Rattle.ffi3_run_rules.specs.Closures.{Closures}
 use Rattle.ffi3_run_rules.specs.Meaning.{Program, Activation, Effect, ends, stops, prints, goes_on, enters, End, returned, stopped, with_result, effect_of, next_move}
 use Rattle.ffi3_run_rules.specs.Trace.{TraceItem, Enter, Line, Leave, StopLine}
-use Rattle.ffi3_turn_rules.specs.Remainder.{Remainder, before, only, Suspended, Bottom, as_main, served, Path, rest, inside}
+use Rattle.ffi3_turn_rules.specs.Remainder.{Remainder, before, only, Suspended, Bottom, as_main, served, CallStack, rest, inside}
 
--- the run stands at a path, or it is over
+-- the run stands at a call stack, or it is over
 pub data Step : Type 0 where
-  on : (own : List TraceItem) → Path → Closures → Step
+  on : (own : List TraceItem) → CallStack → Closures → Step
   over : (own : List TraceItem) → End → Closures → Step
 
 -- the innermost activation has one result more
-abbrev pub acts_on : Activation → ValueTree → List Suspended → Path
+abbrev pub acts_on : Activation → ValueTree → List Suspended → CallStack
 acts_on a r outer = record { innermost = with_result a r; suspended = outer }
 
 -- a return out of the run
@@ -34,11 +34,11 @@ step_of bottom a outer closures (goes_on r closures') = on [] (acts_on a r outer
 step_of bottom a outer closures (enters ptr sig callee) = on (Enter ptr sig callee.arguments ∷ []) (inside callee sig a outer) closures
 
 -- THE STEP OF A PATH
-abbrev pub step : Program → Bottom → Path → Closures → Step
-step p bottom path closures =
-    step_of bottom path.innermost path.suspended closures (effect_of p path.innermost closures (next_move p path.innermost))
+abbrev pub step : Program → Bottom → CallStack → Closures → Step
+step p bottom call_stack closures =
+    step_of bottom call_stack.innermost call_stack.suspended closures (effect_of p call_stack.innermost closures (next_move p call_stack.innermost))
 
 -- what was left before the step, by what is left after it
 abbrev pub left_before : Program → Bottom → ℕ → Step → Remainder
-left_before p bottom moves (on own path closures) = before own (rest p bottom path closures moves)
+left_before p bottom moves (on own call_stack closures) = before own (rest p bottom call_stack closures moves)
 left_before p bottom moves (over own end closures) = only own end closures moves

@@ -1,11 +1,11 @@
-// What a runner needs that keeps a list of unfinished activations: what is left of a run at a moment, the stack that its calls take, and the calls that are open. The definitions are in `specs/`.
+//! What a runner needs that keeps a list of unfinished activations: what is left of a run at a moment, the stack that its calls take, and the calls that are open. The definitions are in `specs/`.
 #![tactic(auto)]
 
 ghost use Rattle.ffi3_run_rules.specs.Meaning.{Program};
 ghost use Rattle.ffi3_turn_rules.specs.Laws.{GoesByStep, PeaksAlike, ServesAlike, TextGoesByParts};
 
 /// Does nothing. Its contract says that the direct meaning of every program goes step by step
-/// over a path of activations, from main or from a call that is served, that the stack its trace takes
+/// over a call stack of activations, from main or from a call that is served, that the stack its trace takes
 /// is that of its call tree, and that the text of a trace is that of its parts.
 pub fn step_laws()
     ensures by_step { (p : Program) → GoesByStep p }

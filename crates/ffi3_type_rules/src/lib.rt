@@ -1,4 +1,4 @@
-// The definitions that the contracts of the crates above cite, and the rounding that they share.
+//! The definitions that the contracts of the crates above cite, and the rounding that they share.
 #![tactic(auto)]
 
 ghost use Rattle.std.specs.Prelude.{◌≡◌, ◌+◌, ◌<◌, ◌≤◌, ◌^◌};

@@ -17,6 +17,7 @@ pub struct Leaf {
 }
 
 impl FfiType {
+    /// How many scalars the type has, those of nested structs included.
     pub fn leaf_count(&self) -> u32
         requires { IsResultType (tree_of self.now) }
         ensures { result ≡ length (leaves_of (tree_of self.now)) }

@@ -1,4 +1,4 @@
-// Types, signatures, their layout, their faults and their texts.
+//! Types, signatures, their layout, their faults and their texts.
 #![tactic(auto)]
 
 ghost use Rattle.std.specs.Prelude.{◌≡◌, ◌+◌, ◌<◌, ◌^◌, ◌++◌, ◌∷◌, [], length, OnErr, OnOk, slice_get, Some};

@@ -1,4 +1,4 @@
-// Values, and their bytes, numbers and texts.
+//! Values, and their bytes, numbers and texts.
 #![tactic(auto)]
 
 ghost use Rattle.std.specs.Prelude.{◌≡◌, ◌+◌, ◌<◌, ◌≤◌, ◌^◌, ◌++◌, ◌∷◌, [], length, OnErr, OnOk, slice_index_or};

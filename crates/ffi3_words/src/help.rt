@@ -24,7 +24,7 @@ Exit status:
   1  the script was refused: standard error has `ffi3: PATH: REASON`, where
      PATH leads to the place in the script (or `ffi3: not JSON`, or
      `ffi3: script too long`)
-  2  the words of the call were refused, or asked for help
+  2  the command line was refused, or asked for help or the version
   3  a read failed
   4  a write failed
   5  out of memory
@@ -52,7 +52,7 @@ OFFSET:TYPE. The layout is the same on every target. Nothing is run.";
 pub const LAYOUT_AFTER_HELP: &str = "Exit status:
   0  done
   1  the script was refused: standard error has `ffi3: PATH: REASON`
-  2  the words of the call were refused, or asked for help
+  2  the command line was refused, or asked for help or the version
   3  a read failed
   4  a write failed
   5  out of memory
@@ -86,7 +86,7 @@ pub const PLACE_AFTER_HELP: &str = "Targets:
 Exit status:
   0  done
   1  the script was refused: standard error has `ffi3: PATH: REASON`
-  2  the words of the call were refused, or asked for help
+  2  the command line was refused, or asked for help or the version
   3  a read failed
   4  a write failed
   5  out of memory
@@ -126,7 +126,7 @@ pub const RUN_AFTER_HELP: &str = "Targets:
 Exit status:
   0  done
   1  the script was refused: standard error has `ffi3: PATH: REASON`
-  2  the words of the call were refused, or asked for help
+  2  the command line was refused, or asked for help or the version
   3  a read failed
   4  a write failed
   5  out of memory
@@ -157,7 +157,7 @@ that the script prints. The numbers are decimal digits without a leading zero.";
 
 pub const BENCH_AFTER_HELP: &str = "Exit status:
   0  done
-  2  the words of the call were refused, or asked for help
+  2  the command line was refused, or asked for help or the version
   4  a write failed
   5  out of memory
 

@@ -1,5 +1,4 @@
 use Rattle.std.proofs.Common.{◌≡◌, inl}
-use Rattle.serde_json.specs.View.{view}
 use Rattle.ffi3_script_rules.specs.Language.{fault, read_shapes, read_signature}
 use Rattle.ffi3_script_rules.specs.SignatureRefusal.{IsNoSignature}
 use Rattle.ffi3_types.specs.SignatureFaultOf.{signature_fault_of}
@@ -9,22 +8,22 @@ use Rattle.ffi3_json.proofs.signature.read_signature_at.Goals as goal
 
 pub returns-in_err-sig-clause-err : goal.returns-in_err-sig-clause-err
 returns-in_err-sig-clause-err c =
-    let d = view c.args.value.now in
+    let d = c.args.value.now in
     part_handed_on (read_signature d c.args.at.now) (read_shapes d c.args.at.now) (shapes_fault d c.args.at.now) c.from_residual.result c.in_err-sig.field-0.0 c.from_residual.ensures.1 c.in_err-sig.ensures.err
 
 pub returns-in-Ok-clause-ok : goal.returns-in-Ok-clause-ok
 returns-in-Ok-clause-ok c =
-    read_right (view c.args.value.now) c.args.at.now c.in_ok-sig.sig c.in_ok-sig.ensures.ok c.in-Ok.ensures.ok
+    read_right c.args.value.now c.args.at.now c.in_ok-sig.sig c.in_ok-sig.ensures.ok c.in-Ok.ensures.ok
 
 pub returns-in-Err-clause-err : goal.returns-in-Err-clause-err
 returns-in-Err-clause-err c =
-    tells_own (view c.args.value.now) c.args.at.now c.in_ok-sig.sig (signature_fault_of c.in-Err.fault) c.in_ok-sig.ensures.ok c.in-Err.ensures.err c.told.result c.told.ensures
+    tells_own c.args.value.now c.args.at.now c.in_ok-sig.sig (signature_fault_of c.in-Err.fault) c.in_ok-sig.ensures.ok c.in-Err.ensures.err c.told.result c.told.ensures
 
 pub returns-in_err-sig-clause-first : goal.returns-in_err-sig-clause-first
 returns-in_err-sig-clause-first c =
-    let d = view c.args.value.now in
+    let d = c.args.value.now in
     handed_on (λ p r. read_shapes d c.args.at.now ≡ fault p r) (IsNoSignature d c.args.at.now) (λ p r is. inl is) c.from_residual.result c.in_err-sig.field-0.0 c.from_residual.ensures.1 c.in_err-sig.ensures.err
 
 pub returns-in-Err-clause-first : goal.returns-in-Err-clause-first
 returns-in-Err-clause-first c =
-    tells_first (view c.args.value.now) c.args.at.now c.in_ok-sig.sig (signature_fault_of c.in-Err.fault) c.in_ok-sig.ensures.ok c.in-Err.ensures.err c.told.result c.told.ensures
+    tells_first c.args.value.now c.args.at.now c.in_ok-sig.sig (signature_fault_of c.in-Err.fault) c.in_ok-sig.ensures.ok c.in-Err.ensures.err c.told.result c.told.ensures

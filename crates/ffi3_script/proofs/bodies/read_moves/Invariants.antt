@@ -1,5 +1,5 @@
-use Rattle.std.proofs.Common.{◌≡◌, [], length, drop}
-use Rattle.serde_json.specs.View.{items_view}
+use Rattle.std.proofs.Common.{◌≡◌, [], length}
+use Rattle.ffi3_json.specs.Parts.{items_from}
 use Rattle.ffi3_script_rules.specs.Bodies.{read_moves}
 use Rattle.ffi3_script_body.specs.ExprOf.{script_moves_of}
 use Rattle.ffi3_script.specs.ScopeOf.{given_of, surroundings_in}
@@ -10,5 +10,5 @@ abbrev pub invariant-loop-i : goal.invariant-loop-i
 invariant-loop-i l = record {
   even : length l.names ≡ length l.types;
   count : length l.types ≡ l.i;
-  so_far : read_moves (surroundings_in l.globals l.own) [] (items_view l.items.items) l.at 0 ≡ before (script_moves_of l.moves.items) (read_moves (surroundings_in l.globals l.own) (given_of l.names l.types) (items_view (drop l.i l.items.items)) l.at l.i);
+  so_far : read_moves (surroundings_in l.globals l.own) [] l.items l.at 0 ≡ before (script_moves_of l.moves.items) (read_moves (surroundings_in l.globals l.own) (given_of l.names l.types) (items_from l.i l.items) l.at l.i);
 }

@@ -1,6 +1,5 @@
 use Rattle.std.proofs.Common.{sym, ap, ◌∙◌, arith}
 use Rattle.serde_json.specs.Find.{as_str}
-use Rattle.serde_json.specs.View.{view}
 use Rattle.ffi3_types.specs.TreeOf.{tree_of}
 use Rattle.ffi3_script_rules.specs.Language.{read, no_such_result}
 use Rattle.ffi3_script_rules.specs.Script.{outcome}
@@ -15,8 +14,8 @@ returns-in_default-find-clause-err c =
     let names = c.args.scope.now.names.now in
     let types = c.args.scope.now.types.now in
     let none = no_result c.in-Some.name.now names types c.args.at.now c.requires (sym c.in_default-find.ensures) in
-    tells_made (result_of (given_of names types) (as_str (view c.args.value.now)) c.args.at.now) c.args.at.now no_such_result
-    (ap (λ o. result_of (given_of names types) o c.args.at.now) (sym c.in-Some.ensures) ∙ none)
+    tells_made (result_of (given_of names types) (as_str c.args.value.now) c.args.at.now) c.args.at.now no_such_result
+    (ap (λ o. result_of (given_of names types) o c.args.at.now) (ap as_str (sym c.json.ensures) ∙ sym c.in-Some.ensures) ∙ none)
     c.bad-in_default-find.result c.bad-in_default-find.ensures
 
 pub overflow_cast-result : goal.overflow_cast-result
@@ -29,7 +28,7 @@ returns-clause-ok c =
     let types = c.args.scope.now.types.now in
     let some = a_result c.in-Some.name.now names types c.args.at.now c.requires c.in-Some-find.i (sym c.in-Some-find.ensures) in
     let same = sym (ap tree_of c.in_ok-copy.ensures ∙ c.get.ensures.element) in
-    ap (λ o. result_of (given_of names types) o c.args.at.now) (sym c.in-Some.ensures) ∙ some ∙ ap (λ t. read (typed t (outcome c.in-Some-find.i))) same
+    ap (λ o. result_of (given_of names types) o c.args.at.now) (ap as_str (sym c.json.ensures) ∙ sym c.in-Some.ensures) ∙ some ∙ ap (λ t. read (typed t (outcome c.in-Some-find.i))) same
 
 pub get-requires : goal.get-requires
 get-requires c =

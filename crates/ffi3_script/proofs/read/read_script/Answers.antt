@@ -1,8 +1,8 @@
 use Rattle.std.proofs.Common.{◌≡◌, true, length, sym, subst, arith}
-use Rattle.serde_json.specs.View.{view}
-use Rattle.ffi3_script_rules.specs.Reading.{IsTheReading, script}
+use Rattle.ffi3_script_rules.specs.Reading.{IsJson, IsTheReading, script}
 use Rattle.ffi3_script_rules.specs.Typed.{script_is_typed}
 use Rattle.ffi3_script_rules.proofs.WellTyped.{script_is_well_typed}
+use Rattle.ffi3_json.specs.Within.{HasArraysWithin}
 use Rattle.ffi3_script.specs.PartsOf.{script_in}
 use Rattle.ffi3_script.proofs.Few.{IsFew, script-few}
 use Rattle.ffi3_script.proofs.Making.{signatures-few, functions-few, each-few, main-few}
@@ -15,15 +15,17 @@ returns-in_err-value-clause-err c =
 
 pub returns-in_err-parts-clause-err : goal.returns-in_err-parts-clause-err
 returns-in_err-parts-clause-err c =
+    let json : IsJson c.args.bytes.now c.of.result = subst (IsJson c.args.bytes.now) (sym c.of.ensures) c.in_ok-value.ensures.ok in
     refusal_handed_on c.args.natives.now c.args.bytes.now c.in_err-parts.field-0.0
-    (refused-value c.args.natives.now c.args.bytes.now (view c.in_ok-value.value) c.in_ok-value.ensures.ok c.in_err-parts.field-0.0 c.in_err-parts.ensures.err) c.from_residual-in_err-parts.result c.from_residual-in_err-parts.ensures.1
+    (refused-value c.args.natives.now c.args.bytes.now c.of.result json c.in_err-parts.field-0.0 c.in_err-parts.ensures.err) c.from_residual-in_err-parts.result c.from_residual-in_err-parts.ensures.1
 
 pub script_of-requires : goal.script_of-requires
 script_of-requires c =
     let natives = c.args.natives.now in
     let p = c.in_ok-parts.parts in
     let s = script_in p.sigs p.functions.items p.main.items in
-    let few : IsFew 1048577 s = script-few 1048577 natives (view c.in_ok-value.value) s c.in_ok-value.ensures.few c.in_ok-parts.ensures.ok in
+    let within : HasArraysWithin 1048577 c.of.result = subst (HasArraysWithin 1048577) (sym c.of.ensures) c.in_ok-value.ensures.few in
+    let few : IsFew 1048577 s = script-few 1048577 natives c.of.result s within c.in_ok-parts.ensures.ok in
     let same : c.len.result ≡ length natives = c.len.ensures.count in
     record {
       few_signatures = signatures-few 1048577 (omega arith) p.sigs p.functions.items p.main.items few;
@@ -31,11 +33,12 @@ script_of-requires c =
       few = functions-few 1048577 (omega arith) p.sigs p.functions.items p.main.items few;
       functions_few = each-few 1048577 (omega arith) p.sigs p.functions.items p.main.items few;
       main_few = main-few 1048577 (omega arith) p.sigs p.functions.items p.main.items few;
-      typed = subst (λ n. script_is_typed n s ≡ true) (sym same) (script_is_well_typed natives (view c.in_ok-value.value) s c.in_ok-parts.ensures.ok);
+      typed = subst (λ n. script_is_typed n s ≡ true) (sym same) (script_is_well_typed natives c.of.result s c.in_ok-parts.ensures.ok);
     }
 
 pub returns-clause-ok : goal.returns-clause-ok
 returns-clause-ok c =
     let p = c.in_ok-parts.parts in
     let s = script_in p.sigs p.functions.items p.main.items in
-    subst (λ r. IsTheReading c.args.natives.now c.args.bytes.now (script r)) (sym c.in_ok-script_of.ensures.is) (accepted c.args.natives.now c.args.bytes.now (view c.in_ok-value.value) c.in_ok-value.ensures.ok s c.in_ok-parts.ensures.ok)
+    let json : IsJson c.args.bytes.now c.of.result = subst (IsJson c.args.bytes.now) (sym c.of.ensures) c.in_ok-value.ensures.ok in
+    subst (λ r. IsTheReading c.args.natives.now c.args.bytes.now (script r)) (sym c.in_ok-script_of.ensures.is) (accepted c.args.natives.now c.args.bytes.now c.of.result json s c.in_ok-parts.ensures.ok)

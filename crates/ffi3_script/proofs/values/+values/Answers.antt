@@ -2,25 +2,23 @@ use Rattle.std.proofs.Common.{◌≡◌, ◌+◌, ◌<◌, [], ◌∷◌, ◌++�
 use Rattle.std.proofs.lemmas.List.{map-append}
 use Rattle.serde_json.specs.Events.{items_len}
 use Rattle.serde_json.specs.Find.{as_number, as_u64}
-use Rattle.serde_json.specs.View.{view, number_view, items_view}
-use Rattle.serde_json.proofs.Views.{items_len-items_view}
+use Rattle.serde_json.specs.View.{number_view}
 use Rattle.ffi3_types.specs.TreeOf.{tree_of}
 use Rattle.ffi3_script_rules.specs.Language.{read, fault, at_item, under, wrong_type, wrong_count}
 use Rattle.ffi3_script_rules.specs.Values.{read_number, read_value, read_values, read_typed, read_field, read_of, read_right_type, element_of, typed, typed_form, form_named}
-use Rattle.ffi3_json.proofs.Items.{depth-at, short-at}
 use Rattle.ffi3_json.proofs.Tellings.{tells_part, tells_made, part_handed_on}
 use Rattle.ffi3_script_body.specs.ExprOf.{expression_of, expressions_in}
 use Rattle.ffi3_script.specs.ScopeOf.{scope_of}
 use Rattle.ffi3_script.specs.Shapes.{typed_form_of, typed_under, value_under_form, read_terms}
-use Rattle.ffi3_script.proofs.ReadValues.{ok_by, err_by, field_first, field_struct, field_wrong, of_second, of_both, two_first, two_second, two_both, terms_are, typed_member, of_number, of_other_count, of_values, of_member, Done, done-more, done-all}
+use Rattle.ffi3_script.proofs.ReadValues.{ok_by, err_by, field_first, field_struct, field_wrong, of_second, of_both, two_first, two_second, two_both, terms_are, typed_member, of_number, of_other_count, of_values, of_member, Done, done-more, done-fault, done-all}
 use Rattle.ffi3_script.proofs.values.+values.Goals as goal
 
 pub read_field-returns-in_err-ty-clause-err : goal.read_field-returns-in_err-ty-clause-err
 read_field-returns-in_err-ty-clause-err t c =
     let s = scope_of c.args.scope.now in
-    let d = view c.args.inside.now in
-    let a = view c.in-Some.inner.now in
-    let b = view c.in-Some.number.now in
+    let d = c.args.inside.now in
+    let a = c.in-Some.inner in
+    let b = c.in-Some.number in
     let path = c.args.at.now in
     let place = under path c.args.name.now in
     let item : c.item-first.result ≡ at_item place 0 = c.item-first.ensures ∙ ap (λ p. at_item p 0) c.key-place.ensures in
@@ -30,9 +28,9 @@ read_field-returns-in_err-ty-clause-err t c =
 pub read_field-returns-in_default-ty-clause-err : goal.read_field-returns-in_default-ty-clause-err
 read_field-returns-in_default-ty-clause-err t c =
     let s = scope_of c.args.scope.now in
-    let d = view c.args.inside.now in
-    let a = view c.in-Some.inner.now in
-    let b = view c.in-Some.number.now in
+    let d = c.args.inside.now in
+    let a = c.in-Some.inner in
+    let b = c.in-Some.number in
     let path = c.args.at.now in
     let place = under path c.args.name.now in
     let item : c.item-first.result ≡ at_item place 0 = c.item-first.ensures ∙ ap (λ p. at_item p 0) c.key-place.ensures in
@@ -40,17 +38,17 @@ read_field-returns-in_default-ty-clause-err t c =
     let wrong = field_wrong s d a b place path (sym c.in-Some.ensures) own.ty (expression_of own.value) c.in_default-ty.not-Struct (ap (read_typed s a) (sym item) ∙ c.in_ok-ty.ensures.ok) in
     tells_made (read_field s d place path) c.item-first.result wrong_type (wrong ∙ ap (λ p. fault p wrong_type) (sym item)) c.bad-in_default-ty.result c.bad-in_default-ty.ensures
 
-field_is : (t : _) (c : goal.read_field-Joined-ty-3 t) → read_field (scope_of c.args.scope.now) (view c.args.inside.now) (under c.args.at.now c.args.name.now) c.args.at.now ≡ element_of (expression_of c.in_ok-ty.field-0.value) c.in-Struct.fields (option_and_then as_u64 (as_number (view c.in-Some.number.now))) c.args.at.now
+field_is : (t : _) (c : goal.read_field-Joined-ty-3 t) → read_field (scope_of c.args.scope.now) c.args.inside.now (under c.args.at.now c.args.name.now) c.args.at.now ≡ element_of (expression_of c.in_ok-ty.field-0.value) c.in-Struct.fields (option_and_then as_u64 (as_number c.in-Some.number)) c.args.at.now
 field_is t c =
     let s = scope_of c.args.scope.now in
-    let a = view c.in-Some.inner.now in
-    let b = view c.in-Some.number.now in
+    let a = c.in-Some.inner in
+    let b = c.in-Some.number in
     let path = c.args.at.now in
     let place = under path c.args.name.now in
     let e = expression_of c.in_ok-ty.field-0.value in
     let item : c.item-first.result ≡ at_item place 0 = c.item-first.ensures ∙ ap (λ p. at_item p 0) c.key-place.ensures in
     let was = ap (read_typed s a) (sym item) ∙ c.in_ok-ty.ensures.ok ∙ ap (λ y. read (typed (tree_of y) e)) c.in-Struct.is in
-    field_struct s (view c.args.inside.now) a b place path (sym c.in-Some.ensures) c.in-Struct.fields e was
+    field_struct s c.args.inside.now a b place path (sym c.in-Some.ensures) c.in-Struct.fields e was
 
 pub read_field-returns-clause-ok : goal.read_field-returns-clause-ok
 read_field-returns-clause-ok t c =
@@ -58,15 +56,15 @@ read_field-returns-clause-ok t c =
 
 pub read_field-returns-clause-err : goal.read_field-returns-clause-err
 read_field-returns-clause-err t c =
-    let b = view c.in-Some.number.now in
-    err_by (λ f k. tells_part (read_field (scope_of c.args.scope.now) (view c.args.inside.now) (under c.args.at.now c.args.name.now) c.args.at.now) (element_of (expression_of c.in_ok-ty.field-0.value) c.in-Struct.fields (option_and_then as_u64 (as_number b)) c.args.at.now) (λ p r is. field_is t c ∙ is) f k) c.element_of.result c.element_of.ensures.err
+    let b = c.in-Some.number in
+    err_by (λ f k. tells_part (read_field (scope_of c.args.scope.now) c.args.inside.now (under c.args.at.now c.args.name.now) c.args.at.now) (element_of (expression_of c.in_ok-ty.field-0.value) c.in-Struct.fields (option_and_then as_u64 (as_number b)) c.args.at.now) (λ p r is. field_is t c ∙ is) f k) c.element_of.result c.element_of.ensures.err
 
 pub read_of-returns-in_err-value-clause-err : goal.read_of-returns-in_err-value-clause-err
 read_of-returns-in_err-value-clause-err t c =
     let s = scope_of c.args.scope.now in
-    let d = view c.args.inside.now in
-    let a = view c.in-Some.first.now in
-    let b = view c.in-Some.second.now in
+    let d = c.args.inside.now in
+    let a = c.in-Some.first in
+    let b = c.in-Some.second in
     let place = under c.args.at.now c.args.name.now in
     let first : c.item.result ≡ at_item place 0 = c.item.ensures ∙ ap (λ p. at_item p 0) c.key-place.ensures in
     let second : c.item-2.result ≡ at_item place 1 = c.item-2.ensures ∙ ap (λ p. at_item p 1) c.key-place.ensures in
@@ -77,9 +75,9 @@ read_of-returns-in_err-value-clause-err t c =
 pub read_of-returns-clause-ok : goal.read_of-returns-clause-ok
 read_of-returns-clause-ok t c =
     let s = scope_of c.args.scope.now in
-    let d = view c.args.inside.now in
-    let a = view c.in-Some.first.now in
-    let b = view c.in-Some.second.now in
+    let d = c.args.inside.now in
+    let a = c.in-Some.first in
+    let b = c.in-Some.second in
     let place = under c.args.at.now c.args.name.now in
     let first : c.item.result ≡ at_item place 0 = c.item.ensures ∙ ap (λ p. at_item p 0) c.key-place.ensures in
     let second : c.item-2.result ≡ at_item place 1 = c.item-2.ensures ∙ ap (λ p. at_item p 1) c.key-place.ensures in
@@ -89,9 +87,9 @@ read_of-returns-clause-ok t c =
 pub read_terms-returns-in_err-a-clause-err : goal.read_terms-returns-in_err-a-clause-err
 read_terms-returns-in_err-a-clause-err t c =
     let s = scope_of c.args.scope.now in
-    let d = view c.args.inside.now in
-    let a = view c.in-Some.first.now in
-    let b = view c.in-Some.second.now in
+    let d = c.args.inside.now in
+    let a = c.in-Some.first in
+    let b = c.in-Some.second in
     let path = c.args.at.now in
     let name = c.args.name.now in
     let place = under path name in
@@ -104,9 +102,9 @@ read_terms-returns-in_err-a-clause-err t c =
 pub read_terms-returns-in_err-b-clause-err : goal.read_terms-returns-in_err-b-clause-err
 read_terms-returns-in_err-b-clause-err t c =
     let s = scope_of c.args.scope.now in
-    let d = view c.args.inside.now in
-    let a = view c.in-Some.first.now in
-    let b = view c.in-Some.second.now in
+    let d = c.args.inside.now in
+    let a = c.in-Some.first in
+    let b = c.in-Some.second in
     let path = c.args.at.now in
     let name = c.args.name.now in
     let place = under path name in
@@ -120,9 +118,9 @@ read_terms-returns-in_err-b-clause-err t c =
 pub read_terms-returns-clause-ok : goal.read_terms-returns-clause-ok
 read_terms-returns-clause-ok t c =
     let s = scope_of c.args.scope.now in
-    let d = view c.args.inside.now in
-    let a = view c.in-Some.first.now in
-    let b = view c.in-Some.second.now in
+    let d = c.args.inside.now in
+    let a = c.in-Some.first in
+    let b = c.in-Some.second in
     let path = c.args.at.now in
     let name = c.args.name.now in
     let place = under path name in
@@ -136,97 +134,110 @@ read_terms-returns-clause-ok t c =
 pub read_typed-returns-in-Typed-clause-ok : goal.read_typed-returns-in-Typed-clause-ok
 read_typed-returns-in-Typed-clause-ok t c =
     let s = scope_of c.args.scope.now in
-    let same = typed_member s (view c.args.value.now) c.args.at.now c.in-Some.name.now (view c.in-Some.inside.now) (typed_form (typed_form_of c.in-Typed.form)) (sym c.in-Some.ensures) c.in-Typed.ensures in
+    let same = typed_member s c.args.value.now c.args.at.now c.in-Some.name.now c.in-Some.inside (typed_form (typed_form_of c.in-Typed.form)) (sym c.in-Some.ensures.value) c.in-Typed.ensures in
     ok_by (λ v k. same ∙ k) c.read_own.result c.read_own.ensures.ok
 
 pub read_typed-returns-in-Typed-clause-err : goal.read_typed-returns-in-Typed-clause-err
 read_typed-returns-in-Typed-clause-err t c =
     let s = scope_of c.args.scope.now in
-    let d = view c.args.value.now in
+    let d = c.args.value.now in
     let path = c.args.at.now in
     let name = c.in-Some.name.now in
-    let inside = view c.in-Some.inside.now in
+    let inside = c.in-Some.inside in
     let form = typed_form_of c.in-Typed.form in
-    let same = typed_member s d path name inside (typed_form form) (sym c.in-Some.ensures) c.in-Typed.ensures in
+    let same = typed_member s d path name inside (typed_form form) (sym c.in-Some.ensures.value) c.in-Typed.ensures in
     err_by (λ f k. tells_part (read_typed s d path) (typed_under s name inside path form) (λ p r is. same ∙ is) f k) c.read_own.result c.read_own.ensures.err
 
 pub read_value-returns-in-Some-clause-err : goal.read_value-returns-in-Some-clause-err
 read_value-returns-in-Some-clause-err t c =
     let s = scope_of c.args.scope.now in
-    let d = view c.args.value.now in
+    let d = c.args.value.now in
     let ty = tree_of c.args.ty.now in
     let n = number_view c.in-Some.n.now in
-    err_by (λ f k. tells_part (read_value s ty d c.args.at.now) (read_number ty n c.args.at.now) (λ p r is. of_number s ty d c.args.at.now n (sym c.in-Some.ensures) ∙ is) f k) c.read_number.result c.read_number.ensures.err
+    err_by (λ f k. tells_part (read_value s ty d c.args.at.now) (read_number ty n c.args.at.now) (λ p r is. of_number s ty d c.args.at.now n (ap as_number (sym c.json-json.ensures) ∙ sym c.in-Some.ensures) ∙ is) f k) c.read_number.result c.read_number.ensures.err
 
 pub read_value-returns-then-len-clause-err : goal.read_value-returns-then-len-clause-err
 read_value-returns-then-len-clause-err t c =
     let s = scope_of c.args.scope.now in
-    let d = view c.args.value.now in
+    let d = c.args.value.now in
     let path = c.args.at.now in
-    let vs = c.in-Some-as_array.items.now.items in
-    let other = of_other_count s c.in-Struct.fields d path (items_view vs) (sym c.in-Some-as_array.ensures) (λ same. c.if-len.true (omega (arith, c.len.ensures, c.len-in-Some-as_array.ensures.count, items_len-items_view vs, same))) in
+    let ds = c.in-Some-items.items in
+    let other = of_other_count s c.in-Struct.fields d path ds (sym c.in-Some-items.ensures.value) (λ same. c.if-len.true (omega (arith, c.len.ensures, c.len-in-Some-items.ensures.count, same))) in
     tells_made (read_value s (tree_of c.args.ty.now) d path) path wrong_count (ap (λ y. read_value s (tree_of y) d path) c.in-Struct.is ∙ other) c.bad-then-len.result c.bad-then-len.ensures
 
-pub read_value-returns-in-Some-as_array-clause-ok : goal.read_value-returns-in-Some-as_array-clause-ok
-read_value-returns-in-Some-as_array-clause-ok t c =
+pub read_value-returns-in-Some-items-clause-ok : goal.read_value-returns-in-Some-items-clause-ok
+read_value-returns-in-Some-items-clause-ok t c =
     let s = scope_of c.args.scope.now in
-    let d = view c.args.value.now in
+    let d = c.args.value.now in
     let path = c.args.at.now in
-    let vs = c.in-Some-as_array.items.now.items in
-    let same : items_len (items_view vs) ≡ length c.in-Struct.fields = omega (arith, c.len.ensures, c.len-in-Some-as_array.ensures.count, items_len-items_view vs, c.if-len.false) in
+    let ds = c.in-Some-items.items in
+    let same : items_len ds ≡ length c.in-Struct.fields = omega (arith, c.len.ensures, c.len-in-Some-items.ensures.count, c.if-len.false) in
     ap (λ y. read_value s (tree_of y) d path) c.in-Struct.is
-    ∙ of_values s c.in-Struct.fields d path (items_view vs) (sym c.in-Some-as_array.ensures) (read (expressions_in c.in_ok-values.values.items)) same c.in_ok-values.ensures.ok ∙ ap read (sym c.of_elements.ensures)
+    ∙ of_values s c.in-Struct.fields d path ds (sym c.in-Some-items.ensures.value) (read (expressions_in c.in_ok-values.values.items)) same c.in_ok-values.ensures.ok ∙ ap read (sym c.of_elements.ensures)
 
 pub read_value-returns-in_err-values-clause-err : goal.read_value-returns-in_err-values-clause-err
 read_value-returns-in_err-values-clause-err t c =
     let s = scope_of c.args.scope.now in
-    let d = view c.args.value.now in
+    let d = c.args.value.now in
     let path = c.args.at.now in
-    let vs = c.in-Some-as_array.items.now.items in
+    let ds = c.in-Some-items.items in
     let ts = c.in-Struct.fields in
-    let same : items_len (items_view vs) ≡ length ts = omega (arith, c.len.ensures, c.len-in-Some-as_array.ensures.count, items_len-items_view vs, c.if-len.false) in
-    part_handed_on (read_value s (tree_of c.args.ty.now) d path) (read_values s ts (items_view vs) path 0)
-    (λ p r is. ap (λ y. read_value s (tree_of y) d path) c.in-Struct.is ∙ of_values s ts d path (items_view vs) (sym c.in-Some-as_array.ensures) (fault p r) same is)
+    let same : items_len ds ≡ length ts = omega (arith, c.len.ensures, c.len-in-Some-items.ensures.count, c.if-len.false) in
+    part_handed_on (read_value s (tree_of c.args.ty.now) d path) (read_values s ts ds path 0)
+    (λ p r is. ap (λ y. read_value s (tree_of y) d path) c.in-Struct.is ∙ of_values s ts d path ds (sym c.in-Some-items.ensures.value) (fault p r) same is)
     c.from_residual.result c.in_err-values.field-0.0 c.from_residual.ensures.1 c.in_err-values.ensures.err
 
 pub read_value-returns-clause-ok : goal.read_value-returns-clause-ok
 read_value-returns-clause-ok t c =
     let m = c.in-Some-only_member in
-    let same = of_member (scope_of c.args.scope.now) (tree_of c.args.ty.now) (view c.args.value.now) c.args.at.now m.name.now (view m.inside.now) (sym m.ensures) in
+    let same = of_member (scope_of c.args.scope.now) (tree_of c.args.ty.now) c.args.value.now c.args.at.now m.name.now m.inside (sym m.ensures.value) in
     ok_by (λ e k. same ∙ k) c.read_form.result c.read_form.ensures.ok
 
 pub read_value-returns-clause-err : goal.read_value-returns-clause-err
 read_value-returns-clause-err t c =
     let s = scope_of c.args.scope.now in
     let ty = tree_of c.args.ty.now in
-    let d = view c.args.value.now in
+    let d = c.args.value.now in
     let path = c.args.at.now in
     let m = c.in-Some-only_member in
-    let same = of_member s ty d path m.name.now (view m.inside.now) (sym m.ensures) in
-    err_by (λ f k. tells_part (read_value s ty d path) (value_under_form s ty m.name.now (view m.inside.now) path (form_named m.name.now)) (λ p r is. same ∙ is) f k) c.read_form.result c.read_form.ensures.err
+    let same = of_member s ty d path m.name.now m.inside (sym m.ensures.value) in
+    err_by (λ f k. tells_part (read_value s ty d path) (value_under_form s ty m.name.now m.inside path (form_named m.name.now)) (λ p r is. same ∙ is) f k) c.read_form.result c.read_form.ensures.err
 
 pub read_values-read_value-requires : goal.read_values-read_value-requires
 read_values-read_value-requires t c =
-    let vs = c.args.items.now.items in
-    let below : c.loop-i.i < length vs = omega (arith, c.requires.count, c.len-i-end.ensures.count) in
-    (omega (arith, depth-at vs c.loop-i.i c.index.result.now below c.index.ensures), (short-at vs c.loop-i.i c.index.result.now below c.index.ensures c.requires.short, c.requires.even))
+    (omega (arith, c.get-in-loop-i.ensures.less), c.requires.even)
+
+pub read_values-returns-in_err-value-clause-err : goal.read_values-returns-in_err-value-clause-err
+read_values-returns-in_err-value-clause-err t c =
+    let s = scope_of c.args.scope.now in
+    let ds = c.args.items.now in
+    let ts = c.args.types.now in
+    let i = c.loop-i.i in
+    let at = c.args.at.now in
+    let x = c.get-in-loop-i.result in
+    let ty = tree_of c.get.result.now in
+    let below_types : i < length ts = omega (arith, c.len-i-end.ensures.count) in
+    let below : i < items_len ds = omega (arith, c.requires.count) in
+    part_handed_on (read_values s ts ds at 0) (read_value s ty x c.item.result)
+    (λ p r e. done-fault s ts ds at i (map expression_of c.loop-i.values.items) x ty below below_types c.get-in-loop-i.ensures.item c.get.ensures.element c.loop-i.invariant p r (ap (read_value s ty x) (sym c.item.ensures) ∙ e))
+    c.from_residual.result c.in_err-value.field-0.0 c.from_residual.ensures.1 c.in_err-value.ensures.err
 
 pub read_values-loop-i-preserved : goal.read_values-loop-i-preserved
 read_values-loop-i-preserved t c =
     let s = scope_of c.args.scope.now in
-    let vs = c.args.items.now.items in
+    let ds = c.args.items.now in
     let ts = c.args.types.now in
     let i = c.loop-i.i in
     let at = c.args.at.now in
     let before = c.loop-i.values.items in
     let value = c.in_ok-value.value in
     let below_types : i < length ts = omega (arith, c.len-i-end.ensures.count) in
-    let below : i < length vs = omega (arith, c.requires.count) in
+    let below : i < items_len ds = omega (arith, c.requires.count) in
     let one_more : map expression_of c.push.new.values.items ≡ map expression_of before ++ expression_of value ∷ [] = ap (map expression_of) c.in_ok-push.ensures ∙ map-append expression_of before (value ∷ []) in
-    let was = ap (read_value s (tree_of c.get.result.now) (view c.index.result.now)) (sym c.item.ensures) ∙ c.in_ok-value.ensures.ok in
-    subst (λ es. Done s ts vs at (i + 1) es) (sym one_more) (done-more s ts vs at i (map expression_of before) c.index.result.now (tree_of c.get.result.now) below below_types c.index.ensures c.get.ensures.element c.loop-i.invariant (expression_of value) was)
+    let was = ap (read_value s (tree_of c.get.result.now) c.get-in-loop-i.result) (sym c.item.ensures) ∙ c.in_ok-value.ensures.ok in
+    subst (λ es. Done s ts ds at (i + 1) es) (sym one_more) (done-more s ts ds at i (map expression_of before) c.get-in-loop-i.result (tree_of c.get.result.now) below below_types c.get-in-loop-i.ensures.item c.get.ensures.element c.loop-i.invariant (expression_of value) was)
 
 pub read_values-returns-clause-ok : goal.read_values-returns-clause-ok
 read_values-returns-clause-ok t c =
     let values = map expression_of c.loop-i.values.items in
-    done-all (scope_of c.args.scope.now) c.args.types.now c.args.items.now.items c.args.at.now c.loop-i.i values (omega (arith, c.requires.count, c.len-i-end.ensures.count)) c.loop-i.invariant
+    done-all (scope_of c.args.scope.now) c.args.types.now c.args.items.now c.args.at.now c.loop-i.i values (omega (arith, c.requires.count, c.len-i-end.ensures.count)) c.loop-i.invariant

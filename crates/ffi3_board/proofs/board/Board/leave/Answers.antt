@@ -10,7 +10,7 @@ use Rattle.ffi3_io.specs.declared.IoError.TheVariants as cut
 use Rattle.ffi3_board.specs.Between.{RunState, IsAsking, run_state_with}
 use Rattle.ffi3_board.specs.TraceLines.{last_event}
 use Rattle.ffi3_board.specs.Going.{GoneOn}
-use Rattle.ffi3_board.specs.Path.{call_inside, calls_of, result_type_at}
+use Rattle.ffi3_board.specs.Activations.{call_inside, calls_of, result_type_at}
 use Rattle.ffi3_board.specs.Stack.{HoldsCalls}
 use Rattle.ffi3_board.proofs.Boarding.{goes, goes_off, gone_back, call_returned, return_cut_off, return_lines_told, popped_holds, popped_state}
 use Rattle.ffi3_board.proofs.Opened.{is_called, is_incoming}

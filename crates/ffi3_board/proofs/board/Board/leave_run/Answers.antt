@@ -6,7 +6,7 @@ use Rattle.ffi3_run_rules.specs.Move.{return}
 use Rattle.ffi3_io.proofs.Writing.{took_as}
 use Rattle.ffi3_board.specs.declared.activation.OpenCall.{OpenCall}
 use Rattle.ffi3_board.specs.Between.{RunState, IsAsking}
-use Rattle.ffi3_board.specs.Path.{result_type_at}
+use Rattle.ffi3_board.specs.Activations.{result_type_at}
 use Rattle.ffi3_board.specs.TraceLines.{last_event}
 use Rattle.ffi3_board.proofs.Boarding.{goes_off, outermost_state}
 use Rattle.ffi3_board.proofs.Served.{is_done, lines_told, main_returns, served_cut, served_returns}

@@ -3,7 +3,7 @@ use Rattle.ffi3_type_rules.specs.Signature.{signature_at}
 use Rattle.ffi3_ask.specs.declared.standing.Standing.{Standing}
 use Rattle.ffi3_board.specs.declared.activation.OpenCall.{OpenCall}
 use Rattle.ffi3_board.specs.declared.activation.Waiting.{Waiting}
-use Rattle.ffi3_board.specs.Path.{call_inside}
+use Rattle.ffi3_board.specs.Activations.{call_inside}
 use Rattle.ffi3_runner.specs.Agreeing.{seen_by, seen_by_callee, seen_by_main}
 use Rattle.ffi3_runner.proofs.Last.{block_high, block_low, last_call, last_none, served_call}
 use Rattle.ffi3_runner.proofs.Numbers.{asked_as}

@@ -10,7 +10,7 @@ use Rattle.ffi3_body.specs.MoveOf.{move_of}
 use Rattle.ffi3_ask.specs.declared.standing.Standing.{Standing}
 use Rattle.ffi3_board.specs.declared.board.Board.{Board}
 use Rattle.ffi3_board.specs.Between.{run_state}
-use Rattle.ffi3_board.specs.Path.{call_inside}
+use Rattle.ffi3_board.specs.Activations.{call_inside}
 use Rattle.ffi3_run_rules.specs.Meaning.{pointer_value}
 use Rattle.ffi3_board.specs.Going.{and_result}
 use Rattle.ffi3_board.proofs.Blocks.{blocks_above}
