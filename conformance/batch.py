@@ -14,11 +14,13 @@ from concurrent.futures import ThreadPoolExecutor
 import cases
 from emit import Chunk, index_of
 from places import FLOATING, GENERAL, Layout
+from signature import SIZES, text_of
 
 HERE = pathlib.Path(__file__).resolve().parent
 IN_A_CHUNK = 200
 JOBS = 2
 SECONDS = 900
+PLAN = "plan: "  # begins the reason where a plan is wrong by itself
 
 # The GNU prefix of a target, the emulator that runs its programs (none on the host), and what clang is told.
 TARGETS = {
@@ -28,6 +30,8 @@ TARGETS = {
 }
 COMPILERS = {"amd64": ("gcc", "clang", "libffi"), "aapcs64": ("gcc", "clang"), "riscv": ("gcc", "clang")}
 FLAGS = ["-w", "-std=gnu11", "-fno-pie", "-fno-stack-protector"]
+# A leaf's scalar, by what C knows of it: the kind of player.h, and its bytes.
+SCALARS = {f"{'f' if name == 'double' else name[0]}{size}": name for name, size in SIZES.items()}
 # The files of one batch are optimised in turn: not at all, and much.
 OPTIMISED = ["-O0", "-O2"]
 
@@ -51,6 +55,8 @@ def missing(target, compiler):
 def libffi_version():
     """The version that libffi's header names, or None where it is not installed."""
     words = [*command_of("amd64", "gcc"), "-E", "-C", "-"]
+    if shutil.which(words[0]) is None:
+        return None
     ended = subprocess.run(words, input="#include <ffi.h>\n", capture_output=True, text=True)
     found = re.search(r"libffi (\d\S*)", ended.stdout)
     return found and found[1]
@@ -63,25 +69,33 @@ def version_of(target, compiler):
     return lines.splitlines()[0]
 
 
+def can_pass(compiler, signature):
+    """libffi has no type for an integer of 128 bits."""
+    return compiler != "libffi" or not signature.is_wide()
+
+
 class Played:
-    """A program that plays cases: `command` runs it, `types` has the types of its lines `layout`, chunk by chunk."""
+    """A program that plays cases: `command` runs it, `types` has the types of its lines `layout`, chunk by chunk.
+    After a run `layouts` has its layouts of each type."""
 
     def play(self, lines):
-        """Runs the cases; gives what was written: the layouts by type, and (index, direction) -> reasons."""
-        ended = subprocess.run(self.command, input=lines, text=True, stdout=subprocess.PIPE, timeout=SECONDS)
-        layouts, failed = {}, {}
+        """Runs the cases; gives (number, direction) -> reasons for those that were played: none where one passed."""
+        try:
+            told = subprocess.run(self.command, input=lines.encode(), stdout=subprocess.PIPE, timeout=SECONDS).stdout
+        except subprocess.TimeoutExpired as late:
+            told = late.stdout or b""
+        self.layouts, played = {}, {}
         types = list(map(iter, self.types))
-        ran = None
-        for line in ended.stdout.splitlines():
+        for line in told.decode().splitlines():
             words = line.split()
             if words[0] == "layout":
-                size, align, *offsets = map(int, words[2:])
-                layouts.setdefault(next(types[int(words[1])]), set()).add(Layout(size, align, tuple(offsets)))
-            elif words[0] == "failed":
-                failed[int(words[1]), words[2]] = " ".join(words[3:])
-            elif words[0] == "ran":
-                ran = int(words[1])
-        return layouts, failed, ran
+                size, align, *leaves = words[2:]
+                offsets, scalars = zip(*(leaf.split(":") for leaf in leaves))
+                layout = Layout(int(size), int(align), tuple(map(int, offsets)), tuple(map(SCALARS.get, scalars)))
+                self.layouts.setdefault(next(types[int(words[1])]), set()).add(layout)
+            elif words[0] in ("passed", "failed"):
+                played[int(words[1]), words[2]] = " ".join(words[3:])
+        return played
 
     def show(self, lines):
         """Runs one case that has a line `show`: each byte by its place: a name (REG, ref REG, stackN) and a byte."""
@@ -158,25 +172,29 @@ def optimised_at(index):
     return OPTIMISED[index // IN_A_CHUNK % len(OPTIMISED)]
 
 
-def case_lines(target, signatures, plans, layouts, seed, first=0):
-    """The lines of all cases, and (index, direction) -> reason where a plan itself is wrong."""
-    parts, wrong = [], {}
-    for index, (signature, plan) in enumerate(zip(signatures, plans), first):
+def failures(built, planned, layouts, seed):
+    """What each comparison finds: (number, way) -> reasons, none where it passes. The ways are call, enter, layout.
+
+    `planned` has signatures and their plans, by the signatures' numbers. A case that was not played fails."""
+    parts, found = [], {}
+    for number, (signature, plan) in planned.items():
+        drawn = random.Random(f"{seed} {number}")
         try:
-            parts.append(cases.lines_of(target, index, signature, plan, layouts, random.Random(f"{seed} {index}")))
+            parts.append(cases.lines_of(built.target, number, signature, plan, layouts, drawn))
         except cases.Uncovered as fault:
-            wrong[index, "plan"] = str(fault)
-    return parts, wrong
+            found[number, "call"] = found[number, "enter"] = f"{PLAN}{fault}"
+    played = built.play("".join(parts))
+    for number, (signature, _) in planned.items():
+        for way in ("call", "enter"):
+            found.setdefault((number, way), played.get((number, way), "not run"))
+        found[number, "layout"] = layout_failure(built, signature, layouts)
+    return found
 
 
-def failures(batch, signatures, plans, layouts, seed):
-    """Plays all signatures in both directions: how many cases passed, and (index, direction) -> reasons."""
-    parts, wrong = case_lines(batch.target, signatures, plans, layouts, seed)
-    found, failed, ran = batch.play("".join(parts))
-    if ran != 2 * len(parts):
-        wrong[len(signatures), "player"] = f"ran {ran} of {2 * len(parts)} cases"
-    wrong |= failed
-    for index, signature in enumerate(signatures):
-        if different := [kind for kind in signature.types() if kind != "void" and found[kind] != {layouts[kind]}]:
-            wrong[index, "layout"] = f"{different[0]}: {found[different[0]]}, ffi3 has {layouts[different[0]]}"
-    return 3 * len(signatures) - len(wrong), wrong
+def layout_failure(built, signature, layouts):
+    """What differs first in the layouts of a signature's types; nothing where they are those of the program."""
+    for kind in signature.types():
+        theirs = built.layouts.get(kind)
+        if kind != "void" and theirs != {layouts[kind]}:
+            return f"{text_of(kind)}: {theirs or 'not told'}, ffi3 has {layouts[kind]}"
+    return ""

@@ -1,6 +1,6 @@
 """Random signatures, weighted to the edges of the standards' rules. The same seed gives the same signatures."""
 
-from signature import FLOATING, SIZES, Signature, is_variadic_fault
+from signature import FLOATING, SIZES, Signature, is_variadic_fault, is_wide, leaves_of
 
 SCALARS = list(SIZES)
 MOST_ARGUMENTS = 64
@@ -80,7 +80,7 @@ def result(random):
 
 def size_of(kind):
     """An upper bound of a type's size, to keep frames small."""
-    return 8 if isinstance(kind, str) else sum(map(size_of, kind))
+    return (16 if is_wide(kind) else 8) * len(leaves_of(kind))
 
 
 def arguments(random):

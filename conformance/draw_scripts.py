@@ -8,9 +8,12 @@ scripts stop: at a closure that was freed, at another signature, at a full stack
 
 import draw
 from draw import size_of
-from signature import FLOATING, INTEGERS, SIZES, is_variadic_fault, json_of
+from signature import FLOATING, INTEGERS, SIZES, WIDE, is_variadic_fault, json_of
 
-WHOLE = [*INTEGERS, "pointer"]
+# Scripts are of version 1 here, since libffi has no type for an integer of 128 bits.
+draw.SCALARS = SCALARS = [name for name in SIZES if name not in WIDE]
+NARROW = [name for name in INTEGERS if name not in WIDE]
+WHOLE = [*NARROW, "pointer"]
 UNARY = ("sint64", ["sint64"], None)
 APPLY = ("sint64", ["pointer", "sint64"], None)
 SUM3 = ("sint64", ["sint64"] * 3, None)
@@ -56,7 +59,7 @@ class Drawn:
     def draw_type(self):
         random = self.random
         if has(random, 0.5):
-            return random.choice(list(SIZES))
+            return random.choice(SCALARS)
         most = LARGE if has(random, 0.05) else SMALL
         while size_of(kind := draw.struct(random)) > most:
             pass
@@ -134,7 +137,7 @@ class Drawn:
     def add_recursion(self):
         """Two functions that have both pointers as arguments and call each other, or themselves, by these."""
         random = self.random
-        counter = random.choice(INTEGERS)
+        counter = random.choice(NARROW)
         others = [self.draw_type() for _ in range(random.randint(0, 4))]
         signature = self.draw_result(), ["pointer", "pointer", counter, *others], None
         count = random.choice([1, 1, 2])

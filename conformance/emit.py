@@ -4,11 +4,12 @@ Neither knows a value: `player.c` has the bytes of the leaves, and puts and look
 they stand (offsetof). So the C code says only what the signature says.
 """
 
-from signature import SIZES, leaves_of
+from signature import leaves_of
 
 C_NAMES = {
     "void": "void", "uint8": "unsigned char", "sint8": "signed char", "uint16": "unsigned short", "sint16": "short",
     "uint32": "unsigned int", "sint32": "int", "uint64": "unsigned long", "sint64": "long",
+    "uint128": "unsigned __int128", "sint128": "__int128",
     "float": "float", "double": "double", "pointer": "void *",
 }
 
@@ -48,12 +49,16 @@ class Chunk:
         number, name = len(self.types), self.names[kind]
         self.types.append(kind)
         leaves = leaves_of(kind)
-        offsets = [f"offsetof({name}, {'.'.join(f'm{i}' for i in path)})" if path else "0" for _, path in leaves]
-        sizes = [str(SIZES[leaf]) for leaf, _ in leaves]
+        paths = [".".join(f"m{i}" for i in path) for _, path in leaves]
+        offsets = [f"offsetof({name}, {path})" if path else "0" for path in paths]
+        members = [f"(({name} *)0)->{path}" if path else f"*({name} *)0" for path in paths]
+        sizes = [f"sizeof({member})" for member in members]
+        kinds = [f"KIND({member})" for member in members]
         self.parts.append(f"static const unsigned short at_{number}[] = {{ {', '.join(offsets)} }};\n"
                           f"static const unsigned char size_{number}[] = {{ {', '.join(sizes)} }};\n"
+                          f"static const char kind_{number}[] = {{ {', '.join(kinds)} }};\n"
                           f"static const struct layout layout_{number} = {{ sizeof({name}), _Alignof({name}), "
-                          f"{len(leaves)}, at_{number}, size_{number} }};\n")
+                          f"{len(leaves)}, at_{number}, size_{number}, kind_{number} }};\n")
 
     def layout_of(self, kind):
         return f"&layout_{self.types.index(kind)}"

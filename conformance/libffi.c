@@ -64,11 +64,24 @@ static ffi_type *read_type(char **text)
     return 0;
 }
 
+static char kind_of(ffi_type *type)
+{
+    switch (type->type) {
+    case FFI_TYPE_UINT8: case FFI_TYPE_UINT16: case FFI_TYPE_UINT32: case FFI_TYPE_UINT64: return 'u';
+    case FFI_TYPE_SINT8: case FFI_TYPE_SINT16: case FFI_TYPE_SINT32: case FFI_TYPE_SINT64: return 's';
+    case FFI_TYPE_FLOAT: case FFI_TYPE_DOUBLE: return 'f';
+    case FFI_TYPE_POINTER: return 'p';
+    default: return '?';
+    }
+}
+
 /* The leaves of a type whose struct has been laid out by ffi_prep_cif, from the offsets that libffi tells. */
-static void add_leaves(ffi_type *type, unsigned start, unsigned *count, unsigned short *at, unsigned char *length)
+static void add_leaves(ffi_type *type, unsigned start, unsigned *count, unsigned short *at, unsigned char *length,
+                       char *kind)
 {
     if (type->type != FFI_TYPE_STRUCT) {
         at[*count] = start;
+        kind[*count] = kind_of(type);
         length[(*count)++] = type->size;
         return;
     }
@@ -76,18 +89,19 @@ static void add_leaves(ffi_type *type, unsigned start, unsigned *count, unsigned
     if (ffi_get_struct_offsets(FFI_DEFAULT_ABI, type, offsets) != FFI_OK)
         stop("ffi_get_struct_offsets", "refused");
     for (unsigned k = 0; type->elements[k]; k++)
-        add_leaves(type->elements[k], start + offsets[k], count, at, length);
+        add_leaves(type->elements[k], start + offsets[k], count, at, length, kind);
 }
 
 static struct layout layout_of(ffi_type *type)
 {
     unsigned short at[MOST_LEAVES];
     unsigned char length[MOST_LEAVES];
+    char kind[MOST_LEAVES];
     unsigned count = 0;
-    add_leaves(type, 0, &count, at, length);
+    add_leaves(type, 0, &count, at, length, kind);
     return (struct layout){ type->size, type->alignment, count,
                             memcpy(malloc(count * sizeof *at), at, count * sizeof *at),
-                            memcpy(malloc(count), length, count) };
+                            memcpy(malloc(count), length, count), memcpy(malloc(count), kind, count) };
 }
 
 static void *room(size_t size)

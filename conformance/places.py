@@ -64,11 +64,12 @@ class Plan:
 
 @dataclass(frozen=True)
 class Layout:
-    """Size, alignment, and the offset of each leaf from the left."""
+    """Size, alignment, and from the left the offset of each leaf and its scalar."""
 
     size: int
     align: int
     offsets: tuple
+    leaves: tuple
 
 
 def scripts_of(signatures):
@@ -148,12 +149,13 @@ def plans(program, target, signatures):
 
 def layouts(program, signatures):
     """The layout of each type of the signatures, as `layout` prints it, in a dict by type."""
-    found = {"void": Layout(0, 1, ())}
+    found = {"void": Layout(0, 1, (), ())}
     for signature, lines in zip(signatures, lines_of(program, ["layout"], signatures)):
         for kind, line in zip(signature.types(), lines, strict=True):
             if kind != "void":
                 size, align, leaves = re.search(r" size (\d+) align (\d+) leaves (.*)$", line).groups()
-                offsets = tuple(int(leaf.split(":")[0]) for leaf in leaves.split())
-                if found.setdefault(kind, layout := Layout(int(size), int(align), offsets)) != layout:
+                offsets, names = zip(*(leaf.split(":") for leaf in leaves.split()))
+                layout = Layout(int(size), int(align), tuple(map(int, offsets)), names)
+                if found.setdefault(kind, layout) != layout:
                     raise ValueError(f"two layouts of {kind}")
     return found

@@ -1,8 +1,8 @@
 """Wrong runs, to see that a comparison of runs finds them: each has ffi3 run a script that is changed in one way.
 
-What the changed script prints is what a program with that error would print of the script as it is. Each error is a
-function that changes a copy of a script; where it has nothing to change, the script is left as it is. Errors of traces
-change the lines of a traced run.
+What the changed script prints is what a program with that error would print of the script as it is. It is compared with
+what the C program of the script as it is prints, and must differ. Each error is a function that changes a copy of a
+script; where it has nothing to change, the script is left as it is. Errors of traces change the lines of a traced run.
 """
 
 import copy
@@ -153,23 +153,7 @@ ERRORS_OF_TRACES = [leave_before_the_end, keep_of_another_event, arguments_of_an
 
 
 def changed(error, script):
-    """The script with the error, or None where there is nothing to change."""
+    """The script with the error, or None where there is nothing to change. One that is then refused shows nothing."""
     wrong = copy.deepcopy(script)
     error(wrong)
     return None if wrong == script else wrong
-
-
-def found_at(scripts, outcomes, run, error):
-    """The number of scripts, from the first, until a changed run differs; None where none of the first does. A changed
-    script that is refused shows nothing."""
-    tried = 0
-    for number, (script, outcome) in enumerate(zip(scripts, outcomes), 1):
-        wrong = changed(error, script)
-        found = wrong and run(wrong)
-        if found and found[0] in (0, 6):
-            if found != outcome:
-                return number
-            tried += 1
-            if tried == TRIED:
-                break
-    return None

@@ -18,7 +18,9 @@
  *   go           in a call: now call; at an entry: what follows is the result
  *   end          ends a case
  *
- * All that no put names is random. For each case that fails a line `failed I call|enter REASONS` is written.
+ * All that no put names is random. First a line `layout C SIZE ALIGN AT:KIND ..` is written for each type of chunk C,
+ * with each leaf's offset and its kind: u, s, f or p (player.h), and its bytes. For each case that was played a line
+ * `passed I call|enter` or `failed I call|enter REASONS` is written as it ends.
  */
 #include <setjmp.h>
 #include <signal.h>
@@ -327,8 +329,7 @@ static void run_case(int is_call, const struct entry *entry)
     }
     if (!fault && (value_at != value_count || (is_call && result_at != result_count)))
         wrong("not all values were passed");
-    if (reasons[0])
-        printf("failed %ld %s %s\n", current, is_call ? "call" : "enter", reasons);
+    printf("%s %ld %s %s\n", reasons[0] ? "failed" : "passed", current, is_call ? "call" : "enter", reasons);
 }
 
 static void caught(int signal)
@@ -342,7 +343,7 @@ static void write_layouts(void)
         for (const struct layout *const *each = chunks[c].layouts; *each; each++) {
             printf("layout %d %u %u", c, (*each)->size, (*each)->align);
             for (unsigned k = 0; k < (*each)->leaves; k++)
-                printf(" %u", (*each)->at[k]);
+                printf(" %u:%c%u", (*each)->at[k], (*each)->kind[k], (*each)->length[k]);
             printf("\n");
         }
 }
@@ -368,7 +369,6 @@ int main(void)
     input[size] = 0;
     setvbuf(stdout, 0, _IOLBF, 0);
     write_layouts();
-    long ran = 0;
     for (cursor = input; *cursor;) {
         char *newline = strchr(cursor, '\n');
         *newline = 0;
@@ -380,8 +380,6 @@ int main(void)
         while (rest >= chunk->count)
             rest -= chunk++->count;
         run_case(is_call, chunk->entries + rest);
-        ran++;
     }
-    printf("ran %ld\n", ran);
     return above[0];
 }

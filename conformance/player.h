@@ -3,12 +3,19 @@
 
 typedef void function(void);
 
-/* A type as this compiler lays it out: where its leaves stand and how long they are. */
+/* A type as this compiler lays it out: where its leaves stand, how long they are, and of which kind. */
 struct layout {
     unsigned size, align, leaves;
     const unsigned short *at;
     const unsigned char *length;
+    const char *kind;
 };
+
+/* The kind of a scalar, by its type: an integer without a sign or with one, floating, or a pointer. */
+#define KIND(x) _Generic((x), \
+    unsigned char: 'u', unsigned short: 'u', unsigned int: 'u', unsigned long: 'u', unsigned __int128: 'u', \
+    signed char: 's', short: 's', int: 's', long: 's', __int128: 's', \
+    float: 'f', double: 'f', void *: 'p')
 
 /* One signature: a compiled function that takes its arguments, and one that calls such a function. */
 struct entry {

@@ -52,9 +52,9 @@ def shrunk(program, target, compiler, signature, direction, is_failure, seed, fo
         plans = places.plans(program, target, candidates)
         layouts = places.layouts(program, candidates)
         built = batch.built(target, compiler, candidates, f"{folder}/{target}-{compiler}-{step}", [optimised])
-        _, wrong = batch.failures(built, candidates, plans, layouts, seed)
-        failing = [(index, way) for index, way in sorted(wrong)
-                   if way == direction and is_failure(candidates[index], plans[index], way, wrong[index, way])]
+        wrong = batch.failures(built, dict(enumerate(zip(candidates, plans))), layouts, seed)
+        failing = [(index, way) for (index, way), reasons in sorted(wrong.items())
+                   if way == direction and reasons and is_failure(candidates[index], plans[index], way, reasons)]
         if not failing:
             break
         index = failing[0][0]

@@ -2,8 +2,6 @@
 
 import copy
 
-from translate import NATIVES
-
 STEPS = 400
 
 

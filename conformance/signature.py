@@ -8,10 +8,11 @@ from dataclasses import dataclass
 
 SIZES = {
     "uint8": 1, "sint8": 1, "uint16": 2, "sint16": 2, "uint32": 4, "sint32": 4, "uint64": 8, "sint64": 8,
-    "float": 4, "double": 8, "pointer": 8,
+    "uint128": 16, "sint128": 16, "float": 4, "double": 8, "pointer": 8,
 }
 INTEGERS = [name for name in SIZES if "int" in name and name != "pointer"]
 FLOATING = ("float", "double")
+WIDE = ("uint128", "sint128")
 
 
 @dataclass(frozen=True)
@@ -31,6 +32,9 @@ class Signature:
     def types(self):
         return (self.result, *self.arguments)
 
+    def is_wide(self):
+        return any(map(is_wide, self.types()))
+
 
 def text_of(kind):
     return kind if isinstance(kind, str) else "struct{" + ",".join(map(text_of, kind)) + "}"
@@ -43,6 +47,11 @@ def leaves_of(kind):
     if isinstance(kind, str):
         return [(kind, ())]
     return [(leaf, (i, *path)) for i, element in enumerate(kind) for leaf, path in leaves_of(element)]
+
+
+def is_wide(kind):
+    """Whether a 128-bit integer is in it."""
+    return any(leaf in WIDE for leaf, _ in leaves_of(kind))
 
 
 def is_variadic_fault(kind):
@@ -96,14 +105,15 @@ def json_of(kind):
 
 
 def script_of(signatures):
-    """A script (docs/FORMATS.md, section 1) that has these signatures and does nothing."""
+    """A script (docs/FORMATS.md, section 1) that has these signatures and does nothing. Version 1 has no wide integers."""
     listed = []
     for signature in signatures:
         entry = {"ret": json_of(signature.result), "args": [json_of(kind) for kind in signature.arguments]}
         if signature.fixed is not None:
             entry["fixed"] = signature.fixed
         listed.append(entry)
-    return {"version": 1, "signatures": listed, "functions": [], "main": [{"return": None}]}
+    version = 2 if any(signature.is_wide() for signature in signatures) else 1
+    return {"version": version, "signatures": listed, "functions": [], "main": [{"return": None}]}
 
 
 def table(path):

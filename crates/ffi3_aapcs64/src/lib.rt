@@ -3,9 +3,9 @@
 
 ghost use Rattle.std.specs.Prelude.{◌≡◌, ◌<◌, ◌≤◌, ◌+◌, ◌*◌, cond, length, IfOk, true, false};
 ghost use Rattle.std.specs.List.{list_all};
-ghost use Rattle.ffi3_type_rules.specs.declared.limits.TheConstants.{ARGUMENT_BYTES, LARGEST_STRUCT, MOST_ARGUMENTS};
+ghost use Rattle.ffi3_type_rules.specs.declared.limits.TheConstants.{ARGUMENT_BYTES, ARGUMENT_SPAN, LARGEST_GAP, LARGEST_STRUCT, MOST_ARGUMENTS};
 ghost use Rattle.ffi3_type_rules.specs.Tree.{Scalar, scalar};
-ghost use Rattle.ffi3_type_rules.specs.Layout.{size_of, leaves_of, leaf_at, scalar_size};
+ghost use Rattle.ffi3_type_rules.specs.Layout.{size_of, align_of, leaves_of, leaf_at, scalar_size};
 ghost use Rattle.ffi3_type_rules.specs.Fault.{IsResultType};
 ghost use Rattle.ffi3_type_rules.specs.Signature.{SignatureHasNoFault};
 ghost use Rattle.ffi3_types.specs.TreeOf.{tree_of};
@@ -13,14 +13,11 @@ ghost use Rattle.ffi3_place_rules.specs.declared.Loc.{Loc};
 ghost use Rattle.ffi3_place_rules.specs.declared.Loc.TheVariants.{G, S};
 ghost use Rattle.ffi3_place_rules.specs.Standard.{places_from, place_at, copies_end, result_at};
 ghost use Rattle.ffi3_place_rules.specs.Doublewords.{doublewords, stack_pieces};
-ghost use Rattle.ffi3_aapcs64_rules.specs.Aapcs64.{aapcs64, next_register, is_of, is_member, homogeneous, in_vectors, is_copied, passed, registers_needed, stack_size, first_register, stack_start, member_pieces, general_pieces, register_pieces, register_start, register_end, in_registers, stack_end, taken_with, taken_after, untouched, spot_after, spots_after, result_spot_of};
-ghost use Rattle.ffi3_aapcs64_rules.specs.Sums.{IsPlacedBySums};
-
-#[cfg(test)]
-mod tests;
+ghost use Rattle.ffi3_aapcs64_rules.specs.Aapcs64.{aapcs64, is_of, is_member, homogeneous, in_vectors, is_copied, passed, registers_needed, stack_size, first_general, stack_start, member_pieces, general_pieces, register_pieces, register_start, register_end, in_registers, stack_end, taken_with, taken_after, untouched, spot_after, spots_after, result_spot_of};
+ghost use Rattle.ffi3_aapcs64_rules.specs.Ends.{IsPlacedByEnds};
 
 pub use ffi3_aapcs64_rules::Kind;
-use ffi3_place::ends::{buffer_end, copy_end, planned};
+use ffi3_place::ends::{buffer_end, copy_end, planned, start};
 use ffi3_place::parts::{
     argument, count_of, doubleword, doublewords, leaf_piece, pieces_on_stack, result_type, size_of,
     widening,
@@ -106,6 +103,8 @@ fn in_vectors(ty: &FfiType) -> bool
         | FfiType::S32
         | FfiType::U64
         | FfiType::S64
+        | FfiType::U128
+        | FfiType::S128
         | FfiType::Pointer
         | FfiType::LongDouble
         | FfiType::Complex
@@ -173,56 +172,64 @@ fn stack_size(ty: &FfiType) -> u64
 
 // ---- where one thing begins after another
 
-/// The first register of an argument, where those before it of its kind end. (AAPCS64 C.10)
-fn first_register(end: u64, _ty: &FfiType) -> u64
-    ensures { result ≡ first_register end (passed (tree_of _ty.now)) }
+/// The alignment of what is passed: the value, or the pointer to its copy.
+fn passed_align(ty: &FfiType) -> u64
+    requires { IsResultType (tree_of ty.now) }
+    ensures value { result ≡ align_of (passed (tree_of ty.now)) }
+    ensures small { result ≤ 16 }
 {
-    end
+    if is_copied(ty) { 8 } else { ty.align() }
+}
+
+/// The first general register of an argument, where those before it end. (AAPCS64 C.10)
+fn first_general(end: u64, ty: &FfiType) -> u64
+    requires right { IsResultType (tree_of ty.now) }
+    requires few { end ≤ 5 * MOST_ARGUMENTS }
+    ensures value { result ≡ first_general end (passed (tree_of ty.now)) }
+    ensures near { result ≤ end + 1 }
+{
+    if 16 <= passed_align(ty) {
+        round_up(end, 2)
+    } else {
+        end
+    }
 }
 
 /// The first byte of an argument on the stack, where what stands before it ends. (AAPCS64 C.4, C.14)
-fn stack_start(end: u64, _ty: &FfiType) -> u64
-    ensures { result ≡ stack_start end (passed (tree_of _ty.now)) }
+fn stack_start(end: u64, ty: &FfiType) -> u64
+    requires right { IsResultType (tree_of ty.now) }
+    requires low { end ≤ ARGUMENT_BYTES }
+    ensures value { result ≡ stack_start end (passed (tree_of ty.now)) }
+    ensures near { result ≤ end + LARGEST_GAP }
 {
-    end
-}
-
-/// The first byte of a copy or a buffer in the frame, where what stands before it ends.
-fn copy_start(end: u64, _ty: &FfiType) -> u64
-    ensures { result ≡ aapcs64.copy_start end (tree_of _ty.now) }
-{
-    end
+    round_up(end, 8_u64.max(passed_align(ty)))
 }
 
 // ---- what an argument takes
 
-/// The registers of an argument's kind that the arguments before it take.
-fn next_register(before: Taken, ty: &FfiType) -> u64
-    requires { IsResultType (tree_of ty.now) }
-    ensures { result ≡ next_register before (tree_of ty.now) }
+/// The first register of an argument, by its kind.
+fn register_start(before: Taken, ty: &FfiType) -> u64
+    requires right { IsResultType (tree_of ty.now) }
+    requires few_general { before.general ≤ 5 * MOST_ARGUMENTS }
+    ensures value { result ≡ register_start before (tree_of ty.now) }
+    ensures vector { in_vectors (tree_of ty.now) ≡ true → result ≡ before.vector }
+    ensures general { in_vectors (tree_of ty.now) ≡ false → result ≤ before.general + 1 }
 {
     if in_vectors(ty) {
         before.vector
     } else {
-        before.general
+        first_general(before.general, ty)
     }
 }
 
-/// The first register of an argument, by its kind.
-fn register_start(before: Taken, ty: &FfiType) -> u64
-    requires { IsResultType (tree_of ty.now) }
-    ensures { result ≡ register_start before (tree_of ty.now) }
-{
-    first_register(next_register(before, ty), ty)
-}
-
-/// Where the registers of an argument end. 256 is what 64 arguments need at most.
+/// Where the registers of an argument end. Each argument takes at most five with the gap before it.
 fn register_end(before: Taken, ty: &FfiType) -> u64
     requires right { IsResultType (tree_of ty.now) }
-    requires few_general { before.general ≤ 4 * MOST_ARGUMENTS }
-    requires few_vector { before.vector ≤ 4 * MOST_ARGUMENTS }
+    requires few_general { before.general ≤ 5 * MOST_ARGUMENTS }
+    requires few_vector { before.vector ≤ 5 * MOST_ARGUMENTS }
     ensures value { result ≡ register_end before (tree_of ty.now) }
-    ensures few { result ≤ next_register before (tree_of ty.now) + 4 }
+    ensures vector { in_vectors (tree_of ty.now) ≡ true → result ≤ before.vector + 5 }
+    ensures general { in_vectors (tree_of ty.now) ≡ false → result ≤ before.general + 5 }
 {
     register_start(before, ty) + number_needed(ty)
 }
@@ -230,8 +237,8 @@ fn register_end(before: Taken, ty: &FfiType) -> u64
 /// Whether the registers that are left suffice for the whole argument.
 fn fits_registers(before: Taken, ty: &FfiType) -> bool
     requires right { IsResultType (tree_of ty.now) }
-    requires few_general { before.general ≤ 4 * MOST_ARGUMENTS }
-    requires few_vector { before.vector ≤ 4 * MOST_ARGUMENTS }
+    requires few_general { before.general ≤ 5 * MOST_ARGUMENTS }
+    requires few_vector { before.vector ≤ 5 * MOST_ARGUMENTS }
     ensures value { result ≡ in_registers before (tree_of ty.now) }
 {
     register_end(before, ty) <= 8
@@ -240,10 +247,10 @@ fn fits_registers(before: Taken, ty: &FfiType) -> bool
 /// The general registers that are taken after an argument.
 fn general_end(before: Taken, ty: &FfiType) -> u64
     requires right { IsResultType (tree_of ty.now) }
-    requires few_general { before.general ≤ 4 * MOST_ARGUMENTS }
-    requires few_vector { before.vector ≤ 4 * MOST_ARGUMENTS }
+    requires few_general { before.general ≤ 5 * MOST_ARGUMENTS }
+    requires few_vector { before.vector ≤ 5 * MOST_ARGUMENTS }
     ensures value { result ≡ (taken_with before (tree_of ty.now)).general }
-    ensures few { result ≤ before.general + 4 }
+    ensures few { result ≤ before.general + 5 }
 {
     if in_vectors(ty) {
         before.general
@@ -255,10 +262,10 @@ fn general_end(before: Taken, ty: &FfiType) -> u64
 /// The SIMD and floating-point registers that are taken after an argument.
 fn vector_end(before: Taken, ty: &FfiType) -> u64
     requires right { IsResultType (tree_of ty.now) }
-    requires few_general { before.general ≤ 4 * MOST_ARGUMENTS }
-    requires few_vector { before.vector ≤ 4 * MOST_ARGUMENTS }
+    requires few_general { before.general ≤ 5 * MOST_ARGUMENTS }
+    requires few_vector { before.vector ≤ 5 * MOST_ARGUMENTS }
     ensures value { result ≡ (taken_with before (tree_of ty.now)).vector }
-    ensures few { result ≤ before.vector + 4 }
+    ensures few { result ≤ before.vector + 5 }
 {
     if in_vectors(ty) {
         register_end(before, ty)
@@ -270,11 +277,11 @@ fn vector_end(before: Taken, ty: &FfiType) -> u64
 /// The bytes of stack that are taken after an argument.
 fn stack_end(before: Taken, ty: &FfiType) -> u64
     requires right { IsResultType (tree_of ty.now) }
-    requires few_general { before.general ≤ 4 * MOST_ARGUMENTS }
-    requires few_vector { before.vector ≤ 4 * MOST_ARGUMENTS }
+    requires few_general { before.general ≤ 5 * MOST_ARGUMENTS }
+    requires few_vector { before.vector ≤ 5 * MOST_ARGUMENTS }
     requires low { before.stack ≤ ARGUMENT_BYTES }
     ensures value { result ≡ (taken_with before (tree_of ty.now)).stack }
-    ensures low { result ≤ before.stack + (LARGEST_STRUCT + 7) }
+    ensures low { result ≤ before.stack + ARGUMENT_SPAN }
 {
     if fits_registers(before, ty) {
         before.stack
@@ -285,13 +292,13 @@ fn stack_end(before: Taken, ty: &FfiType) -> u64
 
 fn with_argument(before: Taken, ty: &FfiType) -> Taken
     requires right { IsResultType (tree_of ty.now) }
-    requires few_general { before.general ≤ 4 * MOST_ARGUMENTS }
-    requires few_vector { before.vector ≤ 4 * MOST_ARGUMENTS }
+    requires few_general { before.general ≤ 5 * MOST_ARGUMENTS }
+    requires few_vector { before.vector ≤ 5 * MOST_ARGUMENTS }
     requires low { before.stack ≤ ARGUMENT_BYTES }
     ensures value { result ≡ taken_with before (tree_of ty.now) }
-    ensures few_general { result.general ≤ before.general + 4 }
-    ensures few_vector { result.vector ≤ before.vector + 4 }
-    ensures low { result.stack ≤ before.stack + (LARGEST_STRUCT + 7) }
+    ensures few_general { result.general ≤ before.general + 5 }
+    ensures few_vector { result.vector ≤ before.vector + 5 }
+    ensures low { result.stack ≤ before.stack + ARGUMENT_SPAN }
 {
     Taken {
         general: general_end(before, ty),
@@ -310,7 +317,7 @@ const UNTOUCHED: Taken = Taken {
 fn taken_by_all(sig: &Sig) -> Taken
     requires { SignatureHasNoFault sig.now }
     ensures value { result ≡ taken_after untouched sig.now.arguments }
-    ensures low { result.stack ≤ 65984 }
+    ensures low { result.stack ≤ MOST_ARGUMENTS * ARGUMENT_SPAN }
 {
     let mut before = UNTOUCHED;
     for i in 0..count_of(sig) {
@@ -368,8 +375,8 @@ fn pieces_in_registers(alloc: Global, ty: &FfiType, first: u64) -> Result<Pieces
 fn direct_pieces(alloc: Global, before: Taken, ty: &FfiType) -> Result<Pieces, NoMemory>
     requires right { IsResultType (tree_of ty.now) }
     requires direct { is_copied (tree_of ty.now) ≡ false }
-    requires few_general { before.general ≤ 4 * MOST_ARGUMENTS }
-    requires few_vector { before.vector ≤ 4 * MOST_ARGUMENTS }
+    requires few_general { before.general ≤ 5 * MOST_ARGUMENTS }
+    requires few_vector { before.vector ≤ 5 * MOST_ARGUMENTS }
     requires low { before.stack ≤ ARGUMENT_BYTES }
     ensures { IfOk result (λ p. p ≡ cond (in_registers before (tree_of ty.now)) (register_pieces (register_start before (tree_of ty.now)) (tree_of ty.now)) (stack_pieces (stack_start before.stack (passed (tree_of ty.now))) (tree_of ty.now))) }
 {
@@ -384,8 +391,8 @@ fn direct_pieces(alloc: Global, before: Taken, ty: &FfiType) -> Result<Pieces, N
 fn pointer_place(before: Taken, ty: &FfiType) -> Loc
     requires right { IsResultType (tree_of ty.now) }
     requires copied { is_copied (tree_of ty.now) ≡ true }
-    requires few_general { before.general ≤ 4 * MOST_ARGUMENTS }
-    requires few_vector { before.vector ≤ 4 * MOST_ARGUMENTS }
+    requires few_general { before.general ≤ 5 * MOST_ARGUMENTS }
+    requires few_vector { before.vector ≤ 5 * MOST_ARGUMENTS }
     requires low { before.stack ≤ ARGUMENT_BYTES }
     ensures { result ≡ cond (in_registers before (tree_of ty.now)) (G (register_start before (tree_of ty.now))) (S (stack_start before.stack (passed (tree_of ty.now)))) }
 {
@@ -399,16 +406,16 @@ fn pointer_place(before: Taken, ty: &FfiType) -> Loc
 /// Where an argument stands, if what is before its copy ends at `end`.
 fn place_of(alloc: Global, before: Taken, ty: &FfiType, end: u64) -> Result<Place, NoMemory>
     requires right { IsResultType (tree_of ty.now) }
-    requires few_general { before.general ≤ 4 * MOST_ARGUMENTS }
-    requires few_vector { before.vector ≤ 4 * MOST_ARGUMENTS }
+    requires few_general { before.general ≤ 5 * MOST_ARGUMENTS }
+    requires few_vector { before.vector ≤ 5 * MOST_ARGUMENTS }
     requires low { before.stack ≤ ARGUMENT_BYTES }
-    requires low_copy { end ≤ 262144 }
+    requires low_copy { end ≤ 4 * ARGUMENT_BYTES }
     ensures { IfOk result (λ p. p ≡ place_at aapcs64.copy_start end (tree_of ty.now) (spot_after before (tree_of ty.now))) }
 {
     if is_copied(ty) {
         return Ok(Place::ByRef {
             at: pointer_place(before, ty),
-            copy: copy_start(end, ty) as u32,
+            copy: start(ty, end) as u32,
         });
     }
     Ok(Place::Direct(direct_pieces(alloc, before, ty)?))
@@ -427,7 +434,7 @@ fn place_all(alloc: Global, sig: &Sig, start: u64) -> Result<Placed, NoMemory>
     requires low { start ≤ ARGUMENT_BYTES }
     ensures places { IfOk result (λ p. p.places ≡ places_from aapcs64.copy_start start sig.now.arguments (spots_after untouched sig.now.arguments)) }
     ensures end { IfOk result (λ p. p.end ≡ copies_end aapcs64.copy_start start sig.now.arguments (spots_after untouched sig.now.arguments)) }
-    ensures low { IfOk result (λ p. p.end ≤ 132096) }
+    ensures low { IfOk result (λ p. p.end ≤ 2 * ARGUMENT_BYTES) }
 {
     let mut before = UNTOUCHED;
     let mut end = start;
@@ -447,7 +454,7 @@ fn place_all(alloc: Global, sig: &Sig, start: u64) -> Result<Placed, NoMemory>
 /// Where a result stands, if what is before its buffer ends at `end`.
 fn place_result(alloc: Global, ty: &FfiType, end: u64) -> Result<Res, NoMemory>
     requires right { IsResultType (tree_of ty.now) }
-    requires low { end ≤ 262144 }
+    requires low { end ≤ 4 * ARGUMENT_BYTES }
     ensures { IfOk result (λ r. r ≡ result_at aapcs64.copy_start end (tree_of ty.now) (result_spot_of (tree_of ty.now))) }
 {
     if let FfiType::Void = ty {
@@ -457,7 +464,7 @@ fn place_result(alloc: Global, ty: &FfiType, end: u64) -> Result<Res, NoMemory>
         // x8 holds the buffer's address
         return Ok(Res::Hidden {
             at: Loc::G(8),
-            buffer: copy_start(end, ty) as u32,
+            buffer: start(ty, end) as u32,
         });
     }
     Ok(Res::Direct(pieces_in_registers(alloc, ty, 0)?))
@@ -465,9 +472,9 @@ fn place_result(alloc: Global, ty: &FfiType, end: u64) -> Result<Res, NoMemory>
 
 // ---- the standard
 
-/// Does nothing. Its contract says where everything stands in a call of the signature, by sums over all its arguments: an argument is in registers exactly where the needs of its kind up to its own add up to at most 8, its first register and its first byte on the stack are such sums too, and so are the places of copies and buffer. No other placing agrees with the sums.
+/// Does nothing. Its contract says where everything stands in a call of the signature, by where the arguments before each end: an argument is in registers exactly where its own end at 8 or before, its first register and its first byte on the stack are the next behind such ends, and so are the places of copies and buffer. No other placing agrees with the ends.
 pub fn placement_laws(_sig: &Sig)
-    ensures { IsPlacedBySums _sig.now }
+    ensures { IsPlacedByEnds _sig.now }
 {}
 
 /// The callee-saved registers: x19 to x29, and the low halves of v8 to v15.

@@ -1,11 +1,11 @@
 -- The pieces of a value have every byte of its leaves and are filled as the standard says; and what a value needs.
 use Rattle.std.proofs.Common.{◌≡◌, ℕ, ◌+◌, ◌*◌, ◌≤◌, Bool, true, false, not, ◌&&◌, cond, ltb, leb, List, [], ◌∷◌, length, sym, ap, ◌∙◌, refl, arith}
-use Rattle.std.specs.Prelude.{Option, None, is_some}
-use Rattle.std.specs.List.{AllByRecursion}
+use Rattle.std.specs.Prelude.{Option, Some, None, is_some}
+use Rattle.std.specs.List.{AllByRecursion, list_all}
 use Rattle.std.proofs.lemmas.Bool.{ltb-false, leb-true}
 use Rattle.std.proofs.lemmas.Bool.Decides.{nat_tests}
-use Rattle.ffi3_type_rules.specs.Tree.{Tree, void, scalar, left_out, structure, u8, s8, u16, s16, u32, s32, u64, s64, float, double, pointer}
-use Rattle.ffi3_type_rules.specs.Layout.{Leaf, leaves_of, size_of, least_multiple}
+use Rattle.ffi3_type_rules.specs.Tree.{Tree, void, scalar, left_out, structure, Scalar, u8, s8, u16, s16, u32, s32, u64, s64, u128, s128, float, double, pointer}
+use Rattle.ffi3_type_rules.specs.Layout.{Leaf, leaves_of, size_of, align_of, scalar_size, least_multiple}
 use Rattle.ffi3_type_rules.proofs.Layouts.{scalar_size-bounds}
 use Rattle.ffi3_place_rules.specs.declared.Loc.TheVariants.{G, F, S}
 use Rattle.ffi3_place_rules.specs.declared.Ext.TheVariants.{Free}
@@ -19,14 +19,49 @@ use Rattle.ffi3_place_rules.proofs.Covered.{EndsIn, leaves_end, any_later}
 use Rattle.ffi3_place_rules.proofs.Doublewords.{widening_suits, leaf_is_piece, doublewords_have_all, stack_has_all}
 use Rattle.ffi3_place_rules.proofs.Filled.{doublewords_filled}
 use Rattle.ffi3_aapcs64_rules.specs.declared.Kind.{Kind}
-use Rattle.ffi3_aapcs64_rules.specs.Aapcs64.{aapcs64, is_struct, in_vectors, is_copied, passed, registers_needed, member_pieces, general_pieces, register_pieces, register_spot, stack_spot, register_start, stack_start, in_registers, spot_after, spots_after, taken_with, untouched}
+use Rattle.ffi3_aapcs64_rules.specs.declared.Kind.TheVariants.{Float, Double}
+use Rattle.ffi3_aapcs64_rules.specs.Aapcs64.{aapcs64, kind_of, is_kind, is_member, is_struct, in_vectors, is_copied, passed, registers_needed, first_general, member_pieces, general_pieces, register_pieces, register_spot, stack_spot, register_start, stack_start, in_registers, spot_after, spots_after, taken_with, untouched}
+
+-- ---- members fit a register
+
+abbrev IsSmall : Leaf → Type 0
+IsSmall l = scalar_size l.kind ≤ 8
+
+floating_small : (s : Scalar) → is_some (kind_of s) ≡ true → scalar_size s ≤ 8
+floating_small u128 e = cc
+floating_small s128 e = cc
+floating_small _ e = omega arith
+
+kind_there : (kind : Kind) (k : Option Kind) → is_kind kind k ≡ true → is_some k ≡ true
+kind_there Float None e = cc
+kind_there Double None e = cc
+kind_there kind (Some k) e = refl
+
+all_small : (kind : Kind) (ls : List Leaf) → list_all (is_member kind) ls ≡ true → AllByRecursion IsSmall ls
+all_small kind [] e = tt
+all_small kind (l ∷ ls) e =
+    (floating_small l.kind (kind_there kind (kind_of l.kind) (and_left (is_member kind l) (list_all (is_member kind) ls) e)), all_small kind ls (and_right (is_member kind l) (list_all (is_member kind) ls) e))
+
+homogeneous_small : (ls : List Leaf) (b f d : Bool) (x y : Kind × ℕ) → list_all (is_member Float) ls ≡ f → list_all (is_member Double) ls ≡ d → is_some (cond b (cond f (Some x) (cond d (Some y) None)) None) ≡ true → AllByRecursion IsSmall ls
+homogeneous_small ls false f d x y ef ed e = cc
+homogeneous_small ls true true d x y ef ed e = all_small Float ls ef
+homogeneous_small ls true false true x y ef ed e = all_small Double ls ed
+homogeneous_small ls true false false x y ef ed e = cc
+
+members_small : (t : Tree) → in_vectors t ≡ true → AllByRecursion IsSmall (leaves_of t)
+members_small void e = tt
+members_small (scalar s) e = (floating_small s e, tt)
+members_small (left_out k) e = tt
+members_small (structure ts) e =
+    let ls = leaves_of (structure ts) in
+    homogeneous_small ls (ltb 0 (length ls) && leb (length ls) 4) _ _ (Float, length ls) (Double, length ls) refl refl e
 
 -- ---- pieces
 
-members_are_pieces : (t : Tree) (v : ℕ) (ls : List Leaf) → AllByRecursion (EndsIn (size_of t)) ls → AllByRecursion (IsPieceOf t) (member_pieces v ls)
-members_are_pieces t v [] h = tt
-members_are_pieces t v (l ∷ ls) h =
-    (leaf_is_piece t (F v) Free l h.0 tt, members_are_pieces t (v + 1) ls h.1)
+members_are_pieces : (t : Tree) (v : ℕ) (ls : List Leaf) → AllByRecursion IsSmall ls → AllByRecursion (EndsIn (size_of t)) ls → AllByRecursion (IsPieceOf t) (member_pieces v ls)
+members_are_pieces t v [] small h = tt
+members_are_pieces t v (l ∷ ls) small h =
+    (leaf_is_piece t (F v) Free l small.0 h.0 tt, members_are_pieces t (v + 1) ls small.1 h.1)
 
 members_cover : (v : ℕ) (ls : List Leaf) → AllByRecursion (CoversLeaf (member_pieces v ls)) ls
 members_cover v [] = tt
@@ -34,9 +69,9 @@ members_cover v (l ∷ ls) =
     let later = each_weaker (CoversLeaf (member_pieces (v + 1) ls)) (CoversLeaf (member_pieces v (l ∷ ls))) (λ m c k h. any_later (Carries (m.at + k)) _ _ (c k h)) ls (members_cover (v + 1) ls) in
     ((λ k h. (0, _, omega arith, refl, (omega arith, omega (arith, h)))), later)
 
-pub members_have_all : (v : ℕ) (t : Tree) → HaveAll t (member_pieces v (leaves_of t))
-members_have_all v t = record {
-  each = members_are_pieces t v (leaves_of t) (leaves_end t);
+pub members_have_all : (v : ℕ) (t : Tree) → in_vectors t ≡ true → HaveAll t (member_pieces v (leaves_of t))
+members_have_all v t e = record {
+  each = members_are_pieces t v (leaves_of t) (members_small t e) (leaves_end t);
   covered = members_cover v (leaves_of t);
 }
 
@@ -44,12 +79,12 @@ generals_have_all : (g : ℕ) (t : Tree) → HaveAll t (general_pieces g t)
 generals_have_all g t =
     doublewords_have_all (λ j. G (g + j)) t (widening t) (widening_suits t)
 
-registers_have_all_if : (first : ℕ) (t : Tree) (b : Bool) → HaveAll t (cond b (member_pieces first (leaves_of t)) (general_pieces first t))
-registers_have_all_if first t true = members_have_all first t
-registers_have_all_if first t false = generals_have_all first t
+registers_have_all_if : (first : ℕ) (t : Tree) (b : Bool) → in_vectors t ≡ b → HaveAll t (cond b (member_pieces first (leaves_of t)) (general_pieces first t))
+registers_have_all_if first t true e = members_have_all first t e
+registers_have_all_if first t false e = generals_have_all first t
 
 pub registers_have_all : (first : ℕ) (t : Tree) → HaveAll t (register_pieces first t)
-registers_have_all first t = registers_have_all_if first t (in_vectors t)
+registers_have_all first t = registers_have_all_if first t (in_vectors t) refl
 
 -- ---- what fills the rest of their places
 
@@ -68,6 +103,8 @@ not_narrow (scalar u32) v h = cc
 not_narrow (scalar s32) v h = cc
 not_narrow (scalar u64) v h = cc
 not_narrow (scalar s64) v h = cc
+not_narrow (scalar u128) v h = cc
+not_narrow (scalar s128) v h = cc
 not_narrow (scalar pointer) v h = cc
 
 members_filled : (t : Tree) → in_vectors t ≡ true → (v : ℕ) (ls : List Leaf) → AllByRecursion (IsFilled aapcs64 t) (member_pieces v ls)
@@ -174,17 +211,32 @@ pointer_rounded = refl
 
 -- ---- what `in_registers` says
 
-abbrev FitsBy : Bool → Bool → Taken → Tree → Bool
-FitsBy vector copied a t = leb (cond vector a.vector a.general + NeedBy vector copied t) 8
+-- where its registers begin, by the same
+abbrev pub StartBy : Bool → Bool → Taken → Tree → ℕ
+StartBy vector copied a t =
+    cond vector a.vector (first_general a.general (cond {A = Tree} copied (scalar pointer) t))
 
-pub fits_by : (a : Taken) (t : Tree) (vector copied : Bool) → in_vectors t ≡ vector → is_copied t ≡ copied → in_registers a t ≡ true → cond vector a.vector a.general + NeedBy vector copied t ≤ 8
+abbrev FitsBy : Bool → Bool → Taken → Tree → Bool
+FitsBy vector copied a t = leb (StartBy vector copied a t + NeedBy vector copied t) 8
+
+pub fits_by : (a : Taken) (t : Tree) (vector copied : Bool) → in_vectors t ≡ vector → is_copied t ≡ copied → in_registers a t ≡ true → StartBy vector copied a t + NeedBy vector copied t ≤ 8
 fits_by a t vector copied ev ec ef =
     leb-true _ _ (sym (ap (λ v. FitsBy v (is_copied t) a t) ev ∙ ap (λ c. FitsBy vector c a t) ec) ∙ ef)
 
--- a first argument is in registers
-few_fit : (n : ℕ) (b : Bool) → n ≤ 4 → leb (cond b 0 0 + n) 8 ≡ true
-few_fit n true h = grind (arith, nat_tests)
-few_fit n false h = grind (arith, nat_tests)
+-- a first argument begins at number 0 of its kind
+zero_if : (v b : Bool) → cond {A = ℕ} v 0 (cond {A = ℕ} b (least_multiple 2 0) 0) ≡ 0
+unfolding least_multiple
+zero_if true b = refl
+zero_if false true = refl
+zero_if false false = refl
+
+pub first_at_zero : (t : Tree) → register_start untouched t ≡ 0
+first_at_zero t = zero_if (in_vectors t) (leb 16 (align_of (passed t)))
+
+-- and is in registers
+few_fit : (n m : ℕ) → m ≡ 0 → n ≤ 4 → leb (m + n) 8 ≡ true
+few_fit n m e h = grind (arith, nat_tests)
 
 pub first_fits : (t : Tree) → in_registers untouched t ≡ true
-first_fits t = few_fit (registers_needed t) (in_vectors t) (few_needed t)
+first_fits t =
+    few_fit (registers_needed t) (register_start untouched t) (first_at_zero t) (few_needed t)

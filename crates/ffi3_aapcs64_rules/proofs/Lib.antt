@@ -3,6 +3,6 @@ pub mod Covered
 mod Rising
 pub mod Agrees
 pub mod Sound
-pub mod Sums
+pub mod Ends
 pub mod Steps
 mod Rows

@@ -6,7 +6,7 @@ use Rattle.ffi3_place_rules.specs.declared.Loc.TheVariants.{G, F, S}
 use Rattle.ffi3_place_rules.specs.declared.Place.TheVariants.{Direct, ByRef}
 use Rattle.ffi3_place_rules.specs.declared.Res.TheVariants.{Nothing, Direct as DirectRes, Hidden}
 use Rattle.ffi3_place_rules.specs.Standard.{plan_of}
-use Rattle.ffi3_place_rules.proofs.Worked.{sig_of, at, widened, alone, integer, pair, triple}
+use Rattle.ffi3_place_rules.proofs.Worked.{sig_of, at, widened, alone, integer, pair, triple, wide, byte_and_wide, halves}
 use Rattle.ffi3_aapcs64_rules.specs.Aapcs64.{aapcs64}
 
 abbrev floats : ℕ → Tree
@@ -192,3 +192,63 @@ pub references_on_stack : plan_of aapcs64 (sig_of void (integer ∷ integer ∷ 
 }
 unfolding least_multiple
 references_on_stack = refl
+
+-- seven sint64, a uint128 and a sint64: the uint128 goes whole to the stack, and x7 stays unused
+pub wide_to_stack : plan_of aapcs64 (sig_of void (integer ∷ integer ∷ integer ∷ integer ∷ integer ∷ integer ∷ integer ∷ wide ∷ integer ∷ [])) ≡ record {
+  places = alone (G 0) ∷ alone (G 1) ∷ alone (G 2) ∷ alone (G 3) ∷ alone (G 4) ∷ alone (G 5) ∷ alone (G 6) ∷ halves (S 0) (S 8) ∷ alone (S 16) ∷ [];
+  res = Nothing;
+  need = 288;
+  frame = 32;
+  block = 80;
+  vectors = 0;
+}
+unfolding least_multiple
+wide_to_stack = refl
+
+-- void(sint64,uint128): from an even register on
+pub wide_in_even_register : plan_of aapcs64 (sig_of void (integer ∷ wide ∷ [])) ≡ record {
+  places = alone (G 0) ∷ halves (G 2) (G 3) ∷ [];
+  res = Nothing;
+  need = 208;
+  frame = 0;
+  block = 32;
+  vectors = 0;
+}
+unfolding least_multiple
+wide_in_even_register = refl
+
+-- void(struct{uint64,uint64,uint64},struct{uint8,uint128}): the second copy begins at a multiple of 16
+pub wide_copies : plan_of aapcs64 (sig_of void (triple ∷ byte_and_wide ∷ [])) ≡ record {
+  places = ByRef (G 0) 0 ∷ ByRef (G 1) 32 ∷ [];
+  res = Nothing;
+  need = 304;
+  frame = 64;
+  block = 64;
+  vectors = 0;
+}
+unfolding least_multiple
+wide_copies = refl
+
+-- uint128(struct{uint128}): a struct of alignment 16 that is passed directly, and the result in x0 and x1
+pub wide_result : plan_of aapcs64 (sig_of wide (integer ∷ struct_of (wide ∷ []) ∷ [])) ≡ record {
+  places = alone (G 0) ∷ halves (G 2) (G 3) ∷ [];
+  res = DirectRes (at (G 0) 0 8 ∷ at (G 1) 8 8 ∷ []);
+  need = 208;
+  frame = 0;
+  block = 32;
+  vectors = 0;
+}
+unfolding least_multiple
+wide_result = refl
+
+-- seven sint64, a struct by reference, a sint64 and a uint128, which begins at a multiple of 16 of the stack; a buffer at a multiple of 16 behind a copy of 24 bytes
+pub wide_stack : plan_of aapcs64 (sig_of byte_and_wide (integer ∷ integer ∷ integer ∷ integer ∷ integer ∷ integer ∷ integer ∷ triple ∷ integer ∷ wide ∷ [])) ≡ record {
+  places = alone (G 0) ∷ alone (G 1) ∷ alone (G 2) ∷ alone (G 3) ∷ alone (G 4) ∷ alone (G 5) ∷ alone (G 6) ∷ ByRef (G 7) 32 ∷ alone (S 0) ∷ halves (S 16) (S 24) ∷ [];
+  res = Hidden (G 8) 64;
+  need = 384;
+  frame = 96;
+  block = 112;
+  vectors = 0;
+}
+unfolding least_multiple
+wide_stack = refl

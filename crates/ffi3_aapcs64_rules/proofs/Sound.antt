@@ -1,9 +1,9 @@
 -- The places of a signature are a chain, so no two share a register or a byte of stack; and they have all of the values, which they therefore determine.
-use Rattle.std.proofs.Common.{◌≡◌, ℕ, zero, suc, ◌+◌, ◌≤◌, Bool, true, false, cond, List, [], ◌∷◌, ◌++◌, subst, ap, sym, ◌∙◌, refl, arith}
+use Rattle.std.proofs.Common.{◌≡◌, ℕ, zero, suc, ◌+◌, ◌≤◌, Bool, true, false, cond, leb, List, [], ◌∷◌, ◌++◌, subst, ap, sym, ◌∙◌, refl, arith}
 use Rattle.std.specs.List.{AllByRecursion, flat_map}
 use Rattle.ffi3_type_rules.specs.Isa.{isa_of}
 use Rattle.ffi3_type_rules.specs.Tree.{Tree, void, scalar, left_out, structure, pointer}
-use Rattle.ffi3_type_rules.specs.Layout.{Leaf, leaves_of, size_of}
+use Rattle.ffi3_type_rules.specs.Layout.{Leaf, leaves_of, size_of, align_of}
 use Rattle.ffi3_type_rules.specs.Signature.{Signature}
 use Rattle.std.specs.Prelude.{length}
 use Rattle.ffi3_place_rules.specs.declared.Loc.{Loc}
@@ -15,11 +15,12 @@ use Rattle.ffi3_place_rules.specs.Doublewords.{doublewords, doublewords_at, wide
 use Rattle.ffi3_place_rules.specs.Sound.{Apart, AreApart, IsOnStackOrIn, piece_locs, place_locs, hidden_locs, result_locs, argument_locs, IsNoneOf, LiesIn, copy_locs, buffer_locs, call_locs, closed_to_arguments, closed_to_results, ResultHasAll, ResultIsFilled, IsSound, IsDetermined}
 use Rattle.ffi3_place_rules.proofs.Chain.{AtMost, at_most_self, Chain, chain_append, chain_apart, chain_allowed, chain_passed, chain_lies_in}
 use Rattle.ffi3_place_rules.proofs.Frame.{up_to, value_chain, frame_chain}
+use Rattle.ffi3_place_rules.proofs.Ends.{start-behind, even-behind}
 use Rattle.ffi3_place_rules.proofs.Aligned.{frame_is_aligned, need_is_aligned}
 use Rattle.ffi3_place_rules.proofs.Tests.{each_weaker}
 use Rattle.ffi3_place_rules.proofs.Determines.{determined}
-use Rattle.ffi3_aapcs64_rules.specs.Aapcs64.{aapcs64, in_vectors, is_copied, member_pieces, general_pieces, register_pieces, register_spot, stack_spot, in_registers, taken_with, taken_after, untouched, spot_after, spots_after, result_from, result_spot_of, placing_of}
-use Rattle.ffi3_aapcs64_rules.proofs.Covered.{registers_have_all, arguments_have_all, registers_filled, arguments_filled, copied_not_vectors, few_members, few_doublewords, NeedBy, fits_by, first_fits, pointer_rounded}
+use Rattle.ffi3_aapcs64_rules.specs.Aapcs64.{aapcs64, in_vectors, is_copied, passed, first_general, register_start, stack_start, member_pieces, general_pieces, register_pieces, register_spot, stack_spot, in_registers, taken_with, taken_after, untouched, spot_after, spots_after, result_from, result_spot_of, placing_of}
+use Rattle.ffi3_aapcs64_rules.proofs.Covered.{registers_have_all, arguments_have_all, registers_filled, arguments_filled, copied_not_vectors, few_members, few_doublewords, NeedBy, StartBy, fits_by, first_at_zero, first_fits, pointer_rounded}
 use Rattle.ffi3_aapcs64_rules.proofs.Rising.{arguments_rise}
 use Rattle.ffi3_aapcs64_rules.proofs.Registers.{numbered, all_registers, argument_allowed, vector_allowed, stack_allowed, hidden_allowed, argument_passes, vector_passes, hidden_passes, argument_not_hidden, result_allowed_general, result_allowed_vector, result_allowed_stack}
 
@@ -44,32 +45,39 @@ generals_chain a g size e j (suc count) b low fits gs f s =
 
 -- ---- one argument, by whether it is in registers, copied, and in vector registers
 
-abbrev FirstBy : Bool → Taken → ℕ
-FirstBy vector a = cond vector a.vector a.general
+abbrev PassedBy : Bool → Tree → Tree
+PassedBy copied t = cond {A = Tree} copied (scalar pointer) t
+
+-- where it begins on the stack
+abbrev AtBy : Bool → Taken → Tree → ℕ
+AtBy copied a t = stack_start a.stack (PassedBy copied t)
 
 abbrev SpotBy : Bool → Bool → Bool → Taken → Tree → Spot
 SpotBy fits copied vector a t =
     cond fits
-    (cond copied (by_reference (G (FirstBy vector a))) (in_pieces (cond vector (member_pieces (FirstBy vector a) (leaves_of t)) (general_pieces (FirstBy vector a) t))))
-    (cond copied (by_reference (S a.stack)) (in_pieces (stack_pieces a.stack t)))
+    (cond copied (by_reference (G (StartBy vector copied a t))) (in_pieces (cond vector (member_pieces (StartBy vector copied a t) (leaves_of t)) (general_pieces (StartBy vector copied a t) t))))
+    (cond copied (by_reference (S (AtBy copied a t))) (in_pieces (stack_pieces (AtBy copied a t) t)))
 
 abbrev TakenBy : Bool → Bool → Bool → Taken → Tree → Taken
 TakenBy fits copied vector a t = record {
-  general = cond vector a.general (FirstBy vector a + NeedBy vector copied t);
-  vector = cond vector (FirstBy vector a + NeedBy vector copied t) a.vector;
-  stack = cond fits a.stack (a.stack + round8 (size_of (cond {A = Tree} copied (scalar pointer) t)));
+  general = cond vector a.general (StartBy vector copied a t + NeedBy vector copied t);
+  vector = cond vector (StartBy vector copied a t + NeedBy vector copied t) a.vector;
+  stack = cond fits a.stack (AtBy copied a t + round8 (size_of (PassedBy copied t)));
 }
+
+general_behind : (a : Taken) (t : Tree) → a.general ≤ first_general a.general t
+general_behind a t = even-behind (leb 16 (align_of t)) a.general
 
 -- what an argument leaves is never less
 taken_by_more : (fits copied vector : Bool) (a : Taken) (t : Tree) → AtMost a (TakenBy fits copied vector a t)
 taken_by_more true copied true a t =
     record { general = omega arith; vector = omega arith; stack = omega arith }
 taken_by_more true copied false a t =
-    record { general = omega arith; vector = omega arith; stack = omega arith }
+    record { general = omega (arith, general_behind a (PassedBy copied t)); vector = omega arith; stack = omega arith }
 taken_by_more false copied true a t =
-    record { general = omega arith; vector = omega arith; stack = omega arith }
+    record { general = omega arith; vector = omega arith; stack = omega (arith, start-behind a.stack (PassedBy copied t)) }
 taken_by_more false copied false a t =
-    record { general = omega arith; vector = omega arith; stack = omega arith }
+    record { general = omega (arith, general_behind a (PassedBy copied t)); vector = omega arith; stack = omega (arith, start-behind a.stack (PassedBy copied t)) }
 
 module _ (start : ℕ → Tree → ℕ) where
   argument_chain_by : (end : ℕ) (a : Taken) (t : Tree) (fits copied vector : Bool) → in_registers a t ≡ fits → is_copied t ≡ copied → in_vectors t ≡ vector → PlacesChain a (place_locs (place_at start end t (SpotBy fits copied vector a t))) (TakenBy fits copied vector a t)
@@ -80,13 +88,14 @@ module _ (start : ℕ → Tree → ℕ) where
   argument_chain_by end a t true false true ef ec ev =
       members_chain a a.vector (leaves_of t) (TakenBy true false true a t) (omega arith) (fits_by a t true false ev ec ef) (omega arith) (omega arith) (omega arith)
   argument_chain_by end a t true false false ef ec ev =
-      let room : a.general + doublewords t ≤ 8 = fits_by a t false false ev ec ef in
-      generals_chain a a.general (size_of t) (widening t) 0 (doublewords t) (TakenBy true false false a t) (omega arith) (omega (arith, room)) (omega arith) (omega arith) (omega arith)
+      let first = first_general a.general t in
+      let room : first + doublewords t ≤ 8 = fits_by a t false false ev ec ef in
+      generals_chain a first (size_of t) (widening t) 0 (doublewords t) (TakenBy true false false a t) (omega (arith, general_behind a t)) (omega (arith, room)) (omega arith) (omega arith) (omega arith)
   argument_chain_by end a t false true vector ef ec ev =
-      (TakenBy false true vector a t, omega arith, omega (arith, pointer_rounded), taken_by_more false true vector a t, at_most_self (TakenBy false true vector a t))
+      (TakenBy false true vector a t, start-behind a.stack (scalar pointer), omega (arith, pointer_rounded), taken_by_more false true vector a t, at_most_self (TakenBy false true vector a t))
   argument_chain_by end a t false false vector ef ec ev =
       let more = taken_by_more false false vector a t in
-      value_chain numbered numbered 8 8 a t (TakenBy false false vector a t) (omega arith) more.general more.vector
+      value_chain numbered numbered 8 8 a (stack_start a.stack t) t (TakenBy false false vector a t) (start-behind a.stack t) (omega arith) more.general more.vector
 
   argument_chain : (end : ℕ) (a : Taken) (t : Tree) → PlacesChain a (place_locs (place_at start end t (spot_after a t))) (taken_with a t)
   argument_chain end a t =
@@ -118,18 +127,14 @@ copies_and_buffer s =
 
 call_chain : (s : Signature) → PlacesChain untouched (pieces_and_references s ++ copies_and_buffer s) (framed s)
 call_chain s =
-    chain_append numbered numbered 8 8 untouched (pieces_and_references s) (taken_by_all s) _ (framed s) (pieces_chain s) (frame_chain numbered numbered 8 8 aapcs64 (λ end t. omega arith) s (taken_by_all s) (omega arith))
+    chain_append numbered numbered 8 8 untouched (pieces_and_references s) (taken_by_all s) _ (framed s) (pieces_chain s) (frame_chain numbered numbered 8 8 aapcs64 start-behind s (taken_by_all s) (omega arith))
 
 -- ---- where a result stands
-
-either_zero : (b : Bool) → cond {A = ℕ} b 0 0 ≡ 0
-either_zero true = refl
-either_zero false = refl
 
 -- a first argument is in registers, from number 0 on
 as_first : (t : Tree) → result_from (spot_after untouched t) ≡ result_from (register_spot 0 t)
 as_first t =
-    ap (λ b. result_from (cond b (register_spot (cond (in_vectors t) 0 0) t) (stack_spot 0 t))) (first_fits t) ∙ ap (λ n. result_from (register_spot n t)) (either_zero (in_vectors t))
+    ap (λ b. result_from (cond b (register_spot (register_start untouched t) t) (stack_spot (stack_start 0 (passed t)) t))) (first_fits t) ∙ ap (λ n. result_from (register_spot n t)) (first_at_zero t)
 
 -- cases on where a result stands
 pub result_cases : (P : ResultSpot → Type 0) (t : Tree) → (t ≡ void → P not_passed) → (is_copied t ≡ true → P (in_buffer (G 8))) → (is_copied t ≡ false → P (in_result_pieces (register_pieces 0 t))) → P (result_spot_of t)

@@ -31,18 +31,21 @@ pub taken_step : (ts : List Tree) (i : ℕ) (t : Tree) (before whole : Taken) �
 taken_step ts i t before whole h read e =
     subst (λ us. taken_after before us ≡ whole) (argument_read ts i t h read) e
 
--- the place of one more argument
-pub place_step : (ts : List Tree) (i : ℕ) (t : Tree) (before : Taken) (end : ℕ) (out whole : List Place) → i < length ts → t ≡ tree_at ts i →
-    out ++ places_from aapcs64.copy_start end (drop i ts) (spots_after before (drop i ts)) ≡ whole →
-    (out ++ place_at aapcs64.copy_start end t (spot_after before t) ∷ []) ++ places_from aapcs64.copy_start (copy_end aapcs64.copy_start end t (spot_after before t)) (drop (i + 1) ts) (spots_after (taken_with before t) (drop (i + 1) ts)) ≡ whole
-place_step ts i t before end out whole h read e =
-    let opened = subst (λ us. out ++ places_from aapcs64.copy_start end us (spots_after before us) ≡ whole) (argument_read ts i t h read) e in
-    append_assoc out _ _ ∙ opened
+-- one more argument, by its number, its type, what is taken after it and where its copy ends
+module _ (ts : List Tree) (i : ℕ) (t : Tree) (before new : Taken) (end next : ℕ) (inside : i < length ts) (read : t ≡ tree_at ts i) (taken : new ≡ taken_with before t) (behind : next ≡ copy_end aapcs64.copy_start end t (spot_after before t)) where
+  abbrev rest : List Tree
+  rest = drop (i + 1) ts
 
--- where the copy of one more argument ends
-pub copy_step : (ts : List Tree) (i : ℕ) (t : Tree) (before : Taken) (end whole : ℕ) → i < length ts → t ≡ tree_at ts i → copies_end aapcs64.copy_start end (drop i ts) (spots_after before (drop i ts)) ≡ whole → copies_end aapcs64.copy_start (copy_end aapcs64.copy_start end t (spot_after before t)) (drop (i + 1) ts) (spots_after (taken_with before t) (drop (i + 1) ts)) ≡ whole
-copy_step ts i t before end whole h read e =
-    subst (λ us. copies_end aapcs64.copy_start end us (spots_after before us) ≡ whole) (argument_read ts i t h read) e
+  pub copies_turn : (whole : ℕ) → copies_end aapcs64.copy_start end (drop i ts) (spots_after before (drop i ts)) ≡ whole → copies_end aapcs64.copy_start next rest (spots_after new rest) ≡ whole
+  copies_turn whole e =
+      let opened = subst (λ us. copies_end aapcs64.copy_start end us (spots_after before us) ≡ whole) (argument_read ts i t inside read) e in
+      ap (λ n. copies_end aapcs64.copy_start n rest (spots_after new rest)) behind ∙ ap (λ a. copies_end aapcs64.copy_start (copy_end aapcs64.copy_start end t (spot_after before t)) rest (spots_after a rest)) taken ∙ opened
+
+  pub places_turn : (out more whole : List Place) (place : Place) → place ≡ place_at aapcs64.copy_start end t (spot_after before t) → more ≡ out ++ place ∷ [] → out ++ places_from aapcs64.copy_start end (drop i ts) (spots_after before (drop i ts)) ≡ whole → more ++ places_from aapcs64.copy_start next rest (spots_after new rest) ≡ whole
+  places_turn out more whole place stands pushed e =
+      let here = place_at aapcs64.copy_start end t (spot_after before t) in
+      let opened = subst (λ us. out ++ places_from aapcs64.copy_start end us (spots_after before us) ≡ whole) (argument_read ts i t inside read) e in
+      ap (λ o. o ++ places_from aapcs64.copy_start next rest (spots_after new rest)) (pushed ∙ ap (λ q. out ++ q ∷ []) stands) ∙ append_assoc out (here ∷ []) (places_from aapcs64.copy_start next rest (spots_after new rest)) ∙ ap (λ n. out ++ here ∷ places_from aapcs64.copy_start n rest (spots_after new rest)) behind ∙ ap (λ a. out ++ here ∷ places_from aapcs64.copy_start (copy_end aapcs64.copy_start end t (spot_after before t)) rest (spots_after a rest)) taken ∙ opened
 
 -- an argument's spot, by whether it is in registers and copied
 abbrev SpotBy : Bool → Bool → Taken → Tree → Spot

@@ -4,8 +4,8 @@ use Rattle.std.specs.List.{list_all}
 use Rattle.ffi3_type_rules.specs.declared.Target.TheVariants as target
 use Rattle.ffi3_type_rules.specs.declared.Isa.{Isa}
 use Rattle.ffi3_type_rules.specs.Isa.{isa_of}
-use Rattle.ffi3_type_rules.specs.Tree.{Tree, void, scalar, structure, Scalar, u8, s8, u16, s16, u32, s32, u64, s64, float, double, pointer}
-use Rattle.ffi3_type_rules.specs.Layout.{Leaf, leaves_of, size_of}
+use Rattle.ffi3_type_rules.specs.Tree.{Tree, void, scalar, structure, Scalar, u8, s8, u16, s16, u32, s32, u64, s64, u128, s128, float, double, pointer}
+use Rattle.ffi3_type_rules.specs.Layout.{Leaf, leaves_of, size_of, align_of, least_multiple}
 use Rattle.ffi3_type_rules.specs.Signature.{Signature}
 use Rattle.ffi3_place_rules.specs.declared.Loc.{Loc}
 use Rattle.ffi3_place_rules.specs.declared.Loc.TheVariants.{G, F, S}
@@ -14,9 +14,8 @@ use Rattle.ffi3_place_rules.specs.declared.Piece.{Piece}
 use Rattle.ffi3_place_rules.specs.declared.SaveWord.{SaveWord}
 use Rattle.ffi3_place_rules.specs.declared.SaveWord.TheVariants.{Register, Hidden, Spare}
 use Rattle.ffi3_place_rules.specs.declared.Taken.{Taken}
-use Rattle.ffi3_place_rules.specs.Isa.{pushed_bytes, stack_pointer, reserved_places, link_place, closure_register, trampoline_registers}
-use Rattle.ffi3_place_rules.specs.Sound.{listed}
-use Rattle.ffi3_place_rules.specs.Standard.{Standard, Placing, Spot, in_pieces, by_reference, ResultSpot, no_result, in_result_pieces, in_buffer, at_once, round8}
+use Rattle.ffi3_place_rules.specs.Isa.{pushed_bytes, stack_pointer, reserved_places, link_place, closure_register, trampoline_registers, listed}
+use Rattle.ffi3_place_rules.specs.Standard.{Standard, Placing, Spot, in_pieces, by_reference, ResultSpot, no_result, in_result_pieces, in_buffer, start, round8}
 use Rattle.ffi3_place_rules.specs.Doublewords.{doublewords, doublewords_at, widening, stack_pieces, leaf_piece}
 use Rattle.ffi3_aapcs64_rules.specs.declared.Kind.{Kind}
 use Rattle.ffi3_aapcs64_rules.specs.declared.Kind.TheVariants.{Float, Double}
@@ -35,6 +34,8 @@ kind_of u32 = None
 kind_of s32 = None
 kind_of u64 = None
 kind_of s64 = None
+kind_of u128 = None
+kind_of s128 = None
 kind_of pointer = None
 
 abbrev pub is_kind : Kind → Option Kind → Bool
@@ -82,7 +83,7 @@ is_copied t = is_struct t && (not (in_vectors t) && nat_lt 16 (size_of t))
 abbrev pub passed : Tree → Tree
 passed t = cond {A = Tree} (is_copied t) (scalar pointer) t
 
--- how many registers of its kind it needs: one for each member (C.1, C.2), or one for each doubleword (C.9, C.12)
+-- how many registers of its kind it needs: one for each member (C.1, C.2), or one for each doubleword (C.9, C.11, C.12)
 abbrev pub registers_needed : Tree → ℕ
 registers_needed t = cond (in_vectors t) (length (leaves_of t)) (doublewords (passed t))
 
@@ -92,13 +93,13 @@ stack_size t = round8 (size_of (passed t))
 
 -- ---- where one argument begins after another
 
--- An argument's first register, where those before it of its kind end. (C.10 makes it even in general registers for a type of alignment 16; there is none.)
-abbrev pub first_register : ℕ → Tree → ℕ
-first_register end t = end
+-- An argument's first general-purpose register, where those before it end: an even one for a type of alignment 16. (C.10)
+abbrev pub first_general : ℕ → Tree → ℕ
+first_general end t = cond (nat_le 16 (align_of t)) (least_multiple 2 end) end
 
--- Its first byte on the stack, where what stands before it ends. (C.4, C.14: a multiple of 8, or of the type's alignment where that is greater.)
+-- Its first byte on the stack, where what stands before it ends: at a multiple of 8, or of the type's alignment where that is greater. (C.4, C.14)
 abbrev pub stack_start : ℕ → Tree → ℕ
-stack_start end t = at_once end t
+stack_start end t = start end t
 
 -- ---- registers: x0 to x7, and v0 to v7
 
@@ -108,7 +109,7 @@ member_pieces v [] = []
 member_pieces v (l ∷ ls) =
     leaf_piece (F v) Free l ∷ member_pieces (v + 1) ls
 
--- C.9, C.12: one register for each doubleword, from number g on
+-- C.9, C.11, C.12: one register for each doubleword, from number g on
 abbrev pub general_pieces : ℕ → Tree → List Piece
 general_pieces g t =
     doublewords_at (λ j. G (g + j)) (size_of t) (widening t) 0 (doublewords t)
@@ -124,23 +125,20 @@ register_spot first t =
 
 -- the same on the stack, from a byte on (C.6, C.15, C.17)
 abbrev pub stack_spot : ℕ → Tree → Spot
-stack_spot start t =
-    cond (is_copied t) (by_reference (S start)) (in_pieces (stack_pieces start t))
+stack_spot first t =
+    cond (is_copied t) (by_reference (S first)) (in_pieces (stack_pieces first t))
 
 -- ---- stage C: arguments, with the next general-purpose register number (NGRN), the next SIMD and floating-point register number (NSRN), and the next stacked argument address (NSAA) from the first stack argument
 
--- the number that counts the registers of the argument's kind
-abbrev pub next_register : Taken → Tree → ℕ
-next_register before t = cond (in_vectors t) before.vector before.general
-
--- where the argument's registers begin and end. They end past 8 where the registers left do not suffice, so that no register of the kind is used any more. (C.3, C.13 set the number to 8.)
+-- Where the argument's registers begin and end, by its kind. They end past 8 where the registers left do not suffice, so that no register of the kind is used any more. (C.3, C.13 set the number to 8.)
 abbrev pub register_start : Taken → Tree → ℕ
-register_start before t = first_register (next_register before t) (passed t)
+register_start before t =
+    cond (in_vectors t) before.vector (first_general before.general (passed t))
 
 abbrev pub register_end : Taken → Tree → ℕ
 register_end before t = register_start before t + registers_needed t
 
--- C.1, C.2, C.9, C.12: in registers exactly where those left suffice for all of it
+-- C.1, C.2, C.9, C.11, C.12: in registers exactly where those left suffice for all of it
 abbrev pub in_registers : Taken → Tree → Bool
 in_registers before t = nat_le (register_end before t) 8
 
@@ -233,6 +231,6 @@ aapcs64 = record {
   returned_address = None;
   narrow = Widen;
   single = Free;
-  copy_start = at_once;
+  copy_start = start;
   placing = placing_of;
 }

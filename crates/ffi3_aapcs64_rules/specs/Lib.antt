@@ -1,2 +1,2 @@
 pub mod Aapcs64
-pub mod Sums
+pub mod Ends

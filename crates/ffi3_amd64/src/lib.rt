@@ -2,20 +2,17 @@
 #![tactic(auto)]
 
 ghost use Rattle.std.specs.Prelude.{◌*◌, ◌≡◌, ◌<◌, ◌≤◌, ◌+◌, length, slice_index, IfOk, [], true, false};
-ghost use Rattle.ffi3_type_rules.specs.declared.limits.TheConstants.{ARGUMENT_BYTES, LARGEST_STRUCT};
+ghost use Rattle.ffi3_type_rules.specs.declared.limits.TheConstants.{ARGUMENT_BYTES, ARGUMENT_SPAN};
 ghost use Rattle.ffi3_type_rules.specs.Layout.{leaves_of, leaf_at};
 ghost use Rattle.ffi3_type_rules.specs.Fault.{IsResultType};
 ghost use Rattle.ffi3_type_rules.specs.Signature.{SignatureHasNoFault};
 ghost use Rattle.ffi3_types.specs.TreeOf.{tree_of};
-ghost use Rattle.ffi3_place_rules.specs.Standard.{at_once, places_from, result_at};
-ghost use Rattle.ffi3_amd64_rules.specs.Amd64.{is_integer_leaf_in, class_of, in_memory, integers, sses, register_pieces, classes, in_registers, pieces_after, taken_with, taken_after, taken_at_first, spots_after, result_spot_of};
-ghost use Rattle.ffi3_amd64_rules.specs.Sums.{IsPlacedBySums};
-
-#[cfg(test)]
-mod tests;
+ghost use Rattle.ffi3_place_rules.specs.Standard.{places_from, result_at};
+ghost use Rattle.ffi3_amd64_rules.specs.Amd64.{amd64, is_integer_leaf_in, class_of, in_memory, integers, sses, register_pieces, classes, in_registers, stack_end, pieces_after, taken_with, taken_after, taken_at_first, spots_after, result_spot_of};
+ghost use Rattle.ffi3_amd64_rules.specs.Ends.{IsPlacedByEnds};
 
 pub use ffi3_amd64_rules::Class;
-use ffi3_place::ends::{buffer_end, planned};
+use ffi3_place::ends::{buffer_end, planned, start};
 use ffi3_place::parts::{
     argument, count_of, doubleword, doublewords, is_floating, pieces_on_stack, result_type,
     size_of, widening,
@@ -159,8 +156,18 @@ fn argument_pieces(alloc: Global, before: Taken, ty: &FfiType) -> Result<Pieces,
             &ARGUMENT_REGISTERS,
         )
     } else {
-        pieces_on_stack(alloc, ty, before.stack)
+        pieces_on_stack(alloc, ty, start(ty, before.stack))
     }
+}
+
+/// Where an argument on the stack ends, if what stands before it ends at `end`.
+fn stack_end(end: u64, ty: &FfiType) -> u64
+    requires right { IsResultType (tree_of ty.now) }
+    requires low { end ≤ ARGUMENT_BYTES }
+    ensures value { result ≡ stack_end end (tree_of ty.now) }
+    ensures low { result ≤ end + ARGUMENT_SPAN }
+{
+    start(ty, end) + round_up(size_of(ty), 8)
 }
 
 fn with_argument(before: Taken, ty: &FfiType) -> Taken
@@ -171,7 +178,7 @@ fn with_argument(before: Taken, ty: &FfiType) -> Taken
     ensures value { result ≡ taken_with before (tree_of ty.now) }
     ensures few_general { result.general ≤ 6 }
     ensures few_vector { result.vector ≤ 8 }
-    ensures low { result.stack ≤ before.stack + (LARGEST_STRUCT + 7) }
+    ensures low { result.stack ≤ before.stack + ARGUMENT_SPAN }
 {
     if fits_registers(before, ty) {
         let count = count_classes(ty);
@@ -184,7 +191,7 @@ fn with_argument(before: Taken, ty: &FfiType) -> Taken
         Taken {
             general: before.general,
             vector: before.vector,
-            stack: before.stack + round_up(size_of(ty), 8),
+            stack: stack_end(before.stack, ty),
         }
     }
 }
@@ -211,7 +218,7 @@ fn at_first(result_type: &FfiType) -> Taken
 
 fn place_all(alloc: Global, sig: &Sig) -> Result<Placed, NoMemory>
     requires { SignatureHasNoFault sig.now }
-    ensures places { IfOk result (λ p. p.places ≡ places_from at_once 0 sig.now.arguments (spots_after (taken_at_first sig.now.result_type) sig.now.arguments)) }
+    ensures places { IfOk result (λ p. p.places ≡ places_from amd64.copy_start 0 sig.now.arguments (spots_after (taken_at_first sig.now.result_type) sig.now.arguments)) }
     ensures taken { IfOk result (λ p. p.taken ≡ taken_after (taken_at_first sig.now.result_type) sig.now.arguments) }
     ensures low { IfOk result (λ p. p.taken.stack ≤ ARGUMENT_BYTES) }
     ensures few_vector { IfOk result (λ p. p.taken.vector ≤ 8) }
@@ -229,10 +236,11 @@ fn place_all(alloc: Global, sig: &Sig) -> Result<Placed, NoMemory>
     })
 }
 
-fn place_result(alloc: Global, ty: &FfiType, buffer: u64) -> Result<Res, NoMemory>
+/// Where a result stands, if what is before its buffer ends at `end`.
+fn place_result(alloc: Global, ty: &FfiType, end: u64) -> Result<Res, NoMemory>
     requires right { IsResultType (tree_of ty.now) }
-    requires low { buffer ≤ 2 * ARGUMENT_BYTES }
-    ensures { IfOk result (λ r. r ≡ result_at at_once buffer (tree_of ty.now) (result_spot_of (tree_of ty.now))) }
+    requires low { end ≤ 2 * ARGUMENT_BYTES }
+    ensures { IfOk result (λ r. r ≡ result_at amd64.copy_start end (tree_of ty.now) (result_spot_of (tree_of ty.now))) }
 {
     if let FfiType::Void = ty {
         return Ok(Res::Nothing);
@@ -240,15 +248,15 @@ fn place_result(alloc: Global, ty: &FfiType, buffer: u64) -> Result<Res, NoMemor
     if in_memory(ty) {
         return Ok(Res::Hidden {
             at: Loc::G(ARGUMENT_REGISTERS[0]),
-            buffer: buffer as u32,
+            buffer: start(ty, end) as u32,
         });
     }
     Ok(Res::Direct(pieces_in_registers(alloc, ty, 0, 0, &RESULT_REGISTERS)?))
 }
 
-/// Does nothing. Its contract says by sums over all arguments which of them are in registers, and where arguments, copies, the buffer of a hidden result and the frame's end are; and that no other choice of arguments in registers agrees with the sums. (psABI AMD64 3.2.3)
+/// Does nothing. Its contract says by sums over all arguments which of them are in registers, and by where those before each end where arguments on the stack, copies, the buffer of a hidden result and the frame's end are; and that no other choice of arguments in registers agrees with the sums. (psABI AMD64 3.2.3)
 pub fn placement_laws(_sig: &Sig)
-    ensures { IsPlacedBySums _sig.now }
+    ensures { IsPlacedByEnds _sig.now }
 {}
 
 /// The System V AMD64 calling standard. (psABI AMD64 3.2)

@@ -3,8 +3,8 @@ use Rattle.std.proofs.Common.{refl, ◌++◌}
 use Rattle.ffi3_place_rules.specs.declared.Loc.{Loc}
 use Rattle.ffi3_place_rules.specs.declared.Loc.TheVariants.{G, F, S}
 use Rattle.ffi3_type_rules.specs.declared.Isa.TheVariants.{Amd64}
-use Rattle.ffi3_place_rules.specs.Isa.{TakesWrites}
-use Rattle.ffi3_place_rules.specs.Sound.{IsNoneOf, closed_to_arguments, listed}
+use Rattle.ffi3_place_rules.specs.Isa.{TakesWrites, listed}
+use Rattle.ffi3_place_rules.specs.Sound.{IsNoneOf, closed_to_arguments}
 use Rattle.ffi3_place_rules.specs.Agrees.{AgreesWithMachine, given_back, special, saved_registers}
 use Rattle.ffi3_place_rules.proofs.Forbidden.{each_exists, each_none_of, each_one_of, apart_all}
 use Rattle.ffi3_amd64_rules.specs.Amd64.{amd64}

@@ -1,12 +1,12 @@
 -- The rest of each place is filled as the standard says: a lone narrow integer is extended by its sign, all else is free.
 use Rattle.std.proofs.Common.{◌≡◌, ℕ, Bool, true, false, cond, List, [], ◌∷◌, ◌++◌, refl}
 use Rattle.std.specs.List.{AllByRecursion}
-use Rattle.ffi3_type_rules.specs.Tree.{Tree, void, scalar, left_out, structure, u8, s8, u16, s16, u32, s32, u64, s64, float, double, pointer}
+use Rattle.ffi3_type_rules.specs.Tree.{Tree, void, scalar, left_out, structure, u8, s8, u16, s16, u32, s32, u64, s64, u128, s128, float, double, pointer}
 use Rattle.ffi3_place_rules.specs.declared.Ext.TheVariants.{Free, Widen}
 use Rattle.ffi3_place_rules.specs.declared.Loc.TheVariants.{G}
 use Rattle.ffi3_place_rules.specs.declared.Piece.{Piece}
 use Rattle.ffi3_place_rules.specs.declared.Taken.{Taken}
-use Rattle.ffi3_place_rules.specs.Standard.{in_result_pieces, in_buffer, places_from, result_at, at_once}
+use Rattle.ffi3_place_rules.specs.Standard.{in_result_pieces, in_buffer, places_from, result_at}
 use Rattle.ffi3_place_rules.specs.Doublewords.{doublewords, widening, stack_pieces}
 use Rattle.ffi3_place_rules.specs.Sound.{is_narrow_integer, is_floating_place, IsFilled, PlacesAreFilled, ResultIsFilled}
 use Rattle.ffi3_place_rules.proofs.Filled.{doublewords_filled}
@@ -41,6 +41,8 @@ registers_filled general g f (scalar u32) = (narrow_filled (scalar u32) _ refl r
 registers_filled general g f (scalar s32) = (narrow_filled (scalar s32) _ refl refl, tt)
 registers_filled general g f (scalar u64) = free_filled (scalar u64) general g f refl refl [] (classes (scalar u64))
 registers_filled general g f (scalar s64) = free_filled (scalar s64) general g f refl refl [] (classes (scalar s64))
+registers_filled general g f (scalar u128) = free_filled (scalar u128) general g f refl refl [] (classes (scalar u128))
+registers_filled general g f (scalar s128) = free_filled (scalar s128) general g f refl refl [] (classes (scalar s128))
 registers_filled general g f (scalar float) = free_filled (scalar float) general g f refl refl [] (classes (scalar float))
 registers_filled general g f (scalar double) = free_filled (scalar double) general g f refl refl [] (classes (scalar double))
 registers_filled general g f (scalar pointer) = free_filled (scalar pointer) general g f refl refl [] (classes (scalar pointer))
@@ -49,17 +51,17 @@ filled_if : (a : Taken) (t : Tree) (b : Bool) → AllByRecursion (IsFilled amd64
 filled_if a t true = registers_filled argument_register a.general a.vector t
 filled_if a t false = doublewords_filled amd64 t _ (λ j. refl) 0 (doublewords t)
 
-pub arguments_filled : (end : ℕ) (before : Taken) (ts : List Tree) → PlacesAreFilled amd64 ts (places_from at_once end ts (spots_after before ts))
+pub arguments_filled : (end : ℕ) (before : Taken) (ts : List Tree) → PlacesAreFilled amd64 ts (places_from amd64.copy_start end ts (spots_after before ts))
 arguments_filled end before [] = tt
 arguments_filled end before (t ∷ ts) =
     (filled_if before t (in_registers before t), arguments_filled end (taken_with before t) ts)
 
-pub result_filled : (t : Tree) (end : ℕ) → ResultIsFilled amd64 t (result_at at_once end t (result_spot_of t))
+pub result_filled : (t : Tree) (end : ℕ) → ResultIsFilled amd64 t (result_at amd64.copy_start end t (result_spot_of t))
 result_filled void end = tt
 result_filled (scalar s) end = registers_filled result_register 0 0 (scalar s)
 result_filled (left_out k) end = registers_filled result_register 0 0 (left_out k)
 result_filled (structure ts) end = cases _
   where
-    cases : (b : Bool) → ResultIsFilled amd64 (structure ts) (result_at at_once end (structure ts) (cond b (in_buffer (G (argument_register 0))) (in_result_pieces (register_pieces result_register 0 0 (structure ts) [] (classes (structure ts))))))
+    cases : (b : Bool) → ResultIsFilled amd64 (structure ts) (result_at amd64.copy_start end (structure ts) (cond b (in_buffer (G (argument_register 0))) (in_result_pieces (register_pieces result_register 0 0 (structure ts) [] (classes (structure ts))))))
     cases true = tt
     cases false = registers_filled result_register 0 0 (structure ts)

@@ -4,6 +4,6 @@ pub mod Filled
 mod Rising
 pub mod Registers
 pub mod Sound
-pub mod Sums
+pub mod Ends
 pub mod Steps
 mod Rows

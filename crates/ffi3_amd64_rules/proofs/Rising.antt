@@ -5,13 +5,13 @@ use Rattle.ffi3_type_rules.specs.Tree.{Tree}
 use Rattle.ffi3_type_rules.specs.Layout.{size_of}
 use Rattle.ffi3_place_rules.specs.declared.Loc.TheVariants.{S}
 use Rattle.ffi3_place_rules.specs.declared.Taken.{Taken}
-use Rattle.ffi3_place_rules.specs.Standard.{places_from, at_once, doubleword}
+use Rattle.ffi3_place_rules.specs.Standard.{places_from, doubleword}
 use Rattle.ffi3_place_rules.specs.Doublewords.{widening, stack_pieces}
 use Rattle.ffi3_place_rules.specs.Sound.{AreRising, PlaceRises}
 use Rattle.ffi3_place_rules.proofs.Rising.{register_rises, general_not_stack, floating_not_stack, stack_rises}
 use Rattle.ffi3_amd64_rules.specs.declared.Class.{Class}
 use Rattle.ffi3_amd64_rules.specs.declared.Class.TheVariants.{Integer, Sse}
-use Rattle.ffi3_amd64_rules.specs.Amd64.{classes, argument_register, register_of, register_pieces, in_registers, stack_start, taken_with, spots_after}
+use Rattle.ffi3_amd64_rules.specs.Amd64.{amd64, classes, argument_register, register_of, register_pieces, in_registers, stack_start, taken_with, spots_after}
 
 not_stack : (general : ℕ → ℕ) (g f : ℕ) (earlier : List Class) (c : Class) (at : ℕ) → register_of general g f earlier c ≡ S at → ⊥
 not_stack general g f earlier Integer at e = general_not_stack _ at e
@@ -26,7 +26,7 @@ rising_if : (a : Taken) (t : Tree) (b : Bool) → AreRising (cond b (register_pi
 rising_if a t true = registers_rise argument_register a.general a.vector t [] (classes t)
 rising_if a t false = stack_rises (stack_start a.stack t) t
 
-pub arguments_rise : (end : ℕ) (before : Taken) (ts : List Tree) → AllByRecursion PlaceRises (places_from at_once end ts (spots_after before ts))
+pub arguments_rise : (end : ℕ) (before : Taken) (ts : List Tree) → AllByRecursion PlaceRises (places_from amd64.copy_start end ts (spots_after before ts))
 arguments_rise end before [] = tt
 arguments_rise end before (t ∷ ts) =
     (rising_if before t (in_registers before t), arguments_rise end (taken_with before t) ts)

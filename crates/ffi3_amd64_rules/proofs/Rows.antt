@@ -1,12 +1,12 @@
 -- Worked rows, computed.
 use Rattle.std.specs.Prelude.{◌≡◌, [], ◌∷◌, refl, Some, replicate}
-use Rattle.ffi3_type_rules.specs.Tree.{void, scalar, struct_of, u8, s8, u16, s32, s64, float, double, pointer}
+use Rattle.ffi3_type_rules.specs.Tree.{void, scalar, struct_of, u8, s8, u16, s32, s64, s128, float, double, pointer}
 use Rattle.ffi3_type_rules.specs.Layout.{least_multiple}
 use Rattle.ffi3_place_rules.specs.declared.Loc.TheVariants.{G, F, S}
 use Rattle.ffi3_place_rules.specs.declared.Place.TheVariants.{Direct}
 use Rattle.ffi3_place_rules.specs.declared.Res.TheVariants.{Nothing, Direct as DirectRes, Hidden}
 use Rattle.ffi3_place_rules.specs.Standard.{plan_of, need_of, frame_of, block_bytes}
-use Rattle.ffi3_place_rules.proofs.Worked.{sig_of, at, widened, alone, integer, pair, triple}
+use Rattle.ffi3_place_rules.proofs.Worked.{sig_of, at, widened, alone, integer, pair, triple, wide, byte_and_wide, halves}
 use Rattle.ffi3_amd64_rules.specs.Amd64.{amd64}
 
 -- sint32(sint32)
@@ -166,3 +166,39 @@ nine_doubles = refl
 pub numbers_of_64 : (need_of amd64 (sig_of void (replicate 64 integer)) ≡ 1040) × (frame_of amd64 (sig_of void (replicate 64 integer)) ≡ 464) × (block_bytes (sig_of void (replicate 64 integer)) ≡ 512)
 unfolding least_multiple
 numbers_of_64 = (refl, refl, refl)
+
+-- seven sint64, a uint128 and a sint64: the uint128 begins at a multiple of 16
+pub wide_on_stack : plan_of amd64 (sig_of void (integer ∷ integer ∷ integer ∷ integer ∷ integer ∷ integer ∷ integer ∷ wide ∷ integer ∷ [])) ≡ record {
+  places = alone (G 7) ∷ alone (G 6) ∷ alone (G 2) ∷ alone (G 1) ∷ alone (G 8) ∷ alone (G 9) ∷ alone (S 0) ∷ halves (S 16) (S 24) ∷ alone (S 32) ∷ [];
+  res = Nothing;
+  need = 192;
+  frame = 48;
+  block = 80;
+  vectors = 0;
+}
+unfolding least_multiple
+wide_on_stack = refl
+
+-- uint128(sint64,sint128): the next two registers, with no even rounding; rax and rdx return it
+pub wide_in_registers : plan_of amd64 (sig_of wide (integer ∷ scalar s128 ∷ [])) ≡ record {
+  places = alone (G 7) ∷ halves (G 6) (G 2) ∷ [];
+  res = DirectRes (at (G 0) 0 8 ∷ at (G 2) 8 8 ∷ []);
+  need = 96;
+  frame = 0;
+  block = 32;
+  vectors = 0;
+}
+unfolding least_multiple
+wide_in_registers = refl
+
+-- struct{uint8,uint128} as result and as argument, behind one of three eightbytes on the stack
+pub wide_in_memory : plan_of amd64 (sig_of byte_and_wide (triple ∷ byte_and_wide ∷ [])) ≡ record {
+  places = Direct (at (S 0) 0 8 ∷ at (S 8) 8 8 ∷ at (S 16) 16 8 ∷ []) ∷ Direct (at (S 32) 0 8 ∷ at (S 40) 8 8 ∷ at (S 48) 16 8 ∷ at (S 56) 24 8 ∷ []) ∷ [];
+  res = Hidden (G 7) 64;
+  need = 224;
+  frame = 96;
+  block = 64;
+  vectors = 0;
+}
+unfolding least_multiple
+wide_in_memory = refl

@@ -8,11 +8,12 @@ use Rattle.ffi3_type_rules.specs.declared.Isa.TheVariants.{Amd64}
 use Rattle.ffi3_place_rules.specs.declared.Loc.{Loc}
 use Rattle.ffi3_place_rules.specs.declared.Loc.TheVariants.{G}
 use Rattle.ffi3_place_rules.specs.declared.Taken.{Taken}
-use Rattle.ffi3_place_rules.specs.Standard.{in_result_pieces, in_buffer, plan_of, places_from, result_at, copies_start, frame_copies_end, frame_of, at_once}
+use Rattle.ffi3_place_rules.specs.Standard.{in_result_pieces, in_buffer, plan_of, places_from, result_at, copies_start, frame_copies_end, frame_of}
 use Rattle.ffi3_place_rules.specs.Doublewords.{stack_pieces}
 use Rattle.ffi3_place_rules.specs.Sound.{AreApart, IsOnStackOrIn, piece_locs, place_locs, hidden_locs, result_locs, argument_locs, IsNoneOf, LiesIn, call_locs, closed_to_arguments, closed_to_results, ResultHasAll, IsSound, IsDetermined}
 use Rattle.ffi3_place_rules.proofs.Chain.{AtMost, at_most_self, Chain, chain_append, chain_less, chain_apart, chain_allowed, chain_passed, chain_lies_in}
 use Rattle.ffi3_place_rules.proofs.Frame.{up_to, value_chain, frame_chain}
+use Rattle.ffi3_place_rules.proofs.Ends.{start-behind}
 use Rattle.ffi3_place_rules.proofs.Aligned.{frame_is_aligned, need_is_aligned}
 use Rattle.ffi3_place_rules.proofs.Determines.{determined}
 use Rattle.ffi3_amd64_rules.specs.declared.Class.{Class}
@@ -80,12 +81,12 @@ chain_if a t true e =
     chain_less argument_register vector_register 6 8 a (at_eightbyte a []) _ _ start
     (register_chain argument_register 6 8 a t [] (classes t) (omega (arith, fits.0)) (omega (arith, fits.1)))
 chain_if a t false e =
-    value_chain argument_register vector_register 6 8 a t (record { general = a.general; vector = a.vector; stack = stack_end a.stack t }) (omega arith) (omega arith) (omega arith)
+    value_chain argument_register vector_register 6 8 a (stack_start a.stack t) t (record { general = a.general; vector = a.vector; stack = stack_end a.stack t }) (start-behind a.stack t) (omega arith) (omega arith) (omega arith)
 
 argument_chain : (a : Taken) (t : Tree) → ArgumentsChain a (piece_locs (pieces_after a t)) (taken_with a t)
 argument_chain a t = chain_if a t (in_registers a t) refl
 
-places_chain : (end : ℕ) (a : Taken) (ts : List Tree) → ArgumentsChain a (flat_map place_locs (places_from at_once end ts (spots_after a ts))) (taken_after a ts)
+places_chain : (end : ℕ) (a : Taken) (ts : List Tree) → ArgumentsChain a (flat_map place_locs (places_from amd64.copy_start end ts (spots_after a ts))) (taken_after a ts)
 places_chain end a [] = at_most_self a
 places_chain end a (t ∷ ts) =
     chain_append argument_register vector_register 6 8 a (piece_locs (pieces_after a t)) (taken_with a t) _ _
@@ -99,13 +100,13 @@ untouched = record { general = 0; vector = 0; stack = 0 }
 abbrev taken_by_all : Signature → Taken
 taken_by_all s = taken_after (taken_at_first s.result_type) s.arguments
 
-hidden_chain : (t : Tree) (end : ℕ) → ArgumentsChain untouched (hidden_locs (result_at at_once end t (result_spot_of t))) (taken_at_first t)
+hidden_chain : (t : Tree) (end : ℕ) → ArgumentsChain untouched (hidden_locs (result_at amd64.copy_start end t (result_spot_of t))) (taken_at_first t)
 hidden_chain void end = at_most_self untouched
 hidden_chain (scalar s) end = at_most_self untouched
 hidden_chain (left_out k) end = at_most_self untouched
 hidden_chain (structure ts) end = cases (in_memory (structure ts))
   where
-    cases : (b : Bool) → ArgumentsChain untouched (hidden_locs (result_at at_once end (structure ts) (cond b (in_buffer (G (argument_register 0))) (in_result_pieces (register_pieces result_register 0 0 (structure ts) [] (classes (structure ts))))))) (record { general = cond b 1 0; vector = 0; stack = 0 })
+    cases : (b : Bool) → ArgumentsChain untouched (hidden_locs (result_at amd64.copy_start end (structure ts) (cond b (in_buffer (G (argument_register 0))) (in_result_pieces (register_pieces result_register 0 0 (structure ts) [] (classes (structure ts))))))) (record { general = cond b 1 0; vector = 0; stack = 0 })
     cases true =
         let one : AtMost untouched (record { general = 1; vector = 0; stack = 0 }) = record { general = omega arith; vector = omega arith; stack = omega arith } in
         (record { general = 1; vector = 0; stack = 0 }, (0, refl, omega arith, omega arith), (0, refl, omega arith), one, at_most_self (record { general = 1; vector = 0; stack = 0 }))
@@ -135,7 +136,7 @@ framed s = up_to (taken_by_all s) (frame_of amd64 s)
 
 call_chain : (s : Signature) → ArgumentsChain untouched (call_locs s (plan_of amd64 s)) (framed s)
 call_chain s =
-    chain_append argument_register vector_register 6 8 untouched (argument_locs (plan_of amd64 s)) (taken_by_all s) _ (framed s) (plan_chain s) (frame_chain argument_register vector_register 6 8 amd64 (λ end t. omega arith) s (taken_by_all s) (omega arith))
+    chain_append argument_register vector_register 6 8 untouched (argument_locs (plan_of amd64 s)) (taken_by_all s) _ (framed s) (plan_chain s) (frame_chain argument_register vector_register 6 8 amd64 start-behind s (taken_by_all s) (omega arith))
 
 plan_apart : (s : Signature) → AreApart (call_locs s (plan_of amd64 s))
 plan_apart s = chain_apart argument_register vector_register 6 8 argument_registers untouched _ _ (call_chain s)
@@ -151,23 +152,23 @@ result_chain : (t : Tree) → Chain result_register vector_register 2 2 (at_eigh
 result_chain t =
     register_chain result_register 2 2 untouched t [] (classes t) (omega (arith, integers_few t)) (omega (arith, sses_few t))
 
-result_cases : (P : List Loc → Type 0) → P [] → (t : Tree) → P (piece_locs (register_pieces result_register 0 0 t [] (classes t))) → (end : ℕ) → P (result_locs (result_at at_once end t (result_spot_of t)))
+result_cases : (P : List Loc → Type 0) → P [] → (t : Tree) → P (piece_locs (register_pieces result_register 0 0 t [] (classes t))) → (end : ℕ) → P (result_locs (result_at amd64.copy_start end t (result_spot_of t)))
 result_cases P none void direct end = none
 result_cases P none (scalar s) direct end = direct
 result_cases P none (left_out k) direct end = direct
 result_cases P none (structure ts) direct end = cases (in_memory (structure ts))
   where
-    cases : (b : Bool) → P (result_locs (result_at at_once end (structure ts) (cond b (in_buffer (G (argument_register 0))) (in_result_pieces (register_pieces result_register 0 0 (structure ts) [] (classes (structure ts)))))))
+    cases : (b : Bool) → P (result_locs (result_at amd64.copy_start end (structure ts) (cond b (in_buffer (G (argument_register 0))) (in_result_pieces (register_pieces result_register 0 0 (structure ts) [] (classes (structure ts)))))))
     cases true = none
     cases false = direct
 
-result_has_all : (t : Tree) (end : ℕ) → ResultHasAll t (result_at at_once end t (result_spot_of t))
+result_has_all : (t : Tree) (end : ℕ) → ResultHasAll t (result_at amd64.copy_start end t (result_spot_of t))
 result_has_all void end = refl
 result_has_all (scalar s) end = registers_have_all result_register 0 0 (scalar s) (classes (scalar s)) (classes_when (scalar s) refl)
 result_has_all (left_out k) end = registers_have_all result_register 0 0 (left_out k) (classes (left_out k)) (classes_when (left_out k) refl)
 result_has_all (structure ts) end = cases (in_memory (structure ts)) refl
   where
-    cases : (b : Bool) → in_memory (structure ts) ≡ b → ResultHasAll (structure ts) (result_at at_once end (structure ts) (cond b (in_buffer (G (argument_register 0))) (in_result_pieces (register_pieces result_register 0 0 (structure ts) [] (classes (structure ts))))))
+    cases : (b : Bool) → in_memory (structure ts) ≡ b → ResultHasAll (structure ts) (result_at amd64.copy_start end (structure ts) (cond b (in_buffer (G (argument_register 0))) (in_result_pieces (register_pieces result_register 0 0 (structure ts) [] (classes (structure ts))))))
     cases true e = tt
     cases false e = registers_have_all result_register 0 0 (structure ts) (classes (structure ts)) (classes_when (structure ts) e)
 
@@ -181,7 +182,7 @@ sound s =
       on_stack = plan_lies_in s;
       allowed = plan_allowed s;
       passed = plan_passed s;
-      has_all = arguments_have_all at_once (copies_start (placing_of s)) (taken_at_first s.result_type) s.arguments;
+      has_all = arguments_have_all amd64.copy_start (copies_start (placing_of s)) (taken_at_first s.result_type) s.arguments;
       result_apart = result_cases AreApart tt s.result_type (chain_apart result_register vector_register 2 2 result_registers (at_eightbyte untouched []) _ _ (result_chain s.result_type)) end;
       result_in_registers = result_cases (AllByRecursion (LiesIn Amd64 0)) tt s.result_type (chain_lies_in result_register vector_register 2 2 Amd64 result_exists (λ k h. omega arith) (at_eightbyte untouched []) _ _ 0 (omega arith) (result_chain s.result_type)) end;
       result_allowed = result_cases (AllByRecursion (IsNoneOf (closed_to_results amd64))) tt s.result_type (chain_allowed result_register vector_register 2 2 (closed_to_results amd64) result_allowed_general result_allowed_vector result_allowed_stack (at_eightbyte untouched []) _ _ (result_chain s.result_type)) end;

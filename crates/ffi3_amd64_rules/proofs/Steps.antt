@@ -11,11 +11,11 @@ use Rattle.ffi3_place_rules.specs.declared.Piece.{Piece}
 use Rattle.ffi3_place_rules.specs.declared.Taken.{Taken}
 use Rattle.ffi3_place_rules.specs.declared.Place.{Place}
 use Rattle.ffi3_place_rules.specs.declared.Place.TheVariants.{Direct}
-use Rattle.ffi3_place_rules.specs.Standard.{doubleword, places_from, copies_end, at_once, in_buffer, in_result_pieces, round8}
+use Rattle.ffi3_place_rules.specs.Standard.{doubleword, places_from, copies_end, in_buffer, in_result_pieces}
 use Rattle.ffi3_place_rules.specs.Doublewords.{widening}
 use Rattle.ffi3_place_rules.proofs.Elements.{leaf_read, argument_read}
 use Rattle.ffi3_amd64_rules.specs.declared.Class.{Class}
-use Rattle.ffi3_amd64_rules.specs.Amd64.{is_integer_leaf_in, class_of, classes_from, classes, in_memory, argument_register, result_register, register_of, register_pieces, taken_with, taken_after, pieces_after, spots_after, result_spot_of, integers, sses, in_registers, stack_end}
+use Rattle.ffi3_amd64_rules.specs.Amd64.{amd64, is_integer_leaf_in, class_of, classes_from, classes, in_memory, argument_register, result_register, register_of, register_pieces, taken_with, taken_after, pieces_after, spots_after, result_spot_of, integers, sses, in_registers, stack_end}
 use Rattle.ffi3_amd64_rules.proofs.Covered.{length-classes_from}
 
 -- ---- leaves
@@ -79,10 +79,10 @@ taken_step ts i t before whole h read e =
 
 -- the place of one more argument
 pub place_step : (ts : List Tree) (i : ℕ) (t : Tree) (before : Taken) (out whole : List Place) → i < length ts → t ≡ tree_at ts i →
-    out ++ places_from at_once 0 (drop i ts) (spots_after before (drop i ts)) ≡ whole →
-    (out ++ Direct (pieces_after before t) ∷ []) ++ places_from at_once 0 (drop (i + 1) ts) (spots_after (taken_with before t) (drop (i + 1) ts)) ≡ whole
+    out ++ places_from amd64.copy_start 0 (drop i ts) (spots_after before (drop i ts)) ≡ whole →
+    (out ++ Direct (pieces_after before t) ∷ []) ++ places_from amd64.copy_start 0 (drop (i + 1) ts) (spots_after (taken_with before t) (drop (i + 1) ts)) ≡ whole
 place_step ts i t before out whole h read e =
-    let opened = subst (λ us. out ++ places_from at_once 0 us (spots_after before us) ≡ whole) (argument_read ts i t h read) e in
+    let opened = subst (λ us. out ++ places_from amd64.copy_start 0 us (spots_after before us) ≡ whole) (argument_read ts i t h read) e in
     append_assoc out _ _ ∙ opened
 
 -- no argument has a copy
@@ -118,9 +118,9 @@ register_turn general g f t j count out new whole p l h loc piece pushed before 
     ap (λ ps. ps ++ register_pieces general g f t (classes_from t 0 (j + 1)) (classes_from t (j + 1) (count - (j + 1)))) (pushed ∙ ap (λ q. out ++ q ∷ []) (piece ∙ ap (λ m. doubleword m j (size_of t) (widening t)) loc)) ∙ register_step general g f t j count out whole h before
 
 -- an argument that finds too few registers
-pub taken_on_stack : (a : Taken) (t : Tree) (n : ℕ) → in_registers a t ≡ false → n ≡ round8 (size_of t) → record { general = a.general; vector = a.vector; stack = a.stack + n } ≡ taken_with a t
-taken_on_stack a t n few size =
-    ap (λ k. record { general = a.general; vector = a.vector; stack = a.stack + k }) size ∙ sym (ap (λ b. cond {A = Taken} b (record { general = a.general + integers t; vector = a.vector + sses t; stack = a.stack }) (record { general = a.general; vector = a.vector; stack = stack_end a.stack t })) few)
+pub taken_on_stack : (a : Taken) (t : Tree) (n : ℕ) → in_registers a t ≡ false → n ≡ stack_end a.stack t → record { general = a.general; vector = a.vector; stack = n } ≡ taken_with a t
+taken_on_stack a t n few end =
+    ap (λ k. record { general = a.general; vector = a.vector; stack = k }) end ∙ sym (ap (λ b. cond {A = Taken} b (record { general = a.general + integers t; vector = a.vector + sses t; stack = a.stack }) (record { general = a.general; vector = a.vector; stack = stack_end a.stack t })) few)
 
 -- where the general registers suffice, the vector registers decide
 pub vectors_decide : (a : Taken) (t : Tree) → in_memory t ≡ false → a.general + integers t ≤ 6 → leb (a.vector + sses t) 8 ≡ in_registers a t

@@ -15,7 +15,7 @@ use Rattle.ffi3_place_rules.specs.declared.SaveWord.{SaveWord}
 use Rattle.ffi3_place_rules.specs.declared.SaveWord.TheVariants.{Register, Hidden}
 use Rattle.ffi3_place_rules.specs.declared.Taken.{Taken}
 use Rattle.ffi3_place_rules.specs.Isa.{pushed_bytes, stack_pointer, link_place, reserved_places, closure_register, trampoline_registers}
-use Rattle.ffi3_place_rules.specs.Standard.{Standard, Placing, Spot, in_pieces, ResultSpot, no_result, in_result_pieces, in_buffer, doubleword, round8, at_once}
+use Rattle.ffi3_place_rules.specs.Standard.{Standard, Placing, Spot, in_pieces, ResultSpot, no_result, in_result_pieces, in_buffer, doubleword, round8, start}
 use Rattle.ffi3_place_rules.specs.Doublewords.{doublewords, widening, stack_pieces}
 use Rattle.ffi3_amd64_rules.specs.declared.Class.{Class}
 use Rattle.ffi3_amd64_rules.specs.declared.Class.TheVariants.{Integer, Sse}
@@ -35,7 +35,7 @@ lies_in_eightbyte j l = nat_lt l.at (8 * j + 8) && nat_lt (8 * j) (l.at + scalar
 abbrev pub is_integer_leaf_in : ℕ → Leaf → Bool
 is_integer_leaf_in j l = lies_in_eightbyte j l && not (is_floating l.kind)
 
--- INTEGER exactly where an integer or pointer leaf lies in it, otherwise SSE. (Classification of aggregates, steps 3 and 4: each eightbyte for itself; INTEGER before SSE, rule (d))
+-- INTEGER exactly where a byte of an integer or pointer leaf lies in it, otherwise SSE. (Classification of aggregates, steps 3 and 4: each eightbyte for itself; INTEGER before SSE, rule (d). Classification, on __int128: it is classified as a struct of two longs)
 abbrev pub class_of : Tree → ℕ → Class
 class_of t j = cond (list_any (is_integer_leaf_in j) (leaves_of t)) Integer Sse
 
@@ -100,9 +100,9 @@ register_pieces general g f t earlier (c ∷ cs) =
 abbrev pub in_registers : Taken → Tree → Bool
 in_registers before t = not (in_memory t) && (nat_le (before.general + integers t) 6 && nat_le (before.vector + sses t) 8)
 
--- where an argument on the stack begins, after the end of the one before it (Passing, step 1: at an address respecting its alignment)
+-- where an argument on the stack begins, after the end of the one before it (Passing, step 1: at an address respecting its alignment; Classification, on __int128: on a 16-byte boundary)
 abbrev pub stack_start : ℕ → Tree → ℕ
-stack_start = at_once
+stack_start end t = start end t
 
 -- it ends with the last of its eightbytes (Classification: the size of each argument gets rounded up to eightbytes)
 abbrev pub stack_end : ℕ → Tree → ℕ
@@ -185,6 +185,6 @@ amd64 = record {
   returned_address = Some (G (result_register 0));
   narrow = Widen;
   single = Free;
-  copy_start = at_once;
+  copy_start = start;
   placing = placing_of;
 }

@@ -1,2 +1,2 @@
 pub mod Amd64
-pub mod Sums
+pub mod Ends

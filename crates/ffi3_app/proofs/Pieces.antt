@@ -1,7 +1,8 @@
 -- What came of pieces that were written one after another.
-use Rattle.std.proofs.Common.{◌≡◌, ℕ, ◌+◌, ◌≤◌, List, [], ◌∷◌, ◌++◌, map, drop, length, refl, sym, ap, ◌∙◌, subst, append_assoc}
+use Rattle.std.proofs.Common.{◌≡◌, ℕ, ◌+◌, ◌≤◌, List, [], ◌++◌, map, drop, length, refl, sym, ap, ◌∙◌, subst}
 use Rattle.std.specs.Prelude.{Result, Ok, Err, ◌<◌, get_or}
 use Rattle.std.proofs.lemmas.List.{drop_more}
+use Rattle.std.proofs.lemmas.List.Folds.{concat-append}
 use Rattle.std.proofs.Math.ListN.{drop_of_length-le}
 use Rattle.ffi3_io.proofs.Writing.{took_nothing, took_then, cut_after, cut_at_once, cut_in}
 use Rattle.ffi3_type_rules.specs.Signature.{Signature, signature_at, Position, at_argument}
@@ -10,7 +11,8 @@ use Rattle.ffi3_type_rules.specs.declared.Target.{Target}
 use Rattle.ffi3_script_rules.specs.Script.{Script}
 use Rattle.ffi3_io.specs.Sink.{SinkState}
 use Rattle.ffi3_io.specs.Written.{TookText}
-use Rattle.ffi3_app.specs.Commands.{standard_of, joined, lines_from, arguments_from, place_text}
+use Rattle.std.specs.List.{concat}
+use Rattle.ffi3_app.specs.Commands.{standard_of, lines_from, arguments_from, place_text}
 use Rattle.ffi3_io.specs.Written as written
 use Rattle.ffi3_io.specs.declared.IoError.{IoError}
 use Rattle.ffi3_io.specs.declared.IoError.TheVariants.{NoMemory}
@@ -66,36 +68,31 @@ module _ (whole rest : List ℕ) (start now : SinkState) (continues : Continues 
 
 -- ---- lines
 
-pub joined-append : (xs ys : List (List ℕ)) → joined (xs ++ ys) ≡ joined xs ++ joined ys
-joined-append [] ys = refl
-joined-append (x ∷ xs) ys =
-    ap (λ t. x ++ t) (joined-append xs ys) ∙ sym (append_assoc x (joined xs) (joined ys))
-
 -- those of signature i, and of the signatures after it
 module _ (lines : ℕ → Signature → List (List ℕ)) (ss : List Signature) where
-  lines_at : (i : ℕ) (d : Signature) → i < length ss → joined (lines_from lines i (drop i ss)) ≡ joined (lines i (get_or ss i d)) ++ joined (lines_from lines (i + 1) (drop (i + 1) ss))
+  lines_at : (i : ℕ) (d : Signature) → i < length ss → concat (lines_from lines i (drop i ss)) ≡ concat (lines i (get_or ss i d)) ++ concat (lines_from lines (i + 1) (drop (i + 1) ss))
   lines_at i d below =
-      ap (λ rest. joined (lines_from lines i rest)) (drop_more ss i d below) ∙ joined-append (lines i (get_or ss i d)) (lines_from lines (i + 1) (drop (i + 1) ss))
+      ap (λ rest. concat (lines_from lines i rest)) (drop_more ss i d below) ∙ concat-append (lines i (get_or ss i d)) (lines_from lines (i + 1) (drop (i + 1) ss))
 
   -- where the list and the signature were lent
-  pub lines_of : (i : ℕ) (lent : List Signature) (s : Signature) → lent ≡ ss → i < length lent → s ≡ signature_at lent i → joined (lines_from lines i (drop i ss)) ≡ joined (lines i s) ++ joined (lines_from lines (i + 1) (drop (i + 1) ss))
+  pub lines_of : (i : ℕ) (lent : List Signature) (s : Signature) → lent ≡ ss → i < length lent → s ≡ signature_at lent i → concat (lines_from lines i (drop i ss)) ≡ concat (lines i s) ++ concat (lines_from lines (i + 1) (drop (i + 1) ss))
   lines_of i lent s same below is =
       let there : i < length ss = subst (λ l. i < length l) same below in
       let is_at : s ≡ signature_at ss i = is ∙ ap (λ l. signature_at l i) same in
-      lines_at i _ there ∙ ap (λ r. joined (lines i r) ++ joined (lines_from lines (i + 1) (drop (i + 1) ss))) (sym is_at)
+      lines_at i _ there ∙ ap (λ r. concat (lines i r) ++ concat (lines_from lines (i + 1) (drop (i + 1) ss))) (sym is_at)
 
-  pub lines_end : (i : ℕ) → length ss ≤ i → joined (lines_from lines i (drop i ss)) ≡ []
-  lines_end i end = ap (λ rest. joined (lines_from lines i rest)) (drop_of_length-le ss {i = i} end)
+  pub lines_end : (i : ℕ) → length ss ≤ i → concat (lines_from lines i (drop i ss)) ≡ []
+  lines_end i end = ap (λ rest. concat (lines_from lines i rest)) (drop_of_length-le ss {i = i} end)
 
 -- that of argument j, and those after it, before some last lines
 module _ (line : Position → List ℕ) (ts : List Tree) (last : List (List ℕ)) where
-  pub argument_at : (j : ℕ) (d : Tree) → j < length ts → joined (map line (arguments_from j (drop j ts)) ++ last) ≡ line (at_argument j) ++ joined (map line (arguments_from (j + 1) (drop (j + 1) ts)) ++ last)
+  pub argument_at : (j : ℕ) (d : Tree) → j < length ts → concat (map line (arguments_from j (drop j ts)) ++ last) ≡ line (at_argument j) ++ concat (map line (arguments_from (j + 1) (drop (j + 1) ts)) ++ last)
   argument_at j d below =
-      ap (λ rest. joined (map line (arguments_from j rest) ++ last)) (drop_more ts j d below)
+      ap (λ rest. concat (map line (arguments_from j rest) ++ last)) (drop_more ts j d below)
 
-  pub arguments_end : (j : ℕ) → length ts ≤ j → joined (map line (arguments_from j (drop j ts)) ++ last) ≡ joined last
+  pub arguments_end : (j : ℕ) → length ts ≤ j → concat (map line (arguments_from j (drop j ts)) ++ last) ≡ concat last
   arguments_end j end =
-      ap (λ rest. joined (map line (arguments_from j rest) ++ last)) (drop_of_length-le ts {i = j} end)
+      ap (λ rest. concat (map line (arguments_from j rest) ++ last)) (drop_of_length-le ts {i = j} end)
 
 pub placed_by : (t u : Target) (s : Script) (a b : SinkState) (r : Writing) → t ≡ u → Wrote (place_text (standard_of u) s) a b r → Wrote (place_text (standard_of t) s) a b r
 placed_by t u s a b r is wrote =

@@ -13,7 +13,8 @@ use Rattle.ffi3_words.specs.declared.words.Request.{Request}
 use Rattle.ffi3_words.specs.declared.words.Request.TheVariants.{Layout, Place, Run, Bench}
 use Rattle.ffi3_app.specs.declared.load.Refusal.{Refusal}
 use Rattle.ffi3_app.specs.declared.load.Refusal.TheVariants.{ReadFault, NoMemory, TooLong, BadJson, BadScript}
-use Rattle.ffi3_words.specs.Words.{Takes, IsRefused, IsStated, IsWordsRefusal as WordsRefusal}
+use Rattle.ffi3_words.specs.Words.{Takes, IsRefused, IsStated}
+use Rattle.ffi3_words.specs.WordAnswers.{IsWordsRefusal as WordsRefusal}
 use Rattle.ffi3_io.specs.Written.{IsCause}
 use Rattle.ffi3_io.specs.declared.IoError.{IoError}
 use Rattle.ffi3_io.specs.declared.IoError.TheVariants as end
@@ -21,7 +22,8 @@ use Rattle.ffi3_words.specs.declared.words.WordsFault.{WordsFault}
 use Rattle.ffi3_words.specs.declared.words.WordsFault.TheVariants.{Refused}
 use Rattle.ffi3_app.specs.Refusals.{IsInputRefusal, IsRefusedWith, refusal_line, refusal_status, HasPlace, TellsRefusal}
 use Rattle.ffi3_io.specs.Source.{SourceState}
-use Rattle.ffi3_app.specs.Top.{ReadAs, IsAtEnd, IsReadInPart, ReportsFault, whole, cut, IsDone, IsDoneInPart, BeganOrNot, ReadsScript, TakesScript, Fails, refused, bad_words, read_failed, write_failed, no_memory_for_words, no_memory, bench_write_failed, bench_no_memory, Says, done, bench_done, failed, SaysOfBench, was_done, was_interrupted, had_no_memory, refusal_of, status_of, status_when_done, no_memory_line}
+use Rattle.ffi3_app.specs.Top.{ReadAs, IsAtEnd, IsReadInPart, ReportsFault, whole, cut, IsDone, IsDoneInPart, BeganOrNot, ReadsScript, TakesScript, Fails, refused, bad_words, read_failed, write_failed, no_memory_for_words, no_memory, bench_write_failed, bench_no_memory, Says, done, bench_done, failed, refusal_of, status_of, status_when_done, no_memory_line}
+use Rattle.ffi3_app.specs.BenchStatus.{SaysOfBench, was_done, was_interrupted, had_no_memory}
 use Rattle.ffi3_words.specs.WordCommands.{Addresses}
 use Rattle.ffi3_words.proofs.Refusals.{taken_not_refused}
 use Rattle.ffi3_words.proofs.Stated.{stated_is_taken}

@@ -1,5 +1,6 @@
--- WHAT EACH COMMAND WRITES OF A SCRIPT.
+-- WHAT layout AND place WRITE OF A SCRIPT.
 use Rattle.std.specs.Prelude.{ℕ, ◌+◌, List, [], ◌∷◌, ◌++◌, map}
+use Rattle.std.specs.List.{concat}
 use Rattle.ffi3_type_rules.specs.declared.Target.{Target}
 use Rattle.ffi3_type_rules.specs.declared.Target.TheVariants.{Amd64, Aapcs64, Riscv}
 use Rattle.ffi3_type_rules.specs.Tree.{Tree}
@@ -9,14 +10,8 @@ use Rattle.ffi3_amd64_rules.specs.Amd64.{amd64}
 use Rattle.ffi3_aapcs64_rules.specs.Aapcs64.{aapcs64}
 use Rattle.ffi3_riscv_rules.specs.Riscv.{riscv}
 use Rattle.ffi3_script_rules.specs.Script.{Script}
-use Rattle.ffi3_script_rules.specs.Natives.{NamedNative, program_beside}
-use Rattle.ffi3_run_rules.specs.Lines.{text_of_run}
-use Rattle.ffi3_turn_rules.specs.MainTracing.{main_tracing}
 use Rattle.ffi3_text.specs.LayoutLines.{layout_text_of}
 use Rattle.ffi3_text.specs.PlaceLines.{sig_text_of, place_text_of}
-use Rattle.ffi3_bench.specs.BenchText.{bench_text}
-use Rattle.ffi3_words.specs.declared.words.Request.{Request}
-use Rattle.ffi3_words.specs.declared.words.Request.TheVariants.{Layout, Place, Run, Bench}
 
 abbrev pub standard_of : Target → Standard
 standard_of Amd64 = amd64
@@ -45,21 +40,10 @@ abbrev pub lines_from : (ℕ → Signature → List (List ℕ)) → ℕ → List
 lines_from lines i [] = []
 lines_from lines i (s ∷ ss) = lines i s ++ lines_from lines (i + 1) ss
 
--- lines one after another
-abbrev pub joined : List (List ℕ) → List ℕ
-joined [] = []
-joined (line ∷ lines) = line ++ joined lines
-
+-- THE TEXT OF layout
 abbrev pub layout_text : Script → List ℕ
-layout_text script = joined (lines_from layout_lines 0 script.signatures)
+layout_text script = concat (lines_from layout_lines 0 script.signatures)
 
+-- THE TEXT OF place, by a standard
 abbrev pub place_text : Standard → Script → List ℕ
-place_text std script = joined (lines_from (place_lines std) 0 script.signatures)
-
--- THE TEXT OF A COMMAND, for a script beside natives; `bench` has a script of its own
-abbrev pub command_text : Request → List NamedNative → Script → List ℕ
-command_text Layout natives script = layout_text script
-command_text (Place t) natives script = place_text (standard_of t) script
-command_text (Run t trace) natives script =
-    text_of_run (main_tracing trace (standard_of t)) (program_beside (standard_of t) natives script)
-command_text (Bench seed calls) natives script = bench_text seed calls
+place_text std script = concat (lines_from (place_lines std) 0 script.signatures)

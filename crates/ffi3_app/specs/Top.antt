@@ -23,7 +23,7 @@ use Rattle.ffi3_io.specs.Written.{TookText}
 use Rattle.ffi3_words.specs.declared.words.Request.{Request}
 use Rattle.ffi3_words.specs.declared.words.Request.TheVariants.{Layout, Place, Run, Bench}
 use Rattle.ffi3_words.specs.Words.{Takes, IsRefused}
-use Rattle.ffi3_app.specs.Commands.{standard_of, command_text}
+use Rattle.ffi3_app.specs.Commands.{standard_of, layout_text, place_text}
 
 -- ---- the lines of faults
 
@@ -103,9 +103,9 @@ IsRun trace std natives s output output' machine' status =
 -- THE WORK IS DONE on a script: the text is written whole; a run is told whole, and what stops it is status 6; the other commands leave the machine as it was
 abbrev pub IsDone : Request → List NamedNative → Script → SinkState → SinkState → State → State → ℕ → Type 0
 IsDone Layout natives s output output' machine machine' status =
-    TookText (command_text Layout natives s) output output' × (machine' ≡ machine) × (status ≡ 0)
+    TookText (layout_text s) output output' × (machine' ≡ machine) × (status ≡ 0)
 IsDone (Place t) natives s output output' machine machine' status =
-    TookText (command_text (Place t) natives s) output output' × (machine' ≡ machine) × (status ≡ 0)
+    TookText (place_text (standard_of t) s) output output' × (machine' ≡ machine) × (status ≡ 0)
 IsDone (Run t trace) natives s output output' machine machine' status =
     IsRun trace (standard_of t) natives s output output' machine' status
 IsDone (Bench seed calls) natives s output output' machine machine' status = ⊥
@@ -128,9 +128,9 @@ IsRunInPart in_line trace std natives s output output' machine' =
 -- THE WORK on a script IS DONE IN PART: a first part of the text is written; the commands that do not run leave the machine as it was
 abbrev pub IsDoneInPart : (in_line : Bool) → Request → List NamedNative → Script → SinkState → SinkState → State → State → Type 0
 IsDoneInPart in_line Layout natives s output output' machine machine' =
-    ((part : ℕ) × Adds output.taken (take part (command_text Layout natives s)) output'.taken) × (machine' ≡ machine)
+    ((part : ℕ) × Adds output.taken (take part (layout_text s)) output'.taken) × (machine' ≡ machine)
 IsDoneInPart in_line (Place t) natives s output output' machine machine' =
-    ((part : ℕ) × Adds output.taken (take part (command_text (Place t) natives s)) output'.taken) × (machine' ≡ machine)
+    ((part : ℕ) × Adds output.taken (take part (place_text (standard_of t) s)) output'.taken) × (machine' ≡ machine)
 IsDoneInPart in_line (Run t trace) natives s output output' machine machine' =
     IsRunInPart in_line trace (standard_of t) natives s output output' machine'
 IsDoneInPart in_line (Bench seed calls) natives s output output' machine machine' = ⊥
@@ -157,12 +157,6 @@ pub data Fails (words : List (List ℕ)) (natives : List NamedNative) (input inp
   no_memory : {request : Request} → TakesScript words request → IsReadInPart input input' → input'.faults ≡ input.faults → BeganOrNot request natives input input' output output' machine machine' → output'.faults ≡ output.faults → Fails words natives input input' output output' machine machine' 5 no_memory_line
   bench_write_failed : {seed calls : ℕ} → Takes words (Bench seed calls) → input' ≡ input → IsBenchInPart seed calls output output' → Rose output.faults output'.faults → Fails words natives input input' output output' machine machine' 4 write_fault_line
   bench_no_memory : {seed calls : ℕ} → Takes words (Bench seed calls) → input' ≡ input → IsBenchInPart seed calls output output' → output'.faults ≡ output.faults → Fails words natives input input' output output' machine machine' 5 no_memory_line
-
--- what each status of the bench says: it is done, or what interrupted it is told
-pub data SaysOfBench (seed calls : ℕ) (output output' told told' : SinkState) (machine' : State) : ℕ → Type 0 where
-  was_done : IsBench seed calls output output' machine' → told' ≡ told → SaysOfBench seed calls output output' told told' machine' 0
-  was_interrupted : {answer : ℕ} → IsBenchInPart seed calls output output' → Rose output.faults output'.faults → ReportsFault write_fault_line 4 told told' answer → SaysOfBench seed calls output output' told told' machine' answer
-  had_no_memory : {answer : ℕ} → IsBenchInPart seed calls output output' → output'.faults ≡ output.faults → ReportsFault no_memory_line 5 told told' answer → SaysOfBench seed calls output output' told told' machine' answer
 
 -- WHAT EACH STATUS SAYS: the work is done whole, or what goes wrong is told, and then 4 in place of its status where that failed
 pub data Says (words : List (List ℕ)) (natives : List NamedNative) (input input' : SourceState) (output output' told told' : SinkState) (machine machine' : State) : ℕ → Type 0 where

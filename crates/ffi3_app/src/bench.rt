@@ -1,7 +1,7 @@
 //! The bench, which reads no script.
 ghost use Rattle.std.specs.Prelude.{◌≡◌, ◌≤◌};
 ghost use Rattle.ffi3_type_rules.specs.declared.limits.TheConstants.{MOST_CALLS};
-ghost use Rattle.ffi3_app.specs.Top.{SaysOfBench};
+ghost use Rattle.ffi3_app.specs.BenchStatus.{SaysOfBench};
 
 use crate::tell::tell;
 use ffi3_bench::bench;

@@ -2,7 +2,8 @@
 ghost use Rattle.std.specs.Prelude.{◌<◌};
 ghost use Rattle.ffi3_type_rules.specs.Signature.{SignatureHasNoFault};
 ghost use Rattle.ffi3_script.specs.ScriptOf.{script_of};
-ghost use Rattle.ffi3_app.specs.Commands.{joined, layout_lines, layout_text};
+ghost use Rattle.std.specs.List.{concat};
+ghost use Rattle.ffi3_app.specs.Commands.{layout_lines, layout_text};
 ghost use Rattle.ffi3_io.specs.Written.{Wrote};
 
 use crate::write::write_made_line;
@@ -26,7 +27,7 @@ pub fn layout<O: Sink>(alloc: Global, script: &Script, output: &mut O) -> Result
 // The lines of one signature: of its result, then of its arguments.
 fn layout_of<O: Sink>(alloc: Global, number: u32, sig: &Sig, output: &mut O) -> Result<(), IoError>
     requires { SignatureHasNoFault sig.now }
-    ensures { Wrote (joined (layout_lines number sig.now)) (O.state output.old) (O.state output.new) result }
+    ensures { Wrote (concat (layout_lines number sig.now)) (O.state output.old) (O.state output.new) result }
 {
     write_made_line(output, layout_line(alloc, number, sig, At::Ret))?;
     for j in 0..sig.count() {

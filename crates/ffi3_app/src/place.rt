@@ -3,7 +3,8 @@ ghost use Rattle.std.specs.Prelude.{◌≡◌, IfOk, IfErr};
 ghost use Rattle.ffi3_type_rules.specs.Signature.{SignatureHasNoFault};
 ghost use Rattle.ffi3_cif.specs.Prepared.{IsPrepRefusal};
 ghost use Rattle.ffi3_script.specs.ScriptOf.{script_of};
-ghost use Rattle.ffi3_app.specs.Commands.{joined, place_lines, place_text, standard_of};
+ghost use Rattle.std.specs.List.{concat};
+ghost use Rattle.ffi3_app.specs.Commands.{place_lines, place_text, standard_of};
 ghost use Rattle.ffi3_io.specs.Written.{Wrote};
 
 use crate::write::write_made_line;
@@ -54,7 +55,7 @@ fn place_of<A: Abi, O: Sink>(
     cif: &Cif<A>,
     output: &mut O,
 ) -> Result<(), IoError>
-    ensures { Wrote (joined (place_lines A.standard number cif.now)) (O.state output.old) (O.state output.new) result }
+    ensures { Wrote (concat (place_lines A.standard number cif.now)) (O.state output.old) (O.state output.new) result }
 {
     write_made_line(output, sig_line(alloc, number, cif))?;
     for j in 0..cif.sig().count() {

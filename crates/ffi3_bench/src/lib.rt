@@ -4,7 +4,5 @@
 mod line;
 mod lines;
 mod measure;
-#[cfg(test)]
-mod tests;
 
 pub use lines::bench;

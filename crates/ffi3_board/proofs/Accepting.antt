@@ -9,6 +9,7 @@ use Rattle.ffi3_type_rules.specs.Signature.{Signature, signature_at}
 use Rattle.ffi3_type_rules.specs.Value.{ValueTree}
 use Rattle.ffi3_place_rules.specs.declared.Loc.{Loc}
 use Rattle.ffi3_place_rules.specs.Event.{Event}
+use Rattle.ffi3_place_rules.specs.Holds.{Own}
 use Rattle.ffi3_place_rules.specs.Image.{Image, register}
 use Rattle.ffi3_place_rules.specs.Isa.{scribble}
 use Rattle.ffi3_place_rules.specs.Standard.{Standard, block_bytes, frame_of, need_of}
@@ -143,6 +144,15 @@ module _ (p : Program) (std : Standard) (closure : Closure) (arguments : List Va
         let Q = λ (code : List ℕ). HoldsMap m.target closures code in
         subst P shows.target (subst Q (sym accepted.within.code) holds)
 
+    -- the arguments in its block are those that its entry shows
+    given : arguments_at p.signatures m' (Some call) ≡ arguments
+    given =
+        ap (λ (k : ℕ). arguments_in s.arguments (stack_at k (block_bytes s) m')) accepted.block ∙ accepted.received.values arguments shows.owns
+
+    owned : Own std s (arguments_at p.signatures m' (Some call)) (entry_at std s m).image
+    owned =
+        subst (λ (vs : List ValueTree). Own std s vs (entry_at std s m).image) (sym given) shows.owns
+
     -- ITS RUN BEGINS
     begins : IsBetween p base all first [] [] start
     begins =
@@ -158,13 +168,24 @@ module _ (p : Program) (std : Standard) (closure : Closure) (arguments : List Va
           top = shows.frame;
           come = comes_from p base (served_activation std p.signatures closure arguments m) closures moves refl;
           journal = accepted.events ∙ sym (append-nil (m.events ++ entry_at std s m ∷ []));
-          written = took_nothing output;
+          written = record { told = omega arith; took = took_nothing output };
           mark = mark_begins base.top m.mark m.sp m'.sp (need_at p closure.sig) m'.mark at accepted.within.mark;
           deep = omega (arith, at);
           left = omega (arith, room, accepted.sp);
           calls = record {
             target = accepted.in_callee.target;
-            stand = (record { below = below; signature = refl; stands = accepted.in_callee.stands; reserved = hold_themselves (entry_at std s m).image std.reserved; incoming = accepted.incoming_is; block = accepted.block }, refl);
+            stand = (
+              record {
+                below = below;
+                signature = refl;
+                stands = accepted.in_callee.stands;
+                reserved = hold_themselves (entry_at std s m).image std.reserved;
+                incoming = accepted.incoming_is;
+                block = accepted.block;
+                arguments = owned;
+              },
+              refl,
+            );
             reserved = same_then_held std.reserved (entry_at std s m).image (image_of 0 m') base.held accepted.in_callee.reserved (hold_themselves (entry_at std s m).image std.reserved);
             room = omega (arith, own_room);
             bytes = omega (arith, own_bytes);
@@ -201,7 +222,6 @@ module _ (p : Program) (std : Standard) (closure : Closure) (arguments : List Va
     module _ {S : Type 0} (standing : S) where
       acts : acting p.signatures m' (Some call) (activation_of closure standing) ≡ served_activation std p.signatures closure arguments m
       acts =
-          let given : arguments_at p.signatures m' (Some call) ≡ arguments = ap (λ (k : ℕ). arguments_in s.arguments (stack_at k (block_bytes s) m')) accepted.block ∙ accepted.received.values arguments shows.owns in
           let left : incoming.block - STACK ≡ m.sp - std.save - block_bytes s - STACK = omega (arith, accepted.block, accepted.sp) in
           λ i. record { who = function closure.func; arguments = given i; user = closure.user; left = left i; results = [] }
 

@@ -1,21 +1,20 @@
 -- Blocks of open calls above an address, and activations that keep their arguments there.
 use Rattle.std.proofs.Common.{◌≡◌, ℕ, ◌+◌, ◌≤◌, List, [], ◌∷◌, Option, Some, None, refl, ap, ◌∙◌, arith}
 use Rattle.std.specs.Prelude.{⊤}
-use Rattle.ffi3_type_rules.specs.Signature.{Signature, signature_at}
+use Rattle.ffi3_type_rules.specs.Signature.{Signature}
 use Rattle.ffi3_type_rules.specs.Value.{ValueTree}
 use Rattle.ffi3_place_rules.specs.declared.Loc.{Loc}
-use Rattle.ffi3_place_rules.specs.Standard.{Standard, block_bytes, need_of}
+use Rattle.ffi3_place_rules.specs.Standard.{Standard, need_of}
 use Rattle.ffi3_run_rules.specs.Journal.{Entered}
 use Rattle.ffi3_run_rules.specs.Meaning as meaning
 use Rattle.ffi3_turn_rules.specs.Remainder.{Suspended}
-use Rattle.ffi3_machine.specs.State.{State, stack_at}
-use Rattle.ffi3_body.specs.SeenActivation.{arguments_in}
+use Rattle.ffi3_machine.specs.State.{State}
 use Rattle.ffi3_board.specs.declared.activation.OpenCall.{OpenCall}
 use Rattle.ffi3_board.specs.declared.activation.Activation.{Activation}
 use Rattle.ffi3_board.specs.declared.activation.Waiting.{Waiting}
 use Rattle.ffi3_board.specs.Activations.{who_of, left_below, arguments_at, calls_below, acting, call_inside, suspended_at, calls_of}
 use Rattle.ffi3_board.specs.Stack.{caller_sp, OpenStand}
-use Rattle.ffi3_board.proofs.Opened.{caller_above}
+use Rattle.ffi3_board.proofs.Opened.{StaysFrom, arguments_kept, caller_above}
 
 abbrev pub AreAbove : ℕ → List OpenCall → Type 0
 AreAbove low [] = ⊤
@@ -29,14 +28,9 @@ blocks_above std ss held top m low (c ∷ calls) (e ∷ outer) sp above h =
     let own : sp + need_of std e.signature ≡ caller_sp std e = caller_above std e sp m h.0.stands in
     (omega (arith, above, here), blocks_above std ss held top m low calls outer (caller_sp std e) (omega (arith, above, own)) h.1)
 
--- the stack stays from an address on
-abbrev pub StaysFrom : ℕ → State → State → Type 0
-StaysFrom low m m' = (address count : ℕ) → low ≤ address → stack_at address count m' ≡ stack_at address count m
-
 module _ (ss : List Signature) (m m' : State) (low : ℕ) (stays : StaysFrom low m m') where
   one_kept : (c : OpenCall) → low ≤ c.incoming.block → arguments_at ss m' (Some c) ≡ arguments_at ss m (Some c)
-  one_kept c above =
-      ap (arguments_in (signature_at ss c.sig).arguments) (stays c.incoming.block (block_bytes (signature_at ss c.sig)) above)
+  one_kept = arguments_kept ss m m' low stays
 
   below_kept : (served : Option OpenCall) → AreAbove low (calls_below served) → arguments_at ss m' served ≡ arguments_at ss m served
   below_kept None above = refl

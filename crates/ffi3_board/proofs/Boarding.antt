@@ -1,5 +1,5 @@
 -- What each kind of move leads to on a board.
-use Rattle.std.proofs.Common.{◌≡◌, ℕ, suc, true, ◌+◌, ◌-◌, List, [], ◌∷◌, ◌++◌, Option, Some, refl, sym, ap, ◌∙◌, subst, arith, reverse}
+use Rattle.std.proofs.Common.{◌≡◌, ℕ, suc, true, ◌+◌, ◌-◌, ◌≤◌, inl, inr, List, [], ◌∷◌, ◌++◌, length, Option, Some, refl, sym, ap, ◌∙◌, subst, arith, reverse}
 use Rattle.std.specs.Prelude.{Bool}
 use Rattle.std.proofs.lemmas.List.{reverse-append}
 use Rattle.ffi3_type_rules.specs.declared.limits.TheConstants.{STACK}
@@ -41,12 +41,14 @@ use Rattle.ffi3_board.specs.Between.{Beginning, RunState, asking, IsBetween, IsA
 use Rattle.ffi3_board.specs.Going.{StoppedBy, GoneOn, HasGoneBack, activation_of, and_result}
 use Rattle.ffi3_board.specs.Activations.{acting, arguments_at, call_inside, suspended_at, calls_of}
 use Rattle.ffi3_board.specs.TraceLines.{last_event, entry_lines, return_lines}
-use Rattle.ffi3_board.specs.Turned.{IsEnded, WasInterrupted, LooksAs, turn_of, WentOn, Turned}
+use Rattle.ffi3_board.specs.Turned.{CountedAtMostOne, TurnHasStopped, WasInterruptedAfter, LooksAs, turn_of, WentOn, Turned}
 use Rattle.ffi3_io.specs.Written.{LineInterrupted}
-use Rattle.ffi3_board.proofs.Blocks.{AreAbove, StaysFrom, blocks_above, acting_kept, suspended_kept}
-use Rattle.ffi3_board.proofs.Moving.{cut_between, looks_as_itself, limit_ends, limit_failed, stop_ends, stop_failed}
+use Rattle.ffi3_board.proofs.Blocks.{AreAbove, blocks_above, acting_kept, suspended_kept}
+use Rattle.ffi3_board.proofs.Opened.{StaysFrom}
+use Rattle.ffi3_board.proofs.Moving.{cut_after, cut_between, looks_as_itself, limit_ends, limit_failed, limit_is_last, move_is_last, stop_ends, stop_failed}
 use Rattle.ffi3_board.proofs.Entering as entering
 use Rattle.ffi3_board.proofs.Leaving as leaving
+use Rattle.ffi3_board.proofs.Since.{looked_at}
 use Rattle.ffi3_board.proofs.Telling.{last_is}
 
 pub reverse-last : {X : Type 0} (xs : List X) (x : X) → reverse (xs ++ x ∷ []) ≡ x ∷ reverse xs
@@ -89,57 +91,67 @@ module _ {S : Type 0} where
 
 module _ {S : Type 0} (p : Program) (base : Base) (all : Remainder) (first : Beginning) (own : List TraceItem) where
   -- THE RUN GOES ON FROM HERE, or there is no memory for the result
-  pub goes : (b b' : Board S) (a : Activation S) (m : State) (output : SinkState) (r : ValueTree) (more : List TraceItem) (events : List Event) (t : Turn) → GoneOn r a b b' t → IsBetween p base all first (own ++ more) events (run_state p.signatures (and_result a r) b m output) → Turned p base all first own (suc b.moves) b' m output t
-  goes b b' a m output r more events turn.More gone between =
+  pub goes : (b b' : Board S) (a : Activation S) (m : State) (output : SinkState) (r : ValueTree) (more : List TraceItem) (events : List Event) (t : Turn) → length more ≤ 1 → GoneOn r a b b' t → IsBetween p base all first (own ++ more) events (run_state p.signatures (and_result a r) b m output) → Turned p base all first own (suc b.moves) b' m output t
+  goes b b' a m output r more events turn.More one gone between =
       let P = λ (c : Board S). WentOn p base all first own (suc b.moves) c m output in
-      let here : P (record b { innermost = Some (and_result a r) }) = record { more = more; events = events; stands = between; counted = refl } in
+      let here : P (record b { innermost = Some (and_result a r) }) = record { more = more; events = events; stands = between; stands_anew = λ tracing o. looked_at p base all first (own ++ more) events (run_state p.signatures (and_result a r) b m output) tracing o between; one = one; counted = refl } in
       subst P (sym gone) here
-  goes b b' a m output r more events turn.Done gone between = elim gone [ ]
-  goes b b' a m output r more events (turn.Stopped stop) gone between = elim gone [ ]
-  goes b b' a m output r more events turn.NoMemory gone between =
-      cut_between p base all first (own ++ more) events (run_state p.signatures (and_result a r) b m output) m (looks_as_itself m) between
-  goes b b' a m output r more events turn.Failed gone between = elim gone [ ]
+  goes b b' a m output r more events turn.Done one gone between = elim gone [ ]
+  goes b b' a m output r more events (turn.Stopped stop) one gone between = elim gone [ ]
+  goes b b' a m output r more events turn.NoMemory one gone between =
+      let P = λ (c : Board S). CountedAtMostOne (suc b.moves) c.moves in
+      (cut_after p base all first own more events (run_state p.signatures (and_result a r) b m output) m one (looks_as_itself m) between, subst P (sym gone) (omega arith, omega arith))
+  goes b b' a m output r more events turn.Failed one gone between = elim gone [ ]
 
   -- THE RUN IS INTERRUPTED
-  pub goes_off : (moves : ℕ) (b : Board S) (m : State) (output : SinkState) (why : IoError) (t : Turn) → t ≡ turn_of why → WasInterrupted p base all first why m output → Turned p base all first own moves b m output t
-  goes_off moves b m output cut.NoMemory t is was_cut =
-      subst (λ (u : Turn). Turned p base all first own moves b m output u) (sym is) was_cut
-  goes_off moves b m output cut.Failed t is was_cut =
-      subst (λ (u : Turn). Turned p base all first own moves b m output u) (sym is) was_cut
+  pub goes_off : (b : Board S) (m : State) (output : SinkState) (why : IoError) (t : Turn) → t ≡ turn_of why → WasInterruptedAfter p base all first own why m output → Turned p base all first own (suc b.moves) b m output t
+  goes_off b m output cut.NoMemory t is was_cut =
+      subst (λ (u : Turn). Turned p base all first own (suc b.moves) b m output u) (sym is) (was_cut, (omega arith, omega arith))
+  goes_off b m output cut.Failed t is was_cut =
+      subst (λ (u : Turn). Turned p base all first own (suc b.moves) b m output u) (sym is) (was_cut, (omega arith, omega arith))
 
   module _ (events : List Event) (b : Board S) (a : Activation S) (m : State) (output output' : SinkState) where
     abbrev here : RunState
     here = run_state p.signatures a b m output
 
     -- for want of memory, before the move
-    pub refused : (asked : Move) (m' : State) → LooksAs m m' → IsAsking p base all first own events here asked → WasInterrupted p base all first cut.NoMemory m' output
+    pub refused : (asked : Move) (m' : State) → LooksAs m m' → IsAsking p base all first own events here asked → WasInterruptedAfter p base all first own cut.NoMemory m' output × CountedAtMostOne (suc b.moves) b.moves
     refused asked m' looks is =
-        cut_between p base all first own events (asking here) m' looks is.between
+        (cut_between p base all first own events (asking here) m' looks is.between, (omega arith, omega arith))
 
     -- THE MOVE STOPS THE RUN
     pub stops_at : (asked : Move) → IsAsking p base all first own events here asked → (stop : Stop) → effect_of p here.innermost here.closures asked ≡ stops stop → (t : Turn) → StoppedBy p.signatures stop output output' t → Turned p base all first own (suc b.moves) b m output' t
     stops_at asked is stop does turn.More by = elim by [ ]
     stops_at asked is stop does turn.Done by = elim by [ ]
     stops_at asked is stop does (turn.Stopped s) by =
-        let P = λ (z : Stop). IsEnded p base all first (stopped z) b.table b.moves m output' in
-        subst P (sym by.0) (stop_ends p base all first own events here asked is stop does output' by.1)
+        let P = λ (z : Stop). TurnHasStopped p base all first own (suc b.moves) z b m output' in
+        subst P (sym by.0) (record {
+          ended = stop_ends p base all first own events here asked is stop does output' by.1;
+          last = move_is_last p base all first own events here asked is stop does;
+          counted = inl refl;
+        })
     stops_at asked is stop does turn.NoMemory by =
-        let P = λ (o : SinkState). WasInterrupted p base all first cut.NoMemory m o in
-        subst P (sym by) (cut_between p base all first own events (asking here) m (looks_as_itself m) is.between)
+        let P = λ (o : SinkState). WasInterruptedAfter p base all first own cut.NoMemory m o in
+        (subst P (sym by) (cut_between p base all first own events (asking here) m (looks_as_itself m) is.between), (omega arith, omega arith))
     stops_at asked is stop does turn.Failed by =
-        stop_failed p base all first own events here asked is stop does output' by
+        (stop_failed p base all first own events here asked is stop does output' by, (omega arith, omega arith))
 
     -- NO MOVE IS LEFT
     pub stops_at_limit : b.moves ≡ 0 → IsBetween p base all first own events here → (t : Turn) → StoppedBy p.signatures MoveLimit output output' t → Turned p base all first own 0 b m output' t
     stops_at_limit none h turn.More by = elim by [ ]
     stops_at_limit none h turn.Done by = elim by [ ]
     stops_at_limit none h (turn.Stopped s) by =
-        let P = λ (z : Stop). IsEnded p base all first (stopped z) b.table b.moves m output' in
-        subst P (sym by.0) (limit_ends p base all first own events here none h output' by.1)
+        let P = λ (z : Stop). TurnHasStopped p base all first own 0 z b m output' in
+        subst P (sym by.0) (record {
+          ended = limit_ends p base all first own events here none h output' by.1;
+          last = limit_is_last p base all first own events here none h;
+          counted = inr (refl, refl, none);
+        })
     stops_at_limit none h turn.NoMemory by =
-        let P = λ (o : SinkState). WasInterrupted p base all first cut.NoMemory m o in
-        subst P (sym by) (cut_between p base all first own events here m (looks_as_itself m) h)
-    stops_at_limit none h turn.Failed by = limit_failed p base all first own events here none h output' by
+        let P = λ (o : SinkState). WasInterruptedAfter p base all first own cut.NoMemory m o in
+        (subst P (sym by) (cut_between p base all first own events here m (looks_as_itself m) h), (omega (arith, none), omega arith))
+    stops_at_limit none h turn.Failed by =
+        (limit_failed p base all first own events here none h output' by, (omega (arith, none), omega arith))
 
 -- ---- a call
 
@@ -196,7 +208,7 @@ module _ {S : Type 0} (p : Program) (base : Base) (all : Remainder) (first : Beg
         subst (λ (x : RunState). IsBetween p base all first (own ++ Enter ptr sig args ∷ []) (events ++ called.begun.entry ∷ []) x) (sym same) there
 
     -- or the run is interrupted there
-    pub call_cut_off : (why : IoError) (output' : SinkState) → LineInterrupted (enter_lines first.tracing (text_after p base own) ptr (signature_at p.signatures sig) args) output output' why → WasInterrupted p base all first why m' output'
+    pub call_cut_off : (why : IoError) (output' : SinkState) → LineInterrupted (enter_lines first.tracing (text_after p base own) ptr (signature_at p.signatures sig) args) output output' why → WasInterruptedAfter p base all first own why m' output'
     call_cut_off why output' cut_off =
         entering.enters_cut p base all first own events before_call ptr sig args is closure does m' incoming called why output' cut_off
 
@@ -244,6 +256,6 @@ module _ {S : Type 0} (p : Program) (base : Base) (all : Remainder) (first : Beg
         subst (λ (x : RunState). IsBetween p base all first (own ++ Leave w.call.sig v ∷ []) (events ++ ended.return ∷ []) x) (sym same) there
 
     -- or the run is interrupted there
-    pub return_cut_off : (why : IoError) (output' : SinkState) → LineInterrupted (leave_lines first.tracing (text_after p base own).calls v) output output' why → WasInterrupted p base all first why m' output'
+    pub return_cut_off : (why : IoError) (output' : SinkState) → LineInterrupted (leave_lines first.tracing (text_after p base own).calls v) output output' why → WasInterruptedAfter p base all first own why m' output'
     return_cut_off why output' cut_off =
         leaving.returns_cut p base all first own events a caller w.call others (calls_of served outer) closures moves m output v is m' ended why output' cut_off

@@ -1,11 +1,12 @@
 -- A call that is entered: what holds in its callee.
-use Rattle.std.proofs.Common.{◌≡◌, ℕ, ◌+◌, ◌*◌, ◌<◌, ◌≤◌, List, [], ◌∷◌, ◌++◌, length, take, refl, sym, ap, ◌∙◌, subst, arith, append_assoc, length-append}
+use Rattle.std.proofs.Common.{◌≡◌, ℕ, ◌+◌, ◌*◌, ◌<◌, ◌≤◌, List, [], ◌∷◌, ◌++◌, length, take, Some, refl, sym, ap, ◌∙◌, subst, arith, append_assoc, length-append}
 use Rattle.std.specs.Prelude.{Bool}
 use Rattle.ffi3_type_rules.specs.declared.limits.TheConstants.{STACK}
 use Rattle.ffi3_type_rules.specs.Signature.{Signature, signature_at}
 use Rattle.ffi3_type_rules.specs.Value.{ValueTree}
 use Rattle.ffi3_place_rules.specs.Event.{Event}
-use Rattle.ffi3_place_rules.specs.Standard.{Standard, frame_of, need_of}
+use Rattle.ffi3_place_rules.specs.Holds.{Own}
+use Rattle.ffi3_place_rules.specs.Standard.{Standard, block_bytes, frame_of, need_of}
 use Rattle.ffi3_run_rules.specs.declared.Closure.{Closure}
 use Rattle.ffi3_run_rules.specs.Journal.{Entered, IsEntry, needs}
 use Rattle.ffi3_run_rules.specs.Lines.{enter_lines}
@@ -13,33 +14,35 @@ use Rattle.ffi3_run_rules.specs.Meaning.{Program, Activation, enters, callee_of,
 use Rattle.ffi3_run_rules.specs.Move.{call}
 use Rattle.ffi3_run_rules.specs.Trace.{TraceItem, Enter}
 use Rattle.ffi3_turn_rules.specs.Remainder.{Remainder, awaited}
-use Rattle.ffi3_turn_rules.specs.Depth.{deepest, depth_at}
+use Rattle.ffi3_turn_rules.specs.Depth.{deepest}
+use Rattle.ffi3_turn_rules.specs.Nested.{depth_at}
 use Rattle.ffi3_turn_rules.specs.SoFar.{Base, text_after}
 use Rattle.ffi3_turn_rules.specs.TracingOf.{IsTracingOf}
 use Rattle.ffi3_turn_rules.proofs.Depths.{depth_at-append}
 use Rattle.ffi3_turn_rules.proofs.Coming.{comes_in, deepest_enter}
 use Rattle.ffi3_turn_rules.proofs.Ending.{cut_in_entry}
 use Rattle.ffi3_turn_rules.proofs.Opens.{opens_enter}
-use Rattle.ffi3_machine.specs.State.{State, image_of, with_room}
+use Rattle.ffi3_machine.specs.State.{State, image_of, stack_at, with_room}
 use Rattle.ffi3_closures.specs.Slots.{HoldsMap}
 use Rattle.ffi3_io.specs.Sink.{SinkState}
 use Rattle.ffi3_io.specs.Written.{TookText}
 use Rattle.ffi3_io.specs.declared.IoError.{IoError}
-use Rattle.ffi3_io.proofs.Adding.{Adds-then}
-use Rattle.ffi3_io.proofs.Writing.{took_then}
+use Rattle.ffi3_body.specs.SeenActivation.{arguments_in}
 use Rattle.ffi3_callee.specs.declared.Incoming.{Incoming}
 use Rattle.ffi3_callee.specs.Received.{IsIncoming}
 use Rattle.ffi3_invoke.specs.Calls.{HasBegun, KeepsOpen, Stands}
 use Rattle.ffi3_board.specs.declared.activation.OpenCall.{OpenCall}
+use Rattle.ffi3_board.specs.Activations.{arguments_at}
 use Rattle.ffi3_board.specs.Between.{Beginning, RunState, asking, position, text_so_far, depth_below, open_calls_at, IsMarkOf, IsBetween, IsAsking}
 use Rattle.ffi3_board.specs.Stack.{caller_sp, IsOpen, OpenStand, frames}
 use Rattle.ffi3_board.specs.TraceLines.{entry_lines}
-use Rattle.ffi3_board.specs.Turned.{is_in_line, WasInterrupted}
+use Rattle.ffi3_board.specs.Turned.{is_in_line, WasInterruptedAfter}
 use Rattle.ffi3_io.specs.Written.{LineInterrupted}
 use Rattle.ffi3_board.proofs.Marks.{mark_enter, fewer, text_then}
 use Rattle.ffi3_board.proofs.Telling.{cause_from, cut_part, entry_lines_are}
 use Rattle.ffi3_board.proofs.Transports.{begun_as, incoming_as, numbered}
 use Rattle.ffi3_board.proofs.Opened.{caller_above, open_needs, open_kept, keeps_room, same_then_held}
+use Rattle.ffi3_board.proofs.Since.{part_since, since_then}
 
 -- a call that has begun, in the words of the program: the room that was made for it, what its callee remembers, and where that stands
 pub record HasCalled (p : Program) (base : Base) (ptr sig : ℕ) (args : List ValueTree) (m m' : State) (incoming : Incoming) : Type 0 where
@@ -130,11 +133,24 @@ module _ (p : Program) (base : Base) (all : Remainder) (first : Beginning) (own 
     others_stand =
         let keeps : KeepsOpen base.standard x.machine.sp x.machine m = keeps_room base.standard x.machine.sp called.room x.machine m begun.keeps_open in
         let P = λ (sp : ℕ). OpenStand base.standard p.signatures base.held base.top m x.calls calls_open sp in
-        subst P caller_at (open_kept base.standard p.signatures base.held base.top x.machine m x.machine.sp keeps x.calls calls_open x.machine.sp (omega arith) is.between.calls.stand)
+        subst P caller_at (open_kept base.standard p.signatures base.held base.top x.machine m x.machine.sp keeps begun.above x.calls calls_open x.machine.sp (omega arith) is.between.calls.stand)
+
+    arguments_are : arguments_at p.signatures m (Some opened) ≡ args
+    arguments_are =
+        ap (λ (k : ℕ). arguments_in site.arguments (stack_at k (block_bytes site) m)) called.block_is ∙ begun.arguments_stand
 
     newest_stands : IsOpen base.standard p.signatures base.held m opened newest m.sp
     newest_stands =
-        record { below = called.below; signature = refl; stands = stands; reserved = entry_is.reserved; incoming = called.incoming_is; block = called.block_is }
+        let P = λ (vs : List ValueTree). Own base.standard site vs begun.entry.image in
+        record {
+          below = called.below;
+          signature = refl;
+          stands = stands;
+          reserved = entry_is.reserved;
+          incoming = called.incoming_is;
+          block = called.block_is;
+          arguments = subst P (sym arguments_are) entry_is.holds.own;
+        }
 
     -- the lines that tell the entry, where the run is traced
     abbrev pub told_lines : List ℕ
@@ -178,7 +194,7 @@ module _ (p : Program) (base : Base) (all : Remainder) (first : Beginning) (own 
           top = h.top;
           come = comes_in p base all own events x.innermost x.closures x.moves x.suspended ptr sig callee begun.entry h.come does_so entry_is;
           journal = journal_then;
-          written = took_then first.output x.output output (text_so_far first.tracing p base own) told_lines (text_so_far first.tracing p base (own ++ Enter ptr sig args ∷ [])) (text_then first.tracing p base own (Enter ptr sig args)) h.written told;
+          written = since_then first x.output output (text_so_far first.tracing p base own) told_lines h.written (text_so_far first.tracing p base (own ++ Enter ptr sig args ∷ [])) (text_then first.tracing p base own (Enter ptr sig args)) told;
           mark = mark_then;
           deep = omega (arith, deeper, lower, at);
           left = omega (arith, left, lower, bottom);
@@ -202,20 +218,25 @@ module _ (p : Program) (base : Base) (all : Remainder) (first : Beginning) (own 
         }
 
     -- or the run is interrupted there, in those lines or before them
-    pub enters_cut : (why : IoError) (output : SinkState) → LineInterrupted told_lines x.output output why → WasInterrupted p base all first why m output
+    pub enters_cut : (why : IoError) (output : SinkState) → LineInterrupted told_lines x.output output why → WasInterruptedAfter p base all first own why m output
     enters_cut why output cut_off =
         let h = is.between in
         let part = cut_part why told_lines x.output output cut_off in
         record {
-          happened = own ++ Enter ptr sig args ∷ [];
-          events = events ++ begun.entry ∷ [];
-          text = text_so_far first.tracing p base own ++ take part.0 told_lines;
-          cut = cut_in_entry p base all own events x.innermost x.suspended x.closures x.moves h.come first.tracing (is_in_line why) ptr sig callee begun.entry part.0 does_so entry_is part.1;
-          journal = journal_then;
-          written = Adds-then first.output.taken x.output.taken output.taken (text_so_far first.tracing p base own) (take part.0 told_lines) h.written.added part.2;
-          cause = cause_from why first.output.faults x.output.faults output.faults h.written.count part.3;
-          mark = mark_then;
-          target = begun.in_callee.target;
-          closures = x.closures;
-          holds = holds_then;
+          interrupted = record {
+            happened = own ++ Enter ptr sig args ∷ [];
+            events = events ++ begun.entry ∷ [];
+            text = text_so_far first.tracing p base own ++ take part.0 told_lines;
+            cut = cut_in_entry p base all own events x.innermost x.suspended x.closures x.moves h.come first.tracing (is_in_line why) ptr sig callee begun.entry part.0 does_so entry_is part.1;
+            journal = journal_then;
+            written = part_since first x.output output (text_so_far first.tracing p base own) (take part.0 told_lines) h.written part.2;
+            cause = cause_from why first.output.faults x.output.faults output.faults h.written.took.count part.3;
+            mark = mark_then;
+            target = begun.in_callee.target;
+            closures = x.closures;
+            holds = holds_then;
+          };
+          more = Enter ptr sig args ∷ [];
+          happened = refl;
+          one = omega arith;
         }

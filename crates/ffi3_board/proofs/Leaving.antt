@@ -13,7 +13,8 @@ use Rattle.ffi3_run_rules.specs.Meaning.{Program, Activation, effect_of, need_at
 use Rattle.ffi3_run_rules.specs.Move.{return}
 use Rattle.ffi3_run_rules.specs.Trace.{TraceItem, Leave}
 use Rattle.ffi3_turn_rules.specs.Remainder.{Remainder, Suspended, awaited}
-use Rattle.ffi3_turn_rules.specs.Depth.{deepest, depth_at, depth_of}
+use Rattle.ffi3_turn_rules.specs.Depth.{deepest}
+use Rattle.ffi3_turn_rules.specs.Nested.{depth_at, depth_of}
 use Rattle.ffi3_turn_rules.specs.Open.{unreturned, open_calls}
 use Rattle.ffi3_turn_rules.specs.SoFar.{Base, text_after}
 use Rattle.ffi3_turn_rules.specs.TracingOf.{IsTracingOf}
@@ -26,19 +27,18 @@ use Rattle.ffi3_closures.specs.Slots.{HoldsMap}
 use Rattle.ffi3_io.specs.Sink.{SinkState}
 use Rattle.ffi3_io.specs.Written.{TookText}
 use Rattle.ffi3_io.specs.declared.IoError.{IoError}
-use Rattle.ffi3_io.proofs.Adding.{Adds-then}
-use Rattle.ffi3_io.proofs.Writing.{took_then}
 use Rattle.ffi3_invoke.specs.Calls.{HasEnded}
 use Rattle.ffi3_board.specs.declared.activation.OpenCall.{OpenCall}
 use Rattle.ffi3_board.specs.Between.{Beginning, RunState, asking, position, text_so_far, depth_below, open_calls_at, IsMarkOf, KeepsFound, IsBetween, IsAsking}
 use Rattle.ffi3_board.specs.Stack.{caller_sp, OpenStand, frames, HoldsCalls}
 use Rattle.ffi3_board.proofs.Blocks.{AreAbove, blocks_above}
 use Rattle.ffi3_board.specs.TraceLines.{return_lines}
-use Rattle.ffi3_board.specs.Turned.{is_in_line, WasInterrupted}
+use Rattle.ffi3_board.specs.Turned.{is_in_line, WasInterruptedAfter}
 use Rattle.ffi3_io.specs.Written.{LineInterrupted}
 use Rattle.ffi3_board.proofs.Marks.{mark_leave, fewer, text_then}
 use Rattle.ffi3_board.proofs.Telling.{cause_from, cut_part, return_lines_are}
 use Rattle.ffi3_board.proofs.Opened.{caller_above, in_callee, open_kept, same_then_held}
+use Rattle.ffi3_board.proofs.Since.{part_since, since_then}
 
 -- the innermost activation, the one that waits for its call, and those around it
 module _ (p : Program) (base : Base) (all : Remainder) (first : Beginning) (own : List TraceItem) (events : List Event) (a caller : Activation) (c : OpenCall) (outer : List Suspended) (calls : List OpenCall) (closures : Closures) (moves : ℕ) (m : State) (output : SinkState) where
@@ -119,7 +119,7 @@ module _ (p : Program) (base : Base) (all : Remainder) (first : Beginning) (own 
 
     others_stand : OpenStand base.standard p.signatures base.held base.top m' calls still_open m'.sp
     others_stand =
-        open_kept base.standard p.signatures base.held base.top m m' m'.sp ended.keeps_open calls still_open m'.sp (omega arith) others_stood
+        open_kept base.standard p.signatures base.held base.top m m' m'.sp ended.keeps_open ended.above calls still_open m'.sp (omega arith) others_stood
 
     pub others_above : AreAbove m'.sp calls
     others_above =
@@ -166,7 +166,7 @@ module _ (p : Program) (base : Base) (all : Remainder) (first : Beginning) (own 
           top = h.top;
           come = comes_back p base all own events a closures moves waiting outer v found.0 ended.return found.1 h.come (ap (effect_of p a closures) is.asks) found.2 returns;
           journal = journal_then;
-          written = took_then first.output output output' (text_so_far first.tracing p base own) told_lines (text_so_far first.tracing p base (own ++ Leave c.sig v ∷ [])) (text_then first.tracing p base own (Leave c.sig v)) h.written told;
+          written = since_then first output output' (text_so_far first.tracing p base own) told_lines h.written (text_so_far first.tracing p base (own ++ Leave c.sig v ∷ [])) (text_then first.tracing p base own (Leave c.sig v)) told;
           mark = mark_then;
           deep = omega (arith, deeper, higher, at, taken);
           left = omega (arith, left, nested, higher);
@@ -190,20 +190,25 @@ module _ (p : Program) (base : Base) (all : Remainder) (first : Beginning) (own 
         }
 
     -- or the run is interrupted there, in those lines or before them
-    pub returns_cut : (why : IoError) (output' : SinkState) → LineInterrupted told_lines output output' why → WasInterrupted p base all first why m' output'
+    pub returns_cut : (why : IoError) (output' : SinkState) → LineInterrupted told_lines output output' why → WasInterruptedAfter p base all first own why m' output'
     returns_cut why output' cut_off =
         let h = is.between in
         let part = cut_part why told_lines output output' cut_off in
         record {
-          happened = own ++ Leave c.sig v ∷ [];
-          events = events ++ ended.return ∷ [];
-          text = text_so_far first.tracing p base own ++ take part.0 told_lines;
-          cut = cut_in_return p base all own events (is_in_line why) a waiting outer closures moves v found.0 ended.return found.1 first.tracing part.0 h.come (ap (effect_of p a closures) is.asks) found.2 returns part.1;
-          journal = journal_then;
-          written = Adds-then first.output.taken output.taken output'.taken (text_so_far first.tracing p base own) (take part.0 told_lines) h.written.added part.2;
-          cause = cause_from why first.output.faults output.faults output'.faults h.written.count part.3;
-          mark = mark_then;
-          target = ended.target ∙ h.calls.target;
-          closures = closures;
-          holds = holds_then;
+          interrupted = record {
+            happened = own ++ Leave c.sig v ∷ [];
+            events = events ++ ended.return ∷ [];
+            text = text_so_far first.tracing p base own ++ take part.0 told_lines;
+            cut = cut_in_return p base all own events (is_in_line why) a waiting outer closures moves v found.0 ended.return found.1 first.tracing part.0 h.come (ap (effect_of p a closures) is.asks) found.2 returns part.1;
+            journal = journal_then;
+            written = part_since first output output' (text_so_far first.tracing p base own) (take part.0 told_lines) h.written part.2;
+            cause = cause_from why first.output.faults output.faults output'.faults h.written.took.count part.3;
+            mark = mark_then;
+            target = ended.target ∙ h.calls.target;
+            closures = closures;
+            holds = holds_then;
+          };
+          more = Leave c.sig v ∷ [];
+          happened = refl;
+          one = omega arith;
         }

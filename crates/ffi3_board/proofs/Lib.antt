@@ -3,6 +3,7 @@ mod Spelling
 mod Acts
 pub mod Closed
 mod Marks
+pub mod Since
 pub mod Opened
 pub mod Moving
 pub mod Blocks

@@ -1,5 +1,5 @@
 -- Closures that are made and freed: what a board comes to.
-use Rattle.std.proofs.Common.{◌≡◌, ℕ, suc, List, [], ◌++◌, sym, subst, append-nil}
+use Rattle.std.proofs.Common.{◌≡◌, ℕ, suc, List, [], ◌++◌, sym, subst, append-nil, arith}
 use Rattle.ffi3_type_rules.specs.declared.Target.{Target}
 use Rattle.ffi3_type_rules.specs.Value.{ValueTree}
 use Rattle.ffi3_place_rules.specs.Event.{Event}
@@ -19,9 +19,9 @@ use Rattle.ffi3_board.specs.declared.board.Turn.{Turn}
 use Rattle.ffi3_board.specs.Known.{AreKnown}
 use Rattle.ffi3_board.specs.Going.{GoneOn, and_result}
 use Rattle.ffi3_board.specs.Between.{Beginning, IsBetween, IsAsking, run_state}
-use Rattle.ffi3_board.specs.Turned.{Turned, WasInterrupted}
+use Rattle.ffi3_board.specs.Turned.{CountedAtMostOne, Turned, WasInterruptedAfter}
 use Rattle.ffi3_board.proofs.Boarding.{goes}
-use Rattle.ffi3_board.proofs.Moving.{cut_between, change_on, looks_as_itself}
+use Rattle.ffi3_board.proofs.Moving.{cut_after, change_on, looks_as_itself}
 
 module _ {S : Type 0} (p : Program) (base : Base) (all : Remainder) (first : Beginning) (own : List TraceItem) (events : List Event) (b : Board S) (a : Activation S) (m m' : State) (output : SinkState) (asked : Move) (is : IsAsking p base all first own events (run_state p.signatures a b m output) asked) (r : ValueTree) (closures : Closures) (does : effect_of p (run_state p.signatures a b m output).innermost b.table asked ≡ goes_on r closures) (address : ℕ) (bytes : List ℕ) (written : m' ≡ with_code address bytes m) (holds : HoldsMap m'.target closures m'.code) (known : AreKnown p closures) where
   abbrev changed_board : Board S
@@ -41,9 +41,9 @@ module _ {S : Type 0} (p : Program) (base : Base) (all : Remainder) (first : Beg
   -- the run goes on, or there is no memory for the result
   pub made_on : (b' : Board S) (t : Turn) → GoneOn r a changed_board b' t → Turned p base all first own (suc b.moves) b' m' output t
   made_on b' t gone =
-      goes p base all first own changed_board b' a m' output r [] events t gone changed
+      goes p base all first own changed_board b' a m' output r [] events t (omega arith) gone changed
 
   -- there is no memory for it
-  pub made_refused : WasInterrupted p base all first cut.NoMemory m' output
+  pub made_refused : WasInterruptedAfter p base all first own cut.NoMemory m' output × CountedAtMostOne (suc b.moves) b.moves
   made_refused =
-      cut_between p base all first (own ++ []) events (run_state p.signatures (and_result a r) changed_board m' output) m' (looks_as_itself m') changed
+      (cut_after p base all first own [] events (run_state p.signatures (and_result a r) changed_board m' output) m' (omega arith) (looks_as_itself m') changed, (omega arith, omega arith))

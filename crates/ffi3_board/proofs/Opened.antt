@@ -1,17 +1,29 @@
 -- Open calls that stand on a machine's stack, from one machine to the next.
-use Rattle.std.proofs.Common.{◌≡◌, ℕ, ◌+◌, ◌<◌, ◌≤◌, List, [], ◌∷◌, length, sym, ◌∙◌, subst, arith}
+use Rattle.std.proofs.Common.{◌≡◌, ℕ, ◌+◌, ◌<◌, ◌≤◌, List, [], ◌∷◌, length, Some, refl, sym, ap, ◌∙◌, subst, arith}
 use Rattle.std.specs.List.{AllByRecursion}
 use Rattle.ffi3_type_rules.specs.Signature.{Signature, signature_at}
+use Rattle.ffi3_type_rules.specs.Value.{ValueTree}
 use Rattle.ffi3_place_rules.specs.declared.Loc.{Loc}
-use Rattle.ffi3_place_rules.specs.Holds.{SameIn}
+use Rattle.ffi3_place_rules.specs.Holds.{Own, SameIn}
 use Rattle.ffi3_place_rules.specs.Image.{Image, register}
 use Rattle.ffi3_place_rules.specs.Standard.{Standard, frame_of, need_of, block_bytes}
 use Rattle.ffi3_run_rules.specs.Journal.{Entered, needs}
-use Rattle.ffi3_machine.specs.State.{State, image_of, with_code, with_room}
+use Rattle.ffi3_machine.specs.State.{State, image_of, stack_at, with_code, with_room}
+use Rattle.ffi3_body.specs.SeenActivation.{arguments_in}
 use Rattle.ffi3_callee.specs.Received.{IsIncoming}
 use Rattle.ffi3_invoke.specs.Calls.{Stands, IsInCallee, IsCalled, KeepsOpen}
 use Rattle.ffi3_board.specs.declared.activation.OpenCall.{OpenCall}
+use Rattle.ffi3_board.specs.Activations.{arguments_at}
 use Rattle.ffi3_board.specs.Stack.{caller_sp, IsOpen, OpenStand, frames, HoldsCalls}
+
+-- the stack stays from an address on
+abbrev pub StaysFrom : ℕ → State → State → Type 0
+StaysFrom low m m' = (address count : ℕ) → low ≤ address → stack_at address count m' ≡ stack_at address count m
+
+-- and so do the arguments in a block there
+pub arguments_kept : (ss : List Signature) (m m' : State) (low : ℕ) → StaysFrom low m m' → (c : OpenCall) → low ≤ c.incoming.block → arguments_at ss m' (Some c) ≡ arguments_at ss m (Some c)
+arguments_kept ss m m' low stays c above =
+    ap (arguments_in (signature_at ss c.sig).arguments) (stays c.incoming.block (block_bytes (signature_at ss c.sig)) above)
 
 -- the caller's stack pointer is the call's need above the block
 pub caller_above : (std : Standard) (e : Entered) (sp : ℕ) (m : State) → Stands std e sp m → sp + need_of std e.signature ≡ caller_sp std e
@@ -29,24 +41,28 @@ module _ (std : Standard) (ss : List Signature) (held : Loc → ℕ) (top : ℕ)
       let own : sp + need_of std e.signature ≡ caller_sp std e = caller_above std e sp m h.0.stands in
       omega (arith, others, own)
 
-  kept_one : (m m' : State) (low sp : ℕ) (c : OpenCall) (e : Entered) → KeepsOpen std low m m' → low ≤ sp → IsOpen std ss held m c e sp → IsOpen std ss held m' c e sp
-  kept_one m m' low sp c e keeps above h = record {
-    below = h.below;
-    signature = h.signature;
-    stands = keeps e sp above h.stands;
-    reserved = h.reserved;
-    incoming = h.incoming;
-    block = h.block;
-  }
+  kept_one : (m m' : State) (low sp : ℕ) (c : OpenCall) (e : Entered) → KeepsOpen std low m m' → StaysFrom low m m' → low ≤ sp → IsOpen std ss held m c e sp → IsOpen std ss held m' c e sp
+  kept_one m m' low sp c e keeps stays above h =
+      let here : c.incoming.block ≡ sp = h.block in
+      let same = arguments_kept ss m m' low stays c (omega (arith, here, above)) in
+      record {
+        below = h.below;
+        signature = h.signature;
+        stands = keeps e sp above h.stands;
+        reserved = h.reserved;
+        incoming = h.incoming;
+        block = h.block;
+        arguments = subst (λ (vs : List ValueTree). Own std e.signature vs e.event.image) (sym same) h.arguments;
+      }
 
   -- what keeps the stack from an address on keeps the calls that stand there
-  pub open_kept : (m m' : State) (low : ℕ) → KeepsOpen std low m m' → (calls : List OpenCall) (entered : List Entered) (sp : ℕ) → low ≤ sp → OpenStand std ss held top m calls entered sp → OpenStand std ss held top m' calls entered sp
-  open_kept m m' low keeps [] [] sp above h = h
-  open_kept m m' low keeps [] (e ∷ outer) sp above h = elim h [ ]
-  open_kept m m' low keeps (c ∷ calls) [] sp above h = elim h [ ]
-  open_kept m m' low keeps (c ∷ calls) (e ∷ outer) sp above h =
+  pub open_kept : (m m' : State) (low : ℕ) → KeepsOpen std low m m' → StaysFrom low m m' → (calls : List OpenCall) (entered : List Entered) (sp : ℕ) → low ≤ sp → OpenStand std ss held top m calls entered sp → OpenStand std ss held top m' calls entered sp
+  open_kept m m' low keeps stays [] [] sp above h = h
+  open_kept m m' low keeps stays [] (e ∷ outer) sp above h = elim h [ ]
+  open_kept m m' low keeps stays (c ∷ calls) [] sp above h = elim h [ ]
+  open_kept m m' low keeps stays (c ∷ calls) (e ∷ outer) sp above h =
       let own : sp + need_of std e.signature ≡ caller_sp std e = caller_above std e sp m h.0.stands in
-      (kept_one m m' low sp c e keeps above h.0, open_kept m m' low keeps calls outer (caller_sp std e) (omega (arith, above, own)) h.1)
+      (kept_one m m' low sp c e keeps stays above h.0, open_kept m m' low keeps stays calls outer (caller_sp std e) (omega (arith, above, own)) h.1)
 
   -- code that is written
   keeps_code : (address : ℕ) (bytes : List ℕ) (m : State) → KeepsOpen std 0 m (with_code address bytes m)
@@ -62,7 +78,7 @@ module _ (std : Standard) (ss : List Signature) (held : Loc → ℕ) (top : ℕ)
   pub holds_by_code : (address : ℕ) (bytes : List ℕ) (m : State) (calls : List OpenCall) (entered : List Entered) → HoldsCalls std ss held top m calls entered → HoldsCalls std ss held top (with_code address bytes m) calls entered
   holds_by_code address bytes m calls entered h = record {
     target = h.target;
-    stand = open_kept m (with_code address bytes m) 0 (keeps_code address bytes m) calls entered m.sp (omega arith) h.stand;
+    stand = open_kept m (with_code address bytes m) 0 (keeps_code address bytes m) (λ at count above. refl) calls entered m.sp (omega arith) h.stand;
     reserved = h.reserved;
     room = h.room;
     bytes = h.bytes;

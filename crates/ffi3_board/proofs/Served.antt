@@ -20,7 +20,8 @@ use Rattle.ffi3_run_rules.specs.Meaning.{Program, ends, returned, effect_of, nex
 use Rattle.ffi3_run_rules.specs.Move.{return}
 use Rattle.ffi3_run_rules.specs.Trace.{TraceItem, Leave}
 use Rattle.ffi3_turn_rules.specs.Remainder.{Remainder, Bottom, as_main, served, before, only, rest, alone, awaited, awaited_below}
-use Rattle.ffi3_turn_rules.specs.Depth.{deepest, depth_at}
+use Rattle.ffi3_turn_rules.specs.Depth.{deepest}
+use Rattle.ffi3_turn_rules.specs.Nested.{depth_at}
 use Rattle.ffi3_turn_rules.specs.Open.{open_calls}
 use Rattle.ffi3_turn_rules.specs.TracingOf.{IsTracingOf}
 use Rattle.ffi3_turn_rules.specs.SoFar.{Base, text_after, open_at}
@@ -33,8 +34,6 @@ use Rattle.ffi3_closures.specs.Slots.{HoldsMap}
 use Rattle.ffi3_io.specs.Sink.{SinkState}
 use Rattle.ffi3_io.specs.Written.{TookText}
 use Rattle.ffi3_io.specs.declared.IoError.{IoError}
-use Rattle.ffi3_io.proofs.Adding.{Adds-then}
-use Rattle.ffi3_io.proofs.Writing.{took_then}
 use Rattle.ffi3_pieces.specs.Stored.{WroteWithin}
 use Rattle.ffi3_callee.specs.Given.{ResultWrites}
 use Rattle.ffi3_invoke.specs.Calls.{HasReturned, IsInCallee, return_at, with_journal_of}
@@ -49,13 +48,14 @@ use Rattle.ffi3_board.specs.Outermost.{AreEntriesOf}
 use Rattle.ffi3_board.specs.Served.{IsOutsideBuffer, HasServed, HasLeft}
 use Rattle.ffi3_board.specs.Stack.{caller_sp, IsOpen, OpenStand, HoldsCalls}
 use Rattle.ffi3_board.specs.TraceLines.{last_event, return_lines}
-use Rattle.ffi3_board.specs.Turned.{IsEnded, IsDone, WasInterrupted, is_in_line}
+use Rattle.ffi3_board.specs.Turned.{IsEnded, TurnIsDone, WasInterruptedAfter, is_in_line, last_return}
 use Rattle.ffi3_io.specs.Written.{LineInterrupted}
 use Rattle.ffi3_board.proofs.Boarding.{void_is}
 use Rattle.ffi3_board.proofs.Marks.{mark_leave, text_then}
 use Rattle.ffi3_board.proofs.Telling.{cause_from, cut_part, last_is, return_lines_are}
-use Rattle.ffi3_board.proofs.Moving.{main_ends}
+use Rattle.ffi3_board.proofs.Moving.{main_ends, main_is_last}
 use Rattle.ffi3_board.proofs.Opened.{in_callee, same_then_held}
+use Rattle.ffi3_board.proofs.Since.{part_since, since_then}
 
 -- ---- which activation is the outermost
 
@@ -105,7 +105,8 @@ byte_of_part m from count i bytes inside below is =
 -- ---- the return
 
 -- what the outermost return comes to
-pub record Returns (p : Program) (base : Base) (all : Remainder) (first : Beginning) (closures : Closures) (moves : ℕ) (output : SinkState) (v : ValueTree) (m : State) : Type 0 where
+pub record Returns (p : Program) (base : Base) (all : Remainder) (first : Beginning) (own : List TraceItem) (closures : Closures) (moves : ℕ) (output : SinkState) (v : ValueTree) (m : State) : Type 0 where
+  pub last : all.trace ≡ own ++ last_return base.bottom v
   pub ended : IsEnded p base all first (returned v) closures moves m output
   pub left : HasLeft p base first base.bottom base.entries v m
   pub known : AreKnown p closures
@@ -114,7 +115,7 @@ pub record Returns (p : Program) (base : Base) (all : Remainder) (first : Beginn
 module _ {S : Type 0} (p : Program) (base : Base) (all : Remainder) (first : Beginning) (own : List TraceItem) (events : List Event) (closures : Closures) (moves : ℕ) (m : State) (output : SinkState) (current : Activation S) (v : ValueTree) where
   module _ (asks : IsAsking p base all first own events (run_state_with p.signatures None [] closures moves m output current) (return v)) (it : fits void v ≡ true) where
     -- MAIN RETURNS
-    pub main_returns : Returns p base all first closures moves output v m
+    pub main_returns : Returns p base all first own closures moves output v m
     main_returns =
         let x : RunState = run_state_with p.signatures None [] closures moves m output current in
         let h = asks.between in
@@ -123,6 +124,7 @@ module _ {S : Type 0} (p : Program) (base : Base) (all : Remainder) (first : Beg
         let below = main_below base.standard p.signatures base.held base.top m base.bottom base.entries h.outermost (subst P calls h.calls.stand) in
         let few : length current.results + suc moves ≤ most_moves = h.few in
         record {
+          last = subst (λ (b : Bottom). all.trace ≡ own ++ last_return b v) (sym below.0) (main_is_last p base all first own events x (return v) asks v refl refl below.0);
           ended = main_ends p base all first own events x (return v) asks v refl refl below.0;
           left = subst (λ (b : Bottom). HasLeft p base first b base.entries v m) (sym below.0) (void_is v it, below.1);
           known = h.known;
@@ -258,7 +260,7 @@ module _ {S : Type 0} (p : Program) (base : Base) (all : Remainder) (first : Beg
             events = events ++ leaving ∷ [];
             over = ending.served_ends p base all own events x.innermost closures moves v h.come does below.sig below.entry leaving below.serving below.first is_return;
             journal = journal_then;
-            written = took_then first.output output output' (text_so_far first.tracing p base own) told_lines (text_so_far first.tracing p base all.trace) (ap (text_so_far first.tracing p base) trace_is ∙ text_then first.tracing p base own (Leave below.sig v)) h.written told;
+            written = (since_then first output output' (text_so_far first.tracing p base own) told_lines h.written (text_so_far first.tracing p base all.trace) (ap (text_so_far first.tracing p base) trace_is ∙ text_then first.tracing p base own (Leave below.sig v)) told).took;
             mark = subst M (sym trace_is) mark_then;
             target = within.target ∙ h.calls.target;
             reserved = same_then_held base.standard.reserved (image_of 0 m) (image_of 0 m') base.held back.reserved h.calls.reserved;
@@ -266,11 +268,12 @@ module _ {S : Type 0} (p : Program) (base : Base) (all : Remainder) (first : Beg
           }
 
       -- THE SERVED CALL RETURNS, once the return is told
-      pub served_returns : (output' : SinkState) → TookText told_lines output output' → Returns p base all first closures moves output' v m'
+      pub served_returns : (output' : SinkState) → TookText told_lines output output' → Returns p base all first own closures moves output' v m'
       served_returns output' told =
           let few : length current.results + suc moves ≤ most_moves = asks.between.few in
           let P = λ (l : List Event). HasLeft p base first (served below.sig) l v m' in
           record {
+            last = subst (λ (b : Bottom). all.trace ≡ own ++ last_return b v) (sym below.serving) trace_is;
             ended = served_ended output' told;
             left = subst (λ (b : Bottom). HasLeft p base first b base.entries v m') (sym below.serving) (subst P (sym below.first) call_served);
             known = asks.between.known;
@@ -278,29 +281,38 @@ module _ {S : Type 0} (p : Program) (base : Base) (all : Remainder) (first : Beg
           }
 
       -- or the run is interrupted there, in those lines or before them
-      pub served_cut : (why : IoError) (output' : SinkState) → LineInterrupted told_lines output output' why → WasInterrupted p base all first why m' output'
+      pub served_cut : (why : IoError) (output' : SinkState) → LineInterrupted told_lines output output' why → WasInterruptedAfter p base all first own why m' output'
       served_cut why output' cut_off =
           let h = asks.between in
           let part = cut_part why told_lines output output' cut_off in
           record {
-            happened = own ++ Leave below.sig v ∷ [];
-            events = events ++ leaving ∷ [];
-            text = text_so_far first.tracing p base own ++ take part.0 told_lines;
-            cut = ending.cut_in_served_return p base all own events x.innermost closures moves v h.come does below.sig below.entry leaving below.serving below.first is_return (is_in_line why) first.tracing part.0 part.1;
-            journal = journal_then;
-            written = Adds-then first.output.taken output.taken output'.taken (text_so_far first.tracing p base own) (take part.0 told_lines) h.written.added part.2;
-            cause = cause_from why first.output.faults output.faults output'.faults h.written.count part.3;
-            mark = mark_then;
-            target = within.target ∙ h.calls.target;
-            closures = closures;
-            holds = holds_then;
+            interrupted = record {
+              happened = own ++ Leave below.sig v ∷ [];
+              events = events ++ leaving ∷ [];
+              text = text_so_far first.tracing p base own ++ take part.0 told_lines;
+              cut = ending.cut_in_served_return p base all own events x.innermost closures moves v h.come does below.sig below.entry leaving below.serving below.first is_return (is_in_line why) first.tracing part.0 part.1;
+              journal = journal_then;
+              written = part_since first output output' (text_so_far first.tracing p base own) (take part.0 told_lines) h.written part.2;
+              cause = cause_from why first.output.faults output.faults output'.faults h.written.took.count part.3;
+              mark = mark_then;
+              target = within.target ∙ h.calls.target;
+              closures = closures;
+              holds = holds_then;
+            };
+            more = Leave below.sig v ∷ [];
+            happened = refl;
+            one = omega arith;
           }
 
 -- THE RUN IS DONE, on a board that has none of the activations
-pub is_done : {S : Type 0} (p : Program) (base : Base) (all : Remainder) (first : Beginning) (v : ValueTree) (m : State) (output : SinkState) (b : Board S) → b.innermost ≡ None → b.suspended.items ≡ [] → b.served ≡ None → Returns p base all first b.table b.moves output v m → IsDone p base all first b m output
-is_done p base all first v m output b taken alone unserved h = record {
-  result = v;
-  ended = h.ended;
-  left = h.left;
-  idle = record { innermost = taken; suspended = alone; served = unserved; known = h.known; few = h.few };
+pub is_done : {S : Type 0} (p : Program) (base : Base) (all : Remainder) (first : Beginning) (own : List TraceItem) (v : ValueTree) (m : State) (output : SinkState) (b : Board S) → b.innermost ≡ None → b.suspended.items ≡ [] → b.served ≡ None → Returns p base all first own b.table b.moves output v m → TurnIsDone p base all first own (suc b.moves) b m output
+is_done p base all first own v m output b taken alone unserved h = record {
+  done = record {
+    result = v;
+    ended = h.ended;
+    left = h.left;
+    idle = record { innermost = taken; suspended = alone; served = unserved; known = h.known; few = h.few };
+  };
+  last = h.last;
+  counted = refl;
 }

@@ -12,7 +12,8 @@ use Rattle.ffi3_run_rules.specs.Meaning.{Program, most_moves, next_move}
 use Rattle.ffi3_run_rules.specs.Move.{Move}
 use Rattle.ffi3_run_rules.specs.Trace.{TraceItem}
 use Rattle.ffi3_turn_rules.specs.Remainder.{Remainder, Suspended, awaited}
-use Rattle.ffi3_turn_rules.specs.Depth.{depth_at, deepest, depth_of}
+use Rattle.ffi3_turn_rules.specs.Depth.{deepest}
+use Rattle.ffi3_turn_rules.specs.Nested.{depth_at, depth_of}
 use Rattle.ffi3_turn_rules.specs.SoFar.{Base, text_start, Position, open_at, HasComeTo}
 use Rattle.ffi3_machine.specs.State.{State, stack_at}
 use Rattle.ffi3_closures.specs.Slots.{HoldsMap}
@@ -27,10 +28,11 @@ use Rattle.ffi3_board.specs.Outermost.{AreEntriesOf}
 use Rattle.ffi3_board.specs.Activations.{acting, call_inside, suspended_at, calls_of}
 use Rattle.ffi3_board.specs.Stack.{HoldsCalls, frames}
 
--- what a run found as it began: the journal, the mark, what the output had taken, the stack, and the room in the journal beside that for the returns of the calls that were open; and how it is traced
+-- what a run found as it began: the journal, the mark, what the output had taken, the stack, and the room in the journal beside that for the returns of the calls that were open; and how it is traced. The output may be looked at later than that, once so many bytes of the run's text were told.
 pub record Beginning : Type 0 where
   pub events : List Event
   pub mark : ℕ
+  pub told : ℕ
   pub output : SinkState
   pub stack : List ℕ
   pub spare_events : ℕ
@@ -62,6 +64,19 @@ position x = record {
 abbrev pub text_so_far : Tracing → Program → Base → List TraceItem → List ℕ
 text_so_far tracing p base own = text tracing p.signatures (text_start p base) own
 
+-- THE OUTPUT TOOK THE TEXT since it was looked at
+pub record TookSince (first : Beginning) (so_far : List ℕ) (output : SinkState) : Type 0 where
+  pub told : first.told ≤ length so_far
+  pub took : TookText (drop first.told so_far) first.output output
+
+-- the same beginning, where the output, any, is looked at after this trace, and the run is traced so from then on
+abbrev pub anew : Tracing → SinkState → Program → Base → List TraceItem → Beginning → Beginning
+anew tracing output p base own first = record first {
+  told = length (text_so_far tracing p base own);
+  output = output;
+  tracing = tracing;
+}
+
 -- the calls that were open as the run began take so many bytes
 abbrev pub depth_below : Program → Base → ℕ
 depth_below p base = depth_of p (awaited base.bottom [])
@@ -92,7 +107,7 @@ pub record IsBetween (p : Program) (base : Base) (all : Remainder) (first : Begi
   pub top : base.top ≤ STACK_TOP
   pub come : HasComeTo p base all own events (position x)
   pub journal : x.machine.events ≡ first.events ++ events
-  pub written : TookText (text_so_far first.tracing p base own) first.output x.output
+  pub written : TookSince first (text_so_far first.tracing p base own) x.output
   pub mark : IsMarkOf base.top first.mark (deepest p (depth_below p base) own) x.machine.mark
   pub deep : x.machine.sp + depth_at p (depth_below p base) own ≡ base.top
   pub left : x.innermost.left + STACK ≡ x.machine.sp

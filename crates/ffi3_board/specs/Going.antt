@@ -34,12 +34,12 @@ module _ {S : Type 0} where
   abbrev pub and_result : Activation S → ValueTree → Activation S
   and_result a r = record a { results = a.results ++ r ∷ [] }
 
-  -- the activation goes on with a result, or there is no memory for it
+  -- the activation goes on with a result, or there is no memory for it and nothing changes
   abbrev pub GoneOn : ValueTree → Activation S → Board S → Board S → Turn → Type 0
   GoneOn r a old new More = new ≡ record old { innermost = Some (and_result a r) }
   GoneOn r a old new Done = ⊥
   GoneOn r a old new (Stopped stop) = ⊥
-  GoneOn r a old new NoMemory = Unit {0}
+  GoneOn r a old new NoMemory = new ≡ old
   GoneOn r a old new Failed = ⊥
 
   -- a closure's function, before its first move, is the innermost activation, and this one waits for the call

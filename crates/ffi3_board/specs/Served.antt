@@ -60,6 +60,7 @@ abbrev pub served_beginning : Standard → Signature → State → SinkState →
 served_beginning std s m output tracing = record {
   events = m.events ++ entry_at std s m ∷ [];
   mark = m.mark;
+  told = 0;
   output = output;
   stack = m.stack;
   spare_events = m.spare_events - 2;

@@ -1,8 +1,9 @@
 -- The open calls on a machine's stack, one above the other.
-use Rattle.std.specs.Prelude.{◌≡◌, ℕ, ◌+◌, ◌<◌, ◌≤◌, List, [], ◌∷◌, length}
+use Rattle.std.specs.Prelude.{◌≡◌, ℕ, ◌+◌, ◌<◌, ◌≤◌, List, [], ◌∷◌, length, Some}
 use Rattle.std.specs.List.{AllByRecursion}
 use Rattle.ffi3_type_rules.specs.Signature.{Signature, signature_at}
 use Rattle.ffi3_place_rules.specs.declared.Loc.{Loc}
+use Rattle.ffi3_place_rules.specs.Holds.{Own}
 use Rattle.ffi3_place_rules.specs.Image.{register}
 use Rattle.ffi3_place_rules.specs.Standard.{Standard, frame_of}
 use Rattle.ffi3_run_rules.specs.Journal.{Entered}
@@ -10,12 +11,13 @@ use Rattle.ffi3_machine.specs.State.{State, image_of}
 use Rattle.ffi3_callee.specs.Received.{IsIncoming}
 use Rattle.ffi3_invoke.specs.Calls.{Stands}
 use Rattle.ffi3_board.specs.declared.activation.OpenCall.{OpenCall}
+use Rattle.ffi3_board.specs.Activations.{arguments_at}
 
 -- where the stack pointer of the caller stood, before it stored the arguments
 abbrev pub caller_sp : Standard → Entered → ℕ
 caller_sp std e = e.event.image.sp + std.link + frame_of std e.signature
 
--- AN OPEN CALL STANDS ON THE STACK: its callee's block begins at sp, and the reserved registers were at its entry as they were at first.
+-- AN OPEN CALL STANDS ON THE STACK: its callee's block begins at sp, the arguments in that block are those that the image at its entry owns, and the reserved registers were at its entry as they were at first.
 pub record IsOpen (std : Standard) (signatures : List Signature) (held : Loc → ℕ) (m : State) (c : OpenCall) (e : Entered) (sp : ℕ) : Type 0 where
   pub below : c.sig < length signatures
   pub signature : e.signature ≡ signature_at signatures c.sig
@@ -23,6 +25,7 @@ pub record IsOpen (std : Standard) (signatures : List Signature) (held : Loc →
   pub reserved : AllByRecursion (λ at. register e.event.image at ≡ held at) std.reserved
   pub incoming : IsIncoming std e.signature c.incoming
   pub block : c.incoming.block ≡ sp
+  pub arguments : Own std e.signature (arguments_at signatures m (Some c)) e.event.image
 
 -- EACH OPEN CALL STANDS JUST BELOW THE ONE AROUND IT, the outermost just below the top.
 abbrev pub OpenStand : Standard → List Signature → (Loc → ℕ) → (top : ℕ) → State → List OpenCall → List Entered → (sp : ℕ) → Type 0

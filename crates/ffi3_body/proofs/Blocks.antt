@@ -4,6 +4,7 @@ use Rattle.std.specs.List.{sum_by}
 use Rattle.std.proofs.Math.Seq.{take-suc}
 use Rattle.std.proofs.lemmas.List.{drop-drop, get_or_default}
 use Rattle.std.proofs.lemmas.List.Sums.{sum_by_more_le, sum_by-cons, sum_by_push, sum_by-le}
+use Rattle.ffi3_type_rules.specs.declared.limits.TheConstants.{LARGEST_STRUCT}
 use Rattle.ffi3_type_rules.specs.Tree.{Tree, void, tree_at}
 use Rattle.ffi3_type_rules.specs.Layout.{size_of, least_multiple}
 use Rattle.ffi3_type_rules.specs.Signature.{Signature, SignatureHasNoFault}
@@ -41,9 +42,9 @@ size_small s right i below =
 pub block_small : (s : Signature) → SignatureHasNoFault s → block_bytes s < 2 ^ 32
 block_small s right =
     let ts = s.arguments in
-    let each : All (λ t. whole_size t ≤ 1032) ts = λ i d below. let same = get_or_default ts i d void below in
+    let each : All (λ t. whole_size t ≤ LARGEST_STRUCT + 7) ts = λ i d below. let same = get_or_default ts i d void below in
     rw same (omega (arith, size_small s right i below, least_multiple-below 8 (size_of (tree_at ts i)) (omega arith))) in
-    omega (arith, few_arguments s right, sum_by-le whole_size 1032 ts each, least_multiple-below 16 (sum_by whole_size ts) (omega arith))
+    omega (arith, few_arguments s right, sum_by-le whole_size (LARGEST_STRUCT + 7) ts each, least_multiple-below 16 (sum_by whole_size ts) (omega arith))
 
 -- what stands behind the first argument
 moved : (t : Tree) (ts : List Tree) (i : ℕ) (block : List ℕ) → drop (block_offset ts i) (drop (whole_size t) block) ≡ drop (block_offset (t ∷ ts) (suc i)) block

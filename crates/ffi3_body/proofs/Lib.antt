@@ -1,4 +1,3 @@
 pub mod Blocks
-pub mod Sum
 pub mod Follow
 pub mod Fitting

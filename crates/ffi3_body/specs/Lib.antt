@@ -1,4 +1,3 @@
 pub mod MoveOf
 pub mod SeenActivation
 pub mod Follow
-pub mod Sum

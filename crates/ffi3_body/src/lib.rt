@@ -11,8 +11,6 @@ ghost use Rattle.ffi3_body.specs.SeenActivation.{arguments_of};
 ghost use Rattle.ffi3_body.specs.Follow.{ResultsFollow};
 
 mod seen;
-#[cfg(test)]
-mod tests;
 
 pub use ffi3_types::{FfiType, NoMemory, Sigs};
 pub use ffi3_values::{Value, Values};

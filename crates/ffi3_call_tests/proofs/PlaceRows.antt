@@ -1,7 +1,7 @@
 -- Worked lines of place on AMD64, computed.
 use Rattle.std.specs.Prelude.{◌≡◌, ℕ, List, [], ◌∷◌, ◌++◌, refl, None, Some, codes}
 use Rattle.std.specs.Fmt.{digits}
-use Rattle.ffi3_type_rules.specs.Tree.{Tree, void, scalar, struct_of, s8, s32, u64, s64, float, double, pointer}
+use Rattle.ffi3_type_rules.specs.Tree.{Tree, void, scalar, struct_of, s8, s32, u64, s64, u128, float, double, pointer}
 use Rattle.ffi3_type_rules.specs.Layout.{least_multiple}
 use Rattle.ffi3_type_rules.specs.Signature.{Signature, at_result, at_argument}
 use Rattle.ffi3_amd64_rules.specs.Amd64.{amd64}
@@ -54,6 +54,23 @@ pair_after_five-pair = refl
 pub pair_after_five-next : place_text_of amd64 pair_after_five (at_argument 6) ≡ a_line (codes "arg 6 r9:0+8")
 unfolding least_multiple digits
 pair_after_five-next = refl
+
+-- seven sint64, an integer of 128 bits and a sint64: it begins at a multiple of 16 on the stack
+abbrev wide_after_seven : Signature
+wide_after_seven =
+    sig_of void (integer ∷ integer ∷ integer ∷ integer ∷ integer ∷ integer ∷ integer ∷ scalar u128 ∷ integer ∷ [])
+
+pub wide_after_seven-sig : sig_text_of 0 amd64 wide_after_seven ≡ a_line (codes "sig 0 need 192 frame 48 block 80 rax 0")
+unfolding least_multiple digits
+wide_after_seven-sig = refl
+
+pub wide_after_seven-wide : place_text_of amd64 wide_after_seven (at_argument 7) ≡ a_line (codes "arg 7 stack16:0+16")
+unfolding least_multiple digits
+wide_after_seven-wide = refl
+
+pub wide_after_seven-next : place_text_of amd64 wide_after_seven (at_argument 8) ≡ a_line (codes "arg 8 stack32:0+8")
+unfolding least_multiple digits
+wide_after_seven-next = refl
 
 -- a struct over two eightbytes: in the caller's buffer as a result, on the stack as an argument
 abbrev triple : Tree

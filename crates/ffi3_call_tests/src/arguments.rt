@@ -1,67 +1,119 @@
-//! An argument that is narrower than its register, as the standards fill it.
-ghost use Rattle.std.specs.Prelude.{◌≡◌, ◌∷◌, [], IfOk, None, true};
-ghost use Rattle.ffi3_type_rules.specs.Tree.{void};
-ghost use Rattle.ffi3_type_rules.specs.Value.{fits, leaf_value};
-ghost use Rattle.ffi3_types.specs.TreeOf.{tree_of};
+//! Arguments that are narrower than their registers, as the standards fill these.
+ghost use Rattle.std.specs.Prelude.{◌≡◌, true};
+ghost use Rattle.ffi3_type_rules.specs.Tree.{trees_of};
+ghost use Rattle.ffi3_type_rules.specs.Value.{all_fit, values_of};
 
+use crate::slots::{SIGNATURES, fitting, prepared, some_arguments};
+use ffi3_aapcs64::Aapcs64;
 use ffi3_amd64::Amd64;
 use ffi3_caller::store_args;
-use ffi3_cif::{Cif, prep_cif};
-use ffi3_machine::{Machine, NoMemory, STACK};
+use ffi3_cif::Cif;
+use ffi3_machine::{Machine, STACK};
 use ffi3_place::Abi;
 use ffi3_riscv::Riscv;
-use ffi3_types::{Bytes, FfiType, Fields};
+use ffi3_types::Bytes;
 use ffi3_values::{Value, Values};
 use std::alloc::Global;
+use std::process::Abort;
 use std::test::Fail;
 
-/// The interface of a function of one argument and no result.
-fn call_of<A: Abi>(alloc: Global, ty: FfiType) -> Result<Cif<A>, Fail>
-    ensures { IfOk result (λ c. c ≡ record { result_type = void; arguments = tree_of ty ∷ []; fixed = None }) }
+/// A machine in which the arguments of a call were stored.
+fn stored<A: Abi>(alloc: Global, cif: &Cif<A>, args: &Values) -> Result<Machine, Fail>
+    requires { all_fit (trees_of cif.now.arguments) (values_of args.now) ≡ true }
 {
-    let mut args = Fields::new(alloc);
-    args.push(ty)?;
-    let Ok(cif) = prep_cif::<A>(alloc, FfiType::Void, args) else {
-        return Err("a fault".into());
-    };
-    Ok(cif)
-}
-
-/// One value of these bytes.
-fn value_of(alloc: Global, bytes: &[u8]) -> Result<Values, NoMemory>
-    ensures { IfOk result (λ vs. vs ≡ leaf_value bytes.now ∷ []) }
-{
-    let mut values = Values::new(alloc);
-    values.push(Value::Leaf(Bytes::from_slice(alloc, bytes)?))?;
-    Ok(values)
-}
-
-/// A machine in which the one argument of a call was stored.
-fn stored<A: Abi>(alloc: Global, ty: FfiType, bytes: &[u8]) -> Result<Machine, Fail>
-    requires { fits (tree_of ty) (leaf_value bytes.now) ≡ true }
-{
-    let cif = call_of::<A>(alloc, ty)?;
-    let values = value_of(alloc, bytes)?;
     let mut machine = Machine::new(alloc)?;
     machine.begin(A::TARGET);
     if machine.sp() - STACK < cif.frame() {
         return Err("no room".into());
     }
-    store_args(&mut machine, &cif, &values);
+    store_args(&mut machine, cif, args);
     Ok(machine)
+}
+
+/// After one argument of these bytes was stored, general and floating register number k.
+fn registers_of<A: Abi>(
+    alloc: Global,
+    text: &str,
+    bytes: &[u8],
+    k: u8,
+) -> Result<(u64, u64), Fail> {
+    let cif = prepared::<A>(alloc, text)?;
+    let mut values = Values::new(alloc);
+    values.push(Value::Leaf(Bytes::from_slice(alloc, bytes)?))?;
+    let list = Value::List(values);
+    let machine = stored(alloc, &cif, fitting(alloc, &cif, &list)?)?;
+    Ok((machine.g(k % 32), machine.f(k % 32)))
 }
 
 #[test]
 fn stores_narrow_arguments(rt: HostRuntime) -> Result<(), Fail> {
     let alloc = rt.alloc();
-    let a0 = stored::<Riscv>(alloc, FfiType::U32, &[0x00, 0x00, 0x00, 0x80])?.g(10);
-    assert_eq!(&rt; a0, 0xFFFF_FFFF_8000_0000);
-    let a0 = stored::<Riscv>(alloc, FfiType::U8, &[0xFF])?.g(10);
-    assert_eq!(&rt; a0, 0xFF);
-    let fa0 = stored::<Riscv>(alloc, FfiType::Float, &[0x00, 0x00, 0x80, 0x3F])?.f(10);
-    assert_eq!(&rt; fa0, 0xFFFF_FFFF_3F80_0000);
-    let machine = stored::<Amd64>(alloc, FfiType::S8, &[0xFF])?;
-    assert_eq!(&rt; machine.g(7), 0xFFFF_FFFF_FFFF_FFFF);
-    assert_eq!(&rt; machine.g(0), 0);
+    let takes_uint32 = r#"{"ret":"void","args":["uint32"]}"#;
+    let (a0, _) = registers_of::<Riscv>(alloc, takes_uint32, &[0x00, 0x00, 0x00, 0x80], 10)?;
+    assert!(rt; a0 == 0xFFFF_FFFF_8000_0000);
+    let takes_uint8 = r#"{"ret":"void","args":["uint8"]}"#;
+    let (a0, _) = registers_of::<Riscv>(alloc, takes_uint8, &[0xFF], 10)?;
+    assert!(rt; a0 == 0xFF);
+    let takes_float = r#"{"ret":"void","args":["float"]}"#;
+    let (_, fa0) = registers_of::<Riscv>(alloc, takes_float, &[0x00, 0x00, 0x80, 0x3F], 10)?;
+    assert!(rt; fa0 == 0xFFFF_FFFF_3F80_0000);
+    let takes_sint8 = r#"{"ret":"void","args":["sint8"]}"#;
+    let (rdi, _) = registers_of::<Amd64>(alloc, takes_sint8, &[0xFF], 7)?;
+    assert!(rt; rdi == 0xFFFF_FFFF_FFFF_FFFF);
+    Ok(())
+}
+
+/// General registers hold these words, in this order.
+fn check_general(rt: &impl Abort, machine: &Machine, registers: &[u8], words: &[u64]) {
+    for i in 0..registers.len() {
+        if i < words.len() {
+            assert!(rt; machine.g(registers[i] % 32) == words[i], "{i}");
+        }
+    }
+}
+
+/// After arguments of the first signature were stored, general registers hold these words, in this order. Gives floating register
+/// number k.
+fn check_first<A: Abi>(
+    rt: &impl Abort,
+    alloc: Global,
+    registers: &[u8],
+    words: &[u64],
+    k: u8,
+) -> Result<u64, Fail> {
+    let cif = prepared::<A>(alloc, SIGNATURES[0])?;
+    let list = some_arguments(alloc, &cif, &mut Bytes::new(alloc))?;
+    let machine = stored(alloc, &cif, fitting(alloc, &cif, &list)?)?;
+    check_general(rt, &machine, registers, words);
+    Ok(machine.f(k % 32))
+}
+
+/// The first integers of that signature, each extended by its sign.
+const EXTENDED: [u64; 8] = [
+    0x81,
+    0xFFFF_FFFF_FFFF_FF8C,
+    0x9897,
+    0xFFFF_FFFF_FFFF_A3A2,
+    0xB0AF_AEAD,
+    0xFFFF_FFFF_BBBA_B9B8,
+    0xCAC9_C8C7_C6C5_C4C3,
+    0xD5D4_D3D2_D1D0_CFCE,
+];
+
+#[test]
+fn narrow_arguments_fill_their_registers(rt: HostRuntime) -> Result<(), Fail> {
+    let alloc = rt.alloc();
+    let amd64: [u8; 6] = [7, 6, 2, 1, 8, 9];
+    let double = check_first::<Amd64>(&rt, alloc, &amd64, &EXTENDED, 1)?;
+    assert!(rt; double == 0xEBEA_E9E8_E7E6_E5E4);
+    let aapcs64: [u8; 8] = [0, 1, 2, 3, 4, 5, 6, 7];
+    let double = check_first::<Aapcs64>(&rt, alloc, &aapcs64, &EXTENDED, 1)?;
+    assert!(rt; double == 0xEBEA_E9E8_E7E6_E5E4);
+    // RISC-V sign-extends what has 32 bits, and ones stand above a float.
+    let riscv: [u8; 8] = [10, 11, 12, 13, 14, 15, 16, 17];
+    let mut extended = EXTENDED;
+    extended[4] = 0xFFFF_FFFF_B0AF_AEAD;
+    let float = check_first::<Riscv>(&rt, alloc, &riscv, &extended, 10)?;
+    assert!(rt; float == 0xFFFF_FFFF_DCDB_DAD9);
     Ok(())
 }

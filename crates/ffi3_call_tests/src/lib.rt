@@ -1,14 +1,18 @@
-//! Tests of values of public calls, from plans to calls on the machine, that cross crates: by all three standards, and no
-//! script and no program among them.
+//! Tests of values of public calls that only the language reaches: instructions, regions, slots and ends by themselves, and calls on
+//! the machine by all three standards, with no program among them.
 #![tactic(auto)]
 
 #[cfg(test)]
+mod adapters;
+#[cfg(test)]
 mod arguments;
 #[cfg(test)]
-mod lines;
+mod encodings;
 #[cfg(test)]
-mod results;
+mod regions;
 #[cfg(test)]
 mod runs;
 #[cfg(test)]
 mod slots;
+#[cfg(test)]
+mod table;

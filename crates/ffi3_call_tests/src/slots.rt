@@ -1,6 +1,8 @@
 //! Calls of closures through their slots, on each target: what the callee has and what the caller loads is what was sent.
 ghost use Rattle.std.specs.Prelude.{◌≡◌, ◌+◌, ◌<◌, ◌≤◌, IfOk, IsSome, List, length, true};
 ghost use Rattle.ffi3_type_rules.specs.declared.limits.TheConstants.{ENTRY, STACK, STACK_TOP};
+ghost use Rattle.ffi3_type_rules.specs.Fault.{IsResultType};
+ghost use Rattle.ffi3_type_rules.specs.Layout.{size_of};
 ghost use Rattle.ffi3_type_rules.specs.Tree.{trees_of};
 ghost use Rattle.ffi3_type_rules.specs.Value.{ValueTree, all_fit, fits, values_of};
 ghost use Rattle.ffi3_place_rules.specs.Standard.{frame_of, need_of};
@@ -25,13 +27,87 @@ use ffi3_machine::{Machine, NoMemory};
 use ffi3_place::Abi;
 use ffi3_place::parts::{argument, count_of, result_type, size_of};
 use ffi3_riscv::Riscv;
-use ffi3_types::{Bytes, FfiType, Fields, Sig, check_type};
+use ffi3_types::{Bytes, FfiType, Sig};
 use ffi3_values::{Value, Values, fits, value_from_bytes, value_text};
 use std::alloc::Global;
-use std::process::Abort;
 use std::test::Fail;
 
-/// Writes the argument that the callee has, with a space behind it.
+/// Bytes for a value of the type: a number and those after it.
+fn some_bytes(alloc: Global, ty: &FfiType, first: u8) -> Result<Vec<u8>, NoMemory>
+    requires { IsResultType (tree_of ty.now) }
+    ensures { IfOk result (λ bytes. length bytes.items ≡ size_of (tree_of ty.now)) }
+{
+    let mut bytes = vec![in alloc; first; size_of(ty) as usize]?;
+    for k in 0..bytes.len() {
+        bytes[k] = first.wrapping_add((k % 251) as u8);
+    }
+    Ok(bytes)
+}
+
+/// Writes the value that these bytes have, with a space behind it.
+fn write_value(alloc: Global, ty: &FfiType, bytes: &[u8], text: &mut Bytes) -> Result<(), NoMemory>
+    requires right { IsResultType (tree_of ty.now) }
+    requires sized { length bytes.now ≡ size_of (tree_of ty.now) }
+{
+    let value = value_from_bytes(alloc, ty, bytes)?;
+    text.extend(value_text(alloc, ty, &value)?.as_slice())?;
+    text.push(b' ')
+}
+
+/// A value of the type, of a number and those after it as bytes, which is written to the text.
+fn some_value(alloc: Global, ty: &FfiType, first: u8, text: &mut Bytes) -> Result<Value, NoMemory>
+    requires { IsResultType (tree_of ty.now) }
+    ensures { IfOk result (λ v. fits (tree_of ty.now) (value_of v) ≡ true) }
+{
+    let bytes = some_bytes(alloc, ty, first)?;
+    write_value(alloc, ty, bytes.as_slice(), text)?;
+    value_from_bytes(alloc, ty, bytes.as_slice())
+}
+
+/// The values of the list, where they fit the arguments.
+pub fn fitting<'a, A: Abi>(alloc: Global, cif: &Cif<A>, list: &'a Value) -> Result<&'a Values, Fail>
+    ensures { IfOk result (λ vs. all_fit (trees_of cif.now.arguments) (values_of vs.now) ≡ true) }
+{
+    let all = FfiType::Struct(cif.sig().args().copy(alloc)?);
+    if !fits(list, &all) {
+        return Err("no fit".into());
+    }
+    let Value::List(values) = list else {
+        return Err("no list".into());
+    };
+    Ok(values)
+}
+
+/// The first bytes of arguments. No two are the same, and most have their highest bit set.
+const FIRSTS: [u8; 16] = [
+    0x81, 0x8C, 0x97, 0xA2, 0xAD, 0xB8, 0xC3, 0xCE, 0xD9, 0xE4, 0xEF, 0xFA, 0x05, 0x10, 0x1B, 0x26,
+];
+
+/// Values of the arguments' types, which are written to the text.
+pub fn some_arguments<A: Abi>(
+    alloc: Global,
+    cif: &Cif<A>,
+    text: &mut Bytes,
+) -> Result<Value, NoMemory> {
+    let sig = cif.sig();
+    let mut values = Values::new(alloc);
+    for i in 0..count_of(sig) {
+        if values.len() < 64 {
+            let first = FIRSTS[(i % 16) as usize];
+            values.push(some_value(alloc, argument(sig, i), first, text)?)?;
+        }
+    }
+    Ok(Value::List(values))
+}
+
+/// A value of the result's type, which is written to the text.
+fn some_result<A: Abi>(alloc: Global, cif: &Cif<A>, text: &mut Bytes) -> Result<Value, NoMemory>
+    ensures { IfOk result (λ v. fits cif.now.result_type (value_of v) ≡ true) }
+{
+    some_value(alloc, result_type(cif.sig()), 0xF3, text)
+}
+
+/// Writes an argument that the callee has.
 fn write_argument<A: Abi>(
     alloc: Global,
     machine: &Machine,
@@ -46,9 +122,7 @@ fn write_argument<A: Abi>(
     let sig = cif.sig();
     let ty = argument(sig, i);
     let bytes = arg(machine, cif, incoming, i);
-    let value = value_from_bytes(alloc, ty, bytes)?;
-    text.extend(value_text(alloc, ty, &value)?.as_slice())?;
-    text.push(b' ')
+    write_value(alloc, ty, bytes, text)
 }
 
 /// Writes all of them.
@@ -113,7 +187,7 @@ fn begin<A: Abi>(
     accept(machine, cif)
 }
 
-/// A call of a closure from a machine that begins: the texts of the arguments that the callee has, and of the result.
+/// A call of a closure from a machine that begins: the arguments that the callee has, and the result that the caller loads.
 fn told<A: Abi>(
     alloc: Global,
     cif: &Cif<A>,
@@ -142,17 +216,25 @@ fn told<A: Abi>(
     let incoming = begin(&mut machine, &table, cif, args, ptr, over);
     let mut text = Bytes::new(alloc);
     write_arguments(alloc, &machine, cif, &incoming, &mut text)?;
-    let sig = cif.sig();
-    let ty = result_type(sig);
+    let ty = result_type(cif.sig());
     let mut room = [0; 1024];
     let out = &mut room[..size_of(ty) as usize];
     end_call(&mut machine, cif, incoming, outcome, out);
     if machine.sp() != sp || machine.events().len() != 2 {
         return Err("not back".into());
     }
-    let value = value_from_bytes(alloc, ty, out)?;
-    text.extend(value_text(alloc, ty, &value)?.as_slice())?;
+    write_value(alloc, ty, out, &mut text)?;
     Ok(text)
+}
+
+/// Whether values of a signature come as they were sent.
+fn come_right<A: Abi>(alloc: Global, cif: &Cif<A>, over: Option<u8>) -> Result<bool, Fail> {
+    let mut sent = Bytes::new(alloc);
+    let list = some_arguments(alloc, cif, &mut sent)?;
+    let args = fitting(alloc, cif, &list)?;
+    let outcome = some_result(alloc, cif, &mut sent)?;
+    let came = told(alloc, cif, args, &outcome, over)?;
+    Ok(sent.as_slice() == came.as_slice())
 }
 
 /// The signature that a script would write so.
@@ -160,102 +242,30 @@ fn signature(alloc: Global, text: &str) -> Result<Sig, Fail> {
     let Ok(json) = parse(alloc, text.as_bytes()) else {
         return Err("no JSON".into());
     };
-    let Ok(sig) = read_signature(alloc, &json, &Where::new(alloc)) else {
+    let Ok(sig) = read_signature(alloc, &json, &Where::new(alloc), 2) else {
         return Err("no signature".into());
     };
     Ok(sig)
 }
 
-/// The interface of a signature of these types.
-fn interface<A: Abi>(
-    alloc: Global,
-    ret: FfiType,
-    types: Fields,
-    fixed: Option<u32>,
-) -> Result<Cif<A>, Fail>
-    ensures { IfOk result (λ c. c ≡ record { result_type = tree_of ret; arguments = types; fixed = fixed }) }
-{
-    let prepared = match fixed {
+/// A call by the signature that a script would write so.
+pub fn prepared<A: Abi>(alloc: Global, text: &str) -> Result<Cif<A>, Fail> {
+    let sig = signature(alloc, text)?;
+    let types = sig.args().copy(alloc)?;
+    let ret = sig.ret().copy(alloc)?;
+    let cif = match sig.fixed() {
         None => prep_cif::<A>(alloc, ret, types),
         Some(fixed) => prep_cif_var::<A>(alloc, ret, types, fixed),
     };
-    let Ok(cif) = prepared else {
+    let Ok(cif) = cif else {
         return Err("a fault".into());
     };
     Ok(cif)
 }
 
-/// A value of the type, in whose bytes a number and those after it stand.
-fn some_value(alloc: Global, ty: &FfiType, first: u8) -> Result<Value, Fail> {
-    let Ok(()) = check_type(ty, true) else {
-        return Err("a fault".into());
-    };
-    let mut bytes = vec![in alloc; first; ty.size() as usize]?;
-    for k in 0..bytes.len() {
-        bytes[k] = first.wrapping_add((k % 251) as u8);
-    }
-    Ok(value_from_bytes(alloc, ty, bytes.as_slice())?)
-}
-
-/// Values of these types.
-fn some_values(alloc: Global, types: &Fields) -> Result<Values, Fail> {
-    let mut values = Values::new(alloc);
-    for i in 0..types.len() {
-        if values.len() < 64 {
-            values.push(some_value(alloc, types.get(i), 16)?)?;
-        }
-    }
-    Ok(values)
-}
-
-/// The texts of arguments, each with a space behind it, and of a result.
-fn sent(
-    alloc: Global,
-    types: &Fields,
-    args: &Values,
-    ret: &FfiType,
-    outcome: &Value,
-) -> Result<Bytes, Fail> {
-    let mut text = Bytes::new(alloc);
-    for i in 0..types.len() {
-        if i < args.len() && fits(args.get(i), types.get(i)) {
-            text.extend(value_text(alloc, types.get(i), args.get(i))?.as_slice())?;
-            text.push(b' ')?;
-        }
-    }
-    if !fits(outcome, ret) {
-        return Err("no fit".into());
-    }
-    text.extend(value_text(alloc, ret, outcome)?.as_slice())?;
-    Ok(text)
-}
-
-/// Calls a closure of a signature: the texts of what was sent, and of what came.
-fn sent_and_came<A: Abi>(
-    alloc: Global,
-    sig: &Sig,
-    over: Option<u8>,
-) -> Result<(Bytes, Bytes), Fail> {
-    let ret = sig.ret().copy(alloc)?;
-    let types = sig.args().copy(alloc)?;
-    let all = FfiType::Struct(types.copy(alloc)?);
-    let values = Value::List(some_values(alloc, &types)?);
-    let outcome = some_value(alloc, &ret, 100)?;
-    if !fits(&values, &all) || !fits(&outcome, &ret) {
-        return Err("no fit".into());
-    }
-    let Value::List(args) = &values else {
-        return Err("no list".into());
-    };
-    let wanted = sent(alloc, &types, args, &ret, &outcome)?;
-    let cif = interface::<A>(alloc, ret, types, sig.fixed())?;
-    let came = told(alloc, &cif, args, &outcome, over)?;
-    Ok((wanted, came))
-}
-
 /// Signatures with every scalar, and structs of each shape: nested, in mixed registers, homogeneous, by reference, hidden, variadic,
-/// and spilled to the stack.
-const SIGNATURES: [&str; 18] = [
+/// and spilled to the stack; with gaps, even registers and a split of integers of 128 bits.
+pub const SIGNATURES: [&str; 21] = [
     r#"{"ret":"uint8","args":["uint8","sint8","uint16","sint16","uint32","sint32","uint64","sint64","float","double","pointer"]}"#,
     r#"{"ret":"sint8","args":["sint64","sint64","sint64","sint64","sint64","sint64","sint64","sint64","uint8","sint8","uint16","sint16","uint32","sint32","float"]}"#,
     r#"{"ret":"void","args":[{"struct":["sint32","float"]}]}"#,
@@ -274,39 +284,31 @@ const SIGNATURES: [&str; 18] = [
     r#"{"ret":{"struct":[{"struct":["float"]},"uint8"]},"args":[{"struct":[{"struct":["uint8"]},"float"]},{"struct":["uint8","uint8","uint8"]}]}"#,
     r#"{"ret":"uint64","args":["sint32","double",{"struct":["double","double"]},"uint64","double"],"fixed":1}"#,
     r#"{"ret":{"struct":["uint16","uint16","uint16","uint16","uint16"]},"args":[{"struct":["uint8","uint32","uint16"]},{"struct":["uint64","uint8","uint64"]},{"struct":["uint16"]}]}"#,
+    r#"{"ret":"uint128","args":["sint64","sint64","sint64","sint64","sint64","sint64","sint64","uint128","sint64"]}"#,
+    r#"{"ret":"sint128","args":["sint64","sint128",{"struct":["sint64","sint64","sint64"]},{"struct":["uint8","uint128"]}]}"#,
+    r#"{"ret":{"struct":["uint128","float"]},"args":["sint64","uint128",{"struct":["sint128"]}],"fixed":1}"#,
 ];
 
 /// How many of the signatures have all values come as they were sent.
 fn count_of_right<A: Abi>(alloc: Global, over: Option<u8>) -> Result<usize, Fail> {
     let mut right = 0usize;
     for text in SIGNATURES {
-        let sig = signature(alloc, text)?;
-        let (sent, came) = sent_and_came::<A>(alloc, &sig, over)?;
-        if sent.as_slice() == came.as_slice() && right < SIGNATURES.len() {
+        let cif = prepared::<A>(alloc, text)?;
+        if come_right(alloc, &cif, over)? && right < SIGNATURES.len() {
             right += 1;
         }
     }
     Ok(right)
 }
 
-/// On each target the values of all signatures come as they were sent.
-fn all_come(rt: &impl Abort, alloc: Global, over: Option<u8>) -> Result<(), Fail> {
-    assert_eq!(rt; count_of_right::<Amd64>(alloc, over)?, SIGNATURES.len());
-    assert_eq!(rt; count_of_right::<Aapcs64>(alloc, over)?, SIGNATURES.len());
-    assert_eq!(rt; count_of_right::<Riscv>(alloc, over)?, SIGNATURES.len());
-    Ok(())
-}
-
+/// A callee looks at the bytes of leaves and addresses alone, whatever else stands there.
 #[test]
 fn values_come_through_a_slot(rt: HostRuntime) -> Result<(), Fail> {
-    all_come(&rt, rt.alloc(), None)
-}
-
-/// A callee looks at the bytes of leaves and addresses alone.
-#[test]
-fn values_come_whatever_else_stands_there(rt: HostRuntime) -> Result<(), Fail> {
-    for byte in [0x00, 0x5A, 0xFF] {
-        all_come(&rt, rt.alloc(), Some(byte))?;
+    let alloc = rt.alloc();
+    for over in [None, Some(0x00), Some(0x5A), Some(0xFF)] {
+        assert_eq!(rt; count_of_right::<Amd64>(alloc, over)?, SIGNATURES.len());
+        assert_eq!(rt; count_of_right::<Aapcs64>(alloc, over)?, SIGNATURES.len());
+        assert_eq!(rt; count_of_right::<Riscv>(alloc, over)?, SIGNATURES.len());
     }
     Ok(())
 }

@@ -14,11 +14,11 @@ use Rattle.ffi3_place_rules.specs.declared.Res.TheVariants.{Nothing, Direct as D
 use Rattle.ffi3_place_rules.specs.declared.SaveWord.{SaveWord}
 use Rattle.ffi3_place_rules.specs.declared.SaveWord.TheVariants.{Register, Hidden, Spare}
 use Rattle.ffi3_place_rules.specs.Image.{register}
-use Rattle.ffi3_place_rules.specs.Isa.{is_reserved, link_place, pushed_bytes, reserved_places}
+use Rattle.ffi3_place_rules.specs.Isa.{is_reserved, link_place, pushed_bytes, reserved_places, listed}
 use Rattle.ffi3_place_rules.specs.Standard.{Standard}
 use Rattle.ffi3_place_rules.specs.Agrees.{AgreesWithMachine, given_back, saved_registers, special}
 use Rattle.ffi3_place_rules.specs.Holds.{Kept, SameIn}
-use Rattle.ffi3_place_rules.specs.Sound.{Apart, IsNoneOf, closed_to_results, listed, piece_locs, result_locs}
+use Rattle.ffi3_place_rules.specs.Sound.{Apart, IsNoneOf, closed_to_results, piece_locs, result_locs}
 use Rattle.ffi3_place_rules.proofs.Tests.{each_weaker}
 use Rattle.ffi3_machine.specs.State.{State, image_of, returned, scribble_general, scribbled, scribbled_register, with_sp}
 use Rattle.ffi3_machine.specs.Scribbled.{get_or-scribbled_general}

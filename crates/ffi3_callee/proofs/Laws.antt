@@ -9,10 +9,10 @@ use Rattle.ffi3_type_rules.specs.Signature.{Signature}
 use Rattle.ffi3_place_rules.specs.declared.Loc.{Loc}
 use Rattle.ffi3_place_rules.specs.declared.SaveWord.{SaveWord}
 use Rattle.ffi3_place_rules.specs.declared.SaveWord.TheVariants.{Register, Hidden, Spare}
-use Rattle.ffi3_place_rules.specs.Isa.{link_place}
+use Rattle.ffi3_place_rules.specs.Isa.{link_place, listed}
 use Rattle.ffi3_place_rules.specs.Standard.{Standard, plan_of}
 use Rattle.ffi3_place_rules.specs.Agrees.{AgreesWithMachine, given_back, saved_registers, special}
-use Rattle.ffi3_place_rules.specs.Sound.{Apart, IsNoneOf, IsOneOf, IsSound, LiesIn, closed_to_results, listed, result_locs}
+use Rattle.ffi3_place_rules.specs.Sound.{Apart, IsNoneOf, IsOneOf, IsSound, LiesIn, closed_to_results, result_locs}
 use Rattle.ffi3_place_rules.proofs.Tests.{each_weaker}
 use Rattle.ffi3_pieces.specs.Stored.{IsPlace, IsWritable}
 use Rattle.ffi3_pieces.proofs.Lawful.{each_first, each_join, each_rest, machine_place}

@@ -18,10 +18,10 @@ use Rattle.ffi3_type_rules.proofs.Parts.{length_part}
 use Rattle.ffi3_place_rules.specs.declared.Loc.{Loc}
 use Rattle.ffi3_place_rules.specs.declared.Loc.TheVariants.{G, F, S}
 use Rattle.ffi3_place_rules.specs.Image.{byte_at, word_at}
-use Rattle.ffi3_place_rules.specs.Isa.{link_place, link_register, pushed_bytes, reserved_places, stack_pointer, trampoline_registers}
+use Rattle.ffi3_place_rules.specs.Isa.{link_place, link_register, pushed_bytes, reserved_places, stack_pointer, trampoline_registers, listed}
 use Rattle.ffi3_place_rules.specs.Standard.{Standard, frame_of, plan_of}
 use Rattle.ffi3_place_rules.specs.Agrees.{AgreesWithMachine}
-use Rattle.ffi3_place_rules.specs.Sound.{Apart, IsSound, argument_locs, closed_to_arguments, closed_to_results, listed}
+use Rattle.ffi3_place_rules.specs.Sound.{Apart, IsSound, argument_locs, closed_to_arguments, closed_to_results}
 use Rattle.ffi3_place_rules.proofs.Tests.{and_left, and_right}
 use Rattle.ffi3_machine.specs.State.{HasReturnAddress, HasReturnAt, State, image_of, stack_at}
 use Rattle.ffi3_pieces.specs.Stored.{IsPlace, IsWritable, WroteWithin, byte_of, stack_byte, word_in}

@@ -19,7 +19,8 @@ use Rattle.ffi3_place_rules.specs.declared.Res.TheVariants.{Nothing, Direct, Hid
 use Rattle.ffi3_place_rules.specs.Image.{byte_at, word_at}
 use Rattle.ffi3_place_rules.specs.Standard.{Standard, frame_of, plan_of}
 use Rattle.ffi3_place_rules.specs.Holds.{Carries, FillPieces, FillsAs, FillsResult, HoldsResult, LeavesStand, OwnsResult, RegisterHolds}
-use Rattle.ffi3_place_rules.specs.Sound.{IsNoneOf, IsSound, listed, piece_locs, result_locs}
+use Rattle.ffi3_place_rules.specs.Sound.{IsNoneOf, IsSound, piece_locs, result_locs}
+use Rattle.ffi3_place_rules.specs.Isa.{listed}
 use Rattle.ffi3_type_rules.specs.declared.limits.TheConstants.{STACK, STACK_TOP}
 use Rattle.ffi3_machine.specs.State.{State, with_sp}
 use Rattle.ffi3_pieces.specs.Stored.{IsPlace, word_in, WroteWithin}

@@ -11,9 +11,9 @@ use Rattle.ffi3_place_rules.specs.Holds.{Own}
 use Rattle.ffi3_machine.specs.State.{State, image_of, stack_at}
 use Rattle.ffi3_body.specs.SeenActivation.{arguments_in}
 use Rattle.ffi3_pieces.specs.Stored.{WroteWithin}
-use Rattle.ffi3_callee.specs.declared.Incoming.{Incoming}
 use Rattle.ffi3_callee.specs.Given.{IsAddressOf}
 use Rattle.ffi3_callee.specs.Saved.{AreSaved}
+use Rattle.ffi3_callee.specs.Remembered.{Remembered}
 
 -- where a hidden result's address stands
 abbrev pub hidden_of : Res → Option Loc
@@ -26,7 +26,7 @@ abbrev pub OwnsAtEntry : Standard → Signature → State → List ValueTree →
 OwnsAtEntry std s m vs = Own std s vs (image_of (std.link + frame_of std s) m)
 
 -- The block, the save area, the return address and the caller's frame stand one behind the other in the stack, and a hidden result's address is that of its buffer.
-pub record IsIncoming (std : Standard) (s : Signature) (incoming : Incoming) : Type 0 where
+pub record IsIncoming (std : Standard) (s : Signature) (incoming : Remembered) : Type 0 where
   pub low : STACK ≤ incoming.block
   pub entry : incoming.block + block_bytes s + std.save ≡ incoming.entry
   pub high : incoming.entry + std.link + frame_of std s ≤ STACK_TOP

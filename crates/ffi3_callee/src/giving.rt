@@ -9,7 +9,8 @@ ghost use Rattle.ffi3_values.specs.ValueOf.{value_of};
 ghost use Rattle.ffi3_place_rules.specs.declared.Loc.{Loc};
 ghost use Rattle.ffi3_place_rules.specs.Standard.{frame_of, plan_of};
 ghost use Rattle.ffi3_place_rules.specs.Holds.{HoldsResult};
-ghost use Rattle.ffi3_place_rules.specs.Sound.{AreApart, IsPieceOf, listed, piece_locs, result_locs};
+ghost use Rattle.ffi3_place_rules.specs.Sound.{AreApart, IsPieceOf, piece_locs, result_locs};
+ghost use Rattle.ffi3_place_rules.specs.Isa.{listed};
 ghost use Rattle.ffi3_type_rules.specs.declared.limits.TheConstants.{STACK, STACK_TOP};
 ghost use Rattle.ffi3_machine.specs.State.{State, stack_at};
 ghost use Rattle.ffi3_pieces.specs.Stored.{IsPlace, IsWritable, KeepsPadding, KeepsUnused, Stays, WroteOnly, WroteWithin};
@@ -68,7 +69,7 @@ fn give_buffer(machine: &mut Machine, address: u64, ty: &FfiType, value: &Value)
     machine.store_stack(address, bytes);
 }
 
-// RegisterHolds the buffer's address in the standard's register for it, if it has one.
+// Tells the buffer's address in the standard's register for it, if it has one.
 fn tell_address(machine: &mut Machine, returned: Option<Loc>, address: u64)
     requires register { IsSettable machine.old.target returned }
     ensures told { RegisterHoldsWord machine.new returned address }
@@ -136,8 +137,8 @@ pub fn give_result<A: Abi>(machine: &mut Machine, cif: &Cif<A>, incoming: &Incom
 {
     // its contract tells what is true of every interface
     let _sig = cif.sig();
-    let base = incoming.entry + A::LINK;
-    let address = incoming.address;
+    let base = incoming.entry() + A::LINK;
+    let address = incoming.address();
     let returned = A::returned_address();
     give(machine, cif, base, address, returned, value);
 }

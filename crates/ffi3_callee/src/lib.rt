@@ -36,6 +36,7 @@ pub use giving::give_result;
 pub use poisoning::poison;
 pub use restoring::restore;
 use saving::{hidden_word, save_words};
+use std::marker::Model;
 use taking::copy_argument;
 
 /// What a callee remembers of its entry until it returns: the addresses of its copy of the arguments and of a hidden result's buffer, and the stack pointer.
@@ -44,6 +45,37 @@ pub struct Incoming {
     block: u64,
     address: u64,
     entry: u64,
+}
+
+impl Model for Incoming {
+    ghost use Rattle.ffi3_callee.specs.Remembered.{Remembered};
+
+    ghost Value = { Remembered };
+
+    ghost view = { λ i. record { block = i.block; address = i.address; entry = i.entry } };
+}
+
+impl Incoming {
+    // The address of the copy of the arguments.
+    fn block(&self) -> u64
+        ensures { result ≡ self.now.block }
+    {
+        self.block
+    }
+
+    // The address of a hidden result's buffer, 0 where there is none.
+    fn address(&self) -> u64
+        ensures { result ≡ self.now.address }
+    {
+        self.address
+    }
+
+    // The stack pointer at the entry.
+    fn entry(&self) -> u64
+        ensures { result ≡ self.now.entry }
+    {
+        self.entry
+    }
 }
 
 // Copies the arguments into the block at an address, one behind the other, each in whole
@@ -140,6 +172,6 @@ pub fn arg<'a, A: Abi>(machine: &'a Machine, cif: &Cif<A>, incoming: &Incoming, 
     let ty = argument(sig, i);
     let offset = offset_of(sig, i);
     let size = size_of(ty);
-    let from = incoming.block + offset;
+    let from = incoming.block() + offset;
     machine.lend_stack(from, size)
 }

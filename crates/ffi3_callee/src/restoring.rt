@@ -34,7 +34,8 @@ pub fn restore<A: Abi>(machine: &mut Machine, cif: &Cif<A>, incoming: Incoming)
 {
     // its contract tells what is true of every interface
     let _sig = cif.sig();
-    let area = incoming.entry - A::SAVE;
+    let entry = incoming.entry();
+    let area = entry - A::SAVE;
     restore_words::<A>(machine, area);
-    machine.set_sp(incoming.entry);
+    machine.set_sp(entry);
 }

@@ -17,11 +17,11 @@ use Rattle.ffi3_place_rules.specs.declared.Place.{Place}
 use Rattle.ffi3_place_rules.specs.declared.Place.TheVariants.{Direct, ByRef}
 use Rattle.ffi3_place_rules.specs.declared.Res.{Res}
 use Rattle.ffi3_place_rules.specs.declared.Res.TheVariants.{Nothing, Direct as DirectRes, Hidden}
-use Rattle.ffi3_place_rules.specs.Isa.{reserved_places}
+use Rattle.ffi3_place_rules.specs.Isa.{reserved_places, listed}
 use Rattle.ffi3_place_rules.specs.Standard.{Standard, plan_of, frame_of}
 use Rattle.ffi3_place_rules.specs.Agrees.{AgreesWithMachine, given_back, special}
 use Rattle.ffi3_place_rules.specs.Holds.{FillArguments, OwnsArguments, OwnsHidden, RegisterHolds}
-use Rattle.ffi3_place_rules.specs.Sound.{Apart, IsNoneOf, IsSound, PlacesHaveAll, argument_locs, buffer_locs, copy_locs, hidden_locs, listed, closed_to_arguments, closed_to_results, place_locs, stack_words, stack_words_for}
+use Rattle.ffi3_place_rules.specs.Sound.{Apart, IsNoneOf, IsSound, PlacesHaveAll, argument_locs, buffer_locs, copy_locs, hidden_locs, closed_to_arguments, closed_to_results, place_locs, stack_words, stack_words_for}
 use Rattle.ffi3_machine.specs.State.{State, image_of, filled, stored, lowered, scribbled, scribbled_general, scribbled_register, with_sp}
 use Rattle.ffi3_machine.specs.Scribbled.{get_or-scribbled_general}
 use Rattle.ffi3_pieces.specs.Stored.{stack_byte, IsPlace, IsWritable, SameAt, Stays, WroteWithin}

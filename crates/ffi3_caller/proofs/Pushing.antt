@@ -14,11 +14,11 @@ use Rattle.ffi3_type_rules.specs.Value.{ValueTree}
 use Rattle.ffi3_type_rules.proofs.Parts.{length_part}
 use Rattle.ffi3_place_rules.specs.declared.Loc.{Loc}
 use Rattle.ffi3_place_rules.specs.declared.Loc.TheVariants.{G}
-use Rattle.ffi3_place_rules.specs.Isa.{pushed_bytes, link_register, link_place}
+use Rattle.ffi3_place_rules.specs.Isa.{pushed_bytes, link_register, link_place, listed}
 use Rattle.ffi3_place_rules.specs.Standard.{Standard, frame_of, plan_of}
 use Rattle.ffi3_place_rules.specs.Agrees.{AgreesWithMachine, given_back}
 use Rattle.ffi3_place_rules.specs.Holds.{OwnsArguments, OwnsHidden, FillArguments, RegisterHolds, Holds}
-use Rattle.ffi3_place_rules.specs.Sound.{Apart, IsNoneOf, IsSound, argument_locs, closed_to_arguments, closed_to_results, hidden_locs, listed, place_locs}
+use Rattle.ffi3_place_rules.specs.Sound.{Apart, IsNoneOf, IsSound, argument_locs, closed_to_arguments, closed_to_results, hidden_locs, place_locs}
 use Rattle.ffi3_machine.specs.State.{State, called, image_of, linked_general, linked_stack, stack_at}
 use Rattle.ffi3_pieces.proofs.Alike.{AreAlike, arguments_owned, arguments_filled, address_owned, count_held}
 use Rattle.ffi3_pieces.proofs.Lawful.{each_first, each_rest, each_map, machine_places}

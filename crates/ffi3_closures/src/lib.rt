@@ -21,9 +21,6 @@ ghost use Rattle.ffi3_machine.specs.Step.{TakesSteps};
 ghost use Rattle.ffi3_closures.specs.Reaching.{reached};
 ghost use Rattle.ffi3_closures.specs.Slots.{HoldsMap, live_count, live_slot, slot_head};
 
-#[cfg(test)]
-mod tests;
-
 use arrayvec::ArrayVec;
 use ffi3_machine::{CODE, Machine};
 pub use ffi3_run_rules::Closure;

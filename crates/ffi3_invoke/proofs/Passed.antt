@@ -9,12 +9,12 @@ use Rattle.ffi3_type_rules.specs.Signature.{Signature}
 use Rattle.ffi3_type_rules.specs.Value.{ValueTree}
 use Rattle.ffi3_place_rules.specs.declared.Loc.{Loc}
 use Rattle.ffi3_place_rules.specs.declared.Loc.TheVariants.{G, F, S}
-use Rattle.ffi3_place_rules.specs.Isa.{link_place, link_register, pushed_bytes, reserved_places, scribble, trampoline_registers}
+use Rattle.ffi3_place_rules.specs.Isa.{link_place, link_register, pushed_bytes, reserved_places, scribble, trampoline_registers, listed}
 use Rattle.ffi3_place_rules.specs.Image.{Image, register}
 use Rattle.ffi3_place_rules.specs.Standard.{Standard, frame_of}
 use Rattle.ffi3_place_rules.specs.Agrees.{AgreesWithMachine, special}
 use Rattle.ffi3_place_rules.specs.Holds.{Holds, SameIn}
-use Rattle.ffi3_place_rules.specs.Sound.{Apart, IsNoneOf, IsSound, listed}
+use Rattle.ffi3_place_rules.specs.Sound.{Apart, IsNoneOf, IsSound}
 use Rattle.ffi3_machine.specs.State.{State, IsMachine, called, image_of, linked_general, scribbled}
 use Rattle.ffi3_closures.specs.Reaching.{reached}
 use Rattle.ffi3_pieces.specs.Stored.{IsPlace, SameAt, WroteWithin, word_in}

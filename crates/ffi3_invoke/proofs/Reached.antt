@@ -12,8 +12,8 @@ use Rattle.ffi3_type_rules.specs.Isa.{isa_of}
 use Rattle.ffi3_type_rules.proofs.Parts.{index_part, length_part}
 use Rattle.ffi3_place_rules.specs.declared.Loc.{Loc}
 use Rattle.ffi3_place_rules.specs.declared.Loc.TheVariants.{G, F, S}
-use Rattle.ffi3_place_rules.specs.Isa.{closure_register, is_reserved, jump_register, link_place, link_register, pushed_bytes, reserved_places, scribble, trampoline_registers}
-use Rattle.ffi3_place_rules.specs.Sound.{IsNoneOf, listed}
+use Rattle.ffi3_place_rules.specs.Isa.{closure_register, is_reserved, jump_register, link_place, link_register, pushed_bytes, reserved_places, scribble, trampoline_registers, listed}
+use Rattle.ffi3_place_rules.specs.Sound.{IsNoneOf}
 use Rattle.ffi3_place_rules.proofs.Forbidden.{each_none_of, none_of}
 use Rattle.ffi3_machine.specs.State.{State, HasReturnAddress, HasReturnAt, called, linked_general, linked_stack, scribbled}
 use Rattle.ffi3_machine.specs.Scribbled.{get_or-scribbled_floating, get_or-scribbled_general}

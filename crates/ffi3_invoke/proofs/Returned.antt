@@ -17,13 +17,12 @@ use Rattle.ffi3_place_rules.specs.declared.Res.{Res}
 use Rattle.ffi3_place_rules.specs.declared.Res.TheVariants.{Nothing, Direct, Hidden}
 use Rattle.ffi3_place_rules.specs.declared.SaveWord.{SaveWord}
 use Rattle.ffi3_place_rules.specs.declared.SaveWord.TheVariants.{Register, Hidden as HiddenWord, Spare}
-use Rattle.ffi3_place_rules.specs.Isa.{link_register, pushed_bytes}
+use Rattle.ffi3_place_rules.specs.Isa.{link_register, pushed_bytes, listed}
 use Rattle.ffi3_place_rules.specs.Image.{Image, register}
 use Rattle.ffi3_place_rules.specs.Event.{Event}
 use Rattle.ffi3_place_rules.specs.Standard.{Standard, block_bytes, frame_of, plan_of}
 use Rattle.ffi3_place_rules.specs.Agrees.{AgreesWithMachine, given_back, saved_registers}
 use Rattle.ffi3_place_rules.specs.Holds.{HoldsResult, Kept, SameIn}
-use Rattle.ffi3_place_rules.specs.Sound.{listed}
 use Rattle.ffi3_run_rules.specs.Journal.{IsReturn}
 use Rattle.ffi3_machine.specs.State.{State, HasReturnAddress, HasReturnAt, LieInStack, after_leave, image_of}
 use Rattle.ffi3_pieces.specs.Stored.{IsPlace, WroteWithin, word_in}

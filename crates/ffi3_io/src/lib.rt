@@ -9,8 +9,6 @@ mod sink;
 mod source;
 mod sure_sink;
 mod sure_source;
-#[cfg(test)]
-mod tests;
 
 pub use adapter::{ReadSource, WriteSink};
 pub use mem_sink::MemSink;

@@ -5,8 +5,6 @@ mod aarch64;
 mod amd64;
 mod fields;
 mod riscv;
-#[cfg(test)]
-mod tests;
 
 pub use aarch64::decode_aarch64;
 pub use amd64::decode_amd64;

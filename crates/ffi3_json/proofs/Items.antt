@@ -52,30 +52,30 @@ joined done t (read ts) = ap read (sym (append_assoc done (t ∷ []) ts))
 joined done t (fault path reason) = refl
 
 -- after i items these types were read
-abbrev pub Done : Items → JsonPath → ℕ → List Tree → Type 0
-Done ds path i done = read_each ds path 0 ≡ read_map (λ ts. done ++ ts) (read_each (items_from i ds) path i)
+abbrev pub Done : (version : ℕ) → Items → JsonPath → ℕ → List Tree → Type 0
+Done version ds path i done = read_each version ds path 0 ≡ read_map (λ ts. done ++ ts) (read_each version (items_from i ds) path i)
 
-pub done-none : (ds : Items) (path : JsonPath) → Done ds path 0 []
-done-none ds path = none (read_each ds path 0) where
+pub done-none : (version : ℕ) (ds : Items) (path : JsonPath) → Done version ds path 0 []
+done-none version ds path = none (read_each version ds path 0) where
   none : (r : Read (List Tree)) → r ≡ read_map (λ ts. ts) r
   none (read ts) = refl
   none (fault place reason) = refl
 
-here : (ds : Items) (path : JsonPath) (i : ℕ) (done : List Tree) → i < items_len ds → Done ds path i done
-    → read_each ds path 0 ≡ read_map (λ ts. done ++ ts) (and_then (λ t. read_map (λ ts. t ∷ ts) (read_each (items_from (i + 1) ds) path (i + 1))) (read_type (item_at ds i) (at_item path i)))
-here ds path i done below so_far = so_far ∙ ap (λ es. read_map (λ ts. done ++ ts) (read_each es path i)) (item_next ds i below)
+here : (version : ℕ) (ds : Items) (path : JsonPath) (i : ℕ) (done : List Tree) → i < items_len ds → Done version ds path i done
+    → read_each version ds path 0 ≡ read_map (λ ts. done ++ ts) (and_then (λ t. read_map (λ ts. t ∷ ts) (read_each version (items_from (i + 1) ds) path (i + 1))) (read_type version (item_at ds i) (at_item path i)))
+here version ds path i done below so_far = so_far ∙ ap (λ es. read_map (λ ts. done ++ ts) (read_each version es path i)) (item_next ds i below)
 
-pub done-more : (ds : Items) (path : JsonPath) (i : ℕ) (done : List Tree) (t : Tree) → i < items_len ds → Done ds path i done
-    → read_type (item_at ds i) (at_item path i) ≡ read t → Done ds path (i + 1) (done ++ t ∷ [])
-done-more ds path i done t below so_far e =
-    let more : Read (List Tree) = read_each (items_from (i + 1) ds) path (i + 1) in
-    here ds path i done below so_far ∙ ap (λ r. read_map (λ ts. done ++ ts) (and_then (λ u. read_map (λ ts. u ∷ ts) more) r)) e ∙ joined done t more
+pub done-more : (version : ℕ) (ds : Items) (path : JsonPath) (i : ℕ) (done : List Tree) (t : Tree) → i < items_len ds → Done version ds path i done
+    → read_type version (item_at ds i) (at_item path i) ≡ read t → Done version ds path (i + 1) (done ++ t ∷ [])
+done-more version ds path i done t below so_far e =
+    let more : Read (List Tree) = read_each version (items_from (i + 1) ds) path (i + 1) in
+    here version ds path i done below so_far ∙ ap (λ r. read_map (λ ts. done ++ ts) (and_then (λ u. read_map (λ ts. u ∷ ts) more) r)) e ∙ joined done t more
 
-pub done-fault : (ds : Items) (path : JsonPath) (i : ℕ) (done : List Tree) (place : JsonPath) (reason : Reason) → i < items_len ds → Done ds path i done
-    → read_type (item_at ds i) (at_item path i) ≡ fault place reason → read_each ds path 0 ≡ fault place reason
-done-fault ds path i done place reason below so_far e =
-    let more : Read (List Tree) = read_each (items_from (i + 1) ds) path (i + 1) in
-    here ds path i done below so_far ∙ ap (λ r. read_map (λ ts. done ++ ts) (and_then (λ u. read_map (λ ts. u ∷ ts) more) r)) e
+pub done-fault : (version : ℕ) (ds : Items) (path : JsonPath) (i : ℕ) (done : List Tree) (place : JsonPath) (reason : Reason) → i < items_len ds → Done version ds path i done
+    → read_type version (item_at ds i) (at_item path i) ≡ fault place reason → read_each version ds path 0 ≡ fault place reason
+done-fault version ds path i done place reason below so_far e =
+    let more : Read (List Tree) = read_each version (items_from (i + 1) ds) path (i + 1) in
+    here version ds path i done below so_far ∙ ap (λ r. read_map (λ ts. done ++ ts) (and_then (λ u. read_map (λ ts. u ∷ ts) more) r)) e
 
-pub done-all : (ds : Items) (path : JsonPath) (i : ℕ) (done : List Tree) → items_len ds ≤ i → Done ds path i done → read_each ds path 0 ≡ read done
-done-all ds path i done end so_far = so_far ∙ ap (λ es. read_map (λ ts. done ++ ts) (read_each es path i)) (items_none_left ds i end) ∙ ap read (append-nil done)
+pub done-all : (version : ℕ) (ds : Items) (path : JsonPath) (i : ℕ) (done : List Tree) → items_len ds ≤ i → Done version ds path i done → read_each version ds path 0 ≡ read done
+done-all version ds path i done end so_far = so_far ∙ ap (λ es. read_map (λ ts. done ++ ts) (read_each version es path i)) (items_none_left ds i end) ∙ ap read (append-nil done)

@@ -54,26 +54,26 @@ this Less d inside e = absurd (none_not_some e)
 this Equal d inside e = (refl, some_is e)
 this Greater d inside e = absurd (none_not_some e)
 
-pub struct-none : (ms : Members) (path : JsonPath) → get_member (codes "struct") ms ≡ None → read_struct ms path ≡ fault path not_a_type
-struct-none no_members path e = refl
-struct-none (member name d no_members) path e =
+pub struct-none : (version : ℕ) (ms : Members) (path : JsonPath) → get_member (codes "struct") ms ≡ None → read_struct version ms path ≡ fault path not_a_type
+struct-none version no_members path e = refl
+struct-none version (member name d no_members) path e =
     let other : bytes_eq (codes "struct") name ≡ false = sym (is_eq-slice_cmp (codes "struct") name) ∙ not_this (slice_cmp nat_cmp (codes "struct") name) d e in
     rw other refl
-struct-none (member name d (member k x ms)) path e = refl
+struct-none version (member name d (member k x ms)) path e = refl
 
-pub struct-many : (ms : Members) (path : JsonPath) → (members_len ms ≡ 1 → ⊥) → read_struct ms path ≡ fault path not_a_type
-struct-many no_members path h = refl
-struct-many (member name d no_members) path h = absurd (h refl)
-struct-many (member name d (member k x ms)) path h = refl
+pub struct-many : (version : ℕ) (ms : Members) (path : JsonPath) → (members_len ms ≡ 1 → ⊥) → read_struct version ms path ≡ fault path not_a_type
+struct-many version no_members path h = refl
+struct-many version (member name d no_members) path h = absurd (h refl)
+struct-many version (member name d (member k x ms)) path h = refl
 
-pub struct-one : (ms : Members) (inside : Data) (path : JsonPath) → get_member (codes "struct") ms ≡ Some inside → members_len ms ≡ 1
-    → read_struct ms path ≡ read_map struct_of (read_types inside (under path (codes "struct")))
-struct-one no_members inside path e one = absurd (none_not_some e)
-struct-one (member name d no_members) inside path e one =
+pub struct-one : (version : ℕ) (ms : Members) (inside : Data) (path : JsonPath) → get_member (codes "struct") ms ≡ Some inside → members_len ms ≡ 1
+    → read_struct version ms path ≡ read_map struct_of (read_types version inside (under path (codes "struct")))
+struct-one version no_members inside path e one = absurd (none_not_some e)
+struct-one version (member name d no_members) inside path e one =
     let found = this (slice_cmp nat_cmp (codes "struct") name) d inside e in
     let same : bytes_eq (codes "struct") name ≡ true = sym (is_eq-slice_cmp (codes "struct") name) ∙ found.0 in
     rw (same, found.1) refl
-struct-one (member name d (member k x ms)) inside path e one = absurd (omega (arith, one))
+struct-one version (member name d (member k x ms)) inside path e one = absurd (omega (arith, one))
 
 -- ---- what holds of each member holds of the one that is found
 

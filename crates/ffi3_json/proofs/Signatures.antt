@@ -24,56 +24,56 @@ under-is name d inside e = ap (λ o. unwrap_or o null) e
 pub under-none : (name : List ℕ) (d : Data) → get name d ≡ None → value_under name d ≡ null
 under-none name d e = ap (λ o. unwrap_or o null) e
 
-abbrev pub ret_of : Data → JsonPath → Read Tree
-ret_of d path = read_type (value_under (codes "ret") d) (under path (codes "ret"))
+abbrev pub ret_of : (version : ℕ) → Data → JsonPath → Read Tree
+ret_of version d path = read_type version (value_under (codes "ret") d) (under path (codes "ret"))
 
-abbrev pub args_of : Data → JsonPath → Read (List Tree)
-args_of d path = read_types (value_under (codes "args") d) (under path (codes "args"))
+abbrev pub args_of : (version : ℕ) → Data → JsonPath → Read (List Tree)
+args_of version d path = read_types version (value_under (codes "args") d) (under path (codes "args"))
 
 abbrev pub fixed_of : Data → JsonPath → Read (Option ℕ)
 fixed_of d path = read_fixed (get (codes "fixed") d) (under path (codes "fixed"))
 
-pub shapes-object : (d : Data) (path : JsonPath) (p : JsonPath) (r : Reason) → check_object d signature_keys path ≡ fault p r → read_shapes d path ≡ fault p r
-shapes-object d path p r e = then_fault _ (check_object d signature_keys path) p r e
+pub shapes-object : (version : ℕ) (d : Data) (path : JsonPath) (p : JsonPath) (r : Reason) → check_object d signature_keys path ≡ fault p r → read_shapes version d path ≡ fault p r
+shapes-object version d path p r e = then_fault _ (check_object d signature_keys path) p r e
 
-pub shapes-ret : (d : Data) (path : JsonPath) (p : JsonPath) (r : Reason) → check_object d signature_keys path ≡ read tt → ret_of d path ≡ fault p r → read_shapes d path ≡ fault p r
-shapes-ret d path p r e0 e1 = then_read _ (check_object d signature_keys path) tt e0 ∙ then_fault _ (ret_of d path) p r e1
+pub shapes-ret : (version : ℕ) (d : Data) (path : JsonPath) (p : JsonPath) (r : Reason) → check_object d signature_keys path ≡ read tt → ret_of version d path ≡ fault p r → read_shapes version d path ≡ fault p r
+shapes-ret version d path p r e0 e1 = then_read _ (check_object d signature_keys path) tt e0 ∙ then_fault _ (ret_of version d path) p r e1
 
-pub shapes-args : (d : Data) (path : JsonPath) (t : Tree) (p : JsonPath) (r : Reason) → check_object d signature_keys path ≡ read tt → ret_of d path ≡ read t → args_of d path ≡ fault p r → read_shapes d path ≡ fault p r
-shapes-args d path t p r e0 e1 e2 =
-    then_read _ (check_object d signature_keys path) tt e0 ∙ then_read _ (ret_of d path) t e1 ∙ then_fault _ (args_of d path) p r e2
+pub shapes-args : (version : ℕ) (d : Data) (path : JsonPath) (t : Tree) (p : JsonPath) (r : Reason) → check_object d signature_keys path ≡ read tt → ret_of version d path ≡ read t → args_of version d path ≡ fault p r → read_shapes version d path ≡ fault p r
+shapes-args version d path t p r e0 e1 e2 =
+    then_read _ (check_object d signature_keys path) tt e0 ∙ then_read _ (ret_of version d path) t e1 ∙ then_fault _ (args_of version d path) p r e2
 
-shapes-most : (d : Data) (path : JsonPath) (t : Tree) (ts : List Tree) → check_object d signature_keys path ≡ read tt → ret_of d path ≡ read t → args_of d path ≡ read ts
-    → read_shapes d path ≡ read_map (λ fixed. record { result_type = t; arguments = ts; fixed = fixed }) (fixed_of d path)
-shapes-most d path t ts e0 e1 e2 =
-    then_read _ (check_object d signature_keys path) tt e0 ∙ then_read _ (ret_of d path) t e1 ∙ then_read _ (args_of d path) ts e2
+shapes-most : (version : ℕ) (d : Data) (path : JsonPath) (t : Tree) (ts : List Tree) → check_object d signature_keys path ≡ read tt → ret_of version d path ≡ read t → args_of version d path ≡ read ts
+    → read_shapes version d path ≡ read_map (λ fixed. record { result_type = t; arguments = ts; fixed = fixed }) (fixed_of d path)
+shapes-most version d path t ts e0 e1 e2 =
+    then_read _ (check_object d signature_keys path) tt e0 ∙ then_read _ (ret_of version d path) t e1 ∙ then_read _ (args_of version d path) ts e2
 
-pub shapes-fixed : (d : Data) (path : JsonPath) (t : Tree) (ts : List Tree) (p : JsonPath) (r : Reason) → check_object d signature_keys path ≡ read tt → ret_of d path ≡ read t → args_of d path ≡ read ts
-    → fixed_of d path ≡ fault p r → read_shapes d path ≡ fault p r
-shapes-fixed d path t ts p r e0 e1 e2 e3 = shapes-most d path t ts e0 e1 e2 ∙ ap (λ x. read_map (λ fixed. record { result_type = t; arguments = ts; fixed = fixed }) x) e3
+pub shapes-fixed : (version : ℕ) (d : Data) (path : JsonPath) (t : Tree) (ts : List Tree) (p : JsonPath) (r : Reason) → check_object d signature_keys path ≡ read tt → ret_of version d path ≡ read t → args_of version d path ≡ read ts
+    → fixed_of d path ≡ fault p r → read_shapes version d path ≡ fault p r
+shapes-fixed version d path t ts p r e0 e1 e2 e3 = shapes-most version d path t ts e0 e1 e2 ∙ ap (λ x. read_map (λ fixed. record { result_type = t; arguments = ts; fixed = fixed }) x) e3
 
-pub shapes-all : (d : Data) (path : JsonPath) (t : Tree) (ts : List Tree) (n : Option ℕ) → check_object d signature_keys path ≡ read tt → ret_of d path ≡ read t → args_of d path ≡ read ts
-    → fixed_of d path ≡ read n → read_shapes d path ≡ read (record { result_type = t; arguments = ts; fixed = n })
-shapes-all d path t ts n e0 e1 e2 e3 = shapes-most d path t ts e0 e1 e2 ∙ ap (λ x. read_map (λ fixed. record { result_type = t; arguments = ts; fixed = fixed }) x) e3
+pub shapes-all : (version : ℕ) (d : Data) (path : JsonPath) (t : Tree) (ts : List Tree) (n : Option ℕ) → check_object d signature_keys path ≡ read tt → ret_of version d path ≡ read t → args_of version d path ≡ read ts
+    → fixed_of d path ≡ read n → read_shapes version d path ≡ read (record { result_type = t; arguments = ts; fixed = n })
+shapes-all version d path t ts n e0 e1 e2 e3 = shapes-most version d path t ts e0 e1 e2 ∙ ap (λ x. read_map (λ fixed. record { result_type = t; arguments = ts; fixed = fixed }) x) e3
 
 -- a fault of the shapes is the signature's
-pub shapes_fault : (d : Data) (path : JsonPath) (p : JsonPath) (r : Reason) → read_shapes d path ≡ fault p r → read_signature d path ≡ fault p r
-shapes_fault d path p r is = then_fault _ (read_shapes d path) p r is
+pub shapes_fault : (version : ℕ) (d : Data) (path : JsonPath) (p : JsonPath) (r : Reason) → read_shapes version d path ≡ fault p r → read_signature version d path ≡ fault p r
+shapes_fault version d path p r is = then_fault _ (read_shapes version d path) p r is
 
 -- so is the first fault of a signature whose shapes were read
-pub tells_own : (d : Data) (path : JsonPath) (s : Signature) (f : SignatureFault) → read_shapes d path ≡ read s → IsFirstSignatureFault s f
-    → (e : ScriptFault) → Reports (λ p r. (p ≡ place_of_fault path f) × (r ≡ reason_of_fault f)) e → Reports (λ p r. read_signature d path ≡ fault p r) e
-tells_own d path s f shapes first e t =
-    tells_made (read_signature d path) (place_of_fault path f) (reason_of_fault f) (then_read _ (read_shapes d path) s shapes ∙ ap (unless_faulty path s) (signature_found_by_first s f first)) e t
+pub tells_own : (version : ℕ) (d : Data) (path : JsonPath) (s : Signature) (f : SignatureFault) → read_shapes version d path ≡ read s → IsFirstSignatureFault s f
+    → (e : ScriptFault) → Reports (λ p r. (p ≡ place_of_fault path f) × (r ≡ reason_of_fault f)) e → Reports (λ p r. read_signature version d path ≡ fault p r) e
+tells_own version d path s f shapes first e t =
+    tells_made (read_signature version d path) (place_of_fault path f) (reason_of_fault f) (then_read _ (read_shapes version d path) s shapes ∙ ap (unless_faulty path s) (signature_found_by_first s f first)) e t
 
 -- and one that has none is read
-pub read_right : (d : Data) (path : JsonPath) (s : Signature) → read_shapes d path ≡ read s → SignatureHasNoFault s → read_signature d path ≡ read s
-read_right d path s shapes right =
-    then_read _ (read_shapes d path) s shapes ∙ ap (unless_faulty path s) (signature_none_found s right)
+pub read_right : (version : ℕ) (d : Data) (path : JsonPath) (s : Signature) → read_shapes version d path ≡ read s → SignatureHasNoFault s → read_signature version d path ≡ read s
+read_right version d path s shapes right =
+    then_read _ (read_shapes version d path) s shapes ∙ ap (unless_faulty path s) (signature_none_found s right)
 
 -- ---- the same by the order of faults
 
-pub tells_first : (d : Data) (path : JsonPath) (s : Signature) (f : SignatureFault) → read_shapes d path ≡ read s → IsFirstSignatureFault s f
-    → (e : ScriptFault) → Reports (λ p r. (p ≡ place_of_fault path f) × (r ≡ reason_of_fault f)) e → Reports (IsNoSignature d path) e
-tells_first d path s f shapes first e t =
-    tells_more {P = λ p r. (p ≡ place_of_fault path f) × (r ≡ reason_of_fault f)} {Q = IsNoSignature d path} (λ p r is. inr (s, shapes, record { first = f; is_first = first; alone = λ other o. one_first_signature_fault s other f o first; stands = is.0; tells = is.1 })) e t
+pub tells_first : (version : ℕ) (d : Data) (path : JsonPath) (s : Signature) (f : SignatureFault) → read_shapes version d path ≡ read s → IsFirstSignatureFault s f
+    → (e : ScriptFault) → Reports (λ p r. (p ≡ place_of_fault path f) × (r ≡ reason_of_fault f)) e → Reports (IsNoSignature version d path) e
+tells_first version d path s f shapes first e t =
+    tells_more {P = λ p r. (p ≡ place_of_fault path f) × (r ≡ reason_of_fault f)} {Q = IsNoSignature version d path} (λ p r is. inr (s, shapes, record { first = f; is_first = first; alone = λ other o. one_first_signature_fault s other f o first; stands = is.0; tells = is.1 })) e t

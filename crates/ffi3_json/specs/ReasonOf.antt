@@ -2,7 +2,7 @@
 use Rattle.std.specs.Prelude.{string_bytes}
 use Rattle.ffi3_script_rules.specs.Language as language
 use Rattle.ffi3_json.specs.declared.reason.Reason.{Reason}
-use Rattle.ffi3_json.specs.declared.reason.Reason.TheVariants.{NotAnObject, NotAnArray, UnknownKey, MissingKey, VersionNotKnown, NotAType, UnknownType, NotACount, BadTypedef, LeftOutLongDouble, LeftOutComplex, LeftOutVector, TooLarge, TooDeep, TooManyArguments, BadFixed, BadVariadicArgument, BadName, NameTwice, NoSuchSignature, NoSuchFunction, NotAMove, VoidResult, WrongCount, NotNull, NoReturnAtTheEnd, NotAnInteger, OutOfRange, BadBytes, WrongType, NotAValue, NoTypeOfItsOwn, NoSuchArgument, NoSuchResult, NoSuchField}
+use Rattle.ffi3_json.specs.declared.reason.Reason.TheVariants.{NotAnObject, NotAnArray, UnknownKey, MissingKey, VersionNotKnown, NotAType, UnknownType, NotACount, BadTypedef, LeftOutLongDouble, LeftOutComplex, LeftOutVector, TooLarge, TooDeep, TooManyArguments, BadFixed, BadVariadicArgument, BadName, NameTwice, NoSuchSignature, NoSuchFunction, NotAMove, VoidResult, WrongCount, NotNull, NoReturnAtTheEnd, NotAnInteger, BadInteger, OutOfRange, BadBytes, WrongType, NotAValue, NoTypeOfItsOwn, NoSuchArgument, NoSuchResult, NoSuchField}
 
 abbrev pub reason_of : Reason → language.Reason
 reason_of NotAnObject = language.not_an_object
@@ -32,6 +32,7 @@ reason_of WrongCount = language.wrong_count
 reason_of NotNull = language.not_null
 reason_of NoReturnAtTheEnd = language.no_return_at_the_end
 reason_of NotAnInteger = language.not_an_integer
+reason_of BadInteger = language.bad_integer
 reason_of OutOfRange = language.out_of_range
 reason_of BadBytes = language.bad_bytes
 reason_of WrongType = language.wrong_type

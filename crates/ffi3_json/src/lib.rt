@@ -9,8 +9,6 @@ mod object;
 mod place;
 mod reason;
 mod signature;
-#[cfg(test)]
-mod tests;
 mod types;
 mod way;
 

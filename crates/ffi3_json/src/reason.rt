@@ -18,7 +18,7 @@ pub enum Reason {
     UnknownKey,
     /// An object lacks this key.
     MissingKey { name: String },
-    /// The version is not the integer 1.
+    /// The version is not the integer 1 or 2.
     VersionNotKnown,
     /// Neither a text nor an object with the one key `struct`.
     NotAType,
@@ -62,6 +62,8 @@ pub enum Reason {
     NoReturnAtTheEnd,
     /// A number that is no integer.
     NotAnInteger,
+    /// A text that is no integer in decimal, where it must be one.
+    BadInteger,
     /// An integer outside the range of its type.
     OutOfRange,
     /// Not the right number of hexadecimal digits.
@@ -121,6 +123,7 @@ pub fn reason_text(alloc: Global, reason: &Reason) -> Result<Bytes, NoMemory>
         Reason::NotNull => words(alloc, "not null"),
         Reason::NoReturnAtTheEnd => words(alloc, "no return at the end"),
         Reason::NotAnInteger => words(alloc, "not an integer"),
+        Reason::BadInteger => words(alloc, "bad integer"),
         Reason::OutOfRange => words(alloc, "out of range"),
         Reason::BadBytes => words(alloc, "bad bytes"),
         Reason::WrongType => words(alloc, "wrong type"),

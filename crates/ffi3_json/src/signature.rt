@@ -22,28 +22,38 @@ use std::alloc::Global;
 /// The signature that the value at a place is: an object with `ret`, a type, `args`, an array of types, and maybe
 /// `fixed`, an integer from 0 to 4294967295. The first fault of these is told in this order, and only then the
 /// signature's own first fault.
-pub fn read_signature(alloc: Global, value: &Json, at: &Where) -> Result<Sig, ScriptFault>
+pub fn read_signature(
+    alloc: Global,
+    value: &Json,
+    at: &Where,
+    version: u8,
+) -> Result<Sig, ScriptFault>
     requires { HasShortArrays (view value.now) }
-    ensures ok { IfOk result (λ s. language.read_signature (view value.now) at.now ≡ read s) }
-    ensures err { IfErr result (Reports (λ p r. language.read_signature (view value.now) at.now ≡ language.fault p r)) }
+    ensures ok { IfOk result (λ s. language.read_signature version (view value.now) at.now ≡ read s) }
+    ensures err { IfErr result (Reports (λ p r. language.read_signature version (view value.now) at.now ≡ language.fault p r)) }
 
     // The same in the order of faults itself: its shapes are read and it has no fault, or the one first fault is told.
-    ensures shapes { IfOk result (λ s. read_shapes (view value.now) at.now ≡ read s) }
+    ensures shapes { IfOk result (λ s. read_shapes version (view value.now) at.now ≡ read s) }
     ensures right { IfOk result SignatureHasNoFault }
-    ensures first { IfErr result (Reports (IsNoSignature (view value.now) at.now)) }
+    ensures first { IfErr result (Reports (IsNoSignature version (view value.now) at.now)) }
 {
-    read_signature_at(alloc, &Node::of(value), &Way::from(at))
+    read_signature_at(alloc, &Node::of(value), &Way::from(at), version)
 }
 
 /// The same, at a place on the way to a value.
-pub fn read_signature_at(alloc: Global, value: &Node, at: &Way) -> Result<Sig, ScriptFault>
-    ensures ok { IfOk result (λ s. language.read_signature value.now at.now ≡ read s) }
-    ensures err { IfErr result (Reports (λ p r. language.read_signature value.now at.now ≡ language.fault p r)) }
-    ensures shapes { IfOk result (λ s. read_shapes value.now at.now ≡ read s) }
+pub fn read_signature_at(
+    alloc: Global,
+    value: &Node,
+    at: &Way,
+    version: u8,
+) -> Result<Sig, ScriptFault>
+    ensures ok { IfOk result (λ s. language.read_signature version value.now at.now ≡ read s) }
+    ensures err { IfErr result (Reports (λ p r. language.read_signature version value.now at.now ≡ language.fault p r)) }
+    ensures shapes { IfOk result (λ s. read_shapes version value.now at.now ≡ read s) }
     ensures right { IfOk result SignatureHasNoFault }
-    ensures first { IfErr result (Reports (IsNoSignature value.now at.now)) }
+    ensures first { IfErr result (Reports (IsNoSignature version value.now at.now)) }
 {
-    let sig = read_shapes(alloc, value, at)?;
+    let sig = read_shapes(alloc, value, at, version)?;
     match check_sig(&sig) {
         Ok(()) => Ok(sig),
         Err(fault) => Err(told(alloc, at, &fault)),
@@ -51,14 +61,14 @@ pub fn read_signature_at(alloc: Global, value: &Node, at: &Way) -> Result<Sig, S
 }
 
 // The shapes of a signature.
-fn read_shapes(alloc: Global, value: &Node, at: &Way) -> Result<Sig, ScriptFault>
-    ensures ok { IfOk result (λ s. read_shapes value.now at.now ≡ read s) }
-    ensures err { IfErr result (Reports (λ p r. read_shapes value.now at.now ≡ language.fault p r)) }
+fn read_shapes(alloc: Global, value: &Node, at: &Way, version: u8) -> Result<Sig, ScriptFault>
+    ensures ok { IfOk result (λ s. read_shapes version value.now at.now ≡ read s) }
+    ensures err { IfErr result (Reports (λ p r. read_shapes version value.now at.now ≡ language.fault p r)) }
 {
     let keys = signature_keys(alloc)?;
     check_object_at(alloc, value.json(), &keys, at)?;
-    let ret = read_ret(alloc, value, at)?;
-    let args = read_args(alloc, value, at)?;
+    let ret = read_ret(alloc, value, at, version)?;
+    let args = read_args(alloc, value, at, version)?;
     let fixed = read_fixed(alloc, value, at)?;
     Ok(Sig::new(ret, args, fixed))
 }
@@ -84,27 +94,27 @@ fn signature_keys(alloc: Global) -> Result<Keys, NoMemory>
 }
 
 // The shape of the result. One that is not there is read as null.
-fn read_ret(alloc: Global, value: &Node, at: &Way) -> Result<FfiType, ScriptFault>
-    ensures ok { IfOk result (λ t. read_type (value_under (codes "ret") value.now) (under at.now (codes "ret")) ≡ read (tree_of t)) }
-    ensures err { IfErr result (Reports (λ p r. read_type (value_under (codes "ret") value.now) (under at.now (codes "ret")) ≡ language.fault p r)) }
+fn read_ret(alloc: Global, value: &Node, at: &Way, version: u8) -> Result<FfiType, ScriptFault>
+    ensures ok { IfOk result (λ t. read_type version (value_under (codes "ret") value.now) (under at.now (codes "ret")) ≡ read (tree_of t)) }
+    ensures err { IfErr result (Reports (λ p r. read_type version (value_under (codes "ret") value.now) (under at.now (codes "ret")) ≡ language.fault p r)) }
 {
     let place = at.key("ret");
     let Some(ret) = value.get("ret") else {
         return Err(bad(alloc, &place, Reason::NotAType));
     };
-    read_type_at(alloc, &ret, &place)
+    read_type_at(alloc, &ret, &place, version)
 }
 
 // The shapes of the arguments. An array that is not there is read as null.
-fn read_args(alloc: Global, value: &Node, at: &Way) -> Result<Fields, ScriptFault>
-    ensures ok { IfOk result (λ ts. read_types (value_under (codes "args") value.now) (under at.now (codes "args")) ≡ read ts) }
-    ensures err { IfErr result (Reports (λ p r. read_types (value_under (codes "args") value.now) (under at.now (codes "args")) ≡ language.fault p r)) }
+fn read_args(alloc: Global, value: &Node, at: &Way, version: u8) -> Result<Fields, ScriptFault>
+    ensures ok { IfOk result (λ ts. read_types version (value_under (codes "args") value.now) (under at.now (codes "args")) ≡ read ts) }
+    ensures err { IfErr result (Reports (λ p r. read_types version (value_under (codes "args") value.now) (under at.now (codes "args")) ≡ language.fault p r)) }
 {
     let place = at.key("args");
     let Some(args) = value.get("args") else {
         return Err(bad(alloc, &place, Reason::NotAnArray));
     };
-    read_list(alloc, &args, &place)
+    read_list(alloc, &args, &place, version)
 }
 
 // The number of fixed arguments, where there is one.

@@ -11,25 +11,35 @@ use crate::{Json, Node, Reason, ScriptFault, Way, Where};
 use ffi3_types::{FfiType, Fields};
 use std::alloc::Global;
 
-/// The type that the value at a place is: the name of one, or an object whose one key `struct` has an array of types.
+/// The type that the value at a place is: the name of one in a version of the language, or an object whose one key `struct` has an array of types.
 /// Whether it has a fault of its own, as a struct without elements has, is not looked at.
-pub fn read_type(alloc: Global, value: &Json, at: &Where) -> Result<FfiType, ScriptFault>
+pub fn read_type(
+    alloc: Global,
+    value: &Json,
+    at: &Where,
+    version: u8,
+) -> Result<FfiType, ScriptFault>
     requires { HasShortArrays (view value.now) }
-    ensures ok { IfOk result (λ t. language.read_type (view value.now) at.now ≡ read (tree_of t)) }
-    ensures err { IfErr result (Reports (λ p r. language.read_type (view value.now) at.now ≡ language.fault p r)) }
+    ensures ok { IfOk result (λ t. language.read_type version (view value.now) at.now ≡ read (tree_of t)) }
+    ensures err { IfErr result (Reports (λ p r. language.read_type version (view value.now) at.now ≡ language.fault p r)) }
 {
-    read_type_at(alloc, &Node::of(value), &Way::from(at))
+    read_type_at(alloc, &Node::of(value), &Way::from(at), version)
 }
 
 /// The same, at a place on the way to a value.
 #[cycle(types)]
-pub fn read_type_at(alloc: Global, value: &Node, at: &Way) -> Result<FfiType, ScriptFault>
-    ensures ok { IfOk result (λ t. language.read_type value.now at.now ≡ read (tree_of t)) }
-    ensures err { IfErr result (Reports (λ p r. language.read_type value.now at.now ≡ language.fault p r)) }
+pub fn read_type_at(
+    alloc: Global,
+    value: &Node,
+    at: &Way,
+    version: u8,
+) -> Result<FfiType, ScriptFault>
+    ensures ok { IfOk result (λ t. language.read_type version value.now at.now ≡ read (tree_of t)) }
+    ensures err { IfErr result (Reports (λ p r. language.read_type version value.now at.now ≡ language.fault p r)) }
 {
     let json = value.json();
     if let Some(name) = json.as_str() {
-        return match FfiType::from_name(name) {
+        return match FfiType::from_name(name, version) {
             Some(ty) => Ok(ty),
             None => Err(bad(alloc, at, Reason::UnknownType)),
         };
@@ -43,22 +53,27 @@ pub fn read_type_at(alloc: Global, value: &Node, at: &Way) -> Result<FfiType, Sc
     if members.len() != 1 {
         return Err(bad(alloc, at, Reason::NotAType));
     }
-    let types = read_list(alloc, &inside, &at.key("struct"))?;
+    let types = read_list(alloc, &inside, &at.key("struct"), version)?;
     Ok(FfiType::Struct(types))
 }
 
 // The types that an array of them has.
 #[cycle(types)]
-pub(crate) fn read_list(alloc: Global, value: &Node, at: &Way) -> Result<Fields, ScriptFault>
-    ensures ok { IfOk result (λ ts. language.read_types value.now at.now ≡ read ts) }
-    ensures err { IfErr result (Reports (λ p r. language.read_types value.now at.now ≡ language.fault p r)) }
+pub(crate) fn read_list(
+    alloc: Global,
+    value: &Node,
+    at: &Way,
+    version: u8,
+) -> Result<Fields, ScriptFault>
+    ensures ok { IfOk result (λ ts. language.read_types version value.now at.now ≡ read ts) }
+    ensures err { IfErr result (Reports (λ p r. language.read_types version value.now at.now ≡ language.fault p r)) }
 {
     let Some(items) = value.items() else {
         return Err(bad(alloc, at, Reason::NotAnArray));
     };
     let mut types = Fields::new(alloc);
     for i in 0..items.len() {
-        let ty = read_type_at(alloc, &items.get(i), &at.item(i as u32))?;
+        let ty = read_type_at(alloc, &items.get(i), &at.item(i as u32), version)?;
         types.push(ty)?;
     }
     Ok(types)

@@ -43,8 +43,6 @@ ghost use Rattle.ffi3_machine.specs.State.{
 
 mod journal;
 mod step;
-#[cfg(test)]
-mod tests;
 
 pub use ffi3_memory::NoMemory;
 use ffi3_memory::Region;

@@ -1,12 +1,10 @@
--- No signature of the natives has a fault; the sizes of their blocks.
-use Rattle.std.proofs.Common.{◌≡◌, All, ℕ, zero, suc, ◌<◌, length, refl, arith}
+-- No signature of the natives has a fault.
+use Rattle.std.proofs.Common.{All, ℕ, zero, suc, ◌<◌, length, refl, arith}
 use Rattle.ffi3_type_rules.specs.Tree.{tree_at, s64, pointer}
 use Rattle.ffi3_type_rules.specs.Fault.{IsArgumentType}
 use Rattle.ffi3_type_rules.specs.Signature.{SignatureHasNoFault}
-use Rattle.ffi3_type_rules.specs.Layout.{least_multiple}
 use Rattle.ffi3_type_rules.proofs.Faults.{scalar_faults}
 use Rattle.ffi3_type_rules.proofs.Signatures.{right_with_no_fixed}
-use Rattle.ffi3_place_rules.specs.Standard.{block_bytes}
 use Rattle.ffi3_natives.specs.Natives.{number_signature, closure_signature, numbers_signature, calling_signatures, sum3_signatures}
 
 number_arguments : (j : ℕ) → j < length number_signature.arguments → IsArgumentType (tree_at number_signature.arguments j)
@@ -22,7 +20,7 @@ closure_arguments zero h = scalar_faults pointer
 closure_arguments (suc zero) h = scalar_faults s64
 closure_arguments (suc (suc j)) h = absurd (omega arith)
 
-pub closure_right : SignatureHasNoFault closure_signature
+closure_right : SignatureHasNoFault closure_signature
 closure_right =
     right_with_no_fixed closure_signature (omega arith) (scalar_faults s64) closure_arguments refl
 
@@ -32,7 +30,7 @@ numbers_arguments (suc zero) h = scalar_faults s64
 numbers_arguments (suc (suc zero)) h = scalar_faults s64
 numbers_arguments (suc (suc (suc j))) h = absurd (omega arith)
 
-pub numbers_right : SignatureHasNoFault numbers_signature
+numbers_right : SignatureHasNoFault numbers_signature
 numbers_right =
     right_with_no_fixed numbers_signature (omega arith) (scalar_faults s64) numbers_arguments refl
 
@@ -44,12 +42,3 @@ calling_right (suc (suc i)) d h = absurd (omega arith)
 pub sum3_right : All SignatureHasNoFault sum3_signatures
 sum3_right zero d h = numbers_right
 sum3_right (suc i) d h = absurd (omega arith)
-
--- their blocks
-pub closure_block : 16 ≡ block_bytes closure_signature
-unfolding least_multiple
-closure_block = refl
-
-pub numbers_block : 32 ≡ block_bytes numbers_signature
-unfolding least_multiple
-numbers_block = refl

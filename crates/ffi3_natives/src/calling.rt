@@ -23,7 +23,7 @@ fn number_sig(alloc: Global) -> Result<Sig, NoMemory>
 }
 
 // sint64(pointer,sint64)
-pub(crate) fn closure_sig(alloc: Global) -> Result<Sig, NoMemory>
+fn closure_sig(alloc: Global) -> Result<Sig, NoMemory>
     ensures { IfOk result (λ s. s ≡ closure_signature) }
 {
     let mut args = Fields::new(alloc);

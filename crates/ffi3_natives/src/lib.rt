@@ -5,8 +5,6 @@
 mod apply;
 mod calling;
 mod sum3;
-#[cfg(test)]
-mod tests;
 mod twice;
 
 pub use apply::Apply;

@@ -29,7 +29,7 @@ impl Model for Sum3 {
 }
 
 // sint64(sint64,sint64,sint64)
-pub(crate) fn numbers_sig(alloc: Global) -> Result<Sig, NoMemory>
+fn numbers_sig(alloc: Global) -> Result<Sig, NoMemory>
     ensures { IfOk result (λ s. s ≡ numbers_signature) }
 {
     let mut args = Fields::new(alloc);

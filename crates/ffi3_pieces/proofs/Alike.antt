@@ -16,7 +16,8 @@ use Rattle.ffi3_place_rules.specs.declared.Res.{Res}
 use Rattle.ffi3_place_rules.specs.declared.Res.TheVariants.{Nothing, Direct as DirectRes, Hidden}
 use Rattle.ffi3_place_rules.specs.Image.{Image, byte_at, word_at}
 use Rattle.ffi3_place_rules.specs.Holds.{leaf_bytes, Carries, LeavesStand, OwnsArgument, OwnsArguments, OwnsHidden, FillsAs, FillPieces, FillsArgument, FillArguments, RegisterHolds}
-use Rattle.ffi3_place_rules.specs.Sound.{IsNoneOf, hidden_locs, listed, piece_locs, place_locs}
+use Rattle.ffi3_place_rules.specs.Sound.{IsNoneOf, hidden_locs, piece_locs, place_locs}
+use Rattle.ffi3_place_rules.specs.Isa.{listed}
 use Rattle.ffi3_pieces.specs.Stored.{IsPlace}
 use Rattle.ffi3_pieces.proofs.Lawful.{each_first, each_rest}
 

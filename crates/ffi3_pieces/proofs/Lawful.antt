@@ -19,7 +19,8 @@ use Rattle.ffi3_place_rules.specs.declared.Place.{Place}
 use Rattle.ffi3_place_rules.specs.declared.Place.TheVariants.{Direct, ByRef}
 use Rattle.ffi3_place_rules.specs.Standard.{Standard, plan_of, frame_of}
 use Rattle.ffi3_place_rules.specs.Agrees.{AgreesWithMachine}
-use Rattle.ffi3_place_rules.specs.Sound.{Apart, AreApart, IsNoneOf, IsSound, LiesIn, PlacesHaveAll, place_locs, piece_locs, copy_locs, stack_words, stack_words_for, argument_locs, hidden_locs, buffer_locs, call_locs, listed, closed_to_results, closed_to_arguments}
+use Rattle.ffi3_place_rules.specs.Sound.{Apart, AreApart, IsNoneOf, IsSound, LiesIn, PlacesHaveAll, place_locs, piece_locs, copy_locs, stack_words, stack_words_for, argument_locs, hidden_locs, buffer_locs, call_locs, closed_to_results, closed_to_arguments}
+use Rattle.ffi3_place_rules.specs.Isa.{listed}
 use Rattle.ffi3_pieces.specs.Stored.{IsPlace, IsWritable}
 use Rattle.ffi3_pieces.specs.Standing.{all_uses, AreReady}
 use Rattle.ffi3_pieces.proofs.Composing.{apart_sym}

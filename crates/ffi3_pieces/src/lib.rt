@@ -119,6 +119,7 @@ fn boxed(bytes: &[u8], from: usize) -> u64
 // The 8 bytes of an integer in a register, extended by its sign to 32 bits where it is narrower, and from there by the upper bit.
 fn widen_from_32(ty: &FfiType, value: &Value) -> u64
     requires kind { is_number_type (tree_of ty.now) ≡ true }
+    requires small { size_of (tree_of ty.now) ≤ 8 }
     requires fits { fits (tree_of ty.now) (value_of value.now) ≡ true }
     ensures { result ≡ widened_from_32 (scalar_of (tree_of ty.now)) (bytes_of (value_of value.now)) }
 {

@@ -1,11 +1,11 @@
-// Where copies and buffers end in the frame of a call, and the plan that ends with them: alike by every standard.
+// Where things begin and end in the frame of a call, and the plan that ends with them: alike by every standard.
 ghost use Rattle.std.specs.Prelude.{◌<◌, ◌^◌, ◌≡◌, ◌≤◌, ◌+◌, ℕ, true};
-ghost use Rattle.ffi3_type_rules.specs.declared.limits.TheConstants.{LARGEST_STRUCT, STACK_BYTES};
+ghost use Rattle.ffi3_type_rules.specs.declared.limits.TheConstants.{ARGUMENT_SPAN, LARGEST_GAP, LARGEST_STRUCT, STACK_BYTES};
 ghost use Rattle.ffi3_type_rules.specs.Tree.{Tree};
 ghost use Rattle.ffi3_type_rules.specs.Fault.{IsResultType};
 ghost use Rattle.ffi3_type_rules.specs.Signature.{SignatureHasNoFault};
 ghost use Rattle.ffi3_types.specs.TreeOf.{tree_of};
-ghost use Rattle.ffi3_place_rules.specs.Standard.{Spot, ResultSpot, at_once, place_at, copy_end, result_at, buffer_end};
+ghost use Rattle.ffi3_place_rules.specs.Standard.{Spot, ResultSpot, start, place_at, copy_end, result_at, buffer_end};
 ghost use Rattle.ffi3_place_rules.specs.Planned.{planned};
 
 use crate::parts::{size_of, sizes_of};
@@ -13,11 +13,21 @@ use ffi3_place_rules::{Place, Places, Plan, Res};
 use ffi3_type_rules::round_up;
 use ffi3_types::{FfiType, Sig};
 
+/// Where something of a type begins, after the end of what stands before it: at the next multiple of the type's alignment, and of eight bytes at least.
+pub fn start(ty: &FfiType, end: u64) -> u64
+    requires right { IsResultType (tree_of ty.now) }
+    requires low { end < 2 ^ 32 }
+    ensures value { result ≡ start end (tree_of ty.now) }
+    ensures near { result ≤ end + LARGEST_GAP }
+{
+    round_up(end, 8_u64.max(ty.align()))
+}
+
 /// Where an argument's copy ends. Without one, that is `end`, where what stands before it ends.
 pub fn copy_end(place: &Place, ty: &FfiType, end: u64) -> u64
     requires { IsResultType (tree_of ty.now) }
-    ensures value { (start : ℕ → Tree → ℕ) (spot : Spot) → place.now ≡ place_at start end (tree_of ty.now) spot → result ≡ copy_end start end (tree_of ty.now) spot }
-    ensures low { (spot : Spot) → place.now ≡ place_at at_once end (tree_of ty.now) spot → result ≤ end + (LARGEST_STRUCT + 7) }
+    ensures value { (begin : ℕ → Tree → ℕ) (spot : Spot) → place.now ≡ place_at begin end (tree_of ty.now) spot → result ≡ copy_end begin end (tree_of ty.now) spot }
+    ensures low { (begin : ℕ → Tree → ℕ) (spot : Spot) → place.now ≡ place_at begin end (tree_of ty.now) spot → begin end (tree_of ty.now) ≤ end + LARGEST_GAP → result ≤ end + ARGUMENT_SPAN }
 {
     match place {
         Place::Direct(_) => end,
@@ -29,7 +39,7 @@ pub fn copy_end(place: &Place, ty: &FfiType, end: u64) -> u64
 pub fn buffer_end(res: &Res, ty: &FfiType, end: u64) -> u64
     requires right { IsResultType (tree_of ty.now) }
     requires low { end < 2 ^ 32 }
-    ensures value { (start : ℕ → Tree → ℕ) (spot : ResultSpot) → res.now ≡ result_at start end (tree_of ty.now) spot → result ≡ buffer_end start end (tree_of ty.now) spot }
+    ensures value { (begin : ℕ → Tree → ℕ) (spot : ResultSpot) → res.now ≡ result_at begin end (tree_of ty.now) spot → result ≡ buffer_end begin end (tree_of ty.now) spot }
     ensures low { result < 2 ^ 32 + (LARGEST_STRUCT + 7) }
 {
     match res {

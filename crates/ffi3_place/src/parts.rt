@@ -140,7 +140,7 @@ pub fn leaf_piece(ty: &FfiType, i: u32, loc: Loc, ext: Ext) -> Piece
 /// A value's doublewords on the stack, from byte `start` of the stack arguments on. A narrow integer is extended by its sign.
 pub fn pieces_on_stack(alloc: Global, ty: &FfiType, start: u64) -> Result<Pieces, NoMemory>
     requires right { IsResultType (tree_of ty.now) }
-    requires low { start ≤ ARGUMENT_BYTES }
+    requires low { start ≤ 2 * ARGUMENT_BYTES }
     ensures { IfOk result (λ p. p ≡ stack_pieces start (tree_of ty.now)) }
 {
     let ext = widening(ty);

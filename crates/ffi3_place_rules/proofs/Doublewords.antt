@@ -3,8 +3,7 @@ use Rattle.std.proofs.Common.{◌≡◌, ℕ, zero, suc, ◌+◌, ◌-◌, ◌*�
 use Rattle.std.specs.List.{AllByRecursion, Any}
 use Rattle.std.proofs.lemmas.Bool.{cases_lt}
 use Rattle.ffi3_type_rules.specs.Tree.{Tree, void, scalar, left_out, structure, Scalar, u8, s8, u16, s16, u32, s32}
-use Rattle.ffi3_type_rules.specs.Layout.{Leaf, size_of, least_multiple}
-use Rattle.ffi3_type_rules.proofs.Layouts.{scalar_size-bounds}
+use Rattle.ffi3_type_rules.specs.Layout.{Leaf, size_of, scalar_size, least_multiple}
 use Rattle.ffi3_place_rules.specs.declared.Loc.{Loc}
 use Rattle.ffi3_place_rules.specs.declared.Loc.TheVariants.{S}
 use Rattle.ffi3_place_rules.specs.declared.Ext.{Ext}
@@ -53,9 +52,9 @@ widening_suits t = filling_suits Widen (λ u p h. h) t
 pub doubleword_is_piece : (t : Tree) (e : Ext) → SuitsDoublewords t e → (l : Loc) (j : ℕ) → 8 * j < size_of t → IsPieceOf t (doubleword l j (size_of t) e)
 doubleword_is_piece t e suits l j h = record { short = omega arith; within = omega arith; extended = suits l j h }
 
--- a leaf of a value is a piece of it
-pub leaf_is_piece : (t : Tree) (at : Loc) (e : Ext) (l : Leaf) → EndsIn (size_of t) l → IsExtended t (leaf_piece at e l) e → IsPieceOf t (leaf_piece at e l)
-leaf_is_piece t at e l ends suits = record { short = (scalar_size-bounds l.kind).1; within = ends; extended = suits }
+-- a leaf of at most eight bytes of a value is a piece of it
+pub leaf_is_piece : (t : Tree) (at : Loc) (e : Ext) (l : Leaf) → scalar_size l.kind ≤ 8 → EndsIn (size_of t) l → IsExtended t (leaf_piece at e l) e → IsPieceOf t (leaf_piece at e l)
+leaf_is_piece t at e l small ends suits = record { short = small; within = ends; extended = suits }
 
 module _ (place : ℕ → Loc) (t : Tree) (e : Ext) (suits : SuitsDoublewords t e) where
   doublewords_are_pieces : (j count : ℕ) → j + count ≤ doublewords t → AllByRecursion (IsPieceOf t) (doublewords_at place (size_of t) e j count)

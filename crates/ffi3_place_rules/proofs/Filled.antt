@@ -1,7 +1,7 @@
 -- Pieces that are filled as the standard says: doublewords of one value, and references.
 use Rattle.std.proofs.Common.{◌≡◌, ℕ, zero, suc, ◌+◌, true, false, refl}
 use Rattle.std.specs.List.{AllByRecursion}
-use Rattle.ffi3_type_rules.specs.Tree.{Tree, void, scalar, left_out, structure, u8, s8, u16, s16, u32, s32, u64, s64, float, double, pointer}
+use Rattle.ffi3_type_rules.specs.Tree.{Tree, void, scalar, left_out, structure, u8, s8, u16, s16, u32, s32, u64, s64, u128, s128, float, double, pointer}
 use Rattle.ffi3_type_rules.specs.Layout.{size_of}
 use Rattle.ffi3_place_rules.specs.declared.Loc.{Loc}
 use Rattle.ffi3_place_rules.specs.declared.Ext.{Ext}
@@ -22,6 +22,8 @@ narrow_filling e (scalar u32) h = refl
 narrow_filling e (scalar s32) h = refl
 narrow_filling e (scalar u64) h = cc
 narrow_filling e (scalar s64) h = cc
+narrow_filling e (scalar u128) h = cc
+narrow_filling e (scalar s128) h = cc
 narrow_filling e (scalar float) h = cc
 narrow_filling e (scalar double) h = cc
 narrow_filling e (scalar pointer) h = cc

@@ -26,10 +26,10 @@ module _ (general floating : ℕ → ℕ) (generals floatings : ℕ) where
       let mid : Taken = record { general = a.general; vector = a.vector; stack = start + 8 * (j + 1) } in
       (mid, low, omega arith, record { general = omega arith; vector = omega arith; stack = omega arith }, stack_chain mid start size e (j + 1) count b (omega arith) (omega arith) g f)
 
-  -- a value on the stack, behind all that was taken
-  pub value_chain : (a : Taken) (t : Tree) (b : Taken) → a.stack + round8 (size_of t) ≤ b.stack → a.general ≤ b.general → a.vector ≤ b.vector → Chain general floating generals floatings a (piece_locs (stack_pieces a.stack t)) b
-  value_chain a t b high g f =
-      stack_chain a a.stack (size_of t) (widening t) 0 (doublewords t) b (omega arith) (omega (arith, high, doublewords_in (size_of t))) g f
+  -- a value on the stack, from a byte on that is behind all that was taken
+  pub value_chain : (a : Taken) (from : ℕ) (t : Tree) (b : Taken) → a.stack ≤ from → from + round8 (size_of t) ≤ b.stack → a.general ≤ b.general → a.vector ≤ b.vector → Chain general floating generals floatings a (piece_locs (stack_pieces from t)) b
+  value_chain a from t b low high g f =
+      stack_chain a from (size_of t) (widening t) 0 (doublewords t) b (omega (arith, low)) (omega (arith, high, doublewords_in (size_of t))) g f
 
   module _ (start : ℕ → Tree → ℕ) (behind : (end : ℕ) (t : Tree) → end ≤ start end t) where
     -- copies that start behind all that was taken

@@ -11,5 +11,6 @@ pub mod Filled
 pub mod Rising
 pub mod Elements
 pub mod Worked
+pub mod Ends
 pub mod Copies
 pub mod Planned

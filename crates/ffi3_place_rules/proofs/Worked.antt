@@ -1,6 +1,6 @@
 -- Words for the worked rows of the standards.
-use Rattle.std.specs.Prelude.{ℕ, List, [], ◌∷◌, None}
-use Rattle.ffi3_type_rules.specs.Tree.{Tree, scalar, struct_of, u64, s64}
+use Rattle.std.specs.Prelude.{ℕ, List, [], ◌∷◌, Some, None}
+use Rattle.ffi3_type_rules.specs.Tree.{Tree, scalar, struct_of, u8, u64, s64, u128}
 use Rattle.ffi3_type_rules.specs.Signature.{Signature}
 use Rattle.ffi3_place_rules.specs.declared.Loc.{Loc}
 use Rattle.ffi3_place_rules.specs.declared.Ext.TheVariants.{Free, Widen}
@@ -29,3 +29,17 @@ pair = struct_of (scalar s64 ∷ scalar s64 ∷ [])
 
 abbrev pub triple : Tree
 triple = struct_of (scalar u64 ∷ scalar u64 ∷ scalar u64 ∷ [])
+
+abbrev pub wide : Tree
+wide = scalar u128
+
+-- struct{uint8,uint128}: 32 bytes, aligned to 16
+abbrev pub byte_and_wide : Tree
+byte_and_wide = struct_of (scalar u8 ∷ wide ∷ [])
+
+abbrev pub variadic_from : Tree → List Tree → ℕ → Signature
+variadic_from r a n = record { result_type = r; arguments = a; fixed = Some n }
+
+-- a 128-bit integer in two places
+abbrev pub halves : Loc → Loc → Place
+halves low high = Direct (at low 0 8 ∷ at high 8 8 ∷ [])

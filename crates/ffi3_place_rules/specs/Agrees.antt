@@ -6,9 +6,9 @@ use Rattle.ffi3_place_rules.specs.declared.Loc.{Loc}
 use Rattle.ffi3_place_rules.specs.declared.Loc.TheVariants.{G}
 use Rattle.ffi3_place_rules.specs.declared.SaveWord.{SaveWord}
 use Rattle.ffi3_place_rules.specs.declared.SaveWord.TheVariants.{Register, Hidden, Spare}
-use Rattle.ffi3_place_rules.specs.Isa.{pushed_bytes, stack_pointer, link_place, reserved_places, closure_register, trampoline_registers, TakesWrites}
+use Rattle.ffi3_place_rules.specs.Isa.{pushed_bytes, stack_pointer, link_place, reserved_places, closure_register, trampoline_registers, TakesWrites, listed}
 use Rattle.ffi3_place_rules.specs.Standard.{Standard}
-use Rattle.ffi3_place_rules.specs.Sound.{AreApart, IsNoneOf, IsOneOf, LiesIn, closed_to_arguments, listed}
+use Rattle.ffi3_place_rules.specs.Sound.{AreApart, IsNoneOf, IsOneOf, LiesIn, closed_to_arguments}
 
 -- the registers of a save area, in its order
 abbrev pub saved_register : SaveWord → List Loc

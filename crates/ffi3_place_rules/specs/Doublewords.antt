@@ -1,6 +1,6 @@
 -- A value in doublewords, and a leaf in a place of its own; what fills the rest of a lone integer's place.
 use Rattle.std.specs.Prelude.{ℕ, zero, suc, ◌+◌, ◌*◌, ◌/◌, List, [], ◌∷◌}
-use Rattle.ffi3_type_rules.specs.Tree.{Tree, scalar, Scalar, u8, s8, u16, s16, u32, s32, u64, s64, float, double, pointer}
+use Rattle.ffi3_type_rules.specs.Tree.{Tree, scalar, Scalar, u8, s8, u16, s16, u32, s32, u64, s64, u128, s128, float, double, pointer}
 use Rattle.ffi3_type_rules.specs.Layout.{Leaf, size_of, scalar_size}
 use Rattle.ffi3_place_rules.specs.declared.Loc.{Loc}
 use Rattle.ffi3_place_rules.specs.declared.Loc.TheVariants.{S}
@@ -23,6 +23,8 @@ filling_of_scalar e u32 = e
 filling_of_scalar e s32 = e
 filling_of_scalar e u64 = Free
 filling_of_scalar e s64 = Free
+filling_of_scalar e u128 = Free
+filling_of_scalar e s128 = Free
 filling_of_scalar e float = Free
 filling_of_scalar e double = Free
 filling_of_scalar e pointer = Free

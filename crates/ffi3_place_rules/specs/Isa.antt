@@ -65,6 +65,11 @@ jump_register Riscv = Some 7
 
 -- ---- the same as places
 
+-- the place alone, or none
+abbrev pub listed : Option Loc → List Loc
+listed (Some at) = at ∷ []
+listed None = []
+
 abbrev pub listed_number : Option ℕ → List Loc
 listed_number (Some k) = G k ∷ []
 listed_number None = []

@@ -1,5 +1,5 @@
 -- What the places of a signature keep, whatever the standard. (No standard states these laws: each follows from its rules, and is proved of them.)
-use Rattle.std.specs.Prelude.{◌≡◌, ◌≢◌, ℕ, zero, suc, ◌+◌, ◌/◌, ◌%◌, ◌<◌, ◌≤◌, ◌⊎◌, ⊤, Bool, true, false, ◌&&◌, nat_lt, List, [], ◌∷◌, ◌++◌, map, Option, Some, None}
+use Rattle.std.specs.Prelude.{◌≡◌, ◌≢◌, ℕ, zero, suc, ◌+◌, ◌/◌, ◌%◌, ◌<◌, ◌≤◌, ◌⊎◌, ⊤, Bool, true, false, ◌&&◌, nat_lt, List, [], ◌∷◌, ◌++◌, map}
 use Rattle.std.specs.List.{AllByRecursion, Any, flat_map}
 use Rattle.ffi3_type_rules.specs.Tree.{Tree, void, scalar}
 use Rattle.ffi3_type_rules.specs.Layout.{Leaf, leaves_of, size_of, scalar_size}
@@ -8,7 +8,7 @@ use Rattle.ffi3_type_rules.specs.Signature.{Signature}
 use Rattle.ffi3_type_rules.specs.Value.{ValueTree}
 use Rattle.ffi3_type_rules.specs.declared.Isa.{Isa}
 use Rattle.ffi3_type_rules.specs.Isa.{isa_of}
-use Rattle.ffi3_place_rules.specs.Isa.{general_registers, floating_registers}
+use Rattle.ffi3_place_rules.specs.Isa.{general_registers, floating_registers, listed}
 use Rattle.ffi3_place_rules.specs.declared.Loc.{Loc}
 use Rattle.ffi3_place_rules.specs.declared.Loc.TheVariants.{G, F, S}
 use Rattle.ffi3_place_rules.specs.declared.Ext.{Ext}
@@ -96,10 +96,6 @@ abbrev pub call_locs : Signature → Plan → List Loc
 call_locs s p = argument_locs p ++ (copy_locs s.arguments p.places ++ buffer_locs s.result_type p.res)
 
 -- ---- registers that carry nothing
-
-abbrev pub listed : Option Loc → List Loc
-listed (Some at) = at ∷ []
-listed None = []
 
 -- no result stands in these: the stack pointer, the preserved, the reserved and the link register
 abbrev pub closed_to_results : Standard → List Loc

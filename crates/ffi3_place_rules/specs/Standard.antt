@@ -1,9 +1,9 @@
 -- A calling standard: its registers, and where it places the arguments and the result of a signature; the bytes of stack that a call takes by it. (System V psABI AMD64 3.2.1 to 3.2.3; Arm AAPCS64, "The Base Procedure Call Standard"; RISC-V ELF psABI, "Procedure Calling Convention". Save area, callee's block and order of copies in the frame are this library's.)
-use Rattle.std.specs.Prelude.{ℕ, ◌+◌, ◌-◌, ◌*◌, List, [], ◌∷◌, Option, min}
+use Rattle.std.specs.Prelude.{ℕ, ◌+◌, ◌-◌, ◌*◌, List, [], ◌∷◌, Option, min, max}
 use Rattle.std.specs.List.{sum_by}
 use Rattle.ffi3_type_rules.specs.declared.Target.{Target}
 use Rattle.ffi3_type_rules.specs.Tree.{Tree}
-use Rattle.ffi3_type_rules.specs.Layout.{size_of, least_multiple}
+use Rattle.ffi3_type_rules.specs.Layout.{size_of, align_of, least_multiple}
 use Rattle.ffi3_type_rules.specs.Signature.{Signature}
 use Rattle.ffi3_place_rules.specs.declared.Loc.{Loc}
 use Rattle.ffi3_place_rules.specs.declared.Ext.{Ext}
@@ -74,9 +74,9 @@ doubleword at j n e = record { loc = at; off = 8 * j; len = min 8 (n - 8 * j); e
 
 -- ---- where one thing begins after another
 
--- Directly behind it: each end is a multiple of eight, and no type is aligned to more than eight bytes.
-abbrev pub at_once : ℕ → Tree → ℕ
-at_once end t = end
+-- at the next multiple of the type's alignment, and of eight bytes at least
+abbrev pub start : ℕ → Tree → ℕ
+start end t = least_multiple (max 8 (align_of t)) end
 
 -- ---- the frame of a call: stack arguments, then copies in the order of the arguments, then the buffer of a hidden result
 
@@ -129,6 +129,11 @@ block_bytes s = round16 (sum_by (λ t. round8 (size_of t)) s.arguments)
 -- all the stack that a call takes, the callee's save area and block included
 abbrev pub need_of : Standard → Signature → ℕ
 need_of std s = frame_of std s + std.link + std.save + block_bytes s
+
+-- and that calls of these signatures take together
+abbrev pub needs_of : Standard → List Signature → ℕ
+needs_of std [] = 0
+needs_of std (s ∷ outer) = need_of std s + needs_of std outer
 
 -- where everything stands in a call of a signature
 abbrev pub plan_of : Standard → Signature → Plan

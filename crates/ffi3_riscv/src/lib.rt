@@ -9,16 +9,14 @@ ghost use Rattle.ffi3_type_rules.specs.Integer.{is_floating};
 ghost use Rattle.ffi3_type_rules.specs.Fault.{IsResultType};
 ghost use Rattle.ffi3_type_rules.specs.Signature.{SignatureHasNoFault};
 ghost use Rattle.ffi3_types.specs.TreeOf.{tree_of};
-ghost use Rattle.ffi3_place_rules.specs.Standard.{at_once, place_at, copy_end, places_from, copies_end, result_at, buffer_end, round8};
+ghost use Rattle.ffi3_place_rules.specs.Standard.{place_at, copy_end, places_from, copies_end, result_at, buffer_end, round8};
 ghost use Rattle.ffi3_place_rules.specs.Doublewords.{doublewords};
-ghost use Rattle.ffi3_riscv_rules.specs.Riscv.{is_word_integer, integer_shape, shape_of, words_of, floats_of, registers_suffice, passed_as, word, extension, boxing, floating_piece, integer_piece, word_pieces, spot_of, is_fixed, used_with, used_at_first, used_by_all, spots_after, result_shape, result_spot_of, is_by_reference, stack_of, unused};
+ghost use Rattle.ffi3_riscv_rules.specs.Riscv.{riscv, is_word_integer, integer_shape, shape_of, words_of, floats_of, registers_suffice, passed_as, word, extension, boxing, floating_piece, integer_piece, word_pieces, spot_of, is_fixed, is_at_even_word, first_word, used_at_start, used_with, used_at_first, used_by_all, spots_after, result_shape, result_spot_of, is_by_reference, stack_of, unused};
 ghost use Rattle.ffi3_riscv_rules.proofs.Shapes.{Suits, HasRoom};
 
 pub mod laws;
-#[cfg(test)]
-mod tests;
 
-use ffi3_place::ends::{buffer_end, copy_end, planned};
+use ffi3_place::ends::{buffer_end, copy_end, planned, start};
 use ffi3_place::parts::{
     argument, count_of, doubleword, doublewords, filling, is_floating, leaf_piece, result_type,
     size_of,
@@ -38,6 +36,7 @@ fn integer(kind: &FfiType) -> bool
     match kind {
         FfiType::U8 | FfiType::S8 | FfiType::U16 | FfiType::S16 => true,
         FfiType::U32 | FfiType::S32 | FfiType::U64 | FfiType::S64 => true,
+        FfiType::U128 | FfiType::S128 => false,
         FfiType::Pointer => false,
         FfiType::Float | FfiType::Double => false,
         FfiType::Void | FfiType::Struct(_) => false,
@@ -165,7 +164,7 @@ fn registers_suffice(before: Used, shape: Shape) -> bool
     }
 }
 
-/// How an argument is passed behind others.
+/// How an argument is passed, by what is used where it begins.
 fn passed_as(before: Used, fixed: bool, ty: &FfiType) -> Shape
     requires right { IsResultType (tree_of ty.now) }
     requires few { before.floats ≤ 8 }
@@ -179,6 +178,42 @@ fn passed_as(before: Used, fixed: bool, ty: &FfiType) -> Shape
         shape
     } else {
         integer_shape(ty)
+    }
+}
+
+/// Whether an argument begins at an even word, behind words that end at `end`.
+fn is_at_even_word(fixed: bool, ty: &FfiType, end: u64) -> bool
+    requires { IsResultType (tree_of ty.now) }
+    ensures { result ≡ is_at_even_word fixed (tree_of ty.now) end }
+{
+    16 <= ty.align() && size_of(ty) <= 16 && (!fixed || 8 <= end)
+}
+
+/// Where an argument's words begin, behind words that end at `end`.
+fn first_word(fixed: bool, ty: &FfiType, end: u64) -> u64
+    requires right { IsResultType (tree_of ty.now) }
+    requires low { end ≤ 16 * MOST_ARGUMENTS }
+    ensures value { result ≡ first_word fixed (tree_of ty.now) end }
+    ensures near { result ≤ end + 1 }
+{
+    if is_at_even_word(fixed, ty, end) {
+        round_up(end, 2)
+    } else {
+        end
+    }
+}
+
+/// What is used where an argument begins, behind others.
+fn at_start(end: Used, fixed: bool, ty: &FfiType) -> Used
+    requires right { IsResultType (tree_of ty.now) }
+    requires low { end.words ≤ 16 * MOST_ARGUMENTS }
+    ensures value { result ≡ used_at_start end fixed (tree_of ty.now) }
+    ensures near { result.words ≤ end.words + 1 }
+    ensures same { result.floats ≡ end.floats }
+{
+    Used {
+        words: first_word(fixed, ty, end.words),
+        floats: end.floats,
     }
 }
 
@@ -222,6 +257,7 @@ fn boxed(kind: &FfiType) -> Ext
         FfiType::Double | FfiType::Pointer => Ext::Free,
         FfiType::U8 | FfiType::S8 | FfiType::U16 | FfiType::S16 => Ext::Free,
         FfiType::U32 | FfiType::S32 | FfiType::U64 | FfiType::S64 => Ext::Free,
+        FfiType::U128 | FfiType::S128 => Ext::Free,
         FfiType::Void | FfiType::Struct(_) => Ext::Free,
         FfiType::LongDouble | FfiType::Complex | FfiType::Vector => Ext::Free,
     }
@@ -281,20 +317,20 @@ fn two_pieces(alloc: Global, first: Piece, second: Piece) -> Result<Pieces, NoMe
     Ok(pieces)
 }
 
-/// Where a value of a shape stands, behind others. A copy stands `copy` bytes from the frame's start.
+/// Where a value of a shape stands, behind others. What stands before its copy ends `end` bytes from the frame's start.
 fn place_of(
     alloc: Global,
     before: Used,
     ty: &FfiType,
     shape: Shape,
-    copy: u64,
+    end: u64,
 ) -> Result<Place, NoMemory>
     requires right { IsResultType (tree_of ty.now) }
     requires suits { Suits (size_of (tree_of ty.now)) (leaves_of (tree_of ty.now)) shape }
     requires room { HasRoom before shape }
     requires low { before.words ≤ 16 * MOST_ARGUMENTS }
-    requires near { copy ≤ 2 * ARGUMENT_BYTES }
-    ensures { IfOk result (λ p. p ≡ place_at at_once copy (tree_of ty.now) (spot_of before (tree_of ty.now) shape)) }
+    requires near { end ≤ 2 * ARGUMENT_BYTES }
+    ensures { IfOk result (λ p. p ≡ place_at riscv.copy_start end (tree_of ty.now) (spot_of before (tree_of ty.now) shape)) }
 {
     match shape {
         Shape::OneF => {
@@ -319,7 +355,7 @@ fn place_of(
         Shape::Words(count) => { Ok(Place::Direct(word_pieces(alloc, ty, before.words, count)?)) }
         Shape::ByRef => Ok(Place::ByRef {
             at: word(before.words),
-            copy: copy as u32,
+            copy: start(ty, end) as u32,
         }),
     }
 }
@@ -368,14 +404,17 @@ fn at_first(ty: &FfiType) -> Used
 fn used_by_all(sig: &Sig) -> Used
     requires { SignatureHasNoFault sig.now }
     ensures value { result ≡ used_by_all sig.now }
-    ensures low { result.words ≤ 2 * MOST_ARGUMENTS + 1 }
+    ensures low { result.words ≤ 3 * MOST_ARGUMENTS + 1 }
 {
-    let mut before = at_first(result_type(sig));
+    let mut end = at_first(result_type(sig));
     for i in 0..count_of(sig) {
-        let shape = passed_as(before, is_fixed(sig, i), argument(sig, i));
-        before = used_with(before, shape);
+        let ty = argument(sig, i);
+        let fixed = is_fixed(sig, i);
+        let before = at_start(end, fixed, ty);
+        let shape = passed_as(before, fixed, ty);
+        end = used_with(before, shape);
     }
-    before
+    end
 }
 
 /// The bytes of the words that stand on the stack.
@@ -401,20 +440,22 @@ struct Placed {
 fn place_all(alloc: Global, sig: &Sig, start: u64) -> Result<Placed, NoMemory>
     requires right { SignatureHasNoFault sig.now }
     requires near { start ≤ 32 * MOST_ARGUMENTS }
-    ensures places { IfOk result (λ p. p.places ≡ places_from at_once start sig.now.arguments (spots_after sig.now.fixed (used_at_first sig.now.result_type) 0 sig.now.arguments)) }
-    ensures end { IfOk result (λ p. p.end ≡ copies_end at_once start sig.now.arguments (spots_after sig.now.fixed (used_at_first sig.now.result_type) 0 sig.now.arguments)) }
+    ensures places { IfOk result (λ p. p.places ≡ places_from riscv.copy_start start sig.now.arguments (spots_after sig.now.fixed (used_at_first sig.now.result_type) 0 sig.now.arguments)) }
+    ensures end { IfOk result (λ p. p.end ≡ copies_end riscv.copy_start start sig.now.arguments (spots_after sig.now.fixed (used_at_first sig.now.result_type) 0 sig.now.arguments)) }
     ensures near { IfOk result (λ p. p.end ≤ start + ARGUMENT_BYTES) }
 {
-    let mut before = at_first(result_type(sig));
+    let mut end = at_first(result_type(sig));
     let mut copy = start;
     let mut places = Places::new(alloc);
     for i in 0..count_of(sig) {
         let ty = argument(sig, i);
-        let shape = passed_as(before, is_fixed(sig, i), ty);
+        let fixed = is_fixed(sig, i);
+        let before = at_start(end, fixed, ty);
+        let shape = passed_as(before, fixed, ty);
         let place = place_of(alloc, before, ty, shape, copy)?;
         copy = copy_end(&place, ty, copy);
         places.push(place)?;
-        before = used_with(before, shape);
+        end = used_with(before, shape);
     }
     Ok(Placed { places, end: copy })
 }
@@ -423,7 +464,7 @@ fn place_all(alloc: Global, sig: &Sig, start: u64) -> Result<Placed, NoMemory>
 fn place_result(alloc: Global, ty: &FfiType, buffer: u64) -> Result<Res, NoMemory>
     requires right { IsResultType (tree_of ty.now) }
     requires near { buffer ≤ 2 * ARGUMENT_BYTES }
-    ensures { IfOk result (λ r. r ≡ result_at at_once buffer (tree_of ty.now) (result_spot_of (tree_of ty.now))) }
+    ensures { IfOk result (λ r. r ≡ result_at riscv.copy_start buffer (tree_of ty.now) (result_spot_of (tree_of ty.now))) }
 {
     if let FfiType::Void = ty {
         return Ok(Res::Nothing);

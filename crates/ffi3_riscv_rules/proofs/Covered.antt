@@ -1,5 +1,5 @@
 -- The pieces of a value have every byte of its leaves.
-use Rattle.std.proofs.Common.{◌≡◌, ℕ, ◌+◌, List, [], ◌∷◌, length, subst, sym, refl, arith}
+use Rattle.std.proofs.Common.{◌≡◌, ℕ, ◌+◌, ◌≤◌, List, [], ◌∷◌, length, subst, sym, refl, arith}
 use Rattle.std.specs.List.{AllByRecursion}
 use Rattle.std.specs.Prelude.{Option}
 use Rattle.ffi3_type_rules.specs.Tree.{Tree, Scalar, float}
@@ -16,7 +16,7 @@ use Rattle.ffi3_riscv_rules.specs.declared.Shape.{Shape}
 use Rattle.ffi3_riscv_rules.specs.declared.Shape.TheVariants.{OneF, TwoF, FI, IF, Words, ByRef}
 use Rattle.ffi3_riscv_rules.specs.declared.Used.{Used}
 use Rattle.ffi3_riscv_rules.specs.Riscv.{word, extension, boxing, argument_register, floating_register, floating_piece, integer_piece, word_pieces, spot_of, is_fixed, used_at_start, passed_next, spot_next, used_next, spots_after}
-use Rattle.ffi3_riscv_rules.proofs.Shapes.{Suits, leaf, passed_suits}
+use Rattle.ffi3_riscv_rules.proofs.Shapes.{Suits, HasSmall, leaf, passed_suits, passed_small}
 
 -- ---- doublewords
 
@@ -30,12 +30,13 @@ boxes : (t : Tree) (r o : ℕ) (s : Scalar) → IsExtended t (leaf_piece (F r) (
 boxes t r o float = (refl, refl)
 boxes t r o _ = tt
 
-floating_piece_of : (t : Tree) (f : ℕ) (l : Leaf) → EndsIn (size_of t) l → IsPieceOf t (floating_piece f l)
-floating_piece_of t f l h =
-    leaf_is_piece t (F (floating_register f)) (boxing l.kind) l h (boxes t (floating_register f) l.at l.kind)
+floating_piece_of : (t : Tree) (f : ℕ) (l : Leaf) → scalar_size l.kind ≤ 8 → EndsIn (size_of t) l → IsPieceOf t (floating_piece f l)
+floating_piece_of t f l small h =
+    leaf_is_piece t (F (floating_register f)) (boxing l.kind) l small h (boxes t (floating_register f) l.at l.kind)
 
-integer_piece_of : (t : Tree) (w : ℕ) (l : Leaf) → EndsIn (size_of t) l → IsPieceOf t (integer_piece w l)
-integer_piece_of t w l h = leaf_is_piece t (G (argument_register w)) Free l h tt
+integer_piece_of : (t : Tree) (w : ℕ) (l : Leaf) → scalar_size l.kind ≤ 8 → EndsIn (size_of t) l → IsPieceOf t (integer_piece w l)
+integer_piece_of t w l small h =
+    leaf_is_piece t (G (argument_register w)) Free l small h tt
 
 -- the piece has the bytes of the leaf
 abbrev HasLeaf : Leaf → Piece → Type 0
@@ -53,39 +54,39 @@ abbrev HaveLeaves : Tree → List Leaf → List Piece → Type 0
 HaveLeaves t ls ps =
     AllByRecursion (IsPieceOf t) ps × AllByRecursion (CoversLeaf ps) ls
 
-one_leaf : (t : Tree) (ls : List Leaf) (p : Leaf → Piece) → ((l : Leaf) → EndsIn (size_of t) l → IsPieceOf t (p l)) → ((l : Leaf) → HasLeaf l (p l)) → length ls ≡ 1 → AllByRecursion (EndsIn (size_of t)) ls → HaveLeaves t ls (p (leaf ls 0) ∷ [])
-one_leaf t [] p are have e ends = absurd (omega (arith, e))
-one_leaf t (a ∷ []) p are have e ends =
-    ((are a ends.0, tt), (covers_first a (p a) [] (have a), tt))
-one_leaf t (a ∷ b ∷ ls) p are have e ends = absurd (omega (arith, e))
+one_leaf : (t : Tree) (ls : List Leaf) (p : Leaf → Piece) → ((l : Leaf) → scalar_size l.kind ≤ 8 → EndsIn (size_of t) l → IsPieceOf t (p l)) → ((l : Leaf) → HasLeaf l (p l)) → length ls ≡ 1 → scalar_size (leaf ls 0).kind ≤ 8 → AllByRecursion (EndsIn (size_of t)) ls → HaveLeaves t ls (p (leaf ls 0) ∷ [])
+one_leaf t [] p are have e small ends = absurd (omega (arith, e))
+one_leaf t (a ∷ []) p are have e small ends =
+    ((are a small ends.0, tt), (covers_first a (p a) [] (have a), tt))
+one_leaf t (a ∷ b ∷ ls) p are have e small ends = absurd (omega (arith, e))
 
-two_leaves : (t : Tree) (ls : List Leaf) (p q : Leaf → Piece) → ((l : Leaf) → EndsIn (size_of t) l → IsPieceOf t (p l)) → ((l : Leaf) → HasLeaf l (p l)) → ((l : Leaf) → EndsIn (size_of t) l → IsPieceOf t (q l)) → ((l : Leaf) → HasLeaf l (q l)) → length ls ≡ 2 → AllByRecursion (EndsIn (size_of t)) ls → HaveLeaves t ls (p (leaf ls 0) ∷ q (leaf ls 1) ∷ [])
-two_leaves t [] p q are have are_too have_too e ends = absurd (omega (arith, e))
-two_leaves t (a ∷ []) p q are have are_too have_too e ends = absurd (omega (arith, e))
-two_leaves t (a ∷ b ∷ []) p q are have are_too have_too e ends =
-    ((are a ends.0, (are_too b ends.1.0, tt)), (covers_first a (p a) (q b ∷ []) (have a), (covers_second b (p a) (q b) (have_too b), tt)))
-two_leaves t (a ∷ b ∷ c ∷ ls) p q are have are_too have_too e ends = absurd (omega (arith, e))
+two_leaves : (t : Tree) (ls : List Leaf) (p q : Leaf → Piece) → ((l : Leaf) → scalar_size l.kind ≤ 8 → EndsIn (size_of t) l → IsPieceOf t (p l)) → ((l : Leaf) → HasLeaf l (p l)) → ((l : Leaf) → scalar_size l.kind ≤ 8 → EndsIn (size_of t) l → IsPieceOf t (q l)) → ((l : Leaf) → HasLeaf l (q l)) → length ls ≡ 2 → (scalar_size (leaf ls 0).kind ≤ 8) × (scalar_size (leaf ls 1).kind ≤ 8) → AllByRecursion (EndsIn (size_of t)) ls → HaveLeaves t ls (p (leaf ls 0) ∷ q (leaf ls 1) ∷ [])
+two_leaves t [] p q are have are_too have_too e small ends = absurd (omega (arith, e))
+two_leaves t (a ∷ []) p q are have are_too have_too e small ends = absurd (omega (arith, e))
+two_leaves t (a ∷ b ∷ []) p q are have are_too have_too e small ends =
+    ((are a small.0 ends.0, (are_too b small.1 ends.1.0, tt)), (covers_first a (p a) (q b ∷ []) (have a), (covers_second b (p a) (q b) (have_too b), tt)))
+two_leaves t (a ∷ b ∷ c ∷ ls) p q are have are_too have_too e small ends = absurd (omega (arith, e))
 
 have_all : (t : Tree) (ps : List Piece) → HaveLeaves t (leaves_of t) ps → HaveAll t ps
 have_all t ps h = record { each = h.0; covered = h.1 }
 
 -- ---- by shapes
 
-pub spot_has_all : (start : ℕ → Tree → ℕ) (copies : ℕ) (before : Used) (t : Tree) (shape : Shape) → Suits (size_of t) (leaves_of t) shape → PlaceHasAll t (place_at start copies t (spot_of before t shape))
-spot_has_all start copies before t OneF h =
-    have_all t _ (one_leaf t (leaves_of t) (floating_piece before.floats) (floating_piece_of t before.floats) (λ l. (refl, refl)) h (leaves_end t))
-spot_has_all start copies before t TwoF h =
-    have_all t _ (two_leaves t (leaves_of t) (floating_piece before.floats) (floating_piece (before.floats + 1)) (floating_piece_of t before.floats) (λ l. (refl, refl)) (floating_piece_of t (before.floats + 1)) (λ l. (refl, refl)) h (leaves_end t))
-spot_has_all start copies before t FI h =
-    have_all t _ (two_leaves t (leaves_of t) (floating_piece before.floats) (integer_piece before.words) (floating_piece_of t before.floats) (λ l. (refl, refl)) (integer_piece_of t before.words) (λ l. (refl, refl)) h (leaves_end t))
-spot_has_all start copies before t IF h =
-    have_all t _ (two_leaves t (leaves_of t) (integer_piece before.words) (floating_piece before.floats) (integer_piece_of t before.words) (λ l. (refl, refl)) (floating_piece_of t before.floats) (λ l. (refl, refl)) h (leaves_end t))
-spot_has_all start copies before t (Words n) h = words_have_all before.words t n h.0
-spot_has_all start copies before t ByRef h = tt
+pub spot_has_all : (start : ℕ → Tree → ℕ) (copies : ℕ) (before : Used) (t : Tree) (shape : Shape) → Suits (size_of t) (leaves_of t) shape → HasSmall (leaves_of t) shape → PlaceHasAll t (place_at start copies t (spot_of before t shape))
+spot_has_all start copies before t OneF h small =
+    have_all t _ (one_leaf t (leaves_of t) (floating_piece before.floats) (floating_piece_of t before.floats) (λ l. (refl, refl)) h small (leaves_end t))
+spot_has_all start copies before t TwoF h small =
+    have_all t _ (two_leaves t (leaves_of t) (floating_piece before.floats) (floating_piece (before.floats + 1)) (floating_piece_of t before.floats) (λ l. (refl, refl)) (floating_piece_of t (before.floats + 1)) (λ l. (refl, refl)) h small (leaves_end t))
+spot_has_all start copies before t FI h small =
+    have_all t _ (two_leaves t (leaves_of t) (floating_piece before.floats) (integer_piece before.words) (floating_piece_of t before.floats) (λ l. (refl, refl)) (integer_piece_of t before.words) (λ l. (refl, refl)) h small (leaves_end t))
+spot_has_all start copies before t IF h small =
+    have_all t _ (two_leaves t (leaves_of t) (integer_piece before.words) (floating_piece before.floats) (integer_piece_of t before.words) (λ l. (refl, refl)) (floating_piece_of t before.floats) (λ l. (refl, refl)) h small (leaves_end t))
+spot_has_all start copies before t (Words n) h small = words_have_all before.words t n h.0
+spot_has_all start copies before t ByRef h small = tt
 
 pub arguments_have_all : (start : ℕ → Tree → ℕ) (copies : ℕ) (fixed : Option ℕ) (end : Used) (i : ℕ) (ts : List Tree) → PlacesHaveAll ts (places_from start copies ts (spots_after fixed end i ts))
 arguments_have_all start copies fixed end i [] = tt
 arguments_have_all start copies fixed end i (t ∷ ts) =
     let named = is_fixed fixed i in
     let before = used_at_start end named t in
-    (spot_has_all start copies before t (passed_next end named t) (passed_suits before named t), arguments_have_all start (copy_end start copies t (spot_next end named t)) fixed (used_next end named t) (i + 1) ts)
+    (spot_has_all start copies before t (passed_next end named t) (passed_suits before named t) (passed_small before named t), arguments_have_all start (copy_end start copies t (spot_next end named t)) fixed (used_next end named t) (i + 1) ts)

@@ -1,7 +1,7 @@
 -- What fills the rest of each place is what the standard says: a lone narrow integer is extended, a float in a floating register is NaN-boxed.
 use Rattle.std.proofs.Common.{◌≡◌, ℕ, ◌+◌, ◌-◌, ◌*◌, Bool, true, false, cond, ltb, List, [], ◌∷◌, length, refl, arith}
 use Rattle.std.specs.Prelude.{Option}
-use Rattle.ffi3_type_rules.specs.Tree.{Tree, void, scalar, left_out, structure, Scalar, u8, s8, u16, s16, u32, s32, u64, s64, float, double, pointer}
+use Rattle.ffi3_type_rules.specs.Tree.{Tree, void, scalar, left_out, structure, Scalar, u8, s8, u16, s16, u32, s32, u64, s64, u128, s128, float, double, pointer}
 use Rattle.ffi3_type_rules.specs.Layout.{Leaf, leaves_of, leaf_at, size_of, scalar_size}
 use Rattle.ffi3_type_rules.specs.Integer.{is_floating, is_integer}
 use Rattle.ffi3_place_rules.specs.declared.Loc.{Loc}
@@ -28,6 +28,8 @@ no_integer u32 f i = cc
 no_integer s32 f i = cc
 no_integer u64 f i = cc
 no_integer s64 f i = cc
+no_integer u128 f i = cc
+no_integer s128 f i = cc
 no_integer float f i = cc
 no_integer double f i = cc
 no_integer pointer f i = cc
@@ -55,6 +57,8 @@ float_boxed u32 f e = cc
 float_boxed s32 f e = cc
 float_boxed u64 f e = cc
 float_boxed s64 f e = cc
+float_boxed u128 f e = cc
+float_boxed s128 f e = cc
 float_boxed float f e = refl
 float_boxed double f e = absurd (omega (arith, e))
 float_boxed pointer f e = cc

@@ -5,6 +5,6 @@ mod Filled
 mod Rising
 pub mod Agrees
 pub mod Sound
-pub mod Sums
+pub mod Ends
 pub mod Turns
 mod Rows

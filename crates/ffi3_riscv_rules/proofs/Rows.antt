@@ -1,6 +1,6 @@
 -- Worked rows, computed.
 use Rattle.std.specs.Prelude.{◌≡◌, ℕ, List, [], ◌∷◌, ◌++◌, refl, Some, replicate}
-use Rattle.ffi3_type_rules.specs.Tree.{Tree, void, scalar, struct_of, s8, s32, float, double, pointer}
+use Rattle.ffi3_type_rules.specs.Tree.{Tree, void, scalar, struct_of, s8, s32, s128, float, double, pointer}
 use Rattle.ffi3_type_rules.specs.Layout.{least_multiple}
 use Rattle.ffi3_place_rules.specs.declared.Loc.{Loc}
 use Rattle.ffi3_place_rules.specs.declared.Loc.TheVariants.{G, F, S}
@@ -11,7 +11,7 @@ use Rattle.ffi3_place_rules.specs.declared.Place.{Place}
 use Rattle.ffi3_place_rules.specs.declared.Place.TheVariants.{Direct, ByRef}
 use Rattle.ffi3_place_rules.specs.declared.Res.TheVariants.{Nothing, Direct as DirectRes, Hidden}
 use Rattle.ffi3_place_rules.specs.Standard.{plan_of}
-use Rattle.ffi3_place_rules.proofs.Worked.{sig_of, at, alone, integer, pair, triple}
+use Rattle.ffi3_place_rules.proofs.Worked.{sig_of, variadic_from, at, alone, integer, pair, triple, wide, halves}
 use Rattle.ffi3_riscv_rules.specs.Riscv.{riscv}
 
 abbrev extended : Loc → ℕ → Piece
@@ -232,3 +232,75 @@ pub reference : plan_of riscv (sig_of void (triple ∷ scalar s8 ∷ [])) ≡ re
 }
 unfolding least_multiple
 reference = refl
+
+-- seven sint64, a uint128 and a sint64: the uint128 is split between a7 and the stack
+pub split_wide : plan_of riscv (sig_of void (integer ∷ integer ∷ integer ∷ integer ∷ integer ∷ integer ∷ integer ∷ wide ∷ integer ∷ [])) ≡ record {
+  places = alone (G 10) ∷ alone (G 11) ∷ alone (G 12) ∷ alone (G 13) ∷ alone (G 14) ∷ alone (G 15) ∷ alone (G 16) ∷ halves (G 17) (S 0) ∷ alone (S 8) ∷ [];
+  res = Nothing;
+  need = 304;
+  frame = 16;
+  block = 80;
+  vectors = 0;
+}
+unfolding least_multiple
+split_wide = refl
+
+-- the same, the last two variadic: the uint128 begins at an even word, and a7 stays unused
+pub variadic_wide : plan_of riscv (variadic_from void (integer ∷ integer ∷ integer ∷ integer ∷ integer ∷ integer ∷ integer ∷ wide ∷ integer ∷ []) 7) ≡ record {
+  places = alone (G 10) ∷ alone (G 11) ∷ alone (G 12) ∷ alone (G 13) ∷ alone (G 14) ∷ alone (G 15) ∷ alone (G 16) ∷ halves (S 0) (S 8) ∷ alone (S 16) ∷ [];
+  res = Nothing;
+  need = 320;
+  frame = 32;
+  block = 80;
+  vectors = 0;
+}
+unfolding least_multiple
+variadic_wide = refl
+
+-- void(sint64;uint128): from an even register on
+pub variadic_in_even_register : plan_of riscv (variadic_from void (integer ∷ wide ∷ []) 1) ≡ record {
+  places = alone (G 10) ∷ halves (G 12) (G 13) ∷ [];
+  res = Nothing;
+  need = 240;
+  frame = 0;
+  block = 32;
+  vectors = 0;
+}
+unfolding least_multiple
+variadic_in_even_register = refl
+
+-- void(sint64,uint128): from the next register on; a0 and a1 return a sint128
+pub fixed_in_next_register : plan_of riscv (sig_of (scalar s128) (integer ∷ wide ∷ [])) ≡ record {
+  places = alone (G 10) ∷ halves (G 11) (G 12) ∷ [];
+  res = DirectRes (at (G 10) 0 8 ∷ at (G 11) 8 8 ∷ []);
+  need = 240;
+  frame = 0;
+  block = 32;
+  vectors = 0;
+}
+unfolding least_multiple
+fixed_in_next_register = refl
+
+-- eight sint64, a sint64 and a uint128: on the stack it begins at an even word
+pub wide_on_stack : plan_of riscv (sig_of void (replicate 8 integer ++ integer ∷ wide ∷ [])) ≡ record {
+  places = in_general ++ alone (S 0) ∷ halves (S 16) (S 24) ∷ [];
+  res = Nothing;
+  need = 336;
+  frame = 32;
+  block = 96;
+  vectors = 0;
+}
+unfolding least_multiple
+wide_on_stack = refl
+
+-- void(struct{uint64,uint64,uint64},struct{float,uint128}): both by reference, the second copy at a multiple of 16
+pub wide_copies : plan_of riscv (sig_of void (triple ∷ struct_of (scalar float ∷ wide ∷ []) ∷ [])) ≡ record {
+  places = ByRef (G 10) 0 ∷ ByRef (G 11) 32 ∷ [];
+  res = Nothing;
+  need = 336;
+  frame = 64;
+  block = 64;
+  vectors = 0;
+}
+unfolding least_multiple
+wide_copies = refl

@@ -2,9 +2,9 @@
 use Rattle.std.proofs.Common.{◌≡◌, ℕ, ◌+◌, ◌/◌, ◌≤◌, Bool, true, false, ◌&&◌, cond, leb, List, [], ◌∷◌, length, refl, arith}
 use Rattle.std.specs.Prelude.{⊤, slice_index_or}
 use Rattle.std.proofs.lemmas.Bool.{leb-true}
-use Rattle.ffi3_type_rules.specs.Tree.{Tree, u8}
-use Rattle.ffi3_type_rules.specs.Layout.{Leaf, leaves_of, size_of}
-use Rattle.ffi3_type_rules.specs.Integer.{is_floating}
+use Rattle.ffi3_type_rules.specs.Tree.{Tree, Scalar, u8, u128, s128}
+use Rattle.ffi3_type_rules.specs.Layout.{Leaf, leaves_of, size_of, scalar_size}
+use Rattle.ffi3_type_rules.specs.Integer.{is_floating, is_integer}
 use Rattle.ffi3_place_rules.proofs.Tests.{and_left, and_right}
 use Rattle.ffi3_riscv_rules.specs.declared.Shape.{Shape}
 use Rattle.ffi3_riscv_rules.specs.declared.Shape.TheVariants.{OneF, TwoF, FI, IF, Words, ByRef}
@@ -87,6 +87,46 @@ integer_floats t =
 pub passed_floats : (before : Used) (fixed : Bool) (t : Tree) → HasFloats (leaves_of t) (passed_as before fixed t)
 passed_floats before fixed t =
     choose (HasFloats (leaves_of t)) (fixed && registers_suffice before (shape_of t)) (shape_of t) (integer_shape t) (leaves_float (integer_shape t) (leaves_of t) (integer_floats t)) (integer_floats t)
+
+-- ---- leaves that fit a register
+
+floating_small : (s : Scalar) → is_floating s ≡ true → scalar_size s ≤ 8
+floating_small u128 e = cc
+floating_small s128 e = cc
+floating_small _ e = omega arith
+
+word_small : (s : Scalar) → is_word_integer s ≡ true → scalar_size s ≤ 8
+word_small s e = leb-true (scalar_size s) 8 (and_right (is_integer s) (leb (scalar_size s) 8) e)
+
+abbrev IsSmall : Leaf → Type 0
+IsSmall l = scalar_size l.kind ≤ 8
+
+-- a leaf that has a register of its own has at most eight bytes
+abbrev pub HasSmall : List Leaf → Shape → Type 0
+HasSmall ls OneF = IsSmall (leaf ls 0)
+HasSmall ls TwoF = IsSmall (leaf ls 0) × IsSmall (leaf ls 1)
+HasSmall ls FI = IsSmall (leaf ls 0) × IsSmall (leaf ls 1)
+HasSmall ls IF = IsSmall (leaf ls 0) × IsSmall (leaf ls 1)
+HasSmall ls (Words n) = ⊤
+HasSmall ls ByRef = ⊤
+
+leaves_small : (otherwise : Shape) (ls : List Leaf) → HasSmall ls otherwise → HasSmall ls (shape_of_leaves otherwise ls)
+leaves_small otherwise [] h = h
+leaves_small otherwise (a ∷ []) h =
+    choose_if (HasSmall (a ∷ [])) (is_floating a.kind) OneF otherwise (floating_small a.kind) h
+leaves_small otherwise (a ∷ b ∷ []) h =
+    choose_if (HasSmall (a ∷ b ∷ [])) (is_floating a.kind && is_floating b.kind) TwoF _ (λ e. (floating_small a.kind (and_left (is_floating a.kind) (is_floating b.kind) e), floating_small b.kind (and_right (is_floating a.kind) (is_floating b.kind) e)))
+    (choose_if (HasSmall (a ∷ b ∷ [])) (is_floating a.kind && is_word_integer b.kind) FI _ (λ e. (floating_small a.kind (and_left (is_floating a.kind) (is_word_integer b.kind) e), word_small b.kind (and_right (is_floating a.kind) (is_word_integer b.kind) e)))
+    (choose_if (HasSmall (a ∷ b ∷ [])) (is_word_integer a.kind && is_floating b.kind) IF otherwise (λ e. (word_small a.kind (and_left (is_word_integer a.kind) (is_floating b.kind) e), floating_small b.kind (and_right (is_word_integer a.kind) (is_floating b.kind) e))) h))
+leaves_small otherwise (a ∷ b ∷ c ∷ ls) h = h
+
+integer_small : (t : Tree) → HasSmall (leaves_of t) (integer_shape t)
+integer_small t =
+    choose (HasSmall (leaves_of t)) (leb (size_of t) 16) (Words ((size_of t + 7) / 8)) ByRef tt tt
+
+pub passed_small : (before : Used) (fixed : Bool) (t : Tree) → HasSmall (leaves_of t) (passed_as before fixed t)
+passed_small before fixed t =
+    choose (HasSmall (leaves_of t)) (fixed && registers_suffice before (shape_of t)) (shape_of t) (integer_shape t) (leaves_small (integer_shape t) (leaves_of t) (integer_small t)) (integer_small t)
 
 -- registers are free for the shape
 abbrev pub HasRoom : Used → Shape → Type 0

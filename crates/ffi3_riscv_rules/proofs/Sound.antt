@@ -10,18 +10,19 @@ use Rattle.ffi3_type_rules.specs.declared.Isa.TheVariants as isa
 use Rattle.ffi3_place_rules.specs.declared.Loc.{Loc}
 use Rattle.ffi3_place_rules.specs.declared.Loc.TheVariants.{G, F, S}
 use Rattle.ffi3_place_rules.specs.declared.Taken.{Taken}
-use Rattle.ffi3_place_rules.specs.Standard.{Spot, in_pieces, by_reference, ResultSpot, no_result as nowhere, plan_of, at_once, copy_end, place_at, places_from, result_at, copies_start, frame_copies_end, frame_of}
+use Rattle.ffi3_place_rules.specs.Standard.{Spot, in_pieces, by_reference, ResultSpot, no_result as nowhere, plan_of, copy_end, place_at, places_from, result_at, copies_start, frame_copies_end, frame_of}
 use Rattle.ffi3_place_rules.specs.Doublewords.{doublewords_at}
 use Rattle.ffi3_place_rules.specs.Sound.{IsOnStackOrIn, AreApart, piece_locs, place_locs, hidden_locs, result_locs, argument_locs, IsNoneOf, LiesIn, call_locs, closed_to_arguments, closed_to_results, PlaceHasAll, ResultHasAll, PlaceIsFilled, ResultIsFilled, IsSound, IsDetermined}
 use Rattle.ffi3_place_rules.proofs.Chain.{AtMost, at_most_self, From, Until, Chain, chain_less, chain_append, chain_apart, chain_allowed, chain_passed, chain_lies_in}
 use Rattle.ffi3_place_rules.proofs.Frame.{up_to, frame_chain}
+use Rattle.ffi3_place_rules.proofs.Ends.{start-behind, even-behind}
 use Rattle.ffi3_place_rules.proofs.Aligned.{frame_is_aligned, need_is_aligned}
 use Rattle.ffi3_place_rules.proofs.Determines.{determined}
 use Rattle.ffi3_riscv_rules.specs.declared.Shape.{Shape}
 use Rattle.ffi3_riscv_rules.specs.declared.Shape.TheVariants.{OneF, TwoF, FI, IF, Words, ByRef}
 use Rattle.ffi3_riscv_rules.specs.declared.Used.{Used}
-use Rattle.ffi3_riscv_rules.specs.Riscv.{riscv, argument_register, floating_register, word, words_of, extension, word_pieces, spot_of, first_word, is_fixed, used_with, used_at_start, passed_next, spot_next, used_next, used_after, used_at_first, used_by_all, unused, spots_after, result_shape, result_from, result_spot_of, is_by_reference, placing_of}
-use Rattle.ffi3_riscv_rules.proofs.Shapes.{HasRoom, passed_has_room, passed_few, passed_suits, passed_floats}
+use Rattle.ffi3_riscv_rules.specs.Riscv.{riscv, argument_register, floating_register, word, words_of, extension, word_pieces, spot_of, is_at_even_word, first_word, is_fixed, used_with, used_at_start, passed_next, spot_next, used_next, used_after, used_at_first, used_by_all, unused, spots_after, result_shape, result_from, result_spot_of, is_by_reference, placing_of}
+use Rattle.ffi3_riscv_rules.proofs.Shapes.{HasRoom, passed_has_room, passed_few, passed_suits, passed_small, passed_floats}
 use Rattle.ffi3_riscv_rules.proofs.Covered.{spot_has_all, arguments_have_all}
 use Rattle.ffi3_riscv_rules.proofs.Filled.{spot_filled, arguments_filled}
 use Rattle.ffi3_riscv_rules.proofs.Rising.{arguments_rise}
@@ -128,15 +129,15 @@ spot_chain start copies before t ByRef room = (
 
 -- an argument's words begin behind those of the arguments before it
 first_word-behind : (fixed : Bool) (t : Tree) (end : ℕ) → end ≤ first_word fixed t end
-first_word-behind fixed t end = omega arith
+first_word-behind fixed t end = even-behind (is_at_even_word fixed t end) end
 
-start-behind : (end : Used) (fixed : Bool) (t : Tree) → AtMost (taken end) (taken (used_at_start end fixed t))
-start-behind end fixed t = more_words end.words (first_word fixed t end.words) end.floats end.floats (first_word-behind fixed t end.words) (omega arith)
+used_at_start-behind : (end : Used) (fixed : Bool) (t : Tree) → AtMost (taken end) (taken (used_at_start end fixed t))
+used_at_start-behind end fixed t = more_words end.words (first_word fixed t end.words) end.floats end.floats (first_word-behind fixed t end.words) (omega arith)
 
 argument_chain : (start : ℕ → Tree → ℕ) (copies : ℕ) (end : Used) (fixed : Bool) (t : Tree) → WordsChain (taken end) (place_locs (place_at start copies t (spot_next end fixed t))) (taken (used_next end fixed t))
 argument_chain start copies end fixed t =
     let before = used_at_start end fixed t in
-    chain_less argument_register floating_register 8 8 (taken end) (taken before) _ _ (start-behind end fixed t) (spot_chain start copies before t (passed_next end fixed t) (passed_has_room before fixed t))
+    chain_less argument_register floating_register 8 8 (taken end) (taken before) _ _ (used_at_start-behind end fixed t) (spot_chain start copies before t (passed_next end fixed t) (passed_has_room before fixed t))
 
 places_chain : (start : ℕ → Tree → ℕ) (copies : ℕ) (fixed : Option ℕ) (end : Used) (i : ℕ) (ts : List Tree) → WordsChain (taken end) (flat_map place_locs (places_from start copies ts (spots_after fixed end i ts))) (taken (used_after fixed end i ts))
 places_chain start copies fixed end i [] = at_most_self (taken end)
@@ -157,7 +158,7 @@ result_cases P (structure ts) none h = h
 abbrev first_used : Shape → Used
 first_used shape = record { words = cond (is_by_reference shape) 1 0; floats = 0 }
 
-hidden_of : (t : Tree) (buffer : ℕ) (shape : Shape) → WordsChain (taken unused) (hidden_locs (result_at at_once buffer t (result_from (spot_of unused t shape)))) (taken (first_used shape))
+hidden_of : (t : Tree) (buffer : ℕ) (shape : Shape) → WordsChain (taken unused) (hidden_locs (result_at riscv.copy_start buffer t (result_from (spot_of unused t shape)))) (taken (first_used shape))
 hidden_of t buffer OneF = at_most_self (taken unused)
 hidden_of t buffer TwoF = at_most_self (taken unused)
 hidden_of t buffer FI = at_most_self (taken unused)
@@ -165,15 +166,15 @@ hidden_of t buffer IF = at_most_self (taken unused)
 hidden_of t buffer (Words n) = at_most_self (taken unused)
 hidden_of t buffer ByRef = general_first 0 0 [] (taken_of 1 0) (omega arith) (at_most_self (taken_of 1 0))
 
-hidden_chain : (t : Tree) (buffer : ℕ) → WordsChain (taken unused) (hidden_locs (result_at at_once buffer t (result_spot_of t))) (taken (used_at_first t))
+hidden_chain : (t : Tree) (buffer : ℕ) → WordsChain (taken unused) (hidden_locs (result_at riscv.copy_start buffer t (result_spot_of t))) (taken (used_at_first t))
 hidden_chain t buffer =
     let first = used_at_first t in
-    result_cases (λ spot. WordsChain (taken unused) (hidden_locs (result_at at_once buffer t spot)) (taken first)) t (λ e. more_words 0 first.words 0 0 (omega arith) (omega arith)) (hidden_of t buffer (result_shape t))
+    result_cases (λ spot. WordsChain (taken unused) (hidden_locs (result_at riscv.copy_start buffer t spot)) (taken first)) t (λ e. more_words 0 first.words 0 0 (omega arith) (omega arith)) (hidden_of t buffer (result_shape t))
 
 plan_chain : (s : Signature) → WordsChain (taken unused) (argument_locs (plan_of riscv s)) (taken (used_by_all s))
 plan_chain s =
     chain_append argument_register floating_register 8 8 (taken unused) (hidden_locs (plan_of riscv s).res) (taken (used_at_first s.result_type)) _ _
-    (hidden_chain s.result_type (frame_copies_end riscv s)) (places_chain at_once (copies_start (placing_of s)) s.fixed (used_at_first s.result_type) 0 s.arguments)
+    (hidden_chain s.result_type (frame_copies_end riscv s)) (places_chain riscv.copy_start (copies_start (placing_of s)) s.fixed (used_at_first s.result_type) 0 s.arguments)
 
 plan_allowed : (s : Signature) → AllByRecursion (IsNoneOf (closed_to_arguments riscv)) (argument_locs (plan_of riscv s))
 plan_allowed s =
@@ -194,7 +195,7 @@ framed s = up_to (taken (used_by_all s)) (frame_of riscv s)
 
 call_chain : (s : Signature) → WordsChain (taken unused) (call_locs s (plan_of riscv s)) (framed s)
 call_chain s =
-    chain_append argument_register floating_register 8 8 (taken unused) (argument_locs (plan_of riscv s)) (taken (used_by_all s)) _ (framed s) (plan_chain s) (frame_chain argument_register floating_register 8 8 riscv (λ end t. omega arith) s (taken (used_by_all s)) (omega arith))
+    chain_append argument_register floating_register 8 8 (taken unused) (argument_locs (plan_of riscv s)) (taken (used_by_all s)) _ (framed s) (plan_chain s) (frame_chain argument_register floating_register 8 8 riscv start-behind s (taken (used_by_all s)) (omega arith))
 
 plan_apart : (s : Signature) → AreApart (call_locs s (plan_of riscv s))
 plan_apart s = chain_apart argument_register floating_register 8 8 all_registers (taken unused) _ _ (call_chain s)
@@ -206,15 +207,15 @@ plan_in_frame s =
 -- ---- the result
 
 -- what holds of the places of an argument, holds of a result's that stands so
-locs_of : (P : List Loc → Type 0) → P [] → (t : Tree) (buffer : ℕ) (spot : Spot) → P (place_locs (place_at at_once 0 t spot)) → P (result_locs (result_at at_once buffer t (result_from spot)))
+locs_of : (P : List Loc → Type 0) → P [] → (t : Tree) (buffer : ℕ) (spot : Spot) → P (place_locs (place_at riscv.copy_start 0 t spot)) → P (result_locs (result_at riscv.copy_start buffer t (result_from spot)))
 locs_of P none t buffer (in_pieces pieces) h = h
 locs_of P none t buffer (by_reference at) h = none
 
-all_of : (t : Tree) (buffer : ℕ) (spot : Spot) → PlaceHasAll t (place_at at_once 0 t spot) → ResultHasAll t (result_at at_once buffer t (result_from spot))
+all_of : (t : Tree) (buffer : ℕ) (spot : Spot) → PlaceHasAll t (place_at riscv.copy_start 0 t spot) → ResultHasAll t (result_at riscv.copy_start buffer t (result_from spot))
 all_of t buffer (in_pieces pieces) h = h
 all_of t buffer (by_reference at) h = tt
 
-filled_of : (t : Tree) (buffer : ℕ) (spot : Spot) → PlaceIsFilled riscv t (place_at at_once 0 t spot) → ResultIsFilled riscv t (result_at at_once buffer t (result_from spot))
+filled_of : (t : Tree) (buffer : ℕ) (spot : Spot) → PlaceIsFilled riscv t (place_at riscv.copy_start 0 t spot) → ResultIsFilled riscv t (result_at riscv.copy_start buffer t (result_from spot))
 filled_of t buffer (in_pieces pieces) h = h
 filled_of t buffer (by_reference at) h = tt
 
@@ -222,36 +223,36 @@ module _ (t : Tree) (buffer : ℕ) where
   abbrev shape : Shape
   shape = result_shape t
 
-  result_is : (P : List Loc → Type 0) → P [] → P (place_locs (place_at at_once 0 t (spot_of unused t shape))) → P (result_locs (result_at at_once buffer t (result_spot_of t)))
+  result_is : (P : List Loc → Type 0) → P [] → P (place_locs (place_at riscv.copy_start 0 t (spot_of unused t shape))) → P (result_locs (result_at riscv.copy_start buffer t (result_spot_of t)))
   result_is P none h =
-      result_cases (λ spot. P (result_locs (result_at at_once buffer t spot))) t (λ e. none) (locs_of P none t buffer (spot_of unused t shape) h)
+      result_cases (λ spot. P (result_locs (result_at riscv.copy_start buffer t spot))) t (λ e. none) (locs_of P none t buffer (spot_of unused t shape) h)
 
-  result_chain : WordsChain (taken unused) (place_locs (place_at at_once 0 t (spot_of unused t shape))) (taken (used_with unused shape))
-  result_chain = spot_chain at_once 0 unused t shape (passed_has_room unused true t)
+  result_chain : WordsChain (taken unused) (place_locs (place_at riscv.copy_start 0 t (spot_of unused t shape))) (taken (used_with unused shape))
+  result_chain = spot_chain riscv.copy_start 0 unused t shape (passed_has_room unused true t)
 
   no_stack : (w : ℕ) → w ≤ 2 → 8 * (0 + w - 8) ≤ 0
   no_stack w h = omega (arith, h)
 
-  result_apart : AreApart (result_locs (result_at at_once buffer t (result_spot_of t)))
+  result_apart : AreApart (result_locs (result_at riscv.copy_start buffer t (result_spot_of t)))
   result_apart = result_is AreApart tt (chain_apart argument_register floating_register 8 8 all_registers (taken unused) _ _ result_chain)
 
-  result_in_registers : AllByRecursion (LiesIn isa.Riscv 0) (result_locs (result_at at_once buffer t (result_spot_of t)))
+  result_in_registers : AllByRecursion (LiesIn isa.Riscv 0) (result_locs (result_at riscv.copy_start buffer t (result_spot_of t)))
   result_in_registers =
       result_is (AllByRecursion (LiesIn isa.Riscv 0)) tt (chain_lies_in argument_register floating_register 8 8 isa.Riscv argument_exists floating_exists (taken unused) _ _ 0 (no_stack (words_of shape) (passed_few unused true t)) result_chain)
 
-  result_allowed : AllByRecursion (IsNoneOf (closed_to_results riscv)) (result_locs (result_at at_once buffer t (result_spot_of t)))
+  result_allowed : AllByRecursion (IsNoneOf (closed_to_results riscv)) (result_locs (result_at riscv.copy_start buffer t (result_spot_of t)))
   result_allowed =
       result_is (AllByRecursion (IsNoneOf (closed_to_results riscv))) tt (chain_allowed argument_register floating_register 8 8 (closed_to_results riscv) result_allowed_general result_allowed_floating result_allowed_stack (taken unused) _ _ result_chain)
 
-  result_has_all : ResultHasAll t (result_at at_once buffer t (result_spot_of t))
+  result_has_all : ResultHasAll t (result_at riscv.copy_start buffer t (result_spot_of t))
   result_has_all =
-      let stands = spot_has_all at_once 0 unused t shape (passed_suits unused true t) in
-      result_cases (λ spot. ResultHasAll t (result_at at_once buffer t spot)) t (λ e. e) (all_of t buffer (spot_of unused t shape) stands)
+      let stands = spot_has_all riscv.copy_start 0 unused t shape (passed_suits unused true t) (passed_small unused true t) in
+      result_cases (λ spot. ResultHasAll t (result_at riscv.copy_start buffer t spot)) t (λ e. e) (all_of t buffer (spot_of unused t shape) stands)
 
-  result_filled : ResultIsFilled riscv t (result_at at_once buffer t (result_spot_of t))
+  result_filled : ResultIsFilled riscv t (result_at riscv.copy_start buffer t (result_spot_of t))
   result_filled =
-      let fills = spot_filled at_once 0 unused t shape (passed_suits unused true t) (passed_floats unused true t) in
-      result_cases (λ spot. ResultIsFilled riscv t (result_at at_once buffer t spot)) t (λ e. tt) (filled_of t buffer (spot_of unused t shape) fills)
+      let fills = spot_filled riscv.copy_start 0 unused t shape (passed_suits unused true t) (passed_floats unused true t) in
+      result_cases (λ spot. ResultIsFilled riscv t (result_at riscv.copy_start buffer t spot)) t (λ e. tt) (filled_of t buffer (spot_of unused t shape) fills)
 
 -- every law of the places
 pub sound : (s : Signature) → IsSound riscv s
@@ -263,9 +264,9 @@ sound s =
       on_stack = plan_lies_in s;
       allowed = plan_allowed s;
       passed = plan_passed s;
-      has_all = arguments_have_all at_once (copies_start (placing_of s)) s.fixed (used_at_first s.result_type) 0 s.arguments;
-      filled = arguments_filled at_once (copies_start (placing_of s)) s.fixed (used_at_first s.result_type) 0 s.arguments;
-      rising = arguments_rise at_once (copies_start (placing_of s)) s.fixed (used_at_first s.result_type) 0 s.arguments;
+      has_all = arguments_have_all riscv.copy_start (copies_start (placing_of s)) s.fixed (used_at_first s.result_type) 0 s.arguments;
+      filled = arguments_filled riscv.copy_start (copies_start (placing_of s)) s.fixed (used_at_first s.result_type) 0 s.arguments;
+      rising = arguments_rise riscv.copy_start (copies_start (placing_of s)) s.fixed (used_at_first s.result_type) 0 s.arguments;
       result_apart = result_apart s.result_type buffer;
       result_in_registers = result_in_registers s.result_type buffer;
       result_allowed = result_allowed s.result_type buffer;

@@ -1,2 +1,2 @@
 pub mod Riscv
-pub mod Sums
+pub mod Ends

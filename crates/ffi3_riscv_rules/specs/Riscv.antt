@@ -1,9 +1,9 @@
 -- Where the arguments and the result of a call stand on RISC-V with LP64D: XLEN and ABI_FLEN are 64. (RISC-V ELF psABI: each rule names its section, "Integer Calling Convention" or "Hardware Floating-point Calling Convention", and the paragraph by what it is on.)
-use Rattle.std.specs.Prelude.{ℕ, ◌+◌, ◌-◌, ◌*◌, Bool, true, false, ◌&&◌, cond, nat_le, nat_lt, List, [], ◌∷◌, ◌++◌, map, length, Option, Some, None}
+use Rattle.std.specs.Prelude.{ℕ, ◌+◌, ◌-◌, ◌*◌, Bool, true, false, not, ◌&&◌, ◌||◌, cond, nat_le, nat_lt, List, [], ◌∷◌, ◌++◌, map, length, Option, Some, None}
 use Rattle.ffi3_type_rules.specs.declared.Target.TheVariants as target
 use Rattle.ffi3_type_rules.specs.declared.Isa.TheVariants as isa
-use Rattle.ffi3_type_rules.specs.Tree.{Tree, void, Scalar, u8, s8, u16, s16, u32, s32, u64, s64, float, double, pointer}
-use Rattle.ffi3_type_rules.specs.Layout.{Leaf, leaves_of, leaf_at, size_of, scalar_size}
+use Rattle.ffi3_type_rules.specs.Tree.{Tree, void, Scalar, u8, s8, u16, s16, u32, s32, u64, s64, u128, s128, float, double, pointer}
+use Rattle.ffi3_type_rules.specs.Layout.{Leaf, leaves_of, leaf_at, size_of, align_of, scalar_size, least_multiple}
 use Rattle.ffi3_type_rules.specs.Signature.{Signature}
 use Rattle.ffi3_type_rules.specs.Integer.{is_floating, is_integer}
 use Rattle.ffi3_place_rules.specs.declared.Loc.{Loc}
@@ -13,9 +13,8 @@ use Rattle.ffi3_place_rules.specs.declared.Ext.TheVariants.{Free, Riscv, Boxed}
 use Rattle.ffi3_place_rules.specs.declared.Piece.{Piece}
 use Rattle.ffi3_place_rules.specs.declared.SaveWord.{SaveWord}
 use Rattle.ffi3_place_rules.specs.declared.SaveWord.TheVariants.{Register, Hidden}
-use Rattle.ffi3_place_rules.specs.Isa.{pushed_bytes, stack_pointer, link_place, reserved_places, closure_register, trampoline_registers}
-use Rattle.ffi3_place_rules.specs.Standard.{Standard, Placing, Spot, in_pieces, by_reference, ResultSpot, no_result, in_result_pieces, in_buffer, at_once}
-use Rattle.ffi3_place_rules.specs.Sound.{listed}
+use Rattle.ffi3_place_rules.specs.Isa.{pushed_bytes, stack_pointer, link_place, reserved_places, closure_register, trampoline_registers, listed}
+use Rattle.ffi3_place_rules.specs.Standard.{Standard, Placing, Spot, in_pieces, by_reference, ResultSpot, no_result, in_result_pieces, in_buffer, start}
 use Rattle.ffi3_place_rules.specs.Doublewords.{doublewords, filling, doublewords_at, leaf_piece}
 use Rattle.ffi3_riscv_rules.specs.declared.Shape.{Shape}
 use Rattle.ffi3_riscv_rules.specs.declared.Shape.TheVariants.{OneF, TwoF, FI, IF, Words, ByRef}
@@ -111,6 +110,8 @@ boxing u32 = Free
 boxing s32 = Free
 boxing u64 = Free
 boxing s64 = Free
+boxing u128 = Free
+boxing s128 = Free
 boxing float = Boxed
 boxing double = Free
 boxing pointer = Free
@@ -146,9 +147,15 @@ abbrev pub is_fixed : Option ℕ → ℕ → Bool
 is_fixed None i = true
 is_fixed (Some n) i = nat_lt i n
 
--- Where an argument's words begin, behind those that end at `end`: at once, since no type is aligned to 2×XLEN. ("Integer Calling Convention", on aligned register pairs, and on the alignment of what is passed on the stack)
+-- An argument begins at an even word where it is aligned to 2×XLEN and has at most 2×XLEN bits, and is variadic or on the stack. ("Integer Calling Convention": such a variadic argument is passed in an aligned register pair, and what is passed on the stack is aligned to the greater of its type's alignment and XLEN)
+abbrev pub is_at_even_word : Bool → Tree → ℕ → Bool
+is_at_even_word fixed t end =
+    nat_le 16 (align_of t) && (nat_le (size_of t) 16 && (not fixed || nat_le 8 end))
+
+-- where an argument's words begin, behind those that end at `end`
 abbrev pub first_word : Bool → Tree → ℕ → ℕ
-first_word fixed t end = end
+first_word fixed t end =
+    cond (is_at_even_word fixed t end) (least_multiple 2 end) end
 
 -- what is used where an argument begins, behind others
 abbrev pub used_at_start : Used → Bool → Tree → Used
@@ -262,6 +269,6 @@ riscv = record {
   returned_address = None;
   narrow = Riscv;
   single = Boxed;
-  copy_start = at_once;
+  copy_start = start;
   placing = placing_of;
 }

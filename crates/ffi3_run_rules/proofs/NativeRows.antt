@@ -8,7 +8,8 @@ use Rattle.ffi3_type_rules.specs.Signature.{Signature}
 use Rattle.ffi3_type_rules.specs.Integer.{bytes_of_number, sum_of}
 use Rattle.ffi3_type_rules.specs.Value.{ValueTree, void_value, leaf_value, bytes_of}
 use Rattle.ffi3_run_rules.specs.Move.{call, make, print, return, Behaviour}
-use Rattle.ffi3_run_rules.specs.Meaning.{Program, with_natives, act, act_within, meaning_of, peak_of}
+use Rattle.ffi3_run_rules.specs.Meaning.{Program, with_natives, act, act_within, meaning_of}
+use Rattle.ffi3_run_rules.specs.Peak.{peak_of}
 use Rattle.ffi3_run_rules.specs.Trace.{trace_of}
 use Rattle.ffi3_run_rules.specs.Journal.{events_in, stack_top}
 use Rattle.ffi3_type_rules.specs.Layout.{least_multiple}

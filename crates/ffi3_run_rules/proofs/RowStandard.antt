@@ -3,7 +3,7 @@ use Rattle.std.specs.Prelude.{[], ◌∷◌, map, None}
 use Rattle.ffi3_type_rules.specs.declared.Target.TheVariants.{Amd64}
 use Rattle.ffi3_place_rules.specs.declared.Loc.TheVariants.{G}
 use Rattle.ffi3_place_rules.specs.declared.Ext.TheVariants.{Free}
-use Rattle.ffi3_place_rules.specs.Standard.{Standard, in_pieces, in_result_pieces, at_once}
+use Rattle.ffi3_place_rules.specs.Standard.{Standard, in_pieces, in_result_pieces, start}
 
 abbrev pub in_registers : Standard
 in_registers = record {
@@ -22,7 +22,7 @@ in_registers = record {
   returned_address = None;
   narrow = Free;
   single = Free;
-  copy_start = at_once;
+  copy_start = start;
   placing = λ s. record {
     arguments = map (λ t. in_pieces []) s.arguments;
     result_spot = in_result_pieces [];

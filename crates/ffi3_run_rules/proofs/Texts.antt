@@ -1,14 +1,13 @@
 -- Texts of what happens in two parts, and where a run stands after a part.
 use Rattle.std.proofs.Common.{◌≡◌, ℕ, ◌+◌, ◌-◌, List, [], ◌∷◌, ◌++◌, refl, ap, sym, ◌∙◌, arith, append_assoc}
 use Rattle.std.specs.Prelude.{map, codes}
-use Rattle.std.specs.List.{AllByRecursion, concat, sum_by}
-use Rattle.std.proofs.lemmas.List.Sums.{sum_by-cons}
+use Rattle.std.specs.List.{AllByRecursion, concat}
 use Rattle.ffi3_type_rules.specs.Signature.{Signature}
 use Rattle.ffi3_type_rules.specs.Value.{ValueTree}
 use Rattle.ffi3_place_rules.specs.declared.Loc.{Loc}
 use Rattle.ffi3_place_rules.specs.Event.{Event}
 use Rattle.ffi3_place_rules.specs.Image.{Image, register}
-use Rattle.ffi3_place_rules.specs.Standard.{Standard, need_of, frame_of}
+use Rattle.ffi3_place_rules.specs.Standard.{Standard, need_of, needs_of, frame_of}
 use Rattle.ffi3_run_rules.specs.Trace.{TraceItem, Enter, Line, Leave, StopLine}
 use Rattle.ffi3_run_rules.specs.Journal.{Entered, needs, IsEntry, IsReturn}
 use Rattle.ffi3_place_rules.specs.Isa.{scribble}
@@ -48,13 +47,12 @@ AreSameCalls [] [] = Unit {0}
 AreSameCalls (e ∷ es) (c ∷ cs) = (e.signature ≡ c.signature) × AreSameCalls es cs
 AreSameCalls _ _ = ⊥
 
-same_needs : (std : Standard) (es : List Entered) (cs : List OpenCall) → AreSameCalls es cs → sum_by (λ (c : OpenCall). need_of std c.signature) cs ≡ needs std es
+same_needs : (std : Standard) (es : List Entered) (cs : List OpenCall) → AreSameCalls es cs → needs_of std (map (λ (c : OpenCall). c.signature) cs) ≡ needs std es
 same_needs std [] [] same = refl
 same_needs std (e ∷ es) (c ∷ cs) same =
     let rest = same_needs std es cs same.1 in
     let here : need_of std e.signature ≡ need_of std c.signature = ap (need_of std) same.0 in
-    let sum = sum_by-cons (λ (d : OpenCall). need_of std d.signature) c cs in
-    omega (arith, rest, here, sum)
+    omega (arith, rest, here)
 same_needs std [] (c ∷ cs) same = absurd same
 same_needs std (e ∷ es) [] same = absurd same
 

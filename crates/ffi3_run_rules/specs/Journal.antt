@@ -1,12 +1,12 @@
 -- The journal of a machine against what happens in a run: each entry holds the caller's values, each return the callee's result, and what is to be preserved is preserved.
-use Rattle.std.specs.Prelude.{◌≡◌, ℕ, ◌+◌, ◌%◌, ⊤, List, [], ◌∷◌, length}
+use Rattle.std.specs.Prelude.{◌≡◌, ℕ, ◌+◌, ◌%◌, ⊤, List, [], ◌∷◌, length, map}
 use Rattle.std.specs.List.{AllByRecursion}
 use Rattle.ffi3_type_rules.specs.declared.limits.TheConstants.{STACK_TOP}
 use Rattle.ffi3_type_rules.specs.Signature.{Signature, signature_at}
 use Rattle.ffi3_type_rules.specs.Value.{ValueTree}
 use Rattle.ffi3_place_rules.specs.declared.Loc.{Loc}
 use Rattle.ffi3_place_rules.specs.Isa.{scribble}
-use Rattle.ffi3_place_rules.specs.Standard.{Standard, need_of, frame_of}
+use Rattle.ffi3_place_rules.specs.Standard.{Standard, needs_of, frame_of}
 use Rattle.ffi3_place_rules.specs.Image.{register}
 use Rattle.ffi3_place_rules.specs.Holds.{Holds, HoldsResult, Kept}
 use Rattle.ffi3_place_rules.specs.Event.{Event, enters, leaves}
@@ -23,8 +23,7 @@ pub record Entered : Type 0 where
 
 -- the bytes of stack that unfinished calls take together
 abbrev pub needs : Standard → List Entered → ℕ
-needs std [] = 0
-needs std (e ∷ outer) = need_of std e.signature + needs std outer
+needs std outer = needs_of std (map (λ e. e.signature) outer)
 
 -- Event number n is the entry of a call with these arguments, below the unfinished calls around it, the outermost of which lies just below `top`; a reserved register holds what it `held` where these calls began.
 pub record IsEntry (std : Standard) (top : ℕ) (held : Loc → ℕ) (outer : List Entered) (n pointer : ℕ) (s : Signature) (arguments : List ValueTree) (e : Event) : Type 0 where

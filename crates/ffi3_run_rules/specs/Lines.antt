@@ -1,14 +1,14 @@
 -- The text of a run: a line for each print and for what stops it; where the run is traced, also two lines for each entry and each return. It does not depend on how far a machine came, so nothing that a machine recorded is looked at.
 use Rattle.std.specs.Prelude.{ℕ, ◌+◌, ◌-◌, false, List, [], ◌∷◌, ◌++◌, length, map, drop, replicate, codes}
 use Rattle.std.specs.Fmt.{decimal, digits}
-use Rattle.std.specs.List.{concat, sum_by, join_with_byte}
+use Rattle.std.specs.List.{concat, join_with_byte}
 use Rattle.ffi3_type_rules.specs.Tree.{trees_of}
 use Rattle.ffi3_type_rules.specs.Signature.{Signature, signature_at}
 use Rattle.ffi3_type_rules.specs.Text.{signature_text}
 use Rattle.ffi3_type_rules.specs.Value.{ValueTree, values_of}
 use Rattle.ffi3_type_rules.specs.ValueText.{value_text_of, value_texts_of}
 use Rattle.ffi3_place_rules.specs.declared.Loc.{Loc}
-use Rattle.ffi3_place_rules.specs.Standard.{Standard, need_of, frame_of}
+use Rattle.ffi3_place_rules.specs.Standard.{Standard, needs_of, frame_of}
 use Rattle.ffi3_run_rules.specs.declared.Stop.{Stop}
 use Rattle.ffi3_run_rules.specs.declared.Stop.TheVariants.{NoClosure, WrongSig, TableFull, StackFull, MoveLimit}
 use Rattle.ffi3_run_rules.specs.Meaning.{Program}
@@ -67,7 +67,7 @@ pub data Tracing : Type 0 where
 -- the stack pointer at a call, inside these calls: below all that they need and the call's own frame
 abbrev pub sp_at_call : Standard → (top : ℕ) → List OpenCall → Signature → ℕ
 sp_at_call std top outer s =
-    top - sum_by (λ c. need_of std c.signature) outer - frame_of std s
+    top - needs_of std (map (λ c. c.signature) outer) - frame_of std s
 
 abbrev pub enter_text : Standard → (top : ℕ) → List OpenCall → (address : ℕ) → Signature → List ValueTree → List ℕ
 enter_text std top outer address s args =

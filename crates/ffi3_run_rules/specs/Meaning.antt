@@ -1,5 +1,5 @@
 -- The direct meaning of a program: a recursion on values, without registers, frames or addresses of the stack. Its one number of the machine is the bytes of stack that are left.
-use Rattle.std.specs.Prelude.{ℕ, zero, suc, ◌+◌, ◌-◌, max, List, [], ◌∷◌, ◌++◌, length, slice_index_or, Option, Some, None, if◌then◌else◌, nat_lt}
+use Rattle.std.specs.Prelude.{ℕ, zero, suc, ◌+◌, ◌-◌, List, [], ◌∷◌, ◌++◌, length, slice_index_or, Option, Some, None, if◌then◌else◌, nat_lt}
 use Rattle.ffi3_type_rules.specs.Tree.{Tree}
 use Rattle.ffi3_type_rules.specs.Signature.{Signature, signature_at}
 use Rattle.ffi3_type_rules.specs.Same.{same_signature}
@@ -214,16 +214,3 @@ with_natives p natives = record p {
   signatures = p.signatures ++ all_signatures natives;
   functions = p.functions ++ functions_from (length p.signatures) (length p.functions) natives;
 }
-
--- ---- the stack that calls take
-
--- the peak of a call is its need and the peak of the calls inside it; that of several calls is the greatest
-abbrev mutual
-  pub peak_of : Program → CallTree → ℕ
-  peak_of p no_nodes = 0
-  peak_of p (node d ds) = max (peak_in p d) (peak_of p ds)
-
-  peak_in : Program → TreeNode → ℕ
-  peak_in p (line t v) = 0
-  peak_in p (stop_line stop) = 0
-  peak_in p (called ptr sig args inside r) = need_at p sig + peak_of p inside

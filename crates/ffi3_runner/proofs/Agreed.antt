@@ -20,7 +20,8 @@ use Rattle.ffi3_board.specs.declared.board.Board.{Board}
 use Rattle.ffi3_board.specs.Going.{HasGoneIn, HasGoneBack}
 use Rattle.ffi3_board.specs.Activations.{call_inside, calls_of, result_type_at}
 use Rattle.ffi3_board.specs.Served.{HasAccepted}
-use Rattle.ffi3_board.proofs.Blocks.{AreAbove, StaysFrom}
+use Rattle.ffi3_board.proofs.Blocks.{AreAbove}
+use Rattle.ffi3_board.proofs.Opened.{StaysFrom}
 use Rattle.ffi3_runner.specs.Agreeing.{seen_by, InnermostStands, IsStanding, WillStand, AllWillStand, PositionsAgree}
 use Rattle.ffi3_runner.proofs.Seen.{standing_kept, will_kept, all_will_kept, now_stands, stays_equal, all_above}
 

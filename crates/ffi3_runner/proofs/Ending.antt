@@ -1,5 +1,5 @@
 -- What a whole run of main says, by how it ended.
-use Rattle.std.proofs.Common.{◌≡◌, ℕ, ◌+◌, ◌≤◌, inl, inr, ◌⊎◌, List, ◌++◌, length, take, sym, ap, ◌∙◌, subst, arith}
+use Rattle.std.proofs.Common.{◌≡◌, ℕ, ◌+◌, ◌≤◌, inl, inr, ◌⊎◌, List, ◌++◌, length, take, refl, sym, ap, ◌∙◌, subst, arith}
 use Rattle.std.specs.Prelude.{Bool, true, false}
 use Rattle.std.proofs.lemmas.List.{take-append-le}
 use Rattle.std.proofs.Math.Seq.{take-length}
@@ -10,7 +10,7 @@ use Rattle.ffi3_run_rules.specs.declared.Stop.{Stop}
 use Rattle.ffi3_run_rules.specs.Closures.{Closures}
 use Rattle.ffi3_run_rules.specs.Journal.{JournalOf, IsWhole, stack_top}
 use Rattle.ffi3_run_rules.specs.Lines.{at_start, text, text_of_run}
-use Rattle.ffi3_run_rules.specs.Meaning.{Program, End, returned, stopped, meaning_of, peak_of}
+use Rattle.ffi3_run_rules.specs.Meaning.{Program, End, returned, stopped, meaning_of}
 use Rattle.ffi3_run_rules.specs.Trace.{TraceItem, trace_of}
 use Rattle.ffi3_turn_rules.specs.Interrupted.{past_all, next_text, begun}
 use Rattle.ffi3_turn_rules.specs.Depth.{deepest}
@@ -18,7 +18,6 @@ use Rattle.ffi3_turn_rules.specs.Remainder.{remainder_of}
 use Rattle.ffi3_turn_rules.specs.MainTracing.{main_tracing}
 use Rattle.ffi3_turn_rules.specs.SoFar.{main_base}
 use Rattle.ffi3_turn_rules.proofs.Coming.{main_is_over, main_was_cut}
-use Rattle.ffi3_turn_rules.proofs.Depths.{deepest_is_peak}
 use Rattle.ffi3_machine.specs.State.{State}
 use Rattle.ffi3_closures.specs.Slots.{HoldsMap}
 use Rattle.ffi3_io.specs.Sink.{Rose, SinkState}
@@ -34,7 +33,7 @@ use Rattle.ffi3_runner.specs.RunInterrupted.{RunWasInterrupted}
 use Rattle.ffi3_runner.specs.RunMatches.{RunMatches, WrotePart}
 use Rattle.ffi3_runner.specs.declared.run.RunEnd.{RunEnd}
 use Rattle.ffi3_runner.specs.declared.run.RunEnd.TheVariants as run
-use Rattle.ffi3_runner.specs.Started.{main_beginning, MainHasReturned}
+use Rattle.ffi3_runner.specs.Started.{main_beginning, MainHasReturned, MainHasStopped}
 
 reaches : (top mark deep peak : ℕ) → deep ≡ peak → (top ≤ mark) ⊎ (top ≤ mark + deep) → top ≤ mark + peak
 reaches top mark deep peak is (inl h) = omega arith
@@ -56,7 +55,8 @@ module _ (p : Program) (std : Standard) (trace : Bool) (b : Board Standing) (m :
         journal = subst P (sym h.journal) over.2;
         whole = subst Q (sym h.journal) over.3;
         code = subst R (sym over.1) h.holds;
-        mark = reaches stack_top m.mark (deepest p 0 (trace_of p)) (peak_of p (meaning_of p).call_tree) (deepest_is_peak p) h.mark;
+        mark = reaches stack_top m.mark (deepest p 0 (trace_of p)) (deepest p 0 (trace_of p)) refl h.mark;
+        reserved = h.reserved;
       }
 
   whole_written : (end : End) (closures : Closures) (moves : ℕ) → IsEnded p (main_base std) (remainder_of (meaning_of p)) (main_beginning trace std o) end closures moves m o' → WrotePart (main_tracing trace std) p o o'
@@ -128,6 +128,12 @@ module _ (p : Program) (std : Standard) (trace : Bool) (b : Board Standing) (m :
       let same : other ≡ stop = cc in ran.over.end_is ∙ ap stopped same
   ran_stops run.NoMemory ran stop is = cc
   ran_stops run.Failed ran stop is = cc
+
+  pub ran_left_at_stop : (t : RunEnd) → Answer t → (stop : Stop) → t ≡ run.Stopped stop → MainHasStopped p b
+  ran_left_at_stop run.Done ran stop is = cc
+  ran_left_at_stop (run.Stopped other) ran stop is = record { closures = sym ran.over.closures_are; moves = sym ran.over.moves_are }
+  ran_left_at_stop run.NoMemory ran stop is = cc
+  ran_left_at_stop run.Failed ran stop is = cc
 
   pub ran_no_memory : (t : RunEnd) → Answer t → t ≡ run.NoMemory → o'.faults ≡ o.faults
   ran_no_memory run.Done ran is = cc

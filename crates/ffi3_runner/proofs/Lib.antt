@@ -6,6 +6,7 @@ mod Ending
 mod Numbers
 mod Last
 mod Running
+mod Ready
 mod Serving
 mod Main
 mod Preparing

@@ -10,6 +10,7 @@ use Rattle.ffi3_run_rules.specs.Meaning.{main, meaning_of}
 use Rattle.ffi3_run_rules.specs.Move.{no_signature}
 use Rattle.ffi3_run_rules.specs.Trace.{TraceItem}
 use Rattle.ffi3_turn_rules.specs.Remainder.{Remainder, remainder_of}
+use Rattle.ffi3_turn_rules.specs.MainTracing.{main_tracing}
 use Rattle.ffi3_turn_rules.specs.SoFar.{Base, main_base}
 use Rattle.ffi3_turn_rules.specs.TracingOf.{IsTracingOf}
 use Rattle.ffi3_turn_rules.proofs.TracedCalls.{main_is_traced}
@@ -31,9 +32,11 @@ use Rattle.ffi3_board.specs.Activations.{call_inside, who_of}
 use Rattle.ffi3_board.specs.Turned.{StandsAt}
 use Rattle.ffi3_runner.specs.Agreeing.{seen_by_main, IsStanding, AllWillStand, PositionsAgree}
 use Rattle.ffi3_runner.specs.Ran.{Ran}
+use Rattle.ffi3_runner.specs.Ready.{CanGoOn}
 use Rattle.ffi3_runner.specs.Running.{IsNew, IsPrepared, program}
 use Rattle.ffi3_runner.specs.Started.{main_beginning}
 use Rattle.ffi3_runner.specs.declared.run.RunEnd.{RunEnd}
+use Rattle.ffi3_runner.proofs.Ready.{can_go_on}
 use Rattle.ffi3_runner.proofs.Starting.{stands_at_start}
 
 -- main stands before its first move
@@ -54,9 +57,9 @@ module _ (std : Standard) (s : Script) (natives : List NamedNative) (cifs : List
 
 -- where a run of main starts
 module _ (std : Standard) (s : Script) (natives : List NamedNative) (cifs : List Signature) (prepared : IsPrepared std s natives cifs) (trace : Bool) (m : State) (o : SinkState) (b : Board Standing) (stands : StandsAt (program std s natives) (main_base std) (remainder_of (meaning_of (program std s natives))) (main_beginning trace std o) [] [] b m o) where
-  pub start_between : (base : Base) × (all : Remainder) × (first : Beginning) × (own : List TraceItem) × (events : List Event) × (base.standard ≡ std) × IsTracingOf (program std s natives) base trace first.tracing × StandsAt (program std s natives) base all first own events b m o
+  pub start_between : CanGoOn std (program std s natives) b m
   start_between =
-      (main_base std, remainder_of (meaning_of (program std s natives)), main_beginning trace std o, [], [], refl, main_is_traced (program std s natives) std trace, stands)
+      can_go_on std (program std s natives) (main_base std) (remainder_of (meaning_of (program std s natives))) (main_beginning trace std o) [] [] (λ t. main_tracing t std) b m o refl (main_is_traced (program std s natives) std) stands
 
   pub main_ran : (b' : Board Standing) (m' : State) (o' : SinkState) (t : RunEnd) → ((base : Base) (all : Remainder) (first : Beginning) (own : List TraceItem) (events : List Event) → base.standard ≡ std → IsTracingOf (program std s natives) base trace first.tracing → StandsAt (program std s natives) base all first own events b m o → Ran (program std s natives) base all first b' m' o' t) → Ran (program std s natives) (main_base std) (remainder_of (meaning_of (program std s natives))) (main_beginning trace std o) b' m' o' t
   main_ran b' m' o' t ran =

@@ -1,5 +1,5 @@
 -- A run, move after move.
-use Rattle.std.proofs.Common.{◌≡◌, suc, ◌<◌, List, ◌++◌, subst, arith}
+use Rattle.std.proofs.Common.{◌≡◌, List, ◌++◌, subst}
 use Rattle.std.specs.Prelude.{Bool}
 use Rattle.ffi3_place_rules.specs.Event.{Event}
 use Rattle.ffi3_place_rules.specs.Standard.{Standard}
@@ -37,14 +37,6 @@ module _ (std : Standard) (trace : Bool) (p : Program) (b₀ b b' : Board Standi
         let went = went_on p base all first k.0 b.moves b' m' o' t (turned base all first k.0 k.1 standard tracing k.2) more in
         (k.0 ++ went.more, went.events, went.stands)
 
-    -- the moves fall
-    pub falls : t ≡ turn.More → (base : Base) (all : Remainder) (first : Beginning) (own : List TraceItem) (events : List Event) → base.standard ≡ std → IsTracingOf p base trace first.tracing → StandsAt p base all first own events b₀ m₀ o₀ → b'.moves < b.moves
-    falls more base all first own events standard tracing h =
-        let k = since base all first own events standard tracing h in
-        let went = went_on p base all first k.0 b.moves b' m' o' t (turned base all first k.0 k.1 standard tracing k.2) more in
-        let counted : b.moves ≡ suc b'.moves = went.counted in
-        omega (arith, counted)
-
     module _ (base : Base) (all : Remainder) (first : Beginning) (own : List TraceItem) (events : List Event) (standard : base.standard ≡ std) (tracing : IsTracingOf p base trace first.tracing) (h : StandsAt p base all first own events b₀ m₀ o₀) where
       at : Turned p base all first (since base all first own events standard tracing h).0 b.moves b' m' o' t
       at =
@@ -53,16 +45,20 @@ module _ (std : Standard) (trace : Bool) (p : Program) (b₀ b b' : Board Standi
 
       pub ends_done : t ≡ turn.Done → Ran p base all first b' m' o' run.Done
       ends_done is =
-          subst (λ (u : Turn). Turned p base all first (since base all first own events standard tracing h).0 b.moves b' m' o' u) is at
+          let turned = subst (λ (u : Turn). Turned p base all first (since base all first own events standard tracing h).0 b.moves b' m' o' u) is at in
+          turned.done
 
       pub ends_stopped : (stop : Stop) → t ≡ turn.Stopped stop → Ran p base all first b' m' o' (run.Stopped stop)
       ends_stopped stop is =
-          subst (λ (u : Turn). Turned p base all first (since base all first own events standard tracing h).0 b.moves b' m' o' u) is at
+          let turned = subst (λ (u : Turn). Turned p base all first (since base all first own events standard tracing h).0 b.moves b' m' o' u) is at in
+          turned.ended
 
       pub ends_no_memory : t ≡ turn.NoMemory → Ran p base all first b' m' o' run.NoMemory
       ends_no_memory is =
-          subst (λ (u : Turn). Turned p base all first (since base all first own events standard tracing h).0 b.moves b' m' o' u) is at
+          let turned = subst (λ (u : Turn). Turned p base all first (since base all first own events standard tracing h).0 b.moves b' m' o' u) is at in
+          turned.0.interrupted
 
       pub ends_failed : t ≡ turn.Failed → Ran p base all first b' m' o' run.Failed
       ends_failed is =
-          subst (λ (u : Turn). Turned p base all first (since base all first own events standard tracing h).0 b.moves b' m' o' u) is at
+          let turned = subst (λ (u : Turn). Turned p base all first (since base all first own events standard tracing h).0 b.moves b' m' o' u) is at in
+          turned.0.interrupted

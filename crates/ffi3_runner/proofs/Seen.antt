@@ -15,7 +15,8 @@ use Rattle.ffi3_board.specs.declared.activation.OpenCall.{OpenCall}
 use Rattle.ffi3_board.specs.declared.activation.Waiting.{Waiting}
 use Rattle.ffi3_board.specs.Going.{and_result}
 use Rattle.ffi3_board.specs.Activations.{calls_below, call_inside, calls_of}
-use Rattle.ffi3_board.proofs.Blocks.{AreAbove, StaysFrom}
+use Rattle.ffi3_board.proofs.Blocks.{AreAbove}
+use Rattle.ffi3_board.proofs.Opened.{StaysFrom}
 use Rattle.ffi3_runner.specs.Agreeing.{seen_by, seen_by_callee, IsStanding, WillStand, AllWillStand}
 
 -- with one result more

@@ -3,5 +3,6 @@ pub mod Running
 pub mod RunMatches
 pub mod RunInterrupted
 pub mod Ran
+pub mod Ready
 pub mod Started
 pub mod Serving

@@ -1,4 +1,4 @@
--- What a run of main begins with, and what it leaves for the calls that are served after it.
+-- What a run of main begins with, and what it leaves where it returned or stopped.
 use Rattle.std.specs.Prelude.{◌≡◌, Bool, []}
 use Rattle.ffi3_type_rules.specs.declared.limits.TheConstants.{STACK_TOP}
 use Rattle.ffi3_place_rules.specs.Standard.{Standard}
@@ -16,6 +16,7 @@ abbrev pub main_beginning : (trace : Bool) → Standard → SinkState → Beginn
 main_beginning trace std o = record {
   events = [];
   mark = STACK_TOP;
+  told = 0;
   output = o;
   stack = begun_stack;
   spare_events = 0;
@@ -27,5 +28,10 @@ main_beginning trace std o = record {
 pub record MainHasReturned (p : Program) (b : Board Standing) (m : State) : Type 0 where
   pub idle : IsIdle p b
   pub sp : m.sp ≡ STACK_TOP
+  pub closures : b.table ≡ (meaning_of p).closures
+  pub moves : b.moves ≡ (meaning_of p).moves
+
+-- AFTER A STOP closures and moves are those that are left then.
+pub record MainHasStopped (p : Program) (b : Board Standing) : Type 0 where
   pub closures : b.table ≡ (meaning_of p).closures
   pub moves : b.moves ≡ (meaning_of p).moves

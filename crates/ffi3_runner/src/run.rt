@@ -10,6 +10,7 @@ ghost use Rattle.ffi3_board.specs.Between.{Beginning};
 ghost use Rattle.ffi3_board.specs.Turned.{StandsAt};
 ghost use Rattle.ffi3_runner.specs.Agreeing.{PositionsAgree};
 ghost use Rattle.ffi3_runner.specs.Ran.{Ran};
+ghost use Rattle.ffi3_runner.specs.Ready.{CanGoOn};
 ghost use Rattle.ffi3_runner.specs.Serving.{end_of};
 ghost use Rattle.ffi3_runner.specs.Running.{IsPrepared, program};
 
@@ -56,10 +57,7 @@ impl<'a, A: Abi> Prepared<'a, A> {
     ) -> RunEnd
         requires prepared { IsPrepared A.standard self.now.script.now (handed title meaning signatures self.now.natives.now.items) self.now.cifs }
         requires standing { PositionsAgree self.now.script.now (handed title meaning signatures self.now.natives.now.items) self.now.cifs machine.old board.old }
-        requires between { (base : Base) × (all : Remainder) × (first : Beginning) × (own : List TraceItem) × (events : List Event) ×
-            (base.standard ≡ A.standard) ×
-            IsTracingOf (program A.standard self.now.script.now (handed title meaning signatures self.now.natives.now.items)) base trace first.tracing ×
-            StandsAt (program A.standard self.now.script.now (handed title meaning signatures self.now.natives.now.items)) base all first own events board.old machine.old (O.state output.old) }
+        requires between { CanGoOn A.standard (program A.standard self.now.script.now (handed title meaning signatures self.now.natives.now.items)) board.old machine.old }
         ensures { let p = program A.standard self.now.script.now (handed title meaning signatures self.now.natives.now.items) in
             (base : Base) (all : Remainder) (first : Beginning) (own : List TraceItem) (events : List Event) →
             base.standard ≡ A.standard → IsTracingOf p base trace first.tracing →

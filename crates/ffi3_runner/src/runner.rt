@@ -1,5 +1,5 @@
 //! The runner: what a run is prepared with, and its board.
-ghost use Rattle.std.specs.Prelude.{◌≡◌, ◌<◌, ◌≤◌, ◌^◌, Bool, IfOk, List, [], false, length, true};
+ghost use Rattle.std.specs.Prelude.{◌≡◌, ◌<◌, ◌≤◌, ◌^◌, Bool, IfOk, List, [], false, length, suc, true};
 ghost use Rattle.ffi3_type_rules.specs.Value.{ValueTree, void_value};
 ghost use Rattle.ffi3_place_rules.specs.Event.{Event};
 ghost use Rattle.ffi3_run_rules.specs.Meaning.{meaning_of, returned, stopped};
@@ -19,10 +19,11 @@ ghost use Rattle.ffi3_board.specs.Between.{Beginning};
 ghost use Rattle.ffi3_board.specs.Served.{IsIdle};
 ghost use Rattle.ffi3_board.specs.Turned.{StandsAt, Turned};
 ghost use Rattle.ffi3_runner.specs.Agreeing.{PositionsAgree};
+ghost use Rattle.ffi3_runner.specs.Ready.{CanGoOn};
 ghost use Rattle.ffi3_runner.specs.RunInterrupted.{RunWasInterrupted};
 ghost use Rattle.ffi3_runner.specs.RunMatches.{RunMatches, WrotePart};
 ghost use Rattle.ffi3_runner.specs.Serving.{IsAtEntry, Served};
-ghost use Rattle.ffi3_runner.specs.Started.{MainHasReturned, main_beginning};
+ghost use Rattle.ffi3_runner.specs.Started.{MainHasReturned, MainHasStopped, main_beginning};
 ghost use Rattle.ffi3_runner.specs.Running.{IsNew, IsPrepared, program};
 
 use crate::prepare::{Prepared, prepare_all};
@@ -118,6 +119,8 @@ impl<'a, A: Abi> Runner<'a, A> {
         ensures between { let p = program A.standard self.old.prepared.script.now (handed title meaning signatures self.old.prepared.natives.now.items) in
             (trace : Bool) (m : State) (output : SinkState) → m ≡ begun A.TARGET m.spare_events m.spare_bytes →
             StandsAt p (main_base A.standard) (remainder_of (meaning_of p)) (main_beginning trace A.standard output) [] [] self.new.board m output }
+        ensures goes_on { (m : State) → m ≡ begun A.TARGET m.spare_events m.spare_bytes →
+            CanGoOn A.standard (program A.standard self.old.prepared.script.now (handed title meaning signatures self.old.prepared.natives.now.items)) self.new.board m }
         ensures prepared { self.new.prepared ≡ self.old.prepared }
         ensures going { self.new.over ≡ self.old.over }
     {
@@ -126,13 +129,19 @@ impl<'a, A: Abi> Runner<'a, A> {
 
     /// Does one move of the innermost activation. It is counted, and none is asked for where none
     /// is left. With `trace` an entry or a return is told as soon as it is recorded, in two lines.
+    ///
+    /// `More` and `Done` count one move, and `Stopped` does too, but for the move limit, where none
+    /// is left. As closures and moves are then the direct meaning's, what happened is this move's
+    /// alone: one item at most; at `Done` the return of the call that is served, and nothing where
+    /// main returns; at `Stopped` the stop. `NoMemory` and `Failed` count one move at most, and one
+    /// item happened at most.
+    ///
+    /// Nothing is asked of the output: between two turns a caller may write to it, hand in another,
+    /// and change `trace`.
     pub fn turn<O: Sink>(&mut self, machine: &mut Machine, output: &mut O, trace: bool) -> Turn
         requires prepared { IsPrepared A.standard self.old.prepared.script.now (handed title meaning signatures self.old.prepared.natives.now.items) self.old.prepared.cifs }
         requires standing { PositionsAgree self.old.prepared.script.now (handed title meaning signatures self.old.prepared.natives.now.items) self.old.prepared.cifs machine.old self.old.board }
-        requires between { (base : Base) × (all : Remainder) × (first : Beginning) × (own : List TraceItem) × (events : List Event) ×
-            (base.standard ≡ A.standard) ×
-            IsTracingOf (program A.standard self.old.prepared.script.now (handed title meaning signatures self.old.prepared.natives.now.items)) base trace first.tracing ×
-            StandsAt (program A.standard self.old.prepared.script.now (handed title meaning signatures self.old.prepared.natives.now.items)) base all first own events self.old.board machine.old (O.state output.old) }
+        requires between { CanGoOn A.standard (program A.standard self.old.prepared.script.now (handed title meaning signatures self.old.prepared.natives.now.items)) self.old.board machine.old }
         ensures turned { let p = program A.standard self.old.prepared.script.now (handed title meaning signatures self.old.prepared.natives.now.items) in
             (base : Base) (all : Remainder) (first : Beginning) (own : List TraceItem) (events : List Event) →
             base.standard ≡ A.standard → IsTracingOf p base trace first.tracing →
@@ -140,6 +149,9 @@ impl<'a, A: Abi> Runner<'a, A> {
             Turned p base all first own self.old.board.moves self.new.board machine.new (O.state output.new) result }
         ensures standing { result ≡ Turn.More →
             PositionsAgree self.old.prepared.script.now (handed title meaning signatures self.old.prepared.natives.now.items) self.old.prepared.cifs machine.new self.new.board }
+        ensures between { result ≡ Turn.More →
+            CanGoOn A.standard (program A.standard self.old.prepared.script.now (handed title meaning signatures self.old.prepared.natives.now.items)) self.new.board machine.new }
+        ensures counted { result ≡ Turn.More → self.old.board.moves ≡ suc self.new.board.moves }
         ensures prepared { self.new.prepared ≡ self.old.prepared }
         ensures going { result ≡ Turn.More → self.new.over ≡ self.old.over }
         ensures over { (result ≡ Turn.More → ⊥) → self.new.over ≡ true }
@@ -186,6 +198,8 @@ impl<'a, A: Abi> Runner<'a, A> {
             (O.state output.old) (O.state output.new) }
         ensures left { result ≡ RunEnd.Done →
             MainHasReturned (program A.standard self.old.prepared.script.now (handed title meaning signatures self.old.prepared.natives.now.items)) self.new.board machine.new }
+        ensures left_at_stop { (stop : Stop) → result ≡ RunEnd.Stopped stop →
+            MainHasStopped (program A.standard self.old.prepared.script.now (handed title meaning signatures self.old.prepared.natives.now.items)) self.new.board }
         ensures prepared { self.new.prepared ≡ self.old.prepared }
         ensures over { self.new.over ≡ true }
     {

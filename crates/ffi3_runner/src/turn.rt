@@ -1,5 +1,5 @@
 //! One move of a run.
-ghost use Rattle.std.specs.Prelude.{◌≡◌, List, length};
+ghost use Rattle.std.specs.Prelude.{◌≡◌, List, length, suc};
 ghost use Rattle.ffi3_place_rules.specs.Event.{Event};
 ghost use Rattle.ffi3_run_rules.specs.Trace.{TraceItem};
 ghost use Rattle.ffi3_turn_rules.specs.Remainder.{Remainder};
@@ -9,6 +9,7 @@ ghost use Rattle.ffi3_ask.specs.Handed.{handed};
 ghost use Rattle.ffi3_board.specs.Between.{Beginning};
 ghost use Rattle.ffi3_board.specs.Turned.{StandsAt, Turned};
 ghost use Rattle.ffi3_runner.specs.Agreeing.{PositionsAgree};
+ghost use Rattle.ffi3_runner.specs.Ready.{CanGoOn};
 ghost use Rattle.ffi3_runner.specs.Running.{IsPrepared, program};
 
 use crate::prepare::Prepared;
@@ -19,9 +20,34 @@ use ffi3_machine::Machine;
 use ffi3_place::Abi;
 
 impl<'a, A: Abi> Prepared<'a, A> {
-    /// Does one move of the innermost activation. It is counted, and none is asked for where none
-    /// is left. Where the run is traced, an entry or a return is told.
+    /// Does one move of the innermost activation, after which the next can be done.
     pub(crate) fn turn<O: Sink>(
+        &self,
+        board: &mut Board<Standing>,
+        machine: &mut Machine,
+        output: &mut O,
+        trace: bool,
+    ) -> Turn
+        requires prepared { IsPrepared A.standard self.now.script.now (handed title meaning signatures self.now.natives.now.items) self.now.cifs }
+        requires standing { PositionsAgree self.now.script.now (handed title meaning signatures self.now.natives.now.items) self.now.cifs machine.old board.old }
+        requires between { CanGoOn A.standard (program A.standard self.now.script.now (handed title meaning signatures self.now.natives.now.items)) board.old machine.old }
+        ensures turned { let p = program A.standard self.now.script.now (handed title meaning signatures self.now.natives.now.items) in
+            (base : Base) (all : Remainder) (first : Beginning) (own : List TraceItem) (events : List Event) →
+            base.standard ≡ A.standard → IsTracingOf p base trace first.tracing →
+            StandsAt p base all first own events board.old machine.old (O.state output.old) →
+            Turned p base all first own board.old.moves board.new machine.new (O.state output.new) result }
+        ensures standing { result ≡ Turn.More →
+            PositionsAgree self.now.script.now (handed title meaning signatures self.now.natives.now.items) self.now.cifs machine.new board.new }
+        ensures between { result ≡ Turn.More →
+            CanGoOn A.standard (program A.standard self.now.script.now (handed title meaning signatures self.now.natives.now.items)) board.new machine.new }
+        ensures counted { result ≡ Turn.More → board.old.moves ≡ suc board.new.moves }
+    {
+        self.one_move(board, machine, output, trace)
+    }
+
+    // The move, where the run stands for this output. It is counted, and none is asked for where
+    // none is left. Where the run is traced, an entry or a return is told.
+    fn one_move<O: Sink>(
         &self,
         board: &mut Board<Standing>,
         machine: &mut Machine,

@@ -7,6 +7,8 @@ mod natives;
 mod running;
 #[cfg(test)]
 mod scripts;
+#[cfg(test)]
+mod turns;
 
 pub use ffi3_body::Native;
 pub use ffi3_runner::{RunEnd, Stop};

@@ -44,18 +44,18 @@ module _ (n : ℕ) where
   abbrev pub HasFewMoves : ScriptFunction → Type 0
   HasFewMoves f = length f.body ≤ n
 
-  bodies-few : (ss : List Signature) (names : List (List ℕ)) (hs : List Heading) (ds : Items) (path : JsonPath) (i : ℕ) (fs : List ScriptFunction) → HaveArraysWithin n ds → read_bodies ss names hs ds path i ≡ read fs
+  bodies-few : (version : ℕ) (ss : List Signature) (names : List (List ℕ)) (hs : List Heading) (ds : Items) (path : JsonPath) (i : ℕ) (fs : List ScriptFunction) → HaveArraysWithin n ds → read_bodies version ss names hs ds path i ≡ read fs
       → (length fs ≤ items_len ds) × All HasFewMoves fs
-  bodies-few ss names [] no_items path i fs within h = subst (λ gs. (length gs ≤ 0) × All HasFewMoves gs) (same_read [] fs h) (omega arith, All-nil HasFewMoves)
-  bodies-few ss names (h ∷ hs) no_items path i fs within e = subst (λ gs. (length gs ≤ 0) × All HasFewMoves gs) (same_read [] fs e) (omega arith, All-nil HasFewMoves)
-  bodies-few ss names [] (item d ds) path i fs within h = subst (λ gs. (length gs ≤ suc (items_len ds)) × All HasFewMoves gs) (same_read [] fs h) (omega arith, All-nil HasFewMoves)
-  bodies-few ss names (h ∷ hs) (item d ds) path i fs within e =
-      let surroundings : Surroundings = record { signatures = ss; functions = names; own = signature_at ss h.signature } in
+  bodies-few version ss names [] no_items path i fs within h = subst (λ gs. (length gs ≤ 0) × All HasFewMoves gs) (same_read [] fs h) (omega arith, All-nil HasFewMoves)
+  bodies-few version ss names (h ∷ hs) no_items path i fs within e = subst (λ gs. (length gs ≤ 0) × All HasFewMoves gs) (same_read [] fs e) (omega arith, All-nil HasFewMoves)
+  bodies-few version ss names [] (item d ds) path i fs within h = subst (λ gs. (length gs ≤ suc (items_len ds)) × All HasFewMoves gs) (same_read [] fs h) (omega arith, All-nil HasFewMoves)
+  bodies-few version ss names (h ∷ hs) (item d ds) path i fs within e =
+      let surroundings : Surroundings = record { version = version; signatures = ss; functions = names; own = signature_at ss h.signature } in
       let place = under (at_item path i) (codes "body") in
       let moves = first_was_read _ (read_body surroundings (value_under (codes "body") d) place) fs e in
-      let rest = part_was_read _ (read_bodies ss names hs ds path (i + 1)) fs moves.2 in
+      let rest = part_was_read _ (read_bodies version ss names hs ds path (i + 1)) fs moves.2 in
       let few = body-few surroundings (value_under (codes "body") d) place moves.0 (within-under n (codes "body") d within.0) moves.1 in
-      let others = bodies-few ss names hs ds path (i + 1) rest.0 within.1 rest.1 in
+      let others = bodies-few version ss names hs ds path (i + 1) rest.0 within.1 rest.1 in
       subst (λ gs. (length gs ≤ suc (items_len ds)) × All HasFewMoves gs) rest.2 (omega (arith, others.0), All-cons HasFewMoves _ rest.0 few others.1)
 
   items-within : (d : Data) (path : JsonPath) (ds : Items) → HasArraysWithin n d → items_at d path ≡ read ds → HasArraysWithin n (array ds)
@@ -66,13 +66,13 @@ module _ (n : ℕ) where
   items-within (string text) path ds within h = cc
   items-within (object os) path ds within h = cc
 
-  signatures-count : (ds : Items) (path : JsonPath) (i : ℕ) (ss : List Signature) → read_signatures ds path i ≡ read ss → length ss ≡ items_len ds
-  signatures-count no_items path i ss h =
+  signatures-count : (version : ℕ) (ds : Items) (path : JsonPath) (i : ℕ) (ss : List Signature) → read_signatures version ds path i ≡ read ss → length ss ≡ items_len ds
+  signatures-count version no_items path i ss h =
       subst (λ (rs : List Signature). length rs ≡ 0) (same_read [] ss h) refl
-  signatures-count (item d ds) path i ss h =
-      let s = first_was_read _ (read_signature d (at_item path i)) ss h in
-      let rest = part_was_read _ (read_signatures ds path (i + 1)) ss s.2 in
-      subst (λ (rs : List Signature). length rs ≡ suc (items_len ds)) rest.2 (ap suc (signatures-count ds path (i + 1) rest.0 rest.1))
+  signatures-count version (item d ds) path i ss h =
+      let s = first_was_read _ (read_signature version d (at_item path i)) ss h in
+      let rest = part_was_read _ (read_signatures version ds path (i + 1)) ss s.2 in
+      subst (λ (rs : List Signature). length rs ≡ suc (items_len ds)) rest.2 (ap suc (signatures-count version ds path (i + 1) rest.0 rest.1))
 
   pub record IsFew (s : Script) : Type 0 where
     pub signatures : length s.signatures ≤ n
@@ -80,14 +80,14 @@ module _ (n : ℕ) where
     pub moves : All HasFewMoves s.functions
     pub main : length s.main ≤ n
 
-  rest-few : (natives : List (List ℕ)) (d : Data) (ss : List Signature) (fs : Items) (hs : List Heading) (s : Script) → HasArraysWithin n d → HasArraysWithin n (array fs) → length ss ≤ n → read_rest natives d ss fs hs ≡ read s → IsFew s
-  rest-few natives d ss fs hs s within within_fs few_ss e =
+  rest-few : (natives : List (List ℕ)) (d : Data) (version : ℕ) (ss : List Signature) (fs : Items) (hs : List Heading) (s : Script) → HasArraysWithin n d → HasArraysWithin n (array fs) → length ss ≤ n → read_rest natives d version ss fs hs ≡ read s → IsFew s
+  rest-few natives d version ss fs hs s within within_fs few_ss e =
       let names = names_of hs ++ natives in
-      let surroundings : Surroundings = record { signatures = ss; functions = names; own = no_signature } in
+      let surroundings : Surroundings = record { version = version; signatures = ss; functions = names; own = no_signature } in
       let place = under [] (codes "main") in
-      let functions = first_was_read _ (read_bodies ss names hs fs (under [] (codes "functions")) 0) s e in
+      let functions = first_was_read _ (read_bodies version ss names hs fs (under [] (codes "functions")) 0) s e in
       let main = part_was_read _ (read_body surroundings (value_under (codes "main") d) place) s functions.2 in
-      let each = bodies-few ss names hs fs (under [] (codes "functions")) 0 functions.0 within_fs.1 functions.1 in
+      let each = bodies-few version ss names hs fs (under [] (codes "functions")) 0 functions.0 within_fs.1 functions.1 in
       let few = body-few surroundings (value_under (codes "main") d) place main.0 (within-under n (codes "main") d within) main.1 in
       subst IsFew main.2 (record { signatures = few_ss; functions = omega (arith, each.0, within_fs.0); moves = each.1; main = few })
 
@@ -96,9 +96,9 @@ module _ (n : ℕ) where
       let checked = first_was_read _ (check_object d script_keys []) s e in
       let version = first_was_read _ (version_of (option_and_then as_u64 (as_number (value_under (codes "version") d))) (under [] (codes "version"))) s checked.2 in
       let ss = first_was_read _ (items_at (value_under (codes "signatures") d) (under [] (codes "signatures"))) s version.2 in
-      let signatures = first_was_read _ (read_signatures ss.0 (under [] (codes "signatures")) 0) s ss.2 in
+      let signatures = first_was_read _ (read_signatures version.0 ss.0 (under [] (codes "signatures")) 0) s ss.2 in
       let fs = first_was_read _ (items_at (value_under (codes "functions") d) (under [] (codes "functions"))) s signatures.2 in
-      let hs = first_was_read (read_rest natives d signatures.0 fs.0) (read_headings (length signatures.0) [] fs.0 (under [] (codes "functions")) 0) s fs.2 in
+      let hs = first_was_read (read_rest natives d version.0 signatures.0 fs.0) (read_headings (length signatures.0) [] fs.0 (under [] (codes "functions")) 0) s fs.2 in
       let within_ss = items-within (value_under (codes "signatures") d) (under [] (codes "signatures")) ss.0 (within-under n (codes "signatures") d within) ss.1 in
-      let few_ss : length signatures.0 ≤ n = omega (arith, within_ss.0, signatures-count ss.0 (under [] (codes "signatures")) 0 signatures.0 signatures.1) in
-      rest-few natives d signatures.0 fs.0 hs.0 s within (items-within (value_under (codes "functions") d) (under [] (codes "functions")) fs.0 (within-under n (codes "functions") d within) fs.1) few_ss hs.2
+      let few_ss : length signatures.0 ≤ n = omega (arith, within_ss.0, signatures-count version.0 ss.0 (under [] (codes "signatures")) 0 signatures.0 signatures.1) in
+      rest-few natives d version.0 signatures.0 fs.0 hs.0 s within (items-within (value_under (codes "functions") d) (under [] (codes "functions")) fs.0 (within-under n (codes "functions") d within) fs.1) few_ss hs.2

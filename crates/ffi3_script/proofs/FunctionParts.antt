@@ -62,19 +62,19 @@ regrouped : {A B : Type 0} (f : A → B) (rest : Read (List B)) (first : Read A)
 regrouped f rest (read a) = refl
 regrouped f rest (fault p r) = refl
 
-module _ (ss : List Signature) (names : List (List ℕ)) (hs : List Heading) (h : Heading) (ds : Items) (path : JsonPath) (i : ℕ) (x : Data) (whole : Read (List script.ScriptFunction)) (done : List script.ScriptFunction)
+module _ (version : ℕ) (ss : List Signature) (names : List (List ℕ)) (hs : List Heading) (h : Heading) (ds : Items) (path : JsonPath) (i : ℕ) (x : Data) (whole : Read (List script.ScriptFunction)) (done : List script.ScriptFunction)
     (among : i < length hs) (h_is : h ≡ slice_index_or hs i h) (below : i < items_len ds) (is : x ≡ item_at ds i)
-    (so_far : whole ≡ before done (read_bodies ss names (headings_of (drop i hs)) (items_from i ds) path i)) where
+    (so_far : whole ≡ before done (read_bodies version ss names (headings_of (drop i hs)) (items_from i ds) path i)) where
   abbrev pub body_here : Read (List script.ScriptMove)
-  body_here = read_body (record { signatures = ss; functions = names; own = signature_at ss h.sig }) (value_under (codes "body") x) (under (at_item path i) (codes "body"))
+  body_here = read_body (record { version = version; signatures = ss; functions = names; own = signature_at ss h.sig }) (value_under (codes "body") x) (under (at_item path i) (codes "body"))
 
   abbrev rest_here : Read (List script.ScriptFunction)
-  rest_here = read_bodies ss names (headings_of (drop (i + 1) hs)) (items_from (i + 1) ds) path (i + 1)
+  rest_here = read_bodies version ss names (headings_of (drop (i + 1) hs)) (items_from (i + 1) ds) path (i + 1)
 
   part-here : whole ≡ before done (first_and (λ f. rest_here) (read_map (function_of (heading_of h)) body_here))
   part-here =
-      so_far ∙ ap (λ es. before done (read_bodies ss names (headings_of (drop i hs)) es path i)) (next_item ds i x below is)
-      ∙ ap (λ gs. before done (read_bodies ss names (headings_of gs) (item x (items_from (i + 1) ds)) path i)) (next hs i h among h_is)
+      so_far ∙ ap (λ es. before done (read_bodies version ss names (headings_of (drop i hs)) es path i)) (next_item ds i x below is)
+      ∙ ap (λ gs. before done (read_bodies version ss names (headings_of gs) (item x (items_from (i + 1) ds)) path i)) (next hs i h among h_is)
       ∙ ap (before done) (regrouped (function_of (heading_of h)) rest_here body_here)
 
   pub part-fault : (p : JsonPath) (r : Reason) → body_here ≡ fault p r → whole ≡ fault p r

@@ -21,7 +21,7 @@ use Rattle.ffi3_script.proofs.Few.{IsFew, HasFewMoves}
 
 -- ---- what is typed
 
-module _ (ss : List Signature) (natives : ℕ) (fs : List FunctionPart) (main : List ScriptMove) (count : ℕ) (counted : count ≡ length fs + natives) (typed : script_is_typed natives (script_in ss fs main) ≡ true) where
+module _ (version : ℕ) (ss : List Signature) (natives : ℕ) (fs : List FunctionPart) (main : List ScriptMove) (count : ℕ) (counted : count ≡ length fs + natives) (typed : script_is_typed natives (script_in version ss fs main) ≡ true) where
   abbrev all_functions : ℕ
   all_functions = length (map part_of fs) + natives
 
@@ -47,7 +47,7 @@ index-map f (x ∷ xs) (suc k) d = index-map f xs k d
 All-unmap : {X Y : Type 0} (P : Y → Type 0) (f : X → Y) (xs : List X) → All P (map f xs) → All (λ x. P (f x)) xs
 All-unmap P f xs all = λ k d below. subst P (index-map f xs k d) (all k (f d) (omega (arith, length-map xs f)))
 
-module _ (n : ℕ) (small : n < 2 ^ 31) (ss : List Signature) (fs : List FunctionPart) (main : List ScriptMove) (few : IsFew n (script_in ss fs main)) where
+module _ (n : ℕ) (small : n < 2 ^ 31) (version : ℕ) (ss : List Signature) (fs : List FunctionPart) (main : List ScriptMove) (few : IsFew n (script_in version ss fs main)) where
   pub signatures-few : length ss < 2 ^ 31
   signatures-few = omega (arith, few.signatures)
 

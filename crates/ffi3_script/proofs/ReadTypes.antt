@@ -40,11 +40,11 @@ against-is own ty path e b r iff is =
 
 -- ---- a type that may be an argument's
 
-pub right_type-ok : (d : Data) (path : JsonPath) (t : Tree) → read_type d path ≡ read t → IsArgumentType t → read_right_type d path ≡ read t
-right_type-ok d path t was right =
-    then_read _ (read_type d path) t was ∙ ap (right_type path t) (none_found 0 false t right)
+pub right_type-ok : (version : ℕ) (d : Data) (path : JsonPath) (t : Tree) → read_type version d path ≡ read t → IsArgumentType t → read_right_type version d path ≡ read t
+right_type-ok version d path t was right =
+    then_read _ (read_type version d path) t was ∙ ap (right_type path t) (none_found 0 false t right)
 
-pub right_type-fault : (d : Data) (path : JsonPath) (t : Tree) (way : List ℕ) (f : type_fault.Fault) → read_type d path ≡ read t → IsFirstFault 0 false t way f
-    → read_right_type d path ≡ fault (inside_type path way) (reason_of_type_fault f)
-right_type-fault d path t way f was first =
-    then_read _ (read_type d path) t was ∙ ap (right_type path t) (found_by_first 0 false t way f first)
+pub right_type-fault : (version : ℕ) (d : Data) (path : JsonPath) (t : Tree) (way : List ℕ) (f : type_fault.Fault) → read_type version d path ≡ read t → IsFirstFault 0 false t way f
+    → read_right_type version d path ≡ fault (inside_type path way) (reason_of_type_fault f)
+right_type-fault version d path t way f was first =
+    then_read _ (read_type version d path) t was ∙ ap (right_type path t) (found_by_first 0 false t way f first)

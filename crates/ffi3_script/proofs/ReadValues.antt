@@ -8,7 +8,7 @@ use Rattle.serde_json.specs.Find.{as_number, as_array, as_u64}
 use Rattle.serde_json.specs.Events.{items_len}
 use Rattle.ffi3_type_rules.specs.Tree.{Tree, void, struct_of, tree_at, elements_of, list_of-trees_of}
 use Rattle.ffi3_types.specs.declared.FfiType.{FfiType}
-use Rattle.ffi3_types.specs.declared.FfiType.TheVariants.{Void, U8, S8, U16, S16, U32, S32, U64, S64, Float, Double, Pointer, Struct, LongDouble, Complex, Vector}
+use Rattle.ffi3_types.specs.declared.FfiType.TheVariants.{Void, U8, S8, U16, S16, U32, S32, U64, S64, U128, S128, Float, Double, Pointer, Struct, LongDouble, Complex, Vector}
 use Rattle.ffi3_types.specs.TreeOf.{tree_of}
 use Rattle.ffi3_script_rules.specs.Language.{JsonPath, Reason, Read, read, fault, and_then, read_map, at_item, under, wrong_count, wrong_type}
 use Rattle.ffi3_script_rules.specs.Script.{Expression, composed, typed_as, Expressions, no_expressions, expression, expressions_of, Typed}
@@ -189,6 +189,8 @@ module _ (scope : Scope) (d a b : Data) (place path : JsonPath) (h : two_items d
     other S32 k = refl
     other U64 k = refl
     other S64 k = refl
+    other U128 k = refl
+    other S128 k = refl
     other Float k = refl
     other Double k = refl
     other Pointer k = refl
@@ -198,16 +200,16 @@ module _ (scope : Scope) (d a b : Data) (place path : JsonPath) (h : two_items d
     other Vector k = refl
 
 module _ (scope : Scope) (d a b : Data) (place : JsonPath) (h : two_items d ≡ Some (a, b)) where
-  of : read_of scope d place ≡ and_then (λ t. read_map (λ v. typed t (typed_as t v)) (read_value scope t b (at_item place 1))) (read_right_type a (at_item place 0))
+  of : read_of scope d place ≡ and_then (λ t. read_map (λ v. typed t (typed_as t v)) (read_value scope t b (at_item place 1))) (read_right_type scope.version a (at_item place 0))
   of = ap (λ z. read_of scope z place) (items_are d a b h)
 
-  of_then : (t : Tree) → read_right_type a (at_item place 0) ≡ read t → read_of scope d place ≡ read_map (λ v. typed t (typed_as t v)) (read_value scope t b (at_item place 1))
+  of_then : (t : Tree) → read_right_type scope.version a (at_item place 0) ≡ read t → read_of scope d place ≡ read_map (λ v. typed t (typed_as t v)) (read_value scope t b (at_item place 1))
   of_then t is = of ∙ ap (λ q. and_then (λ u. read_map (λ v. typed u (typed_as u v)) (read_value scope u b (at_item place 1))) q) is
 
-  pub of_second : (t : Tree) (p : JsonPath) (r : Reason) → read_right_type a (at_item place 0) ≡ read t → read_value scope t b (at_item place 1) ≡ fault p r → read_of scope d place ≡ fault p r
+  pub of_second : (t : Tree) (p : JsonPath) (r : Reason) → read_right_type scope.version a (at_item place 0) ≡ read t → read_value scope t b (at_item place 1) ≡ fault p r → read_of scope d place ≡ fault p r
   of_second t p r is more = of_then t is ∙ ap (λ q. read_map (λ v. typed t (typed_as t v)) q) more
 
-  pub of_both : (t : Tree) (e : Expression) → read_right_type a (at_item place 0) ≡ read t → read_value scope t b (at_item place 1) ≡ read e → read_of scope d place ≡ read (typed t (typed_as t e))
+  pub of_both : (t : Tree) (e : Expression) → read_right_type scope.version a (at_item place 0) ≡ read t → read_value scope t b (at_item place 1) ≡ read e → read_of scope d place ≡ read (typed t (typed_as t e))
   of_both t e is more = of_then t is ∙ ap (λ q. read_map (λ v. typed t (typed_as t v)) q) more
 
 -- ---- a value with a type of its own

@@ -48,104 +48,104 @@ within-items n name d inside ds there is within = subst (HasArraysWithin n) (arr
 
 -- ---- the signatures, one after another
 
-module _ (ds : Items) (path : JsonPath) (i : ℕ) (x : Data) (whole : Read (List Signature)) (done : List Signature) (below : i < items_len ds) (is : x ≡ item_at ds i) (so_far : whole ≡ before done (read_signatures (items_from i ds) path i)) where
+module _ (version : ℕ) (ds : Items) (path : JsonPath) (i : ℕ) (x : Data) (whole : Read (List Signature)) (done : List Signature) (below : i < items_len ds) (is : x ≡ item_at ds i) (so_far : whole ≡ before done (read_signatures version (items_from i ds) path i)) where
   abbrev others : Signature → Read (List Signature)
-  others s = read_signatures (items_from (i + 1) ds) path (i + 1)
+  others s = read_signatures version (items_from (i + 1) ds) path (i + 1)
 
-  signatures-here : whole ≡ before done (first_and others (read_signature x (at_item path i)))
-  signatures-here = so_far ∙ ap (λ es. before done (read_signatures es path i)) (next_item ds i x below is)
+  signatures-here : whole ≡ before done (first_and others (read_signature version x (at_item path i)))
+  signatures-here = so_far ∙ ap (λ es. before done (read_signatures version es path i)) (next_item ds i x below is)
 
-  pub signatures-turn : (s : Signature) (more : List Signature) → read_signature x (at_item path i) ≡ read s → more ≡ done ++ s ∷ [] → whole ≡ before more (read_signatures (items_from (i + 1) ds) path (i + 1))
-  signatures-turn s more e pushed = one_more whole done others (read_signature x (at_item path i)) signatures-here s e ∙ ap (λ ss. before ss (others s)) (sym pushed)
+  pub signatures-turn : (s : Signature) (more : List Signature) → read_signature version x (at_item path i) ≡ read s → more ≡ done ++ s ∷ [] → whole ≡ before more (read_signatures version (items_from (i + 1) ds) path (i + 1))
+  signatures-turn s more e pushed = one_more whole done others (read_signature version x (at_item path i)) signatures-here s e ∙ ap (λ ss. before ss (others s)) (sym pushed)
 
-  pub signatures-fault : (p : JsonPath) (r : Reason) → read_signature x (at_item path i) ≡ fault p r → whole ≡ fault p r
-  signatures-fault p r e = one_fault whole done others (read_signature x (at_item path i)) signatures-here p r e
+  pub signatures-fault : (p : JsonPath) (r : Reason) → read_signature version x (at_item path i) ≡ fault p r → whole ≡ fault p r
+  signatures-fault p r e = one_fault whole done others (read_signature version x (at_item path i)) signatures-here p r e
 
 -- ---- the root
 
-abbrev pub version_at : Data → JsonPath → Read ⊤
+abbrev pub version_at : Data → JsonPath → Read ℕ
 version_at d path = version_of (option_and_then as_u64 (as_number (value_under (codes "version") d))) (under path (codes "version"))
 
 -- what is left behind the signatures, with the functions at a place
-abbrev functions_left : List (List ℕ) → Data → List Signature → JsonPath → Read Script
-functions_left natives d signatures place =
+abbrev functions_left : List (List ℕ) → Data → (version : ℕ) → List Signature → JsonPath → Read Script
+functions_left natives d version signatures place =
     and_then
-    (λ fs. and_then (read_rest natives d signatures fs) (read_headings (length signatures) [] fs place 0))
+    (λ fs. and_then (read_rest natives d version signatures fs) (read_headings (length signatures) [] fs place 0))
     (items_at (value_under (codes "functions") d) place)
 
 -- what is left behind the items of the signatures, which stand at a place
-abbrev rest_at : List (List ℕ) → Data → JsonPath → JsonPath → Items → Read Script
-rest_at natives d path on ss =
-    and_then (λ signatures. functions_left natives d signatures (under path (codes "functions"))) (read_signatures ss on 0)
+abbrev rest_at : List (List ℕ) → Data → (version : ℕ) → JsonPath → JsonPath → Items → Read Script
+rest_at natives d version path on ss =
+    and_then (λ signatures. functions_left natives d version signatures (under path (codes "functions"))) (read_signatures version ss on 0)
 
 -- the language has it at the root
 abbrev script_at : List (List ℕ) → Data → List Key → JsonPath → Read Script
 script_at natives d keys path =
     and_then
     (λ checked. and_then
-    (λ version. and_then (rest_at natives d path (under path (codes "signatures"))) (items_at (value_under (codes "signatures") d) (under path (codes "signatures"))))
+    (λ version. and_then (rest_at natives d version path (under path (codes "signatures"))) (items_at (value_under (codes "signatures") d) (under path (codes "signatures"))))
     (version_at d path))
     (check_object d keys path)
 
-module _ (natives : List (List ℕ)) (d seen : Data) (seen_is : seen ≡ d) (path : JsonPath) (root : path ≡ []) (keys : List Key) (keys_are : keys ≡ script_keys) (e0 : check_object seen keys path ≡ read tt) (e1 : version_at d path ≡ read tt)
+module _ (natives : List (List ℕ)) (d seen : Data) (seen_is : seen ≡ d) (path : JsonPath) (root : path ≡ []) (keys : List Key) (keys_are : keys ≡ script_keys) (e0 : check_object seen keys path ≡ read tt) (version : ℕ) (e1 : version_at d path ≡ read version)
     (on : JsonPath) (on_is : on ≡ under path (codes "signatures")) where
-  signatures-next : read_script natives d ≡ and_then (rest_at natives d path on) (items_at (value_under (codes "signatures") d) on)
+  signatures-next : read_script natives d ≡ and_then (rest_at natives d version path on) (items_at (value_under (codes "signatures") d) on)
   signatures-next =
       ap (script_at natives d script_keys) (sym root) ∙ ap (λ k. script_at natives d k path) (sym keys_are)
-      ∙ then_read _ (check_object d keys path) tt (ap (λ e. check_object e keys path) (sym seen_is) ∙ e0) ∙ then_read _ (version_at d path) tt e1
-      ∙ ap (λ q. and_then (rest_at natives d path q) (items_at (value_under (codes "signatures") d) q)) (sym on_is)
+      ∙ then_read _ (check_object d keys path) tt (ap (λ e. check_object e keys path) (sym seen_is) ∙ e0) ∙ then_read _ (version_at d path) version e1
+      ∙ ap (λ q. and_then (rest_at natives d version path q) (items_at (value_under (codes "signatures") d) q)) (sym on_is)
 
   pub root-items : (p : JsonPath) (r : Reason) → items_at (value_under (codes "signatures") d) on ≡ fault p r → read_script natives d ≡ fault p r
   root-items p r e = signatures-next ∙ then_fault _ (items_at (value_under (codes "signatures") d) on) p r e
 
   module _ (ss : Items) (e2 : items_at (value_under (codes "signatures") d) on ≡ read ss) where
-    root-until : read_script natives d ≡ rest_at natives d path on ss
+    root-until : read_script natives d ≡ rest_at natives d version path on ss
     root-until = signatures-next ∙ then_read _ (items_at (value_under (codes "signatures") d) on) ss e2
 
-    pub root-signatures : (p : JsonPath) (r : Reason) → read_signatures ss on 0 ≡ fault p r → read_script natives d ≡ fault p r
-    root-signatures p r e = root-until ∙ then_fault _ (read_signatures ss on 0) p r e
+    pub root-signatures : (p : JsonPath) (r : Reason) → read_signatures version ss on 0 ≡ fault p r → read_script natives d ≡ fault p r
+    root-signatures p r e = root-until ∙ then_fault _ (read_signatures version ss on 0) p r e
 
-    module _ (signatures : List Signature) (e3 : read_signatures ss on 0 ≡ read signatures) (place : JsonPath) (place_is : place ≡ under path (codes "functions")) where
-      functions-next : read_script natives d ≡ functions_left natives d signatures place
-      functions-next = root-until ∙ then_read _ (read_signatures ss on 0) signatures e3 ∙ ap (functions_left natives d signatures) (sym place_is)
+    module _ (signatures : List Signature) (e3 : read_signatures version ss on 0 ≡ read signatures) (place : JsonPath) (place_is : place ≡ under path (codes "functions")) where
+      functions-next : read_script natives d ≡ functions_left natives d version signatures place
+      functions-next = root-until ∙ then_read _ (read_signatures version ss on 0) signatures e3 ∙ ap (functions_left natives d version signatures) (sym place_is)
 
       pub root-functions : (p : JsonPath) (r : Reason) → items_at (value_under (codes "functions") d) place ≡ fault p r → read_script natives d ≡ fault p r
       root-functions p r e = functions-next ∙ then_fault _ (items_at (value_under (codes "functions") d) place) p r e
 
       module _ (fs : Items) (e4 : items_at (value_under (codes "functions") d) place ≡ read fs) where
-        headings-next : read_script natives d ≡ and_then (read_rest natives d signatures fs) (read_headings (length signatures) [] fs place 0)
+        headings-next : read_script natives d ≡ and_then (read_rest natives d version signatures fs) (read_headings (length signatures) [] fs place 0)
         headings-next = functions-next ∙ then_read _ (items_at (value_under (codes "functions") d) place) fs e4
 
         pub root-headings : (p : JsonPath) (r : Reason) → read_headings (length signatures) [] fs place 0 ≡ fault p r → read_script natives d ≡ fault p r
         root-headings p r e = headings-next ∙ then_fault _ (read_headings (length signatures) [] fs place 0) p r e
 
-        pub root-rest : (hs : List Heading) → read_headings (length signatures) [] fs place 0 ≡ read hs → read_script natives d ≡ read_rest natives d signatures fs hs
+        pub root-rest : (hs : List Heading) → read_headings (length signatures) [] fs place 0 ≡ read hs → read_script natives d ≡ read_rest natives d version signatures fs hs
         root-rest hs e = headings-next ∙ then_read _ (read_headings (length signatures) [] fs place 0) hs e
 
 -- ---- the bodies and main
 
-module _ (signatures : List Signature) (names : List (List ℕ)) (hs : List Heading) (fs : Items) (d : Data) (path on : JsonPath) (on_is : on ≡ under path (codes "functions")) (own : Signature) (own_is : own ≡ no_signature) where
+module _ (version : ℕ) (signatures : List Signature) (names : List (List ℕ)) (hs : List Heading) (fs : Items) (d : Data) (path on : JsonPath) (on_is : on ≡ under path (codes "functions")) (own : Signature) (own_is : own ≡ no_signature) where
   abbrev functions_at : Read (List ScriptFunction)
-  functions_at = read_bodies signatures names hs fs on 0
+  functions_at = read_bodies version signatures names hs fs on 0
 
   abbrev main_at : Read (List ScriptMove)
-  main_at = read_body (record { signatures = signatures; functions = names; own = own }) (value_under (codes "main") d) (under path (codes "main"))
+  main_at = read_body (record { version = version; signatures = signatures; functions = names; own = own }) (value_under (codes "main") d) (under path (codes "main"))
 
-  bodies-are : bodies_and_main signatures names hs fs d path ≡ and_then (λ functions. read_map (λ main. record { signatures = signatures; functions = functions; main = main }) main_at) functions_at
+  bodies-are : bodies_and_main version signatures names hs fs d path ≡ and_then (λ functions. read_map (λ main. record { version = version; signatures = signatures; functions = functions; main = main }) main_at) functions_at
   bodies-are = λ i.
       and_then
-      (λ functions. read_map (λ main. record { signatures = signatures; functions = functions; main = main }) (read_body (record { signatures = signatures; functions = names; own = sym own_is i }) (value_under (codes "main") d) (under path (codes "main"))))
-      (read_bodies signatures names hs fs (sym on_is i) 0)
+      (λ functions. read_map (λ main. record { version = version; signatures = signatures; functions = functions; main = main }) (read_body (record { version = version; signatures = signatures; functions = names; own = sym own_is i }) (value_under (codes "main") d) (under path (codes "main"))))
+      (read_bodies version signatures names hs fs (sym on_is i) 0)
 
-  pub functions-refused : (p : JsonPath) (r : Reason) → functions_at ≡ fault p r → bodies_and_main signatures names hs fs d path ≡ fault p r
+  pub functions-refused : (p : JsonPath) (r : Reason) → functions_at ≡ fault p r → bodies_and_main version signatures names hs fs d path ≡ fault p r
   functions-refused p r e = bodies-are ∙ then_fault _ functions_at p r e
 
   module _ (functions : List ScriptFunction) (e0 : functions_at ≡ read functions) where
-    main-next : bodies_and_main signatures names hs fs d path ≡ read_map (λ main. record { signatures = signatures; functions = functions; main = main }) main_at
+    main-next : bodies_and_main version signatures names hs fs d path ≡ read_map (λ main. record { version = version; signatures = signatures; functions = functions; main = main }) main_at
     main-next = bodies-are ∙ then_read _ functions_at functions e0
 
-    pub main-refused : (p : JsonPath) (r : Reason) → main_at ≡ fault p r → bodies_and_main signatures names hs fs d path ≡ fault p r
-    main-refused p r e = main-next ∙ ap (read_map (λ main. record { signatures = signatures; functions = functions; main = main })) e
+    pub main-refused : (p : JsonPath) (r : Reason) → main_at ≡ fault p r → bodies_and_main version signatures names hs fs d path ≡ fault p r
+    main-refused p r e = main-next ∙ ap (read_map (λ main. record { version = version; signatures = signatures; functions = functions; main = main })) e
 
-    pub bodies-read : (main : List ScriptMove) → main_at ≡ read main → bodies_and_main signatures names hs fs d path ≡ read (record { signatures = signatures; functions = functions; main = main })
-    bodies-read main e = main-next ∙ ap (read_map (λ main. record { signatures = signatures; functions = functions; main = main })) e
+    pub bodies-read : (main : List ScriptMove) → main_at ≡ read main → bodies_and_main version signatures names hs fs d path ≡ read (record { version = version; signatures = signatures; functions = functions; main = main })
+    bodies-read main e = main-next ∙ ap (read_map (λ main. record { version = version; signatures = signatures; functions = functions; main = main })) e

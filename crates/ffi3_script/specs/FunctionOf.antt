@@ -10,9 +10,10 @@ abbrev pub function_of : ScriptFunction → script.ScriptFunction
 function_of f =
     record { name = string_bytes f.name; signature = f.sig; body = moves_of f.body }
 
--- the script of these signatures, functions and main
-abbrev pub script_from : List Signature → List ScriptFunction → ScriptBody → script.Script
-script_from signatures functions main = record {
+-- the script of this version, these signatures, functions and main
+abbrev pub script_from : ℕ → List Signature → List ScriptFunction → ScriptBody → script.Script
+script_from version signatures functions main = record {
+  version = version;
   signatures = signatures;
   functions = map function_of functions;
   main = moves_of main;

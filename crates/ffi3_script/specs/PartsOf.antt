@@ -22,22 +22,23 @@ abbrev pub part_of : FunctionPart → script.ScriptFunction
 part_of f =
     record { name = string_bytes f.name; signature = f.sig; body = script_moves_of f.moves.items }
 
--- the script of these signatures, functions and main
-abbrev pub script_in : List Signature → List FunctionPart → List ScriptMove → script.Script
-script_in signatures functions main = record {
+-- the script of this version, these signatures, functions and main
+abbrev pub script_in : ℕ → List Signature → List FunctionPart → List ScriptMove → script.Script
+script_in version signatures functions main = record {
+  version = version;
   signatures = signatures;
   functions = map part_of functions;
   main = script_moves_of main;
 }
 
 -- The bodies of functions of these headings, and then main. The language has it at the root, and the names are those of the functions and then of the natives.
-abbrev pub bodies_and_main : List Signature → List (List ℕ) → List bodies.Heading → Items → Data → JsonPath → Read script.Script
-bodies_and_main signatures names hs fs d path =
+abbrev pub bodies_and_main : (version : ℕ) → List Signature → List (List ℕ) → List bodies.Heading → Items → Data → JsonPath → Read script.Script
+bodies_and_main version signatures names hs fs d path =
     and_then
     (λ functions. read_map
-    (λ main. record { signatures = signatures; functions = functions; main = main })
-    (read_body (record { signatures = signatures; functions = names; own = no_signature }) (value_under (codes "main") d) (under path (codes "main"))))
-    (read_bodies signatures names hs fs (under path (codes "functions")) 0)
+    (λ main. record { version = version; signatures = signatures; functions = functions; main = main })
+    (read_body (record { version = version; signatures = signatures; functions = names; own = no_signature }) (value_under (codes "main") d) (under path (codes "main"))))
+    (read_bodies version signatures names hs fs (under path (codes "functions")) 0)
 
 -- the function has this name and this signature
 pub record IsHeaded (h : Heading) (f : FunctionPart) : Type 0 where

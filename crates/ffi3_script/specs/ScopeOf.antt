@@ -18,16 +18,16 @@ abbrev pub given_in : Scope → List Given
 given_in s = given_of s.names.now s.types.now
 
 abbrev pub scope_of : Scope → values.Scope
-scope_of s = record { arguments = s.own.now.arguments; given = given_of s.names.now s.types.now }
+scope_of s = record { version = s.version; arguments = s.own.now.arguments; given = given_of s.names.now s.types.now }
 
 abbrev pub surroundings_of : Globals → Scope → Surroundings
 surroundings_of g s =
-    record { signatures = g.sigs.now; functions = g.functions.now; own = s.own.now }
+    record { version = s.version; signatures = g.sigs.now; functions = g.functions.now; own = s.own.now }
 
 -- the same in a body of this signature
 abbrev pub surroundings_in : Globals → Signature → Surroundings
 surroundings_in g own =
-    record { signatures = g.sigs.now; functions = g.functions.now; own = own }
+    record { version = g.version; signatures = g.sigs.now; functions = g.functions.now; own = own }
 
 -- as many names as types
 abbrev pub IsEven : Scope → Type 0

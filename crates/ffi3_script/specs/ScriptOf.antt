@@ -6,7 +6,7 @@ use Rattle.ffi3_script.specs.FunctionOf.{script_from}
 use Rattle.ffi3_script.specs.declared.script.Script.{Script}
 
 abbrev pub script_of : Script → RulesScript
-script_of s = script_from s.sigs.value s.functions.items s.main
+script_of s = script_from s.version s.sigs.value s.functions.items s.main
 
 -- beside how many natives it stands
 abbrev pub natives_of : Script → ℕ

@@ -89,7 +89,12 @@ fn read_next(
         (Reports (λ p r. read_move (surroundings_in globals.now own.now) (given_of names.now types.now)
         value.now at.now ≡ language.fault p r)) }
 {
-    let scope = Scope { own, names, types };
+    let scope = Scope {
+        version: globals.version,
+        own,
+        names,
+        types,
+    };
     read_move(alloc, globals, &scope, value, at)
 }
 

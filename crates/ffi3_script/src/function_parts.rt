@@ -72,10 +72,10 @@ pub(crate) fn read_parts(
     requires within { All (λ h. h.sig < length globals.now.sigs.now) headings.now.items }
     requires same { length headings.now.items ≡ items_len items.now }
     ensures ok { IfOk result
-        (λ fs. read_bodies globals.now.sigs.now globals.now.functions.now (headings_of headings.now.items)
+        (λ fs. read_bodies globals.now.version globals.now.sigs.now globals.now.functions.now (headings_of headings.now.items)
         items.now at.now 0 ≡ read (map part_of fs.items)) }
     ensures err { IfErr result
-        (Reports (λ p r. read_bodies globals.now.sigs.now globals.now.functions.now (headings_of headings.now.items)
+        (Reports (λ p r. read_bodies globals.now.version globals.now.sigs.now globals.now.functions.now (headings_of headings.now.items)
         items.now at.now 0 ≡ language.fault p r)) }
 {
     let mut parts = Vec::new(alloc);

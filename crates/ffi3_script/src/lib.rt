@@ -4,6 +4,7 @@
 mod acts;
 mod arrays;
 mod bodies;
+mod decimal;
 mod fields;
 mod forms;
 mod function_parts;

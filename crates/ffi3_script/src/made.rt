@@ -48,7 +48,7 @@ fn made_functions(alloc: Global, shapes: &Shapes) -> Result<Vec<FunctionPart>, N
     Ok(functions)
 }
 
-/// The script that `bench` runs, made from a seed and a number of calls: 1 to 1,000 in its words. It has no natives.
+/// The script that `bench` runs, of version 1 of the language, made from a seed and a number of calls: 1 to 1,000 in its words. It has no natives.
 pub fn made_script(alloc: Global, seed: u32, calls: u32) -> Result<Script, NoMemory>
     requires { calls ≤ MOST_CALLS }
     ensures is { IfOk result (λ s. script_of s ≡ made seed calls) }
@@ -60,6 +60,7 @@ pub fn made_script(alloc: Global, seed: u32, calls: u32) -> Result<Script, NoMem
     let main = shapes.main(alloc, &mut draws, calls)?;
     let sigs = shapes.sigs(alloc)?;
     let parts = Parts {
+        version: 1,
         sigs,
         functions,
         main,

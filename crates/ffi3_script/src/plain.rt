@@ -13,6 +13,7 @@ ghost use Rattle.ffi3_json.specs.Reports.{Reports};
 ghost use Rattle.ffi3_script_body.specs.ExprOf.{expression_of, typed_of};
 ghost use Rattle.ffi3_script.specs.ScopeOf.{scope_of};
 
+use crate::decimal::read_decimal;
 use crate::scope::Scope;
 use crate::{Expr, NoMemory, TypedExpr};
 use ffi3_json::{Node, Reason, ScriptFault, Way, bad, bad_type, read_type_at};
@@ -80,6 +81,8 @@ fn in_range(ty: &FfiType, n: i128) -> bool
         FfiType::U32 => (0, 0x1_0000_0000),
         FfiType::S32 => (-0x8000_0000, 0x8000_0000),
         FfiType::S64 => (-0x8000_0000_0000_0000, 0x8000_0000_0000_0000),
+        FfiType::U128 => return 0 <= n,
+        FfiType::S128 => return true,
         _ => (0, 0x1_0000_0000_0000_0000),
     };
     low <= n && n < end
@@ -110,7 +113,8 @@ pub(crate) fn read_number(
     }
 }
 
-/// A text is the bytes of a float or double in memory order, two hexadecimal digits each.
+/// A text is an integer of 128 bits in decimal, or the bytes of a float or double in memory order, two hexadecimal
+/// digits each.
 pub(crate) fn read_text(
     alloc: Global,
     ty: &FfiType,
@@ -129,6 +133,7 @@ pub(crate) fn read_text(
             Ok(bytes) => Ok(Expr::Constant(Bytes::from_slice(alloc, &bytes)?)),
             Err(_) => Err(bad(alloc, at, Reason::BadBytes)),
         },
+        FfiType::U128 | FfiType::S128 => read_decimal(alloc, ty, text, at),
         _ => Err(bad(alloc, at, Reason::WrongType)),
     }
 }
@@ -266,11 +271,16 @@ pub(crate) fn cast_of(
 }
 
 /// A type that may be an argument's.
-pub(crate) fn read_right_type(alloc: Global, value: &Node, at: &Way) -> Result<FfiType, ScriptFault>
-    ensures ok { IfOk result (λ t. read_right_type value.now at.now ≡ read (tree_of t)) }
-    ensures err { IfErr result (Reports (λ p r. read_right_type value.now at.now ≡ fault p r)) }
+pub(crate) fn read_right_type(
+    alloc: Global,
+    value: &Node,
+    at: &Way,
+    version: u8,
+) -> Result<FfiType, ScriptFault>
+    ensures ok { IfOk result (λ t. read_right_type version value.now at.now ≡ read (tree_of t)) }
+    ensures err { IfErr result (Reports (λ p r. read_right_type version value.now at.now ≡ fault p r)) }
 {
-    let ty = read_type_at(alloc, value, at)?;
+    let ty = read_type_at(alloc, value, at, version)?;
     match check_type(&ty, false) {
         Ok(()) => Ok(ty),
         Err(fault) => Err(bad_type(alloc, at, &fault)),

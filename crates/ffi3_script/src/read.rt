@@ -39,11 +39,12 @@ pub(crate) fn script_of(alloc: Global, parts: Parts, natives: u32) -> Result<Scr
     requires few_natives { natives < 2 ^ 31 }
     requires functions_few { All (λ f. length f.moves.items < 2 ^ 31) parts.functions.items }
     requires main_few { length parts.main.items < 2 ^ 31 }
-    requires typed { script_is_typed natives (script_in parts.sigs parts.functions.items parts.main.items) ≡ true }
-    ensures is { IfOk result (λ s. script_of s ≡ script_in parts.sigs parts.functions.items parts.main.items) }
+    requires typed { script_is_typed natives (script_in parts.version parts.sigs parts.functions.items parts.main.items) ≡ true }
+    ensures is { IfOk result (λ s. script_of s ≡ script_in parts.version parts.sigs parts.functions.items parts.main.items) }
     ensures natives { IfOk result (λ s. natives_of s ≡ natives) }
 {
     let Parts {
+        version,
         sigs,
         functions,
         main,
@@ -52,7 +53,7 @@ pub(crate) fn script_of(alloc: Global, parts: Parts, natives: u32) -> Result<Scr
     let sigs = Rc::new(alloc, sigs)?;
     let functions = functions_of(alloc, &sigs, count, functions)?;
     let main = ScriptBody::new(sigs.clone()?, count, None, main);
-    Ok(Script::new(sigs, functions, main, natives))
+    Ok(Script::new(version, sigs, functions, main, natives))
 }
 
 // The functions of these parts, in a script with these signatures and so many functions, natives too.

@@ -26,9 +26,10 @@ use ffi3_json::{
 use ffi3_types::{FfiType, Fields, Sig, Sigs};
 use std::alloc::Global;
 
-/// What a script was read as: its signatures, its functions, and the moves of main.
+/// What a script was read as: its version, its signatures, its functions, and the moves of main.
 #[derive(Drop)]
 pub(crate) struct Parts {
+    pub(crate) version: u8,
     pub(crate) sigs: Sigs,
     pub(crate) functions: Vec<FunctionPart>,
     pub(crate) main: Vec<ScriptMove>,
@@ -53,11 +54,11 @@ fn script_keys(alloc: Global) -> Result<Keys, NoMemory>
     Ok(keys)
 }
 
-// The version, which is 1.
-fn read_version(alloc: Global, value: &Node, at: &Way) -> Result<(), ScriptFault>
-    ensures ok { OnOk result
-        (version_of (option_and_then as_u64 (as_number (value_under (codes "version") value.now)))
-        (under at.now (codes "version")) ≡ read tt) }
+// The version, which is 1 or 2.
+fn read_version(alloc: Global, value: &Node, at: &Way) -> Result<u8, ScriptFault>
+    ensures ok { IfOk result
+        (λ v. version_of (option_and_then as_u64 (as_number (value_under (codes "version") value.now)))
+        (under at.now (codes "version")) ≡ read v) }
     ensures err { IfErr result
         (Reports (λ p r. version_of (option_and_then as_u64 (as_number (value_under (codes "version") value.now)))
         (under at.now (codes "version")) ≡ language.fault p r)) }
@@ -69,20 +70,23 @@ fn read_version(alloc: Global, value: &Node, at: &Way) -> Result<(), ScriptFault
     let Some(n) = version.json().as_u64() else {
         return Err(bad(alloc, &place, Reason::VersionNotKnown));
     };
-    if n != 1 {
-        return Err(bad(alloc, &place, Reason::VersionNotKnown));
+    if n == 1 {
+        return Ok(1);
     }
-    Ok(())
+    if n == 2 {
+        return Ok(2);
+    }
+    Err(bad(alloc, &place, Reason::VersionNotKnown))
 }
 
 // The signatures that the items of an array are.
-fn read_signatures(alloc: Global, items: &Nodes, at: &Way) -> Result<Sigs, ScriptFault>
-    ensures ok { IfOk result (λ ss. read_signatures items.now at.now 0 ≡ read ss) }
-    ensures err { IfErr result (Reports (λ p r. read_signatures items.now at.now 0 ≡ language.fault p r)) }
+fn read_signatures(alloc: Global, items: &Nodes, at: &Way, version: u8) -> Result<Sigs, ScriptFault>
+    ensures ok { IfOk result (λ ss. read_signatures version items.now at.now 0 ≡ read ss) }
+    ensures err { IfErr result (Reports (λ p r. read_signatures version items.now at.now 0 ≡ language.fault p r)) }
 {
     let mut sigs = Sigs::new(alloc);
     for i in 0..items.len() {
-        let sig = read_signature_at(alloc, &items.get(i), &at.item(i as u32))?;
+        let sig = read_signature_at(alloc, &items.get(i), &at.item(i as u32), version)?;
         sigs.push(sig)?;
     }
     Ok(sigs)
@@ -111,10 +115,10 @@ fn read_all_bodies(
     requires within { All (λ h. h.sig < length globals.now.sigs.now) headings.now.items }
     requires same { length headings.now.items ≡ items_len items.now }
     ensures ok { IfOk result
-        (λ b. bodies_and_main globals.now.sigs.now globals.now.functions.now (headings_of headings.now.items)
-        items.now value.now at.now ≡ read (script_in globals.now.sigs.now b.functions.items b.main.items)) }
+        (λ b. bodies_and_main globals.now.version globals.now.sigs.now globals.now.functions.now (headings_of headings.now.items)
+        items.now value.now at.now ≡ read (script_in globals.now.version globals.now.sigs.now b.functions.items b.main.items)) }
     ensures err { IfErr result
-        (Reports (λ p r. bodies_and_main globals.now.sigs.now globals.now.functions.now (headings_of headings.now.items)
+        (Reports (λ p r. bodies_and_main globals.now.version globals.now.sigs.now globals.now.functions.now (headings_of headings.now.items)
         items.now value.now at.now ≡ language.fault p r)) }
 {
     let own = Sig::new(FfiType::Void, Fields::new(alloc), None);
@@ -127,6 +131,7 @@ fn read_all_bodies(
 fn read_rest(
     alloc: Global,
     natives: &Names,
+    version: u8,
     sigs: &Sigs,
     headings: Headings,
     items: &Nodes,
@@ -140,15 +145,16 @@ fn read_rest(
     requires names { headings.names ≡ names_of (headings_of headings.list.items) }
     requires root { at.now ≡ [] }
     ensures ok { IfOk result
-        (λ b. read_rest natives.now value.now sigs.now items.now
-        (headings_of headings.list.items) ≡ read (script_in sigs.now b.functions.items b.main.items)) }
+        (λ b. read_rest natives.now value.now version sigs.now items.now
+        (headings_of headings.list.items) ≡ read (script_in version sigs.now b.functions.items b.main.items)) }
     ensures err { IfErr result
-        (Reports (λ p r. read_rest natives.now value.now sigs.now items.now
+        (Reports (λ p r. read_rest natives.now value.now version sigs.now items.now
         (headings_of headings.list.items) ≡ language.fault p r)) }
 {
     let Headings { mut names, list } = headings;
     push_natives(alloc, &mut names, natives)?;
     let globals = Globals {
+        version,
         sigs,
         functions: &names,
     };
@@ -160,22 +166,25 @@ pub(crate) fn read_root(alloc: Global, value: &Node, natives: &Names) -> Result<
     requires within { HasArraysWithin (max_length + 1) value.now }
     requires few { length natives.now < 2 ^ 31 }
     ensures ok { IfOk result
-        (λ p. read_script natives.now value.now ≡ read (script_in p.sigs p.functions.items p.main.items)) }
+        (λ p. read_script natives.now value.now ≡ read (script_in p.version p.sigs p.functions.items p.main.items)) }
     ensures err { IfErr result (Reports (λ p r. read_script natives.now value.now ≡ language.fault p r)) }
 {
     let root = Where::new(alloc);
     let at = Way::from(&root);
     let keys = script_keys(alloc)?;
     check_object_at(alloc, value.json(), &keys, &at)?;
-    read_version(alloc, value, &at)?;
+    let version = read_version(alloc, value, &at)?;
     let place = at.key("signatures");
     let signatures = items_under(alloc, "signatures", value, &place)?;
-    let sigs = read_signatures(alloc, &signatures, &place)?;
+    let sigs = read_signatures(alloc, &signatures, &place, version)?;
     let place = at.key("functions");
     let functions = items_under(alloc, "functions", value, &place)?;
     let headings = read_headings(alloc, &sigs, &functions, &place)?;
-    let bodies = read_rest(alloc, natives, &sigs, headings, &functions, value, &at)?;
+    let bodies = read_rest(
+        alloc, natives, version, &sigs, headings, &functions, value, &at,
+    )?;
     Ok(Parts {
+        version,
         sigs,
         functions: bodies.functions,
         main: bodies.main,

@@ -23,6 +23,8 @@ pub struct ScriptFunction {
 /// and every value has its type.
 #[derive(Drop)]
 pub struct Script {
+    // of the language
+    version: u8,
     sigs: Rc<Sigs>,
     functions: Vec<ScriptFunction>,
     main: ScriptBody,
@@ -35,7 +37,7 @@ pub struct Script {
     ghost main_stands: { ∥ StandsIn sigs.value (length functions.items + natives) no_signature main ∥₁ },
     ghost bodies_stand: { ∥ All (λ f. StandsIn sigs.value (length functions.items + natives)
         (signature_at sigs.value f.sig) f.body) functions.items ∥₁ },
-    ghost typed: { script_is_typed natives (script_from sigs.value functions.items main) ≡ true },
+    ghost typed: { script_is_typed natives (script_from version sigs.value functions.items main) ≡ true },
 }
 
 impl Script {
@@ -49,8 +51,9 @@ impl Script {
     ghost use Rattle.std.specs.Prelude.{Some};
     ghost use Rattle.ffi3_script.specs.ScriptOf.{script_of, natives_of, function_at, main_body, body_at};
 
-    /// The script of these signatures, functions and main, beside so many natives.
+    /// The script of this version, these signatures, functions and main, beside so many natives.
     pub(crate) fn new(
+        version: u8,
         sigs: Rc<Sigs>,
         functions: Vec<ScriptFunction>,
         main: ScriptBody,
@@ -62,16 +65,24 @@ impl Script {
         requires main_stands { StandsIn sigs.value (length functions.items + natives) no_signature main }
         requires bodies_stand { All (λ f. StandsIn sigs.value (length functions.items + natives)
             (signature_at sigs.value f.sig) f.body) functions.items }
-        requires typed { script_is_typed natives (script_from sigs.value functions.items main) ≡ true }
-        ensures is { script_of result ≡ script_from sigs.value functions.items main }
+        requires typed { script_is_typed natives (script_from version sigs.value functions.items main) ≡ true }
+        ensures is { script_of result ≡ script_from version sigs.value functions.items main }
         ensures natives_are { natives_of result ≡ natives }
     {
         Script {
+            version,
             sigs,
             functions,
             main,
             natives,
         }
+    }
+
+    /// The version of the language that it is written in.
+    pub fn version(&self) -> u8
+        ensures { result ≡ (script_of self.now).version }
+    {
+        self.version
     }
 
     /// The signatures. None of them has a fault.

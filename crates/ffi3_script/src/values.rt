@@ -257,7 +257,7 @@ fn read_of(
     let Some((first, second)) = two_items(inside) else {
         return Err(bad(alloc, &place, Reason::WrongCount));
     };
-    let ty = read_right_type(alloc, &first, &place.item(0))?;
+    let ty = read_right_type(alloc, &first, &place.item(0), scope.version)?;
     let value = read_value(alloc, scope, &ty, &second, &place.item(1))?;
     Ok(typed_as(alloc, ty, value)?)
 }

@@ -3,7 +3,7 @@ use Rattle.std.proofs.Common.{◌≡◌, ℕ, ◌<◌, Bool, true, false, List, 
 use Rattle.std.specs.Prelude.{slice_index_or, nat_lt}
 use Rattle.std.proofs.lemmas.Bool.{ltb-true}
 use Rattle.ffi3_type_rules.specs.Tree.{Tree, void, scalar, left_out, structure, tree_at, list_of, elements_of, trees_of-list_of, pointer, Scalar}
-use Rattle.ffi3_type_rules.specs.Integer.{scalar_of}
+use Rattle.ffi3_type_rules.specs.Integer.{scalar_of, is_number, is_number_type}
 use Rattle.ffi3_type_rules.specs.Value.{ValueTree, struct_value, void_value, fits}
 use Rattle.ffi3_type_rules.specs.Value as values
 use Rattle.ffi3_type_rules.proofs.ValueElements.{fitting_lengths}
@@ -65,6 +65,13 @@ element_there (left_out k) vs i t h here = cc
 pub element_is : (whole : ValueTree) (vs : List ValueTree) (i : ℕ) → struct_value (values.values_of vs) ≡ whole → slice_index_or vs i void_value ≡ element_value whole i
 element_is whole vs i is =
     ap (λ ws. slice_index_or ws i void_value) (sym (list_and_back vs)) ∙ ap (λ w. element_value w i) is
+
+-- the type of a number
+pub number_type : (s : Scalar) (t : Tree) → is_number_of s t ≡ true → is_number_type t ≡ true
+number_type s (scalar r) h = and_right (same_scalar s r) (is_number r) h
+number_type s void h = cc
+number_type s (left_out k) h = cc
+number_type s (structure ts) h = cc
 
 -- the scalar of a number's type
 pub number_scalar : (s : Scalar) (t : Tree) → is_number_of s t ≡ true → scalar_of t ≡ s

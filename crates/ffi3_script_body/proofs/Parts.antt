@@ -1,7 +1,5 @@
 -- The parts of a value of the code: their types, and what the value is, given theirs.
-use Rattle.std.proofs.Common.{◌≡◌, ℕ, zero, suc, ◌+◌, ◌<◌, ◌≤◌, true, List, [], ◌∷◌, length, Box, Vec, Global, ℤ, pos, negsuc, ◌-ℤ◌, ◌≤ℤ◌, ◌<ℤ◌, to_z, of_z, ◌-◌, ◌^◌, ◌≢◌, refl, ap, sym, ◌∙◌, subst, arith, get_or}
-use Rattle.std.specs.Int.{w128}
-use Rattle.std.proofs.lemmas.Int.{ints}
+use Rattle.std.proofs.Common.{◌≡◌, ℕ, zero, suc, ◌+◌, ◌<◌, ◌≤◌, true, List, [], ◌∷◌, length, Box, Vec, Global, ◌-ℤ◌, ◌≢◌, refl, ap, sym, ◌∙◌, subst, arith, get_or}
 use Rattle.ffi3_type_rules.specs.Tree.{Tree, scalar, struct_of, trees_of, elements_of}
 use Rattle.ffi3_type_rules.specs.Integer.{scalar_of, is_number, bytes_of_number, number_of, sum_of}
 use Rattle.ffi3_type_rules.specs.Value.{ValueTree, struct_value, leaf_value, bytes_of, list_of_values}
@@ -162,23 +160,6 @@ module _ (k : Known) (e : Expr) where
   pub cast_value : (t : Tree) (from to : FfiType) (a : Box Expr Global) (v : ValueTree) → is_number_of (scalar_of (tree_of to)) t ≡ true → v ≡ value_of k (expression_of a.value) → e ≡ Cast from to a → leaf_value (bytes_of_number (scalar_of t) (number_of (scalar_of (tree_of from)) (bytes_of v))) ≡ value_of k (expression_of e)
   cast_value t from to a v is_number v_is is =
       ap (λ s. leaf_value (bytes_of_number s (number_of (scalar_of (tree_of from)) (bytes_of v)))) (number_scalar (scalar_of (tree_of to)) t is_number) ∙ ap (λ x. leaf_value (bytes_of_number (scalar_of (tree_of to)) (number_of (scalar_of (tree_of from)) (bytes_of x)))) v_is ∙ ap (λ x. value_of k (expression_of x)) (sym is)
-
--- ---- numbers
-
--- a number of 64 bits is one of 128
-kept : (m : ℤ) → negsuc (2 ^ 63 - 1) ≤ℤ m → m <ℤ pos (2 ^ 64) → to_z w128 (of_z w128 m) ≡ m
-kept m low high = omega (arith, ints)
-
-pub passed : (m a : ℤ) → m ≡ a → negsuc (2 ^ 63 - 1) ≤ℤ m → m <ℤ pos (2 ^ 64) → to_z w128 (of_z w128 m) ≡ a
-passed m a is low high = kept m low high ∙ is
-
--- so is a difference
-difference_kept : (m n : ℤ) → negsuc (2 ^ 63 - 1) ≤ℤ m → m <ℤ pos (2 ^ 64) → negsuc (2 ^ 63 - 1) ≤ℤ n → n <ℤ pos (2 ^ 64) → to_z w128 (of_z w128 (to_z w128 (of_z w128 m) -ℤ to_z w128 (of_z w128 n))) ≡ m -ℤ n
-difference_kept m n m_low m_high n_low n_high = omega (arith, ints)
-
-pub subtracted : (m n a b : ℤ) → m ≡ a → n ≡ b → negsuc (2 ^ 63 - 1) ≤ℤ m → m <ℤ pos (2 ^ 64) → negsuc (2 ^ 63 - 1) ≤ℤ n → n <ℤ pos (2 ^ 64) → to_z w128 (of_z w128 (to_z w128 (of_z w128 m) -ℤ to_z w128 (of_z w128 n))) ≡ a -ℤ b
-subtracted m n a b m_is n_is m_low m_high n_low n_high =
-    difference_kept m n m_low m_high n_low n_high ∙ ap (λ x. x -ℤ n) m_is ∙ ap (λ y. a -ℤ y) n_is
 
 -- ---- forms
 

@@ -10,7 +10,7 @@ use crate::eval::eval;
 use crate::known::Known;
 use crate::{Expr, NoMemory, TypedExpr};
 use ffi3_types::FfiType;
-use ffi3_values::{number, widen};
+use ffi3_values::{bits, widen};
 use std::alloc::Global;
 
 /// The address that a pointer is.
@@ -35,7 +35,7 @@ pub(crate) fn is_done(
         return Ok(true);
     };
     let value = eval(alloc, known, &condition.ty, &condition.value)?;
-    Ok(number(&condition.ty, &value) != 0)
+    Ok(bits(&condition.ty, &value) != 0)
 }
 
 /// The same, where this may be known already.

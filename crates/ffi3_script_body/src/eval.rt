@@ -13,7 +13,7 @@ ghost use Rattle.ffi3_script_body.specs.KnownAt.{kinds_of, known_of};
 use crate::known::Known;
 use crate::{Expr, NoMemory};
 use ffi3_types::{FfiType, Fields};
-use ffi3_values::{Bytes, Value, Values, add, integer, number};
+use ffi3_values::{Bytes, Value, Values, add, cast, sub};
 use std::alloc::Global;
 
 /// The scalar type that a type is.
@@ -28,6 +28,8 @@ fn scalar_type(ty: &FfiType) -> FfiType
         FfiType::S32 => FfiType::S32,
         FfiType::U64 => FfiType::U64,
         FfiType::S64 => FfiType::S64,
+        FfiType::U128 => FfiType::U128,
+        FfiType::S128 => FfiType::S128,
         FfiType::Float => FfiType::Float,
         FfiType::Double => FfiType::Double,
         FfiType::Pointer => FfiType::Pointer,
@@ -58,12 +60,12 @@ pub(crate) fn eval(alloc: Global, known: &Known, ty: &FfiType, e: &Expr) -> Resu
         Expr::Difference(_, a, b) => {
             let a = eval(alloc, known, ty, a)?;
             let b = eval(alloc, known, ty, b)?;
-            integer(alloc, ty, number(ty, &a) - number(ty, &b))
+            sub(alloc, ty, &a, &b)
         }
         Expr::Cast(from, _, inner) => {
             let from = scalar_type(from);
             let value = eval(alloc, known, &from, inner)?;
-            integer(alloc, ty, number(&from, &value))
+            cast(alloc, &from, ty, &value)
         }
         _ => eval_own(alloc, known, e),
     }

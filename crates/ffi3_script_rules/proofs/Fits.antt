@@ -4,7 +4,7 @@ use Rattle.std.specs.Prelude.{slice_index_or, nat_lt, ◌&&◌, is_none}
 use Rattle.std.specs.Int.{w64, to_le_bytes}
 use Rattle.std.specs.List.{list_all}
 use Rattle.std.proofs.lemmas.Bool.{eq-eqb, ltb-true}
-use Rattle.ffi3_type_rules.specs.Tree.{Scalar, u8, s8, u16, s16, u32, s32, u64, s64, float, double, pointer, Tree, void, scalar, left_out, structure, Trees, no_trees, tree, tree_at, trees_of, list_of, elements_of, trees_of-list_of}
+use Rattle.ffi3_type_rules.specs.Tree.{Scalar, u8, s8, u16, s16, u32, s32, u64, s64, u128, s128, float, double, pointer, Tree, void, scalar, left_out, structure, Trees, no_trees, tree, tree_at, trees_of, list_of, elements_of, trees_of-list_of}
 use Rattle.ffi3_type_rules.specs.Integer.{is_integer, is_number, bytes_of_number, number_of, sum_of}
 use Rattle.ffi3_type_rules.specs.Layout.{scalar_size}
 use Rattle.ffi3_type_rules.specs.Value.{ValueTree, ValueTrees, no_values, value, void_value, leaf_value, struct_value, bytes_of, list_of_values, zero_value, fits, all_fit}
@@ -73,6 +73,8 @@ integer_is_number u32 h = refl
 integer_is_number s32 h = refl
 integer_is_number u64 h = refl
 integer_is_number s64 h = refl
+integer_is_number u128 h = refl
+integer_is_number s128 h = refl
 integer_is_number float h = cc
 integer_is_number double h = cc
 integer_is_number pointer h = cc

@@ -8,6 +8,8 @@ mod ValueRows
 mod MeaningRows
 mod ComputedValueRows
 mod TypedRows
+mod WideRows
+pub mod Decimals
 mod MadeRows
 pub mod Tests
 pub mod RightTypes

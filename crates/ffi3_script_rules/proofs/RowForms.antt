@@ -41,13 +41,17 @@ tells text = line_of (reads text)
 
 -- ---- parts of a script
 
--- its arrays' items
-abbrev pub script_text : (signatures functions main : List ℕ) → List ℕ
-script_text signatures functions main =
-    codes "{'version':1,'signatures':[" ++ signatures ++ codes "],'functions':[" ++ functions ++ codes "],'main':[" ++ main ++ codes "]}"
+-- its version, and its arrays' items
+abbrev pub versioned_text : (version signatures functions main : List ℕ) → List ℕ
+versioned_text version signatures functions main =
+    codes "{'version':" ++ version ++ codes ",'signatures':[" ++ signatures ++ codes "],'functions':[" ++ functions ++ codes "],'main':[" ++ main ++ codes "]}"
 
 abbrev pub last : List ℕ
 last = codes "{'return':null}"
+
+abbrev pub script_text : (signatures functions main : List ℕ) → List ℕ
+script_text signatures functions main =
+    versioned_text (codes "1") signatures functions main
 
 -- number 0 has each kind of type, number 1 has none
 abbrev pub two_signatures : List ℕ
@@ -76,7 +80,7 @@ in_body moves =
 -- in place of a text that is no script: no row expects what it does
 abbrev pub no_script : Script
 no_script =
-    record { signatures = []; functions = []; main = record { condition = None; act = free (constant (1 ∷ [])); name = None } ∷ [] }
+    record { version = 1; signatures = []; functions = []; main = record { condition = None; act = free (constant (1 ∷ [])); name = None } ∷ [] }
 
 abbrev pub script_in : Option (Read Script) → Script
 script_in (Some (read script)) = script
@@ -115,6 +119,24 @@ prints standard moves =
 abbrev pub is_of : Standard → (type value : List ℕ) → List ℕ
 is_of standard type value =
     prints standard (codes "{'print':{'of':[" ++ type ++ codes "," ++ value ++ codes "]}}")
+
+-- ---- version 2
+
+-- a print of a value of a type
+abbrev pub print_of : (type value : List ℕ) → List ℕ
+print_of type value = codes "{'print':{'of':[" ++ type ++ codes "," ++ value ++ codes "]}}"
+
+abbrev pub with_main_in_2 : List ℕ → List ℕ
+with_main_in_2 moves = versioned_text (codes "2") [] [] (moves ++ codes ",{'return':null}")
+
+-- `read`, or the line of its fault
+abbrev pub in_2 : (type value : List ℕ) → List ℕ
+in_2 type value = tells (with_main_in_2 (print_of type value))
+
+-- its text
+abbrev pub is_in_2 : Standard → (type value : List ℕ) → List ℕ
+is_in_2 standard type value =
+    shown (main_of standard (with_main_in_2 (print_of type value)) [])
 
 abbrev pub run_text : Program → List ℕ
 run_text p = lines.text_of_run lines.untraced p

@@ -18,7 +18,7 @@ use Rattle.ffi3_type_rules.proofs.Widened.{length-bytes_of_number}
 use Rattle.ffi3_script_rules.specs.FirstFault.{Found, first_fault}
 use Rattle.ffi3_script_rules.specs.Language.{Read, read, and_then, read_map, JsonPath, under, at_item, read_type, out_of_range, wrong_type, wrong_count}
 use Rattle.ffi3_script_rules.specs.Script.{Expression, constant, composed, argument, outcome, user_data, element, typed_as, cast, Expressions, no_expressions, expression, Typed}
-use Rattle.ffi3_script_rules.specs.Values.{Given, Scope, read_integer, in_range, read_number, is_floating_type, bytes_or_fault, read_text, typed, against, typed_argument, argument_of, has_name, typed_result, result_number, result_of, user_of, typed_element, element_in, field_of, right_type, read_right_type, TypedForm, arg_form, res_form, user_form, field_form, of_form, Form, typed_form, add_form, sub_form, cast_form, no_form, form_named, is_integer_type, if_integer, cast_of, composed_of, Pair, sum_of, difference_of, typed_by, value_by, own_by, read_value, read_values, read_object, read_two, read_typed, read_typed_object, read_field, read_of}
+use Rattle.ffi3_script_rules.specs.Values.{Given, Scope, read_integer, in_range, read_number, integer_written, read_written, is_wide_type, is_floating_type, bytes_or_fault, read_floating, read_text, typed, against, typed_argument, argument_of, has_name, typed_result, result_number, result_of, user_of, typed_element, element_in, field_of, right_type, read_right_type, TypedForm, arg_form, res_form, user_form, field_form, of_form, Form, typed_form, add_form, sub_form, cast_form, no_form, form_named, is_integer_type, if_integer, cast_of, composed_of, Pair, sum_of, difference_of, typed_by, value_by, own_by, read_value, read_values, read_object, read_two, read_typed, read_typed_object, read_field, read_of}
 use Rattle.ffi3_script_rules.specs.Typed.{Kinds, is_at, own_type, is_scalar_of, is_integer_of, is_number_of, has_type, have_types, same_scalar, is_right, is_right_argument, types_of, kinds_of, scope_is_right}
 use Rattle.ffi3_script_rules.proofs.Tests.{and_left, and_right, both, types_are_same, type_is_itself}
 use Rattle.ffi3_script_rules.proofs.RightTypes.{is_none-none, none-is_none, right_as_result, element_as_argument}
@@ -49,6 +49,12 @@ floating_type (scalar s) h = refl
 floating_type void h = cc
 floating_type (left_out k) h = cc
 floating_type (structure ts) h = cc
+
+wide_type : (t : Tree) → is_wide_type t ≡ true → t ≡ scalar (scalar_of t)
+wide_type (scalar s) h = refl
+wide_type void h = cc
+wide_type (left_out k) h = cc
+wide_type (structure ts) h = cc
 
 -- the type of a number is that of its scalar
 number_of_scalar : (s : Scalar) (t : Tree) → (t ≡ scalar s) × (is_number s ≡ true) → is_number_of s t ≡ true
@@ -98,10 +104,23 @@ module _ (kinds : Kinds) where
       subst (λ f. has_type kinds t f ≡ true) (same_read (constant bytes) e h) (constant_has t (scalar_of t) bytes same (decoded text (scalar_size (scalar_of t)) bytes is))
   text_bytes_have t text path e (Err x) same is h = cc
 
-  pub text_has : (t : Tree) (text : List ℕ) (path : JsonPath) (e : Expression) → read_text t text path ≡ read e → has_type kinds t e ≡ true
-  text_has t text path e h =
+  written_has : (t : Tree) (z : Option ℤ) (path : JsonPath) (e : Expression) → t ≡ scalar (scalar_of t) → read_written (scalar_of t) z path ≡ read e → has_type kinds t e ≡ true
+  written_has t None path e same h = cc
+  written_has t (Some z) path e same h =
+      integer_has t (scalar_of t) (Some z) path e same h
+
+  floating_has : (t : Tree) (text : List ℕ) (path : JsonPath) (e : Expression) → read_floating t text path ≡ read e → has_type kinds t e ≡ true
+  floating_has t text path e h =
       let held = test_held (is_floating_type t) (bytes_or_fault path (decode_sized text (scalar_size (scalar_of t)))) path wrong_type e h in
       text_bytes_have t text path e (decode_sized text (scalar_size (scalar_of t))) (floating_type t held.0) refl held.1
+
+  text_has_if : (b : Bool) (t : Tree) (text : List ℕ) (path : JsonPath) (e : Expression) → is_wide_type t ≡ b → (if b then read_written (scalar_of t) (integer_written text) path else read_floating t text path) ≡ read e → has_type kinds t e ≡ true
+  text_has_if true t text path e wide h =
+      written_has t (integer_written text) path e (wide_type t wide) h
+  text_has_if false t text path e wide h = floating_has t text path e h
+
+  pub text_has : (t : Tree) (text : List ℕ) (path : JsonPath) (e : Expression) → read_text t text path ≡ read e → has_type kinds t e ≡ true
+  text_has t text path e h = text_has_if (is_wide_type t) t text path e refl h
 
   -- ---- values with a type of their own, as others use them
 
@@ -220,9 +239,9 @@ module _ (scope : Scope) (right : scope_is_right scope ≡ true) where
       subst (λ w. is_right_argument w ≡ true) (same_read t u h) (none-is_none (first_fault 0 false t) is)
   right_type_is path t u (Some f) is h = cc
 
-  pub right_type_has : (d : Data) (path : JsonPath) (t : Tree) → read_right_type d path ≡ read t → is_right_argument t ≡ true
-  right_type_has d path t h =
-      let was = first_was_read (λ u. right_type path u (first_fault 0 false u)) (read_type d path) t h in
+  pub right_type_has : (version : ℕ) (d : Data) (path : JsonPath) (t : Tree) → read_right_type version d path ≡ read t → is_right_argument t ≡ true
+  right_type_has version d path t h =
+      let was = first_was_read (λ u. right_type path u (first_fault 0 false u)) (read_type version d path) t h in
       right_type_is path was.0 t (first_fault 0 false was.0) refl was.2
 
   -- ---- by forms
@@ -343,10 +362,10 @@ module _ (scope : Scope) (right : scope_is_right scope ≡ true) where
     pub of_is_typed : (d : Data) (place : JsonPath) (v : Typed) → read_of scope d place ≡ read v → IsOfItsType kinds v
     of_is_typed (array (item d (item e no_items))) place v h =
         let more : Tree → Read Typed = λ t. read_map (λ w. typed t (typed_as t w)) (read_value scope t e (at_item place 1)) in
-        let was = first_was_read more (read_right_type d (at_item place 0)) v h in
+        let was = first_was_read more (read_right_type scope.version d (at_item place 0)) v h in
         let t = was.0 in
         let rest = part_was_read (λ w. typed t (typed_as t w)) (read_value scope t e (at_item place 1)) v was.2 in
         let has = value_is_typed t e (at_item place 1) rest.0 rest.1 in
-        let right = right_type_has d (at_item place 0) t was.1 in
+        let right = right_type_has scope.version d (at_item place 0) t was.1 in
         subst (IsOfItsType kinds) rest.2 (record { has_it = both (same_tree t t) _ (type_is_itself t) (both (is_right_argument t) _ right has); is_own = refl; is_fit = argument_is_result_too t right })
     of_is_typed _ place v h = absurd (cc)

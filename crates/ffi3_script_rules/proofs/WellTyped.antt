@@ -212,18 +212,18 @@ unless_faulty_read path s r None is h =
 unless_faulty_read path s r (Some f) is h = cc
 
 -- A SIGNATURE THAT IS READ IS RIGHT
-pub signature_is_well_typed : (d : Data) (path : JsonPath) (s : Signature) → read_signature d path ≡ read s → signature_is_right s ≡ true
-signature_is_well_typed d path s h =
-    let was = first_was_read (λ r. unless_faulty path r (first_signature_fault r)) (read_shapes d path) s h in
+pub signature_is_well_typed : (version : ℕ) (d : Data) (path : JsonPath) (s : Signature) → read_signature version d path ≡ read s → signature_is_right s ≡ true
+signature_is_well_typed version d path s h =
+    let was = first_was_read (λ r. unless_faulty path r (first_signature_fault r)) (read_shapes version d path) s h in
     unless_faulty_read path was.0 s (first_signature_fault was.0) refl was.2
 
-pub signatures_are_well_typed : (ds : Items) (path : JsonPath) (i : ℕ) (ss : List Signature) → read_signatures ds path i ≡ read ss → list_all signature_is_right ss ≡ true
-signatures_are_well_typed no_items path i ss h =
+pub signatures_are_well_typed : (version : ℕ) (ds : Items) (path : JsonPath) (i : ℕ) (ss : List Signature) → read_signatures version ds path i ≡ read ss → list_all signature_is_right ss ≡ true
+signatures_are_well_typed version no_items path i ss h =
     subst (λ rs. list_all signature_is_right rs ≡ true) (same_read [] ss h) refl
-signatures_are_well_typed (item d ds) path i ss h =
-    let s = first_was_read _ (read_signature d (at_item path i)) ss h in
-    let rest = part_was_read _ (read_signatures ds path (i + 1)) ss s.2 in
-    subst (λ rs. list_all signature_is_right rs ≡ true) rest.2 (both (signature_is_right s.0) _ (signature_is_well_typed d (at_item path i) s.0 s.1) (signatures_are_well_typed ds path (i + 1) rest.0 rest.1))
+signatures_are_well_typed version (item d ds) path i ss h =
+    let s = first_was_read _ (read_signature version d (at_item path i)) ss h in
+    let rest = part_was_read _ (read_signatures version ds path (i + 1)) ss s.2 in
+    subst (λ rs. list_all signature_is_right rs ≡ true) rest.2 (both (signature_is_right s.0) _ (signature_is_well_typed version d (at_item path i) s.0 s.1) (signatures_are_well_typed version ds path (i + 1) rest.0 rest.1))
 
 -- the numbers of the functions' signatures lie in their list
 abbrev pub AreNumbered : ℕ → List Heading → Type 0
@@ -246,22 +246,22 @@ headings_are_numbered count earlier (item d ds) path i hs e =
     let others = headings_are_numbered count (earlier ++ h.0.name ∷ []) ds path (i + 1) rest.0 rest.1 in
     subst (λ gs. AreNumbered count gs × (length gs ≡ items_len (item d ds))) rest.2 (both (nat_lt h.0.signature count) _ (heading_is_numbered count earlier d (at_item path i) h.0 h.1) others.0, ap suc others.1)
 
-module _ (signatures : List Signature) (names : List (List ℕ)) (right : list_all signature_is_right signatures ≡ true) where
+module _ (version : ℕ) (signatures : List Signature) (names : List (List ℕ)) (right : list_all signature_is_right signatures ≡ true) where
   abbrev pub AreTyped : List ScriptFunction → Type 0
   AreTyped fs = list_all (function_is_typed signatures (length names)) fs ≡ true
 
   -- one function for each name and signature
-  pub bodies_are_well_typed : (hs : List Heading) (ds : Items) (path : JsonPath) (i : ℕ) (fs : List ScriptFunction) → AreNumbered (length signatures) hs → length hs ≡ items_len ds → read_bodies signatures names hs ds path i ≡ read fs → AreTyped fs × (length fs ≡ length hs)
+  pub bodies_are_well_typed : (hs : List Heading) (ds : Items) (path : JsonPath) (i : ℕ) (fs : List ScriptFunction) → AreNumbered (length signatures) hs → length hs ≡ items_len ds → read_bodies version signatures names hs ds path i ≡ read fs → AreTyped fs × (length fs ≡ length hs)
   bodies_are_well_typed [] no_items path i fs numbered count e =
       subst (λ gs. AreTyped gs × (length gs ≡ 0)) (same_read [] fs e) (refl, refl)
   bodies_are_well_typed (h ∷ hs) no_items path i fs numbered count e = absurd (omega arith)
   bodies_are_well_typed [] (item d ds) path i fs numbered count e = absurd (omega arith)
   bodies_are_well_typed (h ∷ hs) (item d ds) path i fs numbered count e =
       let own = signature_at signatures h.signature in
-      let surroundings : Surroundings = record { signatures = signatures; functions = names; own = own } in
+      let surroundings : Surroundings = record { version = version; signatures = signatures; functions = names; own = own } in
       let place = under (at_item path i) (codes "body") in
       let moves = first_was_read _ (read_body surroundings (value_under (codes "body") d) place) fs e in
-      let rest = part_was_read _ (read_bodies signatures names hs ds path (i + 1)) fs moves.2 in
+      let rest = part_was_read _ (read_bodies version signatures names hs ds path (i + 1)) fs moves.2 in
       let below = and_left (nat_lt h.signature (length signatures)) _ numbered in
       let right_own = argument_types_are_right own (signature_at-right signatures h.signature right (ltb-true h.signature (length signatures) below)) in
       let body = body_is_well_typed surroundings right right_own (value_under (codes "body") d) place moves.0 moves.1 in
@@ -274,14 +274,14 @@ names_count hs natives =
     length-append (names_of hs) natives ∙ ap (λ n. n + length natives) (length-map hs (λ h. h.name))
 
 -- the bodies, and then main
-rest_is_well_typed : (natives : List (List ℕ)) (d : Data) (signatures : List Signature) (fs : Items) (hs : List Heading) (s : Script) → list_all signature_is_right signatures ≡ true → AreNumbered (length signatures) hs → length hs ≡ items_len fs → read_rest natives d signatures fs hs ≡ read s → script_is_typed (length natives) s ≡ true
-rest_is_well_typed natives d signatures fs hs s right numbered count e =
+rest_is_well_typed : (natives : List (List ℕ)) (d : Data) (version : ℕ) (signatures : List Signature) (fs : Items) (hs : List Heading) (s : Script) → list_all signature_is_right signatures ≡ true → AreNumbered (length signatures) hs → length hs ≡ items_len fs → read_rest natives d version signatures fs hs ≡ read s → script_is_typed (length natives) s ≡ true
+rest_is_well_typed natives d version signatures fs hs s right numbered count e =
     let names = names_of hs ++ natives in
-    let surroundings : Surroundings = record { signatures = signatures; functions = names; own = no_signature } in
+    let surroundings : Surroundings = record { version = version; signatures = signatures; functions = names; own = no_signature } in
     let place = under [] (codes "main") in
-    let functions = first_was_read _ (read_bodies signatures names hs fs (under [] (codes "functions")) 0) s e in
+    let functions = first_was_read _ (read_bodies version signatures names hs fs (under [] (codes "functions")) 0) s e in
     let main = part_was_read _ (read_body surroundings (value_under (codes "main") d) place) s functions.2 in
-    let each = bodies_are_well_typed signatures names right hs fs (under [] (codes "functions")) 0 functions.0 numbered count functions.1 in
+    let each = bodies_are_well_typed version signatures names right hs fs (under [] (codes "functions")) 0 functions.0 numbered count functions.1 in
     let body = body_is_well_typed surroundings right refl (value_under (codes "main") d) place main.0 main.1 in
     let as_many : length names ≡ length functions.0 + length natives = names_count hs natives ∙ ap (λ n. n + length natives) (sym each.1) in
     let each_is : list_all (function_is_typed signatures (length functions.0 + length natives)) functions.0 ≡ true = subst (λ n. list_all (function_is_typed signatures n) functions.0 ≡ true) as_many each.0 in
@@ -294,9 +294,9 @@ script_is_well_typed natives d s e =
     let checked = first_was_read _ (check_object d script_keys []) s e in
     let version = first_was_read _ (version_of (option_and_then as_u64 (as_number (value_under (codes "version") d))) (under [] (codes "version"))) s checked.2 in
     let ss = first_was_read _ (items_at (value_under (codes "signatures") d) (under [] (codes "signatures"))) s version.2 in
-    let signatures = first_was_read _ (read_signatures ss.0 (under [] (codes "signatures")) 0) s ss.2 in
+    let signatures = first_was_read _ (read_signatures version.0 ss.0 (under [] (codes "signatures")) 0) s ss.2 in
     let fs = first_was_read _ (items_at (value_under (codes "functions") d) (under [] (codes "functions"))) s signatures.2 in
-    let hs = first_was_read (read_rest natives d signatures.0 fs.0) (read_headings (length signatures.0) [] fs.0 (under [] (codes "functions")) 0) s fs.2 in
-    let right = signatures_are_well_typed ss.0 (under [] (codes "signatures")) 0 signatures.0 signatures.1 in
+    let hs = first_was_read (read_rest natives d version.0 signatures.0 fs.0) (read_headings (length signatures.0) [] fs.0 (under [] (codes "functions")) 0) s fs.2 in
+    let right = signatures_are_well_typed version.0 ss.0 (under [] (codes "signatures")) 0 signatures.0 signatures.1 in
     let numbered = headings_are_numbered (length signatures.0) [] fs.0 (under [] (codes "functions")) 0 hs.0 hs.1 in
-    rest_is_well_typed natives d signatures.0 fs.0 hs.0 s right numbered.0 numbered.1 hs.2
+    rest_is_well_typed natives d version.0 signatures.0 fs.0 hs.0 s right numbered.0 numbered.1 hs.2

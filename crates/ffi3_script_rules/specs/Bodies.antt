@@ -1,5 +1,5 @@
 -- MOVES, BODIES AND THE WHOLE SCRIPT, in the order of reading.
-use Rattle.std.specs.Prelude.{ℕ, ◌+◌, ◌==◌, ◌&&◌, ◌||◌, List, [], ◌∷◌, ◌++◌, length, map, Bool, true, false, not, Option, Some, None, if◌then◌else◌, nat_lt, nat_le, bytes_eq, codes, ⊤, option_and_then, is_some, is_none, position, pos}
+use Rattle.std.specs.Prelude.{ℕ, ◌+◌, ◌==◌, ◌&&◌, ◌||◌, List, [], ◌∷◌, ◌++◌, length, map, Bool, true, false, not, Option, Some, None, if◌then◌else◌, nat_lt, nat_le, bytes_eq, codes, option_and_then, is_some, is_none, position, pos}
 use Rattle.std.specs.Char.{is_ascii_alphanumeric}
 use Rattle.std.specs.List.{list_all, list_any}
 use Rattle.serde_json.specs.Data.{Data, null, array, Items, no_items, item}
@@ -51,8 +51,9 @@ is_void_type _ = false
 
 -- ---- moves
 
--- what a body stands in: the script's signatures, the names of its functions and then of the natives, and the body's own signature
+-- what a body stands in: the script's version and signatures, the names of its functions and then of the natives, and the body's own signature
 pub record Surroundings : Type 0 where
+  pub version : ℕ
   pub signatures : List Signature
   pub functions : List (List ℕ)
   pub own : Signature
@@ -172,7 +173,7 @@ read_act s given scope return_kind d path condition =
     read_map (unnamed condition) (read_result scope s.own.result_type (value_under (codes "return") d) (under path (codes "return")))
 
 abbrev pub scope_of : Surroundings → List Given → Scope
-scope_of s given = record { arguments = s.own.arguments; given = given }
+scope_of s given = record { version = s.version; arguments = s.own.arguments; given = given }
 
 abbrev pub read_kind : Surroundings → List Given → Data → JsonPath → Option Kind → Read ScriptMove
 read_kind s given d path None = fault path not_a_move
@@ -238,16 +239,17 @@ abbrev pub items_at : Data → JsonPath → Read Items
 items_at (array ds) path = read ds
 items_at _ path = fault path not_an_array
 
--- the integer 1
-abbrev pub version_of : Option ℕ → JsonPath → Read ⊤
+-- the integer 1 or 2
+abbrev pub version_of : Option ℕ → JsonPath → Read ℕ
 version_of None path = fault path version_not_known
-version_of (Some n) path = if n == 1 then read tt else fault path version_not_known
+version_of (Some n) path =
+    if n == 1 || n == 2 then read n else fault path version_not_known
 
 -- the signatures of an array from number i on
-abbrev pub read_signatures : Items → JsonPath → ℕ → Read (List Signature)
-read_signatures no_items path i = read []
-read_signatures (item d ds) path i =
-    and_then (λ s. read_map (λ ss. s ∷ ss) (read_signatures ds path (i + 1))) (read_signature d (at_item path i))
+abbrev pub read_signatures : (version : ℕ) → Items → JsonPath → (i : ℕ) → Read (List Signature)
+read_signatures version no_items path i = read []
+read_signatures version (item d ds) path i =
+    and_then (λ s. read_map (λ ss. s ∷ ss) (read_signatures version ds path (i + 1))) (read_signature version d (at_item path i))
 
 -- a function's name and signature
 pub record Heading : Type 0 where
@@ -274,25 +276,25 @@ abbrev pub function_of : Heading → List ScriptMove → ScriptFunction
 function_of h moves = record { name = h.name; signature = h.signature; body = moves }
 
 -- the bodies of an array's functions from number i on
-abbrev pub read_bodies : List Signature → List (List ℕ) → List Heading → Items → JsonPath → ℕ → Read (List ScriptFunction)
-read_bodies signatures names hs no_items path i = read []
-read_bodies signatures names [] (item d ds) path i = read []
-read_bodies signatures names (h ∷ hs) (item d ds) path i =
+abbrev pub read_bodies : (version : ℕ) → List Signature → List (List ℕ) → List Heading → Items → JsonPath → ℕ → Read (List ScriptFunction)
+read_bodies version signatures names hs no_items path i = read []
+read_bodies version signatures names [] (item d ds) path i = read []
+read_bodies version signatures names (h ∷ hs) (item d ds) path i =
     and_then
-    (λ moves. read_map (λ fs. function_of h moves ∷ fs) (read_bodies signatures names hs ds path (i + 1)))
-    (read_body (record { signatures = signatures; functions = names; own = signature_at signatures h.signature }) (value_under (codes "body") d) (under (at_item path i) (codes "body")))
+    (λ moves. read_map (λ fs. function_of h moves ∷ fs) (read_bodies version signatures names hs ds path (i + 1)))
+    (read_body (record { version = version; signatures = signatures; functions = names; own = signature_at signatures h.signature }) (value_under (codes "body") d) (under (at_item path i) (codes "body")))
 
 abbrev pub names_of : List Heading → List (List ℕ)
 names_of hs = map (λ h. h.name) hs
 
 -- the bodies, and then main
-abbrev pub read_rest : List (List ℕ) → Data → List Signature → Items → List Heading → Read Script
-read_rest natives d signatures fs hs =
+abbrev pub read_rest : List (List ℕ) → Data → (version : ℕ) → List Signature → Items → List Heading → Read Script
+read_rest natives d version signatures fs hs =
     and_then
     (λ functions. read_map
-    (λ main. record { signatures = signatures; functions = functions; main = main })
-    (read_body (record { signatures = signatures; functions = names_of hs ++ natives; own = no_signature }) (value_under (codes "main") d) (under [] (codes "main"))))
-    (read_bodies signatures (names_of hs ++ natives) hs fs (under [] (codes "functions")) 0)
+    (λ main. record { version = version; signatures = signatures; functions = functions; main = main })
+    (read_body (record { version = version; signatures = signatures; functions = names_of hs ++ natives; own = no_signature }) (value_under (codes "main") d) (under [] (codes "main"))))
+    (read_bodies version signatures (names_of hs ++ natives) hs fs (under [] (codes "functions")) 0)
 
 -- A SCRIPT, beside natives of these names: the object, version, signatures, each function's name and signature, bodies, main.
 abbrev pub read_script : List (List ℕ) → Data → Read Script
@@ -303,10 +305,10 @@ read_script natives d =
     (λ ss. and_then
     (λ signatures. and_then
     (λ fs. and_then
-    (read_rest natives d signatures fs)
+    (read_rest natives d version signatures fs)
     (read_headings (length signatures) [] fs (under [] (codes "functions")) 0))
     (items_at (value_under (codes "functions") d) (under [] (codes "functions"))))
-    (read_signatures ss (under [] (codes "signatures")) 0))
+    (read_signatures version ss (under [] (codes "signatures")) 0))
     (items_at (value_under (codes "signatures") d) (under [] (codes "signatures"))))
     (version_of (option_and_then as_u64 (as_number (value_under (codes "version") d))) (under [] (codes "version"))))
     (check_object d script_keys [])

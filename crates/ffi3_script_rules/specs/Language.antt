@@ -43,6 +43,7 @@ pub data Reason : Type 0 where
   not_null : Reason
   no_return_at_the_end : Reason
   not_an_integer : Reason
+  bad_integer : Reason
   out_of_range : Reason
   bad_bytes : Reason
   wrong_type : Reason
@@ -123,34 +124,34 @@ abbrev pub type_of_name : JsonPath → Option Tree → Read Tree
 type_of_name path None = fault path unknown_type
 type_of_name path (Some t) = read t
 
--- a text is a name; an object has the one key `struct`
+-- a text is a name in the script's version; an object has the one key `struct`
 abbrev mutual
-  pub read_type : Data → JsonPath → Read Tree
-  read_type null path = fault path not_a_type
-  read_type (boolean b) path = fault path not_a_type
-  read_type (number n) path = fault path not_a_type
-  read_type (array ds) path = fault path not_a_type
-  read_type (string name) path = type_of_name path (type_named name)
-  read_type (object ms) path = read_struct ms path
+  pub read_type : (version : ℕ) → Data → JsonPath → Read Tree
+  read_type version null path = fault path not_a_type
+  read_type version (boolean b) path = fault path not_a_type
+  read_type version (number n) path = fault path not_a_type
+  read_type version (array ds) path = fault path not_a_type
+  read_type version (string name) path = type_of_name path (type_named version name)
+  read_type version (object ms) path = read_struct version ms path
 
-  pub read_struct : Members → JsonPath → Read Tree
-  read_struct no_members path = fault path not_a_type
-  read_struct (member name d no_members) path = cond (bytes_eq (codes "struct") name) (read_map struct_of (read_types d (under path (codes "struct")))) (fault path not_a_type)
-  read_struct (member name d (member other e ms)) path = fault path not_a_type
+  pub read_struct : ℕ → Members → JsonPath → Read Tree
+  read_struct version no_members path = fault path not_a_type
+  read_struct version (member name d no_members) path = cond (bytes_eq (codes "struct") name) (read_map struct_of (read_types version d (under path (codes "struct")))) (fault path not_a_type)
+  read_struct version (member name d (member other e ms)) path = fault path not_a_type
 
   -- an array of types
-  pub read_types : Data → JsonPath → Read (List Tree)
-  read_types null path = fault path not_an_array
-  read_types (boolean b) path = fault path not_an_array
-  read_types (number n) path = fault path not_an_array
-  read_types (string s) path = fault path not_an_array
-  read_types (object ms) path = fault path not_an_array
-  read_types (array ds) path = read_each ds path 0
+  pub read_types : ℕ → Data → JsonPath → Read (List Tree)
+  read_types version null path = fault path not_an_array
+  read_types version (boolean b) path = fault path not_an_array
+  read_types version (number n) path = fault path not_an_array
+  read_types version (string s) path = fault path not_an_array
+  read_types version (object ms) path = fault path not_an_array
+  read_types version (array ds) path = read_each version ds path 0
 
   -- each of the items from number i on, from the left
-  pub read_each : Items → JsonPath → ℕ → Read (List Tree)
-  read_each no_items path i = read []
-  read_each (item d ds) path i = and_then (λ t. read_map (λ ts. t ∷ ts) (read_each ds path (i + 1))) (read_type d (at_item path i))
+  pub read_each : (version : ℕ) → Items → JsonPath → (i : ℕ) → Read (List Tree)
+  read_each version no_items path i = read []
+  read_each version (item d ds) path i = and_then (λ t. read_map (λ ts. t ∷ ts) (read_each version ds path (i + 1))) (read_type version d (at_item path i))
 
 -- ---- signatures
 
@@ -167,16 +168,16 @@ read_fixed None path = read None
 read_fixed (Some d) path = count_of path (option_and_then as_u64 (as_number d))
 
 -- a signature's shapes: the object, ret, args, fixed
-abbrev pub read_shapes : Data → JsonPath → Read Signature
-read_shapes d path =
+abbrev pub read_shapes : (version : ℕ) → Data → JsonPath → Read Signature
+read_shapes version d path =
     and_then
     (λ checked. and_then
     (λ ret. and_then
     (λ args. read_map
     (λ fixed. record { result_type = ret; arguments = args; fixed = fixed })
     (read_fixed (get (codes "fixed") d) (under path (codes "fixed"))))
-    (read_types (value_under (codes "args") d) (under path (codes "args"))))
-    (read_type (value_under (codes "ret") d) (under path (codes "ret"))))
+    (read_types version (value_under (codes "args") d) (under path (codes "args"))))
+    (read_type version (value_under (codes "ret") d) (under path (codes "ret"))))
     (check_object d signature_keys path)
 
 -- the node that a way of element numbers leads to
@@ -220,9 +221,9 @@ unless_faulty path s None = read s
 unless_faulty path s (Some f) = fault (place_of_fault path f) (reason_of_fault f)
 
 -- A SIGNATURE: its shapes, and only then its own first fault.
-abbrev pub read_signature : Data → JsonPath → Read Signature
-read_signature d path =
-    and_then (λ s. unless_faulty path s (first_signature_fault s)) (read_shapes d path)
+abbrev pub read_signature : (version : ℕ) → Data → JsonPath → Read Signature
+read_signature version d path =
+    and_then (λ s. unless_faulty path s (first_signature_fault s)) (read_shapes version d path)
 
 -- ---- sizes
 

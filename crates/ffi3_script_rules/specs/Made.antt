@@ -172,6 +172,7 @@ made_main types calls x =
 
 abbrev pub script_from : List (List Tree) → (calls x : ℕ) → Script
 script_from types calls x = record {
+  version = 1;
   signatures = map made_signature types;
   functions = made_function types 0 ∷ made_function types 1 ∷ made_function types 2 ∷ made_function types 3 ∷ [];
   main = made_main types calls x;

@@ -51,6 +51,8 @@ pub record ScriptFunction : Type 0 where
   pub body : List ScriptMove
 
 pub record Script : Type 0 where
+  -- of the language
+  pub version : ℕ
   pub signatures : List Signature
   pub functions : List ScriptFunction
   pub main : List ScriptMove

@@ -1,17 +1,19 @@
 -- VALUES of a script: what stands where a value is asked for, against a type or with a type of its own.
-use Rattle.std.specs.Prelude.{ℕ, ◌+◌, ◌-◌, ◌^◌, ◌==◌, ◌&&◌, List, [], ◌∷◌, length, Bool, true, false, cond, Option, Some, None, Result, Ok, Err, if◌then◌else◌, nat_lt, bytes_eq, ⊤, codes, option_and_then, ℤ, pos, negsuc, slice_get, position}
+use Rattle.std.specs.Prelude.{ℕ, ◌+◌, ◌-◌, ◌*◌, ◌^◌, ◌==◌, ◌&&◌, ◌||◌, List, [], ◌∷◌, length, Bool, true, false, cond, drop, Option, Some, None, Result, Ok, Err, if◌then◌else◌, nat_lt, bytes_eq, ⊤, codes, option_and_then, ℤ, pos, negsuc, neg_ℤ, nat_le, slice_get, position}
+use Rattle.std.specs.Str.{all_ascii_digits}
+use Rattle.std.specs.Str.Parse.{starts_with_minus}
 use Rattle.hex.specs.Hex.{decode_sized}
 use Rattle.hex.specs.declared.error.FromHexError.{FromHexError}
 use Rattle.serde_json.specs.Data.{Data, null, boolean, number, string, array, object, Items, no_items, item, Members, no_members, member, Num}
 use Rattle.serde_json.specs.Find.{as_number, as_u64, as_str, as_integer}
 use Rattle.serde_json.specs.Events.{items_len}
-use Rattle.ffi3_type_rules.specs.Tree.{Tree, scalar, structure, list_of, elements_of, Scalar, pointer}
+use Rattle.ffi3_type_rules.specs.Tree.{Tree, scalar, structure, list_of, elements_of, Scalar, u128, s128, pointer}
 pub use Rattle.ffi3_type_rules.specs.Integer.{is_integer_type, is_floating_type}
 use Rattle.ffi3_type_rules.specs.Integer.{is_number_type, is_signed, scalar_of, width_of, bit_count, bytes_of_number}
 use Rattle.ffi3_type_rules.specs.Layout.{scalar_size}
 use Rattle.ffi3_type_rules.specs.Same.{same_tree}
 use Rattle.ffi3_script_rules.specs.FirstFault.{Found, first_fault}
-use Rattle.ffi3_script_rules.specs.Language.{Read, read, fault, and_then, read_map, JsonPath, under, at_item, read_type, inside_type, reason_of_type_fault, wrong_count, not_an_integer, out_of_range, bad_bytes, wrong_type, not_a_value, no_type_of_its_own, no_such_argument, no_such_result, no_such_field}
+use Rattle.ffi3_script_rules.specs.Language.{Read, read, fault, and_then, read_map, JsonPath, under, at_item, read_type, inside_type, reason_of_type_fault, wrong_count, not_an_integer, bad_integer, out_of_range, bad_bytes, wrong_type, not_a_value, no_type_of_its_own, no_such_argument, no_such_result, no_such_field}
 use Rattle.ffi3_script_rules.specs.Script.{Expression, constant, composed, argument, outcome, user_data, element, typed_as, sum, difference, cast, Expressions, no_expressions, expression, Typed}
 
 -- what an earlier move of the body gives: its name, where it has one, and its type
@@ -19,8 +21,9 @@ pub record Given : Type 0 where
   pub name : Option (List ℕ)
   pub type : Tree
 
--- where a value stands: in a body with these arguments, after these moves
+-- where a value stands: in a script of this version, in a body with these arguments, after these moves
 pub record Scope : Type 0 where
+  pub version : ℕ
   pub arguments : List Tree
   pub given : List Given
 
@@ -54,12 +57,55 @@ abbrev pub bytes_or_fault : JsonPath → Result (List ℕ) FromHexError → Read
 bytes_or_fault path (Ok bytes) = read (constant bytes)
 bytes_or_fault path (Err e) = fault path bad_bytes
 
--- a text is the bytes of a float or double in memory order, two hexadecimal digits each
-abbrev pub read_text : Tree → List ℕ → JsonPath → Read Expression
-read_text t text path =
+-- decimal digits, the first of them not 0
+abbrev pub is_counting : List ℕ → Bool
+is_counting [] = false
+is_counting (c ∷ cs) = nat_le 49 c && (nat_le c 57 && all_ascii_digits cs)
+
+-- the number that decimal digits write: each times ten to the power of how many come after it
+abbrev pub number_written : List ℕ → ℕ
+number_written [] = 0
+number_written (c ∷ cs) = (c - 48) * 10 ^ length cs + number_written cs
+
+-- 0, or digits that don't begin with 0
+abbrev pub is_plain_number : List ℕ → Bool
+is_plain_number text = bytes_eq text (codes "0") || is_counting text
+
+-- digits that don't begin with 0, after `-`
+abbrev pub is_negative_number : List ℕ → Bool
+is_negative_number text = starts_with_minus text && is_counting (drop 1 text)
+
+-- the integer that a text writes
+abbrev pub integer_written : List ℕ → Option ℤ
+integer_written text =
+    if is_plain_number text
+    then Some (pos (number_written text))
+    else if is_negative_number text then Some (neg_ℤ (pos (number_written (drop 1 text))))
+    else None
+
+abbrev pub read_written : Scalar → Option ℤ → JsonPath → Read Expression
+read_written s None path = fault path bad_integer
+read_written s (Some z) path = read_integer s (Some z) path
+
+-- the integers of 128 bits
+abbrev pub is_wide_type : Tree → Bool
+is_wide_type (scalar u128) = true
+is_wide_type (scalar s128) = true
+is_wide_type _ = false
+
+-- the bytes of a float or double in memory order, two hexadecimal digits each
+abbrev pub read_floating : Tree → List ℕ → JsonPath → Read Expression
+read_floating t text path =
     if is_floating_type t
     then bytes_or_fault path (decode_sized text (scalar_size (scalar_of t)))
     else fault path wrong_type
+
+-- a text is an integer of 128 bits in decimal, or the bytes of a float or double
+abbrev pub read_text : Tree → List ℕ → JsonPath → Read Expression
+read_text t text path =
+    if is_wide_type t
+    then read_written (scalar_of t) (integer_written text) path
+    else read_floating t text path
 
 -- ---- values with a type of their own
 
@@ -121,9 +167,9 @@ abbrev pub right_type : JsonPath → Tree → Option Found → Read Tree
 right_type path t None = read t
 right_type path t (Some f) = fault (inside_type path f.0) (reason_of_type_fault f.1)
 
-abbrev pub read_right_type : Data → JsonPath → Read Tree
-read_right_type d path =
-    and_then (λ t. right_type path t (first_fault 0 false t)) (read_type d path)
+abbrev pub read_right_type : (version : ℕ) → Data → JsonPath → Read Tree
+read_right_type version d path =
+    and_then (λ t. right_type path t (first_fault 0 false t)) (read_type version d path)
 
 -- ---- the forms of values
 
@@ -256,5 +302,5 @@ abbrev mutual
   -- an array of a type, and a value against it
   pub read_of : Scope → Data → JsonPath → Read Typed
   read_of scope (array (item d (item e no_items))) place =
-      and_then (λ t. read_map (λ v. typed t (typed_as t v)) (read_value scope t e (at_item place 1))) (read_right_type d (at_item place 0))
+      and_then (λ t. read_map (λ v. typed t (typed_as t v)) (read_value scope t e (at_item place 1))) (read_right_type scope.version d (at_item place 0))
   read_of scope _ place = fault place wrong_count

@@ -8,10 +8,10 @@ use Rattle.ffi3_type_rules.specs.Signature.{Signature}
 use Rattle.ffi3_type_rules.specs.Value.{ValueTree}
 use Rattle.ffi3_place_rules.specs.declared.Loc.{Loc}
 use Rattle.ffi3_place_rules.specs.declared.Loc.TheVariants.{G, S}
-use Rattle.ffi3_place_rules.specs.Isa.{closure_register}
+use Rattle.ffi3_place_rules.specs.Isa.{closure_register, listed}
 use Rattle.ffi3_place_rules.specs.Standard.{Standard, block_bytes, frame_of, need_of}
 use Rattle.ffi3_place_rules.specs.Agrees.{AgreesWithMachine}
-use Rattle.ffi3_place_rules.specs.Sound.{closed_to_arguments, closed_to_results, listed}
+use Rattle.ffi3_place_rules.specs.Sound.{closed_to_arguments, closed_to_results}
 use Rattle.ffi3_machine.specs.State.{State, HasReturnAddress}
 use Rattle.ffi3_pieces.specs.Stored.{IsPlace, byte_of, stack_byte, word_in}
 use Rattle.ffi3_pieces.proofs.Lawful.{each_first, each_rest}

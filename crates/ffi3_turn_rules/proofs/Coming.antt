@@ -12,9 +12,10 @@ use Rattle.ffi3_run_rules.specs.Journal.{Entered, stack_top, IsEntry, IsReturn, 
 use Rattle.ffi3_run_rules.specs.Lines.{at_start, Tracing, text, text_of_run}
 use Rattle.ffi3_turn_rules.specs.Remainder.{Remainder, remainder_of, before, only, Suspended, rest, alone, inside, awaited}
 use Rattle.ffi3_turn_rules.specs.Step.{acts_on}
-use Rattle.ffi3_turn_rules.specs.Depth.{depth_after, depth_at, deepest, depth_of}
+use Rattle.ffi3_turn_rules.specs.Depth.{depth_after, deepest}
+use Rattle.ffi3_turn_rules.specs.Nested.{depth_at, depth_of}
 use Rattle.ffi3_turn_rules.specs.Open.{AnswersTo, open_calls, unreturned}
-use Rattle.ffi3_turn_rules.specs.Interrupted.{TraceWasInterrupted}
+use Rattle.ffi3_turn_rules.specs.TraceInterrupted.{TraceWasInterrupted}
 use Rattle.ffi3_turn_rules.specs.SoFar.{Base, main_base, text_start, text_after, Position, left_at_position, open_at, Answer, HasComeTo, IsOver, IsInterrupted}
 use Rattle.ffi3_turn_rules.proofs.Steps.{rest_prints, rest_goes_on, rest_enters, rest_returns, follows_then}
 use Rattle.ffi3_turn_rules.proofs.Depths.{depth_at-append, deepest-append, ends_below}

@@ -6,9 +6,11 @@ use Rattle.ffi3_type_rules.specs.Value.{ValueTree, void_value}
 use Rattle.ffi3_run_rules.specs.declared.Stop.{Stop}
 use Rattle.ffi3_run_rules.specs.declared.Stop.TheVariants.{MoveLimit}
 use Rattle.ffi3_run_rules.specs.Closures.{Closures, no_closures}
-use Rattle.ffi3_run_rules.specs.Meaning.{Program, Activation, Acts, Effect, ends, stops, prints, goes_on, enters, End, returned, stopped, Outcome, follows, resumed, stops_with, after, line, with_result, effect_of, next_move, act, act_within, main_call, most_moves, meaning_of, peak_of, need_at}
+use Rattle.ffi3_run_rules.specs.Meaning.{Program, Activation, Acts, Effect, ends, stops, prints, goes_on, enters, End, returned, stopped, Outcome, follows, resumed, stops_with, after, line, with_result, effect_of, next_move, act, act_within, main_call, most_moves, meaning_of, need_at}
+use Rattle.ffi3_run_rules.specs.Peak.{peak_of}
 use Rattle.ffi3_run_rules.specs.Trace.{TraceItem, Enter, Line, Leave, written_out, trace_of}
-use Rattle.ffi3_turn_rules.specs.Depth.{depth_after, depth_at, deepest}
+use Rattle.ffi3_turn_rules.specs.Depth.{depth_after, deepest}
+use Rattle.ffi3_turn_rules.specs.Nested.{depth_at}
 
 -- ---- one after another
 

@@ -15,7 +15,8 @@ use Rattle.ffi3_run_rules.specs.Lines.{Tracing, a_line, enter_lines, item_text, 
 use Rattle.ffi3_turn_rules.specs.Remainder.{Remainder, only, Suspended, Bottom, as_main, served, CallStack, rest, alone, inside, awaited, awaited_below}
 use Rattle.ffi3_turn_rules.specs.Step.{acts_on}
 use Rattle.ffi3_turn_rules.specs.Open.{AnswersTo, open_calls, unreturned}
-use Rattle.ffi3_turn_rules.specs.Interrupted.{IsPart, HasItsEvent, TraceWasInterrupted}
+use Rattle.ffi3_turn_rules.specs.Interrupted.{IsPart, HasItsEvent}
+use Rattle.ffi3_turn_rules.specs.TraceInterrupted.{TraceWasInterrupted}
 use Rattle.ffi3_turn_rules.specs.SoFar.{Base, text_start, text_after, Position, left_at_position, open_at, HasComeTo, IsOver, IsInterrupted}
 use Rattle.ffi3_turn_rules.proofs.Steps.{rest_at_limit, rest_stops, rest_prints, rest_enters, rest_returns, rest_ends, rest_leaves}
 use Rattle.ffi3_turn_rules.proofs.Opens.{nothing_yet, one_stop, one_entry, one_return}

@@ -8,7 +8,8 @@ use Rattle.ffi3_run_rules.specs.Trace.{TraceItem, Enter, Line, Leave, StopLine}
 use Rattle.ffi3_run_rules.specs.Journal.{Entered, Answers}
 use Rattle.ffi3_run_rules.specs.Lines.{Point, past, Tracing, item_text, text}
 use Rattle.ffi3_turn_rules.specs.Open.{AnswersTo}
-use Rattle.ffi3_turn_rules.specs.Interrupted.{past_all, next_text, begun, IsPart, HasItsEvent, TraceWasInterrupted}
+use Rattle.ffi3_turn_rules.specs.Interrupted.{past_all, next_text, begun, IsPart, HasItsEvent}
+use Rattle.ffi3_turn_rules.specs.TraceInterrupted.{TraceWasInterrupted}
 use Rattle.ffi3_turn_rules.proofs.Opens.{past_all-append, text-append, answers_then, answers_so_far, nothing_yet}
 
 -- what comes after the item whose event is recorded

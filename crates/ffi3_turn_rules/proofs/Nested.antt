@@ -1,20 +1,30 @@
 -- The stack that each activation of a call stack has left.
 use Rattle.std.proofs.Common.{◌≡◌, ℕ, zero, suc, ◌+◌, ◌-◌, ◌≤◌, Bool, true, false, List, [], ◌∷◌, Option, Some, None, refl, ap, nat_lt, if◌then◌else◌, ltb-false, arith}
-use Rattle.ffi3_type_rules.specs.Signature.{signature_at}
+use Rattle.std.specs.Prelude.{map}
+use Rattle.ffi3_type_rules.specs.Signature.{Signature, signature_at}
 use Rattle.ffi3_type_rules.specs.Same.{same_signature}
 use Rattle.ffi3_type_rules.specs.Value.{ValueTree, void_value}
+use Rattle.ffi3_place_rules.specs.Standard.{Standard, need_of, needs_of}
 use Rattle.ffi3_run_rules.specs.declared.Closure.{Closure}
 use Rattle.ffi3_run_rules.specs.declared.Stop.TheVariants.{TableFull, StackFull, WrongSig}
 use Rattle.ffi3_run_rules.specs.Closures.{Closures, no_closures, closure_at, slots, first_free, slot_address, with_closure, freed}
 use Rattle.ffi3_run_rules.specs.Move.{Move, call, make, free, print, return}
-use Rattle.ffi3_run_rules.specs.Meaning.{Program, Activation, Acts, Effect, ends, prints, enters, stops, goes_on, End, returned, stopped, Outcome, follows, resumed, act, act_within, next_move, peak_of, meaning_of, main_call, most_moves, stack_size, at_closure, call_of, callee_of, with_result, effect_of, need_at, function_at, pointer_value}
+use Rattle.ffi3_run_rules.specs.Meaning.{Program, Activation, Acts, Effect, ends, prints, enters, stops, goes_on, End, returned, stopped, Outcome, follows, resumed, act, act_within, next_move, meaning_of, main_call, most_moves, stack_size, at_closure, call_of, callee_of, with_result, effect_of, need_at, function_at, pointer_value}
+use Rattle.ffi3_run_rules.specs.Peak.{peak_of}
 use Rattle.ffi3_turn_rules.specs.Remainder.{Suspended}
-use Rattle.ffi3_turn_rules.specs.Depth.{IsNested}
+use Rattle.ffi3_turn_rules.specs.Nested.{depth_of, IsNested}
 
 -- a result leaves the stack as it is
 pub nested_on : (p : Program) (room : ℕ) (a : Activation) (r : ValueTree) (outer : List Suspended) → IsNested p room a outer → IsNested p room (with_result a r) outer
 nested_on p room a r [] h = h
 nested_on p room a r (s ∷ outer) h = h
+
+-- calls of signatures take what they need by the standard
+pub depth_is_needs : (p : Program) (std : Standard) → p.need ≡ need_of std → (sigs : List ℕ) → depth_of p sigs ≡ needs_of std (map (signature_at p.signatures) sigs)
+depth_is_needs p std same [] = refl
+depth_is_needs p std same (sig ∷ outer) =
+    let here : need_at p sig ≡ need_of std (signature_at p.signatures sig) = ap (λ (f : Signature → ℕ). f (signature_at p.signatures sig)) same in
+    omega (arith, here, depth_is_needs p std same outer)
 
 -- ---- an entry takes the need of its signature
 

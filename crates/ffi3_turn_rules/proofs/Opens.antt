@@ -11,7 +11,7 @@ use Rattle.ffi3_run_rules.specs.Trace.{TraceItem, Enter, Line, Leave, StopLine}
 use Rattle.ffi3_run_rules.specs.Journal.{Entered, Answers, IsEntry, IsReturn, events_in}
 use Rattle.ffi3_run_rules.specs.Lines.{Point, past, Tracing, item_text, text}
 use Rattle.ffi3_run_rules.specs.Meaning.{Program, need_at}
-use Rattle.ffi3_turn_rules.specs.Depth.{depth_at, depth_of}
+use Rattle.ffi3_turn_rules.specs.Nested.{depth_at, depth_of}
 use Rattle.ffi3_turn_rules.proofs.Depths.{depth_at-append}
 use Rattle.ffi3_turn_rules.specs.Open.{after_event, unreturned, open_calls, open_after, AnswersTo}
 use Rattle.ffi3_turn_rules.specs.Interrupted.{past_all}

@@ -10,7 +10,8 @@ use Rattle.ffi3_run_rules.specs.Move.{call, make, print, return, Behaviour}
 use Rattle.ffi3_run_rules.specs.Meaning.{Program, Activation, main, function, act, act_within, pointer_value}
 use Rattle.ffi3_run_rules.specs.Trace.{Enter, Line, Leave, trace_of}
 use Rattle.ffi3_turn_rules.specs.Remainder.{as_main, served, rest, alone}
-use Rattle.ffi3_turn_rules.specs.Depth.{depth_at, deepest}
+use Rattle.ffi3_turn_rules.specs.Depth.{deepest}
+use Rattle.ffi3_turn_rules.specs.Nested.{depth_at}
 
 abbrev n64 : ℕ → ValueTree
 n64 n = leaf_value (bytes_of_number s64 (pos n))

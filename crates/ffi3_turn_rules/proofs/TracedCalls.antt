@@ -1,14 +1,13 @@
 -- What the lines of a traced run tell of an entry and of a return is what their events have.
 use Rattle.std.proofs.Common.{◌≡◌, ℕ, ◌+◌, ◌-◌, ◌≤◌, true, false, List, [], ◌∷◌, ◌++◌, length, refl, sym, ap, ◌∙◌, subst, arith}
 use Rattle.std.specs.Prelude.{map, codes, Bool}
-use Rattle.std.specs.List.{AllByRecursion, concat, sum_by, join_with_byte}
-use Rattle.std.proofs.lemmas.List.Sums.{sum_by-cons}
+use Rattle.std.specs.List.{AllByRecursion, concat, join_with_byte}
 use Rattle.ffi3_type_rules.specs.Tree.{trees_of}
 use Rattle.ffi3_type_rules.specs.Signature.{Signature, signature_at}
 use Rattle.ffi3_type_rules.specs.Value.{ValueTree, values_of}
 use Rattle.ffi3_type_rules.specs.ValueText.{value_text_of, value_texts_of}
 use Rattle.ffi3_place_rules.specs.declared.Loc.{Loc}
-use Rattle.ffi3_place_rules.specs.Standard.{Standard, need_of, frame_of}
+use Rattle.ffi3_place_rules.specs.Standard.{Standard, need_of, needs_of, frame_of}
 use Rattle.ffi3_place_rules.specs.Isa.{scribble}
 use Rattle.ffi3_place_rules.specs.Image.{Image, register}
 use Rattle.ffi3_place_rules.specs.Holds.{SameIn}
@@ -52,13 +51,12 @@ still_there f entry return (at ∷ registers) is kept =
 -- ---- open calls
 
 -- the stack that they take, as the text counts it
-told_needs : (std : Standard) (top : ℕ) (leaves : ℕ → Loc → ℕ) (es : List Entered) (cs : List OpenCall) → AreTracedAsEntered std top leaves es cs → sum_by (λ (c : OpenCall). need_of std c.signature) cs ≡ needs std es
+told_needs : (std : Standard) (top : ℕ) (leaves : ℕ → Loc → ℕ) (es : List Entered) (cs : List OpenCall) → AreTracedAsEntered std top leaves es cs → needs_of std (map (λ (c : OpenCall). c.signature) cs) ≡ needs std es
 told_needs std top leaves [] [] told = refl
 told_needs std top leaves (e ∷ es) (c ∷ cs) told =
     let rest = told_needs std top leaves es cs told.1 in
     let here : need_of std e.signature ≡ need_of std c.signature = ap (need_of std) told.0.signature in
-    let sum = sum_by-cons (λ (d : OpenCall). need_of std d.signature) c cs in
-    omega (arith, rest, here, sum)
+    omega (arith, rest, here)
 told_needs std top leaves [] (c ∷ cs) told = absurd told
 told_needs std top leaves (e ∷ es) [] told = absurd told
 

@@ -1,13 +1,8 @@
--- A run that was interrupted in what it writes.
-use Rattle.std.specs.Prelude.{◌≡◌, ℕ, ◌<◌, Bool, true, false, List, [], ◌∷◌, ◌++◌, length, take}
+-- Where the text of a run stands after a part of its trace, and what of the next item is there where the run was interrupted.
+use Rattle.std.specs.Prelude.{◌≡◌, ℕ, ◌<◌, Bool, true, false, List, [], ◌∷◌}
 use Rattle.ffi3_type_rules.specs.Signature.{Signature}
-use Rattle.ffi3_place_rules.specs.declared.Loc.{Loc}
-use Rattle.ffi3_place_rules.specs.Standard.{Standard}
-use Rattle.ffi3_place_rules.specs.Event.{Event}
 use Rattle.ffi3_run_rules.specs.Trace.{TraceItem, Enter, Line, Leave, StopLine}
-use Rattle.ffi3_run_rules.specs.Journal.{Entered}
-use Rattle.ffi3_run_rules.specs.Lines.{Point, past, Tracing, item_text, text}
-use Rattle.ffi3_turn_rules.specs.Open.{AnswersTo}
+use Rattle.ffi3_run_rules.specs.Lines.{Point, past, Tracing, item_text}
 
 -- where the text stands after all of a trace
 abbrev pub past_all : List Signature → Point → List TraceItem → Point
@@ -36,17 +31,3 @@ HasItsEvent recorded in_line (Enter ptr sig args ∷ later) = in_line ≡ true �
 HasItsEvent recorded in_line (Leave sig r ∷ later) = in_line ≡ true → recorded ≡ true
 HasItsEvent recorded in_line (Line t v ∷ later) = recorded ≡ false
 HasItsEvent recorded in_line (StopLine stop ∷ later) = recorded ≡ false
-
--- THE RUN WAS INTERRUPTED, in an item's lines or elsewhere: a first part of its trace is done, and a part of the next item's lines is written. What happened is what is done, and the next item where its event is recorded: to this the events answer wholly.
-pub record TraceWasInterrupted (std : Standard) (top : ℕ) (held : Loc → ℕ) (tracing : Tracing) (signatures : List Signature) (at : Point) (n : ℕ) (unfinished : List Entered) (in_line : Bool) (trace happened : List TraceItem) (written : List ℕ) (events : List Event) : Type 0 where
-  pub done : List TraceItem
-  pub later : List TraceItem
-  pub all : trace ≡ done ++ later
-  pub part : ℕ
-  pub proper : IsPart in_line part (length (next_text tracing signatures (past_all signatures at done) later))
-  pub text_is : written ≡ text tracing signatures at done ++ take part (next_text tracing signatures (past_all signatures at done) later)
-  pub recorded : Bool
-  pub its_event : HasItsEvent recorded in_line later
-  pub happened_is : happened ≡ done ++ begun recorded later
-  pub left_open : List Entered
-  pub answers : AnswersTo std top held signatures n unfinished happened events left_open

@@ -4,7 +4,8 @@ use Rattle.ffi3_type_rules.specs.Signature.{Signature}
 use Rattle.ffi3_type_rules.specs.Value.{ValueTree}
 use Rattle.ffi3_run_rules.specs.declared.Stop.TheVariants.{MoveLimit}
 use Rattle.ffi3_run_rules.specs.Closures.{Closures, no_closures}
-use Rattle.ffi3_run_rules.specs.Meaning.{Program, Activation, End, returned, stopped, called, act, meaning_of, main_call, most_moves, stack_size, peak_of}
+use Rattle.ffi3_run_rules.specs.Meaning.{Program, Activation, End, returned, stopped, called, act, meaning_of, main_call, most_moves, stack_size}
+use Rattle.ffi3_run_rules.specs.Peak.{peak_of}
 use Rattle.ffi3_run_rules.specs.Trace.{TraceItem, Enter, written_out_one, trace_of}
 use Rattle.ffi3_run_rules.specs.Lines.{Point, Tracing, text}
 use Rattle.ffi3_turn_rules.specs.Remainder.{remainder_of, only_stops, Bottom, as_main, served, CallStack, rest, alone}

@@ -10,9 +10,10 @@ use Rattle.ffi3_run_rules.specs.Trace.{TraceItem}
 use Rattle.ffi3_run_rules.specs.Journal.{Entered, stack_top}
 use Rattle.ffi3_run_rules.specs.Lines.{OpenCall, Point, Tracing}
 use Rattle.ffi3_turn_rules.specs.Remainder.{Remainder, before, Suspended, Bottom, as_main, served, CallStack, rest, awaited}
-use Rattle.ffi3_turn_rules.specs.Depth.{depth_at, depth_of, IsNested}
+use Rattle.ffi3_turn_rules.specs.Nested.{depth_at, depth_of, IsNested}
 use Rattle.ffi3_turn_rules.specs.Open.{unreturned, open_calls, AnswersTo}
-use Rattle.ffi3_turn_rules.specs.Interrupted.{past_all, TraceWasInterrupted}
+use Rattle.ffi3_turn_rules.specs.Interrupted.{past_all}
+use Rattle.ffi3_turn_rules.specs.TraceInterrupted.{TraceWasInterrupted}
 
 -- what a run begins with: the top of its stack and the bytes left below it, what reserved registers hold, the number of events before it, and the entries of the calls that are open
 pub record Base : Type 0 where

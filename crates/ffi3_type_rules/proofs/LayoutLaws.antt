@@ -5,7 +5,7 @@ use Rattle.std.specs.Prelude.{◌⊎◌, Some, slice_get, slice_index_or, option
 use Rattle.std.proofs.Math.Nat.{dvd-add}
 use Rattle.std.proofs.lemmas.Nat.Gcd.{dvd_refl, dvd-zero, dvd_trans, dvd_of_mod-eq-zero, mod-eq-zero_of_dvd}
 use Rattle.std.proofs.lemmas.Bool.{cases_lt}
-use Rattle.ffi3_type_rules.specs.Tree.{Tree, void, scalar, left_out, structure, Trees, no_trees, tree, tree_at, list_of, Scalar, u8, s8, u16, s16, u32, s32, u64, s64, float, double, pointer}
+use Rattle.ffi3_type_rules.specs.Tree.{Tree, void, scalar, left_out, structure, Trees, no_trees, tree, tree_at, list_of, Scalar, u8, s8, u16, s16, u32, s32, u64, s64, u128, s128, float, double, pointer}
 use Rattle.ffi3_type_rules.specs.Layout.{Layout, Leaf, layout, layouts, nothing, element, end_before, start_of, align_before, leaves_before, moved, least_multiple, struct_layout, scalar_size, scalar_layout, leaves_of, leaf_at, size_of, align_of}
 use Rattle.ffi3_type_rules.specs.Fault.{node_at}
 use Rattle.ffi3_type_rules.specs.LayoutLaws.{leaf_end, offset_on, StandsOnPath, HasLeafAt, IsWellLaidOut}
@@ -20,74 +20,106 @@ data Power : Type 0 where
   p2 : Power
   p4 : Power
   p8 : Power
+  p16 : Power
 
 abbrev bytes : Power → ℕ
 bytes p1 = 1
 bytes p2 = 2
 bytes p4 = 4
 bytes p8 = 8
+bytes p16 = 16
 
 abbrev greater : Power → Power → Power
 greater p1 q = q
 greater p2 p1 = p2
 greater p2 q = q
 greater p4 p8 = p8
+greater p4 p16 = p16
 greater p4 q = p4
+greater p8 p16 = p16
 greater p8 q = p8
+greater p16 q = p16
 
 greater-is : (p q : Power) → max (bytes p) (bytes q) ≡ bytes (greater p q)
 greater-is p1 p1 = refl
 greater-is p1 p2 = refl
 greater-is p1 p4 = refl
 greater-is p1 p8 = refl
+greater-is p1 p16 = refl
 greater-is p2 p1 = refl
 greater-is p2 p2 = refl
 greater-is p2 p4 = refl
 greater-is p2 p8 = refl
+greater-is p2 p16 = refl
 greater-is p4 p1 = refl
 greater-is p4 p2 = refl
 greater-is p4 p4 = refl
 greater-is p4 p8 = refl
+greater-is p4 p16 = refl
 greater-is p8 p1 = refl
 greater-is p8 p2 = refl
 greater-is p8 p4 = refl
 greater-is p8 p8 = refl
+greater-is p8 p16 = refl
+greater-is p16 p1 = refl
+greater-is p16 p2 = refl
+greater-is p16 p4 = refl
+greater-is p16 p8 = refl
+greater-is p16 p16 = refl
 
 left_divides : (p q : Power) → bytes (greater p q) % bytes p ≡ 0
 left_divides p1 p1 = refl
 left_divides p1 p2 = refl
 left_divides p1 p4 = refl
 left_divides p1 p8 = refl
+left_divides p1 p16 = refl
 left_divides p2 p1 = refl
 left_divides p2 p2 = refl
 left_divides p2 p4 = refl
 left_divides p2 p8 = refl
+left_divides p2 p16 = refl
 left_divides p4 p1 = refl
 left_divides p4 p2 = refl
 left_divides p4 p4 = refl
 left_divides p4 p8 = refl
+left_divides p4 p16 = refl
 left_divides p8 p1 = refl
 left_divides p8 p2 = refl
 left_divides p8 p4 = refl
 left_divides p8 p8 = refl
+left_divides p8 p16 = refl
+left_divides p16 p1 = refl
+left_divides p16 p2 = refl
+left_divides p16 p4 = refl
+left_divides p16 p8 = refl
+left_divides p16 p16 = refl
 
 right_divides : (p q : Power) → bytes (greater p q) % bytes q ≡ 0
 right_divides p1 p1 = refl
 right_divides p1 p2 = refl
 right_divides p1 p4 = refl
 right_divides p1 p8 = refl
+right_divides p1 p16 = refl
 right_divides p2 p1 = refl
 right_divides p2 p2 = refl
 right_divides p2 p4 = refl
 right_divides p2 p8 = refl
+right_divides p2 p16 = refl
 right_divides p4 p1 = refl
 right_divides p4 p2 = refl
 right_divides p4 p4 = refl
 right_divides p4 p8 = refl
+right_divides p4 p16 = refl
 right_divides p8 p1 = refl
 right_divides p8 p2 = refl
 right_divides p8 p4 = refl
 right_divides p8 p8 = refl
+right_divides p8 p16 = refl
+right_divides p16 p1 = refl
+right_divides p16 p2 = refl
+right_divides p16 p4 = refl
+right_divides p16 p8 = refl
+right_divides p16 p16 = refl
 
 abbrev IsPower : ℕ → Type 0
 IsPower a = (p : Power) × (a ≡ bytes p)
@@ -97,6 +129,7 @@ power_positive a (p1, e) = omega arith
 power_positive a (p2, e) = omega arith
 power_positive a (p4, e) = omega arith
 power_positive a (p8, e) = omega arith
+power_positive a (p16, e) = omega arith
 
 max_power : (a b : ℕ) → IsPower a → IsPower b → IsPower (max a b)
 max_power a b (p, e) (q, f) = (greater p q, ap (λ n. max n b) e ∙ ap (max (bytes p)) f ∙ greater-is p q)
@@ -122,6 +155,8 @@ scalar_power u32 = (p4, refl)
 scalar_power s32 = (p4, refl)
 scalar_power u64 = (p8, refl)
 scalar_power s64 = (p8, refl)
+scalar_power u128 = (p16, refl)
+scalar_power s128 = (p16, refl)
 scalar_power float = (p4, refl)
 scalar_power double = (p8, refl)
 scalar_power pointer = (p8, refl)

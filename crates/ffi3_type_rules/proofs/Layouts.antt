@@ -3,6 +3,7 @@ use Rattle.std.proofs.Common.{◌≡◌, ℕ, zero, suc, ◌+◌, ◌*◌, ◌%�
 use Rattle.std.proofs.lemmas.Nat.{mod_below}
 use Rattle.std.proofs.lemmas.Bool.{cases_lt}
 use Rattle.std.proofs.lemmas.List.{get_or_default}
+use Rattle.ffi3_type_rules.specs.declared.limits.TheConstants.{LARGEST_STRUCT}
 use Rattle.ffi3_type_rules.specs.Tree.{Tree, void, scalar, left_out, structure, Trees, no_trees, tree, trees_of, list_of, struct_of, tree_at, Scalar, u8, nodes, all_nodes}
 use Rattle.ffi3_type_rules.specs.Layout.{Layout, layout, layouts, element, least_multiple, end_before, start_of, align_before, size_of, align_of, scalar_size}
 
@@ -65,11 +66,11 @@ pub align_before-positive : (es : List Layout) (i : ℕ) → 1 ≤ align_before 
 align_before-positive es zero = omega arith
 align_before-positive es (suc i) = omega (arith, align_before-positive es i)
 
-pub align_before-bounded : (es : List Layout) (i : ℕ) → ((k : ℕ) → (element es k).align ≤ 8) → align_before es i ≤ 8
+pub align_before-bounded : (es : List Layout) (i : ℕ) → ((k : ℕ) → (element es k).align ≤ 16) → align_before es i ≤ 16
 align_before-bounded es zero h = omega arith
 align_before-bounded es (suc i) h = omega (arith, align_before-bounded es i h, h i)
 
-pub scalar_size-bounds : (s : Scalar) → (1 ≤ scalar_size s) × (scalar_size s ≤ 8)
+pub scalar_size-bounds : (s : Scalar) → (1 ≤ scalar_size s) × (scalar_size s ≤ 16)
 scalar_size-bounds u8 = (omega arith, omega arith)
 scalar_size-bounds _ = (omega arith, omega arith)
 
@@ -80,20 +81,20 @@ align_positive (left_out k) = omega arith
 align_positive (structure ts) = align_before-positive (layouts ts) (length (layouts ts))
 
 mutual
-  pub align_bounded : (t : Tree) → align_of t ≤ 8
+  pub align_bounded : (t : Tree) → align_of t ≤ 16
   align_bounded void = omega arith
   align_bounded (scalar s) = (scalar_size-bounds s).1
   align_bounded (left_out k) = omega arith
   align_bounded (structure ts) =
       align_before-bounded (layouts ts) (length (layouts ts)) (aligns_bounded ts)
 
-  pub aligns_bounded : (ts : Trees) (k : ℕ) → (element (layouts ts) k).align ≤ 8
+  pub aligns_bounded : (ts : Trees) (k : ℕ) → (element (layouts ts) k).align ≤ 16
   aligns_bounded no_trees k = omega arith
   aligns_bounded (tree t ts) zero = align_bounded t
   aligns_bounded (tree t ts) (suc k) = aligns_bounded ts k
 
--- elements of at most 1,024 bytes end within 1,032 bytes each
-pub end_before-bounded : (ts : List Tree) (i : ℕ) → ((k : ℕ) → size_of (tree_at ts k) ≤ 1024) → end_before (layouts (trees_of ts)) i ≤ i * 1032
+-- elements as large as the largest struct end within 16 bytes more each
+pub end_before-bounded : (ts : List Tree) (i : ℕ) → ((k : ℕ) → size_of (tree_at ts k) ≤ LARGEST_STRUCT) → end_before (layouts (trees_of ts)) i ≤ i * (LARGEST_STRUCT + 16)
 end_before-bounded ts zero h = omega arith
 end_before-bounded ts (suc i) h =
     let es = layouts (trees_of ts) in

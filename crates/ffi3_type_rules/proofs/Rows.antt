@@ -1,6 +1,8 @@
 -- Layouts that C compilers for 64-bit targets give.
 use Rattle.std.proofs.Common.{◌≡◌, [], ◌∷◌, refl}
-use Rattle.ffi3_type_rules.specs.Tree.{scalar, struct_of, void, u8, s8, u16, s16, u32, s32, u64, s64, float, double, pointer}
+use Rattle.ffi3_type_rules.specs.Tree.{scalar, struct_of, void, u8, s8, u16, s16, u32, s32, u64, s64, u128, s128, float, double, pointer}
+use Rattle.std.specs.Prelude.{Some, None, codes}
+use Rattle.ffi3_type_rules.specs.Names.{type_named}
 use Rattle.ffi3_type_rules.specs.Layout.{layout, least_multiple, offset_of}
 
 pub void-layout : layout void ≡ record { size = 0; align = 1; leaves = [] }
@@ -57,3 +59,34 @@ short-layout = refl
 pub inner-layout : layout (struct_of (struct_of (scalar u8 ∷ []) ∷ [])) ≡ record { size = 1; align = 1; leaves = record { at = 0; kind = u8 } ∷ [] }
 unfolding least_multiple
 inner-layout = refl
+
+-- struct{uint8,uint128}
+pub wide-layout : layout (struct_of (scalar u8 ∷ scalar u128 ∷ [])) ≡ record { size = 32; align = 16; leaves = record { at = 0; kind = u8 } ∷ record { at = 16; kind = u128 } ∷ [] }
+unfolding least_multiple
+wide-layout = refl
+
+-- struct{sint128,struct{double,uint128},sint8}
+pub wide_nested-layout : layout (struct_of (scalar s128 ∷ struct_of (scalar double ∷ scalar u128 ∷ []) ∷ scalar s8 ∷ [])) ≡ record { size = 64; align = 16; leaves = record { at = 0; kind = s128 } ∷ record { at = 16; kind = double } ∷ record { at = 32; kind = u128 } ∷ record { at = 48; kind = s8 } ∷ [] }
+unfolding least_multiple
+wide_nested-layout = refl
+
+-- the words of the 128-bit integers are no words of version 1
+pub wide_named : type_named 2 (codes "uint128") ≡ Some (scalar u128)
+unfolding type_named
+wide_named = refl
+
+pub wide_named_signed : type_named 2 (codes "sint128") ≡ Some (scalar s128)
+unfolding type_named
+wide_named_signed = refl
+
+pub narrow_named : type_named 2 (codes "slong") ≡ Some (scalar s64)
+unfolding type_named
+narrow_named = refl
+
+pub not_in_version_1 : type_named 1 (codes "uint128") ≡ None
+unfolding type_named
+not_in_version_1 = refl
+
+pub signed_not_in_version_1 : type_named 1 (codes "sint128") ≡ None
+unfolding type_named
+signed_not_in_version_1 = refl

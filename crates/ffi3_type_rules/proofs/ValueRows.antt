@@ -1,9 +1,9 @@
 -- Worked values: their texts, and what they widen to.
 use Rattle.std.proofs.Common.{◌≡◌, [], ◌∷◌, refl}
-use Rattle.std.specs.Prelude.{codes, negsuc, pos}
+use Rattle.std.specs.Prelude.{codes, negsuc, pos, replicate, ◌++◌}
 use Rattle.std.specs.Fmt.{digits}
 use Rattle.ffi3_type_rules.specs.Layout.{least_multiple}
-use Rattle.ffi3_type_rules.specs.Tree.{u8, s8, u16, s16, u32, s32, u64, s64, float, pointer, void, scalar, structure, no_trees, tree}
+use Rattle.ffi3_type_rules.specs.Tree.{u8, s8, u16, s16, u32, s32, u64, s64, u128, s128, float, pointer, void, scalar, structure, no_trees, tree}
 use Rattle.ffi3_type_rules.specs.Integer.{widened, widened_from_32, number_of, bytes_of_number, sum_of}
 use Rattle.ffi3_type_rules.specs.Value.{void_value, leaf_value, struct_value, no_values, value, value_in}
 use Rattle.ffi3_type_rules.specs.ValueText.{value_text_of}
@@ -74,3 +74,22 @@ bytes-uint16 = refl
 
 sum-sint8 : sum_of s8 (0x7F ∷ []) (2 ∷ []) ≡ 0x81 ∷ []
 sum-sint8 = refl
+
+-- 128 bits: the greatest and the least number, and a sum past 64 bits and past 128
+text-uint128 : value_text_of (scalar u128) (leaf_value (replicate 16 0xFF)) ≡ codes "340282366920938463463374607431768211455"
+unfolding digits
+text-uint128 = refl
+
+text-sint128 : value_text_of (scalar s128) (leaf_value (replicate 15 0 ++ 0x80 ∷ [])) ≡ codes "-170141183460469231731687303715884105728"
+unfolding digits
+text-sint128 = refl
+
+text-sum-uint128 : value_text_of (scalar u128) (leaf_value (sum_of u128 (bytes_of_number u128 (pos 18446744073709551615)) (bytes_of_number u128 (pos 1)))) ≡ codes "18446744073709551616"
+unfolding digits
+text-sum-uint128 = refl
+
+sum-uint128 : sum_of u128 (replicate 16 0xFF) (bytes_of_number u128 (pos 2)) ≡ 1 ∷ replicate 15 0
+sum-uint128 = refl
+
+bytes-sint128 : bytes_of_number s128 (negsuc 0) ≡ replicate 16 0xFF
+bytes-sint128 = refl

@@ -1,9 +1,9 @@
 -- The number that the bytes of an integer make, and back: little-endian, two's complement. (psABI AMD64 3.1.2, AAPCS64 5.1, RISC-V ELF psABI "C/C++ type details")
 use Rattle.std.specs.Prelude.{ℕ, suc, ◌-◌, ◌%◌, ◌^◌, Bool, true, false, if◌then◌else◌, ℤ, pos, negsuc, ◌+ℤ◌, List}
 use Rattle.std.specs.Int.{Width, w8, w16, w32, w64, w128, to_le_bytes, from_le_bytes, cast_signed, cast_unsigned}
-use Rattle.ffi3_type_rules.specs.Tree.{Scalar, u8, s8, u16, s16, u32, s32, u64, s64, float, double, pointer, Tree, void, scalar, left_out, structure}
+use Rattle.ffi3_type_rules.specs.Tree.{Scalar, u8, s8, u16, s16, u32, s32, u64, s64, u128, s128, float, double, pointer, Tree, void, scalar, left_out, structure}
 
--- the eight integer types
+-- the ten integer types
 abbrev pub is_integer : Scalar → Bool
 is_integer u8 = true
 is_integer s8 = true
@@ -13,6 +13,8 @@ is_integer u32 = true
 is_integer s32 = true
 is_integer u64 = true
 is_integer s64 = true
+is_integer u128 = true
+is_integer s128 = true
 is_integer float = false
 is_integer double = false
 is_integer pointer = false
@@ -33,6 +35,8 @@ is_number u32 = true
 is_number s32 = true
 is_number u64 = true
 is_number s64 = true
+is_number u128 = true
+is_number s128 = true
 is_number float = false
 is_number double = false
 is_number pointer = true
@@ -59,6 +63,8 @@ is_signed u32 = false
 is_signed s32 = true
 is_signed u64 = false
 is_signed s64 = true
+is_signed u128 = false
+is_signed s128 = true
 is_signed float = false
 is_signed double = false
 is_signed pointer = false
@@ -72,6 +78,8 @@ width_of u32 = w32
 width_of s32 = w32
 width_of u64 = w64
 width_of s64 = w64
+width_of u128 = w128
+width_of s128 = w128
 width_of float = w32
 width_of double = w64
 width_of pointer = w64
@@ -103,7 +111,7 @@ bytes_of_number s z = to_le_bytes (width_of s) (modulo (bit_count (width_of s)) 
 abbrev pub sum_of : Scalar → List ℕ → List ℕ → List ℕ
 sum_of s a b = bytes_of_number s (number_of s a +ℤ number_of s b)
 
--- an integer or a pointer, extended by its sign to the 64 bits of a register
+-- an integer of at most 64 bits or a pointer, extended by its sign to the 64 bits of a register
 abbrev pub widened : Scalar → List ℕ → ℕ
 widened s bytes = cast_unsigned w64 (number_of s bytes)
 
@@ -121,6 +129,8 @@ is_floating u32 = false
 is_floating s32 = false
 is_floating u64 = false
 is_floating s64 = false
+is_floating u128 = false
+is_floating s128 = false
 is_floating float = true
 is_floating double = true
 is_floating pointer = false

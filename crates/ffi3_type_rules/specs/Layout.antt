@@ -1,7 +1,7 @@
 -- Size, alignment and leaves of a type. (libffi manual, "Size and Alignment")
 use Rattle.std.specs.Prelude.{◌≡◌, ℕ, zero, suc, ◌+◌, ◌≤◌, ◌%◌, max, List, [], ◌∷◌, ◌++◌, map, length, slice_index_or}
 use Rattle.std.specs.Int.{next_multiple_of}
-use Rattle.ffi3_type_rules.specs.Tree.{Scalar, u8, s8, u16, s16, u32, s32, u64, s64, float, double, pointer, Tree, void, scalar, left_out, structure, Trees, no_trees, tree}
+use Rattle.ffi3_type_rules.specs.Tree.{Scalar, u8, s8, u16, s16, u32, s32, u64, s64, u128, s128, float, double, pointer, Tree, void, scalar, left_out, structure, Trees, no_trees, tree}
 
 -- m is the least multiple of a that is not below n
 pub record IsLeastMultiple (a n m : ℕ) : Type 0 where
@@ -32,6 +32,8 @@ scalar_size u32 = 4
 scalar_size s32 = 4
 scalar_size u64 = 8
 scalar_size s64 = 8
+scalar_size u128 = 16
+scalar_size s128 = 16
 scalar_size float = 4
 scalar_size double = 8
 scalar_size pointer = 8

@@ -1,6 +1,6 @@
 -- The words for types. (libffi manual, "Primitive Types"; the words are the names there without `ffi_type_`)
-use Rattle.std.specs.Prelude.{ℕ, List, [], ◌∷◌, Option, Some, None, cond, codes, bytes_eq}
-use Rattle.ffi3_type_rules.specs.Tree.{Tree, void, scalar, left_out, u8, s8, u16, s16, u32, s32, u64, s64, float, double, pointer, long_double, complex, vector}
+use Rattle.std.specs.Prelude.{ℕ, List, [], ◌∷◌, Option, Some, None, cond, ◌==◌, ◌++◌, codes, bytes_eq}
+use Rattle.ffi3_type_rules.specs.Tree.{Tree, void, scalar, left_out, u8, s8, u16, s16, u32, s32, u64, s64, u128, s128, float, double, pointer, long_double, complex, vector}
 
 -- each word with its type; a C integer type is that of its size, where an int has 32 bits and a long 64
 abbrev pub type_names : List (List ℕ × Tree)
@@ -13,5 +13,11 @@ type_beside word [] = None
 type_beside word (entry ∷ entries) =
     cond (bytes_eq word entry.0) (Some entry.1) (type_beside word entries)
 
-unfoldable pub type_named : List ℕ → Option Tree
-type_named word = type_beside word type_names
+-- the words that version 1 of the script language doesn't have
+abbrev pub wide_names : List (List ℕ × Tree)
+wide_names = (codes "uint128", scalar u128) ∷ (codes "sint128", scalar s128) ∷ []
+
+-- the type that a word names in a version of the script language
+unfoldable pub type_named : ℕ → List ℕ → Option Tree
+type_named version word =
+    cond (version == 1) (type_beside word type_names) (type_beside word (wide_names ++ type_names))

@@ -2,7 +2,7 @@
 use Rattle.std.specs.Prelude.{◌≡◌, ℕ, ◌<◌, ◌≤◌, ◌⊎◌, Bool, true, false, List, [], length, Option, Some, None, refl, slice_index_or}
 use Rattle.std.specs.Coded.{Coded, code_by, coded×, coded_list, coded_option, coded_ℕ}
 use Rattle.ffi3_type_rules.specs.declared.limits.TheConstants.{MOST_ARGUMENTS}
-use Rattle.ffi3_type_rules.specs.Tree.{Tree, void, scalar, tree_at, tree_code, tree_list_code, Scalar, u8, s8, u16, s16, float, left_out, structure, u32, s32, u64, s64, double, pointer}
+use Rattle.ffi3_type_rules.specs.Tree.{Tree, void, scalar, tree_at, tree_code, tree_list_code, Scalar, u8, s8, u16, s16, float, left_out, structure, u32, s32, u64, s64, u128, s128, double, pointer}
 use Rattle.ffi3_type_rules.specs.Fault.{Fault, IsFirstFault}
 
 pub record Signature : Type 0 where
@@ -43,6 +43,8 @@ is_promoted_scalar u32 = false
 is_promoted_scalar s32 = false
 is_promoted_scalar u64 = false
 is_promoted_scalar s64 = false
+is_promoted_scalar u128 = false
+is_promoted_scalar s128 = false
 is_promoted_scalar float = true
 is_promoted_scalar double = false
 is_promoted_scalar pointer = false

@@ -1,7 +1,7 @@
 -- Types and signatures as text, in the words of `type_names`.
 use Rattle.std.specs.Prelude.{ℕ, List, [], ◌∷◌, ◌++◌, take, drop, Option, Some, None, codes}
 use Rattle.std.specs.List.{join_with_byte}
-use Rattle.ffi3_type_rules.specs.Tree.{Scalar, u8, s8, u16, s16, u32, s32, u64, s64, float, double, pointer, Tree, void, scalar, left_out, structure, Trees, no_trees, tree, trees_of}
+use Rattle.ffi3_type_rules.specs.Tree.{Scalar, u8, s8, u16, s16, u32, s32, u64, s64, u128, s128, float, double, pointer, Tree, void, scalar, left_out, structure, Trees, no_trees, tree, trees_of}
 use Rattle.ffi3_type_rules.specs.Signature.{Signature}
 
 abbrev pub scalar_name : Scalar → List ℕ
@@ -13,6 +13,8 @@ scalar_name u32 = codes "uint32"
 scalar_name s32 = codes "sint32"
 scalar_name u64 = codes "uint64"
 scalar_name s64 = codes "sint64"
+scalar_name u128 = codes "uint128"
+scalar_name s128 = codes "sint128"
 scalar_name float = codes "float"
 scalar_name double = codes "double"
 scalar_name pointer = codes "pointer"

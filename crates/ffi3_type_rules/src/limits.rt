@@ -4,9 +4,14 @@
 pub const MOST_ARGUMENTS: u64 = 64;
 /// The size of the largest struct in bytes.
 pub const LARGEST_STRUCT: u64 = 1_024;
-/// The most bytes of stack that a call's arguments take, each with the end of its last doubleword:
-/// `MOST_ARGUMENTS` times `LARGEST_STRUCT + 8`.
-pub const ARGUMENT_BYTES: u64 = 66_048;
+/// The greatest gap before something that begins at a multiple of its alignment: there is room for alignments up
+/// to 16.
+pub const LARGEST_GAP: u64 = 15;
+/// The most bytes of stack that one argument or copy takes, with the gap before it and the rest of its last
+/// doubleword: `LARGEST_GAP + LARGEST_STRUCT + 7`.
+pub const ARGUMENT_SPAN: u64 = 1_046;
+/// The most bytes of stack that a call's arguments take: `MOST_ARGUMENTS` times `ARGUMENT_SPAN`.
+pub const ARGUMENT_BYTES: u64 = 66_944;
 /// How deep structs stand in one another at most.
 pub const DEEPEST_NESTING: u64 = 16;
 /// The bytes of the longest script.

@@ -1,9 +1,9 @@
 -- A type and its tree tell each other apart.
 use Rattle.std.proofs.Common.{◌≡◌, refl, ap, sym, ◌∙◌}
-use Rattle.ffi3_type_rules.specs.Tree.{Tree, void, scalar, left_out, structure, list_of, list_of-trees_of, u8, s8, u16, s16, u32, s32, u64, s64, float, double, pointer, long_double, complex, vector}
+use Rattle.ffi3_type_rules.specs.Tree.{Tree, void, scalar, left_out, structure, list_of, list_of-trees_of, u8, s8, u16, s16, u32, s32, u64, s64, u128, s128, float, double, pointer, long_double, complex, vector}
 use Rattle.ffi3_types.specs.TreeOf.{tree_of}
 use Rattle.ffi3_types.specs.declared.FfiType.{FfiType}
-use Rattle.ffi3_types.specs.declared.FfiType.TheVariants.{Void, U8, S8, U16, S16, U32, S32, U64, S64, Float, Double, Pointer, Struct, LongDouble, Complex, Vector}
+use Rattle.ffi3_types.specs.declared.FfiType.TheVariants.{Void, U8, S8, U16, S16, U32, S32, U64, S64, U128, S128, Float, Double, Pointer, Struct, LongDouble, Complex, Vector}
 
 -- the type of a tree
 abbrev pub type_of : Tree → FfiType
@@ -16,6 +16,8 @@ type_of (scalar u32) = U32
 type_of (scalar s32) = S32
 type_of (scalar u64) = U64
 type_of (scalar s64) = S64
+type_of (scalar u128) = U128
+type_of (scalar s128) = S128
 type_of (scalar float) = Float
 type_of (scalar double) = Double
 type_of (scalar pointer) = Pointer

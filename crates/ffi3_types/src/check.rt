@@ -77,6 +77,8 @@ fn check_node(ty: &FfiType, outer: u32, as_result: bool) -> Result<(), TypeFault
         | FfiType::S32
         | FfiType::U64
         | FfiType::S64
+        | FfiType::U128
+        | FfiType::S128
         | FfiType::Float
         | FfiType::Double
         | FfiType::Pointer => Ok(()),

@@ -6,13 +6,14 @@ ghost use Rattle.ffi3_types.specs.TreeOf.{tree_of};
 use crate::FfiType;
 
 impl FfiType {
-    /// Whether the type is one of the eight integer types.
+    /// Whether the type is one of the ten integer types.
     pub fn is_integer(&self) -> bool
         ensures { result ≡ is_integer_type (tree_of self.now) }
     {
         match self {
             FfiType::U8 | FfiType::S8 | FfiType::U16 | FfiType::S16 => true,
             FfiType::U32 | FfiType::S32 | FfiType::U64 | FfiType::S64 => true,
+            FfiType::U128 | FfiType::S128 => true,
             FfiType::Float | FfiType::Double | FfiType::Pointer => false,
             FfiType::Void | FfiType::Struct(_) => false,
             FfiType::LongDouble | FfiType::Complex | FfiType::Vector => false,
@@ -26,7 +27,7 @@ impl FfiType {
         match self {
             FfiType::U8 | FfiType::S8 | FfiType::U16 | FfiType::S16 => true,
             FfiType::U32 | FfiType::S32 | FfiType::U64 | FfiType::S64 => true,
-            FfiType::Pointer => true,
+            FfiType::U128 | FfiType::S128 | FfiType::Pointer => true,
             FfiType::Float | FfiType::Double | FfiType::Void | FfiType::Struct(_) => false,
             FfiType::LongDouble | FfiType::Complex | FfiType::Vector => false,
         }
@@ -40,7 +41,8 @@ impl FfiType {
             FfiType::Float | FfiType::Double => true,
             FfiType::U8 | FfiType::S8 | FfiType::U16 | FfiType::S16 => false,
             FfiType::U32 | FfiType::S32 | FfiType::U64 | FfiType::S64 => false,
-            FfiType::Pointer | FfiType::Void | FfiType::Struct(_) => false,
+            FfiType::U128 | FfiType::S128 | FfiType::Pointer => false,
+            FfiType::Void | FfiType::Struct(_) => false,
             FfiType::LongDouble | FfiType::Complex | FfiType::Vector => false,
         }
     }

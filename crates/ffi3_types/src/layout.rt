@@ -25,7 +25,7 @@ impl FfiType {
         self.extent().size
     }
 
-    /// Alignment in bytes: 1, 2, 4 or 8.
+    /// Alignment in bytes: 1, 2, 4, 8 or 16.
     pub fn align(&self) -> u64
         requires { IsResultType (tree_of self.now) }
         ensures { result ≡ align_of (tree_of self.now) }
@@ -62,6 +62,10 @@ impl FfiType {
             FfiType::U64 | FfiType::S64 | FfiType::Double | FfiType::Pointer => {
                 Extent { size: 8, align: 8 }
             }
+            FfiType::U128 | FfiType::S128 => Extent {
+                size: 16,
+                align: 16,
+            },
             FfiType::Struct(fields) => fields.extent(),
         }
     }

@@ -51,6 +51,8 @@ impl FfiType {
             | FfiType::S32
             | FfiType::U64
             | FfiType::S64
+            | FfiType::U128
+            | FfiType::S128
             | FfiType::Float
             | FfiType::Double
             | FfiType::Pointer => 1,
@@ -74,6 +76,8 @@ impl FfiType {
             FfiType::S32 => FfiType::S32,
             FfiType::U64 => FfiType::U64,
             FfiType::S64 => FfiType::S64,
+            FfiType::U128 => FfiType::U128,
+            FfiType::S128 => FfiType::S128,
             FfiType::Float => FfiType::Float,
             FfiType::Double => FfiType::Double,
             FfiType::Pointer => FfiType::Pointer,

@@ -21,8 +21,6 @@ mod path;
 mod same;
 mod sig;
 mod sigs;
-#[cfg(test)]
-mod tests;
 mod text;
 
 pub use bytes::Bytes;
@@ -56,6 +54,8 @@ pub enum FfiType {
     S32,
     U64,
     S64,
+    U128,
+    S128,
     /// A floating-point number of 32 bits.
     Float,
     /// A floating-point number of 64 bits.

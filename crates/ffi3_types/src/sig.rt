@@ -136,6 +136,7 @@ impl FfiType {
         match self {
             FfiType::U8 | FfiType::S8 | FfiType::U16 | FfiType::S16 | FfiType::Float => true,
             FfiType::U32 | FfiType::S32 | FfiType::U64 | FfiType::S64 => false,
+            FfiType::U128 | FfiType::S128 => false,
             FfiType::Double | FfiType::Pointer | FfiType::Struct(_) | FfiType::Void => false,
             FfiType::LongDouble | FfiType::Complex | FfiType::Vector => false,
         }

@@ -67,6 +67,8 @@ impl FfiType {
             FfiType::S32 => "sint32",
             FfiType::U64 => "uint64",
             FfiType::S64 => "sint64",
+            FfiType::U128 => "uint128",
+            FfiType::S128 => "sint128",
             FfiType::Float => "float",
             FfiType::Double => "double",
             FfiType::Pointer => "pointer",

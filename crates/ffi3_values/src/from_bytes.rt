@@ -32,6 +32,8 @@ pub fn value_from_bytes(alloc: Global, ty: &FfiType, bytes: &[u8]) -> Result<Val
         | FfiType::S32
         | FfiType::U64
         | FfiType::S64
+        | FfiType::U128
+        | FfiType::S128
         | FfiType::Float
         | FfiType::Double
         | FfiType::Pointer => Ok(Value::Leaf(Bytes::from_slice(alloc, bytes)?)),

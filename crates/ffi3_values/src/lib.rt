@@ -10,14 +10,12 @@ mod from_bytes;
 mod numbers;
 mod padding;
 mod shape;
-#[cfg(test)]
-mod tests;
 mod text;
 mod write;
 
 pub use ffi3_types::{Bytes, NoMemory};
 pub use from_bytes::{value_from_bytes, zero};
-pub use numbers::{add, integer, number, widen};
+pub use numbers::{add, bits, cast, integer, number, of_bits, sub, widen};
 pub use padding::differ_in_padding_alone;
 pub use shape::fits;
 use std::alloc::Global;

@@ -1,7 +1,8 @@
 // The numbers of integers and pointers.
-ghost use Rattle.std.specs.Prelude.{◌≡◌, ◌%◌, ◌^◌, ◌<◌, IfOk, length, true, pos, negsuc, ◌-◌, ◌≤ℤ◌, ◌<ℤ◌};
-ghost use Rattle.std.specs.Int.{w16, w32, w64, to_le_bytes, from_le_bytes};
-ghost use Rattle.ffi3_type_rules.specs.Integer.{is_number_type, scalar_of, number_of, bytes_of_number, sum_of, widened, width_of, bit_count};
+ghost use Rattle.std.specs.Prelude.{◌≡◌, ◌%◌, ◌^◌, ◌<◌, ◌≤◌, ◌↔◌, IfOk, length, true, pos, negsuc, ◌-◌, ◌-ℤ◌, ◌≤ℤ◌, ◌<ℤ◌};
+ghost use Rattle.std.specs.Int.{w16, w32, w64, w128, to_le_bytes, from_le_bytes};
+ghost use Rattle.ffi3_type_rules.specs.Integer.{is_number_type, scalar_of, number_of, bytes_of_number, sum_of, widened, width_of, bit_count, modulo};
+ghost use Rattle.ffi3_type_rules.specs.Layout.{size_of};
 ghost use Rattle.ffi3_type_rules.specs.Value.{fits, bytes_of, leaf_value};
 ghost use Rattle.ffi3_types.specs.TreeOf.{tree_of};
 ghost use Rattle.ffi3_values.specs.ValueOf.{value_of};
@@ -36,9 +37,21 @@ fn from_eight(bytes: &[u8]) -> u64
     ])
 }
 
-/// The number of an integer or a pointer, by its sign.
+/// The number of sixteen bytes, the lowest first.
+pub(crate) fn from_sixteen(bytes: &[u8]) -> u128
+    requires { length bytes.now ≡ 16 }
+    ensures { result ≡ from_le_bytes w128 bytes.now }
+{
+    u128::from_le_bytes([
+        bytes[0], bytes[1], bytes[2], bytes[3], bytes[4], bytes[5], bytes[6], bytes[7], bytes[8],
+        bytes[9], bytes[10], bytes[11], bytes[12], bytes[13], bytes[14], bytes[15],
+    ])
+}
+
+/// The number of an integer of at most 64 bits or of a pointer, by its sign.
 pub fn number(ty: &FfiType, value: &Value) -> i128
     requires kind { is_number_type (tree_of ty.now) ≡ true }
+    requires small { size_of (tree_of ty.now) ≤ 8 }
     requires fits { fits (tree_of ty.now) (value_of value.now) ≡ true }
     ensures value { result ≡ number_of (scalar_of (tree_of ty.now)) (bytes_of (value_of value.now)) }
     ensures low { negsuc (2 ^ 63 - 1) ≤ℤ result }
@@ -57,14 +70,34 @@ pub fn number(ty: &FfiType, value: &Value) -> i128
         FfiType::S32 => from_four(bytes).cast_signed() as i128,
         FfiType::S64 => from_eight(bytes).cast_signed() as i128,
         FfiType::U64 | FfiType::Pointer => from_eight(bytes) as i128,
+        FfiType::U128 | FfiType::S128 => unreachable!(),
         FfiType::Void | FfiType::Float | FfiType::Double | FfiType::Struct(_) => unreachable!(),
         FfiType::LongDouble | FfiType::Complex | FfiType::Vector => unreachable!(),
     }
 }
 
-/// The 8 bytes of an integer or a pointer in a register: libffi's `ffi_arg`, extended by the type's sign.
+/// The number of an integer or a pointer modulo two to the 128th: zero exactly where the number is.
+pub fn bits(ty: &FfiType, value: &Value) -> u128
+    requires kind { is_number_type (tree_of ty.now) ≡ true }
+    requires fits { fits (tree_of ty.now) (value_of value.now) ≡ true }
+    ensures value { result ≡ modulo 128 (number_of (scalar_of (tree_of ty.now)) (bytes_of (value_of value.now))) }
+    ensures zero { (result ≡ 0) ↔ (number_of (scalar_of (tree_of ty.now)) (bytes_of (value_of value.now)) ≡ pos 0) }
+{
+    match ty {
+        FfiType::U128 | FfiType::S128 => {
+            let Value::Leaf(leaf) = value else {
+                unreachable!()
+            };
+            from_sixteen(leaf.as_slice())
+        }
+        _ => number(ty, value).cast_unsigned(),
+    }
+}
+
+/// The 8 bytes of an integer of at most 64 bits or of a pointer in a register: libffi's `ffi_arg`, extended by the type's sign.
 pub fn widen(ty: &FfiType, value: &Value) -> u64
     requires kind { is_number_type (tree_of ty.now) ≡ true }
+    requires small { size_of (tree_of ty.now) ≤ 8 }
     requires fits { fits (tree_of ty.now) (value_of value.now) ≡ true }
     ensures { result ≡ widened (scalar_of (tree_of ty.now)) (bytes_of (value_of value.now)) }
 {
@@ -80,13 +113,21 @@ pub fn widen(ty: &FfiType, value: &Value) -> u64
         FfiType::U32 => from_four(bytes) as u64,
         FfiType::S32 => (from_four(bytes).cast_signed() as i64).cast_unsigned(),
         FfiType::U64 | FfiType::S64 | FfiType::Pointer => from_eight(bytes),
+        FfiType::U128 | FfiType::S128 => unreachable!(),
         FfiType::Void | FfiType::Float | FfiType::Double | FfiType::Struct(_) => unreachable!(),
         FfiType::LongDouble | FfiType::Complex | FfiType::Vector => unreachable!(),
     }
 }
 
+/// The bytes of a number of 128 bits.
+fn all_bytes(alloc: Global, n: u128) -> Result<Bytes, NoMemory>
+    ensures { IfOk result (λ b. b ≡ to_le_bytes w128 (n % 2 ^ 128)) }
+{
+    Bytes::from_slice(alloc, &n.to_le_bytes())
+}
+
 /// The integer or pointer whose bits are the lowest of `n`.
-fn from_bits(alloc: Global, ty: &FfiType, n: u64) -> Result<Value, NoMemory>
+pub fn of_bits(alloc: Global, ty: &FfiType, n: u128) -> Result<Value, NoMemory>
     requires { is_number_type (tree_of ty.now) ≡ true }
     ensures value { IfOk result
         (λ v. let w = width_of (scalar_of (tree_of ty.now)) in
@@ -103,9 +144,11 @@ fn from_bits(alloc: Global, ty: &FfiType, n: u64) -> Result<Value, NoMemory>
             alloc,
             &((n % 0x1_0000_0000) as u32).to_le_bytes(),
         )?,
-        FfiType::U64 | FfiType::S64 | FfiType::Pointer => {
-            Bytes::from_slice(alloc, &n.to_le_bytes())?
-        }
+        FfiType::U64 | FfiType::S64 | FfiType::Pointer => Bytes::from_slice(
+            alloc,
+            &((n % 0x1_0000_0000_0000_0000) as u64).to_le_bytes(),
+        )?,
+        FfiType::U128 | FfiType::S128 => all_bytes(alloc, n)?,
         FfiType::Void | FfiType::Float | FfiType::Double | FfiType::Struct(_) => unreachable!(),
         FfiType::LongDouble | FfiType::Complex | FfiType::Vector => unreachable!(),
     }))
@@ -118,8 +161,7 @@ pub fn integer(alloc: Global, ty: &FfiType, n: i128) -> Result<Value, NoMemory>
         (λ v. value_of v ≡ leaf_value (bytes_of_number (scalar_of (tree_of ty.now)) n)) }
     ensures fits { IfOk result (λ v. fits (tree_of ty.now) (value_of v) ≡ true) }
 {
-    let bits = n.cast_unsigned() % 0x1_0000_0000_0000_0000;
-    from_bits(alloc, ty, bits as u64)
+    of_bits(alloc, ty, n.cast_unsigned())
 }
 
 /// The sum of two integers or pointers, modulo two to the type's number of bits.
@@ -131,5 +173,30 @@ pub fn add(alloc: Global, ty: &FfiType, a: &Value, b: &Value) -> Result<Value, N
         (λ v. value_of v ≡ leaf_value (sum_of (scalar_of (tree_of ty.now)) (bytes_of (value_of a.now)) (bytes_of (value_of b.now)))) }
     ensures fits { IfOk result (λ v. fits (tree_of ty.now) (value_of v) ≡ true) }
 {
-    integer(alloc, ty, number(ty, a) + number(ty, b))
+    of_bits(alloc, ty, bits(ty, a).wrapping_add(bits(ty, b)))
+}
+
+/// The difference of two integers or pointers, modulo two to the type's number of bits.
+pub fn sub(alloc: Global, ty: &FfiType, a: &Value, b: &Value) -> Result<Value, NoMemory>
+    requires kind { is_number_type (tree_of ty.now) ≡ true }
+    requires fits { fits (tree_of ty.now) (value_of a.now) ≡ true }
+    requires fits_too { fits (tree_of ty.now) (value_of b.now) ≡ true }
+    ensures value { IfOk result
+        (λ v. let s = scalar_of (tree_of ty.now) in
+        value_of v ≡ leaf_value (bytes_of_number s (number_of s (bytes_of (value_of a.now)) -ℤ number_of s (bytes_of (value_of b.now))))) }
+    ensures fits { IfOk result (λ v. fits (tree_of ty.now) (value_of v) ≡ true) }
+{
+    of_bits(alloc, ty, bits(ty, a).wrapping_sub(bits(ty, b)))
+}
+
+/// The number of an integer or a pointer as one of another type, modulo two to that type's number of bits.
+pub fn cast(alloc: Global, from: &FfiType, to: &FfiType, value: &Value) -> Result<Value, NoMemory>
+    requires kind { is_number_type (tree_of to.now) ≡ true }
+    requires kind_before { is_number_type (tree_of from.now) ≡ true }
+    requires fits { fits (tree_of from.now) (value_of value.now) ≡ true }
+    ensures value { IfOk result
+        (λ v. value_of v ≡ leaf_value (bytes_of_number (scalar_of (tree_of to.now)) (number_of (scalar_of (tree_of from.now)) (bytes_of (value_of value.now))))) }
+    ensures fits { IfOk result (λ v. fits (tree_of to.now) (value_of v) ≡ true) }
+{
+    of_bits(alloc, to, bits(from, value))
 }

@@ -7,6 +7,7 @@ ghost use Rattle.ffi3_type_rules.specs.ValueText.{value_text_of, value_texts_of,
 ghost use Rattle.ffi3_types.specs.TreeOf.{tree_of};
 ghost use Rattle.ffi3_values.specs.ValueOf.{value_of};
 
+use crate::numbers::from_sixteen;
 use crate::{Bytes, NoMemory, Value, Values, number, widen};
 use ffi3_types::{FfiType, Fields};
 use std::alloc::Global;
@@ -44,6 +45,14 @@ fn write_text(alloc: Global, ty: &FfiType, value: &Value, text: &mut Bytes) -> R
             | FfiType::U64
             | FfiType::S64 => {
                 let number = number(ty, value);
+                text.extend(format!(in alloc; "{number}")?.as_bytes())
+            }
+            FfiType::U128 => {
+                let number = from_sixteen(bytes.as_slice());
+                text.extend(format!(in alloc; "{number}")?.as_bytes())
+            }
+            FfiType::S128 => {
+                let number = from_sixteen(bytes.as_slice()).cast_signed();
                 text.extend(format!(in alloc; "{number}")?.as_bytes())
             }
             FfiType::Void | FfiType::Struct(_) => unreachable!(),

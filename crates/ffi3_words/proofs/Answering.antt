@@ -6,8 +6,10 @@ use Rattle.clap.specs.declared.parser.matches.ArgMatches.{ArgMatches}
 use Rattle.ffi3_words.specs.declared.words.Request.{Request}
 use Rattle.ffi3_words.specs.declared.words.WordsFault.{WordsFault}
 use Rattle.ffi3_words.specs.declared.words.WordsFault.TheVariants.{Refused, NoMemory}
-use Rattle.ffi3_words.specs.WordCommands.{IsProgram, LacksNumbers, asked, program}
-use Rattle.ffi3_words.specs.Words.{IsRefusedForNumbers, IsWordsRefusal, IsStated, IsToldAs, Takes}
+use Rattle.ffi3_words.specs.WordCommands.{LacksNumbers, asked, program}
+use Rattle.ffi3_words.specs.CommandParts.{IsProgram}
+use Rattle.ffi3_words.specs.Words.{IsRefusedForNumbers, IsStated, Takes}
+use Rattle.ffi3_words.specs.WordAnswers.{IsWordsRefusal, IsToldAs}
 use Rattle.ffi3_words.proofs.Asked.{Decides, something_asked}
 use Rattle.ffi3_words.proofs.Program.{is_free, is_plain}
 use Rattle.ffi3_words.proofs.Anywhere.{same_fault, same_command}

@@ -6,7 +6,8 @@ use Rattle.clap.specs.declared.builder.command.Command.{Command}
 use Rattle.clap.specs.declared.builder.value_parser.ValueParser.{ValueParser}
 use Rattle.clap.specs.declared.builder.value_parser.ValueParser.TheVariants as vp
 use Rattle.clap.proofs.OnLiterals.{clap_on_literals}
-use Rattle.ffi3_words.specs.WordCommands.{Addresses, lent, one_of_words, targets, target_rule, trace_rule, bench_shape, layout_shape, program_alone, program, IsProgram, IsTargetRule, HasTarget, IsTraceable}
+use Rattle.ffi3_words.specs.WordCommands.{Addresses, lent, one_of_words, targets, target_rule, trace_rule, bench_shape, layout_shape, program_alone, program}
+use Rattle.ffi3_words.specs.CommandParts.{IsProgram, IsTargetRule, HasTarget, IsTraceable}
 
 -- where texts lie
 abbrev addresses : List (Bor Text) → Addresses

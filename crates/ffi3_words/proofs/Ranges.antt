@@ -7,7 +7,7 @@ use Rattle.ffi3_type_rules.specs.declared.Target.{Target}
 use Rattle.ffi3_words.specs.declared.words.Request.{Request}
 use Rattle.ffi3_words.specs.declared.words.Request.TheVariants.{Layout, Place, Run, Bench}
 use Rattle.ffi3_words.specs.WordCommands.{asked, bench_of, is_set, number_of, target_of, with_calls, with_target_of}
-use Rattle.ffi3_words.specs.Words.{IsInRange}
+use Rattle.ffi3_words.specs.WordAnswers.{IsInRange}
 
 abbrev IfInRange : Option Request → Type 0
 IfInRange None = Unit {0}

@@ -1,2 +1,4 @@
 pub mod WordCommands
+pub mod CommandParts
 pub mod Words
+pub mod WordAnswers

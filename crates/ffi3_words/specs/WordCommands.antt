@@ -91,11 +91,6 @@ program_with placing running =
 abbrev pub program : Addresses → Addresses → App
 program at at' = program_with (one_of_words at targets) (one_of_words at' targets)
 
-pub record IsProgram (a : App) : Type 0 where
-  pub placing : Addresses
-  pub running : Addresses
-  pub same : a ≡ program placing running
-
 -- ---- what is asked for
 
 abbrev pub with_target_of : Option Text → (Target → Request) → Option Request
@@ -136,17 +131,3 @@ abbrev pub LacksNumbers : Option (Text × List Row) → Type 0
 LacksNumbers None = ⊥
 LacksNumbers (Some p) =
     (p.0 ≡ codes "bench") × (bench_of (first_of (codes "seed") p.1) (first_of (codes "calls") p.1) ≡ None)
-
--- ---- what the code states of its parts
-
-pub record IsTargetRule (words : List (Bor Text)) (r : Rule) : Type 0 where
-  pub list : ℕ × ℕ
-  pub same : r ≡ target_rule (vp.Names (record { ref_ptr = list; now = words }))
-
-pub record HasTarget (name : Text) (words : List Text) (s : Shape) : Type 0 where
-  pub at : Addresses
-  pub same : s ≡ with_target name (one_of_words at words)
-
-pub record IsTraceable (name : Text) (words : List Text) (s : Shape) : Type 0 where
-  pub at : Addresses
-  pub same : s ≡ with_trace name (one_of_words at words)

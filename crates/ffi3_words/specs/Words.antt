@@ -1,15 +1,11 @@
 -- The words that ask for something, and those that clap takes and refuses.
 use Rattle.std.specs.Prelude.{◌≡◌, ◌⊎◌, ◌<◌, ◌≤◌, ◌^◌, true, false, List, [], ◌∷◌, codes, decimal, Some}
-use Rattle.clap.specs.Words.{Text, fault_of, kind_of, subcommand_of}
-use Rattle.clap.specs.declared.error.Error.{Error}
-use Rattle.clap.specs.declared.error.kind.ErrorKind.TheVariants.{OutOfMemory}
+use Rattle.clap.specs.Words.{Text, fault_of, subcommand_of}
 use Rattle.ffi3_type_rules.specs.declared.limits.TheConstants.{MOST_CALLS}
 use Rattle.ffi3_type_rules.specs.declared.Target.{Target}
 use Rattle.ffi3_type_rules.specs.declared.Target.TheVariants.{Amd64, Aapcs64, Riscv}
 use Rattle.ffi3_words.specs.declared.words.Request.{Request}
 use Rattle.ffi3_words.specs.declared.words.Request.TheVariants.{Layout, Place, Run, Bench}
-use Rattle.ffi3_words.specs.declared.words.WordsFault.{WordsFault}
-use Rattle.ffi3_words.specs.declared.words.WordsFault.TheVariants.{Refused, NoMemory}
 use Rattle.ffi3_words.specs.WordCommands.{Addresses, LacksNumbers, program, asked}
 
 abbrev pub target_word : Target → Text
@@ -26,13 +22,6 @@ StatesAfterName rest (Run t true) =
     (rest ≡ codes "run" ∷ codes "--trace" ∷ codes "--target" ∷ target_word t ∷ []) ⊎ (rest ≡ codes "run" ∷ codes "--target" ∷ target_word t ∷ codes "--trace" ∷ [])
 StatesAfterName rest (Bench seed calls) =
     (seed < 2 ^ 32) × (1 ≤ calls) × (calls ≤ MOST_CALLS) × ((rest ≡ codes "bench" ∷ codes "--seed" ∷ decimal seed ∷ codes "--calls" ∷ decimal calls ∷ []) ⊎ (rest ≡ codes "bench" ∷ codes "--calls" ∷ decimal calls ∷ codes "--seed" ∷ decimal seed ∷ []))
-
--- the numbers that are asked for lie in their ranges: a seed has 32 bits by its type
-abbrev pub IsInRange : Request → Type 0
-IsInRange Layout = Unit {0}
-IsInRange (Place t) = Unit {0}
-IsInRange (Run t trace) = Unit {0}
-IsInRange (Bench seed calls) = (1 ≤ calls) × (calls ≤ MOST_CALLS)
 
 -- THE STATED WORDS of what is asked for: the program's name, and then `layout`, `place --target T`, `run --target T`, where `--trace` stands before the target or after it, or `bench --seed N --calls M` in either order, N below 2 to the 32, M from 1 to 1000
 abbrev pub IsStated : List Text → Request → Type 0
@@ -56,12 +45,3 @@ pub record IsRefusedForNumbers (words : List Text) : Type 0 where
 -- THE WORDS ARE REFUSED, by clap or for the numbers of `bench`
 abbrev pub IsRefused : List Text → Type 0
 IsRefused words = IsRefusedByClap words ⊎ IsRefusedForNumbers words
-
-abbrev pub IsWordsRefusal : List Text → WordsFault → Type 0
-IsWordsRefusal words (Refused text) = IsRefused words × ((r : Request) → IsStated words r → ⊥)
-IsWordsRefusal words NoMemory = Unit {0}
-
--- an error of clap is told as this: its text, where it is not want of memory
-abbrev pub IsToldAs : Error → WordsFault → Type 0
-IsToldAs e (Refused text) = kind_of e ≡ OutOfMemory → ⊥
-IsToldAs e NoMemory = Unit {0}

@@ -2,7 +2,8 @@
 ghost use Rattle.std.specs.Prelude.{◌≡◌, IfOk, false, codes};
 ghost use Rattle.clap.specs.Words.{app_of, rule_of, shape_of};
 ghost use Rattle.clap.specs.declared.builder.command.Command.TheViews.{out-Command};
-ghost use Rattle.ffi3_words.specs.WordCommands.{IsProgram, IsTargetRule, HasTarget, IsTraceable, bench_shape, calls_rule, layout_shape, seed_rule, targets, trace_rule};
+ghost use Rattle.ffi3_words.specs.WordCommands.{bench_shape, calls_rule, layout_shape, seed_rule, targets, trace_rule};
+ghost use Rattle.ffi3_words.specs.CommandParts.{IsProgram, IsTargetRule, HasTarget, IsTraceable};
 
 use crate::help;
 use clap::{Arg, ArgAction, Command};

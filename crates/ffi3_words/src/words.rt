@@ -2,7 +2,8 @@
 ghost use Rattle.std.specs.Prelude.{◌≡◌, IfOk, IfErr, Some, map, option_map, string_bytes};
 ghost use Rattle.clap.specs.Words.{subcommand_rows_of};
 ghost use Rattle.ffi3_words.specs.WordCommands.{asked, bench_of, is_set, number_of, request_of, target_of};
-ghost use Rattle.ffi3_words.specs.Words.{IsInRange, IsStated, IsWordsRefusal, IsToldAs, Takes};
+ghost use Rattle.ffi3_words.specs.Words.{IsStated, Takes};
+ghost use Rattle.ffi3_words.specs.WordAnswers.{IsInRange, IsWordsRefusal, IsToldAs};
 
 use crate::command::program;
 use crate::help;

@@ -1,13 +1,26 @@
-use Rattle.std.proofs.Common.{ap, sym, ◌∙◌}
+use Rattle.std.proofs.Common.{◌≡◌, refl, ap, sym, ◌∙◌}
+use Rattle.ffi3_type_rules.specs.Tree.{void}
+use Rattle.ffi3_types.specs.declared.FfiType.{FfiType}
+use Rattle.ffi3_types.specs.declared.FfiType.TheVariants.{Void}
 use Rattle.ffi3_types.specs.TreeOf.{tree_of}
 use Rattle.ffi3_place_rules.specs.declared.Loc.TheVariants.{G}
-use Rattle.ffi3_place_rules.specs.declared.Res.TheVariants.{Hidden}
+use Rattle.ffi3_place_rules.specs.declared.Res.TheVariants.{Direct, Hidden}
 use Rattle.ffi3_place_rules.specs.Standard.{result_at}
 use Rattle.ffi3_aapcs64_rules.specs.Aapcs64.{aapcs64}
-use Rattle.ffi3_aapcs64_rules.proofs.Steps.{spot_of_copied}
+use Rattle.ffi3_aapcs64_rules.proofs.Steps.{spot_of_copied, spot_of_registers}
 use Rattle.ffi3_aapcs64.proofs.place_result.Goals as goal
+
+not_void : (ty : FfiType) → ¬ (ty ≡ Void) → ¬ (tree_of ty ≡ void)
+not_void Void some e = some refl
+not_void _ some e = cc
 
 pub returns-then-is_copied : goal.returns-then-is_copied
 returns-then-is_copied c =
     let t = tree_of c.args.ty.now in
-    ap (Hidden (G 8)) c.copy_start.ensures ∙ ap (λ spot. result_at aapcs64.copy_start c.args.end t spot) (sym (spot_of_copied t (sym c.is_copied.ensures ∙ c.if-is_copied.true)))
+    ap (Hidden (G 8)) c.start.ensures.value ∙ ap (λ spot. result_at aapcs64.copy_start c.args.end t spot) (sym (spot_of_copied t (sym c.is_copied.ensures ∙ c.if-is_copied.true)))
+
+pub returns : goal.returns
+returns c =
+    let t = tree_of c.args.ty.now in
+    let some = not_void c.args.ty.now c.in_default.not-Void in
+    ap Direct c.in_ok-pieces_in_registers.ensures ∙ ap (λ spot. result_at aapcs64.copy_start c.args.end t spot) (sym (spot_of_registers t some (sym c.is_copied.ensures ∙ c.if-is_copied.false)))

@@ -1,6 +1,7 @@
-use Rattle.std.proofs.Common.{◌≡◌, ◌*◌, ◌≤◌, ◌++◌, drop}
-use Rattle.ffi3_place_rules.specs.Standard.{at_once, places_from}
-use Rattle.ffi3_amd64_rules.specs.Amd64.{taken_after, taken_at_first, spots_after}
+use Rattle.std.proofs.Common.{◌≡◌, ◌+◌, ◌*◌, ◌≤◌, ◌++◌, drop}
+use Rattle.ffi3_type_rules.specs.declared.limits.TheConstants.{ARGUMENT_SPAN}
+use Rattle.ffi3_place_rules.specs.Standard.{places_from}
+use Rattle.ffi3_amd64_rules.specs.Amd64.{amd64, taken_after, taken_at_first, spots_after}
 use Rattle.ffi3_amd64.proofs.place_all.Given as goal
 
 abbrev pub invariant-loop-i : goal.invariant-loop-i
@@ -8,6 +9,6 @@ invariant-loop-i l = record {
   taken : taken_after l.before (drop l.i l.sig.arguments) ≡ taken_after (taken_at_first l.sig.result_type) l.sig.arguments;
   few_general : l.before.general ≤ 6;
   few_vector : l.before.vector ≤ 8;
-  low : l.before.stack ≤ 1031 * l.i;
-  done : l.places ++ places_from at_once 0 (drop l.i l.sig.arguments) (spots_after l.before (drop l.i l.sig.arguments)) ≡ places_from at_once 0 l.sig.arguments (spots_after (taken_at_first l.sig.result_type) l.sig.arguments);
+  low : l.before.stack ≤ ARGUMENT_SPAN * l.i;
+  done : l.places ++ places_from amd64.copy_start 0 (drop l.i l.sig.arguments) (spots_after l.before (drop l.i l.sig.arguments)) ≡ places_from amd64.copy_start 0 l.sig.arguments (spots_after (taken_at_first l.sig.result_type) l.sig.arguments);
 }

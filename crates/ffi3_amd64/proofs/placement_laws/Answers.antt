@@ -1,5 +1,5 @@
-use Rattle.ffi3_amd64_rules.proofs.Sums.{call_by_sums}
+use Rattle.ffi3_amd64_rules.proofs.Ends.{call_by_ends}
 use Rattle.ffi3_amd64.proofs.placement_laws.Goals as goal
 
 pub returns : goal.returns
-returns c = call_by_sums c.args._sig.now
+returns c = call_by_ends c.args._sig.now

@@ -23,17 +23,17 @@ pub overflow_add-from : goal.overflow_add-from
 overflow_add-from g c =
     let s = c.args.cif.now in
     let offset_is = c.offset_of-offset.ensures ∙ ap (λ r. block_offset r.arguments c.args.i) c.sig-sig.ensures.value in
-    omega (arith, offset_is, whole_within s c.args.i c.requires.in_range, c.requires.incoming.entry, c.requires.incoming.high)
+    omega (arith, c.block.ensures, offset_is, whole_within s c.args.i c.requires.in_range, c.requires.incoming.entry, c.requires.incoming.high)
 
 pub lend_stack-requires-clause-low : goal.lend_stack-requires-clause-low
-lend_stack-requires-clause-low g c = omega (arith, c.requires.incoming.low)
+lend_stack-requires-clause-low g c = omega (arith, c.block.ensures, c.requires.incoming.low)
 
 pub lend_stack-requires-clause-high : goal.lend_stack-requires-clause-high
 lend_stack-requires-clause-high g c =
     let s = c.args.cif.now in
     let offset_is = c.offset_of-offset.ensures ∙ ap (λ r. block_offset r.arguments c.args.i) c.sig-sig.ensures.value in
     let size_is = c.size_of-size.ensures.value ∙ ap size_of (c.argument-ty.ensures.element ∙ ap (λ r. tree_at r.arguments c.args.i) c.sig-sig.ensures.value) in
-    omega (arith, offset_is, size_is, least_multiple-above 8 (size_of (tree_at s.arguments c.args.i)), whole_within s c.args.i c.requires.in_range, c.requires.incoming.entry, c.requires.incoming.high)
+    omega (arith, c.block.ensures, offset_is, size_is, least_multiple-above 8 (size_of (tree_at s.arguments c.args.i)), whole_within s c.args.i c.requires.in_range, c.requires.incoming.entry, c.requires.incoming.high)
 
 pub returns-clause-are : goal.returns-clause-are
 returns-clause-are g c =
@@ -41,7 +41,7 @@ returns-clause-are g c =
     let block = c.args.incoming.now.block in
     let offset_is = c.offset_of-offset.ensures ∙ ap (λ r. block_offset r.arguments c.args.i) c.sig-sig.ensures.value in
     let size_is = c.size_of-size.ensures.value ∙ ap size_of (c.argument-ty.ensures.element ∙ ap (λ r. tree_at r.arguments c.args.i) c.sig-sig.ensures.value) in
-    c.lend_stack.ensures.value ∙ ap (λ n. stack_at (block + n) c.size_of-size.result c.args.machine.now) offset_is ∙ ap (λ n. stack_at (block + block_offset s.arguments c.args.i) n c.args.machine.now) size_is
+    c.lend_stack.ensures.value ∙ ap (λ n. stack_at (n + c.offset_of-offset.result) c.size_of-size.result c.args.machine.now) c.block.ensures ∙ ap (λ n. stack_at (block + n) c.size_of-size.result c.args.machine.now) offset_is ∙ ap (λ n. stack_at (block + block_offset s.arguments c.args.i) n c.args.machine.now) size_is
 
 pub returns-clause-count : goal.returns-clause-count
 returns-clause-count g c =
@@ -56,6 +56,6 @@ returns-clause-value g c = λ vs all.
     let block = c.args.incoming.now.block in
     let offset_is = c.offset_of-offset.ensures ∙ ap (λ r. block_offset r.arguments i) c.sig-sig.ensures.value in
     let size_is = c.size_of-size.ensures.value ∙ ap size_of (c.argument-ty.ensures.element ∙ ap (λ r. tree_at r.arguments i) c.sig-sig.ensures.value) in
-    let here = c.lend_stack.ensures.value ∙ ap (λ n. stack_at (block + n) c.size_of-size.result m) offset_is ∙ ap (λ n. stack_at (block + block_offset s.arguments i) n m) size_is in
+    let here = c.lend_stack.ensures.value ∙ ap (λ n. stack_at (n + c.offset_of-offset.result) c.size_of-size.result c.args.machine.now) c.block.ensures ∙ ap (λ n. stack_at (block + n) c.size_of-size.result m) offset_is ∙ ap (λ n. stack_at (block + block_offset s.arguments i) n m) size_is in
     let inside : block_offset s.arguments i + size_of t ≤ block_bytes s = omega (arith, least_multiple-above 8 (size_of t), whole_within s i c.requires.in_range) in
     ap (value_in t) (here ∙ sym (stack_inside block (block_bytes s) (block_offset s.arguments i) (size_of t) m c.requires.incoming.low inside)) ∙ sym (argument_here s.arguments (stack_at block (block_bytes s) m) i c.requires.in_range) ∙ ap (λ ws. slice_index_or ws i void_value) all

@@ -2,7 +2,7 @@ use Rattle.std.proofs.Common.{subst, arith, rules}
 use Rattle.ffi3_types.specs.TreeOf.{tree_of}
 use Rattle.ffi3_values.specs.ValueOf.{value_of}
 use Rattle.ffi3_place_rules.specs.Sound.{IsExtended}
-use Rattle.ffi3_pieces.proofs.Filling.{narrow_number, free_stored, boxed_stored, widened_stored, from_32_stored}
+use Rattle.ffi3_pieces.proofs.Filling.{narrow_number, narrow_small, free_stored, boxed_stored, widened_stored, from_32_stored}
 use Rattle.ffi3_pieces.proofs.fill_piece.Goals as goal
 
 pub set_piece-requires-clause-fits : goal.set_piece-requires-clause-fits
@@ -13,6 +13,12 @@ widen-requires-clause-kind c = narrow_number (tree_of c.args.ty.now) (subst (IsE
 
 pub widen_from_32-requires-clause-kind : goal.widen_from_32-requires-clause-kind
 widen_from_32-requires-clause-kind c = narrow_number (tree_of c.args.ty.now) (subst (IsExtended (tree_of c.args.ty.now) c.args.piece) c.in-Riscv.is c.requires.part.extended).0
+
+pub widen-requires-clause-small : goal.widen-requires-clause-small
+widen-requires-clause-small c = narrow_small (tree_of c.args.ty.now) (subst (IsExtended (tree_of c.args.ty.now) c.args.piece) c.in-Widen.is c.requires.part.extended).0
+
+pub widen_from_32-requires-clause-small : goal.widen_from_32-requires-clause-small
+widen_from_32-requires-clause-small c = narrow_small (tree_of c.args.ty.now) (subst (IsExtended (tree_of c.args.ty.now) c.args.piece) c.in-Riscv.is c.requires.part.extended).0
 
 pub boxed-requires : goal.boxed-requires
 boxed-requires c =

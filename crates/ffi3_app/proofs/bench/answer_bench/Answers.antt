@@ -1,5 +1,5 @@
 use Rattle.std.proofs.Common.{refl}
-use Rattle.ffi3_app.specs.Top.{was_interrupted, was_done, had_no_memory}
+use Rattle.ffi3_app.specs.BenchStatus.{was_interrupted, was_done, had_no_memory}
 use Rattle.ffi3_app.proofs.Saying.{fault_counted, five_not_two, four_not_two, no_fault_counted, told_not_two}
 use Rattle.ffi3_app.proofs.bench.answer_bench.Goals as goal
 

@@ -1,9 +1,10 @@
 use Rattle.std.proofs.Common.{drop}
 use Rattle.ffi3_script.specs.ScriptOf.{script_of}
-use Rattle.ffi3_app.specs.Commands.{joined, lines_from, layout_lines, layout_text}
+use Rattle.std.specs.List.{concat}
+use Rattle.ffi3_app.specs.Commands.{lines_from, layout_lines, layout_text}
 use Rattle.ffi3_app.proofs.Pieces.{Continues}
 use Rattle.ffi3_app.proofs.layout.layout.Given as goal
 
 abbrev pub invariant-loop-i : goal.invariant-loop-i
 invariant-loop-i g l =
-    Continues (layout_text (script_of l.script)) (joined (lines_from layout_lines l.i (drop l.i (script_of l.script).signatures))) (g.O.Sink.state l.fn.output) (g.O.Sink.state l.output)
+    Continues (layout_text (script_of l.script)) (concat (lines_from layout_lines l.i (drop l.i (script_of l.script).signatures))) (g.O.Sink.state l.fn.output) (g.O.Sink.state l.output)

@@ -1,9 +1,10 @@
 use Rattle.std.proofs.Common.{drop, [], map, ◌++◌}
 use Rattle.ffi3_text.specs.LayoutLines.{layout_text_of}
-use Rattle.ffi3_app.specs.Commands.{joined, layout_lines, arguments_from}
+use Rattle.std.specs.List.{concat}
+use Rattle.ffi3_app.specs.Commands.{layout_lines, arguments_from}
 use Rattle.ffi3_app.proofs.Pieces.{Continues}
 use Rattle.ffi3_app.proofs.layout.layout_of.Given as goal
 
 abbrev pub invariant-loop-j : goal.invariant-loop-j
 invariant-loop-j g l =
-    Continues (joined (layout_lines l.number l.sig)) (joined (map (layout_text_of l.number l.sig) (arguments_from l.j (drop l.j l.sig.arguments)) ++ [])) (g.O.Sink.state l.fn.output) (g.O.Sink.state l.output)
+    Continues (concat (layout_lines l.number l.sig)) (concat (map (layout_text_of l.number l.sig) (arguments_from l.j (drop l.j l.sig.arguments)) ++ [])) (g.O.Sink.state l.fn.output) (g.O.Sink.state l.output)

@@ -1,7 +1,8 @@
 use Rattle.std.proofs.Common.{rules, ◌≡◌, ◌∙◌}
 use Rattle.std.specs.Prelude.{Err}
 use Rattle.ffi3_script.specs.ScriptOf.{script_of}
-use Rattle.ffi3_app.specs.Commands.{joined, place_lines, place_text}
+use Rattle.std.specs.List.{concat}
+use Rattle.ffi3_app.specs.Commands.{place_lines, place_text}
 use Rattle.ffi3_app.proofs.Pieces.{continues_on, continues_ended, continues_done, lines_of, lines_end}
 use Rattle.ffi3_app.proofs.Right.{right_at}
 use Rattle.ffi3_app.proofs.place.place_by.Goals as goal
@@ -15,13 +16,13 @@ returns-in_err-place_of g c =
     let std = g.A.Abi.standard in
     let script = script_of c.args.script.now in
     let ended : c.from_residual-in_err-place_of.result ≡ Err c.in_err-place_of.field-0.0 = search rules in
-    continues_ended (place_text std script) _ _ _ c.loop-i.invariant (joined (place_lines std c.loop-i.i c.in_ok-cif.cif)) _ _ _ _ (lines_of (place_lines std) script.signatures c.loop-i.i c.sigs-sigs.result.now c.in_ok-cif.cif c.sigs-sigs.ensures.are (search rules) (c.in_ok-cif.ensures ∙ c.get.ensures)) c.in_err-place_of.ensures ended
+    continues_ended (place_text std script) _ _ _ c.loop-i.invariant (concat (place_lines std c.loop-i.i c.in_ok-cif.cif)) _ _ _ _ (lines_of (place_lines std) script.signatures c.loop-i.i c.sigs-sigs.result.now c.in_ok-cif.cif c.sigs-sigs.ensures.are (search rules) (c.in_ok-cif.ensures ∙ c.get.ensures)) c.in_err-place_of.ensures ended
 
 pub loop-i-preserved : goal.loop-i-preserved
 loop-i-preserved g c =
     let std = g.A.Abi.standard in
     let script = script_of c.args.script.now in
-    continues_on (place_text std script) _ _ _ c.loop-i.invariant (joined (place_lines std c.loop-i.i c.in_ok-cif.cif)) _ _ (lines_of (place_lines std) script.signatures c.loop-i.i c.sigs-sigs.result.now c.in_ok-cif.cif c.sigs-sigs.ensures.are (search rules) (c.in_ok-cif.ensures ∙ c.get.ensures)) c.in_ok-place_of.ensures
+    continues_on (place_text std script) _ _ _ c.loop-i.invariant (concat (place_lines std c.loop-i.i c.in_ok-cif.cif)) _ _ (lines_of (place_lines std) script.signatures c.loop-i.i c.sigs-sigs.result.now c.in_ok-cif.cif c.sigs-sigs.ensures.are (search rules) (c.in_ok-cif.ensures ∙ c.get.ensures)) c.in_ok-place_of.ensures
 
 pub returns : goal.returns
 returns g c =

@@ -8,6 +8,6 @@ pub argument-ty-requires-clause-within : goal.argument-ty-requires-clause-within
 argument-ty-requires-clause-within g c =
     omega (arith, c.requires.within, ap (λ r. length r.arguments) c.sig-sig.ensures.value)
 
-pub value_from_bytes-requires-clause-sized : goal.value_from_bytes-requires-clause-sized
-value_from_bytes-requires-clause-sized g c =
+pub write_value-requires-clause-sized : goal.write_value-requires-clause-sized
+write_value-requires-clause-sized g c =
     c.arg-bytes.ensures.count ∙ ap size_of (sym (c.argument-ty.ensures.element ∙ ap (λ r. tree_at r.arguments c.args.i) c.sig-sig.ensures.value))

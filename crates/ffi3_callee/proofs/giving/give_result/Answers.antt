@@ -11,18 +11,19 @@ use Rattle.ffi3_callee.proofs.giving.give_result.Goals as goal
 
 pub give-requires-clause-low : goal.give-requires-clause-low
 give-requires-clause-low g c =
-    omega (arith, c.requires.incoming.low, c.requires.incoming.entry)
+    omega (arith, c.entry.ensures, c.requires.incoming.low, c.requires.incoming.entry)
 
 pub give-requires-clause-high : goal.give-requires-clause-high
 give-requires-clause-high g c =
-    omega (arith, c.LINK.ensures, g.met.A.Abi.link_is, c.requires.incoming.high)
+    omega (arith, c.entry.ensures, c.LINK.ensures, g.met.A.Abi.link_is, c.requires.incoming.high)
 
 pub give-requires-clause-address : goal.give-requires-clause-address
 give-requires-clause-address g c =
     let std = g.A.Abi.standard in
     let entry = c.args.incoming.now.entry in
-    let base : entry + std.link ≡ entry + c.LINK.result = omega (arith, c.LINK.ensures, g.met.A.Abi.link_is) in
-    subst (λ n. IsAddressOf n c.args.incoming.now.address (plan_of std c.args.cif.now).res) base c.requires.incoming.address
+    let base : entry + std.link ≡ c.entry.result + c.LINK.result = omega (arith, c.entry.ensures, c.LINK.ensures, g.met.A.Abi.link_is) in
+    let address : IsAddressOf (c.entry.result + c.LINK.result) c.args.incoming.now.address (plan_of std c.args.cif.now).res = subst (λ n. IsAddressOf n c.args.incoming.now.address (plan_of std c.args.cif.now).res) base c.requires.incoming.address in
+    subst (λ n. IsAddressOf (c.entry.result + c.LINK.result) n (plan_of std c.args.cif.now).res) (sym c.address-address.ensures) address
 
 pub give-requires-clause-returned_settable : goal.give-requires-clause-returned_settable
 give-requires-clause-returned_settable g c =
@@ -39,7 +40,7 @@ returns-clause-holds g c =
     let std = g.A.Abi.standard in
     let s = c.args.cif.now in
     let entry = c.args.incoming.now.entry in
-    let base : entry + c.LINK.result ≡ entry + std.link = omega (arith, c.LINK.ensures, g.met.A.Abi.link_is) in
+    let base : c.entry.result + c.LINK.result ≡ entry + std.link = omega (arith, c.entry.ensures, c.LINK.ensures, g.met.A.Abi.link_is) in
     subst (λ n. HoldsResult std s (value_of c.args.value.now) (image_from n (frame_of std s) c.give.new.machine)) base c.give.ensures.holds
 
 pub returns-clause-reserved : goal.returns-clause-reserved
@@ -54,19 +55,19 @@ returns-clause-unused g c =
     let std = g.A.Abi.standard in
     let s = c.args.cif.now in
     let entry = c.args.incoming.now.entry in
-    keeps_from (entry + c.LINK.result) (entry + std.link) s.result_type (plan_of std s).res c.args.machine.now c.give.new.machine (omega (arith, c.LINK.ensures, g.met.A.Abi.link_is)) c.give.ensures.unused
+    keeps_from (c.entry.result + c.LINK.result) (entry + std.link) s.result_type (plan_of std s).res c.args.machine.now c.give.new.machine (omega (arith, c.entry.ensures, c.LINK.ensures, g.met.A.Abi.link_is)) c.give.ensures.unused
 
 pub returns-clause-saved : goal.returns-clause-saved
 returns-clause-saved g c = λ start hidden entry_state saved.
     let std = g.A.Abi.standard in
     let s = c.args.cif.now in
     let incoming = c.requires.incoming in
-    saved_below (c.args.incoming.now.entry - std.save) (c.args.incoming.now.entry + c.LINK.result) start s.result_type (plan_of std s).res hidden std.save_area entry_state c.args.machine.now c.give.new.machine (omega (arith, incoming.low, incoming.entry)) (omega (arith, g.met.A.Abi.agrees.area, incoming.entry)) c.give.ensures.writes saved
+    saved_below (c.args.incoming.now.entry - std.save) (c.entry.result + c.LINK.result) start s.result_type (plan_of std s).res hidden std.save_area entry_state c.args.machine.now c.give.new.machine (omega (arith, c.entry.ensures, incoming.low, incoming.entry)) (omega (arith, c.entry.ensures, g.met.A.Abi.agrees.area, incoming.entry)) c.give.ensures.writes saved
 
 pub returns-clause-writes : goal.returns-clause-writes
 returns-clause-writes g c =
     let std = g.A.Abi.standard in
     let s = c.args.cif.now in
     let entry = c.args.incoming.now.entry in
-    let base : entry + c.LINK.result ≡ entry + std.link = omega (arith, c.LINK.ensures, g.met.A.Abi.link_is) in
+    let base : c.entry.result + c.LINK.result ≡ entry + std.link = omega (arith, c.entry.ensures, c.LINK.ensures, g.met.A.Abi.link_is) in
     subst (λ n. ResultWrites n s.result_type (plan_of std s).res c.args.machine.now c.give.new.machine) base c.give.ensures.writes

@@ -13,11 +13,11 @@ use Rattle.ffi3_callee.proofs.restoring.restore.Goals as goal
 
 pub restore_words-requires-clause-low : goal.restore_words-requires-clause-low
 restore_words-requires-clause-low g c =
-    omega (arith, c.SAVE.ensures, g.met.A.Abi.save_is, c.requires.incoming.low, c.requires.incoming.entry)
+    omega (arith, c.entry-entry.ensures, c.SAVE.ensures, g.met.A.Abi.save_is, c.requires.incoming.low, c.requires.incoming.entry)
 
 pub restore_words-requires-clause-high : goal.restore_words-requires-clause-high
 restore_words-requires-clause-high g c =
-    omega (arith, c.SAVE.ensures, g.met.A.Abi.save_is, g.met.A.Abi.agrees.area, c.requires.incoming.entry, c.requires.incoming.high)
+    omega (arith, c.entry-entry.ensures, c.SAVE.ensures, g.met.A.Abi.save_is, g.met.A.Abi.agrees.area, c.requires.incoming.entry, c.requires.incoming.high)
 
 pub restore_words-requires-clause-registers : goal.restore_words-requires-clause-registers
 restore_words-requires-clause-registers g c =
@@ -26,28 +26,28 @@ restore_words-requires-clause-registers g c =
 pub returns-clause-given_back : goal.returns-clause-given_back
 returns-clause-given_back g c = λ value.
     let std = g.A.Abi.standard in
-    let area : c.args.incoming.entry - c.SAVE.result ≡ c.args.incoming.entry - std.save = omega (arith, c.SAVE.ensures, g.met.A.Abi.save_is) in
+    let area : c.entry-entry.result - c.SAVE.result ≡ c.args.incoming.entry - std.save = omega (arith, c.entry-entry.ensures, c.SAVE.ensures, g.met.A.Abi.save_is) in
     subst (λ n. AreGivenBack n std.save_area value c.args.machine.now c.set_sp.new.self) area
-    (back_any_sp (c.args.incoming.entry - c.SAVE.result) c.args.incoming.entry std.save_area value c.args.machine.now c.restore_words.new.machine c.set_sp.new.self c.set_sp.ensures (c.restore_words.ensures.given_back value))
+    (back_any_sp (c.entry-entry.result - c.SAVE.result) c.entry-entry.result std.save_area value c.args.machine.now c.restore_words.new.machine c.set_sp.new.self c.set_sp.ensures (c.restore_words.ensures.given_back value))
 
 pub returns-clause-entry : goal.returns-clause-entry
 returns-clause-entry g c = λ base hidden entry saved.
     let std = g.A.Abi.standard in
-    let area : c.args.incoming.entry - c.SAVE.result ≡ c.args.incoming.entry - std.save = omega (arith, c.SAVE.ensures, g.met.A.Abi.save_is) in
-    let back = back_any_sp (c.args.incoming.entry - c.SAVE.result) c.args.incoming.entry std.save_area (λ at. word_in base entry at) c.args.machine.now c.restore_words.new.machine c.set_sp.new.self c.set_sp.ensures (c.restore_words.ensures.given_back (λ at. word_in base entry at)) in
+    let area : c.entry-entry.result - c.SAVE.result ≡ c.args.incoming.entry - std.save = omega (arith, c.entry-entry.ensures, c.SAVE.ensures, g.met.A.Abi.save_is) in
+    let back = back_any_sp (c.entry-entry.result - c.SAVE.result) c.entry-entry.result std.save_area (λ at. word_in base entry at) c.args.machine.now c.restore_words.new.machine c.set_sp.new.self c.set_sp.ensures (c.restore_words.ensures.given_back (λ at. word_in base entry at)) in
     let held = subst (λ n. AreSaved n base hidden std.save_area entry c.args.machine.now) (sym area) saved in
     back (λ i at below is. held i (Register at) below is)
 
 pub returns-clause-others : goal.returns-clause-others
 returns-clause-others g c =
     let words = g.A.Abi.standard.save_area in
-    registers_any_sp c.args.incoming.entry (saved_registers words) c.args.machine.now c.restore_words.new.machine c.set_sp.new.self c.set_sp.ensures (registers_stay STACK_TOP (saved_registers words) c.args.machine.now c.restore_words.new.machine c.restore_words.ensures.stays)
+    registers_any_sp c.entry-entry.result (saved_registers words) c.args.machine.now c.restore_words.new.machine c.set_sp.new.self c.set_sp.ensures (registers_stay STACK_TOP (saved_registers words) c.args.machine.now c.restore_words.new.machine c.restore_words.ensures.stays)
 
 pub returns-clause-keeps : goal.returns-clause-keeps
 returns-clause-keeps g c = λ base v held.
     let std = g.A.Abi.standard in
     let s = c.args.cif.now in
-    let sp = c.args.incoming.entry in
+    let sp = c.entry-entry.result in
     let a = c.args.machine.now in
     let sound = g.met.A.Abi.sound s c.sig-sig.ensures.faultless in
     let agrees = g.met.A.Abi.agrees in
@@ -59,16 +59,16 @@ pub returns-clause-kept : goal.returns-clause-kept
 returns-clause-kept g c = λ base len room hidden entry sp_is saved reserved.
     let std = g.A.Abi.standard in
     let agrees = g.met.A.Abi.agrees in
-    let sp = c.args.incoming.entry in
+    let sp = c.entry-entry.result in
     let a = c.args.machine.now in
     let m = c.set_sp.new.self in
-    let area : c.args.incoming.entry - c.SAVE.result ≡ c.args.incoming.entry - std.save = omega (arith, c.SAVE.ensures, g.met.A.Abi.save_is) in
-    let back = back_any_sp (c.args.incoming.entry - c.SAVE.result) sp std.save_area (λ at. word_in base entry at) a c.restore_words.new.machine m c.set_sp.ensures (c.restore_words.ensures.given_back (λ at. word_in base entry at)) in
+    let area : c.entry-entry.result - c.SAVE.result ≡ c.args.incoming.entry - std.save = omega (arith, c.entry-entry.ensures, c.SAVE.ensures, g.met.A.Abi.save_is) in
+    let back = back_any_sp (c.entry-entry.result - c.SAVE.result) sp std.save_area (λ at. word_in base entry at) a c.restore_words.new.machine m c.set_sp.ensures (c.restore_words.ensures.given_back (λ at. word_in base entry at)) in
     let held = subst (λ n. AreSaved n base hidden std.save_area entry a) (sym area) saved in
     let stay = registers_any_sp sp (saved_registers std.save_area) a c.restore_words.new.machine m c.set_sp.ensures (registers_stay STACK_TOP (saved_registers std.save_area) a c.restore_words.new.machine c.restore_words.ensures.stays) in
     let target_is = ap (λ q. q.target) c.set_sp.ensures ∙ c.restore_words.ensures.within.target ∙ c.requires.target ∙ sym g.met.A.Abi.target_is in
-    kept_return std agrees base len room entry m target_is (ap (λ q. q.sp) c.set_sp.ensures ∙ sym sp_is) (back (λ i at below is. held i (Register at) below is)) (reserved_then std entry a m reserved (reserved_stay std agrees (saved_registers std.save_area) a m (reserved_not_saved std agrees) stay))
+    kept_return std agrees base len room entry m target_is (ap (λ q. q.sp) c.set_sp.ensures ∙ c.entry-entry.ensures ∙ sym sp_is) (back (λ i at below is. held i (Register at) below is)) (reserved_then std entry a m reserved (reserved_stay std agrees (saved_registers std.save_area) a m (reserved_not_saved std agrees) stay))
 
 pub returns-clause-within : goal.returns-clause-within
 returns-clause-within g c =
-    within_any_sp STACK_TOP STACK_TOP c.args.incoming.entry c.args.machine.now c.restore_words.new.machine c.set_sp.new.self c.set_sp.ensures c.restore_words.ensures.within
+    within_any_sp STACK_TOP STACK_TOP c.entry-entry.result c.args.machine.now c.restore_words.new.machine c.set_sp.new.self c.set_sp.ensures c.restore_words.ensures.within

@@ -1,6 +1,6 @@
 use Rattle.std.proofs.Common.{subst}
 use Rattle.std.specs.List.{AllByRecursion}
-use Rattle.ffi3_place_rules.specs.Sound.{listed}
+use Rattle.ffi3_place_rules.specs.Isa.{listed}
 use Rattle.ffi3_pieces.specs.Stored.{IsPlace}
 use Rattle.ffi3_caller.proofs.Calling.{register_lies}
 use Rattle.ffi3_caller.proofs.store.put_count.Goals as goal

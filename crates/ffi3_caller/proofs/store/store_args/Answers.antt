@@ -2,7 +2,8 @@ use Rattle.std.proofs.Common.{◌≡◌, ◌+◌, ◌-◌, ◌<◌, ◌≤◌, a
 use Rattle.std.specs.List.{AllByRecursion, flat_map}
 use Rattle.ffi3_type_rules.specs.declared.limits.TheConstants.{STACK, STACK_TOP}
 use Rattle.ffi3_place_rules.specs.Standard.{plan_of, frame_of}
-use Rattle.ffi3_place_rules.specs.Sound.{hidden_locs, listed, place_locs}
+use Rattle.ffi3_place_rules.specs.Sound.{hidden_locs, place_locs}
+use Rattle.ffi3_place_rules.specs.Isa.{listed}
 use Rattle.ffi3_machine.specs.State.{scribbled}
 use Rattle.ffi3_pieces.specs.Stored.{stack_byte, IsPlace, IsWritable, WroteWithin}
 use Rattle.ffi3_pieces.specs.Standing.{AllKeepUnused}

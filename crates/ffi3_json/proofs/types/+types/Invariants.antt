@@ -10,4 +10,4 @@ abbrev pub decreases-read_type_at : goal.decreases-read_type_at
 decreases-read_type_at l = 2 * depth l.value.now + 1
 
 abbrev pub invariant-read_list-loop-i : goal.invariant-read_list-loop-i
-invariant-read_list-loop-i l = (length l.types ≡ l.i) × Done l.items l.at l.i l.types
+invariant-read_list-loop-i l = (length l.types ≡ l.i) × Done l.version l.items l.at l.i l.types

@@ -23,10 +23,10 @@ returns-in_err-part-clause-err c =
     let ds = c.args.items.now in
     let i = c.loop-i.i in
     let x = c.get.result in
-    let whole = read_bodies g.sigs.now g.functions.now (headings_of hs) ds c.args.at.now 0 in
+    let whole = read_bodies g.version g.sigs.now g.functions.now (headings_of hs) ds c.args.at.now 0 in
     let body : JsonPath → Read (List ScriptMove) = λ q. read_body (surroundings_in g (signature_at g.sigs.now h.sig)) (value_under (codes "body") x) (under q (codes "body")) in
     part_handed_on whole (body c.item.result)
-    (λ p r e. part-fault g.sigs.now g.functions.now hs h ds c.args.at.now i x whole (map part_of c.loop-i.parts.items) (omega arith) c.index.ensures (omega arith) c.get.ensures.item c.loop-i.invariant p r (ap body (sym c.item.ensures) ∙ e))
+    (λ p r e. part-fault g.version g.sigs.now g.functions.now hs h ds c.args.at.now i x whole (map part_of c.loop-i.parts.items) (omega arith) c.index.ensures (omega arith) c.get.ensures.item c.loop-i.invariant p r (ap body (sym c.item.ensures) ∙ e))
     c.from_residual.result c.in_err-part.field-0.0 c.from_residual.ensures.1 c.in_err-part.ensures.err
 
 pub loop-i-preserved : goal.loop-i-preserved
@@ -38,9 +38,9 @@ loop-i-preserved c =
     let i = c.loop-i.i in
     let x = c.get.result in
     let one = c.in_ok-part.part in
-    let whole = read_bodies g.sigs.now g.functions.now (headings_of hs) ds c.args.at.now 0 in
+    let whole = read_bodies g.version g.sigs.now g.functions.now (headings_of hs) ds c.args.at.now 0 in
     let body : JsonPath → Read (List ScriptMove) = λ q. read_body (surroundings_in g (signature_at g.sigs.now h.sig)) (value_under (codes "body") x) (under q (codes "body")) in
-    part-turn g.sigs.now g.functions.now hs h ds c.args.at.now i x whole (map part_of c.loop-i.parts.items) (omega arith) c.index.ensures (omega arith) c.get.ensures.item c.loop-i.invariant
+    part-turn g.version g.sigs.now g.functions.now hs h ds c.args.at.now i x whole (map part_of c.loop-i.parts.items) (omega arith) c.index.ensures (omega arith) c.get.ensures.item c.loop-i.invariant
     c.loop-i.parts.items c.push_part.new.parts.items one refl c.in_ok-part.ensures.headed c.in_ok-push_part.ensures (ap body (sym c.item.ensures) ∙ c.in_ok-part.ensures.ok)
 
 pub returns-clause-ok : goal.returns-clause-ok
@@ -49,4 +49,4 @@ returns-clause-ok c =
     let hs = c.args.headings.now.items in
     let ds = c.args.items.now in
     let i = c.loop-i.i in
-    all_read (λ es. read_bodies g.sigs.now g.functions.now (headings_of (drop i hs)) es c.args.at.now i) (read_bodies g.sigs.now g.functions.now (headings_of hs) ds c.args.at.now 0) (map part_of c.loop-i.parts.items) ds i (omega arith) refl c.loop-i.invariant
+    all_read (λ es. read_bodies g.version g.sigs.now g.functions.now (headings_of (drop i hs)) es c.args.at.now i) (read_bodies g.version g.sigs.now g.functions.now (headings_of hs) ds c.args.at.now 0) (map part_of c.loop-i.parts.items) ds i (omega arith) refl c.loop-i.invariant

@@ -18,5 +18,5 @@ script_of-requires-clause-typed c =
     let signatures : c.in_ok-sigs.sigs ≡ map made_signature (made_types seed) = c.in_ok-sigs.ensures ∙ ap (map made_signature) types in
     let functions : map part_of c.in_ok-functions.functions.items ≡ (made seed calls).functions = c.in_ok-functions.ensures.are ∙ ap (λ ts. made_function ts 0 ∷ made_function ts 1 ∷ made_function ts 2 ∷ made_function ts 3 ∷ []) types in
     let main : script_moves_of c.in_ok-main.main.items ≡ (made seed calls).main = c.in_ok-main.ensures.are ∙ ap (λ ts. made_main ts calls (state_of c.drawn.new.draws)) types ∙ ap (made_main (made_types seed) calls) (c.in_ok-shapes.ensures.moved seed begun) in
-    let same : script_in c.in_ok-sigs.sigs c.in_ok-functions.functions.items c.in_ok-main.main.items ≡ made seed calls = λ i. record { signatures = signatures i; functions = functions i; main = main i } in
+    let same : script_in 1 c.in_ok-sigs.sigs c.in_ok-functions.functions.items c.in_ok-main.main.items ≡ made seed calls = λ i. record { version = 1; signatures = signatures i; functions = functions i; main = main i } in
     subst (λ (s : script.Script). script_is_typed 0 s ≡ true) (sym same) (made_is_typed seed calls)

@@ -23,22 +23,22 @@ pub script_of-requires : goal.script_of-requires
 script_of-requires c =
     let natives = c.args.natives.now in
     let p = c.in_ok-parts.parts in
-    let s = script_in p.sigs p.functions.items p.main.items in
+    let s = script_in p.version p.sigs p.functions.items p.main.items in
     let within : HasArraysWithin 1048577 c.of.result = subst (HasArraysWithin 1048577) (sym c.of.ensures) c.in_ok-value.ensures.few in
     let few : IsFew 1048577 s = script-few 1048577 natives c.of.result s within c.in_ok-parts.ensures.ok in
     let same : c.len.result ≡ length natives = c.len.ensures.count in
     record {
-      few_signatures = signatures-few 1048577 (omega arith) p.sigs p.functions.items p.main.items few;
+      few_signatures = signatures-few 1048577 (omega arith) p.version p.sigs p.functions.items p.main.items few;
       few_natives = omega (arith, same, c.requires);
-      few = functions-few 1048577 (omega arith) p.sigs p.functions.items p.main.items few;
-      functions_few = each-few 1048577 (omega arith) p.sigs p.functions.items p.main.items few;
-      main_few = main-few 1048577 (omega arith) p.sigs p.functions.items p.main.items few;
+      few = functions-few 1048577 (omega arith) p.version p.sigs p.functions.items p.main.items few;
+      functions_few = each-few 1048577 (omega arith) p.version p.sigs p.functions.items p.main.items few;
+      main_few = main-few 1048577 (omega arith) p.version p.sigs p.functions.items p.main.items few;
       typed = subst (λ n. script_is_typed n s ≡ true) (sym same) (script_is_well_typed natives c.of.result s c.in_ok-parts.ensures.ok);
     }
 
 pub returns-clause-ok : goal.returns-clause-ok
 returns-clause-ok c =
     let p = c.in_ok-parts.parts in
-    let s = script_in p.sigs p.functions.items p.main.items in
+    let s = script_in p.version p.sigs p.functions.items p.main.items in
     let json : IsJson c.args.bytes.now c.of.result = subst (IsJson c.args.bytes.now) (sym c.of.ensures) c.in_ok-value.ensures.ok in
     subst (λ r. IsTheReading c.args.natives.now c.args.bytes.now (script r)) (sym c.in_ok-script_of.ensures.is) (accepted c.args.natives.now c.args.bytes.now c.of.result json s c.in_ok-parts.ensures.ok)

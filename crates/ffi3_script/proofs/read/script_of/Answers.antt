@@ -12,4 +12,4 @@ functions_of-requires-clause-typed c =
     let count = c.len.result + c.args.natives in
     let counted : count ≡ length p.functions.items + c.args.natives = ap (λ n. n + c.args.natives) (c.len.ensures ∙ p.functions.ok.0) in
     subst (λ (ss : List Signature). All (λ (f : FunctionPart). function_is_typed ss count (part_of f) ≡ true) p.functions.items) (sym c.in_ok-sigs.ensures.ok)
-    (each-typed p.sigs c.args.natives p.functions.items p.main.items count counted c.requires.typed)
+    (each-typed p.version p.sigs c.args.natives p.functions.items p.main.items count counted c.requires.typed)

@@ -15,8 +15,8 @@ returns-in_err-functions-clause-err c =
     let g = c.args.globals.now in
     let hs = headings_of c.args.headings.now.items in
     let fs = c.args.items.now in
-    part_handed_on (bodies_and_main g.sigs.now g.functions.now hs fs c.args.value.now c.args.at.now) (read_bodies g.sigs.now g.functions.now hs fs c.key.result 0)
-    (functions-refused g.sigs.now g.functions.now (headings_of c.args.headings.now.items) c.args.items.now c.args.value.now c.args.at.now c.key.result c.key.ensures no_signature refl)
+    part_handed_on (bodies_and_main g.version g.sigs.now g.functions.now hs fs c.args.value.now c.args.at.now) (read_bodies g.version g.sigs.now g.functions.now hs fs c.key.result 0)
+    (functions-refused g.version g.sigs.now g.functions.now (headings_of c.args.headings.now.items) c.args.items.now c.args.value.now c.args.at.now c.key.result c.key.ensures no_signature refl)
     c.from_residual.result c.in_err-functions.field-0.0 c.from_residual.ensures.1 c.in_err-functions.ensures.err
 
 pub returns-in_err-main-clause-err : goal.returns-in_err-main-clause-err
@@ -24,13 +24,13 @@ returns-in_err-main-clause-err c =
     let g = c.args.globals.now in
     let own : c.new-own.result ≡ no_signature = c.new-own.ensures ∙ ap (λ (ts : List Tree). record { result_type = void; arguments = ts; fixed = None }) c.new.ensures in
     let d = c.args.value.now in
-    part_handed_on (bodies_and_main g.sigs.now g.functions.now (headings_of c.args.headings.now.items) c.args.items.now d c.args.at.now)
+    part_handed_on (bodies_and_main g.version g.sigs.now g.functions.now (headings_of c.args.headings.now.items) c.args.items.now d c.args.at.now)
     (read_body (surroundings_in g c.new-own.result) (value_under (codes "main") d) (under c.args.at.now (codes "main")))
-    (main-refused g.sigs.now g.functions.now (headings_of c.args.headings.now.items) c.args.items.now c.args.value.now c.args.at.now c.key.result c.key.ensures c.new-own.result own (map part_of c.in_ok-functions.functions.items) c.in_ok-functions.ensures.ok)
+    (main-refused g.version g.sigs.now g.functions.now (headings_of c.args.headings.now.items) c.args.items.now c.args.value.now c.args.at.now c.key.result c.key.ensures c.new-own.result own (map part_of c.in_ok-functions.functions.items) c.in_ok-functions.ensures.ok)
     c.from_residual-in_err-main.result c.in_err-main.field-0.0 c.from_residual-in_err-main.ensures.1 c.in_err-main.ensures.err
 
 pub returns-clause-ok : goal.returns-clause-ok
 returns-clause-ok c =
     let g = c.args.globals.now in
     let own : c.new-own.result ≡ no_signature = c.new-own.ensures ∙ ap (λ (ts : List Tree). record { result_type = void; arguments = ts; fixed = None }) c.new.ensures in
-    bodies-read g.sigs.now g.functions.now (headings_of c.args.headings.now.items) c.args.items.now c.args.value.now c.args.at.now c.key.result c.key.ensures c.new-own.result own (map part_of c.in_ok-functions.functions.items) c.in_ok-functions.ensures.ok (script_moves_of c.in_ok-main.main.items) c.in_ok-main.ensures.ok
+    bodies-read g.version g.sigs.now g.functions.now (headings_of c.args.headings.now.items) c.args.items.now c.args.value.now c.args.at.now c.key.result c.key.ensures c.new-own.result own (map part_of c.in_ok-functions.functions.items) c.in_ok-functions.ensures.ok (script_moves_of c.in_ok-main.main.items) c.in_ok-main.ensures.ok

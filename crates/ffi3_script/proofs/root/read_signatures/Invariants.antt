@@ -7,5 +7,5 @@ use Rattle.ffi3_script.proofs.root.read_signatures.Given as goal
 abbrev pub invariant-loop-i : goal.invariant-loop-i
 invariant-loop-i l = record {
   count : length l.sigs ≡ l.i;
-  so_far : read_signatures l.items l.at 0 ≡ before l.sigs (read_signatures (items_from l.i l.items) l.at l.i);
+  so_far : read_signatures l.version l.items l.at 0 ≡ before l.sigs (read_signatures l.version (items_from l.i l.items) l.at l.i);
 }

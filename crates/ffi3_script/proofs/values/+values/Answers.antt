@@ -69,7 +69,7 @@ read_of-returns-in_err-value-clause-err t c =
     let first : c.item.result ≡ at_item place 0 = c.item.ensures ∙ ap (λ p. at_item p 0) c.key-place.ensures in
     let second : c.item-2.result ≡ at_item place 1 = c.item-2.ensures ∙ ap (λ p. at_item p 1) c.key-place.ensures in
     let ty = tree_of c.in_ok-ty.ty in
-    part_handed_on (read_of s d place) (read_value s ty b c.item-2.result) (λ p r e. of_second s d a b place (sym c.in-Some.ensures) ty p r (ap (read_right_type a) (sym first) ∙ c.in_ok-ty.ensures.ok) (ap (read_value s ty b) (sym second) ∙ e))
+    part_handed_on (read_of s d place) (read_value s ty b c.item-2.result) (λ p r e. of_second s d a b place (sym c.in-Some.ensures) ty p r (ap (read_right_type s.version a) (sym first) ∙ c.in_ok-ty.ensures.ok) (ap (read_value s ty b) (sym second) ∙ e))
     c.from_residual-in_err-value.result c.in_err-value.field-0.0 c.from_residual-in_err-value.ensures.1 c.in_err-value.ensures.err
 
 pub read_of-returns-clause-ok : goal.read_of-returns-clause-ok
@@ -82,7 +82,7 @@ read_of-returns-clause-ok t c =
     let first : c.item.result ≡ at_item place 0 = c.item.ensures ∙ ap (λ p. at_item p 0) c.key-place.ensures in
     let second : c.item-2.result ≡ at_item place 1 = c.item-2.ensures ∙ ap (λ p. at_item p 1) c.key-place.ensures in
     let ty = tree_of c.in_ok-ty.ty in
-    of_both s d a b place (sym c.in-Some.ensures) ty (expression_of c.in_ok-value.value) (ap (read_right_type a) (sym first) ∙ c.in_ok-ty.ensures.ok) (ap (read_value s ty b) (sym second) ∙ c.in_ok-value.ensures.ok) ∙ ap read (sym c.in_ok-typed_as.ensures)
+    of_both s d a b place (sym c.in-Some.ensures) ty (expression_of c.in_ok-value.value) (ap (read_right_type s.version a) (sym first) ∙ c.in_ok-ty.ensures.ok) (ap (read_value s ty b) (sym second) ∙ c.in_ok-value.ensures.ok) ∙ ap read (sym c.in_ok-typed_as.ensures)
 
 pub read_terms-returns-in_err-a-clause-err : goal.read_terms-returns-in_err-a-clause-err
 read_terms-returns-in_err-a-clause-err t c =

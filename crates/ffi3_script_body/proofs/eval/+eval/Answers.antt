@@ -1,6 +1,6 @@
 use Rattle.std.proofs.Common.{◌≡◌, ◌<◌, [], ◌∷◌, ◌++◌, take, true, ap, ◌∙◌, subst, sym, arith, length}
 use Rattle.std.proofs.lemmas.Result.{IfOk-weaker}
-use Rattle.ffi3_type_rules.specs.Integer.{scalar_of, number_of, bytes_of_number}
+use Rattle.ffi3_type_rules.specs.Integer.{scalar_of, is_number_type, number_of, bytes_of_number}
 use Rattle.ffi3_type_rules.specs.Value.{fits, leaf_value, struct_value, bytes_of, values_of}
 use Rattle.ffi3_types.specs.TreeOf.{tree_of}
 use Rattle.ffi3_values.specs.ValueOf.{value_of}
@@ -9,8 +9,8 @@ use Rattle.ffi3_script_rules.specs.Typed.{has_type, own_type}
 use Rattle.ffi3_script_body.specs.ExprOf.{expression_of}
 use Rattle.ffi3_script_body.specs.KnownAt.{kinds_of, known_of}
 use Rattle.ffi3_script_body.proofs.Rows.{as_many, typed_at, evaluated, evaluated-is, evaluated-next, evaluated-all}
-use Rattle.ffi3_script_body.proofs.Evaluated.{evaluated_fits, own_typed, element_there, element_is}
-use Rattle.ffi3_script_body.proofs.Parts.{has_own_by_default, passed, subtracted, nodes_at, in_composed, in_element, in_typed, in_cast, left_in_sum, right_in_sum, left_in_difference, right_in_difference, has_type_at, of_composed, of_sum, of_difference, of_cast, of_element, of_whole, of_typed, composed_value, sum_value, difference_value, cast_value}
+use Rattle.ffi3_script_body.proofs.Evaluated.{evaluated_fits, number_type, own_typed, element_there, element_is}
+use Rattle.ffi3_script_body.proofs.Parts.{has_own_by_default, nodes_at, in_composed, in_element, in_typed, in_cast, left_in_sum, right_in_sum, left_in_difference, right_in_difference, has_type_at, of_composed, of_sum, of_difference, of_cast, of_element, of_whole, of_typed, composed_value, sum_value, difference_value, cast_value}
 use Rattle.ffi3_script_body.proofs.eval.+eval.Goals as goal
 
 -- ---- eval
@@ -55,6 +55,18 @@ eval-eval-requires-in-Cast t c =
     let inner = subst (λ w. has_type k w (expression_of c.in-Cast.inner.value) ≡ true) (sym c.scalar_type-from.ensures) parts.1.1 in
     (omega (arith, in_cast c.args.e.now c.deref-in-Cast.result.now c.in-Cast.from c.in-Cast.field-1 c.in-Cast.inner c.in-Cast.is c.deref-in-Cast.ensures), has_type_at k (tree_of c.scalar_type-from.result) c.deref-in-Cast.result.now c.in-Cast.inner.value c.deref-in-Cast.ensures inner)
 
+pub eval-cast-requires-clause-kind : goal.eval-cast-requires-clause-kind
+eval-cast-requires-clause-kind t c =
+    let u = tree_of c.args.ty.now in
+    let parts = of_cast (kinds_of c.args.known.now) u c.args.e.now c.requires c.in-Cast.from c.in-Cast.field-1 c.in-Cast.inner c.in-Cast.is in
+    number_type (scalar_of (tree_of c.in-Cast.field-1)) u parts.0
+
+pub eval-cast-requires-clause-kind_before : goal.eval-cast-requires-clause-kind_before
+eval-cast-requires-clause-kind_before t c =
+    let u = tree_of c.args.ty.now in
+    let parts = of_cast (kinds_of c.args.known.now) u c.args.e.now c.requires c.in-Cast.from c.in-Cast.field-1 c.in-Cast.inner c.in-Cast.is in
+    subst (λ w. is_number_type w ≡ true) (sym c.scalar_type-from.ensures) parts.1.0
+
 pub eval-eval_own-requires : goal.eval-eval_own-requires
 eval-eval_own-requires t c =
     let own = has_own_by_default c.args.e.now c.in_default.not-Constant c.in_default.not-Composed c.in_default.not-Sum c.in_default.not-Difference c.in_default.not-Cast in
@@ -87,8 +99,7 @@ eval-returns-in_ok-b-in-Difference-clause-is t c =
     let a_is = c.in_ok-a-in-Difference.ensures.is ∙ ap (λ x. meaning.value_of k (expression_of x)) c.deref-in-Difference.ensures in
     let b_is = c.in_ok-b-in-Difference.ensures.is ∙ ap (λ x. meaning.value_of k (expression_of x)) c.deref-in-Difference-2.ensures in
     let whole = difference_value k c.args.e.now u c.in-Difference.field-0 c.in-Difference.a c.in-Difference.b _ _ parts.0 a_is b_is c.in-Difference.is in
-    let number_is = subtracted c.number.result c.number-in-Difference.result _ _ c.number.ensures.value c.number-in-Difference.ensures.value c.number.ensures.low c.number.ensures.high c.number-in-Difference.ensures.low c.number-in-Difference.ensures.high in
-    IfOk-weaker c.integer.result _ _ (λ v is. is ∙ ap (λ n. leaf_value (bytes_of_number (scalar_of u) n)) number_is ∙ whole) c.integer.ensures.value
+    IfOk-weaker c.sub.result _ _ (λ v is. is ∙ whole) c.sub.ensures.value
 
 pub eval-returns-in_ok-value-in-Cast-clause-is : goal.eval-returns-in_ok-value-in-Cast-clause-is
 eval-returns-in_ok-value-in-Cast-clause-is t c =
@@ -98,8 +109,8 @@ eval-returns-in_ok-value-in-Cast-clause-is t c =
     let inner_is = c.in_ok-value-in-Cast.ensures.is ∙ ap (λ x. meaning.value_of k (expression_of x)) c.deref-in-Cast.ensures in
     let whole = cast_value k c.args.e.now u c.in-Cast.from c.in-Cast.field-1 c.in-Cast.inner _ parts.0 inner_is c.in-Cast.is in
     let from_is = ap scalar_of c.scalar_type-from.ensures in
-    let number_is = passed c.number-in-Cast.result _ (c.number-in-Cast.ensures.value ∙ ap (λ s. number_of s (bytes_of (value_of c.in_ok-value-in-Cast.value))) from_is) c.number-in-Cast.ensures.low c.number-in-Cast.ensures.high in
-    IfOk-weaker c.integer-in-Cast.result _ _ (λ v is. is ∙ ap (λ n. leaf_value (bytes_of_number (scalar_of u) n)) number_is ∙ whole) c.integer-in-Cast.ensures.value
+    let number_is = ap (λ s. number_of s (bytes_of (value_of c.in_ok-value-in-Cast.value))) from_is in
+    IfOk-weaker c.cast.result _ _ (λ v is. is ∙ ap (λ n. leaf_value (bytes_of_number (scalar_of u) n)) number_is ∙ whole) c.cast.ensures.value
 
 pub eval-returns-in_default-clause-fits : goal.eval-returns-in_default-clause-fits
 eval-returns-in_default-clause-fits t c =

@@ -1,70 +1,21 @@
-use Rattle.std.proofs.Common.{ap, sym, inl, inr}
-use Rattle.ffi3_type_rules.specs.Names.{type_named, type_names}
-use Rattle.ffi3_type_rules.proofs.Names.{beside-none}
+use Rattle.std.proofs.Common.{ap, sym, ◌∙◌}
+use Rattle.std.specs.Prelude.{◌++◌}
+use Rattle.ffi3_type_rules.specs.Names.{type_beside, type_names, wide_names}
+use Rattle.ffi3_type_rules.proofs.Names.{beside-later, named_in_1, named_later}
 use Rattle.ffi3_types.proofs.FfiType.from_name.Goals as goal
 
-pub returns-in-void : goal.returns-in-void
-unfolding type_named
-returns-in-void c = sym (ap type_named c.in-void.is)
+pub returns-then-version-eq1 : goal.returns-then-version-eq1
+returns-then-version-eq1 c =
+    c.narrow.ensures ∙ sym (named_in_1 c.args.version c.args.name.now c.if-version-eq1.true)
 
-pub returns-in-float : goal.returns-in-float
-unfolding type_named
-returns-in-float c = sym (ap type_named c.in-float.is)
+pub returns-in-uint128 : goal.returns-in-uint128
+returns-in-uint128 c =
+    sym (named_later c.args.version c.args.name.now c.if-version-eq1.false ∙ ap (λ word. type_beside word (wide_names ++ type_names)) c.in-uint128.is)
 
-pub returns-in-double : goal.returns-in-double
-unfolding type_named
-returns-in-double c = sym (ap type_named c.in-double.is)
-
-pub returns-in-pointer : goal.returns-in-pointer
-unfolding type_named
-returns-in-pointer c = sym (ap type_named c.in-pointer.is)
-
-pub returns-in-longdouble : goal.returns-in-longdouble
-unfolding type_named
-returns-in-longdouble c = sym (ap type_named c.in-longdouble.is)
-
-pub returns-in-vector : goal.returns-in-vector
-unfolding type_named
-returns-in-vector c = sym (ap type_named c.in-vector.is)
-
-pub returns-in-uint8 : goal.returns-in-uint8
-unfolding type_named
-returns-in-uint8 c = elim c.in-uint8.is [ inl a ↦ sym (ap type_named a) | inr b ↦ sym (ap type_named b) ]
-
-pub returns-in-sint8 : goal.returns-in-sint8
-unfolding type_named
-returns-in-sint8 c = elim c.in-sint8.is [ inl a ↦ sym (ap type_named a) | inr b ↦ sym (ap type_named b) ]
-
-pub returns-in-uint16 : goal.returns-in-uint16
-unfolding type_named
-returns-in-uint16 c = elim c.in-uint16.is [ inl a ↦ sym (ap type_named a) | inr b ↦ sym (ap type_named b) ]
-
-pub returns-in-sint16 : goal.returns-in-sint16
-unfolding type_named
-returns-in-sint16 c = elim c.in-sint16.is [ inl a ↦ sym (ap type_named a) | inr b ↦ sym (ap type_named b) ]
-
-pub returns-in-uint32 : goal.returns-in-uint32
-unfolding type_named
-returns-in-uint32 c = elim c.in-uint32.is [ inl a ↦ sym (ap type_named a) | inr b ↦ sym (ap type_named b) ]
-
-pub returns-in-sint32 : goal.returns-in-sint32
-unfolding type_named
-returns-in-sint32 c = elim c.in-sint32.is [ inl a ↦ sym (ap type_named a) | inr b ↦ sym (ap type_named b) ]
-
-pub returns-in-uint64 : goal.returns-in-uint64
-unfolding type_named
-returns-in-uint64 c = elim c.in-uint64.is [ inl a ↦ sym (ap type_named a) | inr b ↦ sym (ap type_named b) ]
-
-pub returns-in-sint64 : goal.returns-in-sint64
-unfolding type_named
-returns-in-sint64 c = elim c.in-sint64.is [ inl a ↦ sym (ap type_named a) | inr b ↦ sym (ap type_named b) ]
-
-pub returns-in-complex_float : goal.returns-in-complex_float
-unfolding type_named
-returns-in-complex_float c = elim c.in-complex_float.is [ inl a ↦ sym (ap type_named a) | inr b ↦ elim b [ inl d ↦ sym (ap type_named d) | inr e ↦ sym (ap type_named e) ] ]
+pub returns-in-sint128 : goal.returns-in-sint128
+returns-in-sint128 c =
+    sym (named_later c.args.version c.args.name.now c.if-version-eq1.false ∙ ap (λ word. type_beside word (wide_names ++ type_names)) c.in-sint128.is)
 
 pub returns-in_default : goal.returns-in_default
-unfolding type_named
 returns-in_default c =
-    let d = c.in_default in
-    sym (beside-none c.args.name.now type_names (d.not-void, (d.not-uint8, (d.not-sint8, (d.not-uint16, (d.not-sint16, (d.not-uint32, (d.not-sint32, (d.not-uint64, (d.not-sint64, (d.not-float, (d.not-double, (d.not-pointer, (d.not-uchar, (d.not-schar, (d.not-ushort, (d.not-sshort, (d.not-uint, (d.not-sint, (d.not-ulong, (d.not-slong, (d.not-longdouble, (d.not-complex_float, (d.not-complex_double, (d.not-complex_longdouble, (d.not-vector, tt))))))))))))))))))))))))))
+    c.narrow-in_default.ensures ∙ sym (named_later c.args.version c.args.name.now c.if-version-eq1.false ∙ beside-later c.args.name.now wide_names type_names (c.in_default.not-uint128, (c.in_default.not-sint128, tt)))

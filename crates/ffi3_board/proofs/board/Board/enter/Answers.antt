@@ -1,4 +1,4 @@
-use Rattle.std.proofs.Common.{suc, ◌++◌, List, [], ◌∷◌, reverse, refl, sym, ap, ◌∙◌, subst}
+use Rattle.std.proofs.Common.{◌++◌, List, [], ◌∷◌, reverse, refl, sym, ap, ◌∙◌, subst, arith}
 use Rattle.ffi3_type_rules.specs.Signature.{signature_at}
 use Rattle.ffi3_run_rules.specs.Move.{call}
 use Rattle.ffi3_run_rules.specs.Trace.{Enter}
@@ -10,6 +10,7 @@ use Rattle.ffi3_board.specs.Going.{activation_of}
 use Rattle.ffi3_board.proofs.Boarding.{refused, call_entered, call_lines, call_cut_off, goes_off, reverse-last}
 use Rattle.ffi3_board.proofs.Moving.{looks_as_itself, looks_same}
 use Rattle.ffi3_board.proofs.Entering.{has_called}
+use Rattle.ffi3_board.proofs.Since.{looked_at}
 use Rattle.ffi3_board.proofs.Transports.{cut_as, entry_told_as, numbered}
 use Rattle.ffi3_board.proofs.board.Board.enter.Goals as goal
 
@@ -43,7 +44,7 @@ returns-in-Err-clause-turned g c = λ p base all first own events standard signa
     let called = has_called p base std c.args.cifs.now s ptr sig c.LINK.result c.frame.result args m c.journal_room.new.self m' incoming standard signatures c.get-cif.ensures (c.LINK.ensures ∙ sym g.met.A.Abi.link_is) c.frame.ensures c.in-Ok-journal_room.ensures.ok begun.begun begun.incoming begun.block c.requires.site in
     let lines = entry_told_as c.args.trace std base.standard s (signature_at p.signatures sig) m' _ (sym standard) (numbered p c.args.cifs.now sig s signatures c.get-cif.ensures) (call_lines p base all first own events b.served outer b.table b.moves m o current ptr sig args is closure does m' incoming called c.args.standing c.args.trace tracing) in
     let cut_off = cut_as _ _ o o' c.in-Err.why lines c.in-Err.ensures in
-    goes_off p base all first own (suc b.moves) (record b { suspended = c.reserve.new.self }) m' o' c.in-Err.why c.cut_off.result c.cut_off.ensures.is (call_cut_off p base all first own events b.served outer b.table b.moves m o current ptr sig args is closure does m' incoming called c.args.standing c.in-Err.why o' cut_off)
+    goes_off p base all first own (record b { suspended = c.reserve.new.self }) m' o' c.in-Err.why c.cut_off.result c.cut_off.ensures.is (call_cut_off p base all first own events b.served outer b.table b.moves m o current ptr sig args is closure does m' incoming called c.args.standing c.in-Err.why o' cut_off)
 
 pub returns-clause-turned : goal.returns-clause-turned
 returns-clause-turned g c = λ p base all first own events standard signatures tracing is does.
@@ -71,4 +72,4 @@ returns-clause-turned g c = λ p base all first own events standard signatures t
     let turned = ap (λ (l : List (Waiting g.row.S.Denot)). reverse l) items ∙ reverse-last b.suspended.items here in
     let P = λ (l : List (Waiting g.row.S.Denot)) (a : Activation g.row.S.Denot). IsBetween p base all first (own ++ Enter ptr sig args ∷ []) (events ++ called.begun.entry ∷ []) (run_state_with p.signatures b.served l b.table b.moves m' o' a) in
     let stands = subst (P (reverse c.push_reserved.new.self.items)) (sym c.of_closure.ensures) (subst (λ (l : List (Waiting g.row.S.Denot)). P l (activation_of closure c.args.standing)) (sym turned) entered) in
-    record { more = Enter ptr sig args ∷ []; events = events ++ called.begun.entry ∷ []; stands = stands; counted = refl }
+    record { more = Enter ptr sig args ∷ []; events = events ++ called.begun.entry ∷ []; stands = stands; stands_anew = λ tracing o₁. looked_at p base all first (own ++ Enter ptr sig args ∷ []) (events ++ called.begun.entry ∷ []) _ tracing o₁ stands; one = omega arith; counted = refl }

@@ -1,4 +1,4 @@
-use Rattle.std.proofs.Common.{◌≡◌, suc, true, List, [], ◌∷◌, ◌++◌, reverse, refl, sym, ap, ◌∙◌, subst, rules}
+use Rattle.std.proofs.Common.{◌≡◌, true, List, [], ◌∷◌, ◌++◌, reverse, refl, sym, ap, ◌∙◌, subst, rules, arith}
 use Rattle.ffi3_type_rules.specs.Signature.{Signature, signature_at}
 use Rattle.ffi3_type_rules.specs.Value.{ValueTree, fits}
 use Rattle.ffi3_values.specs.ValueOf.{value_of}
@@ -83,7 +83,7 @@ returns-clause-turned g c = λ p base all first own events current standard sign
     let told = took_as o o' _ _ (return_told_as c.args.trace g.A.Abi.standard base.standard c.get.result.now (signature_at p.signatures w.call.sig) (last_event m'.events) v _ (sym standard) (c.get.ensures ∙ site) lines) c.in_default-tell_return.ensures in
     let back = call_returned p base all first own events b.served w outer b.table b.moves m o current v asks m' ended o' told in
     let gone = subst (λ (r : ValueTree). GoneOn r w.activation mid c.go_on.new.self c.go_on.result) c.in-Ok.ensures.value c.go_on.ensures in
-    goes p base all first own mid c.go_on.new.self w.activation m' o' v (Leave w.call.sig v ∷ []) (events ++ ended.return ∷ []) c.go_on.result gone back
+    goes p base all first own mid c.go_on.new.self w.activation m' o' v (Leave w.call.sig v ∷ []) (events ++ ended.return ∷ []) c.go_on.result (omega arith) gone back
 
 pub returns-in-Err-clause-turned : goal.returns-in-Err-clause-turned
 returns-in-Err-clause-turned g c = λ p base all first own events current standard signatures tracing is.
@@ -97,7 +97,7 @@ returns-in-Err-clause-turned g c = λ p base all first own events current standa
     let asks = subst (λ (x : RunState). IsAsking p base all first own events x (return v)) (popped_state p.signatures current b m o c.pop.new.self.items w c.in-Some.ensures.items) is in
     let site = ap (λ (l : List Signature). signature_at l w.call.sig) (sym signatures) in
     let ended = ended_as g.A.Abi.standard base.standard (signature_at c.args.cifs.now w.call.sig) (signature_at p.signatures w.call.sig) v m m' (sym standard) site c.in-Err.ensures.ended in
-    return_cut_off p base all first own events b.served w outer b.table b.moves m o current v asks m' ended cut.NoMemory o refl
+    (return_cut_off p base all first own events b.served w outer b.table b.moves m o current v asks m' ended cut.NoMemory o refl, (omega arith, omega arith))
 
 pub returns-in-Err-tell_return-clause-turned : goal.returns-in-Err-tell_return-clause-turned
 returns-in-Err-tell_return-clause-turned g c = λ p base all first own events current standard signatures tracing is.
@@ -115,4 +115,4 @@ returns-in-Err-tell_return-clause-turned g c = λ p base all first own events cu
     let lines = return_lines_told p base all first own events b.served w outer b.table b.moves m o current v asks m' ended c.args.trace tracing in
     let told = return_told_as c.args.trace g.A.Abi.standard base.standard c.get.result.now (signature_at p.signatures w.call.sig) (last_event m'.events) v _ (sym standard) (c.get.ensures ∙ site) lines in
     let cut_off = cut_as _ _ o o' c.in-Err-tell_return.why told c.in-Err-tell_return.ensures in
-    goes_off p base all first own (suc b.moves) (record b { suspended = c.pop.new.self }) m' o' c.in-Err-tell_return.why c.cut_off.result c.cut_off.ensures.is (return_cut_off p base all first own events b.served w outer b.table b.moves m o current v asks m' ended c.in-Err-tell_return.why o' cut_off)
+    goes_off p base all first own (record b { suspended = c.pop.new.self }) m' o' c.in-Err-tell_return.why c.cut_off.result c.cut_off.ensures.is (return_cut_off p base all first own events b.served w outer b.table b.moves m o current v asks m' ended c.in-Err-tell_return.why o' cut_off)

@@ -1,30 +1,28 @@
-use Rattle.ffi3_runner.proofs.Running.{comes_nowhere, comes_on, ends_done, ends_failed, ends_no_memory, ends_stopped, falls}
+use Rattle.std.proofs.Common.{◌≡◌, suc, arith}
+use Rattle.ffi3_runner.proofs.Running.{comes_nowhere, comes_on, ends_done, ends_failed, ends_no_memory, ends_stopped}
 use Rattle.ffi3_runner.proofs.prepare.Prepared.run_on.Goals as goal
 
 pub loop-stop-init : goal.loop-stop-init
 loop-stop-init g c = record {
   standing = c.requires.standing;
+  between = c.requires.between;
   since = comes_nowhere _ c.args.trace _ c.args.board.now c.args.board.now c.args.board.now c.args.machine.now c.args.machine.now c.args.machine.now (g.O.Sink.state c.args.output.now) (g.O.Sink.state c.args.output.now) (g.O.Sink.state c.args.output.now);
 }
 
 pub turn-requires-clause-between : goal.turn-requires-clause-between
-turn-requires-clause-between g c =
-    let inv = c.loop-stop.invariant in
-    let t = c.requires.between in
-    let k = inv.since t.0 t.1 t.2 t.3 t.4 t.5 t.6 t.7 in
-    (t.0, t.1, t.2, k.0, k.1, t.5, t.6, k.2)
+turn-requires-clause-between g c = let inv = c.loop-stop.invariant in inv.between
 
 pub loop-stop-smaller : goal.loop-stop-smaller
 loop-stop-smaller g c =
-    let inv = c.loop-stop.invariant in
-    let t = c.requires.between in
-    falls g.A.Abi.standard c.args.trace _ c.args.board.now c.loop-stop.board c.turn.new.board c.args.machine.now c.loop-stop.machine c.turn.new.machine (g.O.Sink.state c.args.output.now) (g.O.Sink.state c.loop-stop.output) (g.O.Sink.state c.turn.new.output) inv.since c.turn.result c.turn.ensures.turned c.in-More.is t.0 t.1 t.2 t.3 t.4 t.5 t.6 t.7
+    let counted : c.loop-stop.board.moves ≡ suc c.turn.new.board.moves = c.turn.ensures.counted c.in-More.is in
+    omega (arith, counted)
 
 pub loop-stop-preserved : goal.loop-stop-preserved
 loop-stop-preserved g c =
     let inv = c.loop-stop.invariant in
     record {
       standing = c.turn.ensures.standing c.in-More.is;
+      between = c.turn.ensures.between c.in-More.is;
       since = comes_on g.A.Abi.standard c.args.trace _ c.args.board.now c.loop-stop.board c.turn.new.board c.args.machine.now c.loop-stop.machine c.turn.new.machine (g.O.Sink.state c.args.output.now) (g.O.Sink.state c.loop-stop.output) (g.O.Sink.state c.turn.new.output) inv.since c.turn.result c.turn.ensures.turned c.in-More.is;
     }
 

@@ -1,5 +1,0 @@
-use Rattle.ffi3_closures.specs.Slots.{HoldsMap}
-use Rattle.ffi3_closures.proofs.tests.fills.Given as goal
-
-abbrev pub invariant-loop-k : goal.invariant-loop-k
-invariant-loop-k g l = HoldsMap l.machine.target l.table l.machine.code

@@ -1,0 +1,67 @@
+-- A run that can go on by a move.
+use Rattle.std.proofs.Common.{◌≡◌, suc, List, ◌++◌}
+use Rattle.std.specs.Prelude.{Bool}
+use Rattle.ffi3_place_rules.specs.Event.{Event}
+use Rattle.ffi3_place_rules.specs.Standard.{Standard}
+use Rattle.ffi3_run_rules.specs.Lines.{Tracing}
+use Rattle.ffi3_run_rules.specs.Meaning.{Program}
+use Rattle.ffi3_run_rules.specs.Trace.{TraceItem}
+use Rattle.ffi3_turn_rules.specs.Remainder.{Remainder}
+use Rattle.ffi3_turn_rules.specs.SoFar.{Base}
+use Rattle.ffi3_turn_rules.specs.TracingOf.{IsTracingOf}
+use Rattle.ffi3_machine.specs.State.{State}
+use Rattle.ffi3_io.specs.Sink.{SinkState}
+use Rattle.ffi3_ask.specs.declared.standing.Standing.{Standing}
+use Rattle.ffi3_board.specs.declared.board.Board.{Board}
+use Rattle.ffi3_board.specs.declared.board.Turn.{Turn}
+use Rattle.ffi3_board.specs.declared.board.Turn.TheVariants as turn
+use Rattle.ffi3_board.specs.Between.{Beginning, anew}
+use Rattle.ffi3_board.specs.Turned.{StandsAt, WentOn}
+use Rattle.ffi3_board.proofs.Since.{board_looked_at}
+use Rattle.ffi3_runner.specs.Ready.{CanGoOn}
+use Rattle.ffi3_runner.proofs.Running.{Turns}
+use Rattle.ffi3_runner.proofs.Turning.{went_on}
+
+-- where it stands for one output
+pub can_go_on : (std : Standard) (p : Program) (base : Base) (all : Remainder) (first : Beginning) (own : List TraceItem) (events : List Event) (tracing : Bool → Tracing) (b : Board Standing) (m : State) (o : SinkState) → base.standard ≡ std → ((trace : Bool) → IsTracingOf p base trace (tracing trace)) → StandsAt p base all first own events b m o → CanGoOn std p b m
+can_go_on std p base all first own events tracing b m o standard traced h = record {
+  base = base;
+  all = all;
+  first = first;
+  own = own;
+  events = events;
+  tracing = tracing;
+  standard = standard;
+  traced = traced;
+  stands = board_looked_at p base all first own events b m o b.innermost h;
+}
+
+module _ (std : Standard) (p : Program) (b : Board Standing) (m : State) (h : CanGoOn std p b m) (trace : Bool) (o : SinkState) where
+  abbrev seen : Beginning
+  seen = anew (h.tracing trace) o p h.base h.own h.first
+
+  -- it stands for the output that is handed in
+  pub stands_here : (base : Base) × (all : Remainder) × (first : Beginning) × (own : List TraceItem) × (events : List Event) × (base.standard ≡ std) × IsTracingOf p base trace first.tracing × StandsAt p base all first own events b m o
+  stands_here = (h.base, h.all, seen, h.own, h.events, h.standard, h.traced trace, h.stands (h.tracing trace) o)
+
+  module _ (b' : Board Standing) (m' : State) (o' : SinkState) (t : Turn) (turned : Turns std trace p b m o b' m' o' t) (more : t ≡ turn.More) where
+    went : WentOn p h.base h.all seen h.own b.moves b' m' o'
+    went =
+        went_on p h.base h.all seen h.own b.moves b' m' o' t (turned h.base h.all seen h.own h.events h.standard (h.traced trace) (h.stands (h.tracing trace) o)) more
+
+    -- after a move it can again
+    pub goes_on_again : CanGoOn std p b' m'
+    goes_on_again = record {
+      base = h.base;
+      all = h.all;
+      first = seen;
+      own = h.own ++ went.more;
+      events = went.events;
+      tracing = h.tracing;
+      standard = h.standard;
+      traced = h.traced;
+      stands = went.stands_anew;
+    }
+
+    pub one_fewer : b.moves ≡ suc b'.moves
+    one_fewer = went.counted

@@ -1,0 +1,27 @@
+-- A run that can go on by a move, as its caller sees it.
+use Rattle.std.specs.Prelude.{◌≡◌, Bool, List}
+use Rattle.ffi3_place_rules.specs.Event.{Event}
+use Rattle.ffi3_place_rules.specs.Standard.{Standard}
+use Rattle.ffi3_run_rules.specs.Lines.{Tracing}
+use Rattle.ffi3_run_rules.specs.Meaning.{Program}
+use Rattle.ffi3_run_rules.specs.Trace.{TraceItem}
+use Rattle.ffi3_turn_rules.specs.Remainder.{Remainder}
+use Rattle.ffi3_turn_rules.specs.SoFar.{Base}
+use Rattle.ffi3_turn_rules.specs.TracingOf.{IsTracingOf}
+use Rattle.ffi3_machine.specs.State.{State}
+use Rattle.ffi3_ask.specs.declared.standing.Standing.{Standing}
+use Rattle.ffi3_board.specs.declared.board.Board.{Board}
+use Rattle.ffi3_board.specs.Between.{Beginning}
+use Rattle.ffi3_board.specs.Turned.{StandsAnew}
+
+-- THE RUN STANDS BETWEEN TWO MOVES. Nothing is said of an output: the next move may write to any, whatever that took before, and be traced or not.
+pub record CanGoOn (std : Standard) (p : Program) (b : Board Standing) (m : State) : Type 0 where
+  pub base : Base
+  pub all : Remainder
+  pub first : Beginning
+  pub own : List TraceItem
+  pub events : List Event
+  pub tracing : Bool → Tracing
+  pub standard : base.standard ≡ std
+  pub traced : (trace : Bool) → IsTracingOf p base trace (tracing trace)
+  pub stands : StandsAnew p base all first own events b m

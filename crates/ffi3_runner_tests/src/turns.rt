@@ -1,0 +1,209 @@
+//! Runs of main, one move at a time: every other move writes to a second sink and is traced, and what else the caller
+//! writes to a sink between two moves does not matter.
+ghost use Rattle.std.specs.Prelude.{◌<◌, ◌≤◌, ◌^◌, List, length};
+ghost use Rattle.ffi3_script.specs.ScriptOf.{natives_of};
+ghost use Rattle.ffi3_ask.specs.Handed.{handed, signatures_in};
+
+use crate::{Native, Stop, read_beside};
+use ffi3_amd64::Amd64;
+use ffi3_io::{MemSink, write_all};
+use ffi3_machine::{Machine, NoMemory};
+use ffi3_place::Abi;
+use ffi3_runner::{Runner, Turn};
+use ffi3_script::Script;
+use std::alloc::Global;
+use std::mem;
+use std::process::Abort;
+use std::test::Fail;
+
+/// How many bytes each output has room for.
+const ROOM: usize = 1_024;
+
+/// A run that has ended, the output of its last move, and the other one.
+#[derive(Drop)]
+struct Turns {
+    end: Turn,
+    last: MemSink,
+    other: MemSink,
+    moves_left: u32,
+}
+
+/// How the caller of a run's moves goes on: what it writes itself after each move but the last, into the output of that
+/// move, and whether each second move is traced.
+struct Caller {
+    between: &'static str,
+    traces: bool,
+}
+
+/// Does the moves of main, each second one into a second output.
+fn take_turns<A: Abi>(
+    alloc: Global,
+    natives: &Vec<Box<dyn Native>>,
+    script: &Script,
+    caller: &Caller,
+) -> Result<Turns, NoMemory>
+    requires beside { natives_of script.now ≤ length natives.now.items }
+    requires few_natives { length natives.now.items < 2 ^ 31 }
+    requires few_signatures { length (signatures_in (handed title meaning signatures natives.now.items)) < 2 ^ 31 }
+{
+    let mut machine = Machine::new(alloc)?;
+    machine.begin(A::TARGET);
+    let mut output = MemSink::new(alloc, ROOM, Vec::new(alloc))?;
+    let mut other = MemSink::new(alloc, ROOM, Vec::new(alloc))?;
+    let mut runner = Runner::<A>::new(alloc, script, natives)?;
+    runner.start();
+    let mut second = false;
+    loop {
+        let end = runner.turn(&mut machine, &mut output, second && caller.traces);
+        if end != Turn::More {
+            return Ok(Turns {
+                end,
+                last: output,
+                other,
+                moves_left: runner.moves_left(),
+            });
+        }
+        let _told = write_all(&mut output, caller.between.as_bytes());
+        mem::swap(&mut output, &mut other);
+        second = !second;
+    }
+}
+
+/// What a run must come to.
+#[derive(Drop)]
+struct Wanted {
+    end: Turn,
+    last: &'static str,
+    other: &'static str,
+    moves_left: u32,
+}
+
+/// Runs a script by AMD64, and compares the texts of both outputs and the moves that are left.
+fn check_turns(
+    rt: &impl Abort,
+    alloc: Global,
+    text: &str,
+    caller: &Caller,
+    wanted: &Wanted,
+) -> Result<(), Fail> {
+    let natives: Vec<Box<dyn Native>> = Vec::new(alloc);
+    let Some(script) = read_beside(alloc, &natives, text)? else {
+        return Err("no script".into());
+    };
+    let turns = take_turns::<Amd64>(alloc, &natives, &script, caller)?;
+    assert!(rt; turns.end == wanted.end);
+    assert!(rt; turns.last.taken() == wanted.last.as_bytes());
+    assert!(rt; turns.other.taken() == wanted.other.as_bytes());
+    assert!(rt; turns.moves_left == wanted.moves_left);
+    Ok(())
+}
+
+const TRACES: Caller = Caller {
+    between: "-\n",
+    traces: true,
+};
+
+const WRITES: Caller = Caller {
+    between: "-\n",
+    traces: false,
+};
+
+const SILENT: Caller = Caller {
+    between: "",
+    traces: false,
+};
+
+/// A call whose entry is told, and whose return is not.
+const CALL: &str =
+    r#"{"version":1,"signatures":[{"ret":"sint32","args":["sint32"]}],"functions":[{"name":"inc","sig":0,"body":[{"return":{"add":[{"arg":0},1]}}]}],"main":[{"make":"inc","as":"f"},{"call":{"res":"f"},"sig":0,"args":[41],"as":"r"},{"print":{"res":"r"}},{"return":null}]}"#;
+
+/// A free where there is no closure.
+const NO_CLOSURE: &str =
+    r#"{"version":1,"signatures":[],"functions":[],"main":[{"print":{"of":["sint8",1]}},{"free":65536},{"return":null}]}"#;
+
+/// A call by another signature.
+const WRONG_SIG: &str =
+    r#"{"version":1,"signatures":[{"ret":"sint32","args":[]},{"ret":"void","args":[]}],"functions":[{"name":"f","sig":0,"body":[{"return":7}]}],"main":[{"make":"f","as":"p"},{"call":{"res":"p"},"sig":1,"args":[]},{"return":null}]}"#;
+
+/// A function that calls itself without end.
+const ENDLESS: &str =
+    r#"{"version":1,"signatures":[{"ret":"void","args":[]}],"functions":[{"name":"f","sig":0,"body":[{"call":65536,"sig":0,"args":[]},{"return":null}]}],"main":[{"make":"f","as":"p"},{"call":{"res":"p"},"sig":0,"args":[]},{"return":null}]}"#;
+
+/// The same, with a closure made before each call.
+const MAKES: &str =
+    r#"{"version":1,"signatures":[{"ret":"void","args":[]}],"functions":[{"name":"f","sig":0,"body":[{"make":"f"},{"call":65536,"sig":0,"args":[]},{"return":null}]}],"main":[{"make":"f","as":"p"},{"call":{"res":"p"},"sig":0,"args":[]},{"return":null}]}"#;
+
+/// A function that calls itself twice with one less, until its argument is 0: from 12 that takes 16,381 moves.
+const TREE: &str =
+    r#"{"version":1,"signatures":[{"ret":"void","args":["sint32"]}],"functions":[{"name":"f","sig":0,"body":[{"call":65536,"sig":0,"args":[{"sub":[{"arg":0},1]}],"when":{"arg":0}},{"call":65536,"sig":0,"args":[{"sub":[{"arg":0},1]}],"when":{"arg":0}},{"return":null}]}],"main":[{"make":"f","as":"p"},{"call":{"res":"p"},"sig":0,"args":[12]},{"return":null}]}"#;
+
+#[test]
+fn one_move_a_turn(rt: HostRuntime) -> Result<(), Fail> {
+    let wanted = Wanted {
+        end: Turn::Done,
+        last: "-\n-\n",
+        other: "enter 0x10000 sp 0x7ffefff8 (41)\nkeep a5a5000000000003 a5a5000000000005 a5a500000000000c a5a500000000000d a5a500000000000e a5a500000000000f\n-\n42\n-\n",
+        moves_left: 9_995,
+    };
+    check_turns(&rt, rt.alloc(), CALL, &TRACES, &wanted)
+}
+
+#[test]
+fn turns_until_no_closure(rt: HostRuntime) -> Result<(), Fail> {
+    let wanted = Wanted {
+        end: Turn::Stopped(Stop::NoClosure { ptr: 0x1_0000 }),
+        last: "stop: no closure at 0x10000\n",
+        other: "1\n-\n",
+        moves_left: 9_998,
+    };
+    check_turns(&rt, rt.alloc(), NO_CLOSURE, &WRITES, &wanted)
+}
+
+#[test]
+fn turns_until_a_wrong_signature(rt: HostRuntime) -> Result<(), Fail> {
+    let stop = Stop::WrongSig {
+        ptr: 0x1_0000,
+        site: 1,
+        found: 0,
+    };
+    let wanted = Wanted {
+        end: Turn::Stopped(stop),
+        last: "stop: wrong signature at 0x10000: called as void(), is sint32()\n",
+        other: "-\n",
+        moves_left: 9_998,
+    };
+    check_turns(&rt, rt.alloc(), WRONG_SIG, &WRITES, &wanted)
+}
+
+#[test]
+fn turns_until_the_stack_is_full(rt: HostRuntime) -> Result<(), Fail> {
+    let wanted = Wanted {
+        end: Turn::Stopped(Stop::StackFull { need: 64, left: 0 }),
+        last: "stop: stack full: need 64, left 0\n",
+        other: "",
+        moves_left: 8_974,
+    };
+    check_turns(&rt, rt.alloc(), ENDLESS, &SILENT, &wanted)
+}
+
+#[test]
+fn turns_until_the_table_is_full(rt: HostRuntime) -> Result<(), Fail> {
+    let wanted = Wanted {
+        end: Turn::Stopped(Stop::TableFull),
+        last: "stop: closure table full\n",
+        other: "",
+        moves_left: 9_487,
+    };
+    check_turns(&rt, rt.alloc(), MAKES, &SILENT, &wanted)
+}
+
+#[test]
+fn turns_until_the_move_limit(rt: HostRuntime) -> Result<(), Fail> {
+    let wanted = Wanted {
+        end: Turn::Stopped(Stop::MoveLimit),
+        last: "stop: move limit\n",
+        other: "",
+        moves_left: 0,
+    };
+    check_turns(&rt, rt.alloc(), TREE, &SILENT, &wanted)
+}
