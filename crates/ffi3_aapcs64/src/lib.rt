@@ -188,6 +188,9 @@ fn first_general(end: u64, ty: &FfiType) -> u64
     ensures value { result ≡ first_general end (passed (tree_of ty.now)) }
     ensures near { result ≤ end + 1 }
 {
+    if end % 2 == 0 {
+        return end;
+    }
     if 16 <= passed_align(ty) {
         round_up(end, 2)
     } else {
