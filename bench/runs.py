@@ -1,11 +1,12 @@
-"""What bench/moves and bench/raw_memory time: scripts that do exactly so many moves, up to the limit of 10,000, and how
-long a process takes for one."""
+"""What the other files of this folder time: scripts that do exactly so many moves, up to the limit of 10,000, scripts
+of large types, and how long a process takes for one."""
 
 import json
 import os
 import subprocess
 
-STACK = 65536
+STACK = 1048576
+LARGEST = 4096
 ROUNDS = 25
 FLAT = {"ret": "sint32", "args": ["sint32"]}
 NESTED = {"ret": "uint64", "args": ["uint64"] * 7}
@@ -63,12 +64,41 @@ def nested(moves, deepest):
     return script.replace('{"make":"f","as":"f"}', '{"make":"f","user":65536,"as":"f"}')
 
 
-def depth(program, target):
-    """How many calls of `nested` one inside another fill the stack."""
+def types(elements, form):
+    """A type of so many bytes: uint8 as often as that, written out, or as an array."""
+    return {"struct": ["uint8"] * elements if form == "written out" else [{"array": ["uint8", elements]}]}
+
+
+def large_types(elements, form, count):
+    """A script of one signature with so many arguments of such a type."""
+    signature = {"ret": "void", "args": [types(elements, form)] * count}
+    return json.dumps({"version": 2, "signatures": [signature], "functions": [], "main": [{"return": None}]},
+                      separators=(",", ":"))
+
+
+def large_calls(elements, form, count):
+    """A script that calls a function so many times, which gives its argument back, of such a type; and one that does
+    the same moves with numbers in place of it."""
+    kind = types(elements, form)
+    value = list(range(250)) * (elements // 250 + 1)
+    value = value[:elements] if form == "written out" else [value[:elements]]
+
+    def script(kind, value):
+        again = {"call": {"res": "f"}, "sig": 0, "args": [{"res": "r"}]}
+        main = [{"make": "f", "as": "f"}, {"call": {"res": "f"}, "sig": 0, "args": [value], "as": "r"}, *[again] * count]
+        return json.dumps({"version": 2, "signatures": [{"ret": kind, "args": [kind]}],
+                           "functions": [{"name": "f", "sig": 0, "body": [{"return": {"arg": 0}}]}],
+                           "main": [*main, {"return": None}]}, separators=(",", ":"))
+
+    return script(kind, value), script("uint8", 1)
+
+
+def depth(program, target, stack=STACK):
+    """How many calls of `nested` one inside another fill so many bytes of stack."""
     script = text_of(NESTED, [{"return": 0}], [])
     words = [program, "place", "--target", target]
     words = subprocess.run(words, input=script, text=True, stdout=subprocess.PIPE, check=True).stdout.split()
-    return STACK // int(words[words.index("need") + 1])
+    return stack // int(words[words.index("need") + 1])
 
 
 def seconds(words, script):

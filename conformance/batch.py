@@ -149,13 +149,14 @@ class Compiled(Played):
 
 
 class Libffi(Played):
-    """The host's libffi: closures are the callees, ffi_call is the caller."""
+    """The host's libffi: closures are the callees, ffi_call is the caller. It has no type for an array, so each is
+    written as its elements."""
 
     def __init__(self, signatures, folder):
         self.target, self.compiler, self.folder = "amd64", "libffi", pathlib.Path(folder)
         self.folder.mkdir(parents=True, exist_ok=True)
         program, listed = self.folder / "play", self.folder / "signatures"
-        listed.write_text("".join(f"{signature}\n" for signature in signatures))
+        listed.write_text("".join(f"{signature.with_elements()}\n" for signature in signatures))
         link("amd64", program, [HERE / "libffi.c", "-lffi"])
         self.types = [[kind for signature in signatures for kind in signature.types() if kind != "void"]]
         self.command = [program, listed]

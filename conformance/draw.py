@@ -1,10 +1,10 @@
 """Random signatures, weighted to the edges of the standards' rules. The same seed gives the same signatures."""
 
-from signature import FLOATING, SIZES, Signature, is_variadic_fault, is_wide, leaves_of
+from signature import FLOATING, SIZES, Array, Signature, is_variadic_fault, is_wide, leaves_of
 
 SCALARS = list(SIZES)
 MOST_ARGUMENTS = 64
-LARGEST_ARGUMENTS = 8192
+LARGEST_TYPE, LARGEST_ARGUMENTS = 4096, 8192
 
 
 def scalar(random):
@@ -61,12 +61,52 @@ def nested(random, leaves):
     return (*leaves[:start], nested(random, leaves[start:end]), *leaves[end:])
 
 
-STRUCTS = [homogeneous, mixed_pair, about_16_bytes, any_struct, large]
-WEIGHTS = [6, 6, 6, 4, 1]
+def array(random):
+    """An array of scalars, of structs or of arrays: of few elements, or of some bytes, or nearly."""
+    roll = random.random()
+    if roll < 0.7:
+        element = scalar(random)
+    elif roll < 0.9:
+        element = tuple(scalar(random) for _ in range(random.randint(1, 3)))
+    else:
+        element = Array(scalar(random), random.randint(1, 3))
+    whole = random.choice([8, 16, 16, 24, 32]) // sum(SIZES[leaf] for leaf, _ in leaves_of(element))
+    counts = [1, 2, 3, 4, whole, whole + 1] if random.random() < 0.97 else [random.randint(20, 200)]
+    return Array(element, max(1, random.choice(counts)))
+
+
+def of_arrays(random):
+    """One to three arrays, some with scalars beside them."""
+    chosen = [array(random) for _ in range(random.choice([1, 1, 2, 3]))]
+    for _ in range(random.choice([0, 0, 1, 2])):
+        chosen.insert(random.randint(0, len(chosen)), scalar(random))
+    return nested(random, chosen) if size_of(tuple(chosen)) <= LARGEST_TYPE else of_arrays(random)
+
+
+def with_arrays(random, kind):
+    """The struct with most runs of one type written as arrays, and some single elements as arrays of one."""
+    if isinstance(kind, (str, Array)):
+        return kind
+    runs = []
+    for element in kind:
+        element = with_arrays(random, element)
+        if runs and runs[-1][0] == element and random.random() < 0.8:
+            runs[-1][1] += 1
+        else:
+            runs.append([element, 1])
+    found = []
+    for element, count in runs:
+        found += [Array(element, count)] if random.random() < (0.9 if count > 1 else 0.2) else [element] * count
+    return tuple(found)
+
+
+STRUCTS = [homogeneous, mixed_pair, about_16_bytes, any_struct, large, of_arrays]
+WEIGHTS = [6, 6, 6, 4, 1, 5]
 
 
 def struct(random):
-    return random.choices(STRUCTS, WEIGHTS)[0](random)
+    chosen = random.choices(STRUCTS, WEIGHTS)[0](random)
+    return with_arrays(random, chosen) if random.random() < 0.4 else chosen
 
 
 def any_type(random):

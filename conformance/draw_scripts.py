@@ -8,9 +8,11 @@ scripts stop: at a closure that was freed, at another signature, at a full stack
 
 import draw
 from draw import size_of
-from signature import FLOATING, INTEGERS, SIZES, WIDE, is_variadic_fault, json_of
+from signature import (
+    FLOATING, INTEGERS, SIZES, WIDE, Array, elements_of, is_variadic_fault, json_of, with_elements
+)
 
-# Scripts are of version 1 here, since libffi has no type for an integer of 128 bits.
+# No integer of 128 bits here, since libffi has no type for one. Half of the scripts are of version 2 and have arrays.
 draw.SCALARS = SCALARS = [name for name in SIZES if name not in WIDE]
 NARROW = [name for name in INTEGERS if name not in WIDE]
 WHOLE = [*NARROW, "pointer"]
@@ -19,7 +21,8 @@ APPLY = ("sint64", ["pointer", "sint64"], None)
 SUM3 = ("sint64", ["sint64"] * 3, None)
 HOARD = ("void", ["uint16"], None)
 SLOTS = 0x10000
-SMALL, LARGE, ALL_ARGUMENTS = 160, 1024, 2000
+SMALL, LARGE, ALL_ARGUMENTS = 160, 4096, 8000
+SHOWN = 20  # of so many elements of one value a body may look at each
 
 
 def slot(number):
@@ -35,6 +38,7 @@ class Drawn:
 
     def __init__(self, random, natives):
         self.random, self.natives = random, natives
+        self.version = random.choice([1, 2])
         self.signatures, self.functions = [], []
         self.callbacks = {}  # of a function: how it knows a pointer that it calls, and whose closure that is
         self.starts = []  # what main may begin with, beside calls of the functions
@@ -54,7 +58,11 @@ class Drawn:
     def script(self):
         signatures = [{"ret": json_of(result), "args": [json_of(kind) for kind in arguments]}
                       | ({} if fixed is None else {"fixed": fixed}) for result, arguments, fixed in self.signatures]
-        return {"version": 1, "signatures": signatures, "functions": self.functions, "main": self.main}
+        return {"version": self.version, "signatures": signatures, "functions": self.functions, "main": self.main}
+
+    def known_in(self, kind):
+        """A type as the script's version has it: version 1 has no arrays."""
+        return kind if self.version == 2 else with_elements(kind)
 
     def draw_type(self):
         random = self.random
@@ -63,7 +71,7 @@ class Drawn:
         most = LARGE if has(random, 0.05) else SMALL
         while size_of(kind := draw.struct(random)) > most:
             pass
-        return kind
+        return self.known_in(kind)
 
     def draw_result(self):
         return "void" if has(self.random, 0.2) else self.draw_type()
@@ -74,7 +82,7 @@ class Drawn:
             return random.choice(self.signatures)
         arguments = [self.draw_type() for _ in range(random.choice([0, 1, 2, 3, 4, 5, 6, 7, 9]))]
         if has(random, 0.2):
-            arguments = draw.arguments(random)
+            arguments = list(map(self.known_in, draw.arguments(random)))
         while len(arguments) >= draw.MOST_ARGUMENTS or sum(map(size_of, arguments)) > ALL_ARGUMENTS:
             arguments.pop()
         fixed = None
@@ -139,6 +147,9 @@ class Drawn:
         random = self.random
         counter = random.choice(NARROW)
         others = [self.draw_type() for _ in range(random.randint(0, 4))]
+        deep = has(random, 0.3)
+        if deep and has(random, 0.7):
+            others += [self.known_in(draw.large(random))] * 2  # so that the stack ends before the moves do
         signature = self.draw_result(), ["pointer", "pointer", counter, *others], None
         count = random.choice([1, 1, 2])
         numbers = []
@@ -154,8 +165,8 @@ class Drawn:
             body.add_return()
             numbers.append(self.add(signature, body.moves))
         times = random.randint(0, 20 if count == 1 else 4)
-        if has(random, 0.2):
-            times = min(1000 if count == 1 else 13, (1 << 8 * SIZES[counter] - counter.startswith("s")) - 1)
+        if deep:
+            times = min(2000 if count == 1 else 13, (1 << 8 * SIZES[counter] - counter.startswith("s")) - 1)
 
         def start(main):
             values = [slot(numbers[0]), slot(numbers[1]), times, *map(main.value, others)]
@@ -233,7 +244,9 @@ class Moves:
         return {"res": move["as"]} if "as" in move else None
 
     def add_print(self):
-        move = {"print": self.typed(self.drawn.draw_type())}
+        arrays = [value for value, each in self.values() if isinstance(each, Array)]
+        shown = self.random.choice(arrays) if arrays and has(self.random, 0.3) else self.typed(self.drawn.draw_type())
+        move = {"print": shown}
         if has(self.random, 0.1):
             move["when"] = self.drawn.condition(self)
         self.moves.append(move)
@@ -279,14 +292,18 @@ class Moves:
             move["when"] = condition
         self.moves.append(move)
 
-    def known(self, kind):
-        """Typed values of this type that the body has: arguments, results, and elements of these."""
+    def values(self):
+        """Typed values that the body has, with their types: arguments, results, and elements of these."""
         found = [({"arg": i}, each) for i, each in enumerate(self.arguments)]
         found += [({"res": name}, each) for name, each in self.named.items()]
         for value, each in found:
-            if isinstance(each, tuple):
-                found += [({"field": [value, i]}, element) for i, element in enumerate(each)]
-        return [value for value, each in found if each == kind]
+            parts = elements_of(each)
+            shown = range(len(parts)) if len(parts) <= SHOWN else self.random.sample(range(len(parts)), SHOWN)
+            found += [({"field": [value, i]}, parts[i]) for i in shown]
+        return found
+
+    def known(self, kind):
+        return [value for value, each in self.values() if each == kind]
 
     def typed(self, kind):
         known = self.known(kind)
@@ -301,8 +318,8 @@ class Moves:
         known = self.known(kind)
         if known and has(random, 0.6):
             return random.choice(known)
-        if isinstance(kind, tuple):
-            return [self.value(element) for element in kind]
+        if elements := elements_of(kind):
+            return [self.value(element) for element in elements]
         if kind in FLOATING:
             return random.randbytes(SIZES[kind]).hex()
         if kind != "pointer" and has(random, 0.2):

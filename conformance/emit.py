@@ -4,7 +4,7 @@ Neither knows a value: `player.c` has the bytes of the leaves, and puts and look
 they stand (offsetof). So the C code says only what the signature says.
 """
 
-from signature import leaves_of
+from signature import Array, elements_of, leaves_of
 
 C_NAMES = {
     "void": "void", "uint8": "unsigned char", "sint8": "signed char", "uint16": "unsigned short", "sint16": "short",
@@ -12,6 +12,15 @@ C_NAMES = {
     "uint128": "unsigned __int128", "sint128": "__int128",
     "float": "float", "double": "double", "pointer": "void *",
 }
+
+
+def member_of(kind, path):
+    """The C text of the leaf that a path leads to: m0[2].m1 is leaf (0, 2, 1) of a struct of an array of structs."""
+    text = ""
+    for i in path:
+        text += f"[{i}]" if isinstance(kind, Array) else f"{'.' if text else ''}m{i}"
+        kind = elements_of(kind)[i]
+    return text
 
 
 class Chunk:
@@ -38,18 +47,24 @@ class Chunk:
             if isinstance(kind, str):
                 self.names[kind] = C_NAMES[kind]
             else:
-                members = " ".join(f"{self.name_of(element)} m{i};" for i, element in enumerate(kind))
+                members = " ".join(self.declared(element, f"m{i}") for i, element in enumerate(kind))
                 self.names[kind] = f"struct s{len(self.types)}"
                 self.parts.append(f"{self.names[kind]} {{ {members} }};\n")
             if kind != "void":
                 self.add_layout(kind)
         return self.names[kind]
 
+    def declared(self, kind, name):
+        """A member of this type: an array of arrays has its own count first, as C reads it."""
+        while isinstance(kind, Array):
+            name, kind = f"{name}[{kind.count}]", kind.element
+        return f"{self.name_of(kind)} {name};"
+
     def add_layout(self, kind):
         number, name = len(self.types), self.names[kind]
         self.types.append(kind)
         leaves = leaves_of(kind)
-        paths = [".".join(f"m{i}" for i in path) for _, path in leaves]
+        paths = [member_of(kind, path) for _, path in leaves]
         offsets = [f"offsetof({name}, {path})" if path else "0" for path in paths]
         members = [f"(({name} *)0)->{path}" if path else f"*({name} *)0" for path in paths]
         sizes = [f"sizeof({member})" for member in members]

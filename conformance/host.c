@@ -1,11 +1,14 @@
 /* See host.h. A program is called as `program TARGET [trace]`: the target says which needs count against its stack. */
 #include "host.h"
 
+#include <pthread.h>
+
 #define SLOTS 256
 #define FIRST_SLOT 0x10000
 #define SLOT_SIZE 64
 #define MOVES 10000
-#define STACK 65536
+#define STACK 1048576
+#define HOST_STACK (1UL << 30) /* of the thread that runs main: calls nest as deep as there are moves */
 
 /* A closure of libffi. It is never given back to malloc: a closure that frees itself is still to return. */
 struct made {
@@ -219,8 +222,16 @@ static void prepare_natives(void)
         abort();
 }
 
+static void *run(void *none)
+{
+    main_body(0, 0, 0);
+    return none;
+}
+
 int main(int count, char **words)
 {
+    pthread_attr_t attributes;
+    pthread_t thread;
     while (target < 3 && (count < 2 || strcmp(words[1], targets[target])))
         target++;
     if (target == 3)
@@ -228,6 +239,8 @@ int main(int count, char **words)
     is_traced = count > 2;
     prepare_natives();
     prepare();
-    main_body(0, 0, 0);
+    if (pthread_attr_init(&attributes) || pthread_attr_setstacksize(&attributes, HOST_STACK)
+        || pthread_create(&thread, &attributes, run, 0) || pthread_join(thread, 0))
+        abort();
     return 0;
 }

@@ -1,5 +1,5 @@
 /* libffi in the place of a compiler: its closures are the callees, ffi_call is the caller. The first word of the
-   command line names a file with one signature a line, in the text of docs/FORMATS.md, section 3. */
+   command line names a file with one signature a line, in the text of docs/FORMATS.md, section 3, without arrays. */
 #include <ffi.h>
 #include <stdio.h>
 #include <stdlib.h>
@@ -7,7 +7,7 @@
 
 #include "player.h"
 
-#define MOST_LEAVES 1024
+#define MOST_LEAVES 4096
 #define MOST_ARGUMENTS 64
 
 struct signature {

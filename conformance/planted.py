@@ -6,7 +6,7 @@ from dataclasses import replace
 
 from batch import PLAN, layout_failure
 from places import Piece, Place, Stand
-from signature import FLOATING, SIZES, leaves_of
+from signature import FLOATING, SIZES, Array, leaves_of
 
 TRIED = 40
 
@@ -174,17 +174,17 @@ def found_at(failed_of, signatures, plans, layouts, error):
                 if way in ("call", "enter") and not reasons.startswith(PLAN)), default=None)
 
 
-def end_not_rounded(layout):
+def end_not_rounded(kind, layout):
     """A struct ends with its last leaf."""
     return replace(layout, size=layout.offsets[-1] + SIZES[layout.leaves[-1]])
 
 
-def aligned_as_its_first(layout):
+def aligned_as_its_first(kind, layout):
     """A struct is aligned as its first leaf."""
     return replace(layout, align=SIZES[layout.leaves[0]])
 
 
-def leaves_packed(layout):
+def leaves_packed(kind, layout):
     """Leaves follow one another without padding."""
     sizes = [SIZES[leaf] for leaf in layout.leaves]
     return replace(layout, offsets=tuple(sum(sizes[:k]) for k in range(len(sizes))))
@@ -194,37 +194,61 @@ def renamed(layout, names):
     return replace(layout, leaves=tuple(names.get(leaf, leaf) for leaf in layout.leaves))
 
 
-def sign_lost(layout):
+def sign_lost(kind, layout):
     """A sint8 is a uint8."""
     return renamed(layout, {"sint8": "uint8"})
 
 
-def sign_gained(layout):
+def sign_gained(kind, layout):
     """A uint64 is a sint64."""
     return renamed(layout, {"uint64": "sint64"})
 
 
-def pointer_without_kind(layout):
+def pointer_without_kind(kind, layout):
     """A pointer is a uint64."""
     return renamed(layout, {"pointer": "uint64"})
 
 
-def float_without_kind(layout):
+def float_without_kind(kind, layout):
     """A float is a uint32."""
     return renamed(layout, {"float": "uint32"})
 
 
-def short_of_four_bytes(layout):
+def short_of_four_bytes(kind, layout):
     """A uint16 is a uint32."""
     return renamed(layout, {"uint16": "uint32"})
 
 
+def last_of_an_array_missing(kind, layout):
+    """An array at the end of a struct has one leaf less."""
+    if isinstance(kind, tuple) and isinstance(kind[-1], Array):
+        return replace(layout, offsets=layout.offsets[:-1], leaves=layout.leaves[:-1])
+    return layout
+
+
+def aligned_as_its_array(kind, layout):
+    """A struct of an array of two or more scalars is aligned as the whole array."""
+    wholes = [element.count * SIZES[element.element] for element in kind
+              if isinstance(element, Array) and isinstance(element.element, str)] if isinstance(kind, tuple) else []
+    return replace(layout, align=max([layout.align, *wholes]))
+
+
+def elements_at_multiples_of_8(kind, layout):
+    """The elements of an array begin at multiples of 8."""
+    if isinstance(kind, tuple) and isinstance(kind[0], Array) and isinstance(kind[0].element, str):
+        step = -(-SIZES[kind[0].element] // 8) * 8
+        moved = tuple(step * i for i in range(kind[0].count))
+        return replace(layout, offsets=moved + layout.offsets[len(moved):])
+    return layout
+
+
 ERRORS_OF_LAYOUTS = [end_not_rounded, aligned_as_its_first, leaves_packed, sign_lost, sign_gained, pointer_without_kind,
-                     float_without_kind, short_of_four_bytes]
+                     float_without_kind, short_of_four_bytes, last_of_an_array_missing, aligned_as_its_array,
+                     elements_at_multiples_of_8]
 
 
 def layout_found_at(built, signatures, layouts, error):
     """The number of signatures, from the first, until one fails by the changed layouts; None where none does."""
-    changed = {kind: layout if kind == "void" else error(layout) for kind, layout in layouts.items()}
+    changed = {kind: layout if kind == "void" else error(kind, layout) for kind, layout in layouts.items()}
     return next((number for number, signature in enumerate(signatures, 1)
                  if layout_failure(built, signature, changed)), None)

@@ -7,7 +7,7 @@ script; where it has nothing to change, the script is left as it is. Errors of t
 
 import copy
 
-from signature import FLOATING
+from signature import FLOATING, Array, elements_of
 from translate import read_signature
 
 TRIED = 200
@@ -46,17 +46,31 @@ def arguments_exchanged(script):
                 move["args"][a], move["args"][b] = move["args"][b], move["args"][a]
 
 
+def zero(kind):
+    """The value of a type that is zero in all its leaves."""
+    if parts := elements_of(kind):
+        return [zero(one) for one in parts]
+    return "0" * (8 if kind == "float" else 16) if kind in FLOATING else 0
+
+
 def element_dropped(script):
     """The last element of a struct is not passed: it is zero."""
-    def zero(kind, value):
-        if isinstance(kind, tuple):
-            return [zero(one, 0) for one in kind]
-        return "0" * (8 if kind == "float" else 16) if kind in FLOATING else 0
-
     for move in moves(script, "call"):
         for i, kind in enumerate(read_signature(script["signatures"][move["sig"]]).arguments):
-            if isinstance(kind, tuple) and isinstance(move["args"][i], list):
-                move["args"][i][-1] = zero(kind[-1], move["args"][i][-1])
+            if isinstance(move["args"][i], list):
+                move["args"][i][-1] = zero(kind[-1])
+
+
+def element_of_an_array_dropped(script):
+    """The last element of an array is not passed: it is zero."""
+    def without_last(kind, value):
+        if isinstance(kind, Array) and isinstance(value, list):
+            return [*value[:-1], zero(kind.element)]
+        return [without_last(*each) for each in zip(elements_of(kind), value)] if isinstance(value, list) else value
+
+    for move in moves(script, "call"):
+        kinds = read_signature(script["signatures"][move["sig"]]).arguments
+        move["args"] = [without_last(kind, value) for kind, value in zip(kinds, move["args"])]
 
 
 def freed_closure_called(script):
@@ -99,8 +113,8 @@ def twice_once(script):
                 move["make"] = "apply"
 
 
-ERRORS = [sum_with_one_more, arguments_exchanged, element_dropped, freed_closure_called, user_data_of_another,
-          condition_left_out, function_of_the_next]
+ERRORS = [sum_with_one_more, arguments_exchanged, element_dropped, element_of_an_array_dropped, freed_closure_called,
+          user_data_of_another, condition_left_out, function_of_the_next]
 ERRORS_OF_NATIVES = [twice_once]
 
 

@@ -5,21 +5,36 @@ import random
 import batch
 import cases
 import places
-from signature import Signature, is_variadic_fault
+from signature import Array, Signature, is_variadic_fault, spread
 
 STEPS = 30
 
 
 def smaller_types(kind):
-    """The types that are one step smaller: an element left out, in place of the whole, or itself made smaller."""
+    """The types that are one step smaller: an element left out, in place of the whole, or itself made smaller. An array
+    stands in place of no whole: the first of its elements does."""
     if isinstance(kind, str):
         return
-    yield from kind
+    for element in kind:
+        yield spread(element)[0]
     for i, element in enumerate(kind):
         if len(kind) > 1:
             yield kind[:i] + kind[i + 1:]
-        for smaller in smaller_types(element):
+        for smaller in smaller_elements(element):
             yield kind[:i] + (smaller,) + kind[i + 1:]
+
+
+def smaller_elements(kind):
+    """The same of a type that stands in a struct or an array: an array of fewer, or of smaller ones, or its element."""
+    if not isinstance(kind, Array):
+        yield from smaller_types(kind)
+        return
+    yield kind.element
+    for count in dict.fromkeys([kind.count // 2, kind.count - 1]):
+        if count:
+            yield Array(kind.element, count)
+    for smaller in smaller_elements(kind.element):
+        yield Array(smaller, kind.count)
 
 
 def smaller_signatures(signature):

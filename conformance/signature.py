@@ -1,9 +1,11 @@
-"""Types and signatures as docs/FORMATS.md, section 3, writes them: `struct{sint8,double}`, `sint32(pointer;double)`.
+"""Types and signatures as docs/FORMATS.md, section 3, writes them: `struct{sint8[3],double}`, `sint32(pointer;double)`.
 
-A type is the name of a scalar, "void", or a tuple of types, which is a struct. This module knows no layout and no
-place: sizes and offsets come from compilers, from libffi and from the program, and are compared.
+A type is the name of a scalar, "void", a tuple of types, which is a struct, or an Array, which stands in structs alone.
+This module knows no layout and no place: sizes and offsets come from compilers, from libffi and from the program, and
+are compared.
 """
 
+import re
 from dataclasses import dataclass
 
 SIZES = {
@@ -13,6 +15,14 @@ SIZES = {
 INTEGERS = [name for name in SIZES if "int" in name and name != "pointer"]
 FLOATING = ("float", "double")
 WIDE = ("uint128", "sint128")
+
+
+@dataclass(frozen=True)
+class Array:
+    """So many elements of one type."""
+
+    element: object
+    count: int
 
 
 @dataclass(frozen=True)
@@ -35,9 +45,25 @@ class Signature:
     def is_wide(self):
         return any(map(is_wide, self.types()))
 
+    def has_array(self):
+        return any(map(has_array, self.types()))
+
+    def with_elements(self):
+        """The same with each array's elements in its place: it has the same layouts and places."""
+        return Signature(with_elements(self.result), tuple(map(with_elements, self.arguments)), self.fixed)
+
 
 def text_of(kind):
+    if isinstance(kind, Array):
+        return f"{text_of(kind.element)}[{kind.count}]"
     return kind if isinstance(kind, str) else "struct{" + ",".join(map(text_of, kind)) + "}"
+
+
+def elements_of(kind):
+    """The types of a struct's or an array's elements; a scalar has none."""
+    if isinstance(kind, Array):
+        return (kind.element,) * kind.count
+    return () if isinstance(kind, str) else kind
 
 
 def leaves_of(kind):
@@ -46,7 +72,21 @@ def leaves_of(kind):
         return []
     if isinstance(kind, str):
         return [(kind, ())]
-    return [(leaf, (i, *path)) for i, element in enumerate(kind) for leaf, path in leaves_of(element)]
+    return [(leaf, (i, *path)) for i, element in enumerate(elements_of(kind)) for leaf, path in leaves_of(element)]
+
+
+def has_array(kind):
+    return isinstance(kind, Array) or any(map(has_array, elements_of(kind)))
+
+
+def spread(kind):
+    """The types that stand in a struct in place of an array: its elements, and theirs where these are arrays."""
+    return spread(kind.element) * kind.count if isinstance(kind, Array) else (kind,)
+
+
+def with_elements(kind):
+    """A type without arrays: each one's elements stand in its place."""
+    return kind if isinstance(kind, str) else tuple(with_elements(each) for one in kind for each in spread(one))
 
 
 def is_wide(kind):
@@ -86,6 +126,14 @@ def expect(text, at, word):
 
 
 def read_type(text, at):
+    """A type, with the counts of the arrays of it, and where the text goes on."""
+    kind, at = read_element(text, at)
+    while count := re.compile(r"\[(\d+)\]").match(text, at):
+        kind, at = Array(kind, int(count[1])), count.end()
+    return kind, at
+
+
+def read_element(text, at):
     if text.startswith("struct{", at):
         at, elements = at + len("struct{"), []
         while True:
@@ -101,18 +149,21 @@ def read_type(text, at):
 
 
 def json_of(kind):
+    if isinstance(kind, Array):
+        return {"array": [json_of(kind.element), kind.count]}
     return kind if isinstance(kind, str) else {"struct": [json_of(element) for element in kind]}
 
 
 def script_of(signatures):
-    """A script (docs/FORMATS.md, section 1) that has these signatures and does nothing. Version 1 has no wide integers."""
+    """A script (docs/FORMATS.md, section 1) that has these signatures and does nothing. Version 1 has no wide integers
+    and no arrays."""
     listed = []
     for signature in signatures:
         entry = {"ret": json_of(signature.result), "args": [json_of(kind) for kind in signature.arguments]}
         if signature.fixed is not None:
             entry["fixed"] = signature.fixed
         listed.append(entry)
-    version = 2 if any(signature.is_wide() for signature in signatures) else 1
+    version = 2 if any(signature.is_wide() or signature.has_array() for signature in signatures) else 1
     return {"version": version, "signatures": listed, "functions": [], "main": [{"return": None}]}
 
 

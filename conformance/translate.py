@@ -7,7 +7,7 @@ where the run must stop.
 """
 
 from emit import C_NAMES
-from signature import FLOATING, SIZES, Signature
+from signature import FLOATING, SIZES, Array, Signature, elements_of, spread
 
 NATIVES = ("apply", "twice", "sum3")
 SCALARS = {"uchar": "uint8", "schar": "sint8", "ushort": "uint16", "sshort": "sint16", "uint": "uint32",
@@ -16,7 +16,11 @@ FORMS = {"pointer": "0x%lx", "uint64": "%lu", "sint64": "%ld", "uint32": "%u"}
 
 
 def read_type(value):
-    return SCALARS.get(value, value) if isinstance(value, str) else tuple(map(read_type, value["struct"]))
+    if isinstance(value, str):
+        return SCALARS.get(value, value)
+    if "array" in value:
+        return Array(read_type(value["array"][0]), value["array"][1])
+    return tuple(map(read_type, value["struct"]))
 
 
 def read_signature(value):
@@ -66,10 +70,17 @@ class Program:
         return self.types[kind][1]
 
     def add_type(self, kind):
-        """A type's C name, its ffi_type, and its function write_N; nothing where they are there."""
+        """A type's C name, its ffi_type, and its function write_N; nothing where they are there. An array is a struct of
+        one member in C, which can be assigned. libffi has no type for one: its elements stand in the struct's list."""
         if kind in self.types:
             return
-        if isinstance(kind, str):
+        if isinstance(kind, Array):
+            element, inner = self.c_type(kind.element), self.number(kind.element)
+            number, name = len(self.types), f"struct s{len(self.types)}"
+            described = f"{name} {{ {element} e[{kind.count}]; }};\n"
+            body = (f"for (int i = 0; i < {kind.count}; i++) {{ putchar(i ? ',' : '['); write_{inner}(v.e[i]); }} "
+                    "putchar(']');")
+        elif isinstance(kind, str):
             number, name = len(self.types), "address" if kind == "pointer" else C_NAMES[kind]
             body = f"write_bytes(&v, {SIZES[kind]});" if kind in FLOATING else \
                 f'printf("{FORMS.get(kind, "%d")}", v);'
@@ -78,7 +89,7 @@ class Program:
             elements = [self.c_type(element) for element in kind]
             number, name = len(self.types), f"struct s{len(self.types)}"
             members = " ".join(f"{element} m{i};" for i, element in enumerate(elements))
-            inner = ", ".join(f"&type_{self.number(element)}" for element in kind)
+            inner = ", ".join(f"&type_{self.number(each)}" for element in kind for each in spread(element))
             described = (f"{name} {{ {members} }};\nstatic ffi_type *elements_{number}[] = {{ {inner}, 0 }};\n"
                          f"static ffi_type type_{number} = {{ 0, 0, FFI_TYPE_STRUCT, elements_{number} }};\n")
             body = " putchar(','); ".join(f"write_{self.number(one)}(v.m{i});" for i, one in enumerate(kind))
@@ -153,7 +164,7 @@ class Body:
         arguments = [f"{self.program.c_type(kind)} a{i} = {self.value(kind, value)};"
                      for i, (kind, value) in enumerate(zip(signature.arguments, move["args"]))]
         addresses = ", ".join([*(f"&a{i}" for i in range(len(arguments))), "0"])
-        done = [*arguments, f"void *values[] = {{ {addresses} }};", "union { ffi_arg word; char room[1024]; } got;",
+        done = [*arguments, f"void *values[] = {{ {addresses} }};", "union { ffi_arg word; char room[4096]; } got;",
                 f"call(&signature_{move['sig']}, {self.value('pointer', move['call'])}, &got, values);"]
         if "as" in move:
             done.append(f"memcpy(&r{number}, &got, sizeof r{number});")
@@ -176,7 +187,8 @@ class Body:
         if isinstance(value, str):
             return f'{kind}_of("{value}")'
         if isinstance(value, list):
-            return f"({name}){{ {', '.join(self.value(one, each) for one, each in zip(kind, value))} }}"
+            listed = ", ".join(self.value(one, each) for one, each in zip(elements_of(kind), value, strict=True))
+            return f"({name}){{ {{ {listed} }} }}" if isinstance(kind, Array) else f"({name}){{ {listed} }}"
         for word, sign in (("add", "+"), ("sub", "-")):
             if word in value:
                 left, right = (self.value(kind, each) for each in value[word])
@@ -197,5 +209,6 @@ class Body:
         if "of" in value:
             kind = read_type(value["of"][0])
             return kind, f"({self.value(kind, value['of'][1])})"
-        kind, inner = self.typed(value["field"][0])
-        return kind[value["field"][1]], f"({inner}).m{value['field'][1]}"
+        (kind, inner), number = self.typed(value["field"][0]), value["field"][1]
+        member = f"e[{number}]" if isinstance(kind, Array) else f"m{number}"
+        return elements_of(kind)[number], f"({inner}).{member}"

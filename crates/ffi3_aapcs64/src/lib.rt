@@ -3,10 +3,10 @@
 
 ghost use Rattle.std.specs.Prelude.{◌≡◌, ◌<◌, ◌≤◌, ◌+◌, ◌*◌, cond, length, IfOk, true, false};
 ghost use Rattle.std.specs.List.{list_all};
-ghost use Rattle.ffi3_type_rules.specs.declared.limits.TheConstants.{ARGUMENT_BYTES, ARGUMENT_SPAN, LARGEST_GAP, LARGEST_STRUCT, MOST_ARGUMENTS};
+ghost use Rattle.ffi3_type_rules.specs.declared.limits.TheConstants.{ARGUMENT_BYTES, ARGUMENT_SPAN, LARGEST_GAP, LARGEST_TYPE, MOST_ARGUMENTS};
 ghost use Rattle.ffi3_type_rules.specs.Tree.{Scalar, scalar};
 ghost use Rattle.ffi3_type_rules.specs.Layout.{size_of, align_of, leaves_of, leaf_at, scalar_size};
-ghost use Rattle.ffi3_type_rules.specs.Fault.{IsResultType};
+ghost use Rattle.ffi3_type_rules.specs.Fault.{IsLaidOut};
 ghost use Rattle.ffi3_type_rules.specs.Signature.{SignatureHasNoFault};
 ghost use Rattle.ffi3_types.specs.TreeOf.{tree_of};
 ghost use Rattle.ffi3_place_rules.specs.declared.Loc.{Loc};
@@ -15,6 +15,7 @@ ghost use Rattle.ffi3_place_rules.specs.Standard.{places_from, place_at, copies_
 ghost use Rattle.ffi3_place_rules.specs.Doublewords.{doublewords, stack_pieces};
 ghost use Rattle.ffi3_aapcs64_rules.specs.Aapcs64.{aapcs64, is_of, is_member, homogeneous, in_vectors, is_copied, passed, registers_needed, stack_size, first_general, stack_start, member_pieces, general_pieces, register_pieces, register_start, register_end, in_registers, stack_end, taken_with, taken_after, untouched, spot_after, spots_after, result_spot_of};
 ghost use Rattle.ffi3_aapcs64_rules.specs.Ends.{IsPlacedByEnds};
+ghost use Rattle.ffi3_place_rules.specs.Alike.{GoesByLayout};
 
 pub use ffi3_aapcs64_rules::Kind;
 use ffi3_place::ends::{buffer_end, copy_end, planned, start};
@@ -42,7 +43,7 @@ fn is_of(kind: Kind, ty: &FfiType) -> bool
 
 /// Whether leaf `i` is of the kind.
 fn is_member(ty: &FfiType, i: u32, kind: Kind) -> bool
-    requires right { IsResultType (tree_of ty.now) }
+    requires right { IsLaidOut (tree_of ty.now) }
     requires in_range { i < length (leaves_of (tree_of ty.now)) }
     ensures { result ≡ is_member kind (leaf_at (tree_of ty.now) i) }
 {
@@ -52,7 +53,7 @@ fn is_member(ty: &FfiType, i: u32, kind: Kind) -> bool
 
 /// Whether every leaf is of the kind.
 fn has_only(ty: &FfiType, kind: Kind) -> bool
-    requires { IsResultType (tree_of ty.now) }
+    requires { IsLaidOut (tree_of ty.now) }
     ensures { result ≡ list_all (is_member kind) (leaves_of (tree_of ty.now)) }
 {
     for i in 0..ty.leaf_count() {
@@ -63,9 +64,9 @@ fn has_only(ty: &FfiType, kind: Kind) -> bool
     true
 }
 
-/// The type and the number of the members of a homogeneous floating-point aggregate: a struct of one to four leaves, all floats or all doubles, with nested structs flattened. None where the type is no such. (AAPCS64, "Homogeneous Aggregates")
+/// The type and the number of the members of a homogeneous floating-point aggregate: a struct of one to four leaves, all floats or all doubles, with nested structs and arrays flattened. None where the type is no such. (AAPCS64, "Homogeneous Aggregates")
 pub fn homogeneous(ty: &FfiType) -> Option<(Kind, u8)>
-    requires { IsResultType (tree_of ty.now) }
+    requires { IsLaidOut (tree_of ty.now) }
     ensures { result ≡ homogeneous (tree_of ty.now) }
 {
     let FfiType::Struct(_) = ty else {
@@ -88,7 +89,7 @@ pub fn homogeneous(ty: &FfiType) -> Option<(Kind, u8)>
 
 /// Whether a value takes SIMD and floating-point registers.
 fn in_vectors(ty: &FfiType) -> bool
-    requires { IsResultType (tree_of ty.now) }
+    requires { IsLaidOut (tree_of ty.now) }
     ensures { result ≡ in_vectors (tree_of ty.now) }
 {
     match ty {
@@ -106,6 +107,7 @@ fn in_vectors(ty: &FfiType) -> bool
         | FfiType::U128
         | FfiType::S128
         | FfiType::Pointer
+        | FfiType::Array(_, _)
         | FfiType::LongDouble
         | FfiType::Complex
         | FfiType::Vector => false,
@@ -114,24 +116,24 @@ fn in_vectors(ty: &FfiType) -> bool
 
 /// Whether the caller copies a value and passes a pointer to the copy.
 fn is_copied(ty: &FfiType) -> bool
-    requires { IsResultType (tree_of ty.now) }
+    requires { IsLaidOut (tree_of ty.now) }
     ensures { result ≡ is_copied (tree_of ty.now) }
 {
-    matches!(ty, FfiType::Struct(_)) && !in_vectors(ty) && size_of(ty) > 16
+    matches!(ty, FfiType::Struct(_) | FfiType::Array(_, _)) && !in_vectors(ty) && size_of(ty) > 16
 }
 
 /// The size of what is passed: the value, or the pointer to its copy.
 fn passed_size(ty: &FfiType) -> u64
-    requires { IsResultType (tree_of ty.now) }
+    requires { IsLaidOut (tree_of ty.now) }
     ensures value { result ≡ size_of (passed (tree_of ty.now)) }
-    ensures small { result ≤ LARGEST_STRUCT }
+    ensures small { result ≤ LARGEST_TYPE }
 {
     if is_copied(ty) { 8 } else { size_of(ty) }
 }
 
 /// How many doublewords a value has that goes directly in general registers.
 fn doublewords_of(ty: &FfiType) -> u64
-    requires { IsResultType (tree_of ty.now) }
+    requires { IsLaidOut (tree_of ty.now) }
     ensures value { result ≡ doublewords (tree_of ty.now) }
     ensures few { in_vectors (tree_of ty.now) ≡ false → is_copied (tree_of ty.now) ≡ false → result ≤ 2 }
 {
@@ -140,7 +142,7 @@ fn doublewords_of(ty: &FfiType) -> u64
 
 /// The registers that an argument needs: whether they are SIMD and floating-point registers, and how many. (AAPCS64 C.1, C.2, C.9, C.12)
 pub fn need_of(ty: &FfiType) -> (bool, u8)
-    requires { IsResultType (tree_of ty.now) }
+    requires { IsLaidOut (tree_of ty.now) }
     ensures { result ≡ (in_vectors (tree_of ty.now), registers_needed (tree_of ty.now)) }
 {
     if in_vectors(ty) {
@@ -154,7 +156,7 @@ pub fn need_of(ty: &FfiType) -> (bool, u8)
 
 /// The same number, which is at most 4.
 fn number_needed(ty: &FfiType) -> u64
-    requires { IsResultType (tree_of ty.now) }
+    requires { IsLaidOut (tree_of ty.now) }
     ensures value { result ≡ registers_needed (tree_of ty.now) }
     ensures few { result ≤ 4 }
 {
@@ -163,9 +165,9 @@ fn number_needed(ty: &FfiType) -> u64
 
 /// The stack that an argument takes where it is not in registers.
 fn stack_size(ty: &FfiType) -> u64
-    requires { IsResultType (tree_of ty.now) }
+    requires { IsLaidOut (tree_of ty.now) }
     ensures value { result ≡ stack_size (tree_of ty.now) }
-    ensures small { result ≤ LARGEST_STRUCT + 7 }
+    ensures small { result ≤ LARGEST_TYPE + 7 }
 {
     round_up(passed_size(ty), 8)
 }
@@ -174,7 +176,7 @@ fn stack_size(ty: &FfiType) -> u64
 
 /// The alignment of what is passed: the value, or the pointer to its copy.
 fn passed_align(ty: &FfiType) -> u64
-    requires { IsResultType (tree_of ty.now) }
+    requires { IsLaidOut (tree_of ty.now) }
     ensures value { result ≡ align_of (passed (tree_of ty.now)) }
     ensures small { result ≤ 16 }
 {
@@ -183,7 +185,7 @@ fn passed_align(ty: &FfiType) -> u64
 
 /// The first general register of an argument, where those before it end. (AAPCS64 C.10)
 fn first_general(end: u64, ty: &FfiType) -> u64
-    requires right { IsResultType (tree_of ty.now) }
+    requires right { IsLaidOut (tree_of ty.now) }
     requires few { end ≤ 5 * MOST_ARGUMENTS }
     ensures value { result ≡ first_general end (passed (tree_of ty.now)) }
     ensures near { result ≤ end + 1 }
@@ -200,7 +202,7 @@ fn first_general(end: u64, ty: &FfiType) -> u64
 
 /// The first byte of an argument on the stack, where what stands before it ends. (AAPCS64 C.4, C.14)
 fn stack_start(end: u64, ty: &FfiType) -> u64
-    requires right { IsResultType (tree_of ty.now) }
+    requires right { IsLaidOut (tree_of ty.now) }
     requires low { end ≤ ARGUMENT_BYTES }
     ensures value { result ≡ stack_start end (passed (tree_of ty.now)) }
     ensures near { result ≤ end + LARGEST_GAP }
@@ -212,7 +214,7 @@ fn stack_start(end: u64, ty: &FfiType) -> u64
 
 /// The first register of an argument, by its kind.
 fn register_start(before: Taken, ty: &FfiType) -> u64
-    requires right { IsResultType (tree_of ty.now) }
+    requires right { IsLaidOut (tree_of ty.now) }
     requires few_general { before.general ≤ 5 * MOST_ARGUMENTS }
     ensures value { result ≡ register_start before (tree_of ty.now) }
     ensures vector { in_vectors (tree_of ty.now) ≡ true → result ≡ before.vector }
@@ -227,7 +229,7 @@ fn register_start(before: Taken, ty: &FfiType) -> u64
 
 /// Where the registers of an argument end. Each argument takes at most five with the gap before it.
 fn register_end(before: Taken, ty: &FfiType) -> u64
-    requires right { IsResultType (tree_of ty.now) }
+    requires right { IsLaidOut (tree_of ty.now) }
     requires few_general { before.general ≤ 5 * MOST_ARGUMENTS }
     requires few_vector { before.vector ≤ 5 * MOST_ARGUMENTS }
     ensures value { result ≡ register_end before (tree_of ty.now) }
@@ -239,7 +241,7 @@ fn register_end(before: Taken, ty: &FfiType) -> u64
 
 /// Whether the registers that are left suffice for the whole argument.
 fn fits_registers(before: Taken, ty: &FfiType) -> bool
-    requires right { IsResultType (tree_of ty.now) }
+    requires right { IsLaidOut (tree_of ty.now) }
     requires few_general { before.general ≤ 5 * MOST_ARGUMENTS }
     requires few_vector { before.vector ≤ 5 * MOST_ARGUMENTS }
     ensures value { result ≡ in_registers before (tree_of ty.now) }
@@ -249,7 +251,7 @@ fn fits_registers(before: Taken, ty: &FfiType) -> bool
 
 /// The general registers that are taken after an argument.
 fn general_end(before: Taken, ty: &FfiType) -> u64
-    requires right { IsResultType (tree_of ty.now) }
+    requires right { IsLaidOut (tree_of ty.now) }
     requires few_general { before.general ≤ 5 * MOST_ARGUMENTS }
     requires few_vector { before.vector ≤ 5 * MOST_ARGUMENTS }
     ensures value { result ≡ (taken_with before (tree_of ty.now)).general }
@@ -264,7 +266,7 @@ fn general_end(before: Taken, ty: &FfiType) -> u64
 
 /// The SIMD and floating-point registers that are taken after an argument.
 fn vector_end(before: Taken, ty: &FfiType) -> u64
-    requires right { IsResultType (tree_of ty.now) }
+    requires right { IsLaidOut (tree_of ty.now) }
     requires few_general { before.general ≤ 5 * MOST_ARGUMENTS }
     requires few_vector { before.vector ≤ 5 * MOST_ARGUMENTS }
     ensures value { result ≡ (taken_with before (tree_of ty.now)).vector }
@@ -279,7 +281,7 @@ fn vector_end(before: Taken, ty: &FfiType) -> u64
 
 /// The bytes of stack that are taken after an argument.
 fn stack_end(before: Taken, ty: &FfiType) -> u64
-    requires right { IsResultType (tree_of ty.now) }
+    requires right { IsLaidOut (tree_of ty.now) }
     requires few_general { before.general ≤ 5 * MOST_ARGUMENTS }
     requires few_vector { before.vector ≤ 5 * MOST_ARGUMENTS }
     requires low { before.stack ≤ ARGUMENT_BYTES }
@@ -294,7 +296,7 @@ fn stack_end(before: Taken, ty: &FfiType) -> u64
 }
 
 fn with_argument(before: Taken, ty: &FfiType) -> Taken
-    requires right { IsResultType (tree_of ty.now) }
+    requires right { IsLaidOut (tree_of ty.now) }
     requires few_general { before.general ≤ 5 * MOST_ARGUMENTS }
     requires few_vector { before.vector ≤ 5 * MOST_ARGUMENTS }
     requires low { before.stack ≤ ARGUMENT_BYTES }
@@ -333,21 +335,22 @@ fn taken_by_all(sig: &Sig) -> Taken
 
 /// A value's doublewords in general registers, from number `general` on.
 fn pieces_in_general(alloc: Global, ty: &FfiType, general: u64) -> Result<Pieces, NoMemory>
-    requires right { IsResultType (tree_of ty.now) }
+    requires right { IsLaidOut (tree_of ty.now) }
     requires enough { general + doublewords (tree_of ty.now) ≤ 8 }
     ensures { IfOk result (λ p. p ≡ general_pieces general (tree_of ty.now)) }
 {
     let ext = widening(ty);
+    let size = size_of(ty);
     let mut pieces = Pieces::new(alloc);
     for j in 0..doublewords(ty) {
-        pieces.push(doubleword(ty, j, Loc::G((general + j) as u8), ext))?;
+        pieces.push(doubleword(size, j, Loc::G((general + j) as u8), ext))?;
     }
     Ok(pieces)
 }
 
 /// A value's leaves in vector registers, from number `vector` on.
 fn pieces_in_vectors(alloc: Global, ty: &FfiType, vector: u64) -> Result<Pieces, NoMemory>
-    requires right { IsResultType (tree_of ty.now) }
+    requires right { IsLaidOut (tree_of ty.now) }
     requires enough { vector + length (leaves_of (tree_of ty.now)) ≤ 8 }
     ensures { IfOk result (λ p. p ≡ member_pieces vector (leaves_of (tree_of ty.now))) }
 {
@@ -360,7 +363,7 @@ fn pieces_in_vectors(alloc: Global, ty: &FfiType, vector: u64) -> Result<Pieces,
 
 /// A value in registers of its kind, from number `first` on.
 fn pieces_in_registers(alloc: Global, ty: &FfiType, first: u64) -> Result<Pieces, NoMemory>
-    requires right { IsResultType (tree_of ty.now) }
+    requires right { IsLaidOut (tree_of ty.now) }
     requires enough_vector { in_vectors (tree_of ty.now) ≡ true → first + length (leaves_of (tree_of ty.now)) ≤ 8 }
     requires enough_general { in_vectors (tree_of ty.now) ≡ false → first + doublewords (tree_of ty.now) ≤ 8 }
     ensures { IfOk result (λ p. p ≡ register_pieces first (tree_of ty.now)) }
@@ -376,7 +379,7 @@ fn pieces_in_registers(alloc: Global, ty: &FfiType, first: u64) -> Result<Pieces
 
 /// An argument that is not copied.
 fn direct_pieces(alloc: Global, before: Taken, ty: &FfiType) -> Result<Pieces, NoMemory>
-    requires right { IsResultType (tree_of ty.now) }
+    requires right { IsLaidOut (tree_of ty.now) }
     requires direct { is_copied (tree_of ty.now) ≡ false }
     requires few_general { before.general ≤ 5 * MOST_ARGUMENTS }
     requires few_vector { before.vector ≤ 5 * MOST_ARGUMENTS }
@@ -392,7 +395,7 @@ fn direct_pieces(alloc: Global, before: Taken, ty: &FfiType) -> Result<Pieces, N
 
 /// Where the pointer to an argument's copy stands.
 fn pointer_place(before: Taken, ty: &FfiType) -> Loc
-    requires right { IsResultType (tree_of ty.now) }
+    requires right { IsLaidOut (tree_of ty.now) }
     requires copied { is_copied (tree_of ty.now) ≡ true }
     requires few_general { before.general ≤ 5 * MOST_ARGUMENTS }
     requires few_vector { before.vector ≤ 5 * MOST_ARGUMENTS }
@@ -408,7 +411,7 @@ fn pointer_place(before: Taken, ty: &FfiType) -> Loc
 
 /// Where an argument stands, if what is before its copy ends at `end`.
 fn place_of(alloc: Global, before: Taken, ty: &FfiType, end: u64) -> Result<Place, NoMemory>
-    requires right { IsResultType (tree_of ty.now) }
+    requires right { IsLaidOut (tree_of ty.now) }
     requires few_general { before.general ≤ 5 * MOST_ARGUMENTS }
     requires few_vector { before.vector ≤ 5 * MOST_ARGUMENTS }
     requires low { before.stack ≤ ARGUMENT_BYTES }
@@ -416,9 +419,10 @@ fn place_of(alloc: Global, before: Taken, ty: &FfiType, end: u64) -> Result<Plac
     ensures { IfOk result (λ p. p ≡ place_at aapcs64.copy_start end (tree_of ty.now) (spot_after before (tree_of ty.now))) }
 {
     if is_copied(ty) {
+        let copy = start(ty, end);
         return Ok(Place::ByRef {
             at: pointer_place(before, ty),
-            copy: start(ty, end) as u32,
+            copy: copy as u32,
         });
     }
     Ok(Place::Direct(direct_pieces(alloc, before, ty)?))
@@ -456,7 +460,7 @@ fn place_all(alloc: Global, sig: &Sig, start: u64) -> Result<Placed, NoMemory>
 
 /// Where a result stands, if what is before its buffer ends at `end`.
 fn place_result(alloc: Global, ty: &FfiType, end: u64) -> Result<Res, NoMemory>
-    requires right { IsResultType (tree_of ty.now) }
+    requires right { IsLaidOut (tree_of ty.now) }
     requires low { end ≤ 4 * ARGUMENT_BYTES }
     ensures { IfOk result (λ r. r ≡ result_at aapcs64.copy_start end (tree_of ty.now) (result_spot_of (tree_of ty.now))) }
 {
@@ -475,9 +479,10 @@ fn place_result(alloc: Global, ty: &FfiType, end: u64) -> Result<Res, NoMemory>
 
 // ---- the standard
 
-/// Does nothing. Its contract says where everything stands in a call of the signature, by where the arguments before each end: an argument is in registers exactly where its own end at 8 or before, its first register and its first byte on the stack are the next behind such ends, and so are the places of copies and buffer. No other placing agrees with the ends.
+/// Does nothing. Its contract says where everything stands in a call of the signature, by where the arguments before each end: an argument is in registers exactly where its own end at 8 or before, its first register and its first byte on the stack are the next behind such ends, and so are the places of copies and buffer. No other placing agrees with the ends. And that structs of equal layout are placed alike, as one with an array and one with its elements there.
 pub fn placement_laws(_sig: &Sig)
-    ensures { IsPlacedByEnds _sig.now }
+    ensures ends { IsPlacedByEnds _sig.now }
+    ensures by_layout { GoesByLayout aapcs64 }
 {}
 
 /// The callee-saved registers: x19 to x29, and the low halves of v8 to v15.

@@ -4,7 +4,7 @@ use Rattle.std.specs.Prelude.{Option, Some, None, is_some}
 use Rattle.std.specs.List.{AllByRecursion, list_all}
 use Rattle.std.proofs.lemmas.Bool.{ltb-false, leb-true}
 use Rattle.std.proofs.lemmas.Bool.Decides.{nat_tests}
-use Rattle.ffi3_type_rules.specs.Tree.{Tree, void, scalar, left_out, structure, Scalar, u8, s8, u16, s16, u32, s32, u64, s64, u128, s128, float, double, pointer}
+use Rattle.ffi3_type_rules.specs.Tree.{Tree, void, scalar, left_out, structure, Scalar, u8, s8, u16, s16, u32, s32, u64, s64, u128, s128, float, double, pointer, array}
 use Rattle.ffi3_type_rules.specs.Layout.{Leaf, leaves_of, size_of, align_of, scalar_size, least_multiple}
 use Rattle.ffi3_type_rules.proofs.Layouts.{scalar_size-bounds}
 use Rattle.ffi3_place_rules.specs.declared.Loc.TheVariants.{G, F, S}
@@ -55,6 +55,7 @@ members_small (left_out k) e = tt
 members_small (structure ts) e =
     let ls = leaves_of (structure ts) in
     homogeneous_small ls (ltb 0 (length ls) && leb (length ls) 4) _ _ (Float, length ls) (Double, length ls) refl refl e
+members_small (array ts n) e = cc
 
 -- ---- pieces
 
@@ -93,6 +94,7 @@ not_narrow : (t : Tree) → in_vectors t ≡ true → is_narrow_integer t ≡ tr
 not_narrow void v h = cc
 not_narrow (left_out k) v h = cc
 not_narrow (structure ts) v h = cc
+not_narrow (array ts n) v h = cc
 not_narrow (scalar float) v h = cc
 not_narrow (scalar double) v h = cc
 not_narrow (scalar u8) v h = cc
@@ -178,6 +180,7 @@ few_members (scalar s) e = omega arith
 few_members (left_out k) e = cc
 few_members (structure ts) e =
     few_members_if (length (leaves_of (structure ts))) (ltb 0 (length (leaves_of (structure ts))) && leb (length (leaves_of (structure ts))) 4) _ refl e
+few_members (array ts n) e = cc
 
 small_if : (v b : Bool) → v ≡ false → (not v && b) ≡ false → b ≡ false
 small_if true b ev e = cc
@@ -190,6 +193,8 @@ few_doublewords (scalar s) ev ec = omega (arith, scalar_size-bounds s)
 few_doublewords (left_out k) ev ec = omega arith
 few_doublewords (structure ts) ev ec =
     omega (arith, ltb-false 16 (size_of (structure ts)) (small_if (in_vectors (structure ts)) (ltb 16 (size_of (structure ts))) ev ec))
+few_doublewords (array ts n) ev ec =
+    omega (arith, ltb-false 16 (size_of (array ts n)) (small_if (in_vectors (array ts n)) (ltb 16 (size_of (array ts n))) ev ec))
 
 -- what an argument needs, by whether it is in vector registers and copied
 abbrev pub NeedBy : Bool → Bool → Tree → ℕ

@@ -6,3 +6,4 @@ pub mod Sound
 pub mod Ends
 pub mod Steps
 mod Rows
+pub mod Alike

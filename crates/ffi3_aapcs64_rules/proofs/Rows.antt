@@ -1,6 +1,6 @@
 -- Worked rows, computed.
 use Rattle.std.specs.Prelude.{◌≡◌, ℕ, [], ◌∷◌, refl, Some, replicate}
-use Rattle.ffi3_type_rules.specs.Tree.{Tree, void, scalar, struct_of, u8, s8, u16, s32, float, double, pointer}
+use Rattle.ffi3_type_rules.specs.Tree.{Tree, void, scalar, struct_of, u8, s8, u16, s32, float, double, pointer, array_of, u32}
 use Rattle.ffi3_type_rules.specs.Layout.{least_multiple}
 use Rattle.ffi3_place_rules.specs.declared.Loc.TheVariants.{G, F, S}
 use Rattle.ffi3_place_rules.specs.declared.Place.TheVariants.{Direct, ByRef}
@@ -86,6 +86,30 @@ pub four_floats : plan_of aapcs64 (sig_of void (floats 4 ∷ [])) ≡ record {
 }
 unfolding least_multiple
 four_floats = refl
+
+-- struct{float[4]}: the same
+pub array_of_floats : plan_of aapcs64 (sig_of void (struct_of (array_of (scalar float) 4 ∷ []) ∷ [])) ≡ record {
+  places = Direct (at (F 0) 0 4 ∷ at (F 1) 4 4 ∷ at (F 2) 8 4 ∷ at (F 3) 12 4 ∷ []) ∷ [];
+  res = Nothing;
+  need = 192;
+  frame = 0;
+  block = 16;
+  vectors = 0;
+}
+unfolding least_multiple
+array_of_floats = refl
+
+-- void(struct{uint8[3],uint32[2]}): two doublewords, as of struct{uint8,uint8,uint8,uint32,uint32}
+pub arrays : plan_of aapcs64 (sig_of void (struct_of (array_of (scalar u8) 3 ∷ array_of (scalar u32) 2 ∷ []) ∷ [])) ≡ record {
+  places = Direct (at (G 0) 0 8 ∷ at (G 1) 8 4 ∷ []) ∷ [];
+  res = Nothing;
+  need = 192;
+  frame = 0;
+  block = 16;
+  vectors = 0;
+}
+unfolding least_multiple
+arrays = refl
 
 -- a struct of five floats is not homogeneous: it is copied
 pub five_floats : plan_of aapcs64 (sig_of void (floats 5 ∷ [])) ≡ record { places = ByRef (G 0) 0 ∷ []; res = Nothing; need = 240; frame = 32; block = 32; vectors = 0 }

@@ -2,7 +2,7 @@
 use Rattle.std.proofs.Common.{◌≡◌, ℕ, zero, suc, ◌+◌, ◌≤◌, Bool, true, false, cond, leb, List, [], ◌∷◌, ◌++◌, subst, ap, sym, ◌∙◌, refl, arith}
 use Rattle.std.specs.List.{AllByRecursion, flat_map}
 use Rattle.ffi3_type_rules.specs.Isa.{isa_of}
-use Rattle.ffi3_type_rules.specs.Tree.{Tree, void, scalar, left_out, structure, pointer}
+use Rattle.ffi3_type_rules.specs.Tree.{Tree, void, scalar, left_out, structure, pointer, array}
 use Rattle.ffi3_type_rules.specs.Layout.{Leaf, leaves_of, size_of, align_of}
 use Rattle.ffi3_type_rules.specs.Signature.{Signature}
 use Rattle.std.specs.Prelude.{length}
@@ -153,6 +153,7 @@ result_cases P t none hidden direct = cases t none hidden direct
     cases (scalar k) none hidden direct = placed (scalar k) hidden direct
     cases (left_out k) none hidden direct = placed (left_out k) hidden direct
     cases (structure ts) none hidden direct = placed (structure ts) hidden direct
+    cases (array ts n) none hidden direct = placed (array ts n) hidden direct
 
 -- ---- the hidden result's address, in x8
 

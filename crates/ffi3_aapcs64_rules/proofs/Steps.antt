@@ -1,6 +1,6 @@
 -- What one more member or argument adds.
 use Rattle.std.proofs.Common.{◌≡◌, ℕ, ◌+◌, ◌<◌, Bool, true, false, cond, List, [], ◌∷◌, ◌++◌, drop, length, ap, sym, ◌∙◌, refl, arith, subst, append_assoc}
-use Rattle.ffi3_type_rules.specs.Tree.{Tree, void, scalar, left_out, structure, tree_at}
+use Rattle.ffi3_type_rules.specs.Tree.{Tree, void, scalar, left_out, structure, array, tree_at}
 use Rattle.ffi3_type_rules.specs.Layout.{leaves_of, leaf_at}
 use Rattle.ffi3_place_rules.specs.declared.Loc.{Loc}
 use Rattle.ffi3_place_rules.specs.declared.Loc.TheVariants.{G, F, S}
@@ -83,6 +83,7 @@ spot_of_copied t over =
     void_is_direct (scalar s) e h = cc
     void_is_direct (left_out k) e h = cc
     void_is_direct (structure ts) e h = cc
+    void_is_direct (array ts n) e h = cc
 
     differ : (b : Bool) → b ≡ true → b ≡ false → ⊥
     differ b e h = cc

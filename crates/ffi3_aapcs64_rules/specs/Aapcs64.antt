@@ -4,7 +4,7 @@ use Rattle.std.specs.List.{list_all}
 use Rattle.ffi3_type_rules.specs.declared.Target.TheVariants as target
 use Rattle.ffi3_type_rules.specs.declared.Isa.{Isa}
 use Rattle.ffi3_type_rules.specs.Isa.{isa_of}
-use Rattle.ffi3_type_rules.specs.Tree.{Tree, void, scalar, structure, Scalar, u8, s8, u16, s16, u32, s32, u64, s64, u128, s128, float, double, pointer}
+use Rattle.ffi3_type_rules.specs.Tree.{Tree, void, scalar, structure, Scalar, u8, s8, u16, s16, u32, s32, u64, s64, u128, s128, float, double, pointer, array}
 use Rattle.ffi3_type_rules.specs.Layout.{Leaf, leaves_of, size_of, align_of, least_multiple}
 use Rattle.ffi3_type_rules.specs.Signature.{Signature}
 use Rattle.ffi3_place_rules.specs.declared.Loc.{Loc}
@@ -59,13 +59,15 @@ homogeneous_members ls =
     (cond (list_all (is_member Float) ls) (Some (Float, length ls))
     (cond (list_all (is_member Double) ls) (Some (Double, length ls)) None)) None
 
--- the type and the number of the members of an HFA, with nested structs flattened
+-- the type and the number of the members of an HFA, with nested structs and arrays flattened
 abbrev pub homogeneous : Tree → Option (Kind × ℕ)
 homogeneous (structure ts) = homogeneous_members (leaves_of (structure ts))
 homogeneous _ = None
 
+-- structs; also whole arrays, which are neither arguments nor results, so that this says nothing of a call
 abbrev pub is_struct : Tree → Bool
 is_struct (structure ts) = true
+is_struct (array ts n) = true
 is_struct _ = false
 
 -- ---- stage B: what is passed

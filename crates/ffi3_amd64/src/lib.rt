@@ -2,14 +2,15 @@
 #![tactic(auto)]
 
 ghost use Rattle.std.specs.Prelude.{◌*◌, ◌≡◌, ◌<◌, ◌≤◌, ◌+◌, length, slice_index, IfOk, [], true, false};
-ghost use Rattle.ffi3_type_rules.specs.declared.limits.TheConstants.{ARGUMENT_BYTES, ARGUMENT_SPAN};
+ghost use Rattle.ffi3_type_rules.specs.declared.limits.TheConstants.{ARGUMENT_BYTES, ARGUMENT_SPAN, LARGEST_TYPE};
 ghost use Rattle.ffi3_type_rules.specs.Layout.{leaves_of, leaf_at};
-ghost use Rattle.ffi3_type_rules.specs.Fault.{IsResultType};
+ghost use Rattle.ffi3_type_rules.specs.Fault.{IsLaidOut};
 ghost use Rattle.ffi3_type_rules.specs.Signature.{SignatureHasNoFault};
 ghost use Rattle.ffi3_types.specs.TreeOf.{tree_of};
 ghost use Rattle.ffi3_place_rules.specs.Standard.{places_from, result_at};
 ghost use Rattle.ffi3_amd64_rules.specs.Amd64.{amd64, is_integer_leaf_in, class_of, in_memory, integers, sses, register_pieces, classes, in_registers, stack_end, pieces_after, taken_with, taken_after, taken_at_first, spots_after, result_spot_of};
 ghost use Rattle.ffi3_amd64_rules.specs.Ends.{IsPlacedByEnds};
+ghost use Rattle.ffi3_place_rules.specs.Alike.{GoesByLayout};
 
 pub use ffi3_amd64_rules::Class;
 use ffi3_place::ends::{buffer_end, planned, start};
@@ -25,7 +26,7 @@ use std::alloc::Global;
 
 /// Whether leaf `i` is an integer or a pointer with a byte in the eightbyte.
 fn is_integer_in(ty: &FfiType, i: u32, eightbyte: u32) -> bool
-    requires right { IsResultType (tree_of ty.now) }
+    requires right { IsLaidOut (tree_of ty.now) }
     requires in_range { i < length (leaves_of (tree_of ty.now)) }
     ensures { result ≡ is_integer_leaf_in eightbyte (leaf_at (tree_of ty.now) i) }
 {
@@ -37,7 +38,7 @@ fn is_integer_in(ty: &FfiType, i: u32, eightbyte: u32) -> bool
 
 /// The class of an eightbyte of a value that is passed in registers: INTEGER where an integer or a pointer lies in it, otherwise SSE. (psABI AMD64 3.2.3)
 pub fn class_of(ty: &FfiType, eightbyte: u32) -> Class
-    requires { IsResultType (tree_of ty.now) }
+    requires { IsLaidOut (tree_of ty.now) }
     ensures { result ≡ class_of (tree_of ty.now) eightbyte }
 {
     for i in 0..ty.leaf_count() {
@@ -50,10 +51,10 @@ pub fn class_of(ty: &FfiType, eightbyte: u32) -> Class
 
 /// Whether a value has the class MEMORY: a struct over two eightbytes. (psABI AMD64 3.2.3)
 pub fn in_memory(ty: &FfiType) -> bool
-    requires { IsResultType (tree_of ty.now) }
+    requires { IsLaidOut (tree_of ty.now) }
     ensures { result ≡ in_memory (tree_of ty.now) }
 {
-    matches!(ty, FfiType::Struct(_)) && size_of(ty) > 16
+    matches!(ty, FfiType::Struct(_) | FfiType::Array(_, _)) && size_of(ty) > 16
 }
 
 /// How many eightbytes of each class a value has, none where it is in memory.
@@ -64,11 +65,11 @@ struct Classes {
 }
 
 fn count_classes(ty: &FfiType) -> Classes
-    requires { IsResultType (tree_of ty.now) }
+    requires { IsLaidOut (tree_of ty.now) }
     ensures general { result.integers ≡ integers (tree_of ty.now) }
     ensures vector { result.sses ≡ sses (tree_of ty.now) }
-    ensures few_general { result.integers ≤ 128 }
-    ensures few_vector { result.sses ≤ 128 }
+    ensures few_general { 8 * result.integers ≤ LARGEST_TYPE }
+    ensures few_vector { 8 * result.sses ≤ LARGEST_TYPE }
 {
     let mut integers = 0;
     let mut sses = 0;
@@ -100,7 +101,7 @@ fn pieces_in_registers(
     vector: u64,
     registers: &[u8],
 ) -> Result<Pieces, NoMemory>
-    requires right { IsResultType (tree_of ty.now) }
+    requires right { IsLaidOut (tree_of ty.now) }
     requires direct { in_memory (tree_of ty.now) ≡ false }
     requires enough_general { general + integers (tree_of ty.now) ≤ length registers.now }
     requires enough_vector { vector + sses (tree_of ty.now) ≤ 8 }
@@ -108,6 +109,7 @@ fn pieces_in_registers(
     ensures { IfOk result (λ p. p ≡ register_pieces (slice_index registers.now) general vector (tree_of ty.now) [] (classes (tree_of ty.now))) }
 {
     let ext = widening(ty);
+    let size = size_of(ty);
     let mut pieces = Pieces::new(alloc);
     let mut next_general = general;
     let mut next_vector = vector;
@@ -122,14 +124,14 @@ fn pieces_in_registers(
                 Loc::F(next_vector as u8 - 1)
             }
         };
-        pieces.push(doubleword(ty, j, loc, ext))?;
+        pieces.push(doubleword(size, j, loc, ext))?;
     }
     Ok(pieces)
 }
 
 /// Whether the registers that are left suffice for the whole argument.
 fn fits_registers(before: Taken, ty: &FfiType) -> bool
-    requires right { IsResultType (tree_of ty.now) }
+    requires right { IsLaidOut (tree_of ty.now) }
     requires few_general { before.general ≤ 6 }
     requires few_vector { before.vector ≤ 8 }
     ensures { result ≡ in_registers before (tree_of ty.now) }
@@ -141,7 +143,7 @@ fn fits_registers(before: Taken, ty: &FfiType) -> bool
 }
 
 fn argument_pieces(alloc: Global, before: Taken, ty: &FfiType) -> Result<Pieces, NoMemory>
-    requires right { IsResultType (tree_of ty.now) }
+    requires right { IsLaidOut (tree_of ty.now) }
     requires few_general { before.general ≤ 6 }
     requires few_vector { before.vector ≤ 8 }
     requires low { before.stack ≤ ARGUMENT_BYTES }
@@ -162,7 +164,7 @@ fn argument_pieces(alloc: Global, before: Taken, ty: &FfiType) -> Result<Pieces,
 
 /// Where an argument on the stack ends, if what stands before it ends at `end`.
 fn stack_end(end: u64, ty: &FfiType) -> u64
-    requires right { IsResultType (tree_of ty.now) }
+    requires right { IsLaidOut (tree_of ty.now) }
     requires low { end ≤ ARGUMENT_BYTES }
     ensures value { result ≡ stack_end end (tree_of ty.now) }
     ensures low { result ≤ end + ARGUMENT_SPAN }
@@ -171,7 +173,7 @@ fn stack_end(end: u64, ty: &FfiType) -> u64
 }
 
 fn with_argument(before: Taken, ty: &FfiType) -> Taken
-    requires right { IsResultType (tree_of ty.now) }
+    requires right { IsLaidOut (tree_of ty.now) }
     requires few_general { before.general ≤ 6 }
     requires few_vector { before.vector ≤ 8 }
     requires low { before.stack ≤ ARGUMENT_BYTES }
@@ -205,7 +207,7 @@ struct Placed {
 
 /// The address of a result in memory takes the first general register.
 fn at_first(result_type: &FfiType) -> Taken
-    requires { IsResultType (tree_of result_type.now) }
+    requires { IsLaidOut (tree_of result_type.now) }
     ensures value { result ≡ taken_at_first (tree_of result_type.now) }
     ensures few { result.general ≤ 1 }
 {
@@ -238,7 +240,7 @@ fn place_all(alloc: Global, sig: &Sig) -> Result<Placed, NoMemory>
 
 /// Where a result stands, if what is before its buffer ends at `end`.
 fn place_result(alloc: Global, ty: &FfiType, end: u64) -> Result<Res, NoMemory>
-    requires right { IsResultType (tree_of ty.now) }
+    requires right { IsLaidOut (tree_of ty.now) }
     requires low { end ≤ 2 * ARGUMENT_BYTES }
     ensures { IfOk result (λ r. r ≡ result_at amd64.copy_start end (tree_of ty.now) (result_spot_of (tree_of ty.now))) }
 {
@@ -254,9 +256,10 @@ fn place_result(alloc: Global, ty: &FfiType, end: u64) -> Result<Res, NoMemory>
     Ok(Res::Direct(pieces_in_registers(alloc, ty, 0, 0, &RESULT_REGISTERS)?))
 }
 
-/// Does nothing. Its contract says by sums over all arguments which of them are in registers, and by where those before each end where arguments on the stack, copies, the buffer of a hidden result and the frame's end are; and that no other choice of arguments in registers agrees with the sums. (psABI AMD64 3.2.3)
+/// Does nothing. Its contract says by sums over all arguments which of them are in registers, and by where those before each end where arguments on the stack, copies, the buffer of a hidden result and the frame's end are; and that no other choice of arguments in registers agrees with the sums. (psABI AMD64 3.2.3) And that structs of equal layout are placed alike, as one with an array and one with its elements there.
 pub fn placement_laws(_sig: &Sig)
-    ensures { IsPlacedByEnds _sig.now }
+    ensures ends { IsPlacedByEnds _sig.now }
+    ensures by_layout { GoesByLayout amd64 }
 {}
 
 /// The System V AMD64 calling standard. (psABI AMD64 3.2)

@@ -4,7 +4,7 @@ use Rattle.std.specs.List.{AllByRecursion, Any, count_by}
 use Rattle.std.proofs.lemmas.List.{length_push}
 use Rattle.std.proofs.lemmas.List.Sums.{count_by-le-length}
 use Rattle.std.proofs.lemmas.Bool.{cases_lt, ltb-false, leb-true}
-use Rattle.ffi3_type_rules.specs.Tree.{Tree, void, scalar, left_out, structure}
+use Rattle.ffi3_type_rules.specs.Tree.{Tree, void, scalar, left_out, structure, array}
 use Rattle.ffi3_type_rules.specs.Layout.{size_of}
 use Rattle.ffi3_type_rules.proofs.Layouts.{scalar_size-bounds}
 use Rattle.ffi3_place_rules.specs.declared.Taken.{Taken}
@@ -44,15 +44,16 @@ length-classes_from t j zero = refl
 length-classes_from t j (suc n) = ap suc (length-classes_from t (j + 1) n)
 
 -- a value that isn't in memory has at most two eightbytes
+few_if : (t : Tree) (b : Bool) → ltb 16 (size_of t) ≡ b → length (cond b [] (classes_from t 0 (eightbytes t))) ≤ 2
+few_if t true e = omega arith
+few_if t false e = omega (arith, ltb-false 16 (size_of t) e, length-classes_from t 0 (eightbytes t))
+
 pub classes_few : (t : Tree) → length (classes t) ≤ 2
 classes_few void = omega arith
 classes_few (scalar s) = omega (arith, length-classes_from (scalar s) 0 (eightbytes (scalar s)), scalar_size-bounds s)
 classes_few (left_out k) = omega arith
-classes_few (structure ts) = cases (ltb 16 (size_of (structure ts))) refl
-  where
-    cases : (b : Bool) → ltb 16 (size_of (structure ts)) ≡ b → length (cond b [] (classes_from (structure ts) 0 (eightbytes (structure ts)))) ≤ 2
-    cases true e = omega arith
-    cases false e = omega (arith, ltb-false 16 (size_of (structure ts)) e, length-classes_from (structure ts) 0 (eightbytes (structure ts)))
+classes_few (structure ts) = few_if (structure ts) (ltb 16 (size_of (structure ts))) refl
+classes_few (array ts n) = few_if (array ts n) (ltb 16 (size_of (array ts n))) refl
 
 pub classes_when : (t : Tree) → in_memory t ≡ false → length (classes t) ≡ eightbytes t
 classes_when t e = rw e (length-classes_from t 0 (eightbytes t))

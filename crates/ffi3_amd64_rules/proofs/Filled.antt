@@ -1,7 +1,7 @@
 -- The rest of each place is filled as the standard says: a lone narrow integer is extended by its sign, all else is free.
 use Rattle.std.proofs.Common.{◌≡◌, ℕ, Bool, true, false, cond, List, [], ◌∷◌, ◌++◌, refl}
 use Rattle.std.specs.List.{AllByRecursion}
-use Rattle.ffi3_type_rules.specs.Tree.{Tree, void, scalar, left_out, structure, u8, s8, u16, s16, u32, s32, u64, s64, u128, s128, float, double, pointer}
+use Rattle.ffi3_type_rules.specs.Tree.{Tree, void, scalar, left_out, structure, u8, s8, u16, s16, u32, s32, u64, s64, u128, s128, float, double, pointer, array}
 use Rattle.ffi3_place_rules.specs.declared.Ext.TheVariants.{Free, Widen}
 use Rattle.ffi3_place_rules.specs.declared.Loc.TheVariants.{G}
 use Rattle.ffi3_place_rules.specs.declared.Piece.{Piece}
@@ -11,7 +11,7 @@ use Rattle.ffi3_place_rules.specs.Doublewords.{doublewords, widening, stack_piec
 use Rattle.ffi3_place_rules.specs.Sound.{is_narrow_integer, is_floating_place, IsFilled, PlacesAreFilled, ResultIsFilled}
 use Rattle.ffi3_place_rules.proofs.Filled.{doublewords_filled}
 use Rattle.ffi3_amd64_rules.specs.declared.Class.{Class}
-use Rattle.ffi3_amd64_rules.specs.Amd64.{amd64, classes, argument_register, result_register, register_pieces, in_registers, stack_start, taken_with, spots_after, result_spot_of}
+use Rattle.ffi3_amd64_rules.specs.Amd64.{in_memory, amd64, classes, argument_register, result_register, register_pieces, in_registers, stack_start, taken_with, spots_after, result_spot_of}
 
 differ : (b : Bool) → b ≡ true → b ≡ false → ⊥
 differ b h k = cc
@@ -33,6 +33,7 @@ pub registers_filled : (general : ℕ → ℕ) (g f : ℕ) (t : Tree) → AllByR
 registers_filled general g f void = free_filled void general g f refl refl [] (classes void)
 registers_filled general g f (left_out k) = free_filled (left_out k) general g f refl refl [] (classes (left_out k))
 registers_filled general g f (structure ts) = free_filled (structure ts) general g f refl refl [] (classes (structure ts))
+registers_filled general g f (array ts n) = free_filled (array ts n) general g f refl refl [] (classes (array ts n))
 registers_filled general g f (scalar u8) = (narrow_filled (scalar u8) _ refl refl, tt)
 registers_filled general g f (scalar s8) = (narrow_filled (scalar s8) _ refl refl, tt)
 registers_filled general g f (scalar u16) = (narrow_filled (scalar u16) _ refl refl, tt)
@@ -56,12 +57,13 @@ arguments_filled end before [] = tt
 arguments_filled end before (t ∷ ts) =
     (filled_if before t (in_registers before t), arguments_filled end (taken_with before t) ts)
 
+result_if : (t : Tree) (end : ℕ) (b : Bool) → ResultIsFilled amd64 t (result_at amd64.copy_start end t (cond b (in_buffer (G (argument_register 0))) (in_result_pieces (register_pieces result_register 0 0 t [] (classes t)))))
+result_if t end true = tt
+result_if t end false = registers_filled result_register 0 0 t
+
 pub result_filled : (t : Tree) (end : ℕ) → ResultIsFilled amd64 t (result_at amd64.copy_start end t (result_spot_of t))
 result_filled void end = tt
 result_filled (scalar s) end = registers_filled result_register 0 0 (scalar s)
 result_filled (left_out k) end = registers_filled result_register 0 0 (left_out k)
-result_filled (structure ts) end = cases _
-  where
-    cases : (b : Bool) → ResultIsFilled amd64 (structure ts) (result_at amd64.copy_start end (structure ts) (cond b (in_buffer (G (argument_register 0))) (in_result_pieces (register_pieces result_register 0 0 (structure ts) [] (classes (structure ts))))))
-    cases true = tt
-    cases false = registers_filled result_register 0 0 (structure ts)
+result_filled (structure ts) end = result_if (structure ts) end (in_memory (structure ts))
+result_filled (array ts n) end = result_if (array ts n) end (in_memory (array ts n))

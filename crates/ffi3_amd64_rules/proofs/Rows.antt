@@ -1,6 +1,6 @@
 -- Worked rows, computed.
 use Rattle.std.specs.Prelude.{◌≡◌, [], ◌∷◌, refl, Some, replicate}
-use Rattle.ffi3_type_rules.specs.Tree.{void, scalar, struct_of, u8, s8, u16, s32, s64, s128, float, double, pointer}
+use Rattle.ffi3_type_rules.specs.Tree.{void, scalar, struct_of, array_of, u8, s8, u16, u32, s32, s64, s128, float, double, pointer}
 use Rattle.ffi3_type_rules.specs.Layout.{least_multiple}
 use Rattle.ffi3_place_rules.specs.declared.Loc.TheVariants.{G, F, S}
 use Rattle.ffi3_place_rules.specs.declared.Place.TheVariants.{Direct}
@@ -202,3 +202,15 @@ pub wide_in_memory : plan_of amd64 (sig_of byte_and_wide (triple ∷ byte_and_wi
 }
 unfolding least_multiple
 wide_in_memory = refl
+
+-- void(struct{uint8[3],uint32[2]}): two INTEGER eightbytes, as of struct{uint8,uint8,uint8,uint32,uint32}
+pub arrays : plan_of amd64 (sig_of void (struct_of (array_of (scalar u8) 3 ∷ array_of (scalar u32) 2 ∷ []) ∷ [])) ≡ record {
+  places = Direct (at (G 7) 0 8 ∷ at (G 6) 8 4 ∷ []) ∷ [];
+  res = Nothing;
+  need = 80;
+  frame = 0;
+  block = 16;
+  vectors = 0;
+}
+unfolding least_multiple
+arrays = refl

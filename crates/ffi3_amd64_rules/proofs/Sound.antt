@@ -2,7 +2,7 @@
 use Rattle.std.proofs.Common.{◌≡◌, ℕ, ◌+◌, ◌≤◌, Bool, true, false, cond, List, [], ◌∷◌, ◌++◌, subst, sym, refl, arith, append-nil, append_assoc}
 use Rattle.std.specs.List.{AllByRecursion, count_by, flat_map}
 use Rattle.std.proofs.lemmas.List.Sums.{sum_by-cons, sum_by_push}
-use Rattle.ffi3_type_rules.specs.Tree.{Tree, void, scalar, left_out, structure}
+use Rattle.ffi3_type_rules.specs.Tree.{Tree, void, scalar, left_out, structure, array}
 use Rattle.ffi3_type_rules.specs.Signature.{Signature}
 use Rattle.ffi3_type_rules.specs.declared.Isa.TheVariants.{Amd64}
 use Rattle.ffi3_place_rules.specs.declared.Loc.{Loc}
@@ -100,17 +100,18 @@ untouched = record { general = 0; vector = 0; stack = 0 }
 abbrev taken_by_all : Signature → Taken
 taken_by_all s = taken_after (taken_at_first s.result_type) s.arguments
 
+hidden_if : (t : Tree) (end : ℕ) (b : Bool) → ArgumentsChain untouched (hidden_locs (result_at amd64.copy_start end t (cond b (in_buffer (G (argument_register 0))) (in_result_pieces (register_pieces result_register 0 0 t [] (classes t)))))) (record { general = cond b 1 0; vector = 0; stack = 0 })
+hidden_if t end true =
+    let one : AtMost untouched (record { general = 1; vector = 0; stack = 0 }) = record { general = omega arith; vector = omega arith; stack = omega arith } in
+    (record { general = 1; vector = 0; stack = 0 }, (0, refl, omega arith, omega arith), (0, refl, omega arith), one, at_most_self (record { general = 1; vector = 0; stack = 0 }))
+hidden_if t end false = at_most_self untouched
+
 hidden_chain : (t : Tree) (end : ℕ) → ArgumentsChain untouched (hidden_locs (result_at amd64.copy_start end t (result_spot_of t))) (taken_at_first t)
 hidden_chain void end = at_most_self untouched
 hidden_chain (scalar s) end = at_most_self untouched
 hidden_chain (left_out k) end = at_most_self untouched
-hidden_chain (structure ts) end = cases (in_memory (structure ts))
-  where
-    cases : (b : Bool) → ArgumentsChain untouched (hidden_locs (result_at amd64.copy_start end (structure ts) (cond b (in_buffer (G (argument_register 0))) (in_result_pieces (register_pieces result_register 0 0 (structure ts) [] (classes (structure ts))))))) (record { general = cond b 1 0; vector = 0; stack = 0 })
-    cases true =
-        let one : AtMost untouched (record { general = 1; vector = 0; stack = 0 }) = record { general = omega arith; vector = omega arith; stack = omega arith } in
-        (record { general = 1; vector = 0; stack = 0 }, (0, refl, omega arith, omega arith), (0, refl, omega arith), one, at_most_self (record { general = 1; vector = 0; stack = 0 }))
-    cases false = at_most_self untouched
+hidden_chain (structure ts) end = hidden_if (structure ts) end (in_memory (structure ts))
+hidden_chain (array ts n) end = hidden_if (array ts n) end (in_memory (array ts n))
 
 plan_chain : (s : Signature) → ArgumentsChain untouched (argument_locs (plan_of amd64 s)) (taken_by_all s)
 plan_chain s =
@@ -152,25 +153,27 @@ result_chain : (t : Tree) → Chain result_register vector_register 2 2 (at_eigh
 result_chain t =
     register_chain result_register 2 2 untouched t [] (classes t) (omega (arith, integers_few t)) (omega (arith, sses_few t))
 
+result_if : (P : List Loc → Type 0) → P [] → (t : Tree) → P (piece_locs (register_pieces result_register 0 0 t [] (classes t))) → (end : ℕ) (b : Bool) → P (result_locs (result_at amd64.copy_start end t (cond b (in_buffer (G (argument_register 0))) (in_result_pieces (register_pieces result_register 0 0 t [] (classes t))))))
+result_if P none t direct end true = none
+result_if P none t direct end false = direct
+
 result_cases : (P : List Loc → Type 0) → P [] → (t : Tree) → P (piece_locs (register_pieces result_register 0 0 t [] (classes t))) → (end : ℕ) → P (result_locs (result_at amd64.copy_start end t (result_spot_of t)))
 result_cases P none void direct end = none
 result_cases P none (scalar s) direct end = direct
 result_cases P none (left_out k) direct end = direct
-result_cases P none (structure ts) direct end = cases (in_memory (structure ts))
-  where
-    cases : (b : Bool) → P (result_locs (result_at amd64.copy_start end (structure ts) (cond b (in_buffer (G (argument_register 0))) (in_result_pieces (register_pieces result_register 0 0 (structure ts) [] (classes (structure ts)))))))
-    cases true = none
-    cases false = direct
+result_cases P none (structure ts) direct end = result_if P none (structure ts) direct end (in_memory (structure ts))
+result_cases P none (array ts n) direct end = result_if P none (array ts n) direct end (in_memory (array ts n))
+
+has_all_if : (t : Tree) (end : ℕ) (b : Bool) → in_memory t ≡ b → ResultHasAll t (result_at amd64.copy_start end t (cond b (in_buffer (G (argument_register 0))) (in_result_pieces (register_pieces result_register 0 0 t [] (classes t)))))
+has_all_if t end true e = tt
+has_all_if t end false e = registers_have_all result_register 0 0 t (classes t) (classes_when t e)
 
 result_has_all : (t : Tree) (end : ℕ) → ResultHasAll t (result_at amd64.copy_start end t (result_spot_of t))
 result_has_all void end = refl
 result_has_all (scalar s) end = registers_have_all result_register 0 0 (scalar s) (classes (scalar s)) (classes_when (scalar s) refl)
 result_has_all (left_out k) end = registers_have_all result_register 0 0 (left_out k) (classes (left_out k)) (classes_when (left_out k) refl)
-result_has_all (structure ts) end = cases (in_memory (structure ts)) refl
-  where
-    cases : (b : Bool) → in_memory (structure ts) ≡ b → ResultHasAll (structure ts) (result_at amd64.copy_start end (structure ts) (cond b (in_buffer (G (argument_register 0))) (in_result_pieces (register_pieces result_register 0 0 (structure ts) [] (classes (structure ts))))))
-    cases true e = tt
-    cases false e = registers_have_all result_register 0 0 (structure ts) (classes (structure ts)) (classes_when (structure ts) e)
+result_has_all (structure ts) end = has_all_if (structure ts) end (in_memory (structure ts)) refl
+result_has_all (array ts n) end = has_all_if (array ts n) end (in_memory (array ts n)) refl
 
 -- every law of the places
 pub sound : (s : Signature) → IsSound amd64 s

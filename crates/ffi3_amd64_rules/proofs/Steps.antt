@@ -3,7 +3,7 @@ use Rattle.std.proofs.Common.{◌≡◌, ℕ, zero, suc, ◌+◌, ◌-◌, ◌<�
 use Rattle.std.specs.List.{count_by, list_any}
 use Rattle.std.proofs.lemmas.Bool.{le-leb}
 use Rattle.std.proofs.lemmas.List.Sums.{sum_by-cons, sum_by_push}
-use Rattle.ffi3_type_rules.specs.Tree.{Tree, void, scalar, left_out, structure, tree_at}
+use Rattle.ffi3_type_rules.specs.Tree.{Tree, void, scalar, left_out, structure, array, tree_at}
 use Rattle.ffi3_type_rules.specs.Layout.{leaves_of, leaf_at, size_of}
 use Rattle.ffi3_place_rules.specs.declared.Loc.{Loc}
 use Rattle.ffi3_place_rules.specs.declared.Loc.TheVariants.{G}
@@ -102,13 +102,18 @@ spot_of_memory void e = cc
 spot_of_memory (scalar s) e = cc
 spot_of_memory (left_out k) e = cc
 spot_of_memory (structure ts) e = rw e refl
+spot_of_memory (array ts n) e = rw e refl
+
+spot_if : (t : Tree) → in_memory t ≡ false → cond (in_memory t) (in_buffer (G (argument_register 0))) (in_result_pieces (register_pieces result_register 0 0 t [] (classes t))) ≡ in_result_pieces (register_pieces result_register 0 0 t [] (classes t))
+spot_if t e =
+    ap (λ b. cond b (in_buffer (G (argument_register 0))) (in_result_pieces (register_pieces result_register 0 0 t [] (classes t)))) e
 
 pub spot_of_registers : (t : Tree) → ¬ (t ≡ void) → in_memory t ≡ false → result_spot_of t ≡ in_result_pieces (register_pieces result_register 0 0 t [] (classes t))
 spot_of_registers void some e = absurd (some refl)
 spot_of_registers (scalar s) some e = refl
 spot_of_registers (left_out k) some e = refl
-spot_of_registers (structure ts) some e =
-    ap (λ b. cond b (in_buffer (G (argument_register 0))) (in_result_pieces (register_pieces result_register 0 0 (structure ts) [] (classes (structure ts))))) e
+spot_of_registers (structure ts) some e = spot_if (structure ts) e
+spot_of_registers (array ts n) some e = spot_if (array ts n) e
 
 -- one more piece in a register, where the new list and its last piece are known by equations
 pub register_turn : (general : ℕ → ℕ) (g f : ℕ) (t : Tree) (j count : ℕ) (out new whole : List Piece) (p : Piece) (l : Loc) → j < count → l ≡ register_of general g f (classes_from t 0 j) (class_of t j) → p ≡ doubleword l j (size_of t) (widening t) → new ≡ out ++ p ∷ [] →

@@ -3,7 +3,7 @@ use Rattle.std.specs.Prelude.{ℕ, zero, suc, ◌+◌, ◌*◌, Bool, true, fals
 use Rattle.std.specs.List.{list_any, count_by}
 use Rattle.ffi3_type_rules.specs.declared.Isa.TheVariants as isa
 use Rattle.ffi3_type_rules.specs.declared.Target.TheVariants as target
-use Rattle.ffi3_type_rules.specs.Tree.{Tree, void, scalar, left_out, structure}
+use Rattle.ffi3_type_rules.specs.Tree.{Tree, void, scalar, left_out, structure, array}
 use Rattle.ffi3_type_rules.specs.Layout.{Leaf, leaves_of, size_of, scalar_size}
 use Rattle.ffi3_type_rules.specs.Signature.{Signature}
 use Rattle.ffi3_type_rules.specs.Integer.{is_floating}
@@ -39,11 +39,13 @@ is_integer_leaf_in j l = lies_in_eightbyte j l && not (is_floating l.kind)
 abbrev pub class_of : Tree → ℕ → Class
 class_of t j = cond (list_any (is_integer_leaf_in j) (leaves_of t)) Integer Sse
 
+-- structs; also whole arrays, which are neither arguments nor results, so that this says nothing of a call
 abbrev pub is_struct : Tree → Bool
 is_struct void = false
 is_struct (scalar s) = false
 is_struct (left_out k) = false
 is_struct (structure ts) = true
+is_struct (array ts n) = true
 
 -- class MEMORY: a struct over two eightbytes, none of which is SSEUP here (Classification of aggregates, step 5 (c): the post merger cleanup)
 abbrev pub in_memory : Tree → Bool

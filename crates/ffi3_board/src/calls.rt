@@ -1,6 +1,7 @@
 //! Calls that are entered, and returns.
 ghost use Rattle.std.specs.Prelude.{◌≡◌, ℕ, ◌<◌, ◌≤◌, IfOk, List, None, length, reverse, suc, true};
 ghost use Rattle.ffi3_type_rules.specs.declared.limits.TheConstants.{STACK_TOP};
+ghost use Rattle.ffi3_type_rules.specs.Layout.{size_of};
 ghost use Rattle.ffi3_type_rules.specs.Signature.{signature_at};
 ghost use Rattle.ffi3_type_rules.specs.Tree.{trees_of};
 ghost use Rattle.ffi3_type_rules.specs.Value.{all_fit, fits, values_of};
@@ -27,16 +28,40 @@ ghost use Rattle.ffi3_board.specs.Turned.{Turned};
 
 use crate::tracing::{tell_entry, tell_return};
 use crate::{Activation, Board, Cifs, OpenCall, Turn, Waiting};
+use ffi3_callee::Incoming;
+use ffi3_cif::Cif;
 use ffi3_invoke::{begin_call, end_call};
 use ffi3_io::Sink;
 use ffi3_machine::Machine;
+use ffi3_pieces::SMALL;
 use ffi3_place::Abi;
 use ffi3_place::parts::size_of;
 use ffi3_run_rules::Closure;
-use ffi3_type_rules::limits::LARGEST_STRUCT;
+use ffi3_type_rules::limits::LARGEST_TYPE;
 use ffi3_types::NoMemory;
 use ffi3_values::{Value, Values, value_from_bytes};
 use std::alloc::Global;
+
+/// Returns from the callee of a call, and reads the result by way of `out`, which has as many bytes.
+fn end_by<A: Abi>(
+    alloc: Global,
+    machine: &mut Machine,
+    cif: &Cif<A>,
+    incoming: Incoming,
+    value: &Value,
+    out: &mut [u8],
+) -> Result<Value, NoMemory>
+    requires called { IsCalled A.standard cif.now machine.old }
+    requires incoming { IsIncoming A.standard cif.now incoming }
+    requires block { incoming.block ≡ machine.old.sp }
+    requires fits { fits cif.now.result_type (value_of value.now) ≡ true }
+    requires sized { length out.old ≡ size_of cif.now.result_type }
+    ensures ended { HasEnded A.standard cif.now (value_of value.now) machine.old machine.new }
+    ensures value { IfOk result (λ v. value_of v ≡ value_of value.now) }
+{
+    end_call(machine, cif, incoming, value, out);
+    value_from_bytes(alloc, cif.sig().ret(), out)
+}
 
 /// Returns from the callee of an open call. The caller reads the result from where it stands.
 fn end_with<A: Abi>(
@@ -56,11 +81,14 @@ fn end_with<A: Abi>(
 {
     let OpenCall { sig, incoming } = call;
     let cif = cifs.get(sig);
-    let ty = cif.sig().ret();
-    let mut room = [0; LARGEST_STRUCT as usize];
-    let out = &mut room[..size_of(ty) as usize];
-    end_call(machine, cif, incoming, value, out);
-    value_from_bytes(alloc, ty, out)
+    let size = size_of(cif.sig().ret()) as usize;
+    if size <= SMALL {
+        let mut room = [0; SMALL];
+        end_by(alloc, machine, cif, incoming, value, &mut room[..size])
+    } else {
+        let mut room = [0; LARGEST_TYPE as usize];
+        end_by(alloc, machine, cif, incoming, value, &mut room[..size])
+    }
 }
 
 impl<S: Drop> Board<S> {

@@ -1,10 +1,11 @@
 -- Where the arguments stand in a block, and which values they have.
-use Rattle.std.proofs.Common.{◌≡◌, ℕ, zero, suc, ◌+◌, ◌<◌, ◌≤◌, ◌^◌, List, [], ◌∷◌, ◌++◌, length, take, drop, refl, ap, sym, ◌∙◌, arith, false, All}
+use Rattle.std.proofs.Common.{◌≡◌, ℕ, zero, suc, ◌+◌, ◌<◌, ◌≤◌, ◌^◌, List, [], ◌∷◌, ◌++◌, length, take, drop, refl, ap, sym, ◌∙◌, arith, All}
 use Rattle.std.specs.List.{sum_by}
 use Rattle.std.proofs.Math.Seq.{take-suc}
 use Rattle.std.proofs.lemmas.List.{drop-drop, get_or_default}
 use Rattle.std.proofs.lemmas.List.Sums.{sum_by_more_le, sum_by-cons, sum_by_push, sum_by-le}
-use Rattle.ffi3_type_rules.specs.declared.limits.TheConstants.{LARGEST_STRUCT}
+use Rattle.ffi3_type_rules.specs.declared.limits.TheConstants.{LARGEST_TYPE}
+use Rattle.ffi3_type_rules.specs.declared.Role.TheVariants.{AsArgument}
 use Rattle.ffi3_type_rules.specs.Tree.{Tree, void, tree_at}
 use Rattle.ffi3_type_rules.specs.Layout.{size_of, least_multiple}
 use Rattle.ffi3_type_rules.specs.Signature.{Signature, SignatureHasNoFault}
@@ -34,17 +35,17 @@ whole_within s i below =
     let ts = s.arguments in
     omega (arith, sum_by_more_le whole_size ts i void below, least_multiple-above 16 (sum_by whole_size ts))
 
-pub size_small : (s : Signature) → SignatureHasNoFault s → (i : ℕ) → i < length s.arguments → size_of (tree_at s.arguments i) ≤ 1024
+pub size_small : (s : Signature) → SignatureHasNoFault s → (i : ℕ) → i < length s.arguments → size_of (tree_at s.arguments i) ≤ LARGEST_TYPE
 size_small s right i below =
-    right_is_small 0 false (tree_at s.arguments i) (argument_is_right s right i below)
+    right_is_small 0 AsArgument (tree_at s.arguments i) (argument_is_right s right i below)
 
 -- a block is small
 pub block_small : (s : Signature) → SignatureHasNoFault s → block_bytes s < 2 ^ 32
 block_small s right =
     let ts = s.arguments in
-    let each : All (λ t. whole_size t ≤ LARGEST_STRUCT + 7) ts = λ i d below. let same = get_or_default ts i d void below in
+    let each : All (λ t. whole_size t ≤ LARGEST_TYPE + 7) ts = λ i d below. let same = get_or_default ts i d void below in
     rw same (omega (arith, size_small s right i below, least_multiple-below 8 (size_of (tree_at ts i)) (omega arith))) in
-    omega (arith, few_arguments s right, sum_by-le whole_size (LARGEST_STRUCT + 7) ts each, least_multiple-below 16 (sum_by whole_size ts) (omega arith))
+    omega (arith, few_arguments s right, sum_by-le whole_size (LARGEST_TYPE + 7) ts each, least_multiple-below 16 (sum_by whole_size ts) (omega arith))
 
 -- what stands behind the first argument
 moved : (t : Tree) (ts : List Tree) (i : ℕ) (block : List ℕ) → drop (block_offset ts i) (drop (whole_size t) block) ≡ drop (block_offset (t ∷ ts) (suc i)) block

@@ -1,9 +1,10 @@
 // What an activation has seen.
 ghost use Rattle.std.specs.Prelude.{◌≡◌, ◌+◌, ◌<◌, ◌≤◌, ◌^◌, IfOk, length, true, slice_index_or};
+ghost use Rattle.ffi3_type_rules.specs.declared.limits.TheConstants.{LARGEST_TYPE};
 ghost use Rattle.ffi3_type_rules.specs.Tree.{tree_at, trees_of};
 ghost use Rattle.ffi3_type_rules.specs.Value.{void_value, values_of, fits, all_fit};
 ghost use Rattle.ffi3_type_rules.specs.Layout.{size_of};
-ghost use Rattle.ffi3_type_rules.specs.Fault.{IsResultType};
+ghost use Rattle.ffi3_type_rules.specs.Fault.{IsLaidOut};
 ghost use Rattle.ffi3_type_rules.specs.Signature.{SignatureHasNoFault};
 ghost use Rattle.ffi3_place_rules.specs.Standard.{block_bytes, round8};
 ghost use Rattle.ffi3_types.specs.TreeOf.{tree_of};
@@ -69,8 +70,8 @@ impl<'a> Seen<'a> {
     fn arg_type(&self, i: u32) -> &'a FfiType
         requires { i < length self.now.signature.arguments }
         ensures is { tree_of result.now ≡ tree_at self.now.signature.arguments i }
-        ensures right { IsResultType (tree_of result.now) }
-        ensures small { size_of (tree_of result.now) ≤ 1024 }
+        ensures right { IsLaidOut (tree_of result.now) }
+        ensures small { size_of (tree_of result.now) ≤ LARGEST_TYPE }
         ensures within { block_offset self.now.signature.arguments i + round8 (size_of (tree_of result.now)) ≤ length self.now.block }
         ensures bound { length self.now.block < 2 ^ 32 }
     {

@@ -1,7 +1,7 @@
 //! Calls of closures through their slots, on each target: what the callee has and what the caller loads is what was sent.
 ghost use Rattle.std.specs.Prelude.{◌≡◌, ◌+◌, ◌<◌, ◌≤◌, IfOk, IsSome, List, length, true};
 ghost use Rattle.ffi3_type_rules.specs.declared.limits.TheConstants.{ENTRY, STACK, STACK_TOP};
-ghost use Rattle.ffi3_type_rules.specs.Fault.{IsResultType};
+ghost use Rattle.ffi3_type_rules.specs.Fault.{IsLaidOut};
 ghost use Rattle.ffi3_type_rules.specs.Layout.{size_of};
 ghost use Rattle.ffi3_type_rules.specs.Tree.{trees_of};
 ghost use Rattle.ffi3_type_rules.specs.Value.{ValueTree, all_fit, fits, values_of};
@@ -27,6 +27,7 @@ use ffi3_machine::{Machine, NoMemory};
 use ffi3_place::Abi;
 use ffi3_place::parts::{argument, count_of, result_type, size_of};
 use ffi3_riscv::Riscv;
+use ffi3_type_rules::limits::LARGEST_TYPE;
 use ffi3_types::{Bytes, FfiType, Sig};
 use ffi3_values::{Value, Values, fits, value_from_bytes, value_text};
 use std::alloc::Global;
@@ -34,7 +35,7 @@ use std::test::Fail;
 
 /// Bytes for a value of the type: a number and those after it.
 fn some_bytes(alloc: Global, ty: &FfiType, first: u8) -> Result<Vec<u8>, NoMemory>
-    requires { IsResultType (tree_of ty.now) }
+    requires { IsLaidOut (tree_of ty.now) }
     ensures { IfOk result (λ bytes. length bytes.items ≡ size_of (tree_of ty.now)) }
 {
     let mut bytes = vec![in alloc; first; size_of(ty) as usize]?;
@@ -46,7 +47,7 @@ fn some_bytes(alloc: Global, ty: &FfiType, first: u8) -> Result<Vec<u8>, NoMemor
 
 /// Writes the value that these bytes have, with a space behind it.
 fn write_value(alloc: Global, ty: &FfiType, bytes: &[u8], text: &mut Bytes) -> Result<(), NoMemory>
-    requires right { IsResultType (tree_of ty.now) }
+    requires right { IsLaidOut (tree_of ty.now) }
     requires sized { length bytes.now ≡ size_of (tree_of ty.now) }
 {
     let value = value_from_bytes(alloc, ty, bytes)?;
@@ -56,7 +57,7 @@ fn write_value(alloc: Global, ty: &FfiType, bytes: &[u8], text: &mut Bytes) -> R
 
 /// A value of the type, of a number and those after it as bytes, which is written to the text.
 fn some_value(alloc: Global, ty: &FfiType, first: u8, text: &mut Bytes) -> Result<Value, NoMemory>
-    requires { IsResultType (tree_of ty.now) }
+    requires { IsLaidOut (tree_of ty.now) }
     ensures { IfOk result (λ v. fits (tree_of ty.now) (value_of v) ≡ true) }
 {
     let bytes = some_bytes(alloc, ty, first)?;
@@ -217,7 +218,7 @@ fn told<A: Abi>(
     let mut text = Bytes::new(alloc);
     write_arguments(alloc, &machine, cif, &incoming, &mut text)?;
     let ty = result_type(cif.sig());
-    let mut room = [0; 1024];
+    let mut room = [0; LARGEST_TYPE as usize];
     let out = &mut room[..size_of(ty) as usize];
     end_call(&mut machine, cif, incoming, outcome, out);
     if machine.sp() != sp || machine.events().len() != 2 {

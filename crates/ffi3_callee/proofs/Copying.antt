@@ -21,7 +21,7 @@ use Rattle.ffi3_place_rules.specs.Standard.{Standard, block_bytes, frame_of, pla
 use Rattle.ffi3_place_rules.specs.Holds.{OwnsArgument, OwnsArguments}
 use Rattle.ffi3_place_rules.specs.Sound.{IsSound, argument_locs}
 use Rattle.ffi3_place_rules.proofs.Elements.{argument_read}
-use Rattle.ffi3_type_rules.specs.declared.limits.TheConstants.{STACK, STACK_TOP}
+use Rattle.ffi3_type_rules.specs.declared.limits.TheConstants.{STACK, STACK_BYTES, STACK_TOP}
 use Rattle.ffi3_machine.specs.State.{State, stack_at, stored}
 use Rattle.ffi3_pieces.specs.Stored.{IsWritable, SameAt, WroteOnly, WroteWithin}
 use Rattle.ffi3_pieces.specs.Standing.{IsReady, AreReady}
@@ -150,7 +150,7 @@ module _ (std : Standard) (s : Signature) (base block : ℕ) (first : State) whe
     each = λ vs own j h. absurd (omega (arith, h));
   }
 
-  pub one_more_copied : (i to next : ℕ) (t : Tree) (p : Place) (a b : State) → STACK ≤ block → block + block_bytes s ≤ base → base + frame_of std s ≤ STACK_TOP → length first.stack ≡ 65536 → IsSound std s → SignatureHasNoFault s → i < length s.arguments → t ≡ tree_at s.arguments i → slice_get (plan_of std s).places i ≡ Some p → next ≡ to + round8 (size_of t) → IsRead base a t p (stack_at to (size_of t) b) → WroteOnly to (to + size_of t) a b → AreCopied i to a → AreCopied (i + 1) next b
+  pub one_more_copied : (i to next : ℕ) (t : Tree) (p : Place) (a b : State) → STACK ≤ block → block + block_bytes s ≤ base → base + frame_of std s ≤ STACK_TOP → length first.stack ≡ STACK_BYTES → IsSound std s → SignatureHasNoFault s → i < length s.arguments → t ≡ tree_at s.arguments i → slice_get (plan_of std s).places i ≡ Some p → next ≡ to + round8 (size_of t) → IsRead base a t p (stack_at to (size_of t) b) → WroteOnly to (to + size_of t) a b → AreCopied i to a → AreCopied (i + 1) next b
   one_more_copied i to next t p a b low below high sized sound right inside type_is place_is next_is read wrote before =
       record { to_is = to_next; only = only_then block (block + block_bytes s) first a b before.only (only_wider to (to + size_of t) block (block + block_bytes s) a b (omega (arith, before.to_is)) room wrote); ends = ends; each = each }
     where

@@ -20,7 +20,7 @@ use Rattle.ffi3_place_rules.specs.Image.{Image, byte_at, word_at}
 use Rattle.ffi3_place_rules.specs.Standard.{Standard, block_bytes, frame_of, plan_of}
 use Rattle.ffi3_place_rules.specs.Holds.{Carries, LeavesStand, OwnsArgument, OwnsArguments, OwnsHidden}
 use Rattle.ffi3_place_rules.specs.Sound.{IsSound, argument_locs, buffer_locs, copy_locs, hidden_locs, place_locs}
-use Rattle.ffi3_type_rules.specs.declared.limits.TheConstants.{STACK, STACK_TOP}
+use Rattle.ffi3_type_rules.specs.declared.limits.TheConstants.{STACK, STACK_BYTES, STACK_TOP}
 use Rattle.ffi3_machine.specs.State.{State, image_of, scribbled, stack_at, with_sp}
 use Rattle.ffi3_pieces.specs.Stored.{IsPlace, WroteOnly, WroteWithin}
 use Rattle.ffi3_pieces.specs.Standing.{AreReady}
@@ -196,7 +196,7 @@ moved_within low high sp n a b c d b_is w d_is =
       spare_bytes = v.spare_bytes;
     })
 
-module _ (std : Standard) (s : Signature) (area block n : ℕ) (m a b c d : State) (low : STACK + std.save + block_bytes s ≤ m.sp) (high : m.sp + std.link + frame_of std s ≤ STACK_TOP) (counted : 8 * length std.save_area ≡ std.save) (sized : length m.stack ≡ 65536) (area_is : area ≡ m.sp - std.save) (block_is : block + block_bytes s ≡ area) (saves : WroteOnly area (area + 8 * length std.save_area) m a) (b_is : b ≡ with_sp block a) where
+module _ (std : Standard) (s : Signature) (area block n : ℕ) (m a b c d : State) (low : STACK + std.save + block_bytes s ≤ m.sp) (high : m.sp + std.link + frame_of std s ≤ STACK_TOP) (counted : 8 * length std.save_area ≡ std.save) (sized : length m.stack ≡ STACK_BYTES) (area_is : area ≡ m.sp - std.save) (block_is : block + block_bytes s ≡ area) (saves : WroteOnly area (area + 8 * length std.save_area) m a) (b_is : b ≡ with_sp block a) where
   -- the image in which the arguments are found
   pub image_between : image_from (m.sp + std.link) (frame_of std s) b ≡ image_from (m.sp + std.link) (frame_of std s) m
   image_between =

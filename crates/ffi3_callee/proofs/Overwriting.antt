@@ -9,7 +9,7 @@ use Rattle.std.proofs.lemmas.List.Folds.{list_any_more}
 use Rattle.std.specs.List.{list_any}
 use Rattle.std.proofs.lemmas.Nat.{le_bytes_8}
 use Rattle.ffi3_type_rules.specs.Signature.{Signature}
-use Rattle.ffi3_type_rules.specs.declared.limits.TheConstants.{STACK, STACK_TOP}
+use Rattle.ffi3_type_rules.specs.declared.limits.TheConstants.{STACK, STACK_BYTES, STACK_TOP}
 use Rattle.ffi3_place_rules.specs.declared.Loc.{Loc}
 use Rattle.ffi3_place_rules.specs.declared.Loc.TheVariants.{G, F, S}
 use Rattle.ffi3_place_rules.specs.Standard.{Standard, frame_of}
@@ -282,7 +282,7 @@ module _ (std : Standard) (s : Signature) (base byte : ℕ) where
             and_both (nat_lt i n) (is_free std s (S i) 0) test free
 
     -- a free one is overwritten
-    pub byte_written : (b : State) → b ≡ filled (base + n) 1 byte a → STACK ≤ base → base + frame_of std s ≤ STACK_TOP → length a.stack ≡ 65536 → n < frame_of std s → is_free std s (S n) 0 ≡ true → IsFrameDone std s base byte (n + 1) first b
+    pub byte_written : (b : State) → b ≡ filled (base + n) 1 byte a → STACK ≤ base → base + frame_of std s ≤ STACK_TOP → length a.stack ≡ STACK_BYTES → n < frame_of std s → is_free std s (S n) 0 ≡ true → IsFrameDone std s base byte (n + 1) first b
     byte_written b b_is low high sized inside free_here = subst (IsFrameDone std s base byte (n + 1) first) (sym is) done
       where
         c : State

@@ -13,7 +13,7 @@ use Rattle.ffi3_type_rules.specs.declared.Isa.TheVariants.{Amd64, Aarch64, Riscv
 use Rattle.ffi3_type_rules.specs.Isa.{isa_of}
 use Rattle.ffi3_type_rules.specs.Signature.{Signature, SignatureHasNoFault}
 use Rattle.ffi3_type_rules.specs.Value.{ValueTree}
-use Rattle.ffi3_type_rules.specs.declared.limits.TheConstants.{STACK, STACK_TOP}
+use Rattle.ffi3_type_rules.specs.declared.limits.TheConstants.{STACK, STACK_BYTES, STACK_TOP}
 use Rattle.ffi3_type_rules.proofs.Parts.{length_part}
 use Rattle.ffi3_place_rules.specs.declared.Loc.{Loc}
 use Rattle.ffi3_place_rules.specs.declared.Loc.TheVariants.{G, F, S}
@@ -176,7 +176,7 @@ poisoned std s base byte first a b agrees low registers frame = record {
 
 -- ---- the image
 
-module _ (std : Standard) (s : Signature) (byte : ℕ) (a b : State) (low : STACK ≤ a.sp) (high : a.sp + std.link + frame_of std s ≤ STACK_TOP) (sized : length a.stack ≡ 65536) (is : IsPoisoned std s (a.sp + std.link) byte a b) where
+module _ (std : Standard) (s : Signature) (byte : ℕ) (a b : State) (low : STACK ≤ a.sp) (high : a.sp + std.link + frame_of std s ≤ STACK_TOP) (sized : length a.stack ≡ STACK_BYTES) (is : IsPoisoned std s (a.sp + std.link) byte a b) where
   frame_byte : (m : State) (n : ℕ) → m.sp ≡ a.sp → n < frame_of std s → get_or (stack_at m.sp (std.link + frame_of std s) m) (std.link + n) 0 ≡ stack_byte m (a.sp + std.link + n)
   frame_byte m n same below =
       let there : m.sp - STACK + (std.link + n) ≡ a.sp + std.link + n - STACK = omega (arith, low, same) in
@@ -213,14 +213,14 @@ module _ (std : Standard) (s : Signature) (byte : ℕ) (a b : State) (low : STAC
 
 -- ---- the return address
 
-return_at : (isa : Isa) (base high : ℕ) (a b : State) → base ≡ a.sp + pushed_bytes isa → base ≤ STACK_TOP → length a.stack ≡ 65536 → b.sp ≡ a.sp → WroteWithin base high a b → AllByRecursion (λ l. word_in base b l ≡ word_in base a l) (listed (link_place isa)) → HasReturnAt (link_register isa) a.general a.sp a.stack → HasReturnAt (link_register isa) b.general b.sp b.stack
+return_at : (isa : Isa) (base high : ℕ) (a b : State) → base ≡ a.sp + pushed_bytes isa → base ≤ STACK_TOP → length a.stack ≡ STACK_BYTES → b.sp ≡ a.sp → WroteWithin base high a b → AllByRecursion (λ l. word_in base b l ≡ word_in base a l) (listed (link_place isa)) → HasReturnAt (link_register isa) a.general a.sp a.stack → HasReturnAt (link_register isa) b.general b.sp b.stack
 return_at Amd64 base high a b base_is top sized same w words h =
     let still = stretch_stays base high a.sp 8 a b h.0 (omega (arith, base_is, top, sized, h.0)) (inl (omega (arith, base_is))) w in
     (omega (arith, same, h.0), ap (λ n. stack_at n 8 b) same ∙ still ∙ h.1)
 return_at Aarch64 base high a b base_is top sized same w words h = words.0 ∙ h
 return_at Riscv base high a b base_is top sized same w words h = words.0 ∙ h
 
-pub return_still : (std : Standard) (s : Signature) (byte : ℕ) (a b : State) → AgreesWithMachine std → a.target ≡ std.target → a.sp + std.link + frame_of std s ≤ STACK_TOP → length a.stack ≡ 65536 → IsPoisoned std s (a.sp + std.link) byte a b → HasReturnAddress a → HasReturnAddress b
+pub return_still : (std : Standard) (s : Signature) (byte : ℕ) (a b : State) → AgreesWithMachine std → a.target ≡ std.target → a.sp + std.link + frame_of std s ≤ STACK_TOP → length a.stack ≡ STACK_BYTES → IsPoisoned std s (a.sp + std.link) byte a b → HasReturnAddress a → HasReturnAddress b
 return_still std s byte a b agrees target_is high sized is h =
     let base = a.sp + std.link in
     let isa = isa_of std.target in

@@ -21,7 +21,7 @@ use Rattle.ffi3_place_rules.specs.declared.Res.TheVariants.{Nothing, Direct as D
 use Rattle.ffi3_place_rules.specs.Standard.{Standard, ResultSpot, no_result, in_result_pieces, in_buffer, plan_of, frame_of, result_at, buffer_end, frame_copies_end, round8}
 use Rattle.ffi3_place_rules.specs.Holds.{leaf_bytes, FillsAs, FillsResult, HoldsResult, OwnsResult, RegisterHolds}
 use Rattle.ffi3_place_rules.specs.Sound.{IsSound, ResultHasAll, piece_locs, result_locs}
-use Rattle.ffi3_type_rules.specs.declared.limits.TheConstants.{STACK, STACK_TOP}
+use Rattle.ffi3_type_rules.specs.declared.limits.TheConstants.{STACK, STACK_BYTES, STACK_TOP}
 use Rattle.ffi3_machine.specs.State.{State, stack_at, with_sp}
 use Rattle.ffi3_pieces.specs.Stored.{IsByteOf, IsPlace, byte_of, word_in, KeepsPadding, KeepsUnused, Stays, WroteWithin}
 use Rattle.ffi3_pieces.specs.Standing.{PiecesStand, IsReady}
@@ -62,12 +62,12 @@ registers_stay base ls a b s = λ l lies none.
     register_word STACK_TOP base l b lies ∙ same_word_in base l a b (s.others l none) ∙ register_word base STACK_TOP l a lies
 
 -- the image reaches over the frame
-pub frame_reached : (base frame : ℕ) (m : State) → STACK ≤ base → base + frame ≤ STACK_TOP → length m.stack ≡ 65536 → frame ≤ length (image_from base frame m).stack
+pub frame_reached : (base frame : ℕ) (m : State) → STACK ≤ base → base + frame ≤ STACK_TOP → length m.stack ≡ STACK_BYTES → frame ≤ length (image_from base frame m).stack
 frame_reached base frame m low high sized =
     let whole : length (image_from base frame m).stack ≡ frame = length_part m.stack (base - STACK) frame (omega (arith, low, high, sized)) in
     omega (arith, whole)
 
-pub nothing_held : (std : Standard) (s : Signature) (base : ℕ) (m : State) (v : ValueTree) → STACK ≤ base → base + frame_of std s ≤ STACK_TOP → length m.stack ≡ 65536 → (plan_of std s).res ≡ Nothing → fits s.result_type v ≡ true → HoldsResult std s v (image_from base (frame_of std s) m)
+pub nothing_held : (std : Standard) (s : Signature) (base : ℕ) (m : State) (v : ValueTree) → STACK ≤ base → base + frame_of std s ≤ STACK_TOP → length m.stack ≡ STACK_BYTES → (plan_of std s).res ≡ Nothing → fits s.result_type v ≡ true → HoldsResult std s v (image_from base (frame_of std s) m)
 nothing_held std s base m v low high sized is fit =
     let t = s.result_type in
     let frame = frame_of std s in
@@ -104,7 +104,7 @@ pub direct_places : (std : Standard) (s : Signature) (pieces : List Piece) → I
 direct_places std s pieces sound is =
     subst (λ r. AllByRecursion (IsPlace 0) (result_locs r)) is (machine_places (isa_of std.target) 0 (result_locs (plan_of std s).res) sound.result_in_registers)
 
-pub direct_held : (std : Standard) (s : Signature) (base : ℕ) (m : State) (v : ValueTree) (pieces : List Piece) → IsSound std s → STACK ≤ base → base + frame_of std s ≤ STACK_TOP → length m.stack ≡ 65536 → (plan_of std s).res ≡ DirectRes pieces → fits s.result_type v ≡ true → PiecesStand base m s.result_type v pieces → HoldsResult std s v (image_from base (frame_of std s) m)
+pub direct_held : (std : Standard) (s : Signature) (base : ℕ) (m : State) (v : ValueTree) (pieces : List Piece) → IsSound std s → STACK ≤ base → base + frame_of std s ≤ STACK_TOP → length m.stack ≡ STACK_BYTES → (plan_of std s).res ≡ DirectRes pieces → fits s.result_type v ≡ true → PiecesStand base m s.result_type v pieces → HoldsResult std s v (image_from base (frame_of std s) m)
 direct_held std s base m v pieces sound low high sized is fit stands =
     let t = s.result_type in
     let frame = frame_of std s in
@@ -146,7 +146,7 @@ told_by base frame n k target m (Some (F r)) same set told = told ∙ same
 told_by base frame n k target m (Some (S q)) same set told = absurd (omega (arith, set.0))
 told_by base frame n k target m None same set told = tt
 
-pub hidden_held : (std : Standard) (s : Signature) (base address : ℕ) (target : Target) (a m : State) (v : ValueTree) (at : Loc) (buffer : ℕ) (returned : Option Loc) → STACK ≤ base → base + frame_of std s ≤ STACK_TOP → length a.stack ≡ 65536 → (plan_of std s).res ≡ Hidden at buffer → address ≡ base + buffer → fits s.result_type v ≡ true → returned ≡ std.returned_address → IsSettable target returned → value_in s.result_type (stack_at address (size_of s.result_type) a) ≡ v → WroteWithin STACK_TOP STACK_TOP a m → RegisterHoldsWord m returned address → HoldsResult std s v (image_from base (frame_of std s) m)
+pub hidden_held : (std : Standard) (s : Signature) (base address : ℕ) (target : Target) (a m : State) (v : ValueTree) (at : Loc) (buffer : ℕ) (returned : Option Loc) → STACK ≤ base → base + frame_of std s ≤ STACK_TOP → length a.stack ≡ STACK_BYTES → (plan_of std s).res ≡ Hidden at buffer → address ≡ base + buffer → fits s.result_type v ≡ true → returned ≡ std.returned_address → IsSettable target returned → value_in s.result_type (stack_at address (size_of s.result_type) a) ≡ v → WroteWithin STACK_TOP STACK_TOP a m → RegisterHoldsWord m returned address → HoldsResult std s v (image_from base (frame_of std s) m)
 hidden_held std s base address target a m v at buffer returned low high sized is address_is fit returned_is set value quiet_from told =
     let t = s.result_type in
     let frame = frame_of std s in

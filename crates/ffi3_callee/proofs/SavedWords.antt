@@ -8,7 +8,7 @@ use Rattle.ffi3_place_rules.specs.declared.Loc.{Loc}
 use Rattle.ffi3_place_rules.specs.declared.Loc.TheVariants.{G, F, S}
 use Rattle.ffi3_place_rules.specs.Sound.{Apart, IsNoneOf}
 use Rattle.ffi3_place_rules.proofs.Tests.{each_at}
-use Rattle.ffi3_type_rules.specs.declared.limits.TheConstants.{STACK, STACK_TOP}
+use Rattle.ffi3_type_rules.specs.declared.limits.TheConstants.{STACK, STACK_BYTES, STACK_TOP}
 use Rattle.ffi3_place_rules.specs.Agrees.{saved_registers}
 use Rattle.ffi3_machine.specs.State.{State, stored}
 use Rattle.ffi3_pieces.specs.Stored.{IsPlace, SameAt, Stays, WroteOnly, WroteWithin, word_in}
@@ -40,7 +40,7 @@ module _ (from base : ℕ) (hidden : Option Loc) (words : List SaveWord) (first 
   pub none_saved : AreSavedTo 0 first
   none_saved = record { only = only_nothing from (from + 8 * length words) first; each = λ j w h below is. absurd (omega (arith, h)) }
 
-  pub one_more_saved : (i addr : ℕ) (word : SaveWord) (n : ℕ) (bytes : List ℕ) (a b : State) → STACK ≤ from → from + 8 * length words ≤ base → base ≤ STACK_TOP → length first.stack ≡ 65536 → i < length words → word ≡ get_or words i word → n < 2 ^ 64 → n ≡ word_to_save base a hidden word → bytes ≡ to_le_bytes w64 n → length bytes ≡ 8 → addr ≡ from + 8 * i → b ≡ stored addr bytes a → AreSavedTo i a → AreSavedTo (i + 1) b
+  pub one_more_saved : (i addr : ℕ) (word : SaveWord) (n : ℕ) (bytes : List ℕ) (a b : State) → STACK ≤ from → from + 8 * length words ≤ base → base ≤ STACK_TOP → length first.stack ≡ STACK_BYTES → i < length words → word ≡ get_or words i word → n < 2 ^ 64 → n ≡ word_to_save base a hidden word → bytes ≡ to_le_bytes w64 n → length bytes ≡ 8 → addr ≡ from + 8 * i → b ≡ stored addr bytes a → AreSavedTo i a → AreSavedTo (i + 1) b
   one_more_saved i addr word n bytes a b low below high sized inside is small n_is bytes_is eight addr_is b_is before =
       record { only = only_then from (from + 8 * length words) first a b before.only wrote; each = each }
     where

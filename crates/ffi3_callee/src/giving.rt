@@ -1,8 +1,8 @@
 // The result that a callee gives.
-ghost use Rattle.std.specs.Prelude.{◌≡◌, ℕ, ◌+◌, ◌-◌, ◌≤◌, Option, true};
+ghost use Rattle.std.specs.Prelude.{◌≡◌, ℕ, ◌+◌, ◌-◌, ◌≤◌, Option, length, true};
 ghost use Rattle.std.specs.List.{AllByRecursion};
 ghost use Rattle.ffi3_type_rules.specs.Layout.{size_of};
-ghost use Rattle.ffi3_type_rules.specs.Fault.{IsResultType};
+ghost use Rattle.ffi3_type_rules.specs.Fault.{IsLaidOut};
 ghost use Rattle.ffi3_type_rules.specs.Value.{fits, value_in};
 ghost use Rattle.ffi3_types.specs.TreeOf.{tree_of};
 ghost use Rattle.ffi3_values.specs.ValueOf.{value_of};
@@ -24,10 +24,10 @@ use crate::Incoming;
 use crate::saving::set_register;
 use ffi3_cif::Cif;
 use ffi3_machine::Machine;
-use ffi3_pieces::store_pieces;
+use ffi3_pieces::{SMALL, store_pieces};
 use ffi3_place::parts::{result_type, size_of};
 use ffi3_place::{Abi, Loc, Pieces, Res};
-use ffi3_type_rules::limits::LARGEST_STRUCT;
+use ffi3_type_rules::limits::LARGEST_TYPE;
 use ffi3_types::FfiType;
 use ffi3_values::{Value, write_bytes};
 
@@ -39,7 +39,7 @@ fn give_pieces(machine: &mut Machine, base: u64, pieces: &Pieces, ty: &FfiType, 
     requires writable { AllByRecursion (IsWritable machine.old.target) (piece_locs pieces.now) }
     requires apart { AreApart (piece_locs pieces.now) }
     requires parts { AllByRecursion (IsPieceOf (tree_of ty.now)) pieces.now }
-    requires right { IsResultType (tree_of ty.now) }
+    requires right { IsLaidOut (tree_of ty.now) }
     requires fits { fits (tree_of ty.now) (value_of value.now) ≡ true }
     ensures stand { PiecesStand base machine.new (tree_of ty.now) (value_of value.now) pieces.now }
     ensures unused { AllByRecursion (KeepsUnused base (tree_of ty.now) machine.old machine.new) pieces.now }
@@ -49,12 +49,19 @@ fn give_pieces(machine: &mut Machine, base: u64, pieces: &Pieces, ty: &FfiType, 
     store_pieces(machine, base, pieces, ty, value);
 }
 
-// Stores a result in the caller's buffer, whose padding keeps what stood there.
-fn give_buffer(machine: &mut Machine, address: u64, ty: &FfiType, value: &Value)
+// Stores a result in the caller's buffer, by way of `bytes`, which are as many as it has. The buffer's padding keeps what stood there.
+fn give_buffer_by(
+    machine: &mut Machine,
+    address: u64,
+    ty: &FfiType,
+    value: &Value,
+    bytes: &mut [u8],
+)
     requires low { STACK ≤ address }
     requires high { address + size_of (tree_of ty.now) ≤ STACK_TOP }
-    requires right { IsResultType (tree_of ty.now) }
+    requires right { IsLaidOut (tree_of ty.now) }
     requires fits { fits (tree_of ty.now) (value_of value.now) ≡ true }
+    requires sized { length bytes.old ≡ size_of (tree_of ty.now) }
     ensures reads { value_in (tree_of ty.now) (stack_at address (size_of (tree_of ty.now)) machine.new) ≡ value_of value.now }
     ensures unused { KeepsPadding address (tree_of ty.now) machine.old machine.new }
     ensures only { WroteOnly address (address + size_of (tree_of ty.now)) machine.old machine.new }
@@ -62,11 +69,29 @@ fn give_buffer(machine: &mut Machine, address: u64, ty: &FfiType, value: &Value)
     // its contract tells what is true of every machine
     let _m = machine.sp();
     let size = size_of(ty);
-    let mut room = [0; LARGEST_STRUCT as usize];
-    let bytes = &mut room[..size as usize];
     bytes.copy_from_slice(machine.lend_stack(address, size));
     write_bytes(ty, value, bytes);
     machine.store_stack(address, bytes);
+}
+
+// Stores a result in the caller's buffer, whose padding keeps what stood there.
+fn give_buffer(machine: &mut Machine, address: u64, ty: &FfiType, value: &Value)
+    requires low { STACK ≤ address }
+    requires high { address + size_of (tree_of ty.now) ≤ STACK_TOP }
+    requires right { IsLaidOut (tree_of ty.now) }
+    requires fits { fits (tree_of ty.now) (value_of value.now) ≡ true }
+    ensures reads { value_in (tree_of ty.now) (stack_at address (size_of (tree_of ty.now)) machine.new) ≡ value_of value.now }
+    ensures unused { KeepsPadding address (tree_of ty.now) machine.old machine.new }
+    ensures only { WroteOnly address (address + size_of (tree_of ty.now)) machine.old machine.new }
+{
+    let size = size_of(ty) as usize;
+    if size <= SMALL {
+        let mut room = [0; SMALL];
+        give_buffer_by(machine, address, ty, value, &mut room[..size]);
+    } else {
+        let mut room = [0; LARGEST_TYPE as usize];
+        give_buffer_by(machine, address, ty, value, &mut room[..size]);
+    }
 }
 
 // Tells the buffer's address in the standard's register for it, if it has one.

@@ -3,7 +3,7 @@ ghost use Rattle.std.specs.Prelude.{◌≡◌, ℕ, ◌+◌, ◌<◌, ◌≤◌,
 ghost use Rattle.std.specs.List.{list_any};
 ghost use Rattle.std.specs.Int.{w64, to_le_bytes};
 ghost use Rattle.ffi3_type_rules.specs.declared.limits.TheConstants.{ENTRY, STACK, STACK_TOP};
-ghost use Rattle.ffi3_type_rules.specs.Fault.{IsResultType};
+ghost use Rattle.ffi3_type_rules.specs.Fault.{IsLaidOut};
 ghost use Rattle.ffi3_type_rules.specs.Value.{ValueTree};
 ghost use Rattle.ffi3_types.specs.TreeOf.{tree_of};
 ghost use Rattle.ffi3_place_rules.specs.Standard.{frame_of};
@@ -46,7 +46,7 @@ fn byte_number(at: Loc, k: u64, other: Loc) -> Option<u64>
 
 // Whether a leaf has the byte at an offset.
 fn is_leaf_byte(ty: &FfiType, offset: u64) -> bool
-    requires { IsResultType (tree_of ty.now) }
+    requires { IsLaidOut (tree_of ty.now) }
     ensures { result ≡ is_leaf_byte (tree_of ty.now) offset }
 {
     for i in 0..ty.leaf_count() {
@@ -61,7 +61,7 @@ fn is_leaf_byte(ty: &FfiType, offset: u64) -> bool
 // Whether byte `k` of a place is a leaf's, by way of the piece.
 fn piece_has(at: Loc, k: u64, piece: &Piece, ty: &FfiType) -> bool
     requires few { k < 8 }
-    requires right { IsResultType (tree_of ty.now) }
+    requires right { IsLaidOut (tree_of ty.now) }
     ensures { result ≡ piece_has (tree_of ty.now) at k piece.now }
 {
     match byte_number(at, k, piece.loc) {
@@ -84,7 +84,7 @@ fn address_has(at: Loc, k: u64, address: Loc) -> bool
 // Whether it is a leaf's of a copy.
 fn copy_has(at: Loc, k: u64, copy: u32, ty: &FfiType) -> bool
     requires few { k < 8 }
-    requires right { IsResultType (tree_of ty.now) }
+    requires right { IsLaidOut (tree_of ty.now) }
     ensures { result ≡ copy_has (tree_of ty.now) at k copy }
 {
     match byte_number(at, k, Loc::S(copy)) {
@@ -96,7 +96,7 @@ fn copy_has(at: Loc, k: u64, copy: u32, ty: &FfiType) -> bool
 // Whether it is a leaf's, by way of one of the pieces.
 fn pieces_have(at: Loc, k: u64, pieces: &Pieces, ty: &FfiType) -> bool
     requires few { k < 8 }
-    requires right { IsResultType (tree_of ty.now) }
+    requires right { IsLaidOut (tree_of ty.now) }
     ensures { result ≡ list_any (piece_has (tree_of ty.now) at k) pieces.now }
 {
     for i in 0..pieces.len() {
@@ -110,7 +110,7 @@ fn pieces_have(at: Loc, k: u64, pieces: &Pieces, ty: &FfiType) -> bool
 // Whether it carries something of the argument.
 fn place_has(at: Loc, k: u64, place: &Place, ty: &FfiType) -> bool
     requires few { k < 8 }
-    requires right { IsResultType (tree_of ty.now) }
+    requires right { IsLaidOut (tree_of ty.now) }
     ensures { result ≡ place_has (tree_of ty.now) at k place.now }
 {
     match place {

@@ -2,6 +2,7 @@
 
 ghost use Rattle.std.specs.Prelude.{◌≡◌, ◌+◌, ◌<◌, ◌≤◌, ◌++◌, List, [], ◌∷◌, length, slice_index_or, IfOk, OnOk, OnErr};
 ghost use Rattle.std.specs.List.{AllByRecursion};
+ghost use Rattle.ffi3_type_rules.specs.declared.limits.TheConstants.{LARGEST_TYPE};
 ghost use Rattle.ffi3_place_rules.specs.Sound.{AreRising, PlaceRises};
 ghost use Rattle.ffi3_cif.specs.Runs.{AreRunsOf, EndsWithin, PlaceEndsWithin, PlacesHaveRuns, pieces_of, run_at, goes_on, some_run, glued};
 
@@ -98,7 +99,7 @@ fn goes_on(run: Run, next: Run) -> bool
 
 /// The run to which more may be added, with bytes that come next. What they do not make longer is whole.
 fn with_next(runs: &mut Runs, run: Run, next: Run) -> Result<Run, NoMemory>
-    requires { next.off + next.len ≤ 1024 }
+    requires { next.off + next.len ≤ LARGEST_TYPE }
     ensures { IfOk result
         (λ r. ((rest : List Run) → runs.new ++ glued r rest ≡ runs.old ++ glued run (next ∷ rest))) }
 {
@@ -116,9 +117,9 @@ fn with_next(runs: &mut Runs, run: Run, next: Run) -> Result<Run, NoMemory>
     Ok(next)
 }
 
-/// The runs of the pieces that stand on the stack. No type has more than 1024 bytes.
+/// The runs of the pieces that stand on the stack. No type has more than `LARGEST_TYPE` bytes.
 fn runs_of(alloc: Global, pieces: &Pieces) -> Result<Runs, NoMemory>
-    requires within { AllByRecursion (EndsWithin 1024) pieces.now }
+    requires within { AllByRecursion (EndsWithin LARGEST_TYPE) pieces.now }
     requires rising { AreRising pieces.now }
     ensures { IfOk result (λ r. AreRunsOf pieces.now r) }
 {
@@ -138,7 +139,7 @@ fn runs_of(alloc: Global, pieces: &Pieces) -> Result<Runs, NoMemory>
 }
 
 fn place_runs(alloc: Global, place: &Place) -> Result<Runs, NoMemory>
-    requires within { PlaceEndsWithin 1024 place.now }
+    requires within { PlaceEndsWithin LARGEST_TYPE place.now }
     requires rising { PlaceRises place.now }
     ensures { IfOk result (λ r. AreRunsOf (pieces_of place.now) r) }
 {
@@ -150,7 +151,7 @@ fn place_runs(alloc: Global, place: &Place) -> Result<Runs, NoMemory>
 
 /// The runs of each argument.
 pub fn all_runs(alloc: Global, places: &Places) -> Result<AllRuns, NoMemory>
-    requires within { AllByRecursion (PlaceEndsWithin 1024) places.now }
+    requires within { AllByRecursion (PlaceEndsWithin LARGEST_TYPE) places.now }
     requires rising { AllByRecursion PlaceRises places.now }
     ensures { IfOk result (λ r. PlacesHaveRuns places.now r) }
 {

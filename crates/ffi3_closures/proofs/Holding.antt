@@ -9,6 +9,7 @@ use Rattle.ffi3_type_rules.specs.declared.Target.{Target}
 use Rattle.ffi3_type_rules.specs.declared.Isa.{Isa}
 use Rattle.ffi3_type_rules.specs.declared.Isa.TheVariants.{Amd64, Aarch64, Riscv}
 use Rattle.ffi3_type_rules.specs.Isa.{isa_of}
+use Rattle.ffi3_type_rules.specs.declared.limits.TheConstants.{CODE}
 use Rattle.ffi3_machine.specs.State.{State, free_slot, begun_code, with_code}
 use Rattle.ffi3_run_rules.specs.declared.Closure.{Closure}
 use Rattle.ffi3_run_rules.specs.Closures.{Closures, with_closure, no_closures}
@@ -76,12 +77,12 @@ holds-written target closures code k entry count h holds =
     }
 
 -- the machine after a slot was written
-pub holds-after : (before after : State) (closures : Closures) (k addr : ℕ) (entry : Option Closure) (bytes : List ℕ) → length closures ≡ 256 → k < 256 → addr ≡ 65536 + 64 * k → bytes ≡ slot_content (isa_of before.target) entry → after ≡ with_code addr bytes before → HoldsMap before.target closures before.code → HoldsMap after.target (with_closure closures k entry) after.code
+pub holds-after : (before after : State) (closures : Closures) (k addr : ℕ) (entry : Option Closure) (bytes : List ℕ) → length closures ≡ 256 → k < 256 → addr ≡ CODE + 64 * k → bytes ≡ slot_content (isa_of before.target) entry → after ≡ with_code addr bytes before → HoldsMap before.target closures before.code → HoldsMap after.target (with_closure closures k entry) after.code
 holds-after before after closures k addr entry bytes count h at is written holds =
     let P : State → Type 0 = λ s. HoldsMap s.target (with_closure closures k entry) s.code in
     let Q : ℕ → Type 0 = λ i. HoldsMap before.target (with_closure closures k entry) (replace_range before.code i (i + length bytes) bytes) in
     let R : List ℕ → Type 0 = λ b. HoldsMap before.target (with_closure closures k entry) (replace_range before.code (64 * k) (64 * k + length b) b) in
-    let offset : 64 * k ≡ addr - 65536 = omega arith in
+    let offset : 64 * k ≡ addr - CODE = omega arith in
     subst P (sym written) (subst Q offset (subst R (sym is) (holds-written before.target closures before.code k entry count h holds)))
 
 -- each of a number of equal pieces

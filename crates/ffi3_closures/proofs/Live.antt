@@ -5,6 +5,7 @@ use Rattle.std.proofs.lemmas.Bool.{cases_lt}
 use Rattle.std.proofs.lemmas.Bool.Decides.{nat_tests}
 use Rattle.std.proofs.lemmas.List.{get_or_past}
 use Rattle.ffi3_type_rules.specs.Isa.{isa_of}
+use Rattle.ffi3_type_rules.specs.declared.limits.TheConstants.{CODE}
 use Rattle.ffi3_machine.specs.State.{State, IsMachine}
 use Rattle.ffi3_run_rules.specs.declared.Closure.{Closure}
 use Rattle.ffi3_run_rules.specs.Closures.{Closures, closure_at}
@@ -17,13 +18,13 @@ record IsLiveAt (closures : Closures) (ptr : ℕ) : Type 0 where
   closure : Closure
   number : ℕ
   below : number < 256
-  at : ptr ≡ 65536 + 64 * number
+  at : ptr ≡ CODE + 64 * number
   is : get_or closures number None ≡ Some closure
 
-start : (ptr : ℕ) → (nat_le 65536 ptr && (ptr - 65536) % 64 == 0) ≡ true → ptr ≡ 65536 + 64 * ((ptr - 65536) / 64)
+start : (ptr : ℕ) → (nat_le CODE ptr && (ptr - CODE) % 64 == 0) ≡ true → ptr ≡ CODE + 64 * ((ptr - CODE) / 64)
 start ptr e =
-    let low : 65536 ≤ ptr = grind (arith, nat_tests) in
-    let whole : (ptr - 65536) % 64 ≡ 0 = grind (arith, nat_tests) in
+    let low : CODE ≤ ptr = grind (arith, nat_tests) in
+    let whole : (ptr - CODE) % 64 ≡ 0 = grind (arith, nat_tests) in
     omega arith
 
 entry_at : (closures : Closures) (k : ℕ) (entry : Option Closure) → length closures ≡ 256 → get_or closures k None ≡ entry → IsSome entry → (k < 256) × ((c : Closure) × (get_or closures k None ≡ Some c))
@@ -36,14 +37,14 @@ entry_at closures k (Some c) count is live = (
   (c, is),
 )
 
-live_if : (closures : Closures) (ptr : ℕ) (b : Bool) → length closures ≡ 256 → (nat_le 65536 ptr && (ptr - 65536) % 64 == 0) ≡ b → IsSome (option_and_then (λ k. get_or closures k None) (if b then Some ((ptr - 65536) / 64) else None)) → IsLiveAt closures ptr
+live_if : (closures : Closures) (ptr : ℕ) (b : Bool) → length closures ≡ 256 → (nat_le CODE ptr && (ptr - CODE) % 64 == 0) ≡ b → IsSome (option_and_then (λ k. get_or closures k None) (if b then Some ((ptr - CODE) / 64) else None)) → IsLiveAt closures ptr
 live_if closures ptr false count e live = cc
 live_if closures ptr true count e live =
-    let entry = entry_at closures ((ptr - 65536) / 64) (get_or closures ((ptr - 65536) / 64) None) count refl live in
-    record { closure = entry.1.0; number = (ptr - 65536) / 64; below = entry.0; at = start ptr e; is = entry.1.1 }
+    let entry = entry_at closures ((ptr - CODE) / 64) (get_or closures ((ptr - CODE) / 64) None) count refl live in
+    record { closure = entry.1.0; number = (ptr - CODE) / 64; below = entry.0; at = start ptr e; is = entry.1.1 }
 
 is_live : (closures : Closures) (ptr : ℕ) → length closures ≡ 256 → IsSome (closure_at closures ptr) → IsLiveAt closures ptr
-is_live closures ptr count live = live_if closures ptr (nat_le 65536 ptr && (ptr - 65536) % 64 == 0) count refl live
+is_live closures ptr count live = live_if closures ptr (nat_le CODE ptr && (ptr - CODE) % 64 == 0) count refl live
 
 -- from the live slot at pc
 pub three_steps : (closures : Closures) (s : State) → length closures ≡ 256 → IsMachine s → HoldsMap s.target closures s.code → IsSome (closure_at closures s.pc) → TakesSteps 3 s (reached s)

@@ -14,6 +14,7 @@ use Rattle.ffi3_type_rules.specs.declared.Target.{Target}
 use Rattle.ffi3_type_rules.specs.declared.Isa.{Isa}
 use Rattle.ffi3_type_rules.specs.declared.Isa.TheVariants.{Amd64, Aarch64, Riscv}
 use Rattle.ffi3_type_rules.specs.Isa.{isa_of}
+use Rattle.ffi3_type_rules.specs.declared.limits.TheConstants.{CODE, CODE_END, ENTRY, STACK, STACK_TOP}
 use Rattle.ffi3_machine.specs.State.{State}
 use Rattle.ffi3_machine.specs.Step.{StepsBy, Steps, TakesSteps, has_eight, loaded, moved, goes_to, sets, even}
 use Rattle.ffi3_run_rules.specs.declared.Closure.{Closure}
@@ -44,9 +45,9 @@ differ a b h e = omega arith
 -- ---- the code region
 
 -- the code from a place in a slot on
-from : (code bytes : List ℕ) (k n pc : ℕ) → pc ≡ 65536 + 64 * k + n → drop (64 * k) code ≡ bytes → drop (pc - 65536) code ≡ drop n bytes
+from : (code bytes : List ℕ) (k n pc : ℕ) → pc ≡ CODE + 64 * k + n → drop (64 * k) code ≡ bytes → drop (pc - CODE) code ≡ drop n bytes
 from code bytes k n pc at is =
-    let place : pc - 65536 ≡ 64 * k + n = omega arith in
+    let place : pc - CODE ≡ 64 * k + n = omega arith in
     ap (λ i. drop i code) place ∙ sym (drop-drop n (64 * k) code) ∙ ap (drop n) is
 
 has_eight-no : (low high addr : ℕ) → addr < low → has_eight low high addr ≡ false
@@ -58,13 +59,13 @@ has_eight-yes low high addr h g = grind (arith, nat_tests)
 second_of : (b c : Bool) (x y z : Option ℕ) → b ≡ false → c ≡ true → (if b then x else (if c then y else z)) ≡ y
 second_of b c x y z e f = rw (e, f) refl
 
-load : (s : State) (bytes : List ℕ) (k n addr : ℕ) → k < 256 → n ≤ 56 → addr ≡ 65536 + 64 * k + n → drop (64 * k) s.code ≡ bytes → loaded addr s ≡ Some (number_of 8 (take 8 (drop n bytes)))
+load : (s : State) (bytes : List ℕ) (k n addr : ℕ) → k < 256 → n ≤ 56 → addr ≡ CODE + 64 * k + n → drop (64 * k) s.code ≡ bytes → loaded addr s ≡ Some (number_of 8 (take 8 (drop n bytes)))
 load s bytes k n addr h g at is =
-    second_of (has_eight 2147352576 2147418112 addr) (has_eight 65536 81920 addr) _ _ _ (has_eight-no 2147352576 2147418112 addr (omega arith)) (has_eight-yes 65536 81920 addr (omega arith) (omega arith)) ∙ ap (λ b. Some (number_of 8 (take 8 b))) (from s.code bytes k n addr at is)
+    second_of (has_eight STACK STACK_TOP addr) (has_eight CODE CODE_END addr) _ _ _ (has_eight-no STACK STACK_TOP addr (omega arith)) (has_eight-yes CODE CODE_END addr (omega arith) (omega arith)) ∙ ap (λ b. Some (number_of 8 (take 8 b))) (from s.code bytes k n addr at is)
 
 -- ---- each instruction set
 
-amd64-reaches : (s : State) (k : ℕ) (tail : List ℕ) → k < 256 → s.pc ≡ 65536 + 64 * k → drop (64 * k) s.code ≡ slot_head Amd64 ++ tail → ThreeSteps Amd64 s
+amd64-reaches : (s : State) (k : ℕ) (tail : List ℕ) → k < 256 → s.pc ≡ CODE + 64 * k → drop (64 * k) s.code ≡ slot_head Amd64 ++ tail → ThreeSteps Amd64 s
 unfolding trampoline slot_head
 amd64-reaches s k tail h at is =
     let next_2 : (s.pc + 4 + 7) % 2 ^ 64 ≡ s.pc + 11 = plain (s.pc + 4) 7 (s.pc + 11) (omega arith) (omega arith) in
@@ -98,14 +99,14 @@ amd64-reaches s k tail h at is =
       three = record {
         instr = JmpMem (disp32 7 0 0 0);
         size = 6;
-        change = goes_to 4096;
+        change = goes_to ENTRY;
         stands = record { low = omega arith; aligned = tt; listed = jmp (from s.code (slot_head Amd64 ++ tail) k 11 (s.pc + 11) (omega arith) is) };
         does = ap (λ a. option_map goes_to (loaded a s_2)) entry ∙ ap (option_map goes_to) (load s_2 (slot_head Amd64 ++ tail) k 24 (s.pc + 24) h (omega arith) (omega arith) is);
         is_after = refl;
       };
     }
 
-aarch64-reaches : (s : State) (k : ℕ) (tail : List ℕ) → length s.general ≡ 32 → k < 256 → s.pc ≡ 65536 + 64 * k → drop (64 * k) s.code ≡ slot_head Aarch64 ++ tail → ThreeSteps Aarch64 s
+aarch64-reaches : (s : State) (k : ℕ) (tail : List ℕ) → length s.general ≡ 32 → k < 256 → s.pc ≡ CODE + 64 * k → drop (64 * k) s.code ≡ slot_head Aarch64 ++ tail → ThreeSteps Aarch64 s
 unfolding trampoline slot_head
 aarch64-reaches s k tail count h at is =
     let entry : moved s.pc (sign_extend 21 16) ≡ s.pc + 16 = plain s.pc 16 (s.pc + 16) refl (omega arith) in
@@ -113,14 +114,14 @@ aarch64-reaches s k tail count h at is =
     let next_2 : (s.pc + 4 + 4) % 2 ^ 64 ≡ s.pc + 8 = plain (s.pc + 4) 4 (s.pc + 8) (omega arith) (omega arith) in
     let to : moved (s.pc + 4) (sign_extend 21 2097148) ≡ s.pc = wraps (s.pc + 4) 18446744073709551612 s.pc (omega arith) (omega arith) in
     let other = differ 16 17 (lit< tt) in
-    let held : get_or (set (set s.general 16 4096) 17 s.pc) 16 0 ≡ 4096 = get_or-set_other (set s.general 16 4096) 17 16 s.pc 0 other ∙ get_or-set_same s.general 16 4096 0 (omega arith) in
+    let held : get_or (set (set s.general 16 ENTRY) 17 s.pc) 16 0 ≡ ENTRY = get_or-set_other (set s.general 16 ENTRY) 17 16 s.pc 0 other ∙ get_or-set_same s.general 16 ENTRY 0 (omega arith) in
     record {
-      first = record s { general = slice_set s.general 16 4096; pc = s.pc + 4 };
-      second = record s { general = slice_set (slice_set s.general 16 4096) 17 s.pc; pc = s.pc + 8 };
+      first = record s { general = slice_set s.general 16 ENTRY; pc = s.pc + 4 };
+      second = record s { general = slice_set (slice_set s.general 16 ENTRY) 17 s.pc; pc = s.pc + 8 };
       one = record {
         instr = LdrLit 16 (sign_extend 21 16);
         size = 4;
-        change = sets 16 (s.pc + 4) 4096;
+        change = sets 16 (s.pc + 4) ENTRY;
         stands = record {
           low = omega arith;
           aligned = omega arith;
@@ -131,7 +132,7 @@ aarch64-reaches s k tail count h at is =
             is_size = refl;
           };
         };
-        does = ap (λ a. option_map (sets 16 ((s.pc + 4) % 2 ^ 64)) (loaded a s)) entry ∙ ap (option_map (sets 16 ((s.pc + 4) % 2 ^ 64))) (load s (slot_head Aarch64 ++ tail) k 16 (s.pc + 16) h (omega arith) (omega arith) is) ∙ ap (λ a. Some (sets 16 a 4096)) next_1;
+        does = ap (λ a. option_map (sets 16 ((s.pc + 4) % 2 ^ 64)) (loaded a s)) entry ∙ ap (option_map (sets 16 ((s.pc + 4) % 2 ^ 64))) (load s (slot_head Aarch64 ++ tail) k 16 (s.pc + 16) h (omega arith) (omega arith) is) ∙ ap (λ a. Some (sets 16 a ENTRY)) next_1;
         is_after = refl;
       };
       two = record {
@@ -154,7 +155,7 @@ aarch64-reaches s k tail count h at is =
       three = record {
         instr = Br 16;
         size = 4;
-        change = goes_to 4096;
+        change = goes_to ENTRY;
         stands = record {
           low = omega arith;
           aligned = omega arith;
@@ -170,7 +171,7 @@ aarch64-reaches s k tail count h at is =
       };
     }
 
-riscv-reaches : (s : State) (k : ℕ) (tail : List ℕ) → length s.general ≡ 32 → k < 256 → s.pc ≡ 65536 + 64 * k → drop (64 * k) s.code ≡ slot_head Riscv ++ tail → ThreeSteps Riscv s
+riscv-reaches : (s : State) (k : ℕ) (tail : List ℕ) → length s.general ≡ 32 → k < 256 → s.pc ≡ CODE + 64 * k → drop (64 * k) s.code ≡ slot_head Riscv ++ tail → ThreeSteps Riscv s
 unfolding trampoline slot_head
 riscv-reaches s k tail count h at is =
     let next_1 : (s.pc + 4) % 2 ^ 64 ≡ s.pc + 4 = plain s.pc 4 (s.pc + 4) refl (omega arith) in
@@ -180,13 +181,13 @@ riscv-reaches s k tail count h at is =
     let entry : moved (get_or (set s.general 6 s.pc) 6 0) (sign_extend 12 16) ≡ s.pc + 16 = ap (λ a. moved a (sign_extend 12 16)) own ∙ plain s.pc 16 (s.pc + 16) refl (omega arith) in
     let s_1 : State = record s { general = slice_set s.general 6 s.pc; pc = s.pc + 4 } in
     let count_1 : length (set s.general 6 s.pc) ≡ 32 = length-set s.general 6 s.pc ∙ count in
-    let held : get_or (set (set s.general 6 s.pc) 7 4096) 7 0 ≡ 4096 = get_or-set_same (set s.general 6 s.pc) 7 4096 0 (omega arith) in
-    let to : even (moved (get_or (set (set s.general 6 s.pc) 7 4096) 7 0) (sign_extend 12 0)) ≡ 4096 = ap (λ a. even (moved a (sign_extend 12 0))) held in
+    let held : get_or (set (set s.general 6 s.pc) 7 ENTRY) 7 0 ≡ ENTRY = get_or-set_same (set s.general 6 s.pc) 7 ENTRY 0 (omega arith) in
+    let to : even (moved (get_or (set (set s.general 6 s.pc) 7 ENTRY) 7 0) (sign_extend 12 0)) ≡ ENTRY = ap (λ a. even (moved a (sign_extend 12 0))) held in
     let other = differ 6 7 (lit< tt) in
-    let swapped : set (set s.general 7 4096) 6 s.pc ≡ set (set s.general 6 s.pc) 7 4096 = sym (set_comm s.general 6 7 s.pc 4096 other) in
+    let swapped : set (set s.general 7 ENTRY) 6 s.pc ≡ set (set s.general 6 s.pc) 7 ENTRY = sym (set_comm s.general 6 7 s.pc ENTRY other) in
     record {
       first = s_1;
-      second = record s { general = slice_set (slice_set s.general 6 s.pc) 7 4096; pc = s.pc + 8 };
+      second = record s { general = slice_set (slice_set s.general 6 s.pc) 7 ENTRY; pc = s.pc + 8 };
       one = record {
         instr = Auipc 6 (sign_extend 32 0);
         size = 4;
@@ -207,7 +208,7 @@ riscv-reaches s k tail count h at is =
       two = record {
         instr = Ld 7 6 (sign_extend 12 16);
         size = 4;
-        change = sets 7 (s.pc + 8) 4096;
+        change = sets 7 (s.pc + 8) ENTRY;
         stands = record {
           low = omega arith;
           aligned = omega arith;
@@ -218,13 +219,13 @@ riscv-reaches s k tail count h at is =
             is_size = refl;
           };
         };
-        does = ap (λ a. option_map (sets 7 ((s.pc + 4 + 4) % 2 ^ 64)) (loaded a s_1)) entry ∙ ap (option_map (sets 7 ((s.pc + 4 + 4) % 2 ^ 64))) (load s_1 (slot_head Riscv ++ tail) k 16 (s.pc + 16) h (omega arith) (omega arith) is) ∙ ap (λ a. Some (sets 7 a 4096)) next_2;
+        does = ap (λ a. option_map (sets 7 ((s.pc + 4 + 4) % 2 ^ 64)) (loaded a s_1)) entry ∙ ap (option_map (sets 7 ((s.pc + 4 + 4) % 2 ^ 64))) (load s_1 (slot_head Riscv ++ tail) k 16 (s.pc + 16) h (omega arith) (omega arith) is) ∙ ap (λ a. Some (sets 7 a ENTRY)) next_2;
         is_after = refl;
       };
       three = record {
         instr = Jalr 0 7 (sign_extend 12 0);
         size = 4;
-        change = sets 0 4096 ((s.pc + 8 + 4) % 2 ^ 64);
+        change = sets 0 ENTRY ((s.pc + 8 + 4) % 2 ^ 64);
         stands = record {
           low = omega arith;
           aligned = omega arith;
@@ -236,11 +237,11 @@ riscv-reaches s k tail count h at is =
           };
         };
         does = ap (λ a. Some (sets 0 a ((s.pc + 8 + 4) % 2 ^ 64))) to;
-        is_after = ap (λ g. let t : State = record s { general = g; pc = 4096 } in t) swapped;
+        is_after = ap (λ g. let t : State = record s { general = g; pc = ENTRY } in t) swapped;
       };
     }
 
-reaches-at : (isa : Isa) (s : State) (k : ℕ) (tail : List ℕ) → length s.general ≡ 32 → k < 256 → s.pc ≡ 65536 + 64 * k → drop (64 * k) s.code ≡ slot_head isa ++ tail → ThreeSteps isa s
+reaches-at : (isa : Isa) (s : State) (k : ℕ) (tail : List ℕ) → length s.general ≡ 32 → k < 256 → s.pc ≡ CODE + 64 * k → drop (64 * k) s.code ≡ slot_head isa ++ tail → ThreeSteps isa s
 reaches-at Amd64 s k tail count h at is = amd64-reaches s k tail h at is
 reaches-at Aarch64 s k tail count h at is = aarch64-reaches s k tail count h at is
 reaches-at Riscv s k tail count h at is = riscv-reaches s k tail count h at is
@@ -256,7 +257,7 @@ in_turn s w =
     (w.first, w.one, (w.second, two, (reached s, three, refl)))
 
 -- from a live slot
-pub reaches : (s : State) (c : Closure) (k : ℕ) → length s.general ≡ 32 → k < 256 → s.pc ≡ 65536 + 64 * k → take 64 (drop (64 * k) s.code) ≡ live_slot (isa_of s.target) c → TakesSteps 3 s (reached s)
+pub reaches : (s : State) (c : Closure) (k : ℕ) → length s.general ≡ 32 → k < 256 → s.pc ≡ CODE + 64 * k → take 64 (drop (64 * k) s.code) ≡ live_slot (isa_of s.target) c → TakesSteps 3 s (reached s)
 reaches s c k count h at is =
     let whole : drop (64 * k) s.code ≡ slot_head (isa_of s.target) ++ (slot_tail c ++ drop 64 (drop (64 * k) s.code)) = sym (take-append-drop 64 (drop (64 * k) s.code)) ∙ ap (λ b. b ++ drop 64 (drop (64 * k) s.code)) is ∙ append_assoc (slot_head (isa_of s.target)) (slot_tail c) (drop 64 (drop (64 * k) s.code)) in
     in_turn s (reaches-at (isa_of s.target) s k (slot_tail c ++ drop 64 (drop (64 * k) s.code)) count h at whole)

@@ -79,41 +79,44 @@ fn check_again<A: Abi>(
 }
 
 #[test]
-fn again_nests_until_the_stack_is_full(rt: HostRuntime) -> Result<(), Fail> {
+fn again_nests_until_stack_or_moves_are_used_up(rt: HostRuntime) -> Result<(), Fail> {
     let alloc = rt.alloc();
     check_again::<Amd64>(&rt, alloc, "100", "100\n", RunEnd::Done, 9_795)?;
     check_again::<Aapcs64>(&rt, alloc, "100", "100\n", RunEnd::Done, 9_795)?;
     check_again::<Riscv>(&rt, alloc, "100", "100\n", RunEnd::Done, 9_795)?;
-    check_again::<Amd64>(&rt, alloc, "818", "818\n", RunEnd::Done, 8_359)?;
+    check_again::<Amd64>(&rt, alloc, "819", "819\n", RunEnd::Done, 8_357)?;
+    check_again::<Aapcs64>(&rt, alloc, "341", "341\n", RunEnd::Done, 9_313)?;
+    check_again::<Riscv>(&rt, alloc, "292", "292\n", RunEnd::Done, 9_411)?;
+    check_again::<Amd64>(&rt, alloc, "4997", "4997\n", RunEnd::Done, 1)?;
     check_again::<Amd64>(
         &rt,
         alloc,
-        "819",
-        "stop: stack full: need 80, left 16\n",
-        RunEnd::Stopped(Stop::StackFull { need: 80, left: 16 }),
-        9_179,
+        "4998",
+        "4998\nstop: move limit\n",
+        RunEnd::Stopped(Stop::MoveLimit),
+        0,
     )?;
     check_again::<Aapcs64>(
         &rt,
         alloc,
-        "341",
+        "5461",
         "stop: stack full: need 192, left 64\n",
         RunEnd::Stopped(Stop::StackFull {
             need: 192,
             left: 64,
         }),
-        9_657,
+        4_537,
     )?;
     check_again::<Riscv>(
         &rt,
         alloc,
-        "292",
-        "stop: stack full: need 224, left 128\n",
+        "4681",
+        "stop: stack full: need 224, left 32\n",
         RunEnd::Stopped(Stop::StackFull {
             need: 224,
-            left: 128,
+            left: 32,
         }),
-        9_706,
+        5_317,
     )
 }
 

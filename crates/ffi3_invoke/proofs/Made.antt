@@ -1,7 +1,7 @@
 -- A call that has begun, that has ended, and the whole of it.
 use Rattle.std.proofs.Common.{◌≡◌, ℕ, ◌+◌, ◌-◌, ◌≤◌, List, [], ◌∷◌, ◌++◌, length, refl, ap, sym, ◌∙◌, subst, append_assoc, arith}
 use Rattle.std.specs.List.{AllByRecursion}
-use Rattle.ffi3_type_rules.specs.declared.limits.TheConstants.{ENTRY, STACK, STACK_TOP}
+use Rattle.ffi3_type_rules.specs.declared.limits.TheConstants.{ENTRY, STACK, STACK_BYTES, STACK_TOP}
 use Rattle.ffi3_type_rules.specs.Signature.{Signature}
 use Rattle.ffi3_type_rules.specs.Value.{ValueTree}
 use Rattle.ffi3_type_rules.proofs.Parts.{length_part}
@@ -24,7 +24,7 @@ use Rattle.ffi3_invoke.proofs.Stretches.{above_stays, below_stays, mark_least, o
 
 -- ---- a call has begun
 
-module _ (std : Standard) (s : Signature) (agrees : AgreesWithMachine std) (vs : List ValueTree) (pointer : ℕ) (m c r : State) (sized : length m.stack ≡ 65536) (room : STACK + need_of std s ≤ m.sp) (top : m.sp ≤ STACK_TOP) (passed : HasPassed std s vs pointer m c) where
+module _ (std : Standard) (s : Signature) (agrees : AgreesWithMachine std) (vs : List ValueTree) (pointer : ℕ) (m c r : State) (sized : length m.stack ≡ STACK_BYTES) (room : STACK + need_of std s ≤ m.sp) (top : m.sp ≤ STACK_TOP) (passed : HasPassed std s vs pointer m c) where
   need : need_of std s ≡ frame_of std s + std.link + std.save + block_bytes s
   need = refl
 
@@ -32,7 +32,7 @@ module _ (std : Standard) (s : Signature) (agrees : AgreesWithMachine std) (vs :
   is_entry limit held outer below holds =
       let sp = passed.sp in
       let there : c.sp + (std.link + frame_of std s + needs std outer) ≡ limit = omega (arith, sp, below) in
-      let long : length c.stack ≡ 65536 = passed.within.size ∙ sized in
+      let long : length c.stack ≡ STACK_BYTES = passed.within.size ∙ sized in
       let whole = need in
       record {
         kind = refl;

@@ -4,7 +4,7 @@ use Rattle.std.proofs.Common.{◌≡◌, ℕ, suc, ◌+◌, ◌-◌, ◌<◌, �
 use Rattle.std.specs.List.{AllByRecursion}
 use Rattle.ffi3_type_rules.specs.declared.Isa.{Isa}
 use Rattle.ffi3_type_rules.specs.declared.Isa.TheVariants.{Amd64, Aarch64, Riscv}
-use Rattle.ffi3_type_rules.specs.declared.limits.TheConstants.{STACK, STACK_TOP}
+use Rattle.ffi3_type_rules.specs.declared.limits.TheConstants.{STACK, STACK_BYTES, STACK_TOP}
 use Rattle.ffi3_type_rules.specs.Isa.{isa_of}
 use Rattle.ffi3_type_rules.specs.Tree.{Tree}
 use Rattle.ffi3_type_rules.specs.Layout.{size_of}
@@ -114,7 +114,7 @@ reserved_back n len e a b (l ∷ ls) lie same stay =
 
 -- ---- the machine before the return
 
-module _ (std : Standard) (s : Signature) (agrees : AgreesWithMachine std) (v : ValueTree) (incoming : Incoming) (m g r : State) (target : m.target ≡ std.target) (sized : length m.stack ≡ 65536) (is : IsIncoming std s incoming) (block : incoming.block ≡ m.sp)
+module _ (std : Standard) (s : Signature) (agrees : AgreesWithMachine std) (v : ValueTree) (incoming : Incoming) (m g r : State) (target : m.target ≡ std.target) (sized : length m.stack ≡ STACK_BYTES) (is : IsIncoming std s incoming) (block : incoming.block ≡ m.sp)
     (writes : ResultWrites (incoming.entry + std.link) s.result_type (plan_of std s).res m g) (reserved : ReservedStay std m g) (quietly : WroteWithin STACK_TOP STACK_TOP g r) (given : (value : Loc → ℕ) → AreGivenBack (incoming.entry - std.save) std.save_area value g r) (others : RegistersStay (saved_registers std.save_area) g r) (sp : r.sp ≡ incoming.entry) where
   abbrev base : ℕ
   base = incoming.entry + std.link

@@ -1,12 +1,12 @@
 -- Items of an array, one by one, and arrays of types.
-use Rattle.std.proofs.Common.{◌≡◌, ℕ, zero, suc, ◌+◌, ◌<◌, ◌≤◌, List, [], ◌∷◌, ◌++◌, length, get_or, refl, sym, ap, ◌∙◌, append_assoc, append-nil, arith}
+use Rattle.std.proofs.Common.{◌≡◌, ℕ, zero, suc, ◌+◌, ◌<◌, ◌≤◌, List, [], ◌∷◌, ◌++◌, length, get_or, codes, refl, sym, ap, ◌∙◌, append_assoc, append-nil, arith}
 use Rattle.std.specs.Prelude.{slice_index_or}
-use Rattle.serde_json.specs.Data.{Items, no_items, item, depth, items_depth}
+use Rattle.serde_json.specs.Data.{Data, array, Items, no_items, item, depth, items_depth}
 use Rattle.serde_json.specs.Events.{items_len}
 use Rattle.serde_json.specs.View.{view, items_view}
 use Rattle.serde_json.specs.declared.value.Value.{Value}
-use Rattle.ffi3_type_rules.specs.Tree.{Tree}
-use Rattle.ffi3_script_rules.specs.Language.{JsonPath, Reason, Read, read, fault, read_map, and_then, at_item, read_type, read_each, HasShortArrays, HaveShortArrays}
+use Rattle.ffi3_type_rules.specs.Tree.{Tree, array_of}
+use Rattle.ffi3_script_rules.specs.Language.{JsonPath, Reason, Read, read, fault, read_map, and_then, under, at_item, read_type, read_array, read_count, read_each, HasShortArrays, HaveShortArrays}
 use Rattle.ffi3_json.specs.Parts.{item_at, items_from}
 
 -- ---- an item, and those after it
@@ -79,3 +79,35 @@ done-fault version ds path i done place reason below so_far e =
 
 pub done-all : (version : ℕ) (ds : Items) (path : JsonPath) (i : ℕ) (done : List Tree) → items_len ds ≤ i → Done version ds path i done → read_each version ds path 0 ≡ read done
 done-all version ds path i done end so_far = so_far ∙ ap (λ es. read_map (λ ts. done ++ ts) (read_each version es path i)) (items_none_left ds i end) ∙ ap read (append-nil done)
+
+-- ---- an array's type and count
+
+module _ (version : ℕ) (d : Data) (ds : Items) (path : JsonPath) (is : d ≡ array ds) (two : items_len ds ≡ 2) where
+  abbrev element_place : JsonPath
+  element_place = at_item (under path (codes "array")) 0
+
+  abbrev count_place : JsonPath
+  count_place = at_item (under path (codes "array")) 1
+
+  parts_read : read_array version d path ≡ and_then (λ t. read_map (array_of t) (read_count (item_at ds 1) count_place)) (read_type version (item_at ds 0) element_place)
+  parts_read = ap (λ x. read_array version x path) is ∙ both ds two
+    where
+      both : (es : Items) → items_len es ≡ 2 → read_array version (array es) path ≡ and_then (λ t. read_map (array_of t) (read_count (item_at es 1) count_place)) (read_type version (item_at es 0) element_place)
+      both no_items h = absurd (omega (arith, h))
+      both (item x no_items) h = absurd (omega (arith, h))
+      both (item x (item y no_items)) h = refl
+      both (item x (item y (item z es))) h = absurd (omega (arith, h))
+
+  pub no_element : (place : JsonPath) (reason : Reason) → read_type version (item_at ds 0) element_place ≡ fault place reason → read_array version d path ≡ fault place reason
+  no_element place reason e =
+      parts_read ∙ ap (and_then (λ t. read_map (array_of t) (read_count (item_at ds 1) count_place))) e
+
+  element_read : (t : Tree) → read_type version (item_at ds 0) element_place ≡ read t → read_array version d path ≡ read_map (array_of t) (read_count (item_at ds 1) count_place)
+  element_read t e =
+      parts_read ∙ ap (and_then (λ u. read_map (array_of u) (read_count (item_at ds 1) count_place))) e
+
+  pub no_count : (t : Tree) (place : JsonPath) (reason : Reason) → read_type version (item_at ds 0) element_place ≡ read t → read_count (item_at ds 1) count_place ≡ fault place reason → read_array version d path ≡ fault place reason
+  no_count t place reason e f = element_read t e ∙ ap (read_map (array_of t)) f
+
+  pub array_read : (t : Tree) (n : ℕ) → read_type version (item_at ds 0) element_place ≡ read t → read_count (item_at ds 1) count_place ≡ read n → read_array version d path ≡ read (array_of t n)
+  array_read t n e f = element_read t e ∙ ap (read_map (array_of t)) f

@@ -1,15 +1,15 @@
 -- Keys and members, one by one.
-use Rattle.std.proofs.Common.{◌≡◌, ℕ, zero, suc, ◌+◌, ◌||◌, ◌&&◌, ◌<◌, ◌≤◌, List, [], ◌∷◌, length, map, drop, Bool, true, false, Option, Some, None, Ordering, Less, Equal, Greater, cond, is_eq, bytes_eq, codes, string_bytes, nat_cmp, refl, sym, ap, ◌∙◌, subst, arith}
+use Rattle.std.proofs.Common.{◌≡◌, ℕ, zero, suc, ◌+◌, ◌||◌, ◌&&◌, ◌<◌, ◌≤◌, List, [], ◌∷◌, length, map, drop, Bool, true, false, Option, Some, None, Ordering, Less, Equal, Greater, cond, ◌≢◌, bytes_eq, codes, string_bytes, nat_cmp, refl, sym, ap, ◌∙◌, subst, arith}
 use Rattle.std.specs.Prelude.{slice_index_or, is_some, option_map}
 use Rattle.std.proofs.lemmas.List.{drop_more}
+use Rattle.std.proofs.lemmas.Slice.Eq.{bytes_eq-Decides}
 use Rattle.std.specs.Cmp.Lexicographic.{slice_cmp}
 use Rattle.std.specs.Ordering.{match_ordering}
-use Rattle.std.proofs.lemmas.Map.Text.{is_eq-slice_cmp}
 use Rattle.serde_json.specs.Data.{Data, null, boolean, number, string, array, object, Items, Members, no_members, member, depth, members_depth}
 use Rattle.serde_json.specs.Find.{get, get_member, as_object, as_array}
 use Rattle.serde_json.specs.Events.{members_len}
 use Rattle.ffi3_type_rules.specs.Tree.{struct_of}
-use Rattle.ffi3_script_rules.specs.Language.{JsonPath, fault, read_map, not_a_type, under, read_types, read_struct, HasShortArrays, HaveShortMembers, is_key_of, has_only, first_missing}
+use Rattle.ffi3_script_rules.specs.Language.{JsonPath, fault, read_map, not_a_type, under, read_type, read_types, read_composite, read_array, has_arrays, HasShortArrays, HaveShortMembers, is_key_of, has_only, first_missing}
 use Rattle.ffi3_script_rules.specs.Language as language
 use Rattle.serde_json.specs.View.{members_view}
 use Rattle.serde_json.proofs.Views.{Entry}
@@ -42,38 +42,49 @@ array_is (string s) ds e = absurd (none_not_some e)
 array_is (array d) ds e = ap array (some_is e)
 array_is (object ms) ds e = absurd (none_not_some e)
 
--- ---- the one key of a struct
+-- ---- the one key of a struct or an array
 
-not_this : (o : Ordering) (d : Data) → match_ordering o None (Some d) None ≡ None → is_eq o ≡ false
-not_this Less d e = refl
-not_this Equal d e = absurd (some_not_none e)
-not_this Greater d e = refl
+-- an object of one member is read by its key
+pub type_of_member : (version : ℕ) (d : Data) (name : List ℕ) (e : Data) (path : JsonPath) → only_member d ≡ Some (name, e) → read_type version d path ≡ read_composite version (member name e no_members) path
+type_of_member version null name e path h = absurd (none_not_some h)
+type_of_member version (boolean b) name e path h = absurd (none_not_some h)
+type_of_member version (number n) name e path h = absurd (none_not_some h)
+type_of_member version (string s) name e path h = absurd (none_not_some h)
+type_of_member version (array ds) name e path h = absurd (none_not_some h)
+type_of_member version (object no_members) name e path h = absurd (none_not_some h)
+type_of_member version (object (member k d no_members)) name e path h =
+    λ i. read_composite version (member (some_is h i).0 (some_is h i).1 no_members) path
+type_of_member version (object (member k d (member l x ms))) name e path h = absurd (none_not_some h)
 
-this : (o : Ordering) (d inside : Data) → match_ordering o None (Some d) None ≡ Some inside → (is_eq o ≡ true) × (d ≡ inside)
-this Less d inside e = absurd (none_not_some e)
-this Equal d inside e = (refl, some_is e)
-this Greater d inside e = absurd (none_not_some e)
+not_so : (b : Bool) → (b ≡ true → ⊥) → b ≡ false
+not_so true h = absurd (h refl)
+not_so false h = refl
 
-pub struct-none : (version : ℕ) (ms : Members) (path : JsonPath) → get_member (codes "struct") ms ≡ None → read_struct version ms path ≡ fault path not_a_type
-struct-none version no_members path e = refl
-struct-none version (member name d no_members) path e =
-    let other : bytes_eq (codes "struct") name ≡ false = sym (is_eq-slice_cmp (codes "struct") name) ∙ not_this (slice_cmp nat_cmp (codes "struct") name) d e in
-    rw other refl
-struct-none version (member name d (member k x ms)) path e = refl
+not_named : (key name : List ℕ) → name ≢ key → bytes_eq key name ≡ false
+not_named key name other =
+    not_so (bytes_eq key name) (λ same. other (sym ((bytes_eq-Decides key name).0 same)))
 
-pub struct-many : (version : ℕ) (ms : Members) (path : JsonPath) → (members_len ms ≡ 1 → ⊥) → read_struct version ms path ≡ fault path not_a_type
-struct-many version no_members path h = refl
-struct-many version (member name d no_members) path h = absurd (h refl)
-struct-many version (member name d (member k x ms)) path h = refl
+module _ (version : ℕ) (d : Data) (name : List ℕ) (e : Data) (path : JsonPath) (h : only_member d ≡ Some (name, e)) where
+  pub a_struct : name ≡ codes "struct" → read_type version d path ≡ read_map struct_of (read_types version e (under path (codes "struct")))
+  a_struct is =
+      type_of_member version d name e path h ∙ ap (λ k. read_composite version (member k e no_members) path) is
 
-pub struct-one : (version : ℕ) (ms : Members) (inside : Data) (path : JsonPath) → get_member (codes "struct") ms ≡ Some inside → members_len ms ≡ 1
-    → read_struct version ms path ≡ read_map struct_of (read_types version inside (under path (codes "struct")))
-struct-one version no_members inside path e one = absurd (none_not_some e)
-struct-one version (member name d no_members) inside path e one =
-    let found = this (slice_cmp nat_cmp (codes "struct") name) d inside e in
-    let same : bytes_eq (codes "struct") name ≡ true = sym (is_eq-slice_cmp (codes "struct") name) ∙ found.0 in
-    rw (same, found.1) refl
-struct-one version (member name d (member k x ms)) inside path e one = absurd (omega (arith, one))
+  by_version : (b : Bool) → name ≡ codes "array" → has_arrays version ≡ b → read_type version d path ≡ cond b (read_array version e path) (fault path not_a_type)
+  by_version b is has =
+      type_of_member version d name e path h ∙ ap (λ k. read_composite version (member k e no_members) path) is
+      ∙ ap (λ c. cond c (read_array version e path) (fault path not_a_type)) has
+
+  pub an_array : name ≡ codes "array" → has_arrays version ≡ true → read_type version d path ≡ read_array version e path
+  an_array is has = by_version true is has
+
+  pub no_array : name ≡ codes "array" → has_arrays version ≡ false → read_type version d path ≡ fault path not_a_type
+  no_array is has = by_version false is has
+
+  pub neither : name ≢ codes "struct" → name ≢ codes "array" → read_type version d path ≡ fault path not_a_type
+  neither other another =
+      type_of_member version d name e path h
+      ∙ ap (λ b. cond b (read_map struct_of (read_types version e (under path (codes "struct")))) (cond (bytes_eq (codes "array") name && has_arrays version) (read_array version e path) (fault path not_a_type))) (not_named (codes "struct") name other)
+      ∙ ap (λ b. cond (b && has_arrays version) (read_array version e path) (fault path not_a_type)) (not_named (codes "array") name another)
 
 -- ---- what holds of each member holds of the one that is found
 

@@ -62,9 +62,9 @@ shapes_fault version d path p r is = then_fault _ (read_shapes version d path) p
 
 -- so is the first fault of a signature whose shapes were read
 pub tells_own : (version : ℕ) (d : Data) (path : JsonPath) (s : Signature) (f : SignatureFault) → read_shapes version d path ≡ read s → IsFirstSignatureFault s f
-    → (e : ScriptFault) → Reports (λ p r. (p ≡ place_of_fault path f) × (r ≡ reason_of_fault f)) e → Reports (λ p r. read_signature version d path ≡ fault p r) e
+    → (e : ScriptFault) → Reports (λ p r. (p ≡ place_of_fault path s f) × (r ≡ reason_of_fault f)) e → Reports (λ p r. read_signature version d path ≡ fault p r) e
 tells_own version d path s f shapes first e t =
-    tells_made (read_signature version d path) (place_of_fault path f) (reason_of_fault f) (then_read _ (read_shapes version d path) s shapes ∙ ap (unless_faulty path s) (signature_found_by_first s f first)) e t
+    tells_made (read_signature version d path) (place_of_fault path s f) (reason_of_fault f) (then_read _ (read_shapes version d path) s shapes ∙ ap (unless_faulty path s) (signature_found_by_first s f first)) e t
 
 -- and one that has none is read
 pub read_right : (version : ℕ) (d : Data) (path : JsonPath) (s : Signature) → read_shapes version d path ≡ read s → SignatureHasNoFault s → read_signature version d path ≡ read s
@@ -74,6 +74,6 @@ read_right version d path s shapes right =
 -- ---- the same by the order of faults
 
 pub tells_first : (version : ℕ) (d : Data) (path : JsonPath) (s : Signature) (f : SignatureFault) → read_shapes version d path ≡ read s → IsFirstSignatureFault s f
-    → (e : ScriptFault) → Reports (λ p r. (p ≡ place_of_fault path f) × (r ≡ reason_of_fault f)) e → Reports (IsNoSignature version d path) e
+    → (e : ScriptFault) → Reports (λ p r. (p ≡ place_of_fault path s f) × (r ≡ reason_of_fault f)) e → Reports (IsNoSignature version d path) e
 tells_first version d path s f shapes first e t =
-    tells_more {P = λ p r. (p ≡ place_of_fault path f) × (r ≡ reason_of_fault f)} {Q = IsNoSignature version d path} (λ p r is. inr (s, shapes, record { first = f; is_first = first; alone = λ other o. one_first_signature_fault s other f o first; stands = is.0; tells = is.1 })) e t
+    tells_more {P = λ p r. (p ≡ place_of_fault path s f) × (r ≡ reason_of_fault f)} {Q = IsNoSignature version d path} (λ p r is. inr (s, shapes, record { first = f; is_first = first; alone = λ other o. one_first_signature_fault s other f o first; stands = is.0; tells = is.1 })) e t

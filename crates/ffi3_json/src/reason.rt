@@ -20,21 +20,23 @@ pub enum Reason {
     MissingKey { name: String },
     /// The version is not the integer 1 or 2.
     VersionNotKnown,
-    /// Neither a text nor an object with the one key `struct`.
+    /// Neither a text nor an object with the one key `struct`, or in version 2 `array`; or what stands under `array` is
+    /// no array of two.
     NotAType,
     /// A text that is the name of no type.
     UnknownType,
     /// No integer from 0 to 4294967295.
     NotACount,
-    /// Void in the place of a value, or a struct without elements.
+    /// Void in the place of a value, an array in the place of an argument or a result, or a struct or an array that has
+    /// no elements.
     BadTypedef,
     /// A kind that is left out, as are the next two.
     LeftOutLongDouble,
     LeftOutComplex,
     LeftOutVector,
-    /// A struct of so many bytes, more than 1,024.
+    /// A struct or an array of so many bytes, more than 4,096.
     TooLarge { size: u64 },
-    /// A struct inside 16 others.
+    /// A struct or an array inside 16 others.
     TooDeep,
     /// So many arguments, more than 64.
     TooManyArguments { n: u32 },

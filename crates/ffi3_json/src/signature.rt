@@ -1,11 +1,12 @@
 // Signatures.
-ghost use Rattle.std.specs.Prelude.{◌≡◌, IfOk, IfErr, codes};
+ghost use Rattle.std.specs.Prelude.{◌≡◌, IfOk, IfErr, codes, get_or};
 ghost use Rattle.serde_json.specs.Find.{get};
 ghost use Rattle.serde_json.specs.View.{view};
 ghost use Rattle.ffi3_script_rules.specs.Language as language;
-ghost use Rattle.ffi3_script_rules.specs.Language.{read, read_shapes, read_fixed, HasShortArrays, signature_keys, inside_type, place_of_fault, reason_of_type_fault, reason_of_fault, left_out_reason, read_type, read_types, value_under, under};
+ghost use Rattle.ffi3_script_rules.specs.Language.{read, read_shapes, read_fixed, HasShortArrays, signature_keys, inside_type, place_of_fault, reason_of_type_fault, reason_of_fault, left_out_reason, key_of_parts, read_type, read_types, value_under, under};
 ghost use Rattle.ffi3_script_rules.specs.SignatureRefusal.{IsNoSignature};
-ghost use Rattle.ffi3_type_rules.specs.Signature.{SignatureHasNoFault};
+ghost use Rattle.ffi3_type_rules.specs.Tree.{parts_of};
+ghost use Rattle.ffi3_type_rules.specs.Signature.{SignatureHasNoFault, IsSignatureFault};
 ghost use Rattle.ffi3_types.specs.TreeOf.{tree_of};
 ghost use Rattle.ffi3_types.specs.FaultOf.{fault_of, path_of};
 ghost use Rattle.ffi3_types.specs.SignatureFaultOf.{signature_fault_of};
@@ -14,7 +15,7 @@ ghost use Rattle.ffi3_json.specs.Reports.{Reports};
 
 use crate::fault::bad;
 use crate::object::check_object_at;
-use crate::types::{read_list, read_type_at};
+use crate::types::{read_count, read_list, read_type_at};
 use crate::{Json, Key, Keys, NoMemory, Node, Reason, ScriptFault, Way, Where};
 use ffi3_types::{At, FfiType, Fields, Path, Sig, SigFault, TypeFault, check_sig};
 use std::alloc::Global;
@@ -56,7 +57,7 @@ pub fn read_signature_at(
     let sig = read_shapes(alloc, value, at, version)?;
     match check_sig(&sig) {
         Ok(()) => Ok(sig),
-        Err(fault) => Err(told(alloc, at, &fault)),
+        Err(fault) => Err(told(alloc, at, &sig, &fault)),
     }
 }
 
@@ -126,19 +127,13 @@ fn read_fixed(alloc: Global, value: &Node, at: &Way) -> Result<Option<u32>, Scri
     let Some(count) = value.get("fixed") else {
         return Ok(None);
     };
-    let Some(n) = count.json().as_u64() else {
-        return Err(bad(alloc, &place, Reason::NotACount));
-    };
-    if n < 4_294_967_296 {
-        Ok(Some(n as u32))
-    } else {
-        Err(bad(alloc, &place, Reason::NotACount))
-    }
+    Ok(Some(read_count(alloc, &count, &place)?))
 }
 
-// The fault of the signature at a place, as that of a script.
-fn told(alloc: Global, at: &Way, fault: &SigFault) -> ScriptFault
-    ensures { Reports (λ p r. (p ≡ place_of_fault at.now (signature_fault_of fault.now)) × (r ≡ reason_of_fault (signature_fault_of fault.now))) result }
+// A fault of the signature at a place, as that of a script.
+fn told(alloc: Global, at: &Way, sig: &Sig, fault: &SigFault) -> ScriptFault
+    requires { IsSignatureFault sig.now (signature_fault_of fault.now) }
+    ensures { Reports (λ p r. (p ≡ place_of_fault at.now sig.now (signature_fault_of fault.now)) × (r ≡ reason_of_fault (signature_fault_of fault.now))) result }
 {
     let args = at.key("args");
     match fault {
@@ -146,11 +141,11 @@ fn told(alloc: Global, at: &Way, fault: &SigFault) -> ScriptFault
         SigFault::BadType {
             at: At::Ret,
             fault: inner,
-        } => bad_type(alloc, &at.key("ret"), inner),
+        } => bad_type(alloc, &at.key("ret"), sig.ret(), inner),
         SigFault::BadType {
             at: At::Arg(i),
             fault: inner,
-        } => bad_type(alloc, &args.item(*i), inner),
+        } => bad_type(alloc, &args.item(*i), sig.arg(*i), inner),
         SigFault::BadFixed { fixed, n } => bad(
             alloc,
             &at.key("fixed"),
@@ -164,10 +159,10 @@ fn told(alloc: Global, at: &Way, fault: &SigFault) -> ScriptFault
 }
 
 /// The fault of the type at a place, as that of a script.
-pub fn bad_type(alloc: Global, at: &Way, fault: &TypeFault) -> ScriptFault
-    ensures { Reports (λ p r. (p ≡ inside_type at.now (path_of fault.now)) × (r ≡ reason_of_type_fault (fault_of fault.now))) result }
+pub fn bad_type(alloc: Global, at: &Way, ty: &FfiType, fault: &TypeFault) -> ScriptFault
+    ensures { Reports (λ p r. (p ≡ inside_type at.now (tree_of ty.now) (path_of fault.now)) × (r ≡ reason_of_type_fault (fault_of fault.now))) result }
 {
-    match place_inside(alloc, at, fault.path()) {
+    match place_inside(alloc, at, ty, fault.path()) {
         Ok(path) => ScriptFault::BadScript {
             path,
             why: reason_of_type(fault),
@@ -177,15 +172,51 @@ pub fn bad_type(alloc: Global, at: &Way, fault: &TypeFault) -> ScriptFault
 }
 
 // Where the node in a type stands that the way leads to.
-fn place_inside(alloc: Global, at: &Way, way: &Path) -> Result<Where, NoMemory>
-    ensures { IfOk result (λ w. w ≡ inside_type at.now way.now) }
+fn place_inside(alloc: Global, at: &Way, ty: &FfiType, way: &Path) -> Result<Where, NoMemory>
+    ensures { IfOk result (λ w. w ≡ inside_type at.now (tree_of ty.now) way.now) }
 {
     let mut place = at.owned(alloc)?;
+    let none = FfiType::Void;
+    let mut node = ty;
     for i in 0..way.len() {
-        place.push_key(alloc, "struct")?;
-        place.push_number(*way.get(i))?;
+        let number = *way.get(i);
+        place.push_key(alloc, key_of_parts(node))?;
+        place.push_number(number)?;
+        node = part_of(node, number, &none);
     }
     Ok(place)
+}
+
+// The key under which the types stand that a type is made of.
+fn key_of_parts(ty: &FfiType) -> &str
+    ensures { result.now ≡ key_of_parts (tree_of ty.now) }
+{
+    match ty {
+        FfiType::Array(_, _) => "array",
+        _ => "struct",
+    }
+}
+
+// The type of a number among those that a type is made of. A fault leads to no number beyond these, for which `none` stands.
+fn part_of<'a>(ty: &'a FfiType, number: u32, none: &'a FfiType) -> &'a FfiType
+    ensures { tree_of result.now ≡ get_or (parts_of (tree_of ty.now)) number (tree_of none.now) }
+{
+    match ty {
+        FfiType::Struct(fields) => type_in(fields, number, none),
+        FfiType::Array(fields, _) => type_in(fields, number, none),
+        _ => none,
+    }
+}
+
+// The type of a number in a list, or else `none`.
+fn type_in<'a>(fields: &'a Fields, number: u32, none: &'a FfiType) -> &'a FfiType
+    ensures { tree_of result.now ≡ get_or fields.now number (tree_of none.now) }
+{
+    if (number as usize) < fields.len() {
+        fields.get(number as usize)
+    } else {
+        none
+    }
 }
 
 // Why a type with this fault is no part of a script.

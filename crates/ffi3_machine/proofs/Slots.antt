@@ -4,6 +4,7 @@ use Rattle.std.proofs.lemmas.List.{take_at, at_drop_all, length-replicate}
 use Rattle.std.proofs.lemmas.Slice.{drop-append-drop}
 use Rattle.std.specs.List.{repeat, replace_range}
 use Rattle.ffi3_type_rules.specs.declared.Isa.{Isa}
+use Rattle.ffi3_type_rules.specs.declared.limits.TheConstants.{STACK_BYTES, CODE_BYTES}
 use Rattle.ffi3_type_rules.specs.declared.Isa.TheVariants.{Amd64, Aarch64, Riscv}
 use Rattle.ffi3_machine.specs.State.{free_word, free_slot, begun_code, begun_stack}
 
@@ -47,7 +48,7 @@ freed-all m n k w initial is_all long =
     let none : drop (4 * k) initial ≡ [] = at_drop_all (λ r. r) initial (4 * k) long in
     ap (λ r. repeat k w ++ r) none ∙ append-nil (repeat k w) ∙ ap (λ i. repeat i w) is_all ∙ repeat-repeat m n w
 
-pub begun_code-is : (isa : Isa) (k : ℕ) (initial : List ℕ) → k ≡ 4096 → length initial ≡ 16384 → repeat k (free_word isa) ++ drop (4 * k) initial ≡ begun_code isa
+pub begun_code-is : (isa : Isa) (k : ℕ) (initial : List ℕ) → 4 * k ≡ CODE_BYTES → length initial ≡ CODE_BYTES → repeat k (free_word isa) ++ drop (4 * k) initial ≡ begun_code isa
 unfolding begun_code free_slot
 begun_code-is isa k initial is_all long = freed-all 256 16 k (free_word isa) initial (omega arith) (omega arith)
 
@@ -62,11 +63,11 @@ replaced-all xs new at end is_at is_end =
     let back : drop end xs ≡ [] = at_drop_all (λ r. r) xs end (omega arith) in
     ap (λ r. (r ++ new) ++ drop end xs) front ∙ ap (λ r. new ++ r) back ∙ append-nil new
 
-pub length-begun_stack : length begun_stack ≡ 65536
+pub length-begun_stack : length begun_stack ≡ STACK_BYTES
 unfolding begun_stack
-length-begun_stack = length-replicate {A = ℕ} 65536 165
+length-begun_stack = length-replicate {A = ℕ} STACK_BYTES 165
 
-pub length-begun_code : (isa : Isa) → length (begun_code isa) ≡ 16384
+pub length-begun_code : (isa : Isa) → length (begun_code isa) ≡ CODE_BYTES
 unfolding begun_code free_slot
 length-begun_code Amd64 = length-repeat 256 (free_slot Amd64)
 length-begun_code Aarch64 = length-repeat 256 (free_slot Aarch64)

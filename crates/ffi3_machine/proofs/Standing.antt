@@ -2,19 +2,20 @@
 use Rattle.std.proofs.Common.{◌≡◌, ℕ, ◌-◌, ◌≤◌, List, drop, Option, Some, None, IfSome, subst, sym}
 use Rattle.ffi3_type_rules.specs.declared.Isa.{Isa}
 use Rattle.ffi3_type_rules.specs.Isa.{isa_of}
+use Rattle.ffi3_type_rules.specs.declared.limits.TheConstants.{CODE}
 use Rattle.ffi3_isa.specs.declared.Instr.{Instr}
 use Rattle.ffi3_machine.specs.State.{State}
 use Rattle.ffi3_machine.specs.Step.{IsListed, IsAligned, IsInstructionAt}
 
 -- what stands at pc, the bytes begin with
-pub listed-at : (s : State) (t : Isa) (bytes : List ℕ) (i : Instr) (n : ℕ) → isa_of s.target ≡ t → bytes ≡ drop (s.pc - 0x10000) s.code → IsInstructionAt (isa_of s.target) s i n → IsListed t bytes i n
+pub listed-at : (s : State) (t : Isa) (bytes : List ℕ) (i : Instr) (n : ℕ) → isa_of s.target ≡ t → bytes ≡ drop (s.pc - CODE) s.code → IsInstructionAt (isa_of s.target) s i n → IsListed t bytes i n
 listed-at s t bytes i n e b h =
     let P : Isa → Type 0 = λ x. IsListed x bytes i n in
     let Q : List ℕ → Type 0 = λ x. IsListed (isa_of s.target) x i n in
     subst P e (subst Q (sym b) h.listed)
 
 -- what the bytes begin with, stands at pc
-pub stands-at : (s : State) (t : Isa) (bytes : List ℕ) → isa_of s.target ≡ t → bytes ≡ drop (s.pc - 0x10000) s.code → 0x10000 ≤ s.pc → IsAligned t s.pc → (r : Option (Instr × ℕ)) → IfSome r (λ p. IsListed t bytes p.0 p.1) → IfSome r (λ p. IsInstructionAt (isa_of s.target) s p.0 p.1)
+pub stands-at : (s : State) (t : Isa) (bytes : List ℕ) → isa_of s.target ≡ t → bytes ≡ drop (s.pc - CODE) s.code → CODE ≤ s.pc → IsAligned t s.pc → (r : Option (Instr × ℕ)) → IfSome r (λ p. IsListed t bytes p.0 p.1) → IfSome r (λ p. IsInstructionAt (isa_of s.target) s p.0 p.1)
 stands-at s t bytes e b low aligned None h = tt
 stands-at s t bytes e b low aligned (Some p) h =
     let P : Isa → Type 0 = λ x. IsListed x bytes p.0 p.1 in

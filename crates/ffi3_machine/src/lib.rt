@@ -97,7 +97,7 @@ impl Machine {
             sp: STACK_TOP,
             pc: RETURN,
             mark: STACK_TOP,
-            stack: Region::new(alloc, STACK, STACK_BYTES)?,
+            stack: new_region(alloc, STACK, STACK_BYTES)?,
             code: Region::new(alloc, CODE, CODE_BYTES)?,
             journal: Journal::new(alloc),
         };
@@ -451,6 +451,14 @@ fn free_word(isa: Isa) -> u64
         Isa::Aarch64 => 0xD420_0000,
         Isa::Riscv => 0x0010_0073,
     }
+}
+
+// A region that is filled later: what stands in it is not told, so that no goal has all bytes of a stack.
+fn new_region(alloc: Global, base: u64, len: u64) -> Result<Region, NoMemory>
+    requires { base + len < 2 ^ 64 }
+    ensures { IfOk result (λ r. (r.base ≡ base) × (length r.bytes ≡ len)) }
+{
+    Region::new(alloc, base, len)
 }
 
 // Fills the stack.

@@ -6,10 +6,12 @@ use Rattle.ffi3_type_rules.specs.declared.Target.{Target}
 use Rattle.ffi3_type_rules.specs.declared.Isa.{Isa}
 use Rattle.ffi3_type_rules.specs.declared.Isa.TheVariants.{Amd64, Aarch64, Riscv}
 use Rattle.ffi3_type_rules.specs.Isa.{isa_of}
-use Rattle.ffi3_type_rules.specs.Tree.{Tree, void, scalar, left_out, structure, no_trees, tree, tree_at}
+use Rattle.ffi3_type_rules.specs.Tree.{Tree, void, scalar, left_out, structure, array, no_trees, tree, tree_at}
 use Rattle.ffi3_type_rules.specs.Layout.{size_of, layouts, align_before, end_before}
-use Rattle.ffi3_type_rules.specs.Fault.{HasNoFault, IsArgumentType, bad_typedef, left_out_type, void_in_place, left_out_kind, no_elements}
+use Rattle.ffi3_type_rules.specs.Fault.{takes_void, HasNoFault, IsArgumentType, bad_typedef, left_out_type, out_of_place, left_out_kind, misshapen}
 use Rattle.ffi3_type_rules.specs.Signature.{Signature, SignatureHasNoFault}
+use Rattle.ffi3_type_rules.specs.declared.Role.{Role}
+use Rattle.ffi3_type_rules.specs.declared.Role.TheVariants.{AsArgument, AsElement}
 use Rattle.ffi3_type_rules.proofs.Faults.{fault_outside}
 use Rattle.ffi3_type_rules.proofs.Layouts.{least_multiple-above, scalar_size-bounds, size_le-end}
 use Rattle.ffi3_type_rules.proofs.Right.{argument_is_right}
@@ -143,14 +145,22 @@ copies_fit n (t ∷ ts) (ByRef at copy ∷ ps) some h = (
 
 -- ---- an argument without fault has bytes
 
-bytes_of_right : (outer : ℕ) (t : Tree) → HasNoFault outer false t → 1 ≤ size_of t
-bytes_of_right outer void right = absurd (right [] bad_typedef (void_in_place refl (λ _. refl)))
-bytes_of_right outer (scalar s) right = (scalar_size-bounds s).0
-bytes_of_right outer (left_out k) right = absurd (right [] (left_out_type (left_out k)) (left_out_kind refl))
-bytes_of_right outer (structure no_trees) right = absurd (right [] bad_typedef (no_elements refl))
-bytes_of_right outer (structure (tree t ts)) right =
-    let inside : HasNoFault (outer + 1) false t = λ path fault is. right (0 ∷ path) fault (fault_outside (tree t ts) 0 path fault (omega arith) is) in
-    let first = bytes_of_right (outer + 1) t inside in
+bytes_of_right : (outer : ℕ) (role : Role) (t : Tree) → takes_void role ≡ false → HasNoFault outer role t → 1 ≤ size_of t
+bytes_of_right outer role void none right = absurd (right [] bad_typedef (out_of_place refl none))
+bytes_of_right outer role (scalar s) none right = (scalar_size-bounds s).0
+bytes_of_right outer role (left_out k) none right = absurd (right [] (left_out_type (left_out k)) (left_out_kind refl))
+bytes_of_right outer role (array no_trees n) none right = absurd (right [] bad_typedef (misshapen refl refl))
+bytes_of_right outer role (array (tree t no_trees) zero) none right = absurd (right [] bad_typedef (misshapen refl refl))
+bytes_of_right outer role (array (tree t no_trees) (suc n)) none right =
+    let inside : HasNoFault (outer + 1) AsElement t = λ path fault is. right (0 ∷ path) fault (fault_outside (array (tree t no_trees) (suc n)) 0 path fault (omega arith) is) in
+    let first = bytes_of_right (outer + 1) AsElement t refl inside in
+    let more : suc n * size_of t ≡ n * size_of t + size_of t = omega arith in
+    omega (arith, first, more)
+bytes_of_right outer role (array (tree t (tree u us)) n) none right = absurd (right [] bad_typedef (misshapen refl refl))
+bytes_of_right outer role (structure no_trees) none right = absurd (right [] bad_typedef (misshapen refl refl))
+bytes_of_right outer role (structure (tree t ts)) none right =
+    let inside : HasNoFault (outer + 1) AsElement t = λ path fault is. right (0 ∷ path) fault (fault_outside (structure (tree t ts)) 0 path fault (omega arith) is) in
+    let first = bytes_of_right (outer + 1) AsElement t refl inside in
     let ends : size_of t ≤ end_before (layouts (tree t ts)) (length (layouts (tree t ts))) = size_le-end (layouts (tree t ts)) 0 (length (layouts (tree t ts))) (omega arith) in
     let rounded : end_before (layouts (tree t ts)) (length (layouts (tree t ts))) ≤ size_of (structure (tree t ts)) = least_multiple-above (align_before (layouts (tree t ts)) (length (layouts (tree t ts)))) (end_before (layouts (tree t ts)) (length (layouts (tree t ts)))) in
     omega (arith, first, ends, rounded)
@@ -158,7 +168,7 @@ bytes_of_right outer (structure (tree t ts)) right =
 each_has_bytes : (ts : List Tree) → ((i : ℕ) → i < length ts → IsArgumentType (tree_at ts i)) → AllByRecursion HasSomeBytes ts
 each_has_bytes [] h = tt
 each_has_bytes (t ∷ ts) h =
-    (bytes_of_right 0 t (h 0 (omega arith)), each_has_bytes ts (λ i below. h (suc i) (omega arith)))
+    (bytes_of_right 0 AsArgument t refl (h 0 (omega arith)), each_has_bytes ts (λ i below. h (suc i) (omega arith)))
 
 -- ---- places of the standard are places of its machine
 

@@ -6,7 +6,7 @@ ghost use Rattle.std.specs.List.{AllByRecursion};
 ghost use Rattle.std.specs.Int.{w64, to_le_bytes};
 ghost use Rattle.ffi3_type_rules.specs.Tree.{trees_of};
 ghost use Rattle.ffi3_type_rules.specs.Layout.{size_of};
-ghost use Rattle.ffi3_type_rules.specs.Fault.{IsResultType};
+ghost use Rattle.ffi3_type_rules.specs.Fault.{IsLaidOut};
 ghost use Rattle.ffi3_type_rules.specs.Integer.{is_number_type, scalar_of, widened_from_32};
 ghost use Rattle.ffi3_type_rules.specs.Value.{all_fit, bytes_of, fits, value_in, values_of};
 ghost use Rattle.ffi3_types.specs.TreeOf.{tree_of};
@@ -28,12 +28,16 @@ use ffi3_cif::{Cif, Runs};
 use ffi3_machine::Machine;
 use ffi3_place::parts::{argument, count_of, size_of};
 use ffi3_place::{Abi, Ext, Loc, Piece, Pieces, Place, Res};
-use ffi3_type_rules::limits::LARGEST_STRUCT;
+use ffi3_type_rules::limits::LARGEST_TYPE;
 use ffi3_types::FfiType;
 use ffi3_values::{Value, Values, number, widen, write_bytes};
 use load::word_of;
 pub use load::{load_piece, place_bytes, place_word};
 use running::store_runs;
+
+/// A value of at most so many bytes is stored by way of a buffer of this size, since it would take longer to zero a
+/// buffer of the largest type's size than to store the value.
+pub const SMALL: usize = 64;
 
 // The word with its low bytes replaced.
 fn with_low(word: u64, bytes: &[u8]) -> u64
@@ -169,7 +173,7 @@ pub fn store_piece(
     requires lies { IsPlace (STACK_TOP - base) piece.loc }
     requires writable { IsWritable machine.old.target piece.loc }
     requires part { IsPieceOf (tree_of ty.now) piece }
-    requires right { IsResultType (tree_of ty.now) }
+    requires right { IsLaidOut (tree_of ty.now) }
     requires fits { fits (tree_of ty.now) (value_of value.now) ≡ true }
     requires sized { length bytes.old ≡ size_of (tree_of ty.now) }
     ensures stored { IsStored base (tree_of ty.now) (value_of value.now) piece machine.old machine.new }
@@ -210,7 +214,7 @@ fn store_other(
     requires lies { IsPlace (STACK_TOP - base) piece.loc }
     requires writable { IsWritable machine.old.target piece.loc }
     requires part { IsPieceOf (tree_of ty.now) piece }
-    requires right { IsResultType (tree_of ty.now) }
+    requires right { IsLaidOut (tree_of ty.now) }
     requires fits { fits (tree_of ty.now) (value_of value.now) ≡ true }
     requires sized { length bytes.old ≡ size_of (tree_of ty.now) }
     requires given { goes_by_run piece.loc piece.ext ≡ true → PieceStands base machine.old (tree_of ty.now) (value_of value.now) piece }
@@ -237,7 +241,7 @@ fn store_each(
     requires writable { AllByRecursion (IsWritable machine.old.target) (piece_locs pieces.now) }
     requires apart { AreApart (piece_locs pieces.now) }
     requires parts { AllByRecursion (IsPieceOf (tree_of ty.now)) pieces.now }
-    requires right { IsResultType (tree_of ty.now) }
+    requires right { IsLaidOut (tree_of ty.now) }
     requires fits { fits (tree_of ty.now) (value_of value.now) ≡ true }
     requires sized { length bytes.old ≡ size_of (tree_of ty.now) }
     requires given { AllByRecursion (λ p. goes_by_run p.loc p.ext ≡ true → PieceStands base machine.old (tree_of ty.now) (value_of value.now) p) pieces.now }
@@ -251,6 +255,32 @@ fn store_each(
     }
 }
 
+// Stores all pieces of a value that stands in registers, by way of `bytes`, which are as many as it has.
+fn store_pieces_by(
+    machine: &mut Machine,
+    base: u64,
+    pieces: &Pieces,
+    ty: &FfiType,
+    value: &Value,
+    bytes: &mut [u8],
+)
+    requires low { STACK ≤ base }
+    requires high { base ≤ STACK_TOP }
+    requires registers { AllByRecursion (IsPlace 0) (piece_locs pieces.now) }
+    requires writable { AllByRecursion (IsWritable machine.old.target) (piece_locs pieces.now) }
+    requires apart { AreApart (piece_locs pieces.now) }
+    requires parts { AllByRecursion (IsPieceOf (tree_of ty.now)) pieces.now }
+    requires right { IsLaidOut (tree_of ty.now) }
+    requires fits { fits (tree_of ty.now) (value_of value.now) ≡ true }
+    requires sized { length bytes.old ≡ size_of (tree_of ty.now) }
+    ensures stand { PiecesStand base machine.new (tree_of ty.now) (value_of value.now) pieces.now }
+    ensures unused { AllByRecursion (KeepsUnused base (tree_of ty.now) machine.old machine.new) pieces.now }
+    ensures stays { Stays base (piece_locs pieces.now) machine.old machine.new }
+    ensures within { (room : ℕ) → AllByRecursion (IsPlace room) (piece_locs pieces.now) → WroteWithin base (base + room) machine.old machine.new }
+{
+    store_each(machine, base, pieces, ty, value, bytes);
+}
+
 /// Stores all pieces of a value that stands in registers, and fills the rest of them. Padding keeps what stood there, and so does the rest of a register where nothing fills it.
 pub fn store_pieces(machine: &mut Machine, base: u64, pieces: &Pieces, ty: &FfiType, value: &Value)
     requires low { STACK ≤ base }
@@ -259,19 +289,24 @@ pub fn store_pieces(machine: &mut Machine, base: u64, pieces: &Pieces, ty: &FfiT
     requires writable { AllByRecursion (IsWritable machine.old.target) (piece_locs pieces.now) }
     requires apart { AreApart (piece_locs pieces.now) }
     requires parts { AllByRecursion (IsPieceOf (tree_of ty.now)) pieces.now }
-    requires right { IsResultType (tree_of ty.now) }
+    requires right { IsLaidOut (tree_of ty.now) }
     requires fits { fits (tree_of ty.now) (value_of value.now) ≡ true }
     ensures stand { PiecesStand base machine.new (tree_of ty.now) (value_of value.now) pieces.now }
     ensures unused { AllByRecursion (KeepsUnused base (tree_of ty.now) machine.old machine.new) pieces.now }
     ensures stays { Stays base (piece_locs pieces.now) machine.old machine.new }
     ensures within { (room : ℕ) → AllByRecursion (IsPlace room) (piece_locs pieces.now) → WroteWithin base (base + room) machine.old machine.new }
 {
-    let mut room = [0; LARGEST_STRUCT as usize];
-    let bytes = &mut room[..size_of(ty) as usize];
-    store_each(machine, base, pieces, ty, value, bytes);
+    let size = size_of(ty) as usize;
+    if size <= SMALL {
+        let mut room = [0; SMALL];
+        store_pieces_by(machine, base, pieces, ty, value, &mut room[..size]);
+    } else {
+        let mut room = [0; LARGEST_TYPE as usize];
+        store_pieces_by(machine, base, pieces, ty, value, &mut room[..size]);
+    }
 }
 
-// Stores a value in pieces. What stands on the stack goes by runs, but where something fills the rest of a place.
+// Stores a value in pieces, by way of `bytes`, which are as many as it has. What stands on the stack goes by runs, but where something fills the rest of a place.
 fn store_direct(
     machine: &mut Machine,
     base: u64,
@@ -279,6 +314,7 @@ fn store_direct(
     runs: &Runs,
     ty: &FfiType,
     value: &Value,
+    bytes: &mut [u8],
 )
     requires low { STACK ≤ base }
     requires high { base ≤ STACK_TOP }
@@ -287,40 +323,77 @@ fn store_direct(
     requires apart { AreApart (piece_locs pieces.now) }
     requires runs { AreRunsOf pieces.now runs.now }
     requires parts { AllByRecursion (IsPieceOf (tree_of ty.now)) pieces.now }
-    requires right { IsResultType (tree_of ty.now) }
+    requires right { IsLaidOut (tree_of ty.now) }
     requires fits { fits (tree_of ty.now) (value_of value.now) ≡ true }
+    requires sized { length bytes.old ≡ size_of (tree_of ty.now) }
     ensures stand { PiecesStand base machine.new (tree_of ty.now) (value_of value.now) pieces.now }
     ensures unused { AllByRecursion (KeepsUnused base (tree_of ty.now) machine.old machine.new) pieces.now }
     ensures stays { Stays base (piece_locs pieces.now) machine.old machine.new }
     ensures within { (room : ℕ) → AllByRecursion (IsPlace room) (piece_locs pieces.now) → WroteWithin base (base + room) machine.old machine.new }
 {
-    let mut room = [0; LARGEST_STRUCT as usize];
-    let bytes = &mut room[..size_of(ty) as usize];
     store_runs(machine, base, runs, ty, value, bytes);
     store_each(machine, base, pieces, ty, value, bytes);
 }
 
-/// Stores an argument by reference: a copy of the value `copy` bytes from `base` on, and the copy's address in a place. The copy's padding keeps what stood there.
-fn store_copy(machine: &mut Machine, base: u64, at: Loc, copy: u32, ty: &FfiType, value: &Value)
+// Stores an argument by reference, by way of `bytes`, which are as many as it has: a copy of the value `copy` bytes from `base` on, and the copy's address in a place. The copy's padding keeps what stood there.
+fn store_copy(
+    machine: &mut Machine,
+    base: u64,
+    at: Loc,
+    copy: u32,
+    ty: &FfiType,
+    value: &Value,
+    bytes: &mut [u8],
+)
     requires low { STACK ≤ base }
     requires high { base + copy + size_of (tree_of ty.now) ≤ STACK_TOP }
     requires lies { IsPlace (STACK_TOP - base) at }
     requires writable { IsWritable machine.old.target at }
     requires apart { AllByRecursion (Apart at) (stack_words_for copy (tree_of ty.now)) }
-    requires right { IsResultType (tree_of ty.now) }
+    requires right { IsLaidOut (tree_of ty.now) }
     requires fits { fits (tree_of ty.now) (value_of value.now) ≡ true }
+    requires sized { length bytes.old ≡ size_of (tree_of ty.now) }
     ensures { IsCopied base (tree_of ty.now) (value_of value.now) at copy machine.old machine.new }
 {
     // its contract tells what is true of every machine
     let _m = machine.sp();
     let start = base + copy as u64;
     let size = size_of(ty);
-    let mut room = [0; LARGEST_STRUCT as usize];
-    let bytes = &mut room[..size as usize];
     bytes.copy_from_slice(machine.lend_stack(start, size));
     write_bytes(ty, value, bytes);
     machine.store_stack(start, bytes);
     put_word(machine, base, at, start);
+}
+
+// Stores an argument at its place, by way of `bytes`, which are as many as it has.
+fn store_place_by(
+    machine: &mut Machine,
+    base: u64,
+    place: &Place,
+    runs: &Runs,
+    ty: &FfiType,
+    value: &Value,
+    bytes: &mut [u8],
+)
+    requires low { STACK ≤ base }
+    requires high { base ≤ STACK_TOP }
+    requires lies { PlaceLies (STACK_TOP - base) (tree_of ty.now) place.now }
+    requires writable { AllByRecursion (IsWritable machine.old.target) (place_locs place.now) }
+    requires apart { AreApart (place_uses (tree_of ty.now) place.now) }
+    requires has_all { PlaceHasAll (tree_of ty.now) place.now }
+    requires runs { AreRunsOf (pieces_of place.now) runs.now }
+    requires right { IsLaidOut (tree_of ty.now) }
+    requires fits { fits (tree_of ty.now) (value_of value.now) ≡ true }
+    requires sized { length bytes.old ≡ size_of (tree_of ty.now) }
+    ensures stands { PlaceStands base machine.new (tree_of ty.now) (value_of value.now) place.now }
+    ensures unused { PlaceKeepsUnused base (tree_of ty.now) machine.old machine.new place.now }
+    ensures stays { Stays base (place_uses (tree_of ty.now) place.now) machine.old machine.new }
+    ensures within { (room : ℕ) → PlaceLies room (tree_of ty.now) place.now → WroteWithin base (base + room) machine.old machine.new }
+{
+    match place {
+        Place::Direct(pieces) => store_direct(machine, base, pieces, runs, ty, value, bytes),
+        Place::ByRef { at, copy } => store_copy(machine, base, *at, *copy, ty, value, bytes),
+    }
 }
 
 /// Stores an argument at its place. What no leaf of it has keeps what stood there. Stack places count from the address `base`.
@@ -339,16 +412,20 @@ pub fn store_place(
     requires apart { AreApart (place_uses (tree_of ty.now) place.now) }
     requires has_all { PlaceHasAll (tree_of ty.now) place.now }
     requires runs { AreRunsOf (pieces_of place.now) runs.now }
-    requires right { IsResultType (tree_of ty.now) }
+    requires right { IsLaidOut (tree_of ty.now) }
     requires fits { fits (tree_of ty.now) (value_of value.now) ≡ true }
     ensures stands { PlaceStands base machine.new (tree_of ty.now) (value_of value.now) place.now }
     ensures unused { PlaceKeepsUnused base (tree_of ty.now) machine.old machine.new place.now }
     ensures stays { Stays base (place_uses (tree_of ty.now) place.now) machine.old machine.new }
     ensures within { (room : ℕ) → PlaceLies room (tree_of ty.now) place.now → WroteWithin base (base + room) machine.old machine.new }
 {
-    match place {
-        Place::Direct(pieces) => store_direct(machine, base, pieces, runs, ty, value),
-        Place::ByRef { at, copy } => store_copy(machine, base, *at, *copy, ty, value),
+    let size = size_of(ty) as usize;
+    if size <= SMALL {
+        let mut room = [0; SMALL];
+        store_place_by(machine, base, place, runs, ty, value, &mut room[..size]);
+    } else {
+        let mut room = [0; LARGEST_TYPE as usize];
+        store_place_by(machine, base, place, runs, ty, value, &mut room[..size]);
     }
 }
 

@@ -3,7 +3,7 @@ ghost use Rattle.std.specs.Prelude.{◌≡◌, ◌-◌, ◌≤◌, length, true}
 ghost use Rattle.std.specs.List.{AllByRecursion};
 ghost use Rattle.ffi3_type_rules.specs.declared.limits.TheConstants.{STACK, STACK_TOP};
 ghost use Rattle.ffi3_type_rules.specs.Layout.{size_of};
-ghost use Rattle.ffi3_type_rules.specs.Fault.{IsResultType};
+ghost use Rattle.ffi3_type_rules.specs.Fault.{IsLaidOut};
 ghost use Rattle.ffi3_type_rules.specs.Value.{fits};
 ghost use Rattle.ffi3_types.specs.TreeOf.{tree_of};
 ghost use Rattle.ffi3_values.specs.ValueOf.{value_of};
@@ -27,7 +27,7 @@ fn store_run(
     requires low { STACK ≤ base }
     requires high { base ≤ STACK_TOP }
     requires lies { RunLies (STACK_TOP - base) (size_of (tree_of ty.now)) run }
-    requires right { IsResultType (tree_of ty.now) }
+    requires right { IsLaidOut (tree_of ty.now) }
     requires fits { fits (tree_of ty.now) (value_of value.now) ≡ true }
     requires sized { length bytes.old ≡ size_of (tree_of ty.now) }
     ensures stored { IsRunStored base (tree_of ty.now) (value_of value.now) run machine.old machine.new }
@@ -56,7 +56,7 @@ pub fn store_runs(
     requires high { base ≤ STACK_TOP }
     requires lie { AllByRecursion (RunLies (STACK_TOP - base) (size_of (tree_of ty.now))) runs.now }
     requires rising { Neighbours Rises runs.now }
-    requires right { IsResultType (tree_of ty.now) }
+    requires right { IsLaidOut (tree_of ty.now) }
     requires fits { fits (tree_of ty.now) (value_of value.now) ≡ true }
     requires sized { length bytes.old ≡ size_of (tree_of ty.now) }
     ensures stored { AreRunsStored base (tree_of ty.now) (value_of value.now) runs.now machine.old machine.new }

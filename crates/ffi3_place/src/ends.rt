@@ -1,8 +1,8 @@
 // Where things begin and end in the frame of a call, and the plan that ends with them: alike by every standard.
 ghost use Rattle.std.specs.Prelude.{◌<◌, ◌^◌, ◌≡◌, ◌≤◌, ◌+◌, ℕ, true};
-ghost use Rattle.ffi3_type_rules.specs.declared.limits.TheConstants.{ARGUMENT_SPAN, LARGEST_GAP, LARGEST_STRUCT, STACK_BYTES};
+ghost use Rattle.ffi3_type_rules.specs.declared.limits.TheConstants.{ARGUMENT_SPAN, LARGEST_GAP, LARGEST_TYPE, STACK_BYTES};
 ghost use Rattle.ffi3_type_rules.specs.Tree.{Tree};
-ghost use Rattle.ffi3_type_rules.specs.Fault.{IsResultType};
+ghost use Rattle.ffi3_type_rules.specs.Fault.{IsLaidOut};
 ghost use Rattle.ffi3_type_rules.specs.Signature.{SignatureHasNoFault};
 ghost use Rattle.ffi3_types.specs.TreeOf.{tree_of};
 ghost use Rattle.ffi3_place_rules.specs.Standard.{Spot, ResultSpot, start, place_at, copy_end, result_at, buffer_end};
@@ -15,7 +15,7 @@ use ffi3_types::{FfiType, Sig};
 
 /// Where something of a type begins, after the end of what stands before it: at the next multiple of the type's alignment, and of eight bytes at least.
 pub fn start(ty: &FfiType, end: u64) -> u64
-    requires right { IsResultType (tree_of ty.now) }
+    requires right { IsLaidOut (tree_of ty.now) }
     requires low { end < 2 ^ 32 }
     ensures value { result ≡ start end (tree_of ty.now) }
     ensures near { result ≤ end + LARGEST_GAP }
@@ -25,7 +25,7 @@ pub fn start(ty: &FfiType, end: u64) -> u64
 
 /// Where an argument's copy ends. Without one, that is `end`, where what stands before it ends.
 pub fn copy_end(place: &Place, ty: &FfiType, end: u64) -> u64
-    requires { IsResultType (tree_of ty.now) }
+    requires { IsLaidOut (tree_of ty.now) }
     ensures value { (begin : ℕ → Tree → ℕ) (spot : Spot) → place.now ≡ place_at begin end (tree_of ty.now) spot → result ≡ copy_end begin end (tree_of ty.now) spot }
     ensures low { (begin : ℕ → Tree → ℕ) (spot : Spot) → place.now ≡ place_at begin end (tree_of ty.now) spot → begin end (tree_of ty.now) ≤ end + LARGEST_GAP → result ≤ end + ARGUMENT_SPAN }
 {
@@ -37,10 +37,10 @@ pub fn copy_end(place: &Place, ty: &FfiType, end: u64) -> u64
 
 /// Where the buffer of a hidden result ends. Without one, that is `end`, where what stands before it ends.
 pub fn buffer_end(res: &Res, ty: &FfiType, end: u64) -> u64
-    requires right { IsResultType (tree_of ty.now) }
+    requires right { IsLaidOut (tree_of ty.now) }
     requires low { end < 2 ^ 32 }
     ensures value { (begin : ℕ → Tree → ℕ) (spot : ResultSpot) → res.now ≡ result_at begin end (tree_of ty.now) spot → result ≡ buffer_end begin end (tree_of ty.now) spot }
-    ensures low { result < 2 ^ 32 + (LARGEST_STRUCT + 7) }
+    ensures low { result < 2 ^ 32 + (LARGEST_TYPE + 7) }
 {
     match res {
         Res::Nothing => end,
@@ -52,7 +52,7 @@ pub fn buffer_end(res: &Res, ty: &FfiType, end: u64) -> u64
 /// The plan of a call from its places: the last copy or buffer ends at `end`, and the return address and the callee's save area take `area` bytes.
 pub fn planned(sig: &Sig, places: Places, res: Res, end: u64, area: u64, vectors: u8) -> Plan
     requires right { SignatureHasNoFault sig.now }
-    requires low { end < 2 ^ 32 + (LARGEST_STRUCT + 7) }
+    requires low { end < 2 ^ 32 + (LARGEST_TYPE + 7) }
     requires small { area ≤ STACK_BYTES }
     ensures { result ≡ planned sig.now places res end area vectors }
 {

@@ -1,11 +1,11 @@
 // The parts of a signature without fault, and the pieces of its values, as every standard needs them.
 ghost use Rattle.std.specs.Prelude.{◌≡◌, ◌<◌, ◌≤◌, ◌*◌, length, IfOk, true};
 ghost use Rattle.std.specs.List.{sum_by};
-ghost use Rattle.ffi3_type_rules.specs.declared.limits.TheConstants.{ARGUMENT_BYTES, LARGEST_STRUCT};
+ghost use Rattle.ffi3_type_rules.specs.declared.limits.TheConstants.{ARGUMENT_BYTES, LARGEST_TYPE, MOST_ARGUMENTS};
 ghost use Rattle.ffi3_type_rules.specs.Tree.{Scalar, scalar, tree_at};
 ghost use Rattle.ffi3_type_rules.specs.Layout.{size_of, leaves_of, leaf_at};
 ghost use Rattle.ffi3_type_rules.specs.Integer.{is_floating};
-ghost use Rattle.ffi3_type_rules.specs.Fault.{IsResultType};
+ghost use Rattle.ffi3_type_rules.specs.Fault.{IsLaidOut};
 ghost use Rattle.ffi3_type_rules.specs.Signature.{SignatureHasNoFault};
 ghost use Rattle.ffi3_types.specs.TreeOf.{tree_of};
 ghost use Rattle.ffi3_place_rules.specs.Standard.{doubleword, round8};
@@ -22,7 +22,7 @@ use std::alloc::Global;
 pub fn count_of(sig: &Sig) -> u32
     requires { SignatureHasNoFault sig.now }
     ensures value { result ≡ length sig.now.arguments }
-    ensures few { result ≤ 64 }
+    ensures few { result ≤ MOST_ARGUMENTS }
 {
     sig.count()
 }
@@ -32,7 +32,7 @@ pub fn argument(sig: &Sig, i: u32) -> &FfiType
     requires right { SignatureHasNoFault sig.now }
     requires within { i < length sig.now.arguments }
     ensures element { tree_of result.now ≡ tree_at sig.now.arguments i }
-    ensures right { IsResultType (tree_of result.now) }
+    ensures right { IsLaidOut (tree_of result.now) }
 {
     sig.arg(i)
 }
@@ -41,7 +41,7 @@ pub fn argument(sig: &Sig, i: u32) -> &FfiType
 pub fn result_type(sig: &Sig) -> &FfiType
     requires { SignatureHasNoFault sig.now }
     ensures element { tree_of result.now ≡ sig.now.result_type }
-    ensures right { IsResultType (tree_of result.now) }
+    ensures right { IsLaidOut (tree_of result.now) }
 {
     sig.ret()
 }
@@ -63,18 +63,18 @@ pub fn sizes_of(sig: &Sig) -> u64
 
 /// The size of a type without fault, in bytes.
 pub fn size_of(ty: &FfiType) -> u64
-    requires { IsResultType (tree_of ty.now) }
+    requires { IsLaidOut (tree_of ty.now) }
     ensures value { result ≡ size_of (tree_of ty.now) }
-    ensures small { result ≤ LARGEST_STRUCT }
+    ensures small { result ≤ LARGEST_TYPE }
 {
     ty.size()
 }
 
 /// How many doublewords a value takes. The last has what is left where the size is no multiple of 8.
 pub fn doublewords(ty: &FfiType) -> u64
-    requires { IsResultType (tree_of ty.now) }
+    requires { IsLaidOut (tree_of ty.now) }
     ensures value { result ≡ doublewords (tree_of ty.now) }
-    ensures few { result ≤ 128 }
+    ensures few { 8 * result ≤ LARGEST_TYPE }
 {
     (size_of(ty) + 7) / 8
 }
@@ -106,13 +106,13 @@ pub fn widening(ty: &FfiType) -> Ext
 
 // ---- pieces
 
-/// Doubleword `j` of a value, in its place: 8 bytes, or what is left of the value. `ext` fills the rest of the place.
-pub fn doubleword(ty: &FfiType, j: u64, loc: Loc, ext: Ext) -> Piece
-    requires right { IsResultType (tree_of ty.now) }
-    requires within { 8 * j < size_of (tree_of ty.now) }
-    ensures { result ≡ doubleword loc j (size_of (tree_of ty.now)) ext }
+/// Doubleword `j` of a value of so many bytes, in its place: 8 bytes, or what is left of the value. `ext` fills the rest of the place.
+pub fn doubleword(size: u64, j: u64, loc: Loc, ext: Ext) -> Piece
+    requires small { size ≤ LARGEST_TYPE }
+    requires within { 8 * j < size }
+    ensures { result ≡ doubleword loc j size ext }
 {
-    let left = size_of(ty) - 8 * j;
+    let left = size - 8 * j;
     Piece {
         loc,
         off: (8 * j) as u32,
@@ -123,7 +123,7 @@ pub fn doubleword(ty: &FfiType, j: u64, loc: Loc, ext: Ext) -> Piece
 
 /// Leaf `i` of a value, in its place, whose rest `ext` fills.
 pub fn leaf_piece(ty: &FfiType, i: u32, loc: Loc, ext: Ext) -> Piece
-    requires right { IsResultType (tree_of ty.now) }
+    requires right { IsLaidOut (tree_of ty.now) }
     requires in_range { i < length (leaves_of (tree_of ty.now)) }
     ensures { result ≡ leaf_piece loc ext (leaf_at (tree_of ty.now) i) }
 {
@@ -139,14 +139,16 @@ pub fn leaf_piece(ty: &FfiType, i: u32, loc: Loc, ext: Ext) -> Piece
 
 /// A value's doublewords on the stack, from byte `start` of the stack arguments on. A narrow integer is extended by its sign.
 pub fn pieces_on_stack(alloc: Global, ty: &FfiType, start: u64) -> Result<Pieces, NoMemory>
-    requires right { IsResultType (tree_of ty.now) }
+    requires right { IsLaidOut (tree_of ty.now) }
     requires low { start ≤ 2 * ARGUMENT_BYTES }
     ensures { IfOk result (λ p. p ≡ stack_pieces start (tree_of ty.now)) }
 {
     let ext = widening(ty);
+    // asked for once: it is found by a walk over all elements
+    let size = size_of(ty);
     let mut pieces = Pieces::new(alloc);
     for j in 0..doublewords(ty) {
-        pieces.push(doubleword(ty, j, Loc::S((start + 8 * j) as u32), ext))?;
+        pieces.push(doubleword(size, j, Loc::S((start + 8 * j) as u32), ext))?;
     }
     Ok(pieces)
 }

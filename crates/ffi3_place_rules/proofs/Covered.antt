@@ -1,8 +1,8 @@
 -- Pieces that have each byte of a value have each byte of its leaves.
-use Rattle.std.proofs.Common.{ℕ, zero, suc, ◌+◌, ◌<◌, ◌≤◌, List, [], ◌∷◌, ◌++◌, map, length, arith}
+use Rattle.std.proofs.Common.{◌≡◌, ℕ, zero, suc, ◌+◌, ◌*◌, ◌<◌, ◌≤◌, List, [], ◌∷◌, ◌++◌, map, length, arith}
 use Rattle.std.specs.List.{AllByRecursion, Any}
-use Rattle.ffi3_type_rules.specs.Tree.{Tree, void, scalar, left_out, structure, Trees, no_trees, tree}
-use Rattle.ffi3_type_rules.specs.Layout.{Leaf, Layout, layouts, element, start_of, end_before, align_before, leaves_before, moved, leaves_of, size_of, scalar_size}
+use Rattle.ffi3_type_rules.specs.Tree.{Tree, void, scalar, left_out, structure, array, Trees, no_trees, tree}
+use Rattle.ffi3_type_rules.specs.Layout.{Leaf, Layout, layouts, element, start_of, end_before, align_before, leaves_before, repeated, moved, leaves_of, size_of, scalar_size}
 use Rattle.ffi3_type_rules.proofs.Layouts.{least_multiple-above}
 use Rattle.ffi3_place_rules.specs.declared.Piece.{Piece}
 use Rattle.ffi3_place_rules.specs.Holds.{Carries}
@@ -29,6 +29,14 @@ leaves_before_end es h (suc i) =
     let last = all_moved (start_of es i) (element es i).size (end_before es (suc i)) (element es i).leaves (omega arith) (h i) in
     all_append (end_before es (suc i)) (leaves_before es i) (map (moved (start_of es i)) (element es i).leaves) earlier last
 
+repeated_end : (l : Layout) → AllByRecursion (EndsIn l.size) l.leaves → (n : ℕ) → AllByRecursion (EndsIn (n * l.size)) (repeated l n)
+repeated_end l h zero = tt
+repeated_end l h (suc n) =
+    let start = n * l.size in
+    let more : suc n * l.size ≡ start + l.size = omega arith in
+    let earlier = each_weaker (EndsIn start) (EndsIn (suc n * l.size)) (λ k e. omega (arith, e, more)) (repeated l n) (repeated_end l h n) in
+    all_append (suc n * l.size) (repeated l n) (map (moved start) l.leaves) earlier (all_moved start l.size (suc n * l.size) l.leaves (omega (arith, more)) h)
+
 mutual
   pub leaves_end : (t : Tree) → AllByRecursion (EndsIn (size_of t)) (leaves_of t)
   leaves_end void = tt
@@ -38,6 +46,7 @@ mutual
       let es = layouts ts in
       let rounded = least_multiple-above (align_before es (length es)) (end_before es (length es)) in
       each_weaker (EndsIn (end_before es (length es))) (EndsIn (size_of (structure ts))) (λ l e. omega (arith, e, rounded)) (leaves_of (structure ts)) (leaves_before_end es (elements_end ts) (length es))
+  leaves_end (array ts n) = repeated_end (element (layouts ts) 0) (elements_end ts 0) n
 
   elements_end : (ts : Trees) (k : ℕ) → AllByRecursion (EndsIn (element (layouts ts) k).size) (element (layouts ts) k).leaves
   elements_end no_trees k = tt

@@ -1,12 +1,13 @@
 -- An image that owns two value lists of one signature, whose leaves all stand in pieces, shows that they are equal.
-use Rattle.std.proofs.Common.{◌≡◌, ℕ, zero, suc, ◌+◌, ◌-◌, ◌<◌, true, List, [], ◌∷◌, ◌++◌, map, get_or, length, subst, sym, ◌∙◌, ap, refl, arith, append-nil, append_assoc}
+use Rattle.std.proofs.Common.{◌≡◌, ℕ, zero, suc, ◌+◌, ◌-◌, ◌<◌, true, List, [], ◌∷◌, ◌++◌, map, replicate, get_or, length, subst, sym, ◌∙◌, ap, refl, arith, append-nil, append_assoc}
 use Rattle.std.specs.List.{AllByRecursion}
 use Rattle.std.proofs.lemmas.List.{ext_get_or}
 use Rattle.std.proofs.lemmas.Bool.Decides.{nat_tests}
-use Rattle.ffi3_type_rules.specs.Tree.{Tree, void, scalar, left_out, structure, Trees, no_trees, tree}
+use Rattle.ffi3_type_rules.specs.Tree.{Tree, void, scalar, left_out, structure, array, Trees, no_trees, tree, trees_of}
 use Rattle.ffi3_type_rules.specs.Layout.{Leaf, Layout, layouts, element, start_of, leaves_before, moved, leaves_of, scalar_size}
 use Rattle.ffi3_type_rules.specs.Signature.{Signature}
 use Rattle.ffi3_type_rules.specs.Value.{ValueTree, void_value, leaf_value, struct_value, ValueTrees, no_values, value, fits, all_fit}
+use Rattle.ffi3_type_rules.proofs.Arrays.{array_leaves}
 use Rattle.ffi3_place_rules.specs.declared.Piece.{Piece}
 use Rattle.ffi3_place_rules.specs.declared.Place.{Place}
 use Rattle.ffi3_place_rules.specs.declared.Place.TheVariants.{Direct, ByRef}
@@ -39,6 +40,14 @@ mutual
   bytes_determine (structure ts) (struct_value vs) (leaf_value c) xs ys fv fw e = cc
   bytes_determine (structure ts) (struct_value vs) (struct_value ws) xs ys fv fw e =
       let both = all_bytes_determine ts vs ws xs ys fv fw e in
+      (ap struct_value both.0, both.1)
+  bytes_determine (array no_trees n) v w xs ys fv fw e = cc
+  bytes_determine (array (tree t ts) n) void_value w xs ys fv fw e = cc
+  bytes_determine (array (tree t ts) n) (leaf_value b) w xs ys fv fw e = cc
+  bytes_determine (array (tree t ts) n) (struct_value vs) void_value xs ys fv fw e = cc
+  bytes_determine (array (tree t ts) n) (struct_value vs) (leaf_value c) xs ys fv fw e = cc
+  bytes_determine (array (tree t ts) n) (struct_value vs) (struct_value ws) xs ys fv fw e =
+      let both = all_bytes_determine (trees_of (replicate n t)) vs ws xs ys fv fw e in
       (ap struct_value both.0, both.1)
 
   all_bytes_determine : (ts : Trees) (vs ws : ValueTrees) (xs ys : List (List ℕ)) → all_fit ts vs ≡ true → all_fit ts ws ≡ true → all_leaf_bytes vs ++ xs ≡ all_leaf_bytes ws ++ ys → (vs ≡ ws) × (xs ≡ ys)
@@ -105,6 +114,12 @@ mutual
   lengths_fit (structure ts) void_value f = cc
   lengths_fit (structure ts) (leaf_value b) f = cc
   lengths_fit (structure ts) (struct_value vs) f = all_lengths_fit ts vs f ∙ sym (sizes_of_all (layouts ts))
+  lengths_fit (array no_trees n) v f = cc
+  lengths_fit (array (tree t ts) n) void_value f = cc
+  lengths_fit (array (tree t ts) n) (leaf_value b) f = cc
+  lengths_fit (array (tree t ts) n) (struct_value vs) f =
+      let us = trees_of (replicate n t) in
+      all_lengths_fit us vs f ∙ sym (sizes_of_all (layouts us)) ∙ ap sizes (sym (array_leaves (tree t ts) n))
 
   all_lengths_fit : (ts : Trees) (vs : ValueTrees) → all_fit ts vs ≡ true → map length (all_leaf_bytes vs) ≡ all_sizes (layouts ts)
   all_lengths_fit no_trees no_values f = refl

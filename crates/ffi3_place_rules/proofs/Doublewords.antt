@@ -2,7 +2,7 @@
 use Rattle.std.proofs.Common.{◌≡◌, ℕ, zero, suc, ◌+◌, ◌-◌, ◌*◌, ◌/◌, ◌<◌, ◌≤◌, true, List, [], ◌∷◌, ◌++◌, ap, sym, ◌∙◌, refl, arith, subst, append_assoc, ⊎_elim}
 use Rattle.std.specs.List.{AllByRecursion, Any}
 use Rattle.std.proofs.lemmas.Bool.{cases_lt}
-use Rattle.ffi3_type_rules.specs.Tree.{Tree, void, scalar, left_out, structure, Scalar, u8, s8, u16, s16, u32, s32}
+use Rattle.ffi3_type_rules.specs.Tree.{Tree, void, scalar, left_out, structure, Scalar, u8, s8, u16, s16, u32, s32, array}
 use Rattle.ffi3_type_rules.specs.Layout.{Leaf, size_of, scalar_size, least_multiple}
 use Rattle.ffi3_place_rules.specs.declared.Loc.{Loc}
 use Rattle.ffi3_place_rules.specs.declared.Loc.TheVariants.{S}
@@ -42,6 +42,7 @@ filling_suits e suits void l j h = tt
 filling_suits e suits (scalar s) l j h = filled_scalar e suits s l j h
 filling_suits e suits (left_out k) l j h = tt
 filling_suits e suits (structure ts) l j h = tt
+filling_suits e suits (array ts n) l j h = tt
 
 pub widening_suits : (t : Tree) → SuitsDoublewords t (widening t)
 widening_suits t = filling_suits Widen (λ u p h. h) t

@@ -1,7 +1,7 @@
 -- Pieces that are filled as the standard says: doublewords of one value, and references.
 use Rattle.std.proofs.Common.{◌≡◌, ℕ, zero, suc, ◌+◌, true, false, refl}
 use Rattle.std.specs.List.{AllByRecursion}
-use Rattle.ffi3_type_rules.specs.Tree.{Tree, void, scalar, left_out, structure, u8, s8, u16, s16, u32, s32, u64, s64, u128, s128, float, double, pointer}
+use Rattle.ffi3_type_rules.specs.Tree.{Tree, void, scalar, left_out, structure, u8, s8, u16, s16, u32, s32, u64, s64, u128, s128, float, double, pointer, array}
 use Rattle.ffi3_type_rules.specs.Layout.{size_of}
 use Rattle.ffi3_place_rules.specs.declared.Loc.{Loc}
 use Rattle.ffi3_place_rules.specs.declared.Ext.{Ext}
@@ -14,6 +14,7 @@ pub narrow_filling : (e : Ext) (t : Tree) → is_narrow_integer t ≡ true → f
 narrow_filling e void h = cc
 narrow_filling e (left_out k) h = cc
 narrow_filling e (structure ts) h = cc
+narrow_filling e (array ts n) h = cc
 narrow_filling e (scalar u8) h = refl
 narrow_filling e (scalar s8) h = refl
 narrow_filling e (scalar u16) h = refl

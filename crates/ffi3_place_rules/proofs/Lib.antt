@@ -14,3 +14,4 @@ pub mod Worked
 pub mod Ends
 pub mod Copies
 pub mod Planned
+pub mod Alike

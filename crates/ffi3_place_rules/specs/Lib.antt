@@ -1,5 +1,6 @@
 pub mod Isa
 pub mod Standard
+pub mod Alike
 pub mod Image
 pub mod Event
 pub mod Holds

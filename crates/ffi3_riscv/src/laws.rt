@@ -1,4 +1,6 @@
 // What the places of every call keep, for callers to cite.
+ghost use Rattle.ffi3_place_rules.specs.Alike.{GoesByLayout};
+ghost use Rattle.ffi3_riscv_rules.specs.Riscv.{riscv};
 ghost use Rattle.ffi3_riscv_rules.specs.Ends.{IsPlacedByEnds};
 
 use ffi3_types::Sig;
@@ -6,7 +8,9 @@ use ffi3_types::Sig;
 /// Does nothing. Its contract says where everything stands by where the arguments before each end:
 /// which are in registers and in which, where stack arguments, copies and the buffer begin, what the
 /// stack arguments, the frame and the whole call take; and that no other way to pass the arguments
-/// meets these ends.
+/// meets these ends. And that structs of equal layout are placed alike, as one with an array and
+/// one with its elements there.
 pub fn placement_laws(_sig: &Sig)
-    ensures { IsPlacedByEnds _sig.now }
+    ensures ends { IsPlacedByEnds _sig.now }
+    ensures by_layout { GoesByLayout riscv }
 {}

@@ -6,7 +6,7 @@ ghost use Rattle.ffi3_type_rules.specs.declared.limits.TheConstants.{ARGUMENT_BY
 ghost use Rattle.ffi3_type_rules.specs.Tree.{Scalar, scalar};
 ghost use Rattle.ffi3_type_rules.specs.Layout.{size_of, leaves_of, leaf_at};
 ghost use Rattle.ffi3_type_rules.specs.Integer.{is_floating};
-ghost use Rattle.ffi3_type_rules.specs.Fault.{IsResultType};
+ghost use Rattle.ffi3_type_rules.specs.Fault.{IsLaidOut};
 ghost use Rattle.ffi3_type_rules.specs.Signature.{SignatureHasNoFault};
 ghost use Rattle.ffi3_types.specs.TreeOf.{tree_of};
 ghost use Rattle.ffi3_place_rules.specs.Standard.{place_at, copy_end, places_from, copies_end, result_at, buffer_end, round8};
@@ -39,14 +39,14 @@ fn integer(kind: &FfiType) -> bool
         FfiType::U128 | FfiType::S128 => false,
         FfiType::Pointer => false,
         FfiType::Float | FfiType::Double => false,
-        FfiType::Void | FfiType::Struct(_) => false,
+        FfiType::Void | FfiType::Struct(_) | FfiType::Array(_, _) => false,
         FfiType::LongDouble | FfiType::Complex | FfiType::Vector => false,
     }
 }
 
 /// Whether leaf `i` is a float or a double.
 fn is_floating_leaf(ty: &FfiType, i: u32) -> bool
-    requires right { IsResultType (tree_of ty.now) }
+    requires right { IsLaidOut (tree_of ty.now) }
     requires in_range { i < length (leaves_of (tree_of ty.now)) }
     ensures { result ≡ is_floating (leaf_at (tree_of ty.now) i).kind }
 {
@@ -56,7 +56,7 @@ fn is_floating_leaf(ty: &FfiType, i: u32) -> bool
 
 /// Whether leaf `i` is such an integer.
 fn is_integer_leaf(ty: &FfiType, i: u32) -> bool
-    requires right { IsResultType (tree_of ty.now) }
+    requires right { IsLaidOut (tree_of ty.now) }
     requires in_range { i < length (leaves_of (tree_of ty.now)) }
     ensures { result ≡ is_word_integer (leaf_at (tree_of ty.now) i).kind }
 {
@@ -66,7 +66,7 @@ fn is_integer_leaf(ty: &FfiType, i: u32) -> bool
 
 /// How a value is passed by the integer convention: in at most two words, or by reference.
 fn integer_shape(ty: &FfiType) -> Shape
-    requires { IsResultType (tree_of ty.now) }
+    requires { IsLaidOut (tree_of ty.now) }
     ensures { result ≡ integer_shape (tree_of ty.now) }
 {
     if size_of(ty) <= 16 {
@@ -77,7 +77,7 @@ fn integer_shape(ty: &FfiType) -> Shape
 }
 
 fn shape_of_one(ty: &FfiType) -> Shape
-    requires right { IsResultType (tree_of ty.now) }
+    requires right { IsLaidOut (tree_of ty.now) }
     requires one { length (leaves_of (tree_of ty.now)) ≡ 1 }
     ensures { result ≡ shape_of (tree_of ty.now) }
 {
@@ -89,7 +89,7 @@ fn shape_of_one(ty: &FfiType) -> Shape
 }
 
 fn shape_of_two(ty: &FfiType) -> Shape
-    requires right { IsResultType (tree_of ty.now) }
+    requires right { IsLaidOut (tree_of ty.now) }
     requires two { length (leaves_of (tree_of ty.now)) ≡ 2 }
     ensures { result ≡ shape_of (tree_of ty.now) }
 {
@@ -106,7 +106,7 @@ fn shape_of_two(ty: &FfiType) -> Shape
 
 /// How a fixed argument or a result is passed where enough registers are free. (RISC-V ELF psABI, "Hardware Floating-point Calling Convention")
 pub fn shape_of(ty: &FfiType) -> Shape
-    requires { IsResultType (tree_of ty.now) }
+    requires { IsLaidOut (tree_of ty.now) }
     ensures { result ≡ shape_of (tree_of ty.now) }
 {
     let count = ty.leaf_count();
@@ -166,7 +166,7 @@ fn registers_suffice(before: Used, shape: Shape) -> bool
 
 /// How an argument is passed, by what is used where it begins.
 fn passed_as(before: Used, fixed: bool, ty: &FfiType) -> Shape
-    requires right { IsResultType (tree_of ty.now) }
+    requires right { IsLaidOut (tree_of ty.now) }
     requires few { before.floats ≤ 8 }
     requires low { before.words ≤ 16 * MOST_ARGUMENTS }
     ensures value { result ≡ passed_as before fixed (tree_of ty.now) }
@@ -183,7 +183,7 @@ fn passed_as(before: Used, fixed: bool, ty: &FfiType) -> Shape
 
 /// Whether an argument begins at an even word, behind words that end at `end`.
 fn is_at_even_word(fixed: bool, ty: &FfiType, end: u64) -> bool
-    requires { IsResultType (tree_of ty.now) }
+    requires { IsLaidOut (tree_of ty.now) }
     ensures { result ≡ is_at_even_word fixed (tree_of ty.now) end }
 {
     16 <= ty.align() && size_of(ty) <= 16 && (!fixed || 8 <= end)
@@ -191,7 +191,7 @@ fn is_at_even_word(fixed: bool, ty: &FfiType, end: u64) -> bool
 
 /// Where an argument's words begin, behind words that end at `end`.
 fn first_word(fixed: bool, ty: &FfiType, end: u64) -> u64
-    requires right { IsResultType (tree_of ty.now) }
+    requires right { IsLaidOut (tree_of ty.now) }
     requires low { end ≤ 16 * MOST_ARGUMENTS }
     ensures value { result ≡ first_word fixed (tree_of ty.now) end }
     ensures near { result ≤ end + 1 }
@@ -205,7 +205,7 @@ fn first_word(fixed: bool, ty: &FfiType, end: u64) -> u64
 
 /// What is used where an argument begins, behind others.
 fn at_start(end: Used, fixed: bool, ty: &FfiType) -> Used
-    requires right { IsResultType (tree_of ty.now) }
+    requires right { IsLaidOut (tree_of ty.now) }
     requires low { end.words ≤ 16 * MOST_ARGUMENTS }
     ensures value { result ≡ used_at_start end fixed (tree_of ty.now) }
     ensures near { result.words ≤ end.words + 1 }
@@ -258,30 +258,31 @@ fn boxed(kind: &FfiType) -> Ext
         FfiType::U8 | FfiType::S8 | FfiType::U16 | FfiType::S16 => Ext::Free,
         FfiType::U32 | FfiType::S32 | FfiType::U64 | FfiType::S64 => Ext::Free,
         FfiType::U128 | FfiType::S128 => Ext::Free,
-        FfiType::Void | FfiType::Struct(_) => Ext::Free,
+        FfiType::Void | FfiType::Struct(_) | FfiType::Array(_, _) => Ext::Free,
         FfiType::LongDouble | FfiType::Complex | FfiType::Vector => Ext::Free,
     }
 }
 
 /// A value's doublewords, in the stream of words from number `first` on.
 fn word_pieces(alloc: Global, ty: &FfiType, first: u64, count: u64) -> Result<Pieces, NoMemory>
-    requires right { IsResultType (tree_of ty.now) }
+    requires right { IsLaidOut (tree_of ty.now) }
     requires low { first ≤ 16 * MOST_ARGUMENTS }
     requires all { count ≡ doublewords (tree_of ty.now) }
     requires few { count ≤ 2 }
     ensures { IfOk result (λ p. p ≡ word_pieces first (tree_of ty.now) count) }
 {
     let ext = extended(ty);
+    let size = size_of(ty);
     let mut pieces = Pieces::new(alloc);
     for j in 0..count {
-        pieces.push(doubleword(ty, j, word(first + j), ext))?;
+        pieces.push(doubleword(size, j, word(first + j), ext))?;
     }
     Ok(pieces)
 }
 
 /// Leaf `i` in floating register fa`number`.
 fn floating_piece(ty: &FfiType, i: u32, number: u64) -> Piece
-    requires right { IsResultType (tree_of ty.now) }
+    requires right { IsLaidOut (tree_of ty.now) }
     requires in_range { i < length (leaves_of (tree_of ty.now)) }
     requires few { number ≤ 7 }
     ensures { result ≡ floating_piece number (leaf_at (tree_of ty.now) i) }
@@ -292,7 +293,7 @@ fn floating_piece(ty: &FfiType, i: u32, number: u64) -> Piece
 
 /// Leaf `i` in integer register a`number`.
 fn integer_piece(ty: &FfiType, i: u32, number: u64) -> Piece
-    requires right { IsResultType (tree_of ty.now) }
+    requires right { IsLaidOut (tree_of ty.now) }
     requires in_range { i < length (leaves_of (tree_of ty.now)) }
     requires few { number ≤ 7 }
     ensures { result ≡ integer_piece number (leaf_at (tree_of ty.now) i) }
@@ -325,7 +326,7 @@ fn place_of(
     shape: Shape,
     end: u64,
 ) -> Result<Place, NoMemory>
-    requires right { IsResultType (tree_of ty.now) }
+    requires right { IsLaidOut (tree_of ty.now) }
     requires suits { Suits (size_of (tree_of ty.now)) (leaves_of (tree_of ty.now)) shape }
     requires room { HasRoom before shape }
     requires low { before.words ≤ 16 * MOST_ARGUMENTS }
@@ -377,7 +378,7 @@ const UNUSED: Used = Used {
 
 /// A result is returned as a first named argument would be passed.
 fn result_shape(ty: &FfiType) -> Shape
-    requires { IsResultType (tree_of ty.now) }
+    requires { IsLaidOut (tree_of ty.now) }
     ensures { result ≡ result_shape (tree_of ty.now) }
 {
     passed_as(UNUSED, true, ty)
@@ -385,7 +386,7 @@ fn result_shape(ty: &FfiType) -> Shape
 
 /// The hidden pointer to a result's buffer takes the first word.
 fn at_first(ty: &FfiType) -> Used
-    requires { IsResultType (tree_of ty.now) }
+    requires { IsLaidOut (tree_of ty.now) }
     ensures value { result ≡ used_at_first (tree_of ty.now) }
     ensures one { result.words ≤ 1 }
     ensures none { result.floats ≡ 0 }
@@ -462,7 +463,7 @@ fn place_all(alloc: Global, sig: &Sig, start: u64) -> Result<Placed, NoMemory>
 
 /// A result's place is that of an argument, and its buffer takes the place of a copy.
 fn place_result(alloc: Global, ty: &FfiType, buffer: u64) -> Result<Res, NoMemory>
-    requires right { IsResultType (tree_of ty.now) }
+    requires right { IsLaidOut (tree_of ty.now) }
     requires near { buffer ≤ 2 * ARGUMENT_BYTES }
     ensures { IfOk result (λ r. r ≡ result_at riscv.copy_start buffer (tree_of ty.now) (result_spot_of (tree_of ty.now))) }
 {

@@ -1,7 +1,7 @@
 -- What fills the rest of each place is what the standard says: a lone narrow integer is extended, a float in a floating register is NaN-boxed.
 use Rattle.std.proofs.Common.{◌≡◌, ℕ, ◌+◌, ◌-◌, ◌*◌, Bool, true, false, cond, ltb, List, [], ◌∷◌, length, refl, arith}
 use Rattle.std.specs.Prelude.{Option}
-use Rattle.ffi3_type_rules.specs.Tree.{Tree, void, scalar, left_out, structure, Scalar, u8, s8, u16, s16, u32, s32, u64, s64, u128, s128, float, double, pointer}
+use Rattle.ffi3_type_rules.specs.Tree.{Tree, void, scalar, left_out, structure, Scalar, u8, s8, u16, s16, u32, s32, u64, s64, u128, s128, float, double, pointer, array}
 use Rattle.ffi3_type_rules.specs.Layout.{Leaf, leaves_of, leaf_at, size_of, scalar_size}
 use Rattle.ffi3_type_rules.specs.Integer.{is_floating, is_integer}
 use Rattle.ffi3_place_rules.specs.declared.Loc.{Loc}
@@ -39,12 +39,14 @@ first_floats void f n = cc
 first_floats (scalar s) f n = no_integer s f (and_left (is_integer s) _ n)
 first_floats (left_out k) f n = cc
 first_floats (structure ts) f n = cc
+first_floats (array ts count) f n = cc
 
 has_two : (t : Tree) → length (leaves_of t) ≡ 2 → is_narrow_integer t ≡ true → ⊥
 has_two void e n = cc
 has_two (scalar s) e n = absurd (omega (arith, e))
 has_two (left_out k) e n = cc
 has_two (structure ts) e n = cc
+has_two (array ts count) e n = cc
 
 -- ---- pieces
 

@@ -8,3 +8,4 @@ pub mod Sound
 pub mod Ends
 pub mod Turns
 mod Rows
+pub mod Alike

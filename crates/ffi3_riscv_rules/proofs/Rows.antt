@@ -1,6 +1,6 @@
 -- Worked rows, computed.
 use Rattle.std.specs.Prelude.{◌≡◌, ℕ, List, [], ◌∷◌, ◌++◌, refl, Some, replicate}
-use Rattle.ffi3_type_rules.specs.Tree.{Tree, void, scalar, struct_of, s8, s32, s128, float, double, pointer}
+use Rattle.ffi3_type_rules.specs.Tree.{Tree, void, scalar, struct_of, s8, s32, s128, float, double, pointer, array_of, u8, u32}
 use Rattle.ffi3_type_rules.specs.Layout.{least_multiple}
 use Rattle.ffi3_place_rules.specs.declared.Loc.{Loc}
 use Rattle.ffi3_place_rules.specs.declared.Loc.TheVariants.{G, F, S}
@@ -304,3 +304,15 @@ pub wide_copies : plan_of riscv (sig_of void (triple ∷ struct_of (scalar float
 }
 unfolding least_multiple
 wide_copies = refl
+
+-- void(struct{float[2]},struct{uint8[3],uint32[2]}): two floats, as of struct{float,float}; two words, as of struct{uint8,uint8,uint8,uint32,uint32}
+pub arrays : plan_of riscv (sig_of void (struct_of (array_of (scalar float) 2 ∷ []) ∷ struct_of (array_of (scalar u8) 3 ∷ array_of (scalar u32) 2 ∷ []) ∷ [])) ≡ record {
+  places = Direct (boxed (F 10) 0 ∷ boxed (F 11) 4 ∷ []) ∷ Direct (at (G 10) 0 8 ∷ at (G 11) 8 4 ∷ []) ∷ [];
+  res = Nothing;
+  need = 240;
+  frame = 0;
+  block = 32;
+  vectors = 0;
+}
+unfolding least_multiple
+arrays = refl

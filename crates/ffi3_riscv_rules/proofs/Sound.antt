@@ -3,7 +3,7 @@ use Rattle.std.proofs.Common.{◌≡◌, ℕ, zero, suc, ◌+◌, ◌-◌, ◌*�
 use Rattle.std.specs.Prelude.{Option}
 use Rattle.std.specs.List.{AllByRecursion, flat_map}
 use Rattle.std.proofs.lemmas.Bool.{ltb-true, ltb-false}
-use Rattle.ffi3_type_rules.specs.Tree.{Tree, void, scalar, left_out, structure}
+use Rattle.ffi3_type_rules.specs.Tree.{Tree, void, scalar, left_out, structure, array}
 use Rattle.ffi3_type_rules.specs.Layout.{size_of}
 use Rattle.ffi3_type_rules.specs.Signature.{Signature}
 use Rattle.ffi3_type_rules.specs.declared.Isa.TheVariants as isa
@@ -154,6 +154,7 @@ result_cases P void none h = none refl
 result_cases P (scalar s) none h = h
 result_cases P (left_out k) none h = h
 result_cases P (structure ts) none h = h
+result_cases P (array ts n) none h = h
 
 abbrev first_used : Shape → Used
 first_used shape = record { words = cond (is_by_reference shape) 1 0; floats = 0 }

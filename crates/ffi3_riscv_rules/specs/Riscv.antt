@@ -38,7 +38,7 @@ shape_of_two otherwise a b =
     (cond {A = Shape} (is_floating a && is_word_integer b) FI
     (cond {A = Shape} (is_word_integer a && is_floating b) IF otherwise))
 
--- A value whose structs are flattened. ("Hardware Floating-point Calling Convention", on what "struct" means there, on a real floating-point argument, and on a struct of just one)
+-- A value whose structs are flattened, arrays in them too. ("Hardware Floating-point Calling Convention", on what "struct" means there, on a real floating-point argument, and on a struct of just one)
 abbrev pub shape_of_leaves : Shape → List Leaf → Shape
 shape_of_leaves otherwise (a ∷ []) =
     cond {A = Shape} (is_floating a.kind) OneF otherwise

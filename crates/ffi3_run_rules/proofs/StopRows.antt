@@ -1,13 +1,17 @@
 -- A run whose closure frees itself and gives its slot to another function, and ends at a call by another signature; and calls that need the whole stack, or one byte more.
-use Rattle.std.proofs.Common.{◌≡◌, ℕ, [], ◌∷◌, refl}
+use Rattle.std.proofs.Common.{◌≡◌, ℕ, ◌+◌, [], ◌∷◌, refl}
 use Rattle.std.specs.Prelude.{None, codes, ◌++◌, pos}
 use Rattle.std.specs.Fmt.{digits}
+use Rattle.ffi3_type_rules.specs.declared.limits.TheConstants.{STACK_BYTES}
 use Rattle.ffi3_type_rules.specs.Tree.{scalar, s32, s64}
 use Rattle.ffi3_type_rules.specs.Integer.{bytes_of_number}
 use Rattle.ffi3_type_rules.specs.Signature.{Signature}
 use Rattle.ffi3_type_rules.specs.Value.{void_value, leaf_value}
 use Rattle.ffi3_run_rules.specs.Move.{call, make, free, print, return, Behaviour}
-use Rattle.ffi3_run_rules.specs.Meaning.{Program, act, act_within}
+use Rattle.ffi3_run_rules.specs.declared.Stop.TheVariants.{WrongSig}
+use Rattle.ffi3_run_rules.specs.Closures.{no_closures}
+use Rattle.ffi3_run_rules.specs.Meaning.{Program, stopped, main_call, most_moves, act, act_within}
+use Rattle.ffi3_run_rules.specs.MoreStack.{with_left}
 use Rattle.ffi3_run_rules.specs.Trace.{trace_of}
 use Rattle.ffi3_run_rules.specs.Journal.{events_in}
 use Rattle.ffi3_run_rules.specs.Lines.{untraced, text_of_run}
@@ -45,10 +49,15 @@ pub stops_wrong : text_of_run untraced (program 64) ≡ codes "7" ++ 10 ∷ (cod
 unfolding act act_within digits
 stops_wrong = refl
 
-pub enters_full : events_in (trace_of (program 65536)) ≡ 4
+pub enters_full : events_in (trace_of (program STACK_BYTES)) ≡ 4
 unfolding act act_within
 enters_full = refl
 
-pub stops_full : text_of_run untraced (program 65537) ≡ codes "stop: stack full: need 65537, left 65536" ++ 10 ∷ []
+pub stops_full : text_of_run untraced (program (STACK_BYTES + 1)) ≡ codes "stop: stack full: need 1048577, left 1048576" ++ 10 ∷ []
 unfolding act act_within digits
 stops_full = refl
+
+-- the same calls with one byte more
+pub enters_with_more : (act (program (STACK_BYTES + 1)) (with_left main_call (STACK_BYTES + 1)) no_closures most_moves).end ≡ stopped (WrongSig 65536 1 0)
+unfolding act act_within
+enters_with_more = refl

@@ -3,6 +3,7 @@ pub mod Closures
 pub mod Meaning
 pub mod Peak
 pub mod Recursion
+pub mod MoreStack
 pub mod Trace
 pub mod Lines
 pub mod Journal

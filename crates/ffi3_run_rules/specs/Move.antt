@@ -1,7 +1,7 @@
 -- What a function does: one move after another, each a function of what the activation has seen.
 use Rattle.std.specs.Prelude.{◌≡◌, ℕ, ◌<◌, ⊤, true, List, [], length, Option, Some, None}
 use Rattle.ffi3_type_rules.specs.Tree.{Tree, void, scalar, pointer}
-use Rattle.ffi3_type_rules.specs.Fault.{IsResultType}
+use Rattle.ffi3_type_rules.specs.Fault.{IsLaidOut}
 use Rattle.ffi3_type_rules.specs.Signature.{Signature, signature_at}
 use Rattle.ffi3_type_rules.specs.Value.{ValueTree, fits, all_fit, values_of}
 use Rattle.ffi3_type_rules.specs.Tree.{trees_of}
@@ -36,5 +36,5 @@ MoveFits signatures functions result_type (call ptr sig args) =
     (sig < length signatures) × (all_fit (trees_of (signature_at signatures sig).arguments) (values_of args) ≡ true)
 MoveFits signatures functions result_type (make func user) = func < functions
 MoveFits signatures functions result_type (free ptr) = ⊤
-MoveFits signatures functions result_type (print t v) = IsResultType t × (fits t v ≡ true)
+MoveFits signatures functions result_type (print t v) = IsLaidOut t × (fits t v ≡ true)
 MoveFits signatures functions result_type (return v) = fits result_type v ≡ true

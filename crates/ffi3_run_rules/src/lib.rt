@@ -3,6 +3,7 @@
 
 ghost use Rattle.ffi3_run_rules.specs.Meaning.{Program};
 ghost use Rattle.ffi3_run_rules.specs.Recursion.{IsPlainRecursion};
+ghost use Rattle.ffi3_run_rules.specs.MoreStack.{MoreStackIsTheSame};
 
 /// What a closure stands for: a function and its signature, by their numbers in the run, and 64 bits of user data.
 #[derive(Clone, Copy, Debug, PartialEq, Eq)]
@@ -28,7 +29,9 @@ pub enum Stop {
 }
 
 /// Does nothing. Its contract says that the direct meaning of every program is the plain recursion: an activation with no move
-/// left stops, and one with a move left does it, and what follows goes on with one move less.
+/// left stops, and one with a move left does it, and what follows goes on with one move less. And an activation that does not stop
+/// for want of stack acts the same with more of it.
 pub fn meaning_laws()
-    ensures { (p : Program) → IsPlainRecursion p }
+    ensures recursion { (p : Program) → IsPlainRecursion p }
+    ensures more_stack { (p : Program) → MoreStackIsTheSame p }
 {}

@@ -32,7 +32,7 @@ use Rattle.ffi3_board.specs.Activations.{call_inside, who_of}
 use Rattle.ffi3_board.specs.Turned.{StandsAt}
 use Rattle.ffi3_runner.specs.Agreeing.{seen_by_main, IsStanding, AllWillStand, PositionsAgree}
 use Rattle.ffi3_runner.specs.Ran.{Ran}
-use Rattle.ffi3_runner.specs.Ready.{CanGoOn}
+use Rattle.ffi3_runner.specs.Ready.{CanGoOn, traced_or_not}
 use Rattle.ffi3_runner.specs.Running.{IsNew, IsPrepared, program}
 use Rattle.ffi3_runner.specs.Started.{main_beginning}
 use Rattle.ffi3_runner.specs.declared.run.RunEnd.{RunEnd}
@@ -57,7 +57,7 @@ module _ (std : Standard) (s : Script) (natives : List NamedNative) (cifs : List
 
 -- where a run of main starts
 module _ (std : Standard) (s : Script) (natives : List NamedNative) (cifs : List Signature) (prepared : IsPrepared std s natives cifs) (trace : Bool) (m : State) (o : SinkState) (b : Board Standing) (stands : StandsAt (program std s natives) (main_base std) (remainder_of (meaning_of (program std s natives))) (main_beginning trace std o) [] [] b m o) where
-  pub start_between : CanGoOn std (program std s natives) b m
+  pub start_between : CanGoOn std (program std s natives) traced_or_not b m
   start_between =
       can_go_on std (program std s natives) (main_base std) (remainder_of (meaning_of (program std s natives))) (main_beginning trace std o) [] [] (λ t. main_tracing t std) b m o refl (main_is_traced (program std s natives) std) stands
 

@@ -1,6 +1,6 @@
 -- A run that can go on by a move.
 use Rattle.std.proofs.Common.{◌≡◌, suc, List, ◌++◌}
-use Rattle.std.specs.Prelude.{Bool}
+use Rattle.std.specs.Prelude.{Bool, true}
 use Rattle.ffi3_place_rules.specs.Event.{Event}
 use Rattle.ffi3_place_rules.specs.Standard.{Standard}
 use Rattle.ffi3_run_rules.specs.Lines.{Tracing}
@@ -18,12 +18,12 @@ use Rattle.ffi3_board.specs.declared.board.Turn.TheVariants as turn
 use Rattle.ffi3_board.specs.Between.{Beginning, anew}
 use Rattle.ffi3_board.specs.Turned.{StandsAt, WentOn}
 use Rattle.ffi3_board.proofs.Since.{board_looked_at}
-use Rattle.ffi3_runner.specs.Ready.{CanGoOn}
+use Rattle.ffi3_runner.specs.Ready.{CanGoOn, traced_or_not}
 use Rattle.ffi3_runner.proofs.Running.{Turns}
 use Rattle.ffi3_runner.proofs.Turning.{went_on}
 
 -- where it stands for one output
-pub can_go_on : (std : Standard) (p : Program) (base : Base) (all : Remainder) (first : Beginning) (own : List TraceItem) (events : List Event) (tracing : Bool → Tracing) (b : Board Standing) (m : State) (o : SinkState) → base.standard ≡ std → ((trace : Bool) → IsTracingOf p base trace (tracing trace)) → StandsAt p base all first own events b m o → CanGoOn std p b m
+pub can_go_on : (std : Standard) (p : Program) (base : Base) (all : Remainder) (first : Beginning) (own : List TraceItem) (events : List Event) (tracing : Bool → Tracing) (b : Board Standing) (m : State) (o : SinkState) → base.standard ≡ std → ((trace : Bool) → IsTracingOf p base trace (tracing trace)) → StandsAt p base all first own events b m o → CanGoOn std p traced_or_not b m
 can_go_on std p base all first own events tracing b m o standard traced h = record {
   base = base;
   all = all;
@@ -32,25 +32,25 @@ can_go_on std p base all first own events tracing b m o standard traced h = reco
   events = events;
   tracing = tracing;
   standard = standard;
-  traced = traced;
+  traced = λ trace _. traced trace;
   stands = board_looked_at p base all first own events b m o b.innermost h;
 }
 
-module _ (std : Standard) (p : Program) (b : Board Standing) (m : State) (h : CanGoOn std p b m) (trace : Bool) (o : SinkState) where
+module _ (std : Standard) (p : Program) (traces : Bool → Bool) (b : Board Standing) (m : State) (h : CanGoOn std p traces b m) (trace : Bool) (with_it : traces trace ≡ true) (o : SinkState) where
   abbrev seen : Beginning
   seen = anew (h.tracing trace) o p h.base h.own h.first
 
   -- it stands for the output that is handed in
   pub stands_here : (base : Base) × (all : Remainder) × (first : Beginning) × (own : List TraceItem) × (events : List Event) × (base.standard ≡ std) × IsTracingOf p base trace first.tracing × StandsAt p base all first own events b m o
-  stands_here = (h.base, h.all, seen, h.own, h.events, h.standard, h.traced trace, h.stands (h.tracing trace) o)
+  stands_here = (h.base, h.all, seen, h.own, h.events, h.standard, h.traced trace with_it, h.stands (h.tracing trace) o)
 
   module _ (b' : Board Standing) (m' : State) (o' : SinkState) (t : Turn) (turned : Turns std trace p b m o b' m' o' t) (more : t ≡ turn.More) where
     went : WentOn p h.base h.all seen h.own b.moves b' m' o'
     went =
-        went_on p h.base h.all seen h.own b.moves b' m' o' t (turned h.base h.all seen h.own h.events h.standard (h.traced trace) (h.stands (h.tracing trace) o)) more
+        went_on p h.base h.all seen h.own b.moves b' m' o' t (turned h.base h.all seen h.own h.events h.standard (h.traced trace with_it) (h.stands (h.tracing trace) o)) more
 
     -- after a move it can again
-    pub goes_on_again : CanGoOn std p b' m'
+    pub goes_on_again : CanGoOn std p traces b' m'
     goes_on_again = record {
       base = h.base;
       all = h.all;

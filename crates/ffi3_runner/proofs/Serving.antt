@@ -26,7 +26,7 @@ use Rattle.ffi3_board.specs.TraceLines.{entry_lines}
 use Rattle.ffi3_board.proofs.Accepting.{served_is_traced}
 use Rattle.ffi3_board.specs.Turned.{StandsAt}
 use Rattle.ffi3_runner.specs.Ran.{Ran}
-use Rattle.ffi3_runner.specs.Ready.{CanGoOn}
+use Rattle.ffi3_runner.specs.Ready.{CanGoOn, traced_or_not}
 use Rattle.ffi3_runner.specs.Serving.{IsAtEntry, HasRun, HasNotRun, Served, end_of}
 use Rattle.ffi3_runner.specs.declared.run.RunEnd.{RunEnd}
 use Rattle.ffi3_runner.proofs.Ready.{can_go_on}
@@ -55,7 +55,7 @@ module _ (std : Standard) (trace : Bool) (p : Program) (b b₁ : Board Standing)
 
   module _ (begins : (arguments : List ValueTree) → ShowsCall std (signature_at cifs found.sig) arguments m → TookText (entry_lines trace std s (entry_at std s m) arguments) o o₁ × StandsAt p base (served_left std p found arguments m b.table b.moves) first [] [] b₁ m₁ o₁) where
     -- the run stands after the call's entry
-    pub served_between : (closure : Closure) (arguments : List ValueTree) → IsAtEntry std p b.table m closure arguments → CanGoOn std p b₁ m₁
+    pub served_between : (closure : Closure) (arguments : List ValueTree) → IsAtEntry std p b.table m closure arguments → CanGoOn std p traced_or_not b₁ m₁
     served_between closure arguments at =
         let shows = shows_found std p b.table m found closure arguments cifs are live at in
         can_go_on std p base (served_left std p found arguments m b.table b.moves) first [] [] (λ t. served_tracing t std p.signatures found.sig m) b₁ m₁ o₁ refl (served_is_traced p std found.sig m) (begins arguments shows).1

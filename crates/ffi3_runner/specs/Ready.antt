@@ -1,5 +1,5 @@
 -- A run that can go on by a move, as its caller sees it.
-use Rattle.std.specs.Prelude.{◌≡◌, Bool, List}
+use Rattle.std.specs.Prelude.{◌≡◌, Bool, true, List}
 use Rattle.ffi3_place_rules.specs.Event.{Event}
 use Rattle.ffi3_place_rules.specs.Standard.{Standard}
 use Rattle.ffi3_run_rules.specs.Lines.{Tracing}
@@ -14,8 +14,12 @@ use Rattle.ffi3_board.specs.declared.board.Board.{Board}
 use Rattle.ffi3_board.specs.Between.{Beginning}
 use Rattle.ffi3_board.specs.Turned.{StandsAnew}
 
--- THE RUN STANDS BETWEEN TWO MOVES. Nothing is said of an output: the next move may write to any, whatever that took before, and be traced or not.
-pub record CanGoOn (std : Standard) (p : Program) (b : Board Standing) (m : State) : Type 0 where
+-- traced and untraced
+abbrev pub traced_or_not : Bool → Bool
+traced_or_not trace = true
+
+-- THE RUN STANDS BETWEEN TWO MOVES, and can be told with each of these values of `trace`. Nothing is said of an output: the next move may write to any, whatever that took before.
+pub record CanGoOn (std : Standard) (p : Program) (traces : Bool → Bool) (b : Board Standing) (m : State) : Type 0 where
   pub base : Base
   pub all : Remainder
   pub first : Beginning
@@ -23,5 +27,5 @@ pub record CanGoOn (std : Standard) (p : Program) (b : Board Standing) (m : Stat
   pub events : List Event
   pub tracing : Bool → Tracing
   pub standard : base.standard ≡ std
-  pub traced : (trace : Bool) → IsTracingOf p base trace (tracing trace)
+  pub traced : (trace : Bool) → traces trace ≡ true → IsTracingOf p base trace (tracing trace)
   pub stands : StandsAnew p base all first own events b m

@@ -8,7 +8,7 @@ ghost use Rattle.ffi3_io.specs.Sink.{SinkState};
 ghost use Rattle.ffi3_ask.specs.Handed.{handed};
 ghost use Rattle.ffi3_board.specs.Turned.{StandsAt};
 ghost use Rattle.ffi3_runner.specs.Agreeing.{PositionsAgree};
-ghost use Rattle.ffi3_runner.specs.Ready.{CanGoOn};
+ghost use Rattle.ffi3_runner.specs.Ready.{CanGoOn, traced_or_not};
 ghost use Rattle.ffi3_runner.specs.Running.{IsNew, IsPrepared, program};
 ghost use Rattle.ffi3_runner.specs.Started.{main_beginning};
 
@@ -28,7 +28,7 @@ impl<'a, A: Abi> Prepared<'a, A> {
             (trace : Bool) (m : State) (output : SinkState) → m ≡ begun A.TARGET m.spare_events m.spare_bytes →
             StandsAt p (main_base A.standard) (remainder_of (meaning_of p)) (main_beginning trace A.standard output) [] [] board.new m output }
         ensures goes_on { (m : State) → m ≡ begun A.TARGET m.spare_events m.spare_bytes →
-            CanGoOn A.standard (program A.standard self.now.script.now (handed title meaning signatures self.now.natives.now.items)) board.new m }
+            CanGoOn A.standard (program A.standard self.now.script.now (handed title meaning signatures self.now.natives.now.items)) traced_or_not board.new m }
     {
         let alloc = self.alloc;
         board.innermost = Some(Activation {

@@ -1,5 +1,5 @@
 //! Moves until a run ends.
-ghost use Rattle.std.specs.Prelude.{◌≡◌, List};
+ghost use Rattle.std.specs.Prelude.{◌≡◌, Bool, true, List};
 ghost use Rattle.ffi3_place_rules.specs.Event.{Event};
 ghost use Rattle.ffi3_run_rules.specs.Trace.{TraceItem};
 ghost use Rattle.ffi3_turn_rules.specs.Remainder.{Remainder};
@@ -57,7 +57,8 @@ impl<'a, A: Abi> Prepared<'a, A> {
     ) -> RunEnd
         requires prepared { IsPrepared A.standard self.now.script.now (handed title meaning signatures self.now.natives.now.items) self.now.cifs }
         requires standing { PositionsAgree self.now.script.now (handed title meaning signatures self.now.natives.now.items) self.now.cifs machine.old board.old }
-        requires between { CanGoOn A.standard (program A.standard self.now.script.now (handed title meaning signatures self.now.natives.now.items)) board.old machine.old }
+        requires between { (traces : Bool → Bool) × (traces trace ≡ true) ×
+            CanGoOn A.standard (program A.standard self.now.script.now (handed title meaning signatures self.now.natives.now.items)) traces board.old machine.old }
         ensures { let p = program A.standard self.now.script.now (handed title meaning signatures self.now.natives.now.items) in
             (base : Base) (all : Remainder) (first : Beginning) (own : List TraceItem) (events : List Event) →
             base.standard ≡ A.standard → IsTracingOf p base trace first.tracing →

@@ -1,5 +1,5 @@
 //! One move of a run.
-ghost use Rattle.std.specs.Prelude.{◌≡◌, List, length, suc};
+ghost use Rattle.std.specs.Prelude.{◌≡◌, Bool, true, List, length, suc};
 ghost use Rattle.ffi3_place_rules.specs.Event.{Event};
 ghost use Rattle.ffi3_run_rules.specs.Trace.{TraceItem};
 ghost use Rattle.ffi3_turn_rules.specs.Remainder.{Remainder};
@@ -30,7 +30,8 @@ impl<'a, A: Abi> Prepared<'a, A> {
     ) -> Turn
         requires prepared { IsPrepared A.standard self.now.script.now (handed title meaning signatures self.now.natives.now.items) self.now.cifs }
         requires standing { PositionsAgree self.now.script.now (handed title meaning signatures self.now.natives.now.items) self.now.cifs machine.old board.old }
-        requires between { CanGoOn A.standard (program A.standard self.now.script.now (handed title meaning signatures self.now.natives.now.items)) board.old machine.old }
+        requires between { (traces : Bool → Bool) × (traces trace ≡ true) ×
+            CanGoOn A.standard (program A.standard self.now.script.now (handed title meaning signatures self.now.natives.now.items)) traces board.old machine.old }
         ensures turned { let p = program A.standard self.now.script.now (handed title meaning signatures self.now.natives.now.items) in
             (base : Base) (all : Remainder) (first : Beginning) (own : List TraceItem) (events : List Event) →
             base.standard ≡ A.standard → IsTracingOf p base trace first.tracing →
@@ -38,8 +39,9 @@ impl<'a, A: Abi> Prepared<'a, A> {
             Turned p base all first own board.old.moves board.new machine.new (O.state output.new) result }
         ensures standing { result ≡ Turn.More →
             PositionsAgree self.now.script.now (handed title meaning signatures self.now.natives.now.items) self.now.cifs machine.new board.new }
-        ensures between { result ≡ Turn.More →
-            CanGoOn A.standard (program A.standard self.now.script.now (handed title meaning signatures self.now.natives.now.items)) board.new machine.new }
+        ensures between { let p = program A.standard self.now.script.now (handed title meaning signatures self.now.natives.now.items) in
+            (traces : Bool → Bool) → traces trace ≡ true → CanGoOn A.standard p traces board.old machine.old →
+            result ≡ Turn.More → CanGoOn A.standard p traces board.new machine.new }
         ensures counted { result ≡ Turn.More → board.old.moves ≡ suc board.new.moves }
     {
         self.one_move(board, machine, output, trace)

@@ -121,36 +121,36 @@ fn callbacks_four_deep(rt: HostRuntime) -> Result<(), Fail> {
 }
 
 #[test]
-fn recursion_fills_the_stack(rt: HostRuntime) -> Result<(), Fail> {
+fn recursion_without_end(rt: HostRuntime) -> Result<(), Fail> {
     let alloc = rt.alloc();
     let natives: Vec<Box<dyn Native>> = Vec::new(alloc);
     let wanted = [
         Wanted {
-            text: "stop: stack full: need 64, left 0\n",
-            end: RunEnd::Stopped(Stop::StackFull { need: 64, left: 0 }),
-            moves_left: 8_974,
-            events: 1_024,
-            mark: 0x7FFE_0000,
+            text: "stop: move limit\n",
+            end: RunEnd::Stopped(Stop::MoveLimit),
+            moves_left: 0,
+            events: 9_999,
+            mark: 0x7FF5_3C40,
         },
         Wanted {
-            text: "stop: stack full: need 176, left 64\n",
+            text: "stop: stack full: need 176, left 144\n",
             end: RunEnd::Stopped(Stop::StackFull {
                 need: 176,
-                left: 64,
+                left: 144,
             }),
-            moves_left: 9_626,
-            events: 372,
-            mark: 0x7FFE_0040,
+            moves_left: 4_041,
+            events: 5_957,
+            mark: 0x7FEF_0090,
         },
         Wanted {
-            text: "stop: stack full: need 208, left 16\n",
+            text: "stop: stack full: need 208, left 48\n",
             end: RunEnd::Stopped(Stop::StackFull {
                 need: 208,
-                left: 16,
+                left: 48,
             }),
-            moves_left: 9_683,
-            events: 315,
-            mark: 0x7FFE_0010,
+            moves_left: 4_957,
+            events: 5_041,
+            mark: 0x7FEF_0030,
         },
     ];
     check(&rt, alloc, &natives, ENDLESS, &wanted)

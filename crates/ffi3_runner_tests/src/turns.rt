@@ -125,11 +125,11 @@ const NO_CLOSURE: &str =
 const WRONG_SIG: &str =
     r#"{"version":1,"signatures":[{"ret":"sint32","args":[]},{"ret":"void","args":[]}],"functions":[{"name":"f","sig":0,"body":[{"return":7}]}],"main":[{"make":"f","as":"p"},{"call":{"res":"p"},"sig":1,"args":[]},{"return":null}]}"#;
 
-/// A function that calls itself without end.
+/// A function that hands its argument of 128 bytes to itself without end.
 const ENDLESS: &str =
-    r#"{"version":1,"signatures":[{"ret":"void","args":[]}],"functions":[{"name":"f","sig":0,"body":[{"call":65536,"sig":0,"args":[]},{"return":null}]}],"main":[{"make":"f","as":"p"},{"call":{"res":"p"},"sig":0,"args":[]},{"return":null}]}"#;
+    r#"{"version":1,"signatures":[{"ret":"void","args":[{"struct":["uint64","uint64","uint64","uint64","uint64","uint64","uint64","uint64","uint64","uint64","uint64","uint64","uint64","uint64","uint64","uint64"]}]}],"functions":[{"name":"f","sig":0,"body":[{"call":65536,"sig":0,"args":[{"arg":0}]},{"return":null}]}],"main":[{"make":"f","as":"p"},{"call":{"res":"p"},"sig":0,"args":[[0,0,0,0,0,0,0,0,0,0,0,0,0,0,0,0]]},{"return":null}]}"#;
 
-/// The same, with a closure made before each call.
+/// A function that calls itself without end, with a closure made before each call.
 const MAKES: &str =
     r#"{"version":1,"signatures":[{"ret":"void","args":[]}],"functions":[{"name":"f","sig":0,"body":[{"make":"f"},{"call":65536,"sig":0,"args":[]},{"return":null}]}],"main":[{"make":"f","as":"p"},{"call":{"res":"p"},"sig":0,"args":[]},{"return":null}]}"#;
 
@@ -178,10 +178,13 @@ fn turns_until_a_wrong_signature(rt: HostRuntime) -> Result<(), Fail> {
 #[test]
 fn turns_until_the_stack_is_full(rt: HostRuntime) -> Result<(), Fail> {
     let wanted = Wanted {
-        end: Turn::Stopped(Stop::StackFull { need: 64, left: 0 }),
-        last: "stop: stack full: need 64, left 0\n",
+        end: Turn::Stopped(Stop::StackFull {
+            need: 320,
+            left: 256,
+        }),
+        last: "stop: stack full: need 320, left 256\n",
         other: "",
-        moves_left: 8_974,
+        moves_left: 6_722,
     };
     check_turns(&rt, rt.alloc(), ENDLESS, &SILENT, &wanted)
 }

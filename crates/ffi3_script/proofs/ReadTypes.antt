@@ -3,6 +3,7 @@ use Rattle.std.proofs.Common.{◌≡◌, ℕ, Bool, true, false, List, refl, sym
 use Rattle.std.specs.Prelude.{if◌then◌else◌}
 use Rattle.std.proofs.lemmas.Bool.{false≢true}
 use Rattle.serde_json.specs.Data.{Data}
+use Rattle.ffi3_type_rules.specs.declared.Role.TheVariants.{AsArgument}
 use Rattle.ffi3_type_rules.specs.Tree.{Tree}
 use Rattle.ffi3_type_rules.specs.Fault as type_fault
 use Rattle.ffi3_type_rules.specs.Fault.{IsFirstFault, IsArgumentType}
@@ -42,9 +43,9 @@ against-is own ty path e b r iff is =
 
 pub right_type-ok : (version : ℕ) (d : Data) (path : JsonPath) (t : Tree) → read_type version d path ≡ read t → IsArgumentType t → read_right_type version d path ≡ read t
 right_type-ok version d path t was right =
-    then_read _ (read_type version d path) t was ∙ ap (right_type path t) (none_found 0 false t right)
+    then_read _ (read_type version d path) t was ∙ ap (right_type path t) (none_found 0 AsArgument t right)
 
-pub right_type-fault : (version : ℕ) (d : Data) (path : JsonPath) (t : Tree) (way : List ℕ) (f : type_fault.Fault) → read_type version d path ≡ read t → IsFirstFault 0 false t way f
-    → read_right_type version d path ≡ fault (inside_type path way) (reason_of_type_fault f)
+pub right_type-fault : (version : ℕ) (d : Data) (path : JsonPath) (t : Tree) (way : List ℕ) (f : type_fault.Fault) → read_type version d path ≡ read t → IsFirstFault 0 AsArgument t way f
+    → read_right_type version d path ≡ fault (inside_type path t way) (reason_of_type_fault f)
 right_type-fault version d path t way f was first =
-    then_read _ (read_type version d path) t was ∙ ap (right_type path t) (found_by_first 0 false t way f first)
+    then_read _ (read_type version d path) t was ∙ ap (right_type path t) (found_by_first 0 AsArgument t way f first)

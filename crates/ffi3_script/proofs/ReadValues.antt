@@ -6,17 +6,16 @@ use Rattle.std.proofs.lemmas.List.{drop_more}
 use Rattle.serde_json.specs.Data.{Num, Data, null, boolean, number, string, array, object, Items, no_items, item, no_members, member}
 use Rattle.serde_json.specs.Find.{as_number, as_array, as_u64}
 use Rattle.serde_json.specs.Events.{items_len}
-use Rattle.ffi3_type_rules.specs.Tree.{Tree, void, struct_of, tree_at, elements_of, list_of-trees_of}
-use Rattle.ffi3_types.specs.declared.FfiType.{FfiType}
-use Rattle.ffi3_types.specs.declared.FfiType.TheVariants.{Void, U8, S8, U16, S16, U32, S32, U64, S64, U128, S128, Float, Double, Pointer, Struct, LongDouble, Complex, Vector}
-use Rattle.ffi3_types.specs.TreeOf.{tree_of}
+use Rattle.ffi3_type_rules.specs.Tree.{Tree, void, tree_at, elements_of}
 use Rattle.ffi3_script_rules.specs.Language.{JsonPath, Reason, Read, read, fault, and_then, read_map, at_item, under, wrong_count, wrong_type}
 use Rattle.ffi3_script_rules.specs.Script.{Expression, composed, typed_as, Expressions, no_expressions, expression, expressions_of, Typed}
 use Rattle.ffi3_script_rules.specs.Values as values
-use Rattle.ffi3_script_rules.specs.Values.{Scope, Pair, is_integer_type, composed_of, element_of, form_named, own_by, read_number, read_value, read_values, read_typed, read_two, read_field, read_of, read_right_type, field_of, typed}
+use Rattle.ffi3_script_rules.specs.Values.{Scope, Pair, is_integer_type, is_list_type, composed_of, element_of, form_named, own_by, read_number, read_value, read_values, read_typed, read_two, read_field, read_of, read_right_type, field_of, typed}
 use Rattle.ffi3_json.specs.Parts.{item_at, items_from, only_member}
 use Rattle.ffi3_json.proofs.Items.{items_none_left}
 use Rattle.ffi3_json.proofs.Objects.{array_is}
+use Rattle.ffi3_script_body.specs.ListTypes.{element_types}
+use Rattle.ffi3_script_body.proofs.ListTypes.{some_types, no_types}
 use Rattle.ffi3_script.proofs.Loops.{next_item}
 use Rattle.ffi3_script.proofs.ReadTypes.{not_so}
 use Rattle.ffi3_script.specs.Shapes.{two_items, typed_under, value_under_form, read_terms}
@@ -80,18 +79,27 @@ module _ (scope : Scope) (t : Tree) (d : Data) (path : JsonPath) where
 of_array : (scope : Scope) (t : Tree) (d : Data) (path : JsonPath) (ds : Items) → as_array d ≡ Some ds → read_value scope t d path ≡ composed_of t (items_len ds) path (read_values scope (elements_of t) ds path 0)
 of_array scope t d path ds h = ap (λ x. read_value scope t x path) (array_is d ds h)
 
-module _ (scope : Scope) (ts : List Tree) (d : Data) (path : JsonPath) (ds : Items) (h : as_array d ≡ Some ds) where
-  whole : read_value scope (struct_of ts) d path ≡ cond (items_len ds == length ts) (read_map composed (read_values scope ts ds path 0)) (fault path wrong_count)
-  whole =
-      of_array scope (struct_of ts) d path ds h ∙ ap (λ us. cond (items_len ds == length us) (read_map composed (read_values scope us ds path 0)) (fault path wrong_count)) (list_of-trees_of ts)
+module _ (scope : Scope) (t : Tree) (d : Data) (path : JsonPath) (ds : Items) (h : as_array d ≡ Some ds) where
+  by_elements : read_value scope t d path ≡ cond (is_list_type t) (cond (items_len ds == length (elements_of t)) (read_map composed (read_values scope (elements_of t) ds path 0)) (fault path wrong_count)) (fault path wrong_type)
+  by_elements = of_array scope t d path ds h
 
-  pub of_other_count : (items_len ds ≡ length ts → ⊥) → read_value scope (struct_of ts) d path ≡ fault path wrong_count
-  of_other_count other =
-      whole ∙ ap (λ b. cond b (read_map composed (read_values scope ts ds path 0)) (fault path wrong_count)) (not_so (items_len ds == length ts) (λ e. other (eqb-true (items_len ds) (length ts) e)))
+  pub of_no_list : None ≡ element_types t → read_value scope t d path ≡ fault path wrong_type
+  of_no_list none =
+      by_elements ∙ ap (λ b. cond b (cond (items_len ds == length (elements_of t)) (read_map composed (read_values scope (elements_of t) ds path 0)) (fault path wrong_count)) (fault path wrong_type)) (no_types t none)
 
-  pub of_values : (r : Read Expressions) → items_len ds ≡ length ts → read_values scope ts ds path 0 ≡ r → read_value scope (struct_of ts) d path ≡ read_map composed r
-  of_values r same is =
-      whole ∙ ap (λ b. cond b (read_map composed (read_values scope ts ds path 0)) (fault path wrong_count)) (eq-eqb (items_len ds) (length ts) same) ∙ ap (read_map composed) is
+  module _ (ts : List Tree) (some : Some ts ≡ element_types t) where
+    whole : read_value scope t d path ≡ cond (items_len ds == length ts) (read_map composed (read_values scope ts ds path 0)) (fault path wrong_count)
+    whole =
+        by_elements ∙ ap (λ b. cond b (cond (items_len ds == length (elements_of t)) (read_map composed (read_values scope (elements_of t) ds path 0)) (fault path wrong_count)) (fault path wrong_type)) (some_types t ts some).0
+        ∙ ap (λ us. cond (items_len ds == length us) (read_map composed (read_values scope us ds path 0)) (fault path wrong_count)) (sym (some_types t ts some).1)
+
+    pub of_other_count : (items_len ds ≡ length ts → ⊥) → read_value scope t d path ≡ fault path wrong_count
+    of_other_count other =
+        whole ∙ ap (λ b. cond b (read_map composed (read_values scope ts ds path 0)) (fault path wrong_count)) (not_so (items_len ds == length ts) (λ e. other (eqb-true (items_len ds) (length ts) e)))
+
+    pub of_values : (r : Read Expressions) → items_len ds ≡ length ts → read_values scope ts ds path 0 ≡ r → read_value scope t d path ≡ read_map composed r
+    of_values r same is =
+        whole ∙ ap (λ b. cond b (read_map composed (read_values scope ts ds path 0)) (fault path wrong_count)) (eq-eqb (items_len ds) (length ts) same) ∙ ap (read_map composed) is
 
 -- ---- the values of an array, item by item
 
@@ -172,32 +180,19 @@ module _ (scope : Scope) (d a b : Data) (place path : JsonPath) (h : two_items d
   field_then : (v : Typed) → read_typed scope a (at_item place 0) ≡ read v → read_field scope d place path ≡ field_of path (at_item place 0) (option_and_then as_u64 (as_number b)) v
   field_then v is = field ∙ ap (λ q. and_then (field_of path (at_item place 0) (option_and_then as_u64 (as_number b))) q) is
 
-  -- of a struct
-  pub field_struct : (ts : List Tree) (e : Expression) → read_typed scope a (at_item place 0) ≡ read (typed (struct_of ts) e) → read_field scope d place path ≡ element_of e ts (option_and_then as_u64 (as_number b)) path
-  field_struct ts e is =
-      field_then (typed (struct_of ts) e) is ∙ ap (λ us. element_of e us (option_and_then as_u64 (as_number b)) path) (list_of-trees_of ts)
+  module _ (t : Tree) (e : Expression) (is : read_typed scope a (at_item place 0) ≡ read (typed t e)) where
+    of_elements : read_field scope d place path ≡ cond (is_list_type t) (element_of e (elements_of t) (option_and_then as_u64 (as_number b)) path) (fault (at_item place 0) wrong_type)
+    of_elements = field_then (typed t e) is
 
-  pub field_wrong : (ty : FfiType) (e : Expression) → ((ts : List Tree) → ty ≡ Struct ts → ⊥) → read_typed scope a (at_item place 0) ≡ read (typed (tree_of ty) e) → read_field scope d place path ≡ fault (at_item place 0) wrong_type
-  field_wrong ty e never is = field_then (typed (tree_of ty) e) is ∙ other ty never where
-    other : (t : FfiType) → ((ts : List Tree) → t ≡ Struct ts → ⊥) → field_of path (at_item place 0) (option_and_then as_u64 (as_number b)) (typed (tree_of t) e) ≡ fault (at_item place 0) wrong_type
-    other Void k = refl
-    other U8 k = refl
-    other S8 k = refl
-    other U16 k = refl
-    other S16 k = refl
-    other U32 k = refl
-    other S32 k = refl
-    other U64 k = refl
-    other S64 k = refl
-    other U128 k = refl
-    other S128 k = refl
-    other Float k = refl
-    other Double k = refl
-    other Pointer k = refl
-    other (Struct ts) k = absurd (k ts refl)
-    other LongDouble k = refl
-    other Complex k = refl
-    other Vector k = refl
+    -- of a struct or an array
+    pub field_element : (ts : List Tree) → Some ts ≡ element_types t → read_field scope d place path ≡ element_of e ts (option_and_then as_u64 (as_number b)) path
+    field_element ts some =
+        of_elements ∙ ap (λ c. cond c (element_of e (elements_of t) (option_and_then as_u64 (as_number b)) path) (fault (at_item place 0) wrong_type)) (some_types t ts some).0
+        ∙ ap (λ us. element_of e us (option_and_then as_u64 (as_number b)) path) (sym (some_types t ts some).1)
+
+    pub field_wrong : None ≡ element_types t → read_field scope d place path ≡ fault (at_item place 0) wrong_type
+    field_wrong none =
+        of_elements ∙ ap (λ c. cond c (element_of e (elements_of t) (option_and_then as_u64 (as_number b)) path) (fault (at_item place 0) wrong_type)) (no_types t none)
 
 module _ (scope : Scope) (d a b : Data) (place : JsonPath) (h : two_items d ≡ Some (a, b)) where
   of : read_of scope d place ≡ and_then (λ t. read_map (λ v. typed t (typed_as t v)) (read_value scope t b (at_item place 1))) (read_right_type scope.version a (at_item place 0))

@@ -19,7 +19,7 @@ use crate::heads::{read_function, read_signature_number};
 use crate::scope::{Globals, Scope};
 use crate::{Act, NoMemory, ScriptMove};
 use ffi3_json::{Key, Keys, Node, Reason, ScriptFault, Way, bad, check_object_at};
-use ffi3_types::FfiType;
+use ffi3_types::{FfiType, Members};
 use std::alloc::Global;
 
 /// The kinds of moves, each named by its key.
@@ -147,7 +147,7 @@ fn read_call(
     let ptr = read_pointer(alloc, scope, "call", value, at)?;
     let i = read_signature_number(alloc, globals.sigs, value, at)?;
     let sig = globals.sigs.get(i as usize);
-    let args = read_arguments(alloc, scope, sig.args(), value, at)?;
+    let args = read_arguments(alloc, scope, &Members::of_struct(sig.args()), value, at)?;
     let name = read_name(alloc, scope, sig.ret(), value, at)?;
     Ok(NamedAct {
         act: Act::Call { ptr, sig: i, args },

@@ -18,7 +18,7 @@ use crate::scope::Scope;
 use crate::values::{read_typed, read_value, read_values};
 use crate::{Act, Expr, TypedExpr};
 use ffi3_json::{Bytes, Node, Reason, ScriptFault, Way, bad};
-use ffi3_types::{FfiType, Fields};
+use ffi3_types::{FfiType, Members};
 use std::alloc::Global;
 
 /// The name of a move's result, which is of this type, where the move gives it one.
@@ -78,7 +78,7 @@ pub(crate) fn read_condition(
 pub(crate) fn read_arguments(
     alloc: Global,
     scope: &Scope,
-    types: &Fields,
+    types: &Members,
     value: &Node,
     at: &Way,
 ) -> Result<Vec<Expr>, ScriptFault>

@@ -14,7 +14,7 @@ pub(crate) enum TypedForm {
     Res,
     /// The user data of the closure.
     User,
-    /// An element of a struct.
+    /// An element of a struct or an array.
     Field,
     /// A value against a type.
     Of,

@@ -17,7 +17,7 @@ use crate::decimal::read_decimal;
 use crate::scope::Scope;
 use crate::{Expr, NoMemory, TypedExpr};
 use ffi3_json::{Node, Reason, ScriptFault, Way, bad, bad_type, read_type_at};
-use ffi3_types::{Bytes, FfiType, Fields, check_type, same_type};
+use ffi3_types::{Bytes, FfiType, Members, check_type, same_type};
 use ffi3_values::{Value, integer};
 use hex::FromHex;
 use serde_json::Number;
@@ -205,30 +205,30 @@ pub(crate) fn user_of(alloc: Global, value: &Node, at: &Way) -> Result<TypedExpr
     }
 }
 
-/// An element, by its number, of a struct of these elements.
+/// An element, by its number, of a struct or an array whose elements have these types.
 pub(crate) fn element_of(
     alloc: Global,
     value: Expr,
-    fields: &Fields,
+    types: &Members,
     number: &Node,
     at: &Way,
 ) -> Result<TypedExpr, ScriptFault>
     ensures ok { IfOk result
-        (λ v. element_of (expression_of value) fields.now (option_and_then as_u64 (as_number number.now)) at.now
+        (λ v. element_of (expression_of value) types.now (option_and_then as_u64 (as_number number.now)) at.now
         ≡ read (typed_of v)) }
     ensures err { IfErr result
-        (Reports (λ p r. element_of (expression_of value) fields.now
+        (Reports (λ p r. element_of (expression_of value) types.now
         (option_and_then as_u64 (as_number number.now)) at.now ≡ fault p r)) }
 {
     let value = boxed(alloc, value)?;
     let Some(i) = number.json().as_u64() else {
         return Err(bad(alloc, at, Reason::NoSuchField));
     };
-    if i >= fields.len() as u64 {
+    if i >= types.len() as u64 {
         return Err(bad(alloc, at, Reason::NoSuchField));
     }
     Ok(TypedExpr {
-        ty: fields.get(i as usize).copy(alloc)?,
+        ty: types.get(i as usize).copy(alloc)?,
         value: Expr::Element(value, i as u32),
     })
 }
@@ -283,6 +283,6 @@ pub(crate) fn read_right_type(
     let ty = read_type_at(alloc, value, at, version)?;
     match check_type(&ty, false) {
         Ok(()) => Ok(ty),
-        Err(fault) => Err(bad_type(alloc, at, &fault)),
+        Err(fault) => Err(bad_type(alloc, at, &ty, &fault)),
     }
 }

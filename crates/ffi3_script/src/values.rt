@@ -17,7 +17,8 @@ use crate::plain::{
 use crate::scope::Scope;
 use crate::{Expr, TypedExpr};
 use ffi3_json::{Node, Nodes, Reason, ScriptFault, Way, bad};
-use ffi3_types::{FfiType, Fields};
+use ffi3_script_body::element_types;
+use ffi3_types::{FfiType, Members};
 use std::alloc::Global;
 
 /// The value of a type that a JSON value at a place is.
@@ -43,13 +44,13 @@ pub(crate) fn read_value(
         return read_text(alloc, ty, text, at);
     }
     if let Some(items) = value.items() {
-        let FfiType::Struct(fields) = ty else {
+        let Some(types) = element_types(ty) else {
             return Err(bad(alloc, at, Reason::WrongType));
         };
-        if items.len() != fields.len() {
+        if items.len() != types.len() {
             return Err(bad(alloc, at, Reason::WrongCount));
         }
-        let values = read_values(alloc, scope, fields, &items, at)?;
+        let values = read_values(alloc, scope, &types, &items, at)?;
         return Ok(Expr::of_elements(values));
     }
     let Some((name, inside)) = value.only_member() else {
@@ -63,7 +64,7 @@ pub(crate) fn read_value(
 pub(crate) fn read_values(
     alloc: Global,
     scope: &Scope,
-    types: &Fields,
+    types: &Members,
     items: &Nodes,
     at: &Way,
 ) -> Result<Vec<Expr>, ScriptFault>
@@ -211,7 +212,7 @@ fn read_own(
     }
 }
 
-// An array of a struct with a type of its own, and the number of an element.
+// An array of two: the value of a struct or an array, with a type of its own, and the number of an element.
 #[cycle(values)]
 fn read_field(
     alloc: Global,
@@ -232,10 +233,10 @@ fn read_field(
     };
     let first = place.item(0);
     let TypedExpr { ty, value } = read_typed(alloc, scope, &inner, &first)?;
-    let FfiType::Struct(fields) = &ty else {
+    let Some(types) = element_types(&ty) else {
         return Err(bad(alloc, &first, Reason::WrongType));
     };
-    element_of(alloc, value, fields, &number, at)
+    element_of(alloc, value, &types, &number, at)
 }
 
 // An array of a type, and a value against it.

@@ -1,8 +1,8 @@
 -- What is evaluated has the type, and the parts of a value of a type have theirs.
-use Rattle.std.proofs.Common.{◌≡◌, ℕ, ◌<◌, Bool, true, false, List, length, ap, sym, ◌∙◌, subst, arith}
+use Rattle.std.proofs.Common.{◌≡◌, ℕ, ◌<◌, Bool, true, false, List, length, replicate, ap, sym, ◌∙◌, subst, arith}
 use Rattle.std.specs.Prelude.{slice_index_or, nat_lt}
 use Rattle.std.proofs.lemmas.Bool.{ltb-true}
-use Rattle.ffi3_type_rules.specs.Tree.{Tree, void, scalar, left_out, structure, tree_at, list_of, elements_of, trees_of-list_of, pointer, Scalar}
+use Rattle.ffi3_type_rules.specs.Tree.{Tree, void, scalar, left_out, structure, array, no_trees, tree, tree_at, list_of, elements_of, trees_of-list_of, pointer, Scalar}
 use Rattle.ffi3_type_rules.specs.Integer.{scalar_of, is_number, is_number_type}
 use Rattle.ffi3_type_rules.specs.Value.{ValueTree, struct_value, void_value, fits}
 use Rattle.ffi3_type_rules.specs.Value as values
@@ -57,11 +57,15 @@ pub element_there : (u : Tree) (vs : List ValueTree) (i : ℕ) (t : Tree) → fi
 element_there (structure ts) vs i t h here =
     let whole = fitting_lengths (list_of ts) vs (subst (λ us. values.all_fit us (values.values_of vs) ≡ true) (sym (trees_of-list_of ts)) h) in
     omega (arith, whole, ltb-true i (length (list_of ts)) (and_left (nat_lt i (length (list_of ts))) _ here))
+element_there (array no_trees n) vs i t h here = cc
+element_there (array (tree u us) n) vs i t h here =
+    let whole = fitting_lengths (replicate n u) vs h in
+    omega (arith, whole, ltb-true i (length (replicate n u)) (and_left (nat_lt i (length (replicate n u))) _ here))
 element_there void vs i t h here = cc
 element_there (scalar s) vs i t h here = cc
 element_there (left_out k) vs i t h here = cc
 
--- an element of a struct
+-- an element of a struct or an array
 pub element_is : (whole : ValueTree) (vs : List ValueTree) (i : ℕ) → struct_value (values.values_of vs) ≡ whole → slice_index_or vs i void_value ≡ element_value whole i
 element_is whole vs i is =
     ap (λ ws. slice_index_or ws i void_value) (sym (list_and_back vs)) ∙ ap (λ w. element_value w i) is
@@ -72,6 +76,7 @@ number_type s (scalar r) h = and_right (same_scalar s r) (is_number r) h
 number_type s void h = cc
 number_type s (left_out k) h = cc
 number_type s (structure ts) h = cc
+number_type s (array ts n) h = cc
 
 -- the scalar of a number's type
 pub number_scalar : (s : Scalar) (t : Tree) → is_number_of s t ≡ true → scalar_of t ≡ s
@@ -79,3 +84,4 @@ number_scalar s (scalar r) h = sym (scalars_are_same s r (and_left (same_scalar 
 number_scalar s void h = cc
 number_scalar s (left_out k) h = cc
 number_scalar s (structure ts) h = cc
+number_scalar s (array ts n) h = cc

@@ -1,4 +1,5 @@
 pub mod Rows
+pub mod ListTypes
 pub mod Evaluated
 pub mod Parts
 mod Walked

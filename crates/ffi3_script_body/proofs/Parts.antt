@@ -1,6 +1,7 @@
 -- The parts of a value of the code: their types, and what the value is, given theirs.
-use Rattle.std.proofs.Common.{◌≡◌, ℕ, zero, suc, ◌+◌, ◌<◌, ◌≤◌, true, List, [], ◌∷◌, length, Box, Vec, Global, ◌-ℤ◌, ◌≢◌, refl, ap, sym, ◌∙◌, subst, arith, get_or}
-use Rattle.ffi3_type_rules.specs.Tree.{Tree, scalar, struct_of, trees_of, elements_of}
+use Rattle.std.proofs.Common.{◌≡◌, ℕ, zero, suc, ◌+◌, ◌<◌, ◌≤◌, true, List, [], ◌∷◌, Some, None, length, Box, Vec, Global, ◌-ℤ◌, ◌≢◌, refl, ap, sym, ◌∙◌, subst, arith, get_or}
+use Rattle.std.proofs.lemmas.Bool.{false≢true}
+use Rattle.ffi3_type_rules.specs.Tree.{Tree, scalar, trees_of, elements_of}
 use Rattle.ffi3_type_rules.specs.Integer.{scalar_of, is_number, bytes_of_number, number_of, sum_of}
 use Rattle.ffi3_type_rules.specs.Value.{ValueTree, struct_value, leaf_value, bytes_of, list_of_values}
 use Rattle.ffi3_type_rules.specs.Value as values
@@ -8,12 +9,16 @@ use Rattle.ffi3_types.specs.declared.FfiType.{FfiType}
 use Rattle.ffi3_types.specs.TreeOf.{tree_of}
 use Rattle.ffi3_script_rules.specs.Script as script
 use Rattle.ffi3_script_rules.specs.Meaning.{Known, value_of, values_of}
-use Rattle.ffi3_script_rules.specs.Typed.{Kinds, has_type, have_types, own_type, is_at, is_integer_of, is_number_of, is_struct}
+use Rattle.ffi3_script_rules.specs.Typed.{Kinds, has_type, have_types, own_type, is_at, is_integer_of, is_number_of, trees_in}
+use Rattle.ffi3_script_rules.specs.Values.{is_list_type}
+use Rattle.ffi3_script_rules.proofs.TypedValues.{elements_in}
 use Rattle.ffi3_script_rules.proofs.Fits.{number_by_integer, values_of-list_of_values}
 use Rattle.ffi3_script_rules.proofs.Tests.{and_left, and_right}
 use Rattle.ffi3_script_body.specs.ExprOf.{expression_of, expressions_in}
 use Rattle.ffi3_script_body.specs.declared.expr.Expr.{Expr, Constant, Composed, Composed', Argument, Outcome, User, Element, Element', TypedAs, TypedAs', Sum, Sum', Difference, Difference', Cast, Cast', roll-Expr, roll-out-Expr}
 use Rattle.ffi3_script_body.specs.declared.expr.Expr.TheVariants.{rolls-Composed, outs-Composed'}
+use Rattle.ffi3_script_body.specs.ListTypes.{element_types}
+use Rattle.ffi3_script_body.proofs.ListTypes.{some_types, no_types}
 use Rattle.ffi3_script_body.proofs.Rows.{composed_is}
 use Rattle.ffi3_script_body.proofs.Evaluated.{has_own_type, number_scalar}
 
@@ -28,10 +33,19 @@ pub has_type_at : (k : Kinds) (t : Tree) (e f : Expr) → e ≡ f → has_type k
 has_type_at k t e f is h = has_type_as k t f e (sym is) h
 
 module _ (k : Kinds) (t : Tree) (e : Expr) (h : has_type k t (expression_of e) ≡ true) where
-  pub of_composed : (types : List Tree) (es : Vec Expr Global) → t ≡ struct_of types → e ≡ Composed es → have_types k (trees_of types) (expressions_in es.items) ≡ true
-  of_composed types es is_t is =
-      let here : has_type k (struct_of types) (script.composed (expressions_in es.items)) ≡ true = subst (λ x. has_type k (struct_of types) x ≡ true) (composed_is es) (subst (λ u. has_type k u (expression_of (Composed es)) ≡ true) is_t (has_type_as k t e (Composed es) is h)) in
-      and_right (is_struct (struct_of types)) _ here
+  composed_here : (es : Vec Expr Global) → e ≡ Composed es → has_type k t (script.composed (expressions_in es.items)) ≡ true
+  composed_here es is =
+      subst (λ x. has_type k t x ≡ true) (composed_is es) (has_type_as k t e (Composed es) is h)
+
+  -- a list has a type whose values are lists
+  pub of_list_type : (es : Vec Expr Global) → e ≡ Composed es → None ≡ element_types t → ⊥
+  of_list_type es is none =
+      false≢true (sym (no_types t none) ∙ and_left (is_list_type t) _ (composed_here es is))
+
+  pub of_composed : (types : List Tree) (es : Vec Expr Global) → Some types ≡ element_types t → e ≡ Composed es → have_types k (trees_of types) (expressions_in es.items) ≡ true
+  of_composed types es some is =
+      let same : trees_in t ≡ trees_of types = sym (elements_in t) ∙ ap trees_of (sym (some_types t types some).1) in
+      subst (λ ts. have_types k ts (expressions_in es.items) ≡ true) same (and_right (is_list_type t) _ (composed_here es is))
 
   module _ (ty : FfiType) (a b : Box Expr Global) where
     pub of_sum : e ≡ Sum ty a b → (is_number_of (scalar_of (tree_of ty)) t ≡ true) × ((has_type k t (expression_of a.value) ≡ true) × (has_type k t (expression_of b.value) ≡ true))

@@ -1,4 +1,4 @@
--- The elements of a struct's value, as a list.
+-- The elements of the value of a struct or an array, as a list.
 use Rattle.std.proofs.Common.{◌≡◌, ℕ, zero, suc, ◌+◌, ◌<◌, ◌≤◌, true, List, [], ◌∷◌, ◌++◌, Vec, Global, length, map, take, refl, ap, sym, ◌∙◌, subst, arith, get_or}
 use Rattle.ffi3_type_rules.specs.Tree.{Tree, trees_of, tree_at}
 use Rattle.ffi3_type_rules.specs.Value.{ValueTree, list_of_values}
@@ -19,7 +19,7 @@ abbrev row_of_value : Expr → (n : _) × Row_of-Expr n
 row_of_value (Composed' shape row) = (_, row)
 row_of_value _ = (_, end_of-Expr)
 
--- a struct's value is composed of those in its list
+-- such a value is composed of those in its list
 pub composed_is : (es : Vec Expr Global) → expression_of (Composed es) ≡ script.composed (expressions_in es.items)
 composed_is es =
     ap script.composed (row_is _ (row_of_value (Composed es)).1 ∙ ap expressions_in (items_hidden-the_row-Expr-0 es))

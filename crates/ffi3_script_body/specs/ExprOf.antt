@@ -26,7 +26,7 @@ abbrev mutual
   expression_of (Cast' from to p e) =
       script.cast (scalar_of (tree_of from)) (scalar_of (tree_of to)) (expression_of e)
 
-  -- those of a struct's elements
+  -- those of the elements of a struct or an array
   pub row_of : {m : _} → Row_of-Expr m → Expressions
   row_of end_of-Expr = no_expressions
   row_of (more_of-Expr e es) = expression (expression_of e) (row_of es)

@@ -1,4 +1,5 @@
 pub mod ExprOf
+pub mod ListTypes
 pub mod Own
 pub mod Always
 pub mod KindOf

@@ -12,7 +12,7 @@ use crate::eval::{eval, eval_all};
 use crate::known::Known;
 use crate::{Act, NoMemory, ScriptMove};
 use ffi3_body::{Body, Move, Seen};
-use ffi3_types::{FfiType, Sigs};
+use ffi3_types::{FfiType, Members, Sigs};
 use ffi3_values::Value;
 use std::alloc::Global;
 use std::rc::Rc;
@@ -121,7 +121,12 @@ impl ScriptBody {
             Act::Call { ptr, sig, args } => Move::Call {
                 ptr: address(alloc, known, ptr)?,
                 sig: *sig,
-                args: eval_all(alloc, known, self.sigs.get(*sig as usize).args(), args)?,
+                args: eval_all(
+                    alloc,
+                    known,
+                    &Members::of_struct(self.sigs.get(*sig as usize).args()),
+                    args,
+                )?,
             },
             Act::Make { func, user } => Move::Make {
                 func: *func,

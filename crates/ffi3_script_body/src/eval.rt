@@ -10,9 +10,10 @@ ghost use Rattle.ffi3_script_rules.specs.Typed.{has_type, have_types, own_type};
 ghost use Rattle.ffi3_script_body.specs.ExprOf.{expression_of, expressions_in};
 ghost use Rattle.ffi3_script_body.specs.KnownAt.{kinds_of, known_of};
 
+use crate::elements::element_types;
 use crate::known::Known;
 use crate::{Expr, NoMemory};
-use ffi3_types::{FfiType, Fields};
+use ffi3_types::{FfiType, Members};
 use ffi3_values::{Bytes, Value, Values, add, cast, sub};
 use std::alloc::Global;
 
@@ -47,10 +48,10 @@ pub(crate) fn eval(alloc: Global, known: &Known, ty: &FfiType, e: &Expr) -> Resu
     match e {
         Expr::Constant(bytes) => Ok(Value::Leaf(Bytes::from_slice(alloc, bytes.as_slice())?)),
         Expr::Composed(es) => {
-            let FfiType::Struct(fields) = ty else {
+            let Some(types) = element_types(ty) else {
                 unreachable!()
             };
-            Ok(Value::List(eval_all(alloc, known, fields, es)?))
+            Ok(Value::List(eval_all(alloc, known, &types, es)?))
         }
         Expr::Sum(_, a, b) => {
             let a = eval(alloc, known, ty, a)?;
@@ -102,7 +103,7 @@ fn eval_own(alloc: Global, known: &Known, e: &Expr) -> Result<Value, NoMemory>
 pub(crate) fn eval_all(
     alloc: Global,
     known: &Known,
-    types: &Fields,
+    types: &Members,
     es: &Vec<Expr>,
 ) -> Result<Values, NoMemory>
     requires { have_types (kinds_of known.now) (trees_of types.now) (expressions_in es.now.items) ≡ true }

@@ -7,7 +7,7 @@ use ffi3_types::{Bytes, FfiType};
 pub enum Expr {
     /// The bytes of a scalar, in memory order.
     Constant(Bytes),
-    /// A struct, by the values of its elements.
+    /// A struct or an array, by the values of its elements.
     Composed(Vec<Expr>),
     /// The argument of this number.
     Argument(u32),
@@ -15,7 +15,7 @@ pub enum Expr {
     Outcome(u32),
     /// The user data of the closure, as a pointer.
     User,
-    /// The element of this number of a struct.
+    /// The element of this number of a struct or an array.
     Element(Box<Expr>, u32),
     /// A value that the script says is of this type.
     TypedAs(FfiType, Box<Expr>),
@@ -32,7 +32,7 @@ impl Expr {
     ghost use Rattle.ffi3_script_rules.specs.Script as script;
     ghost use Rattle.ffi3_script_body.specs.ExprOf.{expression_of, expressions_in};
 
-    /// A struct of these elements.
+    /// A struct or an array of these elements.
     pub fn of_elements(values: Vec<Expr>) -> Expr
         ensures { expression_of result ≡ script.composed (expressions_in values.items) }
     {

@@ -4,6 +4,7 @@
 mod body;
 mod cursor;
 mod doing;
+mod elements;
 mod eval;
 mod expr;
 mod known;
@@ -11,6 +12,7 @@ mod moves;
 
 pub use body::{MoveKind, ScriptBody};
 pub use cursor::Cursor;
+pub use elements::element_types;
 pub use expr::Expr;
 /// A want of memory: the one answer that no clause ties to a cause.
 pub use ffi3_types::NoMemory;

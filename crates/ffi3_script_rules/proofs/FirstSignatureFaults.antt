@@ -2,6 +2,8 @@
 use Rattle.std.proofs.Common.{◌≡◌, ℕ, zero, suc, ◌+◌, ◌-◌, ◌<◌, ◌≤◌, ◌⊎◌, inl, inr, Bool, true, false, List, [], ◌∷◌, length, drop, Option, Some, None, option_map, refl, ap, sym, ◌∙◌, subst, cond, nat_lt, ◌||◌, ◌==◌, arith}
 use Rattle.std.proofs.lemmas.Bool.{cases_order, ltb-true, ltb-false, eqb-true, eqb-false, or_cases, or_parts}
 use Rattle.std.proofs.lemmas.List.{get_or-drop, length-drop}
+use Rattle.ffi3_type_rules.specs.declared.limits.TheConstants.{MOST_ARGUMENTS}
+use Rattle.ffi3_type_rules.specs.declared.Role.TheVariants.{AsResult, AsArgument}
 use Rattle.ffi3_type_rules.specs.Tree.{Tree, void, tree_at}
 use Rattle.ffi3_type_rules.specs.Fault.{Fault, IsFirstFault, IsResultType, IsArgumentType}
 use Rattle.ffi3_type_rules.specs.Signature.{Signature, SignatureFault, too_many, bad_type, bad_fixed, bad_argument_type, at_result, at_argument, is_promoted, IsSignatureFault, over_most, in_result, in_argument, fixed_outside, promoted, kind_rank, argument_number, SignatureFaultBefore, SignatureHasNoFault, IsFirstSignatureFault}
@@ -24,14 +26,14 @@ record FirstArgument (i : ℕ) (ts : List Tree) (f : SignatureFault) : Type 0 wh
   pub leads : f ≡ bad_type (at_argument (i + number)) way fault
   pub there : number < length ts
   pub right_before : (j : ℕ) → j < number → IsArgumentType (tree_at ts j)
-  pub first : IsFirstFault 0 false (tree_at ts number) way fault
+  pub first : IsFirstFault 0 AsArgument (tree_at ts number) way fault
 
 -- of arguments, the first of them number i
 abbrev ArgumentsAnswer : ℕ → List Tree → Option SignatureFault → Type 0
 ArgumentsAnswer i ts None = (j : ℕ) → j < length ts → IsArgumentType (tree_at ts j)
 ArgumentsAnswer i ts (Some f) = FirstArgument i ts f
 
-argument_in_front : (i : ℕ) (t : Tree) (ts : List Tree) (f : Option Found) (g : Option SignatureFault) → Answers 0 false t f → ArgumentsAnswer (i + 1) ts g → ArgumentsAnswer i (t ∷ ts) (or_else (option_map (at_position (at_argument i)) f) g)
+argument_in_front : (i : ℕ) (t : Tree) (ts : List Tree) (f : Option Found) (g : Option SignatureFault) → Answers 0 AsArgument t f → ArgumentsAnswer (i + 1) ts g → ArgumentsAnswer i (t ∷ ts) (or_else (option_map (at_position (at_argument i)) f) g)
 argument_in_front i t ts (Some f) g first others =
     record { number = 0; way = f.0; fault = f.1; leads = ap (λ n. bad_type (at_argument n) f.0 f.1) (omega arith); there = omega arith; right_before = λ j h. absurd (omega arith); first = first }
 argument_in_front i t ts None None right rights = each
@@ -49,7 +51,7 @@ argument_in_front i t ts None (Some g) right first =
 arguments_answer : (i : ℕ) (ts : List Tree) → ArgumentsAnswer i ts (first_in_arguments i ts)
 arguments_answer i [] = λ j h. absurd (omega arith)
 arguments_answer i (t ∷ ts) =
-    argument_in_front i t ts (first_fault 0 false t) (first_in_arguments (i + 1) ts) (answers 0 false t) (arguments_answer (i + 1) ts)
+    argument_in_front i t ts (first_fault 0 AsArgument t) (first_in_arguments (i + 1) ts) (answers 0 AsArgument t) (arguments_answer (i + 1) ts)
 
 -- one of them is promoted, and none before it
 record FirstPromoted (i : ℕ) (ts : List Tree) (f : SignatureFault) : Type 0 where
@@ -87,7 +89,7 @@ after_drop : (n : ℕ) (ts : List Tree) (i : ℕ) → tree_at (drop n ts) i ≡ 
 after_drop n ts i = get_or-drop n ts i void
 
 -- the kinds of faults, one after another
-module _ (s : Signature) (few : length s.arguments ≤ 64) where
+module _ (s : Signature) (few : length s.arguments ≤ MOST_ARGUMENTS) where
   module _ (result_right : IsResultType s.result_type) where
     module _ (right : (j : ℕ) → j < length s.arguments → IsArgumentType (tree_at s.arguments j)) where
       by_promoted : (n : ℕ) → s.fixed ≡ Some n → 0 < n → n ≤ length s.arguments → (f : Option SignatureFault) → PromotedAnswer n (drop n s.arguments) f → SignatureAnswers s f
@@ -126,18 +128,18 @@ module _ (s : Signature) (few : length s.arguments ≤ 64) where
         let leads : bad_type (at_argument a.number) a.way a.fault ≡ f = ap (λ n. bad_type (at_argument n) a.way a.fault) (omega arith) ∙ sym a.leads in
         subst (IsFirstSignatureFault s) leads (first_in_argument s few result_right a.number a.way a.fault a.there a.right_before a.first)
 
-  by_result : (f : Option Found) → Answers 0 true s.result_type f → SignatureAnswers s (or_else (option_map (at_position at_result) f) (or_else (first_in_arguments 0 s.arguments) (first_in_fixed s.fixed s.arguments)))
+  by_result : (f : Option Found) → Answers 0 AsResult s.result_type f → SignatureAnswers s (or_else (option_map (at_position at_result) f) (or_else (first_in_arguments 0 s.arguments) (first_in_fixed s.fixed s.arguments)))
   by_result None right =
       by_arguments right (first_in_arguments 0 s.arguments) (arguments_answer 0 s.arguments)
   by_result (Some f) first = first_in_result s few f.0 f.1 first
 
-by_count : (s : Signature) (b : Bool) → nat_lt 64 (length s.arguments) ≡ b → SignatureAnswers s (cond b (Some (too_many (length s.arguments))) (or_else (option_map (at_position at_result) (first_fault 0 true s.result_type)) (or_else (first_in_arguments 0 s.arguments) (first_in_fixed s.fixed s.arguments))))
-by_count s true e = first_too_many s (ltb-true 64 (length s.arguments) e)
+by_count : (s : Signature) (b : Bool) → nat_lt MOST_ARGUMENTS (length s.arguments) ≡ b → SignatureAnswers s (cond b (Some (too_many (length s.arguments))) (or_else (option_map (at_position at_result) (first_fault 0 AsResult s.result_type)) (or_else (first_in_arguments 0 s.arguments) (first_in_fixed s.fixed s.arguments))))
+by_count s true e = first_too_many s (ltb-true MOST_ARGUMENTS (length s.arguments) e)
 by_count s false e =
-    by_result s (ltb-false 64 (length s.arguments) e) (first_fault 0 true s.result_type) (answers 0 true s.result_type)
+    by_result s (ltb-false MOST_ARGUMENTS (length s.arguments) e) (first_fault 0 AsResult s.result_type) (answers 0 AsResult s.result_type)
 
 pub signature_answers : (s : Signature) → SignatureAnswers s (first_signature_fault s)
-signature_answers s = by_count s (nat_lt 64 (length s.arguments)) refl
+signature_answers s = by_count s (nat_lt MOST_ARGUMENTS (length s.arguments)) refl
 
 pub signature_right_by_none : (s : Signature) → first_signature_fault s ≡ None → SignatureHasNoFault s
 signature_right_by_none s e = subst (SignatureAnswers s) e (signature_answers s)
@@ -161,7 +163,7 @@ same_by_kind s f g (in_result a) (promoted is from below b) kind number = absurd
 same_by_kind s f g (in_argument low a) (over_most b) kind number = absurd (omega arith)
 same_by_kind s f g (in_argument low a) (in_result b) kind number = absurd (omega arith)
 same_by_kind s f g (in_argument {i = n} {path = p} {fault = x} low a) (in_argument {i = m} {path = q} {fault = y} below b) kind number =
-    let same = one_first_fault p x q y a (subst (λ k. IsFirstFault 0 false (tree_at s.arguments k) q y) (sym number) b) in
+    let same = one_first_fault p x q y a (subst (λ k. IsFirstFault 0 AsArgument (tree_at s.arguments k) q y) (sym number) b) in
     λ i. bad_type (at_argument (number i)) (same.0 i) (same.1 i)
 same_by_kind s f g (in_argument low a) (fixed_outside is b) kind number = absurd (omega arith)
 same_by_kind s f g (in_argument low a) (promoted is from below b) kind number = absurd (omega arith)

@@ -1,10 +1,11 @@
 -- WELL-TYPED VALUES FIT THEIR TYPES, and the moves of a well-typed body fit.
 use Rattle.std.proofs.Common.{◌≡◌, ℕ, ◌<◌, suc, Bool, true, false, Option, Some, None, List, [], ◌∷◌, ◌++◌, length, take, refl, ap, ◌∙◌, subst, arith}
-use Rattle.std.specs.Prelude.{slice_index_or, nat_lt, ◌&&◌, is_none}
+use Rattle.std.specs.Prelude.{slice_index_or, nat_lt, ◌&&◌, is_none, replicate}
 use Rattle.std.specs.Int.{w64, to_le_bytes}
 use Rattle.std.specs.List.{list_all}
 use Rattle.std.proofs.lemmas.Bool.{eq-eqb, ltb-true}
-use Rattle.ffi3_type_rules.specs.Tree.{Scalar, u8, s8, u16, s16, u32, s32, u64, s64, u128, s128, float, double, pointer, Tree, void, scalar, left_out, structure, Trees, no_trees, tree, tree_at, trees_of, list_of, elements_of, trees_of-list_of}
+use Rattle.ffi3_type_rules.specs.Tree.{Scalar, u8, s8, u16, s16, u32, s32, u64, s64, u128, s128, float, double, pointer, Tree, void, scalar, left_out, structure, array, Trees, no_trees, tree, tree_at, trees_of, list_of, elements_of, trees_of-list_of}
+use Rattle.ffi3_type_rules.specs.declared.Role.TheVariants.{Anywhere}
 use Rattle.ffi3_type_rules.specs.Integer.{is_integer, is_number, bytes_of_number, number_of, sum_of}
 use Rattle.ffi3_type_rules.specs.Layout.{scalar_size}
 use Rattle.ffi3_type_rules.specs.Value.{ValueTree, ValueTrees, no_values, value, void_value, leaf_value, struct_value, bytes_of, list_of_values, zero_value, fits, all_fit}
@@ -15,9 +16,10 @@ use Rattle.ffi3_type_rules.proofs.Widened.{length-bytes_of_number}
 use Rattle.ffi3_script_rules.specs.Script.{Expression, constant, composed, argument, outcome, user_data, element, typed_as, sum, difference, cast, Expressions, no_expressions, expression, Act, call, make, free, print, return, return_void, ScriptMove, Typed}
 use Rattle.ffi3_run_rules.specs.Move.{Move, MoveFits, result_type_of}
 use Rattle.ffi3_script_rules.specs.FirstFault.{first_fault}
+use Rattle.ffi3_script_rules.specs.Values.{is_list_type}
 use Rattle.ffi3_script_rules.specs.Bodies.{type_of_act, is_return, ends}
 use Rattle.ffi3_script_rules.specs.Meaning.{Known, value_of, values_of, element_value, difference_of, is_done, move_of, next_by, next_of, knows_too, behaviour_of, known}
-use Rattle.ffi3_script_rules.specs.Typed.{Kinds, is_at, own_type, is_scalar_of, is_integer_of, is_number_of, is_struct, trees_in, has_type, have_types, same_scalar, Setting, is_right, signature_is_right, act_is_typed, gives_too, moves_are_typed, body_is_typed, IsOfType, is_condition}
+use Rattle.ffi3_script_rules.specs.Typed.{Kinds, is_at, own_type, is_scalar_of, is_integer_of, is_number_of, trees_in, has_type, have_types, same_scalar, Setting, is_laid_out, signature_is_right, act_is_typed, gives_too, moves_are_typed, body_is_typed, IsOfType, is_condition}
 use Rattle.ffi3_script_rules.proofs.Tests.{and_left, and_right, both, types_are_same, scalars_are_same}
 use Rattle.ffi3_script_rules.proofs.FirstFaults.{right_by_none}
 use Rattle.ffi3_script_rules.proofs.RightTypes.{is_none-none, zero_fits, any_result_type_is_right}
@@ -47,6 +49,11 @@ element_fits (structure ts) (leaf_value bytes) i t h here = cc
 element_fits void v i t h here = absurd (nowhere i t here)
 element_fits (scalar s) v i t h here = absurd (nowhere i t here)
 element_fits (left_out k) v i t h here = absurd (nowhere i t here)
+element_fits (array no_trees n) v i t h here = cc
+element_fits (array (tree u us) n) (struct_value vs) i t h here =
+    at_place (replicate n u) (list_of_values vs) i t (ap (all_fit (trees_of (replicate n u))) (values_of-list_of_values vs) ∙ h) here
+element_fits (array (tree u us) n) void_value i t h here = cc
+element_fits (array (tree u us) n) (leaf_value bytes) i t h here = cc
 
 -- a leaf of as many bytes as the type has
 leaf_fits : (t : Tree) (bytes : List ℕ) → is_scalar_of (length bytes) t ≡ true → fits t (leaf_value bytes) ≡ true
@@ -54,6 +61,7 @@ leaf_fits (scalar s) bytes h = h
 leaf_fits void bytes h = cc
 leaf_fits (left_out k) bytes h = cc
 leaf_fits (structure ts) bytes h = cc
+leaf_fits (array ts n) bytes h = cc
 
 -- the bytes of a number
 number_fits : (s : Scalar) (t : Tree) (bytes : List ℕ) → length bytes ≡ scalar_size s → is_number_of s t ≡ true → fits t (leaf_value bytes) ≡ true
@@ -63,6 +71,7 @@ number_fits s (scalar r) bytes n h =
 number_fits s void bytes n h = cc
 number_fits s (left_out k) bytes n h = cc
 number_fits s (structure ts) bytes n h = cc
+number_fits s (array ts count) bytes n h = cc
 
 pub integer_is_number : (s : Scalar) → is_integer s ≡ true → is_number s ≡ true
 integer_is_number u8 h = refl
@@ -86,12 +95,15 @@ number_by_integer s (scalar r) h =
 number_by_integer s void h = cc
 number_by_integer s (left_out k) h = cc
 number_by_integer s (structure ts) h = cc
+number_by_integer s (array ts n) h = cc
 
-composed_fits : (t : Tree) (vs : ValueTrees) → is_struct t ≡ true → all_fit (trees_in t) vs ≡ true → fits t (struct_value vs) ≡ true
+composed_fits : (t : Tree) (vs : ValueTrees) → is_list_type t ≡ true → all_fit (trees_in t) vs ≡ true → fits t (struct_value vs) ≡ true
 composed_fits (structure ts) vs h each = each
 composed_fits void vs h each = cc
 composed_fits (scalar s) vs h each = cc
 composed_fits (left_out k) vs h each = cc
+composed_fits (array no_trees n) vs h each = cc
+composed_fits (array (tree t ts) n) vs h each = each
 
 pointer_fits : (t : Tree) (address : ℕ) → scalar pointer ≡ t → fits t (leaf_value (to_le_bytes w64 address)) ≡ true
 pointer_fits t address same = subst (λ u. fits u (leaf_value (to_le_bytes w64 address)) ≡ true) same refl
@@ -102,7 +114,7 @@ module _ (kinds : Kinds) (k : Known) (arguments : all_fit (trees_of kinds.argume
     pub value_fits : (t : Tree) (e : Expression) → has_type kinds t e ≡ true → fits t (value_of k e) ≡ true
     value_fits t (constant bytes) h = leaf_fits t bytes h
     value_fits t (composed es) h =
-        composed_fits t (values_of k es) (and_left (is_struct t) _ h) (values_fit (trees_in t) es (and_right (is_struct t) _ h))
+        composed_fits t (values_of k es) (and_left (is_list_type t) _ h) (values_fit (trees_in t) es (and_right (is_list_type t) _ h))
     value_fits t (argument i) h = at_place kinds.arguments k.arguments i t arguments h
     value_fits t (outcome i) h = at_place kinds.outcomes k.outcomes i t outcomes h
     value_fits t user_data h = pointer_fits t k.user (types_are_same (scalar pointer) t h)
@@ -183,7 +195,7 @@ module _ (s : Setting) (right : list_all signature_is_right s.signatures ≡ tru
         ltb-true function s.functions (and_left (nat_lt function s.functions) _ h)
     act_fits (free to) h = tt
     act_fits (print v) h =
-        (right_by_none 0 true v.type (is_none-none (first_fault 0 true v.type) (and_left (is_right v.type) _ h)), value_fits kinds k arguments outcomes v.type v.value (and_right (is_right v.type) _ h))
+        (right_by_none 0 Anywhere v.type (is_none-none (first_fault 0 Anywhere v.type) (and_left (is_laid_out v.type) _ h)), value_fits kinds k arguments outcomes v.type v.value (and_right (is_laid_out v.type) _ h))
     act_fits (return e) h = value_fits kinds k arguments outcomes s.result_type e h
     act_fits return_void h = void_fits s.result_type (types_are_same void s.result_type h)
 

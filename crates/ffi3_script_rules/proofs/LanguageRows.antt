@@ -98,7 +98,7 @@ vector : of_signature (codes "{'ret':'vector','args':[]}") ≡ codes "/signature
 unfolding scripts_on_literals
 vector = refl
 
-large : of_signature (codes "{'ret':{'struct':[" ++ times 128 (codes "'slong',") ++ codes "'schar']},'args':[]}") ≡ codes "/signatures/0/ret: too large: 1032"
+large : of_signature (codes "{'ret':{'struct':[" ++ times 512 (codes "'slong',") ++ codes "'schar']},'args':[]}") ≡ codes "/signatures/0/ret: too large: 4104"
 unfolding scripts_on_literals
 large = refl
 

@@ -9,6 +9,7 @@ mod MeaningRows
 mod ComputedValueRows
 mod TypedRows
 mod WideRows
+mod ArrayRows
 pub mod Decimals
 mod MadeRows
 pub mod Tests

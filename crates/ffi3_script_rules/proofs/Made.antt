@@ -6,6 +6,8 @@ use Rattle.std.proofs.lemmas.Nat.{mod_below}
 use Rattle.std.proofs.lemmas.Bool.{lt-ltb, le-ltb}
 use Rattle.std.proofs.lemmas.List.{length-append}
 use Rattle.std.proofs.Math.Seq.{get_or-append_seam}
+use Rattle.ffi3_type_rules.specs.declared.limits.TheConstants.{MOST_ARGUMENTS}
+use Rattle.ffi3_type_rules.specs.declared.Role.TheVariants.{AsArgument}
 use Rattle.ffi3_type_rules.specs.Tree.{Tree, void, scalar, tree_at, trees_of, struct_of, elements_of, u8, s32, u64, float, double, pointer}
 use Rattle.ffi3_type_rules.specs.Layout.{least_multiple}
 use Rattle.ffi3_type_rules.specs.Signature.{Signature, at_argument, SignatureFault, too_many}
@@ -28,7 +30,7 @@ drawn_below n x some = mod_below (x / 65536) n some
 
 -- what is asked of a type that is drawn
 pub record IsMade (t : Tree) : Type 0 where
-  pub right : first_fault 0 false t ≡ None
+  pub right : first_fault 0 AsArgument t ≡ None
   pub fills : (k : Kinds) (n : ℕ) → has_type k t (filled n t) ≡ true
   pub adds : (k : Kinds) (so_far e : Expression) → has_type k (scalar u64) so_far ≡ true → own_type k e ≡ t → has_type k t e ≡ true → has_type k (scalar u64) (with_leaves so_far t e) ≡ true
 
@@ -36,7 +38,7 @@ pub record IsMade (t : Tree) : Type 0 where
 leaf_added : (k : Kinds) (so_far e : Expression) (t : Tree) → has_type k (scalar u64) so_far ≡ true → has_type k t e ≡ true → (has_type k (scalar u64) so_far && has_type k t e) ≡ true
 leaf_added k so_far e t h g = both (has_type k (scalar u64) so_far) (has_type k t e) h g
 
--- an element of a struct
+-- an element of a struct or an array
 element_has : (k : Kinds) (t u : Tree) (e : Expression) (i : ℕ) → own_type k e ≡ t → is_at (elements_of t) i u ≡ true → has_type k t e ≡ true → has_type k u (element e i) ≡ true
 element_has k t u e i own at h =
     subst (λ s. (is_at (elements_of s) i u && has_type k s e) ≡ true) (sym own) (both (is_at (elements_of t) i u) (has_type k t e) at h)
@@ -152,8 +154,8 @@ otherwise false f g h none = none
 pub made_signature_is_right : (ts : List Tree) → AreDrawn ts → signature_is_right (made_signature ts) ≡ true
 made_signature_is_right ts d =
     let count = length (ts ++ scalar u64 ∷ []) in
-    let few : count ≤ 64 = omega (arith, length-append ts (scalar u64 ∷ []), d.few) in
-    ap is_none (otherwise (nat_lt 64 count) (Some (too_many count)) (or_else (first_in_arguments 0 (ts ++ scalar u64 ∷ [])) None) (le-ltb 64 count few) (ap (λ f. or_else f None) (no_fault_in ts 0 d.made)))
+    let few : count ≤ MOST_ARGUMENTS = omega (arith, length-append ts (scalar u64 ∷ []), d.few) in
+    ap is_none (otherwise (nat_lt MOST_ARGUMENTS count) (Some (too_many count)) (or_else (first_in_arguments 0 (ts ++ scalar u64 ∷ [])) None) (le-ltb MOST_ARGUMENTS count few) (ap (λ f. or_else f None) (no_fault_in ts 0 d.made)))
 
 -- ---- arguments
 

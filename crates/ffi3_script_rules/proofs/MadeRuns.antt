@@ -7,7 +7,7 @@ use Rattle.std.proofs.lemmas.Bool.{le-ltb}
 use Rattle.std.proofs.lemmas.Nat.{from_le_bytes-to_le_bytes_8, mod_below}
 use Rattle.std.proofs.lemmas.List.{length-append}
 use Rattle.ffi3_type_rules.proofs.Values.{get_or-append_at}
-use Rattle.ffi3_type_rules.specs.Tree.{Tree, void, scalar, left_out, structure, Trees, no_trees, tree, Scalar, u64, pointer}
+use Rattle.ffi3_type_rules.specs.Tree.{Tree, void, scalar, left_out, structure, array, Trees, no_trees, tree, Scalar, u64, pointer}
 use Rattle.ffi3_type_rules.specs.Integer.{bytes_of_number, number_of, modulo, is_integer}
 use Rattle.ffi3_type_rules.specs.Signature.{Signature, signature_at}
 use Rattle.ffi3_type_rules.specs.Same.{same_list, same_signature}
@@ -47,6 +47,7 @@ module _ (k : Known) where
     leaves_are (scalar s) so_far e is = leaf_is (is_integer s) s so_far e is
     leaves_are (left_out kind) so_far e is = is
     leaves_are (structure ts) so_far e is = elements_are ts 0 so_far e is
+    leaves_are (array ts n) so_far e is = is
 
     elements_are : (ts : Trees) (i : ℕ) (so_far e : Expression) → IsWord (value_of k so_far) → IsWord (value_of k (with_elements so_far i ts e))
     elements_are no_trees i so_far e is = is

@@ -60,7 +60,8 @@ module _ (standard : Standard) where
   unfolding scripts_on_literals act act_within
   run_of_replaced = refl
 
-  run_of_endless : run_text (program_in standard [] endless) ≡ a_line (codes "stop: stack full: need 80, left 16")
+  -- by a standard by which each call needs 1,280 bytes
+  run_of_endless : run_text (record (program_in standard [] endless) { need = λ s. 1280 }) ≡ a_line (codes "stop: stack full: need 1280, left 256")
   unfolding scripts_on_literals act act_within
   run_of_endless = refl
 

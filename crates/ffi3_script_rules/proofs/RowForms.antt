@@ -129,6 +129,10 @@ print_of type value = codes "{'print':{'of':[" ++ type ++ codes "," ++ value ++ 
 abbrev pub with_main_in_2 : List ℕ → List ℕ
 with_main_in_2 moves = versioned_text (codes "2") [] [] (moves ++ codes ",{'return':null}")
 
+-- a script of one signature
+abbrev pub of_signature_in_2 : List ℕ → List ℕ
+of_signature_in_2 signature = tells (versioned_text (codes "2") signature [] last)
+
 -- `read`, or the line of its fault
 abbrev pub in_2 : (type value : List ℕ) → List ℕ
 in_2 type value = tells (with_main_in_2 (print_of type value))
@@ -137,6 +141,15 @@ in_2 type value = tells (with_main_in_2 (print_of type value))
 abbrev pub is_in_2 : Standard → (type value : List ℕ) → List ℕ
 is_in_2 standard type value =
     shown (main_of standard (with_main_in_2 (print_of type value)) [])
+
+-- the text of a print of main
+abbrev pub shows_in_2 : Standard → List ℕ → List ℕ
+shows_in_2 standard value =
+    shown (main_of standard (with_main_in_2 (codes "{'print':" ++ value ++ codes "}")) [])
+
+-- `read`, or the line of its fault
+abbrev pub printed_in_2 : List ℕ → List ℕ
+printed_in_2 value = tells (with_main_in_2 (codes "{'print':" ++ value ++ codes "}"))
 
 abbrev pub run_text : Program → List ℕ
 run_text p = lines.text_of_run lines.untraced p

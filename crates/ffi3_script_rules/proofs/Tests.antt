@@ -1,8 +1,8 @@
 -- What tests tell: of types that are the same, of conjunctions, and of a choice.
 use Rattle.std.proofs.Common.{◌≡◌, ℕ, Bool, true, false, List, [], ◌∷◌, refl, ap, ◌∙◌, sym}
-use Rattle.std.specs.Prelude.{◌&&◌, if◌then◌else◌, slice_index_or}
+use Rattle.std.specs.Prelude.{◌&&◌, ◌==◌, if◌then◌else◌, slice_index_or}
 use Rattle.std.proofs.lemmas.Bool.{eqb-true, eq-eqb}
-use Rattle.ffi3_type_rules.specs.Tree.{Scalar, u8, s8, u16, s16, u32, s32, u64, s64, u128, s128, float, double, pointer, scalar_number, LeftOutKind, long_double, complex, vector, Tree, void, scalar, left_out, structure, Trees, no_trees, tree}
+use Rattle.ffi3_type_rules.specs.Tree.{Scalar, u8, s8, u16, s16, u32, s32, u64, s64, u128, s128, float, double, pointer, scalar_number, LeftOutKind, long_double, complex, vector, Tree, void, scalar, left_out, structure, array, Trees, no_trees, tree}
 use Rattle.ffi3_type_rules.specs.Same.{same_tree, same_trees, same_list}
 pub use Rattle.ffi3_place_rules.proofs.Tests.{and_left, and_right}
 use Rattle.ffi3_script_rules.specs.Typed.{same_scalar}
@@ -60,6 +60,10 @@ mutual
   types_are_same (scalar r) (scalar s) h = ap scalar (scalars_are_same r s h)
   types_are_same (left_out k) (left_out l) h = ap left_out (kind_is_same k l h)
   types_are_same (structure ts) (structure us) h = ap structure (lists_are_same ts us h)
+  types_are_same (array ts m) (array us n) h =
+      let lists = lists_are_same ts us (and_left (same_trees ts us) (m == n) h) in
+      let counts = eqb-true m n (and_right (same_trees ts us) (m == n) h) in
+      λ i. array (lists i) (counts i)
   types_are_same _ _ h = cc
 
   pub lists_are_same : (ts us : Trees) → same_trees ts us ≡ true → ts ≡ us
@@ -79,6 +83,7 @@ mutual
   type_is_itself (scalar s) = eq-eqb (scalar_number s) (scalar_number s) refl
   type_is_itself (left_out k) = kind_is_itself k
   type_is_itself (structure ts) = list_is_itself ts
+  type_is_itself (array ts n) = both (same_trees ts ts) (n == n) (list_is_itself ts) (eq-eqb n n refl)
 
   pub list_is_itself : (ts : Trees) → same_trees ts ts ≡ true
   list_is_itself no_trees = refl

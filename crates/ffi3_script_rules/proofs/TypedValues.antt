@@ -10,25 +10,37 @@ use Rattle.hex.proofs.HexLemmas.{decode_pairs-ok}
 use Rattle.serde_json.specs.Data.{Data, null, boolean, number, string, array, object, Items, no_items, item, Members, no_members, member, Num}
 use Rattle.serde_json.specs.Find.{as_number, as_u64, as_str, as_integer}
 use Rattle.serde_json.specs.Events.{items_len}
-use Rattle.ffi3_type_rules.specs.Tree.{Tree, void, scalar, left_out, structure, Trees, no_trees, tree, tree_at, trees_of, list_of, elements_of, trees_of-list_of, Scalar, pointer}
+use Rattle.ffi3_type_rules.specs.Tree.{Tree, void, scalar, left_out, structure, no_trees, tree, tree_at, trees_of, elements_of, trees_of-list_of, Scalar, pointer}
+use Rattle.ffi3_type_rules.specs.Tree as types
+use Rattle.ffi3_type_rules.specs.declared.Role.TheVariants.{AsArgument}
 use Rattle.ffi3_type_rules.specs.Integer.{is_integer, is_number, is_number_type, scalar_of, bytes_of_number}
 use Rattle.ffi3_type_rules.specs.Layout.{scalar_size}
 use Rattle.ffi3_type_rules.specs.Same.{same_tree}
 use Rattle.ffi3_type_rules.proofs.Widened.{length-bytes_of_number}
 use Rattle.ffi3_script_rules.specs.FirstFault.{Found, first_fault}
-use Rattle.ffi3_script_rules.specs.Language.{Read, read, and_then, read_map, JsonPath, under, at_item, read_type, out_of_range, wrong_type, wrong_count}
+use Rattle.ffi3_script_rules.specs.Language.{Read, read, fault, and_then, read_map, JsonPath, under, at_item, read_type, out_of_range, wrong_type, wrong_count}
 use Rattle.ffi3_script_rules.specs.Script.{Expression, constant, composed, argument, outcome, user_data, element, typed_as, cast, Expressions, no_expressions, expression, Typed}
-use Rattle.ffi3_script_rules.specs.Values.{Given, Scope, read_integer, in_range, read_number, integer_written, read_written, is_wide_type, is_floating_type, bytes_or_fault, read_floating, read_text, typed, against, typed_argument, argument_of, has_name, typed_result, result_number, result_of, user_of, typed_element, element_in, field_of, right_type, read_right_type, TypedForm, arg_form, res_form, user_form, field_form, of_form, Form, typed_form, add_form, sub_form, cast_form, no_form, form_named, is_integer_type, if_integer, cast_of, composed_of, Pair, sum_of, difference_of, typed_by, value_by, own_by, read_value, read_values, read_object, read_two, read_typed, read_typed_object, read_field, read_of}
-use Rattle.ffi3_script_rules.specs.Typed.{Kinds, is_at, own_type, is_scalar_of, is_integer_of, is_number_of, has_type, have_types, same_scalar, is_right, is_right_argument, types_of, kinds_of, scope_is_right}
+use Rattle.ffi3_script_rules.specs.Values.{Given, Scope, read_integer, in_range, read_number, integer_written, read_written, is_wide_type, is_floating_type, bytes_or_fault, read_floating, read_text, typed, against, typed_argument, argument_of, has_name, typed_result, result_number, result_of, user_of, typed_element, element_of, element_in, field_of, right_type, read_right_type, is_list_type, TypedForm, arg_form, res_form, user_form, field_form, of_form, Form, typed_form, add_form, sub_form, cast_form, no_form, form_named, is_integer_type, if_integer, cast_of, composed_of, Pair, sum_of, difference_of, typed_by, value_by, own_by, read_value, read_values, read_object, read_two, read_typed, read_typed_object, read_field, read_of}
+use Rattle.ffi3_script_rules.specs.Typed.{Kinds, is_at, own_type, is_scalar_of, is_integer_of, is_number_of, trees_in, has_type, have_types, same_scalar, is_right, is_right_argument, is_laid_out, types_of, kinds_of, scope_is_right}
 use Rattle.ffi3_script_rules.proofs.Tests.{and_left, and_right, both, types_are_same, type_is_itself}
-use Rattle.ffi3_script_rules.proofs.RightTypes.{is_none-none, none-is_none, right_as_result, element_as_argument}
+use Rattle.ffi3_script_rules.proofs.RightTypes.{none-is_none, argument_is_laid_out, result_is_laid_out, element_is_laid_out}
 use Rattle.ffi3_script_rules.proofs.ReadParts.{first_was_read, part_was_read, same_read, test_held, got}
 
--- A value has the type that it says: it is of that type, which is its own, and which may be a result's.
+-- A value has the type that it says: it is of that type, which is its own, and which is a result's or an array.
 pub record IsOfItsType (kinds : Kinds) (v : Typed) : Type 0 where
   pub has_it : has_type kinds v.type v.value ≡ true
   pub is_own : own_type kinds v.value ≡ v.type
-  pub is_fit : is_right v.type ≡ true
+  pub is_fit : is_laid_out v.type ≡ true
+
+-- ---- types
+
+-- the types of a type's elements, as a list and back
+pub elements_in : (t : Tree) → trees_of (elements_of t) ≡ trees_in t
+elements_in void = refl
+elements_in (scalar s) = refl
+elements_in (left_out k) = refl
+elements_in (structure ts) = trees_of-list_of ts
+elements_in (types.array ts n) = refl
 
 -- ---- plain values
 
@@ -37,24 +49,28 @@ number_type (scalar s) h = (refl, h)
 number_type void h = absurd (cc)
 number_type (left_out k) h = absurd (cc)
 number_type (structure ts) h = absurd (cc)
+number_type (types.array ts n) h = absurd (cc)
 
 integer_type : (t : Tree) → is_integer_type t ≡ true → (t ≡ scalar (scalar_of t)) × (is_integer (scalar_of t) ≡ true)
 integer_type (scalar s) h = (refl, h)
 integer_type void h = absurd (cc)
 integer_type (left_out k) h = absurd (cc)
 integer_type (structure ts) h = absurd (cc)
+integer_type (types.array ts n) h = absurd (cc)
 
 floating_type : (t : Tree) → is_floating_type t ≡ true → t ≡ scalar (scalar_of t)
 floating_type (scalar s) h = refl
 floating_type void h = cc
 floating_type (left_out k) h = cc
 floating_type (structure ts) h = cc
+floating_type (types.array ts n) h = cc
 
 wide_type : (t : Tree) → is_wide_type t ≡ true → t ≡ scalar (scalar_of t)
 wide_type (scalar s) h = refl
 wide_type void h = cc
 wide_type (left_out k) h = cc
 wide_type (structure ts) h = cc
+wide_type (types.array ts n) h = cc
 
 -- the type of a number is that of its scalar
 number_of_scalar : (s : Scalar) (t : Tree) → (t ≡ scalar s) × (is_number s ≡ true) → is_number_of s t ≡ true
@@ -137,14 +153,13 @@ module _ (kinds : Kinds) where
       subst (λ f. has_type kinds t f ≡ true) (same_read (cast (scalar_of v.type) (scalar_of t) v.value) e held.1) (both (is_number_of (scalar_of t) t) _ (number_of_scalar (scalar_of t) t (number_type t is)) (both (is_number (scalar_of v.type)) _ from.1 inner))
 
   composed_has : (t : Tree) (n : ℕ) (path : JsonPath) (es : Read Expressions) (e : Expression) → ((fs : Expressions) → n ≡ length (elements_of t) → es ≡ read fs → have_types kinds (trees_of (elements_of t)) fs ≡ true) → composed_of t n path es ≡ read e → has_type kinds t e ≡ true
-  composed_has (structure ts) n path es e each h =
-      let held = test_held (n == length (list_of ts)) (read_map composed es) path wrong_count e h in
+  composed_has t n path es e each h =
+      let counted = if n == length (elements_of t) then read_map composed es else fault path wrong_count in
+      let list = test_held (is_list_type t) counted path wrong_type e h in
+      let held = test_held (n == length (elements_of t)) (read_map composed es) path wrong_count e list.1 in
       let part = part_was_read composed es e held.1 in
-      let typed = each part.0 (eqb-true n (length (list_of ts)) held.0) part.1 in
-      subst (λ f. has_type kinds (structure ts) f ≡ true) part.2 (subst (λ us. have_types kinds us part.0 ≡ true) (trees_of-list_of ts) typed)
-  composed_has void n path es e each h = cc
-  composed_has (scalar s) n path es e each h = cc
-  composed_has (left_out k) n path es e each h = cc
+      let typed = each part.0 (eqb-true n (length (elements_of t)) held.0) part.1 in
+      subst (λ f. has_type kinds t f ≡ true) part.2 (both (is_list_type t) _ list.0 (subst (λ us. have_types kinds us part.0 ≡ true) (elements_in t) typed))
 
 -- ---- values with a type of their own
 
@@ -158,10 +173,6 @@ passing : (p : Tree → Bool) (ts : List Tree) (i : ℕ) (t : Tree) → list_all
 passing p [] i t each h = absurd (cc)
 passing p (u ∷ ts) zero t each h = let same : u ≡ t = cc in ap p (sym same) ∙ and_left (p u) _ each
 passing p (u ∷ ts) (suc i) t each h = passing p ts i t (and_right (p u) _ each) h
-
-pub argument_is_result_too : (t : Tree) → is_right_argument t ≡ true → is_right t ≡ true
-argument_is_result_too t h =
-    none-is_none (first_fault 0 true t) (right_as_result 0 t (is_none-none (first_fault 0 false t) h))
 
 type_given : (given : List Given) (i : ℕ) (g : Given) → slice_get given i ≡ Some g → slice_get (types_of given) i ≡ Some g.type
 type_given [] i g h = absurd (cc)
@@ -177,7 +188,7 @@ module _ (scope : Scope) (right : scope_is_right scope ≡ true) where
   argument_typed i path (Some t) v is h =
       let there = at_list scope.arguments i t is in
       let fit = passing is_right_argument scope.arguments i t (and_left (list_all is_right_argument scope.arguments) _ right) is in
-      subst (IsOfItsType kinds) (same_read (typed t (argument i)) v h) (record { has_it = there.0; is_own = there.1; is_fit = argument_is_result_too t fit })
+      subst (IsOfItsType kinds) (same_read (typed t (argument i)) v h) (record { has_it = there.0; is_own = there.1; is_fit = argument_is_laid_out t fit })
 
   pub argument_has : (i : Option ℕ) (path : JsonPath) (v : Typed) → argument_of scope.arguments i path ≡ read v → IsOfItsType kinds v
   argument_has None path v h = absurd (cc)
@@ -190,7 +201,7 @@ module _ (scope : Scope) (right : scope_is_right scope ≡ true) where
       let at_types = type_given scope.given i g is in
       let there = at_list (types_of scope.given) i g.type at_types in
       let fit = passing is_right (types_of scope.given) i g.type (and_right (list_all is_right_argument scope.arguments) _ right) at_types in
-      subst (IsOfItsType kinds) (same_read (typed g.type (outcome i)) v h) (record { has_it = there.0; is_own = there.1; is_fit = fit })
+      subst (IsOfItsType kinds) (same_read (typed g.type (outcome i)) v h) (record { has_it = there.0; is_own = there.1; is_fit = result_is_laid_out g.type fit })
 
   numbered_result : (i : Option ℕ) (path : JsonPath) (v : Typed) → result_number scope.given i path ≡ read v → IsOfItsType kinds v
   numbered_result None path v h = absurd (cc)
@@ -211,38 +222,38 @@ module _ (scope : Scope) (right : scope_is_right scope ≡ true) where
   user_has (array ds) path v h = absurd (cc)
   user_has (object ms) path v h = absurd (cc)
 
-  element_typed : (ts : Trees) (e : Expression) (i : ℕ) (path : JsonPath) (o : Option Tree) (v : Typed) → has_type kinds (structure ts) e ≡ true → own_type kinds e ≡ structure ts → is_right (structure ts) ≡ true → slice_get (list_of ts) i ≡ o → typed_element e i path o ≡ read v → IsOfItsType kinds v
-  element_typed ts e i path None v has own fit is h = absurd (cc)
-  element_typed ts e i path (Some t) v has own fit is h =
-      let there = at_list (list_of ts) i t is in
-      let below = got (list_of ts) i t void is in
+  element_typed : (s : Tree) (e : Expression) (i : ℕ) (path : JsonPath) (o : Option Tree) (v : Typed) → has_type kinds s e ≡ true → own_type kinds e ≡ s → is_laid_out s ≡ true → slice_get (elements_of s) i ≡ o → typed_element e i path o ≡ read v → IsOfItsType kinds v
+  element_typed s e i path None v has own fit is h = absurd (cc)
+  element_typed s e i path (Some t) v has own fit is h =
+      let there = at_list (elements_of s) i t is in
+      let below = got (elements_of s) i t void is in
       let HasElement : Tree → Type 0 = λ u. (is_at (elements_of u) i t && has_type kinds u e) ≡ true in
-      let has_element : HasElement (own_type kinds e) = subst HasElement (sym own) (both (is_at (list_of ts) i t) _ there.0 has) in
-      let fit_argument = element_as_argument true ts i (is_none-none (first_fault 0 true (structure ts)) fit) below.0 in
-      let fit_element : is_right t ≡ true = argument_is_result_too t (ap is_right_argument (sym there.1) ∙ none-is_none (first_fault 0 false (tree_at (list_of ts) i)) fit_argument) in
+      let has_element : HasElement (own_type kinds e) = subst HasElement (sym own) (both (is_at (elements_of s) i t) _ there.0 has) in
+      let fit_element : is_laid_out t ≡ true = ap is_laid_out (sym there.1) ∙ element_is_laid_out s i fit below.0 in
       subst (IsOfItsType kinds) (same_read (typed t (element e i)) v h) (record { has_it = has_element; is_own = ap (λ u. tree_at (elements_of u) i) own ∙ there.1; is_fit = fit_element })
 
-  element_has : (path place : JsonPath) (i : Option ℕ) (e : Expression) (t : Tree) (v : Typed) → has_type kinds t e ≡ true → own_type kinds e ≡ t → is_right t ≡ true → element_in path place i e t ≡ read v → IsOfItsType kinds v
-  element_has path place None e (structure ts) v has own fit h = absurd (cc)
-  element_has path place (Some i) e (structure ts) v has own fit h =
-      element_typed ts e i path (slice_get (list_of ts) i) v has own fit refl h
-  element_has path place i e void v has own fit h = absurd (cc)
-  element_has path place i e (scalar s) v has own fit h = absurd (cc)
-  element_has path place i e (left_out k) v has own fit h = absurd (cc)
+  element_numbered : (path : JsonPath) (i : Option ℕ) (e : Expression) (t : Tree) (v : Typed) → has_type kinds t e ≡ true → own_type kinds e ≡ t → is_laid_out t ≡ true → element_of e (elements_of t) i path ≡ read v → IsOfItsType kinds v
+  element_numbered path None e t v has own fit h = absurd (cc)
+  element_numbered path (Some i) e t v has own fit h =
+      element_typed t e i path (slice_get (elements_of t) i) v has own fit refl h
+
+  element_has : (path place : JsonPath) (i : Option ℕ) (e : Expression) (t : Tree) (v : Typed) → has_type kinds t e ≡ true → own_type kinds e ≡ t → is_laid_out t ≡ true → element_in path place i e t ≡ read v → IsOfItsType kinds v
+  element_has path place i e t v has own fit h =
+      element_numbered path i e t v has own fit (test_held (is_list_type t) (element_of e (elements_of t) i path) place wrong_type v h).1
 
   pub field_has : (path place : JsonPath) (i : Option ℕ) (v w : Typed) → IsOfItsType kinds v → field_of path place i v ≡ read w → IsOfItsType kinds w
   field_has path place i v w good h =
       element_has path place i v.value v.type w good.has_it good.is_own good.is_fit h
 
-  right_type_is : (path : JsonPath) (t u : Tree) (f : Option Found) → first_fault 0 false t ≡ f → right_type path t f ≡ read u → is_right_argument u ≡ true
+  right_type_is : (path : JsonPath) (t u : Tree) (f : Option Found) → first_fault 0 AsArgument t ≡ f → right_type path t f ≡ read u → is_right_argument u ≡ true
   right_type_is path t u None is h =
-      subst (λ w. is_right_argument w ≡ true) (same_read t u h) (none-is_none (first_fault 0 false t) is)
+      subst (λ w. is_right_argument w ≡ true) (same_read t u h) (none-is_none (first_fault 0 AsArgument t) is)
   right_type_is path t u (Some f) is h = cc
 
   pub right_type_has : (version : ℕ) (d : Data) (path : JsonPath) (t : Tree) → read_right_type version d path ≡ read t → is_right_argument t ≡ true
   right_type_has version d path t h =
-      let was = first_was_read (λ u. right_type path u (first_fault 0 false u)) (read_type version d path) t h in
-      right_type_is path was.0 t (first_fault 0 false was.0) refl was.2
+      let was = first_was_read (λ u. right_type path u (first_fault 0 AsArgument u)) (read_type version d path) t h in
+      right_type_is path was.0 t (first_fault 0 AsArgument was.0) refl was.2
 
   -- ---- by forms
 
@@ -367,5 +378,5 @@ module _ (scope : Scope) (right : scope_is_right scope ≡ true) where
         let rest = part_was_read (λ w. typed t (typed_as t w)) (read_value scope t e (at_item place 1)) v was.2 in
         let has = value_is_typed t e (at_item place 1) rest.0 rest.1 in
         let right = right_type_has scope.version d (at_item place 0) t was.1 in
-        subst (IsOfItsType kinds) rest.2 (record { has_it = both (same_tree t t) _ (type_is_itself t) (both (is_right_argument t) _ right has); is_own = refl; is_fit = argument_is_result_too t right })
+        subst (IsOfItsType kinds) rest.2 (record { has_it = both (same_tree t t) _ (type_is_itself t) (both (is_right_argument t) _ right has); is_own = refl; is_fit = argument_is_laid_out t right })
     of_is_typed _ place v h = absurd (cc)

@@ -9,6 +9,7 @@ use Rattle.serde_json.specs.Data.{Data, null, boolean, number, string, array, ob
 use Rattle.serde_json.specs.Find.{get, as_number, as_u64, as_str}
 use Rattle.serde_json.specs.Events.{items_len}
 use Rattle.ffi3_type_rules.specs.Tree.{Tree, void, scalar, left_out, structure, trees_of, pointer}
+use Rattle.ffi3_type_rules.specs.Tree as types
 use Rattle.ffi3_type_rules.specs.Integer.{is_number_type, bytes_of_number}
 use Rattle.ffi3_type_rules.specs.Same.{same_tree}
 use Rattle.ffi3_type_rules.specs.Signature.{Signature, SignatureFault, signature_at}
@@ -18,7 +19,7 @@ use Rattle.ffi3_script_rules.specs.Language.{read, read_map, JsonPath, under, at
 use Rattle.ffi3_script_rules.specs.Script.{Expression, constant, Expressions, Typed, Act, call, make, free, print, return, return_void, ScriptMove, ScriptFunction, Script}
 use Rattle.ffi3_script_rules.specs.Values.{Given, Scope, read_value, read_values, read_typed}
 use Rattle.ffi3_script_rules.specs.Bodies.{signature_below, read_signature_number, Surroundings, Kind, call_kind, make_kind, free_kind, print_kind, return_kind, kind_of, keys_of, read_name, condition_of, read_condition, read_arguments, read_call, function_numbered, read_function, read_user, read_make, read_result, unnamed, read_act, scope_of, read_kind, read_move, type_of_act, given_by, read_moves, ends, if_ended, read_body, script_keys, function_keys, items_at, version_of, read_signatures, Heading, new_name, is_one_of, read_heading, read_headings, function_of, read_bodies, names_of, read_rest, read_script}
-use Rattle.ffi3_script_rules.specs.Typed.{Kinds, has_type, have_types, is_condition, is_right, is_right_argument, Setting, act_is_typed, gives_too, moves_are_typed, body_is_typed, types_of, kinds_of, scope_is_right, setting_of, signature_is_right, function_is_typed, script_is_typed}
+use Rattle.ffi3_script_rules.specs.Typed.{Kinds, has_type, have_types, is_condition, is_right, is_right_argument, is_laid_out, Setting, act_is_typed, gives_too, moves_are_typed, body_is_typed, types_of, kinds_of, scope_is_right, setting_of, signature_is_right, function_is_typed, script_is_typed}
 use Rattle.ffi3_script_rules.proofs.Tests.{and_left, and_right, both}
 use Rattle.ffi3_script_rules.proofs.RightTypes.{none-is_none, any_result_type_is_right, argument_types_are_right, signature_at-right}
 use Rattle.ffi3_script_rules.proofs.ReadParts.{first_was_read, part_was_read, same_read, test_held}
@@ -92,6 +93,8 @@ module _ (scope : Scope) (right : scope_is_right scope ≡ true) where
     result_is_typed (scalar r) d path a is h = return_is_typed (scalar r) d path a is h
     result_is_typed (left_out k) d path a is h = return_is_typed (left_out k) d path a is h
     result_is_typed (structure ts) d path a is h = return_is_typed (structure ts) d path a is h
+    result_is_typed (types.array ts n) d path a is h =
+        return_is_typed (types.array ts n) d path a is h
 
 -- a move has its types, in these surroundings and after moves that give these results
 pub record IsTypedMove (s : Surroundings) (given : List Given) (m : ScriptMove) : Type 0 where
@@ -133,7 +136,7 @@ module _ (s : Surroundings) (given : List Given) (right : scope_is_right (scope_
   print_is_typed c d path m of_condition h =
       let what = part_was_read _ (read_typed here (value_under (codes "print") d) (under path (codes "print"))) m h in
       let good = typed_is_typed here right (value_under (codes "print") d) (under path (codes "print")) what.0 what.1 in
-      subst (IsTypedMove s given) what.2 (record { condition = of_condition; act = both (is_right what.0.type) _ good.is_fit good.has_it })
+      subst (IsTypedMove s given) what.2 (record { condition = of_condition; act = both (is_laid_out what.0.type) _ good.is_fit good.has_it })
 
   act_is : (kind : Kind) (d : Data) (path : JsonPath) (c : Option Typed) (m : ScriptMove) → is_condition (kinds_of here) c ≡ true → read_act s given here kind d path c ≡ read m → IsTypedMove s given m
   act_is call_kind d path c m of_condition h = call_is_typed c d path m of_condition h

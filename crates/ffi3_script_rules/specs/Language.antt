@@ -1,9 +1,10 @@
 -- THE SCRIPT LANGUAGE, by cases on the JSON value: what a value at a place is read as, or its first fault in the order of reading. Here: reasons, places, objects, types and signatures. `Values` and `Bodies` go on.
-use Rattle.std.specs.Prelude.{ℕ, ◌+◌, ◌<◌, ◌^◌, ◌||◌, ◌&&◌, List, [], ◌∷◌, ◌++◌, Bool, true, false, cond, Option, Some, None, option_and_then, is_some, unwrap_or, nat_lt, bytes_eq, codes, ⊤}
+use Rattle.std.specs.Prelude.{ℕ, ◌+◌, ◌<◌, ◌^◌, ◌||◌, ◌&&◌, List, [], ◌∷◌, ◌++◌, Bool, true, false, not, ◌==◌, cond, Option, Some, None, option_and_then, is_some, unwrap_or, nat_lt, bytes_eq, codes, ⊤}
 use Rattle.serde_json.specs.Data.{Data, null, boolean, number, string, array, object, Items, no_items, item, Members, no_members, member}
 use Rattle.serde_json.specs.Find.{get, as_number, as_u64}
 use Rattle.serde_json.specs.Events.{items_len}
-use Rattle.ffi3_type_rules.specs.Tree.{Tree, void, scalar, left_out, structure, struct_of, long_double, complex, vector}
+use Rattle.ffi3_type_rules.specs.Tree.{Tree, void, scalar, left_out, structure, struct_of, array_of, tree_at, parts_of, long_double, complex, vector}
+use Rattle.ffi3_type_rules.specs.Tree as types
 use Rattle.ffi3_type_rules.specs.Names.{type_named}
 use Rattle.ffi3_type_rules.specs.Fault as type_fault
 use Rattle.ffi3_type_rules.specs.Signature.{Signature, SignatureFault, too_many, bad_type, bad_argument_type, Position, at_result, at_argument}
@@ -118,13 +119,27 @@ check_object _ keys path = fault path not_an_object
 abbrev pub value_under : List ℕ → Data → Data
 value_under name d = unwrap_or (get name d) null
 
+-- ---- counts
+
+abbrev pub count_of : JsonPath → Option ℕ → Read ℕ
+count_of path None = fault path not_a_count
+count_of path (Some n) = cond (nat_lt n (2 ^ 32)) (read n) (fault path not_a_count)
+
+-- an integer from 0 to 4294967295
+abbrev pub read_count : Data → JsonPath → Read ℕ
+read_count d path = count_of path (option_and_then as_u64 (as_number d))
+
 -- ---- types
 
 abbrev pub type_of_name : JsonPath → Option Tree → Read Tree
 type_of_name path None = fault path unknown_type
 type_of_name path (Some t) = read t
 
--- a text is a name in the script's version; an object has the one key `struct`
+-- version 1 of the script language has no arrays
+abbrev pub has_arrays : (version : ℕ) → Bool
+has_arrays version = not (version == 1)
+
+-- a text is a name in the script's version; an object has the one key `struct`, or, in a version that has arrays, `array`
 abbrev mutual
   pub read_type : (version : ℕ) → Data → JsonPath → Read Tree
   read_type version null path = fault path not_a_type
@@ -132,12 +147,18 @@ abbrev mutual
   read_type version (number n) path = fault path not_a_type
   read_type version (array ds) path = fault path not_a_type
   read_type version (string name) path = type_of_name path (type_named version name)
-  read_type version (object ms) path = read_struct version ms path
+  read_type version (object ms) path = read_composite version ms path
 
-  pub read_struct : ℕ → Members → JsonPath → Read Tree
-  read_struct version no_members path = fault path not_a_type
-  read_struct version (member name d no_members) path = cond (bytes_eq (codes "struct") name) (read_map struct_of (read_types version d (under path (codes "struct")))) (fault path not_a_type)
-  read_struct version (member name d (member other e ms)) path = fault path not_a_type
+  pub read_composite : (version : ℕ) → Members → JsonPath → Read Tree
+  read_composite version no_members path = fault path not_a_type
+  read_composite version (member name d no_members) path = cond (bytes_eq (codes "struct") name) (read_map struct_of (read_types version d (under path (codes "struct")))) (cond (bytes_eq (codes "array") name && has_arrays version) (read_array version d path) (fault path not_a_type))
+  read_composite version (member name d (member other e ms)) path = fault path not_a_type
+
+  -- an array, of the element type and how many elements there are; another shape is no type
+  pub read_array : (version : ℕ) → Data → JsonPath → Read Tree
+  read_array version (array (item d (item e no_items))) path =
+      and_then (λ t. read_map (array_of t) (read_count e (at_item (under path (codes "array")) 1))) (read_type version d (at_item (under path (codes "array")) 0))
+  read_array version _ path = fault path not_a_type
 
   -- an array of types
   pub read_types : ℕ → Data → JsonPath → Read (List Tree)
@@ -158,14 +179,10 @@ abbrev mutual
 abbrev pub signature_keys : List Key
 signature_keys = required (codes "ret") ∷ required (codes "args") ∷ optional (codes "fixed") ∷ []
 
-abbrev pub count_of : JsonPath → Option ℕ → Read (Option ℕ)
-count_of path None = fault path not_a_count
-count_of path (Some n) = cond (nat_lt n (2 ^ 32)) (read (Some n)) (fault path not_a_count)
-
--- an integer from 0 to 4294967295, where it is there
+-- a count, where it is there
 abbrev pub read_fixed : Option Data → JsonPath → Read (Option ℕ)
 read_fixed None path = read None
-read_fixed (Some d) path = count_of path (option_and_then as_u64 (as_number d))
+read_fixed (Some d) path = read_map Some (read_count d path)
 
 -- a signature's shapes: the object, ret, args, fixed
 abbrev pub read_shapes : (version : ℕ) → Data → JsonPath → Read Signature
@@ -180,20 +197,31 @@ read_shapes version d path =
     (read_type version (value_under (codes "ret") d) (under path (codes "ret"))))
     (check_object d signature_keys path)
 
--- the node that a way of element numbers leads to
-abbrev pub inside_type : JsonPath → List ℕ → JsonPath
-inside_type path [] = path
-inside_type path (i ∷ way) = inside_type (at_item (under path (codes "struct")) i) way
+-- the key under which the types stand that a type is made of
+abbrev pub key_of_parts : Tree → List ℕ
+key_of_parts (types.array ts n) = codes "array"
+key_of_parts _ = codes "struct"
+
+-- the node that a way of element numbers leads to in a type
+abbrev pub inside_type : JsonPath → Tree → List ℕ → JsonPath
+inside_type path t [] = path
+inside_type path t (i ∷ way) =
+    inside_type (at_item (under path (key_of_parts t)) i) (tree_at (parts_of t) i) way
 
 abbrev pub place_of_type : JsonPath → Position → JsonPath
 place_of_type path at_result = under path (codes "ret")
 place_of_type path (at_argument i) = at_item (under path (codes "args")) i
 
-abbrev pub place_of_fault : JsonPath → SignatureFault → JsonPath
-place_of_fault path (too_many n) = under path (codes "args")
-place_of_fault path (bad_type position way f) = inside_type (place_of_type path position) way
-place_of_fault path (signature.bad_fixed n count) = under path (codes "fixed")
-place_of_fault path (bad_argument_type i) = place_of_type path (at_argument i)
+abbrev pub type_at : Signature → Position → Tree
+type_at s at_result = s.result_type
+type_at s (at_argument i) = tree_at s.arguments i
+
+abbrev pub place_of_fault : JsonPath → Signature → SignatureFault → JsonPath
+place_of_fault path s (too_many n) = under path (codes "args")
+place_of_fault path s (bad_type position way f) =
+    inside_type (place_of_type path position) (type_at s position) way
+place_of_fault path s (signature.bad_fixed n count) = under path (codes "fixed")
+place_of_fault path s (bad_argument_type i) = place_of_type path (at_argument i)
 
 -- The kinds that are left out are three. A fault tells of no other type, for which nothing depends on the reason here.
 abbrev pub left_out_reason : Tree → Reason
@@ -203,6 +231,7 @@ left_out_reason (left_out vector) = left_out_vector
 left_out_reason void = left_out_vector
 left_out_reason (scalar s) = left_out_vector
 left_out_reason (structure ts) = left_out_vector
+left_out_reason (types.array ts n) = left_out_vector
 
 abbrev pub reason_of_type_fault : type_fault.Fault → Reason
 reason_of_type_fault type_fault.bad_typedef = bad_typedef
@@ -218,7 +247,7 @@ reason_of_fault (bad_argument_type i) = bad_variadic_argument
 
 abbrev pub unless_faulty : JsonPath → Signature → Option SignatureFault → Read Signature
 unless_faulty path s None = read s
-unless_faulty path s (Some f) = fault (place_of_fault path f) (reason_of_fault f)
+unless_faulty path s (Some f) = fault (place_of_fault path s f) (reason_of_fault f)
 
 -- A SIGNATURE: its shapes, and only then its own first fault.
 abbrev pub read_signature : (version : ℕ) → Data → JsonPath → Read Signature

@@ -1,6 +1,6 @@
 -- THE MADE SCRIPT, by a seed and a number of calls: what the bench runs. (`docs/FORMATS.md`, "The script of bench")
 use Rattle.std.specs.Prelude.{ℕ, zero, suc, ◌+◌, ◌*◌, ◌/◌, ◌%◌, ◌^◌, if◌then◌else◌, List, [], ◌∷◌, ◌++◌, length, map, replicate, slice_index_or, None, codes, pos}
-use Rattle.ffi3_type_rules.specs.Tree.{Tree, void, scalar, left_out, structure, Trees, no_trees, tree, tree_at, struct_of, Scalar, u8, s32, u64, float, double, pointer}
+use Rattle.ffi3_type_rules.specs.Tree.{Tree, void, scalar, left_out, structure, array, Trees, no_trees, tree, tree_at, struct_of, Scalar, u8, s32, u64, float, double, pointer}
 use Rattle.ffi3_type_rules.specs.Integer.{bytes_of_number, is_integer, is_floating}
 use Rattle.ffi3_type_rules.specs.Layout.{scalar_size}
 use Rattle.ffi3_type_rules.specs.Signature.{Signature}
@@ -83,13 +83,14 @@ abbrev mutual
   all_leaves_in no_trees = 0
   all_leaves_in (tree t ts) = leaves_in t + all_leaves_in ts
 
--- a value filled from the number n on, one more for each leaf
+-- a value filled from the number n on, one more for each leaf (no array is drawn)
 abbrev mutual
   pub filled : ℕ → Tree → Expression
   filled n void = constant []
   filled n (scalar s) = filled_leaf s n
   filled n (left_out k) = constant []
   filled n (structure ts) = composed (all_filled n ts)
+  filled n (array ts count) = constant []
 
   pub all_filled : ℕ → Trees → Expressions
   all_filled n no_trees = no_expressions
@@ -110,6 +111,7 @@ abbrev mutual
       if is_integer s then sum u64 so_far (cast s u64 e) else so_far
   with_leaves so_far (left_out k) e = so_far
   with_leaves so_far (structure ts) e = with_elements so_far 0 ts e
+  with_leaves so_far (array ts n) e = so_far
 
   -- those of its elements from number i on
   pub with_elements : Expression → ℕ → Trees → Expression → Expression

@@ -7,12 +7,12 @@ mutual
   pub data Expression : Type 0 where
     -- the bytes of a scalar
     constant : List ℕ → Expression
-    -- a struct, by its elements
+    -- a struct or an array, by its elements
     composed : Expressions → Expression
     argument : ℕ → Expression
     outcome : ℕ → Expression
     user_data : Expression
-    -- an element of a struct
+    -- an element of a struct or an array
     element : Expression → ℕ → Expression
     -- a value that is said to be of a type
     typed_as : Tree → Expression → Expression

@@ -9,7 +9,7 @@ pub record TellsFirstFault (s : Signature) (path place : JsonPath) (reason : Rea
   pub first : SignatureFault
   pub is_first : IsFirstSignatureFault s first
   pub alone : (other : SignatureFault) → IsFirstSignatureFault s other → other ≡ first
-  pub stands : place ≡ place_of_fault path first
+  pub stands : place ≡ place_of_fault path s first
   pub tells : reason ≡ reason_of_fault first
 
 -- THE VALUE AT A PATH IS NO SIGNATURE of a version of the language, for this reason at this place

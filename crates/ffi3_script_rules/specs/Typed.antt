@@ -1,7 +1,8 @@
 -- When a value of a script has a type, and when a body is well typed: its numbers lie in their lists and its values have their types. Every script that is read is well typed (`proofs/WellTyped.antt`), and what is well typed fits (`proofs/Fits.antt`).
-use Rattle.std.specs.Prelude.{◌≡◌, ℕ, ◌+◌, ◌==◌, ◌&&◌, List, [], ◌∷◌, ◌++◌, length, map, Bool, true, false, Option, Some, None, nat_lt, is_none}
+use Rattle.std.specs.Prelude.{◌≡◌, ℕ, ◌+◌, ◌==◌, ◌&&◌, List, [], ◌∷◌, ◌++◌, length, map, Bool, true, false, Option, Some, None, nat_lt, is_none, replicate}
 use Rattle.std.specs.List.{list_all}
-use Rattle.ffi3_type_rules.specs.Tree.{Tree, void, scalar, structure, Trees, no_trees, tree, tree_at, trees_of, Scalar, scalar_number, pointer}
+use Rattle.ffi3_type_rules.specs.declared.Role.TheVariants.{AsResult, AsArgument, Anywhere}
+use Rattle.ffi3_type_rules.specs.Tree.{Tree, void, scalar, structure, array, Trees, no_trees, tree, first_of, tree_at, trees_of, Scalar, scalar_number, pointer}
 use Rattle.ffi3_type_rules.specs.Tree as types
 use Rattle.ffi3_type_rules.specs.Integer.{is_integer, is_number, is_number_type}
 use Rattle.ffi3_type_rules.specs.Layout.{scalar_size}
@@ -11,7 +12,7 @@ use Rattle.ffi3_type_rules.specs.Value.{ValueTree, fits}
 use Rattle.ffi3_run_rules.specs.Move.{no_signature}
 use Rattle.ffi3_script_rules.specs.FirstFault.{first_fault, first_signature_fault}
 use Rattle.ffi3_script_rules.specs.Script.{Expression, constant, composed, argument, outcome, user_data, element, typed_as, sum, difference, cast, Expressions, no_expressions, expression, Typed, Act, call, make, free, print, return, return_void, ScriptMove, ScriptFunction, Script}
-use Rattle.ffi3_script_rules.specs.Values.{Given, Scope}
+use Rattle.ffi3_script_rules.specs.Values.{Given, Scope, is_list_type}
 use Rattle.ffi3_script_rules.specs.Bodies.{Surroundings, type_of_act, ends}
 
 -- the types of what a value is computed from
@@ -49,23 +50,21 @@ abbrev pub is_number_of : Scalar → Tree → Bool
 is_number_of s (scalar r) = same_scalar s r && is_number r
 is_number_of s _ = false
 
-abbrev pub is_struct : Tree → Bool
-is_struct (structure ts) = true
-is_struct _ = false
-
+-- the types of the elements of a struct or an array
 abbrev pub trees_in : Tree → Trees
 trees_in (structure ts) = ts
+trees_in (array ts n) = trees_of (replicate n (first_of ts))
 trees_in _ = no_trees
 
 -- a type that may be an argument's
 abbrev pub is_right_argument : Tree → Bool
-is_right_argument t = is_none (first_fault 0 false t)
+is_right_argument t = is_none (first_fault 0 AsArgument t)
 
 abbrev mutual
   -- A VALUE HAS A TYPE
   pub has_type : Kinds → Tree → Expression → Bool
   has_type k t (constant bytes) = is_scalar_of (length bytes) t
-  has_type k t (composed es) = is_struct t && have_types k (trees_in t) es
+  has_type k t (composed es) = is_list_type t && have_types k (trees_in t) es
   has_type k t (argument i) = is_at k.arguments i t
   has_type k t (outcome i) = is_at k.outcomes i t
   has_type k t user_data = same_tree (scalar pointer) t
@@ -99,7 +98,11 @@ is_condition k (Some c) = is_number_type c.type && is_typed k c
 
 -- a type that may be a result's
 abbrev pub is_right : Tree → Bool
-is_right t = is_none (first_fault 0 true t)
+is_right t = is_none (first_fault 0 AsResult t)
+
+-- a type that may be a result's, or an array that may be an element's: what has a text
+abbrev pub is_laid_out : Tree → Bool
+is_laid_out t = is_none (first_fault 0 Anywhere t)
 
 -- what a body is typed in: the signatures, how many functions there are, and the type of its result
 pub record Setting : Type 0 where
@@ -113,7 +116,7 @@ act_is_typed s k (call to sig arguments) =
 act_is_typed s k (make function user) =
     nat_lt function s.functions && has_type k (scalar pointer) user
 act_is_typed s k (free to) = has_type k (scalar pointer) to
-act_is_typed s k (print v) = is_right v.type && is_typed k v
+act_is_typed s k (print v) = is_laid_out v.type && is_typed k v
 act_is_typed s k (return e) = has_type k s.result_type e
 act_is_typed s k return_void = same_tree void s.result_type
 

@@ -7,7 +7,9 @@ use Rattle.hex.specs.declared.error.FromHexError.{FromHexError}
 use Rattle.serde_json.specs.Data.{Data, null, boolean, number, string, array, object, Items, no_items, item, Members, no_members, member, Num}
 use Rattle.serde_json.specs.Find.{as_number, as_u64, as_str, as_integer}
 use Rattle.serde_json.specs.Events.{items_len}
-use Rattle.ffi3_type_rules.specs.Tree.{Tree, scalar, structure, list_of, elements_of, Scalar, u128, s128, pointer}
+use Rattle.ffi3_type_rules.specs.declared.Role.TheVariants.{AsArgument}
+use Rattle.ffi3_type_rules.specs.Tree.{Tree, scalar, structure, no_trees, tree, elements_of, Scalar, u128, s128, pointer}
+use Rattle.ffi3_type_rules.specs.Tree as types
 pub use Rattle.ffi3_type_rules.specs.Integer.{is_integer_type, is_floating_type}
 use Rattle.ffi3_type_rules.specs.Integer.{is_number_type, is_signed, scalar_of, width_of, bit_count, bytes_of_number}
 use Rattle.ffi3_type_rules.specs.Layout.{scalar_size}
@@ -154,10 +156,17 @@ abbrev pub element_of : Expression → List Tree → Option ℕ → JsonPath →
 element_of e ts None path = fault path no_such_field
 element_of e ts (Some i) path = typed_element e i path (slice_get ts i)
 
+-- the types whose values are lists: structs, and arrays of some type
+abbrev pub is_list_type : Tree → Bool
+is_list_type (structure ts) = true
+is_list_type (types.array no_trees n) = false
+is_list_type (types.array (tree t ts) n) = true
+is_list_type _ = false
+
 -- an element, by its number, of a value of a type, which stands at a place of its own
 abbrev pub element_in : JsonPath → JsonPath → Option ℕ → Expression → Tree → Read Typed
-element_in path place i e (structure ts) = element_of e (list_of ts) i path
-element_in path place i e _ = fault place wrong_type
+element_in path place i e t =
+    cond (is_list_type t) (element_of e (elements_of t) i path) (fault place wrong_type)
 
 abbrev pub field_of : JsonPath → JsonPath → Option ℕ → Typed → Read Typed
 field_of path place i v = element_in path place i v.value v.type
@@ -165,11 +174,11 @@ field_of path place i v = element_in path place i v.value v.type
 -- a type that may be an argument's
 abbrev pub right_type : JsonPath → Tree → Option Found → Read Tree
 right_type path t None = read t
-right_type path t (Some f) = fault (inside_type path f.0) (reason_of_type_fault f.1)
+right_type path t (Some f) = fault (inside_type path t f.0) (reason_of_type_fault f.1)
 
 abbrev pub read_right_type : (version : ℕ) → Data → JsonPath → Read Tree
 read_right_type version d path =
-    and_then (λ t. right_type path t (first_fault 0 false t)) (read_type version d path)
+    and_then (λ t. right_type path t (first_fault 0 AsArgument t)) (read_type version d path)
 
 -- ---- the forms of values
 
@@ -205,11 +214,10 @@ abbrev pub cast_of : Scalar → JsonPath → Typed → Read Expression
 cast_of to place v =
     cond (is_number_type v.type) (read (cast (scalar_of v.type) to v.value)) (fault place wrong_type)
 
--- an array is a struct's value, of as many values as it has elements
+-- a list of values is the value of a struct or an array that has as many elements
 abbrev pub composed_of : Tree → ℕ → JsonPath → Read Expressions → Read Expression
-composed_of (structure ts) n path es =
-    cond (n == length (list_of ts)) (read_map composed es) (fault path wrong_count)
-composed_of _ n path es = fault path wrong_type
+composed_of t n path es =
+    cond (is_list_type t) (cond (n == length (elements_of t)) (read_map composed es) (fault path wrong_count)) (fault path wrong_type)
 
 -- the two values of a sum or difference
 abbrev pub Pair : Type 0
@@ -293,7 +301,7 @@ abbrev mutual
       own_by path (typed_by scope d path (λ _. read_field scope d (under path name) path) (λ _. read_of scope d (under path name))) (form_named name)
   read_typed_object scope (member name d (member other e ms)) path = fault path not_a_value
 
-  -- an array of a struct with a type of its own, and the number of an element
+  -- an array of two: the value of a struct or an array, with a type of its own, and the number of an element
   pub read_field : Scope → Data → JsonPath → JsonPath → Read Typed
   read_field scope (array (item d (item e no_items))) place path =
       and_then (field_of path (at_item place 0) (option_and_then as_u64 (as_number e))) (read_typed scope d (at_item place 0))

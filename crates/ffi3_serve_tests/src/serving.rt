@@ -19,6 +19,7 @@ use ffi3_place::Abi;
 use ffi3_place::parts::{result_type, size_of};
 use ffi3_runner::{RunEnd, Runner};
 use ffi3_script::Script;
+use ffi3_type_rules::limits::LARGEST_TYPE;
 use ffi3_types::{Bytes, NoMemory};
 use ffi3_values::{Value, value_from_bytes, value_text};
 use std::alloc::Global;
@@ -35,7 +36,7 @@ pub fn take_text<A: Abi>(
         text ≡ value_text_of cif.now.result_type v) }
 {
     let ty = result_type(cif.sig());
-    let mut room = [0; 1024];
+    let mut room = [0; LARGEST_TYPE as usize];
     let out = &mut room[..size_of(ty) as usize];
     load_result(machine, cif, out);
     drop_frame(machine, cif);

@@ -2,10 +2,10 @@
 use Rattle.std.specs.Prelude.{◌≡◌, ℕ, List, [], ◌∷◌, ◌++◌, refl, None, codes}
 use Rattle.std.specs.Fmt.{digits}
 use Rattle.ffi3_type_rules.specs.declared.Target.TheVariants.{Aapcs64, Riscv}
-use Rattle.ffi3_type_rules.specs.Tree.{Tree, void, scalar, struct_of, u8, s8, u16, s16, u32, s32, float, double, pointer}
+use Rattle.ffi3_type_rules.specs.Tree.{Tree, void, scalar, struct_of, array_of, u8, s8, u16, s16, u32, s32, float, double, pointer}
 use Rattle.ffi3_type_rules.specs.Layout.{least_multiple}
 use Rattle.ffi3_type_rules.specs.Signature.{Signature, at_result, at_argument}
-use Rattle.ffi3_type_rules.specs.Value.{leaf_value}
+use Rattle.ffi3_type_rules.specs.Value.{leaf_value, struct_value, no_values, value}
 use Rattle.ffi3_place_rules.specs.Event.{Event, enters}
 use Rattle.ffi3_place_rules.specs.declared.Loc.{Loc}
 use Rattle.ffi3_place_rules.specs.declared.Loc.TheVariants.{G, F, S}
@@ -44,6 +44,16 @@ void_result = refl
 pub scalar_result : layout_text_of 0 (sig_of (scalar s32) []) at_result ≡ a_line (codes "sig 0 ret sint32 size 4 align 4 leaves 0:sint32")
 unfolding least_multiple digits
 scalar_result = refl
+
+-- an array's leaves are its elements, and its count follows its element
+pub arrays : layout_text_of 0 (sig_of void (struct_of (array_of (scalar u8) 3 ∷ array_of (scalar u32) 2 ∷ []) ∷ [])) (at_argument 0) ≡ a_line (codes "sig 0 arg 0 struct{uint8[3],uint32[2]} size 12 align 4 leaves 0:uint8 1:uint8 2:uint8 4:uint32 8:uint32")
+unfolding least_multiple digits
+arrays = refl
+
+-- two arrays of three
+pub array_of_arrays : layout_text_of 0 (sig_of (struct_of (array_of (array_of (scalar s8) 3) 2 ∷ [])) []) at_result ≡ a_line (codes "sig 0 ret struct{sint8[3][2]} size 6 align 1 leaves 0:sint8 1:sint8 2:sint8 3:sint8 4:sint8 5:sint8")
+unfolding least_multiple digits
+array_of_arrays = refl
 
 -- ---- forms that the other standards have
 
@@ -94,6 +104,11 @@ entered = refl
 pub left : leave_text_of (sig_of (scalar s32) []) entry (leaf_value (42 ∷ 0 ∷ 0 ∷ 0 ∷ [])) ≡ a_line (codes "leave sp 0x7ffefff8 42")
 unfolding digits
 left = refl
+
+-- an array's value stands in brackets
+pub left_with_array : leave_text_of (sig_of (struct_of (array_of (scalar s16) 2 ∷ scalar u8 ∷ [])) []) entry (struct_value (value (struct_value (value (leaf_value (1 ∷ 0 ∷ [])) (value (leaf_value (0xfe ∷ 0xff ∷ [])) no_values))) (value (leaf_value (7 ∷ [])) no_values))) ≡ a_line (codes "leave sp 0x7ffefff8 {[1,-2],7}")
+unfolding digits
+left_with_array = refl
 
 pub a_full_register : register_text entry (G 3) ≡ codes " a5a5000000000003"
 unfolding digits

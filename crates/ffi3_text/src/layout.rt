@@ -1,6 +1,6 @@
 // Lines of layout.
 ghost use Rattle.std.specs.Prelude.{◌≡◌, ◌<◌, ◌++◌, IfOk, OnOk, length};
-ghost use Rattle.ffi3_type_rules.specs.Fault.{IsResultType};
+ghost use Rattle.ffi3_type_rules.specs.Fault.{IsLaidOut};
 ghost use Rattle.ffi3_type_rules.specs.Signature.{SignatureHasNoFault, at_result, at_argument};
 ghost use Rattle.ffi3_types.specs.TreeOf.{tree_of};
 ghost use Rattle.ffi3_types.specs.SignatureFaultOf.{position_of};
@@ -10,7 +10,7 @@ use ffi3_types::{At, Bytes, FfiType, Leaf, NoMemory, Sig, type_text};
 use std::alloc::Global;
 
 /// The layout of the result or an argument of signature number `sig_number`, as
-/// `sig 0 arg 0 struct{uint8,uint32} size 8 align 4 leaves 0:uint8 4:uint32` with a newline.
+/// `sig 0 arg 0 struct{uint8,uint16[2]} size 6 align 2 leaves 0:uint8 2:uint16 4:uint16` with a newline.
 pub fn layout_line(alloc: Global, sig_number: u32, sig: &Sig, at: At) -> Result<Bytes, NoMemory>
     requires faultless { SignatureHasNoFault sig.now }
     requires there { IsIn sig.now (position_of at) }
@@ -47,7 +47,7 @@ fn argument_line(alloc: Global, sig_number: u32, sig: &Sig, i: u32) -> Result<By
 
 /// The type and its layout at the end of a text.
 fn write_type(alloc: Global, ty: &FfiType, text: &mut Bytes) -> Result<(), NoMemory>
-    requires { IsResultType (tree_of ty.now) }
+    requires { IsLaidOut (tree_of ty.now) }
     ensures { OnOk result (text.new ≡ text.old ++ type_layout_text (tree_of ty.now)) }
 {
     text.extend(type_text(alloc, ty)?.as_slice())?;
@@ -59,20 +59,21 @@ fn write_type(alloc: Global, ty: &FfiType, text: &mut Bytes) -> Result<(), NoMem
 
 /// Size, alignment and leaves.
 fn write_layout(alloc: Global, ty: &FfiType, text: &mut Bytes) -> Result<(), NoMemory>
-    requires { IsResultType (tree_of ty.now) }
+    requires { IsLaidOut (tree_of ty.now) }
     ensures { OnOk result (text.new ≡ text.old ++ sized_text (tree_of ty.now)) }
 {
     let size = ty.size();
     let align = ty.align();
     text.extend(format!(in alloc; " size {size} align {align} leaves")?.as_bytes())?;
-    for i in 0..ty.leaf_count() {
-        write_leaf(alloc, &ty.leaf(i), text)?;
+    let leaves = ty.leaves(alloc)?;
+    for i in 0..leaves.len() {
+        write_leaf(alloc, leaves.get(i), text)?;
     }
     Ok(())
 }
 
 fn write_leaf(alloc: Global, leaf: &Leaf, text: &mut Bytes) -> Result<(), NoMemory>
-    requires { IsResultType (tree_of leaf.now.kind) }
+    requires { IsLaidOut (tree_of leaf.now.kind) }
     ensures { OnOk result (text.new ≡ text.old ++ at_text leaf.now.at (tree_of leaf.now.kind)) }
 {
     let at = leaf.at;

@@ -1,6 +1,7 @@
 -- A function that calls another one, computed: from main, from the inside, and served.
-use Rattle.std.proofs.Common.{◌≡◌, ℕ, [], ◌∷◌, refl}
+use Rattle.std.proofs.Common.{◌≡◌, ℕ, ◌-◌, [], ◌∷◌, refl}
 use Rattle.std.specs.Prelude.{None, Some, pos}
+use Rattle.ffi3_type_rules.specs.declared.limits.TheConstants.{STACK_BYTES}
 use Rattle.ffi3_type_rules.specs.Tree.{scalar, s64}
 use Rattle.ffi3_type_rules.specs.Signature.{Signature}
 use Rattle.ffi3_type_rules.specs.Integer.{bytes_of_number}
@@ -48,13 +49,13 @@ abbrev two_closures : Closures
 two_closures = with_closure (with_closure no_closures 0 (Some (record { func = 0; sig = 0; user = 0 }))) 1 (Some (record { func = 1; sig = 0; user = 0 }))
 
 abbrev in_same : Activation
-in_same = record { who = function 0; arguments = n64 7 ∷ []; user = 0; left = 65376; results = [] }
+in_same = record { who = function 0; arguments = n64 7 ∷ []; user = 0; left = STACK_BYTES - 160; results = [] }
 
 abbrev in_through : Activation
-in_through = record { who = function 1; arguments = n64 7 ∷ []; user = 0; left = 65456; results = [] }
+in_through = record { who = function 1; arguments = n64 7 ∷ []; user = 0; left = STACK_BYTES - 80; results = [] }
 
 abbrev in_main : Activation
-in_main = record { who = main; arguments = []; user = 0; left = 65536; results = pointer_value 65536 ∷ pointer_value 65600 ∷ [] }
+in_main = record { who = main; arguments = []; user = 0; left = STACK_BYTES; results = pointer_value 65536 ∷ pointer_value 65600 ∷ [] }
 
 pub from_main : trace_of program ≡ Enter 65600 0 (n64 7 ∷ []) ∷ Enter 65536 0 (n64 7 ∷ []) ∷ Leave 0 (n64 7) ∷ Leave 0 (n64 7) ∷ Line (scalar s64) (n64 7) ∷ []
 unfolding act act_within

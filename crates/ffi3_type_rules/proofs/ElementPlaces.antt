@@ -1,8 +1,11 @@
 -- Where an element of a struct lies, and that it is without fault where the struct is.
-use Rattle.std.proofs.Common.{◌≡◌, ℕ, ◌+◌, ◌-◌, ◌<◌, ◌≤◌, ◌^◌, List, length, true, take, drop, ap, ◌∙◌, arith}
-use Rattle.ffi3_type_rules.specs.Tree.{Tree, struct_of, tree_at, trees_of}
+use Rattle.std.proofs.Common.{◌≡◌, ℕ, ◌+◌, ◌-◌, ◌<◌, ◌≤◌, ◌^◌, List, length, All, take, drop, ap, ◌∙◌, arith}
+use Rattle.std.proofs.lemmas.List.{get_or_default}
+use Rattle.ffi3_type_rules.specs.declared.limits.TheConstants.{LARGEST_TYPE}
+use Rattle.ffi3_type_rules.specs.Tree.{Tree, void, struct_of, tree_at, trees_of}
 use Rattle.ffi3_type_rules.specs.Layout.{size_of, align_of, layouts, end_before, start_of, least_multiple}
-use Rattle.ffi3_type_rules.specs.Fault.{IsResultType}
+use Rattle.ffi3_type_rules.specs.declared.Role.TheVariants.{Anywhere}
+use Rattle.ffi3_type_rules.specs.Fault.{IsLaidOut}
 use Rattle.ffi3_type_rules.specs.Value.{value_in}
 use Rattle.ffi3_type_rules.proofs.Layouts.{align_bounded, start-turn}
 use Rattle.ffi3_type_rules.proofs.Faults.{element_is_right, right_is_small}
@@ -27,16 +30,24 @@ part_is ts i t start size bytes is here =
     rw (whole, here.start_is, here.size_is, is)
 
 -- an element of a struct without fault has none
-pub right_here : (ts : List Tree) (i : ℕ) (t : Tree) → IsResultType (struct_of ts) → i < length ts → t ≡ tree_at ts i → IsResultType t
-right_here ts i t right below is = rw is (element_is_right true ts right i below)
+pub right_here : (ts : List Tree) (i : ℕ) (t : Tree) → IsLaidOut (struct_of ts) → i < length ts → t ≡ tree_at ts i → IsLaidOut t
+right_here ts i t right below is = rw is (element_is_right Anywhere ts right i below)
 
 -- the end of what is before an element, and its alignment, are small
-pub room_before : (ts : List Tree) (i : ℕ) (t : Tree) (end align : ℕ) → IsResultType (struct_of ts) → i < length ts → end ≡ end_before (layouts (trees_of ts)) i → align ≡ align_of t → end + align < 2 ^ 64
+pub room_before : (ts : List Tree) (i : ℕ) (t : Tree) (end align : ℕ) → IsLaidOut (struct_of ts) → i < length ts → end ≡ end_before (layouts (trees_of ts)) i → align ≡ align_of t → end + align < 2 ^ 64
 room_before ts i t end align right below e a =
-    let small = right_is_small 0 true (struct_of ts) right in
+    let small = right_is_small 0 Anywhere (struct_of ts) right in
     omega (arith, small, end_within ts i (omega arith), align_bounded t, e, a)
 
 -- the end of an element is small
-pub room_here : (ts : List Tree) (i start size : ℕ) → IsResultType (struct_of ts) → Lies ts i start size → start + size < 2 ^ 64
+pub room_here : (ts : List Tree) (i start size : ℕ) → IsLaidOut (struct_of ts) → Lies ts i start size → start + size < 2 ^ 64
 room_here ts i start size right here =
-    omega (arith, right_is_small 0 true (struct_of ts) right, here.within)
+    omega (arith, right_is_small 0 Anywhere (struct_of ts) right, here.within)
+
+-- the elements of a struct that has a layout have one, and are small
+pub elements_laid_out : (ts : List Tree) → IsLaidOut (struct_of ts) → All IsLaidOut ts
+elements_laid_out ts right k d below =
+    rw (get_or_default ts k d void below) (element_is_right Anywhere ts right k below)
+
+pub all_small : (ts : List Tree) → All IsLaidOut ts → All (λ t. size_of t ≤ LARGEST_TYPE) ts
+all_small ts right k d below = right_is_small 0 Anywhere _ (right k d below)

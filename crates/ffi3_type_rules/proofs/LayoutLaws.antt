@@ -1,18 +1,18 @@
 -- Every layout keeps its laws.
 use Prim.Native.Nat.{◌∣◌}
-use Rattle.std.proofs.Common.{◌≡◌, ℕ, zero, suc, ◌+◌, ◌%◌, ◌<◌, ◌≤◌, inl, inr, max, List, [], ◌∷◌, ◌++◌, map, length, refl, ap, ◌∙◌, subst, arith}
-use Rattle.std.specs.Prelude.{◌⊎◌, Some, slice_get, slice_index_or, option_and_then}
+use Rattle.std.proofs.Common.{◌≡◌, ℕ, zero, suc, ◌+◌, ◌*◌, ◌%◌, ◌<◌, ◌≤◌, inl, inr, max, List, [], ◌∷◌, ◌++◌, map, length, refl, ap, sym, ◌∙◌, subst, arith}
+use Rattle.std.specs.Prelude.{◌⊎◌, Some, None, slice_get, slice_index_or, option_and_then}
 use Rattle.std.proofs.Math.Nat.{dvd-add}
 use Rattle.std.proofs.lemmas.Nat.Gcd.{dvd_refl, dvd-zero, dvd_trans, dvd_of_mod-eq-zero, mod-eq-zero_of_dvd}
 use Rattle.std.proofs.lemmas.Bool.{cases_lt}
-use Rattle.ffi3_type_rules.specs.Tree.{Tree, void, scalar, left_out, structure, Trees, no_trees, tree, tree_at, list_of, Scalar, u8, s8, u16, s16, u32, s32, u64, s64, u128, s128, float, double, pointer}
-use Rattle.ffi3_type_rules.specs.Layout.{Layout, Leaf, layout, layouts, nothing, element, end_before, start_of, align_before, leaves_before, moved, least_multiple, struct_layout, scalar_size, scalar_layout, leaves_of, leaf_at, size_of, align_of}
-use Rattle.ffi3_type_rules.specs.Fault.{node_at}
-use Rattle.ffi3_type_rules.specs.LayoutLaws.{leaf_end, offset_on, StandsOnPath, HasLeafAt, IsWellLaidOut}
+use Rattle.ffi3_type_rules.specs.Tree.{Tree, void, scalar, left_out, structure, Trees, no_trees, tree, tree_at, list_of, Scalar, u8, s8, u16, s16, u32, s32, u64, s64, u128, s128, float, double, pointer, array, first_of, elements_of}
+use Rattle.ffi3_type_rules.specs.Layout.{Layout, Leaf, layout, layouts, nothing, element, end_before, start_of, align_before, leaves_before, moved, least_multiple, struct_layout, scalar_size, scalar_layout, leaves_of, leaf_at, size_of, align_of, repeated, array_layout, offset_of}
+use Rattle.ffi3_type_rules.specs.LayoutLaws.{leaf_end, offset_on, StandsOnPath, HasLeafAt, IsWellLaidOut, element_on}
 use Rattle.ffi3_type_rules.proofs.Layouts.{least_multiple-above}
-use Rattle.ffi3_type_rules.proofs.LeastMultiples.{least_multiple-divides}
+use Rattle.ffi3_type_rules.proofs.LeastMultiples.{least_multiple-divides, times_divides}
+use Rattle.ffi3_type_rules.proofs.Arrays.{length_of_equal, one_of_equal}
 use Rattle.ffi3_type_rules.proofs.StructLaws.{element_placed, greatest_alignment, least_size}
-use Rattle.ffi3_type_rules.proofs.Faults.{node_outside}
+use Rattle.ffi3_type_rules.proofs.Faults.{element_is, no_element}
 
 -- the alignments
 data Power : Type 0 where
@@ -248,6 +248,27 @@ module _ (es : List Layout) (well : (k : ℕ) → IsWell (element es k)) where
         aligned = aligned_before n a (λ k below. align_divides k n below);
       }
 
+-- an array of elements that keep them
+module _ (l : Layout) (well : IsWell l) where
+  rising_repeated : (n : ℕ) → Rising 0 (repeated l n) (n * l.size)
+  rising_repeated zero = omega arith
+  rising_repeated (suc n) =
+      let start = n * l.size in
+      let none : start + 0 ≡ start = omega arith in
+      let more : start + l.size ≡ suc n * l.size = omega arith in
+      let moved_there = rising-moved start 0 l.leaves l.size well.rising in
+      let there = subst (λ j. Rising j (map (moved start) l.leaves) (start + l.size)) none moved_there in
+      rising-append 0 (repeated l n) start (map (moved start) l.leaves) (suc n * l.size) (rising_repeated n) (subst (λ j. Rising start (map (moved start) l.leaves) j) more there)
+
+  aligned_repeated : (n : ℕ) → AlignedIn l.align (repeated l n)
+  aligned_repeated zero = tt
+  aligned_repeated (suc n) =
+      aligned-append l.align (repeated l n) (map (moved (n * l.size)) l.leaves) (aligned_repeated n) (aligned-moved l.align l.align (n * l.size) l.leaves (times_divides l.align l.size n well.whole) (dvd_refl l.align) well.aligned)
+
+  array_well : (n : ℕ) → IsWell (array_layout l n)
+  array_well n =
+      record { power = well.power; whole = times_divides l.align l.size n well.whole; rising = rising_repeated n; aligned = aligned_repeated n }
+
 nothing_well : IsWell nothing
 nothing_well = record { power = (p1, refl); whole = dvd-zero 1; rising = omega arith; aligned = tt }
 
@@ -261,6 +282,7 @@ mutual
   tree_well (scalar s) = scalar_well s
   tree_well (left_out k) = nothing_well
   tree_well (structure ts) = struct_well (layouts ts) (trees_well ts)
+  tree_well (array ts n) = array_well (element (layouts ts) 0) (trees_well ts 0) n
 
   trees_well : (ts : Trees) (k : ℕ) → IsWell (element (layouts ts) k)
   trees_well no_trees k = nothing_well
@@ -304,17 +326,27 @@ stands-append : (t : Tree) (xs ys : List Leaf) → EachStands t xs → EachStand
 stands-append t [] ys a b = b
 stands-append t (x ∷ xs) ys a b = (a.0, stands-append t xs ys a.1 b)
 
--- a leaf of element k is one of the struct
-stands-moved : (ts : Trees) (k : ℕ) (ls : List Leaf) → k < length (list_of ts) → EachStands (tree_at (list_of ts) k) ls → EachStands (structure ts) (map (moved (start_of (layouts ts) k)) ls)
-stands-moved ts k [] h e = tt
-stands-moved ts k (l ∷ ls) h e =
+-- a leaf of element k is one of the whole
+stands-moved : (t : Tree) (k start : ℕ) (ls : List Leaf) → k < length (elements_of t) → offset_of t k ≡ start → EachStands (tree_at (elements_of t) k) ls → EachStands t (map (moved start) ls)
+stands-moved t k start [] h s e = tt
+stands-moved t k start (l ∷ ls) h s e =
     let first = e.0 in
-    (record { path = k ∷ first.path; leads = node_outside ts k first.path (scalar l.kind) h first.leads; starts = ap (λ n. start_of (layouts ts) k + n) first.starts }, stands-moved ts k ls h e.1)
+    let leads = ap (option_and_then (element_on first.path)) (element_is (elements_of t) k h) ∙ first.leads in
+    let starts : start + l.at ≡ offset_of t k + offset_on first.path (tree_at (elements_of t) k) = omega (arith, s, first.starts) in
+    (record { path = k ∷ first.path; leads = leads; starts = starts }, stands-moved t k start ls h s e.1)
 
 stands_before : (ts : Trees) → ((k : ℕ) → EachStands (tree_at (list_of ts) k) (element (layouts ts) k).leaves) → (n : ℕ) → n ≤ length (list_of ts) → EachStands (structure ts) (leaves_before (layouts ts) n)
 stands_before ts each zero h = tt
 stands_before ts each (suc n) h =
-    stands-append (structure ts) (leaves_before (layouts ts) n) (map (moved (start_of (layouts ts) n)) (element (layouts ts) n).leaves) (stands_before ts each n (omega arith)) (stands-moved ts n (element (layouts ts) n).leaves (omega arith) (each n))
+    stands-append (structure ts) (leaves_before (layouts ts) n) (map (moved (start_of (layouts ts) n)) (element (layouts ts) n).leaves) (stands_before ts each n (omega arith)) (stands-moved (structure ts) n (start_of (layouts ts) n) (element (layouts ts) n).leaves (omega arith) refl (each n))
+
+stands_repeated : (ts : Trees) (n : ℕ) → EachStands (first_of ts) (element (layouts ts) 0).leaves → (m : ℕ) → m ≤ n → EachStands (array ts n) (repeated (element (layouts ts) 0) m)
+stands_repeated ts n each zero h = tt
+stands_repeated ts n each (suc m) h =
+    let l = element (layouts ts) 0 in
+    let count : length (elements_of (array ts n)) ≡ n = length_of_equal n (first_of ts) in
+    let here : tree_at (elements_of (array ts n)) m ≡ first_of ts = one_of_equal n m (first_of ts) void (omega arith) in
+    stands-append (array ts n) (repeated l m) (map (moved (m * l.size)) l.leaves) (stands_repeated ts n each m (omega arith)) (stands-moved (array ts n) m (m * l.size) l.leaves (omega (arith, count, h)) refl (subst (λ t. EachStands t l.leaves) (sym here) each))
 
 length-trees : (ts : Trees) → length (layouts ts) ≡ length (list_of ts)
 length-trees no_trees = refl
@@ -327,6 +359,7 @@ mutual
   tree_stands (left_out k) = tt
   tree_stands (structure ts) =
       stands_before ts (trees_stands ts) (length (layouts ts)) (omega (arith, length-trees ts))
+  tree_stands (array ts n) = stands_repeated ts n (trees_stands ts 0) n (omega arith)
 
   trees_stands : (ts : Trees) (k : ℕ) → EachStands (tree_at (list_of ts) k) (element (layouts ts) k).leaves
   trees_stands no_trees k = tt
@@ -363,20 +396,51 @@ among-before es k (suc n) at s h there =
           among-right (start_of es k + at) s (leaves_before es n) _ (subst (λ (j : ℕ). Among (start_of es k + at) s (map (moved (start_of es j)) (element es j).leaves)) same (among-moved (start_of es k) at s (element es k).leaves there))
     ]
 
+among-repeated : (l : Layout) (k n at : ℕ) (s : Scalar) → k < n → Among at s l.leaves → Among (k * l.size + at) s (repeated l n)
+among-repeated l k zero at s h there = absurd (omega arith)
+among-repeated l k (suc n) at s h there =
+    elim (cases_lt k n) [
+      | inl earlier ↦ among-left (k * l.size + at) s (repeated l n) _ (among-repeated l k n at s earlier there)
+      | inr here ↦ let same : k ≡ n = omega arith in
+          among-right (k * l.size + at) s (repeated l n) _ (subst (λ (j : ℕ). Among (k * l.size + at) s (map (moved (j * l.size)) l.leaves)) same (among-moved (k * l.size) at s l.leaves there))
+    ]
+
+-- an element of an array on a path is one of its element type, and has a number below the count
+in_element : (ts : Trees) (n k : ℕ) (path : List ℕ) (t : Tree) → element_on (k ∷ path) (array ts n) ≡ Some t → (k < n) × (element_on path (first_of ts) ≡ Some t)
+in_element ts n k path t e =
+    let count : length (elements_of (array ts n)) ≡ n = length_of_equal n (first_of ts) in
+    elim (cases_lt k n) [
+      | inl below ↦ let here = element_is (elements_of (array ts n)) k (omega (arith, count, below)) ∙ ap Some (one_of_equal n k (first_of ts) void below) in
+          (below, ap (option_and_then (element_on path)) (sym here) ∙ e)
+      | inr beyond ↦ let none : None ≡ Some t = ap (option_and_then (element_on path)) (sym (no_element (elements_of (array ts n)) k (omega (arith, count, beyond)))) ∙ e in absurd (cc)
+    ]
+
 mutual
-  tree_there : (t : Tree) (path : List ℕ) (s : Scalar) → node_at path t ≡ Some (scalar s) → Among (offset_on path t) s (leaves_of t)
+  tree_there : (t : Tree) (path : List ℕ) (s : Scalar) → element_on path t ≡ Some (scalar s) → Among (offset_on path t) s (leaves_of t)
   tree_there void [] s h = cc
   tree_there (left_out k) [] s h = cc
   tree_there (scalar r) [] s h = inl (refl, cc)
   tree_there (structure ts) [] s h = cc
+  tree_there (array ts n) [] s h = cc
   tree_there void (k ∷ path) s h = cc
   tree_there (left_out j) (k ∷ path) s h = cc
   tree_there (scalar r) (k ∷ path) s h = cc
   tree_there (structure ts) (k ∷ path) s h =
       let inside = trees_there ts k path s h in
       among-before (layouts ts) k (length (layouts ts)) (offset_on path (tree_at (list_of ts) k)) s inside.0 inside.1
+  tree_there (array ts n) (k ∷ path) s h =
+      let l = element (layouts ts) 0 in
+      let inside = in_element ts n k path (scalar s) h in
+      let here : first_of ts ≡ tree_at (elements_of (array ts n)) k = sym (one_of_equal n k (first_of ts) void inside.0) in
+      let there = among-repeated l k n (offset_on path (first_of ts)) s inside.0 (first_there ts path s inside.1) in
+      subst (λ t. Among (k * l.size + offset_on path t) s (repeated l n)) here there
 
-  trees_there : (ts : Trees) (k : ℕ) (path : List ℕ) (s : Scalar) → option_and_then (node_at path) (slice_get (list_of ts) k) ≡ Some (scalar s) → (k < length (layouts ts)) × Among (offset_on path (tree_at (list_of ts) k)) s (element (layouts ts) k).leaves
+  first_there : (ts : Trees) (path : List ℕ) (s : Scalar) → element_on path (first_of ts) ≡ Some (scalar s) → Among (offset_on path (first_of ts)) s (element (layouts ts) 0).leaves
+  first_there no_trees [] s h = cc
+  first_there no_trees (k ∷ path) s h = cc
+  first_there (tree t ts) path s h = tree_there t path s h
+
+  trees_there : (ts : Trees) (k : ℕ) (path : List ℕ) (s : Scalar) → option_and_then (element_on path) (slice_get (list_of ts) k) ≡ Some (scalar s) → (k < length (layouts ts)) × Among (offset_on path (tree_at (list_of ts) k)) s (element (layouts ts) k).leaves
   trees_there no_trees k path s h = cc
   trees_there (tree t ts) zero path s h = (omega arith, tree_there t path s h)
   trees_there (tree t ts) (suc k) path s h =
@@ -390,7 +454,7 @@ among-at at s (l ∷ ls) d (inr later) =
     let found = among-at at s ls d later in
     (suc found.0, omega (arith, found.1), found.2, found.3)
 
-leaf_there : (t : Tree) (path : List ℕ) (s : Scalar) → node_at path t ≡ Some (scalar s) → HasLeafAt t (offset_on path t) s
+leaf_there : (t : Tree) (path : List ℕ) (s : Scalar) → element_on path t ≡ Some (scalar s) → HasLeafAt t (offset_on path t) s
 leaf_there t path s h =
     let found = among-at (offset_on path t) s (leaves_of t) (record { at = 0; kind = u8 }) (tree_there t path s h) in
     record { number = found.0; in_range = found.1; starts = found.2; is = found.3 }

@@ -3,8 +3,8 @@ use Rattle.std.proofs.Common.{◌≡◌, ℕ, zero, suc, ◌+◌, ◌*◌, ◌%�
 use Rattle.std.proofs.lemmas.Nat.{mod_below}
 use Rattle.std.proofs.lemmas.Bool.{cases_lt}
 use Rattle.std.proofs.lemmas.List.{get_or_default}
-use Rattle.ffi3_type_rules.specs.declared.limits.TheConstants.{LARGEST_STRUCT}
-use Rattle.ffi3_type_rules.specs.Tree.{Tree, void, scalar, left_out, structure, Trees, no_trees, tree, trees_of, list_of, struct_of, tree_at, Scalar, u8, nodes, all_nodes}
+use Rattle.ffi3_type_rules.specs.declared.limits.TheConstants.{LARGEST_TYPE}
+use Rattle.ffi3_type_rules.specs.Tree.{Tree, void, scalar, left_out, structure, Trees, no_trees, tree, trees_of, list_of, struct_of, tree_at, Scalar, u8, nodes, all_nodes, array}
 use Rattle.ffi3_type_rules.specs.Layout.{Layout, layout, layouts, element, least_multiple, end_before, start_of, align_before, size_of, align_of, scalar_size}
 
 pub layouts_is_map : (ts : Trees) → layouts ts ≡ map layout (list_of ts)
@@ -74,11 +74,17 @@ pub scalar_size-bounds : (s : Scalar) → (1 ≤ scalar_size s) × (scalar_size 
 scalar_size-bounds u8 = (omega arith, omega arith)
 scalar_size-bounds _ = (omega arith, omega arith)
 
-pub align_positive : (t : Tree) → 1 ≤ align_of t
-align_positive void = omega arith
-align_positive (scalar s) = (scalar_size-bounds s).0
-align_positive (left_out k) = omega arith
-align_positive (structure ts) = align_before-positive (layouts ts) (length (layouts ts))
+mutual
+  pub align_positive : (t : Tree) → 1 ≤ align_of t
+  align_positive void = omega arith
+  align_positive (scalar s) = (scalar_size-bounds s).0
+  align_positive (left_out k) = omega arith
+  align_positive (structure ts) = align_before-positive (layouts ts) (length (layouts ts))
+  align_positive (array ts n) = first_positive ts
+
+  pub first_positive : (ts : Trees) → 1 ≤ (element (layouts ts) 0).align
+  first_positive no_trees = omega arith
+  first_positive (tree t ts) = align_positive t
 
 mutual
   pub align_bounded : (t : Tree) → align_of t ≤ 16
@@ -87,6 +93,7 @@ mutual
   align_bounded (left_out k) = omega arith
   align_bounded (structure ts) =
       align_before-bounded (layouts ts) (length (layouts ts)) (aligns_bounded ts)
+  align_bounded (array ts n) = aligns_bounded ts 0
 
   pub aligns_bounded : (ts : Trees) (k : ℕ) → (element (layouts ts) k).align ≤ 16
   aligns_bounded no_trees k = omega arith
@@ -94,7 +101,7 @@ mutual
   aligns_bounded (tree t ts) (suc k) = aligns_bounded ts k
 
 -- elements as large as the largest struct end within 16 bytes more each
-pub end_before-bounded : (ts : List Tree) (i : ℕ) → ((k : ℕ) → size_of (tree_at ts k) ≤ LARGEST_STRUCT) → end_before (layouts (trees_of ts)) i ≤ i * (LARGEST_STRUCT + 16)
+pub end_before-bounded : (ts : List Tree) (i : ℕ) → ((k : ℕ) → size_of (tree_at ts k) ≤ LARGEST_TYPE) → end_before (layouts (trees_of ts)) i ≤ i * (LARGEST_TYPE + 16)
 end_before-bounded ts zero h = omega arith
 end_before-bounded ts (suc i) h =
     let es = layouts (trees_of ts) in

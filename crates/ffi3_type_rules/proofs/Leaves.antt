@@ -1,10 +1,10 @@
 -- Laws of the leaves of a type.
-use Rattle.std.proofs.Common.{◌≡◌, ℕ, zero, suc, ◌+◌, ◌<◌, ◌≤◌, ◌-◌, inl, inr, List, [], ◌∷◌, map, length, refl, ap, sym, ◌∙◌, subst, arith, length-append, add-one}
+use Rattle.std.proofs.Common.{◌≡◌, ℕ, zero, suc, ◌+◌, ◌*◌, ◌<◌, ◌≤◌, ◌-◌, inl, inr, List, [], ◌∷◌, map, length, refl, ap, sym, ◌∙◌, subst, arith, length-append, add-one}
 use Rattle.std.specs.Prelude.{slice_index_or}
 use Rattle.std.proofs.lemmas.Bool.{cases_lt}
 use Rattle.std.proofs.lemmas.List.{get_or_append_left, get_or-append_right}
-use Rattle.ffi3_type_rules.specs.Tree.{Tree, void, scalar, left_out, structure, Trees, no_trees, tree, trees_of, struct_of, tree_at, u8}
-use Rattle.ffi3_type_rules.specs.Layout.{Layout, layouts, element, end_before, start_of, size_of, leaves_of, leaves_before, moved, Leaf, leaf_at, align_before}
+use Rattle.ffi3_type_rules.specs.Tree.{Tree, void, scalar, left_out, structure, array, Trees, no_trees, tree, trees_of, struct_of, tree_at, u8}
+use Rattle.ffi3_type_rules.specs.Layout.{Layout, layouts, element, end_before, start_of, size_of, leaves_of, leaves_before, repeated, moved, Leaf, leaf_at, align_before}
 use Rattle.ffi3_type_rules.proofs.Layouts.{least_multiple-above, scalar_size-bounds, length-layouts, layout_here}
 
 length-moved : (by : ℕ) (xs : List Leaf) → length (map (moved by) xs) ≡ length xs
@@ -21,6 +21,16 @@ leaves_within es h zero = omega arith
 leaves_within es h (suc i) =
     omega (arith, leaves_before-step es i, h i, leaves_within es h i, least_multiple-above (element es i).align (end_before es i))
 
+pub repeated-step : (l : Layout) (i : ℕ) → length (repeated l (suc i)) ≡ length (repeated l i) + length l.leaves
+repeated-step l i =
+    length-append (repeated l i) (map (moved (i * l.size)) l.leaves) ∙ ap (λ n. length (repeated l i) + n) (length-moved (i * l.size) l.leaves)
+
+repeated_within : (l : Layout) → length l.leaves ≤ l.size → (n : ℕ) → length (repeated l n) ≤ n * l.size
+repeated_within l h zero = omega arith
+repeated_within l h (suc n) =
+    let more : suc n * l.size ≡ n * l.size + l.size = omega arith in
+    omega (arith, repeated-step l n, h, repeated_within l h n, more)
+
 mutual
   pub leaves_le-size : (t : Tree) → length (leaves_of t) ≤ size_of t
   leaves_le-size void = omega arith
@@ -29,6 +39,7 @@ mutual
   leaves_le-size (structure ts) =
       let es = layouts ts in
       omega (arith, leaves_within es (all_le-size ts) (length es), least_multiple-above (align_before es (length es)) (end_before es (length es)))
+  leaves_le-size (array ts n) = repeated_within (element (layouts ts) 0) (all_le-size ts 0) n
 
   all_le-size : (ts : Trees) (k : ℕ) → length (element (layouts ts) k).leaves ≤ (element (layouts ts) k).size
   all_le-size no_trees k = omega arith

@@ -1,12 +1,13 @@
 -- Bytes that have the same value differ in padding alone.
-use Rattle.std.proofs.Common.{◌≡◌, ℕ, zero, suc, ◌+◌, ◌-◌, ◌<◌, ◌≤◌, inl, inr, List, [], length, ap, sym, ◌∙◌, subst, arith, All, map}
+use Rattle.std.proofs.Common.{◌≡◌, ℕ, zero, suc, ◌+◌, ◌-◌, ◌*◌, ◌<◌, ◌≤◌, inl, inr, List, [], length, ap, sym, ◌∙◌, subst, arith, All, map}
 use Rattle.std.specs.Prelude.{slice_index, slice_index_or}
 use Rattle.std.proofs.lemmas.Bool.{cases_lt}
+use Rattle.std.proofs.lemmas.Nat.{mul-le}
 use Rattle.std.proofs.lemmas.List.{length-map}
 use Rattle.std.proofs.lemmas.List.Elements.{All-nil, All-cons, All-append, All-map, All-weaker}
-use Rattle.ffi3_type_rules.specs.Tree.{Tree, void, scalar, left_out, structure, Trees, no_trees, tree, list_of}
-use Rattle.ffi3_type_rules.specs.Layout.{Layout, Leaf, layout, layouts, element, size_of, start_of, end_before, leaves_of, leaves_before, moved, scalar_size, align_before}
-use Rattle.ffi3_type_rules.specs.Value.{ValueTree, ValueTrees, leaf_value, struct_value, value, value_in, values_in, part, DifferInPaddingAlone}
+use Rattle.ffi3_type_rules.specs.Tree.{Tree, void, scalar, left_out, structure, array, Trees, no_trees, tree, list_of}
+use Rattle.ffi3_type_rules.specs.Layout.{Layout, Leaf, layout, layouts, element, size_of, start_of, end_before, leaves_of, leaves_before, repeated, moved, scalar_size, align_before}
+use Rattle.ffi3_type_rules.specs.Value.{ValueTree, ValueTrees, leaf_value, struct_value, value, value_in, values_in, first_value_in, repeated_values, part, DifferInPaddingAlone}
 use Rattle.ffi3_type_rules.proofs.Layouts.{layouts_is_map, end_before-le, least_multiple-above}
 use Rattle.ffi3_type_rules.proofs.Parts.{index_part, length_part}
 
@@ -23,6 +24,14 @@ ends_before es h (suc n) =
     let above = end_before-le es n (suc n) (omega arith) in
     All-append (EndsWithin last) (leaves_before es n) (map (moved start) (element es n).leaves) (All-weaker (EndsWithin (end_before es n)) (EndsWithin last) (λ leaf ends. omega arith) (leaves_before es n) (ends_before es h n)) (All-map (EndsWithin last) (moved start) (element es n).leaves (All-weaker (EndsWithin size) (λ leaf. EndsWithin last (moved start leaf)) (λ leaf ends. omega arith) (element es n).leaves (h n)))
 
+repeated_ends : (l : Layout) → All (EndsWithin l.size) l.leaves → (n : ℕ) → All (EndsWithin (n * l.size)) (repeated l n)
+repeated_ends l h zero = All-nil (EndsWithin (zero * l.size))
+repeated_ends l h (suc n) =
+    let last = suc n * l.size in
+    let start = n * l.size in
+    let more : last ≡ start + l.size = omega arith in
+    All-append (EndsWithin last) (repeated l n) (map (moved start) l.leaves) (All-weaker (EndsWithin start) (EndsWithin last) (λ leaf ends. omega (arith, more, ends)) (repeated l n) (repeated_ends l h n)) (All-map (EndsWithin last) (moved start) l.leaves (All-weaker (EndsWithin l.size) (λ leaf. EndsWithin last (moved start leaf)) (λ leaf ends. omega (arith, more, ends)) l.leaves h))
+
 -- each leaf lies within its type
 mutual
   pub leaves_end_within : (t : Tree) → All (EndsWithin (size_of t)) (leaves_of t)
@@ -35,6 +44,7 @@ mutual
       let last = end_before es (length es) in
       let above = least_multiple-above (align_before es (length es)) last in
       All-weaker (EndsWithin last) (EndsWithin (size_of (structure ts))) (λ leaf ends. omega arith) (leaves_before es (length es)) (ends_before es (all_end_within ts) (length es))
+  leaves_end_within (array ts n) = repeated_ends (element (layouts ts) 0) (all_end_within ts 0) n
 
   all_end_within : (ts : Trees) (k : ℕ) → All (EndsWithin (element (layouts ts) k).size) (element (layouts ts) k).leaves
   all_end_within no_trees k = All-nil (EndsWithin 0)
@@ -82,6 +92,32 @@ size_of_element ts k below =
     let above = least_multiple-above (align_before es (length es)) (end_before es (length es)) in
     omega arith
 
+-- the elements of an array, where equal values have the same bytes at the leaves of one
+module _ (read : List ℕ → ValueTree) (l : Layout) (ends : All (EndsWithin l.size) l.leaves) (one : (a b : List ℕ) → length a ≡ l.size → length b ≡ l.size → read a ≡ read b → All (SameAt a b) l.leaves) (a b : List ℕ) where
+  read_same : (i n k : ℕ) → repeated_values read l.size i n a ≡ repeated_values read l.size i n b → k < n → read (part a ((i + k) * l.size) l.size) ≡ read (part b ((i + k) * l.size) l.size)
+  read_same i zero k e h = absurd (omega arith)
+  read_same i (suc n) zero e h =
+      let at_zero : i ≡ i + 0 = omega arith in
+      let first = first_value (read (part a (i * l.size) l.size)) (read (part b (i * l.size) l.size)) (repeated_values read l.size (i + 1) n a) (repeated_values read l.size (i + 1) n b) e in
+      subst (λ j. read (part a (j * l.size) l.size) ≡ read (part b (j * l.size) l.size)) at_zero first
+  read_same i (suc n) (suc k) e h =
+      let along : i + 1 + k ≡ i + suc k = omega arith in
+      let others = other_values (read (part a (i * l.size) l.size)) (read (part b (i * l.size) l.size)) (repeated_values read l.size (i + 1) n a) (repeated_values read l.size (i + 1) n b) e in
+      subst (λ j. read (part a (j * l.size) l.size) ≡ read (part b (j * l.size) l.size)) along (read_same (i + 1) n k others (omega arith))
+
+  repeated_same : (n m : ℕ) → repeated_values read l.size 0 n a ≡ repeated_values read l.size 0 n b → n * l.size ≤ length a → length a ≡ length b → m ≤ n → All (SameAt a b) (repeated l m)
+  repeated_same n zero e room equal h = All-nil (SameAt a b)
+  repeated_same n (suc m) e room equal h =
+      let start = m * l.size in
+      let from_zero : 0 + m ≡ m = omega arith in
+      let less : suc m * l.size ≤ n * l.size = mul-le (suc m) l.size n l.size (omega arith) (omega arith) in
+      let more : suc m * l.size ≡ start + l.size = omega arith in
+      let within : start + l.size ≤ length a = omega (arith, less, more, room) in
+      let here = subst (λ j. read (part a (j * l.size) l.size) ≡ read (part b (j * l.size) l.size)) from_zero (read_same 0 n m e (omega arith)) in
+      let inner = one (part a start l.size) (part b start l.size) (length_part a start l.size within) (length_part b start l.size (omega (arith, within, equal))) here in
+      let whole : All (λ leaf. SameAt a b (moved start leaf)) l.leaves = λ k d below. same_in_whole a b start l.size _ (ends k d below) (inner k d below) in
+      All-append (SameAt a b) (repeated l m) (map (moved start) l.leaves) (repeated_same n m e room equal (omega arith)) (All-map (SameAt a b) (moved start) l.leaves whole)
+
 mutual
   pub same_in_leaves : (t : Tree) (a b : List ℕ) → length a ≡ size_of t → length b ≡ size_of t → value_in t a ≡ value_in t b → All (SameAt a b) (leaves_of t)
   same_in_leaves void a b n m e = All-nil (SameAt a b)
@@ -94,6 +130,14 @@ mutual
       let within : (k : ℕ) → k < length (list_of ts) → start_of es (0 + k) + (element es k).size ≤ length a = λ k below. let from_zero : 0 + k ≡ k = omega arith in rw from_zero (omega (arith, size_of_element ts k below)) in
       same_before es a b (λ k. let from_zero : 0 + k ≡ k = omega arith in
       subst (λ j. All (λ leaf. SameAt a b (moved (start_of es j) leaf)) (element es k).leaves) from_zero (all_same ts es 0 a b (omega arith) within values k)) (length es)
+  same_in_leaves (array ts n) a b m k e =
+      let l = element (layouts ts) 0 in
+      let values = struct_values (repeated_values (first_value_in ts) l.size 0 n a) (repeated_values (first_value_in ts) l.size 0 n b) e in
+      repeated_same (first_value_in ts) l (all_end_within ts 0) (first_same ts) a b n n values (omega arith) (omega arith) (omega arith)
+
+  first_same : (ts : Trees) (a b : List ℕ) → length a ≡ (element (layouts ts) 0).size → length b ≡ (element (layouts ts) 0).size → first_value_in ts a ≡ first_value_in ts b → All (SameAt a b) (element (layouts ts) 0).leaves
+  first_same no_trees a b n m e = All-nil (SameAt a b)
+  first_same (tree t ts) a b n m e = same_in_leaves t a b n m e
 
   all_same : (us : Trees) (es : List Layout) (i : ℕ) (a b : List ℕ) → length a ≡ length b → ((k : ℕ) → k < length (list_of us) → start_of es (i + k) + (element (layouts us) k).size ≤ length a) → values_in us es i a ≡ values_in us es i b → (k : ℕ) → All (λ leaf. SameAt a b (moved (start_of es (i + k)) leaf)) (element (layouts us) k).leaves
   all_same no_trees es i a b n within e k = All-nil (λ leaf. SameAt a b (moved (start_of es (i + k)) leaf))

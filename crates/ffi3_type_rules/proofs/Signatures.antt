@@ -2,6 +2,7 @@
 use Rattle.std.proofs.Common.{◌≡◌, ℕ, ◌<◌, ◌≤◌, ◌⊎◌, inl, inr, true, false, List, length, Some, None, sym, ◌∙◌, arith}
 use Rattle.std.proofs.lemmas.Bool.{cases_lt}
 use Rattle.ffi3_type_rules.specs.Tree.{tree_at}
+use Rattle.ffi3_type_rules.specs.declared.Role.TheVariants.{AsResult, AsArgument}
 use Rattle.ffi3_type_rules.specs.Fault.{Fault, IsFirstFault, IsResultType, IsArgumentType}
 use Rattle.ffi3_type_rules.specs.Signature.{Signature, at_result, at_argument, SignatureFault, too_many, bad_type, bad_fixed, bad_argument_type, is_promoted, IsSignatureFault, over_most, in_result, in_argument, fixed_outside, promoted, SignatureFaultBefore, SignatureHasNoFault, IsFirstSignatureFault}
 
@@ -11,7 +12,7 @@ module _ (s : Signature) where
 
   -- the kinds before are ruled out one by one
   module _ (few : length s.arguments ≤ 64) where
-    pub first_in_result : (path : List ℕ) (f : Fault) → IsFirstFault 0 true s.result_type path f → IsFirstSignatureFault s (bad_type at_result path f)
+    pub first_in_result : (path : List ℕ) (f : Fault) → IsFirstFault 0 AsResult s.result_type path f → IsFirstSignatureFault s (bad_type at_result path f)
     first_in_result path f first = record { is_there = in_result first; none_before = go }
       where
         go : (g : SignatureFault) → IsSignatureFault s g → ¬ SignatureFaultBefore g (bad_type at_result path f)
@@ -22,7 +23,7 @@ module _ (s : Signature) where
         go g (promoted is from below right) before = elim before [ inl less ↦ omega arith | inr less ↦ omega arith ]
 
     module _ (result_right : IsResultType s.result_type) where
-      pub first_in_argument : (i : ℕ) (path : List ℕ) (f : Fault) → i < length s.arguments → ((j : ℕ) → j < i → IsArgumentType (tree_at s.arguments j)) → IsFirstFault 0 false (tree_at s.arguments i) path f → IsFirstSignatureFault s (bad_type (at_argument i) path f)
+      pub first_in_argument : (i : ℕ) (path : List ℕ) (f : Fault) → i < length s.arguments → ((j : ℕ) → j < i → IsArgumentType (tree_at s.arguments j)) → IsFirstFault 0 AsArgument (tree_at s.arguments i) path f → IsFirstSignatureFault s (bad_type (at_argument i) path f)
       first_in_argument i path f below right first = record { is_there = in_argument below first; none_before = go }
         where
           go : (g : SignatureFault) → IsSignatureFault s g → ¬ SignatureFaultBefore g (bad_type (at_argument i) path f)

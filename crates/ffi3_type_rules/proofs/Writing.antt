@@ -3,7 +3,7 @@ use Rattle.std.proofs.Common.{◌≡◌, ℕ, suc, ◌+◌, ◌-◌, ◌<◌, �
 use Rattle.std.specs.Prelude.{slice_index, slice_index_or}
 use Rattle.std.proofs.lemmas.Bool.{cases_lt}
 use Rattle.std.proofs.lemmas.List.{get_or_default, ext_get_or}
-use Rattle.ffi3_type_rules.specs.Tree.{Tree, void, scalar, left_out, structure, tree_at, trees_of, struct_of, u8}
+use Rattle.ffi3_type_rules.specs.Tree.{Tree, void, scalar, left_out, structure, array, no_trees, tree, tree_at, trees_of, struct_of, u8}
 use Rattle.ffi3_type_rules.specs.Layout.{Leaf, layouts, element, size_of, start_of, end_before, leaves_of, leaves_before, leaf_at, moved, scalar_size}
 use Rattle.ffi3_type_rules.specs.Value.{ValueTree, leaf_value, struct_value, fits, values_of, value_in, part, IsPadding, IsWritten}
 use Rattle.ffi3_type_rules.proofs.Layouts.{length-layouts, end_before-le, element-layouts, least_multiple-above}
@@ -112,6 +112,8 @@ leaf_written (scalar s) bytes old new fit n e =
     }
 leaf_written (left_out k) bytes old new fit n e = cc
 leaf_written (structure ts) bytes old new fit n e = cc
+leaf_written (array no_trees k) bytes old new fit n e = cc
+leaf_written (array (tree t ts) k) bytes old new fit n e = cc
 
 -- all elements are written
 pub all_written : (ts : List Tree) (vs : List ValueTree) (old new : List ℕ) (i : ℕ) → length vs ≡ length ts → i ≡ length ts → IsWrittenBefore ts vs old new i → IsWritten (struct_of ts) (struct_value (values_of vs)) old new

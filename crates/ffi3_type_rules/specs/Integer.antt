@@ -1,7 +1,7 @@
 -- The number that the bytes of an integer make, and back: little-endian, two's complement. (psABI AMD64 3.1.2, AAPCS64 5.1, RISC-V ELF psABI "C/C++ type details")
 use Rattle.std.specs.Prelude.{ℕ, suc, ◌-◌, ◌%◌, ◌^◌, Bool, true, false, if◌then◌else◌, ℤ, pos, negsuc, ◌+ℤ◌, List}
 use Rattle.std.specs.Int.{Width, w8, w16, w32, w64, w128, to_le_bytes, from_le_bytes, cast_signed, cast_unsigned}
-use Rattle.ffi3_type_rules.specs.Tree.{Scalar, u8, s8, u16, s16, u32, s32, u64, s64, u128, s128, float, double, pointer, Tree, void, scalar, left_out, structure}
+use Rattle.ffi3_type_rules.specs.Tree.{Scalar, u8, s8, u16, s16, u32, s32, u64, s64, u128, s128, float, double, pointer, Tree, void, scalar, left_out, structure, array}
 
 -- the ten integer types
 abbrev pub is_integer : Scalar → Bool
@@ -24,6 +24,7 @@ is_integer_type void = false
 is_integer_type (scalar s) = is_integer s
 is_integer_type (left_out k) = false
 is_integer_type (structure ts) = false
+is_integer_type (array ts n) = false
 
 -- the types whose bytes are a number: the integers and the pointer
 abbrev pub is_number : Scalar → Bool
@@ -46,6 +47,7 @@ is_number_type void = false
 is_number_type (scalar s) = is_number s
 is_number_type (left_out k) = false
 is_number_type (structure ts) = false
+is_number_type (array ts n) = false
 
 -- the scalar that a type is
 abbrev pub scalar_of : Tree → Scalar
@@ -53,6 +55,7 @@ scalar_of void = u8
 scalar_of (scalar s) = s
 scalar_of (left_out k) = u8
 scalar_of (structure ts) = u8
+scalar_of (array ts n) = u8
 
 abbrev pub is_signed : Scalar → Bool
 is_signed u8 = false
@@ -140,3 +143,4 @@ is_floating_type void = false
 is_floating_type (scalar s) = is_floating s
 is_floating_type (left_out k) = false
 is_floating_type (structure ts) = false
+is_floating_type (array ts n) = false

@@ -1,7 +1,7 @@
--- Size, alignment and leaves of a type. (libffi manual, "Size and Alignment")
-use Rattle.std.specs.Prelude.{◌≡◌, ℕ, zero, suc, ◌+◌, ◌≤◌, ◌%◌, max, List, [], ◌∷◌, ◌++◌, map, length, slice_index_or}
+-- Size, alignment and leaves of a type. (libffi manual, "Size and Alignment"; arrays: C, "Types")
+use Rattle.std.specs.Prelude.{◌≡◌, ℕ, zero, suc, ◌+◌, ◌*◌, ◌≤◌, ◌%◌, max, List, [], ◌∷◌, ◌++◌, map, length, slice_index_or}
 use Rattle.std.specs.Int.{next_multiple_of}
-use Rattle.ffi3_type_rules.specs.Tree.{Scalar, u8, s8, u16, s16, u32, s32, u64, s64, u128, s128, float, double, pointer, Tree, void, scalar, left_out, structure, Trees, no_trees, tree}
+use Rattle.ffi3_type_rules.specs.Tree.{Scalar, u8, s8, u16, s16, u32, s32, u64, s64, u128, s128, float, double, pointer, Tree, void, scalar, left_out, structure, Trees, no_trees, tree, array}
 
 -- m is the least multiple of a that is not below n
 pub record IsLeastMultiple (a n m : ℕ) : Type 0 where
@@ -79,12 +79,23 @@ abbrev pub struct_layout : List Layout → Layout
 struct_layout es =
     record { size = least_multiple (align_before es (length es)) (end_before es (length es)); align = align_before es (length es); leaves = leaves_before es (length es) }
 
+-- the leaves of the first elements of an array: element i starts at i times its size
+abbrev pub repeated : Layout → ℕ → List Leaf
+repeated l zero = []
+repeated l (suc i) = repeated l i ++ map (moved (i * l.size)) l.leaves
+
+-- an array of n elements with this layout
+abbrev pub array_layout : Layout → ℕ → Layout
+array_layout l n =
+    record { size = n * l.size; align = l.align; leaves = repeated l n }
+
 abbrev mutual
   pub layout : Tree → Layout
   layout void = nothing
   layout (scalar s) = scalar_layout s
   layout (left_out k) = nothing
   layout (structure ts) = struct_layout (layouts ts)
+  layout (array ts n) = array_layout (element (layouts ts) 0) n
 
   pub layouts : Trees → List Layout
   layouts no_trees = []
@@ -99,12 +110,13 @@ align_of t = (layout t).align
 abbrev pub leaves_of : Tree → List Leaf
 leaves_of t = (layout t).leaves
 
--- where element i of a struct starts
+-- where element i of a struct or an array starts
 abbrev pub offset_of : Tree → ℕ → ℕ
 offset_of void i = 0
 offset_of (scalar s) i = 0
 offset_of (left_out k) i = 0
 offset_of (structure ts) i = start_of (layouts ts) i
+offset_of (array ts n) i = i * (element (layouts ts) 0).size
 
 -- leaf i of a type
 abbrev pub leaf_at : Tree → ℕ → Leaf

@@ -1,14 +1,18 @@
--- What every layout keeps. (libffi manual, "Size and Alignment"; C, "Structure and union specifiers": elements lie in order, each at a multiple of its alignment)
-use Rattle.std.specs.Prelude.{◌≡◌, ℕ, zero, suc, ◌+◌, ◌%◌, ◌<◌, ◌≤◌, List, [], ◌∷◌, length, Some}
-use Rattle.ffi3_type_rules.specs.Tree.{Tree, scalar, Scalar, tree_at, elements_of}
-use Rattle.ffi3_type_rules.specs.Layout.{Leaf, IsLeastMultiple, scalar_size, size_of, align_of, leaves_of, leaf_at, offset_of}
-use Rattle.ffi3_type_rules.specs.Fault.{node_at}
+-- What every layout keeps. (libffi manual, "Size and Alignment"; C, "Structure and union specifiers": elements lie in order, each at a multiple of its alignment; "Types": the elements of an array lie one after another, and there is one at least)
+use Rattle.std.specs.Prelude.{◌≡◌, ℕ, zero, suc, ◌+◌, ◌%◌, ◌<◌, ◌≤◌, List, [], ◌∷◌, ◌++◌, length, replicate, Option, Some, slice_get, option_and_then}
+use Rattle.ffi3_type_rules.specs.Tree.{Tree, scalar, Scalar, tree_at, elements_of, struct_of, array_of}
+use Rattle.ffi3_type_rules.specs.Layout.{Leaf, IsLeastMultiple, scalar_size, layout, size_of, align_of, leaves_of, leaf_at, offset_of}
 
 -- where a leaf ends
 abbrev pub leaf_end : Leaf → ℕ
 leaf_end leaf = leaf.at + scalar_size leaf.kind
 
--- where the node at a path starts: the sum of the offsets on the way
+-- the element that a path of element numbers leads to; each element of an array has a number
+abbrev pub element_on : List ℕ → Tree → Option Tree
+element_on [] t = Some t
+element_on (i ∷ path) t = option_and_then (element_on path) (slice_get (elements_of t) i)
+
+-- where the element at a path starts: the sum of the offsets on the way
 abbrev pub offset_on : List ℕ → Tree → ℕ
 offset_on [] t = 0
 offset_on (i ∷ path) t = offset_of t i + offset_on path (tree_at (elements_of t) i)
@@ -16,7 +20,7 @@ offset_on (i ∷ path) t = offset_of t i + offset_on path (tree_at (elements_of 
 -- a scalar of the type that stands where its path says
 pub record StandsOnPath (t : Tree) (leaf : Leaf) : Type 0 where
   pub path : List ℕ
-  pub leads : node_at path t ≡ Some (scalar leaf.kind)
+  pub leads : element_on path t ≡ Some (scalar leaf.kind)
   pub starts : leaf.at ≡ offset_on path t
 
 -- a leaf of this kind starts there
@@ -39,9 +43,9 @@ pub record IsGreatestAlignment (ts : List Tree) (align : ℕ) : Type 0 where
   pub none_greater : (i : ℕ) → i < length ts → align_of (tree_at ts i) ≤ align
 
 pub record IsWellLaidOut (t : Tree) : Type 0 where
-  -- each element of a struct stands at the least multiple of its alignment that is not below the end of the one before
+  -- each element of a struct or an array stands at the least multiple of its alignment that is not below the end of the one before
   pub placed : (i : ℕ) → i < length (elements_of t) → IsLeastMultiple (align_of (tree_at (elements_of t) i)) (end_of_previous t i) (offset_of t i)
-  -- a struct's alignment is the greatest of its elements'
+  -- the alignment of what has elements is the greatest of theirs
   pub greatest : 0 < length (elements_of t) → IsGreatestAlignment (elements_of t) (align_of t)
   -- its size is the least multiple of its alignment that is not below the end of its last element
   pub least : 0 < length (elements_of t) → IsLeastMultiple (align_of t) (end_of_previous t (length (elements_of t))) (size_of t)
@@ -54,6 +58,16 @@ pub record IsWellLaidOut (t : Tree) : Type 0 where
   -- its offset is the sum of those on its path
   pub summed : (i : ℕ) → i < length (leaves_of t) → StandsOnPath t (leaf_at t i)
   -- each scalar of the type is a leaf, where its path says
-  pub complete : (path : List ℕ) (s : Scalar) → node_at path t ≡ Some (scalar s) → HasLeafAt t (offset_on path t) s
+  pub complete : (path : List ℕ) (s : Scalar) → element_on path t ≡ Some (scalar s) → HasLeafAt t (offset_on path t) s
   -- any type's size is a multiple of its alignment
   pub whole : size_of t % align_of t ≡ 0
+
+-- an array of one element or more is laid out as a struct of as many equal elements
+abbrev pub ArrayIsStruct : Type 0
+ArrayIsStruct =
+    (t : Tree) (n : ℕ) → 0 < n → layout (array_of t n) ≡ layout (struct_of (replicate n t))
+
+-- an array of one element or more in a struct is laid out as if its elements stood there
+abbrev pub ArrayIsItsElements : Type 0
+ArrayIsItsElements =
+    (xs ys : List Tree) (t : Tree) (n : ℕ) → 0 < n → layout (struct_of (xs ++ array_of t n ∷ ys)) ≡ layout (struct_of (xs ++ (replicate n t ++ ys)))

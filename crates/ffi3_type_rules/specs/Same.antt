@@ -1,6 +1,6 @@
 -- Tests of equality of types and signatures.
 use Rattle.std.specs.Prelude.{ℕ, Bool, true, false, ◌&&◌, ◌==◌, List, [], ◌∷◌, Option, Some, None}
-use Rattle.ffi3_type_rules.specs.Tree.{scalar_number, LeftOutKind, long_double, complex, vector, Tree, void, scalar, left_out, structure, Trees, no_trees, tree}
+use Rattle.ffi3_type_rules.specs.Tree.{scalar_number, LeftOutKind, long_double, complex, vector, Tree, void, scalar, left_out, structure, array, Trees, no_trees, tree}
 use Rattle.ffi3_type_rules.specs.Signature.{Signature}
 
 abbrev same_kind : LeftOutKind → LeftOutKind → Bool
@@ -15,6 +15,7 @@ abbrev mutual
   same_tree (scalar s) (scalar r) = scalar_number s == scalar_number r
   same_tree (left_out k) (left_out l) = same_kind k l
   same_tree (structure ts) (structure us) = same_trees ts us
+  same_tree (array ts m) (array us n) = same_trees ts us && m == n
   same_tree _ _ = false
 
   pub same_trees : Trees → Trees → Bool

@@ -2,7 +2,8 @@
 use Rattle.std.specs.Prelude.{◌≡◌, ℕ, ◌<◌, ◌≤◌, ◌⊎◌, Bool, true, false, List, [], length, Option, Some, None, refl, slice_index_or}
 use Rattle.std.specs.Coded.{Coded, code_by, coded×, coded_list, coded_option, coded_ℕ}
 use Rattle.ffi3_type_rules.specs.declared.limits.TheConstants.{MOST_ARGUMENTS}
-use Rattle.ffi3_type_rules.specs.Tree.{Tree, void, scalar, tree_at, tree_code, tree_list_code, Scalar, u8, s8, u16, s16, float, left_out, structure, u32, s32, u64, s64, u128, s128, double, pointer}
+use Rattle.ffi3_type_rules.specs.Tree.{Tree, void, scalar, tree_at, tree_code, tree_list_code, Scalar, u8, s8, u16, s16, float, left_out, structure, u32, s32, u64, s64, u128, s128, double, pointer, array}
+use Rattle.ffi3_type_rules.specs.declared.Role.TheVariants.{AsResult, AsArgument}
 use Rattle.ffi3_type_rules.specs.Fault.{Fault, IsFirstFault}
 
 pub record Signature : Type 0 where
@@ -54,11 +55,12 @@ is_promoted void = false
 is_promoted (scalar s) = is_promoted_scalar s
 is_promoted (left_out k) = false
 is_promoted (structure ts) = false
+is_promoted (array ts n) = false
 
 pub data IsSignatureFault (s : Signature) : SignatureFault → Type 0 where
   over_most : MOST_ARGUMENTS < length s.arguments → IsSignatureFault s (too_many (length s.arguments))
-  in_result : {path : List ℕ} {fault : Fault} → IsFirstFault 0 true s.result_type path fault → IsSignatureFault s (bad_type at_result path fault)
-  in_argument : {i : ℕ} {path : List ℕ} {fault : Fault} → i < length s.arguments → IsFirstFault 0 false (tree_at s.arguments i) path fault → IsSignatureFault s (bad_type (at_argument i) path fault)
+  in_result : {path : List ℕ} {fault : Fault} → IsFirstFault 0 AsResult s.result_type path fault → IsSignatureFault s (bad_type at_result path fault)
+  in_argument : {i : ℕ} {path : List ℕ} {fault : Fault} → i < length s.arguments → IsFirstFault 0 AsArgument (tree_at s.arguments i) path fault → IsSignatureFault s (bad_type (at_argument i) path fault)
   fixed_outside : {n : ℕ} → s.fixed ≡ Some n → (n ≡ 0) ⊎ (length s.arguments < n) → IsSignatureFault s (bad_fixed n (length s.arguments))
   promoted : {n i : ℕ} → s.fixed ≡ Some n → n ≤ i → i < length s.arguments → is_promoted (tree_at s.arguments i) ≡ true → IsSignatureFault s (bad_argument_type i)
 

@@ -1,7 +1,8 @@
 -- Types and signatures as text, in the words of `type_names`.
-use Rattle.std.specs.Prelude.{ℕ, List, [], ◌∷◌, ◌++◌, take, drop, Option, Some, None, codes}
+use Rattle.std.specs.Prelude.{ℕ, List, [], ◌∷◌, ◌++◌, take, drop, slice_index_or, Option, Some, None, codes}
+use Rattle.std.specs.Fmt.{decimal}
 use Rattle.std.specs.List.{join_with_byte}
-use Rattle.ffi3_type_rules.specs.Tree.{Scalar, u8, s8, u16, s16, u32, s32, u64, s64, u128, s128, float, double, pointer, Tree, void, scalar, left_out, structure, Trees, no_trees, tree, trees_of}
+use Rattle.ffi3_type_rules.specs.Tree.{Scalar, u8, s8, u16, s16, u32, s32, u64, s64, u128, s128, float, double, pointer, Tree, void, scalar, left_out, structure, Trees, no_trees, tree, trees_of, array}
 use Rattle.ffi3_type_rules.specs.Signature.{Signature}
 
 abbrev pub scalar_name : Scalar → List ℕ
@@ -19,13 +20,14 @@ scalar_name float = codes "float"
 scalar_name double = codes "double"
 scalar_name pointer = codes "pointer"
 
--- a name, or the elements between commas; what is left out has no text
+-- a name, or a struct's elements between commas, or an array's element and its count; what is left out has no text
 abbrev mutual
   pub text_of : Tree → List ℕ
   text_of void = codes "void"
   text_of (scalar s) = scalar_name s
   text_of (left_out k) = []
   text_of (structure ts) = codes "struct{" ++ join_with_byte 44 (texts_of ts) ++ codes "}"
+  text_of (array ts n) = slice_index_or (texts_of ts) 0 [] ++ codes "[" ++ decimal n ++ codes "]"
 
   pub texts_of : Trees → List (List ℕ)
   texts_of no_trees = []

@@ -1,11 +1,11 @@
 -- What a value is, and which value the bytes of a type have. (libffi manual, "The Basics": a value lies in memory as C lays it out)
-use Rattle.std.specs.Prelude.{◌≡◌, ℕ, ◌+◌, ◌<◌, ◌≤◌, Bool, true, false, ◌&&◌, ◌==◌, List, [], ◌∷◌, length, take, drop, replicate, All, slice_index, ◌≢◌, refl}
+use Rattle.std.specs.Prelude.{◌≡◌, ℕ, zero, suc, ◌+◌, ◌*◌, ◌<◌, ◌≤◌, Bool, true, false, ◌&&◌, ◌==◌, List, [], ◌∷◌, length, take, drop, replicate, All, slice_index, ◌≢◌, refl}
 use Rattle.std.proofs.Common.{ap, ◌∙◌}
 use Rattle.std.specs.Coded.{Coded, code_by, coded_list}
 use denote.Struct.Codes.{itself}
 use base.Stored.{Gv, gnil, gnum, gcons}
-use Rattle.ffi3_type_rules.specs.Tree.{Tree, void, scalar, left_out, structure, Trees, no_trees, tree}
-use Rattle.ffi3_type_rules.specs.Layout.{Layout, layouts, scalar_size, size_of, start_of, leaves_of}
+use Rattle.ffi3_type_rules.specs.Tree.{Tree, void, scalar, left_out, structure, array, Trees, no_trees, tree, trees_of}
+use Rattle.ffi3_type_rules.specs.Layout.{Layout, layouts, element, scalar_size, size_of, start_of, leaves_of}
 
 mutual
   pub data ValueTree : Type 0 where
@@ -31,7 +31,7 @@ bytes_of void_value = []
 bytes_of (leaf_value bytes) = bytes
 bytes_of (struct_value vs) = []
 
--- the values of a struct's elements
+-- the values of the elements of a struct or an array
 abbrev pub elements_of : ValueTree → ValueTrees
 elements_of void_value = no_values
 elements_of (leaf_value bytes) = no_values
@@ -52,13 +52,26 @@ abbrev mutual
 abbrev pub part : List ℕ → ℕ → ℕ → List ℕ
 part bytes from n = take n (drop from bytes)
 
--- the value that the bytes of a type have: a struct's is the list of its elements' values, and padding has no part in it
+-- the values of n elements of an array from number i on, each of so many bytes
+abbrev pub repeated_values : (List ℕ → ValueTree) → (size : ℕ) → (i n : ℕ) → List ℕ → ValueTrees
+repeated_values read size i zero bytes = no_values
+repeated_values read size i (suc n) bytes =
+    value (read (part bytes (i * size) size)) (repeated_values read size (i + 1) n bytes)
+
+-- the value that the bytes of a type have: that of a struct or an array is the list of its elements' values, and padding has no part in it
 abbrev mutual
   pub value_in : Tree → List ℕ → ValueTree
   value_in void bytes = void_value
   value_in (scalar s) bytes = leaf_value bytes
   value_in (left_out k) bytes = void_value
   value_in (structure ts) bytes = struct_value (values_in ts (layouts ts) 0 bytes)
+  value_in (array ts n) bytes =
+      struct_value (repeated_values (first_value_in ts) (element (layouts ts) 0).size 0 n bytes)
+
+  -- that of the first of some types
+  pub first_value_in : Trees → List ℕ → ValueTree
+  first_value_in no_trees bytes = void_value
+  first_value_in (tree t ts) bytes = value_in t bytes
 
   -- those of the elements from number i on
   pub values_in : Trees → List Layout → ℕ → List ℕ → ValueTrees
@@ -79,7 +92,7 @@ abbrev pub is_void : ValueTree → Bool
 is_void void_value = true
 is_void _ = false
 
--- the value has the shape of the type, and the lengths of its leaves
+-- the value has the shape of the type, and the lengths of its leaves; an array's is a list, as a struct's is, and nothing fits an array of no type
 abbrev mutual
   pub fits : Tree → ValueTree → Bool
   fits void v = is_void v
@@ -87,6 +100,9 @@ abbrev mutual
   fits (left_out k) v = false
   fits (structure ts) (struct_value vs) = all_fit ts vs
   fits (structure ts) _ = false
+  fits (array no_trees n) v = false
+  fits (array (tree t ts) n) (struct_value vs) = all_fit (trees_of (replicate n t)) vs
+  fits (array (tree t ts) n) _ = false
 
   pub all_fit : Trees → ValueTrees → Bool
   all_fit no_trees no_values = true

@@ -4,6 +4,7 @@
 ghost use Rattle.std.specs.Prelude.{◌≡◌, ◌+◌, ◌<◌, ◌≤◌, ◌^◌};
 ghost use Rattle.ffi3_type_rules.specs.Layout.{IsLeastMultiple, least_multiple};
 ghost use Rattle.ffi3_type_rules.specs.Isa.{isa_of};
+ghost use Rattle.ffi3_type_rules.specs.Fault.{takes_void, takes_array};
 
 pub mod limits;
 
@@ -16,6 +17,38 @@ pub fn round_up(n: u64, align: u64) -> u64
     ensures close { result < n + align }
 {
     n.next_multiple_of(align)
+}
+
+/// What a type is used as: a result, an argument, or an element of a struct or an array; or anything that has a layout, values and
+/// texts, where what may stand in any of these places may stand.
+#[derive(Clone, Copy, Debug, PartialEq, Eq)]
+pub enum Role {
+    AsResult,
+    AsArgument,
+    AsElement,
+    Anywhere,
+}
+
+impl Role {
+    /// Whether Void may stand there.
+    pub fn takes_void(self) -> bool
+        ensures { result ≡ takes_void self }
+    {
+        match self {
+            Role::AsResult | Role::Anywhere => true,
+            Role::AsArgument | Role::AsElement => false,
+        }
+    }
+
+    /// Whether an array may stand there.
+    pub fn takes_array(self) -> bool
+        ensures { result ≡ takes_array self }
+    {
+        match self {
+            Role::AsElement | Role::Anywhere => true,
+            Role::AsResult | Role::AsArgument => false,
+        }
+    }
 }
 
 /// The standard that a call follows: System V AMD64, Arm AAPCS64, or RISC-V with LP64D.

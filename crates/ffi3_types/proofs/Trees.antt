@@ -1,9 +1,9 @@
 -- A type and its tree tell each other apart.
 use Rattle.std.proofs.Common.{◌≡◌, refl, ap, sym, ◌∙◌}
-use Rattle.ffi3_type_rules.specs.Tree.{Tree, void, scalar, left_out, structure, list_of, list_of-trees_of, u8, s8, u16, s16, u32, s32, u64, s64, u128, s128, float, double, pointer, long_double, complex, vector}
+use Rattle.ffi3_type_rules.specs.Tree.{Tree, void, scalar, left_out, structure, list_of, list_of-trees_of, u8, s8, u16, s16, u32, s32, u64, s64, u128, s128, float, double, pointer, long_double, complex, vector, array}
 use Rattle.ffi3_types.specs.TreeOf.{tree_of}
 use Rattle.ffi3_types.specs.declared.FfiType.{FfiType}
-use Rattle.ffi3_types.specs.declared.FfiType.TheVariants.{Void, U8, S8, U16, S16, U32, S32, U64, S64, U128, S128, Float, Double, Pointer, Struct, LongDouble, Complex, Vector}
+use Rattle.ffi3_types.specs.declared.FfiType.TheVariants.{Void, U8, S8, U16, S16, U32, S32, U64, S64, U128, S128, Float, Double, Pointer, Struct, LongDouble, Complex, Vector, Array}
 
 -- the type of a tree
 abbrev pub type_of : Tree → FfiType
@@ -25,9 +25,11 @@ type_of (left_out long_double) = LongDouble
 type_of (left_out complex) = Complex
 type_of (left_out vector) = Vector
 type_of (structure ts) = Struct (list_of ts)
+type_of (array ts n) = Array (list_of ts) n
 
 pub type_of-tree_of : (t : FfiType) → type_of (tree_of t) ≡ t
 type_of-tree_of (Struct fields) = ap Struct (list_of-trees_of fields)
+type_of-tree_of (Array fields count) = ap (λ ts. Array ts count) (list_of-trees_of fields)
 type_of-tree_of Void = refl
 type_of-tree_of _ = refl
 

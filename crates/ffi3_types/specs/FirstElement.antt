@@ -1,11 +1,13 @@
--- The first fault among the elements of a struct.
-use Rattle.std.specs.Prelude.{◌≡◌, ℕ, ◌<◌, List, ◌∷◌, length, false}
+-- The first fault among the elements of a struct, or of the element type of an array; and the role of a whole type.
+use Rattle.std.specs.Prelude.{◌≡◌, ℕ, ◌<◌, List, ◌∷◌, length, Bool, true, false}
+use Rattle.ffi3_type_rules.specs.declared.Role.{Role}
+use Rattle.ffi3_type_rules.specs.declared.Role.TheVariants.{AsResult, AsArgument, AsElement}
 use Rattle.ffi3_type_rules.specs.Tree.{Tree, tree_at}
 use Rattle.ffi3_type_rules.specs.Fault.{Fault, HasNoFault, IsFirstFault}
 
 -- none of the first n types has a fault
 abbrev pub NoElementHasFault : ℕ → List Tree → ℕ → Type 0
-NoElementHasFault outer ts n = (j : ℕ) → j < n → HasNoFault outer false (tree_at ts j)
+NoElementHasFault outer ts n = (j : ℕ) → j < n → HasNoFault outer AsElement (tree_at ts j)
 
 -- the path leads through the first type that has a fault
 pub record IsFirstInElements (outer : ℕ) (ts : List Tree) (path : List ℕ) (fault : Fault) : Type 0 where
@@ -14,4 +16,9 @@ pub record IsFirstInElements (outer : ℕ) (ts : List Tree) (path : List ℕ) (f
   pub path_is : path ≡ number ∷ rest
   pub in_range : number < length ts
   pub none_before : NoElementHasFault outer ts number
-  pub first : IsFirstFault outer false (tree_at ts number) rest fault
+  pub first : IsFirstFault outer AsElement (tree_at ts number) rest fault
+
+-- a whole type is a result or an argument
+abbrev pub role_of : Bool → Role
+role_of true = AsResult
+role_of false = AsArgument

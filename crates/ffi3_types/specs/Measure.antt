@@ -1,4 +1,4 @@
--- A struct has more nodes than each of its elements.
+-- A struct or an array has more nodes than each of its elements.
 use Rattle.std.specs.Prelude.{◌≤◌, max, List, [], ◌∷◌, map}
 use Rattle.std.proofs.Common.{arith}
 use denote.Param.Weighed.{most}
@@ -6,10 +6,11 @@ use Rattle.ffi3_type_rules.specs.Tree.{nodes, all_nodes, trees_of}
 use Rattle.ffi3_types.specs.TreeOf.{tree_of}
 use Rattle.ffi3_types.specs.declared.Fields.TheDeep.{deep-FfiType}
 use Rattle.ffi3_types.specs.declared.FfiType.{FfiType}
-use Rattle.ffi3_types.specs.declared.FfiType.TheVariants.{Struct}
+use Rattle.ffi3_types.specs.declared.FfiType.TheVariants.{Struct, Array}
 
 depth_le-nodes : (t : FfiType) → deep-FfiType t ≤ nodes (tree_of t)
 depth_le-nodes (Struct fields) = omega arith
+depth_le-nodes (Array fields count) = omega arith
 depth_le-nodes _ = omega arith
 
 pub most_le-nodes : (ts : List FfiType) → max (most deep-FfiType ts) 0 ≤ all_nodes (trees_of (map tree_of ts))

@@ -1,7 +1,7 @@
 -- Which tree a type of the code is.
-use Rattle.ffi3_type_rules.specs.Tree.{Tree, void, scalar, left_out, struct_of, u8, s8, u16, s16, u32, s32, u64, s64, u128, s128, float, double, pointer, long_double, complex, vector}
+use Rattle.ffi3_type_rules.specs.Tree.{Tree, void, scalar, left_out, struct_of, u8, s8, u16, s16, u32, s32, u64, s64, u128, s128, float, double, pointer, long_double, complex, vector, array, trees_of}
 use Rattle.ffi3_types.specs.declared.FfiType.{FfiType}
-use Rattle.ffi3_types.specs.declared.FfiType.TheVariants.{Void, U8, S8, U16, S16, U32, S32, U64, S64, U128, S128, Float, Double, Pointer, Struct, LongDouble, Complex, Vector}
+use Rattle.ffi3_types.specs.declared.FfiType.TheVariants.{Void, U8, S8, U16, S16, U32, S32, U64, S64, U128, S128, Float, Double, Pointer, Struct, LongDouble, Complex, Vector, Array}
 
 abbrev pub tree_of : FfiType → Tree
 tree_of Void = void
@@ -19,6 +19,7 @@ tree_of Float = scalar float
 tree_of Double = scalar double
 tree_of Pointer = scalar pointer
 tree_of (Struct fields) = struct_of fields
+tree_of (Array fields count) = array (trees_of fields) count
 tree_of LongDouble = left_out long_double
 tree_of Complex = left_out complex
 tree_of Vector = left_out vector

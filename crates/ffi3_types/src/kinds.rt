@@ -15,7 +15,7 @@ impl FfiType {
             FfiType::U32 | FfiType::S32 | FfiType::U64 | FfiType::S64 => true,
             FfiType::U128 | FfiType::S128 => true,
             FfiType::Float | FfiType::Double | FfiType::Pointer => false,
-            FfiType::Void | FfiType::Struct(_) => false,
+            FfiType::Void | FfiType::Struct(_) | FfiType::Array(_, _) => false,
             FfiType::LongDouble | FfiType::Complex | FfiType::Vector => false,
         }
     }
@@ -28,7 +28,11 @@ impl FfiType {
             FfiType::U8 | FfiType::S8 | FfiType::U16 | FfiType::S16 => true,
             FfiType::U32 | FfiType::S32 | FfiType::U64 | FfiType::S64 => true,
             FfiType::U128 | FfiType::S128 | FfiType::Pointer => true,
-            FfiType::Float | FfiType::Double | FfiType::Void | FfiType::Struct(_) => false,
+            FfiType::Float
+            | FfiType::Double
+            | FfiType::Void
+            | FfiType::Struct(_)
+            | FfiType::Array(_, _) => false,
             FfiType::LongDouble | FfiType::Complex | FfiType::Vector => false,
         }
     }
@@ -42,7 +46,7 @@ impl FfiType {
             FfiType::U8 | FfiType::S8 | FfiType::U16 | FfiType::S16 => false,
             FfiType::U32 | FfiType::S32 | FfiType::U64 | FfiType::S64 => false,
             FfiType::U128 | FfiType::S128 | FfiType::Pointer => false,
-            FfiType::Void | FfiType::Struct(_) => false,
+            FfiType::Void | FfiType::Struct(_) | FfiType::Array(_, _) => false,
             FfiType::LongDouble | FfiType::Complex | FfiType::Vector => false,
         }
     }

@@ -1,9 +1,8 @@
 // Size, alignment and the elements' offsets.
 ghost use Rattle.std.specs.Prelude.{◌≡◌, ◌+◌, ◌<◌, ◌≤◌, All, length, true};
-ghost use Rattle.ffi3_type_rules.specs.declared.limits.TheConstants.{LARGEST_STRUCT};
-ghost use Rattle.ffi3_type_rules.specs.Tree.{struct_of, tree_at, trees_of, elements_of};
+ghost use Rattle.ffi3_type_rules.specs.Tree.{struct_of, array, tree_at, trees_of, elements_of};
 ghost use Rattle.ffi3_type_rules.specs.Layout.{size_of, align_of, offset_of, layouts, end_before, align_before};
-ghost use Rattle.ffi3_type_rules.specs.Fault.{IsResultType};
+ghost use Rattle.ffi3_type_rules.specs.Fault.{IsLaidOut};
 ghost use Rattle.ffi3_types.specs.TreeOf.{tree_of};
 
 use crate::{FfiType, Fields};
@@ -19,7 +18,7 @@ pub(crate) struct Extent {
 impl FfiType {
     /// Size in bytes, a multiple of the alignment.
     pub fn size(&self) -> u64
-        requires { IsResultType (tree_of self.now) }
+        requires { IsLaidOut (tree_of self.now) }
         ensures { result ≡ size_of (tree_of self.now) }
     {
         self.extent().size
@@ -27,28 +26,29 @@ impl FfiType {
 
     /// Alignment in bytes: 1, 2, 4, 8 or 16.
     pub fn align(&self) -> u64
-        requires { IsResultType (tree_of self.now) }
+        requires { IsLaidOut (tree_of self.now) }
         ensures { result ≡ align_of (tree_of self.now) }
     {
         self.extent().align
     }
 
-    /// Where element `i` of a struct starts, in bytes from the struct's start.
+    /// Where element `i` of a struct or an array starts, in bytes from its start.
     pub fn offset(&self, i: u32) -> u64
-        requires right { IsResultType (tree_of self.now) }
+        requires right { IsLaidOut (tree_of self.now) }
         requires in_range { i < length (elements_of (tree_of self.now)) }
         ensures start { result ≡ offset_of (tree_of self.now) i }
         ensures within { result + size_of (tree_at (elements_of (tree_of self.now)) i) ≤ size_of (tree_of self.now) }
     {
         match self {
             FfiType::Struct(fields) => fields.offset(i as usize),
+            FfiType::Array(fields, count) => fields.offset_in_array(*count, i),
             _ => unreachable!(),
         }
     }
 
     #[cycle(extent)]
     pub(crate) fn extent(&self) -> Extent
-        requires { size_of (tree_of self.now) ≤ LARGEST_STRUCT }
+        requires { IsLaidOut (tree_of self.now) }
         ensures size { result.size ≡ size_of (tree_of self.now) }
         ensures align { result.align ≡ align_of (tree_of self.now) }
     {
@@ -67,6 +67,7 @@ impl FfiType {
                 align: 16,
             },
             FfiType::Struct(fields) => fields.extent(),
+            FfiType::Array(fields, count) => fields.extent_of_array(*count),
         }
     }
 }
@@ -74,7 +75,7 @@ impl FfiType {
 impl Fields {
     /// Where element `i` of the struct with these elements starts, in bytes from its start.
     pub fn offset(&self, i: usize) -> u64
-        requires right { IsResultType (struct_of self.now) }
+        requires right { IsLaidOut (struct_of self.now) }
         requires in_range { i < length self.now }
         ensures start { result ≡ offset_of (struct_of self.now) i }
         ensures within { result + size_of (tree_at self.now i) ≤ size_of (struct_of self.now) }
@@ -84,7 +85,7 @@ impl Fields {
 
     #[cycle(extent)]
     pub(crate) fn extent(&self) -> Extent
-        requires { All (λ t. size_of t ≤ LARGEST_STRUCT) self.now }
+        requires { All IsLaidOut self.now }
         ensures size { result.size ≡ size_of (struct_of self.now) }
         ensures align { result.align ≡ align_of (struct_of self.now) }
     {
@@ -95,10 +96,34 @@ impl Fields {
         }
     }
 
+    /// Where element `i` of the array of `count` elements of the first type starts.
+    fn offset_in_array(&self, count: u32, i: u32) -> u64
+        requires right { IsLaidOut (array (trees_of self.now) count) }
+        requires in_range { i < count }
+        ensures start { result ≡ offset_of (array (trees_of self.now) count) i }
+        ensures within { result + size_of (tree_at self.now 0) ≤ size_of (array (trees_of self.now) count) }
+    {
+        i as u64 * self.get(0).extent().size
+    }
+
+    /// Of the array of `count` elements of the first type.
+    #[cycle(extent)]
+    fn extent_of_array(&self, count: u32) -> Extent
+        requires { IsLaidOut (array (trees_of self.now) count) }
+        ensures size { result.size ≡ size_of (array (trees_of self.now) count) }
+        ensures align { result.align ≡ align_of (array (trees_of self.now) count) }
+    {
+        let item = self.get(0).extent();
+        Extent {
+            size: count as u64 * item.size,
+            align: item.align,
+        }
+    }
+
     /// Where the first `n` elements end, without padding after them, and their alignment.
     #[cycle(extent)]
     fn front(&self, n: usize) -> Extent
-        requires small { All (λ t. size_of t ≤ LARGEST_STRUCT) self.now }
+        requires right { All IsLaidOut self.now }
         requires in_range { n ≤ length self.now }
         ensures end { result.size ≡ end_before (layouts (trees_of self.now)) n }
         ensures align { result.align ≡ align_before (layouts (trees_of self.now)) n }

@@ -16,6 +16,7 @@ mod kinds;
 mod laws;
 mod layout;
 mod leaves;
+mod members;
 mod names;
 mod path;
 mod same;
@@ -28,7 +29,8 @@ pub use check::check_type;
 pub use fault::TypeFault;
 pub use ffi3_type_rules::Target;
 pub use laws::layout_laws;
-pub use leaves::Leaf;
+pub use leaves::{Leaf, Leaves};
+pub use members::Members;
 pub use path::Path;
 pub use same::{same_fields, same_type};
 pub use sig::{At, Sig, SigFault, check_sig, same_sig};
@@ -64,13 +66,15 @@ pub enum FfiType {
     Pointer,
     /// A struct of these elements.
     Struct(Fields),
+    /// An array: the list of its one element type, and how many elements it has.
+    Array(Fields, u32),
     /// Left out, as are the next two: a type with one of them has a fault.
     LongDouble,
     Complex,
     Vector,
 }
 
-/// The elements of a struct, or the arguments of a signature.
+/// The elements of a struct, an array's element type, or the arguments of a signature.
 #[cycle(types)]
 #[derive(Debug, Drop)]
 pub struct Fields {

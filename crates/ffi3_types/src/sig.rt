@@ -137,7 +137,8 @@ impl FfiType {
             FfiType::U8 | FfiType::S8 | FfiType::U16 | FfiType::S16 | FfiType::Float => true,
             FfiType::U32 | FfiType::S32 | FfiType::U64 | FfiType::S64 => false,
             FfiType::U128 | FfiType::S128 => false,
-            FfiType::Double | FfiType::Pointer | FfiType::Struct(_) | FfiType::Void => false,
+            FfiType::Double | FfiType::Pointer | FfiType::Void => false,
+            FfiType::Struct(_) | FfiType::Array(_, _) => false,
             FfiType::LongDouble | FfiType::Complex | FfiType::Vector => false,
         }
     }

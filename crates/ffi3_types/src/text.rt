@@ -1,21 +1,22 @@
 // Types and signatures as text.
-ghost use Rattle.std.specs.Prelude.{◌≡◌, ◌++◌, ◌≤◌, OnOk, IfOk, length, slice_range, true, false};
-ghost use Rattle.ffi3_type_rules.specs.Text.{text_of, list_text, arguments_text, signature_text};
-ghost use Rattle.ffi3_type_rules.specs.Fault.{IsResultType};
+ghost use Rattle.std.specs.Prelude.{◌≡◌, ◌++◌, ◌≤◌, [], OnOk, IfOk, length, slice_index_or, slice_range, true, false};
+ghost use Rattle.ffi3_type_rules.specs.Tree.{array, trees_of};
+ghost use Rattle.ffi3_type_rules.specs.Text.{text_of, texts_of, list_text, arguments_text, signature_text};
+ghost use Rattle.ffi3_type_rules.specs.Fault.{IsLaidOut};
 ghost use Rattle.ffi3_type_rules.specs.Signature.{SignatureHasNoFault};
 ghost use Rattle.ffi3_types.specs.TreeOf.{tree_of};
 
 use crate::{Bytes, FfiType, Fields, NoMemory, Sig};
 use std::alloc::Global;
 
-/// The type's text, as `struct{sint8,double}`: the name of a scalar with its size, a struct's
-/// elements between commas, without spaces.
+/// The type's text, as `struct{sint8,double[3]}`: the name of a scalar with its size, a struct's
+/// elements between commas, an array's count after its element, without spaces.
 pub fn type_text(alloc: Global, ty: &FfiType) -> Result<Bytes, NoMemory>
-    requires { IsResultType (tree_of ty.now) }
+    requires { IsLaidOut (tree_of ty.now) }
     ensures { IfOk result (λ text. text ≡ text_of (tree_of ty.now)) }
 {
     let mut text = Bytes::new(alloc);
-    ty.write_text(&mut text)?;
+    ty.write_text(alloc, &mut text)?;
     Ok(text)
 }
 
@@ -27,26 +28,26 @@ pub fn sig_text(alloc: Global, sig: &Sig) -> Result<Bytes, NoMemory>
     ensures { IfOk result (λ text. text ≡ signature_text sig.now) }
 {
     let mut text = Bytes::new(alloc);
-    sig.ret().write_text(&mut text)?;
+    sig.ret().write_text(alloc, &mut text)?;
     text.push(b'(')?;
-    write_arguments(sig, &mut text)?;
+    write_arguments(alloc, sig, &mut text)?;
     text.push(b')')?;
     Ok(text)
 }
 
 /// The arguments' texts at the end of a text.
-fn write_arguments(sig: &Sig, text: &mut Bytes) -> Result<(), NoMemory>
+fn write_arguments(alloc: Global, sig: &Sig, text: &mut Bytes) -> Result<(), NoMemory>
     requires { SignatureHasNoFault sig.now }
     ensures { OnOk result
         (text.new ≡ text.old ++ arguments_text sig.now.arguments sig.now.fixed) }
 {
     let args = sig.args();
     match sig.fixed() {
-        None => args.write_all(text),
+        None => args.write_all(alloc, text),
         Some(fixed) => {
-            args.write_range(0, fixed as usize, text)?;
+            args.write_range(alloc, 0, fixed as usize, text)?;
             text.push(b';')?;
-            args.write_range(fixed as usize, args.len(), text)
+            args.write_range(alloc, fixed as usize, args.len(), text)
         }
     }
 }
@@ -54,7 +55,7 @@ fn write_arguments(sig: &Sig, text: &mut Bytes) -> Result<(), NoMemory>
 impl FfiType {
     /// The type's text at the end of a text.
     #[cycle(write_text)]
-    fn write_text(&self, text: &mut Bytes) -> Result<(), NoMemory>
+    fn write_text(&self, alloc: Global, text: &mut Bytes) -> Result<(), NoMemory>
         ensures { OnOk result (text.new ≡ text.old ++ text_of (tree_of self.now)) }
     {
         let name = match self {
@@ -75,9 +76,10 @@ impl FfiType {
             FfiType::LongDouble | FfiType::Complex | FfiType::Vector => "",
             FfiType::Struct(fields) => {
                 text.extend("struct{".as_bytes())?;
-                fields.write_all(text)?;
+                fields.write_all(alloc, text)?;
                 "}"
             }
+            FfiType::Array(fields, count) => return fields.write_array(alloc, *count, text),
         };
         text.extend(name.as_bytes())
     }
@@ -86,15 +88,42 @@ impl FfiType {
 impl Fields {
     /// The texts of all elements at the end of a text.
     #[cycle(write_text)]
-    fn write_all(&self, text: &mut Bytes) -> Result<(), NoMemory>
+    fn write_all(&self, alloc: Global, text: &mut Bytes) -> Result<(), NoMemory>
         ensures { OnOk result (text.new ≡ text.old ++ list_text self.now) }
     {
-        self.write_range(0, self.len(), text)
+        self.write_range(alloc, 0, self.len(), text)
+    }
+
+    /// The text of an array of `count` elements of the first type at the end of a text.
+    #[cycle(write_text)]
+    fn write_array(&self, alloc: Global, count: u32, text: &mut Bytes) -> Result<(), NoMemory>
+        ensures { OnOk result (text.new ≡ text.old ++ text_of (array (trees_of self.now) count)) }
+    {
+        self.write_first(alloc, text)?;
+        text.extend(format!(in alloc; "[{count}]")?.as_bytes())
+    }
+
+    /// The text of the first type, if there is one, at the end of a text.
+    #[cycle(write_text)]
+    fn write_first(&self, alloc: Global, text: &mut Bytes) -> Result<(), NoMemory>
+        ensures { OnOk result
+            (text.new ≡ text.old ++ slice_index_or (texts_of (trees_of self.now)) 0 []) }
+    {
+        if self.len() == 0 {
+            return Ok(());
+        }
+        self.get(0).write_text(alloc, text)
     }
 
     /// The texts of the elements from number `from` up to `to` at the end of a text.
     #[cycle(write_text)]
-    fn write_range(&self, from: usize, to: usize, text: &mut Bytes) -> Result<(), NoMemory>
+    fn write_range(
+        &self,
+        alloc: Global,
+        from: usize,
+        to: usize,
+        text: &mut Bytes,
+    ) -> Result<(), NoMemory>
         requires in_order { from ≤ to }
         requires in_range { to ≤ length self.now }
         ensures { OnOk result
@@ -104,7 +133,7 @@ impl Fields {
             if i > from {
                 text.push(b',')?;
             }
-            self.get(i).write_text(text)?;
+            self.get(i).write_text(alloc, text)?;
         }
         Ok(())
     }

@@ -1,4 +1,4 @@
--- A struct's value has more nodes than each of its elements.
+-- The value of a struct or an array has more nodes than each of its elements.
 use Rattle.std.specs.Prelude.{◌≤◌, max, List, [], ◌∷◌, map}
 use Rattle.std.proofs.Common.{arith}
 use denote.Param.Weighed.{most}

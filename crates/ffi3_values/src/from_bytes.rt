@@ -2,20 +2,20 @@
 ghost use Rattle.std.specs.Prelude.{◌≡◌, IfOk, length, true};
 ghost use Rattle.ffi3_type_rules.specs.Tree.{trees_of, struct_of};
 ghost use Rattle.ffi3_type_rules.specs.Layout.{layouts, size_of};
-ghost use Rattle.ffi3_type_rules.specs.Fault.{IsResultType};
+ghost use Rattle.ffi3_type_rules.specs.Fault.{IsLaidOut};
 ghost use Rattle.ffi3_type_rules.specs.Value.{value_in, values_in, values_of, zero_value, fits, all_fit};
 ghost use Rattle.ffi3_types.specs.TreeOf.{tree_of};
 ghost use Rattle.ffi3_values.specs.ValueOf.{value_of};
 
 use crate::{Bytes, NoMemory, Value, Values};
 use ffi3_type_rules::round_up;
-use ffi3_types::{FfiType, Fields};
+use ffi3_types::{FfiType, Members};
 use std::alloc::Global;
 
 /// The value that these bytes of a type have: padding has no part in it.
 #[cycle(from_bytes)]
 pub fn value_from_bytes(alloc: Global, ty: &FfiType, bytes: &[u8]) -> Result<Value, NoMemory>
-    requires right { IsResultType (tree_of ty.now) }
+    requires right { IsLaidOut (tree_of ty.now) }
     requires sized { length bytes.now ≡ size_of (tree_of ty.now) }
     ensures value { IfOk result (λ v. value_of v ≡ value_in (tree_of ty.now) bytes.now) }
     ensures fits { IfOk result (λ v. fits (tree_of ty.now) (value_of v) ≡ true) }
@@ -23,7 +23,14 @@ pub fn value_from_bytes(alloc: Global, ty: &FfiType, bytes: &[u8]) -> Result<Val
     match ty {
         FfiType::Void => Ok(Value::Void),
         FfiType::LongDouble | FfiType::Complex | FfiType::Vector => unreachable!(),
-        FfiType::Struct(fields) => Ok(Value::List(values_from_bytes(alloc, fields, bytes)?)),
+        FfiType::Struct(fields) => {
+            let members = Members::of_struct(fields);
+            Ok(Value::List(values_from_bytes(alloc, &members, bytes)?))
+        }
+        FfiType::Array(fields, count) => {
+            let members = Members::of_array(fields, *count);
+            Ok(Value::List(values_from_bytes(alloc, &members, bytes)?))
+        }
         FfiType::U8
         | FfiType::S8
         | FfiType::U16
@@ -41,8 +48,8 @@ pub fn value_from_bytes(alloc: Global, ty: &FfiType, bytes: &[u8]) -> Result<Val
 }
 
 #[cycle(from_bytes)]
-fn values_from_bytes(alloc: Global, fields: &Fields, bytes: &[u8]) -> Result<Values, NoMemory>
-    requires right { IsResultType (struct_of fields.now) }
+fn values_from_bytes(alloc: Global, fields: &Members, bytes: &[u8]) -> Result<Values, NoMemory>
+    requires right { IsLaidOut (struct_of fields.now) }
     requires sized { length bytes.now ≡ size_of (struct_of fields.now) }
     ensures value { IfOk result
         (λ vs. values_of vs ≡ values_in (trees_of fields.now) (layouts (trees_of fields.now)) 0 bytes.now) }
@@ -62,7 +69,7 @@ fn values_from_bytes(alloc: Global, fields: &Fields, bytes: &[u8]) -> Result<Val
 
 /// The value whose bytes are all zero.
 pub fn zero(alloc: Global, ty: &FfiType) -> Result<Value, NoMemory>
-    requires { IsResultType (tree_of ty.now) }
+    requires { IsLaidOut (tree_of ty.now) }
     ensures value { IfOk result (λ v. value_of v ≡ zero_value (tree_of ty.now)) }
     ensures fits { IfOk result (λ v. fits (tree_of ty.now) (value_of v) ≡ true) }
 {

@@ -23,7 +23,8 @@ use std::marker::Model;
 pub use text::value_text;
 pub use write::write_bytes;
 
-/// A value of some type: nothing, the bytes of a scalar in memory order, or the values of a struct's elements.
+/// A value of some type: nothing, the bytes of a scalar in memory order, or the values of the elements of a struct
+/// or an array.
 #[cycle(values)]
 #[derive(Debug, Drop)]
 pub enum Value {
@@ -32,7 +33,7 @@ pub enum Value {
     List(Values),
 }
 
-/// The values of a struct's elements, or of a signature's arguments: fewer than 2^32.
+/// The values of the elements of a struct or an array, or of a signature's arguments: fewer than 2^32.
 #[cycle(values)]
 #[derive(Debug, Drop)]
 pub struct Values {

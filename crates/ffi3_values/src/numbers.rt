@@ -71,7 +71,8 @@ pub fn number(ty: &FfiType, value: &Value) -> i128
         FfiType::S64 => from_eight(bytes).cast_signed() as i128,
         FfiType::U64 | FfiType::Pointer => from_eight(bytes) as i128,
         FfiType::U128 | FfiType::S128 => unreachable!(),
-        FfiType::Void | FfiType::Float | FfiType::Double | FfiType::Struct(_) => unreachable!(),
+        FfiType::Void | FfiType::Float | FfiType::Double => unreachable!(),
+        FfiType::Struct(_) | FfiType::Array(_, _) => unreachable!(),
         FfiType::LongDouble | FfiType::Complex | FfiType::Vector => unreachable!(),
     }
 }
@@ -114,7 +115,8 @@ pub fn widen(ty: &FfiType, value: &Value) -> u64
         FfiType::S32 => (from_four(bytes).cast_signed() as i64).cast_unsigned(),
         FfiType::U64 | FfiType::S64 | FfiType::Pointer => from_eight(bytes),
         FfiType::U128 | FfiType::S128 => unreachable!(),
-        FfiType::Void | FfiType::Float | FfiType::Double | FfiType::Struct(_) => unreachable!(),
+        FfiType::Void | FfiType::Float | FfiType::Double => unreachable!(),
+        FfiType::Struct(_) | FfiType::Array(_, _) => unreachable!(),
         FfiType::LongDouble | FfiType::Complex | FfiType::Vector => unreachable!(),
     }
 }
@@ -149,7 +151,8 @@ pub fn of_bits(alloc: Global, ty: &FfiType, n: u128) -> Result<Value, NoMemory>
             &((n % 0x1_0000_0000_0000_0000) as u64).to_le_bytes(),
         )?,
         FfiType::U128 | FfiType::S128 => all_bytes(alloc, n)?,
-        FfiType::Void | FfiType::Float | FfiType::Double | FfiType::Struct(_) => unreachable!(),
+        FfiType::Void | FfiType::Float | FfiType::Double => unreachable!(),
+        FfiType::Struct(_) | FfiType::Array(_, _) => unreachable!(),
         FfiType::LongDouble | FfiType::Complex | FfiType::Vector => unreachable!(),
     }))
 }

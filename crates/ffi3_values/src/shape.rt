@@ -6,7 +6,7 @@ ghost use Rattle.ffi3_types.specs.TreeOf.{tree_of};
 ghost use Rattle.ffi3_values.specs.ValueOf.{value_of};
 
 use crate::{Value, Values};
-use ffi3_types::{FfiType, Fields};
+use ffi3_types::{FfiType, Members};
 
 /// Whether the value is a leaf of n bytes.
 fn is_leaf_of(value: &Value, n: usize) -> bool
@@ -31,15 +31,24 @@ pub fn fits(value: &Value, ty: &FfiType) -> bool
         FfiType::U64 | FfiType::S64 | FfiType::Double | FfiType::Pointer => is_leaf_of(value, 8),
         FfiType::U128 | FfiType::S128 => is_leaf_of(value, 16),
         FfiType::Struct(fields) => match value {
-            Value::List(values) => all_fit(values, fields),
+            Value::List(values) => all_fit(values, &Members::of_struct(fields)),
             _ => false,
         },
+        FfiType::Array(fields, count) => {
+            if fields.len() == 0 {
+                return false;
+            }
+            match value {
+                Value::List(values) => all_fit(values, &Members::of_array(fields, *count)),
+                _ => false,
+            }
+        }
         FfiType::LongDouble | FfiType::Complex | FfiType::Vector => false,
     }
 }
 
 #[cycle(fits)]
-fn all_fit(values: &Values, fields: &Fields) -> bool
+fn all_fit(values: &Values, fields: &Members) -> bool
     ensures { result ≡ all_fit (trees_of fields.now) (values_of values.now) }
 {
     if fields.len() != values.len() {

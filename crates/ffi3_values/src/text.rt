@@ -9,10 +9,10 @@ ghost use Rattle.ffi3_values.specs.ValueOf.{value_of};
 
 use crate::numbers::from_sixteen;
 use crate::{Bytes, NoMemory, Value, Values, number, widen};
-use ffi3_types::{FfiType, Fields};
+use ffi3_types::{FfiType, Members};
 use std::alloc::Global;
 
-/// The value's text: integers in decimal, pointers as `0xbef`, the bytes of floats in hexadecimal, structs as `{1,-2}`, and `void`.
+/// The value's text: integers in decimal, pointers as `0xbef`, the bytes of floats in hexadecimal, structs as `{1,-2}`, arrays as `[1,2]`, and `void`.
 pub fn value_text(alloc: Global, ty: &FfiType, value: &Value) -> Result<Bytes, NoMemory>
     requires { fits (tree_of ty.now) (value_of value.now) ≡ true }
     ensures { IfOk result (λ text. text ≡ value_text_of (tree_of ty.now) (value_of value.now)) }
@@ -55,16 +55,25 @@ fn write_text(alloc: Global, ty: &FfiType, value: &Value, text: &mut Bytes) -> R
                 let number = from_sixteen(bytes.as_slice()).cast_signed();
                 text.extend(format!(in alloc; "{number}")?.as_bytes())
             }
-            FfiType::Void | FfiType::Struct(_) => unreachable!(),
+            FfiType::Void | FfiType::Struct(_) | FfiType::Array(_, _) => unreachable!(),
             FfiType::LongDouble | FfiType::Complex | FfiType::Vector => unreachable!(),
         },
         Value::List(values) => {
-            if let FfiType::Struct(fields) = ty {
-                text.push(b'{')?;
-                write_texts(alloc, fields, values, text)?;
-                text.push(b'}')?;
+            match ty {
+                FfiType::Struct(fields) => {
+                    let members = Members::of_struct(fields);
+                    text.push(b'{')?;
+                    write_texts(alloc, &members, values, text)?;
+                    text.push(b'}')
+                }
+                FfiType::Array(fields, count) => {
+                    let members = Members::of_array(fields, *count);
+                    text.push(b'[')?;
+                    write_texts(alloc, &members, values, text)?;
+                    text.push(b']')
+                }
+                _ => Ok(()),
             }
-            Ok(())
         }
     }
 }
@@ -72,7 +81,7 @@ fn write_text(alloc: Global, ty: &FfiType, value: &Value, text: &mut Bytes) -> R
 #[cycle(write_text)]
 fn write_texts(
     alloc: Global,
-    fields: &Fields,
+    fields: &Members,
     values: &Values,
     text: &mut Bytes,
 ) -> Result<(), NoMemory>

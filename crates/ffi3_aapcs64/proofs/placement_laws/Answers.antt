@@ -1,5 +1,9 @@
+use Rattle.ffi3_aapcs64_rules.proofs.Alike.{goes_by_layout}
 use Rattle.ffi3_aapcs64_rules.proofs.Ends.{by_ends}
 use Rattle.ffi3_aapcs64.proofs.placement_laws.Goals as goal
 
-pub returns : goal.returns
-returns c = by_ends c.args._sig.now
+pub returns-clause-ends : goal.returns-clause-ends
+returns-clause-ends c = by_ends c.args._sig.now
+
+pub returns-clause-by_layout : goal.returns-clause-by_layout
+returns-clause-by_layout c = goes_by_layout

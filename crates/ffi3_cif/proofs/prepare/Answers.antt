@@ -1,9 +1,10 @@
 use Rattle.std.proofs.Common.{ap, sym, subst}
 use Rattle.std.specs.List.{AllByRecursion}
-use Rattle.std.proofs.Common.{true}
+use Rattle.ffi3_type_rules.specs.declared.limits.TheConstants.{LARGEST_TYPE}
+use Rattle.ffi3_type_rules.specs.declared.Role.TheVariants.{Anywhere}
 use Rattle.ffi3_type_rules.specs.Tree.{tree_at}
 use Rattle.ffi3_type_rules.proofs.Faults.{right_is_small}
-use Rattle.ffi3_type_rules.proofs.Right.{argument_as_result}
+use Rattle.ffi3_type_rules.proofs.Right.{argument_is_laid_out}
 use Rattle.ffi3_place_rules.specs.declared.Plan.{Plan}
 use Rattle.ffi3_place_rules.specs.Standard.{plan_of}
 use Rattle.ffi3_place_rules.specs.Sound.{PlaceRises}
@@ -16,8 +17,8 @@ all_runs-requires-clause-within g c =
     let s = c.args.sig in
     let faultless = c.in_default.ensures.ok in
     let sound = g.met.A.Abi.sound s faultless in
-    let small = places_end 1024 s.arguments (plan_of g.A.Abi.standard s).places (λ k below. right_is_small 0 true (tree_at s.arguments k) (argument_as_result s faultless k below)) sound.has_all in
-    subst (AllByRecursion (PlaceEndsWithin 1024)) (sym (ap (λ (p : Plan). p.places) c.in-Ok.ensures)) small
+    let small = places_end LARGEST_TYPE s.arguments (plan_of g.A.Abi.standard s).places (λ k below. right_is_small 0 Anywhere (tree_at s.arguments k) (argument_is_laid_out s faultless k below)) sound.has_all in
+    subst (AllByRecursion (PlaceEndsWithin LARGEST_TYPE)) (sym (ap (λ (p : Plan). p.places) c.in-Ok.ensures)) small
 
 pub all_runs-requires-clause-rising : goal.all_runs-requires-clause-rising
 all_runs-requires-clause-rising g c =

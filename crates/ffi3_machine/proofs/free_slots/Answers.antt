@@ -1,15 +1,16 @@
 use Rattle.std.proofs.Common.{◌≡◌, ◌+◌, ◌-◌, ◌*◌, arith, ap, ◌∙◌, refl, length}
 use Rattle.ffi3_memory.specs.Memory.{low_bytes, Memory}
+use Rattle.ffi3_type_rules.specs.declared.limits.TheConstants.{CODE}
 use Rattle.ffi3_machine.specs.State.{free_word}
 use Rattle.ffi3_machine.proofs.Slots.{freed-turn, begun_code-is, length-replaced}
 use Rattle.ffi3_machine.proofs.free_slots.Goals as goal
 
 pub loop-k-preserved : goal.loop-k-preserved
 loop-k-preserved c =
-    let turn = freed-turn (low_bytes 4 c.free_word-word.result) (free_word c.args.isa) c.loop-k.code.bytes c.args.code.now.bytes (65536 + 4 * c.loop-k.k - c.loop-k.code.base) (65536 + 4 * c.loop-k.k - c.loop-k.code.base + 4) c.loop-k.k c.free_word-word.ensures refl (omega arith) refl c.loop-k.invariant.freed in
+    let turn = freed-turn (low_bytes 4 c.free_word-word.result) (free_word c.args.isa) c.loop-k.code.bytes c.args.code.now.bytes (CODE + 4 * c.loop-k.k - c.loop-k.code.base) (CODE + 4 * c.loop-k.k - c.loop-k.code.base + 4) c.loop-k.k c.free_word-word.ensures refl (omega arith) refl c.loop-k.invariant.freed in
     record {
       base = ap (λ (m : Memory). m.base) c.store.ensures ∙ c.loop-k.invariant.base;
-      size = ap (λ (m : Memory). length m.bytes) c.store.ensures ∙ length-replaced c.loop-k.code.bytes (low_bytes 4 c.free_word-word.result) (65536 + 4 * c.loop-k.k - c.loop-k.code.base) (65536 + 4 * c.loop-k.k - c.loop-k.code.base + 4) refl (omega arith) ∙ c.loop-k.invariant.size;
+      size = ap (λ (m : Memory). length m.bytes) c.store.ensures ∙ length-replaced c.loop-k.code.bytes (low_bytes 4 c.free_word-word.result) (CODE + 4 * c.loop-k.k - c.loop-k.code.base) (CODE + 4 * c.loop-k.k - c.loop-k.code.base + 4) refl (omega arith) ∙ c.loop-k.invariant.size;
       freed = ap (λ (m : Memory). m.bytes) c.store.ensures ∙ turn;
     }
 

@@ -10,6 +10,9 @@ decreases-FfiType::extent l = 3 * nodes (tree_of l.self.now)
 abbrev pub decreases-Fields::extent : goal.decreases-Fields::extent
 decreases-Fields::extent l = 3 * all_nodes (trees_of l.self.now) + 2
 
+abbrev pub decreases-Fields::extent_of_array : goal.decreases-Fields::extent_of_array
+decreases-Fields::extent_of_array l = 3 * all_nodes (trees_of l.self.now) + 1
+
 abbrev pub decreases-Fields::front : goal.decreases-Fields::front
 decreases-Fields::front l = 3 * all_nodes (trees_of l.self.now) + 1
 

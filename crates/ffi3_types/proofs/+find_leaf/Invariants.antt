@@ -10,6 +10,9 @@ decreases-FfiType::find_leaf l = 2 * nodes (tree_of l.self.now)
 abbrev pub decreases-Fields::find_leaf : goal.decreases-Fields::find_leaf
 decreases-Fields::find_leaf l = 2 * all_nodes (trees_of l.self.now) + 1
 
+abbrev pub decreases-Fields::find_leaf_of_array : goal.decreases-Fields::find_leaf_of_array
+decreases-Fields::find_leaf_of_array l = 2 * all_nodes (trees_of l.self.now) + 1
+
 abbrev pub invariant-Fields::find_leaf-loop-k : goal.invariant-Fields::find_leaf-loop-k
 invariant-Fields::find_leaf-loop-k l = record {
   end : l.end ≡ end_before (layouts (trees_of l.self)) l.k;

@@ -10,6 +10,12 @@ decreases-FfiType::write_text l = 3 * nodes (tree_of l.self.now)
 abbrev pub decreases-Fields::write_range : goal.decreases-Fields::write_range
 decreases-Fields::write_range l = 3 * all_nodes (trees_of l.self.now) + 1
 
+abbrev pub decreases-Fields::write_first : goal.decreases-Fields::write_first
+decreases-Fields::write_first l = 3 * all_nodes (trees_of l.self.now) + 1
+
+abbrev pub decreases-Fields::write_array : goal.decreases-Fields::write_array
+decreases-Fields::write_array l = 3 * all_nodes (trees_of l.self.now) + 2
+
 abbrev pub decreases-Fields::write_all : goal.decreases-Fields::write_all
 decreases-Fields::write_all l = 3 * all_nodes (trees_of l.self.now) + 2
 

@@ -1,5 +1,6 @@
 use Rattle.std.specs.Prelude.{true, false}
 use Rattle.std.proofs.Common.{◌≡◌, ◌+◌, ◌<◌, length, sym, ◌∙◌, subst, arith}
+use Rattle.ffi3_type_rules.specs.declared.limits.TheConstants.{STACK_BYTES}
 use Rattle.ffi3_place_rules.specs.declared.Loc.TheVariants.{S}
 use Rattle.ffi3_place_rules.specs.Standard.{frame_of}
 use Rattle.ffi3_callee.specs.Poison.{carries}
@@ -18,7 +19,7 @@ loop-n-preserved g c =
     let n = c.loop-n.n in
     let before = c.loop-n.invariant in
     let inside : c.loop-n.n < frame_of g.A.Abi.standard c.args.cif.now = omega (arith, c.loop-n-test.true, c.frame-n-end.ensures) in
-    let sized : length c.loop-n.machine.stack ≡ 65536 = before.only.within.size ∙ c.sp-m.ensures.machine.stack in
+    let sized : length c.loop-n.machine.stack ≡ STACK_BYTES = before.only.within.size ∙ c.sp-m.ensures.machine.stack in
     elim c.if-not-carries.branch [
       | then-not-carries w ↦ (
           let has : carries g.A.Abi.standard c.args.cif.now (S c.loop-n.n) 0 ≡ false = sym c.carries.ensures ∙ w.if-not-carries.true in

@@ -1,4 +1,5 @@
 use Rattle.std.proofs.Common.{◌≡◌, ◌<◌, [], length, sym, subst, arith}
+use Rattle.ffi3_type_rules.specs.declared.limits.TheConstants.{LARGEST_TYPE}
 use Rattle.ffi3_place_rules.specs.Sound.{PlaceRises}
 use Rattle.ffi3_cif.specs.Runs.{PlacesHaveRuns, PlaceEndsWithin}
 use Rattle.ffi3_place_rules.proofs.Tests.{each_at}
@@ -10,7 +11,7 @@ loop-i-init c = subst (λ rs. PlacesHaveRuns [] rs) (sym c.new-all.ensures) tt
 
 pub place_runs-requires-clause-within : goal.place_runs-requires-clause-within
 place_runs-requires-clause-within c =
-    each_at (PlaceEndsWithin 1024) c.args.places.now c.loop-i.i c.get.result.now (omega (arith, c.loop-i-test.true, c.len-i-end.ensures)) (sym c.get.ensures) c.requires.within
+    each_at (PlaceEndsWithin LARGEST_TYPE) c.args.places.now c.loop-i.i c.get.result.now (omega (arith, c.loop-i-test.true, c.len-i-end.ensures)) (sym c.get.ensures) c.requires.within
 
 pub place_runs-requires-clause-rising : goal.place_runs-requires-clause-rising
 place_runs-requires-clause-rising c =

@@ -1,4 +1,5 @@
 use Rattle.std.proofs.Common.{◌<◌, ◌++◌, length, ap, sym, ◌∙◌, arith}
+use Rattle.ffi3_type_rules.specs.declared.limits.TheConstants.{LARGEST_TYPE}
 use Rattle.ffi3_cif.specs.Runs.{glued, stack_runs}
 use Rattle.ffi3_cif.proofs.Gather.{first_run, piece_skipped, piece_taken, all_taken, run_ends}
 use Rattle.ffi3_cif.proofs.runs.runs_of.Goals.{in-Some+in_ok-run, in_default}
@@ -9,7 +10,7 @@ loop-i-init c = ap (λ rs. rs ++ glued first_run (stack_runs c.args.pieces.now))
 
 pub with_next-requires : goal.with_next-requires
 with_next-requires c =
-    run_ends 1024 c.args.pieces.now c.loop-i.i c.get.result.now c.in-Some.next (omega (arith, c.loop-i-test.true, c.len-i-end.ensures)) c.get.ensures (sym c.run_at.ensures ∙ c.in-Some.is) c.requires.within
+    run_ends LARGEST_TYPE c.args.pieces.now c.loop-i.i c.get.result.now c.in-Some.next (omega (arith, c.loop-i-test.true, c.len-i-end.ensures)) c.get.ensures (sym c.run_at.ensures ∙ c.in-Some.is) c.requires.within
 
 pub loop-i-preserved : goal.loop-i-preserved
 loop-i-preserved c =

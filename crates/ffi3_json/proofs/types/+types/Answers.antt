@@ -1,18 +1,19 @@
-use Rattle.std.proofs.Common.{◌≡◌, ◌+◌, ◌<◌, [], ◌∷◌, ◌++◌, length, codes, Some, None, sym, ap, ◌∙◌, subst, arith}
+use Rattle.std.proofs.Common.{◌≡◌, ◌+◌, ◌<◌, [], ◌∷◌, ◌++◌, length, codes, sym, ap, ◌∙◌, subst, arith}
 use Rattle.std.proofs.lemmas.List.{length-append}
-use Rattle.serde_json.specs.Data.{Data, array, object}
-use Rattle.serde_json.specs.Find.{get, get_member}
-use Rattle.serde_json.specs.Events.{items_len, members_len}
-use Rattle.serde_json.specs.View.{view, members_view}
-use Rattle.serde_json.proofs.Views.{members_len-members_view}
-use Rattle.ffi3_type_rules.specs.Tree.{struct_of}
+use Rattle.std.proofs.lemmas.Result.{IfOk-weaker, IfErr-weaker}
+use Rattle.serde_json.specs.Data.{array}
+use Rattle.serde_json.specs.Events.{items_len}
+use Rattle.ffi3_type_rules.specs.Tree.{struct_of, trees_of}
+use Rattle.ffi3_type_rules.specs.Tree as types
 use Rattle.ffi3_types.specs.TreeOf.{tree_of}
-use Rattle.ffi3_script_rules.specs.Language.{read_type, read_types, read_map, not_a_type, at_item}
+use Rattle.ffi3_script_rules.specs.Language.{read, read_type, read_types, read_array, read_count, read_map, not_a_type, under, at_item}
 use Rattle.ffi3_json.specs.Parts.{item_at}
-use Rattle.ffi3_json.proofs.Tellings.{tells_made, part_handed_on}
-use Rattle.ffi3_json.proofs.Objects.{object_is, array_is, struct-none, struct-many, struct-one}
-use Rattle.ffi3_json.proofs.Items.{Done, done-none, done-more, done-fault, done-all}
+use Rattle.ffi3_json.proofs.Tellings.{tells_made, tells_part, part_handed_on}
+use Rattle.ffi3_json.proofs.Objects.{array_is, a_struct, an_array, no_array, neither}
+use Rattle.ffi3_json.proofs.Items.{Done, done-none, done-more, done-fault, done-all, no_element, no_count, array_read}
 use Rattle.ffi3_json.proofs.types.+types.Goals as goal
+
+-- ---- read_list
 
 pub read_list-loop-i-init : goal.read_list-loop-i-init
 read_list-loop-i-init t c =
@@ -50,39 +51,77 @@ read_list-returns-clause-ok t c =
     let is : c.args.value.now ≡ array ds = array_is c.args.value.now ds (sym c.in-Some.ensures.value) in
     ap (λ d. read_types c.args.version d c.args.at.now) is ∙ done-all c.args.version ds c.args.at.now c.loop-i.i c.loop-i.types (omega (arith, c.len-i-end.ensures.count)) c.loop-i.invariant.1
 
-pub read_type_at-returns-in_default-get-clause-err : goal.read_type_at-returns-in_default-get-clause-err
-read_type_at-returns-in_default-get-clause-err t c =
-    let ms = members_view c.in-Some-as_object.members.now.entries in
-    let is : c.args.value.now ≡ object ms = sym c.json-json.ensures ∙ object_is (view c.json-json.result.now) ms (sym c.in-Some-as_object.ensures) in
-    let no : get_member (codes "struct") ms ≡ None = sym (c.in_default-get.ensures.value ∙ ap (get (codes "struct")) is) in
-    tells_made (read_type c.args.version c.args.value.now c.args.at.now) c.args.at.now not_a_type (ap (λ d. read_type c.args.version d c.args.at.now) is ∙ struct-none c.args.version ms c.args.at.now no) c.bad-in_default-get.result c.bad-in_default-get.ensures
+-- ---- read_array
 
-pub read_type_at-returns-then-len-ne1-clause-err : goal.read_type_at-returns-then-len-ne1-clause-err
-read_type_at-returns-then-len-ne1-clause-err t c =
-    let es = c.in-Some-as_object.members.now.entries in
-    let ms = members_view es in
-    let is : c.args.value.now ≡ object ms = sym c.json-json.ensures ∙ object_is (view c.json-json.result.now) ms (sym c.in-Some-as_object.ensures) in
-    let many : members_len ms ≡ 1 → ⊥ = λ one. c.if-len-ne1.true (c.len.ensures.len ∙ sym (members_len-members_view es) ∙ one) in
-    tells_made (read_type c.args.version c.args.value.now c.args.at.now) c.args.at.now not_a_type (ap (λ d. read_type c.args.version d c.args.at.now) is ∙ struct-many c.args.version ms c.args.at.now many) c.bad-then-len-ne1.result c.bad-then-len-ne1.ensures
+pub read_array-returns-in_err-ty-clause-err : goal.read_array-returns-in_err-ty-clause-err
+read_array-returns-in_err-ty-clause-err t c =
+    let d = c.args.value.now in
+    let ds = c.in-Some.items in
+    let two : items_len ds ≡ 2 = omega (arith, c.len.ensures.count, c.if-len-ne2.false) in
+    let first : read_type c.args.version (item_at ds 0) (at_item (under c.args.at.now (codes "array")) 0) ≡ read_type c.args.version c.get.result c.item.result = λ k. read_type c.args.version (sym c.get.ensures.item k) (sym (c.item.ensures ∙ ap (λ p. at_item p 0) c.key-place.ensures) k) in
+    part_handed_on (read_array c.args.version d c.args.at.now) (read_type c.args.version c.get.result c.item.result)
+    (λ p r e. no_element c.args.version d ds c.args.at.now (array_is d ds (sym c.in-Some.ensures.value)) two p r (first ∙ e))
+    c.from_residual.result c.in_err-ty.field-0.0 c.from_residual.ensures.1 c.in_err-ty.ensures.err
 
-pub read_type_at-returns-in_err-types-clause-err : goal.read_type_at-returns-in_err-types-clause-err
-read_type_at-returns-in_err-types-clause-err t c =
-    let es = c.in-Some-as_object.members.now.entries in
-    let ms = members_view es in
-    let is : c.args.value.now ≡ object ms = sym c.json-json.ensures ∙ object_is (view c.json-json.result.now) ms (sym c.in-Some-as_object.ensures) in
-    let inside : Data = c.in-Some-get.inside in
-    let got : get_member (codes "struct") ms ≡ Some inside = sym (c.in-Some-get.ensures.value ∙ ap (get (codes "struct")) is) in
-    let one : members_len ms ≡ 1 = members_len-members_view es ∙ sym c.len.ensures.len ∙ c.if-len-ne1.false in
-    let same : read_type c.args.version c.args.value.now c.args.at.now ≡ read_map struct_of (read_types c.args.version inside c.key.result) = ap (λ d. read_type c.args.version d c.args.at.now) is ∙ struct-one c.args.version ms inside c.args.at.now got one ∙ ap (λ a. read_map struct_of (read_types c.args.version inside a)) (sym c.key.ensures) in
-    part_handed_on (read_type c.args.version c.args.value.now c.args.at.now) (read_types c.args.version inside c.key.result) (λ p r h. same ∙ ap (λ x. read_map struct_of x) h) c.from_residual.result c.in_err-types.field-0.0 c.from_residual.ensures.1 c.in_err-types.ensures.err
+pub read_array-returns-in_err-count-clause-err : goal.read_array-returns-in_err-count-clause-err
+read_array-returns-in_err-count-clause-err t c =
+    let d = c.args.value.now in
+    let ds = c.in-Some.items in
+    let two : items_len ds ≡ 2 = omega (arith, c.len.ensures.count, c.if-len-ne2.false) in
+    let first : read_type c.args.version (item_at ds 0) (at_item (under c.args.at.now (codes "array")) 0) ≡ read_type c.args.version c.get.result c.item.result = λ k. read_type c.args.version (sym c.get.ensures.item k) (sym (c.item.ensures ∙ ap (λ p. at_item p 0) c.key-place.ensures) k) in
+    let second : read_count (item_at ds 1) (at_item (under c.args.at.now (codes "array")) 1) ≡ read_count c.get-2.result c.item-2.result = λ k. read_count (sym c.get-2.ensures.item k) (sym (c.item-2.ensures ∙ ap (λ p. at_item p 1) c.key-place.ensures) k) in
+    part_handed_on (read_array c.args.version d c.args.at.now) (read_count c.get-2.result c.item-2.result)
+    (λ p r e. no_count c.args.version d ds c.args.at.now (array_is d ds (sym c.in-Some.ensures.value)) two (tree_of c.in_ok-ty.ty) p r (first ∙ c.in_ok-ty.ensures.ok) (second ∙ e))
+    c.from_residual-in_err-count.result c.in_err-count.field-0.0 c.from_residual-in_err-count.ensures.1 c.in_err-count.ensures.err
 
-pub read_type_at-returns-clause-ok : goal.read_type_at-returns-clause-ok
-read_type_at-returns-clause-ok t c =
-    let es = c.in-Some-as_object.members.now.entries in
-    let ms = members_view es in
-    let is : c.args.value.now ≡ object ms = sym c.json-json.ensures ∙ object_is (view c.json-json.result.now) ms (sym c.in-Some-as_object.ensures) in
-    let inside : Data = c.in-Some-get.inside in
-    let got : get_member (codes "struct") ms ≡ Some inside = sym (c.in-Some-get.ensures.value ∙ ap (get (codes "struct")) is) in
-    let one : members_len ms ≡ 1 = members_len-members_view es ∙ sym c.len.ensures.len ∙ c.if-len-ne1.false in
-    let same : read_type c.args.version c.args.value.now c.args.at.now ≡ read_map struct_of (read_types c.args.version inside c.key.result) = ap (λ d. read_type c.args.version d c.args.at.now) is ∙ struct-one c.args.version ms inside c.args.at.now got one ∙ ap (λ a. read_map struct_of (read_types c.args.version inside a)) (sym c.key.ensures) in
-    same ∙ ap (read_map struct_of) c.in_ok-types.ensures.ok
+pub read_array-returns-clause-ok : goal.read_array-returns-clause-ok
+read_array-returns-clause-ok t c =
+    let d = c.args.value.now in
+    let ds = c.in-Some.items in
+    let u = tree_of c.in_ok-ty.ty in
+    let n = c.in_ok-count.count in
+    let two : items_len ds ≡ 2 = omega (arith, c.len.ensures.count, c.if-len-ne2.false) in
+    let first : read_type c.args.version (item_at ds 0) (at_item (under c.args.at.now (codes "array")) 0) ≡ read_type c.args.version c.get.result c.item.result = λ k. read_type c.args.version (sym c.get.ensures.item k) (sym (c.item.ensures ∙ ap (λ p. at_item p 0) c.key-place.ensures) k) in
+    let second : read_count (item_at ds 1) (at_item (under c.args.at.now (codes "array")) 1) ≡ read_count c.get-2.result c.item-2.result = λ k. read_count (sym c.get-2.ensures.item k) (sym (c.item-2.ensures ∙ ap (λ p. at_item p 1) c.key-place.ensures) k) in
+    let one : c.push.new.self ≡ u ∷ [] = c.in_ok-push.ensures.ok ∙ ap (λ us. us ++ u ∷ []) c.new-element.ensures in
+    array_read c.args.version d ds c.args.at.now (array_is d ds (sym c.in-Some.ensures.value)) two u n (first ∙ c.in_ok-ty.ensures.ok) (second ∙ c.in_ok-count.ensures.ok) ∙ ap (λ us. read (types.array (trees_of us) n)) (sym one)
+
+-- ---- read_type_at
+
+pub read_type_at-returns-in_err-types-in-struct-clause-err : goal.read_type_at-returns-in_err-types-in-struct-clause-err
+read_type_at-returns-in_err-types-in-struct-clause-err t c =
+    let d = c.args.value.now in
+    let m = c.in-Some-only_member in
+    let same : read_type c.args.version d c.args.at.now ≡ read_map struct_of (read_types c.args.version m.inside c.key.result) = a_struct c.args.version d m.key.now m.inside c.args.at.now (sym m.ensures.value) c.in-struct.is ∙ ap (λ a. read_map struct_of (read_types c.args.version m.inside a)) (sym c.key.ensures) in
+    part_handed_on (read_type c.args.version d c.args.at.now) (read_types c.args.version m.inside c.key.result) (λ p r h. same ∙ ap (read_map struct_of) h) c.from_residual.result c.in_err-types-in-struct.field-0.0 c.from_residual.ensures.1 c.in_err-types-in-struct.ensures.err
+
+pub read_type_at-returns-in_ok-types-in-struct-clause-ok : goal.read_type_at-returns-in_ok-types-in-struct-clause-ok
+read_type_at-returns-in_ok-types-in-struct-clause-ok t c =
+    let m = c.in-Some-only_member in
+    a_struct c.args.version c.args.value.now m.key.now m.inside c.args.at.now (sym m.ensures.value) c.in-struct.is
+    ∙ ap (λ a. read_map struct_of (read_types c.args.version m.inside a)) (sym c.key.ensures) ∙ ap (read_map struct_of) c.in_ok-types-in-struct.ensures.ok
+
+pub read_type_at-returns-then-not-has_arrays-clause-err : goal.read_type_at-returns-then-not-has_arrays-clause-err
+read_type_at-returns-then-not-has_arrays-clause-err t c =
+    let d = c.args.value.now in
+    let m = c.in-Some-only_member in
+    tells_made (read_type c.args.version d c.args.at.now) c.args.at.now not_a_type (no_array c.args.version d m.key.now m.inside c.args.at.now (sym m.ensures.value) c.in-array.is (sym c.has_arrays.ensures ∙ c.if-not-has_arrays.true)) c.bad-then-not-has_arrays.result c.bad-then-not-has_arrays.ensures
+
+pub read_type_at-returns-else-not-has_arrays-clause-ok : goal.read_type_at-returns-else-not-has_arrays-clause-ok
+read_type_at-returns-else-not-has_arrays-clause-ok t c =
+    let m = c.in-Some-only_member in
+    let same = an_array c.args.version c.args.value.now m.key.now m.inside c.args.at.now (sym m.ensures.value) c.in-array.is (sym c.has_arrays.ensures ∙ c.if-not-has_arrays.false) in
+    IfOk-weaker c.read_array.result _ _ (λ u h. same ∙ h) c.read_array.ensures.ok
+
+pub read_type_at-returns-else-not-has_arrays-clause-err : goal.read_type_at-returns-else-not-has_arrays-clause-err
+read_type_at-returns-else-not-has_arrays-clause-err t c =
+    let d = c.args.value.now in
+    let m = c.in-Some-only_member in
+    let same = an_array c.args.version d m.key.now m.inside c.args.at.now (sym m.ensures.value) c.in-array.is (sym c.has_arrays.ensures ∙ c.if-not-has_arrays.false) in
+    IfErr-weaker c.read_array.result _ _ (λ f h. tells_part (read_type c.args.version d c.args.at.now) (read_array c.args.version m.inside c.args.at.now) (λ p r is. same ∙ is) f h) c.read_array.ensures.err
+
+pub read_type_at-returns-in_default-key-clause-err : goal.read_type_at-returns-in_default-key-clause-err
+read_type_at-returns-in_default-key-clause-err t c =
+    let d = c.args.value.now in
+    let m = c.in-Some-only_member in
+    tells_made (read_type c.args.version d c.args.at.now) c.args.at.now not_a_type (neither c.args.version d m.key.now m.inside c.args.at.now (sym m.ensures.value) c.in_default-key.not-struct c.in_default-key.not-array) c.bad-in_default-key.result c.bad-in_default-key.ensures

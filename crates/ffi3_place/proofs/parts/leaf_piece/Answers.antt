@@ -1,13 +1,14 @@
-use Rattle.std.proofs.Common.{true, sym, subst, arith}
-use Rattle.ffi3_type_rules.specs.Fault.{IsResultType}
+use Rattle.std.proofs.Common.{sym, subst, arith}
+use Rattle.ffi3_type_rules.specs.declared.Role.TheVariants.{Anywhere}
+use Rattle.ffi3_type_rules.specs.Fault.{IsLaidOut}
 use Rattle.ffi3_type_rules.proofs.Faults.{scalar_faults, right_is_small}
 use Rattle.ffi3_types.specs.TreeOf.{tree_of}
 use Rattle.ffi3_place_rules.proofs.Elements.{leaf_ends}
 use Rattle.ffi3_place.proofs.parts.leaf_piece.Goals as goal
 
 pub size-size-requires : goal.size-size-requires
-size-size-requires c = subst (IsResultType) (sym c.leaf-leaf.ensures.kind) (scalar_faults _)
+size-size-requires c = subst (IsLaidOut) (sym c.leaf-leaf.ensures.kind) (scalar_faults _)
 
 pub overflow_cast-result : goal.overflow_cast-result
 overflow_cast-result c =
-    omega (arith, c.leaf-leaf.ensures.at, leaf_ends (tree_of c.args.ty.now) c.args.i c.requires.in_range, right_is_small 0 true (tree_of c.args.ty.now) c.requires.right)
+    omega (arith, c.leaf-leaf.ensures.at, leaf_ends (tree_of c.args.ty.now) c.args.i c.requires.in_range, right_is_small 0 Anywhere (tree_of c.args.ty.now) c.requires.right)

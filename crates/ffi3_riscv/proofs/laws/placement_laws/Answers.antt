@@ -1,5 +1,9 @@
+use Rattle.ffi3_riscv_rules.proofs.Alike.{goes_by_layout}
 use Rattle.ffi3_riscv_rules.proofs.Ends.{is_placed_by_ends}
 use Rattle.ffi3_riscv.proofs.laws.placement_laws.Goals as goal
 
-pub returns : goal.returns
-returns c = is_placed_by_ends c.args._sig.now
+pub returns-clause-ends : goal.returns-clause-ends
+returns-clause-ends c = is_placed_by_ends c.args._sig.now
+
+pub returns-clause-by_layout : goal.returns-clause-by_layout
+returns-clause-by_layout c = goes_by_layout

@@ -1,8 +1,9 @@
-use Rattle.std.proofs.Common.{◌≡◌, List, ap, map, rules}
+use Rattle.std.proofs.Common.{◌≡◌, List, ap, map, refl, rules}
 use Rattle.ffi3_machine.specs.State.{begun}
 use Rattle.ffi3_script_rules.specs.Natives.{NamedNative}
 use Rattle.ffi3_ask.specs.Handed.{handed_in}
 use Rattle.ffi3_board.specs.declared.board.Turn.TheVariants as turn
+use Rattle.ffi3_runner.specs.Ready.{traced_or_not}
 use Rattle.ffi3_runner_tests.proofs.Moving.{can_as}
 use Rattle.ffi3_runner_tests.proofs.turns.take_turns.Goals as goal
 
@@ -25,5 +26,10 @@ loop-second-preserved g c =
     can_as g.A.Abi.standard _ _ _ _ _ _ _ _ (ap (λ x. x.script.now) c.turn-end.ensures.prepared) natives (ap (λ x. x.cifs) c.turn-end.ensures.prepared) (record {
       prepared = inv.prepared;
       standing = c.turn-end.ensures.standing more;
-      between = c.turn-end.ensures.between more;
+      between = c.turn-end.ensures.between traced_or_not refl inv.between more;
     })
+
+pub turn-end-requires-clause-between : goal.turn-end-requires-clause-between
+turn-end-requires-clause-between g c =
+    let inv = c.loop-second.invariant in
+    (traced_or_not, refl, inv.between)

@@ -1,4 +1,4 @@
-use Rattle.std.proofs.Common.{◌≡◌, ℤ, Some, pos, neg_ℤ, drop, sym, ap, ◌∙◌, rules}
+use Rattle.std.proofs.Common.{ℤ, Some, pos, neg_ℤ, drop, sym, ap, ◌∙◌, rules}
 use Rattle.std.specs.Int.{w128}
 use Rattle.std.proofs.lemmas.Int.{to_z-of_z}
 use Rattle.ffi3_type_rules.specs.Integer.{bytes_of_number, scalar_of}

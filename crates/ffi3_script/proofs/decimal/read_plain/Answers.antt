@@ -1,4 +1,4 @@
-use Rattle.std.proofs.Common.{◌≡◌, List, ℕ, Some, pos, sym, ap, ◌∙◌}
+use Rattle.std.proofs.Common.{Some, pos, sym, ap, ◌∙◌}
 use Rattle.ffi3_type_rules.specs.Integer.{scalar_of}
 use Rattle.ffi3_types.specs.TreeOf.{tree_of}
 use Rattle.ffi3_values.specs.ValueOf.{value_of}

@@ -14,5 +14,5 @@ pub returns-in-Err-clause-err : goal.returns-in-Err-clause-err
 returns-in-Err-clause-err c =
     let d = c.args.value.now in
     let e = c.in-Err.fault in
-    tells_made (read_right_type c.args.version d c.args.at.now) (inside_type c.args.at.now (path_of e)) (reason_of_type_fault (fault_of e))
+    tells_made (read_right_type c.args.version d c.args.at.now) (inside_type c.args.at.now (tree_of c.in_ok-ty.ty) (path_of e)) (reason_of_type_fault (fault_of e))
     (right_type-fault c.args.version d c.args.at.now (tree_of c.in_ok-ty.ty) (path_of e) (fault_of e) c.in_ok-ty.ensures.ok c.in-Err.ensures.err) c.bad_type.result c.bad_type.ensures

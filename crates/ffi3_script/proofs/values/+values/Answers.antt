@@ -5,12 +5,12 @@ use Rattle.serde_json.specs.Find.{as_number, as_u64}
 use Rattle.serde_json.specs.View.{number_view}
 use Rattle.ffi3_types.specs.TreeOf.{tree_of}
 use Rattle.ffi3_script_rules.specs.Language.{read, fault, at_item, under, wrong_type, wrong_count}
-use Rattle.ffi3_script_rules.specs.Values.{read_number, read_value, read_values, read_typed, read_field, read_of, read_right_type, element_of, typed, typed_form, form_named}
+use Rattle.ffi3_script_rules.specs.Values.{read_number, read_value, read_values, read_typed, read_field, read_of, read_right_type, element_of, typed_form, form_named}
 use Rattle.ffi3_json.proofs.Tellings.{tells_part, tells_made, part_handed_on}
 use Rattle.ffi3_script_body.specs.ExprOf.{expression_of, expressions_in}
 use Rattle.ffi3_script.specs.ScopeOf.{scope_of}
 use Rattle.ffi3_script.specs.Shapes.{typed_form_of, typed_under, value_under_form, read_terms}
-use Rattle.ffi3_script.proofs.ReadValues.{ok_by, err_by, field_first, field_struct, field_wrong, of_second, of_both, two_first, two_second, two_both, terms_are, typed_member, of_number, of_other_count, of_values, of_member, Done, done-more, done-fault, done-all}
+use Rattle.ffi3_script.proofs.ReadValues.{ok_by, err_by, field_first, field_element, field_wrong, of_second, of_both, two_first, two_second, two_both, terms_are, typed_member, of_number, of_no_list, of_other_count, of_values, of_member, Done, done-more, done-fault, done-all}
 use Rattle.ffi3_script.proofs.values.+values.Goals as goal
 
 pub read_field-returns-in_err-ty-clause-err : goal.read_field-returns-in_err-ty-clause-err
@@ -25,8 +25,8 @@ read_field-returns-in_err-ty-clause-err t c =
     part_handed_on (read_field s d place path) (read_typed s a c.item-first.result) (λ p r e. field_first s d a b place path (sym c.in-Some.ensures) p r (ap (read_typed s a) (sym item) ∙ e))
     c.from_residual.result c.in_err-ty.field-0.0 c.from_residual.ensures.1 c.in_err-ty.ensures.err
 
-pub read_field-returns-in_default-ty-clause-err : goal.read_field-returns-in_default-ty-clause-err
-read_field-returns-in_default-ty-clause-err t c =
+pub read_field-returns-in_default-element_types-clause-err : goal.read_field-returns-in_default-element_types-clause-err
+read_field-returns-in_default-element_types-clause-err t c =
     let s = scope_of c.args.scope.now in
     let d = c.args.inside.now in
     let a = c.in-Some.inner in
@@ -35,29 +35,34 @@ read_field-returns-in_default-ty-clause-err t c =
     let place = under path c.args.name.now in
     let item : c.item-first.result ≡ at_item place 0 = c.item-first.ensures ∙ ap (λ p. at_item p 0) c.key-place.ensures in
     let own = c.in_ok-ty.field-0 in
-    let wrong = field_wrong s d a b place path (sym c.in-Some.ensures) own.ty (expression_of own.value) c.in_default-ty.not-Struct (ap (read_typed s a) (sym item) ∙ c.in_ok-ty.ensures.ok) in
-    tells_made (read_field s d place path) c.item-first.result wrong_type (wrong ∙ ap (λ p. fault p wrong_type) (sym item)) c.bad-in_default-ty.result c.bad-in_default-ty.ensures
+    let wrong = field_wrong s d a b place path (sym c.in-Some.ensures) (tree_of own.ty) (expression_of own.value) (ap (read_typed s a) (sym item) ∙ c.in_ok-ty.ensures.ok) c.in_default-element_types.ensures in
+    tells_made (read_field s d place path) c.item-first.result wrong_type (wrong ∙ ap (λ p. fault p wrong_type) (sym item)) c.bad-in_default-element_types.result c.bad-in_default-element_types.ensures
 
-field_is : (t : _) (c : goal.read_field-Joined-ty-3 t) → read_field (scope_of c.args.scope.now) c.args.inside.now (under c.args.at.now c.args.name.now) c.args.at.now ≡ element_of (expression_of c.in_ok-ty.field-0.value) c.in-Struct.fields (option_and_then as_u64 (as_number c.in-Some.number)) c.args.at.now
-field_is t c =
+pub read_field-returns-clause-ok : goal.read_field-returns-clause-ok
+read_field-returns-clause-ok t c =
     let s = scope_of c.args.scope.now in
+    let d = c.args.inside.now in
     let a = c.in-Some.inner in
     let b = c.in-Some.number in
     let path = c.args.at.now in
     let place = under path c.args.name.now in
-    let e = expression_of c.in_ok-ty.field-0.value in
+    let own = c.in_ok-ty.field-0 in
     let item : c.item-first.result ≡ at_item place 0 = c.item-first.ensures ∙ ap (λ p. at_item p 0) c.key-place.ensures in
-    let was = ap (read_typed s a) (sym item) ∙ c.in_ok-ty.ensures.ok ∙ ap (λ y. read (typed (tree_of y) e)) c.in-Struct.is in
-    field_struct s c.args.inside.now a b place path (sym c.in-Some.ensures) c.in-Struct.fields e was
-
-pub read_field-returns-clause-ok : goal.read_field-returns-clause-ok
-read_field-returns-clause-ok t c =
-    ok_by (λ v k. field_is t c ∙ k) c.element_of.result c.element_of.ensures.ok
+    let same = field_element s d a b place path (sym c.in-Some.ensures) (tree_of own.ty) (expression_of own.value) (ap (read_typed s a) (sym item) ∙ c.in_ok-ty.ensures.ok) c.in-Some-element_types.types c.in-Some-element_types.ensures in
+    ok_by (λ v k. same ∙ k) c.element_of.result c.element_of.ensures.ok
 
 pub read_field-returns-clause-err : goal.read_field-returns-clause-err
 read_field-returns-clause-err t c =
+    let s = scope_of c.args.scope.now in
+    let d = c.args.inside.now in
+    let a = c.in-Some.inner in
     let b = c.in-Some.number in
-    err_by (λ f k. tells_part (read_field (scope_of c.args.scope.now) c.args.inside.now (under c.args.at.now c.args.name.now) c.args.at.now) (element_of (expression_of c.in_ok-ty.field-0.value) c.in-Struct.fields (option_and_then as_u64 (as_number b)) c.args.at.now) (λ p r is. field_is t c ∙ is) f k) c.element_of.result c.element_of.ensures.err
+    let path = c.args.at.now in
+    let place = under path c.args.name.now in
+    let own = c.in_ok-ty.field-0 in
+    let item : c.item-first.result ≡ at_item place 0 = c.item-first.ensures ∙ ap (λ p. at_item p 0) c.key-place.ensures in
+    let same = field_element s d a b place path (sym c.in-Some.ensures) (tree_of own.ty) (expression_of own.value) (ap (read_typed s a) (sym item) ∙ c.in_ok-ty.ensures.ok) c.in-Some-element_types.types c.in-Some-element_types.ensures in
+    err_by (λ f k. tells_part (read_field s d place path) (element_of (expression_of own.value) c.in-Some-element_types.types (option_and_then as_u64 (as_number b)) path) (λ p r is. same ∙ is) f k) c.element_of.result c.element_of.ensures.err
 
 pub read_of-returns-in_err-value-clause-err : goal.read_of-returns-in_err-value-clause-err
 read_of-returns-in_err-value-clause-err t c =
@@ -156,35 +161,48 @@ read_value-returns-in-Some-clause-err t c =
     let n = number_view c.in-Some.n.now in
     err_by (λ f k. tells_part (read_value s ty d c.args.at.now) (read_number ty n c.args.at.now) (λ p r is. of_number s ty d c.args.at.now n (ap as_number (sym c.json-json.ensures) ∙ sym c.in-Some.ensures) ∙ is) f k) c.read_number.result c.read_number.ensures.err
 
-pub read_value-returns-then-len-clause-err : goal.read_value-returns-then-len-clause-err
-read_value-returns-then-len-clause-err t c =
+pub read_value-returns-in_default-element_types-clause-err : goal.read_value-returns-in_default-element_types-clause-err
+read_value-returns-in_default-element_types-clause-err t c =
     let s = scope_of c.args.scope.now in
+    let u = tree_of c.args.ty.now in
     let d = c.args.value.now in
     let path = c.args.at.now in
     let ds = c.in-Some-items.items in
-    let other = of_other_count s c.in-Struct.fields d path ds (sym c.in-Some-items.ensures.value) (λ same. c.if-len.true (omega (arith, c.len.ensures, c.len-in-Some-items.ensures.count, same))) in
-    tells_made (read_value s (tree_of c.args.ty.now) d path) path wrong_count (ap (λ y. read_value s (tree_of y) d path) c.in-Struct.is ∙ other) c.bad-then-len.result c.bad-then-len.ensures
+    tells_made (read_value s u d path) path wrong_type (of_no_list s u d path ds (sym c.in-Some-items.ensures.value) c.in_default-element_types.ensures) c.bad.result c.bad.ensures
+
+pub read_value-returns-then-len-clause-err : goal.read_value-returns-then-len-clause-err
+read_value-returns-then-len-clause-err t c =
+    let s = scope_of c.args.scope.now in
+    let u = tree_of c.args.ty.now in
+    let d = c.args.value.now in
+    let path = c.args.at.now in
+    let ds = c.in-Some-items.items in
+    let ts = c.in-Some-element_types.types in
+    let other = of_other_count s u d path ds (sym c.in-Some-items.ensures.value) ts c.in-Some-element_types.ensures (λ same. c.if-len.true (omega (arith, c.len.ensures.count, c.len-in-Some-items.ensures.count, same))) in
+    tells_made (read_value s u d path) path wrong_count other c.bad-then-len.result c.bad-then-len.ensures
 
 pub read_value-returns-in-Some-items-clause-ok : goal.read_value-returns-in-Some-items-clause-ok
 read_value-returns-in-Some-items-clause-ok t c =
     let s = scope_of c.args.scope.now in
+    let u = tree_of c.args.ty.now in
     let d = c.args.value.now in
     let path = c.args.at.now in
     let ds = c.in-Some-items.items in
-    let same : items_len ds ≡ length c.in-Struct.fields = omega (arith, c.len.ensures, c.len-in-Some-items.ensures.count, c.if-len.false) in
-    ap (λ y. read_value s (tree_of y) d path) c.in-Struct.is
-    ∙ of_values s c.in-Struct.fields d path ds (sym c.in-Some-items.ensures.value) (read (expressions_in c.in_ok-values.values.items)) same c.in_ok-values.ensures.ok ∙ ap read (sym c.of_elements.ensures)
+    let ts = c.in-Some-element_types.types in
+    let same : items_len ds ≡ length ts = omega (arith, c.len.ensures.count, c.len-in-Some-items.ensures.count, c.if-len.false) in
+    of_values s u d path ds (sym c.in-Some-items.ensures.value) ts c.in-Some-element_types.ensures (read (expressions_in c.in_ok-values.values.items)) same c.in_ok-values.ensures.ok ∙ ap read (sym c.of_elements.ensures)
 
 pub read_value-returns-in_err-values-clause-err : goal.read_value-returns-in_err-values-clause-err
 read_value-returns-in_err-values-clause-err t c =
     let s = scope_of c.args.scope.now in
+    let u = tree_of c.args.ty.now in
     let d = c.args.value.now in
     let path = c.args.at.now in
     let ds = c.in-Some-items.items in
-    let ts = c.in-Struct.fields in
-    let same : items_len ds ≡ length ts = omega (arith, c.len.ensures, c.len-in-Some-items.ensures.count, c.if-len.false) in
-    part_handed_on (read_value s (tree_of c.args.ty.now) d path) (read_values s ts ds path 0)
-    (λ p r is. ap (λ y. read_value s (tree_of y) d path) c.in-Struct.is ∙ of_values s ts d path ds (sym c.in-Some-items.ensures.value) (fault p r) same is)
+    let ts = c.in-Some-element_types.types in
+    let same : items_len ds ≡ length ts = omega (arith, c.len.ensures.count, c.len-in-Some-items.ensures.count, c.if-len.false) in
+    part_handed_on (read_value s u d path) (read_values s ts ds path 0)
+    (λ p r is. of_values s u d path ds (sym c.in-Some-items.ensures.value) ts c.in-Some-element_types.ensures (fault p r) same is)
     c.from_residual.result c.in_err-values.field-0.0 c.from_residual.ensures.1 c.in_err-values.ensures.err
 
 pub read_value-returns-clause-ok : goal.read_value-returns-clause-ok

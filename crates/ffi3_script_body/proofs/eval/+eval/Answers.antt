@@ -17,7 +17,7 @@ use Rattle.ffi3_script_body.proofs.eval.+eval.Goals as goal
 
 pub eval-eval_all-requires : goal.eval-eval_all-requires
 eval-eval_all-requires t c =
-    (omega (arith, in_composed c.args.e.now c.in-Composed.es c.in-Composed.is), of_composed (kinds_of c.args.known.now) (tree_of c.args.ty.now) c.args.e.now c.requires c.in-Struct.fields c.in-Composed.es (ap tree_of c.in-Struct.is) c.in-Composed.is)
+    (omega (arith, in_composed c.args.e.now c.in-Composed.es c.in-Composed.is), of_composed (kinds_of c.args.known.now) (tree_of c.args.ty.now) c.args.e.now c.requires c.in-Some.types c.in-Composed.es c.in-Some.ensures c.in-Composed.is)
 
 pub eval-eval-requires : goal.eval-eval-requires
 eval-eval-requires t c =

@@ -1,27 +1,27 @@
-use Rattle.std.proofs.Common.{◌≡◌, ap, ◌∙◌, arith, true}
+use Rattle.std.proofs.Common.{◌≡◌, ◌∙◌, arith}
 use Rattle.ffi3_type_rules.specs.Tree.{struct_of}
-use Rattle.ffi3_type_rules.specs.Layout.{size_of, offset_of}
-use Rattle.ffi3_type_rules.proofs.Layouts.{sizes_within, size_le-struct, align_positive, align_bounded, start-turn}
-use Rattle.ffi3_type_rules.proofs.Faults.{right_is_small}
+use Rattle.ffi3_type_rules.specs.Layout.{offset_of}
+use Rattle.ffi3_type_rules.specs.declared.Role.TheVariants.{Anywhere}
+use Rattle.ffi3_type_rules.proofs.Layouts.{align_positive, align_bounded, start-turn}
+use Rattle.ffi3_type_rules.proofs.ElementPlaces.{elements_laid_out}
+use Rattle.ffi3_type_rules.proofs.Faults.{right_is_small, element_is_right}
 use Rattle.ffi3_type_rules.proofs.Values.{element_within, end_within}
 use Rattle.ffi3_types.specs.TreeOf.{tree_of}
 use Rattle.ffi3_types.proofs.Fields.offset.Goals as goal
 
-pub front-requires-clause-small : goal.front-requires-clause-small
-front-requires-clause-small c =
-    sizes_within 1024 c.args.self.now (right_is_small 0 true (struct_of c.args.self.now) c.requires.right)
+pub front-requires-clause-right : goal.front-requires-clause-right
+front-requires-clause-right c = elements_laid_out c.args.self.now c.requires.right
 
 pub extent-requires : goal.extent-requires
 extent-requires c =
-    let small = right_is_small 0 true (struct_of c.args.self.now) c.requires.right in
-    omega (arith, small, size_le-struct c.args.self.now c.args.i c.requires.in_range, ap size_of c.get.ensures.element)
+    rw c.get.ensures.element (element_is_right Anywhere c.args.self.now c.requires.right c.args.i c.requires.in_range)
 
 pub round_up-requires-clause-nonzero : goal.round_up-requires-clause-nonzero
 round_up-requires-clause-nonzero c = omega (arith, align_positive (tree_of c.get.result.now), c.extent.ensures.align)
 
 pub round_up-requires-clause-fits : goal.round_up-requires-clause-fits
 round_up-requires-clause-fits c =
-    let small = right_is_small 0 true (struct_of c.args.self.now) c.requires.right in
+    let small = right_is_small 0 Anywhere (struct_of c.args.self.now) c.requires.right in
     omega (arith, small, end_within c.args.self.now c.args.i (omega arith), align_bounded (tree_of c.get.result.now), c.extent.ensures.align, c.front.ensures.end)
 
 pub returns-clause-start : goal.returns-clause-start

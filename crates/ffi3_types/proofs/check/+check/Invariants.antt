@@ -5,10 +5,13 @@ use Rattle.ffi3_types.specs.FirstElement.{NoElementHasFault}
 use Rattle.ffi3_types.proofs.check.+check.Given as goal
 
 abbrev pub decreases-check_node : goal.decreases-check_node
-decreases-check_node l = 2 * nodes (tree_of l.ty.now)
+decreases-check_node l = 3 * nodes (tree_of l.ty.now)
+
+abbrev pub decreases-check_array : goal.decreases-check_array
+decreases-check_array l = 3 * all_nodes (trees_of l.fields.now) + 2
 
 abbrev pub decreases-check_elements : goal.decreases-check_elements
-decreases-check_elements l = 2 * all_nodes (trees_of l.fields.now) + 1
+decreases-check_elements l = 3 * all_nodes (trees_of l.fields.now) + 1
 
 abbrev pub invariant-check_elements-loop-i : goal.invariant-check_elements-loop-i
 invariant-check_elements-loop-i l = NoElementHasFault l.outer l.fields l.i

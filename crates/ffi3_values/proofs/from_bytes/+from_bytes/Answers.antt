@@ -1,6 +1,8 @@
-use Rattle.std.proofs.Common.{◌≡◌, inl, inr, [], Some, ap, ◌∙◌, arith, length, length-take, length-drop, length-append}
+use Rattle.std.proofs.Common.{◌≡◌, inl, inr, [], Some, ap, sym, ◌∙◌, arith, length, length-take, length-drop, length-append}
+use Rattle.ffi3_type_rules.specs.Value.{struct_value, values_of}
+use Rattle.ffi3_type_rules.proofs.Members.{array_some, made_nodes, made_right, made_size, made_value, made_fit}
 use Rattle.ffi3_type_rules.specs.Tree.{Tree, LeftOutKind, left_out, long_double, complex, vector}
-use Rattle.ffi3_type_rules.specs.Fault.{left_out_kind, left_out_type, IsResultType}
+use Rattle.ffi3_type_rules.specs.Fault.{left_out_kind, left_out_type, IsLaidOut}
 use Rattle.ffi3_type_rules.proofs.Layouts.{align_positive, end_before-turn}
 use Rattle.ffi3_type_rules.proofs.Values.{struct_by_elements, push_value}
 use Rattle.ffi3_type_rules.proofs.ValueElements.{fit_by_elements, push_fitting}
@@ -9,7 +11,7 @@ use Rattle.ffi3_types.specs.TreeOf.{tree_of}
 use Rattle.ffi3_values.proofs.from_bytes.+from_bytes.Goals as goal
 
 -- what is left out has a fault
-never_left_out : (t : Tree) (k : LeftOutKind) → IsResultType t → t ≡ left_out k → ⊥
+never_left_out : (t : Tree) (k : LeftOutKind) → IsLaidOut t → t ≡ left_out k → ⊥
 never_left_out t k right is = right [] (left_out_type (left_out k)) (left_out_kind (ap Some is))
 
 pub value_from_bytes-unreachable-requires : goal.value_from_bytes-unreachable-requires
@@ -72,3 +74,32 @@ values_from_bytes-returns t c =
       value = struct_by_elements c.args.fields.now c.args.bytes.now c.loop-i.values count (λ k below. c.loop-i.invariant.each k (omega arith));
       fits = fit_by_elements c.args.fields.now c.loop-i.values count (λ k below. c.loop-i.invariant.fit k (omega arith));
     }
+
+-- ---- an array, by the struct of its elements
+
+pub value_from_bytes-of_array-members-requires : goal.value_from_bytes-of_array-members-requires
+value_from_bytes-of_array-members-requires t c =
+    array_some (tree_of c.args.ty.now) c.in-Array.fields c.in-Array.count (ap tree_of c.in-Array.is) c.requires.right
+
+pub value_from_bytes-values_from_bytes-requires-in-Array : goal.value_from_bytes-values_from_bytes-requires-in-Array
+value_from_bytes-values_from_bytes-requires-in-Array t c =
+    let ty = tree_of c.args.ty.now in
+    let ts = c.in-Array.fields in
+    let n = c.in-Array.count in
+    let is = ap tree_of c.in-Array.is in
+    let some = array_some ty ts n is c.requires.right in
+    let fewer = made_nodes ty ts n is c.of_array-members.result c.of_array-members.ensures some in
+    let right = made_right ty ts n is c.of_array-members.result c.of_array-members.ensures c.requires.right in
+    let sized = c.requires.sized ∙ made_size ty ts n is c.of_array-members.result c.of_array-members.ensures in
+    (omega (arith, fewer), (right, sized))
+
+pub value_from_bytes-returns-in_ok-values_from_bytes-in-Array-clause-value : goal.value_from_bytes-returns-in_ok-values_from_bytes-in-Array-clause-value
+value_from_bytes-returns-in_ok-values_from_bytes-in-Array-clause-value t c =
+    ap struct_value c.in_ok-values_from_bytes-in-Array.ensures.value ∙ sym (made_value (tree_of c.args.ty.now) c.in-Array.fields c.in-Array.count (ap tree_of c.in-Array.is) c.of_array-members.result c.of_array-members.ensures c.args.bytes.now)
+
+pub value_from_bytes-returns-in_ok-values_from_bytes-in-Array-clause-fits : goal.value_from_bytes-returns-in_ok-values_from_bytes-in-Array-clause-fits
+value_from_bytes-returns-in_ok-values_from_bytes-in-Array-clause-fits t c =
+    let ty = tree_of c.args.ty.now in
+    let is = ap tree_of c.in-Array.is in
+    let some = array_some ty c.in-Array.fields c.in-Array.count is c.requires.right in
+    made_fit ty c.in-Array.fields c.in-Array.count is c.of_array-members.result c.of_array-members.ensures (values_of c.in_ok-values_from_bytes-in-Array.field-0) some ∙ c.in_ok-values_from_bytes-in-Array.ensures.fits

@@ -1,5 +1,11 @@
-use Rattle.std.proofs.Common.{◌≡◌, ◌++◌, ap, sym, ◌∙◌, arith, append-nil, [], ◌∷◌}
+use Rattle.std.proofs.Common.{◌≡◌, ◌++◌, ℕ, List, ap, sym, ◌∙◌, subst, arith, append-nil, append_assoc, [], ◌∷◌}
 use Rattle.std.specs.Prelude.{slice_index_or}
+use Rattle.std.specs.Prelude.{codes, OnOk}
+use Rattle.ffi3_type_rules.specs.Value.{fits, values_of}
+use Rattle.ffi3_type_rules.specs.ValueText.{value_texts_of}
+use Rattle.std.specs.List.{join_with_byte}
+use Rattle.ffi3_type_rules.specs.Tree.{trees_of}
+use Rattle.ffi3_type_rules.proofs.Members.{fitted_some, made_nodes, made_fit, made_text}
 use Rattle.ffi3_type_rules.specs.Tree.{tree_at}
 use Rattle.ffi3_type_rules.specs.ValueText.{value_text_of}
 use Rattle.ffi3_type_rules.proofs.ValueElements.{fitting_lengths, fitting_element}
@@ -45,3 +51,27 @@ write_texts-returns t c =
     let vs = c.args.values.now in
     let count = fitting_lengths ts vs c.requires in
     c.loop-i.invariant ∙ ap (λ k. c.args.text.now ++ k) (joined-all (element_texts ts vs) c.loop-i.i (omega (arith, length-element_texts ts vs count)))
+
+-- ---- an array, by the struct of its elements
+
+bracketed : (before opened joined wrote : List ℕ) → opened ≡ before ++ (91 ∷ []) → wrote ≡ opened ++ joined → wrote ++ (93 ∷ []) ≡ before ++ (codes "[" ++ (joined ++ codes "]"))
+bracketed before opened joined wrote o w =
+    ap (λ x. x ++ (93 ∷ [])) (w ∙ ap (λ x. x ++ joined) o) ∙ append_assoc (before ++ (91 ∷ [])) joined (93 ∷ []) ∙ append_assoc before (91 ∷ []) (joined ++ (93 ∷ []))
+
+pub write_text-write_texts-requires-in-Array : goal.write_text-write_texts-requires-in-Array
+write_text-write_texts-requires-in-Array t c =
+    let ty = tree_of c.args.ty.now in
+    let ts = c.in-Array.fields in
+    let n = c.in-Array.count in
+    let is = ap tree_of c.in-Array.is in
+    let fit = ap (λ v. fits ty (value_of v)) (sym c.in-List.is) ∙ c.requires in
+    let some = fitted_some ty ts n is _ c.requires in
+    let fewer = made_nodes ty ts n is c.of_array-members.result c.of_array-members.ensures some in
+    (omega (arith, fewer), sym (made_fit ty ts n is c.of_array-members.result c.of_array-members.ensures (values_of c.in-List.values) some) ∙ fit)
+
+pub write_text-returns-in_ok-write_texts-in-Array : goal.write_text-returns-in_ok-write_texts-in-Array
+write_text-returns-in_ok-write_texts-in-Array t c =
+    let ty = tree_of c.args.ty.now in
+    let text = ap (λ v. value_text_of ty (value_of v)) c.in-List.is ∙ made_text ty c.in-Array.fields c.in-Array.count (ap tree_of c.in-Array.is) c.of_array-members.result c.of_array-members.ensures (values_of c.in-List.values) in
+    let whole = bracketed c.args.text.now c.push-in-Array.new.self (join_with_byte 44 (value_texts_of (trees_of c.of_array-members.result) (values_of c.in-List.values))) c.write_texts-in-Array.new.text c.in_ok-push-in-Array.ensures.ok c.in_ok-write_texts-in-Array.ensures in
+    subst (λ all. OnOk c.push-in-Array-2.result (c.push-in-Array-2.new.self ≡ all)) (whole ∙ ap (λ x. c.args.text.now ++ x) (sym text)) c.push-in-Array-2.ensures.ok

@@ -1,4 +1,6 @@
-use Rattle.std.proofs.Common.{◌≡◌, ◌+◌, ◌-◌, ap, sym, ◌∙◌, arith, true, length-take, length-drop}
+use Rattle.std.proofs.Common.{◌≡◌, ◌+◌, ◌-◌, ap, sym, ◌∙◌, subst, arith, true, length-take, length-drop}
+use Rattle.ffi3_type_rules.specs.Value.{struct_value, values_of, IsWritten}
+use Rattle.ffi3_type_rules.proofs.Members.{array_some, made_nodes, made_right, made_size, made_fit, made_written}
 use Rattle.ffi3_type_rules.specs.Value.{fits}
 use Rattle.ffi3_type_rules.proofs.Layouts.{align_positive, end_before-turn}
 use Rattle.ffi3_type_rules.proofs.ElementPlaces.{lies, right_here, room_before, room_here}
@@ -67,3 +69,25 @@ write_values-loop-i-preserved t c =
 pub write_values-returns : goal.write_values-returns
 write_values-returns t c =
     all_written c.args.fields.now c.args.values.now _ _ c.loop-i.i (fitting_lengths c.args.fields.now c.args.values.now c.requires.fits) (omega arith) c.loop-i.invariant.written
+
+-- ---- an array, by the struct of its elements
+
+pub write_bytes-write_values-requires-in-Array : goal.write_bytes-write_values-requires-in-Array
+write_bytes-write_values-requires-in-Array t c =
+    let ty = tree_of c.args.ty.now in
+    let ts = c.in-Array.fields in
+    let n = c.in-Array.count in
+    let is = ap tree_of c.in-Array.is in
+    let some = array_some ty ts n is c.requires.right in
+    let fewer = made_nodes ty ts n is c.of_array-members.result c.of_array-members.ensures some in
+    let right = made_right ty ts n is c.of_array-members.result c.of_array-members.ensures c.requires.right in
+    let sized = c.requires.sized ∙ made_size ty ts n is c.of_array-members.result c.of_array-members.ensures in
+    let fit = ap (λ v. fits ty (value_of v)) (sym c.in-List.is) ∙ c.requires.fits in
+    let all = sym (made_fit ty ts n is c.of_array-members.result c.of_array-members.ensures (values_of c.in-List.values) some) ∙ fit in
+    (omega (arith, fewer), (right, (all, sized)))
+
+pub write_bytes-returns-in-Array : goal.write_bytes-returns-in-Array
+write_bytes-returns-in-Array t c =
+    let ty = tree_of c.args.ty.now in
+    let written = made_written ty c.in-Array.fields c.in-Array.count (ap tree_of c.in-Array.is) c.of_array-members.result c.of_array-members.ensures (struct_value (values_of c.in-List.values)) c.args.out.now c.write_values-in-Array.new.out c.write_values-in-Array.ensures in
+    subst (λ v. IsWritten ty (value_of v) c.args.out.now c.write_values-in-Array.new.out) (sym c.in-List.is) written

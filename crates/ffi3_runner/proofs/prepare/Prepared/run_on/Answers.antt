@@ -22,7 +22,7 @@ loop-stop-preserved g c =
     let inv = c.loop-stop.invariant in
     record {
       standing = c.turn.ensures.standing c.in-More.is;
-      between = c.turn.ensures.between c.in-More.is;
+      between = (inv.between.0, inv.between.1, c.turn.ensures.between inv.between.0 inv.between.1 inv.between.2 c.in-More.is);
       since = comes_on g.A.Abi.standard c.args.trace _ c.args.board.now c.loop-stop.board c.turn.new.board c.args.machine.now c.loop-stop.machine c.turn.new.machine (g.O.Sink.state c.args.output.now) (g.O.Sink.state c.loop-stop.output) (g.O.Sink.state c.turn.new.output) inv.since c.turn.result c.turn.ensures.turned c.in-More.is;
     }
 

@@ -6,6 +6,7 @@ use Rattle.ffi3_invoke.specs.Calls.{entered_closure}
 use Rattle.ffi3_board.proofs.Closed.{known_at}
 use Rattle.ffi3_runner.proofs.Agreed.{accepted_stands}
 use Rattle.ffi3_runner.proofs.Numbers.{func_below, own_at}
+use Rattle.ffi3_runner.specs.Ready.{traced_or_not}
 use Rattle.ffi3_runner.proofs.Serving.{call_cut_off, call_served, served_between, shows_found}
 use Rattle.ffi3_runner.proofs.prepare.Prepared.serve.Goals as goal
 
@@ -55,7 +56,7 @@ run_on-requires-clause-between g c =
     let found = c.in-Some.closure in
     let live : closure_at b.table (entered_closure m) ≡ Some found = search rules in
     let t = c.requires.entry in
-    served_between g.A.Abi.standard c.args.trace _ b c.accept_call.new.self m c.accept_call.new.machine o o' found c.args.self.now.cifs c.requires.prepared.are live (λ arguments shows. c.in_default-accept_call.ensures.accepted _ arguments (sym c.requires.prepared.are) refl shows c.requires.holds c.requires.idle.known c.requires.idle.few) t.0 t.1 t.2
+    (traced_or_not, refl, served_between g.A.Abi.standard c.args.trace _ b c.accept_call.new.self m c.accept_call.new.machine o o' found c.args.self.now.cifs c.requires.prepared.are live (λ arguments shows. c.in_default-accept_call.ensures.accepted _ arguments (sym c.requires.prepared.are) refl shows c.requires.holds c.requires.idle.known c.requires.idle.few) t.0 t.1 t.2)
 
 pub returns-in-Err : goal.returns-in-Err
 returns-in-Err g c =

@@ -1,3 +1,5 @@
+use Rattle.std.proofs.Common.{refl}
+use Rattle.ffi3_runner.specs.Ready.{traced_or_not}
 use Rattle.ffi3_runner.proofs.Ending.{ran_cut_by_memory, ran_cut_by_write, ran_done, ran_failed, ran_left, ran_left_at_stop, ran_never_falls, ran_no_memory, ran_part, ran_returned, ran_stopped, ran_stops}
 use Rattle.ffi3_runner.proofs.Main.{main_ran, start_between}
 use Rattle.ffi3_runner.proofs.runner.Runner.run_main.Goals as goal
@@ -9,7 +11,7 @@ pub run_on-requires-clause-between : goal.run_on-requires-clause-between
 run_on-requires-clause-between g c =
     let m = c.args.machine.now in
     let o = g.O.Sink.state c.args.output.now in
-    start_between g.A.Abi.standard c.args.self.now.prepared.script.now _ c.args.self.now.prepared.cifs c.requires.prepared c.args.trace m o c.start.new.board (c.start.ensures.between c.args.trace m o c.requires.begun)
+    (traced_or_not, refl, start_between g.A.Abi.standard c.args.self.now.prepared.script.now _ c.args.self.now.prepared.cifs c.requires.prepared c.args.trace m o c.start.new.board (c.start.ensures.between c.args.trace m o c.requires.begun))
 
 pub returns-clause-done : goal.returns-clause-done
 returns-clause-done g c =

@@ -1,7 +1,0 @@
-use Rattle.std.proofs.Common.{true}
-use Rattle.ffi3_type_rules.proofs.Faults.{right_is_small}
-use Rattle.ffi3_types.specs.TreeOf.{tree_of}
-use Rattle.ffi3_types.proofs.FfiType.leaf.Goals as goal
-
-pub find_leaf-requires-clause-small : goal.find_leaf-requires-clause-small
-find_leaf-requires-clause-small c = right_is_small 0 true (tree_of c.args.self.now) c.requires.right
