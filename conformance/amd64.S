@@ -1,4 +1,4 @@
-# Plays a call and an entry on AMD64: see player.c. rsp is never loaded.
+# Plays a call and an entry on AMD64, by any of its conventions: see player.c. rsp is never loaded.
 
 .macro each_general op
     \op 0, rax
@@ -26,11 +26,13 @@
 .macro load_floating
 .irp r, 0,1,2,3,4,5,6,7,8,9,10,11,12,13,14,15
     movq now+256+8*\r(%rip), %xmm\r
+    movhps now+384+8*\r(%rip), %xmm\r
 .endr
 .endm
 .macro store_floating
 .irp r, 0,1,2,3,4,5,6,7,8,9,10,11,12,13,14,15
     movq %xmm\r, now+256+8*\r(%rip)
+    movhps %xmm\r, now+384+8*\r(%rip)
 .endr
 .endm
 

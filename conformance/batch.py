@@ -12,6 +12,7 @@ import subprocess
 from concurrent.futures import ThreadPoolExecutor
 
 import cases
+import differences
 from emit import Chunk, index_of
 from places import FLOATING, GENERAL, Layout
 from signature import SIZES, text_of
@@ -27,13 +28,21 @@ TARGETS = {
     "amd64": ("x86_64-linux-gnu", None, []),
     "aapcs64": ("aarch64-linux-gnu", "qemu-aarch64", []),
     "riscv": ("riscv64-linux-gnu", "qemu-riscv64", ["-march=rv64gc", "-mabi=lp64d"]),
+    "win64": ("x86_64-linux-gnu", None, []),
 }
-COMPILERS = {"amd64": ("gcc", "clang", "libffi"), "aapcs64": ("gcc", "clang"), "riscv": ("gcc", "clang")}
+COMPILERS = {"amd64": ("gcc", "clang", "libffi"), "aapcs64": ("gcc", "clang"), "riscv": ("gcc", "clang"),
+             "win64": ("gcc", "clang", "libffi")}
 FLAGS = ["-w", "-std=gnu11", "-fno-pie", "-fno-stack-protector"]
+# Defined on a target whose programs run on the host beside those of another: player.h says what it changes.
+DEFINED = {"win64": ["-DWIN64"]}
 # A leaf's scalar, by what C knows of it: the kind of player.h, and its bytes.
 SCALARS = {f"{'f' if name == 'double' else name[0]}{size}": name for name, size in SIZES.items()}
 # The files of one batch are optimised in turn: not at all, and much.
 OPTIMISED = ["-O0", "-O2"]
+
+
+def flags_of(target):
+    return [*FLAGS, *DEFINED.get(target, []), f"-I{HERE}"]
 
 
 def command_of(target, compiler):
@@ -119,7 +128,7 @@ class Played:
 def link(target, program, files):
     """Links the player and these files by the target's gcc; static, so that an emulator needs no libraries."""
     kind = ["-no-pie"] if files[-1] == "-lffi" else ["-static"]
-    subprocess.run([*command_of(target, "gcc"), *FLAGS, "-O1", *kind, f"-I{HERE}", "-o", program, HERE / "player.c",
+    subprocess.run([*command_of(target, "gcc"), *flags_of(target), "-O1", *kind, "-o", program, HERE / "player.c",
                     HERE / f"{target}.S", *files], check=True)
 
 
@@ -144,7 +153,7 @@ class Compiled(Played):
         self.command = [*([emulator] if emulator else []), program]
 
     def compile(self, name, optimised):
-        subprocess.run([*command_of(self.target, self.compiler), *FLAGS, optimised, f"-I{HERE}", "-c", "-o",
+        subprocess.run([*command_of(self.target, self.compiler), *flags_of(self.target), optimised, "-c", "-o",
                         self.folder / f"{name}.o", self.folder / f"{name}.c"], check=True)
 
 
@@ -152,19 +161,19 @@ class Libffi(Played):
     """The host's libffi: closures are the callees, ffi_call is the caller. It has no type for an array, so each is
     written as its elements."""
 
-    def __init__(self, signatures, folder):
-        self.target, self.compiler, self.folder = "amd64", "libffi", pathlib.Path(folder)
+    def __init__(self, target, signatures, folder):
+        self.target, self.compiler, self.folder = target, "libffi", pathlib.Path(folder)
         self.folder.mkdir(parents=True, exist_ok=True)
         program, listed = self.folder / "play", self.folder / "signatures"
         listed.write_text("".join(f"{signature.with_elements()}\n" for signature in signatures))
-        link("amd64", program, [HERE / "libffi.c", "-lffi"])
+        link(target, program, [HERE / "libffi.c", "-lffi"])
         self.types = [[kind for signature in signatures for kind in signature.types() if kind != "void"]]
         self.command = [program, listed]
 
 
 def built(target, compiler, signatures, folder, optimised=OPTIMISED):
     if compiler == "libffi":
-        return Libffi(signatures, folder)
+        return Libffi(target, signatures, folder)
     return Compiled(target, compiler, signatures, folder, optimised)
 
 
@@ -176,10 +185,12 @@ def optimised_at(index):
 def failures(built, planned, layouts, seed):
     """What each comparison finds: (number, way) -> reasons, none where it passes. The ways are call, enter, layout.
 
-    `planned` has signatures and their plans, by the signatures' numbers. A case that was not played fails."""
+    `planned` has signatures and their plans, by the signatures' numbers. A case that was not played fails. Where a
+    listed difference says that this compiler has another plan, that one is played."""
     parts, found = [], {}
     for number, (signature, plan) in planned.items():
         drawn = random.Random(f"{seed} {number}")
+        plan = differences.played(built.target, built.compiler, signature, plan)
         try:
             parts.append(cases.lines_of(built.target, number, signature, plan, layouts, drawn))
         except cases.Uncovered as fault:

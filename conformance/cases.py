@@ -1,18 +1,20 @@
 """Turns a signature's plan into the lines that `player.c` plays, in both directions.
 
 `call`: ffi3's places are the caller's, the callee is compiled. `enter`: the caller is compiled, ffi3's places are the
-callee's. What a place holds beside a value's own bytes is docs/RULES.md, sections 5 and 10; all else is random.
+callee's. What a place holds beside a value's own bytes is docs/RULES.md, sections 5 and 11; all else is random.
 """
 
-from signature import INTEGERS, SIZES, leaves_of
+from signature import FLOATING, INTEGERS, SIZES, leaves_of
 
-RETURN_ADDRESS_OF_HIDDEN = {"amd64": "g0", "aapcs64": None, "riscv": None}
+RETURN_ADDRESS_OF_HIDDEN = {"amd64": "g0", "aapcs64": None, "riscv": None, "win64": "g0"}
 # Targets whose standard, not ffi3's own profile, says how a narrow integer is extended: compiled code must do it too.
-EXTENDED_BY_STANDARD = {"amd64": False, "aapcs64": False, "riscv": True}
+EXTENDED_BY_STANDARD = {"amd64": False, "aapcs64": False, "riscv": True, "win64": False}
+# What a copy's address is a multiple of too, where the standard asks for more than the argument's type does.
+ALIGNED_COPY = {"win64": (16,)}
 
 
 class Uncovered(Exception):
-    """A byte of a value that stands in no piece, or in two."""
+    """A byte of a value that stands in no piece, or in two that are no copies."""
 
 
 def values_for(signature, random):
@@ -50,6 +52,11 @@ def runs(pairs):
     return found
 
 
+def copies_of(target, kind, pieces):
+    """How often pieces have each byte: twice where a floating argument of a variadic signature is in two registers."""
+    return 2 if target == "win64" and kind in FLOATING and len(pieces) == 2 else 1
+
+
 def in_pieces(target, kind, layout, leaves, pieces, is_widened):
     """(place and byte, bytes) for each run of a value's bytes in its pieces, extended as the plan says."""
     found, covered = [], []
@@ -62,8 +69,9 @@ def in_pieces(target, kind, layout, leaves, pieces, is_widened):
         found += [(f"{piece.place}+{at}", bytes(run)) for at, run in runs(inside)]
         if target == "riscv" and piece.place.kind == "f" and piece.length == 4:
             found.append((f"{piece.place}+4", b"\xff" * 4))
-    if sorted(covered) != [at for at, _ in leaf_bytes(kind, layout, leaves)]:
-        raise Uncovered(f"the pieces do not have each byte of {kind} once")
+    copies = copies_of(target, kind, pieces)
+    if sorted(covered) != [at for at, _ in leaf_bytes(kind, layout, leaves) for _ in range(copies)]:
+        raise Uncovered(f"the pieces do not have each byte of {kind} {'twice' if copies == 2 else 'once'}")
     return found
 
 
@@ -105,7 +113,8 @@ def enter_lines(target, index, signature, plan, layouts, values, result):
     lines = head("enter", index, plan, values, result)
     for kind, stand, leaves in zip(signature.arguments, plan.arguments, values):
         if stand.reference:
-            lines.append(f"want_aligned {stand.reference}+0 {layouts[kind].align}")
+            lines += [f"want_aligned {stand.reference}+0 {aligned}"
+                      for aligned in (layouts[kind].align, *ALIGNED_COPY.get(target, ()))]
             lines += [f"want_at {stand.reference}+0 {at} {run.hex()}"
                       for at, run in runs(leaf_bytes(kind, layouts[kind], leaves))]
         else:

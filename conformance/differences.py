@@ -1,15 +1,17 @@
 """Differences that are a compiler's or a library's own: each with the reason and the standard's sentence.
 
-A case that fails counts as such a difference where every one of its reasons is the one described. The run fails on any
-other failure, and on a difference listed here that no case shows any more.
+A case that fails counts as such a difference where every one of its reasons is the one described. Where the difference
+is a plan of the compiler's own, that plan is played, and a case that passes by it counts. The run fails on any other
+failure, and on a difference listed here that no case shows any more.
 """
 
 import re
-from dataclasses import dataclass
+from dataclasses import dataclass, replace
 from typing import Callable
 
 from cases import is_narrow
-from signature import SIZES, WIDE
+from places import UPPER, Piece, Place, Stand
+from signature import FLOATING, SIZES, WIDE
 
 
 @dataclass(frozen=True)
@@ -19,7 +21,8 @@ class Difference:
     compiler: str
     reason: str
     sentence: str
-    explains: Callable  # of a signature, its plan, a direction and one reason
+    explains: Callable | None = None  # of a signature, the plan that is played, a direction and one reason
+    plans: Callable | None = None  # of a signature and its plan: this compiler's own, or None where it has none
 
 
 def narrow_on_the_stack(signature, plan, direction, reason):
@@ -53,6 +56,63 @@ def taken_apart(signature, plan, direction, reason):
     return found is not None and found[1] in late.values()
 
 
+FOURTH = {"g": Place("g", 9), "f": Place("f", 3)}
+BEFORE = {Place("g", 2): Place("g", 1), Place("g", 8): Place("g", 2), FOURTH["g"]: Place("g", 8),
+          Place("f", 1): Place("f", 0), Place("f", 2): Place("f", 1), FOURTH["f"]: Place("f", 2)}
+
+
+def at_the_position_before(kind, stand, is_variadic):
+    """An argument of Microsoft x64 that has the position before its own."""
+    places = [stand.reference] if stand.reference else [piece.place for piece in stand.pieces]
+    if places == [Place("s", 32)]:
+        general = [FOURTH["g"]] if kind not in FLOATING or is_variadic else []
+        places = general + [FOURTH["f"]] * (kind in FLOATING)
+    else:
+        places = [Place("s", place.number - 8) if place.kind == "s" and place.number > 32 else BEFORE.get(place, place)
+                  for place in places]
+    if stand.reference:
+        return replace(stand, reference=places[0])
+    return Stand([Piece(place, stand.pieces[0].offset, stand.pieces[0].length) for place in places])
+
+
+def wide_result_in_xmm0(signature, plan):
+    """The result has no address, which would take the first position."""
+    if signature.result not in WIDE:
+        return None
+    arguments = [at_the_position_before(kind, stand, signature.fixed is not None)
+                 for kind, stand in zip(signature.arguments, plan.arguments)]
+    return replace(plan, arguments=arguments,
+                   result=Stand([Piece(Place("f", 0), 0, 8), Piece(Place("f", UPPER), 8, 8)]))
+
+
+def copy_of_its_own_alignment(signature, plan, direction, reason):
+    found = re.fullmatch(r"the address at (\w+)\+0 is no multiple of 16", reason)
+    return direction == "enter" and found is not None and any(
+        str(stand.reference) == found[1] for stand in plan.arguments)
+
+
+def reference_taken_by_value(signature, plan, direction, reason):
+    """Of an argument by reference after the fixed ones, or of one after it."""
+    found = re.fullmatch(r"the callee finds another argument (\d+)", reason)
+    return direction == "call" and found is not None and signature.fixed is not None and any(
+        stand.reference for stand in plan.arguments[signature.fixed:int(found[1]) + 1])
+
+
+def fixed_in_one_register(signature, plan, direction, reason):
+    found = re.fullmatch(r"other bytes at (\w+)\+0", reason)
+    return direction == "enter" and found is not None and signature.fixed is not None and any(
+        len(stand.pieces) == 2 and str(stand.pieces[0].place) == found[1]
+        for stand in plan.arguments[:signature.fixed])
+
+
+COPIES = ("Microsoft, x64 calling convention, parameter passing: Structs or unions of other sizes are passed as a "
+          "pointer to memory allocated by the caller.")
+WIDE_RESULT = (
+    "gcc 12 and clang 14 hand back an __int128 in xmm0. The standard has no integer of 128 bits; ffi3 treats it as a "
+    "struct of its size, as both do where it is an argument.",
+    "Microsoft, x64 calling convention, return values: Otherwise, the caller must allocate memory for the return value "
+    "and pass a pointer to it as the first argument.")
+
 DIFFERENCES = [
     Difference(
         "clang leaves a narrow integer on the stack unextended", "riscv", "clang",
@@ -80,6 +140,30 @@ DIFFERENCES = [
         "System V psABI AMD64 3.2.3, passing: If the class is SSE, the next available vector register is used, the "
         "registers are taken in the order from %xmm0 to %xmm7.",
         last_register_and_a_vector),
+    Difference("gcc hands back an integer of 128 bits in xmm0", "win64", "gcc", *WIDE_RESULT,
+               plans=wide_result_in_xmm0),
+    Difference(
+        "gcc doubles only what follows the fixed arguments", "win64", "gcc",
+        "gcc 12 passes a fixed floating argument of a variadic function in its vector register alone. Microsoft's text "
+        "makes no difference between fixed and other arguments, and clang 14 makes none either.",
+        "Microsoft, x64 calling convention, varargs: For floating-point values only, both the integer register and the "
+        "floating-point register must contain the value, in case the callee expects the value in the integer "
+        "registers.",
+        fixed_in_one_register),
+    Difference(
+        "gcc's va_arg takes by value what is passed by reference", "win64", "gcc",
+        "gcc 12 for Linux expands va_arg before it knows the convention of the function that has it, so it reads the "
+        "argument's bytes where its address stands, and goes on too far. Its callers pass the address.",
+        COPIES, reference_taken_by_value),
+    Difference("clang hands back an integer of 128 bits in xmm0", "win64", "clang", *WIDE_RESULT,
+               plans=wide_result_in_xmm0),
+    Difference(
+        "clang aligns a copy as its type", "win64", "clang",
+        "clang 14 gives a copy the alignment of its type, so its address may be no multiple of 16. ffi3's caller has "
+        "copies at multiples of 16; its callee reads them at whatever address.",
+        "Microsoft, x64 calling convention, parameter passing: For these aggregate types passed as a pointer, "
+        "including __m128, the caller-allocated temporary memory must be 16-byte aligned.",
+        copy_of_its_own_alignment),
 ]
 
 
@@ -87,9 +171,22 @@ def listed(target, compiler):
     return [difference for difference in DIFFERENCES if (difference.target, difference.compiler) == (target, compiler)]
 
 
+def played(target, compiler, signature, plan):
+    """The plan that is played: the compiler's own where a listed difference has one, and else ffi3's."""
+    own = (difference.plans(signature, plan) for difference in listed(target, compiler) if difference.plans)
+    return next(filter(None, own), plan)
+
+
 def explained(target, compiler, signature, plan, direction, reasons):
-    """The difference that explains every reason of a failed case, or None."""
+    """The difference that explains every reason of a failed case, or that a case shows which passes by another plan; or
+    None."""
+    played_plan = played(target, compiler, signature, plan)
     for difference in listed(target, compiler):
-        if all(difference.explains(signature, plan, direction, reason) for reason in reasons.split("; ")):
+        if reasons:
+            shows = difference.explains and all(difference.explains(signature, played_plan, direction, reason)
+                                                for reason in reasons.split("; "))
+        else:
+            shows = difference.plans and direction != "layout" and difference.plans(signature, plan)
+        if shows:
             return difference
     return None

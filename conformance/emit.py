@@ -86,20 +86,21 @@ class Chunk:
         parameters = [f"{kind} a{i}" for i, kind in enumerate(kinds[:fixed])]
         if signature.fixed is not None:
             parameters.append("...")
-        callee = [f"/* {signature} */", f"static {result} real_callee_{index}({', '.join(parameters) or 'void'}) {{"]
+        callee = [f"/* {signature} */",
+                  f"static {result} CONVENTION real_callee_{index}({', '.join(parameters) or 'void'}) {{"]
         caller = [f"static void caller_{index}(function *called) {{"]
         if signature.fixed is not None:
-            callee += ["va_list rest;", f"va_start(rest, a{fixed - 1});"]
+            callee += ["REST rest;", f"REST_START(rest, a{fixed - 1});"]
         for i, (kind, layout) in enumerate(zip(kinds, layouts)):
             if i >= fixed:
                 callee.append(f"{kind} a{i} = va_arg(rest, {kind});")
             callee.append(f"argument_in(&a{i}, {layout});")
             caller += [f"{kind} a{i};", f"argument_out(&a{i}, {layout});"]
         if signature.fixed is not None:
-            callee.append("va_end(rest);")
+            callee.append("REST_END(rest);")
         passed = ", ".join(f"a{i}" for i in range(len(kinds)))
         prototype = ", ".join(kinds[:fixed] + ["..."] * (signature.fixed is not None)) or "void"
-        call = f"(({result} (*)({prototype}))called)({passed});"
+        call = f"(({result} (CONVENTION *)({prototype}))called)({passed});"
         if signature.result == "void":
             caller.append(call)
         else:

@@ -8,6 +8,8 @@
 #define SLOT_SIZE 64
 #define MOVES 10000
 #define STACK 1048576
+#define TARGETS 4
+#define WIN64 3 /* the target whose convention libffi has on AMD64 too */
 #define HOST_STACK (1UL << 30) /* of the thread that runs main: calls nest as deep as there are moves */
 
 /* A closure of libffi. It is never given back to malloc: a closure that frees itself is still to return. */
@@ -18,7 +20,8 @@ struct made {
     void *code;
 };
 
-static const char *const targets[] = {"amd64", "aapcs64", "riscv"};
+static const char *const targets[TARGETS] = {"amd64", "aapcs64", "riscv", "win64"};
+ffi_abi convention = FFI_DEFAULT_ABI;
 static int target, is_traced;
 static long moves, left = STACK;
 static struct made *slots[SLOTS];
@@ -137,7 +140,7 @@ void write_bytes(const void *from, int count)
         printf("%02x", *at++);
 }
 
-/* The natives of docs/RULES.md, section 14. */
+/* The natives of docs/RULES.md, section 15. */
 
 static void write_pointer_and_long(void **arguments)
 {
@@ -156,18 +159,18 @@ static void write_long(void *result)
 
 static struct signature of_one = {
     .text = "sint64(sint64)",
-    .need = {80, 192, 224},
+    .need = {80, 192, 224, 208},
     .write_result = write_long,
 };
 static struct signature of_pointer = {
     .text = "sint64(pointer,sint64)",
-    .need = {80, 192, 224},
+    .need = {80, 192, 224, 208},
     .write_arguments = write_pointer_and_long,
     .write_result = write_long,
 };
 static struct signature of_three = {
     .text = "sint64(sint64,sint64,sint64)",
-    .need = {96, 208, 240},
+    .need = {96, 208, 240, 224},
     .write_arguments = write_three_longs,
     .write_result = write_long,
 };
@@ -216,9 +219,9 @@ static void prepare_natives(void)
 {
     static ffi_type *longs[] = {&ffi_type_sint64, &ffi_type_sint64, &ffi_type_sint64};
     static ffi_type *pointer_and_long[] = {&ffi_type_pointer, &ffi_type_sint64};
-    if (ffi_prep_cif(&of_one.cif, FFI_DEFAULT_ABI, 1, &ffi_type_sint64, longs) != FFI_OK
-        || ffi_prep_cif(&of_pointer.cif, FFI_DEFAULT_ABI, 2, &ffi_type_sint64, pointer_and_long) != FFI_OK
-        || ffi_prep_cif(&of_three.cif, FFI_DEFAULT_ABI, 3, &ffi_type_sint64, longs) != FFI_OK)
+    if (ffi_prep_cif(&of_one.cif, convention, 1, &ffi_type_sint64, longs) != FFI_OK
+        || ffi_prep_cif(&of_pointer.cif, convention, 2, &ffi_type_sint64, pointer_and_long) != FFI_OK
+        || ffi_prep_cif(&of_three.cif, convention, 3, &ffi_type_sint64, longs) != FFI_OK)
         abort();
 }
 
@@ -232,10 +235,12 @@ int main(int count, char **words)
 {
     pthread_attr_t attributes;
     pthread_t thread;
-    while (target < 3 && (count < 2 || strcmp(words[1], targets[target])))
+    while (target < TARGETS && (count < 2 || strcmp(words[1], targets[target])))
         target++;
-    if (target == 3)
+    if (target == TARGETS)
         abort();
+    if (target == WIN64)
+        convention = FFI_GNUW64;
     is_traced = count > 2;
     prepare_natives();
     prepare();

@@ -12,7 +12,7 @@ typedef unsigned long address;
 /* A signature: its text, what its call takes of the stack on each target, and how its values are written. */
 struct signature {
     const char *text;
-    long need[3];
+    long need[4];
     void (*write_arguments)(void **arguments);
     void (*write_result)(void *result);
     ffi_cif cif;
@@ -25,6 +25,9 @@ struct function {
 };
 
 extern const struct function apply, twice, sum3;
+
+/* How libffi calls and is called: as the target asks on a host of AMD64. */
+extern ffi_abi convention;
 
 /* Before each move: the run stops where 10,000 moves are counted. */
 void tick(void);

@@ -7,6 +7,11 @@
 
 #include "player.h"
 
+#ifdef WIN64
+#define ABI FFI_GNUW64
+#else
+#define ABI FFI_DEFAULT_ABI
+#endif
 #define MOST_LEAVES 4096
 #define MOST_ARGUMENTS 64
 
@@ -86,7 +91,7 @@ static void add_leaves(ffi_type *type, unsigned start, unsigned *count, unsigned
         return;
     }
     size_t offsets[MOST_LEAVES];
-    if (ffi_get_struct_offsets(FFI_DEFAULT_ABI, type, offsets) != FFI_OK)
+    if (ffi_get_struct_offsets(ABI, type, offsets) != FFI_OK)
         stop("ffi_get_struct_offsets", "refused");
     for (unsigned k = 0; type->elements[k]; k++)
         add_leaves(type->elements[k], start + offsets[k], count, at, length, kind);
@@ -161,9 +166,9 @@ static function *prepare(struct signature *signature, char *text)
         signature->arguments[signature->count++] = read_type(&at);
     }
     ffi_status status = is_variadic
-        ? ffi_prep_cif_var(&signature->cif, FFI_DEFAULT_ABI, signature->fixed, signature->count, signature->result,
+        ? ffi_prep_cif_var(&signature->cif, ABI, signature->fixed, signature->count, signature->result,
                            signature->arguments)
-        : ffi_prep_cif(&signature->cif, FFI_DEFAULT_ABI, signature->count, signature->result, signature->arguments);
+        : ffi_prep_cif(&signature->cif, ABI, signature->count, signature->result, signature->arguments);
     if (status != FFI_OK)
         stop("ffi_prep_cif refuses", text);
     if (signature->result != &ffi_type_void)

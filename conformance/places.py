@@ -14,11 +14,16 @@ GENERAL = {
     "aapcs64": {f"x{number}": number for number in range(31)},
     "riscv": {f"a{number}": 10 + number for number in range(8)},
 }
+GENERAL["win64"] = GENERAL["amd64"]
+# On AMD64 the player has the upper halves of vector registers as further ones. No place of ffi3 has bytes there.
+UPPER = 16
 FLOATING = {
-    "amd64": {f"xmm{number}": number for number in range(16)},
+    "amd64": {f"xmm{number}": number for number in range(16)}
+    | {f"xmm{number}_upper": UPPER + number for number in range(16)},
     "aapcs64": {f"v{number}": number for number in range(32)},
     "riscv": {f"fa{number}": 10 + number for number in range(8)},
 }
+FLOATING["win64"] = FLOATING["amd64"]
 
 
 @dataclass(frozen=True)

@@ -146,13 +146,66 @@ def hidden_takes_no_word(signature, plan, layouts):
         plan.result.reference = Place("g", 17)
 
 
+def counted_apart(signature, plan, layouts):
+    """Floating arguments take xmm0 to xmm3 in turn, whatever stands between them."""
+    taken = 0
+    for i, stand in enumerate(plan.arguments):
+        if any(piece.place.kind == "f" for piece in stand.pieces):
+            plan.arguments[i] = moved(stand, lambda place: Place("f", taken) if place.kind == "f" else place)
+            taken += 1
+
+
+def shadow_store_left_out(signature, plan, layouts):
+    """The callee has no shadow store: stack arguments begin where the frame does."""
+    plan.arguments = [moved(stand, lambda place: Place("s", place.number - 32) if place.kind == "s" else place)
+                      for stand in plan.arguments]
+    plan.frame -= 32
+    for stand in stands(plan):
+        stand.copy -= 32 * (stand.reference is not None)
+
+
+def in_one_register(plan, kind):
+    """Of a floating argument in two registers, the one of this kind alone."""
+    for i, stand in enumerate(plan.arguments):
+        if len(stand.pieces) == 2:
+            plan.arguments[i] = Stand([piece for piece in stand.pieces if piece.place.kind == kind])
+
+
+def vector_register_alone(signature, plan, layouts):
+    """A floating argument of a variadic signature is not in its general register."""
+    in_one_register(plan, "f")
+
+
+def general_register_alone(signature, plan, layouts):
+    """A floating argument of a variadic signature is not in its vector register."""
+    in_one_register(plan, "g")
+
+
+def whole_in_a_register(signature, plan, layouts):
+    """A struct of 3, 5, 6 or 7 bytes is passed in its register."""
+    for i, (kind, stand) in enumerate(zip(signature.arguments, plan.arguments)):
+        if stand.reference and layouts[kind].size < 8:
+            plan.arguments[i] = Stand([Piece(stand.reference, 0, layouts[kind].size)])
+
+
+def struct_in_a_vector_register(signature, plan, layouts):
+    """A struct of one float or double is handed back in xmm0."""
+    if not isinstance(signature.result, str) and [leaf for leaf, _ in leaves_of(signature.result)] in ONE_FLOATING:
+        plan.result = moved(plan.result, lambda place: Place("f", 0))
+
+
+ONE_FLOATING = [[name] for name in FLOATING]
+
 ERRORS = {
     "amd64": [exchanged, rounded_to_16, result_by_eightbyte, no_vectors_counted, one_vector_more, merged_to_sse],
     "aapcs64": [floats_packed, hidden_in_x0, vectors_not_ended, reference_at_16],
     "riscv": [not_split, variadic_in_fa, pointer_is_integer, two_floats_packed, hidden_takes_no_word],
+    "win64": [counted_apart, shadow_store_left_out, vector_register_alone, general_register_alone, whole_in_a_register,
+              struct_in_a_vector_register],
 }
-# What a compiler cannot show: libffi's closures save vector registers by their signature, and do not look at al.
-UNSEEN = {"libffi": [no_vectors_counted]}
+# What a compiler cannot show: libffi's closures save vector registers by their signature, and do not look at al, nor at
+# the general register of a floating argument.
+UNSEEN = {"libffi": [no_vectors_counted, vector_register_alone]}
 
 
 def errors(target, compiler):

@@ -35,7 +35,10 @@
 #define LONGEST 70000
 #define SHOWN 2048
 
-#if defined __x86_64__
+#if defined WIN64
+enum { STACK_POINTER = 4, LINK = 8, KEPT = 1 << 3 | 1 << 5 | 1 << 6 | 1 << 7 | 0xF000, RESERVED = 0,
+       KEPT_FLOATING = 0xFFC0FFC0 };
+#elif defined __x86_64__
 enum { STACK_POINTER = 4, LINK = 8, KEPT = 1 << 3 | 1 << 5 | 0xF000, RESERVED = 0, KEPT_FLOATING = 0 };
 #elif defined __aarch64__
 enum { STACK_POINTER = 31, LINK = 0, KEPT = 0x3FF80000, RESERVED = 1 << 18 | 1 << 30, KEPT_FLOATING = 0xFF00 };
@@ -242,8 +245,9 @@ static void play(const char *what)
         look(name, (unsigned char *)start);
     } else if (!strcmp(what, "want_aligned")) {
         uint64_t found = doubleword(place(&now));
-        if (found % number())
-            wrong("no aligned address at %s", name);
+        long aligned = number();
+        if (found % aligned)
+            wrong("the address at %s is no multiple of %ld", name, aligned);
     } else if (!strcmp(what, "want_between")) {
         int found = *place(&now), low = number(), high = number();
         if (found < low || found > high)

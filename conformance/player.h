@@ -3,6 +3,20 @@
 
 typedef void function(void);
 
+/* How the functions of signatures are called, and how a callee takes what follows the fixed arguments. On win64 gcc and
+   clang for Linux do both as compilers for Windows do. */
+#ifdef WIN64
+#define CONVENTION __attribute__((ms_abi))
+#define REST __builtin_ms_va_list
+#define REST_START __builtin_ms_va_start
+#define REST_END __builtin_ms_va_end
+#else
+#define CONVENTION
+#define REST va_list
+#define REST_START va_start
+#define REST_END va_end
+#endif
+
 /* A type as this compiler lays it out: where its leaves stand, how long they are, and of which kind. */
 struct layout {
     unsigned size, align, leaves;
@@ -38,7 +52,8 @@ void argument_out(void *value, const struct layout *layout);
 void result_in(const void *value, const struct layout *layout);
 void result_out(void *value, const struct layout *layout);
 
-/* The registers, by the numbers of docs/FORMATS.md, section 5. The assembly files know this order. */
+/* The registers, by the numbers of docs/FORMATS.md, section 5. The assembly files know this order. On AMD64 floating
+   register 16 + N is the upper half of xmm N. */
 struct image {
     uint64_t general[32];
     uint64_t floating[32];

@@ -1,6 +1,6 @@
 """The 64 bytes of a closure's slot in Unicorn, a model of each processor that this project did not write.
 
-The bytes are those that docs/FORMATS.md, section 7, prints. What must come of them is docs/RULES.md, section 12: three
+The bytes are those that docs/FORMATS.md, section 7, prints. What must come of them is docs/RULES.md, section 13: three
 instructions from the slot reach ENTRY, the closure register has the slot's address, one more register may change, and
 no memory does. The first instruction of a free slot's filling traps.
 """
@@ -16,8 +16,10 @@ STEPS = 3
 TRIED = [0, 1, 2, 127, 254, 255]
 
 # The closure register, and the register that a trampoline may use.
-CLOSURE = {"amd64": "r10", "aapcs64": "x17", "riscv": "x6"}
-USED = {"amd64": None, "aapcs64": "x16", "riscv": "x7"}
+CLOSURE = {"amd64": "r10", "aapcs64": "x17", "riscv": "x6", "win64": "r10"}
+USED = {"amd64": None, "aapcs64": "x16", "riscv": "x7", "win64": None}
+# A target whose slots are those of another, with whose word they are printed.
+SLOTS_OF = {"win64": "amd64"}
 
 
 def slot_bytes():
@@ -25,7 +27,7 @@ def slot_bytes():
     text = FORMATS.read_text()
     found = {}
     for target in CLOSURE:
-        match = re.search(rf"^{target} +((?:[0-9a-f]{{16}}\s+){{8}})", text, re.MULTILINE)
+        match = re.search(rf"^{SLOTS_OF.get(target, target)} +((?:[0-9a-f]{{16}}\s+){{8}})", text, re.MULTILINE)
         found[target] = bytes.fromhex("".join(match[1].split()))
     return found
 
@@ -34,14 +36,15 @@ def free_slot_bytes():
     """A free slot's bytes, for each target."""
     line = re.search(r"^A free slot is filled with (.*?)\n\n", FORMATS.read_text(), re.MULTILINE | re.DOTALL)[1]
     fillings = re.findall(r"`([0-9a-f]+)` \([^)]*\)(?: on|,)\s+(?:on\s+)?(\w+)", line)
-    return {target: bytes.fromhex(filling) * (SLOT // (len(filling) // 2)) for filling, target in fillings}
+    found = {target: bytes.fromhex(filling) * (SLOT // (len(filling) // 2)) for filling, target in fillings}
+    return found | {target: found[other] for target, other in SLOTS_OF.items()}
 
 
 def machine(target):
     """A machine of Unicorn, the numbers of its registers by name, and the number of its pc."""
     import unicorn
     from unicorn import arm64_const, riscv_const, x86_const
-    if target == "amd64":
+    if SLOTS_OF.get(target, target) == "amd64":
         names = "rax rbx rcx rdx rsi rdi rbp rsp r8 r9 r10 r11 r12 r13 r14 r15".split()
         return (unicorn.Uc(unicorn.UC_ARCH_X86, unicorn.UC_MODE_64),
                 {name: getattr(x86_const, f"UC_X86_REG_{name.upper()}") for name in names}, x86_const.UC_X86_REG_RIP)
@@ -119,7 +122,7 @@ def planted(target, seed):
     import unicorn
     good = slot_bytes()[target]
     seen = 0
-    changes = {"amd64": [4, 7, 13], "aapcs64": [0, 4, 9], "riscv": [1, 6, 10]}[target]
+    changes = {"amd64": [4, 7, 13], "aapcs64": [0, 4, 9], "riscv": [1, 6, 10]}[SLOTS_OF.get(target, target)]
     for at in changes:
         spoilt = bytearray(good)
         spoilt[at] ^= 0x20

@@ -1,9 +1,9 @@
 """Writes a script (docs/FORMATS.md, section 1) as a C program for the host, over libffi.
 
-Each signature is prepared by ffi_prep_cif or ffi_prep_cif_var, each make is an ffi_prep_closure_loc, each call an
-ffi_call. A pointer to a closure is the number that ffi3 gives it; host.c has the closures of libffi by these numbers.
-The program counts the needs of calls, as `ffi3 place` prints them, against a stack of the modelled size: so it stops
-where the run must stop.
+Each signature is prepared by ffi_prep_cif or ffi_prep_cif_var, for the target's convention where it is one of the
+host's, each make is an ffi_prep_closure_loc, each call an ffi_call. A pointer to a closure is the number that ffi3
+gives it; host.c has the closures of libffi by these numbers. The program counts the needs of calls, as `ffi3 place`
+prints them, against a stack of the modelled size: so it stops where the run must stop.
 """
 
 from emit import C_NAMES
@@ -105,7 +105,7 @@ class Program:
         types = [self.ffi_type(kind) for kind in signature.arguments]
         result = self.ffi_type(signature.result)
         fixed = "" if signature.fixed is None else f"{signature.fixed}, "
-        prepare = (f"ffi_prep_cif{'_var' if fixed else ''}(&signature_{number}.cif, FFI_DEFAULT_ABI, {fixed}"
+        prepare = (f"ffi_prep_cif{'_var' if fixed else ''}(&signature_{number}.cif, convention, {fixed}"
                    f"{len(types)}, {result}, types_{number})")
         arguments = " putchar(','); ".join(f"write_{self.number(kind)}(*({self.c_type(kind)} *)arguments[{i}]);"
                                            for i, kind in enumerate(signature.arguments))

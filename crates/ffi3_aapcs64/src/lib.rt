@@ -599,6 +599,7 @@ impl Abi for Aapcs64 {
     ghost use Rattle.std.specs.Prelude.{refl};
     ghost use Rattle.std.proofs.lemmas.Bool.{ltb-true};
     ghost use Rattle.ffi3_aapcs64_rules.proofs.Agrees.{agrees as agrees_with_machine};
+    ghost use Rattle.ffi3_aapcs64_rules.proofs.ByStubs.{by_stubs as with_stubs, result_by_stubs as result_with_stubs};
     ghost use Rattle.ffi3_aapcs64_rules.proofs.Sound.{sound as every_law, determines};
 
     ghost save_is = { refl };
@@ -614,6 +615,10 @@ impl Abi for Aapcs64 {
     ghost words_few = { ltb-true (length aapcs64.save_area) 256 refl };
 
     ghost agrees = { agrees_with_machine };
+
+    ghost by_stubs = { λ _. with_stubs };
+
+    ghost result_by_stubs = { λ s _ _. result_with_stubs s };
 
     ghost sound = { λ s _. every_law s };
 

@@ -1,6 +1,7 @@
 -- The places of a signature are a chain, so no two share a register or a byte of stack; and they have all of the values, which they therefore determine.
-use Rattle.std.proofs.Common.{◌≡◌, ℕ, zero, suc, ◌+◌, ◌≤◌, Bool, true, false, cond, leb, List, [], ◌∷◌, ◌++◌, subst, ap, sym, ◌∙◌, refl, arith}
+use Rattle.std.proofs.Common.{◌≡◌, ℕ, zero, suc, ◌+◌, ◌<◌, ◌≤◌, Bool, true, false, cond, leb, List, [], ◌∷◌, ◌++◌, subst, ap, sym, ◌∙◌, refl, arith}
 use Rattle.std.specs.List.{AllByRecursion, flat_map}
+use Rattle.ffi3_type_rules.specs.declared.Isa.TheVariants.{Aarch64}
 use Rattle.ffi3_type_rules.specs.Isa.{isa_of}
 use Rattle.ffi3_type_rules.specs.Tree.{Tree, void, scalar, left_out, structure, pointer, array}
 use Rattle.ffi3_type_rules.specs.Layout.{Leaf, leaves_of, size_of, align_of}
@@ -10,14 +11,16 @@ use Rattle.ffi3_place_rules.specs.declared.Loc.{Loc}
 use Rattle.ffi3_place_rules.specs.declared.Loc.TheVariants.{G, F, S}
 use Rattle.ffi3_place_rules.specs.declared.Ext.{Ext}
 use Rattle.ffi3_place_rules.specs.declared.Taken.{Taken}
+use Rattle.ffi3_place_rules.specs.Isa.{result_loads}
 use Rattle.ffi3_place_rules.specs.Standard.{Spot, in_pieces, by_reference, ResultSpot, no_result as not_passed, in_result_pieces, in_buffer, place_at, places_from, copy_end, result_at, copies_start, frame_copies_end, frame_of, plan_of, round8}
 use Rattle.ffi3_place_rules.specs.Doublewords.{doublewords, doublewords_at, widening, stack_pieces}
-use Rattle.ffi3_place_rules.specs.Sound.{Apart, AreApart, IsOnStackOrIn, piece_locs, place_locs, hidden_locs, result_locs, argument_locs, IsNoneOf, LiesIn, copy_locs, buffer_locs, call_locs, closed_to_arguments, closed_to_results, ResultHasAll, ResultIsFilled, IsSound, IsDetermined}
-use Rattle.ffi3_place_rules.proofs.Chain.{AtMost, at_most_self, Chain, chain_append, chain_apart, chain_allowed, chain_passed, chain_lies_in}
+use Rattle.ffi3_place_rules.specs.Sound.{Apart, AreApart, IsOnStackOrIn, piece_locs, place_locs, hidden_locs, result_locs, argument_locs, IsNoneOf, IsOneOf, LiesIn, copy_locs, buffer_locs, call_locs, closed_to_arguments, closed_to_results, ResultHasAll, ResultIsFilled, IsSound, IsDetermined}
+use Rattle.ffi3_place_rules.proofs.Chain.{AtMost, at_most_self, Chain, chain_append, chain_apart, chain_allowed, chain_passed, chain_in, chain_lies_in}
 use Rattle.ffi3_place_rules.proofs.Frame.{up_to, value_chain, frame_chain}
 use Rattle.ffi3_place_rules.proofs.Ends.{start-behind, even-behind}
 use Rattle.ffi3_place_rules.proofs.Aligned.{frame_is_aligned, need_is_aligned}
-use Rattle.ffi3_place_rules.proofs.Tests.{each_weaker}
+use Rattle.ffi3_place_rules.proofs.Tests.{each_of_two, each_weaker}
+use Rattle.ffi3_place_rules.proofs.Forbidden.{is_one_of, one_of}
 use Rattle.ffi3_place_rules.proofs.Determines.{determined}
 use Rattle.ffi3_aapcs64_rules.specs.Aapcs64.{aapcs64, in_vectors, is_copied, passed, first_general, register_start, stack_start, member_pieces, general_pieces, register_pieces, register_spot, stack_spot, in_registers, taken_with, taken_after, untouched, spot_after, spots_after, result_from, result_spot_of, placing_of}
 use Rattle.ffi3_aapcs64_rules.proofs.Covered.{registers_have_all, arguments_have_all, registers_filled, arguments_filled, copied_not_vectors, few_members, few_doublewords, NeedBy, StartBy, fits_by, first_at_zero, first_fits, pointer_rounded}
@@ -243,3 +246,32 @@ sound s = record {
 
 pub determines : (s : Signature) → IsDetermined aapcs64 s
 determines s = determined aapcs64 s (sound s).has_all (sound s).result_has_all
+
+-- ---- the result, by the stubs
+
+abbrev results_taken : Taken
+results_taken = record { general = 2; vector = 4; stack = 0 }
+
+in_results : (k : ℕ) → k < 2 → IsOneOf (result_loads Aarch64) (G (numbered k))
+in_results k h =
+    one_of (result_loads Aarch64) (G k) (each_of_two (λ j. is_one_of (result_loads Aarch64) (G j) ≡ true) refl refl k h)
+
+in_vector_results : (k : ℕ) → k < 4 → IsOneOf (result_loads Aarch64) (F (numbered k))
+in_vector_results zero h = one_of (result_loads Aarch64) (F 0) refl
+in_vector_results (suc zero) h = one_of (result_loads Aarch64) (F 1) refl
+in_vector_results (suc (suc zero)) h = one_of (result_loads Aarch64) (F 2) refl
+in_vector_results (suc (suc (suc zero))) h = one_of (result_loads Aarch64) (F 3) refl
+in_vector_results (suc (suc (suc (suc k)))) h = absurd (omega arith)
+
+few_chain_if : (t : Tree) (vector : Bool) → is_copied t ≡ false → in_vectors t ≡ vector → PlacesChain untouched (piece_locs (cond vector (member_pieces 0 (leaves_of t)) (general_pieces 0 t))) results_taken
+few_chain_if t true ec ev =
+    members_chain untouched 0 (leaves_of t) results_taken (omega arith) (omega (arith, few_members t ev)) (omega arith) (omega (arith, few_members t ev)) (omega arith)
+few_chain_if t false ec ev =
+    generals_chain untouched 0 (size_of t) (widening t) 0 (doublewords t) results_taken (omega arith) (omega (arith, few_doublewords t ev ec)) (omega (arith, few_doublewords t ev ec)) (omega arith) (omega arith)
+
+pub result_loaded : (s : Signature) → AllByRecursion (IsOneOf (result_loads Aarch64)) (result_locs (plan_of aapcs64 s).res)
+result_loaded s =
+    result_by (AllByRecursion (IsOneOf (result_loads Aarch64))) tt s (λ e. chain_in numbered numbered 8 8 (result_loads Aarch64) results_taken refl in_results in_vector_results untouched _ (few_chain_if s.result_type (in_vectors s.result_type) e refl))
+
+pub hidden_saved : (s : Signature) → AllByRecursion (IsOneOf (G 8 ∷ [])) (hidden_locs (plan_of aapcs64 s).res)
+hidden_saved s = hidden_cases (AllByRecursion (IsOneOf (G 8 ∷ []))) tt (one_of (G 8 ∷ []) (G 8) refl, tt) s

@@ -8,3 +8,4 @@ pub mod Ends
 pub mod Steps
 mod Rows
 pub mod Alike
+pub mod ByStubs

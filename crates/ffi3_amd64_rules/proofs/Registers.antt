@@ -6,7 +6,7 @@ use Rattle.ffi3_place_rules.specs.Isa.{general_registers}
 use Rattle.ffi3_place_rules.specs.Sound.{IsNoneOf, IsOneOf, closed_to_arguments, closed_to_results}
 use Rattle.ffi3_place_rules.proofs.Chain.{Registers}
 use Rattle.ffi3_place_rules.proofs.Forbidden.{is_none_of, none_of, is_one_of, one_of}
-use Rattle.ffi3_place_rules.proofs.Tests.{each_of_eight}
+use Rattle.ffi3_place_rules.proofs.Tests.{each_of_two, each_of_eight}
 use Rattle.ffi3_amd64_rules.specs.Amd64.{amd64, argument_register, result_register, vector_register}
 
 -- what holds at the first numbers
@@ -18,11 +18,6 @@ each_of_six P a b c d e f (suc (suc (suc zero))) h = d
 each_of_six P a b c d e f (suc (suc (suc (suc zero)))) h = e
 each_of_six P a b c d e f (suc (suc (suc (suc (suc zero))))) h = f
 each_of_six P a b c d e f (suc (suc (suc (suc (suc (suc k)))))) h = absurd (omega arith)
-
-each_of_two : (P : ℕ → Type 0) → P 0 → P 1 → (k : ℕ) → k < 2 → P k
-each_of_two P a b zero h = a
-each_of_two P a b (suc zero) h = b
-each_of_two P a b (suc (suc k)) h = absurd (omega arith)
 
 -- ---- arguments
 

@@ -1,20 +1,23 @@
 -- The places of a signature are a chain, so no two share a register or a byte of stack; and they have all of the values, which they therefore determine.
-use Rattle.std.proofs.Common.{◌≡◌, ℕ, ◌+◌, ◌≤◌, Bool, true, false, cond, List, [], ◌∷◌, ◌++◌, subst, sym, refl, arith, append-nil, append_assoc}
+use Rattle.std.proofs.Common.{◌≡◌, ℕ, ◌+◌, ◌<◌, ◌≤◌, Bool, true, false, cond, List, [], ◌∷◌, ◌++◌, subst, sym, refl, arith, append-nil, append_assoc}
 use Rattle.std.specs.List.{AllByRecursion, count_by, flat_map}
 use Rattle.std.proofs.lemmas.List.Sums.{sum_by-cons, sum_by_push}
 use Rattle.ffi3_type_rules.specs.Tree.{Tree, void, scalar, left_out, structure, array}
 use Rattle.ffi3_type_rules.specs.Signature.{Signature}
 use Rattle.ffi3_type_rules.specs.declared.Isa.TheVariants.{Amd64}
 use Rattle.ffi3_place_rules.specs.declared.Loc.{Loc}
-use Rattle.ffi3_place_rules.specs.declared.Loc.TheVariants.{G}
+use Rattle.ffi3_place_rules.specs.declared.Loc.TheVariants.{G, F}
 use Rattle.ffi3_place_rules.specs.declared.Taken.{Taken}
+use Rattle.ffi3_place_rules.specs.Isa.{result_loads}
 use Rattle.ffi3_place_rules.specs.Standard.{in_result_pieces, in_buffer, plan_of, places_from, result_at, copies_start, frame_copies_end, frame_of}
 use Rattle.ffi3_place_rules.specs.Doublewords.{stack_pieces}
-use Rattle.ffi3_place_rules.specs.Sound.{AreApart, IsOnStackOrIn, piece_locs, place_locs, hidden_locs, result_locs, argument_locs, IsNoneOf, LiesIn, call_locs, closed_to_arguments, closed_to_results, ResultHasAll, IsSound, IsDetermined}
-use Rattle.ffi3_place_rules.proofs.Chain.{AtMost, at_most_self, Chain, chain_append, chain_less, chain_apart, chain_allowed, chain_passed, chain_lies_in}
+use Rattle.ffi3_place_rules.specs.Sound.{AreApart, IsOnStackOrIn, piece_locs, place_locs, hidden_locs, result_locs, argument_locs, IsNoneOf, IsOneOf, LiesIn, call_locs, closed_to_arguments, closed_to_results, ResultHasAll, IsSound, IsDetermined}
+use Rattle.ffi3_place_rules.proofs.Chain.{AtMost, at_most_self, Chain, chain_append, chain_less, chain_apart, chain_allowed, chain_passed, chain_in, chain_lies_in}
 use Rattle.ffi3_place_rules.proofs.Frame.{up_to, value_chain, frame_chain}
 use Rattle.ffi3_place_rules.proofs.Ends.{start-behind}
 use Rattle.ffi3_place_rules.proofs.Aligned.{frame_is_aligned, need_is_aligned}
+use Rattle.ffi3_place_rules.proofs.Tests.{each_of_two}
+use Rattle.ffi3_place_rules.proofs.Forbidden.{is_one_of, one_of}
 use Rattle.ffi3_place_rules.proofs.Determines.{determined}
 use Rattle.ffi3_amd64_rules.specs.declared.Class.{Class}
 use Rattle.ffi3_amd64_rules.specs.declared.Class.TheVariants.{Integer, Sse}
@@ -199,3 +202,32 @@ sound s =
 
 pub determines : (s : Signature) → IsDetermined amd64 s
 determines s = determined amd64 s (sound s).has_all (sound s).result_has_all
+
+-- ---- the result, by the stubs
+
+in_results : (k : ℕ) → k < 2 → IsOneOf (result_loads Amd64) (G (result_register k))
+in_results k h =
+    one_of (result_loads Amd64) (G (result_register k)) (each_of_two (λ j. is_one_of (result_loads Amd64) (G (result_register j)) ≡ true) refl refl k h)
+
+in_vector_results : (k : ℕ) → k < 2 → IsOneOf (result_loads Amd64) (F (vector_register k))
+in_vector_results k h =
+    one_of (result_loads Amd64) (F k) (each_of_two (λ j. is_one_of (result_loads Amd64) (F j) ≡ true) refl refl k h)
+
+pub result_loaded : (s : Signature) → AllByRecursion (IsOneOf (result_loads Amd64)) (result_locs (plan_of amd64 s).res)
+result_loaded s =
+    let t = s.result_type in
+    result_cases (AllByRecursion (IsOneOf (result_loads Amd64))) tt t (chain_in result_register vector_register 2 2 (result_loads Amd64) (at_eightbyte untouched ([] ++ classes t)) refl (λ k h. in_results k (omega (arith, h, integers_few t))) (λ k h. in_vector_results k (omega (arith, h, sses_few t))) (at_eightbyte untouched []) _ (result_chain t)) (frame_copies_end amd64 s)
+
+hidden_saved_if : (t : Tree) (end : ℕ) (b : Bool) → AllByRecursion (IsOneOf (G 7 ∷ [])) (hidden_locs (result_at amd64.copy_start end t (cond b (in_buffer (G (argument_register 0))) (in_result_pieces (register_pieces result_register 0 0 t [] (classes t))))))
+hidden_saved_if t end true = (one_of (G 7 ∷ []) (G 7) refl, tt)
+hidden_saved_if t end false = tt
+
+hidden_saved_at : (t : Tree) (end : ℕ) → AllByRecursion (IsOneOf (G 7 ∷ [])) (hidden_locs (result_at amd64.copy_start end t (result_spot_of t)))
+hidden_saved_at void end = tt
+hidden_saved_at (scalar s) end = tt
+hidden_saved_at (left_out k) end = tt
+hidden_saved_at (structure ts) end = hidden_saved_if (structure ts) end (in_memory (structure ts))
+hidden_saved_at (array ts n) end = hidden_saved_if (array ts n) end (in_memory (array ts n))
+
+pub hidden_saved : (s : Signature) → AllByRecursion (IsOneOf (G 7 ∷ [])) (hidden_locs (plan_of amd64 s).res)
+hidden_saved s = hidden_saved_at s.result_type (frame_copies_end amd64 s)

@@ -17,6 +17,7 @@ use ffi3_riscv::Riscv;
 use ffi3_script::Script;
 use ffi3_text::{place_line, sig_line};
 use ffi3_types::{At, NoMemory, Sig, Target};
+use ffi3_win64::Win64;
 use std::alloc::Global;
 
 /// Writes the frame of each signature and the places of its arguments and result, by the target's
@@ -33,6 +34,7 @@ pub fn place<O: Sink>(
         Target::Amd64 => place_by::<Amd64, O>(alloc, script, output),
         Target::Aapcs64 => place_by::<Aapcs64, O>(alloc, script, output),
         Target::Riscv => place_by::<Riscv, O>(alloc, script, output),
+        Target::Win64 => place_by::<Win64, O>(alloc, script, output),
     }
 }
 

@@ -18,6 +18,7 @@ use ffi3_riscv::Riscv;
 use ffi3_runner::{RunEnd, Runner};
 use ffi3_script::Script;
 use ffi3_types::Target;
+use ffi3_win64::Win64;
 use ffi3_words::Request;
 use std::alloc::Global;
 
@@ -78,6 +79,7 @@ fn run<O: Sink>(
         Target::Amd64 => run_by::<Amd64, O>(alloc, trace, script, natives, machine, output),
         Target::Aapcs64 => run_by::<Aapcs64, O>(alloc, trace, script, natives, machine, output),
         Target::Riscv => run_by::<Riscv, O>(alloc, trace, script, natives, machine, output),
+        Target::Win64 => run_by::<Win64, O>(alloc, trace, script, natives, machine, output),
     }
 }
 

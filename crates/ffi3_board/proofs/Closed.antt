@@ -1,10 +1,10 @@
 -- What is known of the live closures, as closures are made and freed.
-use Rattle.std.proofs.Common.{◌≡◌, ℕ, zero, suc, ◌⊎◌, inl, inr, [], ◌∷◌, replicate, Option, Some, None, subst}
+use Rattle.std.proofs.Common.{◌≡◌, ℕ, zero, suc, ◌<◌, ◌⊎◌, inl, inr, [], ◌∷◌, replicate, Option, Some, None, subst}
 use Rattle.std.specs.Prelude.{slice_index_or, slice_set, option_and_then}
 use Rattle.ffi3_run_rules.specs.declared.Closure.{Closure}
 use Rattle.ffi3_run_rules.specs.Closures.{Closures, slots, slot_number, closure_at, no_closures, with_closure, freed, freed_at}
 use Rattle.ffi3_run_rules.specs.Meaning.{Program}
-use Rattle.ffi3_board.specs.Known.{IsKnown, AreKnown}
+use Rattle.ffi3_board.specs.Known.{IsKnown, AreBelow, AreKnown}
 
 set_either : (cs : Closures) (i k : ℕ) (n c : Closure) → slice_index_or (slice_set cs i (Some n)) k None ≡ Some c → (n ≡ c) ⊎ (slice_index_or cs k None ≡ Some c)
 set_either [] i k n c h = inr h
@@ -50,3 +50,11 @@ known_in p cs (Some k) c known h = known k c h
 -- the closure at an address is known
 pub known_at : (p : Program) (cs : Closures) (ptr : ℕ) (c : Closure) → AreKnown p cs → closure_at cs ptr ≡ Some c → IsKnown p c
 known_at p cs ptr c known h = known_in p cs (slot_number ptr) c known h
+
+below_in : (count : ℕ) (cs : Closures) (number : Option ℕ) (c : Closure) → AreBelow count cs → option_and_then (λ k. slice_index_or cs k None) number ≡ Some c → c.sig < count
+below_in count cs None c below h = cc
+below_in count cs (Some k) c below h = below k c h
+
+-- the signature of the closure at an address is among so many
+pub below_at : (count : ℕ) (cs : Closures) (ptr : ℕ) (c : Closure) → AreBelow count cs → closure_at cs ptr ≡ Some c → c.sig < count
+below_at count cs ptr c below h = below_in count cs (slot_number ptr) c below h

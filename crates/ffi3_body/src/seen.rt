@@ -4,7 +4,7 @@ ghost use Rattle.ffi3_type_rules.specs.declared.limits.TheConstants.{LARGEST_TYP
 ghost use Rattle.ffi3_type_rules.specs.Tree.{tree_at, trees_of};
 ghost use Rattle.ffi3_type_rules.specs.Value.{void_value, values_of, fits, all_fit};
 ghost use Rattle.ffi3_type_rules.specs.Layout.{size_of};
-ghost use Rattle.ffi3_type_rules.specs.Fault.{IsLaidOut};
+ghost use Rattle.ffi3_type_rules.specs.Fault.{IsLaidOut, IsResultType};
 ghost use Rattle.ffi3_type_rules.specs.Signature.{SignatureHasNoFault};
 ghost use Rattle.ffi3_place_rules.specs.Standard.{block_bytes, round8};
 ghost use Rattle.ffi3_types.specs.TreeOf.{tree_of};
@@ -66,11 +66,12 @@ impl<'a> Seen<'a> {
         self.sig.count()
     }
 
-    /// The type of argument `i`, which has no fault.
+    /// The type of argument `i`, which has no fault, and would have none as a result's.
     fn arg_type(&self, i: u32) -> &'a FfiType
         requires { i < length self.now.signature.arguments }
         ensures is { tree_of result.now ≡ tree_at self.now.signature.arguments i }
         ensures right { IsLaidOut (tree_of result.now) }
+        ensures as_result { IsResultType (tree_of result.now) }
         ensures small { size_of (tree_of result.now) ≤ LARGEST_TYPE }
         ensures within { block_offset self.now.signature.arguments i + round8 (size_of (tree_of result.now)) ≤ length self.now.block }
         ensures bound { length self.now.block < 2 ^ 32 }

@@ -13,12 +13,13 @@ use ffi3_place::Abi;
 use ffi3_riscv::Riscv;
 use ffi3_types::Bytes;
 use ffi3_values::{Value, Values};
+use ffi3_win64::Win64;
 use std::alloc::Global;
 use std::process::Abort;
 use std::test::Fail;
 
 /// A machine in which the arguments of a call were stored.
-fn stored<A: Abi>(alloc: Global, cif: &Cif<A>, args: &Values) -> Result<Machine, Fail>
+pub fn stored<A: Abi>(alloc: Global, cif: &Cif<A>, args: &Values) -> Result<Machine, Fail>
     requires { all_fit (trees_of cif.now.arguments) (values_of args.now) ≡ true }
 {
     let mut machine = Machine::new(alloc)?;
@@ -60,11 +61,13 @@ fn stores_narrow_arguments(rt: HostRuntime) -> Result<(), Fail> {
     let takes_sint8 = r#"{"ret":"void","args":["sint8"]}"#;
     let (rdi, _) = registers_of::<Amd64>(alloc, takes_sint8, &[0xFF], 7)?;
     assert!(rt; rdi == 0xFFFF_FFFF_FFFF_FFFF);
+    let (rcx, _) = registers_of::<Win64>(alloc, takes_sint8, &[0xFF], 1)?;
+    assert!(rt; rcx == 0xFFFF_FFFF_FFFF_FFFF);
     Ok(())
 }
 
 /// General registers hold these words, in this order.
-fn check_general(rt: &impl Abort, machine: &Machine, registers: &[u8], words: &[u64]) {
+pub fn check_general(rt: &impl Abort, machine: &Machine, registers: &[u8], words: &[u64]) {
     for i in 0..registers.len() {
         if i < words.len() {
             assert!(rt; machine.g(registers[i] % 32) == words[i], "{i}");
@@ -115,5 +118,8 @@ fn narrow_arguments_fill_their_registers(rt: HostRuntime) -> Result<(), Fail> {
     extended[4] = 0xFFFF_FFFF_B0AF_AEAD;
     let float = check_first::<Riscv>(&rt, alloc, &riscv, &extended, 10)?;
     assert!(rt; float == 0xFFFF_FFFF_DCDB_DAD9);
+    // By Microsoft x64 the first four alone are in registers, each in that of its number.
+    let win64: [u8; 4] = [1, 2, 8, 9];
+    let _xmm0 = check_first::<Win64>(&rt, alloc, &win64, &EXTENDED, 0)?;
     Ok(())
 }

@@ -1,5 +1,5 @@
 //! Tests of values of public calls that only the language reaches: instructions, regions, slots and ends by themselves, and calls on
-//! the machine by all three standards, with no program among them.
+//! the machine by all four standards, with no program among them.
 #![tactic(auto)]
 
 #[cfg(test)]
@@ -16,3 +16,5 @@ mod runs;
 mod slots;
 #[cfg(test)]
 mod table;
+#[cfg(test)]
+mod win64;

@@ -5,6 +5,7 @@ use ffi3_amd64::Amd64;
 use ffi3_cif::Cif;
 use ffi3_place::Abi;
 use ffi3_riscv::Riscv;
+use ffi3_win64::Win64;
 use std::alloc::Global;
 use std::test::Fail;
 
@@ -34,5 +35,8 @@ fn gathers_runs(rt: HostRuntime) -> Result<(), Fail> {
     assert!(rt; in_memory == [(1, [0, 0, 24]), (0, [0; 3])]);
     let split = runs_from::<Riscv>(alloc, SIGNATURES[5], 7)?;
     assert!(rt; split == [(1, [0, 8, 8]), (1, [8, 0, 8])]);
+    // of a struct by reference the address alone is there
+    let by_reference = runs_from::<Win64>(alloc, SIGNATURES[5], 7)?;
+    assert!(rt; by_reference == [(0, [0; 3]), (1, [64, 0, 8])]);
     Ok(())
 }

@@ -1,4 +1,5 @@
-//! Calls of closures through their slots, on each target: what the callee has and what the caller loads is what was sent.
+//! Calls of closures through their slots, on each target: what the callee has and what the caller loads is what was sent, and the
+//! caller's registers come back.
 ghost use Rattle.std.specs.Prelude.{◌≡◌, ◌+◌, ◌<◌, ◌≤◌, IfOk, IsSome, List, length, true};
 ghost use Rattle.ffi3_type_rules.specs.declared.limits.TheConstants.{ENTRY, STACK, STACK_TOP};
 ghost use Rattle.ffi3_type_rules.specs.Fault.{IsLaidOut};
@@ -23,13 +24,14 @@ use ffi3_cif::{Cif, prep_cif, prep_cif_var};
 use ffi3_closures::Table;
 use ffi3_invoke::{accept, end_call, pass_arguments};
 use ffi3_json::{Where, parse, read_signature};
-use ffi3_machine::{Machine, NoMemory};
-use ffi3_place::Abi;
+use ffi3_machine::{Event, Machine, NoMemory};
 use ffi3_place::parts::{argument, count_of, result_type, size_of};
+use ffi3_place::{Abi, Loc};
 use ffi3_riscv::Riscv;
 use ffi3_type_rules::limits::LARGEST_TYPE;
 use ffi3_types::{Bytes, FfiType, Sig};
 use ffi3_values::{Value, Values, fits, value_from_bytes, value_text};
+use ffi3_win64::Win64;
 use std::alloc::Global;
 use std::test::Fail;
 
@@ -188,14 +190,36 @@ fn begin<A: Abi>(
     accept(machine, cif)
 }
 
-/// A call of a closure from a machine that begins: the arguments that the callee has, and the result that the caller loads.
+/// What a call of a closure came to: whether the arguments that the callee has and the result that the caller loads are those that
+/// were sent, the registers at its entry and at its return, and the first bytes of the frame that it leaves.
+#[derive(Drop)]
+pub struct Came {
+    pub right: bool,
+    pub entry: Event,
+    pub leave: Event,
+    pub first: [u8; 32],
+}
+
+/// The first bytes, and zeros where there are fewer.
+fn first_bytes(bytes: &[u8]) -> [u8; 32] {
+    let mut first = [0; 32];
+    for k in 0..first.len() {
+        if k < bytes.len() {
+            first[k] = bytes[k];
+        }
+    }
+    first
+}
+
+/// A call of a closure from a machine that begins, with values of this text.
 fn told<A: Abi>(
     alloc: Global,
     cif: &Cif<A>,
     args: &Values,
     outcome: &Value,
     over: Option<u8>,
-) -> Result<Bytes, Fail>
+    sent: &[u8],
+) -> Result<Came, Fail>
     requires fit { all_fit (trees_of cif.now.arguments) (values_of args.now) ≡ true }
     requires fits { fits cif.now.result_type (value_of outcome.now) ≡ true }
 {
@@ -225,17 +249,42 @@ fn told<A: Abi>(
         return Err("not back".into());
     }
     write_value(alloc, ty, out, &mut text)?;
-    Ok(text)
+    let events = machine.events();
+    Ok(Came {
+        right: text.as_slice() == sent,
+        entry: *events.get(0),
+        leave: *events.get(1),
+        first: first_bytes(events.stack(1)),
+    })
 }
 
-/// Whether values of a signature come as they were sent.
-fn come_right<A: Abi>(alloc: Global, cif: &Cif<A>, over: Option<u8>) -> Result<bool, Fail> {
+/// A call by a signature, with values of its types.
+pub fn come<A: Abi>(alloc: Global, cif: &Cif<A>, over: Option<u8>) -> Result<Came, Fail> {
     let mut sent = Bytes::new(alloc);
     let list = some_arguments(alloc, cif, &mut sent)?;
     let args = fitting(alloc, cif, &list)?;
     let outcome = some_result(alloc, cif, &mut sent)?;
-    let came = told(alloc, cif, args, &outcome, over)?;
-    Ok(sent.as_slice() == came.as_slice())
+    told(alloc, cif, args, &outcome, over, sent.as_slice())
+}
+
+/// What a register held at an event.
+fn word_at(event: &Event, at: Loc) -> u64 {
+    match at {
+        Loc::G(k) => event.general[(k % 32) as usize],
+        Loc::F(k) => event.floating[(k % 32) as usize],
+        Loc::S(_) => 0,
+    }
+}
+
+/// Whether the return has each preserved register of the entry.
+pub fn gives_back<A: Abi>(came: &Came) -> bool {
+    for k in 0..A::KEPT {
+        let at = A::kept_register(k);
+        if word_at(&came.entry, at) != word_at(&came.leave, at) {
+            return false;
+        }
+    }
+    true
 }
 
 /// The signature that a script would write so.
@@ -266,7 +315,7 @@ pub fn prepared<A: Abi>(alloc: Global, text: &str) -> Result<Cif<A>, Fail> {
 
 /// Signatures with every scalar, and structs of each shape: nested, in mixed registers, homogeneous, by reference, hidden, variadic,
 /// and spilled to the stack; with gaps, even registers and a split of integers of 128 bits.
-pub const SIGNATURES: [&str; 21] = [
+pub const SIGNATURES: [&str; 22] = [
     r#"{"ret":"uint8","args":["uint8","sint8","uint16","sint16","uint32","sint32","uint64","sint64","float","double","pointer"]}"#,
     r#"{"ret":"sint8","args":["sint64","sint64","sint64","sint64","sint64","sint64","sint64","sint64","uint8","sint8","uint16","sint16","uint32","sint32","float"]}"#,
     r#"{"ret":"void","args":[{"struct":["sint32","float"]}]}"#,
@@ -288,14 +337,16 @@ pub const SIGNATURES: [&str; 21] = [
     r#"{"ret":"uint128","args":["sint64","sint64","sint64","sint64","sint64","sint64","sint64","uint128","sint64"]}"#,
     r#"{"ret":"sint128","args":["sint64","sint128",{"struct":["sint64","sint64","sint64"]},{"struct":["uint8","uint128"]}]}"#,
     r#"{"ret":{"struct":["uint128","float"]},"args":["sint64","uint128",{"struct":["sint128"]}],"fixed":1}"#,
+    r#"{"ret":{"struct":["sint64","sint64","sint64"]},"args":[{"struct":["uint8","uint8","uint8"]},{"struct":["sint64","sint64","sint64"]},"double","sint8"],"fixed":4}"#,
 ];
 
-/// How many of the signatures have all values come as they were sent.
+/// How many of the signatures have all values come as they were sent, and the preserved registers with them.
 fn count_of_right<A: Abi>(alloc: Global, over: Option<u8>) -> Result<usize, Fail> {
     let mut right = 0usize;
     for text in SIGNATURES {
         let cif = prepared::<A>(alloc, text)?;
-        if come_right(alloc, &cif, over)? && right < SIGNATURES.len() {
+        let came = come(alloc, &cif, over)?;
+        if came.right && gives_back::<A>(&came) && right < SIGNATURES.len() {
             right += 1;
         }
     }
@@ -310,6 +361,7 @@ fn values_come_through_a_slot(rt: HostRuntime) -> Result<(), Fail> {
         assert_eq!(rt; count_of_right::<Amd64>(alloc, over)?, SIGNATURES.len());
         assert_eq!(rt; count_of_right::<Aapcs64>(alloc, over)?, SIGNATURES.len());
         assert_eq!(rt; count_of_right::<Riscv>(alloc, over)?, SIGNATURES.len());
+        assert_eq!(rt; count_of_right::<Win64>(alloc, over)?, SIGNATURES.len());
     }
     Ok(())
 }

@@ -34,7 +34,7 @@ use Rattle.ffi3_place_rules.specs.declared.SaveWord.TheVariants.{Register, Hidde
 use Rattle.ffi3_callee.specs.Loaded.{AreFound, image_from}
 use Rattle.ffi3_callee.specs.Given.{IsAddressOf}
 use Rattle.ffi3_callee.specs.Received.{IsReceived, OwnsAtEntry, hidden_of}
-use Rattle.ffi3_callee.specs.Saved.{AreSaved, HiddenLies, IsSaveable, hidden_word}
+use Rattle.ffi3_callee.specs.Saved.{AreSaved, HiddenLies, IsSaveable, IsToSave, hidden_word, saved_word}
 use Rattle.ffi3_callee.proofs.Copying.{each_writable, image_stays, same_image}
 use Rattle.ffi3_callee.proofs.Return.{any_sp}
 
@@ -220,7 +220,9 @@ module _ (std : Standard) (s : Signature) (area block n : ℕ) (m a b c d : Stat
       moved = moved_within block (block + block_bytes s) block n a b c d b_is copies.within d_is
 
       kept : AreSaved (m.sp - std.save) (m.sp + std.link) (hidden_of (plan_of std s).res) std.save_area m d
-      kept = subst (λ q. AreSaved q (m.sp + std.link) (hidden_of (plan_of std s).res) std.save_area m d) area_is (λ i w below is. same_word_in area (S (8 * i)) a d (λ k h. moved.outside (area + 8 * i + k - STACK) (inr (omega (arith, block_is, low, area_is)))) ∙ saved i w below is)
+      kept = subst (λ q. AreSaved q (m.sp + std.link) (hidden_of (plan_of std s).res) std.save_area m d) area_is (λ i w below is.
+          let same : saved_word area i d ≡ saved_word area i a = same_word_in area (S (8 * i)) a d (λ k h. moved.outside (area + 8 * i + k - STACK) (inr (omega (arith, block_is, low, area_is)))) in
+          subst (IsToSave (m.sp + std.link) m (hidden_of (plan_of std s).res) w) (sym same) (saved i w below is))
 
       sp : d.sp + block_bytes s + std.save ≡ m.sp
       sp = omega (arith, sp_is, block_is, area_is, low)

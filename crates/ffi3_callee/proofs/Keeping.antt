@@ -4,8 +4,7 @@ use Rattle.std.proofs.Common.{◌≡◌, ℕ, suc, ◌+◌, ◌<◌, List, [], �
 use Rattle.std.specs.List.{AllByRecursion}
 use Rattle.ffi3_type_rules.specs.declared.limits.TheConstants.{STACK_TOP}
 use Rattle.ffi3_type_rules.specs.declared.Isa.{Isa}
-use Rattle.ffi3_type_rules.specs.declared.Target.{Target}
-use Rattle.ffi3_type_rules.specs.declared.Target.TheVariants.{Amd64, Aapcs64, Riscv}
+use Rattle.ffi3_type_rules.specs.declared.Isa.TheVariants.{Amd64, Aarch64, Riscv}
 use Rattle.ffi3_type_rules.specs.Isa.{isa_of}
 use Rattle.ffi3_place_rules.specs.declared.Loc.{Loc}
 use Rattle.ffi3_place_rules.specs.declared.Loc.TheVariants.{G, F, S}
@@ -30,19 +29,19 @@ use Rattle.ffi3_callee.proofs.Laws.{each_among, each_both, none_saved}
 
 -- ---- reserved registers
 
-reserved_are_places : (target : Target) → AllByRecursion (IsPlace 0) (reserved_places (isa_of target))
+reserved_are_places : (isa : Isa) → AllByRecursion (IsPlace 0) (reserved_places isa)
 reserved_are_places Amd64 = tt
-reserved_are_places Aapcs64 = (omega arith, tt)
+reserved_are_places Aarch64 = (omega arith, tt)
 reserved_are_places Riscv = (omega arith, (omega arith, (omega arith, tt)))
 
 reserved_there : (std : Standard) → AgreesWithMachine std → AllByRecursion (IsPlace 0) std.reserved
 reserved_there std agrees =
-    subst (AllByRecursion (IsPlace 0)) (sym agrees.reserved) (reserved_are_places std.target)
+    subst (AllByRecursion (IsPlace 0)) (sym agrees.reserved) (reserved_are_places (isa_of std.target))
 
 -- none of them holds a return address
-reserved_not_link : (target : Target) → AllByRecursion (IsNoneOf (listed (link_place (isa_of target)))) (reserved_places (isa_of target))
+reserved_not_link : (isa : Isa) → AllByRecursion (IsNoneOf (listed (link_place isa))) (reserved_places isa)
 reserved_not_link Amd64 = tt
-reserved_not_link Aapcs64 = ((λ e. absurd (omega (arith, e)), tt), tt)
+reserved_not_link Aarch64 = ((λ e. absurd (omega (arith, e)), tt), tt)
 reserved_not_link Riscv =
     ((λ e. absurd (omega (arith, e)), tt), ((λ e. absurd (omega (arith, e)), tt), ((λ e. absurd (omega (arith, e)), tt), tt)))
 
@@ -55,7 +54,7 @@ reserved_not_saved std agrees =
     across = each_weaker (IsNoneOf (special std)) (λ l. AllByRecursion (Apart l) std.reserved) (λ l none. each_first (Apart l) std.reserved (listed std.link_register ++ (std.trampoline_registers ++ (listed std.vector_count ++ listed std.returned_address))) none.1) std.preserved agrees.preserved_plain
 
     link : AllByRecursion (IsNoneOf (listed std.link_register)) std.reserved
-    link = subst (λ o. AllByRecursion (IsNoneOf (listed o)) std.reserved) (sym agrees.link_register) (subst (AllByRecursion (IsNoneOf (listed (link_place (isa_of std.target))))) (sym agrees.reserved) (reserved_not_link std.target))
+    link = subst (λ o. AllByRecursion (IsNoneOf (listed o)) std.reserved) (sym agrees.link_register) (subst (AllByRecursion (IsNoneOf (listed (link_place (isa_of std.target))))) (sym agrees.reserved) (reserved_not_link (isa_of std.target)))
 
 -- none of them is used for a result
 pub uses_clear : (std : Standard) → AgreesWithMachine std → (res : Res) → AllByRecursion (IsNoneOf (closed_to_results std)) (result_locs res) → AllByRecursion (IsNoneOf (result_uses std res)) std.reserved
@@ -84,13 +83,12 @@ scribble_leaves : (isa : Isa) (n k : ℕ) (m : State) → isa_of m.target ≡ is
 scribble_leaves isa n k m is below reserved =
     get_or-scribbled_general (isa_of m.target) n m.general k below ∙ ap (λ q. scribbled_register q n k (get_or m.general k 0)) is ∙ kept_old (is_reserved isa k) (get_or m.general k 0) (scribble_general n k) reserved
 
-scribble_keeps : (target : Target) (n : ℕ) (m : State) → m.target ≡ target → AllByRecursion (λ at. word_in STACK_TOP (scribbled n m) at ≡ word_in STACK_TOP m at) (reserved_places (isa_of target))
+scribble_keeps : (isa : Isa) (n : ℕ) (m : State) → isa_of m.target ≡ isa → AllByRecursion (λ at. word_in STACK_TOP (scribbled n m) at ≡ word_in STACK_TOP m at) (reserved_places isa)
 scribble_keeps Amd64 n m is = tt
-scribble_keeps Aapcs64 n m is =
-    (scribble_leaves (isa_of Aapcs64) n 18 m (ap isa_of is) (omega arith) refl, tt)
+scribble_keeps Aarch64 n m is = (scribble_leaves Aarch64 n 18 m is (omega arith) refl, tt)
 scribble_keeps Riscv n m is = (
-  scribble_leaves (isa_of Riscv) n 0 m (ap isa_of is) (omega arith) refl,
-  (scribble_leaves (isa_of Riscv) n 3 m (ap isa_of is) (omega arith) refl, (scribble_leaves (isa_of Riscv) n 4 m (ap isa_of is) (omega arith) refl, tt)),
+  scribble_leaves Riscv n 0 m is (omega arith) refl,
+  (scribble_leaves Riscv n 3 m is (omega arith) refl, (scribble_leaves Riscv n 4 m is (omega arith) refl, tt)),
 )
 
 same_words : (a b : State) (l : Loc) → b.general ≡ a.general → b.floating ≡ a.floating → IsPlace 0 l → word_in STACK_TOP b l ≡ word_in STACK_TOP a l
@@ -103,7 +101,7 @@ reserved_received std agrees sp n m a b c d target_is general floating b_is gene
     let general_is : c.general ≡ m.general = general_c ∙ ap (λ q. q.general) b_is ∙ general in
     let floating_is : c.floating ≡ m.floating = floating_c ∙ ap (λ q. q.floating) b_is ∙ floating in
     let first : ReservedStay std m c = each_weaker (IsPlace 0) (λ at. word_in STACK_TOP c at ≡ word_in STACK_TOP m at) (λ l lies. same_words m c l general_is floating_is lies) std.reserved (reserved_there std agrees) in
-    let second : ReservedStay std c (scribbled n c) = subst (AllByRecursion (λ at. word_in STACK_TOP (scribbled n c) at ≡ word_in STACK_TOP c at)) (sym agrees.reserved) (scribble_keeps std.target n c target_is) in
+    let second : ReservedStay std c (scribbled n c) = subst (AllByRecursion (λ at. word_in STACK_TOP (scribbled n c) at ≡ word_in STACK_TOP c at)) (sym agrees.reserved) (scribble_keeps (isa_of std.target) n c (ap isa_of target_is)) in
     reserved_then std m c d first (subst (ReservedStay std c) (sym d_is) second)
 
 -- ---- the image at a return

@@ -3,13 +3,14 @@ use Rattle.std.specs.Prelude.{Option, Some, None}
 use Rattle.std.proofs.Common.{◌≡◌, zero, suc, List, [], ◌∷◌, ◌++◌, refl, sym, ◌∙◌, subst, arith}
 use Rattle.std.specs.List.{AllByRecursion, Any}
 use Rattle.ffi3_type_rules.specs.declared.Target.{Target}
-use Rattle.ffi3_type_rules.specs.declared.Target.TheVariants.{Amd64, Aapcs64, Riscv}
+use Rattle.ffi3_type_rules.specs.declared.Isa.{Isa}
+use Rattle.ffi3_type_rules.specs.declared.Isa.TheVariants.{Amd64, Aarch64, Riscv}
 use Rattle.ffi3_type_rules.specs.Isa.{isa_of}
 use Rattle.ffi3_type_rules.specs.Signature.{Signature}
 use Rattle.ffi3_place_rules.specs.declared.Loc.{Loc}
 use Rattle.ffi3_place_rules.specs.declared.SaveWord.{SaveWord}
 use Rattle.ffi3_place_rules.specs.declared.SaveWord.TheVariants.{Register, Hidden, Spare}
-use Rattle.ffi3_place_rules.specs.Isa.{link_place, listed}
+use Rattle.ffi3_place_rules.specs.Isa.{TakesWrites, link_place, listed}
 use Rattle.ffi3_place_rules.specs.Standard.{Standard, plan_of}
 use Rattle.ffi3_place_rules.specs.Agrees.{AgreesWithMachine, given_back, saved_registers, special}
 use Rattle.ffi3_place_rules.specs.Sound.{Apart, IsNoneOf, IsOneOf, IsSound, LiesIn, closed_to_results, result_locs}
@@ -39,20 +40,20 @@ each_both P Q R f (x ∷ xs) h k = (f x h.0 k.0, each_both P Q R f xs h.1 k.1)
 
 -- ---- the registers that are given back
 
-abbrev IsRegister : Target → Loc → Type 0
-IsRegister target l = IsPlace 0 l × IsWritable target l
+abbrev IsRegister : Isa → Loc → Type 0
+IsRegister isa l = IsPlace 0 l × TakesWrites isa l
 
-link_is_register : (target : Target) → AllByRecursion (IsRegister target) (listed (link_place (isa_of target)))
+link_is_register : (isa : Isa) → AllByRecursion (IsRegister isa) (listed (link_place isa))
 link_is_register Amd64 = tt
-link_is_register Aapcs64 = ((omega arith, refl), tt)
+link_is_register Aarch64 = ((omega arith, refl), tt)
 link_is_register Riscv = ((omega arith, refl), tt)
 
-given_back_are_registers : (std : Standard) → AgreesWithMachine std → AllByRecursion (IsRegister std.target) (given_back std)
+given_back_are_registers : (std : Standard) → AgreesWithMachine std → AllByRecursion (IsRegister (isa_of std.target)) (given_back std)
 given_back_are_registers std agrees =
-    each_join (IsRegister std.target) std.preserved (listed std.link_register) (each_both (LiesIn (isa_of std.target) 0) (IsNoneOf (special std)) (IsRegister std.target) one std.preserved agrees.preserved_exist agrees.preserved_plain)
-    (subst (λ o. AllByRecursion (IsRegister std.target) (listed o)) (sym agrees.link_register) (link_is_register std.target))
+    each_join (IsRegister (isa_of std.target)) std.preserved (listed std.link_register) (each_both (LiesIn (isa_of std.target) 0) (IsNoneOf (special std)) (IsRegister (isa_of std.target)) one std.preserved agrees.preserved_exist agrees.preserved_plain)
+    (subst (λ o. AllByRecursion (IsRegister (isa_of std.target)) (listed o)) (sym agrees.link_register) (link_is_register (isa_of std.target)))
   where
-    one : (l : Loc) → LiesIn (isa_of std.target) 0 l → IsNoneOf (special std) l → IsRegister std.target l
+    one : (l : Loc) → LiesIn (isa_of std.target) 0 l → IsNoneOf (special std) l → IsRegister (isa_of std.target) l
     one l lies none = (
       machine_place (isa_of std.target) 0 l lies,
       agrees.written l (each_first (Apart l) std.reserved (listed std.link_register ++ (std.trampoline_registers ++ (listed std.vector_count ++ listed std.returned_address))) none.1),
@@ -61,7 +62,7 @@ given_back_are_registers std agrees =
 words_from : (std : Standard) → AgreesWithMachine std → (ws : List SaveWord) → AllByRecursion (IsOneOf (given_back std)) (saved_registers ws) → AllByRecursion (IsRestorable std.target) ws
 words_from std agrees [] h = tt
 words_from std agrees (Register at ∷ ws) h = (
-  any_holds (IsRegister std.target) at (given_back std) (given_back_are_registers std agrees) h.0,
+  any_holds (IsRegister (isa_of std.target)) at (given_back std) (given_back_are_registers std agrees) h.0,
   words_from std agrees ws h.1,
 )
 words_from std agrees (Hidden ∷ ws) h = (tt, words_from std agrees ws h)

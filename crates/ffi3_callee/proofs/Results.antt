@@ -32,7 +32,7 @@ use Rattle.ffi3_pieces.proofs.Owning.{owned, filled}
 use Rattle.ffi3_pieces.proofs.Stepping.{same_word_in}
 use Rattle.ffi3_callee.specs.Loaded.{image_from}
 use Rattle.ffi3_place_rules.specs.declared.SaveWord.{SaveWord}
-use Rattle.ffi3_callee.specs.Saved.{AreSaved}
+use Rattle.ffi3_callee.specs.Saved.{AreSaved, IsToSave, saved_word}
 use Rattle.ffi3_callee.specs.Given.{IsSettable, RegisterHoldsWord, RegistersStay, ResultKeepsUnused, ResultWrites, result_uses}
 use Rattle.ffi3_callee.proofs.Copying.{each_writable, stretch_stays}
 use Rattle.ffi3_callee.proofs.Placing.{stack_inside}
@@ -167,7 +167,8 @@ below_stays base t (Hidden at buffer) a b w i h = w.outside i (inl (omega (arith
 -- and so do words that are saved there
 pub saved_below : (from base start : ℕ) (t : Tree) (res : Res) (hidden : Option Loc) (words : List SaveWord) (entry a b : State) → STACK ≤ from → from + 8 * length words ≤ base → ResultWrites base t res a b → AreSaved from start hidden words entry a → AreSaved from start hidden words entry b
 saved_below from base start t res hidden words entry a b low high writes saved = λ i w below is.
-    same_word_in from (S (8 * i)) a b (λ k h. below_stays base t res a b writes (from + 8 * i + k - STACK) (omega (arith, low, high, below, h))) ∙ saved i w below is
+    let same : saved_word from i b ≡ saved_word from i a = same_word_in from (S (8 * i)) a b (λ k h. below_stays base t res a b writes (from + 8 * i + k - STACK) (omega (arith, low, high, below, h))) in
+    subst (IsToSave start entry hidden w) (sym same) (saved i w below is)
 
 pub written_target : (base : ℕ) (t : Tree) (res : Res) (a b : State) → ResultWrites base t res a b → b.target ≡ a.target
 written_target base t Nothing a b w = w.target

@@ -17,7 +17,7 @@ use Rattle.ffi3_pieces.proofs.Putting.{only_stored, stored_inside, stored_outsid
 use Rattle.ffi3_pieces.proofs.Stepping.{same_word_in}
 use Rattle.ffi3_place_rules.specs.declared.SaveWord.{SaveWord}
 use Rattle.ffi3_place_rules.specs.declared.SaveWord.TheVariants.{Register, Hidden, Spare}
-use Rattle.ffi3_callee.specs.Saved.{AreGivenBack, AreSaved, HoldRegisters, IsRestorable, hidden_word, saved_word, word_to_save}
+use Rattle.ffi3_callee.specs.Saved.{AreGivenBack, AreSaved, HoldRegisters, IsHiddenWord, IsRestorable, IsToSave, hidden_word, saved_word, word_to_save}
 use Rattle.ffi3_callee.proofs.Copying.{place_above}
 
 -- ---- saving
@@ -31,6 +31,16 @@ to_save_above : (low high base : ℕ) (hidden : Option Loc) (word : SaveWord) (a
 to_save_above low high base hidden (Register at) a b inside above w = same_word_in base at a b (place_above low high base at a b inside above w)
 to_save_above low high base hidden Hidden a b inside above w = hidden_above low high base hidden a b inside above w
 to_save_above low high base hidden Spare a b inside above w = refl
+
+hidden_is_one : (base : ℕ) (m : State) (hidden : Option Loc) → IsHiddenWord base m hidden (hidden_word base m hidden)
+hidden_is_one base m (Option.Some at) = refl
+hidden_is_one base m Option.None = tt
+
+-- what is stored in a word is what it is to hold
+stored_is_one : (base : ℕ) (m : State) (hidden : Option Loc) (word : SaveWord) → IsToSave base m hidden word (word_to_save base m hidden word)
+stored_is_one base m hidden (Register at) = refl
+stored_is_one base m hidden Hidden = hidden_is_one base m hidden
+stored_is_one base m hidden Spare = tt
 
 module _ (from base : ℕ) (hidden : Option Loc) (words : List SaveWord) (first : State) where
   pub record AreSavedTo (i : ℕ) (m : State) : Type 0 where
@@ -77,7 +87,8 @@ module _ (from base : ℕ) (hidden : Option Loc) (words : List SaveWord) (first 
       ]
 
   pub all_saved : (i : ℕ) (m : State) → length words ≤ i → AreSavedTo i m → AreSaved from base hidden words first m
-  all_saved i m end saved j w below is = saved.each j w (omega (arith, below, end)) below is
+  all_saved i m end saved j w below is =
+      subst (IsToSave base first hidden w) (sym (saved.each j w (omega (arith, below, end)) below is)) (stored_is_one base first hidden w)
 
 -- ---- giving back
 

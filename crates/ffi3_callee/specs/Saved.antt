@@ -27,16 +27,27 @@ IsSaveable room (Register at) = IsPlace room at
 IsSaveable room Hidden = ⊤
 IsSaveable room Spare = ⊤
 
--- what a word is to hold
+-- what is stored in a word
 abbrev pub word_to_save : ℕ → State → Option Loc → SaveWord → ℕ
 word_to_save base m hidden (Register at) = word_in base m at
 word_to_save base m hidden Hidden = hidden_word base m hidden
 word_to_save base m hidden Spare = 0
 
+-- where there is a hidden result, the number is its address: else any
+abbrev pub IsHiddenWord : ℕ → State → Option Loc → ℕ → Type 0
+IsHiddenWord base m (Some at) n = n ≡ word_in base m at
+IsHiddenWord base m None n = ⊤
+
+-- what a word is to hold: a register's value, or a hidden result's address. A spare word may hold any.
+abbrev pub IsToSave : ℕ → State → Option Loc → SaveWord → ℕ → Type 0
+IsToSave base m hidden (Register at) n = n ≡ word_in base m at
+IsToSave base m hidden Hidden n = IsHiddenWord base m hidden n
+IsToSave base m hidden Spare n = ⊤
+
 -- EACH WORD HOLDS WHAT IT IS TO HOLD of the machine `entry`
 abbrev pub AreSaved : ℕ → ℕ → Option Loc → List SaveWord → State → State → Type 0
 AreSaved from base hidden words entry m =
-    (i : ℕ) (w : SaveWord) → i < length words → w ≡ get_or words i w → saved_word from i m ≡ word_to_save base entry hidden w
+    (i : ℕ) (w : SaveWord) → i < length words → w ≡ get_or words i w → IsToSave base entry hidden w (saved_word from i m)
 
 -- a register that is given back is a register, and writes to it are not dropped
 abbrev pub IsRestorable : Target → SaveWord → Type 0

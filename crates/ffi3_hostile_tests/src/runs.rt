@@ -9,6 +9,7 @@ use ffi3_body::Native;
 use ffi3_place::Abi;
 use ffi3_riscv::Riscv;
 use ffi3_runner_tests::{RunEnd, Stop, run_script};
+use ffi3_win64::Win64;
 use std::alloc::Global;
 use std::process::Abort;
 use std::test::Fail;
@@ -84,9 +85,11 @@ fn again_nests_until_stack_or_moves_are_used_up(rt: HostRuntime) -> Result<(), F
     check_again::<Amd64>(&rt, alloc, "100", "100\n", RunEnd::Done, 9_795)?;
     check_again::<Aapcs64>(&rt, alloc, "100", "100\n", RunEnd::Done, 9_795)?;
     check_again::<Riscv>(&rt, alloc, "100", "100\n", RunEnd::Done, 9_795)?;
+    check_again::<Win64>(&rt, alloc, "100", "100\n", RunEnd::Done, 9_795)?;
     check_again::<Amd64>(&rt, alloc, "819", "819\n", RunEnd::Done, 8_357)?;
     check_again::<Aapcs64>(&rt, alloc, "341", "341\n", RunEnd::Done, 9_313)?;
     check_again::<Riscv>(&rt, alloc, "292", "292\n", RunEnd::Done, 9_411)?;
+    check_again::<Win64>(&rt, alloc, "315", "315\n", RunEnd::Done, 9_365)?;
     check_again::<Amd64>(&rt, alloc, "4997", "4997\n", RunEnd::Done, 1)?;
     check_again::<Amd64>(
         &rt,
@@ -117,6 +120,17 @@ fn again_nests_until_stack_or_moves_are_used_up(rt: HostRuntime) -> Result<(), F
             left: 32,
         }),
         5_317,
+    )?;
+    check_again::<Win64>(
+        &rt,
+        alloc,
+        "5041",
+        "stop: stack full: need 208, left 48\n",
+        RunEnd::Stopped(Stop::StackFull {
+            need: 208,
+            left: 48,
+        }),
+        4_957,
     )
 }
 
@@ -135,7 +149,8 @@ fn check_on_each(
     natives.push(Box::new(alloc, Talker::new(alloc)?)?)?;
     check::<Amd64>(rt, alloc, &natives, script, text, end, moves_left)?;
     check::<Aapcs64>(rt, alloc, &natives, script, text, end, moves_left)?;
-    check::<Riscv>(rt, alloc, &natives, script, text, end, moves_left)
+    check::<Riscv>(rt, alloc, &natives, script, text, end, moves_left)?;
+    check::<Win64>(rt, alloc, &natives, script, text, end, moves_left)
 }
 
 #[test]

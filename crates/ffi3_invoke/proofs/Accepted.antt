@@ -1,5 +1,5 @@
 -- The callee has recorded its entry and taken its arguments.
-use Rattle.std.proofs.Common.{◌≡◌, ℕ, ◌+◌, ◌-◌, ◌≤◌, List, [], ◌∷◌, ◌++◌, length, refl, ap, sym, ◌∙◌, subst, arith}
+use Rattle.std.proofs.Common.{◌≡◌, ℕ, ◌+◌, ◌-◌, ◌≤◌, List, [], ◌∷◌, ◌++◌, length, refl, sym, ◌∙◌, subst, arith}
 use Rattle.std.proofs.lemmas.List.{length-append}
 use Rattle.ffi3_type_rules.specs.declared.limits.TheConstants.{STACK, STACK_TOP}
 use Rattle.ffi3_type_rules.specs.Isa.{isa_of}
@@ -21,10 +21,10 @@ use Rattle.ffi3_machine.specs.State.{State, HasReturnAddress, HasReturnAt, after
 use Rattle.ffi3_pieces.specs.Stored.{WroteWithin, word_in}
 use Rattle.ffi3_callee.specs.Given.{IsAddressOf, ReservedStay}
 use Rattle.ffi3_callee.specs.Received.{IsReceived, OwnsAtEntry, hidden_of}
-use Rattle.ffi3_callee.specs.Saved.{IsSaveable, hidden_word, word_to_save}
+use Rattle.ffi3_callee.specs.Saved.{IsHiddenWord, IsSaveable, IsToSave, hidden_word, saved_word}
 use Rattle.ffi3_callee.proofs.Entry.{address_owned}
 use Rattle.ffi3_callee.proofs.Laws.{words_saveable}
-use Rattle.ffi3_invoke.specs.Calls.{IsInCallee, buffer_address, entry_at, saved_of, with_journal_of}
+use Rattle.ffi3_invoke.specs.Calls.{IsInCallee, IsSavedOf, entry_at, with_journal_of}
 use Rattle.ffi3_invoke.proofs.Passed.{reserved_places_lie, same_in}
 use Rattle.ffi3_invoke.proofs.Stretches.{above_stays, return_same}
 
@@ -61,18 +61,18 @@ module _ (std : Standard) (s : Signature) (agrees : AgreesWithMachine std) (m r 
 
   -- ---- what stands in the save area
 
-  hidden_is : (base n : ℕ) (res : Res) → base ≡ (image_of n m).sp + std.link → IsAddressOf base (hidden_word base entered (hidden_of res)) res → hidden_word base entered (hidden_of res) ≡ buffer_address std (image_of n m) res
-  hidden_is base n Nothing is h = refl
-  hidden_is base n (Direct pieces) is h = refl
-  hidden_is base n (Hidden at buffer) is h = h ∙ ap (λ k. k + buffer) is
+  hidden_is : (base n : ℕ) (res : Res) → IsHiddenWord base entered (hidden_of res) n → IsAddressOf base (hidden_word base entered (hidden_of res)) res → IsAddressOf base n res
+  hidden_is base n Nothing saved h = tt
+  hidden_is base n (Direct pieces) saved h = tt
+  hidden_is base n (Hidden at buffer) saved h = saved ∙ h
 
-  word_is : (vs : List ValueTree) → IsSound std s → STACK ≤ m.sp → OwnsAtEntry std s m vs → (w : SaveWord) → IsSaveable 0 w → word_to_save (m.sp + std.link) entered (hidden_of (plan_of std s).res) w ≡ saved_of std s (image_of (std.link + frame_of std s) m) w
-  word_is vs sound low own (Register (G k)) lies = refl
-  word_is vs sound low own (Register (F k)) lies = refl
-  word_is vs sound low own (Register (S k)) lies = absurd (omega (arith, lies))
-  word_is vs sound low own HiddenWord lies =
-      hidden_is (m.sp + std.link) (std.link + frame_of std s) (plan_of std s).res refl (address_owned std s entered vs sound low own)
-  word_is vs sound low own Spare lies = refl
+  word_is : (vs : List ValueTree) → IsSound std s → STACK ≤ m.sp → OwnsAtEntry std s m vs → (w : SaveWord) (n : ℕ) → IsSaveable 0 w → IsToSave (m.sp + std.link) entered (hidden_of (plan_of std s).res) w n → IsSavedOf std s (image_of (std.link + frame_of std s) m) w n
+  word_is vs sound low own (Register (G k)) n lies saved = saved
+  word_is vs sound low own (Register (F k)) n lies saved = saved
+  word_is vs sound low own (Register (S k)) n lies saved = absurd (omega (arith, lies))
+  word_is vs sound low own HiddenWord n lies saved =
+      hidden_is (m.sp + std.link) n (plan_of std s).res saved (address_owned std s entered vs sound low own)
+  word_is vs sound low own Spare n lies saved = tt
 
   -- THE CALLEE OF AN OPEN CALL RUNS
   pub in_callee : (vs : List ValueTree) → IsSound std s → m.target ≡ std.target → STACK + std.save + block_bytes s ≤ m.sp → m.sp + std.link + frame_of std s ≤ STACK_TOP → OwnsAtEntry std s m vs → ReservedStay std m r → HasReturnAddress m → 2 ≤ m.spare_events → std.link + frame_of std s + frame_of std s ≤ m.spare_bytes → IsInCallee std (record { signature = s; event = entry_at std s m }) r
@@ -89,7 +89,7 @@ module _ (std : Standard) (s : Signature) (agrees : AgreesWithMachine std) (m r 
           place = received.sp;
           bottom = omega (arith, sp, room);
           top = frame;
-          saved = λ i word below is. received.saved i word below is ∙ word_is vs sound low own word (each_at (IsSaveable 0) std.save_area i word below (sym is) (words_saveable std agrees));
+          saved = λ i word below is. word_is vs sound low own word (saved_word (m.sp - std.save) i r) (each_at (IsSaveable 0) std.save_area i word below (sym is) (words_saveable std agrees)) (received.saved i word below is);
           return_address = return_same (link_register (isa_of std.target)) m.general m.sp m.stack r.stack (λ none. above_stays r.sp m.sp entered r w m.sp 8 low (omega arith)) at_standard;
           frame = above_stays r.sp m.sp entered r w m.sp (std.link + frame_of std s) low (omega arith);
         };

@@ -1,7 +1,7 @@
 -- A call that has begun, that has ended, and the whole of it.
 use Rattle.std.proofs.Common.{◌≡◌, ℕ, ◌+◌, ◌-◌, ◌≤◌, List, [], ◌∷◌, ◌++◌, length, refl, ap, sym, ◌∙◌, subst, append_assoc, arith}
 use Rattle.std.specs.List.{AllByRecursion}
-use Rattle.ffi3_type_rules.specs.declared.limits.TheConstants.{ENTRY, STACK, STACK_BYTES, STACK_TOP}
+use Rattle.ffi3_type_rules.specs.declared.limits.TheConstants.{STACK, STACK_BYTES, STACK_TOP}
 use Rattle.ffi3_type_rules.specs.Signature.{Signature}
 use Rattle.ffi3_type_rules.specs.Value.{ValueTree}
 use Rattle.ffi3_type_rules.proofs.Parts.{length_part}
@@ -46,8 +46,8 @@ module _ (std : Standard) (s : Signature) (agrees : AgreesWithMachine std) (vs :
       }
 
   -- A CALL HAS BEGUN, once the callee has accepted it
-  pub begun : r.events ≡ c.events ++ entry_at std s c ∷ [] → IsReceived std s (after_enter (std.link + frame_of std s) c) r → r.pc ≡ ENTRY → r.sp + block_bytes s + std.save ≡ c.sp → WroteWithin r.sp c.sp c (with_journal_of c r) → KeepsReserved std c r → r.spare_events + 1 ≡ c.spare_events → r.spare_bytes + (std.link + frame_of std s) ≡ c.spare_bytes → IsInCallee std (record { signature = s; event = entry_at std s c }) r → HasBegun std s vs pointer m r
-  begun events received pc sp within reserved spare_events spare_bytes in_callee =
+  pub begun : r.events ≡ c.events ++ entry_at std s c ∷ [] → IsReceived std s (after_enter (std.link + frame_of std s) c) r → r.sp + block_bytes s + std.save ≡ c.sp → WroteWithin r.sp c.sp c (with_journal_of c r) → KeepsReserved std c r → r.spare_events + 1 ≡ c.spare_events → r.spare_bytes + (std.link + frame_of std s) ≡ c.spare_bytes → IsInCallee std (record { signature = s; event = entry_at std s c }) r → HasBegun std s vs pointer m r
+  begun events received sp within reserved spare_events spare_bytes in_callee =
       let whole = need in
       let passed_sp = passed.sp in
       let w : WroteWithin r.sp m.sp m (with_journal_of m r) = wrote_down r.sp c.sp m.sp m c r (omega (arith, sp)) (omega (arith, passed_sp)) passed.within within in
@@ -59,7 +59,6 @@ module _ (std : Standard) (s : Signature) (agrees : AgreesWithMachine std) (vs :
         is_entry = is_entry;
         in_callee = in_callee;
         arguments_stand = received.values vs passed.holds.own;
-        pc = pc;
         sp = omega (arith, sp, passed_sp, whole);
         above = λ address count over. above_stays r.sp m.sp m (with_journal_of m r) w address count (omega (arith, over, room)) over;
         below = λ address count bottom under. below_stays r.sp m.sp m (with_journal_of m r) w address count bottom under;
@@ -106,7 +105,6 @@ module _ (std : Standard) (s : Signature) (v : ValueTree) (m l : State) (bottom 
         return = return_at std s l;
         events = returned.events;
         is_return = returned.is_return;
-        pc = returned.pc;
         sp = omega (arith, sp, whole);
         above = λ address count over. above_stays l.sp (l.sp + frame_of std s) m (with_journal_of m d) w address count (omega (arith, over, sp, bottom)) over;
         below = λ address count low under. below_stays l.sp (l.sp + frame_of std s) m (with_journal_of m d) w address count low (omega (arith, under, sp));
@@ -151,7 +149,6 @@ made std s vs pointer v before during after begun ended =
       events = ended.events ∙ ap (λ es. es ++ ended.return ∷ []) begun.events ∙ append_assoc before.events (begun.entry ∷ []) (ended.return ∷ []);
       is_entry = begun.is_entry;
       is_return = ended.is_return begun.entry begun.in_callee;
-      pc = ended.pc;
       sp = same;
       above = λ address count over. ended.above address count (omega (arith, over, same)) ∙ begun.above address count over;
       below = λ address count bottom under. ended.below address count bottom (omega (arith, sp_down, under)) ∙ begun.below address count bottom (omega (arith, sp_down, under));

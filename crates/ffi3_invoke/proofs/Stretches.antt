@@ -1,6 +1,6 @@
 -- Stretches of the stack in steps that record events, and the open calls that stand above them.
 use Rattle.std.specs.Prelude.{Option, Some, None}
-use Rattle.std.proofs.Common.{◌≡◌, ◌⊎◌, inl, inr, ℕ, ◌+◌, ◌-◌, ◌*◌, ◌<◌, ◌≤◌, min, List, take, drop, get_or, length, refl, ap, sym, ◌∙◌, arith}
+use Rattle.std.proofs.Common.{◌≡◌, ◌⊎◌, inl, inr, ℕ, ◌+◌, ◌-◌, ◌*◌, ◌<◌, ◌≤◌, min, List, take, drop, get_or, length, refl, ap, sym, ◌∙◌, subst, arith}
 use Rattle.std.proofs.lemmas.List.{ext_get_or, get_or-take, get_or-drop, length-take, length-drop}
 use Rattle.ffi3_type_rules.specs.Isa.{isa_of}
 use Rattle.ffi3_type_rules.specs.declared.limits.TheConstants.{STACK}
@@ -11,7 +11,7 @@ use Rattle.ffi3_machine.specs.State.{State, HasReturnAt, stack_at}
 use Rattle.ffi3_pieces.specs.Stored.{WroteWithin}
 use Rattle.ffi3_pieces.proofs.Stepping.{same_word_in}
 use Rattle.ffi3_callee.specs.Saved.{saved_word}
-use Rattle.ffi3_invoke.specs.Calls.{KeepsOpen, with_journal_of}
+use Rattle.ffi3_invoke.specs.Calls.{IsSavedOf, KeepsOpen, with_journal_of}
 
 -- ---- steps one after another
 
@@ -107,7 +107,7 @@ still_open std low high from a b w above entered block here stands =
       place = stands.place;
       bottom = stands.bottom;
       top = stands.top;
-      saved = λ i word below is. word_above low high (entered.event.image.sp - std.save) i a b w (omega (arith, place, bottom)) (omega (arith, place, above, here)) ∙ stands.saved i word below is;
+      saved = λ i word below is. subst (IsSavedOf std entered.signature entered.event.image word) (sym (word_above low high (entered.event.image.sp - std.save) i a b w (omega (arith, place, bottom)) (omega (arith, place, above, here)))) (stands.saved i word below is);
       return_address = return_same (link_register (isa_of std.target)) entered.event.image.general entered.event.image.sp a.stack b.stack (λ none. above_stays low high a b w entered.event.image.sp 8 (omega (arith, place, bottom)) (omega (arith, place, above, here))) stands.return_address;
       frame = above_stays low high a b w entered.event.image.sp (std.link + frame_of std entered.signature) (omega (arith, place, bottom)) (omega (arith, place, above, here)) ∙ stands.frame;
     }

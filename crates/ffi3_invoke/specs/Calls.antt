@@ -1,13 +1,11 @@
 -- A call from its caller's side to the return, by any calling standard: the machine before, in the callee and after. (System V psABI AMD64 3.2; Arm AAPCS64 6; RISC-V ELF psABI, "Integer Calling Convention")
-use Rattle.std.specs.Prelude.{◌≡◌, ℕ, ◌+◌, ◌-◌, ◌<◌, ◌≤◌, min, List, [], ◌∷◌, ◌++◌, length, get_or, slice_index}
+use Rattle.std.specs.Prelude.{◌≡◌, ℕ, ◌+◌, ◌-◌, ◌<◌, ◌≤◌, min, ⊤, List, [], ◌∷◌, ◌++◌, length, get_or, slice_index}
 use Rattle.std.specs.List.{AllByRecursion}
 use Rattle.ffi3_type_rules.specs.Isa.{isa_of}
 use Rattle.ffi3_type_rules.specs.Signature.{Signature}
 use Rattle.ffi3_type_rules.specs.Value.{ValueTree}
 use Rattle.ffi3_type_rules.specs.declared.limits.TheConstants.{ENTRY, RETURN, STACK, STACK_TOP}
 use Rattle.ffi3_place_rules.specs.declared.Loc.{Loc}
-use Rattle.ffi3_place_rules.specs.declared.Res.{Res}
-use Rattle.ffi3_place_rules.specs.declared.Res.TheVariants.{Nothing, Direct, Hidden}
 use Rattle.ffi3_place_rules.specs.declared.SaveWord.{SaveWord}
 use Rattle.ffi3_place_rules.specs.declared.SaveWord.TheVariants.{Register, Hidden as HiddenWord, Spare}
 use Rattle.ffi3_place_rules.specs.Isa.{closure_register, link_register, scribble}
@@ -19,7 +17,7 @@ use Rattle.ffi3_run_rules.specs.Journal.{Entered, needs, IsEntry, IsReturn}
 use Rattle.ffi3_machine.specs.State.{State, HasReturnAddress, HasReturnAt, image_of, stack_at}
 use Rattle.ffi3_body.specs.SeenActivation.{arguments_in}
 use Rattle.ffi3_pieces.specs.Stored.{WroteWithin}
-use Rattle.ffi3_callee.specs.Given.{ResultWrites}
+use Rattle.ffi3_callee.specs.Given.{IsAddressOf, ResultWrites}
 use Rattle.ffi3_callee.specs.Saved.{saved_word}
 
 -- ---- an event
@@ -55,24 +53,18 @@ KeepsReserved std before after = SameIn std.reserved (image_of 0 before) (image_
 
 -- ---- an open call
 
--- the address of a hidden result's buffer, behind the return address
-abbrev pub buffer_address : Standard → Image → Res → ℕ
-buffer_address std m Nothing = 0
-buffer_address std m (Direct pieces) = 0
-buffer_address std m (Hidden at buffer) = m.sp + std.link + buffer
-
--- what a word of the save area is to hold of the image at the entry
-abbrev pub saved_of : Standard → Signature → Image → SaveWord → ℕ
-saved_of std s m (Register at) = register m at
-saved_of std s m HiddenWord = buffer_address std m (plan_of std s).res
-saved_of std s m Spare = 0
+-- what a word of the save area is to hold of the image at the entry: a register's value, or the address of a hidden result's buffer, behind the return address. Where there is no such buffer, and in a spare word, it may hold any.
+abbrev pub IsSavedOf : Standard → Signature → Image → SaveWord → ℕ → Type 0
+IsSavedOf std s m (Register at) n = n ≡ register m at
+IsSavedOf std s m HiddenWord n = IsAddressOf (m.sp + std.link) n (plan_of std s).res
+IsSavedOf std s m Spare n = ⊤
 
 -- AN OPEN CALL STANDS, whose callee's block begins at an address: above the block stand the words that the callee saved, RETURN is the return address, and the bytes of the frame are those of its entry. No byte below the block is spoken of, so that calls nested in it keep it.
 pub record Stands (std : Standard) (entered : Entered) (block : ℕ) (m : State) : Type 0 where
   pub place : block + block_bytes entered.signature + std.save ≡ entered.event.image.sp
   pub bottom : STACK ≤ block
   pub top : entered.event.image.sp + std.link + frame_of std entered.signature ≤ STACK_TOP
-  pub saved : (i : ℕ) (w : SaveWord) → i < length std.save_area → w ≡ get_or std.save_area i w → saved_word (entered.event.image.sp - std.save) i m ≡ saved_of std entered.signature entered.event.image w
+  pub saved : (i : ℕ) (w : SaveWord) → i < length std.save_area → w ≡ get_or std.save_area i w → IsSavedOf std entered.signature entered.event.image w (saved_word (entered.event.image.sp - std.save) i m)
   pub return_address : HasReturnAt (link_register (isa_of std.target)) entered.event.image.general entered.event.image.sp m.stack
   pub frame : stack_at entered.event.image.sp (std.link + frame_of std entered.signature) m ≡ entered.event.image.stack
 
@@ -129,7 +121,6 @@ pub record HasBegun (std : Standard) (s : Signature) (arguments : List ValueTree
   pub is_entry : (top : ℕ) (held : Loc → ℕ) (outer : List Entered) → before.sp + needs std outer ≡ top → AllByRecursion (λ at. register (image_of 0 before) at ≡ held at) std.reserved → IsEntry std top held outer (length before.events) pointer s arguments entry
   pub in_callee : IsInCallee std (record { signature = s; event = entry }) after
   pub arguments_stand : arguments_in s.arguments (stack_at after.sp (block_bytes s) after) ≡ arguments
-  pub pc : after.pc ≡ ENTRY
   pub sp : after.sp + need_of std s ≡ before.sp
   pub above : (address count : ℕ) → before.sp ≤ address → stack_at address count after ≡ stack_at address count before
   -- also where the mark was lower before
@@ -147,7 +138,6 @@ pub record HasEnded (std : Standard) (s : Signature) (outcome : ValueTree) (befo
   pub return : Event
   pub events : after.events ≡ before.events ++ return ∷ []
   pub is_return : (entry : Event) → IsInCallee std (record { signature = s; event = entry }) before → IsReturn std (record { signature = s; event = entry }) outcome return
-  pub pc : after.pc ≡ RETURN
   pub sp : after.sp ≡ before.sp + need_of std s
   pub above : (address count : ℕ) → after.sp ≤ address → stack_at address count after ≡ stack_at address count before
   pub below : (address count : ℕ) → STACK ≤ address → address + count ≤ before.sp → stack_at address count after ≡ stack_at address count before
@@ -166,7 +156,6 @@ pub record IsMade (std : Standard) (s : Signature) (arguments : List ValueTree) 
   pub events : after.events ≡ before.events ++ entry ∷ return ∷ []
   pub is_entry : (top : ℕ) (held : Loc → ℕ) (outer : List Entered) → before.sp + needs std outer ≡ top → AllByRecursion (λ at. register (image_of 0 before) at ≡ held at) std.reserved → IsEntry std top held outer (length before.events) pointer s arguments entry
   pub is_return : IsReturn std (record { signature = s; event = entry }) outcome return
-  pub pc : after.pc ≡ RETURN
   pub sp : after.sp ≡ before.sp
   pub above : (address count : ℕ) → before.sp ≤ address → stack_at address count after ≡ stack_at address count before
   pub below : (address count : ℕ) → STACK ≤ address → address + count + need_of std s ≤ before.sp → stack_at address count after ≡ stack_at address count before

@@ -44,7 +44,6 @@ pub fn accept<A: Abi>(machine: &mut Machine, cif: &Cif<A>) -> Incoming
     ensures floating { machine.new.floating ≡ scribbled_floating (length machine.old.events + 1) }
     ensures reserved { KeepsReserved A.standard machine.old machine.new }
     ensures sp { machine.new.sp + block_bytes cif.now + A.standard.save ≡ machine.old.sp }
-    ensures pc { machine.new.pc ≡ ENTRY }
     ensures within { WroteWithin machine.new.sp machine.old.sp machine.old (with_journal_of machine.old machine.new) }
     ensures spare_events { machine.new.spare_events + 1 ≡ machine.old.spare_events }
     ensures spare_bytes { machine.new.spare_bytes + (A.standard.link + frame_of A.standard cif.now) ≡ machine.old.spare_bytes }

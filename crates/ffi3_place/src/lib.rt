@@ -1,12 +1,14 @@
 //! Places of arguments and results, the trait of a calling standard, and what the standards share.
 #![tactic(auto)]
 
-ghost use Rattle.std.specs.Prelude.{◌≡◌, ℕ, ◌*◌, ◌<◌, IfOk, length, slice_index_or};
+ghost use Rattle.std.specs.Prelude.{◌≡◌, ℕ, ◌*◌, ◌<◌, true, IfOk, length, slice_index_or};
 ghost use Rattle.ffi3_type_rules.specs.declared.Target.{Target};
 ghost use Rattle.ffi3_type_rules.specs.Signature.{Signature, SignatureHasNoFault};
 ghost use Rattle.ffi3_place_rules.specs.Standard.{Standard, plan_of};
 ghost use Rattle.ffi3_place_rules.specs.Sound.{IsSound, IsDetermined};
 ghost use Rattle.ffi3_place_rules.specs.Agrees.{AgreesWithMachine};
+ghost use Rattle.ffi3_place_rules.specs.ByStubs.{AgreesWithStubs, ResultGoesByStubs};
+ghost use Rattle.ffi3_place_rules.specs.Isa.{has_stubs};
 
 pub mod ends;
 pub mod parts;
@@ -89,6 +91,12 @@ pub trait Abi {
 
     // What the standard names of its target's machine is what the machine has.
     ghost agrees: { AgreesWithMachine standard };
+
+    // Where its target has stubs, these load, store and save what the standard names.
+    ghost by_stubs: { has_stubs standard.target ≡ true → AgreesWithStubs standard };
+
+    // And they load the registers of each result, and save the address of a hidden one.
+    ghost result_by_stubs: { (s : Signature) → SignatureHasNoFault s → has_stubs standard.target ≡ true → ResultGoesByStubs standard s };
 
     // No two places share anything, none is a forbidden register, and they have all of the values.
     ghost sound: { (s : Signature) → SignatureHasNoFault s → IsSound standard s };

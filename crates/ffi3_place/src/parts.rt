@@ -5,7 +5,7 @@ ghost use Rattle.ffi3_type_rules.specs.declared.limits.TheConstants.{ARGUMENT_BY
 ghost use Rattle.ffi3_type_rules.specs.Tree.{Scalar, scalar, tree_at};
 ghost use Rattle.ffi3_type_rules.specs.Layout.{size_of, leaves_of, leaf_at};
 ghost use Rattle.ffi3_type_rules.specs.Integer.{is_floating};
-ghost use Rattle.ffi3_type_rules.specs.Fault.{IsLaidOut};
+ghost use Rattle.ffi3_type_rules.specs.Fault.{IsLaidOut, IsResultType};
 ghost use Rattle.ffi3_type_rules.specs.Signature.{SignatureHasNoFault};
 ghost use Rattle.ffi3_types.specs.TreeOf.{tree_of};
 ghost use Rattle.ffi3_place_rules.specs.Standard.{doubleword, round8};
@@ -27,12 +27,13 @@ pub fn count_of(sig: &Sig) -> u32
     sig.count()
 }
 
-/// An argument's type, which has no fault.
+/// An argument's type, which has no fault, and would have none as a result's.
 pub fn argument(sig: &Sig, i: u32) -> &FfiType
     requires right { SignatureHasNoFault sig.now }
     requires within { i < length sig.now.arguments }
     ensures element { tree_of result.now ≡ tree_at sig.now.arguments i }
     ensures right { IsLaidOut (tree_of result.now) }
+    ensures as_result { IsResultType (tree_of result.now) }
 {
     sig.arg(i)
 }
@@ -42,6 +43,7 @@ pub fn result_type(sig: &Sig) -> &FfiType
     requires { SignatureHasNoFault sig.now }
     ensures element { tree_of result.now ≡ sig.now.result_type }
     ensures right { IsLaidOut (tree_of result.now) }
+    ensures as_result { IsResultType (tree_of result.now) }
 {
     sig.ret()
 }

@@ -110,6 +110,20 @@ module _ (general floating : ℕ → ℕ) (generals floatings : ℕ) where
         one (F r) f = subst (λ q. IsOneOf registers (F q)) (sym f.1) (in_floating f.0 f.3)
         one (S n) f = tt
 
+  -- places of a chain that ends with no stack taken
+  module _ (registers : List Loc) (b : Taken) (no_stack : b.stack ≡ 0) (in_general : (k : ℕ) → k < b.general → IsOneOf registers (G (general k))) (in_floating : (k : ℕ) → k < b.vector → IsOneOf registers (F (floating k))) where
+    pub chain_in : (a : Taken) (ls : List Loc) → Chain a ls b → AllByRecursion (IsOneOf registers) ls
+    chain_in a [] h = tt
+    chain_in a (l ∷ ls) h = (one l h.2, chain_in h.0 ls h.4)
+      where
+        rest : AtMost h.0 b
+        rest = chain_end h.0 ls b h.4
+
+        one : (m : Loc) → Until h.0 m → IsOneOf registers m
+        one (G r) u = subst (λ q. IsOneOf registers (G q)) (sym u.1) (in_general u.0 (omega (arith, u.2, rest.general)))
+        one (F r) u = subst (λ q. IsOneOf registers (F q)) (sym u.1) (in_floating u.0 (omega (arith, u.2, rest.vector)))
+        one (S n) u = absurd (omega (arith, u, rest.stack, no_stack))
+
   pub chain_lies_in : (isa : Isa) → ((k : ℕ) → k < generals → general k < general_registers isa) → ((k : ℕ) → k < floatings → floating k < floating_registers isa) → (a : Taken) (ls : List Loc) (b : Taken) (stack : ℕ) → b.stack ≤ stack → Chain a ls b → AllByRecursion (LiesIn isa stack) ls
   chain_lies_in isa gs fs a [] b stack room h = tt
   chain_lies_in isa gs fs a (l ∷ ls) b stack room h = (one l h.1 h.2, chain_lies_in isa gs fs h.0 ls b stack room h.4)

@@ -23,6 +23,11 @@ pub each_at : {X : Type 0} (P : X → Type 0) (xs : List X) (i : ℕ) (x : X) �
 each_at P xs i x h e all = subst P e (All-from_recursion P xs all i x h)
 
 -- what holds at the first numbers
+pub each_of_two : (P : ℕ → Type 0) → P 0 → P 1 → (k : ℕ) → k < 2 → P k
+each_of_two P a b zero h = a
+each_of_two P a b (suc zero) h = b
+each_of_two P a b (suc (suc k)) h = absurd (omega arith)
+
 pub each_of_eight : (P : ℕ → Type 0) → P 0 → P 1 → P 2 → P 3 → P 4 → P 5 → P 6 → P 7 → (k : ℕ) → k < 8 → P k
 each_of_eight P a b c d e f g i zero h = a
 each_of_eight P a b c d e f g i (suc zero) h = b

@@ -1,4 +1,4 @@
--- Types and signatures that a standard does not tell apart: a struct is placed by its layout, so that an array in it stands as its elements would.
+-- Types and signatures that a standard does not tell apart: a struct is placed by its layout, so that an array of one element or more in it stands as its elements would.
 use Rattle.std.specs.Prelude.{◌≡◌, ⊤, List, [], ◌∷◌}
 use Rattle.ffi3_type_rules.specs.Tree.{Tree, structure, Trees}
 use Rattle.ffi3_type_rules.specs.Layout.{layout}

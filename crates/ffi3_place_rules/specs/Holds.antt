@@ -1,4 +1,4 @@
--- What it means that an image holds the arguments of a call, or its result, and that registers are preserved. (System V psABI AMD64 3.2.3; Arm AAPCS64, "Parameter Passing" and "Result Return"; RISC-V ELF psABI, "Integer Calling Convention" and "Hardware Floating-point Calling Convention")
+-- What it means that an image holds the arguments of a call, or its result, and that registers are preserved. (System V psABI AMD64 3.2.3; Arm AAPCS64, "Parameter Passing" and "Result Return"; RISC-V ELF psABI, "Integer Calling Convention" and "Hardware Floating-point Calling Convention"; Microsoft, "x64 calling convention")
 use Rattle.std.specs.Prelude.{◌≡◌, ℕ, ◌+◌, ◌-◌, ◌/◌, ◌^◌, ◌<◌, ◌≤◌, ⊤, true, List, [], ◌∷◌, ◌++◌, take, drop, length, get_or, Option, Some, None}
 use Rattle.std.specs.List.{AllByRecursion}
 use Rattle.ffi3_type_rules.specs.Tree.{Tree, scalar}
@@ -124,7 +124,7 @@ FillsResult std m t Nothing v = ⊤
 FillsResult std m t (DirectRes pieces) v = FillPieces m 0 t pieces v
 FillsResult std m t (Hidden at buffer) v = RegisterHolds m std.returned_address (m.sp + buffer)
 
--- THE IMAGE AT A RETURN HOLDS THE RESULT: it stands at its place, extended as the standard says; a hidden result's address stands in its register (psABI AMD64 3.2.3, "Returning of Values", step 2: rax).
+-- THE IMAGE AT A RETURN HOLDS THE RESULT: it stands at its place, extended as the standard says; a hidden result's address stands in its register (psABI AMD64 3.2.3, "Returning of Values", step 2; Microsoft, "Return values": rax in both).
 pub record HoldsResult (std : Standard) (s : Signature) (v : ValueTree) (m : Image) : Type 0 where
   pub own : OwnResult std s v m
   pub filled : FillsResult std m s.result_type (plan_of std s).res v
@@ -135,7 +135,7 @@ pub record HoldsResult (std : Standard) (s : Signature) (v : ValueTree) (m : Ima
 abbrev pub SameIn : List Loc → Image → Image → Type 0
 SameIn registers m n = AllByRecursion (λ at. register m at ≡ register n at) registers
 
--- THE RETURN KEEPS THE ENTRY'S REGISTERS: the preserved and the reserved ones are equal, and the stack pointer is where it was before the return address was stored. (psABI AMD64 3.2.1, "Registers"; AAPCS64 6.1.1 and 6.1.2; RISC-V ELF psABI, "Integer Register Convention" and "Floating-point Register Convention": what is preserved across calls)
+-- THE RETURN KEEPS THE ENTRY'S REGISTERS: the preserved and the reserved ones are equal, and the stack pointer is where it was before the return address was stored. (psABI AMD64 3.2.1, "Registers"; AAPCS64 6.1.1 and 6.1.2; RISC-V ELF psABI, "Integer Register Convention" and "Floating-point Register Convention"; Microsoft, "Caller/callee saved registers": what is preserved across calls)
 pub record Kept (std : Standard) (entry return : Image) : Type 0 where
   pub preserved : SameIn std.preserved entry return
   pub reserved : SameIn std.reserved entry return

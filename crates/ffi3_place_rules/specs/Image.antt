@@ -1,4 +1,4 @@
--- An image of a machine: its registers, and the stack from the stack pointer on, which grows downwards. (System V psABI AMD64 3.2.1 "Registers" and 3.2.2 "The Stack Frame"; Arm AAPCS64, "Machine Registers" and "The Stack"; RISC-V ELF psABI, "Integer Register Convention" and "Floating-point Register Convention")
+-- An image of a machine: its registers, and the stack from the stack pointer on, which grows downwards. (System V psABI AMD64 3.2.1 "Registers" and 3.2.2 "The Stack Frame"; Arm AAPCS64, "Machine Registers" and "The Stack"; RISC-V ELF psABI, "Integer Register Convention" and "Floating-point Register Convention"; Microsoft, "x64 stack usage")
 use Rattle.std.specs.Prelude.{ℕ, ◌+◌, List, [], ◌∷◌, get_or}
 use Rattle.std.specs.Int.{w64, to_le_bytes, from_le_bytes}
 use Rattle.ffi3_place_rules.specs.declared.Loc.{Loc}

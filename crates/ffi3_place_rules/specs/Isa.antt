@@ -1,6 +1,8 @@
 -- What an instruction set's machine has: its registers by number, and what a call and a closure's trampoline do with them. (System V psABI AMD64, "Register Usage"; Arm AAPCS64 6.1.1 and 6.1.2; RISC-V ELF psABI, "Integer Register Convention" and "Floating-point Register Convention")
-use Rattle.std.specs.Prelude.{◌≡◌, ℕ, ◌+◌, ◌*◌, ◌%◌, ◌^◌, Bool, false, ◌==◌, ⊤, List, [], ◌∷◌, map, Option, Some, None, option_map}
+use Rattle.std.specs.Prelude.{◌≡◌, ℕ, ◌+◌, ◌*◌, ◌%◌, ◌^◌, Bool, true, false, ◌==◌, ⊤, List, [], ◌∷◌, ◌++◌, map, Option, Some, None, option_map}
 use Rattle.std.specs.List.{list_any}
+use Rattle.ffi3_type_rules.specs.declared.Target.{Target}
+use Rattle.ffi3_type_rules.specs.declared.Target.TheVariants as target
 use Rattle.ffi3_type_rules.specs.declared.Isa.{Isa}
 use Rattle.ffi3_type_rules.specs.declared.Isa.TheVariants.{Amd64, Aarch64, Riscv}
 use Rattle.ffi3_place_rules.specs.declared.Loc.{Loc}
@@ -89,6 +91,73 @@ abbrev pub TakesWrites : Isa → Loc → Type 0
 TakesWrites isa (G k) = is_zero_register isa k ≡ false
 TakesWrites isa (F k) = ⊤
 TakesWrites isa (S n) = ⊤
+
+-- ---- stubs: code through which the calls and returns of a target can lead (this library's own). A call goes out through Call and comes back to Return; a trampoline leads to Entry, and the way back is Exit. Registers go over the exchange region of memory: Call and Exit load them from there, Entry and Return store them there. The lists are what the stubs do, in their order; those of AMD64 are for System V's calls alone.
+
+-- the targets that have them
+abbrev pub has_stubs : Target → Bool
+has_stubs target.Amd64 = true
+has_stubs target.Aapcs64 = true
+has_stubs target.Riscv = true
+has_stubs target.Win64 = false
+
+-- what Call loads from the exchange region: the registers of arguments, x8 on AArch64 for a hidden result's address, and rax on AMD64, which tells the number of vector registers
+abbrev pub call_loads : Isa → List Loc
+call_loads Amd64 = G 7 ∷ G 6 ∷ G 2 ∷ G 1 ∷ G 8 ∷ G 9 ∷ G 0 ∷ F 0 ∷ F 1 ∷ F 2 ∷ F 3 ∷ F 4 ∷ F 5 ∷ F 6 ∷ F 7 ∷ []
+call_loads Aarch64 = G 0 ∷ G 1 ∷ G 2 ∷ G 3 ∷ G 4 ∷ G 5 ∷ G 6 ∷ G 7 ∷ G 8 ∷ F 0 ∷ F 1 ∷ F 2 ∷ F 3 ∷ F 4 ∷ F 5 ∷ F 6 ∷ F 7 ∷ []
+call_loads Riscv = G 10 ∷ G 11 ∷ G 12 ∷ G 13 ∷ G 14 ∷ G 15 ∷ G 16 ∷ G 17 ∷ F 10 ∷ F 11 ∷ F 12 ∷ F 13 ∷ F 14 ∷ F 15 ∷ F 16 ∷ F 17 ∷ []
+
+-- what Entry stores in the exchange region: the registers of arguments, x8 on AArch64 for a hidden result's address, and the register that holds the closure's address (r10; x17; t1)
+abbrev pub entry_stores : Isa → List Loc
+entry_stores Amd64 = G 7 ∷ G 6 ∷ G 2 ∷ G 1 ∷ G 8 ∷ G 9 ∷ G 10 ∷ F 0 ∷ F 1 ∷ F 2 ∷ F 3 ∷ F 4 ∷ F 5 ∷ F 6 ∷ F 7 ∷ []
+entry_stores Aarch64 = G 0 ∷ G 1 ∷ G 2 ∷ G 3 ∷ G 4 ∷ G 5 ∷ G 6 ∷ G 7 ∷ G 8 ∷ F 0 ∷ F 1 ∷ F 2 ∷ F 3 ∷ F 4 ∷ F 5 ∷ F 6 ∷ F 7 ∷ G 17 ∷ []
+entry_stores Riscv = G 10 ∷ G 11 ∷ G 12 ∷ G 13 ∷ G 14 ∷ G 15 ∷ G 16 ∷ G 17 ∷ F 10 ∷ F 11 ∷ F 12 ∷ F 13 ∷ F 14 ∷ F 15 ∷ F 16 ∷ F 17 ∷ G 6 ∷ []
+
+-- what Entry saves on the stack and Exit loads back, in the order of the save area: the registers that a callee preserves, and the one that holds the return address (x30; ra)
+abbrev pub preserved_words : Isa → List Loc
+preserved_words Amd64 = G 3 ∷ G 5 ∷ G 12 ∷ G 13 ∷ G 14 ∷ G 15 ∷ []
+preserved_words Aarch64 = G 19 ∷ G 20 ∷ G 21 ∷ G 22 ∷ G 23 ∷ G 24 ∷ G 25 ∷ G 26 ∷ G 27 ∷ G 28 ∷ G 29 ∷ G 30 ∷ F 8 ∷ F 9 ∷ F 10 ∷ F 11 ∷ F 12 ∷ F 13 ∷ F 14 ∷ F 15 ∷ []
+preserved_words Riscv = G 1 ∷ G 8 ∷ G 9 ∷ G 18 ∷ G 19 ∷ G 20 ∷ G 21 ∷ G 22 ∷ G 23 ∷ G 24 ∷ G 25 ∷ G 26 ∷ G 27 ∷ F 8 ∷ F 9 ∷ F 18 ∷ F 19 ∷ F 20 ∷ F 21 ∷ F 22 ∷ F 23 ∷ F 24 ∷ F 25 ∷ F 26 ∷ F 27 ∷ []
+
+-- the register in which a hidden result's address comes, which Entry saves behind them: rdi; x8; a0
+abbrev pub hidden_register : Isa → ℕ
+hidden_register Amd64 = 7
+hidden_register Aarch64 = 8
+hidden_register Riscv = 10
+
+-- all that Entry saves, in the order of the save area
+abbrev pub stub_area : Isa → List Loc
+stub_area isa = preserved_words isa ++ G (hidden_register isa) ∷ []
+
+-- the bytes of the save area, by which Entry lowers the stack pointer and Exit raises it: eight for each word, and a spare word behind them on AArch64
+abbrev pub area_bytes : Isa → ℕ
+area_bytes Amd64 = 56
+area_bytes Aarch64 = 176
+area_bytes Riscv = 208
+
+-- what Exit loads from the exchange region and Return stores there: the registers of results
+abbrev pub result_loads : Isa → List Loc
+result_loads Amd64 = G 0 ∷ G 2 ∷ F 0 ∷ F 1 ∷ []
+result_loads Aarch64 = G 0 ∷ G 1 ∷ F 0 ∷ F 1 ∷ F 2 ∷ F 3 ∷ []
+result_loads Riscv = G 10 ∷ G 11 ∷ F 10 ∷ F 11 ∷ []
+
+-- what else Call writes, the stack pointer aside: the register that holds the exchange region's address (r11; x17; t1), the one through which the callee's address goes, and on AArch64 the stack pointer's new value (x16; t2), and the one that holds the return address (x30; ra)
+abbrev pub call_scratch : Isa → List Loc
+call_scratch Amd64 = G 11 ∷ []
+call_scratch Aarch64 = G 17 ∷ G 16 ∷ G 30 ∷ []
+call_scratch Riscv = G 6 ∷ G 7 ∷ G 1 ∷ []
+
+-- what else Entry writes: the register that holds the exchange region's address (r11; x16; t2), on AArch64 also the stack pointer's new value
+abbrev pub entry_scratch : Isa → List Loc
+entry_scratch Amd64 = G 11 ∷ []
+entry_scratch Aarch64 = G 16 ∷ []
+entry_scratch Riscv = G 7 ∷ []
+
+-- what else Exit writes: the register that holds the exchange region's address (r11; x16; t1), and the one through which the stack pointer's new value goes (x17); Return writes no other registers than these and the stack pointer
+abbrev pub exit_scratch : Isa → List Loc
+exit_scratch Amd64 = G 11 ∷ []
+exit_scratch Aarch64 = G 16 ∷ G 17 ∷ []
+exit_scratch Riscv = G 6 ∷ []
 
 -- ---- what a register holds that carries nothing
 

@@ -10,3 +10,4 @@ pub mod Doublewords
 pub mod Sums
 pub mod Copies
 pub mod Planned
+pub mod ByStubs

@@ -215,7 +215,7 @@ pub record IsSound (std : Standard) (s : Signature) : Type 0 where
   pub result_allowed : AllByRecursion (IsNoneOf (closed_to_results std)) (result_locs (plan_of std s).res)
   pub result_has_all : ResultHasAll s.result_type (plan_of std s).res
   pub result_filled : ResultIsFilled std s.result_type (plan_of std s).res
-  -- a call keeps the stack pointer at multiples of 16 (psABI AMD64 3.2.2 "The Stack Frame"; AAPCS64, "The Stack"; RISC-V ELF psABI, "Integer Calling Convention")
+  -- a call keeps the stack pointer at multiples of 16 (psABI AMD64 3.2.2 "The Stack Frame"; AAPCS64, "The Stack"; RISC-V ELF psABI, "Integer Calling Convention"; Microsoft, "x64 stack usage", "Stack allocation")
   pub frame_aligned : frame_of std s % 16 ≡ 0
   pub need_aligned : need_of std s % 16 ≡ 0
 

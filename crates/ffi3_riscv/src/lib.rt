@@ -593,6 +593,7 @@ impl Abi for Riscv {
     ghost use Rattle.std.specs.Prelude.{refl};
     ghost use Rattle.std.proofs.lemmas.Bool.{ltb-true};
     ghost use Rattle.ffi3_riscv_rules.proofs.Agrees.{agrees as with_machine};
+    ghost use Rattle.ffi3_riscv_rules.proofs.ByStubs.{by_stubs as with_stubs, result_by_stubs as result_with_stubs};
     ghost use Rattle.ffi3_riscv_rules.proofs.Sound.{sound as every_law, determines};
 
     ghost save_is = { refl };
@@ -608,6 +609,10 @@ impl Abi for Riscv {
     ghost words_few = { ltb-true (length riscv.save_area) 256 refl };
 
     ghost agrees = { with_machine };
+
+    ghost by_stubs = { λ _. with_stubs };
+
+    ghost result_by_stubs = { λ s _ _. result_with_stubs s };
 
     ghost sound = { λ s _. every_law s };
 

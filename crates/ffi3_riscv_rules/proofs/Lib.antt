@@ -9,3 +9,4 @@ pub mod Ends
 pub mod Turns
 mod Rows
 pub mod Alike
+pub mod ByStubs

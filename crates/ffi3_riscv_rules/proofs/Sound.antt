@@ -1,5 +1,5 @@
 -- The places of a signature are a chain, so no two share a register or a byte of stack; and they have all of the values, which they therefore determine.
-use Rattle.std.proofs.Common.{◌≡◌, ℕ, zero, suc, ◌+◌, ◌-◌, ◌*◌, ◌≤◌, Bool, true, false, cond, ltb, List, [], ◌∷◌, subst, refl, arith}
+use Rattle.std.proofs.Common.{◌≡◌, ℕ, zero, suc, ◌+◌, ◌-◌, ◌*◌, ◌<◌, ◌≤◌, Bool, true, false, cond, ltb, List, [], ◌∷◌, subst, refl, arith}
 use Rattle.std.specs.Prelude.{Option}
 use Rattle.std.specs.List.{AllByRecursion, flat_map}
 use Rattle.std.proofs.lemmas.Bool.{ltb-true, ltb-false}
@@ -10,18 +10,21 @@ use Rattle.ffi3_type_rules.specs.declared.Isa.TheVariants as isa
 use Rattle.ffi3_place_rules.specs.declared.Loc.{Loc}
 use Rattle.ffi3_place_rules.specs.declared.Loc.TheVariants.{G, F, S}
 use Rattle.ffi3_place_rules.specs.declared.Taken.{Taken}
+use Rattle.ffi3_place_rules.specs.Isa.{result_loads}
 use Rattle.ffi3_place_rules.specs.Standard.{Spot, in_pieces, by_reference, ResultSpot, no_result as nowhere, plan_of, copy_end, place_at, places_from, result_at, copies_start, frame_copies_end, frame_of}
 use Rattle.ffi3_place_rules.specs.Doublewords.{doublewords_at}
-use Rattle.ffi3_place_rules.specs.Sound.{IsOnStackOrIn, AreApart, piece_locs, place_locs, hidden_locs, result_locs, argument_locs, IsNoneOf, LiesIn, call_locs, closed_to_arguments, closed_to_results, PlaceHasAll, ResultHasAll, PlaceIsFilled, ResultIsFilled, IsSound, IsDetermined}
-use Rattle.ffi3_place_rules.proofs.Chain.{AtMost, at_most_self, From, Until, Chain, chain_less, chain_append, chain_apart, chain_allowed, chain_passed, chain_lies_in}
+use Rattle.ffi3_place_rules.specs.Sound.{IsOnStackOrIn, AreApart, piece_locs, place_locs, hidden_locs, result_locs, argument_locs, IsNoneOf, IsOneOf, LiesIn, call_locs, closed_to_arguments, closed_to_results, PlaceHasAll, ResultHasAll, PlaceIsFilled, ResultIsFilled, IsSound, IsDetermined}
+use Rattle.ffi3_place_rules.proofs.Chain.{AtMost, at_most_self, From, Until, Chain, chain_less, chain_append, chain_apart, chain_allowed, chain_passed, chain_in, chain_lies_in}
 use Rattle.ffi3_place_rules.proofs.Frame.{up_to, frame_chain}
 use Rattle.ffi3_place_rules.proofs.Ends.{start-behind, even-behind}
 use Rattle.ffi3_place_rules.proofs.Aligned.{frame_is_aligned, need_is_aligned}
+use Rattle.ffi3_place_rules.proofs.Tests.{each_of_two}
+use Rattle.ffi3_place_rules.proofs.Forbidden.{is_one_of, one_of}
 use Rattle.ffi3_place_rules.proofs.Determines.{determined}
 use Rattle.ffi3_riscv_rules.specs.declared.Shape.{Shape}
 use Rattle.ffi3_riscv_rules.specs.declared.Shape.TheVariants.{OneF, TwoF, FI, IF, Words, ByRef}
 use Rattle.ffi3_riscv_rules.specs.declared.Used.{Used}
-use Rattle.ffi3_riscv_rules.specs.Riscv.{riscv, argument_register, floating_register, word, words_of, extension, word_pieces, spot_of, is_at_even_word, first_word, is_fixed, used_with, used_at_start, passed_next, spot_next, used_next, used_after, used_at_first, used_by_all, unused, spots_after, result_shape, result_from, result_spot_of, is_by_reference, placing_of}
+use Rattle.ffi3_riscv_rules.specs.Riscv.{riscv, argument_register, floating_register, word, words_of, floats_of, extension, word_pieces, spot_of, is_at_even_word, first_word, is_fixed, used_with, used_at_start, passed_next, spot_next, used_next, used_after, used_at_first, used_by_all, unused, spots_after, result_shape, result_from, result_spot_of, is_by_reference, placing_of}
 use Rattle.ffi3_riscv_rules.proofs.Shapes.{HasRoom, passed_has_room, passed_few, passed_suits, passed_small, passed_floats}
 use Rattle.ffi3_riscv_rules.proofs.Covered.{spot_has_all, arguments_have_all}
 use Rattle.ffi3_riscv_rules.proofs.Filled.{spot_filled, arguments_filled}
@@ -279,3 +282,45 @@ sound s =
 
 pub determines : (s : Signature) → IsDetermined riscv s
 determines s = determined riscv s (sound s).has_all (sound s).result_has_all
+
+-- ---- the result, by the stubs
+
+in_results : (k : ℕ) → k < 2 → IsOneOf (result_loads isa.Riscv) (G (argument_register k))
+in_results k h =
+    one_of (result_loads isa.Riscv) (G (argument_register k)) (each_of_two (λ j. is_one_of (result_loads isa.Riscv) (G (argument_register j)) ≡ true) refl refl k h)
+
+in_floating_results : (k : ℕ) → k < 2 → IsOneOf (result_loads isa.Riscv) (F (floating_register k))
+in_floating_results k h =
+    one_of (result_loads isa.Riscv) (F (floating_register k)) (each_of_two (λ j. is_one_of (result_loads isa.Riscv) (F (floating_register j)) ≡ true) refl refl k h)
+
+few_floats : (shape : Shape) → floats_of shape ≤ 2
+few_floats OneF = omega arith
+few_floats TwoF = omega arith
+few_floats FI = omega arith
+few_floats IF = omega arith
+few_floats (Words n) = omega arith
+few_floats ByRef = omega arith
+
+no_stack_taken : (w : ℕ) → w ≤ 2 → 8 * (0 + w - 8) ≡ 0
+no_stack_taken w h = omega (arith, h)
+
+pub result_loaded : (s : Signature) → AllByRecursion (IsOneOf (result_loads isa.Riscv)) (result_locs (plan_of riscv s).res)
+result_loaded s =
+    let t = s.result_type in
+    let shape = result_shape t in
+    let words = passed_few unused true t in
+    let floats = few_floats shape in
+    result_is t (frame_copies_end riscv s) (AllByRecursion (IsOneOf (result_loads isa.Riscv))) tt (chain_in argument_register floating_register 8 8 (result_loads isa.Riscv) (taken (used_with unused shape)) (no_stack_taken (words_of shape) words) (λ k h. in_results k (omega (arith, h, words))) (λ k h. in_floating_results k (omega (arith, h, floats))) (taken unused) _ (result_chain t (frame_copies_end riscv s)))
+
+hidden_saved_if : (t : Tree) (buffer : ℕ) (shape : Shape) → AllByRecursion (IsOneOf (G 10 ∷ [])) (hidden_locs (result_at riscv.copy_start buffer t (result_from (spot_of unused t shape))))
+hidden_saved_if t buffer OneF = tt
+hidden_saved_if t buffer TwoF = tt
+hidden_saved_if t buffer FI = tt
+hidden_saved_if t buffer IF = tt
+hidden_saved_if t buffer (Words n) = tt
+hidden_saved_if t buffer ByRef = (one_of (G 10 ∷ []) (G 10) refl, tt)
+
+pub hidden_saved : (s : Signature) → AllByRecursion (IsOneOf (G 10 ∷ [])) (hidden_locs (plan_of riscv s).res)
+hidden_saved s =
+    let t = s.result_type in
+    result_cases (λ spot. AllByRecursion (IsOneOf (G 10 ∷ [])) (hidden_locs (result_at riscv.copy_start (frame_copies_end riscv s) t spot))) t (λ e. tt) (hidden_saved_if t (frame_copies_end riscv s) (result_shape t))

@@ -32,6 +32,11 @@ use Rattle.ffi3_ask.specs.Handed.{signatures_in}
 use Rattle.ffi3_runner.specs.Running.{program, IsPrepared}
 use Rattle.ffi3_runner.proofs.Turning.{count_of_functions}
 
+-- where an activation stands goes over to what it has seen, said in another way
+pub agrees_as : (s : Script) (natives : List NamedNative) (standing : Standing) (z z' : SeenActivation) → z ≡ z' → StandingAgrees s natives z standing → StandingAgrees s natives z' standing
+agrees_as s natives standing z z' same h =
+    subst (λ (y : SeenActivation). StandingAgrees s natives y standing) same h
+
 pub asked_as : (p : Program) (who : Who) (s : Script) (natives : List NamedNative) (standing : Standing) (r : Result Move AllocError) (z z' : SeenActivation) → z ≡ z' → IfOk r (λ m. IsAsked p who z (λ v. StandingAgrees s natives (one_more z v) standing) (move_of m)) → IfOk r (λ m. IsAsked p who z' (λ v. StandingAgrees s natives (one_more z' v) standing) (move_of m))
 asked_as p who s natives standing r z z' same h =
     subst (λ (y : SeenActivation). IfOk r (λ m. IsAsked p who y (λ v. StandingAgrees s natives (one_more y v) standing) (move_of m))) same h

@@ -24,7 +24,7 @@ fn natives_call_closures(rt: HostRuntime) -> Result<(), Fail> {
         RunEnd::Done,
         9_980,
         14,
-        [0x7FFE_FEC0, 0x7FFE_FD00, 0x7FFE_FC80],
+        [0x7FFE_FEC0, 0x7FFE_FD00, 0x7FFE_FC80, 0x7FFE_FCC0],
     );
     check(&rt, alloc, &natives, TWICE, &twice)?;
     let sum = alike(
@@ -32,7 +32,7 @@ fn natives_call_closures(rt: HostRuntime) -> Result<(), Fail> {
         RunEnd::Done,
         9_995,
         2,
-        [0x7FFE_FFA0, 0x7FFE_FF30, 0x7FFE_FF10],
+        [0x7FFE_FFA0, 0x7FFE_FF30, 0x7FFE_FF10, 0x7FFE_FF20],
     );
     check(&rt, alloc, &natives, SUM, &sum)
 }

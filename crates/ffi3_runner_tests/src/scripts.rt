@@ -7,6 +7,7 @@ use ffi3_aapcs64::Aapcs64;
 use ffi3_amd64::Amd64;
 use ffi3_place::Abi;
 use ffi3_riscv::Riscv;
+use ffi3_win64::Win64;
 use std::alloc::Global;
 use std::process::Abort;
 use std::test::Fail;
@@ -48,20 +49,21 @@ fn check_by<A: Abi>(
     Ok(())
 }
 
-/// Runs a script on AMD64, AAPCS64 and RISC-V.
+/// Runs a script by AMD64, AAPCS64, RISC-V and Microsoft x64.
 pub fn check(
     rt: &impl Abort,
     alloc: Global,
     natives: &Vec<Box<dyn Native>>,
     script: &str,
-    wanted: &[Wanted; 3],
+    wanted: &[Wanted; 4],
 ) -> Result<(), Fail>
     requires few_natives { length natives.now.items < 2 ^ 31 }
     requires few_signatures { length (signatures_in (handed title meaning signatures natives.now.items)) < 2 ^ 31 }
 {
     check_by::<Amd64>(rt, alloc, natives, script, &wanted[0])?;
     check_by::<Aapcs64>(rt, alloc, natives, script, &wanted[1])?;
-    check_by::<Riscv>(rt, alloc, natives, script, &wanted[2])
+    check_by::<Riscv>(rt, alloc, natives, script, &wanted[2])?;
+    check_by::<Win64>(rt, alloc, natives, script, &wanted[3])
 }
 
 /// The same run by each standard, but for the lowest address that it writes.
@@ -70,8 +72,8 @@ pub fn alike(
     end: RunEnd,
     moves_left: u32,
     events: usize,
-    marks: [u64; 3],
-) -> [Wanted; 3] {
+    marks: [u64; 4],
+) -> [Wanted; 4] {
     let first = Wanted {
         text,
         end,
@@ -79,9 +81,10 @@ pub fn alike(
         events,
         mark: marks[0],
     };
-    let mut wanted = [first; 3];
+    let mut wanted = [first; 4];
     wanted[1].mark = marks[1];
     wanted[2].mark = marks[2];
+    wanted[3].mark = marks[3];
     wanted
 }
 
@@ -115,7 +118,7 @@ fn callbacks_four_deep(rt: HostRuntime) -> Result<(), Fail> {
         RunEnd::Done,
         9_986,
         8,
-        [0x7FFE_FEC0, 0x7FFE_FD00, 0x7FFE_FC80],
+        [0x7FFE_FEC0, 0x7FFE_FD00, 0x7FFE_FC80, 0x7FFE_FCC0],
     );
     check(&rt, alloc, &natives, FOUR_DEEP, &wanted)
 }
@@ -152,6 +155,16 @@ fn recursion_without_end(rt: HostRuntime) -> Result<(), Fail> {
             events: 5_041,
             mark: 0x7FEF_0030,
         },
+        Wanted {
+            text: "stop: stack full: need 192, left 64\n",
+            end: RunEnd::Stopped(Stop::StackFull {
+                need: 192,
+                left: 64,
+            }),
+            moves_left: 4_537,
+            events: 5_461,
+            mark: 0x7FEF_0040,
+        },
     ];
     check(&rt, alloc, &natives, ENDLESS, &wanted)
 }
@@ -170,7 +183,7 @@ fn a_closure_frees_itself(rt: HostRuntime) -> Result<(), Fail> {
         RunEnd::Stopped(stop),
         9_990,
         4,
-        [0x7FFE_FFC0, 0x7FFE_FF50, 0x7FFE_FF30],
+        [0x7FFE_FFC0, 0x7FFE_FF50, 0x7FFE_FF30, 0x7FFE_FF40],
     );
     check(&rt, alloc, &natives, FREES_ITSELF, &wanted)
 }
@@ -184,7 +197,7 @@ fn structs_around_an_inner_call(rt: HostRuntime) -> Result<(), Fail> {
         RunEnd::Done,
         9_990,
         4,
-        [0x7FFE_FF00, 0x7FFE_FE30, 0x7FFE_FDF0],
+        [0x7FFE_FF00, 0x7FFE_FE30, 0x7FFE_FDF0, 0x7FFE_FE00],
     );
     check(&rt, alloc, &natives, STRUCTS, &wanted)
 }
@@ -198,7 +211,7 @@ fn a_countdown(rt: HostRuntime) -> Result<(), Fail> {
         RunEnd::Done,
         9_987,
         10,
-        [0x7FFE_FE70, 0x7FFE_FC40, 0x7FFE_FBA0],
+        [0x7FFE_FE70, 0x7FFE_FC40, 0x7FFE_FBA0, 0x7FFE_FBF0],
     );
     check(&rt, alloc, &natives, COUNTDOWN, &wanted)
 }

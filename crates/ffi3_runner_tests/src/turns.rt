@@ -11,6 +11,7 @@ use ffi3_machine::{Machine, NoMemory};
 use ffi3_place::Abi;
 use ffi3_runner::{Runner, Turn};
 use ffi3_script::Script;
+use ffi3_win64::Win64;
 use std::alloc::Global;
 use std::mem;
 use std::process::Abort;
@@ -78,8 +79,8 @@ struct Wanted {
     moves_left: u32,
 }
 
-/// Runs a script by AMD64, and compares the texts of both outputs and the moves that are left.
-fn check_turns(
+/// Runs a script by a standard, and compares the texts of both outputs and the moves that are left.
+fn check_turns<A: Abi>(
     rt: &impl Abort,
     alloc: Global,
     text: &str,
@@ -90,7 +91,7 @@ fn check_turns(
     let Some(script) = read_beside(alloc, &natives, text)? else {
         return Err("no script".into());
     };
-    let turns = take_turns::<Amd64>(alloc, &natives, &script, caller)?;
+    let turns = take_turns::<A>(alloc, &natives, &script, caller)?;
     assert!(rt; turns.end == wanted.end);
     assert!(rt; turns.last.taken() == wanted.last.as_bytes());
     assert!(rt; turns.other.taken() == wanted.other.as_bytes());
@@ -145,7 +146,14 @@ fn one_move_a_turn(rt: HostRuntime) -> Result<(), Fail> {
         other: "enter 0x10000 sp 0x7ffefff8 (41)\nkeep a5a5000000000003 a5a5000000000005 a5a500000000000c a5a500000000000d a5a500000000000e a5a500000000000f\n-\n42\n-\n",
         moves_left: 9_995,
     };
-    check_turns(&rt, rt.alloc(), CALL, &TRACES, &wanted)
+    check_turns::<Amd64>(&rt, rt.alloc(), CALL, &TRACES, &wanted)?;
+    let by_win64 = Wanted {
+        end: Turn::Done,
+        last: "-\n-\n",
+        other: "enter 0x10000 sp 0x7ffeffd8 (41)\nkeep a5a5000000000003 a5a5000000000005 a5a5000000000007 a5a5000000000006 a5a500000000000c a5a500000000000d a5a500000000000e a5a500000000000f 5a5a000000000006 5a5a000000000007 5a5a000000000008 5a5a000000000009 5a5a00000000000a 5a5a00000000000b 5a5a00000000000c 5a5a00000000000d 5a5a00000000000e 5a5a00000000000f\n-\n42\n-\n",
+        moves_left: 9_995,
+    };
+    check_turns::<Win64>(&rt, rt.alloc(), CALL, &TRACES, &by_win64)
 }
 
 #[test]
@@ -156,7 +164,7 @@ fn turns_until_no_closure(rt: HostRuntime) -> Result<(), Fail> {
         other: "1\n-\n",
         moves_left: 9_998,
     };
-    check_turns(&rt, rt.alloc(), NO_CLOSURE, &WRITES, &wanted)
+    check_turns::<Amd64>(&rt, rt.alloc(), NO_CLOSURE, &WRITES, &wanted)
 }
 
 #[test]
@@ -172,7 +180,7 @@ fn turns_until_a_wrong_signature(rt: HostRuntime) -> Result<(), Fail> {
         other: "-\n",
         moves_left: 9_998,
     };
-    check_turns(&rt, rt.alloc(), WRONG_SIG, &WRITES, &wanted)
+    check_turns::<Amd64>(&rt, rt.alloc(), WRONG_SIG, &WRITES, &wanted)
 }
 
 #[test]
@@ -186,7 +194,7 @@ fn turns_until_the_stack_is_full(rt: HostRuntime) -> Result<(), Fail> {
         other: "",
         moves_left: 6_722,
     };
-    check_turns(&rt, rt.alloc(), ENDLESS, &SILENT, &wanted)
+    check_turns::<Amd64>(&rt, rt.alloc(), ENDLESS, &SILENT, &wanted)
 }
 
 #[test]
@@ -197,7 +205,7 @@ fn turns_until_the_table_is_full(rt: HostRuntime) -> Result<(), Fail> {
         other: "",
         moves_left: 9_487,
     };
-    check_turns(&rt, rt.alloc(), MAKES, &SILENT, &wanted)
+    check_turns::<Amd64>(&rt, rt.alloc(), MAKES, &SILENT, &wanted)
 }
 
 #[test]
@@ -208,5 +216,5 @@ fn turns_until_the_move_limit(rt: HostRuntime) -> Result<(), Fail> {
         other: "",
         moves_left: 0,
     };
-    check_turns(&rt, rt.alloc(), TREE, &SILENT, &wanted)
+    check_turns::<Amd64>(&rt, rt.alloc(), TREE, &SILENT, &wanted)
 }

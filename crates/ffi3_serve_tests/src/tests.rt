@@ -9,6 +9,7 @@ use ffi3_riscv::Riscv;
 use ffi3_runner_tests::read_beside;
 use ffi3_types::FfiType;
 use ffi3_values::{Value, integer};
+use ffi3_win64::Win64;
 use std::alloc::Global;
 use std::process::Abort;
 use std::test::Fail;
@@ -63,7 +64,8 @@ fn serves_a_call_with_all_else_overwritten(rt: HostRuntime) -> Result<(), Fail> 
     let alloc = rt.alloc();
     check_increment::<Amd64>(&rt, alloc)?;
     check_increment::<Aapcs64>(&rt, alloc)?;
-    check_increment::<Riscv>(&rt, alloc)
+    check_increment::<Riscv>(&rt, alloc)?;
+    check_increment::<Win64>(&rt, alloc)
 }
 
 #[test]
@@ -71,5 +73,6 @@ fn serves_a_call_with_calls_inside(rt: HostRuntime) -> Result<(), Fail> {
     let alloc = rt.alloc();
     check_apply::<Amd64>(&rt, alloc)?;
     check_apply::<Aapcs64>(&rt, alloc)?;
-    check_apply::<Riscv>(&rt, alloc)
+    check_apply::<Riscv>(&rt, alloc)?;
+    check_apply::<Win64>(&rt, alloc)
 }

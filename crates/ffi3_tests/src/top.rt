@@ -24,6 +24,8 @@ const PLACE: &[&str] = &["ffi3", "place", "--target", "riscv"];
 
 const RUN: &[&str] = &["ffi3", "run", "--target", "amd64"];
 
+const BY_WIN64: &[&str] = &["ffi3", "run", "--target", "win64"];
+
 const READ_FAULT: &str = "ffi3: read fault\n";
 
 const WRITE_FAULT: &str = "ffi3: write fault\n";
@@ -181,11 +183,11 @@ fn says_why_words_are_refused(rt: HostRuntime) -> Result<(), Fail> {
         (&["ffi3", "place"], "Usage: ffi3 place --target <TARGET>"),
         (
             &["ffi3", "place", "--target", "i386"],
-            "[possible values: amd64, aapcs64, riscv]",
+            "[possible values: amd64, aapcs64, riscv, win64]",
         ),
         (
             &["ffi3", "run", "--target", "i386"],
-            "[possible values: amd64, aapcs64, riscv]",
+            "[possible values: amd64, aapcs64, riscv, win64]",
         ),
         (&["ffi3", "layout", "extra"], "unexpected argument 'extra'"),
         (
@@ -200,10 +202,15 @@ fn says_why_words_are_refused(rt: HostRuntime) -> Result<(), Fail> {
     Ok(())
 }
 
-/// A run over ends that move one byte at a time, and the machine after it: one entry, one return, and a mark 80 bytes down.
-#[test]
-fn goes_byte_by_byte(rt: HostRuntime) -> Result<(), Fail> {
-    let alloc = rt.alloc();
+/// A run by the words over ends that move one byte at a time, and the machine after it: one entry, one return, and the mark.
+fn check_machine(
+    rt: &impl Abort,
+    alloc: Global,
+    words: &[&str],
+    entry_sp: u64,
+    leave_sp: u64,
+    mark: u64,
+) -> Result<(), Fail> {
     let script = Vec::from_slice(alloc, INCREMENT.as_bytes())?;
     let mut input = MemSource::new(script, Vec::new(alloc)).chunk(1);
     let mut output = MemSink::new(alloc, 64, Vec::new(alloc))?.chunk(1);
@@ -211,7 +218,7 @@ fn goes_byte_by_byte(rt: HostRuntime) -> Result<(), Fail> {
     let mut machine = Machine::new(alloc)?;
     let status = call(
         alloc,
-        RUN,
+        words,
         &mut input,
         &mut output,
         &mut faults,
@@ -219,17 +226,25 @@ fn goes_byte_by_byte(rt: HostRuntime) -> Result<(), Fail> {
     )?;
     assert_eq!(rt; status, 0);
     assert_eq!(rt; output.taken(), b"42\n".as_slice());
-    assert_eq!(rt; machine.mark(), 0x7FFE_FFB0);
+    assert_eq!(rt; machine.mark(), mark);
     let events = machine.events();
     assert_eq!(rt; events.len(), 2);
     if events.len() == 2 {
         let entry = events.get(0);
         assert_eq!(rt; entry.kind, EventKind::Enter);
         assert_eq!(rt; entry.closure, 0x1_0000);
-        assert_eq!(rt; entry.sp, 0x7FFE_FFF8);
+        assert_eq!(rt; entry.sp, entry_sp);
         let leave = events.get(1);
         assert_eq!(rt; leave.kind, EventKind::Leave);
-        assert_eq!(rt; leave.sp, 0x7FFF_0000);
+        assert_eq!(rt; leave.sp, leave_sp);
     }
     Ok(())
+}
+
+/// The mark is 80 bytes down on AMD64, and 208 by Microsoft x64, whose callee has 32 bytes of the frame.
+#[test]
+fn goes_byte_by_byte(rt: HostRuntime) -> Result<(), Fail> {
+    let alloc = rt.alloc();
+    check_machine(&rt, alloc, RUN, 0x7FFE_FFF8, 0x7FFF_0000, 0x7FFE_FFB0)?;
+    check_machine(&rt, alloc, BY_WIN64, 0x7FFE_FFD8, 0x7FFE_FFE0, 0x7FFE_FF30)
 }

@@ -13,13 +13,22 @@ use std::test::Fail;
 const NESTED: &str =
     r#"{"version":1,"signatures":[{"ret":"sint64","args":["sint64"]},{"ret":"sint64","args":["pointer","sint64"]}],"functions":[{"name":"h","sig":0,"body":[{"return":{"add":[{"arg":0},5]}}]},{"name":"g","sig":0,"body":[{"call":65600,"sig":1,"args":[65536,{"arg":0}],"as":"r"},{"return":{"res":"r"}}]}],"main":[{"make":"h"},{"make":"apply"},{"make":"g"},{"make":"twice"},{"call":65728,"sig":1,"args":[65664,10],"as":"r"},{"print":{"res":"r"}},{"return":null}]}"#;
 
-const TRACED: &[&str] = &["ffi3", "run", "--target", "amd64", "--trace"];
+const AMD64: &[&str] = &["ffi3", "run", "--target", "amd64", "--trace"];
+
+const WIN64: &[&str] = &["ffi3", "run", "--target", "win64", "--trace"];
+
+/// The first lines by Microsoft x64, and the last: 18 registers are kept, and the frame of `twice` begins 32 bytes down.
+const BEGINS: &str =
+    "enter 0x100c0 sp 0x7ffeffd8 (0x10080,10)\nkeep a5a5000000000003 a5a5000000000005 a5a5000000000007 a5a5000000000006 a5a500000000000c a5a500000000000d a5a500000000000e a5a500000000000f 5a5a000000000006 5a5a000000000007 5a5a000000000008 5a5a000000000009 5a5a00000000000a 5a5a00000000000b 5a5a00000000000c 5a5a00000000000d 5a5a00000000000e 5a5a00000000000f\nenter 0x10080 sp 0x7ffeff08 (10)\n";
+
+const ENDS: &str =
+    "\nleave sp 0x7ffeffe0 20\nkeep a5a5000000000003 a5a5000000000005 a5a5000000000007 a5a5000000000006 a5a500000000000c a5a500000000000d a5a500000000000e a5a500000000000f 5a5a000000000006 5a5a000000000007 5a5a000000000008 5a5a000000000009 5a5a00000000000a 5a5a00000000000b 5a5a00000000000c 5a5a00000000000d 5a5a00000000000e 5a5a00000000000f\n20\n";
 
 /// The writes of the whole run.
 const WRITES: u64 = 29;
 
 /// The status of the traced run, and its output, where the write of this number fails.
-fn run(alloc: Global, fails: u64) -> Result<(u8, MemSink), NoMemory> {
+fn run(alloc: Global, words: &[&str], fails: u64) -> Result<(u8, MemSink), NoMemory> {
     let mut input = MemSource::new(Vec::from_slice(alloc, NESTED.as_bytes())?, Vec::new(alloc));
     let mut output = MemSink::new(alloc, 8_192, Vec::from_slice(alloc, &[fails])?)?;
     let mut faults = MemSink::new(alloc, 64, Vec::new(alloc))?;
@@ -28,7 +37,7 @@ fn run(alloc: Global, fails: u64) -> Result<(u8, MemSink), NoMemory> {
     natives.push(Box::new(alloc, Twice::new(alloc)?)?)?;
     natives.push(Box::new(alloc, Sum3::new(alloc)?)?)?;
     let mut machine = Machine::new(alloc)?;
-    let words = owned(alloc, TRACED)?;
+    let words = owned(alloc, words)?;
     let status = ffi3(
         alloc,
         words,
@@ -60,19 +69,32 @@ fn first(text: &[u8], count: usize) -> &[u8] {
     }
 }
 
-#[test]
-fn each_write_of_a_trace_fails(rt: HostRuntime) -> Result<(), Fail> {
-    let alloc = rt.alloc();
-    let (status, whole) = run(alloc, 0)?;
+/// The traced run by the words, whose output begins and ends so, and the same where each of its writes fails.
+fn check_traced(
+    rt: &impl Abort,
+    alloc: Global,
+    words: &[&str],
+    begins: &str,
+    ends: &str,
+) -> Result<(), Fail> {
+    let (status, whole) = run(alloc, words, 0)?;
     assert_eq!(rt; status, 0);
     let mut lines = 0;
     for fails in 1..=WRITES {
-        let (status, part) = run(alloc, fails)?;
+        let (status, part) = run(alloc, words, fails)?;
         assert_eq!(rt; status, 4);
         assert_eq!(rt; part.taken(), first(whole.taken(), lines));
         lines = line_end(whole.taken(), lines);
     }
     assert_eq!(rt; first(whole.taken(), lines), whole.taken());
-    assert!(rt; whole.taken().ends_with(b"\n20\n"));
+    assert!(rt; whole.taken().starts_with(begins.as_bytes()));
+    assert!(rt; whole.taken().ends_with(ends.as_bytes()));
     Ok(())
+}
+
+#[test]
+fn each_write_of_a_trace_fails(rt: HostRuntime) -> Result<(), Fail> {
+    let alloc = rt.alloc();
+    check_traced(&rt, alloc, AMD64, "enter ", "\n20\n")?;
+    check_traced(&rt, alloc, WIN64, BEGINS, ENDS)
 }

@@ -1,7 +1,8 @@
 -- Worked lines, computed.
 use Rattle.std.specs.Prelude.{◌≡◌, ℕ, List, [], ◌∷◌, ◌++◌, refl, None, codes}
 use Rattle.std.specs.Fmt.{digits}
-use Rattle.ffi3_type_rules.specs.declared.Target.TheVariants.{Aapcs64, Riscv}
+use Rattle.ffi3_type_rules.specs.declared.Target.TheVariants.{Win64}
+use Rattle.ffi3_type_rules.specs.declared.Isa.TheVariants.{Amd64, Aarch64, Riscv}
 use Rattle.ffi3_type_rules.specs.Tree.{Tree, void, scalar, struct_of, array_of, u8, s8, u16, s16, u32, s32, float, double, pointer}
 use Rattle.ffi3_type_rules.specs.Layout.{least_multiple}
 use Rattle.ffi3_type_rules.specs.Signature.{Signature, at_result, at_argument}
@@ -14,7 +15,7 @@ use Rattle.ffi3_place_rules.specs.declared.Piece.{Piece}
 use Rattle.ffi3_place_rules.specs.declared.Place.TheVariants.{Direct, ByRef}
 use Rattle.ffi3_place_rules.specs.declared.Res.TheVariants.{Hidden}
 use Rattle.ffi3_text.specs.LayoutLines.{layout_text_of}
-use Rattle.ffi3_text.specs.PlaceLines.{argument_text, result_text}
+use Rattle.ffi3_text.specs.PlaceLines.{argument_text, result_text, vectors_text}
 use Rattle.ffi3_text.specs.TraceLines.{enter_text_of, leave_text_of, register_text}
 
 abbrev sig_of : Tree → List Tree → Signature
@@ -57,7 +58,7 @@ array_of_arrays = refl
 
 -- ---- forms that the other standards have
 
-pub by_reference : argument_text Aapcs64 (ByRef (G 0) 32) ≡ codes " ref x0 copy 32"
+pub by_reference : argument_text Aarch64 (ByRef (G 0) 32) ≡ codes " ref x0 copy 32"
 unfolding digits
 by_reference = refl
 
@@ -65,7 +66,7 @@ pub by_reference_on_stack : argument_text Riscv (ByRef (S 8) 16) ≡ codes " ref
 unfolding digits
 by_reference_on_stack = refl
 
-pub hidden_in_x8 : result_text Aapcs64 (Hidden (G 8) 0) ≡ codes " hidden x8 buffer 0"
+pub hidden_in_x8 : result_text Aarch64 (Hidden (G 8) 0) ≡ codes " hidden x8 buffer 0"
 unfolding digits
 hidden_in_x8 = refl
 
@@ -83,9 +84,22 @@ pub integer_and_floating : argument_text Riscv (Direct (piece (G 10) 0 4 ∷ pie
 unfolding digits
 integer_and_floating = refl
 
-pub four_floats : argument_text Aapcs64 (Direct (piece (F 0) 0 4 ∷ piece (F 1) 4 4 ∷ piece (F 2) 8 4 ∷ piece (F 3) 12 4 ∷ [])) ≡ codes " v0:0+4 v1:4+4 v2:8+4 v3:12+4"
+pub four_floats : argument_text Aarch64 (Direct (piece (F 0) 0 4 ∷ piece (F 1) 4 4 ∷ piece (F 2) 8 4 ∷ piece (F 3) 12 4 ∷ [])) ≡ codes " v0:0+4 v1:4+4 v2:8+4 v3:12+4"
 unfolding digits
 four_floats = refl
+
+-- a variadic double on Microsoft x64 stands twice
+pub in_both_registers : argument_text Amd64 (Direct (piece (G 2) 0 8 ∷ piece (F 1) 0 8 ∷ [])) ≡ codes " rdx:0+8 xmm1:0+8"
+unfolding digits
+in_both_registers = refl
+
+pub hidden_in_rcx : result_text Amd64 (Hidden (G 1) 32) ≡ codes " hidden rcx buffer 32"
+unfolding digits
+hidden_in_rcx = refl
+
+-- Microsoft x64 has AMD64's registers, and tells no number of vector registers
+pub no_number : vectors_text Win64 2 ≡ []
+no_number = refl
 
 -- ---- lines of a trace
 

@@ -3,7 +3,9 @@ use Rattle.std.specs.Prelude.{ℕ, Bool, true, false, cond, List, [], ◌∷◌,
 use Rattle.std.specs.List.{flat_map, find, sum_by}
 use Rattle.std.specs.Fmt.{decimal}
 use Rattle.ffi3_type_rules.specs.declared.Target.{Target}
-use Rattle.ffi3_type_rules.specs.declared.Target.TheVariants.{Amd64, Aapcs64, Riscv}
+use Rattle.ffi3_type_rules.specs.declared.Target.TheVariants.{Amd64, Aapcs64, Riscv, Win64}
+use Rattle.ffi3_type_rules.specs.declared.Isa.{Isa}
+use Rattle.ffi3_type_rules.specs.Isa.{isa_of}
 use Rattle.ffi3_type_rules.specs.Signature.{Signature, Position, at_result, at_argument}
 use Rattle.ffi3_place_rules.specs.declared.Loc.{Loc}
 use Rattle.ffi3_place_rules.specs.declared.Loc.TheVariants.{S}
@@ -20,17 +22,17 @@ is_on_stack (S n) = true
 is_on_stack _ = false
 
 -- so many bytes of the value, from an offset on, stand at a place
-abbrev pub piece_text : Target → Loc → ℕ → ℕ → List ℕ
-piece_text target at off len =
-    codes " " ++ loc_name target at ++ (codes ":" ++ (decimal off ++ (codes "+" ++ decimal len)))
+abbrev pub piece_text : Isa → Loc → ℕ → ℕ → List ℕ
+piece_text isa at off len =
+    codes " " ++ loc_name isa at ++ (codes ":" ++ (decimal off ++ (codes "+" ++ decimal len)))
 
-abbrev pub register_piece_text : Target → Piece → List ℕ
-register_piece_text target p =
-    cond (is_on_stack p.loc) [] (piece_text target p.loc p.off p.len)
+abbrev pub register_piece_text : Isa → Piece → List ℕ
+register_piece_text isa p =
+    cond (is_on_stack p.loc) [] (piece_text isa p.loc p.off p.len)
 
 -- the pieces in registers, in order
-abbrev pub register_texts : Target → List Piece → List ℕ
-register_texts target ps = flat_map (register_piece_text target) ps
+abbrev pub register_texts : Isa → List Piece → List ℕ
+register_texts isa ps = flat_map (register_piece_text isa) ps
 
 abbrev pub first_on_stack : List Piece → Option Piece
 first_on_stack ps = find (λ p. is_on_stack p.loc) ps
@@ -42,24 +44,24 @@ abbrev pub bytes_on_stack : List Piece → ℕ
 bytes_on_stack ps = sum_by stack_length ps
 
 -- the pieces on the stack are told as one, which starts where the first does and has the bytes of all
-abbrev pub stack_text : Target → Option Piece → ℕ → List ℕ
-stack_text target None len = []
-stack_text target (Some p) len = piece_text target p.loc p.off len
+abbrev pub stack_text : Isa → Option Piece → ℕ → List ℕ
+stack_text isa None len = []
+stack_text isa (Some p) len = piece_text isa p.loc p.off len
 
-abbrev pub pieces_text : Target → List Piece → List ℕ
-pieces_text target ps =
-    register_texts target ps ++ stack_text target (first_on_stack ps) (bytes_on_stack ps)
+abbrev pub pieces_text : Isa → List Piece → List ℕ
+pieces_text isa ps =
+    register_texts isa ps ++ stack_text isa (first_on_stack ps) (bytes_on_stack ps)
 
-abbrev pub argument_text : Target → Place → List ℕ
-argument_text target (Direct pieces) = pieces_text target pieces
-argument_text target (ByRef at copy) =
-    codes " ref " ++ loc_name target at ++ (codes " copy " ++ decimal copy)
+abbrev pub argument_text : Isa → Place → List ℕ
+argument_text isa (Direct pieces) = pieces_text isa pieces
+argument_text isa (ByRef at copy) =
+    codes " ref " ++ loc_name isa at ++ (codes " copy " ++ decimal copy)
 
-abbrev pub result_text : Target → Res → List ℕ
-result_text target Nothing = codes " void"
-result_text target (DirectRes pieces) = pieces_text target pieces
-result_text target (Hidden at buffer) =
-    codes " hidden " ++ loc_name target at ++ (codes " buffer " ++ decimal buffer)
+abbrev pub result_text : Isa → Res → List ℕ
+result_text isa Nothing = codes " void"
+result_text isa (DirectRes pieces) = pieces_text isa pieces
+result_text isa (Hidden at buffer) =
+    codes " hidden " ++ loc_name isa at ++ (codes " buffer " ++ decimal buffer)
 
 -- argument j of a list of places
 abbrev pub argument_place : List Place → ℕ → Place
@@ -68,15 +70,16 @@ argument_place ps j = slice_index_or ps j (Direct [])
 -- THE LINE OF THE PLACES of the result or an argument
 abbrev pub place_text_of : Standard → Signature → Position → List ℕ
 place_text_of std s at_result =
-    codes "ret" ++ result_text std.target (plan_of std s).res ++ 10 ∷ []
+    codes "ret" ++ result_text (isa_of std.target) (plan_of std s).res ++ 10 ∷ []
 place_text_of std s (at_argument j) =
-    (codes "arg " ++ decimal j) ++ argument_text std.target (argument_place (plan_of std s).places j) ++ 10 ∷ []
+    (codes "arg " ++ decimal j) ++ argument_text (isa_of std.target) (argument_place (plan_of std s).places j) ++ 10 ∷ []
 
 -- the number of vector registers that arguments use, which a call tells on AMD64 alone
 abbrev pub vectors_text : Target → ℕ → List ℕ
 vectors_text Amd64 n = codes " rax " ++ decimal n
 vectors_text Aapcs64 n = []
 vectors_text Riscv n = []
+vectors_text Win64 n = []
 
 -- THE LINE OF SIGNATURE i: the bytes of stack that a call takes
 abbrev pub sig_text_of : ℕ → Standard → Signature → List ℕ

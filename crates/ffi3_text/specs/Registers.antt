@@ -1,8 +1,8 @@
 -- Names of registers, by their numbers in instructions. (Intel 64 and IA-32 Architectures Software Developer's Manual, volume 2, table 3-1; AAPCS64 6.1; RISC-V ELF psABI, "Integer Register Convention" and "Floating-point Register Convention")
 use Rattle.std.specs.Prelude.{ℕ, List, [], ◌∷◌, ◌++◌, codes, slice_index_or}
 use Rattle.std.specs.Fmt.{decimal}
-use Rattle.ffi3_type_rules.specs.declared.Target.{Target}
-use Rattle.ffi3_type_rules.specs.declared.Target.TheVariants.{Amd64, Aapcs64, Riscv}
+use Rattle.ffi3_type_rules.specs.declared.Isa.{Isa}
+use Rattle.ffi3_type_rules.specs.declared.Isa.TheVariants.{Amd64, Aarch64, Riscv}
 use Rattle.ffi3_place_rules.specs.declared.Loc.{Loc}
 use Rattle.ffi3_place_rules.specs.declared.Loc.TheVariants.{G, F, S}
 
@@ -20,18 +20,18 @@ riscv_floating =
     codes "ft0" ∷ codes "ft1" ∷ codes "ft2" ∷ codes "ft3" ∷ codes "ft4" ∷ codes "ft5" ∷ codes "ft6" ∷ codes "ft7" ∷ codes "fs0" ∷ codes "fs1" ∷ codes "fa0" ∷ codes "fa1" ∷ codes "fa2" ∷ codes "fa3" ∷ codes "fa4" ∷ codes "fa5" ∷ codes "fa6" ∷ codes "fa7" ∷ codes "fs2" ∷ codes "fs3" ∷ codes "fs4" ∷ codes "fs5" ∷ codes "fs6" ∷ codes "fs7" ∷ codes "fs8" ∷ codes "fs9" ∷ codes "fs10" ∷ codes "fs11" ∷ codes "ft8" ∷ codes "ft9" ∷ codes "ft10" ∷ codes "ft11" ∷ []
 
 -- a number past the table has no name
-abbrev pub general_name : Target → ℕ → List ℕ
+abbrev pub general_name : Isa → ℕ → List ℕ
 general_name Amd64 r = slice_index_or amd64_general r []
-general_name Aapcs64 r = codes "x" ++ decimal r
+general_name Aarch64 r = codes "x" ++ decimal r
 general_name Riscv r = slice_index_or riscv_general r []
 
-abbrev pub floating_name : Target → ℕ → List ℕ
+abbrev pub floating_name : Isa → ℕ → List ℕ
 floating_name Amd64 r = codes "xmm" ++ decimal r
-floating_name Aapcs64 r = codes "v" ++ decimal r
+floating_name Aarch64 r = codes "v" ++ decimal r
 floating_name Riscv r = slice_index_or riscv_floating r []
 
 -- a register's name; of a place on the stack its offset in bytes from the first stack argument
-abbrev pub loc_name : Target → Loc → List ℕ
-loc_name target (G r) = general_name target r
-loc_name target (F r) = floating_name target r
-loc_name target (S n) = codes "stack" ++ decimal n
+abbrev pub loc_name : Isa → Loc → List ℕ
+loc_name isa (G r) = general_name isa r
+loc_name isa (F r) = floating_name isa r
+loc_name isa (S n) = codes "stack" ++ decimal n

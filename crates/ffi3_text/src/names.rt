@@ -3,7 +3,8 @@ ghost use Rattle.std.specs.Prelude.{◌≡◌, ◌++◌, [], OnOk, map, slice_in
 ghost use Rattle.ffi3_text.specs.Registers.{general_name, floating_name, loc_name};
 
 use ffi3_place::Loc;
-use ffi3_types::{Bytes, NoMemory, Target};
+use ffi3_type_rules::Isa;
+use ffi3_types::{Bytes, NoMemory};
 use std::alloc::Global;
 
 const AMD64_GENERAL: [&str; 16] = [
@@ -31,38 +32,33 @@ fn name_in(names: &[&'static str], r: u8) -> &'static str
     if k < names.len() { names[k] } else { "" }
 }
 
-fn write_general(alloc: Global, target: Target, r: u8, text: &mut Bytes) -> Result<(), NoMemory>
-    ensures { OnOk result (text.new ≡ text.old ++ general_name target r) }
+fn write_general(alloc: Global, isa: Isa, r: u8, text: &mut Bytes) -> Result<(), NoMemory>
+    ensures { OnOk result (text.new ≡ text.old ++ general_name isa r) }
 {
-    match target {
-        Target::Amd64 => text.extend(name_in(&AMD64_GENERAL, r).as_bytes()),
-        Target::Aapcs64 => text.extend(format!(in alloc; "x{r}")?.as_bytes()),
-        Target::Riscv => text.extend(name_in(&RISCV_GENERAL, r).as_bytes()),
+    match isa {
+        Isa::Amd64 => text.extend(name_in(&AMD64_GENERAL, r).as_bytes()),
+        Isa::Aarch64 => text.extend(format!(in alloc; "x{r}")?.as_bytes()),
+        Isa::Riscv => text.extend(name_in(&RISCV_GENERAL, r).as_bytes()),
     }
 }
 
-fn write_floating(alloc: Global, target: Target, r: u8, text: &mut Bytes) -> Result<(), NoMemory>
-    ensures { OnOk result (text.new ≡ text.old ++ floating_name target r) }
+fn write_floating(alloc: Global, isa: Isa, r: u8, text: &mut Bytes) -> Result<(), NoMemory>
+    ensures { OnOk result (text.new ≡ text.old ++ floating_name isa r) }
 {
-    match target {
-        Target::Amd64 => text.extend(format!(in alloc; "xmm{r}")?.as_bytes()),
-        Target::Aapcs64 => text.extend(format!(in alloc; "v{r}")?.as_bytes()),
-        Target::Riscv => text.extend(name_in(&RISCV_FLOATING, r).as_bytes()),
+    match isa {
+        Isa::Amd64 => text.extend(format!(in alloc; "xmm{r}")?.as_bytes()),
+        Isa::Aarch64 => text.extend(format!(in alloc; "v{r}")?.as_bytes()),
+        Isa::Riscv => text.extend(name_in(&RISCV_FLOATING, r).as_bytes()),
     }
 }
 
 /// The register's name at the end of a text; of a place on the stack its offset, as `stack8`.
-pub(crate) fn write_loc(
-    alloc: Global,
-    target: Target,
-    at: Loc,
-    text: &mut Bytes,
-) -> Result<(), NoMemory>
-    ensures { OnOk result (text.new ≡ text.old ++ loc_name target at) }
+pub(crate) fn write_loc(alloc: Global, isa: Isa, at: Loc, text: &mut Bytes) -> Result<(), NoMemory>
+    ensures { OnOk result (text.new ≡ text.old ++ loc_name isa at) }
 {
     match at {
-        Loc::G(r) => write_general(alloc, target, r, text),
-        Loc::F(r) => write_floating(alloc, target, r, text),
+        Loc::G(r) => write_general(alloc, isa, r, text),
+        Loc::F(r) => write_floating(alloc, isa, r, text),
         Loc::S(n) => text.extend(format!(in alloc; "stack{n}")?.as_bytes()),
     }
 }

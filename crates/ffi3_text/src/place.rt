@@ -8,6 +8,7 @@ ghost use Rattle.ffi3_text.specs.PlaceLines.{is_on_stack, piece_text, register_p
 use crate::names::write_loc;
 use ffi3_cif::Cif;
 use ffi3_place::{Abi, Loc, Piece, Pieces, Place, Res};
+use ffi3_type_rules::Isa;
 use ffi3_types::{At, Bytes, NoMemory, Target};
 use std::alloc::Global;
 
@@ -36,7 +37,7 @@ fn write_vectors(
 {
     match target {
         Target::Amd64 => text.extend(format!(in alloc; " rax {vectors}")?.as_bytes()),
-        Target::Aapcs64 | Target::Riscv => Ok(()),
+        Target::Aapcs64 | Target::Riscv | Target::Win64 => Ok(()),
     }
 }
 
@@ -56,7 +57,7 @@ fn result_line<A: Abi>(alloc: Global, cif: &Cif<A>) -> Result<Bytes, NoMemory>
     ensures { IfOk result (λ text. text ≡ place_text_of A.standard cif.now at_result) }
 {
     let mut text = Bytes::from_slice(alloc, "ret".as_bytes())?;
-    write_result(alloc, A::TARGET, cif.result_place(), &mut text)?;
+    write_result(alloc, A::TARGET.isa(), cif.result_place(), &mut text)?;
     text.push(b'\n')?;
     Ok(text)
 }
@@ -67,114 +68,99 @@ fn argument_line<A: Abi>(alloc: Global, cif: &Cif<A>, i: u32) -> Result<Bytes, N
 {
     let start = format!(in alloc; "arg {i}")?;
     let mut text = Bytes::from_slice(alloc, start.as_bytes())?;
-    write_argument(alloc, A::TARGET, cif.place(i), &mut text)?;
+    write_argument(alloc, A::TARGET.isa(), cif.place(i), &mut text)?;
     text.push(b'\n')?;
     Ok(text)
 }
 
-fn write_result(alloc: Global, target: Target, res: &Res, text: &mut Bytes) -> Result<(), NoMemory>
-    ensures { OnOk result (text.new ≡ text.old ++ result_text target res.now) }
+fn write_result(alloc: Global, isa: Isa, res: &Res, text: &mut Bytes) -> Result<(), NoMemory>
+    ensures { OnOk result (text.new ≡ text.old ++ result_text isa res.now) }
 {
     match res {
         Res::Nothing => text.extend(" void".as_bytes()),
-        Res::Direct(pieces) => write_pieces(alloc, target, pieces, text),
+        Res::Direct(pieces) => write_pieces(alloc, isa, pieces, text),
         Res::Hidden { at, buffer } => {
             text.extend(" hidden ".as_bytes())?;
-            write_loc(alloc, target, *at, text)?;
+            write_loc(alloc, isa, *at, text)?;
             text.extend(format!(in alloc; " buffer {buffer}")?.as_bytes())
         }
     }
 }
 
-fn write_argument(
-    alloc: Global,
-    target: Target,
-    place: &Place,
-    text: &mut Bytes,
-) -> Result<(), NoMemory>
-    ensures { OnOk result (text.new ≡ text.old ++ argument_text target place.now) }
+fn write_argument(alloc: Global, isa: Isa, place: &Place, text: &mut Bytes) -> Result<(), NoMemory>
+    ensures { OnOk result (text.new ≡ text.old ++ argument_text isa place.now) }
 {
     match place {
-        Place::Direct(pieces) => write_pieces(alloc, target, pieces, text),
+        Place::Direct(pieces) => write_pieces(alloc, isa, pieces, text),
         Place::ByRef { at, copy } => {
             text.extend(" ref ".as_bytes())?;
-            write_loc(alloc, target, *at, text)?;
+            write_loc(alloc, isa, *at, text)?;
             text.extend(format!(in alloc; " copy {copy}")?.as_bytes())
         }
     }
 }
 
 /// Pieces in registers, and then all that are on the stack as one.
-fn write_pieces(
-    alloc: Global,
-    target: Target,
-    pieces: &Pieces,
-    text: &mut Bytes,
-) -> Result<(), NoMemory>
-    ensures { OnOk result (text.new ≡ text.old ++ pieces_text target pieces.now) }
+fn write_pieces(alloc: Global, isa: Isa, pieces: &Pieces, text: &mut Bytes) -> Result<(), NoMemory>
+    ensures { OnOk result (text.new ≡ text.old ++ pieces_text isa pieces.now) }
 {
-    write_registers(alloc, target, pieces, text)?;
-    write_on_stack(alloc, target, pieces, text)
+    write_registers(alloc, isa, pieces, text)?;
+    write_on_stack(alloc, isa, pieces, text)
 }
 
 fn write_on_stack(
     alloc: Global,
-    target: Target,
+    isa: Isa,
     pieces: &Pieces,
     text: &mut Bytes,
 ) -> Result<(), NoMemory>
-    ensures { OnOk result (text.new ≡ text.old ++ stack_text target (first_on_stack pieces.now) (bytes_on_stack pieces.now)) }
+    ensures { OnOk result (text.new ≡ text.old ++ stack_text isa (first_on_stack pieces.now) (bytes_on_stack pieces.now)) }
 {
     match first_on_stack(pieces) {
         None => Ok(()),
         Some(piece) => {
             let len = bytes_on_stack(pieces);
-            write_piece(alloc, target, piece.loc, piece.off, len, text)
+            write_piece(alloc, isa, piece.loc, piece.off, len, text)
         }
     }
 }
 
 fn write_registers(
     alloc: Global,
-    target: Target,
+    isa: Isa,
     pieces: &Pieces,
     text: &mut Bytes,
 ) -> Result<(), NoMemory>
-    ensures { OnOk result (text.new ≡ text.old ++ register_texts target pieces.now) }
+    ensures { OnOk result (text.new ≡ text.old ++ register_texts isa pieces.now) }
 {
     for k in 0..pieces.len() {
-        write_register(alloc, target, *pieces.get(k), text)?;
+        write_register(alloc, isa, *pieces.get(k), text)?;
     }
     Ok(())
 }
 
 /// A piece in a register; of one on the stack nothing.
-fn write_register(
-    alloc: Global,
-    target: Target,
-    piece: Piece,
-    text: &mut Bytes,
-) -> Result<(), NoMemory>
-    ensures { OnOk result (text.new ≡ text.old ++ register_piece_text target piece) }
+fn write_register(alloc: Global, isa: Isa, piece: Piece, text: &mut Bytes) -> Result<(), NoMemory>
+    ensures { OnOk result (text.new ≡ text.old ++ register_piece_text isa piece) }
 {
     if is_on_stack(piece.loc) {
         return Ok(());
     }
-    write_piece(alloc, target, piece.loc, piece.off, piece.len as u128, text)
+    write_piece(alloc, isa, piece.loc, piece.off, piece.len as u128, text)
 }
 
 fn write_piece(
     alloc: Global,
-    target: Target,
+    isa: Isa,
     at: Loc,
     off: u32,
     len: u128,
     text: &mut Bytes,
 ) -> Result<(), NoMemory>
-    ensures { OnOk result (text.new ≡ text.old ++ piece_text target at off len) }
+    ensures { OnOk result (text.new ≡ text.old ++ piece_text isa at off len) }
 {
     text.push(b' ')?;
-    write_loc(alloc, target, at, text)?;
+    write_loc(alloc, isa, at, text)?;
     text.extend(format!(in alloc; ":{off}+{len}")?.as_bytes())
 }
 

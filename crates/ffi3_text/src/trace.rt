@@ -61,7 +61,8 @@ pub fn leave_line<A: Abi>(
 }
 
 /// The line of the registers that a callee preserves, at an entry or a return: `keep`, and each
-/// register as 16 hexadecimal digits, with a newline. On AMD64 these are rbx, rbp and r12 to r15.
+/// register as 16 hexadecimal digits, with a newline. On AMD64 these are rbx, rbp and r12 to r15;
+/// on Microsoft x64 rbx, rbp, rdi, rsi, r12 to r15 and the low halves of xmm6 to xmm15.
 pub fn keep_line<A: Abi>(alloc: Global, event: &Event) -> Result<Bytes, NoMemory>
     ensures { (stack : List ℕ) → IfOk result (λ text. text ≡ keep_text_of A.standard (event_of event.now stack)) }
 {

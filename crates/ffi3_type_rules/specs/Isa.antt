@@ -8,3 +8,4 @@ abbrev pub isa_of : Target → Isa
 isa_of target.Amd64 = Amd64
 isa_of target.Aapcs64 = Aarch64
 isa_of target.Riscv = Riscv
+isa_of target.Win64 = Amd64

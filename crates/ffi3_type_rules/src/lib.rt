@@ -51,12 +51,13 @@ impl Role {
     }
 }
 
-/// The standard that a call follows: System V AMD64, Arm AAPCS64, or RISC-V with LP64D.
+/// The standard that a call follows: System V AMD64, Arm AAPCS64, RISC-V with LP64D, or Microsoft x64.
 #[derive(Clone, Copy, Debug, PartialEq, Eq)]
 pub enum Target {
     Amd64,
     Aapcs64,
     Riscv,
+    Win64,
 }
 
 /// The instruction set of a target: of its decoder, its trampolines and its registers' numbers.
@@ -76,6 +77,7 @@ impl Target {
             Target::Amd64 => Isa::Amd64,
             Target::Aapcs64 => Isa::Aarch64,
             Target::Riscv => Isa::Riscv,
+            Target::Win64 => Isa::Amd64,
         }
     }
 }

@@ -18,7 +18,8 @@ fn is_leaf_of(value: &Value, n: usize) -> bool
     }
 }
 
-/// Whether the value has the type's shape and lengths. Nothing fits a kind that is left out.
+/// Whether the value has the type's shape and lengths. Nothing fits a kind that is left out, or an array that has no
+/// element type.
 #[cycle(fits)]
 pub fn fits(value: &Value, ty: &FfiType) -> bool
     ensures { result ≡ fits (tree_of ty.now) (value_of value.now) }

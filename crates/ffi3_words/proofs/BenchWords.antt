@@ -6,7 +6,7 @@ use Rattle.std.specs.Str.{bytes_eq}
 use Rattle.clap.specs.Kinds.{Kinds, or_else}
 use Rattle.clap.specs.Lexer.{long_of}
 use Rattle.clap.specs.Words.{App, Row, Rule, Shape, Text, fault_of, subcommand_of, built}
-use Rattle.clap.specs.Walk.{Held, Step, Waiting, Walk, after_step, finished, idle, long_or_other, nothing_held, option, plain_word, rows_after, settled, short_or_plain, trailing, walk, walked}
+use Rattle.clap.specs.Walk.{Held, Step, Waiting, Walk, after_step, finished, idle, long_or_other, nothing_held, option, plain_word, rows_after, settled, short_or_plain, trailing, walked}
 use Rattle.clap.specs.Simple.{built_leaf, inherited, names_of}
 use Rattle.clap.specs.Faults.{bundle_fault, check_fault, defaults_fault, flag_word_fault, level_fault, settle_fault, step_fault, turn_fault, walk_fault}
 use Rattle.clap.specs.declared.builder.value_parser.Reading.TheVariants as reading

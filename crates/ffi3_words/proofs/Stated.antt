@@ -3,7 +3,7 @@ use Rattle.std.proofs.Common.{◌≡◌, true, false, List, [], ◌∷◌, codes
 use Rattle.clap.specs.Words.{Text, fault_of, subcommand_of}
 use Rattle.clap.proofs.OnLiterals.{clap_on_literals}
 use Rattle.ffi3_type_rules.specs.declared.Target.{Target}
-use Rattle.ffi3_type_rules.specs.declared.Target.TheVariants.{Amd64, Aapcs64, Riscv}
+use Rattle.ffi3_type_rules.specs.declared.Target.TheVariants.{Amd64, Aapcs64, Riscv, Win64}
 use Rattle.ffi3_words.specs.declared.words.Request.{Request}
 use Rattle.ffi3_words.specs.declared.words.Request.TheVariants.{Layout, Place, Run, Bench}
 use Rattle.ffi3_words.specs.WordCommands.{Addresses, asked, program}
@@ -25,24 +25,28 @@ module _ (at at' : Addresses) (name : Text) where
   places Amd64 = (refl, refl)
   places Aapcs64 = (refl, refl)
   places Riscv = (refl, refl)
+  places Win64 = (refl, refl)
 
   runs : (t : Target) → Reads (codes "run" ∷ codes "--target" ∷ target_word t ∷ []) (Run t false)
   unfolding clap_on_literals
   runs Amd64 = (refl, refl)
   runs Aapcs64 = (refl, refl)
   runs Riscv = (refl, refl)
+  runs Win64 = (refl, refl)
 
   traces_first : (t : Target) → Reads (codes "run" ∷ codes "--trace" ∷ codes "--target" ∷ target_word t ∷ []) (Run t true)
   unfolding clap_on_literals
   traces_first Amd64 = (refl, refl)
   traces_first Aapcs64 = (refl, refl)
   traces_first Riscv = (refl, refl)
+  traces_first Win64 = (refl, refl)
 
   traces_last : (t : Target) → Reads (codes "run" ∷ codes "--target" ∷ target_word t ∷ codes "--trace" ∷ []) (Run t true)
   unfolding clap_on_literals
   traces_last Amd64 = (refl, refl)
   traces_last Aapcs64 = (refl, refl)
   traces_last Riscv = (refl, refl)
+  traces_last Win64 = (refl, refl)
 
   states : (rest : List Text) (r : Request) → StatesAfterName rest r → Reads rest r
   states rest Layout is = subst (λ ws. Reads ws Layout) (sym is) lays

@@ -3,7 +3,7 @@ use Rattle.std.specs.Prelude.{◌≡◌, ◌⊎◌, ◌<◌, ◌≤◌, ◌^◌,
 use Rattle.clap.specs.Words.{Text, fault_of, subcommand_of}
 use Rattle.ffi3_type_rules.specs.declared.limits.TheConstants.{MOST_CALLS}
 use Rattle.ffi3_type_rules.specs.declared.Target.{Target}
-use Rattle.ffi3_type_rules.specs.declared.Target.TheVariants.{Amd64, Aapcs64, Riscv}
+use Rattle.ffi3_type_rules.specs.declared.Target.TheVariants.{Amd64, Aapcs64, Riscv, Win64}
 use Rattle.ffi3_words.specs.declared.words.Request.{Request}
 use Rattle.ffi3_words.specs.declared.words.Request.TheVariants.{Layout, Place, Run, Bench}
 use Rattle.ffi3_words.specs.WordCommands.{Addresses, LacksNumbers, program, asked}
@@ -12,6 +12,7 @@ abbrev pub target_word : Target → Text
 target_word Amd64 = codes "amd64"
 target_word Aapcs64 = codes "aapcs64"
 target_word Riscv = codes "riscv"
+target_word Win64 = codes "win64"
 
 -- the words after the program's name ask for this
 abbrev pub StatesAfterName : List Text → Request → Type 0

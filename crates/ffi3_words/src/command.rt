@@ -10,7 +10,7 @@ use clap::{Arg, ArgAction, Command};
 use std::alloc::{AllocError, Global};
 
 /// The words of the targets.
-static TARGETS: [&str; 3] = ["amd64", "aapcs64", "riscv"];
+static TARGETS: [&str; 4] = ["amd64", "aapcs64", "riscv", "win64"];
 
 /// The program, its commands and their options.
 pub fn program<'a>(alloc: Global) -> Result<Command<'a>, AllocError>

@@ -18,6 +18,7 @@ pub const AFTER_HELP: &str = "Targets:
   amd64    System V psABI for AMD64
   aapcs64  procedure call standard for the Arm 64-bit architecture
   riscv    RISC-V psABI, LP64D
+  win64    Microsoft x64 calling convention
 
 Exit status:
   0  done
@@ -82,6 +83,7 @@ pub const PLACE_AFTER_HELP: &str = "Targets:
   amd64    System V psABI for AMD64
   aapcs64  procedure call standard for the Arm 64-bit architecture
   riscv    RISC-V psABI, LP64D
+  win64    Microsoft x64 calling convention
 
 Exit status:
   0  done
@@ -101,7 +103,7 @@ pub const RUN_LONG_ABOUT: &str = "Run the script on a modelled machine.
 Reads a script of at most 1,048,576 bytes from standard input. Does what its
 main function says: makes closures, calls them by the calling convention of
 the target, and writes the lines that the script prints. Registers, stack and
-closure code are modelled in software, for each of the three targets alike: no
+closure code are modelled in software, for each of the four targets alike: no
 code of the host is called.
 
 With --trace, before the target or after it, each call of a closure writes two
@@ -122,6 +124,7 @@ pub const RUN_AFTER_HELP: &str = "Targets:
   amd64    System V psABI for AMD64
   aapcs64  procedure call standard for the Arm 64-bit architecture
   riscv    RISC-V psABI, LP64D
+  win64    Microsoft x64 calling convention
 
 Exit status:
   0  done
@@ -140,14 +143,14 @@ pub const TARGET_HELP: &str = "Follow the calling convention of this target";
 
 pub const TRACE_HELP: &str = "Write lines for each call's entry and return too";
 
-pub const BENCH_ABOUT: &str = "Run a made script on all three targets";
+pub const BENCH_ABOUT: &str = "Run a made script on amd64, aapcs64 and riscv";
 
-pub const BENCH_LONG_ABOUT: &str = "Run a made script on all three targets.
+pub const BENCH_LONG_ABOUT: &str = "Run a made script on amd64, aapcs64 and riscv.
 
 Reads no input. A script is made from the seed: four signatures with arguments
 of eight types, four functions of which each calls the one before it, and a
 main function that makes that many calls and prints the last result. It is run
-on each target, and a line is written for each:
+on each of these targets, and a line is written for each:
 
   amd64 calls 8 moves 22 need 160 result 543
 

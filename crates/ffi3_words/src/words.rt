@@ -23,7 +23,7 @@ pub enum Request {
     Place { target: Target },
     /// A run on a modelled machine, with the lines of a trace or without.
     Run { target: Target, trace: bool },
-    /// The made script of a seed and a number of calls, from 1 to 1000, on all three targets.
+    /// The made script of a seed and a number of calls, from 1 to 1000, on amd64, aapcs64 and riscv.
     Bench { seed: u32, calls: u32 },
 }
 
@@ -150,6 +150,9 @@ fn target_of(word: &str) -> Option<Target>
     }
     if word == "riscv" {
         return Some(Target::Riscv);
+    }
+    if word == "win64" {
+        return Some(Target::Win64);
     }
     None
 }

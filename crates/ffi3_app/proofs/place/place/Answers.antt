@@ -1,4 +1,4 @@
-use Rattle.ffi3_type_rules.specs.declared.Target.TheVariants.{Amd64, Aapcs64, Riscv}
+use Rattle.ffi3_type_rules.specs.declared.Target.TheVariants.{Amd64, Aapcs64, Riscv, Win64}
 use Rattle.ffi3_script.specs.ScriptOf.{script_of}
 use Rattle.ffi3_app.proofs.Pieces.{placed_by}
 use Rattle.ffi3_app.proofs.place.place.Goals as goal
@@ -14,3 +14,7 @@ returns-in-Aapcs64 g c =
 pub returns-in-Riscv : goal.returns-in-Riscv
 returns-in-Riscv g c =
     placed_by c.args.target Riscv (script_of c.args.script.now) _ _ c.place_by-in-Riscv.result c.in-Riscv.is c.place_by-in-Riscv.ensures
+
+pub returns-in-Win64 : goal.returns-in-Win64
+returns-in-Win64 g c =
+    placed_by c.args.target Win64 (script_of c.args.script.now) _ _ c.place_by-in-Win64.result c.in-Win64.is c.place_by-in-Win64.ensures

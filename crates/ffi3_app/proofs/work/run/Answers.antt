@@ -1,4 +1,4 @@
-use Rattle.ffi3_type_rules.specs.declared.Target.TheVariants.{Amd64, Aapcs64, Riscv}
+use Rattle.ffi3_type_rules.specs.declared.Target.TheVariants.{Amd64, Aapcs64, Riscv, Win64}
 use Rattle.ffi3_script.specs.ScriptOf.{script_of}
 use Rattle.ffi3_ask.specs.Handed.{handed}
 use Rattle.ffi3_app.proofs.Running.{failed_by_target, refused_by_target, run_by_target}
@@ -39,3 +39,15 @@ returns-in-Riscv-clause-failed g c =
 pub returns-in-Riscv-clause-refused : goal.returns-in-Riscv-clause-refused
 returns-in-Riscv-clause-refused g c =
     refused_by_target (handed _ _ _ c.args.natives.now.items) (script_of c.args.script.now) (g.O.Sink.state c.args.output.now) (g.O.Sink.state c.run_by-in-Riscv.new.output) c.args.machine.now c.run_by-in-Riscv.new.machine c.args.trace c.args.target Riscv c.run_by-in-Riscv.result c.in-Riscv.is c.run_by-in-Riscv.ensures.refused
+
+pub returns-in-Win64-clause-done : goal.returns-in-Win64-clause-done
+returns-in-Win64-clause-done g c =
+    run_by_target (handed _ _ _ c.args.natives.now.items) (script_of c.args.script.now) (g.O.Sink.state c.args.output.now) (g.O.Sink.state c.run_by-in-Win64.new.output) c.args.machine.now c.run_by-in-Win64.new.machine c.args.trace c.args.target Win64 c.run_by-in-Win64.result c.in-Win64.is c.run_by-in-Win64.ensures.done
+
+pub returns-in-Win64-clause-failed : goal.returns-in-Win64-clause-failed
+returns-in-Win64-clause-failed g c =
+    failed_by_target (handed _ _ _ c.args.natives.now.items) (script_of c.args.script.now) (g.O.Sink.state c.args.output.now) (g.O.Sink.state c.run_by-in-Win64.new.output) c.args.machine.now c.run_by-in-Win64.new.machine c.args.trace c.args.target Win64 c.run_by-in-Win64.result c.in-Win64.is c.run_by-in-Win64.ensures.failed
+
+pub returns-in-Win64-clause-refused : goal.returns-in-Win64-clause-refused
+returns-in-Win64-clause-refused g c =
+    refused_by_target (handed _ _ _ c.args.natives.now.items) (script_of c.args.script.now) (g.O.Sink.state c.args.output.now) (g.O.Sink.state c.run_by-in-Win64.new.output) c.args.machine.now c.run_by-in-Win64.new.machine c.args.trace c.args.target Win64 c.run_by-in-Win64.result c.in-Win64.is c.run_by-in-Win64.ensures.refused

@@ -111,16 +111,6 @@ returns-clause-sp g c =
     let received = subst (λ x. IsReceived std s x c.receive.new.machine) e_is c.receive.ensures.received in
     received.sp
 
-pub returns-clause-pc : goal.returns-clause-pc
-returns-clause-pc g c =
-    let std = g.A.Abi.standard in
-    let s = c.args.cif.now in
-    let m = c.args.machine.now in
-    let sized : c.LINK.result + c.frame.result ≡ std.link + frame_of std s = omega (arith, c.LINK.ensures, g.met.A.Abi.link_is, c.frame.ensures) in
-    let e_is = c.enter.ensures ∙ ap (λ k. after_enter k m) sized in
-    let received = subst (λ x. IsReceived std s x c.receive.new.machine) e_is c.receive.ensures.received in
-    received.within.pc ∙ c.requires.entry
-
 pub returns-clause-within : goal.returns-clause-within
 returns-clause-within g c =
     let std = g.A.Abi.standard in

@@ -35,3 +35,8 @@ take_text-requires-clause-frame g c =
     let done : c.serve.result ≡ run.Done = search rules in
     let cifs_are = c.cifs-2.ensures ∙ ap (λ x. x.cifs) c.serve.ensures.prepared ∙ sym c.cifs.ensures in
     frame g.A.Abi.standard _ c.cifs.result.now c.run_main.new.self.board.table c.table.result.now _ c.show_at.new.machine c.in_ok-shown.shown c.in-Some.sig c.in_ok-shown.ensures.shown c.in-Some.is c.table.ensures are c.run_main.new.self.board c.serve.new.self.board c.serve.new.machine _ _ c.serve.result done refl c.serve.ensures.served c.get.result.now (c.get.ensures ∙ ap (λ (l : List Signature). signature_at l c.in-Some.sig) cifs_are)
+
+pub show_at-requires-clause-target : goal.show_at-requires-clause-target
+show_at-requires-clause-target g c =
+    let done : c.run_main.result ≡ run.Done = search rules in
+    (c.run_main.ensures.done done).target ∙ g.met.A.Abi.target_is

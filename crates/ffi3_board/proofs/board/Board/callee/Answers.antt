@@ -1,4 +1,4 @@
-use Rattle.std.proofs.Common.{◌≡◌, ℕ, ◌+◌, ◌-◌, ◌<◌, ◌≤◌, Bool, true, false, sym, ap, ◌∙◌, arith}
+use Rattle.std.proofs.Common.{◌≡◌, ℕ, ◌+◌, ◌-◌, ◌<◌, ◌≤◌, Bool, true, false, length, sym, ap, ◌∙◌, arith}
 use Rattle.std.proofs.lemmas.Bool.{lt-ltb, le-ltb}
 use Rattle.ffi3_type_rules.specs.declared.limits.TheConstants.{STACK}
 use Rattle.ffi3_type_rules.specs.Signature.{Signature, signature_at}
@@ -7,6 +7,7 @@ use Rattle.ffi3_run_rules.specs.declared.Stop.TheVariants.{StackFull}
 use Rattle.ffi3_run_rules.specs.Meaning.{Program, stops, need_at}
 use Rattle.ffi3_caller.specs.declared.StackFull as caller
 use Rattle.ffi3_board.proofs.Acts.{call_is_wrong, call_has_no_room, call_enters}
+use Rattle.ffi3_board.proofs.Closed.{below_at}
 use Rattle.ffi3_board.proofs.Tests.{same_signatures, other_signatures}
 use Rattle.ffi3_board.proofs.Transports.{numbered}
 use Rattle.ffi3_board.proofs.board.Board.callee.Goals as goal
@@ -24,6 +25,17 @@ need_is p std sig s needs site =
 full_is : (need need' left left' : ℕ) → need ≡ need' → left ≡ left' → stops (StackFull need left) ≡ stops (StackFull need' left')
 full_is need need' left left' a b =
     ap (λ (n : ℕ). stops (StackFull n left)) a ∙ ap (λ (n : ℕ). stops (StackFull need' n)) b
+
+pub get-requires : goal.get-requires
+get-requires g c =
+    let found = below_at (length c.args.cifs.now) c.args.self.now.table c.args.ptr c.in-Some.closure c.requires.below (sym c.find.ensures.value ∙ c.in-Some.is) in
+    omega (arith, c.requires.site, found)
+
+pub returns-then-not-same_sig-clause-numbers : goal.returns-then-not-same_sig-clause-numbers
+returns-then-not-same_sig-clause-numbers g c = (
+  c.requires.site,
+  below_at (length c.args.cifs.now) c.args.self.now.table c.args.ptr c.in-Some.closure c.requires.below (sym c.find.ensures.value ∙ c.in-Some.is),
+)
 
 pub returns-then-not-same_sig-clause-does : goal.returns-then-not-same_sig-clause-does
 returns-then-not-same_sig-clause-does g c = λ p a args signatures needs left.

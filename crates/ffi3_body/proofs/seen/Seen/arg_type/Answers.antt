@@ -1,7 +1,8 @@
 use Rattle.std.proofs.Common.{◌≡◌, length, arith}
 use Rattle.ffi3_type_rules.specs.Tree.{tree_at}
 use Rattle.ffi3_type_rules.specs.Signature.{SignatureHasNoFault}
-use Rattle.ffi3_type_rules.proofs.Right.{argument_is_laid_out}
+use Rattle.ffi3_type_rules.proofs.Faults.{argument_is_result}
+use Rattle.ffi3_type_rules.proofs.Right.{argument_is_laid_out, argument_is_right}
 use Rattle.ffi3_place_rules.specs.Standard.{block_bytes}
 use Rattle.ffi3_types.specs.TreeOf.{tree_of}
 use Rattle.ffi3_body.proofs.Blocks.{size_small, whole_within, block_small}
@@ -16,6 +17,7 @@ returns c =
     record {
       is = is;
       right = rw is (argument_is_laid_out s right c.args.i c.requires);
+      as_result = rw is (argument_is_result 0 (tree_at s.arguments c.args.i) (argument_is_right s right c.args.i c.requires));
       small = rw is (size_small s right c.args.i c.requires);
       within = rw is (omega (arith, sized, whole_within s c.args.i c.requires));
       bound = omega (arith, sized, block_small s right);

@@ -1,0 +1,27 @@
+-- The standard's calls can lead through the stubs of its target.
+use Rattle.std.proofs.Common.{refl}
+use Rattle.ffi3_type_rules.specs.declared.Isa.TheVariants.{Amd64}
+use Rattle.ffi3_type_rules.specs.Signature.{Signature}
+use Rattle.ffi3_place_rules.specs.declared.Loc.TheVariants.{G}
+use Rattle.ffi3_place_rules.specs.Isa.{call_loads, entry_stores, listed, result_loads}
+use Rattle.ffi3_place_rules.specs.ByStubs.{stub_scratch, AgreesWithStubs, ResultGoesByStubs}
+use Rattle.ffi3_place_rules.proofs.Forbidden.{each_none_of, each_one_of, one_of}
+use Rattle.ffi3_amd64_rules.specs.Amd64.{amd64}
+use Rattle.ffi3_amd64_rules.proofs.Sound.{result_loaded, hidden_saved}
+
+pub by_stubs : AgreesWithStubs amd64
+by_stubs = record {
+  area = refl;
+  area_size = refl;
+  arguments_loaded = each_one_of (call_loads Amd64) amd64.argument_registers refl;
+  count_loaded = each_one_of (call_loads Amd64) (listed amd64.vector_count) refl;
+  arguments_stored = each_one_of (entry_stores Amd64) amd64.argument_registers refl;
+  closure_stored = one_of (entry_stores Amd64) (G amd64.closure_register) refl;
+  returned_loaded = each_one_of (result_loads Amd64) (listed amd64.returned_address) refl;
+  preserved_kept = each_none_of (stub_scratch Amd64) amd64.preserved refl;
+  reserved_kept = each_none_of (stub_scratch Amd64) amd64.reserved refl;
+  arguments_kept = each_none_of (stub_scratch Amd64) amd64.argument_registers refl;
+}
+
+pub result_by_stubs : (s : Signature) → ResultGoesByStubs amd64 s
+result_by_stubs s = record { loaded = result_loaded s; hidden = hidden_saved s }

@@ -1,0 +1,27 @@
+-- The standard's calls can lead through the stubs of its target.
+use Rattle.std.proofs.Common.{refl}
+use Rattle.ffi3_type_rules.specs.declared.Isa.TheVariants as isa
+use Rattle.ffi3_type_rules.specs.Signature.{Signature}
+use Rattle.ffi3_place_rules.specs.declared.Loc.TheVariants.{G}
+use Rattle.ffi3_place_rules.specs.Isa.{call_loads, entry_stores}
+use Rattle.ffi3_place_rules.specs.ByStubs.{stub_scratch, AgreesWithStubs, ResultGoesByStubs}
+use Rattle.ffi3_place_rules.proofs.Forbidden.{each_none_of, each_one_of, one_of}
+use Rattle.ffi3_riscv_rules.specs.Riscv.{riscv}
+use Rattle.ffi3_riscv_rules.proofs.Sound.{result_loaded, hidden_saved}
+
+pub by_stubs : AgreesWithStubs riscv
+by_stubs = record {
+  area = refl;
+  area_size = refl;
+  arguments_loaded = each_one_of (call_loads isa.Riscv) riscv.argument_registers refl;
+  count_loaded = tt;
+  arguments_stored = each_one_of (entry_stores isa.Riscv) riscv.argument_registers refl;
+  closure_stored = one_of (entry_stores isa.Riscv) (G riscv.closure_register) refl;
+  returned_loaded = tt;
+  preserved_kept = each_none_of (stub_scratch isa.Riscv) riscv.preserved refl;
+  reserved_kept = each_none_of (stub_scratch isa.Riscv) riscv.reserved refl;
+  arguments_kept = each_none_of (stub_scratch isa.Riscv) riscv.argument_registers refl;
+}
+
+pub result_by_stubs : (s : Signature) → ResultGoesByStubs riscv s
+result_by_stubs s = record { loaded = result_loaded s; hidden = hidden_saved s }

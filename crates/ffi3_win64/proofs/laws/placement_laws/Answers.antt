@@ -1,0 +1,9 @@
+use Rattle.ffi3_win64_rules.proofs.Alike.{goes_by_layout}
+use Rattle.ffi3_win64_rules.proofs.Positions.{by_position}
+use Rattle.ffi3_win64.proofs.laws.placement_laws.Goals as goal
+
+pub returns-clause-positions : goal.returns-clause-positions
+returns-clause-positions c = by_position c.args._sig.now
+
+pub returns-clause-by_layout : goal.returns-clause-by_layout
+returns-clause-by_layout c = goes_by_layout

@@ -1,0 +1,69 @@
+-- Each piece of a value has all of it.
+use Rattle.std.proofs.Common.{◌≡◌, ℕ, ◌+◌, ◌≤◌, Bool, true, false, not, ◌&&◌, ltb, cond, List, [], ◌∷◌, refl, arith}
+use Rattle.std.specs.List.{AllByRecursion}
+use Rattle.std.proofs.lemmas.Bool.Decides.{nat_tests}
+use Rattle.ffi3_type_rules.specs.Tree.{Tree, void, scalar, left_out, structure, array, Scalar, u8, s8, u16, s16, u32, s32}
+use Rattle.ffi3_type_rules.specs.Layout.{size_of}
+use Rattle.ffi3_place_rules.specs.declared.Loc.{Loc}
+use Rattle.ffi3_place_rules.specs.declared.Loc.TheVariants.{G, F}
+use Rattle.ffi3_place_rules.specs.Standard.{in_pieces, by_reference, place_at, places_from, copy_end}
+use Rattle.ffi3_place_rules.specs.Doublewords.{widening}
+use Rattle.ffi3_place_rules.specs.Sound.{IsExtended, IsPieceOf, HaveAll, PlaceHasAll, PlacesHaveAll}
+use Rattle.ffi3_place_rules.proofs.Covered.{covers_leaves}
+use Rattle.ffi3_win64_rules.specs.Win64.{is_whole_size, is_copied, is_floating_type, argument_register, position_place, floating_places, whole, whole_in, argument_pieces, spot_at, spots_from}
+
+-- ---- what is not copied has at most eight bytes
+
+small_size : (n : ℕ) → not (is_whole_size n) ≡ false → n ≤ 8
+small_size n h = grind (arith, nat_tests)
+
+pub small : (t : Tree) → is_copied t ≡ false → size_of t ≤ 8
+small t h = small_size (size_of t) h
+
+-- ---- pieces
+
+scalar_extended : (s : Scalar) (at : Loc) → IsExtended (scalar s) (whole at (scalar s)) (widening (scalar s))
+scalar_extended u8 at = (refl, refl, refl)
+scalar_extended s8 at = (refl, refl, refl)
+scalar_extended u16 at = (refl, refl, refl)
+scalar_extended s16 at = (refl, refl, refl)
+scalar_extended u32 at = (refl, refl, refl)
+scalar_extended s32 at = (refl, refl, refl)
+scalar_extended _ at = tt
+
+-- only a lone narrow integer is extended
+whole_extended : (t : Tree) (at : Loc) → IsExtended t (whole at t) (widening t)
+whole_extended void at = tt
+whole_extended (scalar s) at = scalar_extended s at
+whole_extended (left_out k) at = tt
+whole_extended (structure ts) at = tt
+whole_extended (array ts n) at = tt
+
+whole_are_pieces : (t : Tree) → size_of t ≤ 8 → (ls : List Loc) → AllByRecursion (IsPieceOf t) (whole_in t ls)
+whole_are_pieces t h [] = tt
+whole_are_pieces t h (l ∷ ls) =
+    (record { short = h; within = omega arith; extended = whole_extended t l }, whole_are_pieces t h ls)
+
+-- all of it in one place, and in others
+pub whole_has_all : (t : Tree) → is_copied t ≡ false → (l : Loc) (ls : List Loc) → HaveAll t (whole_in t (l ∷ ls))
+whole_has_all t h l ls = record {
+  each = whole_are_pieces t (small t h) (l ∷ ls);
+  covered = covers_leaves t (whole_in t (l ∷ ls)) (λ o fits. (0, whole l t, omega arith, refl, (omega arith, omega (arith, fits))));
+}
+
+-- ---- arguments
+
+pieces_have_all_if : (variadic : Bool) (p : ℕ) (t : Tree) (b : Bool) → is_copied t ≡ false → HaveAll t (whole_in t (cond b (floating_places variadic p) (position_place p ∷ [])))
+pieces_have_all_if true p t true h = whole_has_all t h (G (argument_register p)) (F p ∷ [])
+pieces_have_all_if false p t true h = whole_has_all t h (F p) []
+pieces_have_all_if variadic p t false h = whole_has_all t h (position_place p) []
+
+spot_has_all_if : (start : ℕ → Tree → ℕ) (end : ℕ) (variadic : Bool) (p : ℕ) (t : Tree) (copied : Bool) → is_copied t ≡ copied → PlaceHasAll t (place_at start end t (cond copied (by_reference (position_place p)) (in_pieces (argument_pieces variadic p t))))
+spot_has_all_if start end variadic p t true e = tt
+spot_has_all_if start end variadic p t false e =
+    pieces_have_all_if variadic p t (is_floating_type t && ltb p 4) e
+
+pub arguments_have_all : (start : ℕ → Tree → ℕ) (end : ℕ) (variadic : Bool) (p : ℕ) (ts : List Tree) → PlacesHaveAll ts (places_from start end ts (spots_from variadic p ts))
+arguments_have_all start end variadic p [] = tt
+arguments_have_all start end variadic p (t ∷ ts) =
+    (spot_has_all_if start end variadic p t (is_copied t) refl, arguments_have_all start (copy_end start end t (spot_at variadic p t)) variadic (p + 1) ts)

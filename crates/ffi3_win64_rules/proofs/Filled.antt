@@ -1,0 +1,75 @@
+-- The rest of each place is filled as the standard says: a lone narrow integer is extended by its sign, all else is free.
+use Rattle.std.proofs.Common.{◌≡◌, ℕ, ◌+◌, ◌*◌, Bool, true, false, ◌&&◌, ltb, cond, List, [], ◌∷◌, refl}
+use Rattle.std.specs.List.{AllByRecursion}
+use Rattle.ffi3_type_rules.specs.Tree.{Tree, void, scalar, left_out, structure, array, Scalar, u8, s8, u16, s16, u32, s32, u64, s64, u128, s128, float, double, pointer}
+use Rattle.ffi3_place_rules.specs.declared.Loc.{Loc}
+use Rattle.ffi3_place_rules.specs.declared.Loc.TheVariants.{G, F, S}
+use Rattle.ffi3_place_rules.specs.declared.Ext.TheVariants.{Widen}
+use Rattle.ffi3_place_rules.specs.Standard.{in_pieces, by_reference, place_at, places_from, copy_end}
+use Rattle.ffi3_place_rules.specs.Sound.{is_floating_place, IsFilled, PlaceIsFilled, PlacesAreFilled}
+use Rattle.ffi3_place_rules.proofs.Filled.{narrow_filling}
+use Rattle.ffi3_win64_rules.specs.Win64.{win64, is_copied, is_floating_type, argument_register, position_place, floating_places, whole, whole_in, argument_pieces, result_place, spot_at, spots_from}
+
+differ : (b : Bool) → b ≡ true → b ≡ false → ⊥
+differ b h k = cc
+
+-- a piece that is in no vector register
+plain_filled : (t : Tree) (at : Loc) → is_floating_place at ≡ false → IsFilled win64 t (whole at t)
+plain_filled t at plain =
+    record { narrow = narrow_filling Widen t; single = λ h k. absurd (differ (is_floating_place at) h plain) }
+
+-- floating-point, in any place
+scalar_filled : (s : Scalar) (at : Loc) → is_floating_type (scalar s) ≡ true → IsFilled win64 (scalar s) (whole at (scalar s))
+scalar_filled float at e = record { narrow = λ h. cc; single = λ h k. refl }
+scalar_filled double at e = record { narrow = λ h. cc; single = λ h k. refl }
+scalar_filled u8 at e = cc
+scalar_filled s8 at e = cc
+scalar_filled u16 at e = cc
+scalar_filled s16 at e = cc
+scalar_filled u32 at e = cc
+scalar_filled s32 at e = cc
+scalar_filled u64 at e = cc
+scalar_filled s64 at e = cc
+scalar_filled u128 at e = cc
+scalar_filled s128 at e = cc
+scalar_filled pointer at e = cc
+
+floating_filled : (t : Tree) (at : Loc) → is_floating_type t ≡ true → IsFilled win64 t (whole at t)
+floating_filled void at e = cc
+floating_filled (scalar s) at e = scalar_filled s at e
+floating_filled (left_out k) at e = cc
+floating_filled (structure ts) at e = cc
+floating_filled (array ts n) at e = cc
+
+position_is_plain : (p : ℕ) → is_floating_place (position_place p) ≡ false
+position_is_plain p = by_test (ltb p 4)
+  where
+    by_test : (b : Bool) → is_floating_place (cond b (G (argument_register p)) (S (8 * p))) ≡ false
+    by_test true = refl
+    by_test false = refl
+
+-- ---- arguments
+
+pieces_filled_if : (variadic : Bool) (p : ℕ) (t : Tree) (f l : Bool) → is_floating_type t ≡ f → AllByRecursion (IsFilled win64 t) (whole_in t (cond (f && l) (floating_places variadic p) (position_place p ∷ [])))
+pieces_filled_if true p t true true e = (floating_filled t (G (argument_register p)) e, (floating_filled t (F p) e, tt))
+pieces_filled_if false p t true true e = (floating_filled t (F p) e, tt)
+pieces_filled_if variadic p t true false e = (plain_filled t (position_place p) (position_is_plain p), tt)
+pieces_filled_if variadic p t false l e = (plain_filled t (position_place p) (position_is_plain p), tt)
+
+spot_filled_if : (start : ℕ → Tree → ℕ) (end : ℕ) (variadic : Bool) (p : ℕ) (t : Tree) (copied : Bool) → PlaceIsFilled win64 t (place_at start end t (cond copied (by_reference (position_place p)) (in_pieces (argument_pieces variadic p t))))
+spot_filled_if start end variadic p t true = tt
+spot_filled_if start end variadic p t false = pieces_filled_if variadic p t (is_floating_type t) (ltb p 4) refl
+
+pub arguments_filled : (start : ℕ → Tree → ℕ) (end : ℕ) (variadic : Bool) (p : ℕ) (ts : List Tree) → PlacesAreFilled win64 ts (places_from start end ts (spots_from variadic p ts))
+arguments_filled start end variadic p [] = tt
+arguments_filled start end variadic p (t ∷ ts) =
+    (spot_filled_if start end variadic p t (is_copied t), arguments_filled start (copy_end start end t (spot_at variadic p t)) variadic (p + 1) ts)
+
+-- ---- a result
+
+result_filled_if : (t : Tree) (f : Bool) → is_floating_type t ≡ f → IsFilled win64 t (whole (cond f (F 0) (G 0)) t)
+result_filled_if t true e = floating_filled t (F 0) e
+result_filled_if t false e = plain_filled t (G 0) refl
+
+pub result_filled : (t : Tree) → AllByRecursion (IsFilled win64 t) (whole (result_place t) t ∷ [])
+result_filled t = (result_filled_if t (is_floating_type t) refl, tt)
