@@ -1,7 +1,10 @@
+pub mod Coming
 pub mod Inputs
 pub mod Naming
+pub mod Outcomes
 pub mod Pieces
 pub mod Right
 pub mod Running
 pub mod Saying
 pub mod Telling
+pub mod Working

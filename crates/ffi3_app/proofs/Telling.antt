@@ -1,15 +1,11 @@
--- Lines of places, and how refusals are told.
-use Rattle.std.proofs.Common.{◌≡◌, ℕ, ◌+◌, ◌<◌, List, ◌++◌, length, drop, inl, inr, sym, ap, ◌∙◌, subst, append_assoc, get_or}
+-- Lines of places.
+use Rattle.std.proofs.Common.{◌≡◌, ℕ, ◌+◌, ◌<◌, List, ◌++◌, length, drop, sym, ap, ◌∙◌, append_assoc, get_or}
 use Rattle.std.specs.Prelude.{Some, slice_get}
 use Rattle.std.proofs.lemmas.List.{drop_more}
 use Rattle.std.proofs.lemmas.Option.{get_or_from_slice_get}
 use Rattle.ffi3_script_rules.specs.Step.{PathStep}
 use Rattle.ffi3_script_rules.specs.Language.{JsonPath}
 use Rattle.ffi3_script_rules.specs.ReasonText.{text_of_step, text_of_steps}
-use Rattle.ffi3_io.specs.Sink.{SinkState}
-use Rattle.ffi3_app.specs.Top.{ReportsFault}
-use Rattle.ffi3_app.specs.Refusals.{refusal_line, refusal_status, HasPlace, TellsRefusal, TellsPlace}
-use Rattle.ffi3_app.specs.declared.load.Refusal.{Refusal}
 
 -- one step more of a path
 pub step_on : (path : JsonPath) (i : ℕ) (s : PathStep) (text text' all : List ℕ) → i < length path → slice_get path i ≡ Some s → text ++ text_of_steps (drop i path) ≡ all → text' ≡ text ++ text_of_step s → text' ++ text_of_steps (drop (i + 1) path) ≡ all
@@ -17,14 +13,3 @@ step_on path i s text text' all below is before on =
     let there : s ≡ get_or path i s = sym (get_or_from_slice_get path i s s is) in
     let here : text_of_steps (drop i path) ≡ text_of_step s ++ text_of_steps (drop (i + 1) path) = ap text_of_steps (drop_more path i s below) ∙ ap (λ t. text_of_step t ++ text_of_steps (drop (i + 1) path)) (sym there) in
     ap (λ t. t ++ text_of_steps (drop (i + 1) path)) on ∙ append_assoc text (text_of_step s) (text_of_steps (drop (i + 1) path)) ∙ ap (λ t. text ++ t) (sym here) ∙ before
-
-module _ (before after : SinkState) (answer : ℕ) where
-  pub told_as : (r s : Refusal) → r ≡ s → ReportsFault (refusal_line s) (refusal_status s) before after answer → TellsRefusal r before after answer
-  told_as r s is tells =
-      let P = λ (q : Refusal). TellsRefusal q before after answer in subst P (sym is) (inl tells)
-
-  pub told_with_place : (r s : Refusal) → r ≡ s → HasPlace s → refusal_status s ≡ 1 → TellsPlace (refusal_line s) before after answer → TellsRefusal r before after answer
-  told_with_place r s is place one (inl tells) =
-      let Q = λ (n : ℕ). ReportsFault (refusal_line s) n before after answer in told_as r s is (subst Q (sym one) tells)
-  told_with_place r s is place one (inr tells) =
-      let P = λ (q : Refusal). TellsRefusal q before after answer in subst P (sym is) (inr (place, tells))

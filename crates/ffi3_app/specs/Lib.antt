@@ -1,4 +1,4 @@
 pub mod Commands
-pub mod Refusals
+pub mod Outcome
 pub mod Top
-pub mod BenchStatus
+pub mod Work

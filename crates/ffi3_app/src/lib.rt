@@ -1,13 +1,14 @@
-//! The top call: words, a script, and what a command does with it.
+//! The top call: words, an input, and what a command does with it.
 #![tactic(auto)]
 
-mod bench;
+mod input;
 mod layout;
-mod load;
 mod names;
 mod place;
+mod script;
 mod tell;
 mod top;
+mod unfinished;
 mod work;
 mod write;
 

@@ -1,24 +1,20 @@
 //! The top call.
-ghost use Rattle.std.specs.Prelude.{◌≡◌, ◌<◌, ◌⊎◌, ◌^◌, List, ℕ, MatchOption, Some, length, map, string_bytes};
+ghost use Rattle.std.specs.Prelude.{◌≡◌, ◌<◌, ◌⊎◌, ◌^◌, List, ℕ, Some, length, map, string_bytes, true};
 ghost use Rattle.ffi3_io.specs.Sink.{Rose};
-ghost use Rattle.ffi3_script_rules.specs.Reading.{Reading, IsReading, script};
-ghost use Rattle.ffi3_script_rules.specs.Script.{Script as RulesScript};
-ghost use Rattle.ffi3_script_rules.specs.Natives.{names_of};
 ghost use Rattle.ffi3_words.specs.declared.words.Request.{Request};
-ghost use Rattle.ffi3_words.specs.declared.words.Request.TheVariants.{Bench};
 ghost use Rattle.ffi3_words.specs.Words.{IsStated, Takes};
 ghost use Rattle.ffi3_ask.specs.Handed.{AreFew, handed, signatures_in};
-ghost use Rattle.ffi3_app.specs.Top.{ReadsScript, Says, refusal_of, status_when_done};
+ghost use Rattle.ffi3_app.specs.Outcome.{IsOutcome, Outcome, outcome_status, reads_input};
+ghost use Rattle.ffi3_app.specs.Top.{Says};
 
-use crate::bench::answer_bench;
-use crate::load::load;
-use crate::names::names_of_natives;
-use crate::tell::{tell, tell_refusal};
+use crate::input::{bytes_for, reads_input};
+use crate::tell::{tell, tell_bytes};
+use crate::unfinished::Unfinished;
 use crate::work::work;
 use ffi3_body::Native;
 use ffi3_io::{IoError, Sink, Source};
 use ffi3_machine::Machine;
-use ffi3_words::{Request, WordsFault, read_words};
+use ffi3_words::{WordsFault, read_words};
 use std::alloc::Global;
 
 /// Runs the command line and returns the exit status.
@@ -56,18 +52,11 @@ pub fn ffi3<I: Source, O: Sink, E: Sink>(
         (E.state faults.old) (E.state faults.new)
         machine.old machine.new result }
 
-    // Where nothing fails, what stated words ask for is done with a script, and what is none is refused; want of memory alone is free.
-    ensures complete { (r : Request) → IsStated (map string_bytes words.items) r → (all : List ℕ) → (I.state input.old).left ≡ Some all →
-        (s : RulesScript) → IsReading (names_of (handed title meaning signatures natives.now.items)) all (script s) →
-        (Rose (I.state input.old).faults (I.state input.new).faults → ⊥) → (Rose (O.state output.old).faults (O.state output.new).faults → ⊥) →
-        (Rose (E.state faults.old).faults (E.state faults.new).faults → ⊥) → (result ≡ status_when_done r (handed title meaning signatures natives.now.items) s) ⊎ (result ≡ 5) }
-    ensures refuses { (r : Request) → ReadsScript r → IsStated (map string_bytes words.items) r → (all : List ℕ) → (I.state input.old).left ≡ Some all →
-        (reading : Reading) → IsReading (names_of (handed title meaning signatures natives.now.items)) all reading → (line : List ℕ) → refusal_of reading ≡ Some line →
-        (Rose (I.state input.old).faults (I.state input.new).faults → ⊥) → (Rose (O.state output.old).faults (O.state output.new).faults → ⊥) →
-        (Rose (E.state faults.old).faults (E.state faults.new).faults → ⊥) → (result ≡ 1) ⊎ (result ≡ 5) }
-    ensures benches { (seed calls : ℕ) → IsStated (map string_bytes words.items) (Bench seed calls) →
-        (Rose (O.state output.old).faults (O.state output.new).faults → ⊥) →
-        (Rose (E.state faults.old).faults (E.state faults.new).faults → ⊥) → (result ≡ 0) ⊎ (result ≡ 5) }
+    // Where nothing fails, the status is that of what the stated words come to; want of memory alone is free.
+    ensures complete { (r : Request) → IsStated (map string_bytes words.items) r → (bytes : List ℕ) → (reads_input r ≡ true → (I.state input.old).left ≡ Some bytes) →
+        (o : Outcome) → IsOutcome r (handed title meaning signatures natives.now.items) bytes o →
+        (reads_input r ≡ true → Rose (I.state input.old).faults (I.state input.new).faults → ⊥) → (Rose (O.state output.old).faults (O.state output.new).faults → ⊥) →
+        (Rose (E.state faults.old).faults (E.state faults.new).faults → ⊥) → (result ≡ outcome_status o) ⊎ (result ≡ 5) }
     ensures knows_words { (r : Request) → IsStated (map string_bytes words.items) r → result ≡ 2 → ⊥ }
 
     // Words that are refused ask for nothing, and no words ask for two things.
@@ -93,43 +82,26 @@ fn answer<I: Source, O: Sink, E: Sink>(
     machine: &mut Machine,
 ) -> u8
     requires { AreFew title meaning signatures natives.now.items }
-    ensures says { Says (map string_bytes words.items) (handed title meaning signatures natives.now.items)
+    ensures { Says (map string_bytes words.items) (handed title meaning signatures natives.now.items)
         (I.state input.old) (I.state input.new)
         (O.state output.old) (O.state output.new)
         (E.state faults.old) (E.state faults.new)
         machine.old machine.new result }
-    ensures knows_words { (r : Request) → IsStated (map string_bytes words.items) r → result ≡ 2 → ⊥ }
 {
     let request = match read_words(alloc, words) {
         Ok(request) => request,
         Err(WordsFault::Refused(text)) => return tell(faults, text.as_str(), 2),
         Err(WordsFault::NoMemory) => return tell(faults, "ffi3: out of memory\n", 5),
     };
-    if let Some((seed, calls)) = numbers_of(request) {
-        return answer_bench(alloc, seed, calls, output, faults, machine);
-    }
-    let Ok(names) = names_of_natives(alloc, natives) else {
-        return tell(faults, "ffi3: out of memory\n", 5);
+    let bytes = match bytes_for(alloc, reads_input(request), input) {
+        Ok(bytes) => bytes,
+        Err(IoError::NoMemory) => return tell(faults, "ffi3: out of memory\n", 5),
+        Err(IoError::Failed) => return tell(faults, "ffi3: read fault\n", 3),
     };
-    let script = match load(alloc, &names, input) {
-        Ok(script) => script,
-        Err(refusal) => return tell_refusal(alloc, &refusal, faults),
-    };
-    match work(alloc, request, &script, natives, machine, output) {
+    match work(alloc, request, &bytes, natives, machine, output) {
         Ok(status) => status,
-        Err(IoError::NoMemory) => tell(faults, "ffi3: out of memory\n", 5),
-        Err(IoError::Failed) => tell(faults, "ffi3: write fault\n", 4),
-    }
-}
-
-// The numbers of `bench`; every other command reads a script.
-fn numbers_of(request: Request) -> Option<(u32, u32)>
-    ensures { MatchOption result (ReadsScript request) (λ n. request ≡ Bench n.0 n.1) }
-{
-    match request {
-        Request::Layout => None,
-        Request::Place { .. } => None,
-        Request::Run { .. } => None,
-        Request::Bench { seed, calls } => Some((seed, calls)),
+        Err(Unfinished::Refused(line)) => tell_bytes(faults, line.as_slice(), 1),
+        Err(Unfinished::NoMemory) => tell(faults, "ffi3: out of memory\n", 5),
+        Err(Unfinished::WriteFault) => tell(faults, "ffi3: write fault\n", 4),
     }
 }

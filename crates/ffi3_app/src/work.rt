@@ -1,15 +1,23 @@
-//! What each command does with a script.
-ghost use Rattle.std.specs.Prelude.{◌≡◌, ◌≤◌, ◌⊎◌, IfOk, IfErr, false, length, true};
+//! What each command does with its input.
+ghost use Rattle.std.specs.Prelude.{◌≡◌, ◌<◌, ◌≤◌, ◌^◌, length};
 ghost use Rattle.ffi3_script.specs.ScriptOf.{script_of, natives_of};
+ghost use Rattle.ffi3_script_rules.specs.Natives.{names_of, program_beside};
 ghost use Rattle.ffi3_ask.specs.Handed.{AreFew, handed};
-ghost use Rattle.ffi3_io.specs.Written.{IsCause};
-ghost use Rattle.ffi3_app.specs.Commands.{standard_of};
-ghost use Rattle.ffi3_app.specs.Top.{IsDone, IsDoneInPart, IsRun, IsRunInPart, ReadsScript};
+ghost use Rattle.ffi3_io.specs.Written.{Wrote};
+ghost use Rattle.ffi3_machine.specs.State.{State};
+ghost use Rattle.ffi3_type_rules.specs.declared.limits.TheConstants.{MOST_CALLS};
+ghost use Rattle.ffi3_words.specs.WordAnswers.{IsInRange};
+ghost use Rattle.ffi3_app.specs.Commands.{layout_text, place_text, standard_of};
+ghost use Rattle.ffi3_app.specs.Outcome.{IsOfScript, IsOutcome, benches, runs, tells};
+ghost use Rattle.ffi3_app.specs.Work.{Works, work_of_writing};
 
 use crate::layout::layout;
 use crate::place::place;
+use crate::script::script_in;
+use crate::unfinished::Unfinished;
 use ffi3_aapcs64::Aapcs64;
 use ffi3_amd64::Amd64;
+use ffi3_bench::bench;
 use ffi3_body::Native;
 use ffi3_io::{IoError, Sink};
 use ffi3_machine::Machine;
@@ -22,43 +30,97 @@ use ffi3_win64::Win64;
 use ffi3_words::Request;
 use std::alloc::Global;
 
-/// Carries out a request that reads a script, beside natives, and returns the exit status: 0, or 6 where the run
+/// Carries out a request with the bytes of its input, beside natives, and returns the exit status: 0, or 6 where a run
 /// stopped.
 pub fn work<O: Sink>(
     alloc: Global,
     request: Request,
-    script: &Script,
+    bytes: &[u8],
     natives: &Vec<Box<dyn Native>>,
     machine: &mut Machine,
     output: &mut O,
-) -> Result<u8, IoError>
-    requires reads { ReadsScript request }
-    requires beside { natives_of script.now ≤ length natives.now.items }
+) -> Result<u8, Unfinished>
+    requires in_range { IsInRange request }
     requires few { AreFew title meaning signatures natives.now.items }
-    ensures done { IfOk result (IsDone request (handed title meaning signatures natives.now.items) (script_of script.now) (O.state output.old) (O.state output.new) machine.old machine.new) }
-    ensures failed { IfErr result (λ e. e ≡ IoError.Failed → IsDoneInPart true request (handed title meaning signatures natives.now.items) (script_of script.now) (O.state output.old) (O.state output.new) machine.old machine.new) }
-    ensures refused { IfErr result (λ e. e ≡ IoError.NoMemory →
-        ((O.state output.new ≡ O.state output.old) × (machine.new ≡ machine.old)) ⊎ IsDoneInPart false request (handed title meaning signatures natives.now.items) (script_of script.now) (O.state output.old) (O.state output.new) machine.old machine.new) }
-    ensures ended { IfErr result (λ e. IsCause e (O.state output.old).faults (O.state output.new).faults) }
+    ensures { Works (IsOutcome request (handed title meaning signatures natives.now.items) bytes.now) (O.state output.old) (O.state output.new) machine.old machine.new result }
 {
     match request {
-        Request::Layout => {
-            layout(alloc, script, output)?;
-            Ok(0)
-        }
-        Request::Place { target } => {
-            place(alloc, target, script, output)?;
-            Ok(0)
-        }
+        Request::Layout => tell_layout(alloc, bytes, natives, output),
+        Request::Place { target } => tell_place(alloc, target, bytes, natives, output),
         Request::Run { target, trace } => {
-            run(alloc, target, trace, script, natives, machine, output)
+            run(alloc, target, trace, bytes, natives, machine, output)
         }
-        Request::Bench { .. } => unreachable!(),
+        Request::Bench { seed, calls } => run_bench(alloc, seed, calls, machine, output),
     }
 }
 
-// A run on the machine of a target.
+// What a command came to that writes a text.
+fn written(text: Result<(), IoError>) -> Result<u8, Unfinished>
+    ensures { result ≡ work_of_writing text }
+{
+    match text {
+        Ok(()) => Ok(0),
+        Err(IoError::NoMemory) => Err(Unfinished::NoMemory),
+        Err(IoError::Failed) => Err(Unfinished::WriteFault),
+    }
+}
+
+// ---- layout and place
+
+fn tell_layout<O: Sink>(
+    alloc: Global,
+    bytes: &[u8],
+    natives: &Vec<Box<dyn Native>>,
+    output: &mut O,
+) -> Result<u8, Unfinished>
+    requires { length natives.now.items < 2 ^ 31 }
+    ensures { (m : State) → Works (IsOfScript (names_of (handed title meaning signatures natives.now.items)) (λ s. tells (layout_text s)) bytes.now) (O.state output.old) (O.state output.new) m m result }
+{
+    match script_in(alloc, bytes, natives) {
+        Ok(script) => written(layout(alloc, &script, output)),
+        Err(end) => Err(end),
+    }
+}
+
+fn tell_place<O: Sink>(
+    alloc: Global,
+    target: Target,
+    bytes: &[u8],
+    natives: &Vec<Box<dyn Native>>,
+    output: &mut O,
+) -> Result<u8, Unfinished>
+    requires { length natives.now.items < 2 ^ 31 }
+    ensures { (m : State) → Works (IsOfScript (names_of (handed title meaning signatures natives.now.items)) (λ s. tells (place_text (standard_of target) s)) bytes.now) (O.state output.old) (O.state output.new) m m result }
+{
+    match script_in(alloc, bytes, natives) {
+        Ok(script) => written(place(alloc, target, &script, output)),
+        Err(end) => Err(end),
+    }
+}
+
+// ---- run
+
+// On the machine of a target.
 fn run<O: Sink>(
+    alloc: Global,
+    target: Target,
+    trace: bool,
+    bytes: &[u8],
+    natives: &Vec<Box<dyn Native>>,
+    machine: &mut Machine,
+    output: &mut O,
+) -> Result<u8, Unfinished>
+    requires { AreFew title meaning signatures natives.now.items }
+    ensures { Works (IsOfScript (names_of (handed title meaning signatures natives.now.items)) (λ s. runs trace (standard_of target) (program_beside (standard_of target) (handed title meaning signatures natives.now.items) s)) bytes.now)
+        (O.state output.old) (O.state output.new) machine.old machine.new result }
+{
+    match script_in(alloc, bytes, natives) {
+        Ok(script) => run_on(alloc, target, trace, &script, natives, machine, output),
+        Err(end) => Err(end),
+    }
+}
+
+fn run_on<O: Sink>(
     alloc: Global,
     target: Target,
     trace: bool,
@@ -66,14 +128,11 @@ fn run<O: Sink>(
     natives: &Vec<Box<dyn Native>>,
     machine: &mut Machine,
     output: &mut O,
-) -> Result<u8, IoError>
+) -> Result<u8, Unfinished>
     requires beside { natives_of script.now ≤ length natives.now.items }
     requires few { AreFew title meaning signatures natives.now.items }
-    ensures done { IfOk result (IsRun trace (standard_of target) (handed title meaning signatures natives.now.items) (script_of script.now) (O.state output.old) (O.state output.new) machine.new) }
-    ensures failed { IfErr result (λ e. e ≡ IoError.Failed → IsRunInPart true trace (standard_of target) (handed title meaning signatures natives.now.items) (script_of script.now) (O.state output.old) (O.state output.new) machine.new) }
-    ensures refused { IfErr result (λ e. e ≡ IoError.NoMemory →
-        ((O.state output.new ≡ O.state output.old) × (machine.new ≡ machine.old)) ⊎ IsRunInPart false trace (standard_of target) (handed title meaning signatures natives.now.items) (script_of script.now) (O.state output.old) (O.state output.new) machine.new) }
-    ensures ended { IfErr result (λ e. IsCause e (O.state output.old).faults (O.state output.new).faults) }
+    ensures { Works (λ o. o ≡ runs trace (standard_of target) (program_beside (standard_of target) (handed title meaning signatures natives.now.items) (script_of script.now)))
+        (O.state output.old) (O.state output.new) machine.old machine.new result }
 {
     match target {
         Target::Amd64 => run_by::<Amd64, O>(alloc, trace, script, natives, machine, output),
@@ -83,7 +142,7 @@ fn run<O: Sink>(
     }
 }
 
-// The same by a calling standard.
+// By a calling standard.
 fn run_by<A: Abi, O: Sink>(
     alloc: Global,
     trace: bool,
@@ -91,21 +150,35 @@ fn run_by<A: Abi, O: Sink>(
     natives: &Vec<Box<dyn Native>>,
     machine: &mut Machine,
     output: &mut O,
-) -> Result<u8, IoError>
+) -> Result<u8, Unfinished>
     requires beside { natives_of script.now ≤ length natives.now.items }
     requires few { AreFew title meaning signatures natives.now.items }
-    ensures done { IfOk result (IsRun trace A.standard (handed title meaning signatures natives.now.items) (script_of script.now) (O.state output.old) (O.state output.new) machine.new) }
-    ensures failed { IfErr result (λ e. e ≡ IoError.Failed → IsRunInPart true trace A.standard (handed title meaning signatures natives.now.items) (script_of script.now) (O.state output.old) (O.state output.new) machine.new) }
-    ensures refused { IfErr result (λ e. e ≡ IoError.NoMemory →
-        ((O.state output.new ≡ O.state output.old) × (machine.new ≡ machine.old)) ⊎ IsRunInPart false trace A.standard (handed title meaning signatures natives.now.items) (script_of script.now) (O.state output.old) (O.state output.new) machine.new) }
-    ensures ended { IfErr result (λ e. IsCause e (O.state output.old).faults (O.state output.new).faults) }
+    ensures { Works (λ o. o ≡ runs trace A.standard (program_beside A.standard (handed title meaning signatures natives.now.items) (script_of script.now)))
+        (O.state output.old) (O.state output.new) machine.old machine.new result }
 {
-    let mut runner = Runner::<A>::new(alloc, script, natives)?;
+    let Ok(mut runner) = Runner::<A>::new(alloc, script, natives) else {
+        return Err(Unfinished::NoMemory);
+    };
     machine.begin(A::TARGET);
     match runner.run_main(machine, output, trace) {
         RunEnd::Done => Ok(0),
         RunEnd::Stopped(_) => Ok(6),
-        RunEnd::NoMemory => Err(IoError::NoMemory),
-        RunEnd::Failed => Err(IoError::Failed),
+        RunEnd::NoMemory => Err(Unfinished::NoMemory),
+        RunEnd::Failed => Err(Unfinished::WriteFault),
     }
+}
+
+// ---- bench
+
+fn run_bench<O: Sink>(
+    alloc: Global,
+    seed: u32,
+    calls: u32,
+    machine: &mut Machine,
+    output: &mut O,
+) -> Result<u8, Unfinished>
+    requires { calls ≤ MOST_CALLS }
+    ensures { Works (λ o. o ≡ benches seed calls) (O.state output.old) (O.state output.new) machine.old machine.new result }
+{
+    written(bench(alloc, seed, calls, machine, output))
 }

@@ -1,7 +1,7 @@
 use Rattle.std.proofs.Common.{rules}
 use Rattle.ffi3_json.specs.StepOf.{step_of}
 use Rattle.ffi3_app.proofs.Telling.{step_on}
-use Rattle.ffi3_app.proofs.tell.path_text.Goals as goal
+use Rattle.ffi3_app.proofs.script.path_text.Goals as goal
 
 pub loop-i-preserved : goal.loop-i-preserved
 loop-i-preserved c =

@@ -1,0 +1,109 @@
+-- What came of work, from what its parts came to.
+use Rattle.std.proofs.Common.{◌≡◌, ℕ, List, inl, inr, refl, sym, subst, ap}
+use Rattle.std.specs.Prelude.{Bool, Result, Ok, Err, OnOk}
+use Rattle.ffi3_type_rules.specs.declared.Target.{Target}
+use Rattle.ffi3_io.specs.Sink.{SinkState}
+use Rattle.ffi3_io.specs.Written.{Wrote}
+use Rattle.ffi3_io.specs.declared.IoError.{IoError}
+use Rattle.ffi3_io.specs.declared.IoError.TheVariants as end
+use Rattle.ffi3_json.specs.ReasonOf.{reason_of}
+use Rattle.ffi3_json.specs.declared.fault.ScriptFault.{ScriptFault}
+use Rattle.ffi3_json.specs.declared.fault.ScriptFault.TheVariants as fault
+use Rattle.ffi3_script.specs.Refusal.{IsScriptRefusal}
+use Rattle.ffi3_script_rules.specs.Reading.{IsReading, too_long, not_json, bad_script, script}
+use Rattle.ffi3_script_rules.specs.Script.{Script}
+use Rattle.ffi3_script_rules.specs.Natives.{NamedNative, program_beside}
+use Rattle.ffi3_script_rules.specs.Meaning.{program_of}
+use Rattle.ffi3_script_rules.specs.Made.{made}
+use Rattle.ffi3_riscv_rules.specs.Riscv.{riscv}
+use Rattle.ffi3_bench.specs.BenchText.{HasWholeJournal, bench_text}
+use Rattle.ffi3_machine.specs.State.{State}
+use Rattle.ffi3_words.specs.declared.words.Request.{Request}
+use Rattle.ffi3_app.specs.declared.unfinished.Unfinished.{Unfinished}
+use Rattle.ffi3_app.specs.declared.unfinished.Unfinished.TheVariants.{Refused, NoMemory, WriteFault}
+use Rattle.ffi3_app.specs.Commands.{standard_of}
+use Rattle.ffi3_app.specs.Outcome.{Outcome, refuses, tells, runs, benches, IsOfScript, IsOutcome}
+use Rattle.ffi3_app.specs.Work.{Works, IsToldAs, IsNoScript, work_of_writing}
+
+-- outcomes of one kind are outcomes of another
+pub works_for : (P Q : Outcome → Type 0) (output output' : SinkState) (machine machine' : State) (r : Result ℕ Unfinished) → ((o : Outcome) → P o → Q o) → Works P output output' machine machine' r → Works Q output output' machine machine' r
+works_for P Q output output' machine machine' (Ok status) weaker (o, is, did) =
+    (o, weaker o is, did)
+works_for P Q output output' machine machine' (Err (Refused line)) weaker (is, same_output, same_machine) =
+    (weaker (refuses line) is, same_output, same_machine)
+works_for P Q output output' machine machine' (Err WriteFault) weaker ((o, is, did), rose) =
+    ((o, weaker o is, did), rose)
+works_for P Q output output' machine machine' (Err NoMemory) weaker (inl same, count) =
+    (inl same, count)
+works_for P Q output output' machine machine' (Err NoMemory) weaker (inr (o, is, did), count) =
+    (inr (o, weaker o is, did), count)
+
+-- a text was written
+pub text_works : (P : Outcome → Type 0) (text : List ℕ) (output output' : SinkState) (machine : State) (w : Result Unit IoError) (r : Result ℕ Unfinished) → P (tells text) → Wrote text output output' w → r ≡ work_of_writing w → Works P output output' machine machine r
+text_works P text output output' machine (Ok u) r is wrote same =
+    let Q = λ (x : Result ℕ Unfinished). Works P output output' machine machine x in
+    subst Q (sym same) (tells text, is, (wrote, refl, refl))
+text_works P text output output' machine (Err end.NoMemory) r is cut same =
+    let Q = λ (x : Result ℕ Unfinished). Works P output output' machine machine x in
+    subst Q (sym same) (inr (tells text, is, ((cut.part, cut.written), refl)), cut.cause)
+text_works P text output output' machine (Err end.Failed) r is cut same =
+    let Q = λ (x : Result ℕ Unfinished). Works P output output' machine machine x in
+    subst Q (sym same) ((tells text, is, ((cut.part, cut.written), refl)), cut.cause.0)
+
+-- the bench was written
+pub bench_works : (seed calls : ℕ) (output output' : SinkState) (machine machine' : State) (w : Result Unit IoError) (r : Result ℕ Unfinished) → Wrote (bench_text seed calls) output output' w → OnOk w (HasWholeJournal riscv (program_of riscv (made seed calls)) machine') → r ≡ work_of_writing w → Works (λ o. o ≡ benches seed calls) output output' machine machine' r
+bench_works seed calls output output' machine machine' (Ok u) r wrote journal same =
+    let Q = λ (x : Result ℕ Unfinished). Works (λ o. o ≡ benches seed calls) output output' machine machine' x in
+    subst Q (sym same) (benches seed calls, refl, ((wrote, journal), refl))
+bench_works seed calls output output' machine machine' (Err end.NoMemory) r cut journal same =
+    let Q = λ (x : Result ℕ Unfinished). Works (λ o. o ≡ benches seed calls) output output' machine machine' x in
+    subst Q (sym same) (inr (benches seed calls, refl, (cut.part, cut.written)), cut.cause)
+bench_works seed calls output output' machine machine' (Err end.Failed) r cut journal same =
+    let Q = λ (x : Result ℕ Unfinished). Works (λ o. o ≡ benches seed calls) output output' machine machine' x in
+    subst Q (sym same) ((benches seed calls, refl, (cut.part, cut.written)), cut.cause.0)
+
+-- ---- scripts
+
+-- what the fault of a script refuses is no script
+pub refused_no_script : (names : List (List ℕ)) (bytes : List ℕ) (f : ScriptFault) (e : Unfinished) → IsScriptRefusal names bytes f → IsToldAs f e → IsNoScript names bytes e
+refused_no_script names bytes fault.TooLong (Refused line) is told = λ outcome. (too_long, is.0, ap (λ (l : List ℕ). refuses l) told)
+refused_no_script names bytes fault.BadJson (Refused line) is told = λ outcome. (not_json, is.0, ap (λ (l : List ℕ). refuses l) told)
+refused_no_script names bytes (fault.BadScript path why) (Refused line) is told = λ outcome. (bad_script path (reason_of why), is.0, ap (λ (l : List ℕ). refuses l) told)
+refused_no_script names bytes fault.NoMemory (Refused line) is told = cc
+refused_no_script names bytes fault.TooLong NoMemory is told = tt
+refused_no_script names bytes fault.BadJson NoMemory is told = tt
+refused_no_script names bytes (fault.BadScript path why) NoMemory is told = tt
+refused_no_script names bytes fault.NoMemory NoMemory is told = tt
+refused_no_script names bytes fault.TooLong WriteFault is told = absurd told
+refused_no_script names bytes fault.BadJson WriteFault is told = absurd told
+refused_no_script names bytes (fault.BadScript path why) WriteFault is told = absurd told
+refused_no_script names bytes fault.NoMemory WriteFault is told = cc
+
+-- beside the same names
+pub refused_beside : (names names' : List (List ℕ)) (bytes : List ℕ) (f : ScriptFault) → names ≡ names' → IsScriptRefusal names bytes f → IsScriptRefusal names' bytes f
+refused_beside names names' bytes f same is =
+    let P = λ (ns : List (List ℕ)). IsScriptRefusal ns bytes f in subst P same is
+
+pub told_as : (f g : ScriptFault) (e : Unfinished) → f ≡ g → IsToldAs g e → IsToldAs f e
+told_as f g e same told =
+    let P = λ (x : ScriptFault). IsToldAs x e in subst P (sym same) told
+
+-- there is no script to work on
+pub no_script_works : (names : List (List ℕ)) (outcome : Script → Outcome) (bytes : List ℕ) (output : SinkState) (machine : State) (e : Unfinished) → IsNoScript names bytes e → Works (IsOfScript names outcome bytes) output output machine machine (Err e)
+no_script_works names outcome bytes output machine (Refused line) is = (is outcome, refl, refl)
+no_script_works names outcome bytes output machine NoMemory is = (inl (refl, refl), refl)
+no_script_works names outcome bytes output machine WriteFault is = absurd is
+
+-- what is done with the script that the bytes are
+pub script_works : (names : List (List ℕ)) (outcome : Script → Outcome) (bytes : List ℕ) (s : Script) → IsReading names bytes (script s) → (o : Outcome) → o ≡ outcome s → IsOfScript names outcome bytes o
+script_works names outcome bytes s reading o is = (script s, reading, is)
+
+-- what was done for a request was done for the same request
+pub works_as : (q r : Request) (natives : List NamedNative) (bytes : List ℕ) (output output' : SinkState) (machine machine' : State) (result : Result ℕ Unfinished) → q ≡ r → Works (IsOutcome r natives bytes) output output' machine machine' result → Works (IsOutcome q natives bytes) output output' machine machine' result
+works_as q r natives bytes output output' machine machine' result same works =
+    let P = λ (x : Request). Works (IsOutcome x natives bytes) output output' machine machine' result in subst P (sym same) works
+
+-- and by the standard of the same target
+pub works_by : (natives : List NamedNative) (s : Script) (trace : Bool) (output output' : SinkState) (machine machine' : State) (t u : Target) (r : Result ℕ Unfinished) → t ≡ u → Works (λ o. o ≡ runs trace (standard_of u) (program_beside (standard_of u) natives s)) output output' machine machine' r → Works (λ o. o ≡ runs trace (standard_of t) (program_beside (standard_of t) natives s)) output output' machine machine' r
+works_by natives s trace output output' machine machine' t u r same works =
+    let P = λ (x : Target). Works (λ o. o ≡ runs trace (standard_of x) (program_beside (standard_of x) natives s)) output output' machine machine' r in subst P (sym same) works

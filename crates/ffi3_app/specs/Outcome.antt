@@ -1,0 +1,118 @@
+-- WHAT A COMMAND DOES TO ITS INPUT: one definition for all commands.
+use Rattle.std.specs.Prelude.{◌≡◌, ℕ, Bool, true, false, ◌++◌, List, take, codes}
+use Rattle.ffi3_place_rules.specs.Standard.{Standard}
+use Rattle.ffi3_run_rules.specs.Meaning.{End, Program, returned, stopped, meaning_of}
+use Rattle.ffi3_run_rules.specs.Lines.{a_line}
+use Rattle.ffi3_turn_rules.specs.MainTracing.{main_tracing}
+use Rattle.ffi3_script_rules.specs.Language.{JsonPath}
+use Rattle.ffi3_script_rules.specs.ReasonText.{text_of_path, text_of_reason}
+use Rattle.ffi3_script_rules.specs.Script.{Script}
+use Rattle.ffi3_script_rules.specs.Meaning.{program_of}
+use Rattle.ffi3_script_rules.specs.Made.{made}
+use Rattle.ffi3_script_rules.specs.Reading.{Reading, too_long, not_json, bad_script, script, IsReading}
+use Rattle.ffi3_script_rules.specs.Natives.{NamedNative, names_of, program_beside}
+use Rattle.ffi3_riscv_rules.specs.Riscv.{riscv}
+use Rattle.ffi3_bench.specs.BenchText.{HasWholeJournal, bench_text}
+use Rattle.ffi3_machine.specs.State.{State}
+use Rattle.ffi3_runner.specs.RunMatches.{RunMatches, WrotePart}
+use Rattle.ffi3_runner.specs.RunInterrupted.{RunWasInterrupted}
+use Rattle.ffi3_io.specs.Sink.{Adds, SinkState}
+use Rattle.ffi3_io.specs.Written.{TookText}
+use Rattle.ffi3_words.specs.declared.words.Request.{Request}
+use Rattle.ffi3_words.specs.declared.words.Request.TheVariants.{Layout, Place, Run, Bench}
+use Rattle.ffi3_app.specs.Commands.{standard_of, layout_text, place_text}
+
+-- WHAT A COMMAND COMES TO: its input is refused with a line; or a text is told; or a program is run by a standard, traced or not, and told; or the bench of a seed and a number of calls is run and told
+pub data Outcome : Type 0 where
+  refuses : List ℕ → Outcome
+  tells : List ℕ → Outcome
+  runs : Bool → Standard → Program → Outcome
+  benches : ℕ → ℕ → Outcome
+
+-- ---- commands that work on a script
+
+-- the line of a place of a script, and of what is told of it
+abbrev pub located_line : JsonPath → List ℕ → List ℕ
+located_line path words = a_line (codes "ffi3: " ++ text_of_path path ++ codes ": " ++ words)
+
+-- what is read as no script is refused; of a script, a command has an outcome
+abbrev pub outcome_of : (Script → Outcome) → Reading → Outcome
+outcome_of outcome too_long = refuses (a_line (codes "ffi3: script too long"))
+outcome_of outcome not_json = refuses (a_line (codes "ffi3: not JSON"))
+outcome_of outcome (bad_script path reason) = refuses (located_line path (text_of_reason reason))
+outcome_of outcome (script s) = outcome s
+
+-- bytes come to this, read as a script beside natives of these names
+abbrev pub IsOfScript : (names : List (List ℕ)) → (Script → Outcome) → List ℕ → Outcome → Type 0
+IsOfScript names outcome bytes o =
+    (r : Reading) × IsReading names bytes r × (o ≡ outcome_of outcome r)
+
+-- ---- all commands
+
+-- WHAT IS ASKED FOR COMES TO THIS, with these bytes as its input, beside natives
+abbrev pub IsOutcome : Request → List NamedNative → List ℕ → Outcome → Type 0
+IsOutcome Layout natives bytes o =
+    IsOfScript (names_of natives) (λ s. tells (layout_text s)) bytes o
+IsOutcome (Place t) natives bytes o =
+    IsOfScript (names_of natives) (λ s. tells (place_text (standard_of t) s)) bytes o
+IsOutcome (Run t trace) natives bytes o =
+    IsOfScript (names_of natives) (λ s. runs trace (standard_of t) (program_beside (standard_of t) natives s)) bytes o
+IsOutcome (Bench seed calls) natives bytes o = o ≡ benches seed calls
+
+-- each command but `bench` reads the input
+abbrev pub reads_input : Request → Bool
+reads_input (Bench seed calls) = false
+reads_input _ = true
+
+-- ---- what comes of it
+
+-- the status of a run that ended
+abbrev pub status_of : End → ℕ
+status_of (returned v) = 0
+status_of (stopped stop) = 6
+
+-- THE STATUS where nothing fails
+abbrev pub outcome_status : Outcome → ℕ
+outcome_status (refuses line) = 1
+outcome_status (tells text) = 0
+outcome_status (runs trace std program) = status_of (meaning_of program).end
+outcome_status (benches seed calls) = 0
+
+-- A RUN IS DONE: it is told whole, and its status says how it ended
+abbrev pub IsRun : (trace : Bool) → Standard → Program → SinkState → SinkState → State → ℕ → Type 0
+IsRun trace std program output output' machine' status =
+    RunMatches (main_tracing trace std) std program output output' machine' × (status ≡ status_of (meaning_of program).end)
+
+-- THE BENCH IS DONE: its lines are written whole, and the machine has the whole journal of the made script's run by the last standard
+abbrev pub IsBench : (seed calls : ℕ) → SinkState → SinkState → State → Type 0
+IsBench seed calls output output' machine' =
+    TookText (bench_text seed calls) output output' × HasWholeJournal riscv (program_of riscv (made seed calls)) machine'
+
+-- THE WORK IS DONE, with this status: a text is written whole, and the machine is as it was; or a run or the bench is done. What is refused is not worked on.
+abbrev pub IsDone : Outcome → SinkState → SinkState → State → State → ℕ → Type 0
+IsDone (refuses line) output output' machine machine' status = ⊥
+IsDone (tells text) output output' machine machine' status =
+    TookText text output output' × (machine' ≡ machine) × (status ≡ 0)
+IsDone (runs trace std program) output output' machine machine' status =
+    IsRun trace std program output output' machine' status
+IsDone (benches seed calls) output output' machine machine' status =
+    IsBench seed calls output output' machine' × (status ≡ 0)
+
+-- a first part of a text is written
+abbrev pub WroteFirst : List ℕ → SinkState → SinkState → Type 0
+WroteFirst text output output' = (part : ℕ) × Adds output.taken (take part text) output'.taken
+
+-- A RUN IS DONE IN PART, interrupted in a line or elsewhere: a first part of its text is written, and it is told as far as it came
+abbrev pub IsRunInPart : (in_line trace : Bool) → Standard → Program → SinkState → SinkState → State → Type 0
+IsRunInPart in_line trace std program output output' machine' =
+    WrotePart (main_tracing trace std) program output output' × RunWasInterrupted (main_tracing trace std) std program in_line output output' machine'
+
+-- THE WORK IS DONE IN PART, interrupted in a line or elsewhere: a first part of the text is written; where nothing runs the machine is as it was
+abbrev pub IsDoneInPart : (in_line : Bool) → Outcome → SinkState → SinkState → State → State → Type 0
+IsDoneInPart in_line (refuses line) output output' machine machine' = ⊥
+IsDoneInPart in_line (tells text) output output' machine machine' =
+    WroteFirst text output output' × (machine' ≡ machine)
+IsDoneInPart in_line (runs trace std program) output output' machine machine' =
+    IsRunInPart in_line trace std program output output' machine'
+IsDoneInPart in_line (benches seed calls) output output' machine machine' =
+    WroteFirst (bench_text seed calls) output output'

@@ -1,0 +1,61 @@
+-- What a command did with the bytes of its input, and why it ended before its end.
+use Rattle.std.specs.Prelude.{◌≡◌, ◌+◌, ◌⊎◌, ℕ, Bool, true, false, List, codes, Result, Ok, Err}
+use Rattle.ffi3_io.specs.Sink.{Rose, SinkState}
+use Rattle.ffi3_io.specs.declared.IoError.{IoError}
+use Rattle.ffi3_io.specs.declared.IoError.TheVariants as io
+use Rattle.ffi3_io.specs.Source.{GivesFirst, SourceState}
+use Rattle.ffi3_json.specs.ReasonOf.{reason_of}
+use Rattle.ffi3_json.specs.declared.fault.ScriptFault.{ScriptFault}
+use Rattle.ffi3_json.specs.declared.fault.ScriptFault.TheVariants as fault
+use Rattle.ffi3_machine.specs.State.{State}
+use Rattle.ffi3_run_rules.specs.Lines.{a_line}
+use Rattle.ffi3_script_rules.specs.ReasonText.{text_of_reason}
+use Rattle.ffi3_script_rules.specs.Reading.{max_length}
+use Rattle.ffi3_script_rules.specs.Script.{Script}
+use Rattle.ffi3_app.specs.declared.unfinished.Unfinished.{Unfinished}
+use Rattle.ffi3_app.specs.declared.unfinished.Unfinished.TheVariants.{Refused, NoMemory, WriteFault}
+use Rattle.ffi3_app.specs.Outcome.{Outcome, refuses, located_line, IsOfScript, IsDone, IsDoneInPart}
+
+-- a command that reads was given the first bytes of the input, one more than a script may have at most; another was given none, and the input was not touched
+abbrev pub WasGiven : (reads : Bool) → SourceState → List ℕ → SourceState → Type 0
+WasGiven true input bytes input' =
+    GivesFirst (max_length + 1) input.left bytes input'.left × (input'.faults ≡ input.faults)
+WasGiven false input bytes input' = input' ≡ input
+
+-- WHAT CAME OF WORK whose outcomes are these: one of them is done; or the input is refused by one of them; or one is done in part
+abbrev pub Works : (Outcome → Type 0) → SinkState → SinkState → State → State → Result ℕ Unfinished → Type 0
+Works IsOne output output' machine machine' (Ok status) =
+    (o : Outcome) × IsOne o × IsDone o output output' machine machine' status
+Works IsOne output output' machine machine' (Err (Refused line)) =
+    IsOne (refuses line) × (output' ≡ output) × (machine' ≡ machine)
+Works IsOne output output' machine machine' (Err WriteFault) =
+    ((o : Outcome) × IsOne o × IsDoneInPart true o output output' machine machine') × Rose output.faults output'.faults
+Works IsOne output output' machine machine' (Err NoMemory) =
+    (((output' ≡ output) × (machine' ≡ machine)) ⊎ ((o : Outcome) × IsOne o × IsDoneInPart false o output output' machine machine')) × (output'.faults ≡ output.faults)
+
+-- what writing came to is what the work came to
+abbrev pub work_of_writing : Result Unit IoError → Result ℕ Unfinished
+work_of_writing (Ok u) = Ok 0
+work_of_writing (Err io.NoMemory) = Err NoMemory
+work_of_writing (Err io.Failed) = Err WriteFault
+
+-- the input is refused with this line, or there was no memory for it
+abbrev pub RefusesWith : List ℕ → Unfinished → Type 0
+RefusesWith line (Refused told) = told ≡ line
+RefusesWith line NoMemory = Unit {0}
+RefusesWith line WriteFault = ⊥
+
+-- A FAULT OF A SCRIPT is told as this: by its line, or as want of memory
+abbrev pub IsToldAs : ScriptFault → Unfinished → Type 0
+IsToldAs fault.TooLong e = RefusesWith (a_line (codes "ffi3: script too long")) e
+IsToldAs fault.BadJson e = RefusesWith (a_line (codes "ffi3: not JSON")) e
+IsToldAs (fault.BadScript path why) e =
+    RefusesWith (located_line path (text_of_reason (reason_of why))) e
+IsToldAs fault.NoMemory e = e ≡ NoMemory
+
+-- bytes are no script beside natives of these names: they are refused, whatever is done with a script; or there was no memory
+abbrev pub IsNoScript : (names : List (List ℕ)) → List ℕ → Unfinished → Type 0
+IsNoScript names bytes (Refused line) =
+    (outcome : Script → Outcome) → IsOfScript names outcome bytes (refuses line)
+IsNoScript names bytes NoMemory = Unit {0}
+IsNoScript names bytes WriteFault = ⊥

@@ -1,0 +1,119 @@
+//! From the bytes of an input to a script, or to the line that refuses them.
+ghost use Rattle.std.specs.Prelude.{◌≡◌, ◌<◌, ◌++◌, ◌^◌, List, ℕ, IfOk, IfErr, OnOk, length};
+ghost use Rattle.ffi3_script_rules.specs.Natives.{names_of};
+ghost use Rattle.ffi3_script_rules.specs.Reading.{IsReading, script};
+ghost use Rattle.ffi3_script_rules.specs.ReasonText.{text_of_path, text_of_step};
+ghost use Rattle.ffi3_script.specs.ScriptOf.{script_of, natives_of};
+ghost use Rattle.ffi3_json.specs.StepOf.{step_of};
+ghost use Rattle.ffi3_ask.specs.Handed.{handed};
+ghost use Rattle.ffi3_app.specs.Outcome.{located_line};
+ghost use Rattle.ffi3_app.specs.Work.{IsNoScript, IsToldAs, RefusesWith};
+
+use crate::names::names_of_natives;
+use crate::unfinished::Unfinished;
+use ffi3_body::Native;
+use ffi3_json::{ScriptFault, Step, Where, reason_text};
+use ffi3_script::{Script, read_script};
+use ffi3_types::{Bytes, NoMemory};
+use std::alloc::Global;
+
+/// Reads the bytes as a script beside natives.
+pub fn script_in(
+    alloc: Global,
+    bytes: &[u8],
+    natives: &Vec<Box<dyn Native>>,
+) -> Result<Script, Unfinished>
+    requires few { length natives.now.items < 2 ^ 31 }
+    ensures script { IfOk result (λ s. IsReading (names_of (handed title meaning signatures natives.now.items)) bytes.now (script (script_of s))) }
+    ensures beside { IfOk result (λ s. natives_of s ≡ length natives.now.items) }
+    ensures refused { IfErr result (IsNoScript (names_of (handed title meaning signatures natives.now.items)) bytes.now) }
+{
+    let Ok(names) = names_of_natives(alloc, natives) else {
+        return Err(Unfinished::NoMemory);
+    };
+    match read_script(alloc, bytes, &names) {
+        Ok(script) => Ok(script),
+        Err(fault) => Err(refusal(alloc, &fault)),
+    }
+}
+
+// What a fault of a script is told as.
+fn refusal(alloc: Global, fault: &ScriptFault) -> Unfinished
+    ensures { IsToldAs fault.now result }
+{
+    match fault {
+        ScriptFault::TooLong => refused(words(alloc, "ffi3: script too long\n")),
+        ScriptFault::BadJson => refused(words(alloc, "ffi3: not JSON\n")),
+        ScriptFault::BadScript { path, why } => {
+            refused(place_line(alloc, path, reason_text(alloc, why)))
+        }
+        ScriptFault::NoMemory => Unfinished::NoMemory,
+    }
+}
+
+/// A refusal with a line, where there was memory to make it.
+pub fn refused(line: Result<Bytes, NoMemory>) -> Unfinished
+    ensures { (text : List ℕ) → IfOk line (λ l. l ≡ text) → RefusesWith text result }
+{
+    match line {
+        Ok(line) => Unfinished::Refused(line),
+        Err(_) => Unfinished::NoMemory,
+    }
+}
+
+// A line of known words.
+fn words(alloc: Global, text: &str) -> Result<Bytes, NoMemory>
+    ensures { IfOk result (λ line. line ≡ text.now) }
+{
+    Bytes::from_slice(alloc, text.as_bytes())
+}
+
+// The line of a place and what is said of it, where there was memory for the words.
+fn place_line(
+    alloc: Global,
+    path: &Where,
+    words: Result<Bytes, NoMemory>,
+) -> Result<Bytes, NoMemory>
+    ensures { (text : List ℕ) → IfOk words (λ w. w ≡ text) → IfOk result (λ line. line ≡ located_line path.now text) }
+{
+    let Ok(words) = words else {
+        return Err(NoMemory);
+    };
+    located_line(alloc, path, words.as_slice())
+}
+
+// The line of a place and what is said of it.
+fn located_line(alloc: Global, path: &Where, words: &[u8]) -> Result<Bytes, NoMemory>
+    ensures { IfOk result (λ line. line ≡ located_line path.now words.now) }
+{
+    let mut line = Bytes::from_slice(alloc, "ffi3: ".as_bytes())?;
+    line.extend(path_text(alloc, path)?.as_slice())?;
+    line.extend(": ".as_bytes())?;
+    line.extend(words)?;
+    line.push(b'\n')?;
+    Ok(line)
+}
+
+// Each key and number after `/`; the root is `/` alone.
+fn path_text(alloc: Global, path: &Where) -> Result<Bytes, NoMemory>
+    ensures { IfOk result (λ text. text ≡ text_of_path path.now) }
+{
+    if path.len() == 0 {
+        return Bytes::from_slice(alloc, "/".as_bytes());
+    }
+    let mut text = Bytes::new(alloc);
+    for i in 0..path.len() {
+        write_step(alloc, path.get(i), &mut text)?;
+    }
+    Ok(text)
+}
+
+fn write_step(alloc: Global, step: &Step, text: &mut Bytes) -> Result<(), NoMemory>
+    ensures { OnOk result (text.new ≡ text.old ++ text_of_step (step_of step.now)) }
+{
+    text.push(b'/')?;
+    match step {
+        Step::Key(name) => text.extend(name.as_str().as_bytes()),
+        Step::Number(i) => text.extend(format!(in alloc; "{i}")?.as_bytes()),
+    }
+}
