@@ -64,6 +64,24 @@ def nested(moves, deepest):
     return script.replace('{"make":"f","as":"f"}', '{"make":"f","user":65536,"as":"f"}')
 
 
+def functions(size):
+    """A script of nearly so many bytes: functions with a print, a sum and a return, each made once by main."""
+    def compact(part):
+        return json.dumps(part, separators=(",", ":"))
+
+    listed, makes, length = [], [], 200
+    for k in range(size):
+        function = {"name": f"f{k}", "sig": 0, "body": [{"print": {"arg": 0}, "when": {"arg": 0}},
+                                                        {"return": {"add": [{"arg": 0}, k]}}]}
+        make = {"make": f"f{k}", "as": f"c{k}"}
+        length += len(compact(function)) + len(compact(make)) + 2
+        if length > size:
+            break
+        listed.append(function)
+        makes.append(make)
+    return compact({"version": 1, "signatures": [FLAT], "functions": listed, "main": [*makes, {"return": None}]})
+
+
 def types(elements, form):
     """A type of so many bytes: uint8 as often as that, written out, or as an array."""
     return {"struct": ["uint8"] * elements if form == "written out" else [{"array": ["uint8", elements]}]}
@@ -101,19 +119,20 @@ def depth(program, target, stack=STACK):
     return stack // int(words[words.index("need") + 1])
 
 
-def seconds(words, script):
+def seconds(words, script, statuses=(0,)):
     """The processor time of a process that is given the script: other work on the machine matters less to it."""
-    running = subprocess.Popen(words, stdin=subprocess.PIPE, stdout=subprocess.DEVNULL)
+    running = subprocess.Popen(words, stdin=subprocess.PIPE, stdout=subprocess.DEVNULL,
+                               stderr=None if statuses == (0,) else subprocess.DEVNULL)
     running.stdin.write(script.encode())
     running.stdin.close()
     _, status, used = os.wait4(running.pid, 0)
     running.returncode = os.waitstatus_to_exitcode(status)
-    if running.returncode:
+    if running.returncode not in statuses:
         raise subprocess.CalledProcessError(running.returncode, words)
     return used.ru_utime + used.ru_stime
 
 
-def times_of(work):
+def times_of(work, statuses=(0,)):
     """The least time of each of these, the words and the script of a process. Each round does all of them in turn."""
-    rounds = [{name: seconds(words, script) for name, (words, script) in work.items()} for _ in range(ROUNDS)]
+    rounds = [{name: seconds(words, script, statuses) for name, (words, script) in work.items()} for _ in range(ROUNDS)]
     return {name: min(each[name] for each in rounds) for name in work}

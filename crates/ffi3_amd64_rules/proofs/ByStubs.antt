@@ -3,9 +3,9 @@ use Rattle.std.proofs.Common.{refl}
 use Rattle.ffi3_type_rules.specs.declared.Isa.TheVariants.{Amd64}
 use Rattle.ffi3_type_rules.specs.Signature.{Signature}
 use Rattle.ffi3_place_rules.specs.declared.Loc.TheVariants.{G}
-use Rattle.ffi3_place_rules.specs.Isa.{call_loads, entry_stores, listed, result_loads}
+use Rattle.ffi3_place_rules.specs.Isa.{call_loads, call_scratch, entry_scratch, entry_stores, listed, result_loads}
 use Rattle.ffi3_place_rules.specs.ByStubs.{stub_scratch, AgreesWithStubs, ResultGoesByStubs}
-use Rattle.ffi3_place_rules.proofs.Forbidden.{each_none_of, each_one_of, one_of}
+use Rattle.ffi3_place_rules.proofs.Forbidden.{each_none_of, each_one_of, none_of, one_of}
 use Rattle.ffi3_amd64_rules.specs.Amd64.{amd64}
 use Rattle.ffi3_amd64_rules.proofs.Sound.{result_loaded, hidden_saved}
 
@@ -21,6 +21,8 @@ by_stubs = record {
   preserved_kept = each_none_of (stub_scratch Amd64) amd64.preserved refl;
   reserved_kept = each_none_of (stub_scratch Amd64) amd64.reserved refl;
   arguments_kept = each_none_of (stub_scratch Amd64) amd64.argument_registers refl;
+  count_kept = each_none_of (call_scratch Amd64) (listed amd64.vector_count) refl;
+  closure_kept = none_of (entry_scratch Amd64) (G amd64.closure_register) refl;
 }
 
 pub result_by_stubs : (s : Signature) → ResultGoesByStubs amd64 s

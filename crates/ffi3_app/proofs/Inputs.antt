@@ -4,6 +4,7 @@ use Rattle.std.proofs.Math.ListN.{drop_of_length-le}
 use Rattle.std.proofs.Math.Nat.{le_trans}
 use Rattle.std.proofs.lemmas.List.{take_all}
 use Rattle.ffi3_script_rules.specs.Reading.{Reading, too_long, not_json, bad_script, script, IsReading}
+use Rattle.ffi3_app.specs.Declarations.{Input, too_many_bytes, not_utf8, a_text, IsReadAs}
 
 -- what is short was all there was
 taken_whole : (n : ℕ) (all : List ℕ) → length (take (n + 1) all) ≤ n → length all ≤ n
@@ -28,3 +29,10 @@ reading_of_all names all (bad_script path reason) (d, json, is) =
     let P = λ (bytes : List ℕ). IsReading names bytes (bad_script path reason) in subst P (all_taken all json.short) (d, json, is)
 reading_of_all names all (script s) (d, json, is) =
     let P = λ (bytes : List ℕ). IsReading names bytes (script s) in subst P (all_taken all json.short) (d, json, is)
+
+pub input_of_all : (all : List ℕ) (i : Input) → IsReadAs (take 1048577 all) i → IsReadAs all i
+input_of_all all too_many_bytes long = omega (arith, length-take 1048577 all)
+input_of_all all not_utf8 (short, none) =
+    let P = λ (bytes : List ℕ). IsReadAs bytes not_utf8 in subst P (all_taken all short) (short, none)
+input_of_all all (a_text o) (short, utf8, is) =
+    let P = λ (bytes : List ℕ). IsReadAs bytes (a_text o) in subst P (all_taken all short) (short, utf8, is)

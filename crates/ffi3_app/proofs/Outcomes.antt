@@ -1,14 +1,17 @@
 -- The laws of what commands come to: of one input one outcome; that of the bytes that are read is that of all; and what is not refused is short.
-use Rattle.std.proofs.Common.{◌≡◌, ℕ, ◌≤◌, List, length, take, sym, ap, ◌∙◌}
+use Rattle.std.proofs.Common.{◌≡◌, ℕ, ◌<◌, ◌≤◌, List, length, take, refl, sym, ap, ◌∙◌, arith}
 use Rattle.std.specs.Prelude.{true, false}
 use Rattle.ffi3_script_rules.specs.Reading.{Reading, too_long, not_json, bad_script, script}
 use Rattle.ffi3_script_rules.specs.Script.{Script}
 use Rattle.ffi3_script_rules.specs.Natives.{NamedNative, names_of}
 use Rattle.ffi3_script_rules.proofs.Readings.{one_reading}
+use Rattle.ffi3_cdecl_rules.specs.Grammar.{Declaration}
+use Rattle.ffi3_cdecl_rules.proofs.Readings.{one_reading as one_declaration_reading}
 use Rattle.ffi3_words.specs.declared.words.Request.{Request}
-use Rattle.ffi3_words.specs.declared.words.Request.TheVariants.{Layout, Place, Run, Bench}
-use Rattle.ffi3_app.specs.Outcome.{Outcome, refuses, outcome_of, IsOfScript, IsOutcome, reads_input}
-use Rattle.ffi3_app.proofs.Inputs.{reading_of_all}
+use Rattle.ffi3_words.specs.declared.words.Request.TheVariants.{Layout, Place, Run, Cdecl, Cplace, Bench}
+use Rattle.ffi3_app.specs.Declarations.{Input, too_many_bytes, not_utf8, a_text, IsReadAs}
+use Rattle.ffi3_app.specs.Outcome.{Outcome, refuses, outcome_of, outcome_of_input, IsOfScript, IsOfDeclaration, IsOutcome, reads_input}
+use Rattle.ffi3_app.proofs.Inputs.{reading_of_all, input_of_all}
 
 -- what is not refused
 abbrev pub IsAccepted : Outcome → Type 0
@@ -30,6 +33,40 @@ module _ (names : List (List ℕ)) (outcome : Script → Outcome) where
   script_is_short bytes o (bad_script path reason, reads, is) accepted = absurd (accepted _ is)
   script_is_short bytes o (script s, (d, json, read), is) accepted = json.short
 
+-- ---- of a declaration
+
+both_lengths : (most n : ℕ) → most < n → n ≤ most → ⊥
+both_lengths most n long short = omega (arith, long, short)
+
+one_input : (bytes : List ℕ) (i j : Input) → IsReadAs bytes i → IsReadAs bytes j → i ≡ j
+one_input bytes too_many_bytes too_many_bytes long long' = refl
+one_input bytes too_many_bytes not_utf8 long (short, none) =
+    absurd (both_lengths _ _ long short)
+one_input bytes too_many_bytes (a_text p) long (short, utf8, is) =
+    absurd (both_lengths _ _ long short)
+one_input bytes not_utf8 too_many_bytes (short, none) long =
+    absurd (both_lengths _ _ long short)
+one_input bytes not_utf8 not_utf8 (short, none) (short', none') = refl
+one_input bytes not_utf8 (a_text p) (short, none) (short', utf8, is) = absurd (none utf8)
+one_input bytes (a_text o) too_many_bytes (short, utf8, is) long =
+    absurd (both_lengths _ _ long short)
+one_input bytes (a_text o) not_utf8 (short, utf8, is) (short', none) = absurd (none utf8)
+one_input bytes (a_text o) (a_text p) (short, utf8, is) (short', utf8', is') =
+    ap (λ x. a_text x) (one_declaration_reading bytes o is ∙ sym (one_declaration_reading bytes p is'))
+
+module _ (outcome : Declaration → Outcome) where
+  one_of_declaration : (bytes : List ℕ) (o p : Outcome) → IsOfDeclaration outcome bytes o → IsOfDeclaration outcome bytes p → o ≡ p
+  one_of_declaration bytes o p (i, reads, is) (j, reads', is') =
+      is ∙ ap (λ (x : Input). outcome_of_input outcome x) (one_input bytes i j reads reads') ∙ sym is'
+
+  declaration_of_all : (all : List ℕ) (o : Outcome) → IsOfDeclaration outcome (take 1048577 all) o → IsOfDeclaration outcome all o
+  declaration_of_all all o (i, reads, is) = (i, input_of_all all i reads, is)
+
+  declaration_is_short : (bytes : List ℕ) (o : Outcome) → IsOfDeclaration outcome bytes o → IsAccepted o → length bytes ≤ 1048576
+  declaration_is_short bytes o (too_many_bytes, reads, is) accepted = absurd (accepted _ is)
+  declaration_is_short bytes o (not_utf8, (short, none), is) accepted = short
+  declaration_is_short bytes o (a_text p, (short, utf8, reads), is) accepted = short
+
 -- ---- of each request
 
 module _ (natives : List NamedNative) where
@@ -37,18 +74,24 @@ module _ (natives : List NamedNative) where
   one_outcome Layout bytes o p is is' = one_of_script (names_of natives) _ bytes o p is is'
   one_outcome (Place t) bytes o p is is' = one_of_script (names_of natives) _ bytes o p is is'
   one_outcome (Run t trace) bytes o p is is' = one_of_script (names_of natives) _ bytes o p is is'
+  one_outcome Cdecl bytes o p is is' = one_of_declaration _ bytes o p is is'
+  one_outcome Cplace bytes o p is is' = one_of_declaration _ bytes o p is is'
   one_outcome (Bench seed calls) bytes o p is is' = is ∙ sym is'
 
   pub outcome_of_all : (q : Request) (all : List ℕ) (o : Outcome) → IsOutcome q natives (take 1048577 all) o → IsOutcome q natives all o
   outcome_of_all Layout all o is = script_of_all (names_of natives) _ all o is
   outcome_of_all (Place t) all o is = script_of_all (names_of natives) _ all o is
   outcome_of_all (Run t trace) all o is = script_of_all (names_of natives) _ all o is
+  outcome_of_all Cdecl all o is = declaration_of_all _ all o is
+  outcome_of_all Cplace all o is = declaration_of_all _ all o is
   outcome_of_all (Bench seed calls) all o is = is
 
   pub accepted_is_short : (q : Request) (bytes : List ℕ) (o : Outcome) → reads_input q ≡ true → IsOutcome q natives bytes o → IsAccepted o → length bytes ≤ 1048576
   accepted_is_short Layout bytes o reads is accepted = script_is_short (names_of natives) _ bytes o is accepted
   accepted_is_short (Place t) bytes o reads is accepted = script_is_short (names_of natives) _ bytes o is accepted
   accepted_is_short (Run t trace) bytes o reads is accepted = script_is_short (names_of natives) _ bytes o is accepted
+  accepted_is_short Cdecl bytes o reads is accepted = declaration_is_short _ bytes o is accepted
+  accepted_is_short Cplace bytes o reads is accepted = declaration_is_short _ bytes o is accepted
   accepted_is_short (Bench seed calls) bytes o reads is accepted = cc
 
   -- where the input is not read it does not matter
@@ -56,4 +99,6 @@ module _ (natives : List NamedNative) where
   unread_outcome Layout bytes other o unread is = cc
   unread_outcome (Place t) bytes other o unread is = cc
   unread_outcome (Run t trace) bytes other o unread is = cc
+  unread_outcome Cdecl bytes other o unread is = cc
+  unread_outcome Cplace bytes other o unread is = cc
   unread_outcome (Bench seed calls) bytes other o unread is = is

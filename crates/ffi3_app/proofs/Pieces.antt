@@ -8,11 +8,11 @@ use Rattle.ffi3_io.proofs.Writing.{took_nothing, took_then, cut_after, cut_at_on
 use Rattle.ffi3_type_rules.specs.Signature.{Signature, signature_at, Position, at_argument}
 use Rattle.ffi3_type_rules.specs.Tree.{Tree}
 use Rattle.ffi3_type_rules.specs.declared.Target.{Target}
-use Rattle.ffi3_script_rules.specs.Script.{Script}
+use Rattle.ffi3_place_rules.specs.Standard.{Standard}
 use Rattle.ffi3_io.specs.Sink.{SinkState}
 use Rattle.ffi3_io.specs.Written.{TookText}
 use Rattle.std.specs.List.{concat}
-use Rattle.ffi3_app.specs.Commands.{standard_of, lines_from, arguments_from, place_text}
+use Rattle.ffi3_app.specs.Commands.{standard_of, lines_from, arguments_from}
 use Rattle.ffi3_io.specs.Written as written
 use Rattle.ffi3_io.specs.declared.IoError.{IoError}
 use Rattle.ffi3_io.specs.declared.IoError.TheVariants.{NoMemory}
@@ -94,6 +94,11 @@ module _ (line : Position → List ℕ) (ts : List Tree) (last : List (List ℕ)
   arguments_end j end =
       ap (λ rest. concat (map line (arguments_from j rest) ++ last)) (drop_of_length-le ts {i = j} end)
 
-pub placed_by : (t u : Target) (s : Script) (a b : SinkState) (r : Writing) → t ≡ u → Wrote (place_text (standard_of u) s) a b r → Wrote (place_text (standard_of t) s) a b r
-placed_by t u s a b r is wrote =
-    subst (λ v. Wrote (place_text (standard_of v) s) a b r) (sym is) wrote
+-- what was written of a signature was written of the same signature
+pub wrote_for : (text : Signature → List ℕ) (s t : Signature) (a b : SinkState) (r : Writing) → s ≡ t → Wrote (text s) a b r → Wrote (text t) a b r
+wrote_for text s t a b r is wrote = subst (λ v. Wrote (text v) a b r) is wrote
+
+-- what was written by the standard of a target was written by that of the same target
+pub placed_by : (text : Standard → List ℕ) (t u : Target) (a b : SinkState) (r : Writing) → t ≡ u → Wrote (text (standard_of u)) a b r → Wrote (text (standard_of t)) a b r
+placed_by text t u a b r is wrote =
+    subst (λ v. Wrote (text (standard_of v)) a b r) (sym is) wrote

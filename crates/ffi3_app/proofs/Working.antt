@@ -1,16 +1,28 @@
 -- What came of work, from what its parts came to.
-use Rattle.std.proofs.Common.{◌≡◌, ℕ, List, inl, inr, refl, sym, subst, ap}
-use Rattle.std.specs.Prelude.{Bool, Result, Ok, Err, OnOk}
+use Rattle.std.proofs.Common.{◌≡◌, ℕ, ◌≤◌, List, length, inl, inr, refl, sym, subst, ap, ◌∙◌}
+use Rattle.std.specs.Prelude.{Bool, Result, Ok, Err, OnOk, IsUtf8, codes}
 use Rattle.ffi3_type_rules.specs.declared.Target.{Target}
 use Rattle.ffi3_io.specs.Sink.{SinkState}
 use Rattle.ffi3_io.specs.Written.{Wrote}
 use Rattle.ffi3_io.specs.declared.IoError.{IoError}
 use Rattle.ffi3_io.specs.declared.IoError.TheVariants as end
 use Rattle.ffi3_json.specs.ReasonOf.{reason_of}
+use Rattle.ffi3_json.specs.declared.reason.Reason.{Reason}
+use Rattle.ffi3_types.specs.declared.sig.SigFault.{SigFault}
+use Rattle.ffi3_script_rules.specs.Language as language
 use Rattle.ffi3_json.specs.declared.fault.ScriptFault.{ScriptFault}
 use Rattle.ffi3_json.specs.declared.fault.ScriptFault.TheVariants as fault
+use Rattle.ffi3_cdecl.specs.Tells.{Tells}
+use Rattle.ffi3_cdecl.specs.declared.fault.DeclFault.{DeclFault}
+use Rattle.ffi3_cdecl.specs.declared.fault.DeclFault.TheVariants as decl
+use Rattle.ffi3_cdecl_rules.specs.Grammar.{Declaration}
+use Rattle.ffi3_cdecl_rules.specs.Reading as declaration
+use Rattle.ffi3_cdecl_rules.proofs.Identifiers.{identifier_read, all_fixed_read, right_read}
+use Rattle.ffi3_types.specs.SignatureFaultOf.{signature_fault_of}
+use Rattle.ffi3_script_rules.specs.Language.{reason_of_fault}
+use Rattle.ffi3_script_rules.specs.ReasonText.{text_of_reason}
 use Rattle.ffi3_script.specs.Refusal.{IsScriptRefusal}
-use Rattle.ffi3_script_rules.specs.Reading.{IsReading, too_long, not_json, bad_script, script}
+use Rattle.ffi3_script_rules.specs.Reading.{IsReading, too_long, not_json, bad_script, script, max_length}
 use Rattle.ffi3_script_rules.specs.Script.{Script}
 use Rattle.ffi3_script_rules.specs.Natives.{NamedNative, program_beside}
 use Rattle.ffi3_script_rules.specs.Meaning.{program_of}
@@ -22,8 +34,9 @@ use Rattle.ffi3_words.specs.declared.words.Request.{Request}
 use Rattle.ffi3_app.specs.declared.unfinished.Unfinished.{Unfinished}
 use Rattle.ffi3_app.specs.declared.unfinished.Unfinished.TheVariants.{Refused, NoMemory, WriteFault}
 use Rattle.ffi3_app.specs.Commands.{standard_of}
-use Rattle.ffi3_app.specs.Outcome.{Outcome, refuses, tells, runs, benches, IsOfScript, IsOutcome}
-use Rattle.ffi3_app.specs.Work.{Works, IsToldAs, IsNoScript, work_of_writing}
+use Rattle.ffi3_app.specs.Declarations.{Input, a_text, IsReadAs, IsWritable, offset_line, reason_line}
+use Rattle.ffi3_app.specs.Outcome.{Outcome, refuses, tells, runs, benches, IsOfScript, IsOfDeclaration, outcome_of_input, IsOutcome}
+use Rattle.ffi3_app.specs.Work.{Works, IsToldAs, IsFaultToldAs, IsNoScript, IsNoDeclaration, RefusesWith, work_of_writing}
 
 -- outcomes of one kind are outcomes of another
 pub works_for : (P Q : Outcome → Type 0) (output output' : SinkState) (machine machine' : State) (r : Result ℕ Unfinished) → ((o : Outcome) → P o → Q o) → Works P output output' machine machine' r → Works Q output output' machine machine' r
@@ -97,6 +110,56 @@ no_script_works names outcome bytes output machine WriteFault is = absurd is
 -- what is done with the script that the bytes are
 pub script_works : (names : List (List ℕ)) (outcome : Script → Outcome) (bytes : List ℕ) (s : Script) → IsReading names bytes (script s) → (o : Outcome) → o ≡ outcome s → IsOfScript names outcome bytes o
 script_works names outcome bytes s reading o is = (script s, reading, is)
+
+-- ---- declarations
+
+-- an input that is read so is no declaration, whatever is done with one
+pub refused_input : (bytes : List ℕ) (i : Input) (line : List ℕ) (e : Unfinished) → IsReadAs bytes i → ((outcome : Declaration → Outcome) → refuses line ≡ outcome_of_input outcome i) → RefusesWith line e → IsNoDeclaration bytes e
+refused_input bytes i line (Refused told) reads is same = λ outcome. (i, reads, ap (λ (l : List ℕ). refuses l) same ∙ is outcome)
+refused_input bytes i line NoMemory reads is same = tt
+refused_input bytes i line WriteFault reads is same = absurd same
+
+-- what is told as a fault of a declaration refuses it
+pub refused_fault : (bytes : List ℕ) (f : DeclFault) (e : Unfinished) → length bytes ≤ max_length → IsUtf8 bytes → Tells (declaration.IsReading bytes) f → IsFaultToldAs f e → IsNoDeclaration bytes e
+refused_fault bytes (decl.BadToken at) e short utf8 tells_it told =
+    refused_input bytes (a_text (declaration.bad_token at)) (offset_line at (codes "bad token")) e (short, utf8, tells_it) (λ outcome. refl) told
+refused_fault bytes (decl.Unexpected at) e short utf8 tells_it told =
+    refused_input bytes (a_text (declaration.unexpected at)) (offset_line at (codes "unexpected")) e (short, utf8, tells_it) (λ outcome. refl) told
+refused_fault bytes (decl.BadNumber at) e short utf8 tells_it told =
+    refused_input bytes (a_text (declaration.bad_number at)) (offset_line at (codes "bad number")) e (short, utf8, tells_it) (λ outcome. refl) told
+refused_fault bytes (decl.Sig f) e short utf8 tells_it told =
+    refused_input bytes (a_text (declaration.bad_signature (signature_fault_of f))) (reason_line (text_of_reason (reason_of_fault (signature_fault_of f)))) e (short, utf8, tells_it) (λ outcome. refl) told
+refused_fault bytes decl.NoMemory e short utf8 tells_it told =
+    let P = λ (x : Unfinished). IsNoDeclaration bytes x in subst P (sym told) tt
+
+pub fault_told_as : (f g : DeclFault) (e : Unfinished) → f ≡ g → IsFaultToldAs g e → IsFaultToldAs f e
+fault_told_as f g e same told =
+    let P = λ (x : DeclFault). IsFaultToldAs x e in subst P (sym same) told
+
+-- the fault of a signature, by its reason
+pub reason_told : (f : DeclFault) (s : SigFault) (r : Reason) (e : Unfinished) → f ≡ decl.Sig s → reason_of r ≡ reason_of_fault (signature_fault_of s) → RefusesWith (reason_line (text_of_reason (reason_of r))) e → IsFaultToldAs f e
+reason_told f s r e same is told =
+    let P = λ (x : language.Reason). RefusesWith (reason_line (text_of_reason x)) e in
+    fault_told_as f (decl.Sig s) e same (subst P is told)
+
+-- what is read can be written
+pub read_is_writable : (bytes : List ℕ) (d : Declaration) → declaration.IsReading bytes (declaration.reads d) → IsWritable d
+read_is_writable bytes d is = record {
+  faultless = right_read bytes d is;
+  all_fixed = all_fixed_read bytes d is;
+  identifier = identifier_read bytes d is;
+}
+
+-- of the text that was lent
+pub tells_lent : (bytes lent : List ℕ) (f : DeclFault) → lent ≡ bytes → Tells (declaration.IsReading lent) f → Tells (declaration.IsReading bytes) f
+tells_lent bytes lent f same is =
+    let P = λ (b : List ℕ). Tells (declaration.IsReading b) f in subst P same is
+
+-- there is no declaration to work on
+pub no_declaration_works : (outcome : Declaration → Outcome) (bytes : List ℕ) (output : SinkState) (machine : State) (e : Unfinished) → IsNoDeclaration bytes e → Works (IsOfDeclaration outcome bytes) output output machine machine (Err e)
+no_declaration_works outcome bytes output machine (Refused line) is = (is outcome, refl, refl)
+no_declaration_works outcome bytes output machine NoMemory is = (inl (refl, refl), refl)
+no_declaration_works outcome bytes output machine WriteFault is = absurd is
 
 -- what was done for a request was done for the same request
 pub works_as : (q r : Request) (natives : List NamedNative) (bytes : List ℕ) (output output' : SinkState) (machine machine' : State) (result : Result ℕ Unfinished) → q ≡ r → Works (IsOutcome r natives bytes) output output' machine machine' result → Works (IsOutcome q natives bytes) output output' machine machine' result

@@ -1,4 +1,5 @@
 pub mod Commands
+pub mod Declarations
 pub mod Outcome
 pub mod Top
 pub mod Work

@@ -4,7 +4,7 @@ use Rattle.ffi3_place_rules.specs.Standard.{Standard}
 use Rattle.ffi3_run_rules.specs.Meaning.{End, Program, returned, stopped, meaning_of}
 use Rattle.ffi3_run_rules.specs.Lines.{a_line}
 use Rattle.ffi3_turn_rules.specs.MainTracing.{main_tracing}
-use Rattle.ffi3_script_rules.specs.Language.{JsonPath}
+use Rattle.ffi3_script_rules.specs.Language.{JsonPath, reason_of_fault}
 use Rattle.ffi3_script_rules.specs.ReasonText.{text_of_path, text_of_reason}
 use Rattle.ffi3_script_rules.specs.Script.{Script}
 use Rattle.ffi3_script_rules.specs.Meaning.{program_of}
@@ -19,8 +19,11 @@ use Rattle.ffi3_runner.specs.RunInterrupted.{RunWasInterrupted}
 use Rattle.ffi3_io.specs.Sink.{Adds, SinkState}
 use Rattle.ffi3_io.specs.Written.{TookText}
 use Rattle.ffi3_words.specs.declared.words.Request.{Request}
-use Rattle.ffi3_words.specs.declared.words.Request.TheVariants.{Layout, Place, Run, Bench}
+use Rattle.ffi3_words.specs.declared.words.Request.TheVariants.{Layout, Place, Run, Cdecl, Cplace, Bench}
+use Rattle.ffi3_cdecl_rules.specs.Grammar.{Declaration}
+use Rattle.ffi3_cdecl_rules.specs.Reading as declaration
 use Rattle.ffi3_app.specs.Commands.{standard_of, layout_text, place_text}
+use Rattle.ffi3_app.specs.Declarations.{Input, too_many_bytes, not_utf8, a_text, IsReadAs, offset_line, reason_line, cdecl_text, cplace_text}
 
 -- WHAT A COMMAND COMES TO: its input is refused with a line; or a text is told; or a program is run by a standard, traced or not, and told; or the bench of a seed and a number of calls is run and told
 pub data Outcome : Type 0 where
@@ -47,6 +50,27 @@ abbrev pub IsOfScript : (names : List (List ℕ)) → (Script → Outcome) → L
 IsOfScript names outcome bytes o =
     (r : Reading) × IsReading names bytes r × (o ≡ outcome_of outcome r)
 
+-- ---- commands that work on a declaration
+
+-- what is read as no declaration is refused; of a declaration, a command has an outcome
+abbrev pub outcome_of_input : (Declaration → Outcome) → Input → Outcome
+outcome_of_input outcome too_many_bytes = refuses (a_line (codes "ffi3: input too long"))
+outcome_of_input outcome not_utf8 = refuses (a_line (codes "ffi3: not UTF-8"))
+outcome_of_input outcome (a_text (declaration.bad_token at)) =
+    refuses (offset_line at (codes "bad token"))
+outcome_of_input outcome (a_text (declaration.unexpected at)) =
+    refuses (offset_line at (codes "unexpected"))
+outcome_of_input outcome (a_text (declaration.bad_number at)) =
+    refuses (offset_line at (codes "bad number"))
+outcome_of_input outcome (a_text (declaration.bad_signature f)) =
+    refuses (reason_line (text_of_reason (reason_of_fault f)))
+outcome_of_input outcome (a_text (declaration.reads d)) = outcome d
+
+-- bytes come to this, read as one declaration
+abbrev pub IsOfDeclaration : (Declaration → Outcome) → List ℕ → Outcome → Type 0
+IsOfDeclaration outcome bytes o =
+    (i : Input) × IsReadAs bytes i × (o ≡ outcome_of_input outcome i)
+
 -- ---- all commands
 
 -- WHAT IS ASKED FOR COMES TO THIS, with these bytes as its input, beside natives
@@ -57,6 +81,8 @@ IsOutcome (Place t) natives bytes o =
     IsOfScript (names_of natives) (λ s. tells (place_text (standard_of t) s)) bytes o
 IsOutcome (Run t trace) natives bytes o =
     IsOfScript (names_of natives) (λ s. runs trace (standard_of t) (program_beside (standard_of t) natives s)) bytes o
+IsOutcome Cdecl natives bytes o = IsOfDeclaration (λ d. tells (cdecl_text d)) bytes o
+IsOutcome Cplace natives bytes o = IsOfDeclaration (λ d. tells (cplace_text d)) bytes o
 IsOutcome (Bench seed calls) natives bytes o = o ≡ benches seed calls
 
 -- each command but `bench` reads the input

@@ -1,5 +1,8 @@
 -- What a command did with the bytes of its input, and why it ended before its end.
 use Rattle.std.specs.Prelude.{◌≡◌, ◌+◌, ◌⊎◌, ℕ, Bool, true, false, List, codes, Result, Ok, Err}
+use Rattle.ffi3_cdecl.specs.declared.fault.DeclFault.{DeclFault}
+use Rattle.ffi3_cdecl.specs.declared.fault.DeclFault.TheVariants as decl
+use Rattle.ffi3_cdecl_rules.specs.Grammar.{Declaration}
 use Rattle.ffi3_io.specs.Sink.{Rose, SinkState}
 use Rattle.ffi3_io.specs.declared.IoError.{IoError}
 use Rattle.ffi3_io.specs.declared.IoError.TheVariants as io
@@ -9,12 +12,15 @@ use Rattle.ffi3_json.specs.declared.fault.ScriptFault.{ScriptFault}
 use Rattle.ffi3_json.specs.declared.fault.ScriptFault.TheVariants as fault
 use Rattle.ffi3_machine.specs.State.{State}
 use Rattle.ffi3_run_rules.specs.Lines.{a_line}
+use Rattle.ffi3_script_rules.specs.Language.{reason_of_fault}
 use Rattle.ffi3_script_rules.specs.ReasonText.{text_of_reason}
 use Rattle.ffi3_script_rules.specs.Reading.{max_length}
 use Rattle.ffi3_script_rules.specs.Script.{Script}
+use Rattle.ffi3_types.specs.SignatureFaultOf.{signature_fault_of}
+use Rattle.ffi3_app.specs.Declarations.{offset_line, reason_line}
 use Rattle.ffi3_app.specs.declared.unfinished.Unfinished.{Unfinished}
 use Rattle.ffi3_app.specs.declared.unfinished.Unfinished.TheVariants.{Refused, NoMemory, WriteFault}
-use Rattle.ffi3_app.specs.Outcome.{Outcome, refuses, located_line, IsOfScript, IsDone, IsDoneInPart}
+use Rattle.ffi3_app.specs.Outcome.{Outcome, refuses, located_line, IsOfScript, IsOfDeclaration, IsDone, IsDoneInPart}
 
 -- a command that reads was given the first bytes of the input, one more than a script may have at most; another was given none, and the input was not touched
 abbrev pub WasGiven : (reads : Bool) → SourceState → List ℕ → SourceState → Type 0
@@ -59,3 +65,19 @@ IsNoScript names bytes (Refused line) =
     (outcome : Script → Outcome) → IsOfScript names outcome bytes (refuses line)
 IsNoScript names bytes NoMemory = Unit {0}
 IsNoScript names bytes WriteFault = ⊥
+
+-- A FAULT OF A DECLARATION is told as this: by its line, or as want of memory
+abbrev pub IsFaultToldAs : DeclFault → Unfinished → Type 0
+IsFaultToldAs (decl.BadToken at) e = RefusesWith (offset_line at (codes "bad token")) e
+IsFaultToldAs (decl.Unexpected at) e = RefusesWith (offset_line at (codes "unexpected")) e
+IsFaultToldAs (decl.BadNumber at) e = RefusesWith (offset_line at (codes "bad number")) e
+IsFaultToldAs (decl.Sig f) e =
+    RefusesWith (reason_line (text_of_reason (reason_of_fault (signature_fault_of f)))) e
+IsFaultToldAs decl.NoMemory e = e ≡ NoMemory
+
+-- bytes are no declaration: they are refused, whatever is done with a declaration; or there was no memory
+abbrev pub IsNoDeclaration : List ℕ → Unfinished → Type 0
+IsNoDeclaration bytes (Refused line) =
+    (outcome : Declaration → Outcome) → IsOfDeclaration outcome bytes (refuses line)
+IsNoDeclaration bytes NoMemory = Unit {0}
+IsNoDeclaration bytes WriteFault = ⊥

@@ -1,6 +1,9 @@
 //! The top call: words, an input, and what a command does with it.
 #![tactic(auto)]
 
+mod cdecl;
+mod cplace;
+mod declaration;
 mod input;
 mod layout;
 mod names;

@@ -38,16 +38,48 @@ pub fn place<O: Sink>(
     }
 }
 
-// The same by a calling standard.
+/// Writes the same of one signature, as the one of this number.
+pub fn place_signature<O: Sink>(
+    alloc: Global,
+    target: Target,
+    number: u32,
+    sig: &Sig,
+    output: &mut O,
+) -> Result<(), IoError>
+    requires { SignatureHasNoFault sig.now }
+    ensures { Wrote (concat (place_lines (standard_of target) number sig.now)) (O.state output.old) (O.state output.new) result }
+{
+    match target {
+        Target::Amd64 => place_one::<Amd64, O>(alloc, number, sig, output),
+        Target::Aapcs64 => place_one::<Aapcs64, O>(alloc, number, sig, output),
+        Target::Riscv => place_one::<Riscv, O>(alloc, number, sig, output),
+        Target::Win64 => place_one::<Win64, O>(alloc, number, sig, output),
+    }
+}
+
+// The signatures of a script, by a calling standard.
 fn place_by<A: Abi, O: Sink>(alloc: Global, script: &Script, output: &mut O) -> Result<(), IoError>
     ensures { Wrote (place_text A.standard (script_of script.now)) (O.state output.old) (O.state output.new) result }
 {
     let sigs = script.sigs();
     for i in 0..sigs.len() {
-        let cif = cif_of::<A>(alloc, sigs.get(i))?;
-        place_of(alloc, i as u32, &cif, output)?;
+        place_one::<A, O>(alloc, i as u32, sigs.get(i), output)?;
     }
     Ok(())
+}
+
+// One signature, by a calling standard.
+fn place_one<A: Abi, O: Sink>(
+    alloc: Global,
+    number: u32,
+    sig: &Sig,
+    output: &mut O,
+) -> Result<(), IoError>
+    requires { SignatureHasNoFault sig.now }
+    ensures { Wrote (concat (place_lines A.standard number sig.now)) (O.state output.old) (O.state output.new) result }
+{
+    let cif = cif_of::<A>(alloc, sig)?;
+    place_of(alloc, number, &cif, output)
 }
 
 // The lines of one signature: its frame, the arguments, then the result.

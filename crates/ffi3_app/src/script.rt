@@ -7,10 +7,10 @@ ghost use Rattle.ffi3_script.specs.ScriptOf.{script_of, natives_of};
 ghost use Rattle.ffi3_json.specs.StepOf.{step_of};
 ghost use Rattle.ffi3_ask.specs.Handed.{handed};
 ghost use Rattle.ffi3_app.specs.Outcome.{located_line};
-ghost use Rattle.ffi3_app.specs.Work.{IsNoScript, IsToldAs, RefusesWith};
+ghost use Rattle.ffi3_app.specs.Work.{IsNoScript, IsToldAs};
 
 use crate::names::names_of_natives;
-use crate::unfinished::Unfinished;
+use crate::unfinished::{Unfinished, refused, words};
 use ffi3_body::Native;
 use ffi3_json::{ScriptFault, Step, Where, reason_text};
 use ffi3_script::{Script, read_script};
@@ -49,23 +49,6 @@ fn refusal(alloc: Global, fault: &ScriptFault) -> Unfinished
         }
         ScriptFault::NoMemory => Unfinished::NoMemory,
     }
-}
-
-/// A refusal with a line, where there was memory to make it.
-pub fn refused(line: Result<Bytes, NoMemory>) -> Unfinished
-    ensures { (text : List ℕ) → IfOk line (λ l. l ≡ text) → RefusesWith text result }
-{
-    match line {
-        Ok(line) => Unfinished::Refused(line),
-        Err(_) => Unfinished::NoMemory,
-    }
-}
-
-// A line of known words.
-fn words(alloc: Global, text: &str) -> Result<Bytes, NoMemory>
-    ensures { IfOk result (λ line. line ≡ text.now) }
-{
-    Bytes::from_slice(alloc, text.as_bytes())
 }
 
 // The line of a place and what is said of it, where there was memory for the words.

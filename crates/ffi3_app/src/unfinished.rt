@@ -1,5 +1,9 @@
 //! Why a command ended before its end.
-use ffi3_types::Bytes;
+ghost use Rattle.std.specs.Prelude.{◌≡◌, List, ℕ, IfOk};
+ghost use Rattle.ffi3_app.specs.Work.{RefusesWith};
+
+use ffi3_types::{Bytes, NoMemory};
+use std::alloc::Global;
 
 /// Why a command did not do all of its work.
 #[derive(Debug, Drop)]
@@ -10,4 +14,21 @@ pub enum Unfinished {
     NoMemory,
     /// A write to the output failed.
     WriteFault,
+}
+
+/// A refusal with a line, where there was memory to make it.
+pub fn refused(line: Result<Bytes, NoMemory>) -> Unfinished
+    ensures { (text : List ℕ) → IfOk line (λ l. l ≡ text) → RefusesWith text result }
+{
+    match line {
+        Ok(line) => Unfinished::Refused(line),
+        Err(_) => Unfinished::NoMemory,
+    }
+}
+
+/// A line of known words.
+pub fn words(alloc: Global, text: &str) -> Result<Bytes, NoMemory>
+    ensures { IfOk result (λ line. line ≡ text.now) }
+{
+    Bytes::from_slice(alloc, text.as_bytes())
 }

@@ -8,9 +8,13 @@ ghost use Rattle.ffi3_machine.specs.State.{State};
 ghost use Rattle.ffi3_type_rules.specs.declared.limits.TheConstants.{MOST_CALLS};
 ghost use Rattle.ffi3_words.specs.WordAnswers.{IsInRange};
 ghost use Rattle.ffi3_app.specs.Commands.{layout_text, place_text, standard_of};
-ghost use Rattle.ffi3_app.specs.Outcome.{IsOfScript, IsOutcome, benches, runs, tells};
+ghost use Rattle.ffi3_app.specs.Declarations.{cdecl_text, cplace_text};
+ghost use Rattle.ffi3_app.specs.Outcome.{IsOfDeclaration, IsOfScript, IsOutcome, benches, runs, tells};
 ghost use Rattle.ffi3_app.specs.Work.{Works, work_of_writing};
 
+use crate::cdecl::cdecl;
+use crate::cplace::cplace;
+use crate::declaration::declaration_in;
 use crate::layout::layout;
 use crate::place::place;
 use crate::script::script_in;
@@ -50,6 +54,8 @@ pub fn work<O: Sink>(
         Request::Run { target, trace } => {
             run(alloc, target, trace, bytes, natives, machine, output)
         }
+        Request::Cdecl => tell_cdecl(alloc, bytes, output),
+        Request::Cplace => tell_cplace(alloc, bytes, output),
         Request::Bench { seed, calls } => run_bench(alloc, seed, calls, machine, output),
     }
 }
@@ -94,6 +100,26 @@ fn tell_place<O: Sink>(
 {
     match script_in(alloc, bytes, natives) {
         Ok(script) => written(place(alloc, target, &script, output)),
+        Err(end) => Err(end),
+    }
+}
+
+// ---- cdecl and cplace
+
+fn tell_cdecl<O: Sink>(alloc: Global, bytes: &[u8], output: &mut O) -> Result<u8, Unfinished>
+    ensures { (m : State) → Works (IsOfDeclaration (λ d. tells (cdecl_text d)) bytes.now) (O.state output.old) (O.state output.new) m m result }
+{
+    match declaration_in(alloc, bytes) {
+        Ok(declaration) => written(cdecl(alloc, &declaration, output)),
+        Err(end) => Err(end),
+    }
+}
+
+fn tell_cplace<O: Sink>(alloc: Global, bytes: &[u8], output: &mut O) -> Result<u8, Unfinished>
+    ensures { (m : State) → Works (IsOfDeclaration (λ d. tells (cplace_text d)) bytes.now) (O.state output.old) (O.state output.new) m m result }
+{
+    match declaration_in(alloc, bytes) {
+        Ok(declaration) => written(cplace(alloc, &declaration, output)),
         Err(end) => Err(end),
     }
 }

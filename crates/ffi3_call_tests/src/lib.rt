@@ -1,4 +1,4 @@
-//! Tests of values of public calls that only the language reaches: instructions, regions, slots and ends by themselves, and calls on
+//! Tests of values of public calls that only the language reaches: instructions, stubs, regions, slots and ends by themselves, and calls on
 //! the machine by all four standards, with no program among them.
 #![tactic(auto)]
 
@@ -14,6 +14,8 @@ mod regions;
 mod runs;
 #[cfg(test)]
 mod slots;
+#[cfg(test)]
+mod stubs;
 #[cfg(test)]
 mod table;
 #[cfg(test)]

@@ -194,6 +194,8 @@ moved_within low high sp n a b c d b_is w d_is =
       events = v.events;
       spare_events = v.spare_events;
       spare_bytes = v.spare_bytes;
+      exchange = v.exchange;
+      steps = v.steps;
     })
 
 module _ (std : Standard) (s : Signature) (area block n : ℕ) (m a b c d : State) (low : STACK + std.save + block_bytes s ≤ m.sp) (high : m.sp + std.link + frame_of std s ≤ STACK_TOP) (counted : 8 * length std.save_area ≡ std.save) (sized : length m.stack ≡ STACK_BYTES) (area_is : area ≡ m.sp - std.save) (block_is : block + block_bytes s ≡ area) (saves : WroteOnly area (area + 8 * length std.save_area) m a) (b_is : b ≡ with_sp block a) where

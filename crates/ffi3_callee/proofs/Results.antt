@@ -49,6 +49,8 @@ quiet low high a b h w = record {
   events = w.events;
   spare_events = w.spare_events;
   spare_bytes = w.spare_bytes;
+  exchange = w.exchange;
+  steps = w.steps;
 }
 
 -- a register's word, wherever stack places count from

@@ -55,6 +55,8 @@ within_any_sp low high sp a b c is w =
       events = w.events;
       spare_events = w.spare_events;
       spare_bytes = w.spare_bytes;
+      exchange = w.exchange;
+      steps = w.steps;
     })
 
 same_stack : (a b : State) → WroteWithin STACK_TOP STACK_TOP a b → b.stack ≡ a.stack

@@ -13,6 +13,7 @@ ghost use Rattle.ffi3_place_rules.specs.Sound.{AreApart, IsPieceOf, piece_locs, 
 ghost use Rattle.ffi3_place_rules.specs.Isa.{listed};
 ghost use Rattle.ffi3_type_rules.specs.declared.limits.TheConstants.{STACK, STACK_TOP};
 ghost use Rattle.ffi3_machine.specs.State.{State, stack_at};
+ghost use Rattle.ffi3_pieces.specs.Passing.{passing};
 ghost use Rattle.ffi3_pieces.specs.Stored.{IsPlace, IsWritable, KeepsPadding, KeepsUnused, Stays, WroteOnly, WroteWithin};
 ghost use Rattle.ffi3_pieces.specs.Standing.{PiecesStand};
 ghost use Rattle.ffi3_callee.specs.Loaded.{image_from};
@@ -21,10 +22,9 @@ ghost use Rattle.ffi3_callee.specs.Received.{IsIncoming};
 ghost use Rattle.ffi3_callee.specs.Saved.{AreSaved};
 
 use crate::Incoming;
-use crate::saving::set_register;
 use ffi3_cif::Cif;
-use ffi3_machine::Machine;
-use ffi3_pieces::{SMALL, store_pieces};
+use ffi3_machine::{Machine, STACK_TOP};
+use ffi3_pieces::{SMALL, put_word, store_pieces};
 use ffi3_place::parts::{result_type, size_of};
 use ffi3_place::{Abi, Loc, Pieces, Res};
 use ffi3_type_rules::limits::LARGEST_TYPE;
@@ -41,10 +41,10 @@ fn give_pieces(machine: &mut Machine, base: u64, pieces: &Pieces, ty: &FfiType, 
     requires parts { AllByRecursion (IsPieceOf (tree_of ty.now)) pieces.now }
     requires right { IsLaidOut (tree_of ty.now) }
     requires fits { fits (tree_of ty.now) (value_of value.now) ≡ true }
-    ensures stand { PiecesStand base machine.new (tree_of ty.now) (value_of value.now) pieces.now }
-    ensures unused { AllByRecursion (KeepsUnused base (tree_of ty.now) machine.old machine.new) pieces.now }
-    ensures stays { Stays base (piece_locs pieces.now) machine.old machine.new }
-    ensures within { WroteWithin base base machine.old machine.new }
+    ensures stand { PiecesStand base (passing machine.new) (tree_of ty.now) (value_of value.now) pieces.now }
+    ensures unused { AllByRecursion (KeepsUnused base (tree_of ty.now) (passing machine.old) (passing machine.new)) pieces.now }
+    ensures stays { Stays base (piece_locs pieces.now) (passing machine.old) (passing machine.new) }
+    ensures within { WroteWithin base base (passing machine.old) (passing machine.new) }
 {
     store_pieces(machine, base, pieces, ty, value);
 }
@@ -62,9 +62,9 @@ fn give_buffer_by(
     requires right { IsLaidOut (tree_of ty.now) }
     requires fits { fits (tree_of ty.now) (value_of value.now) ≡ true }
     requires sized { length bytes.old ≡ size_of (tree_of ty.now) }
-    ensures reads { value_in (tree_of ty.now) (stack_at address (size_of (tree_of ty.now)) machine.new) ≡ value_of value.now }
-    ensures unused { KeepsPadding address (tree_of ty.now) machine.old machine.new }
-    ensures only { WroteOnly address (address + size_of (tree_of ty.now)) machine.old machine.new }
+    ensures reads { value_in (tree_of ty.now) (stack_at address (size_of (tree_of ty.now)) (passing machine.new)) ≡ value_of value.now }
+    ensures unused { KeepsPadding address (tree_of ty.now) (passing machine.old) (passing machine.new) }
+    ensures only { WroteOnly address (address + size_of (tree_of ty.now)) (passing machine.old) (passing machine.new) }
 {
     // its contract tells what is true of every machine
     let _m = machine.sp();
@@ -80,9 +80,9 @@ fn give_buffer(machine: &mut Machine, address: u64, ty: &FfiType, value: &Value)
     requires high { address + size_of (tree_of ty.now) ≤ STACK_TOP }
     requires right { IsLaidOut (tree_of ty.now) }
     requires fits { fits (tree_of ty.now) (value_of value.now) ≡ true }
-    ensures reads { value_in (tree_of ty.now) (stack_at address (size_of (tree_of ty.now)) machine.new) ≡ value_of value.now }
-    ensures unused { KeepsPadding address (tree_of ty.now) machine.old machine.new }
-    ensures only { WroteOnly address (address + size_of (tree_of ty.now)) machine.old machine.new }
+    ensures reads { value_in (tree_of ty.now) (stack_at address (size_of (tree_of ty.now)) (passing machine.new)) ≡ value_of value.now }
+    ensures unused { KeepsPadding address (tree_of ty.now) (passing machine.old) (passing machine.new) }
+    ensures only { WroteOnly address (address + size_of (tree_of ty.now)) (passing machine.old) (passing machine.new) }
 {
     let size = size_of(ty) as usize;
     if size <= SMALL {
@@ -97,15 +97,15 @@ fn give_buffer(machine: &mut Machine, address: u64, ty: &FfiType, value: &Value)
 // Tells the buffer's address in the standard's register for it, if it has one.
 fn tell_address(machine: &mut Machine, returned: Option<Loc>, address: u64)
     requires register { IsSettable machine.old.target returned }
-    ensures told { RegisterHoldsWord machine.new returned address }
-    ensures registers { RegistersStay (listed returned) machine.old machine.new }
-    ensures within { WroteWithin STACK_TOP STACK_TOP machine.old machine.new }
+    ensures told { RegisterHoldsWord (passing machine.new) returned address }
+    ensures registers { RegistersStay (listed returned) (passing machine.old) (passing machine.new) }
+    ensures within { WroteWithin STACK_TOP STACK_TOP (passing machine.old) (passing machine.new) }
     ensures sp { machine.new.sp ≡ machine.old.sp }
 {
     // its contract tells what is true of every machine
     let _m = machine.sp();
     if let Some(at) = returned {
-        set_register(machine, at, address);
+        put_word(machine, STACK_TOP, at, address);
     }
 }
 
@@ -127,10 +127,10 @@ fn give<A: Abi>(
     requires returned_settable { IsSettable machine.old.target returned }
     requires result_writable { AllByRecursion (IsWritable machine.old.target) (result_locs (plan_of A.standard cif.now).res) }
     requires fits { fits cif.now.result_type (value_of value.now) ≡ true }
-    ensures holds { HoldsResult A.standard cif.now (value_of value.now) (image_from base (frame_of A.standard cif.now) machine.new) }
-    ensures unused { ResultKeepsUnused base cif.now.result_type (plan_of A.standard cif.now).res machine.old machine.new }
-    ensures registers { RegistersStay (result_uses A.standard (plan_of A.standard cif.now).res) machine.old machine.new }
-    ensures writes { ResultWrites base cif.now.result_type (plan_of A.standard cif.now).res machine.old machine.new }
+    ensures holds { HoldsResult A.standard cif.now (value_of value.now) (image_from base (frame_of A.standard cif.now) (passing machine.new)) }
+    ensures unused { ResultKeepsUnused base cif.now.result_type (plan_of A.standard cif.now).res (passing machine.old) (passing machine.new) }
+    ensures registers { RegistersStay (result_uses A.standard (plan_of A.standard cif.now).res) (passing machine.old) (passing machine.new) }
+    ensures writes { ResultWrites base cif.now.result_type (plan_of A.standard cif.now).res (passing machine.old) (passing machine.new) }
     ensures sp { machine.new.sp ≡ machine.old.sp }
 {
     // its contract tells what is true of every machine
@@ -152,12 +152,12 @@ pub fn give_result<A: Abi>(machine: &mut Machine, cif: &Cif<A>, incoming: &Incom
     requires target { machine.old.target ≡ A.TARGET }
     requires incoming { IsIncoming A.standard cif.now incoming.now }
     requires fits { fits cif.now.result_type (value_of value.now) ≡ true }
-    ensures holds { HoldsResult A.standard cif.now (value_of value.now) (image_from (incoming.now.entry + A.standard.link) (frame_of A.standard cif.now) machine.new) }
-    ensures unused { ResultKeepsUnused (incoming.now.entry + A.standard.link) cif.now.result_type (plan_of A.standard cif.now).res machine.old machine.new }
-    ensures registers { RegistersStay (result_uses A.standard (plan_of A.standard cif.now).res) machine.old machine.new }
-    ensures reserved { ReservedStay A.standard machine.old machine.new }
+    ensures holds { HoldsResult A.standard cif.now (value_of value.now) (image_from (incoming.now.entry + A.standard.link) (frame_of A.standard cif.now) (passing machine.new)) }
+    ensures unused { ResultKeepsUnused (incoming.now.entry + A.standard.link) cif.now.result_type (plan_of A.standard cif.now).res (passing machine.old) (passing machine.new) }
+    ensures registers { RegistersStay (result_uses A.standard (plan_of A.standard cif.now).res) (passing machine.old) (passing machine.new) }
+    ensures reserved { ReservedStay A.standard (passing machine.old) (passing machine.new) }
     ensures saved { (base : ℕ) (hidden : Option Loc) (entry : State) → AreSaved (incoming.now.entry - A.standard.save) base hidden A.standard.save_area entry machine.old → AreSaved (incoming.now.entry - A.standard.save) base hidden A.standard.save_area entry machine.new }
-    ensures writes { ResultWrites (incoming.now.entry + A.standard.link) cif.now.result_type (plan_of A.standard cif.now).res machine.old machine.new }
+    ensures writes { ResultWrites (incoming.now.entry + A.standard.link) cif.now.result_type (plan_of A.standard cif.now).res (passing machine.old) (passing machine.new) }
     ensures sp { machine.new.sp ≡ machine.old.sp }
 {
     // its contract tells what is true of every interface

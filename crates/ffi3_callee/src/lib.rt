@@ -12,6 +12,7 @@ ghost use Rattle.ffi3_place_rules.specs.Holds.{OwnsArguments};
 ghost use Rattle.ffi3_place_rules.specs.Standard.{block_bytes, frame_of, plan_of};
 ghost use Rattle.ffi3_machine.specs.State.{scribbled_floating, scribbled_general, stack_at};
 ghost use Rattle.ffi3_body.specs.SeenActivation.{arguments_in, block_offset};
+ghost use Rattle.ffi3_pieces.specs.Passing.{passing};
 ghost use Rattle.ffi3_pieces.specs.Stored.{WroteOnly};
 ghost use Rattle.ffi3_callee.specs.Loaded.{AreFound, image_from};
 ghost use Rattle.ffi3_callee.specs.Given.{ReservedStay};
@@ -27,7 +28,6 @@ mod taking;
 pub use answering::answer;
 use ffi3_cif::Cif;
 use ffi3_machine::Machine;
-use ffi3_pieces::{load_piece, place_word};
 use ffi3_place::parts::{argument, count_of, size_of};
 use ffi3_place::{Abi, Loc, Pieces, Place, Res};
 use ffi3_type_rules::round_up;
@@ -85,10 +85,10 @@ fn copy_arguments<A: Abi>(machine: &mut Machine, cif: &Cif<A>, base: u64, block:
     requires low { STACK ≤ block }
     requires below { block + block_bytes cif.now ≤ base }
     requires high { base + frame_of A.standard cif.now ≤ STACK_TOP }
-    requires found { AreFound base machine.old (plan_of A.standard cif.now).places }
-    ensures values { (vs : List ValueTree) → OwnsArguments (image_from base (frame_of A.standard cif.now) machine.old) 0 cif.now.arguments (plan_of A.standard cif.now).places vs →
-        arguments_in cif.now.arguments (stack_at block (block_bytes cif.now) machine.new) ≡ vs }
-    ensures only { WroteOnly block (block + block_bytes cif.now) machine.old machine.new }
+    requires found { AreFound base (passing machine.old) (plan_of A.standard cif.now).places }
+    ensures values { (vs : List ValueTree) → OwnsArguments (image_from base (frame_of A.standard cif.now) (passing machine.old)) 0 cif.now.arguments (plan_of A.standard cif.now).places vs →
+        arguments_in cif.now.arguments (stack_at block (block_bytes cif.now) (passing machine.new)) ≡ vs }
+    ensures only { WroteOnly block (block + block_bytes cif.now) (passing machine.old) (passing machine.new) }
 {
     // its contract tells what is true of every machine
     let _m = machine.sp();

@@ -15,7 +15,7 @@ ghost use Rattle.ffi3_callee.specs.Overwritten.{AreRegistersDone, IsFrameDone, I
 
 use ffi3_cif::Cif;
 use ffi3_machine::Machine;
-use ffi3_pieces::place_word;
+use ffi3_pieces::own_word;
 use ffi3_place::parts::{argument, count_of};
 use ffi3_place::{Abi, Loc, Piece, Pieces, Place, Res};
 use ffi3_types::FfiType;
@@ -163,8 +163,8 @@ fn poisoned<A: Abi>(cif: &Cif<A>, at: Loc, word: u64, byte: u8) -> u64
     u64::from_le_bytes(bytes)
 }
 
-// Sets a register.
-fn set_register(machine: &mut Machine, at: Loc, word: u64)
+/// Sets one of the machine's own registers.
+pub fn set_register(machine: &mut Machine, at: Loc, word: u64)
     requires register { IsPlace 0 at }
     requires writable { IsWritable machine.old.target at }
     ensures put { (base : ℕ) → IsWordPut base at word machine.old machine.new }
@@ -188,7 +188,7 @@ fn poison_register<A: Abi>(machine: &mut Machine, cif: &Cif<A>, base: u64, at: L
     requires passing { is_argument_register A.standard at ≡ true }
     ensures { IsRegisterDone A.standard cif.now base byte at machine.old machine.new }
 {
-    let word = poisoned(cif, at, place_word(machine, base, at), byte);
+    let word = poisoned(cif, at, own_word(machine, base, at), byte);
     set_register(machine, at, word);
 }
 

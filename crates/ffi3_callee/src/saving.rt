@@ -7,8 +7,9 @@ ghost use Rattle.ffi3_place_rules.specs.Agrees.{saved_registers};
 ghost use Rattle.ffi3_pieces.specs.Stored.{Stays, WroteOnly, WroteWithin, word_in};
 ghost use Rattle.ffi3_callee.specs.Saved.{AreGivenBack, AreSaved, HiddenLies, IsRestorable, IsSaveable, hidden_word, saved_word, word_to_save};
 
-use ffi3_machine::{Machine, STACK_TOP};
-use ffi3_pieces::{place_word, put_word};
+use crate::poisoning;
+use ffi3_machine::Machine;
+use ffi3_pieces::own_word;
 use ffi3_place::{Abi, Loc, SaveWord};
 
 // How many words the save area has.
@@ -34,7 +35,7 @@ pub fn hidden_word(machine: &Machine, base: u64, hidden: Option<Loc>) -> u64
     ensures { result ≡ hidden_word base machine.now hidden }
 {
     match hidden {
-        Some(at) => place_word(machine, base, at),
+        Some(at) => own_word(machine, base, at),
         None => 0,
     }
 }
@@ -48,7 +49,7 @@ fn word_to_save(machine: &Machine, base: u64, hidden: Option<Loc>, word: SaveWor
     ensures { result ≡ word_to_save base machine.now hidden word }
 {
     match word {
-        SaveWord::Register(at) => place_word(machine, base, at),
+        SaveWord::Register(at) => own_word(machine, base, at),
         SaveWord::Hidden => hidden_word(machine, base, hidden),
         SaveWord::Spare => 0,
     }
@@ -80,7 +81,7 @@ pub fn set_register(machine: &mut Machine, at: Loc, word: u64)
     ensures stays { Stays STACK_TOP (saved_registers (SaveWord.Register at ∷ [])) machine.old machine.new }
     ensures within { WroteWithin STACK_TOP STACK_TOP machine.old machine.new }
 {
-    put_word(machine, STACK_TOP, at, word);
+    poisoning::set_register(machine, at, word);
 }
 
 // Sets the register of a word that has one.
@@ -95,7 +96,7 @@ fn restore_word(machine: &mut Machine, from: u64, i: u32, word: SaveWord)
     // its contract tells what is true of every machine
     let _m = machine.sp();
     if let SaveWord::Register(at) = word {
-        let saved = place_word(machine, from, Loc::S(8 * i));
+        let saved = own_word(machine, from, Loc::S(8 * i));
         set_register(machine, at, saved);
     }
 }

@@ -8,6 +8,7 @@ ghost use Rattle.ffi3_types.specs.TreeOf.{tree_of};
 ghost use Rattle.ffi3_place_rules.specs.Sound.{PlaceHasAll};
 ghost use Rattle.ffi3_cif.specs.Runs.{AreRunsOf, Neighbours, Rises, pieces_of};
 ghost use Rattle.ffi3_machine.specs.State.{stack_at};
+ghost use Rattle.ffi3_pieces.specs.Passing.{passing};
 ghost use Rattle.ffi3_pieces.specs.Stored.{IsPlace, IsWithin, WroteOnly};
 ghost use Rattle.ffi3_pieces.specs.Runs.{RunLies};
 ghost use Rattle.ffi3_pieces.specs.Standing.{PlaceLies};
@@ -28,7 +29,7 @@ fn copy_runs(machine: &mut Machine, base: u64, runs: &Runs, to: u64)
     requires high { base ≤ STACK_TOP }
     requires lie { AllByRecursion (RunLies (STACK_TOP - base) (base - to)) runs.now }
     requires rising { Neighbours Rises runs.now }
-    ensures { AreRunsMoved base to runs.now machine.old machine.new }
+    ensures { AreRunsMoved base to runs.now (passing machine.old) (passing machine.new) }
 {
     // its contract tells what is true of every machine
     let _m = machine.sp();
@@ -55,7 +56,7 @@ fn copy_register(machine: &mut Machine, base: u64, piece: &Piece, to: u64)
     requires high { base ≤ STACK_TOP }
     requires lies { IsPlace (STACK_TOP - base) piece.now.loc }
     requires within { IsWithin (base - to) piece.now }
-    ensures { IsPieceMoved base to piece.now machine.old machine.new }
+    ensures { IsPieceMoved base to piece.now (passing machine.old) (passing machine.new) }
 {
     // its contract tells what is true of every machine
     let _m = machine.sp();
@@ -72,7 +73,7 @@ fn copy_registers(machine: &mut Machine, base: u64, pieces: &Pieces, to: u64)
     requires high { base ≤ STACK_TOP }
     requires lie { AllByRecursion (λ p. IsPlace (STACK_TOP - base) p.loc) pieces.now }
     requires within { AllByRecursion (IsWithin (base - to)) pieces.now }
-    ensures { ArePiecesMoved base to pieces.now machine.old machine.new }
+    ensures { ArePiecesMoved base to pieces.now (passing machine.old) (passing machine.new) }
 {
     for i in 0..pieces.len() {
         copy_register(machine, base, pieces.get(i), to);
@@ -94,10 +95,10 @@ pub fn copy_argument(
     requires lies { PlaceLies (STACK_TOP - base) (tree_of ty.now) place.now }
     requires has_all { PlaceHasAll (tree_of ty.now) place.now }
     requires runs { AreRunsOf (pieces_of place.now) runs.now }
-    requires found { IsFound base machine.old place.now }
+    requires found { IsFound base (passing machine.old) place.now }
     requires right { IsLaidOut (tree_of ty.now) }
-    ensures read { IsRead base machine.old (tree_of ty.now) place.now (stack_at to (size_of (tree_of ty.now)) machine.new) }
-    ensures only { WroteOnly to (to + size_of (tree_of ty.now)) machine.old machine.new }
+    ensures read { IsRead base (passing machine.old) (tree_of ty.now) place.now (stack_at to (size_of (tree_of ty.now)) (passing machine.new)) }
+    ensures only { WroteOnly to (to + size_of (tree_of ty.now)) (passing machine.old) (passing machine.new) }
 {
     // its contract tells what is true of every machine
     let _m = machine.sp();

@@ -184,13 +184,13 @@ free_same std s sound base at o a b c registers none first second third =
 
 -- ---- the frame that is opened
 
-pub frame_registers : (n sp frame byte : ℕ) (old : State) (l : Loc) → IsPlace 0 l → SameAt 0 l (scribbled n old) (filled sp frame byte (with_sp sp (scribbled n old)))
-frame_registers n sp frame byte old (G r) h = refl
-frame_registers n sp frame byte old (F r) h = refl
-frame_registers n sp frame byte old (S k) h = absurd (omega (arith, h))
+pub frame_registers : (sp frame byte : ℕ) (x : State) (l : Loc) → IsPlace 0 l → SameAt 0 l x (filled sp frame byte (with_sp sp x))
+frame_registers sp frame byte x (G r) h = refl
+frame_registers sp frame byte x (F r) h = refl
+frame_registers sp frame byte x (S k) h = absurd (omega (arith, h))
 
-scribbled_within : (n sp low high : ℕ) (old : State) → WroteWithin low high old (with_sp sp (scribbled n old))
-scribbled_within n sp low high old = record {
+lowered_within : (sp low high : ℕ) (x : State) → WroteWithin low high x (with_sp sp x)
+lowered_within sp low high x = record {
   size = refl;
   outside = λ i h. refl;
   mark = inl (omega arith);
@@ -200,11 +200,13 @@ scribbled_within n sp low high old = record {
   events = refl;
   spare_events = refl;
   spare_bytes = refl;
+  exchange = refl;
+  steps = refl;
 }
 
-pub frame_within : (n sp frame byte : ℕ) (old : State) → STACK ≤ sp → sp - STACK + frame ≤ length old.stack → WroteWithin sp (sp + frame) old (filled sp frame byte (with_sp sp (scribbled n old)))
-frame_within n sp frame byte old low fits =
-    wrote_then sp (sp + frame) old (with_sp sp (scribbled n old)) (filled sp frame byte (with_sp sp (scribbled n old))) (scribbled_within n sp sp (sp + frame) old) (filled_within sp frame byte (with_sp sp (scribbled n old)) low fits)
+pub frame_within : (sp frame byte : ℕ) (x : State) → STACK ≤ sp → sp - STACK + frame ≤ length x.stack → WroteWithin sp (sp + frame) x (filled sp frame byte (with_sp sp x))
+frame_within sp frame byte x low fits =
+    wrote_then sp (sp + frame) x (with_sp sp x) (filled sp frame byte (with_sp sp x)) (lowered_within sp sp (sp + frame) x) (filled_within sp frame byte (with_sp sp x) low fits)
 
 pub frame_begun : (n number sp frame byte : ℕ) (old a b d : State) → number ≡ n → a ≡ scribbled number old → b ≡ with_sp sp a → d ≡ filled sp frame byte b → d ≡ filled sp frame byte (with_sp sp (scribbled n old))
 frame_begun n number sp frame byte old a b d number_is first second third =

@@ -10,12 +10,14 @@ ghost use Rattle.ffi3_place_rules.specs.Holds.{FillArguments, Holds, OwnResult, 
 ghost use Rattle.ffi3_place_rules.specs.Standard.{plan_of, need_of, frame_of};
 ghost use Rattle.ffi3_type_rules.specs.declared.limits.TheConstants.{STACK, STACK_TOP};
 ghost use Rattle.ffi3_machine.specs.State.{called, image_of, with_sp, IsSlot};
+ghost use Rattle.ffi3_pieces.specs.Passing.{passing};
 ghost use Rattle.ffi3_caller.specs.Loaded.{AreWithin, IsRegister, IsWithin, loaded, with_piece};
 
 mod store;
 
 use ffi3_cif::Cif;
 use ffi3_machine::{Machine, STACK};
+use ffi3_pieces::{passed_floating, passed_general};
 use ffi3_place::{Abi, Loc, Piece, Pieces, Res};
 pub use store::store_args;
 use thiserror::Error;
@@ -55,10 +57,10 @@ pub fn call<A: Abi>(machine: &mut Machine, cif: &Cif<A>, addr: u64)
     requires frame { machine.old.sp + frame_of A.standard cif.now ≤ STACK_TOP }
     ensures called { machine.new ≡ called addr machine.old }
     ensures holds { (values : List ValueTree) →
-        OwnsArguments (image_of (frame_of A.standard cif.now) machine.old) 0 cif.now.arguments (plan_of A.standard cif.now).places values →
-        FillArguments (image_of (frame_of A.standard cif.now) machine.old) 0 cif.now.arguments (plan_of A.standard cif.now).places values →
-        OwnsHidden (image_of (frame_of A.standard cif.now) machine.old) 0 (plan_of A.standard cif.now).res →
-        RegisterHolds (image_of (frame_of A.standard cif.now) machine.old) A.standard.vector_count (plan_of A.standard cif.now).vectors →
+        OwnsArguments (image_of (frame_of A.standard cif.now) (passing machine.old)) 0 cif.now.arguments (plan_of A.standard cif.now).places values →
+        FillArguments (image_of (frame_of A.standard cif.now) (passing machine.old)) 0 cif.now.arguments (plan_of A.standard cif.now).places values →
+        OwnsHidden (image_of (frame_of A.standard cif.now) (passing machine.old)) 0 (plan_of A.standard cif.now).res →
+        RegisterHolds (image_of (frame_of A.standard cif.now) (passing machine.old)) A.standard.vector_count (plan_of A.standard cif.now).vectors →
         Holds A.standard cif.now values (image_of (A.standard.link + frame_of A.standard cif.now) machine.new) }
 {
     // their contracts tell what is true of every interface and of every machine
@@ -73,7 +75,7 @@ pub fn load_result<A: Abi>(machine: &Machine, cif: &Cif<A>, out: &mut [u8])
     requires frame { machine.now.sp + frame_of A.standard cif.now ≤ STACK_TOP }
     requires sized { length out.old ≡ size_of cif.now.result_type }
     ensures sized { length out.new ≡ length out.old }
-    ensures value { (v : ValueTree) → OwnResult A.standard cif.now v (image_of (frame_of A.standard cif.now) machine.now) →
+    ensures value { (v : ValueTree) → OwnResult A.standard cif.now v (image_of (frame_of A.standard cif.now) (passing machine.now)) →
         value_in cif.now.result_type out.new ≡ v }
 {
     // its contract tells what is true of every interface
@@ -94,7 +96,7 @@ fn load_pieces(machine: &Machine, pieces: &Pieces, out: &mut [u8])
     requires within { AreWithin (length out.old) pieces.now }
     requires registers { AllByRecursion (λ p. IsRegister p.loc) pieces.now }
     ensures sized { length out.new ≡ length out.old }
-    ensures loaded { out.new ≡ loaded machine.now pieces.now out.old }
+    ensures loaded { out.new ≡ loaded (passing machine.now) pieces.now out.old }
 {
     for i in 0..pieces.len() {
         load_piece(machine, pieces.get(i), out);
@@ -106,11 +108,11 @@ fn load_piece(machine: &Machine, piece: &Piece, out: &mut [u8])
     requires within { IsWithin (length out.old) piece.now }
     requires register { IsRegister piece.now.loc }
     ensures sized { length out.new ≡ length out.old }
-    ensures loaded { out.new ≡ with_piece machine.now piece.now out.old }
+    ensures loaded { out.new ≡ with_piece (passing machine.now) piece.now out.old }
 {
     let word = match piece.loc {
-        Loc::G(k) => machine.g(k),
-        Loc::F(k) => machine.f(k),
+        Loc::G(k) => passed_general(machine, k),
+        Loc::F(k) => passed_floating(machine, k),
         Loc::S(_) => unreachable!(),
     };
     let start = piece.off as usize;

@@ -11,6 +11,7 @@ ghost use Rattle.ffi3_place_rules.specs.Holds.{FillArguments, OwnsArguments, Own
 ghost use Rattle.ffi3_place_rules.specs.Sound.{argument_locs, copy_locs, IsNoneOf};
 ghost use Rattle.ffi3_place_rules.specs.Isa.{listed};
 ghost use Rattle.ffi3_machine.specs.State.{image_of, scribbled};
+ghost use Rattle.ffi3_pieces.specs.Passing.{passing};
 ghost use Rattle.ffi3_pieces.specs.Stored.{stack_byte, IsPlace, IsWritable, SameAt, Stays, WroteWithin};
 ghost use Rattle.ffi3_pieces.specs.Standing.{AllKeepUnused};
 ghost use Rattle.ffi3_caller.specs.Called.{CountStands, with_frame};
@@ -27,9 +28,9 @@ fn put_count(machine: &mut Machine, base: u64, at: Option<Loc>, count: u64)
     requires high { base ≤ STACK_TOP }
     requires registers { AllByRecursion (IsPlace 0) (listed at) }
     requires writable { AllByRecursion (IsWritable machine.old.target) (listed at) }
-    ensures told { CountStands base machine.new at count }
-    ensures stays { Stays base (listed at) machine.old machine.new }
-    ensures within { (room : ℕ) → WroteWithin base (base + room) machine.old machine.new }
+    ensures told { CountStands base (passing machine.new) at count }
+    ensures stays { Stays base (listed at) (passing machine.old) (passing machine.new) }
+    ensures within { (room : ℕ) → WroteWithin base (base + room) (passing machine.old) (passing machine.new) }
 {
     if let Some(at) = at {
         put_word(machine, base, at, count);
@@ -42,9 +43,9 @@ fn begin_frame(machine: &mut Machine, frame: u64)
     requires top { machine.old.sp ≤ STACK_TOP }
     ensures opened { machine.new ≡ with_frame frame machine.old }
     ensures sp { machine.new.sp + frame ≡ machine.old.sp }
-    ensures registers { (l : Loc) → IsPlace 0 l → SameAt 0 l (scribbled (length machine.old.events) machine.old) machine.new }
+    ensures registers { (l : Loc) → IsPlace 0 l → SameAt 0 l (passing (scribbled (length machine.old.events) machine.old)) (passing machine.new) }
     ensures filled { (i : ℕ) → i < frame → stack_byte machine.new (machine.new.sp + i) ≡ 0xA5 }
-    ensures within { WroteWithin machine.new.sp (machine.new.sp + frame) machine.old machine.new }
+    ensures within { WroteWithin machine.new.sp (machine.new.sp + frame) (passing (scribbled (length machine.old.events) machine.old)) (passing machine.new) }
 {
     let sp = machine.sp() - frame;
     let number = machine.events().len() as u64;
@@ -62,10 +63,10 @@ pub fn store_args<A: Abi>(machine: &mut Machine, cif: &Cif<A>, values: &Values)
     requires room { STACK + frame_of A.standard cif.now ≤ machine.old.sp }
     requires top { machine.old.sp ≤ STACK_TOP }
     // the arguments stand at their places, and what fills the rest of these is right
-    ensures own { OwnsArguments (image_of (frame_of A.standard cif.now) machine.new) 0 cif.now.arguments (plan_of A.standard cif.now).places values.now }
-    ensures filled { FillArguments (image_of (frame_of A.standard cif.now) machine.new) 0 cif.now.arguments (plan_of A.standard cif.now).places values.now }
-    ensures hidden { OwnsHidden (image_of (frame_of A.standard cif.now) machine.new) 0 (plan_of A.standard cif.now).res }
-    ensures vectors { RegisterHolds (image_of (frame_of A.standard cif.now) machine.new) A.standard.vector_count (plan_of A.standard cif.now).vectors }
+    ensures own { OwnsArguments (image_of (frame_of A.standard cif.now) (passing machine.new)) 0 cif.now.arguments (plan_of A.standard cif.now).places values.now }
+    ensures filled { FillArguments (image_of (frame_of A.standard cif.now) (passing machine.new)) 0 cif.now.arguments (plan_of A.standard cif.now).places values.now }
+    ensures hidden { OwnsHidden (image_of (frame_of A.standard cif.now) (passing machine.new)) 0 (plan_of A.standard cif.now).res }
+    ensures vectors { RegisterHolds (image_of (frame_of A.standard cif.now) (passing machine.new)) A.standard.vector_count (plan_of A.standard cif.now).vectors }
     ensures sp { machine.new.sp + frame_of A.standard cif.now ≡ machine.old.sp }
     // a register that carries nothing is as the scribble left it, and so are the preserved ones; it leaves the reserved ones
     ensures others { (l : Loc) → IsPlace 0 l → IsNoneOf (argument_locs (plan_of A.standard cif.now) ++ listed A.standard.vector_count) l → SameAt 0 l (scribbled (length machine.old.events) machine.old) machine.new }
@@ -74,9 +75,9 @@ pub fn store_args<A: Abi>(machine: &mut Machine, cif: &Cif<A>, values: &Values)
     // eight bytes of the frame that carry nothing are A5
     ensures free { (at k : ℕ) → at + 8 ≤ frame_of A.standard cif.now → IsNoneOf (argument_locs (plan_of A.standard cif.now) ++ copy_locs cif.now.arguments (plan_of A.standard cif.now).places) (S at) → k < 8 → stack_byte machine.new (machine.new.sp + at + k) ≡ 0xA5 }
     // what no leaf of an argument has is as the scribble and the A5 bytes left it
-    ensures unused { AllKeepUnused machine.new.sp (with_frame (frame_of A.standard cif.now) machine.old) machine.new cif.now.arguments (plan_of A.standard cif.now).places }
-    // below the new and at or above the old stack pointer nothing is written
-    ensures within { WroteWithin machine.new.sp machine.old.sp machine.old machine.new }
+    ensures unused { AllKeepUnused machine.new.sp (passing (with_frame (frame_of A.standard cif.now) machine.old)) (passing machine.new) cif.now.arguments (plan_of A.standard cif.now).places }
+    // below the new and at or above the old stack pointer nothing is written, nor behind what a call passes but for the scribble
+    ensures within { WroteWithin machine.new.sp machine.old.sp (passing (scribbled (length machine.old.events) machine.old)) (passing machine.new) }
 {
     // its contract tells what is true of every interface
     let _sig = cif.sig();
@@ -86,4 +87,6 @@ pub fn store_args<A: Abi>(machine: &mut Machine, cif: &Cif<A>, values: &Values)
     store_hidden(machine, base, cif.result_place());
     let count = A::vector_count();
     put_count(machine, base, count, cif.vectors() as u64);
+    // its contract tells what is true of every machine
+    let _last = machine.sp();
 }

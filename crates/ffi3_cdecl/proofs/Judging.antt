@@ -4,7 +4,7 @@ use Rattle.ffi3_type_rules.specs.Signature.{SignatureFault, SignatureHasNoFault,
 use Rattle.ffi3_cdecl_rules.specs.Grammar.{Declaration}
 use Rattle.ffi3_cdecl_rules.specs.Reading.{reads, bad_signature}
 use Rattle.ffi3_cdecl_rules.specs.Machine.{with_signature, judged}
-use Rattle.ffi3_cdecl_rules.proofs.FirstSignatureFaults.{signature_none_found, signature_found_by_first}
+use Rattle.ffi3_type_rules.proofs.FirstSignatureFaults.{signature_none_found, signature_found_by_first}
 
 pub right_is_judged : (d : Declaration) → SignatureHasNoFault d.signature → reads d ≡ judged d
 right_is_judged d right =

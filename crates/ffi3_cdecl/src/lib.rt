@@ -9,8 +9,6 @@ mod place;
 mod read;
 mod state;
 mod step;
-#[cfg(test)]
-mod tests;
 mod text;
 mod token;
 

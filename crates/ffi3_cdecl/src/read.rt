@@ -1,6 +1,6 @@
 // The machine on its way over the tokens, and what it comes to.
 ghost use Rattle.std.specs.Prelude.{◌≡◌, ◌≤◌, IfOk};
-ghost use Rattle.ffi3_cdecl_rules.specs.Machine.{is_dead, judged};
+ghost use Rattle.ffi3_cdecl_rules.specs.Machine.{finish, is_dead, judged};
 ghost use Rattle.ffi3_cdecl_rules.specs.Reading.{is_too_great};
 ghost use Rattle.ffi3_cdecl_rules.specs.OnePass.{keeping, kept, taking, outcome_at, new_pass};
 ghost use Rattle.ffi3_cdecl.specs.TokenOf.{token_of};
@@ -131,16 +131,26 @@ fn judged(d: Declaration) -> Outcome
     }
 }
 
+/// What is declared, where a declaration may end.
+fn finished(state: State) -> Option<Declaration>
+    ensures { result ≡ finish (state_of state) }
+{
+    match state {
+        State::Closed(d) | State::Ended(d) => Some(d),
+        _ => None,
+    }
+}
+
 /// At the end of the text.
 pub fn outcome_at(pass: Pass, end: usize) -> Outcome
     ensures { outcome_of result ≡ outcome_at end (pass_of pass) }
 {
     let Pass { state, died, great } = pass;
-    match state {
-        State::Closed(d) | State::Ended(d) => match great {
+    match finished(state) {
+        Some(d) => match great {
             Some(at) => Outcome::BadNumber(at),
             None => judged(d),
         },
-        _ => Outcome::Unexpected(died.unwrap_or(end)),
+        None => Outcome::Unexpected(died.unwrap_or(end)),
     }
 }

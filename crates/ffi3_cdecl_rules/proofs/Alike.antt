@@ -8,7 +8,7 @@ use Rattle.ffi3_type_rules.specs.declared.Role.TheVariants.{AsElement}
 use Rattle.ffi3_type_rules.specs.Tree.{Tree, trees_of, struct_of, array_of}
 use Rattle.ffi3_type_rules.specs.Layout.{size_of}
 use Rattle.ffi3_type_rules.specs.Fault.{bad_typedef, too_deep, takes_array}
-use Rattle.ffi3_cdecl_rules.specs.FirstFault.{Found, or_else, inside_element, fault_of_size, first_fault, first_inside}
+use Rattle.ffi3_type_rules.specs.FirstFault.{Found, or_else, inside_element, fault_of_size, first_fault, first_inside}
 use Rattle.ffi3_cdecl_rules.specs.Tokens.{TOO_GREAT}
 use Rattle.ffi3_cdecl_rules.specs.Machine.{arrays}
 use Rattle.ffi3_cdecl_rules.specs.OnePass.{MOST_COUNTS, GREATEST_COUNT, with_count}

@@ -4,7 +4,7 @@ use Rattle.ffi3_type_rules.specs.declared.limits.TheConstants.{MOST_ARGUMENTS}
 use Rattle.ffi3_type_rules.specs.declared.Role.TheVariants.{AsResult, AsArgument}
 use Rattle.ffi3_type_rules.specs.Tree.{Tree}
 use Rattle.ffi3_type_rules.specs.Signature.{SignatureFault, too_many, at_result, at_argument}
-use Rattle.ffi3_cdecl_rules.specs.FirstFault.{or_else, at_position, first_fault, first_in_arguments, first_in_fixed, first_signature_fault}
+use Rattle.ffi3_type_rules.specs.FirstFault.{or_else, at_position, first_fault, first_in_arguments, first_in_fixed, first_signature_fault}
 use Rattle.ffi3_cdecl_rules.specs.Tokens.{TOO_GREAT}
 use Rattle.ffi3_cdecl_rules.specs.Grammar.{Declaration}
 use Rattle.ffi3_cdecl_rules.specs.Machine.{with_signature, judged}

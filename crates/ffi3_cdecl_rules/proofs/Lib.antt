@@ -1,5 +1,3 @@
-pub mod FirstFaults
-pub mod FirstSignatureFaults
 pub mod Completes
 pub mod Rest
 pub mod Sound

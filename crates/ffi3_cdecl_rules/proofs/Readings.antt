@@ -5,8 +5,8 @@ use Rattle.ffi3_cdecl_rules.specs.Grammar.{Declaration, IsDeclaration}
 use Rattle.ffi3_cdecl_rules.specs.Machine.{State, step, after, finish, begun, is_dead, first_dead, with_signature, with_number, with_end, with_cut, read}
 use Rattle.ffi3_cdecl_rules.specs.Reading.{IsViable, IsNotExpected, IsUnexpected, tokens_of, begins_at, first_too_great, Outcome, unexpected, IsReading, has_bad_token, has_unexpected, has_bad_number, is_read, has_bad_signature}
 use Rattle.ffi3_type_rules.specs.Signature.{SignatureFault}
-use Rattle.ffi3_cdecl_rules.specs.FirstFault.{first_signature_fault}
-use Rattle.ffi3_cdecl_rules.proofs.FirstSignatureFaults.{SignatureAnswers, signature_answers, signature_none_found, signature_found_by_first}
+use Rattle.ffi3_type_rules.specs.FirstFault.{first_signature_fault}
+use Rattle.ffi3_type_rules.proofs.FirstSignatureFaults.{SignatureAnswers, signature_answers, signature_none_found, signature_found_by_first}
 use Rattle.ffi3_cdecl_rules.specs.Laws.{DeclarationLaws}
 use Rattle.ffi3_cdecl_rules.proofs.Completes.{none_some, accepted}
 use Rattle.ffi3_cdecl_rules.proofs.Sound.{some_same, declaration_of}

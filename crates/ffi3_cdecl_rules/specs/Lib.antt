@@ -1,7 +1,6 @@
 pub mod Tokens
 pub mod Grammar
 pub mod Reading
-pub mod FirstFault
 pub mod Machine
 pub mod OnePass
 pub mod Canonical

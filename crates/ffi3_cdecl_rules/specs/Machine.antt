@@ -5,7 +5,7 @@ use Rattle.ffi3_cdecl_rules.specs.Tokens.{Token, Sign, signed, type_word, sign_w
 use Rattle.ffi3_cdecl_rules.specs.Grammar.{Kind, whole, bare, nothing, MOST_OPEN, pointer_type, char_of, short_of, int_of, long_of, int128_of, Head, Declaration, declared}
 use Rattle.ffi3_cdecl_rules.specs.Reading.{tokens_of, first_too_great, Outcome, reads, bad_token, unexpected, bad_number, bad_signature}
 use Rattle.ffi3_type_rules.specs.Signature.{SignatureFault}
-use Rattle.ffi3_cdecl_rules.specs.FirstFault.{first_signature_fault}
+use Rattle.ffi3_type_rules.specs.FirstFault.{first_signature_fault}
 
 -- Where a type stands: the result, a parameter behind those before it, or a member behind those before it in a struct that stands somewhere. Lists have the last first.
 pub data Where : Type 0 where

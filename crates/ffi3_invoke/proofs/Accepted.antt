@@ -57,6 +57,8 @@ module _ (std : Standard) (s : Signature) (agrees : AgreesWithMachine std) (m r 
         events = refl;
         spare_events = refl;
         spare_bytes = refl;
+        exchange = refl;
+        steps = refl;
       }
 
   -- ---- what stands in the save area

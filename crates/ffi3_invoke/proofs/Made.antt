@@ -91,6 +91,8 @@ within_moved low high sp a b w = record {
   events = refl;
   spare_events = refl;
   spare_bytes = refl;
+  exchange = refl;
+  steps = refl;
 }
 
 module _ (std : Standard) (s : Signature) (v : ValueTree) (m l : State) (bottom : STACK ≤ m.sp) (returned : HasReturned std s v m l) where

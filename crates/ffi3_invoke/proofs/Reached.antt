@@ -83,6 +83,8 @@ pushed_within pointer m low fits = record {
   events = refl;
   spare_events = refl;
   spare_bytes = refl;
+  exchange = refl;
+  steps = refl;
 }
 
 -- ---- the return address

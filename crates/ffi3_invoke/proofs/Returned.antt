@@ -70,6 +70,8 @@ within_left low high len a b w = record {
   events = refl;
   spare_events = refl;
   spare_bytes = refl;
+  exchange = refl;
+  steps = refl;
 }
 
 result_left : (base len : ℕ) (t : Tree) (res : Res) (a b : State) → ResultWrites base t res a b → ResultWrites base t res a (with_journal_of a (after_leave len b))

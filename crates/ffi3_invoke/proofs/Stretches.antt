@@ -7,7 +7,7 @@ use Rattle.ffi3_type_rules.specs.declared.limits.TheConstants.{STACK}
 use Rattle.ffi3_place_rules.specs.declared.Loc.TheVariants.{S}
 use Rattle.ffi3_place_rules.specs.Isa.{link_register}
 use Rattle.ffi3_place_rules.specs.Standard.{Standard, frame_of}
-use Rattle.ffi3_machine.specs.State.{State, HasReturnAt, stack_at}
+use Rattle.ffi3_machine.specs.State.{State, HasReturnAt, scribbled, stack_at}
 use Rattle.ffi3_pieces.specs.Stored.{WroteWithin}
 use Rattle.ffi3_pieces.proofs.Stepping.{same_word_in}
 use Rattle.ffi3_callee.specs.Saved.{saved_word}
@@ -27,6 +27,24 @@ unrecorded low high a b w = record {
   events = refl;
   spare_events = refl;
   spare_bytes = refl;
+  exchange = refl;
+  steps = refl;
+}
+
+-- a scribble writes registers alone
+pub scribble_beside : (n low high : ℕ) (a b : State) → WroteWithin low high (scribbled n a) b → WroteWithin low high a b
+scribble_beside n low high a b w = record {
+  size = w.size;
+  outside = w.outside;
+  mark = w.mark;
+  target = w.target;
+  pc = w.pc;
+  code = w.code;
+  events = w.events;
+  spare_events = w.spare_events;
+  spare_bytes = w.spare_bytes;
+  exchange = w.exchange;
+  steps = w.steps;
 }
 
 -- first a stretch from `mid` to `high`, then one from `low` to `mid`
@@ -41,6 +59,8 @@ wrote_down low mid high a b c below above s t = record {
   events = refl;
   spare_events = refl;
   spare_bytes = refl;
+  exchange = refl;
+  steps = refl;
 }
   where
     first : (i : ℕ) → (STACK + i < low) ⊎ (high ≤ STACK + i) → (STACK + i < low) ⊎ (mid ≤ STACK + i)

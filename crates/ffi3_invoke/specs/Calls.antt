@@ -38,13 +38,15 @@ entry_at std s m = record {
 abbrev pub return_at : Standard → Signature → State → Event
 return_at std s m = record { kind = leaves; closure = 0; image = image_of (frame_of std s) m }
 
--- the machine `new` with the pc and the journal of `old`, to say what else has changed
+-- the machine `new` with the pc, the journal, the exchange region and the count of steps of `old`, to say what else has changed
 abbrev pub with_journal_of : State → State → State
 with_journal_of old new = record new {
   pc = old.pc;
   events = old.events;
   spare_events = old.spare_events;
   spare_bytes = old.spare_bytes;
+  exchange = old.exchange;
+  steps = old.steps;
 }
 
 -- the registers that neither side of a call writes are the same

@@ -28,14 +28,28 @@ pub enum Instr {
     LdrLit { t: u8, d: i64 },
     /// `adr xd, label` of aarch64: `d` is counted from the instruction itself.
     Adr { rd: u8, d: i64 },
-    /// `br xn` of aarch64.
+    /// `br xn` and `ret xn` of aarch64.
     Br { n: u8 },
     /// `auipc rd, imm` of RISC-V: `d` is the immediate times 4096, counted from the instruction itself.
     Auipc { rd: u8, d: i64 },
-    /// `ld rd, d(rs)` of RISC-V.
+    /// `ld rd, d(rs)` of RISC-V, `mov rd, [rs + d]` of amd64, `ldr xd, [xs, d]` of aarch64. In memory's
+    /// address aarch64's number 31 is sp.
     Ld { rd: u8, rs: u8, d: i64 },
     /// `jalr rd, d(rs)` of RISC-V.
     Jalr { rd: u8, rs: u8, d: i64 },
-    /// `addi rd, rs, d` of RISC-V.
+    /// `addi rd, rs, d` of RISC-V, `add` and `sub xd, xs, imm` of aarch64, where 31 is sp, and
+    /// `lea rsp, [rsp + d]` of amd64.
     Addi { rd: u8, rs: u8, d: i64 },
+    /// `sd rd, d(rs)` of RISC-V, `mov [rs + d], rd` of amd64, `str xd, [xs, d]` of aarch64: `rd` is stored.
+    Sd { rd: u8, rs: u8, d: i64 },
+    /// `fld fd, d(rs)` of RISC-V, `movsd xmmd, [rs + d]` of amd64, `ldr dd, [xs, d]` of aarch64.
+    Fld { rd: u8, rs: u8, d: i64 },
+    /// `fsd fd, d(rs)` of RISC-V, `movsd [rs + d], xmmd` of amd64, `str dd, [xs, d]` of aarch64: `rd` is stored.
+    Fsd { rd: u8, rs: u8, d: i64 },
+    /// `call [rs + d]` of amd64.
+    CallMem { rs: u8, d: i64 },
+    /// `ret` of amd64.
+    Ret,
+    /// `blr xn` of aarch64.
+    Blr { n: u8 },
 }

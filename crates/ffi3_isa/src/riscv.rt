@@ -16,9 +16,10 @@ fn decode_word(word: u32) -> Option<Instr>
     let rd = field(word, 7, 5) as u8;
     let rs = field(word, 15, 5) as u8;
     let d = sign_extend(12, field(word, 20, 12));
-    if rd == 2 {
-        return None;
-    }
+    let rs2 = field(word, 20, 5) as u8;
+    let high = field(word, 25, 7);
+    let low = field(word, 7, 5);
+    let apart = sign_extend(12, (high << 5) + low);
     match (field(word, 0, 7), field(word, 12, 3)) {
         (0b0010111, _) => Some(Instr::Auipc {
             rd,
@@ -27,12 +28,23 @@ fn decode_word(word: u32) -> Option<Instr>
         (0b0000011, 0b011) => Some(Instr::Ld { rd, rs, d }),
         (0b1100111, 0b000) => Some(Instr::Jalr { rd, rs, d }),
         (0b0010011, 0b000) => Some(Instr::Addi { rd, rs, d }),
+        (0b0100011, 0b011) => Some(Instr::Sd {
+            rd: rs2,
+            rs,
+            d: apart,
+        }),
+        (0b0000111, 0b011) => Some(Instr::Fld { rd, rs, d }),
+        (0b0100111, 0b011) => Some(Instr::Fsd {
+            rd: rs2,
+            rs,
+            d: apart,
+        }),
         _ => None,
     }
 }
 
 /// The instruction that these bytes begin with, and how many bytes it has: none exactly where they
-/// begin with no `auipc`, `ld`, `jalr` or `addi`, or with one that sets the stack pointer.
+/// begin with no `auipc`, `ld`, `jalr`, `addi`, `sd`, `fld` or `fsd`.
 /// (RISC-V unprivileged ISA, 2.2)
 pub fn decode_riscv(bytes: &[u8]) -> Option<(Instr, u8)>
     ensures listed { IfSome result (λ p. IsRiscv bytes.now p.0 p.1) }

@@ -2,7 +2,7 @@
 use Rattle.std.specs.Prelude.{string_bytes}
 use Rattle.ffi3_script_rules.specs.Language as language
 use Rattle.ffi3_json.specs.declared.reason.Reason.{Reason}
-use Rattle.ffi3_json.specs.declared.reason.Reason.TheVariants.{NotAnObject, NotAnArray, UnknownKey, MissingKey, VersionNotKnown, NotAType, UnknownType, NotACount, BadTypedef, LeftOutLongDouble, LeftOutComplex, LeftOutVector, TooLarge, TooDeep, TooManyArguments, BadFixed, BadVariadicArgument, BadName, NameTwice, NoSuchSignature, NoSuchFunction, NotAMove, VoidResult, WrongCount, NotNull, NoReturnAtTheEnd, NotAnInteger, BadInteger, OutOfRange, BadBytes, WrongType, NotAValue, NoTypeOfItsOwn, NoSuchArgument, NoSuchResult, NoSuchField}
+use Rattle.ffi3_json.specs.declared.reason.Reason.TheVariants.{NotAnObject, NotAnArray, UnknownKey, MissingKey, VersionNotKnown, NotAType, UnknownType, NotACount, BadTypedef, LeftOutLongDouble, LeftOutComplex, LeftOutVector, TooLarge, TooDeep, TooManyArguments, BadFixed, BadVariadicArgument, BadDeclaration, BadName, NameTwice, NoSuchSignature, NoSuchFunction, NotAMove, VoidResult, WrongCount, NotNull, NoReturnAtTheEnd, NotAnInteger, BadInteger, OutOfRange, BadBytes, WrongType, NotAValue, NoTypeOfItsOwn, NoSuchArgument, NoSuchResult, NoSuchField}
 
 abbrev pub reason_of : Reason → language.Reason
 reason_of NotAnObject = language.not_an_object
@@ -22,6 +22,7 @@ reason_of TooDeep = language.too_deep
 reason_of (TooManyArguments n) = language.too_many_arguments n
 reason_of (BadFixed fixed n) = language.bad_fixed fixed n
 reason_of BadVariadicArgument = language.bad_variadic_argument
+reason_of (BadDeclaration at) = language.bad_declaration at
 reason_of BadName = language.bad_name
 reason_of NameTwice = language.name_twice
 reason_of NoSuchSignature = language.no_such_signature

@@ -24,7 +24,7 @@ pub use place::{Step, Where};
 pub use reason::{Reason, reason_text};
 /// A JSON value.
 pub use serde_json::Value as Json;
-pub use signature::{bad_type, read_signature, read_signature_at};
+pub use signature::{bad_type, read_signature, read_signature_at, reason_of_signature};
 pub use types::{read_type, read_type_at};
 pub use way::Way;
 

@@ -44,6 +44,8 @@ pub enum Reason {
     BadFixed { fixed: u32, n: u32 },
     /// A variadic argument of a type that C would promote.
     BadVariadicArgument,
+    /// No C declaration of a function: at this byte of the text is the first fault of token, grammar or number.
+    BadDeclaration { at: u64 },
     /// Not 1 to 32 ASCII letters, digits or `_`.
     BadName,
     /// A name that an earlier one is equal to.
@@ -115,6 +117,7 @@ pub fn reason_text(alloc: Global, reason: &Reason) -> Result<Bytes, NoMemory>
             Ok(text)
         }
         Reason::BadVariadicArgument => words(alloc, "bad variadic argument"),
+        Reason::BadDeclaration { at } => numbered(alloc, "bad declaration at ", *at),
         Reason::BadName => words(alloc, "bad name"),
         Reason::NameTwice => words(alloc, "name twice"),
         Reason::NoSuchSignature => words(alloc, "no such signature"),

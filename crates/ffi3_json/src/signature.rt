@@ -1,10 +1,11 @@
 // Signatures.
-ghost use Rattle.std.specs.Prelude.{◌≡◌, IfOk, IfErr, codes, get_or};
+ghost use Rattle.std.specs.Prelude.{◌≡◌, IfOk, IfErr, codes, get_or, option_map};
 ghost use Rattle.serde_json.specs.Find.{get};
 ghost use Rattle.serde_json.specs.View.{view};
 ghost use Rattle.ffi3_script_rules.specs.Language as language;
-ghost use Rattle.ffi3_script_rules.specs.Language.{read, read_shapes, read_fixed, HasShortArrays, signature_keys, inside_type, place_of_fault, reason_of_type_fault, reason_of_fault, left_out_reason, key_of_parts, read_type, read_types, value_under, under};
-ghost use Rattle.ffi3_script_rules.specs.SignatureRefusal.{IsNoSignature};
+ghost use Rattle.ffi3_script_rules.specs.Language.{read, read_shapes, object_signature, declared_signature, declaration_in, read_fixed, HasShortArrays, signature_keys, inside_type, place_of_fault, reason_of_type_fault, reason_of_fault, left_out_reason, key_of_parts, read_type, read_types, value_under, under};
+ghost use Rattle.ffi3_script_rules.specs.SignatureReading.{IsSignature, IsNoSignature};
+ghost use Rattle.ffi3_cdecl_rules.specs.Machine as declaration;
 ghost use Rattle.ffi3_type_rules.specs.Tree.{parts_of};
 ghost use Rattle.ffi3_type_rules.specs.Signature.{SignatureHasNoFault, IsSignatureFault};
 ghost use Rattle.ffi3_types.specs.TreeOf.{tree_of};
@@ -17,12 +18,15 @@ use crate::fault::bad;
 use crate::object::check_object_at;
 use crate::types::{read_count, read_list, read_type_at};
 use crate::{Json, Key, Keys, NoMemory, Node, Reason, ScriptFault, Way, Where};
+use ffi3_cdecl::{DeclFault, read_decl};
 use ffi3_types::{At, FfiType, Fields, Path, Sig, SigFault, TypeFault, check_sig};
 use std::alloc::Global;
 
 /// The signature that the value at a place is: an object with `ret`, a type, `args`, an array of types, and maybe
 /// `fixed`, an integer from 0 to 4294967295. The first fault of these is told in this order, and only then the
-/// signature's own first fault.
+/// signature's own first fault. In version 2 a text is a signature too, the C declaration of a function: its first
+/// fault of token, grammar or number is told by its offset in bytes, and only then the signature's own by its reason,
+/// both at the text.
 pub fn read_signature(
     alloc: Global,
     value: &Json,
@@ -33,8 +37,9 @@ pub fn read_signature(
     ensures ok { IfOk result (λ s. language.read_signature version (view value.now) at.now ≡ read s) }
     ensures err { IfErr result (Reports (λ p r. language.read_signature version (view value.now) at.now ≡ language.fault p r)) }
 
-    // The same in the order of faults itself: its shapes are read and it has no fault, or the one first fault is told.
-    ensures shapes { IfOk result (λ s. read_shapes version (view value.now) at.now ≡ read s) }
+    // The same in the order of faults itself: its shapes are read and it has no fault, or a text is read as its
+    // declaration; else the one first fault is told.
+    ensures signature { IfOk result (IsSignature version (view value.now) at.now) }
     ensures right { IfOk result SignatureHasNoFault }
     ensures first { IfErr result (Reports (IsNoSignature version (view value.now) at.now)) }
 {
@@ -50,9 +55,53 @@ pub fn read_signature_at(
 ) -> Result<Sig, ScriptFault>
     ensures ok { IfOk result (λ s. language.read_signature version value.now at.now ≡ read s) }
     ensures err { IfErr result (Reports (λ p r. language.read_signature version value.now at.now ≡ language.fault p r)) }
-    ensures shapes { IfOk result (λ s. read_shapes version value.now at.now ≡ read s) }
+    ensures signature { IfOk result (IsSignature version value.now at.now) }
     ensures right { IfOk result SignatureHasNoFault }
     ensures first { IfErr result (Reports (IsNoSignature version value.now at.now)) }
+{
+    match declaration_in(value, version) {
+        Some(text) => read_declared(alloc, text, at),
+        None => read_object(alloc, value, at, version),
+    }
+}
+
+// The text of a C declaration, where the value is one in a version of the language: the first has none.
+fn declaration_in<'a>(value: &Node<'a>, version: u8) -> Option<&'a str>
+    ensures { option_map (λ s. s.now) result ≡ declaration_in version value.now }
+{
+    if version == 1 {
+        return None;
+    }
+    value.json().as_str()
+}
+
+// The signature of the function that a text declares. Its name says nothing here.
+#[tactic(auto, using(crate::proofs::Signatures::declared, crate::proofs::Signatures::tells_declaration))]
+fn read_declared(alloc: Global, text: &str, place: &Way) -> Result<Sig, ScriptFault>
+    ensures ok { IfOk result (λ s. declared_signature place.now (declaration.read text.now) ≡ read s) }
+    ensures err { IfErr result (Reports (λ p r. declared_signature place.now (declaration.read text.now) ≡ language.fault p r)) }
+{
+    match read_decl(alloc, text) {
+        Ok(declared) => Ok(declared.into_sig()),
+        Err(DeclFault::BadToken { at }) => Err(bad_declaration(alloc, place, at)),
+        Err(DeclFault::Unexpected { at }) => Err(bad_declaration(alloc, place, at)),
+        Err(DeclFault::BadNumber { at }) => Err(bad_declaration(alloc, place, at)),
+        Err(DeclFault::Sig(fault)) => Err(bad(alloc, place, reason_of_signature(&fault))),
+        Err(DeclFault::NoMemory) => Err(ScriptFault::NoMemory),
+    }
+}
+
+// The fault at an offset in the text at a place, which is no declaration.
+fn bad_declaration(alloc: Global, place: &Way, at: u64) -> ScriptFault
+    ensures { Reports (λ p r. (p ≡ place.now) × (r ≡ language.bad_declaration at)) result }
+{
+    bad(alloc, place, Reason::BadDeclaration { at })
+}
+
+// The signature that an object is: its shapes, and only then its own first fault.
+fn read_object(alloc: Global, value: &Node, at: &Way, version: u8) -> Result<Sig, ScriptFault>
+    ensures ok { IfOk result (λ s. object_signature version value.now at.now ≡ read s) }
+    ensures err { IfErr result (Reports (λ p r. object_signature version value.now at.now ≡ language.fault p r)) }
 {
     let sig = read_shapes(alloc, value, at, version)?;
     match check_sig(&sig) {
@@ -137,7 +186,7 @@ fn told(alloc: Global, at: &Way, sig: &Sig, fault: &SigFault) -> ScriptFault
 {
     let args = at.key("args");
     match fault {
-        SigFault::TooMany { n } => bad(alloc, &args, Reason::TooManyArguments { n: *n }),
+        SigFault::TooMany { .. } => bad(alloc, &args, reason_of_signature(fault)),
         SigFault::BadType {
             at: At::Ret,
             fault: inner,
@@ -146,15 +195,23 @@ fn told(alloc: Global, at: &Way, sig: &Sig, fault: &SigFault) -> ScriptFault
             at: At::Arg(i),
             fault: inner,
         } => bad_type(alloc, &args.item(*i), sig.arg(*i), inner),
-        SigFault::BadFixed { fixed, n } => bad(
-            alloc,
-            &at.key("fixed"),
-            Reason::BadFixed {
-                fixed: *fixed,
-                n: *n,
-            },
-        ),
-        SigFault::BadArgType { i } => bad(alloc, &args.item(*i), Reason::BadVariadicArgument),
+        SigFault::BadFixed { .. } => bad(alloc, &at.key("fixed"), reason_of_signature(fault)),
+        SigFault::BadArgType { i } => bad(alloc, &args.item(*i), reason_of_signature(fault)),
+    }
+}
+
+/// Why a signature with this fault is no part of a script.
+pub fn reason_of_signature(fault: &SigFault) -> Reason
+    ensures { reason_of result ≡ reason_of_fault (signature_fault_of fault.now) }
+{
+    match fault {
+        SigFault::TooMany { n } => Reason::TooManyArguments { n: *n },
+        SigFault::BadType { fault: inner, .. } => reason_of_type(inner),
+        SigFault::BadFixed { fixed, n } => Reason::BadFixed {
+            fixed: *fixed,
+            n: *n,
+        },
+        SigFault::BadArgType { .. } => Reason::BadVariadicArgument,
     }
 }
 

@@ -1,3 +1,5 @@
 pub mod Slots
 pub mod Recording
 pub mod Standing
+pub mod Stubs
+pub mod Words

@@ -6,7 +6,7 @@ use Rattle.std.specs.List.{repeat, replace_range}
 use Rattle.ffi3_type_rules.specs.declared.Isa.{Isa}
 use Rattle.ffi3_type_rules.specs.declared.limits.TheConstants.{STACK_BYTES, CODE_BYTES}
 use Rattle.ffi3_type_rules.specs.declared.Isa.TheVariants.{Amd64, Aarch64, Riscv}
-use Rattle.ffi3_machine.specs.State.{free_word, free_slot, begun_code, begun_stack}
+use Rattle.ffi3_machine.specs.State.{free_word, free_slot, begun_code, begun_stack, begun_exchange}
 
 pub repeat-add : (m n : ℕ) (xs : List ℕ) → repeat (m + n) xs ≡ repeat m xs ++ repeat n xs
 repeat-add zero n xs = rw zero-add refl
@@ -67,8 +67,17 @@ pub length-begun_stack : length begun_stack ≡ STACK_BYTES
 unfolding begun_stack
 length-begun_stack = length-replicate {A = ℕ} STACK_BYTES 165
 
+pub length-begun_exchange : length begun_exchange ≡ 552
+unfolding begun_exchange
+length-begun_exchange = length-replicate {A = ℕ} 552 0
+
 pub length-begun_code : (isa : Isa) → length (begun_code isa) ≡ CODE_BYTES
 unfolding begun_code free_slot
 length-begun_code Amd64 = length-repeat 256 (free_slot Amd64)
 length-begun_code Aarch64 = length-repeat 256 (free_slot Aarch64)
 length-begun_code Riscv = length-repeat 256 (free_slot Riscv)
+
+pub filled-all : (k : ℕ) (w initial : List ℕ) → k ≡ 1536 → length initial ≡ 6144 → repeat k w ++ drop (4 * k) initial ≡ repeat 1536 w
+filled-all k w initial is_all long =
+    let none : drop (4 * k) initial ≡ [] = at_drop_all (λ r. r) initial (4 * k) (omega arith) in
+    ap (λ r. repeat k w ++ r) none ∙ append-nil (repeat k w) ∙ ap (λ i. repeat i w) is_all

@@ -1,4 +1,5 @@
 pub mod State
+pub mod Stubs
 pub mod Step
 pub mod Scribbled
 pub mod Recorded

@@ -1,5 +1,5 @@
 -- What contracts see of a machine, and what it is after each of its calls.
-use Rattle.std.specs.Prelude.{◌≡◌, ℕ, ◌+◌, ◌-◌, ◌*◌, ◌<◌, ◌≤◌, ⊤, ◌==◌, if◌then◌else◌, min, Option, Some, None, List, [], ◌∷◌, ◌++◌, map, length, get_or, take, drop, replicate, slice_index, slice_set}
+use Rattle.std.specs.Prelude.{◌≡◌, ℕ, ◌+◌, ◌-◌, ◌*◌, ◌^◌, ◌<◌, ◌≤◌, ⊤, ◌==◌, if◌then◌else◌, min, Option, Some, None, List, [], ◌∷◌, ◌++◌, map, length, get_or, take, drop, replicate, slice_index, slice_set}
 use Rattle.std.specs.List.{range_with_len, repeat, replace_range}
 use Rattle.std.specs.Int.{w64, to_le_bytes}
 use Rattle.ffi3_type_rules.specs.declared.Target.{Target}
@@ -7,12 +7,14 @@ use Rattle.ffi3_type_rules.specs.declared.Isa.{Isa}
 use Rattle.ffi3_type_rules.specs.declared.Isa.TheVariants.{Amd64, Aarch64, Riscv}
 use Rattle.ffi3_type_rules.specs.Isa.{isa_of}
 use Rattle.ffi3_type_rules.specs.declared.limits.TheConstants.{STACK, STACK_TOP, STACK_BYTES, CODE, CODE_BYTES, RETURN, SLOTS, SLOT_BYTES}
+use Rattle.ffi3_machine.specs.declared.stub.TheConstants.{EXCHANGE_BYTES}
+use Rattle.ffi3_memory.specs.Memory.{number_of, low_bytes}
 use Rattle.ffi3_place_rules.specs.declared.Loc.TheVariants.{G, F}
 use Rattle.ffi3_place_rules.specs.Image.{Image}
 use Rattle.ffi3_place_rules.specs.Event.{EventKind, enters, leaves, Event}
 use Rattle.ffi3_place_rules.specs.Isa.{pushed_bytes, link_register, is_reserved, is_zero_register, closure_register, scribble}
 
--- Byte i of `stack` stands at STACK + i, and byte i of `code` at CODE + i. `mark` is the lowest stack address written since the machine began, STACK_TOP where none was.
+-- Byte i of `stack` stands at STACK + i, byte i of `code` at CODE + i, and byte i of `exchange` at EXCHANGE + i. `steps` counts instructions modulo 2^64. `mark` is the lowest stack address written since the machine began, STACK_TOP where none was.
 -- There is room in the journal for `spare_events` further events with `spare_bytes` bytes of stack in all.
 pub record State : Type 0 where
   pub target : Target
@@ -23,6 +25,8 @@ pub record State : Type 0 where
   pub mark : ℕ
   pub stack : List ℕ
   pub code : List ℕ
+  pub exchange : List ℕ
+  pub steps : ℕ
   pub events : List Event
   pub spare_events : ℕ
   pub spare_bytes : ℕ
@@ -84,6 +88,9 @@ begun_code isa = repeat SLOTS (free_slot isa)
 unfoldable pub begun_stack : List ℕ
 begun_stack = replicate STACK_BYTES 0xA5
 
+unfoldable pub begun_exchange : List ℕ
+begun_exchange = replicate EXCHANGE_BYTES 0
+
 -- every register is 0 before the first scribble
 unfoldable pub begun_general : Isa → List ℕ
 begun_general isa = scribbled_general isa 0 (replicate 32 0)
@@ -98,6 +105,8 @@ begun target spare_events spare_bytes = record {
   mark = STACK_TOP;
   stack = begun_stack;
   code = begun_code (isa_of target);
+  exchange = begun_exchange;
+  steps = 0;
   events = [];
   spare_events = spare_events;
   spare_bytes = spare_bytes;
@@ -132,6 +141,18 @@ stack_at addr len s = take len (drop (addr - STACK) s.stack)
 
 abbrev pub code_at : ℕ → ℕ → State → List ℕ
 code_at addr len s = take len (drop (addr - CODE) s.code)
+
+-- the eight bytes of the exchange region from a place on
+abbrev pub x_of : ℕ → State → ℕ
+x_of at s = number_of 8 (take 8 (drop at s.exchange))
+
+abbrev pub with_x : ℕ → ℕ → State → State
+with_x at value s = record s {
+  exchange = replace_range s.exchange at (at + length (low_bytes 8 value)) (low_bytes 8 value);
+}
+
+abbrev pub with_pc : ℕ → State → State
+with_pc pc s = record s { pc = pc }
 
 -- ---- calls and returns
 
@@ -199,6 +220,10 @@ returned s = record s { sp = s.sp + pushed_bytes (isa_of s.target); pc = RETURN 
 abbrev pub after_leave : ℕ → State → State
 after_leave len s = recorded leaves 0 len (returned s)
 
+-- the same where an instruction has brought it back to RETURN
+abbrev pub after_arrive : ℕ → State → State
+after_arrive len s = recorded leaves 0 len s
+
 abbrev pub with_room : ℕ → State → State
 with_room len s = record s {
   spare_events = s.spare_events + 2;
@@ -213,11 +238,38 @@ IsZeroHeld Amd64 general = ⊤
 IsZeroHeld Aarch64 general = ⊤
 IsZeroHeld Riscv general = get_or general 0 0 ≡ 0
 
+-- the lengths and ranges that a machine's type keeps
+pub record HasForm (s : State) : Type 0 where
+  pub general : length s.general ≡ 32
+  pub floating : length s.floating ≡ 32
+  pub stack : length s.stack ≡ STACK_BYTES
+  pub code : length s.code ≡ CODE_BYTES
+  pub exchange : length s.exchange ≡ EXCHANGE_BYTES
+  pub mark_low : STACK ≤ s.mark
+  pub mark_high : s.mark ≤ STACK_TOP
+  pub zero : IsZeroHeld (isa_of s.target) s.general
+
+-- each is a number of 64 bits; each is a byte
+abbrev pub AreWords : List ℕ → Type 0
+AreWords ws = (k : ℕ) → slice_index ws k < 2 ^ 64
+
+abbrev pub AreBytes : List ℕ → Type 0
+AreBytes bs = (k : ℕ) → slice_index bs k < 256
+
+-- lengths and ranges, and that registers hold 64 bits and memory bytes
 pub record IsMachine (s : State) : Type 0 where
   pub general : length s.general ≡ 32
   pub floating : length s.floating ≡ 32
   pub stack : length s.stack ≡ STACK_BYTES
   pub code : length s.code ≡ CODE_BYTES
+  pub exchange : length s.exchange ≡ EXCHANGE_BYTES
   pub mark_low : STACK ≤ s.mark
   pub mark_high : s.mark ≤ STACK_TOP
   pub zero : IsZeroHeld (isa_of s.target) s.general
+  pub general_words : AreWords s.general
+  pub floating_words : AreWords s.floating
+  pub sp_word : s.sp < 2 ^ 64
+  pub pc_word : s.pc < 2 ^ 64
+  pub stack_bytes : AreBytes s.stack
+  pub code_bytes : AreBytes s.code
+  pub exchange_bytes : AreBytes s.exchange

@@ -12,17 +12,22 @@ ghost use Rattle.ffi3_place_rules.specs.Isa.{
   link_register,
   pushed_bytes,
 };
+ghost use Rattle.ffi3_machine.specs.Stubs.{goes_for};
 ghost use Rattle.ffi3_machine.specs.State.{
   State,
+  AreBytes,
+  AreWords,
   IsMachine,
   IsSlot,
   HasReturnAddress,
   LieInStack,
   begun,
   begun_code,
+  begun_exchange,
   begun_stack,
   called,
   code_at,
+  after_arrive,
   after_enter,
   filled,
   free_word,
@@ -37,12 +42,16 @@ ghost use Rattle.ffi3_machine.specs.State.{
   with_code,
   with_floating,
   with_general,
+  with_pc,
   with_room,
   with_sp,
+  with_x,
+  x_of,
 };
 
 mod journal;
 mod step;
+mod stub;
 
 pub use ffi3_memory::NoMemory;
 use ffi3_memory::Region;
@@ -54,6 +63,8 @@ pub use journal::{Event, EventKind, Journal};
 use std::alloc::Global;
 use std::marker::Model;
 pub use step::Trap;
+use stub::{begin_stubs, new_stubs};
+pub use stub::{EXCHANGE, EXCHANGE_BYTES, EXCHANGE_END, STUBS, STUBS_BYTES, STUBS_END, Stub};
 
 /// Registers, stack, code region and journal. General and floating registers go by their numbers in the target's instructions; sp is apart.
 #[derive(Drop)]
@@ -66,13 +77,19 @@ pub struct Machine {
     mark: u64,
     stack: Region,
     code: Region,
+    stubs: Region,
+    exchange: Region,
+    steps: u64,
     journal: Journal,
 }
 
 impl Model for Machine {
     ghost use Rattle.std.specs.Prelude.{◌≡◌};
     ghost use Rattle.ffi3_type_rules.specs.declared.limits.TheConstants.{STACK, CODE};
-    ghost use Rattle.ffi3_machine.specs.State.{State, IsMachine};
+    ghost use Rattle.ffi3_type_rules.specs.Isa.{isa_of};
+    ghost use Rattle.ffi3_machine.specs.declared.stub.TheConstants.{STUBS, EXCHANGE};
+    ghost use Rattle.ffi3_machine.specs.Stubs.{begun_stubs};
+    ghost use Rattle.ffi3_machine.specs.State.{State, HasForm};
 
     ghost Value = { State };
 
@@ -82,7 +99,9 @@ impl Model for Machine {
 
     ghost invariant = { λ m. (m.stack.base ≡ STACK)
         × (m.code.base ≡ CODE)
-        × IsMachine (state_of m) };
+        × HasForm (state_of m)
+        × (m.exchange.base ≡ EXCHANGE)
+        × (m.stubs ≡ record { base = STUBS; bytes = begun_stubs (isa_of m.target) }) };
 }
 
 impl Machine {
@@ -99,13 +118,16 @@ impl Machine {
             mark: STACK_TOP,
             stack: new_region(alloc, STACK, STACK_BYTES)?,
             code: Region::new(alloc, CODE, CODE_BYTES)?,
+            stubs: new_stubs(alloc, Isa::Amd64)?,
+            exchange: Region::new(alloc, EXCHANGE, EXCHANGE_BYTES)?,
+            steps: 0,
             journal: Journal::new(alloc),
         };
         machine.begin(Target::Amd64);
         Ok(machine)
     }
 
-    /// Begins anew for a target: an empty stack of A5 bytes, an empty journal, free slots, pc at RETURN, and scribbled registers. The journal's room stays.
+    /// Begins anew for a target: an empty stack of A5 bytes, an empty journal, free slots, its stubs, an exchange region of zeros, pc at RETURN, no steps, and scribbled registers. The journal's room stays.
     pub fn begin(&mut self, target: Target)
         ensures { self.new ≡ begun target self.old.spare_events self.old.spare_bytes }
     {
@@ -120,6 +142,9 @@ impl Machine {
         self.mark = STACK_TOP;
         begin_stack(&mut self.stack);
         free_slots(isa, &mut self.code);
+        begin_stubs(isa, &mut self.stubs);
+        begin_exchange(&mut self.exchange);
+        self.steps = 0;
         self.journal.clear();
     }
 
@@ -152,7 +177,21 @@ impl Machine {
         ensures value { result ≡ self.now.sp }
         ensures machine { IsMachine self.now }
     {
+        self.known();
         self.sp
+    }
+
+    // What is true of every machine. It does nothing.
+    fn known(&self)
+        ensures { IsMachine self.now }
+    {
+        let _sp = self.sp;
+        let _pc = self.pc;
+        are_words(&self.general);
+        are_words(&self.floating);
+        are_bytes(self.stack.lend(STACK, STACK_BYTES));
+        are_bytes(self.code.lend(CODE, CODE_BYTES));
+        are_bytes(self.exchange.lend(EXCHANGE, EXCHANGE_BYTES));
     }
 
     /// The program counter.
@@ -167,6 +206,36 @@ impl Machine {
         ensures { result ≡ self.now.mark }
     {
         self.mark
+    }
+
+    /// How many instructions the machine has done since `begin`, modulo 2^64.
+    pub fn steps(&self) -> u64
+        ensures { result ≡ self.now.steps }
+    {
+        self.steps
+    }
+
+    /// The eight bytes of the exchange region from place `at` on.
+    pub fn x(&self, at: u64) -> u64
+        requires { at + 8 ≤ EXCHANGE_BYTES }
+        ensures { result ≡ x_of at self.now }
+    {
+        self.exchange.load(EXCHANGE + at, 8)
+    }
+
+    /// Writes eight bytes of the exchange region from place `at` on.
+    pub fn set_x(&mut self, at: u64, value: u64)
+        requires { at + 8 ≤ EXCHANGE_BYTES }
+        ensures { self.new ≡ with_x at value self.old }
+    {
+        self.exchange.store(EXCHANGE + at, 8, value);
+    }
+
+    /// Sets pc to the first address of a stub.
+    pub fn go(&mut self, stub: Stub)
+        ensures { self.new ≡ with_pc (goes_for (isa_of self.old.target) stub) self.old }
+    {
+        self.pc = stub_address(self.target.isa(), stub);
     }
 
     /// Sets general register `k`. On RISC-V a write to register 0 is dropped.
@@ -344,6 +413,59 @@ impl Machine {
         self.journal
             .add(event, from_sp(&self.stack, self.sp, bytes));
     }
+
+    /// Records a return that instructions have made, with `bytes` bytes of stack from sp on, which lie in the stack.
+    pub fn arrive(&mut self, bytes: u64)
+        requires at_return { self.old.pc ≡ RETURN }
+        requires stack { LieInStack self.old.sp bytes }
+        requires events { 1 ≤ self.old.spare_events }
+        requires bytes { bytes ≤ self.old.spare_bytes }
+        ensures { self.new ≡ after_arrive bytes self.old }
+    {
+        let event = Event {
+            kind: EventKind::Leave,
+            closure: 0,
+            general: self.general,
+            floating: self.floating,
+            sp: self.sp,
+        };
+        self.journal
+            .add(event, from_sp(&self.stack, self.sp, bytes));
+    }
+}
+
+// Registers hold 64 bits, by their type.
+fn are_words(registers: &[u64])
+    ensures { AreWords registers.now }
+{}
+
+// Memory holds bytes, by its type.
+fn are_bytes(bytes: &[u8])
+    ensures { AreBytes bytes.now }
+{}
+
+// The first address of a stub.
+fn stub_address(isa: Isa, stub: Stub) -> u64
+    ensures { result ≡ goes_for isa stub }
+{
+    match stub {
+        Stub::Exit => 0x1800,
+        Stub::Call => match isa {
+            Isa::Amd64 => 0x1F72,
+            Isa::Aarch64 => 0x1FA8,
+            Isa::Riscv => 0x1FAC,
+        },
+    }
+}
+
+// Clears the exchange region.
+#[tactic(auto, unfolding(crate::specs::State::begun_exchange))]
+fn begin_exchange(exchange: &mut Region)
+    requires base { exchange.old.base ≡ EXCHANGE }
+    requires length { length exchange.old.bytes ≡ EXCHANGE_BYTES }
+    ensures { exchange.new ≡ record exchange.old { bytes = begun_exchange } }
+{
+    fill_all(exchange, EXCHANGE, EXCHANGE_BYTES, 0);
 }
 
 // The `len` bytes of the stack from sp on. Of none it asks nothing of sp.

@@ -86,6 +86,8 @@ module _ (base r : ℕ) (bytes : List ℕ) (value : ℕ) (old : State) where
     events = refl;
     spare_events = refl;
     spare_bytes = refl;
+    exchange = refl;
+    steps = refl;
   }
 
   floating_within : (low high : ℕ) → WroteWithin low high old (with_floating r value old)
@@ -99,6 +101,8 @@ module _ (base r : ℕ) (bytes : List ℕ) (value : ℕ) (old : State) where
     events = refl;
     spare_events = refl;
     spare_bytes = refl;
+    exchange = refl;
+    steps = refl;
   }
 
   pub general_put : is_zero_register (isa_of old.target) r ≡ false → r < length old.general → HasLow bytes (get_or old.general r 0) value → IsPut base (G r) bytes old (with_general r value old)
@@ -163,6 +167,8 @@ module _ (addr : ℕ) (bytes : List ℕ) (old : State) (low : STACK ≤ addr) (f
     events = refl;
     spare_events = refl;
     spare_bytes = refl;
+    exchange = refl;
+    steps = refl;
   }
     where
       outside : (i : ℕ) → (STACK + i < from) ⊎ (to ≤ STACK + i) → get_or (stored addr bytes old).stack i 0 ≡ get_or old.stack i 0

@@ -56,6 +56,9 @@ pub record WroteWithin (low high : ℕ) (old new : State) : Type 0 where
   pub events : new.events ≡ old.events
   pub spare_events : new.spare_events ≡ old.spare_events
   pub spare_bytes : new.spare_bytes ≡ old.spare_bytes
+  -- of what a call passes, this is what stands behind it: `Passing.antt`
+  pub exchange : new.exchange ≡ old.exchange
+  pub steps : new.steps ≡ old.steps
 
 -- THE STACK CHANGES ONLY FROM `low` TO `high`, and registers do not
 pub record WroteOnly (low high : ℕ) (old new : State) : Type 0 where

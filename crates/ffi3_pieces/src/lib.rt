@@ -16,12 +16,14 @@ ghost use Rattle.ffi3_place_rules.specs.Holds.{FillArguments, OwnsArguments};
 ghost use Rattle.ffi3_place_rules.specs.Sound.{Apart, AreApart, hidden_locs, IsPieceOf, PlaceHasAll, piece_locs, place_locs, stack_words_for};
 ghost use Rattle.ffi3_type_rules.specs.declared.limits.TheConstants.{STACK, STACK_TOP};
 ghost use Rattle.ffi3_machine.specs.State.{image_of};
+ghost use Rattle.ffi3_pieces.specs.Passing.{passing};
 ghost use Rattle.ffi3_pieces.specs.Stored.{IsPlace, HasLow, IsPut, IsSet, IsSetAndFilled, IsStored, IsWithin, IsWordPut, IsWritable, KeepsUnused, PieceStands, Stays, WroteWithin};
 ghost use Rattle.ffi3_cif.specs.Runs.{AreRunsOf, pieces_of};
 ghost use Rattle.ffi3_pieces.specs.Runs.{goes_by_run};
 ghost use Rattle.ffi3_pieces.specs.Standing.{AllKeepUnused, AllStand, HiddenStands, IsCopied, PiecesStand, PlaceKeepsUnused, PlaceLies, PlaceStands, all_uses, place_uses};
 
 mod load;
+mod registers;
 mod running;
 
 use ffi3_cif::{Cif, Runs};
@@ -32,7 +34,8 @@ use ffi3_type_rules::limits::LARGEST_TYPE;
 use ffi3_types::FfiType;
 use ffi3_values::{Value, Values, number, widen, write_bytes};
 use load::word_of;
-pub use load::{load_piece, place_bytes, place_word};
+pub use load::{load_piece, own_word, place_bytes, place_word};
+pub use registers::{pass_floating, pass_general, passed_floating, passed_general};
 use running::store_runs;
 
 /// A value of at most so many bytes is stored by way of a buffer of this size, since it would take longer to zero a
@@ -56,18 +59,18 @@ pub fn put(machine: &mut Machine, base: u64, at: Loc, bytes: &[u8])
     requires lies { IsPlace (STACK_TOP - base) at }
     requires writable { IsWritable machine.old.target at }
     requires few { length bytes.now ≤ 8 }
-    ensures { IsPut base at bytes.now machine.old machine.new }
+    ensures { IsPut base at bytes.now (passing machine.old) (passing machine.new) }
 {
     // its contract tells what is true of every machine
     let _m = machine.sp();
     match at {
         Loc::G(r) => {
-            let word = with_low(machine.g(r), bytes);
-            machine.set_g(r, word);
+            let word = with_low(passed_general(machine, r), bytes);
+            pass_general(machine, r, word);
         }
         Loc::F(r) => {
-            let word = with_low(machine.f(r), bytes);
-            machine.set_f(r, word);
+            let word = with_low(passed_floating(machine, r), bytes);
+            pass_floating(machine, r, word);
         }
         Loc::S(n) => machine.store_stack(base + n as u64, bytes),
     }
@@ -79,7 +82,7 @@ pub fn put_word(machine: &mut Machine, base: u64, at: Loc, word: u64)
     requires high { base ≤ STACK_TOP }
     requires lies { IsPlace (STACK_TOP - base) at }
     requires writable { IsWritable machine.old.target at }
-    ensures { IsWordPut base at word machine.old machine.new }
+    ensures { IsWordPut base at word (passing machine.old) (passing machine.new) }
 {
     put(machine, base, at, &word.to_le_bytes());
 }
@@ -91,7 +94,7 @@ pub fn set_piece(machine: &mut Machine, base: u64, piece: Piece, bytes: &[u8])
     requires lies { IsPlace (STACK_TOP - base) piece.loc }
     requires writable { IsWritable machine.old.target piece.loc }
     requires fits { IsWithin (length bytes.now) piece }
-    ensures { IsSet base piece bytes.now machine.old machine.new }
+    ensures { IsSet base piece bytes.now (passing machine.old) (passing machine.new) }
 {
     let from = piece.off as usize;
     put(
@@ -148,7 +151,7 @@ fn fill_piece(
     requires sized { length bytes.now ≡ size_of (tree_of ty.now) }
     requires reads { value_in (tree_of ty.now) bytes.now ≡ value_of value.now }
     requires fits { fits (tree_of ty.now) (value_of value.now) ≡ true }
-    ensures { IsSetAndFilled base (tree_of ty.now) (value_of value.now) bytes.now piece machine.old machine.new }
+    ensures { IsSetAndFilled base (tree_of ty.now) (value_of value.now) bytes.now piece (passing machine.old) (passing machine.new) }
 {
     match piece.ext {
         Ext::Free => set_piece(machine, base, piece, bytes),
@@ -176,7 +179,7 @@ pub fn store_piece(
     requires right { IsLaidOut (tree_of ty.now) }
     requires fits { fits (tree_of ty.now) (value_of value.now) ≡ true }
     requires sized { length bytes.old ≡ size_of (tree_of ty.now) }
-    ensures stored { IsStored base (tree_of ty.now) (value_of value.now) piece machine.old machine.new }
+    ensures stored { IsStored base (tree_of ty.now) (value_of value.now) piece (passing machine.old) (passing machine.new) }
     ensures sized { length bytes.new ≡ length bytes.old }
 {
     load_piece(machine, base, &piece, bytes);
@@ -217,8 +220,8 @@ fn store_other(
     requires right { IsLaidOut (tree_of ty.now) }
     requires fits { fits (tree_of ty.now) (value_of value.now) ≡ true }
     requires sized { length bytes.old ≡ size_of (tree_of ty.now) }
-    requires given { goes_by_run piece.loc piece.ext ≡ true → PieceStands base machine.old (tree_of ty.now) (value_of value.now) piece }
-    ensures stored { IsStored base (tree_of ty.now) (value_of value.now) piece machine.old machine.new }
+    requires given { goes_by_run piece.loc piece.ext ≡ true → PieceStands base (passing machine.old) (tree_of ty.now) (value_of value.now) piece }
+    ensures stored { IsStored base (tree_of ty.now) (value_of value.now) piece (passing machine.old) (passing machine.new) }
     ensures sized { length bytes.new ≡ length bytes.old }
 {
     if !goes_by_run(&piece) {
@@ -244,11 +247,11 @@ fn store_each(
     requires right { IsLaidOut (tree_of ty.now) }
     requires fits { fits (tree_of ty.now) (value_of value.now) ≡ true }
     requires sized { length bytes.old ≡ size_of (tree_of ty.now) }
-    requires given { AllByRecursion (λ p. goes_by_run p.loc p.ext ≡ true → PieceStands base machine.old (tree_of ty.now) (value_of value.now) p) pieces.now }
-    ensures stand { PiecesStand base machine.new (tree_of ty.now) (value_of value.now) pieces.now }
-    ensures unused { AllByRecursion (KeepsUnused base (tree_of ty.now) machine.old machine.new) pieces.now }
-    ensures stays { Stays base (piece_locs pieces.now) machine.old machine.new }
-    ensures within { (room : ℕ) → AllByRecursion (IsPlace room) (piece_locs pieces.now) → WroteWithin base (base + room) machine.old machine.new }
+    requires given { AllByRecursion (λ p. goes_by_run p.loc p.ext ≡ true → PieceStands base (passing machine.old) (tree_of ty.now) (value_of value.now) p) pieces.now }
+    ensures stand { PiecesStand base (passing machine.new) (tree_of ty.now) (value_of value.now) pieces.now }
+    ensures unused { AllByRecursion (KeepsUnused base (tree_of ty.now) (passing machine.old) (passing machine.new)) pieces.now }
+    ensures stays { Stays base (piece_locs pieces.now) (passing machine.old) (passing machine.new) }
+    ensures within { (room : ℕ) → AllByRecursion (IsPlace room) (piece_locs pieces.now) → WroteWithin base (base + room) (passing machine.old) (passing machine.new) }
 {
     for j in (0..pieces.len()).rev() {
         store_other(machine, base, *pieces.get(j), ty, value, bytes);
@@ -273,10 +276,10 @@ fn store_pieces_by(
     requires right { IsLaidOut (tree_of ty.now) }
     requires fits { fits (tree_of ty.now) (value_of value.now) ≡ true }
     requires sized { length bytes.old ≡ size_of (tree_of ty.now) }
-    ensures stand { PiecesStand base machine.new (tree_of ty.now) (value_of value.now) pieces.now }
-    ensures unused { AllByRecursion (KeepsUnused base (tree_of ty.now) machine.old machine.new) pieces.now }
-    ensures stays { Stays base (piece_locs pieces.now) machine.old machine.new }
-    ensures within { (room : ℕ) → AllByRecursion (IsPlace room) (piece_locs pieces.now) → WroteWithin base (base + room) machine.old machine.new }
+    ensures stand { PiecesStand base (passing machine.new) (tree_of ty.now) (value_of value.now) pieces.now }
+    ensures unused { AllByRecursion (KeepsUnused base (tree_of ty.now) (passing machine.old) (passing machine.new)) pieces.now }
+    ensures stays { Stays base (piece_locs pieces.now) (passing machine.old) (passing machine.new) }
+    ensures within { (room : ℕ) → AllByRecursion (IsPlace room) (piece_locs pieces.now) → WroteWithin base (base + room) (passing machine.old) (passing machine.new) }
 {
     store_each(machine, base, pieces, ty, value, bytes);
 }
@@ -291,10 +294,10 @@ pub fn store_pieces(machine: &mut Machine, base: u64, pieces: &Pieces, ty: &FfiT
     requires parts { AllByRecursion (IsPieceOf (tree_of ty.now)) pieces.now }
     requires right { IsLaidOut (tree_of ty.now) }
     requires fits { fits (tree_of ty.now) (value_of value.now) ≡ true }
-    ensures stand { PiecesStand base machine.new (tree_of ty.now) (value_of value.now) pieces.now }
-    ensures unused { AllByRecursion (KeepsUnused base (tree_of ty.now) machine.old machine.new) pieces.now }
-    ensures stays { Stays base (piece_locs pieces.now) machine.old machine.new }
-    ensures within { (room : ℕ) → AllByRecursion (IsPlace room) (piece_locs pieces.now) → WroteWithin base (base + room) machine.old machine.new }
+    ensures stand { PiecesStand base (passing machine.new) (tree_of ty.now) (value_of value.now) pieces.now }
+    ensures unused { AllByRecursion (KeepsUnused base (tree_of ty.now) (passing machine.old) (passing machine.new)) pieces.now }
+    ensures stays { Stays base (piece_locs pieces.now) (passing machine.old) (passing machine.new) }
+    ensures within { (room : ℕ) → AllByRecursion (IsPlace room) (piece_locs pieces.now) → WroteWithin base (base + room) (passing machine.old) (passing machine.new) }
 {
     let size = size_of(ty) as usize;
     if size <= SMALL {
@@ -326,10 +329,10 @@ fn store_direct(
     requires right { IsLaidOut (tree_of ty.now) }
     requires fits { fits (tree_of ty.now) (value_of value.now) ≡ true }
     requires sized { length bytes.old ≡ size_of (tree_of ty.now) }
-    ensures stand { PiecesStand base machine.new (tree_of ty.now) (value_of value.now) pieces.now }
-    ensures unused { AllByRecursion (KeepsUnused base (tree_of ty.now) machine.old machine.new) pieces.now }
-    ensures stays { Stays base (piece_locs pieces.now) machine.old machine.new }
-    ensures within { (room : ℕ) → AllByRecursion (IsPlace room) (piece_locs pieces.now) → WroteWithin base (base + room) machine.old machine.new }
+    ensures stand { PiecesStand base (passing machine.new) (tree_of ty.now) (value_of value.now) pieces.now }
+    ensures unused { AllByRecursion (KeepsUnused base (tree_of ty.now) (passing machine.old) (passing machine.new)) pieces.now }
+    ensures stays { Stays base (piece_locs pieces.now) (passing machine.old) (passing machine.new) }
+    ensures within { (room : ℕ) → AllByRecursion (IsPlace room) (piece_locs pieces.now) → WroteWithin base (base + room) (passing machine.old) (passing machine.new) }
 {
     store_runs(machine, base, runs, ty, value, bytes);
     store_each(machine, base, pieces, ty, value, bytes);
@@ -353,7 +356,7 @@ fn store_copy(
     requires right { IsLaidOut (tree_of ty.now) }
     requires fits { fits (tree_of ty.now) (value_of value.now) ≡ true }
     requires sized { length bytes.old ≡ size_of (tree_of ty.now) }
-    ensures { IsCopied base (tree_of ty.now) (value_of value.now) at copy machine.old machine.new }
+    ensures { IsCopied base (tree_of ty.now) (value_of value.now) at copy (passing machine.old) (passing machine.new) }
 {
     // its contract tells what is true of every machine
     let _m = machine.sp();
@@ -385,10 +388,10 @@ fn store_place_by(
     requires right { IsLaidOut (tree_of ty.now) }
     requires fits { fits (tree_of ty.now) (value_of value.now) ≡ true }
     requires sized { length bytes.old ≡ size_of (tree_of ty.now) }
-    ensures stands { PlaceStands base machine.new (tree_of ty.now) (value_of value.now) place.now }
-    ensures unused { PlaceKeepsUnused base (tree_of ty.now) machine.old machine.new place.now }
-    ensures stays { Stays base (place_uses (tree_of ty.now) place.now) machine.old machine.new }
-    ensures within { (room : ℕ) → PlaceLies room (tree_of ty.now) place.now → WroteWithin base (base + room) machine.old machine.new }
+    ensures stands { PlaceStands base (passing machine.new) (tree_of ty.now) (value_of value.now) place.now }
+    ensures unused { PlaceKeepsUnused base (tree_of ty.now) (passing machine.old) (passing machine.new) place.now }
+    ensures stays { Stays base (place_uses (tree_of ty.now) place.now) (passing machine.old) (passing machine.new) }
+    ensures within { (room : ℕ) → PlaceLies room (tree_of ty.now) place.now → WroteWithin base (base + room) (passing machine.old) (passing machine.new) }
 {
     match place {
         Place::Direct(pieces) => store_direct(machine, base, pieces, runs, ty, value, bytes),
@@ -414,10 +417,10 @@ pub fn store_place(
     requires runs { AreRunsOf (pieces_of place.now) runs.now }
     requires right { IsLaidOut (tree_of ty.now) }
     requires fits { fits (tree_of ty.now) (value_of value.now) ≡ true }
-    ensures stands { PlaceStands base machine.new (tree_of ty.now) (value_of value.now) place.now }
-    ensures unused { PlaceKeepsUnused base (tree_of ty.now) machine.old machine.new place.now }
-    ensures stays { Stays base (place_uses (tree_of ty.now) place.now) machine.old machine.new }
-    ensures within { (room : ℕ) → PlaceLies room (tree_of ty.now) place.now → WroteWithin base (base + room) machine.old machine.new }
+    ensures stands { PlaceStands base (passing machine.new) (tree_of ty.now) (value_of value.now) place.now }
+    ensures unused { PlaceKeepsUnused base (tree_of ty.now) (passing machine.old) (passing machine.new) place.now }
+    ensures stays { Stays base (place_uses (tree_of ty.now) place.now) (passing machine.old) (passing machine.new) }
+    ensures within { (room : ℕ) → PlaceLies room (tree_of ty.now) place.now → WroteWithin base (base + room) (passing machine.old) (passing machine.new) }
 {
     let size = size_of(ty) as usize;
     if size <= SMALL {
@@ -435,12 +438,12 @@ pub fn store_places<A: Abi>(machine: &mut Machine, cif: &Cif<A>, values: &Values
     requires target { machine.old.target ≡ A.TARGET }
     requires bottom { STACK ≤ machine.old.sp }
     requires frame { machine.old.sp + frame_of A.standard cif.now ≤ STACK_TOP }
-    ensures stand { AllStand machine.old.sp machine.new cif.now.arguments (plan_of A.standard cif.now).places values.now }
-    ensures unused { AllKeepUnused machine.old.sp machine.old machine.new cif.now.arguments (plan_of A.standard cif.now).places }
-    ensures own { OwnsArguments (image_of (frame_of A.standard cif.now) machine.new) 0 cif.now.arguments (plan_of A.standard cif.now).places values.now }
-    ensures filled { FillArguments (image_of (frame_of A.standard cif.now) machine.new) 0 cif.now.arguments (plan_of A.standard cif.now).places values.now }
-    ensures stays { Stays machine.old.sp (all_uses cif.now.arguments (plan_of A.standard cif.now).places) machine.old machine.new }
-    ensures within { WroteWithin machine.old.sp (machine.old.sp + frame_of A.standard cif.now) machine.old machine.new }
+    ensures stand { AllStand machine.old.sp (passing machine.new) cif.now.arguments (plan_of A.standard cif.now).places values.now }
+    ensures unused { AllKeepUnused machine.old.sp (passing machine.old) (passing machine.new) cif.now.arguments (plan_of A.standard cif.now).places }
+    ensures own { OwnsArguments (image_of (frame_of A.standard cif.now) (passing machine.new)) 0 cif.now.arguments (plan_of A.standard cif.now).places values.now }
+    ensures filled { FillArguments (image_of (frame_of A.standard cif.now) (passing machine.new)) 0 cif.now.arguments (plan_of A.standard cif.now).places values.now }
+    ensures stays { Stays machine.old.sp (all_uses cif.now.arguments (plan_of A.standard cif.now).places) (passing machine.old) (passing machine.new) }
+    ensures within { WroteWithin machine.old.sp (machine.old.sp + frame_of A.standard cif.now) (passing machine.old) (passing machine.new) }
 {
     let sig = cif.sig();
     let base = machine.sp();
@@ -462,9 +465,9 @@ pub fn store_hidden(machine: &mut Machine, base: u64, res: &Res)
     requires high { base ≤ STACK_TOP }
     requires lie { AllByRecursion (IsPlace (STACK_TOP - base)) (hidden_locs res.now) }
     requires writable { AllByRecursion (IsWritable machine.old.target) (hidden_locs res.now) }
-    ensures stands { HiddenStands base machine.new res.now }
-    ensures stays { Stays base (hidden_locs res.now) machine.old machine.new }
-    ensures within { (room : ℕ) → AllByRecursion (IsPlace room) (hidden_locs res.now) → WroteWithin base (base + room) machine.old machine.new }
+    ensures stands { HiddenStands base (passing machine.new) res.now }
+    ensures stays { Stays base (hidden_locs res.now) (passing machine.old) (passing machine.new) }
+    ensures within { (room : ℕ) → AllByRecursion (IsPlace room) (hidden_locs res.now) → WroteWithin base (base + room) (passing machine.old) (passing machine.new) }
 {
     match res {
         Res::Hidden { at, buffer } => {

@@ -2,8 +2,10 @@
 ghost use Rattle.std.specs.Prelude.{◌≡◌, ◌-◌, ◌≤◌, length};
 ghost use Rattle.std.specs.Int.{w64, to_le_bytes};
 ghost use Rattle.ffi3_type_rules.specs.declared.limits.TheConstants.{STACK, STACK_TOP};
+ghost use Rattle.ffi3_pieces.specs.Passing.{passing};
 ghost use Rattle.ffi3_pieces.specs.Stored.{AreBytesOf, IsPieceLoaded, IsPlace, IsWithin, word_in};
 
+use crate::registers::{passed_floating, passed_general};
 use ffi3_machine::Machine;
 use ffi3_place::{Loc, Piece};
 
@@ -19,13 +21,13 @@ pub fn place_bytes(machine: &Machine, base: u64, at: Loc) -> [u8; 8]
     requires low { STACK ≤ base }
     requires high { base ≤ STACK_TOP }
     requires lies { IsPlace (STACK_TOP - base) at }
-    ensures { AreBytesOf base machine.now at result }
+    ensures { AreBytesOf base (passing machine.now) at result }
 {
     // its contract tells what is true of every machine
     let _m = machine.sp();
     match at {
-        Loc::G(r) => machine.g(r).to_le_bytes(),
-        Loc::F(r) => machine.f(r).to_le_bytes(),
+        Loc::G(r) => passed_general(machine, r).to_le_bytes(),
+        Loc::F(r) => passed_floating(machine, r).to_le_bytes(),
         Loc::S(n) => {
             let mut bytes = [0; 8];
             bytes.copy_from_slice(machine.lend_stack(base + n as u64, 8));
@@ -39,12 +41,26 @@ pub fn place_word(machine: &Machine, base: u64, at: Loc) -> u64
     requires low { STACK ≤ base }
     requires high { base ≤ STACK_TOP }
     requires lies { IsPlace (STACK_TOP - base) at }
+    ensures { result ≡ word_in base (passing machine.now) at }
+{
+    match at {
+        Loc::G(r) => passed_general(machine, r),
+        Loc::F(r) => passed_floating(machine, r),
+        Loc::S(_) => word_of(place_bytes(machine, base, at)),
+    }
+}
+
+/// The number in a place, of the machine's own registers, whatever a call passes. Stack places count from the address `base`.
+pub fn own_word(machine: &Machine, base: u64, at: Loc) -> u64
+    requires low { STACK ≤ base }
+    requires high { base ≤ STACK_TOP }
+    requires lies { IsPlace (STACK_TOP - base) at }
     ensures { result ≡ word_in base machine.now at }
 {
     match at {
         Loc::G(r) => machine.g(r),
         Loc::F(r) => machine.f(r),
-        Loc::S(_) => word_of(place_bytes(machine, base, at)),
+        Loc::S(_) => place_word(machine, base, at),
     }
 }
 
@@ -54,7 +70,7 @@ pub fn load_piece(machine: &Machine, base: u64, piece: &Piece, out: &mut [u8])
     requires high { base ≤ STACK_TOP }
     requires lies { IsPlace (STACK_TOP - base) piece.now.loc }
     requires within { IsWithin (length out.old) piece.now }
-    ensures { IsPieceLoaded base machine.now piece.now out.old out.new }
+    ensures { IsPieceLoaded base (passing machine.now) piece.now out.old out.new }
 {
     let bytes = place_bytes(machine, base, piece.loc);
     let start = piece.off as usize;

@@ -8,6 +8,7 @@ ghost use Rattle.ffi3_type_rules.specs.Value.{fits};
 ghost use Rattle.ffi3_types.specs.TreeOf.{tree_of};
 ghost use Rattle.ffi3_values.specs.ValueOf.{value_of};
 ghost use Rattle.ffi3_cif.specs.Runs.{Neighbours, Rises};
+ghost use Rattle.ffi3_pieces.specs.Passing.{passing};
 ghost use Rattle.ffi3_pieces.specs.Runs.{AreRunsStored, IsRunStored, RunLies};
 
 use ffi3_cif::{Run, Runs};
@@ -30,7 +31,7 @@ fn store_run(
     requires right { IsLaidOut (tree_of ty.now) }
     requires fits { fits (tree_of ty.now) (value_of value.now) ≡ true }
     requires sized { length bytes.old ≡ size_of (tree_of ty.now) }
-    ensures stored { IsRunStored base (tree_of ty.now) (value_of value.now) run machine.old machine.new }
+    ensures stored { IsRunStored base (tree_of ty.now) (value_of value.now) run (passing machine.old) (passing machine.new) }
     ensures sized { length bytes.new ≡ length bytes.old }
 {
     // its contract tells what is true of every machine
@@ -59,7 +60,7 @@ pub fn store_runs(
     requires right { IsLaidOut (tree_of ty.now) }
     requires fits { fits (tree_of ty.now) (value_of value.now) ≡ true }
     requires sized { length bytes.old ≡ size_of (tree_of ty.now) }
-    ensures stored { AreRunsStored base (tree_of ty.now) (value_of value.now) runs.now machine.old machine.new }
+    ensures stored { AreRunsStored base (tree_of ty.now) (value_of value.now) runs.now (passing machine.old) (passing machine.new) }
     ensures sized { length bytes.new ≡ length bytes.old }
 {
     for i in (0..runs.len()).rev() {

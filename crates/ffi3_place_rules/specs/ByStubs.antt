@@ -40,6 +40,9 @@ pub record AgreesWithStubs (std : Standard) : Type 0 where
   pub preserved_kept : AllByRecursion (IsNoneOf (stub_scratch (isa_of std.target))) std.preserved
   pub reserved_kept : AllByRecursion (IsNoneOf (stub_scratch (isa_of std.target))) std.reserved
   pub arguments_kept : AllByRecursion (IsNoneOf (stub_scratch (isa_of std.target))) std.argument_registers
+  -- Call overwrites no register that tells the number of vector registers, and Entry none that holds the closure's address
+  pub count_kept : AllByRecursion (IsNoneOf (call_scratch (isa_of std.target))) (listed std.vector_count)
+  pub closure_kept : IsNoneOf (entry_scratch (isa_of std.target)) (G std.closure_register)
 
 -- the same of one signature's result
 pub record ResultGoesByStubs (std : Standard) (s : Signature) : Type 0 where

@@ -14,7 +14,7 @@ use Rattle.ffi3_types.proofs.Trees.{tree_of-inj}
 use Rattle.ffi3_script_rules.specs.Language.{JsonPath, Read, read, fault, and_then, read_type, inside_type, reason_of_type_fault, wrong_type}
 use Rattle.ffi3_script_rules.specs.Script.{Expression}
 use Rattle.ffi3_script_rules.specs.Values.{against, typed, read_right_type, right_type}
-use Rattle.ffi3_script_rules.proofs.FirstFaults.{found_by_first, none_found}
+use Rattle.ffi3_type_rules.proofs.FirstFaults.{found_by_first, none_found}
 use Rattle.ffi3_script_rules.proofs.Tests.{types_are_same, type_is_itself}
 
 -- ---- one step after another

@@ -15,13 +15,13 @@ use Rattle.ffi3_type_rules.proofs.ValueElements.{fitting_element}
 use Rattle.ffi3_type_rules.proofs.Widened.{length-bytes_of_number}
 use Rattle.ffi3_script_rules.specs.Script.{Expression, constant, composed, argument, outcome, user_data, element, typed_as, sum, difference, cast, Expressions, no_expressions, expression, Act, call, make, free, print, return, return_void, ScriptMove, Typed}
 use Rattle.ffi3_run_rules.specs.Move.{Move, MoveFits, result_type_of}
-use Rattle.ffi3_script_rules.specs.FirstFault.{first_fault}
+use Rattle.ffi3_type_rules.specs.FirstFault.{first_fault}
 use Rattle.ffi3_script_rules.specs.Values.{is_list_type}
 use Rattle.ffi3_script_rules.specs.Bodies.{type_of_act, is_return, ends}
 use Rattle.ffi3_script_rules.specs.Meaning.{Known, value_of, values_of, element_value, difference_of, is_done, move_of, next_by, next_of, knows_too, behaviour_of, known}
 use Rattle.ffi3_script_rules.specs.Typed.{Kinds, is_at, own_type, is_scalar_of, is_integer_of, is_number_of, trees_in, has_type, have_types, same_scalar, Setting, is_laid_out, signature_is_right, act_is_typed, gives_too, moves_are_typed, body_is_typed, IsOfType, is_condition}
 use Rattle.ffi3_script_rules.proofs.Tests.{and_left, and_right, both, types_are_same, scalars_are_same}
-use Rattle.ffi3_script_rules.proofs.FirstFaults.{right_by_none}
+use Rattle.ffi3_type_rules.proofs.FirstFaults.{right_by_none}
 use Rattle.ffi3_script_rules.proofs.RightTypes.{is_none-none, zero_fits, any_result_type_is_right}
 
 -- the list of values and back

@@ -1,5 +1,3 @@
-pub mod FirstFaults
-pub mod FirstSignatureFaults
 pub mod Readings
 mod RowForms
 mod LanguageRows
@@ -10,12 +8,14 @@ mod ComputedValueRows
 mod TypedRows
 mod WideRows
 mod ArrayRows
+mod DeclarationRows
 pub mod Decimals
 mod MadeRows
 pub mod Tests
 pub mod RightTypes
 pub mod Fits
 pub mod ReadParts
+pub mod Signatures
 pub mod TypedValues
 pub mod WellTyped
 pub mod BodyRules

@@ -13,7 +13,7 @@ use Rattle.ffi3_type_rules.specs.Layout.{least_multiple}
 use Rattle.ffi3_type_rules.specs.Signature.{Signature, at_argument, SignatureFault, too_many}
 use Rattle.ffi3_type_rules.specs.Same.{same_tree}
 use Rattle.ffi3_run_rules.specs.Move.{no_signature}
-use Rattle.ffi3_script_rules.specs.FirstFault.{first_fault, first_in_arguments, or_else, at_position}
+use Rattle.ffi3_type_rules.specs.FirstFault.{first_fault, first_in_arguments, or_else, at_position}
 use Rattle.ffi3_script_rules.specs.Script.{Expression, argument, outcome, element, sum, cast, expressions_of, return, ScriptMove}
 use Rattle.ffi3_script_rules.specs.Bodies.{ends, type_of_act}
 use Rattle.ffi3_script_rules.specs.Typed.{Kinds, Setting, is_at, own_type, has_type, have_types, act_is_typed, moves_are_typed, gives_too, body_is_typed, signature_is_right, script_is_typed, function_is_typed}

@@ -16,9 +16,9 @@ use Rattle.ffi3_type_rules.proofs.Arrays.{length_of_equal, one_of_equal}
 use Rattle.ffi3_type_rules.specs.Signature.{Signature, signature_at, at_result, at_argument, SignatureFault, too_many}
 use Rattle.ffi3_type_rules.proofs.Values.{element_within}
 use Rattle.ffi3_type_rules.proofs.Parts.{length_part}
-use Rattle.ffi3_script_rules.specs.FirstFault.{Found, first_fault, first_inside, or_else, in_composite, unless_deep, inside_element, fault_of_size, first_signature_fault, first_in_arguments, first_in_fixed, at_position}
+use Rattle.ffi3_type_rules.specs.FirstFault.{Found, first_fault, first_inside, or_else, in_composite, unless_deep, inside_element, fault_of_size, first_signature_fault, first_in_arguments, first_in_fixed, at_position}
 use Rattle.ffi3_script_rules.specs.Typed.{is_right, is_right_argument, is_laid_out, signature_is_right}
-use Rattle.ffi3_script_rules.proofs.FirstFaults.{right_by_none, none_found}
+use Rattle.ffi3_type_rules.proofs.FirstFaults.{right_by_none, none_found}
 use Rattle.ffi3_script_rules.proofs.Tests.{and_left, and_right, both}
 
 -- ---- options

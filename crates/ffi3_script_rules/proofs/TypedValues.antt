@@ -17,7 +17,7 @@ use Rattle.ffi3_type_rules.specs.Integer.{is_integer, is_number, is_number_type,
 use Rattle.ffi3_type_rules.specs.Layout.{scalar_size}
 use Rattle.ffi3_type_rules.specs.Same.{same_tree}
 use Rattle.ffi3_type_rules.proofs.Widened.{length-bytes_of_number}
-use Rattle.ffi3_script_rules.specs.FirstFault.{Found, first_fault}
+use Rattle.ffi3_type_rules.specs.FirstFault.{Found, first_fault}
 use Rattle.ffi3_script_rules.specs.Language.{Read, read, fault, and_then, read_map, JsonPath, under, at_item, read_type, out_of_range, wrong_type, wrong_count}
 use Rattle.ffi3_script_rules.specs.Script.{Expression, constant, composed, argument, outcome, user_data, element, typed_as, cast, Expressions, no_expressions, expression, Typed}
 use Rattle.ffi3_script_rules.specs.Values.{Given, Scope, read_integer, in_range, read_number, integer_written, read_written, is_wide_type, is_floating_type, bytes_or_fault, read_floating, read_text, typed, against, typed_argument, argument_of, has_name, typed_result, result_number, result_of, user_of, typed_element, element_of, element_in, field_of, right_type, read_right_type, is_list_type, TypedForm, arg_form, res_form, user_form, field_form, of_form, Form, typed_form, add_form, sub_form, cast_form, no_form, form_named, is_integer_type, if_integer, cast_of, composed_of, Pair, sum_of, difference_of, typed_by, value_by, own_by, read_value, read_values, read_object, read_two, read_typed, read_typed_object, read_field, read_of}

@@ -12,10 +12,10 @@ use Rattle.ffi3_type_rules.specs.Tree.{Tree, void, scalar, left_out, structure, 
 use Rattle.ffi3_type_rules.specs.Tree as types
 use Rattle.ffi3_type_rules.specs.Integer.{is_number_type, bytes_of_number}
 use Rattle.ffi3_type_rules.specs.Same.{same_tree}
-use Rattle.ffi3_type_rules.specs.Signature.{Signature, SignatureFault, signature_at}
+use Rattle.ffi3_type_rules.specs.Signature.{Signature, signature_at}
 use Rattle.ffi3_run_rules.specs.Move.{no_signature}
-use Rattle.ffi3_script_rules.specs.FirstFault.{first_signature_fault}
-use Rattle.ffi3_script_rules.specs.Language.{read, read_map, JsonPath, under, at_item, check_object, value_under, unless_faulty, read_shapes, read_signature, no_such_signature, wrong_type, wrong_count, no_return_at_the_end}
+use Rattle.ffi3_type_rules.specs.FirstFault.{first_signature_fault}
+use Rattle.ffi3_script_rules.specs.Language.{read, read_map, JsonPath, under, at_item, check_object, value_under, read_signature, no_such_signature, wrong_type, wrong_count, no_return_at_the_end}
 use Rattle.ffi3_script_rules.specs.Script.{Expression, constant, Expressions, Typed, Act, call, make, free, print, return, return_void, ScriptMove, ScriptFunction, Script}
 use Rattle.ffi3_script_rules.specs.Values.{Given, Scope, read_value, read_values, read_typed}
 use Rattle.ffi3_script_rules.specs.Bodies.{signature_below, read_signature_number, Surroundings, Kind, call_kind, make_kind, free_kind, print_kind, return_kind, kind_of, keys_of, read_name, condition_of, read_condition, read_arguments, read_call, function_numbered, read_function, read_user, read_make, read_result, unnamed, read_act, scope_of, read_kind, read_move, type_of_act, given_by, read_moves, ends, if_ended, read_body, script_keys, function_keys, items_at, version_of, read_signatures, Heading, new_name, is_one_of, read_heading, read_headings, function_of, read_bodies, names_of, read_rest, read_script}
@@ -23,6 +23,8 @@ use Rattle.ffi3_script_rules.specs.Typed.{Kinds, has_type, have_types, is_condit
 use Rattle.ffi3_script_rules.proofs.Tests.{and_left, and_right, both}
 use Rattle.ffi3_script_rules.proofs.RightTypes.{none-is_none, any_result_type_is_right, argument_types_are_right, signature_at-right}
 use Rattle.ffi3_script_rules.proofs.ReadParts.{first_was_read, part_was_read, same_read, test_held}
+use Rattle.ffi3_script_rules.proofs.Signatures.{read_is_right}
+use Rattle.ffi3_type_rules.proofs.FirstSignatureFaults.{signature_none_found}
 use Rattle.ffi3_script_rules.proofs.TypedValues.{IsOfItsType, value_is_typed, values_are_typed, typed_is_typed}
 
 -- ---- numbers
@@ -209,16 +211,10 @@ module _ (s : Surroundings) (right : list_all signature_is_right s.signatures �
 
 -- ---- the whole
 
-unless_faulty_read : (path : JsonPath) (s r : Signature) (f : Option SignatureFault) → first_signature_fault s ≡ f → unless_faulty path s f ≡ read r → signature_is_right r ≡ true
-unless_faulty_read path s r None is h =
-    subst (λ q. signature_is_right q ≡ true) (same_read s r h) (none-is_none (first_signature_fault s) is)
-unless_faulty_read path s r (Some f) is h = cc
-
 -- A SIGNATURE THAT IS READ IS RIGHT
 pub signature_is_well_typed : (version : ℕ) (d : Data) (path : JsonPath) (s : Signature) → read_signature version d path ≡ read s → signature_is_right s ≡ true
 signature_is_well_typed version d path s h =
-    let was = first_was_read (λ r. unless_faulty path r (first_signature_fault r)) (read_shapes version d path) s h in
-    unless_faulty_read path was.0 s (first_signature_fault was.0) refl was.2
+    none-is_none (first_signature_fault s) (signature_none_found s (read_is_right version d path s h))
 
 pub signatures_are_well_typed : (version : ℕ) (ds : Items) (path : JsonPath) (i : ℕ) (ss : List Signature) → read_signatures version ds path i ≡ read ss → list_all signature_is_right ss ≡ true
 signatures_are_well_typed version no_items path i ss h =

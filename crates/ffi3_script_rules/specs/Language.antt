@@ -1,7 +1,7 @@
 -- THE SCRIPT LANGUAGE, by cases on the JSON value: what a value at a place is read as, or its first fault in the order of reading. Here: reasons, places, objects, types and signatures. `Values` and `Bodies` go on.
 use Rattle.std.specs.Prelude.{ℕ, ◌+◌, ◌<◌, ◌^◌, ◌||◌, ◌&&◌, List, [], ◌∷◌, ◌++◌, Bool, true, false, not, ◌==◌, cond, Option, Some, None, option_and_then, is_some, unwrap_or, nat_lt, bytes_eq, codes, ⊤}
 use Rattle.serde_json.specs.Data.{Data, null, boolean, number, string, array, object, Items, no_items, item, Members, no_members, member}
-use Rattle.serde_json.specs.Find.{get, as_number, as_u64}
+use Rattle.serde_json.specs.Find.{get, as_number, as_u64, as_str}
 use Rattle.serde_json.specs.Events.{items_len}
 use Rattle.ffi3_type_rules.specs.Tree.{Tree, void, scalar, left_out, structure, struct_of, array_of, tree_at, parts_of, long_double, complex, vector}
 use Rattle.ffi3_type_rules.specs.Tree as types
@@ -11,7 +11,9 @@ use Rattle.ffi3_type_rules.specs.Signature.{Signature, SignatureFault, too_many,
 use Rattle.ffi3_type_rules.specs.Signature as signature
 use Rattle.ffi3_script_rules.specs.Step.{PathStep, key}
 use Rattle.ffi3_script_rules.specs.Step as step
-use Rattle.ffi3_script_rules.specs.FirstFault.{first_signature_fault}
+use Rattle.ffi3_type_rules.specs.FirstFault.{first_signature_fault}
+use Rattle.ffi3_cdecl_rules.specs.Reading.{Outcome, reads, bad_token, unexpected, bad_number, bad_signature}
+use Rattle.ffi3_cdecl_rules.specs.Machine as declaration
 
 -- ---- reasons and places
 
@@ -34,6 +36,7 @@ pub data Reason : Type 0 where
   too_many_arguments : ℕ → Reason
   bad_fixed : ℕ → ℕ → Reason
   bad_variadic_argument : Reason
+  bad_declaration : ℕ → Reason
   bad_name : Reason
   name_twice : Reason
   no_such_signature : Reason
@@ -249,10 +252,34 @@ abbrev pub unless_faulty : JsonPath → Signature → Option SignatureFault → 
 unless_faulty path s None = read s
 unless_faulty path s (Some f) = fault (place_of_fault path s f) (reason_of_fault f)
 
--- A SIGNATURE: its shapes, and only then its own first fault.
-abbrev pub read_signature : (version : ℕ) → Data → JsonPath → Read Signature
-read_signature version d path =
+-- an object: its shapes, and only then its own first fault
+abbrev pub object_signature : (version : ℕ) → Data → JsonPath → Read Signature
+object_signature version d path =
     and_then (λ s. unless_faulty path s (first_signature_fault s)) (read_shapes version d path)
+
+-- What a text declares, by what it is read as: the signature alone, since the name says nothing here. A fault of token, grammar or number is told by its offset, one of the signature by its reason; both stand at the text.
+abbrev pub declared_signature : JsonPath → Outcome → Read Signature
+declared_signature path (reads d) = read d.signature
+declared_signature path (bad_token at) = fault path (bad_declaration at)
+declared_signature path (unexpected at) = fault path (bad_declaration at)
+declared_signature path (bad_number at) = fault path (bad_declaration at)
+declared_signature path (bad_signature f) = fault path (reason_of_fault f)
+
+-- version 1 of the script language has no declarations
+abbrev pub has_declarations : (version : ℕ) → Bool
+has_declarations version = not (version == 1)
+
+-- the text of a declaration, where the value is one in the script's version
+abbrev pub declaration_in : (version : ℕ) → Data → Option (List ℕ)
+declaration_in version d = cond (has_declarations version) (as_str d) None
+
+abbrev pub signature_by : (version : ℕ) → Data → JsonPath → Option (List ℕ) → Read Signature
+signature_by version d path (Some text) = declared_signature path (declaration.read text)
+signature_by version d path None = object_signature version d path
+
+-- A SIGNATURE: a C declaration of a function, or an object.
+abbrev pub read_signature : (version : ℕ) → Data → JsonPath → Read Signature
+read_signature version d path = signature_by version d path (declaration_in version d)
 
 -- ---- sizes
 

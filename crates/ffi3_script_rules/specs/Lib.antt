@@ -1,6 +1,5 @@
 pub mod Step
-pub mod FirstFault
-pub mod SignatureRefusal
+pub mod SignatureReading
 pub mod Language
 pub mod ReasonText
 pub mod Script

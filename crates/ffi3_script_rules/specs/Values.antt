@@ -14,7 +14,7 @@ pub use Rattle.ffi3_type_rules.specs.Integer.{is_integer_type, is_floating_type}
 use Rattle.ffi3_type_rules.specs.Integer.{is_number_type, is_signed, scalar_of, width_of, bit_count, bytes_of_number}
 use Rattle.ffi3_type_rules.specs.Layout.{scalar_size}
 use Rattle.ffi3_type_rules.specs.Same.{same_tree}
-use Rattle.ffi3_script_rules.specs.FirstFault.{Found, first_fault}
+use Rattle.ffi3_type_rules.specs.FirstFault.{Found, first_fault}
 use Rattle.ffi3_script_rules.specs.Language.{Read, read, fault, and_then, read_map, JsonPath, under, at_item, read_type, inside_type, reason_of_type_fault, wrong_count, not_an_integer, bad_integer, out_of_range, bad_bytes, wrong_type, not_a_value, no_type_of_its_own, no_such_argument, no_such_result, no_such_field}
 use Rattle.ffi3_script_rules.specs.Script.{Expression, constant, composed, argument, outcome, user_data, element, typed_as, sum, difference, cast, Expressions, no_expressions, expression, Typed}
 

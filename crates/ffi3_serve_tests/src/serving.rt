@@ -6,6 +6,7 @@ ghost use Rattle.ffi3_type_rules.specs.ValueText.{value_text_of};
 ghost use Rattle.ffi3_place_rules.specs.Holds.{OwnResult};
 ghost use Rattle.ffi3_place_rules.specs.Standard.{frame_of};
 ghost use Rattle.ffi3_machine.specs.State.{image_of};
+ghost use Rattle.ffi3_pieces.specs.Passing.{passing};
 ghost use Rattle.ffi3_script.specs.ScriptOf.{natives_of};
 ghost use Rattle.ffi3_ask.specs.Handed.{handed, signatures_in};
 
@@ -32,7 +33,7 @@ pub fn take_text<A: Abi>(
 ) -> Result<Bytes, NoMemory>
     requires bottom { STACK ≤ machine.old.sp }
     requires frame { machine.old.sp + frame_of A.standard cif.now ≤ STACK_TOP }
-    ensures { IfOk result (λ text. (v : ValueTree) → OwnResult A.standard cif.now v (image_of (frame_of A.standard cif.now) machine.old) →
+    ensures { IfOk result (λ text. (v : ValueTree) → OwnResult A.standard cif.now v (image_of (frame_of A.standard cif.now) (passing machine.old)) →
         text ≡ value_text_of cif.now.result_type v) }
 {
     let ty = result_type(cif.sig());

@@ -3,6 +3,7 @@ pub mod Tree
 pub mod Layout
 pub mod Fault
 pub mod Signature
+pub mod FirstFault
 pub mod Integer
 pub mod Same
 pub mod Value

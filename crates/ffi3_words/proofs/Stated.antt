@@ -5,7 +5,7 @@ use Rattle.clap.proofs.OnLiterals.{clap_on_literals}
 use Rattle.ffi3_type_rules.specs.declared.Target.{Target}
 use Rattle.ffi3_type_rules.specs.declared.Target.TheVariants.{Amd64, Aapcs64, Riscv, Win64}
 use Rattle.ffi3_words.specs.declared.words.Request.{Request}
-use Rattle.ffi3_words.specs.declared.words.Request.TheVariants.{Layout, Place, Run, Bench}
+use Rattle.ffi3_words.specs.declared.words.Request.TheVariants.{Layout, Place, Run, Cdecl, Cplace, Bench}
 use Rattle.ffi3_words.specs.WordCommands.{Addresses, asked, program}
 use Rattle.ffi3_words.proofs.BenchWords.{calls_first, seed_first}
 use Rattle.ffi3_words.specs.Words.{IsStated, StatesAfterName, Takes, target_word}
@@ -19,6 +19,14 @@ module _ (at at' : Addresses) (name : Text) where
   lays : Reads (codes "layout" ∷ []) Layout
   unfolding clap_on_literals
   lays = (refl, refl)
+
+  declares : Reads (codes "cdecl" ∷ []) Cdecl
+  unfolding clap_on_literals
+  declares = (refl, refl)
+
+  declares_places : Reads (codes "cplace" ∷ []) Cplace
+  unfolding clap_on_literals
+  declares_places = (refl, refl)
 
   places : (t : Target) → Reads (codes "place" ∷ codes "--target" ∷ target_word t ∷ []) (Place t)
   unfolding clap_on_literals
@@ -50,6 +58,8 @@ module _ (at at' : Addresses) (name : Text) where
 
   states : (rest : List Text) (r : Request) → StatesAfterName rest r → Reads rest r
   states rest Layout is = subst (λ ws. Reads ws Layout) (sym is) lays
+  states rest Cdecl is = subst (λ ws. Reads ws Cdecl) (sym is) declares
+  states rest Cplace is = subst (λ ws. Reads ws Cplace) (sym is) declares_places
   states rest (Place t) is = subst (λ ws. Reads ws (Place t)) (sym is) (places t)
   states rest (Run t false) is = subst (λ ws. Reads ws (Run t false)) (sym is) (runs t)
   states rest (Run t true) (inl is) =

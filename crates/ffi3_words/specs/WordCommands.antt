@@ -12,7 +12,7 @@ use Rattle.ffi3_type_rules.specs.declared.limits.TheConstants.{MOST_CALLS}
 use Rattle.ffi3_type_rules.specs.declared.Target.{Target}
 use Rattle.ffi3_type_rules.specs.declared.Target.TheVariants.{Amd64, Aapcs64, Riscv, Win64}
 use Rattle.ffi3_words.specs.declared.words.Request.{Request}
-use Rattle.ffi3_words.specs.declared.words.Request.TheVariants.{Layout, Place, Run, Bench}
+use Rattle.ffi3_words.specs.declared.words.Request.TheVariants.{Layout, Place, Run, Cdecl, Cplace, Bench}
 
 -- ---- the words of a target
 
@@ -60,8 +60,18 @@ seed_rule = number_rule (codes "seed")
 abbrev pub calls_rule : Rule
 calls_rule = number_rule (codes "calls")
 
+-- a command without options
+abbrev pub plain_shape : Text → Shape
+plain_shape name = (new_app name).top
+
 abbrev pub layout_shape : Shape
-layout_shape = (new_app (codes "layout")).top
+layout_shape = plain_shape (codes "layout")
+
+abbrev pub cdecl_shape : Shape
+cdecl_shape = plain_shape (codes "cdecl")
+
+abbrev pub cplace_shape : Shape
+cplace_shape = plain_shape (codes "cplace")
 
 -- a command with a target
 abbrev pub with_target : Text → ValueParser → Shape
@@ -85,7 +95,7 @@ program_alone = record {
 
 abbrev pub program_with : ValueParser → ValueParser → App
 program_with placing running =
-    with_subcommand (with_subcommand (with_subcommand (with_subcommand program_alone layout_shape) (with_target (codes "place") placing)) (with_trace (codes "run") running)) bench_shape
+    with_subcommand (with_subcommand (with_subcommand (with_subcommand (with_subcommand (with_subcommand program_alone layout_shape) (with_target (codes "place") placing)) (with_trace (codes "run") running)) bench_shape) cdecl_shape) cplace_shape
 
 -- THE PROGRAM, with its texts at these addresses
 abbrev pub program : Addresses → Addresses → App
@@ -119,7 +129,7 @@ bench_of seed calls =
 -- a command's name, its target, its flag and its numbers
 abbrev pub request_of : Text → Option Text → Option Text → Option Text → Option Text → Option Request
 request_of name target trace seed calls =
-    cond (bytes_eq name (codes "layout")) (Some Layout) (cond (bytes_eq name (codes "bench")) (bench_of seed calls) (cond (bytes_eq name (codes "place")) (with_target_of target (λ t. Place t)) (cond (bytes_eq name (codes "run")) (with_target_of target (λ t. Run t (is_set trace))) None)))
+    cond (bytes_eq name (codes "layout")) (Some Layout) (cond (bytes_eq name (codes "cdecl")) (Some Cdecl) (cond (bytes_eq name (codes "cplace")) (Some Cplace) (cond (bytes_eq name (codes "bench")) (bench_of seed calls) (cond (bytes_eq name (codes "place")) (with_target_of target (λ t. Place t)) (cond (bytes_eq name (codes "run")) (with_target_of target (λ t. Run t (is_set trace))) None)))))
 
 -- the command that was met, with its rows
 abbrev pub asked : Option (Text × List Row) → Option Request

@@ -2,7 +2,7 @@
 ghost use Rattle.std.specs.Prelude.{◌≡◌, IfOk, false, codes};
 ghost use Rattle.clap.specs.Words.{app_of, rule_of, shape_of};
 ghost use Rattle.clap.specs.declared.builder.command.Command.TheViews.{out-Command};
-ghost use Rattle.ffi3_words.specs.WordCommands.{bench_shape, calls_rule, layout_shape, seed_rule, targets, trace_rule};
+ghost use Rattle.ffi3_words.specs.WordCommands.{bench_shape, calls_rule, cdecl_shape, cplace_shape, layout_shape, program_alone, seed_rule, targets, trace_rule};
 ghost use Rattle.ffi3_words.specs.CommandParts.{IsProgram, IsTargetRule, HasTarget, IsTraceable};
 
 use crate::help;
@@ -16,6 +16,19 @@ static TARGETS: [&str; 4] = ["amd64", "aapcs64", "riscv", "win64"];
 pub fn program<'a>(alloc: Global) -> Result<Command<'a>, AllocError>
     ensures { IfOk result (λ c. IsProgram (app_of c)) }
 {
+    program_alone(alloc)
+        .subcommand(layout(alloc))?
+        .subcommand(place(alloc)?)?
+        .subcommand(run(alloc)?)?
+        .subcommand(bench(alloc)?)?
+        .subcommand(cdecl(alloc))?
+        .subcommand(cplace(alloc))
+}
+
+// The program without its commands, of which one is required.
+fn program_alone<'a>(alloc: Global) -> Command<'a>
+    ensures { app_of result ≡ program_alone }
+{
     Command::new(alloc, "ffi3")
         .version(help::VERSION)
         .about(help::ABOUT)
@@ -23,10 +36,6 @@ pub fn program<'a>(alloc: Global) -> Result<Command<'a>, AllocError>
         .after_help(help::AFTER_HELP)
         .subcommand_required(true)
         .arg_required_else_help(true)
-        .subcommand(layout(alloc))?
-        .subcommand(place(alloc)?)?
-        .subcommand(run(alloc)?)?
-        .subcommand(bench(alloc)?)
 }
 
 fn layout<'a>(alloc: Global) -> Command<'a>
@@ -72,6 +81,26 @@ fn bench<'a>(alloc: Global) -> Result<Command<'a>, AllocError>
         .after_help(help::BENCH_AFTER_HELP)
         .arg(seed(alloc))?
         .arg(calls(alloc))
+}
+
+fn cdecl<'a>(alloc: Global) -> Command<'a>
+    ensures shape { shape_of result ≡ cdecl_shape }
+    ensures local { (out-Command result).has_globals ≡ false }
+{
+    Command::new(alloc, "cdecl")
+        .about(help::CDECL_ABOUT)
+        .long_about(help::CDECL_LONG_ABOUT)
+        .after_help(help::CDECL_AFTER_HELP)
+}
+
+fn cplace<'a>(alloc: Global) -> Command<'a>
+    ensures shape { shape_of result ≡ cplace_shape }
+    ensures local { (out-Command result).has_globals ≡ false }
+{
+    Command::new(alloc, "cplace")
+        .about(help::CPLACE_ABOUT)
+        .long_about(help::CPLACE_LONG_ABOUT)
+        .after_help(help::CPLACE_AFTER_HELP)
 }
 
 // The option `--target`, which has to be one of these words.

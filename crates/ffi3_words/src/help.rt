@@ -8,9 +8,10 @@ pub const ABOUT: &str =
 pub const LONG_ABOUT: &str =
     "Show how C values are laid out, passed in calls, and called through closures.
 
-Every command but bench reads one script from standard input: a JSON text of at
+layout, place and run read one script from standard input: a JSON text of at
 most 1,048,576 bytes with C signatures, functions of these signatures, and a
-main function that makes closures of the functions and calls them. What a
+main function that makes closures of the functions and calls them. cdecl and
+cplace read the C declaration of one function, and bench reads nothing. What a
 command finds goes to standard output. Calls are made on a modelled machine, in
 software: no code of the host is called.";
 
@@ -22,9 +23,10 @@ pub const AFTER_HELP: &str = "Targets:
 
 Exit status:
   0  done
-  1  the script was refused: standard error has `ffi3: PATH: REASON`, where
+  1  the input was refused: standard error has `ffi3: PATH: REASON`, where
      PATH leads to the place in the script (or `ffi3: not JSON`, or
-     `ffi3: script too long`)
+     `ffi3: script too long`); of a declaration, `ffi3: at N: REASON`, where N
+     is the offset in bytes (or `ffi3: REASON`)
   2  the command line was refused, or asked for help or the version
   3  a read failed
   4  a write failed
@@ -35,7 +37,8 @@ Examples:
   ffi3 layout < examples/increment.json
   ffi3 place --target riscv < examples/increment.json
   ffi3 run --target amd64 < examples/increment.json
-  ffi3 bench --seed 1 --calls 2";
+  ffi3 bench --seed 1 --calls 2
+  echo 'int printf(const char *fmt, ...);' | ffi3 cdecl";
 
 pub const LAYOUT_ABOUT: &str = "Print the size, alignment and leaves of every type";
 
@@ -166,6 +169,75 @@ pub const BENCH_AFTER_HELP: &str = "Exit status:
 
 Example:
   ffi3 bench --seed 1 --calls 2";
+
+pub const CDECL_ABOUT: &str = "Read a C declaration, and print its signature and canonical text";
+
+pub const CDECL_LONG_ABOUT: &str =
+    "Read a C declaration, and print its signature and canonical text.
+
+Reads the declaration of one function from standard input, at most 1,048,576
+bytes, as `int printf(const char *fmt, ...);`. Writes two lines:
+
+  sint32(pointer;)
+  int32_t printf(void *, ...);
+
+The first is the signature, with a semicolon behind the fixed arguments where
+more may follow. The second is the declaration with the names of types that say
+their width, and with no names of parameters.
+
+A type is an integer, float, double, a pointer, or a struct that is written out
+with its members. int has 32 bits and long 64. Names of types are those that
+the language, <stdint.h> and size_t give; there are no other typedefs, no
+comments and no lines of the preprocessor. Nothing is run.";
+
+pub const CDECL_AFTER_HELP: &str = "Exit status:
+  0  done
+  1  the declaration was refused: standard error has `ffi3: at N: REASON`, where
+     N is the offset in bytes, or `ffi3: REASON`
+  2  the command line was refused, or asked for help or the version
+  3  a read failed
+  4  a write failed
+  5  out of memory
+
+Example:
+  echo 'int printf(const char *fmt, ...);' | ffi3 cdecl";
+
+pub const CPLACE_ABOUT: &str = "Read a C declaration, and print where a call has its values";
+
+pub const CPLACE_LONG_ABOUT: &str = "Read a C declaration, and print where a call has its values.
+
+Reads the declaration of one function from standard input, as cdecl does.
+Writes the two lines of cdecl, and then for each of the four targets its name
+and the lines that place writes of the signature:
+
+  sint32(pointer;)
+  int32_t printf(void *, ...);
+  target amd64
+  sig 0 need 80 frame 0 block 16 rax 0
+  arg 0 rdi:0+8
+  ret rax:0+4
+  ..
+
+place --help says how these lines are read, and cdecl --help what declarations
+there are. Nothing is run.";
+
+pub const CPLACE_AFTER_HELP: &str = "Targets:
+  amd64    System V psABI for AMD64
+  aapcs64  procedure call standard for the Arm 64-bit architecture
+  riscv    RISC-V psABI, LP64D
+  win64    Microsoft x64 calling convention
+
+Exit status:
+  0  done
+  1  the declaration was refused: standard error has `ffi3: at N: REASON`, where
+     N is the offset in bytes, or `ffi3: REASON`
+  2  the command line was refused, or asked for help or the version
+  3  a read failed
+  4  a write failed
+  5  out of memory
+
+Example:
+  echo 'double scale(struct { float x; float y; } p, int by);' | ffi3 cplace";
 
 pub const SEED_HELP: &str = "Make the script of this seed, from 0 to 4294967295";
 

@@ -2,7 +2,7 @@
 ghost use Rattle.std.specs.Prelude.{◌≡◌, IfOk, IfErr, Some, map, option_map, string_bytes};
 ghost use Rattle.clap.specs.Words.{subcommand_rows_of};
 ghost use Rattle.ffi3_words.specs.WordCommands.{asked, bench_of, is_set, number_of, request_of, target_of};
-ghost use Rattle.ffi3_words.specs.Words.{IsStated, Takes};
+ghost use Rattle.ffi3_words.specs.Words.{IsStated, Takes, target_word};
 ghost use Rattle.ffi3_words.specs.WordAnswers.{IsInRange, IsWordsRefusal, IsToldAs};
 
 use crate::command::program;
@@ -23,6 +23,10 @@ pub enum Request {
     Place { target: Target },
     /// A run on a modelled machine, with the lines of a trace or without.
     Run { target: Target, trace: bool },
+    /// The signature's text and the canonical text of a C declaration.
+    Cdecl,
+    /// The same, and the frame and the places on every target.
+    Cplace,
     /// The made script of a seed and a number of calls, from 1 to 1000, on amd64, aapcs64 and riscv.
     Bench { seed: u32, calls: u32 },
 }
@@ -85,6 +89,12 @@ fn named(
 {
     if name == "layout" {
         return Some(Request::Layout);
+    }
+    if name == "cdecl" {
+        return Some(Request::Cdecl);
+    }
+    if name == "cplace" {
+        return Some(Request::Cplace);
     }
     if name == "bench" {
         return bench_of(seed, calls);
@@ -155,6 +165,18 @@ fn target_of(word: &str) -> Option<Target>
         return Some(Target::Win64);
     }
     None
+}
+
+/// The name of a target.
+pub fn target_word(target: Target) -> &'static str
+    ensures { result.now ≡ target_word target }
+{
+    match target {
+        Target::Amd64 => "amd64",
+        Target::Aapcs64 => "aapcs64",
+        Target::Riscv => "riscv",
+        Target::Win64 => "win64",
+    }
 }
 
 // An error of `clap` as a fault.

@@ -7,6 +7,7 @@ use Rattle.ffi3_type_rules.proofs.Layouts.{least_multiple-above}
 use Rattle.ffi3_types.specs.TreeOf.{tree_of}
 use Rattle.ffi3_place_rules.specs.Standard.{block_bytes, frame_of, plan_of, round8}
 use Rattle.ffi3_type_rules.specs.declared.limits.TheConstants.{STACK_TOP}
+use Rattle.ffi3_pieces.specs.Passing.{passing}
 use Rattle.ffi3_pieces.proofs.Arguments.{lies_more}
 use Rattle.ffi3_body.specs.SeenActivation.{block_offset}
 use Rattle.ffi3_body.proofs.Blocks.{whole_within}
@@ -61,7 +62,7 @@ copy_argument-requires-clause-found g c =
     let t = tree_of c.argument-ty.result.now in
     let below : c.loop-i.i < length s.arguments = omega (arith, c.loop-i-test.true, c.count_of-i-end.ensures.value, ap (λ r. length r.arguments) c.sig-sig.ensures.value) in
     let type_is = c.argument-ty.ensures.element ∙ ap (λ r. tree_at r.arguments c.loop-i.i) c.sig-sig.ensures.value in
-    found_stays c.args.block (c.args.block + block_bytes s) c.args.base c.place.result.now c.args.machine.now c.loop-i.machine (omega (arith, c.requires.low, c.requires.below)) c.requires.below c.loop-i.invariant.only (found_at c.args.base c.args.machine.now (plan_of std s).places c.loop-i.i c.place.result.now c.place.ensures c.requires.found)
+    found_stays c.args.block (c.args.block + block_bytes s) c.args.base c.place.result.now (passing c.args.machine.now) (passing c.loop-i.machine) (omega (arith, c.requires.low, c.requires.below)) c.requires.below c.loop-i.invariant.only (found_at c.args.base (passing c.args.machine.now) (plan_of std s).places c.loop-i.i c.place.result.now c.place.ensures c.requires.found)
 
 pub overflow_add-to : goal.overflow_add-to
 overflow_add-to g c =
@@ -84,10 +85,10 @@ loop-i-preserved g c =
     let below : c.loop-i.i < length s.arguments = omega (arith, c.loop-i-test.true, c.count_of-i-end.ensures.value, ap (λ r. length r.arguments) c.sig-sig.ensures.value) in
     let type_is = c.argument-ty.ensures.element ∙ ap (λ r. tree_at r.arguments c.loop-i.i) c.sig-sig.ensures.value in
     let next_is : c.loop-i.to + c.round_up-to.result ≡ c.loop-i.to + round8 (size_of t) = ap (λ n. c.loop-i.to + n) (c.round_up-to.ensures.value ∙ ap round8 c.size_of.ensures.value) in
-    one_more_copied std s c.args.base c.args.block c.args.machine.now c.loop-i.i c.loop-i.to (c.loop-i.to + c.round_up-to.result) t c.place.result.now c.loop-i.machine c.copy_argument.new.machine c.requires.low c.requires.below c.requires.high c.sp-m.ensures.machine.stack sound c.sig-sig.ensures.faultless below type_is c.place.ensures next_is c.copy_argument.ensures.read c.copy_argument.ensures.only c.loop-i.invariant
+    one_more_copied std s c.args.base c.args.block (passing c.args.machine.now) c.loop-i.i c.loop-i.to (c.loop-i.to + c.round_up-to.result) t c.place.result.now (passing c.loop-i.machine) (passing c.copy_argument.new.machine) c.requires.low c.requires.below c.requires.high c.sp-m.ensures.machine.stack sound c.sig-sig.ensures.faultless below type_is c.place.ensures next_is c.copy_argument.ensures.read c.copy_argument.ensures.only c.loop-i.invariant
 
 pub returns-clause-values : goal.returns-clause-values
 returns-clause-values g c =
     let s = c.args.cif.now in
     let counted = ap (λ r. length r.arguments) c.sig-sig.ensures.value in
-    all_copied g.A.Abi.standard s c.args.base c.args.block c.args.machine.now c.loop-i.i c.loop-i.to c.loop-i.machine c.requires.low (omega (arith, counted, c.loop-i-test.false, c.count_of-i-end.ensures.value)) (omega (arith, counted, c.loop-i.auto.i-end, c.count_of-i-end.ensures.value)) c.loop-i.invariant
+    all_copied g.A.Abi.standard s c.args.base c.args.block (passing c.args.machine.now) c.loop-i.i c.loop-i.to (passing c.loop-i.machine) c.requires.low (omega (arith, counted, c.loop-i-test.false, c.count_of-i-end.ensures.value)) (omega (arith, counted, c.loop-i.auto.i-end, c.count_of-i-end.ensures.value)) c.loop-i.invariant

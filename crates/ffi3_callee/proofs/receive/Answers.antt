@@ -4,6 +4,7 @@ use Rattle.ffi3_type_rules.specs.Isa.{isa_of}
 use Rattle.ffi3_place_rules.specs.Holds.{OwnsArguments}
 use Rattle.ffi3_place_rules.specs.Standard.{frame_of, plan_of}
 use Rattle.ffi3_machine.specs.State.{scribbled_floating, scribbled_general}
+use Rattle.ffi3_pieces.specs.Passing.{by_exchange}
 use Rattle.ffi3_callee.specs.Loaded.{AreFound, image_from}
 use Rattle.ffi3_callee.specs.Received.{hidden_of}
 use Rattle.ffi3_callee.specs.Saved.{AreSaved}
@@ -13,6 +14,7 @@ use Rattle.ffi3_callee.proofs.Laws.{words_saveable}
 use Rattle.ffi3_callee.proofs.receive.Goals as goal
 
 pub hidden_word-address-requires-clause-lies : goal.hidden_word-address-requires-clause-lies
+unfolding by_exchange
 hidden_word-address-requires-clause-lies g c =
     let std = g.A.Abi.standard in
     let s = c.args.cif.now in
@@ -22,6 +24,7 @@ hidden_word-address-requires-clause-lies g c =
     hidden_lies std s m (c.sp-entry.result + c.LINK.result) c.hidden_place-hidden.result sound base (c.hidden_place-hidden.ensures ∙ ap hidden_of c.result_place.ensures) c.requires.frame
 
 pub save_words-requires-clause-hidden : goal.save_words-requires-clause-hidden
+unfolding by_exchange
 save_words-requires-clause-hidden g c =
     let std = g.A.Abi.standard in
     let s = c.args.cif.now in
@@ -31,14 +34,17 @@ save_words-requires-clause-hidden g c =
     hidden_lies std s m (c.sp-entry.result + c.LINK.result) c.hidden_place-hidden.result sound base (c.hidden_place-hidden.ensures ∙ ap hidden_of c.result_place.ensures) c.requires.frame
 
 pub save_words-requires-clause-below : goal.save_words-requires-clause-below
+unfolding by_exchange
 save_words-requires-clause-below g c =
     omega (arith, g.met.A.Abi.agrees.area, g.met.A.Abi.save_is, c.SAVE.ensures, c.sp-entry.ensures.value, c.requires.room)
 
 pub save_words-requires-clause-lie : goal.save_words-requires-clause-lie
+unfolding by_exchange
 save_words-requires-clause-lie g c =
     all_saveable (STACK_TOP - (c.sp-entry.result + c.LINK.result)) g.A.Abi.standard.save_area (words_saveable g.A.Abi.standard g.met.A.Abi.agrees)
 
 pub copy_arguments-requires-clause-found : goal.copy_arguments-requires-clause-found
+unfolding by_exchange
 copy_arguments-requires-clause-found g c =
     let std = g.A.Abi.standard in
     let s = c.args.cif.now in
@@ -51,6 +57,7 @@ copy_arguments-requires-clause-found g c =
     (found_between std s area block 0 m c.save_words.new.machine c.set_sp.new.self c.set_sp.new.self c.set_sp.new.self c.requires.room c.requires.frame g.met.A.Abi.agrees.area c.sp-entry.ensures.machine.stack there.area_is there.block_is c.save_words.ensures.only c.set_sp.ensures c.requires.some.0 sound c.sig-sig.ensures.faultless c.requires.some.1)
 
 pub returns-clause-received : goal.returns-clause-received
+unfolding by_exchange
 returns-clause-received g c =
     let std = g.A.Abi.standard in
     let s = c.args.cif.now in
@@ -67,6 +74,7 @@ returns-clause-received g c =
     (λ vs own. c.copy_arguments.ensures.values vs (subst (λ q. OwnsArguments (image_from q (frame_of std s) b) 0 s.arguments (plan_of std s).places vs) (sym there.base_is) own))
 
 pub returns-clause-incoming : goal.returns-clause-incoming
+unfolding by_exchange
 returns-clause-incoming g c =
     let std = g.A.Abi.standard in
     let s = c.args.cif.now in
@@ -84,6 +92,7 @@ returns-clause-incoming g c =
     }
 
 pub returns-clause-general : goal.returns-clause-general
+unfolding by_exchange
 returns-clause-general g c =
     let m = c.args.machine.now in
     let saves = c.save_words.ensures.only in
@@ -95,6 +104,7 @@ returns-clause-general g c =
     ap (λ q. q.general) c.scribble.ensures ∙ ap (λ t. scribbled_general (isa_of t) c.len-number.result c.copy_arguments.new.machine.general) target_is ∙ ap (λ n. scribbled_general (isa_of m.target) n c.copy_arguments.new.machine.general) number ∙ ap (scribbled_general (isa_of m.target) (length m.events)) general
 
 pub returns-clause-floating : goal.returns-clause-floating
+unfolding by_exchange
 returns-clause-floating g c =
     let m = c.args.machine.now in
     let saves = c.save_words.ensures.only in
@@ -104,6 +114,7 @@ returns-clause-floating g c =
     ap (λ q. q.floating) c.scribble.ensures ∙ ap scribbled_floating number
 
 pub returns-clause-reserved : goal.returns-clause-reserved
+unfolding by_exchange
 returns-clause-reserved g c = λ target.
     let std = g.A.Abi.standard in
     let saves = c.save_words.ensures.only in
@@ -112,5 +123,6 @@ returns-clause-reserved g c = λ target.
     reserved_received std g.met.A.Abi.agrees (c.sp-entry.result - c.SAVE.result - c.block.result) c.len-number.result c.args.machine.now c.save_words.new.machine c.set_sp.new.self c.copy_arguments.new.machine c.scribble.new.self target_is saves.general saves.floating c.set_sp.ensures copies.general copies.floating c.scribble.ensures
 
 pub returns-clause-block : goal.returns-clause-block
+unfolding by_exchange
 returns-clause-block g c =
     sym (ap (λ q. q.sp) c.scribble.ensures ∙ c.copy_arguments.ensures.only.sp ∙ ap (λ q. q.sp) c.set_sp.ensures)

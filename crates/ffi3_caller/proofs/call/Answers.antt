@@ -2,9 +2,10 @@ use Rattle.std.proofs.Common.{◌≡◌, ◌+◌, ◌-◌, ◌≤◌, length, sy
 use Rattle.ffi3_type_rules.specs.declared.limits.TheConstants.{STACK}
 use Rattle.ffi3_type_rules.specs.Isa.{isa_of}
 use Rattle.ffi3_place_rules.specs.Isa.{pushed_bytes}
-use Rattle.ffi3_place_rules.specs.Standard.{frame_of}
-use Rattle.ffi3_place_rules.specs.Holds.{Holds}
-use Rattle.ffi3_machine.specs.State.{image_of}
+use Rattle.ffi3_place_rules.specs.Standard.{frame_of, plan_of}
+use Rattle.ffi3_place_rules.specs.Holds.{FillArguments, Holds, OwnsArguments, OwnsHidden, RegisterHolds}
+use Rattle.ffi3_machine.specs.State.{State, image_of}
+use Rattle.ffi3_pieces.proofs.Passing.{passing_is}
 use Rattle.ffi3_caller.proofs.Pushing.{holds_after_call, pushed_is}
 use Rattle.ffi3_caller.proofs.call.Goals as goal
 
@@ -24,4 +25,4 @@ returns-clause-holds g c = λ values own fill address count.
     let m = c.args.machine.now in
     let sound = g.met.A.Abi.sound s c.sig-sig.ensures.faultless in
     let fits : m.sp - STACK + frame_of std s ≤ length m.stack = omega (arith, c.requires.room, c.requires.frame, c.sp-sp.ensures.machine.stack) in
-    subst (λ x. Holds std s values (image_of (std.link + frame_of std s) x)) (sym c.call.ensures.whole) (holds_after_call std s sound g.met.A.Abi.agrees c.args.addr m _ g.met.A.Abi.target_is c.requires.target c.requires.room fits values own fill address count)
+    subst (λ x. Holds std s values (image_of (std.link + frame_of std s) x)) (sym c.call.ensures.whole) (holds_after_call std s sound g.met.A.Abi.agrees c.args.addr m _ g.met.A.Abi.target_is c.requires.target c.requires.room fits values (subst (λ (x : State). OwnsArguments (image_of (frame_of std s) x) 0 s.arguments (plan_of std s).places values) (passing_is m) own) (subst (λ (x : State). FillArguments (image_of (frame_of std s) x) 0 s.arguments (plan_of std s).places values) (passing_is m) fill) (subst (λ (x : State). OwnsHidden (image_of (frame_of std s) x) 0 (plan_of std s).res) (passing_is m) address) (subst (λ (x : State). RegisterHolds (image_of (frame_of std s) x) std.vector_count (plan_of std s).vectors) (passing_is m) count))

@@ -2,6 +2,7 @@ use Rattle.std.proofs.Common.{subst, arith, rules}
 use Rattle.ffi3_types.specs.TreeOf.{tree_of}
 use Rattle.ffi3_values.specs.ValueOf.{value_of}
 use Rattle.ffi3_place_rules.specs.Sound.{IsExtended}
+use Rattle.ffi3_pieces.specs.Passing.{passing}
 use Rattle.ffi3_pieces.proofs.Filling.{narrow_number, narrow_small, free_stored, boxed_stored, widened_stored, from_32_stored}
 use Rattle.ffi3_pieces.proofs.fill_piece.Goals as goal
 
@@ -26,13 +27,13 @@ boxed-requires c =
     omega (arith, c.requires.part.within, c.requires.sized, four.1)
 
 pub returns-in-Free : goal.returns-in-Free
-returns-in-Free c = free_stored c.args.base c.args.bytes.now c.args.piece c.args.machine.now c.set_piece.new.machine (tree_of c.args.ty.now) (value_of c.args.value.now) c.in-Free.is c.set_piece.ensures
+returns-in-Free c = free_stored c.args.base c.args.bytes.now c.args.piece (passing c.args.machine.now) (passing c.set_piece.new.machine) (tree_of c.args.ty.now) (value_of c.args.value.now) c.in-Free.is c.set_piece.ensures
 
 pub returns-in-Widen : goal.returns-in-Widen
-returns-in-Widen c = widened_stored c.args.base c.args.bytes.now c.args.piece c.args.machine.now c.put_word.new.machine (search rules) (tree_of c.args.ty.now) (value_of c.args.value.now) c.widen.result c.in-Widen.is (subst (IsExtended (tree_of c.args.ty.now) c.args.piece) c.in-Widen.is c.requires.part.extended) c.requires.sized c.requires.reads c.widen.ensures c.put_word.ensures
+returns-in-Widen c = widened_stored c.args.base c.args.bytes.now c.args.piece (passing c.args.machine.now) (passing c.put_word.new.machine) (search rules) (tree_of c.args.ty.now) (value_of c.args.value.now) c.widen.result c.in-Widen.is (subst (IsExtended (tree_of c.args.ty.now) c.args.piece) c.in-Widen.is c.requires.part.extended) c.requires.sized c.requires.reads c.widen.ensures c.put_word.ensures
 
 pub returns-in-Riscv : goal.returns-in-Riscv
-returns-in-Riscv c = from_32_stored c.args.base c.args.bytes.now c.args.piece c.args.machine.now c.put_word-in-Riscv.new.machine (search rules) (tree_of c.args.ty.now) (value_of c.args.value.now) c.widen_from_32.result c.in-Riscv.is (subst (IsExtended (tree_of c.args.ty.now) c.args.piece) c.in-Riscv.is c.requires.part.extended) c.requires.sized c.requires.reads c.widen_from_32.ensures c.put_word-in-Riscv.ensures
+returns-in-Riscv c = from_32_stored c.args.base c.args.bytes.now c.args.piece (passing c.args.machine.now) (passing c.put_word-in-Riscv.new.machine) (search rules) (tree_of c.args.ty.now) (value_of c.args.value.now) c.widen_from_32.result c.in-Riscv.is (subst (IsExtended (tree_of c.args.ty.now) c.args.piece) c.in-Riscv.is c.requires.part.extended) c.requires.sized c.requires.reads c.widen_from_32.ensures c.put_word-in-Riscv.ensures
 
 pub returns-in-Boxed : goal.returns-in-Boxed
-returns-in-Boxed c = boxed_stored c.args.base c.args.bytes.now c.args.piece c.args.machine.now c.put_word-in-Boxed.new.machine (tree_of c.args.ty.now) (value_of c.args.value.now) c.boxed.result c.in-Boxed.is (subst (IsExtended (tree_of c.args.ty.now) c.args.piece) c.in-Boxed.is c.requires.part.extended).1 c.boxed.ensures.low c.boxed.ensures.high c.put_word-in-Boxed.ensures
+returns-in-Boxed c = boxed_stored c.args.base c.args.bytes.now c.args.piece (passing c.args.machine.now) (passing c.put_word-in-Boxed.new.machine) (tree_of c.args.ty.now) (value_of c.args.value.now) c.boxed.result c.in-Boxed.is (subst (IsExtended (tree_of c.args.ty.now) c.args.piece) c.in-Boxed.is c.requires.part.extended).1 c.boxed.ensures.low c.boxed.ensures.high c.put_word-in-Boxed.ensures

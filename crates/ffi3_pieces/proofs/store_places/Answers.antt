@@ -10,6 +10,7 @@ use Rattle.ffi3_place_rules.specs.Standard.{plan_of, frame_of}
 use Rattle.ffi3_place_rules.specs.Sound.{place_locs}
 use Rattle.ffi3_type_rules.specs.declared.limits.TheConstants.{STACK, STACK_TOP}
 use Rattle.ffi3_cif.specs.Runs.{AreRunsOf, pieces_of}
+use Rattle.ffi3_pieces.specs.Passing.{passing}
 use Rattle.ffi3_pieces.specs.Stored.{IsWritable}
 use Rattle.ffi3_pieces.specs.Standing.{AllStand, place_uses}
 use Rattle.ffi3_pieces.proofs.Lawful.{all_ready, apart_first, written_by_law}
@@ -23,7 +24,7 @@ loop-i-init g c =
     let s = c.args.cif.now in
     let sound = g.met.A.Abi.sound s c.sig-sig.ensures.faultless in
     let write = written_by_law std s sound g.met.A.Abi.agrees c.args.machine.now.target _ g.met.A.Abi.target_is c.requires.target in
-    none_yet c.sp-base.result c.args.machine.now.target (frame_of std s) s.arguments (plan_of std s).places c.args.values.now c.count_of-i.result c.args.machine.now (all_ready std s sound c.sig-sig.ensures.faultless c.args.machine.now.target write) (fitting_lengths s.arguments c.args.values.now c.requires.fit) (c.count_of-i.ensures.value ∙ ap (λ r. length r.arguments) c.sig-sig.ensures.value)
+    none_yet c.sp-base.result c.args.machine.now.target (frame_of std s) s.arguments (plan_of std s).places c.args.values.now c.count_of-i.result (passing c.args.machine.now) (all_ready std s sound c.sig-sig.ensures.faultless c.args.machine.now.target write) (fitting_lengths s.arguments c.args.values.now c.requires.fit) (c.count_of-i.ensures.value ∙ ap (λ r. length r.arguments) c.sig-sig.ensures.value)
 
 pub get-requires : goal.get-requires
 get-requires g c =
@@ -101,8 +102,8 @@ loop-i-preserved g c =
     let here = lawful_argument std s sound c.sig-sig.ensures.faultless c.sp-base.result c.args.machine.now.target c.args.values.now write c.requires.fit (c.loop-i.i - 1) t c.place.result.now (value_of c.get.result.now) below (c.argument.ensures.element ∙ ap (λ r. tree_at r.arguments (c.loop-i.i - 1)) c.sig-sig.ensures.value) c.place.ensures c.get.ensures.element in
     let low : STACK ≤ c.sp-base.result = omega (arith, c.sp-base.ensures.value, c.requires.bottom) in
     let back : c.loop-i.i ≡ c.loop-i.i - 1 + 1 = omega arith in
-    let before = subst (λ i. AllStored c.sp-base.result c.args.machine.now.target (frame_of std s) s.arguments (plan_of std s).places c.args.values.now i c.args.machine.now c.loop-i.machine) back c.loop-i.invariant in
-    argument_step c.sp-base.result c.args.machine.now.target (frame_of std s) s.arguments (plan_of std s).places c.args.values.now (c.loop-i.i - 1) t c.place.result.now (value_of c.get.result.now) c.args.machine.now c.loop-i.machine c.store_place.new.machine low here c.store_place.ensures.stands c.store_place.ensures.unused c.store_place.ensures.stays (c.store_place.ensures.within (frame_of std s) here.ready.lies) before
+    let before = subst (λ i. AllStored c.sp-base.result c.args.machine.now.target (frame_of std s) s.arguments (plan_of std s).places c.args.values.now i (passing c.args.machine.now) (passing c.loop-i.machine)) back c.loop-i.invariant in
+    argument_step c.sp-base.result c.args.machine.now.target (frame_of std s) s.arguments (plan_of std s).places c.args.values.now (c.loop-i.i - 1) t c.place.result.now (value_of c.get.result.now) (passing c.args.machine.now) (passing c.loop-i.machine) (passing c.store_place.new.machine) low here c.store_place.ensures.stands c.store_place.ensures.unused c.store_place.ensures.stays (c.store_place.ensures.within (frame_of std s) here.ready.lies) before
 
 pub returns-clause-own : goal.returns-clause-own
 returns-clause-own g c =
@@ -112,8 +113,8 @@ returns-clause-own g c =
     let write = written_by_law std s sound g.met.A.Abi.agrees c.args.machine.now.target _ g.met.A.Abi.target_is c.requires.target in
     let same : c.sp-base.result ≡ c.loop-i.machine.sp = c.sp-base.ensures.value ∙ sym c.loop-i.invariant.stays.sp in
     let low : STACK ≤ c.loop-i.machine.sp = omega (arith, same, c.sp-base.ensures.value, c.requires.bottom) in
-    let end = stored_at_end c.sp-base.result c.args.machine.now.target (frame_of std s) s.arguments (plan_of std s).places c.args.values.now c.loop-i.i c.args.machine.now c.loop-i.machine (omega arith) c.loop-i.invariant in
-    owned c.loop-i.machine (frame_of std s) low c.args.machine.now.target s.arguments (plan_of std s).places c.args.values.now (all_ready std s sound c.sig-sig.ensures.faultless c.args.machine.now.target write) c.requires.fit (subst (λ b. AllStand b c.loop-i.machine s.arguments (plan_of std s).places c.args.values.now) same end.stand)
+    let end = stored_at_end c.sp-base.result c.args.machine.now.target (frame_of std s) s.arguments (plan_of std s).places c.args.values.now c.loop-i.i (passing c.args.machine.now) (passing c.loop-i.machine) (omega arith) c.loop-i.invariant in
+    owned (passing c.loop-i.machine) (frame_of std s) low c.args.machine.now.target s.arguments (plan_of std s).places c.args.values.now (all_ready std s sound c.sig-sig.ensures.faultless c.args.machine.now.target write) c.requires.fit (subst (λ b. AllStand b (passing c.loop-i.machine) s.arguments (plan_of std s).places c.args.values.now) same end.stand)
 
 pub returns-clause-filled : goal.returns-clause-filled
 returns-clause-filled g c =
@@ -123,5 +124,5 @@ returns-clause-filled g c =
     let write = written_by_law std s sound g.met.A.Abi.agrees c.args.machine.now.target _ g.met.A.Abi.target_is c.requires.target in
     let same : c.sp-base.result ≡ c.loop-i.machine.sp = c.sp-base.ensures.value ∙ sym c.loop-i.invariant.stays.sp in
     let low : STACK ≤ c.loop-i.machine.sp = omega (arith, same, c.sp-base.ensures.value, c.requires.bottom) in
-    let end = stored_at_end c.sp-base.result c.args.machine.now.target (frame_of std s) s.arguments (plan_of std s).places c.args.values.now c.loop-i.i c.args.machine.now c.loop-i.machine (omega arith) c.loop-i.invariant in
-    filled c.loop-i.machine (frame_of std s) low c.args.machine.now.target s.arguments (plan_of std s).places c.args.values.now (all_ready std s sound c.sig-sig.ensures.faultless c.args.machine.now.target write) (subst (λ b. AllStand b c.loop-i.machine s.arguments (plan_of std s).places c.args.values.now) same end.stand)
+    let end = stored_at_end c.sp-base.result c.args.machine.now.target (frame_of std s) s.arguments (plan_of std s).places c.args.values.now c.loop-i.i (passing c.args.machine.now) (passing c.loop-i.machine) (omega arith) c.loop-i.invariant in
+    filled (passing c.loop-i.machine) (frame_of std s) low c.args.machine.now.target s.arguments (plan_of std s).places c.args.values.now (all_ready std s sound c.sig-sig.ensures.faultless c.args.machine.now.target write) (subst (λ b. AllStand b (passing c.loop-i.machine) s.arguments (plan_of std s).places c.args.values.now) same end.stand)

@@ -1,4 +1,4 @@
-use Rattle.ffi3_words.specs.declared.words.Request.TheVariants.{Layout, Place}
+use Rattle.ffi3_words.specs.declared.words.Request.TheVariants.{Layout, Place, Cdecl, Cplace}
 use Rattle.ffi3_ask.specs.Handed.{handed}
 use Rattle.ffi3_app.proofs.Working.{works_as}
 use Rattle.ffi3_app.proofs.work.work.Goals as goal
@@ -10,3 +10,11 @@ returns-in-Layout g c =
 pub returns-in-Place : goal.returns-in-Place
 returns-in-Place g c =
     works_as c.args.request (Place c.in-Place.target) (handed _ _ _ c.args.natives.now.items) c.args.bytes.now (g.O.Sink.state c.args.output.now) (g.O.Sink.state c.tell_place.new.output) c.args.machine.now c.args.machine.now c.tell_place.result c.in-Place.is (c.tell_place.ensures c.args.machine.now)
+
+pub returns-in-Cdecl : goal.returns-in-Cdecl
+returns-in-Cdecl g c =
+    works_as c.args.request Cdecl (handed _ _ _ c.args.natives.now.items) c.args.bytes.now (g.O.Sink.state c.args.output.now) (g.O.Sink.state c.tell_cdecl.new.output) c.args.machine.now c.args.machine.now c.tell_cdecl.result c.in-Cdecl.is (c.tell_cdecl.ensures c.args.machine.now)
+
+pub returns-in-Cplace : goal.returns-in-Cplace
+returns-in-Cplace g c =
+    works_as c.args.request Cplace (handed _ _ _ c.args.natives.now.items) c.args.bytes.now (g.O.Sink.state c.args.output.now) (g.O.Sink.state c.tell_cplace.new.output) c.args.machine.now c.args.machine.now c.tell_cplace.result c.in-Cplace.is (c.tell_cplace.ensures c.args.machine.now)

@@ -2,6 +2,7 @@ use Rattle.std.proofs.Common.{◌≡◌, ◌+◌, ◌-◌, subst, sym, arith}
 use Rattle.ffi3_values.specs.ValueOf.{value_of}
 use Rattle.ffi3_place_rules.specs.Holds.{HoldsResult}
 use Rattle.ffi3_place_rules.specs.Standard.{frame_of, plan_of}
+use Rattle.ffi3_pieces.specs.Passing.{passing}
 use Rattle.ffi3_callee.specs.Given.{IsAddressOf, IsSettable, ResultWrites, result_uses}
 use Rattle.ffi3_callee.specs.Loaded.{image_from}
 use Rattle.ffi3_callee.proofs.Keeping.{reserved_stay, uses_clear}
@@ -27,7 +28,7 @@ give-requires-clause-address g c =
 
 pub give-requires-clause-returned_settable : goal.give-requires-clause-returned_settable
 give-requires-clause-returned_settable g c =
-    let m = c.args.machine.now in
+    let m = passing c.args.machine.now in
     subst (IsSettable m.target) (sym c.returned_address-returned.ensures) (returned_settable g.A.Abi.standard m.target g.A.Abi.TARGET g.met.A.Abi.agrees g.met.A.Abi.target_is c.requires.target)
 
 pub give-requires-clause-result_writable : goal.give-requires-clause-result_writable
@@ -41,28 +42,28 @@ returns-clause-holds g c =
     let s = c.args.cif.now in
     let entry = c.args.incoming.now.entry in
     let base : c.entry.result + c.LINK.result ≡ entry + std.link = omega (arith, c.entry.ensures, c.LINK.ensures, g.met.A.Abi.link_is) in
-    subst (λ n. HoldsResult std s (value_of c.args.value.now) (image_from n (frame_of std s) c.give.new.machine)) base c.give.ensures.holds
+    subst (λ n. HoldsResult std s (value_of c.args.value.now) (image_from n (frame_of std s) (passing c.give.new.machine))) base c.give.ensures.holds
 
 pub returns-clause-reserved : goal.returns-clause-reserved
 returns-clause-reserved g c =
     let std = g.A.Abi.standard in
     let s = c.args.cif.now in
     let sound = g.met.A.Abi.sound s c.sig-sig.ensures.faultless in
-    reserved_stay std g.met.A.Abi.agrees (result_uses std (plan_of std s).res) c.args.machine.now c.give.new.machine (uses_clear std g.met.A.Abi.agrees (plan_of std s).res sound.result_allowed) c.give.ensures.registers
+    reserved_stay std g.met.A.Abi.agrees (result_uses std (plan_of std s).res) (passing c.args.machine.now) (passing c.give.new.machine) (uses_clear std g.met.A.Abi.agrees (plan_of std s).res sound.result_allowed) c.give.ensures.registers
 
 pub returns-clause-unused : goal.returns-clause-unused
 returns-clause-unused g c =
     let std = g.A.Abi.standard in
     let s = c.args.cif.now in
     let entry = c.args.incoming.now.entry in
-    keeps_from (c.entry.result + c.LINK.result) (entry + std.link) s.result_type (plan_of std s).res c.args.machine.now c.give.new.machine (omega (arith, c.entry.ensures, c.LINK.ensures, g.met.A.Abi.link_is)) c.give.ensures.unused
+    keeps_from (c.entry.result + c.LINK.result) (entry + std.link) s.result_type (plan_of std s).res (passing c.args.machine.now) (passing c.give.new.machine) (omega (arith, c.entry.ensures, c.LINK.ensures, g.met.A.Abi.link_is)) c.give.ensures.unused
 
 pub returns-clause-saved : goal.returns-clause-saved
 returns-clause-saved g c = λ start hidden entry_state saved.
     let std = g.A.Abi.standard in
     let s = c.args.cif.now in
     let incoming = c.requires.incoming in
-    saved_below (c.args.incoming.now.entry - std.save) (c.entry.result + c.LINK.result) start s.result_type (plan_of std s).res hidden std.save_area entry_state c.args.machine.now c.give.new.machine (omega (arith, c.entry.ensures, incoming.low, incoming.entry)) (omega (arith, c.entry.ensures, g.met.A.Abi.agrees.area, incoming.entry)) c.give.ensures.writes saved
+    saved_below (c.args.incoming.now.entry - std.save) (c.entry.result + c.LINK.result) start s.result_type (plan_of std s).res hidden std.save_area entry_state (passing c.args.machine.now) (passing c.give.new.machine) (omega (arith, c.entry.ensures, incoming.low, incoming.entry)) (omega (arith, c.entry.ensures, g.met.A.Abi.agrees.area, incoming.entry)) c.give.ensures.writes saved
 
 pub returns-clause-writes : goal.returns-clause-writes
 returns-clause-writes g c =
@@ -70,4 +71,4 @@ returns-clause-writes g c =
     let s = c.args.cif.now in
     let entry = c.args.incoming.now.entry in
     let base : c.entry.result + c.LINK.result ≡ entry + std.link = omega (arith, c.entry.ensures, c.LINK.ensures, g.met.A.Abi.link_is) in
-    subst (λ n. ResultWrites n s.result_type (plan_of std s).res c.args.machine.now c.give.new.machine) base c.give.ensures.writes
+    subst (λ n. ResultWrites n s.result_type (plan_of std s).res (passing c.args.machine.now) (passing c.give.new.machine)) base c.give.ensures.writes

@@ -6,4 +6,7 @@ use Rattle.ffi3_callee.proofs.saving.set_register.Goals as goal
 pub returns-clause-within : goal.returns-clause-within
 returns-clause-within c =
     let none : STACK_TOP + 0 ≡ STACK_TOP = omega arith in
-    subst (λ n. WroteWithin STACK_TOP n c.args.machine.now c.put_word.new.machine) none (c.put_word.ensures.within 0 c.requires.register.0)
+    subst (λ n. WroteWithin STACK_TOP n c.args.machine.now c.set_register.new.machine) none ((c.set_register.ensures.put STACK_TOP).within 0 c.requires.register.0)
+
+pub returns-clause-stays : goal.returns-clause-stays
+returns-clause-stays c = (c.set_register.ensures.put STACK_TOP).stays

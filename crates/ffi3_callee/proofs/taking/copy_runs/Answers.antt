@@ -1,5 +1,6 @@
-use Rattle.std.proofs.Common.{◌≡◌, ◌+◌, ◌-◌, ◌≤◌, drop, length, subst, arith}
+use Rattle.std.proofs.Common.{ap, ◌≡◌, ◌+◌, ◌-◌, ◌≤◌, drop, length, subst, arith}
 use Rattle.ffi3_type_rules.specs.declared.limits.TheConstants.{STACK, STACK_TOP}
+use Rattle.ffi3_pieces.specs.Passing.{passing}
 use Rattle.ffi3_pieces.specs.Runs.{RunLies}
 use Rattle.ffi3_pieces.proofs.Stepping.{each_drop, each_read}
 use Rattle.ffi3_callee.specs.Moved.{AreRunsMoved}
@@ -7,7 +8,7 @@ use Rattle.ffi3_callee.proofs.Moving.{all_runs_moved, move_run, no_run_moved}
 use Rattle.ffi3_callee.proofs.taking.copy_runs.Goals as goal
 
 pub loop-i-init : goal.loop-i-init
-loop-i-init c = no_run_moved c.args.base c.args.to c.requires.low c.requires.below c.args.runs.now c.len-i.result c.args.machine.now (omega arith)
+loop-i-init c = no_run_moved c.args.base c.args.to c.requires.low c.requires.below c.args.runs.now c.len-i.result (passing c.args.machine.now) (omega arith)
 
 pub copy_stack-requires-clause-from_high : goal.copy_stack-requires-clause-from_high
 copy_stack-requires-clause-from_high c =
@@ -23,11 +24,11 @@ pub loop-i-preserved : goal.loop-i-preserved
 loop-i-preserved c =
     let room = STACK_TOP - c.args.base in
     let back : c.loop-i.i ≡ c.loop-i.i - 1 + 1 = omega arith in
-    let before = subst (λ i. AreRunsMoved c.args.base c.args.to (drop i c.args.runs.now) c.args.machine.now c.loop-i.machine) back c.loop-i.invariant in
+    let before = subst (λ i. AreRunsMoved c.args.base c.args.to (drop i c.args.runs.now) (passing c.args.machine.now) (passing c.loop-i.machine)) back c.loop-i.invariant in
     let same = (c.loop-i.invariant.only room (c.args.base - c.args.to) (each_drop (RunLies room (c.args.base - c.args.to)) c.loop-i.i c.args.runs.now c.requires.lie)).within.size in
     let fits : c.args.base - STACK + (STACK_TOP - c.args.base) ≤ length c.loop-i.machine.stack = omega (arith, same, c.requires.low, c.requires.below, c.requires.high, c.sp-m.ensures.machine.stack) in
-    move_run c.args.base c.args.to c.requires.low c.requires.below c.args.runs.now (c.loop-i.i - 1) c.get-run.result room c.args.machine.now c.loop-i.machine c.copy_stack.new.self (omega arith) c.get-run.ensures c.requires.rising (each_drop (RunLies room (c.args.base - c.args.to)) (c.loop-i.i - 1) c.args.runs.now c.requires.lie) fits c.copy_stack.ensures before
+    move_run c.args.base c.args.to c.requires.low c.requires.below c.args.runs.now (c.loop-i.i - 1) c.get-run.result room (passing c.args.machine.now) (passing c.loop-i.machine) (passing c.copy_stack.new.self) (omega arith) c.get-run.ensures c.requires.rising (each_drop (RunLies room (c.args.base - c.args.to)) (c.loop-i.i - 1) c.args.runs.now c.requires.lie) fits (ap passing c.copy_stack.ensures) before
 
 pub returns : goal.returns
 returns c =
-    all_runs_moved c.args.base c.args.to c.requires.low c.requires.below c.args.runs.now c.loop-i.i c.args.machine.now c.loop-i.machine (omega arith) c.loop-i.invariant
+    all_runs_moved c.args.base c.args.to c.requires.low c.requires.below c.args.runs.now c.loop-i.i (passing c.args.machine.now) (passing c.loop-i.machine) (omega arith) c.loop-i.invariant

@@ -2,6 +2,7 @@ use Rattle.std.proofs.Common.{◌≡◌, ℕ, ◌+◌, ◌-◌, ◌<◌, ◌≤�
 use Rattle.ffi3_type_rules.specs.declared.limits.TheConstants.{STACK}
 use Rattle.ffi3_place_rules.specs.declared.Loc.{Loc}
 use Rattle.ffi3_machine.specs.State.{filled, scribbled, with_sp}
+use Rattle.ffi3_pieces.specs.Passing.{passing}
 use Rattle.ffi3_pieces.specs.Stored.{stack_byte, IsPlace, SameAt, WroteWithin}
 use Rattle.ffi3_caller.proofs.Calling.{filled_bytes, frame_begun, frame_registers, frame_within}
 use Rattle.ffi3_caller.proofs.store.begin_frame.Goals as goal
@@ -27,7 +28,7 @@ returns-clause-registers c =
     let sp = c.sp.result - c.args.frame in
     let n = length c.args.machine.now.events in
     let whole = frame_begun (length c.args.machine.now.events) c.len-number.result (c.sp.result - c.args.frame) c.args.frame 0xA5 c.args.machine.now c.scribble.new.self c.set_sp.new.self c.fill_stack.new.self (c.len-number.ensures ∙ ap (λ j. length j.events) c.events.ensures) c.scribble.ensures c.set_sp.ensures c.fill_stack.ensures in
-    subst (λ m. (l : Loc) → IsPlace 0 l → SameAt 0 l (scribbled n old) m) (sym whole) (λ l h. frame_registers n sp c.args.frame 0xA5 old l h)
+    subst (λ m. (l : Loc) → IsPlace 0 l → SameAt 0 l (passing (scribbled n old)) (passing m)) (sym whole) (λ l h. frame_registers sp c.args.frame 0xA5 (passing (scribbled n old)) l h)
 
 pub returns-clause-filled : goal.returns-clause-filled
 returns-clause-filled c =
@@ -47,4 +48,4 @@ returns-clause-within c =
     let whole = frame_begun (length c.args.machine.now.events) c.len-number.result (c.sp.result - c.args.frame) c.args.frame 0xA5 c.args.machine.now c.scribble.new.self c.set_sp.new.self c.fill_stack.new.self (c.len-number.ensures ∙ ap (λ j. length j.events) c.events.ensures) c.scribble.ensures c.set_sp.ensures c.fill_stack.ensures in
     let low : STACK ≤ c.sp.result - c.args.frame = omega (arith, c.sp.ensures.value, c.requires.bottom) in
     let fits : c.sp.result - c.args.frame - STACK + c.args.frame ≤ length c.args.machine.now.stack = omega (arith, c.sp.ensures.value, c.requires.bottom, c.requires.top, c.sp.ensures.machine.stack) in
-    subst (λ m. WroteWithin m.sp (m.sp + c.args.frame) old m) (sym whole) (frame_within n sp c.args.frame 0xA5 old low fits)
+    subst (λ m. WroteWithin m.sp (m.sp + c.args.frame) (passing (scribbled n old)) (passing m)) (sym whole) (frame_within sp c.args.frame 0xA5 (passing (scribbled n old)) low fits)

@@ -1,13 +1,17 @@
-use Rattle.std.proofs.Common.{◌≡◌, ◌+◌, ◌-◌, ◌<◌, ◌≤◌, ap, length, sym, subst, refl, ◌∙◌, arith}
+use Rattle.std.proofs.Common.{◌≡◌, ◌+◌, ◌++◌, ◌-◌, ◌<◌, ◌≤◌, ap, length, sym, subst, refl, ◌∙◌, arith}
 use Rattle.std.specs.List.{AllByRecursion, flat_map}
 use Rattle.ffi3_type_rules.specs.declared.limits.TheConstants.{STACK, STACK_TOP}
 use Rattle.ffi3_place_rules.specs.Standard.{plan_of, frame_of}
-use Rattle.ffi3_place_rules.specs.Sound.{hidden_locs, place_locs}
+use Rattle.ffi3_place_rules.specs.Sound.{IsNoneOf, argument_locs, hidden_locs, place_locs}
 use Rattle.ffi3_place_rules.specs.Isa.{listed}
 use Rattle.ffi3_machine.specs.State.{scribbled}
-use Rattle.ffi3_pieces.specs.Stored.{stack_byte, IsPlace, IsWritable, WroteWithin}
+use Rattle.ffi3_pieces.specs.Passing.{passing}
+use Rattle.ffi3_pieces.specs.Stored.{stack_byte, IsPlace, IsWritable, SameAt, WroteWithin}
 use Rattle.ffi3_pieces.specs.Standing.{AllKeepUnused}
 use Rattle.ffi3_caller.specs.Called.{with_frame}
+use Rattle.ffi3_place_rules.specs.declared.Loc.{Loc}
+use Rattle.ffi3_machine.specs.Scribbled.{length-scribbled_general, length-scribbled_floating}
+use Rattle.ffi3_pieces.proofs.Passing.{own_register}
 use Rattle.ffi3_pieces.proofs.Lawful.{each_first, written_by_law}
 use Rattle.ffi3_caller.proofs.Calling.{call_stored, call_within, count_is_register, count_is_written, hidden_lies, preserved_same, reserved_stays}
 use Rattle.ffi3_caller.proofs.store.store_args.Goals as goal
@@ -72,7 +76,7 @@ returns-clause-own g c =
     let write = written_by_law std s sound g.met.A.Abi.agrees m.target _ g.met.A.Abi.target_is c.requires.target in
     let registers = subst (λ k. AllByRecursion (IsPlace 0) (listed k)) (sym c.vector_count-count.ensures) (count_is_register std g.met.A.Abi.agrees) in
     let low : STACK ≤ c.sp-base.result = omega (arith, c.begin_frame.ensures.sp, c.frame.ensures, c.sp-base.ensures.value, c.requires.room) in
-    let all = call_stored std s sound c.sig-sig.ensures.faultless c.args.values.now m.target c.sp-base.result c.result_place.result.now c.vector_count-count.result c.vectors.result (scribbled (length m.events) m) c.begin_frame.new.machine c.store_places.new.machine c.store_hidden.new.machine c.put_count.new.machine c.sp-base.ensures.value low c.result_place.ensures c.vector_count-count.ensures c.vectors.ensures write registers c.requires.fit c.begin_frame.ensures.registers c.store_places.ensures.stand c.store_places.ensures.stays c.store_places.ensures.within c.store_places.ensures.unused c.store_hidden.ensures.stands c.store_hidden.ensures.stays c.store_hidden.ensures.within c.put_count.ensures.told c.put_count.ensures.stays c.put_count.ensures.within in
+    let all = call_stored std s sound c.sig-sig.ensures.faultless c.args.values.now m.target c.sp-base.result c.result_place.result.now c.vector_count-count.result c.vectors.result (passing (scribbled (length m.events) m)) (passing c.begin_frame.new.machine) (passing c.store_places.new.machine) (passing c.store_hidden.new.machine) (passing c.put_count.new.machine) c.sp-base.ensures.value low c.result_place.ensures c.vector_count-count.ensures c.vectors.ensures write registers c.requires.fit c.begin_frame.ensures.registers c.store_places.ensures.stand c.store_places.ensures.stays c.store_places.ensures.within c.store_places.ensures.unused c.store_hidden.ensures.stands c.store_hidden.ensures.stays c.store_hidden.ensures.within c.put_count.ensures.told c.put_count.ensures.stays c.put_count.ensures.within in
     all.own
 
 pub returns-clause-filled : goal.returns-clause-filled
@@ -84,7 +88,7 @@ returns-clause-filled g c =
     let write = written_by_law std s sound g.met.A.Abi.agrees m.target _ g.met.A.Abi.target_is c.requires.target in
     let registers = subst (λ k. AllByRecursion (IsPlace 0) (listed k)) (sym c.vector_count-count.ensures) (count_is_register std g.met.A.Abi.agrees) in
     let low : STACK ≤ c.sp-base.result = omega (arith, c.begin_frame.ensures.sp, c.frame.ensures, c.sp-base.ensures.value, c.requires.room) in
-    let all = call_stored std s sound c.sig-sig.ensures.faultless c.args.values.now m.target c.sp-base.result c.result_place.result.now c.vector_count-count.result c.vectors.result (scribbled (length m.events) m) c.begin_frame.new.machine c.store_places.new.machine c.store_hidden.new.machine c.put_count.new.machine c.sp-base.ensures.value low c.result_place.ensures c.vector_count-count.ensures c.vectors.ensures write registers c.requires.fit c.begin_frame.ensures.registers c.store_places.ensures.stand c.store_places.ensures.stays c.store_places.ensures.within c.store_places.ensures.unused c.store_hidden.ensures.stands c.store_hidden.ensures.stays c.store_hidden.ensures.within c.put_count.ensures.told c.put_count.ensures.stays c.put_count.ensures.within in
+    let all = call_stored std s sound c.sig-sig.ensures.faultless c.args.values.now m.target c.sp-base.result c.result_place.result.now c.vector_count-count.result c.vectors.result (passing (scribbled (length m.events) m)) (passing c.begin_frame.new.machine) (passing c.store_places.new.machine) (passing c.store_hidden.new.machine) (passing c.put_count.new.machine) c.sp-base.ensures.value low c.result_place.ensures c.vector_count-count.ensures c.vectors.ensures write registers c.requires.fit c.begin_frame.ensures.registers c.store_places.ensures.stand c.store_places.ensures.stays c.store_places.ensures.within c.store_places.ensures.unused c.store_hidden.ensures.stands c.store_hidden.ensures.stays c.store_hidden.ensures.within c.put_count.ensures.told c.put_count.ensures.stays c.put_count.ensures.within in
     all.filled
 
 pub returns-clause-hidden : goal.returns-clause-hidden
@@ -96,7 +100,7 @@ returns-clause-hidden g c =
     let write = written_by_law std s sound g.met.A.Abi.agrees m.target _ g.met.A.Abi.target_is c.requires.target in
     let registers = subst (λ k. AllByRecursion (IsPlace 0) (listed k)) (sym c.vector_count-count.ensures) (count_is_register std g.met.A.Abi.agrees) in
     let low : STACK ≤ c.sp-base.result = omega (arith, c.begin_frame.ensures.sp, c.frame.ensures, c.sp-base.ensures.value, c.requires.room) in
-    let all = call_stored std s sound c.sig-sig.ensures.faultless c.args.values.now m.target c.sp-base.result c.result_place.result.now c.vector_count-count.result c.vectors.result (scribbled (length m.events) m) c.begin_frame.new.machine c.store_places.new.machine c.store_hidden.new.machine c.put_count.new.machine c.sp-base.ensures.value low c.result_place.ensures c.vector_count-count.ensures c.vectors.ensures write registers c.requires.fit c.begin_frame.ensures.registers c.store_places.ensures.stand c.store_places.ensures.stays c.store_places.ensures.within c.store_places.ensures.unused c.store_hidden.ensures.stands c.store_hidden.ensures.stays c.store_hidden.ensures.within c.put_count.ensures.told c.put_count.ensures.stays c.put_count.ensures.within in
+    let all = call_stored std s sound c.sig-sig.ensures.faultless c.args.values.now m.target c.sp-base.result c.result_place.result.now c.vector_count-count.result c.vectors.result (passing (scribbled (length m.events) m)) (passing c.begin_frame.new.machine) (passing c.store_places.new.machine) (passing c.store_hidden.new.machine) (passing c.put_count.new.machine) c.sp-base.ensures.value low c.result_place.ensures c.vector_count-count.ensures c.vectors.ensures write registers c.requires.fit c.begin_frame.ensures.registers c.store_places.ensures.stand c.store_places.ensures.stays c.store_places.ensures.within c.store_places.ensures.unused c.store_hidden.ensures.stands c.store_hidden.ensures.stays c.store_hidden.ensures.within c.put_count.ensures.told c.put_count.ensures.stays c.put_count.ensures.within in
     all.hidden
 
 pub returns-clause-vectors : goal.returns-clause-vectors
@@ -108,7 +112,7 @@ returns-clause-vectors g c =
     let write = written_by_law std s sound g.met.A.Abi.agrees m.target _ g.met.A.Abi.target_is c.requires.target in
     let registers = subst (λ k. AllByRecursion (IsPlace 0) (listed k)) (sym c.vector_count-count.ensures) (count_is_register std g.met.A.Abi.agrees) in
     let low : STACK ≤ c.sp-base.result = omega (arith, c.begin_frame.ensures.sp, c.frame.ensures, c.sp-base.ensures.value, c.requires.room) in
-    let all = call_stored std s sound c.sig-sig.ensures.faultless c.args.values.now m.target c.sp-base.result c.result_place.result.now c.vector_count-count.result c.vectors.result (scribbled (length m.events) m) c.begin_frame.new.machine c.store_places.new.machine c.store_hidden.new.machine c.put_count.new.machine c.sp-base.ensures.value low c.result_place.ensures c.vector_count-count.ensures c.vectors.ensures write registers c.requires.fit c.begin_frame.ensures.registers c.store_places.ensures.stand c.store_places.ensures.stays c.store_places.ensures.within c.store_places.ensures.unused c.store_hidden.ensures.stands c.store_hidden.ensures.stays c.store_hidden.ensures.within c.put_count.ensures.told c.put_count.ensures.stays c.put_count.ensures.within in
+    let all = call_stored std s sound c.sig-sig.ensures.faultless c.args.values.now m.target c.sp-base.result c.result_place.result.now c.vector_count-count.result c.vectors.result (passing (scribbled (length m.events) m)) (passing c.begin_frame.new.machine) (passing c.store_places.new.machine) (passing c.store_hidden.new.machine) (passing c.put_count.new.machine) c.sp-base.ensures.value low c.result_place.ensures c.vector_count-count.ensures c.vectors.ensures write registers c.requires.fit c.begin_frame.ensures.registers c.store_places.ensures.stand c.store_places.ensures.stays c.store_places.ensures.within c.store_places.ensures.unused c.store_hidden.ensures.stands c.store_hidden.ensures.stays c.store_hidden.ensures.within c.put_count.ensures.told c.put_count.ensures.stays c.put_count.ensures.within in
     all.vectors
 
 pub returns-clause-unused : goal.returns-clause-unused
@@ -120,11 +124,11 @@ returns-clause-unused g c =
     let write = written_by_law std s sound g.met.A.Abi.agrees m.target _ g.met.A.Abi.target_is c.requires.target in
     let registers = subst (λ k. AllByRecursion (IsPlace 0) (listed k)) (sym c.vector_count-count.ensures) (count_is_register std g.met.A.Abi.agrees) in
     let low : STACK ≤ c.sp-base.result = omega (arith, c.begin_frame.ensures.sp, c.frame.ensures, c.sp-base.ensures.value, c.requires.room) in
-    let all = call_stored std s sound c.sig-sig.ensures.faultless c.args.values.now m.target c.sp-base.result c.result_place.result.now c.vector_count-count.result c.vectors.result (scribbled (length m.events) m) c.begin_frame.new.machine c.store_places.new.machine c.store_hidden.new.machine c.put_count.new.machine c.sp-base.ensures.value low c.result_place.ensures c.vector_count-count.ensures c.vectors.ensures write registers c.requires.fit c.begin_frame.ensures.registers c.store_places.ensures.stand c.store_places.ensures.stays c.store_places.ensures.within c.store_places.ensures.unused c.store_hidden.ensures.stands c.store_hidden.ensures.stays c.store_hidden.ensures.within c.put_count.ensures.told c.put_count.ensures.stays c.put_count.ensures.within in
-    let o = c.begin_frame.new.machine in
-    let d = c.put_count.new.machine in
-    subst (λ low. AllKeepUnused low (with_frame (frame_of std s) m) d s.arguments (plan_of std s).places) (sym all.sp)
-    (subst (λ x. AllKeepUnused o.sp x d s.arguments (plan_of std s).places) (c.begin_frame.ensures.opened ∙ ap (λ n. with_frame n m) c.frame.ensures) all.unused)
+    let all = call_stored std s sound c.sig-sig.ensures.faultless c.args.values.now m.target c.sp-base.result c.result_place.result.now c.vector_count-count.result c.vectors.result (passing (scribbled (length m.events) m)) (passing c.begin_frame.new.machine) (passing c.store_places.new.machine) (passing c.store_hidden.new.machine) (passing c.put_count.new.machine) c.sp-base.ensures.value low c.result_place.ensures c.vector_count-count.ensures c.vectors.ensures write registers c.requires.fit c.begin_frame.ensures.registers c.store_places.ensures.stand c.store_places.ensures.stays c.store_places.ensures.within c.store_places.ensures.unused c.store_hidden.ensures.stands c.store_hidden.ensures.stays c.store_hidden.ensures.within c.put_count.ensures.told c.put_count.ensures.stays c.put_count.ensures.within in
+    let o = passing c.begin_frame.new.machine in
+    let d = passing c.put_count.new.machine in
+    subst (λ low. AllKeepUnused low (passing (with_frame (frame_of std s) m)) d s.arguments (plan_of std s).places) (sym all.sp)
+    (subst (λ x. AllKeepUnused o.sp x d s.arguments (plan_of std s).places) (ap passing (c.begin_frame.ensures.opened ∙ ap (λ n. with_frame n m) c.frame.ensures)) all.unused)
 
 pub returns-clause-others : goal.returns-clause-others
 returns-clause-others g c =
@@ -135,8 +139,11 @@ returns-clause-others g c =
     let write = written_by_law std s sound g.met.A.Abi.agrees m.target _ g.met.A.Abi.target_is c.requires.target in
     let registers = subst (λ k. AllByRecursion (IsPlace 0) (listed k)) (sym c.vector_count-count.ensures) (count_is_register std g.met.A.Abi.agrees) in
     let low : STACK ≤ c.sp-base.result = omega (arith, c.begin_frame.ensures.sp, c.frame.ensures, c.sp-base.ensures.value, c.requires.room) in
-    let all = call_stored std s sound c.sig-sig.ensures.faultless c.args.values.now m.target c.sp-base.result c.result_place.result.now c.vector_count-count.result c.vectors.result (scribbled (length m.events) m) c.begin_frame.new.machine c.store_places.new.machine c.store_hidden.new.machine c.put_count.new.machine c.sp-base.ensures.value low c.result_place.ensures c.vector_count-count.ensures c.vectors.ensures write registers c.requires.fit c.begin_frame.ensures.registers c.store_places.ensures.stand c.store_places.ensures.stays c.store_places.ensures.within c.store_places.ensures.unused c.store_hidden.ensures.stands c.store_hidden.ensures.stays c.store_hidden.ensures.within c.put_count.ensures.told c.put_count.ensures.stays c.put_count.ensures.within in
-    all.others
+    let all = call_stored std s sound c.sig-sig.ensures.faultless c.args.values.now m.target c.sp-base.result c.result_place.result.now c.vector_count-count.result c.vectors.result (passing (scribbled (length m.events) m)) (passing c.begin_frame.new.machine) (passing c.store_places.new.machine) (passing c.store_hidden.new.machine) (passing c.put_count.new.machine) c.sp-base.ensures.value low c.result_place.ensures c.vector_count-count.ensures c.vectors.ensures write registers c.requires.fit c.begin_frame.ensures.registers c.store_places.ensures.stand c.store_places.ensures.stays c.store_places.ensures.within c.store_places.ensures.unused c.store_hidden.ensures.stands c.store_hidden.ensures.stays c.store_hidden.ensures.within c.put_count.ensures.told c.put_count.ensures.stays c.put_count.ensures.within in
+    let wrote = (call_within (frame_of std s) (passing (scribbled (length m.events) m)) (passing c.begin_frame.new.machine) (passing c.put_count.new.machine) (subst (λ n. c.begin_frame.new.machine.sp + n ≡ m.sp) c.frame.ensures c.begin_frame.ensures.sp) (subst (λ n. WroteWithin c.begin_frame.new.machine.sp (c.begin_frame.new.machine.sp + n) (passing (scribbled (length m.events) m)) (passing c.begin_frame.new.machine)) c.frame.ensures c.begin_frame.ensures.within) all.sp all.within) in
+    let own : (l : Loc) → IsPlace 0 l → IsNoneOf (argument_locs (plan_of std s) ++ listed std.vector_count) l → SameAt 0 l (scribbled (length m.events) m) c.put_count.new.machine = λ l h none.
+    own_register l (scribbled (length m.events) m) c.put_count.new.machine h wrote.target (length-scribbled_general _ _ _ ∙ sym c.sp-last.ensures.machine.general) (length-scribbled_floating _ ∙ sym c.sp-last.ensures.machine.floating) (all.others l h none) wrote.exchange in
+    own
 
 pub returns-clause-free : goal.returns-clause-free
 returns-clause-free g c =
@@ -147,7 +154,7 @@ returns-clause-free g c =
     let write = written_by_law std s sound g.met.A.Abi.agrees m.target _ g.met.A.Abi.target_is c.requires.target in
     let registers = subst (λ k. AllByRecursion (IsPlace 0) (listed k)) (sym c.vector_count-count.ensures) (count_is_register std g.met.A.Abi.agrees) in
     let low : STACK ≤ c.sp-base.result = omega (arith, c.begin_frame.ensures.sp, c.frame.ensures, c.sp-base.ensures.value, c.requires.room) in
-    let all = call_stored std s sound c.sig-sig.ensures.faultless c.args.values.now m.target c.sp-base.result c.result_place.result.now c.vector_count-count.result c.vectors.result (scribbled (length m.events) m) c.begin_frame.new.machine c.store_places.new.machine c.store_hidden.new.machine c.put_count.new.machine c.sp-base.ensures.value low c.result_place.ensures c.vector_count-count.ensures c.vectors.ensures write registers c.requires.fit c.begin_frame.ensures.registers c.store_places.ensures.stand c.store_places.ensures.stays c.store_places.ensures.within c.store_places.ensures.unused c.store_hidden.ensures.stands c.store_hidden.ensures.stays c.store_hidden.ensures.within c.put_count.ensures.told c.put_count.ensures.stays c.put_count.ensures.within in
+    let all = call_stored std s sound c.sig-sig.ensures.faultless c.args.values.now m.target c.sp-base.result c.result_place.result.now c.vector_count-count.result c.vectors.result (passing (scribbled (length m.events) m)) (passing c.begin_frame.new.machine) (passing c.store_places.new.machine) (passing c.store_hidden.new.machine) (passing c.put_count.new.machine) c.sp-base.ensures.value low c.result_place.ensures c.vector_count-count.ensures c.vectors.ensures write registers c.requires.fit c.begin_frame.ensures.registers c.store_places.ensures.stand c.store_places.ensures.stays c.store_places.ensures.within c.store_places.ensures.unused c.store_hidden.ensures.stands c.store_hidden.ensures.stays c.store_hidden.ensures.within c.put_count.ensures.told c.put_count.ensures.stays c.put_count.ensures.within in
     λ at k room none below.
     let o = c.begin_frame.new.machine in
     let d = c.put_count.new.machine in
@@ -165,7 +172,7 @@ returns-clause-sp g c =
     let write = written_by_law std s sound g.met.A.Abi.agrees m.target _ g.met.A.Abi.target_is c.requires.target in
     let registers = subst (λ k. AllByRecursion (IsPlace 0) (listed k)) (sym c.vector_count-count.ensures) (count_is_register std g.met.A.Abi.agrees) in
     let low : STACK ≤ c.sp-base.result = omega (arith, c.begin_frame.ensures.sp, c.frame.ensures, c.sp-base.ensures.value, c.requires.room) in
-    let all = call_stored std s sound c.sig-sig.ensures.faultless c.args.values.now m.target c.sp-base.result c.result_place.result.now c.vector_count-count.result c.vectors.result (scribbled (length m.events) m) c.begin_frame.new.machine c.store_places.new.machine c.store_hidden.new.machine c.put_count.new.machine c.sp-base.ensures.value low c.result_place.ensures c.vector_count-count.ensures c.vectors.ensures write registers c.requires.fit c.begin_frame.ensures.registers c.store_places.ensures.stand c.store_places.ensures.stays c.store_places.ensures.within c.store_places.ensures.unused c.store_hidden.ensures.stands c.store_hidden.ensures.stays c.store_hidden.ensures.within c.put_count.ensures.told c.put_count.ensures.stays c.put_count.ensures.within in
+    let all = call_stored std s sound c.sig-sig.ensures.faultless c.args.values.now m.target c.sp-base.result c.result_place.result.now c.vector_count-count.result c.vectors.result (passing (scribbled (length m.events) m)) (passing c.begin_frame.new.machine) (passing c.store_places.new.machine) (passing c.store_hidden.new.machine) (passing c.put_count.new.machine) c.sp-base.ensures.value low c.result_place.ensures c.vector_count-count.ensures c.vectors.ensures write registers c.requires.fit c.begin_frame.ensures.registers c.store_places.ensures.stand c.store_places.ensures.stays c.store_places.ensures.within c.store_places.ensures.unused c.store_hidden.ensures.stands c.store_hidden.ensures.stays c.store_hidden.ensures.within c.put_count.ensures.told c.put_count.ensures.stays c.put_count.ensures.within in
     omega (arith, all.sp, c.begin_frame.ensures.sp, c.frame.ensures)
 
 pub returns-clause-preserved : goal.returns-clause-preserved
@@ -177,8 +184,11 @@ returns-clause-preserved g c =
     let write = written_by_law std s sound g.met.A.Abi.agrees m.target _ g.met.A.Abi.target_is c.requires.target in
     let registers = subst (λ k. AllByRecursion (IsPlace 0) (listed k)) (sym c.vector_count-count.ensures) (count_is_register std g.met.A.Abi.agrees) in
     let low : STACK ≤ c.sp-base.result = omega (arith, c.begin_frame.ensures.sp, c.frame.ensures, c.sp-base.ensures.value, c.requires.room) in
-    let all = call_stored std s sound c.sig-sig.ensures.faultless c.args.values.now m.target c.sp-base.result c.result_place.result.now c.vector_count-count.result c.vectors.result (scribbled (length m.events) m) c.begin_frame.new.machine c.store_places.new.machine c.store_hidden.new.machine c.put_count.new.machine c.sp-base.ensures.value low c.result_place.ensures c.vector_count-count.ensures c.vectors.ensures write registers c.requires.fit c.begin_frame.ensures.registers c.store_places.ensures.stand c.store_places.ensures.stays c.store_places.ensures.within c.store_places.ensures.unused c.store_hidden.ensures.stands c.store_hidden.ensures.stays c.store_hidden.ensures.within c.put_count.ensures.told c.put_count.ensures.stays c.put_count.ensures.within in
-    preserved_same std g.met.A.Abi.agrees s sound (scribbled (length m.events) m) c.put_count.new.machine all.others
+    let all = call_stored std s sound c.sig-sig.ensures.faultless c.args.values.now m.target c.sp-base.result c.result_place.result.now c.vector_count-count.result c.vectors.result (passing (scribbled (length m.events) m)) (passing c.begin_frame.new.machine) (passing c.store_places.new.machine) (passing c.store_hidden.new.machine) (passing c.put_count.new.machine) c.sp-base.ensures.value low c.result_place.ensures c.vector_count-count.ensures c.vectors.ensures write registers c.requires.fit c.begin_frame.ensures.registers c.store_places.ensures.stand c.store_places.ensures.stays c.store_places.ensures.within c.store_places.ensures.unused c.store_hidden.ensures.stands c.store_hidden.ensures.stays c.store_hidden.ensures.within c.put_count.ensures.told c.put_count.ensures.stays c.put_count.ensures.within in
+    let wrote = (call_within (frame_of std s) (passing (scribbled (length m.events) m)) (passing c.begin_frame.new.machine) (passing c.put_count.new.machine) (subst (λ n. c.begin_frame.new.machine.sp + n ≡ m.sp) c.frame.ensures c.begin_frame.ensures.sp) (subst (λ n. WroteWithin c.begin_frame.new.machine.sp (c.begin_frame.new.machine.sp + n) (passing (scribbled (length m.events) m)) (passing c.begin_frame.new.machine)) c.frame.ensures c.begin_frame.ensures.within) all.sp all.within) in
+    let own : (l : Loc) → IsPlace 0 l → IsNoneOf (argument_locs (plan_of std s) ++ listed std.vector_count) l → SameAt 0 l (scribbled (length m.events) m) c.put_count.new.machine = λ l h none.
+    own_register l (scribbled (length m.events) m) c.put_count.new.machine h wrote.target (length-scribbled_general _ _ _ ∙ sym c.sp-last.ensures.machine.general) (length-scribbled_floating _ ∙ sym c.sp-last.ensures.machine.floating) (all.others l h none) wrote.exchange in
+    preserved_same std g.met.A.Abi.agrees s sound (scribbled (length m.events) m) c.put_count.new.machine own
 
 pub returns-clause-reserved : goal.returns-clause-reserved
 returns-clause-reserved g c =
@@ -189,8 +199,11 @@ returns-clause-reserved g c =
     let write = written_by_law std s sound g.met.A.Abi.agrees m.target _ g.met.A.Abi.target_is c.requires.target in
     let registers = subst (λ k. AllByRecursion (IsPlace 0) (listed k)) (sym c.vector_count-count.ensures) (count_is_register std g.met.A.Abi.agrees) in
     let low : STACK ≤ c.sp-base.result = omega (arith, c.begin_frame.ensures.sp, c.frame.ensures, c.sp-base.ensures.value, c.requires.room) in
-    let all = call_stored std s sound c.sig-sig.ensures.faultless c.args.values.now m.target c.sp-base.result c.result_place.result.now c.vector_count-count.result c.vectors.result (scribbled (length m.events) m) c.begin_frame.new.machine c.store_places.new.machine c.store_hidden.new.machine c.put_count.new.machine c.sp-base.ensures.value low c.result_place.ensures c.vector_count-count.ensures c.vectors.ensures write registers c.requires.fit c.begin_frame.ensures.registers c.store_places.ensures.stand c.store_places.ensures.stays c.store_places.ensures.within c.store_places.ensures.unused c.store_hidden.ensures.stands c.store_hidden.ensures.stays c.store_hidden.ensures.within c.put_count.ensures.told c.put_count.ensures.stays c.put_count.ensures.within in
-    reserved_stays std g.met.A.Abi.agrees s sound (scribbled (length m.events) m) c.put_count.new.machine all.others (length m.events) m _ refl g.met.A.Abi.target_is c.requires.target
+    let all = call_stored std s sound c.sig-sig.ensures.faultless c.args.values.now m.target c.sp-base.result c.result_place.result.now c.vector_count-count.result c.vectors.result (passing (scribbled (length m.events) m)) (passing c.begin_frame.new.machine) (passing c.store_places.new.machine) (passing c.store_hidden.new.machine) (passing c.put_count.new.machine) c.sp-base.ensures.value low c.result_place.ensures c.vector_count-count.ensures c.vectors.ensures write registers c.requires.fit c.begin_frame.ensures.registers c.store_places.ensures.stand c.store_places.ensures.stays c.store_places.ensures.within c.store_places.ensures.unused c.store_hidden.ensures.stands c.store_hidden.ensures.stays c.store_hidden.ensures.within c.put_count.ensures.told c.put_count.ensures.stays c.put_count.ensures.within in
+    let wrote = (call_within (frame_of std s) (passing (scribbled (length m.events) m)) (passing c.begin_frame.new.machine) (passing c.put_count.new.machine) (subst (λ n. c.begin_frame.new.machine.sp + n ≡ m.sp) c.frame.ensures c.begin_frame.ensures.sp) (subst (λ n. WroteWithin c.begin_frame.new.machine.sp (c.begin_frame.new.machine.sp + n) (passing (scribbled (length m.events) m)) (passing c.begin_frame.new.machine)) c.frame.ensures c.begin_frame.ensures.within) all.sp all.within) in
+    let own : (l : Loc) → IsPlace 0 l → IsNoneOf (argument_locs (plan_of std s) ++ listed std.vector_count) l → SameAt 0 l (scribbled (length m.events) m) c.put_count.new.machine = λ l h none.
+    own_register l (scribbled (length m.events) m) c.put_count.new.machine h wrote.target (length-scribbled_general _ _ _ ∙ sym c.sp-last.ensures.machine.general) (length-scribbled_floating _ ∙ sym c.sp-last.ensures.machine.floating) (all.others l h none) wrote.exchange in
+    reserved_stays std g.met.A.Abi.agrees s sound (scribbled (length m.events) m) c.put_count.new.machine own (length m.events) m _ refl g.met.A.Abi.target_is c.requires.target
 
 pub returns-clause-within : goal.returns-clause-within
 returns-clause-within g c =
@@ -201,5 +214,5 @@ returns-clause-within g c =
     let write = written_by_law std s sound g.met.A.Abi.agrees m.target _ g.met.A.Abi.target_is c.requires.target in
     let registers = subst (λ k. AllByRecursion (IsPlace 0) (listed k)) (sym c.vector_count-count.ensures) (count_is_register std g.met.A.Abi.agrees) in
     let low : STACK ≤ c.sp-base.result = omega (arith, c.begin_frame.ensures.sp, c.frame.ensures, c.sp-base.ensures.value, c.requires.room) in
-    let all = call_stored std s sound c.sig-sig.ensures.faultless c.args.values.now m.target c.sp-base.result c.result_place.result.now c.vector_count-count.result c.vectors.result (scribbled (length m.events) m) c.begin_frame.new.machine c.store_places.new.machine c.store_hidden.new.machine c.put_count.new.machine c.sp-base.ensures.value low c.result_place.ensures c.vector_count-count.ensures c.vectors.ensures write registers c.requires.fit c.begin_frame.ensures.registers c.store_places.ensures.stand c.store_places.ensures.stays c.store_places.ensures.within c.store_places.ensures.unused c.store_hidden.ensures.stands c.store_hidden.ensures.stays c.store_hidden.ensures.within c.put_count.ensures.told c.put_count.ensures.stays c.put_count.ensures.within in
-    call_within (frame_of std s) m c.begin_frame.new.machine c.put_count.new.machine (subst (λ n. c.begin_frame.new.machine.sp + n ≡ m.sp) c.frame.ensures c.begin_frame.ensures.sp) (subst (λ n. WroteWithin c.begin_frame.new.machine.sp (c.begin_frame.new.machine.sp + n) m c.begin_frame.new.machine) c.frame.ensures c.begin_frame.ensures.within) all.sp all.within
+    let all = call_stored std s sound c.sig-sig.ensures.faultless c.args.values.now m.target c.sp-base.result c.result_place.result.now c.vector_count-count.result c.vectors.result (passing (scribbled (length m.events) m)) (passing c.begin_frame.new.machine) (passing c.store_places.new.machine) (passing c.store_hidden.new.machine) (passing c.put_count.new.machine) c.sp-base.ensures.value low c.result_place.ensures c.vector_count-count.ensures c.vectors.ensures write registers c.requires.fit c.begin_frame.ensures.registers c.store_places.ensures.stand c.store_places.ensures.stays c.store_places.ensures.within c.store_places.ensures.unused c.store_hidden.ensures.stands c.store_hidden.ensures.stays c.store_hidden.ensures.within c.put_count.ensures.told c.put_count.ensures.stays c.put_count.ensures.within in
+    call_within (frame_of std s) (passing (scribbled (length m.events) m)) (passing c.begin_frame.new.machine) (passing c.put_count.new.machine) (subst (λ n. c.begin_frame.new.machine.sp + n ≡ m.sp) c.frame.ensures c.begin_frame.ensures.sp) (subst (λ n. WroteWithin c.begin_frame.new.machine.sp (c.begin_frame.new.machine.sp + n) (passing (scribbled (length m.events) m)) (passing c.begin_frame.new.machine)) c.frame.ensures c.begin_frame.ensures.within) all.sp all.within

@@ -1,30 +1,18 @@
-use Rattle.std.proofs.Common.{arith, ◌∙◌, w64, rules, FitsSigned}
-use Rattle.std.proofs.lemmas.Int.{to_z-of_z}
-use Rattle.ffi3_isa.proofs.Bytes.{is_endbr64, is_jmp, is_nop, is_lea, none_named}
+use Rattle.ffi3_isa.proofs.Bytes.{only_trampoline, only_fixed, only_movsd, none_if_only}
 use Rattle.ffi3_isa.proofs.amd64.decode_amd64.Goals as goal
 
-pub returns-in-243-clause-listed : goal.returns-in-243-clause-listed
-returns-in-243-clause-listed c =
-    is_endbr64 c.args.bytes.now (omega arith) (omega arith) (omega arith) (omega arith) (omega arith)
+pub returns-in-Some-clause-only : goal.returns-in-Some-clause-only
+returns-in-Some-clause-only c i n is =
+    only_trampoline c.args.bytes.now i n c.in-Some.found c.in-Some.ensures.listed c.in-Some.ensures.only is
 
-pub returns-in-255-clause-listed : goal.returns-in-255-clause-listed
-returns-in-255-clause-listed c =
-    let fits : FitsSigned w64 c.displacement-d.result = search rules in
-    is_jmp c.args.bytes.now _ (omega arith) (omega arith) (omega arith) (to_z-of_z w64 _ fits ∙ c.displacement-d.ensures)
+pub returns-in-Some-decode_fixed-clause-only : goal.returns-in-Some-decode_fixed-clause-only
+returns-in-Some-decode_fixed-clause-only c i n is =
+    only_fixed c.args.bytes.now i n c.decode_trampoline.result c.in-Some-decode_fixed.found (cc) c.decode_trampoline.ensures.only c.in-Some-decode_fixed.ensures.listed c.in-Some-decode_fixed.ensures.only is
 
-pub returns-in-15-clause-listed : goal.returns-in-15-clause-listed
-returns-in-15-clause-listed c =
-    is_nop c.args.bytes.now (omega arith) (omega arith) (omega arith) (omega arith)
+pub returns-clause-only : goal.returns-clause-only
+returns-clause-only c i n is =
+    only_movsd c.args.bytes.now i n c.decode_trampoline.result c.decode_fixed.result c.decode_mov_at_r11.result c.decode_mov_at_sp.result c.decode_movsd.result (cc) c.decode_trampoline.ensures.only (cc) c.decode_fixed.ensures.only (cc) c.decode_mov_at_r11.ensures.only (cc) c.decode_mov_at_sp.ensures.only c.decode_movsd.ensures.only is
 
-pub returns-in_err-reg-clause-unlisted : goal.returns-in_err-reg-clause-unlisted
-returns-in_err-reg-clause-unlisted c e i n =
-    none_named c.args.bytes.now i n (omega arith) (λ register names. let no = c.in_err-reg.ensures.only register names in cc)
-
-pub returns-in_err-reg-clause-only : goal.returns-in_err-reg-clause-only
-returns-in_err-reg-clause-only c i n is =
-    absurd (none_named c.args.bytes.now i n (omega arith) (λ register names. let no = c.in_err-reg.ensures.only register names in cc) is)
-
-pub returns-in-141-clause-listed : goal.returns-in-141-clause-listed
-returns-in-141-clause-listed c =
-    let fits : FitsSigned w64 c.displacement-d-in-141.result = search rules in
-    is_lea c.args.bytes.now _ _ (omega arith) (omega arith) c.in_ok-reg.ensures.listed (to_z-of_z w64 _ fits ∙ c.displacement-d-in-141.ensures)
+pub returns-clause-unlisted : goal.returns-clause-unlisted
+returns-clause-unlisted c none i n is =
+    none_if_only c.args.bytes.now c.decode_movsd.result (λ j m h. returns-clause-only c j m h) none i n is

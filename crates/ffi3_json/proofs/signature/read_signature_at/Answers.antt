@@ -1,29 +1,69 @@
-use Rattle.std.proofs.Common.{◌≡◌, inl}
-use Rattle.ffi3_script_rules.specs.Language.{fault, read_shapes, read_signature}
-use Rattle.ffi3_script_rules.specs.SignatureRefusal.{IsNoSignature}
-use Rattle.ffi3_types.specs.SignatureFaultOf.{signature_fault_of}
-use Rattle.ffi3_json.proofs.Tellings.{handed_on, part_handed_on}
-use Rattle.ffi3_json.proofs.Signatures.{shapes_fault, tells_own, read_right, tells_first}
+use Rattle.ffi3_cdecl_rules.specs.Machine as declaration
+use Rattle.ffi3_script_rules.specs.Language.{object_signature, declared_signature}
+use Rattle.ffi3_json.proofs.Signatures.{of_text, of_object, reads_signature, reads_by_order, reads_rightly, tells_signature, tells_by_order}
 use Rattle.ffi3_json.proofs.signature.read_signature_at.Goals as goal
 
-pub returns-in_err-sig-clause-err : goal.returns-in_err-sig-clause-err
-returns-in_err-sig-clause-err c =
+pub returns-in-Some-clause-ok : goal.returns-in-Some-clause-ok
+returns-in-Some-clause-ok c =
     let d = c.args.value.now in
-    part_handed_on (read_signature c.args.version d c.args.at.now) (read_shapes c.args.version d c.args.at.now) (shapes_fault c.args.version d c.args.at.now) c.from_residual.result c.in_err-sig.field-0.0 c.from_residual.ensures.1 c.in_err-sig.ensures.err
+    let at = c.args.at.now in
+    let text = c.in-Some.text.now in
+    reads_signature c.args.version d at (declared_signature at (declaration.read text)) (of_text c.args.version d at text c.in-Some.ensures) c.read_declared.result c.read_declared.ensures.ok
 
-pub returns-in-Ok-clause-ok : goal.returns-in-Ok-clause-ok
-returns-in-Ok-clause-ok c =
-    read_right c.args.version c.args.value.now c.args.at.now c.in_ok-sig.sig c.in_ok-sig.ensures.ok c.in-Ok.ensures.ok
-
-pub returns-in-Err-clause-err : goal.returns-in-Err-clause-err
-returns-in-Err-clause-err c =
-    tells_own c.args.version c.args.value.now c.args.at.now c.in_ok-sig.sig (signature_fault_of c.in-Err.fault) c.in_ok-sig.ensures.ok c.in-Err.ensures.err c.told.result c.told.ensures
-
-pub returns-in_err-sig-clause-first : goal.returns-in_err-sig-clause-first
-returns-in_err-sig-clause-first c =
+pub returns-in-Some-clause-err : goal.returns-in-Some-clause-err
+returns-in-Some-clause-err c =
     let d = c.args.value.now in
-    handed_on (λ p r. read_shapes c.args.version d c.args.at.now ≡ fault p r) (IsNoSignature c.args.version d c.args.at.now) (λ p r is. inl is) c.from_residual.result c.in_err-sig.field-0.0 c.from_residual.ensures.1 c.in_err-sig.ensures.err
+    let at = c.args.at.now in
+    let text = c.in-Some.text.now in
+    tells_signature c.args.version d at (declared_signature at (declaration.read text)) (of_text c.args.version d at text c.in-Some.ensures) c.read_declared.result c.read_declared.ensures.err
 
-pub returns-in-Err-clause-first : goal.returns-in-Err-clause-first
-returns-in-Err-clause-first c =
-    tells_first c.args.version c.args.value.now c.args.at.now c.in_ok-sig.sig (signature_fault_of c.in-Err.fault) c.in_ok-sig.ensures.ok c.in-Err.ensures.err c.told.result c.told.ensures
+pub returns-in-Some-clause-signature : goal.returns-in-Some-clause-signature
+returns-in-Some-clause-signature c =
+    let d = c.args.value.now in
+    let at = c.args.at.now in
+    let text = c.in-Some.text.now in
+    reads_by_order c.args.version d at (declared_signature at (declaration.read text)) (of_text c.args.version d at text c.in-Some.ensures) c.read_declared.result c.read_declared.ensures.ok
+
+pub returns-in-Some-clause-right : goal.returns-in-Some-clause-right
+returns-in-Some-clause-right c =
+    let d = c.args.value.now in
+    let at = c.args.at.now in
+    let text = c.in-Some.text.now in
+    reads_rightly c.args.version d at (declared_signature at (declaration.read text)) (of_text c.args.version d at text c.in-Some.ensures) c.read_declared.result c.read_declared.ensures.ok
+
+pub returns-in-Some-clause-first : goal.returns-in-Some-clause-first
+returns-in-Some-clause-first c =
+    let d = c.args.value.now in
+    let at = c.args.at.now in
+    let text = c.in-Some.text.now in
+    tells_by_order c.args.version d at (declared_signature at (declaration.read text)) (of_text c.args.version d at text c.in-Some.ensures) c.read_declared.result c.read_declared.ensures.err
+
+pub returns-in-None-clause-ok : goal.returns-in-None-clause-ok
+returns-in-None-clause-ok c =
+    let d = c.args.value.now in
+    let at = c.args.at.now in
+    reads_signature c.args.version d at (object_signature c.args.version d at) (of_object c.args.version d at c.in-None.ensures) c.read_object.result c.read_object.ensures.ok
+
+pub returns-in-None-clause-err : goal.returns-in-None-clause-err
+returns-in-None-clause-err c =
+    let d = c.args.value.now in
+    let at = c.args.at.now in
+    tells_signature c.args.version d at (object_signature c.args.version d at) (of_object c.args.version d at c.in-None.ensures) c.read_object.result c.read_object.ensures.err
+
+pub returns-in-None-clause-signature : goal.returns-in-None-clause-signature
+returns-in-None-clause-signature c =
+    let d = c.args.value.now in
+    let at = c.args.at.now in
+    reads_by_order c.args.version d at (object_signature c.args.version d at) (of_object c.args.version d at c.in-None.ensures) c.read_object.result c.read_object.ensures.ok
+
+pub returns-in-None-clause-right : goal.returns-in-None-clause-right
+returns-in-None-clause-right c =
+    let d = c.args.value.now in
+    let at = c.args.at.now in
+    reads_rightly c.args.version d at (object_signature c.args.version d at) (of_object c.args.version d at c.in-None.ensures) c.read_object.result c.read_object.ensures.ok
+
+pub returns-in-None-clause-first : goal.returns-in-None-clause-first
+returns-in-None-clause-first c =
+    let d = c.args.value.now in
+    let at = c.args.at.now in
+    tells_by_order c.args.version d at (object_signature c.args.version d at) (of_object c.args.version d at c.in-None.ensures) c.read_object.result c.read_object.ensures.err

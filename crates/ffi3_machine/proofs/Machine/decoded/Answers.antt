@@ -1,4 +1,4 @@
-use Rattle.std.proofs.Common.{◌≡◌, arith}
+use Rattle.std.proofs.Common.{◌≡◌}
 use Rattle.ffi3_type_rules.specs.declared.Isa.TheVariants.{Amd64, Aarch64, Riscv}
 use Rattle.ffi3_type_rules.specs.Isa.{isa_of}
 use Rattle.ffi3_machine.proofs.Standing.{listed-at, stands-at}
@@ -8,7 +8,7 @@ pub returns-in-Amd64-clause-stands : goal.returns-in-Amd64-clause-stands
 returns-in-Amd64-clause-stands c =
     let at : c.pc-pc.result ≡ c.args.self.now.pc = cc in
     let is : isa_of c.args.self.now.target ≡ Amd64 = cc in
-    stands-at c.args.self.now Amd64 c.code_from-bytes.result.now is (rw (← at) c.code_from-bytes.ensures) (omega arith) tt c.decode_amd64.result c.decode_amd64.ensures.listed
+    stands-at c.args.self.now Amd64 c.code_from-bytes.result.now is (rw (← at) c.code_from-bytes.ensures) tt c.decode_amd64.result c.decode_amd64.ensures.listed
 
 pub returns-in-Amd64-clause-only : goal.returns-in-Amd64-clause-only
 returns-in-Amd64-clause-only c i n h =

@@ -11,8 +11,11 @@ invariant_of-self c =
         floating = rw c.scribble_floating.ensures (length-scribbled_floating _);
         stack = before.stack;
         code = before.code;
+        exchange = before.exchange;
         mark_low = before.mark_low;
         mark_high = before.mark_high;
         zero = rw (c.scribble_general.ensures, c.isa.ensures) (IsZeroHeld-scribbled _ _ _ before.zero);
       },
+      c.self.invariant.3,
+      c.self.invariant.4,
     )

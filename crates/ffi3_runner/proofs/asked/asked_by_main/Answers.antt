@@ -4,7 +4,7 @@ use Rattle.ffi3_type_rules.specs.Layout.{least_multiple}
 use Rattle.ffi3_type_rules.specs.Signature.{Signature, SignatureHasNoFault}
 use Rattle.ffi3_place_rules.specs.Standard.{block_bytes}
 use Rattle.ffi3_run_rules.specs.Move.{no_signature}
-use Rattle.ffi3_script_rules.proofs.FirstSignatureFaults.{signature_right_by_none}
+use Rattle.ffi3_type_rules.proofs.FirstSignatureFaults.{signature_right_by_none}
 use Rattle.ffi3_runner.specs.Agreeing.{seen_by_main}
 use Rattle.ffi3_runner.proofs.Numbers.{asked_as}
 use Rattle.ffi3_runner.proofs.asked.asked_by_main.Goals as goal

@@ -1,0 +1,8 @@
+use Rattle.std.proofs.Common.{refl}
+use Rattle.ffi3_type_rules.specs.declared.Isa.TheVariants.{Amd64}
+use Rattle.ffi3_machine.proofs.Stubs.{four_written}
+use Rattle.ffi3_machine.proofs.stub.write_amd64.Goals as goal
+
+pub returns : goal.returns
+returns c =
+    four_written Amd64 c.args.region.now _ _ _ _ _ _ _ _ _ c.requires.base refl c.amd64_entry.ensures c.amd64_exit.ensures c.amd64_call.ensures c.amd64_return.ensures c.copy_in.ensures c.copy_in-2.ensures c.copy_in-3.ensures c.copy_in-4.ensures

@@ -1,0 +1,104 @@
+-- RISC-V's rows as laws of its segments.
+use Rattle.std.proofs.Common.{◌≡◌, ◌≢◌, ℕ, ◌+◌, ◌*◌, ◌%◌, ◌<◌, ◌≤◌, Bool, true, if◌then◌else◌, List, ◌++◌, length, refl, ap, ◌∙◌, arith}
+use Rattle.std.specs.Prelude.{◌&&◌, ◌==◌, not, nat_lt, slice_index}
+use Rattle.ffi3_memory.specs.Memory.{number_of}
+use Rattle.ffi3_type_rules.specs.declared.Isa.TheVariants.{Riscv}
+use Rattle.ffi3_type_rules.specs.declared.limits.TheConstants.{STACK, STACK_TOP}
+use Rattle.ffi3_place_rules.specs.declared.Loc.{Loc}
+use Rattle.ffi3_place_rules.specs.declared.Loc.TheVariants.{G, F, S}
+use Rattle.ffi3_machine.specs.declared.stub.TheConstants.{EXCHANGE}
+use Rattle.ffi3_machine.specs.State.{State, x_of, stack_at}
+use Rattle.ffi3_machine.specs.Stubs.{load, store, exchanged_at, row_bytes}
+use Rattle.ffi3_machine.specs.Step.{StepsBy, base}
+use Rattle.ffi3_stubs.specs.Effects.{held, received, exchanged, saved}
+use Rattle.ffi3_stubs.proofs.Standing.{Stands}
+use Rattle.ffi3_stubs.proofs.Places.{load_exchange, load_stack, unequal}
+use Rattle.ffi3_stubs.proofs.WordSegments.{Laws, fits, both, under, other}
+use Rattle.ffi3_stubs.proofs.RiscvRows.{load_general_row, load_floating_row, store_general_row, store_floating_row, save_general_row, save_floating_row}
+
+base_is : (s : State) (b : ℕ) → b ≢ 0 → b ≢ 2 → base Riscv b s ≡ slice_index s.general b
+base_is s b nz ns =
+    ap (λ (x : Bool). if x then 0 else (if b == 2 then s.sp else slice_index s.general b)) (unequal b 0 nz) ∙ ap (λ (x : Bool). if x then s.sp else slice_index s.general b) (unequal b 2 ns)
+
+record IsPlain (k : ℕ) : Type 0 where
+  in_range : k < 32
+  not_zero : k ≢ 0
+  not_sp : k ≢ 2
+
+fits_general : (b k : ℕ) → fits 32 0 b 2 (G k) ≡ true → IsPlain k
+unfolding fits
+fits_general b k h =
+    let p = both (nat_lt k 32) (not (k == 0) && (not (k == b) && not (k == 2))) h in
+    let q = both (not (k == 0)) (not (k == b) && not (k == 2)) p.1 in
+    let r = both (not (k == b)) (not (k == 2)) q.1 in
+    record { in_range = under k 32 p.0; not_zero = other k 0 q.0; not_sp = other k 2 r.1 }
+
+no_stack : (b k : ℕ) → ¬ (fits 32 0 b 2 (S k) ≡ true)
+unfolding fits
+no_stack b k h = cc
+
+fits_floating : (b k : ℕ) → fits 32 0 b 2 (F k) ≡ true → k < 32
+unfolding fits
+fits_floating b k h = under k 32 h
+
+load_length : (b : ℕ) (l : Loc) (pc r o : ℕ) → fits 32 0 b 2 l ≡ true → length (row_bytes Riscv pc (load l r o)) ≡ 4
+unfolding fits
+load_length b (G k) pc r o ok = refl
+load_length b (F k) pc r o ok = refl
+load_length b (S k) pc r o ok = absurd cc
+
+store_length : (b : ℕ) (l : Loc) (pc r o : ℕ) → fits 32 0 b 2 l ≡ true → length (row_bytes Riscv pc (store l r o)) ≡ 4
+unfolding fits
+store_length b (G k) pc r o ok = refl
+store_length b (F k) pc r o ok = refl
+store_length b (S k) pc r o ok = absurd cc
+
+from_x : (b : ℕ) → b < 32 → b ≢ 0 → b ≢ 2 → (s : State) (l : Loc) (tail : List ℕ) → fits 32 0 b 2 l ≡ true → s.pc % 4 ≡ 0 → slice_index s.general b ≡ EXCHANGE → Stands Riscv s (row_bytes Riscv s.pc (load l b (exchanged_at l)) ++ tail) → StepsBy Riscv s (received 4 l (x_of (exchanged_at l) s) s)
+from_x b low nz ns s (G k) tail ok al held h =
+    let p = fits_general b k ok in
+    let small : k < 32 = p.in_range in
+    let at : base Riscv b s + 8 * k ≡ EXCHANGE + 8 * k = ap (λ x. x + 8 * k) (base_is s b nz ns ∙ held) in
+    load_general_row s k b (8 * k) (EXCHANGE + 8 * k) (x_of (8 * k) s) tail small p.not_zero p.not_sp low (omega arith) al h at (omega arith) (load_exchange Riscv s (8 * k) (EXCHANGE + 8 * k) (omega arith) refl)
+from_x b low nz ns s (F k) tail ok al held h =
+    let small : k < 32 = fits_floating b k ok in
+    let at : base Riscv b s + (256 + 8 * k) ≡ EXCHANGE + (256 + 8 * k) = ap (λ x. x + (256 + 8 * k)) (base_is s b nz ns ∙ held) in
+    load_floating_row s k b (256 + 8 * k) (EXCHANGE + (256 + 8 * k)) (x_of (256 + 8 * k) s) tail small low (omega arith) al h at (omega arith) (load_exchange Riscv s (256 + 8 * k) (EXCHANGE + (256 + 8 * k)) (omega arith) refl)
+from_x b low nz ns s (S k) tail ok al held h = absurd (no_stack b k ok)
+
+to_x : (b : ℕ) → b < 32 → b ≢ 0 → b ≢ 2 → (s : State) (l : Loc) (tail : List ℕ) → fits 32 0 b 2 l ≡ true → s.pc % 4 ≡ 0 → slice_index s.general b ≡ EXCHANGE → Stands Riscv s (row_bytes Riscv s.pc (store l b (exchanged_at l)) ++ tail) → StepsBy Riscv s (exchanged 4 (exchanged_at l) (held l s) s)
+to_x b low nz ns s (G k) tail ok al there h =
+    let p = fits_general b k ok in
+    let small : k < 32 = p.in_range in
+    store_general_row s k b (8 * k) (EXCHANGE + 8 * k) tail small p.not_zero p.not_sp low (omega arith) al h (base_is s b nz ns ∙ there) refl
+to_x b low nz ns s (F k) tail ok al there h =
+    let small : k < 32 = fits_floating b k ok in
+    store_floating_row s k b (256 + 8 * k) (EXCHANGE + (256 + 8 * k)) tail small low (omega arith) al h (base_is s b nz ns ∙ there) refl
+to_x b low nz ns s (S k) tail ok al there h = absurd (no_stack b k ok)
+
+from_stack : (b : ℕ) (s : State) (l : Loc) (at : ℕ) (tail : List ℕ) → fits 32 0 b 2 l ≡ true → s.pc % 4 ≡ 0 → at % 8 ≡ 0 → at < 2048 → STACK ≤ s.sp + at → s.sp + at + 8 ≤ STACK_TOP → Stands Riscv s (row_bytes Riscv s.pc (load l 2 at) ++ tail) → StepsBy Riscv s (received 4 l (number_of 8 (stack_at (s.sp + at) 8 s)) s)
+from_stack b s (G k) at tail ok al eight short low high h =
+    let p = fits_general b k ok in
+    load_general_row s k 2 at (s.sp + at) (number_of 8 (stack_at (s.sp + at) 8 s)) tail p.in_range p.not_zero p.not_sp (omega arith) short al h refl (omega arith) (load_stack Riscv s (s.sp + at) low high)
+from_stack b s (F k) at tail ok al eight short low high h =
+    load_floating_row s k 2 at (s.sp + at) (number_of 8 (stack_at (s.sp + at) 8 s)) tail (fits_floating b k ok) (omega arith) short al h refl (omega arith) (load_stack Riscv s (s.sp + at) low high)
+from_stack b s (S k) at tail ok al eight short low high h = absurd (no_stack b k ok)
+
+to_stack : (b : ℕ) (s : State) (l : Loc) (at : ℕ) (tail : List ℕ) → fits 32 0 b 2 l ≡ true → s.pc % 4 ≡ 0 → at % 8 ≡ 0 → at < 2048 → STACK ≤ s.sp + at → s.sp + at + 8 ≤ STACK_TOP → Stands Riscv s (row_bytes Riscv s.pc (store l 2 at) ++ tail) → StepsBy Riscv s (saved 4 (s.sp + at) (held l s) s)
+to_stack b s (G k) at tail ok al eight short low high h =
+    let p = fits_general b k ok in
+    save_general_row s k at (s.sp + at) tail p.in_range p.not_zero p.not_sp short al h refl low high
+to_stack b s (F k) at tail ok al eight short low high h =
+    save_floating_row s k at (s.sp + at) tail (fits_floating b k ok) short al h refl low high
+to_stack b s (S k) at tail ok al eight short low high h = absurd (no_stack b k ok)
+
+pub riscv_laws : (b : ℕ) → b < 32 → b ≢ 0 → b ≢ 2 → Laws Riscv 32 0 b 2
+riscv_laws b low nz ns = record {
+  size = λ l r o. refl;
+  stored_size = λ l r o. refl;
+  load_length = load_length b;
+  store_length = store_length b;
+  load_exchange = from_x b low nz ns;
+  store_exchange = to_x b low nz ns;
+  load_area = from_stack b;
+  store_area = to_stack b;
+}
