@@ -1,0 +1,219 @@
+/* ffi3.h: where C's calling standards put the arguments and the result of a function.
+ *
+ * From a function's declaration to registers, stack offsets, sizes and alignments, by four calling standards. The
+ * code behind this header is proved; docs/TRUSTED.md says what its proof rests on, this header and the caller's
+ * duties below among it.
+ *
+ *     const char *text = "double f(struct { int i; float x; } a)";
+ *     struct ffi3_call call;
+ *     struct ffi3_piece pieces[16];
+ *     if (ffi3_place(FFI3_RISCV, text, strlen(text), &call, pieces, 16) == FFI3_OK)
+ *         ...                             call.pieces of them say where everything stands
+ *
+ * Build with `pkg-config --cflags --libs ffi3`.
+ *
+ * DECLARATIONS. A text is the declaration of one function, with or without a semicolon: `int printf(const char *,
+ * ...);`. Types are char with a sign, short, int, long and long long (a long has 64 bits), __int128, the names of
+ * <stdint.h> as int32_t, size_t, float, double, pointers to anything, and structs that are written out where they
+ * are used, `struct { int8_t a[2][3]; }`, with arrays in them. There is no preprocessor, typedef, union, enum or
+ * comment. Of a function with dots the arguments that are named are placed. At most 64 arguments, 4,096 bytes a
+ * struct, and structs and arrays 16 deep.
+ *
+ * DUTIES OF A CALLER. No pointer is NULL, and each points to memory of its type that the caller may read, and, where it
+ * is not const, write; to as many elements as the length or the capacity behind it says. Where that is 0, nothing is
+ * read or written there, but the pointer is none the less that of an object, or of the end of one. No two of them overlap,
+ * and no other thread writes what a call reads, or touches what it writes. What stood before in what is written does not
+ * matter. No function is called from a signal handler.
+ *
+ * Nothing that the library makes outlives a call, so there is nothing to free, and any number of threads may call. It
+ * takes memory from malloc and gives it back before it returns. No function ends the program: where memory is refused
+ * it says so.
+ */
+#ifndef FFI3_H
+#define FFI3_H
+
+#include <stddef.h>
+#include <stdint.h>
+
+#ifdef __cplusplus
+extern "C" {
+#endif
+
+/* Of version 1.2.3, 10203. */
+#define FFI3_VERSION 100
+
+/* CALLING STANDARDS, by their machines. */
+#define FFI3_AMD64 0   /* System V psABI for AMD64: Linux, macOS, the BSDs */
+#define FFI3_AAPCS64 1 /* Arm AAPCS64 */
+#define FFI3_RISCV 2   /* RISC-V psABI, LP64D */
+#define FFI3_WIN64 3   /* Microsoft x64 */
+
+/* ANSWERS of ffi3_place and ffi3_layout. */
+#define FFI3_OK 0
+#define FFI3_TOO_SMALL 1      /* the array has no room: nothing is in it, and the count says how much is wanted */
+#define FFI3_NOT_DECLARED 2   /* the text declares no function that can be called: `fault` says why */
+#define FFI3_UNKNOWN_TARGET 3 /* no calling standard has this number */
+#define FFI3_UNKNOWN_VALUE 4  /* the function has no argument of this number */
+#define FFI3_OUT_OF_MEMORY 5  /* malloc refused */
+
+/* VALUES of a function: its arguments by their numbers, from 0, and the result. */
+#define FFI3_RESULT UINT32_C(0xFFFFFFFF)
+/* What is passed beside the arguments: the address of the buffer in which the callee leaves the result. */
+#define FFI3_HIDDEN UINT32_C(0xFFFFFFFE)
+
+/* KINDS OF FAULT: what is wrong with a text (kinds 1 to 4), or with the signature that it declares. */
+#define FFI3_NO_FAULT 0
+#define FFI3_NOT_UTF8 1
+#define FFI3_BAD_TOKEN 2             /* at byte `offset` no word, number or mark begins */
+#define FFI3_UNEXPECTED 3            /* no declaration has there what stands at `offset`, or ends there */
+#define FFI3_BAD_NUMBER 4            /* the number at `offset` is over 4,294,967,295 */
+#define FFI3_BAD_TYPEDEF 5           /* an array of no elements */
+#define FFI3_LEFT_OUT_LONG_DOUBLE 6  /* kinds 6 to 8, 12 and 13 are of no declaration that can be written today */
+#define FFI3_LEFT_OUT_COMPLEX 7
+#define FFI3_LEFT_OUT_VECTOR 8
+#define FFI3_TOO_LARGE 9             /* a struct or an array of `number` bytes */
+#define FFI3_TOO_DEEP 10             /* structs and arrays more than 16 deep */
+#define FFI3_TOO_MANY 11  /* `number` of them */
+#define FFI3_BAD_FIXED 12            /* of `number` arguments, `argument` are fixed */
+#define FFI3_BAD_VARIADIC 13
+
+/* Why a text declares no function that can be called: the first fault. What a kind does not speak of is 0. */
+struct ffi3_fault {
+    uint32_t kind;     /* FFI3_BAD_TOKEN and so on; FFI3_NO_FAULT where the text is right */
+    uint32_t argument; /* of kinds 5 to 10: whose type has the fault, an argument's number or FFI3_RESULT */
+    size_t offset;     /* where in the text, in bytes */
+    size_t number;     /* how large, or how many */
+};
+
+/* What a piece HOLDS. */
+#define FFI3_BYTES 0   /* bytes of the value */
+#define FFI3_ADDRESS 1 /* the address of the value, which stands in the caller's frame: of a copy, or of the buffer */
+
+/* PLACES. */
+#define FFI3_GENERAL 0  /* a general register: ffi3_register_name has its name */
+#define FFI3_FLOATING 1 /* a floating or vector register */
+#define FFI3_STACK 2    /* the stack, from where stack arguments begin: on Windows from the home area on */
+
+/* What the REST of a register, or of the last eight bytes on the stack, holds. */
+#define FFI3_REST_FREE 0           /* anything */
+#define FFI3_REST_EXTENDED 1       /* the integer is extended to 64 bits, by its sign or by zeros as its type is */
+#define FFI3_REST_EXTENDED_BY_32 2 /* so to 32 bits, and from there by bit 31 to 64 */
+#define FFI3_REST_ONES 3           /* ones: a float in a wider register */
+
+/* Where bytes of one value stand, or their address. */
+struct ffi3_piece {
+    uint32_t part;   /* an argument's number, FFI3_HIDDEN or FFI3_RESULT */
+    uint32_t holds;  /* FFI3_BYTES or FFI3_ADDRESS */
+    uint32_t place;  /* FFI3_GENERAL, FFI3_FLOATING or FFI3_STACK */
+    uint32_t number; /* which register; on the stack, the offset in bytes from where stack arguments begin */
+    uint32_t offset; /* the first byte of the value that stands there; of an address, where the value stands in the
+                        caller's frame, from its start, which is where stack arguments begin */
+    uint32_t length; /* how many bytes */
+    uint32_t rest;   /* FFI3_REST_FREE and so on */
+};
+
+/* A call as a whole. All sizes are in bytes. */
+struct ffi3_call {
+    size_t need;      /* all the stack that the call takes in this library's model of it */
+    size_t frame;     /* of that, what the caller takes: stack arguments, copies, a result's buffer. A multiple of 16 */
+    size_t block;     /* and the model's callee for its own copy of the arguments */
+    size_t vectors;   /* on AMD64 how many vector registers the arguments use, which goes into al; elsewhere 0 */
+    size_t arguments; /* how many arguments are named */
+    size_t pieces;    /* how many pieces there are */
+    size_t passed;    /* how many of them, the first, a caller sets before the call. The others are read after it */
+    struct ffi3_fault fault;
+};
+
+/* uint32_t ffi3_place(uint32_t TARGET, const char *TEXT, size_t LENGTH,
+ *                     struct ffi3_call *CALL, struct ffi3_piece *PIECES, size_t CAPACITY)
+ *
+ * Where everything stands in a call, by the standard TARGET, of the function that the LENGTH bytes at TEXT declare. No 0
+ * need stand behind them.
+ *
+ * PIECES is an array of CAPACITY elements. Its first CALL->passed elements are what a caller passes: the pieces of
+ * argument 0, then those of argument 1 and so on, and then that of FFI3_HIDDEN, if the result is left in a buffer. Behind
+ * them stands what is given back: the pieces of FFI3_RESULT, which has none where it is void; or, where the result is
+ * left in a buffer, the register in which the callee returns the buffer's address, if the standard has one. The bytes of
+ * a value that stand on the stack one behind another are one piece. What stands behind CALL->pieces stays as it was.
+ *
+ * FFI3_OK: CALL and PIECES are filled.
+ * FFI3_TOO_SMALL: CALL is filled, and PIECES is as it was: it wants CALL->pieces elements. A CAPACITY of 0 asks for that.
+ * FFI3_NOT_DECLARED: CALL->fault says why; all else in CALL is 0, and PIECES is as it was.
+ * FFI3_UNKNOWN_TARGET, FFI3_OUT_OF_MEMORY: CALL is 0, and PIECES as it was. An unknown target is told first.
+ */
+uint32_t ffi3_place(uint32_t target, const char *text, size_t length, struct ffi3_call *call,
+                    struct ffi3_piece *pieces, size_t capacity);
+
+/* KINDS OF LEAF: the scalars of C, by their widths. */
+#define FFI3_UINT8 0
+#define FFI3_SINT8 1
+#define FFI3_UINT16 2
+#define FFI3_SINT16 3
+#define FFI3_UINT32 4
+#define FFI3_SINT32 5
+#define FFI3_UINT64 6
+#define FFI3_SINT64 7
+#define FFI3_UINT128 8
+#define FFI3_SINT128 9
+#define FFI3_FLOAT 10
+#define FFI3_DOUBLE 11
+#define FFI3_POINTER 12
+
+/* A scalar in a type. */
+struct ffi3_leaf {
+    uint32_t kind; /* FFI3_UINT8 and so on */
+    uint32_t size; /* its bytes */
+    size_t offset; /* its first byte, from the start of the type */
+};
+
+/* The layout of one type. */
+struct ffi3_layout {
+    size_t size;      /* in bytes, a multiple of the alignment; of void 0 */
+    size_t align;     /* 1, 2, 4, 8 or 16 */
+    size_t leaves;    /* how many scalars it has, those of structs and arrays in it among them */
+    size_t arguments; /* how many arguments the function names */
+    struct ffi3_fault fault;
+};
+
+/* uint32_t ffi3_layout(const char *TEXT, size_t LENGTH, uint32_t VALUE,
+ *                      struct ffi3_layout *LAYOUT, struct ffi3_leaf *LEAVES, size_t CAPACITY)
+ *
+ * How the type of argument VALUE is laid out, or of the result where VALUE is FFI3_RESULT, of the function that the LENGTH
+ * bytes at TEXT declare. All four standards lay out alike.
+ *
+ * LEAVES is an array of CAPACITY elements, and is given the type's scalars from the front.
+ *
+ * FFI3_OK: LAYOUT and LEAVES are filled.
+ * FFI3_TOO_SMALL: LAYOUT is filled, and LEAVES is as it was: it wants LAYOUT->leaves elements.
+ * FFI3_NOT_DECLARED: LAYOUT->fault says why; all else in LAYOUT is 0, and LEAVES is as it was.
+ * FFI3_UNKNOWN_VALUE: LAYOUT->arguments says how many there are; all else is 0, and LEAVES as it was.
+ * FFI3_OUT_OF_MEMORY: LAYOUT is 0, and LEAVES as it was.
+ */
+uint32_t ffi3_layout(const char *text, size_t length, uint32_t value, struct ffi3_layout *layout,
+                     struct ffi3_leaf *leaves, size_t capacity);
+
+/* size_t ffi3_fault_text(const struct ffi3_fault *FAULT, char *TEXT, size_t CAPACITY)
+ *
+ * The words of a fault, as "at 8: bad token". Answers how long they are, without the 0 that ends a text in C; they are
+ * written, with that 0, only where CAPACITY is greater: 64 is enough for each. Answers 0 where FAULT has no such kind, for
+ * FFI3_NO_FAULT, and where malloc refused; only then may TEXT be as it was though it had room.
+ */
+size_t ffi3_fault_text(const struct ffi3_fault *fault, char *text, size_t capacity);
+
+/* size_t ffi3_register_name(uint32_t TARGET, uint32_t PLACE, uint32_t NUMBER, char *NAME, size_t CAPACITY)
+ *
+ * The name of register NUMBER, as "rdi", "x0", "fa0": a general one where PLACE is FFI3_GENERAL, a floating one where it is
+ * FFI3_FLOATING. Numbers are those of the machine's instructions. Answers how long the name is, without the 0 that ends a
+ * text in C; it is written, with that 0, only where CAPACITY is greater: 8 is enough for each. What is no register has
+ * the empty name.
+ */
+size_t ffi3_register_name(uint32_t target, uint32_t place, uint32_t number, char *name, size_t capacity);
+
+/* The version of the library that is linked, to compare with FFI3_VERSION. */
+uint32_t ffi3_version(void);
+
+#ifdef __cplusplus
+}
+#endif
+
+#endif

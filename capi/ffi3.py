@@ -1,0 +1,374 @@
+#!/usr/bin/env python3
+"""Where C's calling standards put the arguments and the result of a function.
+
+    import ffi3
+    call = ffi3.place("riscv", "double f(struct { int i; float x; } a)")
+    for piece in call.pieces:
+        print(piece.part, piece.place, piece.offset, piece.length)      # 0 a0 0 4, 0 fa0 4 4, result fa0 0 8
+    ffi3.layout("double f(struct { int i; float x; } a)", 0)            # size 8, align 4, two leaves
+
+On the command line:
+
+    python3 ffi3.py TARGET "double f(..)"           one line a piece; TARGET is amd64, aapcs64, riscv or win64
+    python3 ffi3.py --svg FILE "double f(..)"       draws registers and stack of the four targets, each value in a colour
+
+The library is the one that FFI3_LIBRARY names, or out/libffi3.so beside this file, or that of the system.
+"""
+
+import ctypes
+import ctypes.util
+import os
+import sys
+from pathlib import Path
+from typing import NamedTuple
+
+TARGETS = ("amd64", "aapcs64", "riscv", "win64")
+RESULT = "result"
+HIDDEN = "hidden"
+
+_OK, _TOO_SMALL, _NOT_DECLARED, _UNKNOWN_TARGET, _UNKNOWN_VALUE, _OUT_OF_MEMORY = range(6)
+_RESULT, _HIDDEN = 0xFFFFFFFF, 0xFFFFFFFE
+_ADDRESS = 1
+_STACK = 2
+_RESTS = ("free", "extended", "extended by 32", "ones")
+_KINDS = ("uint8", "sint8", "uint16", "sint16", "uint32", "sint32", "uint64", "sint64", "uint128", "sint128", "float",
+          "double", "pointer")
+
+
+class Error(ValueError):
+    """A text that declares no function that can be called: the kind of the fault, and where in the text it is."""
+
+    def __init__(self, words, kind, offset):
+        super().__init__(words)
+        self.kind = kind
+        self.offset = offset
+
+
+class Piece(NamedTuple):
+    """Where bytes of one value stand, or its address.
+
+    part is an argument's number, "hidden" or "result"; place a register's name, or "stack". On the stack number is the
+    offset from the first stack argument. Of an address, offset says where in the caller's frame the value stands.
+    """
+
+    part: object
+    is_address: bool
+    place: str
+    number: int
+    offset: int
+    length: int
+    rest: str
+
+    def __str__(self):
+        at = f"stack+{self.number}" if self.place == "stack" else self.place
+        if self.is_address:
+            return f"{self.part}: {at} has the address of frame+{self.offset}"
+        rest = "" if self.rest == "free" else f", the rest {self.rest}"
+        return f"{self.part}: {at} has bytes {self.offset} to {self.offset + self.length - 1}{rest}"
+
+
+class Call(NamedTuple):
+    """A call as a whole, sizes in bytes. Of its pieces the first, as many as passed says, are what a caller passes."""
+
+    need: int
+    frame: int
+    block: int
+    vectors: int
+    arguments: int
+    passed: int
+    pieces: tuple
+
+    def __str__(self):
+        return "\n".join([f"frame of {self.frame} bytes", *map(str, self.pieces)])
+
+
+class Layout(NamedTuple):
+    """Size and alignment of a type, and its scalars from the front, each with its offset."""
+
+    size: int
+    align: int
+    leaves: tuple
+    arguments: int
+
+
+class _Fault(ctypes.Structure):
+    _fields_ = [("kind", ctypes.c_uint32), ("argument", ctypes.c_uint32), ("offset", ctypes.c_size_t),
+                ("number", ctypes.c_size_t)]
+
+
+class _Piece(ctypes.Structure):
+    _fields_ = [(name, ctypes.c_uint32)
+                for name in ("part", "holds", "place", "number", "offset", "length", "rest")]
+
+
+class _Call(ctypes.Structure):
+    _fields_ = [*((name, ctypes.c_size_t)
+                  for name in ("need", "frame", "block", "vectors", "arguments", "pieces", "passed")), ("fault", _Fault)]
+
+
+class _Leaf(ctypes.Structure):
+    _fields_ = [("kind", ctypes.c_uint32), ("size", ctypes.c_uint32), ("offset", ctypes.c_size_t)]
+
+
+class _Layout(ctypes.Structure):
+    _fields_ = [*((name, ctypes.c_size_t) for name in ("size", "align", "leaves", "arguments")), ("fault", _Fault)]
+
+
+def _load():
+    beside = Path(__file__).resolve().parent / "out" / "libffi3.so"
+    name = os.environ.get("FFI3_LIBRARY") or (str(beside) if beside.exists() else ctypes.util.find_library("ffi3"))
+    if not name:
+        raise OSError("libffi3.so is not found: run capi/build, or name it in FFI3_LIBRARY")
+    library = ctypes.CDLL(name)
+    uint32, size, text = ctypes.c_uint32, ctypes.c_size_t, ctypes.c_char_p
+    for function, result, parameters in (
+        ("place", uint32, [uint32, text, size, ctypes.POINTER(_Call), ctypes.POINTER(_Piece), size]),
+        ("layout", uint32, [text, size, uint32, ctypes.POINTER(_Layout), ctypes.POINTER(_Leaf), size]),
+        ("fault_text", size, [ctypes.POINTER(_Fault), text, size]),
+        ("register_name", size, [uint32, uint32, uint32, text, size]),
+        ("version", uint32, []),
+    ):
+        exported = getattr(library, f"ffi3_{function}")
+        exported.restype, exported.argtypes = result, parameters
+    return library
+
+
+_library = _load()
+
+
+def version():
+    """The library's version, as "0.1.0"."""
+    number = _library.ffi3_version()
+    return f"{number // 10000}.{number // 100 % 100}.{number % 100}"
+
+
+def _bytes_of(text):
+    return text.encode() if isinstance(text, str) else bytes(text)
+
+
+def _refuse(status, fault, value=None):
+    """Raises what a status other than 0 says."""
+    if status == _OUT_OF_MEMORY:
+        raise MemoryError
+    if status == _UNKNOWN_VALUE:
+        raise IndexError(f"no argument {value}")
+    words = ctypes.create_string_buffer(64)
+    _library.ffi3_fault_text(ctypes.byref(fault), words, len(words))
+    raise Error(words.value.decode(), fault.kind, fault.offset)
+
+
+def _filled(item, call):
+    """What a call leaves in an array that has room: the call is made again where it had none."""
+    capacity = 32
+    while True:
+        array = (item * capacity)()
+        status, count = call(array, capacity)
+        if status != _TOO_SMALL:
+            return status, array[:count]
+        capacity = count
+
+
+def _register(target, place, number):
+    name = ctypes.create_string_buffer(8)
+    _library.ffi3_register_name(target, place, number, name, len(name))
+    return name.value.decode()
+
+
+def _part(number):
+    return {_RESULT: RESULT, _HIDDEN: HIDDEN}.get(number, number)
+
+
+def place(target, declaration):
+    """Where everything stands in a call, by a target's standard, of the function that a text declares."""
+    number, text, told = TARGETS.index(target), _bytes_of(declaration), _Call()
+
+    def ask(array, capacity):
+        status = _library.ffi3_place(number, text, len(text), ctypes.byref(told), array, capacity)
+        return status, told.pieces
+
+    status, pieces = _filled(_Piece, ask)
+    if status != _OK:
+        _refuse(status, told.fault)
+    found = [Piece(_part(each.part), each.holds == _ADDRESS,
+                   "stack" if each.place == _STACK else _register(number, each.place, each.number),
+                   each.number, each.offset, each.length, _RESTS[each.rest]) for each in pieces]
+    return Call(told.need, told.frame, told.block, told.vectors, told.arguments, told.passed, tuple(found))
+
+
+def layout(declaration, value=RESULT):
+    """The layout of an argument, by its number, or of the result, of the function that a text declares."""
+    text, told, number = _bytes_of(declaration), _Layout(), _RESULT if value == RESULT else value
+
+    def ask(array, capacity):
+        status = _library.ffi3_layout(text, len(text), number, ctypes.byref(told), array, capacity)
+        return status, told.leaves
+
+    status, leaves = _filled(_Leaf, ask)
+    if status != _OK:
+        _refuse(status, told.fault, value)
+    return Layout(told.size, told.align, tuple((each.offset, _KINDS[each.kind]) for each in leaves), told.arguments)
+
+
+# ---- a drawing
+
+# Colours that differ also for those who see few of them (Okabe and Ito), then the same paler.
+_COLOURS = ("#56B4E9", "#E69F00", "#009E73", "#F0E442", "#CC79A7", "#D55E00", "#0072B2", "#A3D5F2", "#F3CC80",
+            "#80CEB9", "#F8F2A1", "#E6BCD3", "#EAAF80", "#80B9D9")
+_RESULT_COLOUR = "#BBBBBB"
+_BYTE, _ROW, _NAME, _GAP = 18, 24, 62, 34
+_WIDTH = _NAME + 8 * _BYTE
+
+
+def _colour(part):
+    return _RESULT_COLOUR if part in (RESULT, HIDDEN) else _COLOURS[part % len(_COLOURS)]
+
+
+def _label(part):
+    return {RESULT: "result", HIDDEN: "buffer"}.get(part, part)
+
+
+def _escaped(text):
+    return text.replace("&", "&amp;").replace("<", "&lt;").replace(">", "&gt;").replace('"', "&quot;")
+
+
+class _Drawing:
+    """Lines of an SVG, and how far down they go."""
+
+    def __init__(self):
+        self.lines = []
+        self.height = 0
+
+    def text(self, x, y, words, size=11, anchor="start", style=""):
+        self.lines.append(f'<text x="{x:g}" y="{y:g}" font-size="{size}" text-anchor="{anchor}"{style}>'
+                          f"{_escaped(words)}</text>")
+        self.height = max(self.height, y + 6)
+
+    def box(self, x, y, width, height, fill, dashes=""):
+        self.lines.append(f'<rect x="{x:g}" y="{y:g}" width="{width:g}" height="{height:g}" fill="{fill}" '
+                          f'stroke="#444444"{dashes}/>')
+        self.height = max(self.height, y + height)
+
+    def row(self, x, y, name):
+        """Eight bytes with a name, none of which has anything."""
+        self.text(x + _NAME - 6, y + 16, name, anchor="end", style=' font-family="monospace"')
+        self.box(x + _NAME, y, 8 * _BYTE, _ROW - 4, "none", ' stroke-dasharray="2 2"')
+
+    def bytes(self, x, y, first, count, colour, words):
+        """So many of the eight bytes of a row, the lowest at the left."""
+        self.box(x + _NAME + first * _BYTE, y, count * _BYTE, _ROW - 4, colour)
+        if words and count > 1 or len(words) < 3:
+            self.text(x + _NAME + (first + count / 2) * _BYTE, y + 15, words, 10, "middle")
+
+
+def _range(first, count):
+    return f"{first}" if count == 1 else f"{first}-{first + count - 1}"
+
+
+def _words(piece, first, count):
+    if piece.is_address:
+        return f"@ of {_label(piece.part)}"
+    return f"{_label(piece.part)}: {_range(first, count)}"
+
+
+def _draw_row(drawing, x, y, piece, first, count, value):
+    drawing.bytes(x, y, first, count, _colour(piece.part), _words(piece, value, count))
+
+
+def _draw_registers(drawing, x, y, pieces):
+    names = list(dict.fromkeys(piece.place for piece in pieces if piece.place != "stack"))
+    for name in names:
+        drawing.row(x, y, name)
+        for piece in pieces:
+            if piece.place == name:
+                _draw_row(drawing, x, y, piece, 0, piece.length, piece.offset)
+        y += _ROW
+    return y
+
+
+def _stack_bytes(call, sizes):
+    """What stands in the frame: of each stretch its first byte, its piece, its length and its first byte of the value."""
+    for piece in call.pieces[:call.passed]:
+        if piece.place == "stack":
+            yield piece.number, piece, piece.length, 0 if piece.is_address else piece.offset
+        if piece.is_address:
+            yield piece.offset, piece._replace(is_address=False), sizes[piece.part], 0
+
+
+def _draw_stack(drawing, x, y, call, sizes):
+    """The frame from its lowest address, where the first stack argument stands. Long stretches are cut."""
+    stretches = sorted(_stack_bytes(call, sizes), key=lambda stretch: stretch[0])
+    used = {}
+    for start, piece, length, value in stretches:
+        at = start
+        while at < start + length:
+            count = min(8 - at % 8, start + length - at)
+            used.setdefault(at // 8, []).append((at % 8, count, piece, value + at - start))
+            at += count
+    last = None
+    for row in sorted(used):
+        shown = sum(1 for other in used if other <= row)
+        if shown > 24:
+            drawing.text(x + _NAME, y + 14, f"and so on, to frame+{8 * max(used) + 7}")
+            return y + _ROW
+        if last is not None and row > last + 1:
+            drawing.text(x + _NAME + 4 * _BYTE, y + 10, "...", anchor="middle")
+            y += _ROW / 2
+        drawing.row(x, y, f"+{8 * row}")
+        for first, count, piece, value in used[row]:
+            _draw_row(drawing, x, y, piece, first, count, value)
+        y, last = y + _ROW, row
+    return y
+
+
+def _draw_target(drawing, x, y, target, declaration, sizes):
+    call = place(target, declaration)
+    passed, returned = call.pieces[:call.passed], call.pieces[call.passed:]
+    drawing.text(x, y, target, 15, style=' font-weight="bold"')
+    y = _draw_registers(drawing, x, y + 12, passed)
+    if call.frame:
+        drawing.text(x, y + 16, f"stack, {call.frame} bytes")
+        y = _draw_stack(drawing, x, y + 24, call, sizes)
+    if returned:
+        drawing.text(x, y + 16, "and back")
+        _draw_registers(drawing, x, y + 24, returned)
+
+
+def svg(declaration):
+    """A drawing of registers and stack of the four targets, each argument in a colour of its own."""
+    count = layout(declaration).arguments
+    sizes = {i: layout(declaration, i).size for i in range(count)} | {HIDDEN: layout(declaration).size}
+    drawing = _Drawing()
+    drawing.text(16, 28, declaration if isinstance(declaration, str) else declaration.decode(), 14,
+                 style=' font-family="monospace"')
+    x = 16
+    for i in range(count):
+        drawing.box(x, 44, 14, 14, _colour(i))
+        drawing.text(x + 19, 55, f"argument {i}, {sizes[i]} bytes")
+        x += 150
+    for column, target in enumerate(TARGETS):
+        _draw_target(drawing, 16 + column * (_WIDTH + _GAP), 92, target, declaration, sizes)
+    width = max(32 + 4 * _WIDTH + 3 * _GAP, x)
+    return "\n".join([
+        f'<svg xmlns="http://www.w3.org/2000/svg" width="{width:g}" height="{drawing.height + 16:g}" '
+        f'font-family="sans-serif" fill="#111111">',
+        f'<rect width="{width:g}" height="{drawing.height + 16:g}" fill="#FFFFFF"/>',
+        *drawing.lines, "</svg>", ""])
+
+
+def main(words):
+    if len(words) == 3 and words[0] == "--svg":
+        Path(words[1]).write_text(svg(words[2]))
+    elif len(words) == 2 and words[0] in TARGETS:
+        print(place(*words))
+    else:
+        print(__doc__.strip(), file=sys.stderr)
+        return 2
+    return 0
+
+
+if __name__ == "__main__":
+    try:
+        sys.exit(main(sys.argv[1:]))
+    except Error as error:
+        print(f"ffi3: {error}", file=sys.stderr)
+        sys.exit(1)

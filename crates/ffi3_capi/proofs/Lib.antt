@@ -1,0 +1,4 @@
+pub mod Declared
+pub mod Within
+pub mod Filling
+pub mod Answering

@@ -1,0 +1,7 @@
+use Rattle.std.proofs.Common.{sym, ◌∙◌}
+use Rattle.ffi3_capi.proofs.Declared.{is_misread}
+use Rattle.ffi3_capi.proofs.reading.read.Goals as goal
+
+pub returns-in-Err-clause-err : goal.returns-in-Err-clause-err
+returns-in-Err-clause-err c =
+    λ f is utf8. is_misread c.args.text.now c.in-Err.fault f c.in-Err.ensures.err utf8 (sym c.told.ensures ∙ is)

@@ -1,0 +1,73 @@
+-- What C is told of a type's layout.
+use Rattle.std.specs.Prelude.{◌≡◌, ℕ, cond, ◌==◌, List, map, length, Option, Some, None, slice_get}
+use Rattle.ffi3_type_rules.specs.Tree.{Tree, scalar_number}
+use Rattle.ffi3_type_rules.specs.Layout.{Leaf, size_of, align_of, leaves_of, scalar_size}
+use Rattle.ffi3_type_rules.specs.Signature.{Signature}
+use Rattle.ffi3_capi.specs.declared.codes.TheConstants.{RESULT_PART}
+use Rattle.ffi3_capi.specs.declared.fault.TextFault.{TextFault}
+use Rattle.ffi3_capi.specs.declared.fault.FaultKind.TheVariants.{NoFault}
+use Rattle.ffi3_capi.specs.declared.layouts.LaidLeaf.{LaidLeaf}
+use Rattle.ffi3_capi.specs.declared.layouts.LaidType.{LaidType}
+use Rattle.ffi3_capi.specs.declared.layouts.Laid.{Laid}
+use Rattle.ffi3_capi.specs.declared.status.Refusal.{Refusal}
+use Rattle.ffi3_capi.specs.declared.status.Refusal.TheVariants.{NoSuchTarget, NoSuchValue, Fault, NoMemory}
+use Rattle.ffi3_capi.specs.Faults.{Declares, IsFaultOf, fault_with}
+use Rattle.ffi3_capi.specs.Filled.{has_room, filled, room_status}
+use Rattle.ffi3_capi.specs.Refused.{status_of, fault_in, count_in}
+
+-- the type of an argument, by its number, or of the result
+abbrev pub type_of : Signature → ℕ → Option Tree
+type_of s value =
+    cond (value == RESULT_PART) (Some s.result_type) (slice_get s.arguments value)
+
+abbrev pub laid_leaf : Leaf → LaidLeaf
+laid_leaf l =
+    record { kind = scalar_number l.kind; size = scalar_size l.kind; offset = l.at }
+
+abbrev pub laid_leaves : Tree → List LaidLeaf
+laid_leaves t = map laid_leaf (leaves_of t)
+
+-- of a function with so many arguments
+abbrev pub laid_type : ℕ → Tree → LaidType
+laid_type count t = record {
+  size = size_of t;
+  align = align_of t;
+  leaves = length (laid_leaves t);
+  arguments = count;
+  fault = fault_with NoFault;
+}
+
+-- no layout: how many arguments there are, or why there is no function
+abbrev pub no_type : ℕ → TextFault → LaidType
+no_type count fault =
+    record { size = 0; align = 0; leaves = 0; arguments = count; fault = fault }
+
+abbrev pub laid_of : ℕ → Tree → Laid
+laid_of count t = record { layout = laid_type count t; leaves = laid_leaves t }
+
+-- THE LAYOUT of the type of a value of the function that the text declares
+pub record IsLaid (text : List ℕ) (value : ℕ) (l : Laid) : Type 0 where
+  pub signature : Signature
+  pub declared : Declares text signature
+  pub laid : Tree
+  pub laid_is : type_of signature value ≡ Some laid
+  pub is : l ≡ laid_of (length signature.arguments) laid
+
+-- the function that the text declares has so many arguments, and none by this number
+pub record HasNoValue (text : List ℕ) (value count : ℕ) : Type 0 where
+  pub signature : Signature
+  pub declared : Declares text signature
+  pub none : type_of signature value ≡ None
+  pub counted : count ≡ length signature.arguments
+
+-- OR WHY THERE IS NONE. Memory alone is free.
+abbrev pub IsLayoutRefusal : List ℕ → ℕ → Refusal → Type 0
+IsLayoutRefusal text value NoSuchTarget = ⊥
+IsLayoutRefusal text value (NoSuchValue count) = HasNoValue text value count
+IsLayoutRefusal text value (Fault f) = IsFaultOf text f
+IsLayoutRefusal text value NoMemory = Unit {0}
+
+-- WHAT ffi3_layout ANSWERS, and what it writes into the caller's struct and array
+pub data LaysOut (text : List ℕ) (value : ℕ) (old : List LaidLeaf) : ℕ → LaidType → List LaidLeaf → Type 0 where
+  laid_out : (l : Laid) → IsLaid text value l → LaysOut text value old (room_status (has_room l.leaves old)) l.layout (filled l.leaves old)
+  refused : (r : Refusal) → IsLayoutRefusal text value r → LaysOut text value old (status_of r) (no_type (count_in r) (fault_in r)) old

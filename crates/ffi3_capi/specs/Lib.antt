@@ -1,0 +1,10 @@
+pub mod Faults
+pub mod Told
+pub mod FaultText
+pub mod Filled
+pub mod Within
+pub mod Pieces
+pub mod Placed
+pub mod Laid
+pub mod Registers
+pub mod Refused

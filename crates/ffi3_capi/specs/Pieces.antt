@@ -1,0 +1,97 @@
+-- Where everything stands in a call, as C sees it.
+use Rattle.std.specs.Prelude.{◌≡◌, ℕ, ◌+◌, Bool, cond, ◌&&◌, ◌==◌, List, [], ◌∷◌, ◌++◌, map, Option, Some, None}
+use Rattle.ffi3_type_rules.specs.Signature.{Signature}
+use Rattle.ffi3_place_rules.specs.declared.Loc.{Loc}
+use Rattle.ffi3_place_rules.specs.declared.Loc.TheVariants.{G, F, S}
+use Rattle.ffi3_place_rules.specs.declared.Ext.{Ext}
+use Rattle.ffi3_place_rules.specs.declared.Ext.TheVariants.{Free, Widen, Riscv, Boxed}
+use Rattle.ffi3_place_rules.specs.declared.Piece.{Piece}
+use Rattle.ffi3_place_rules.specs.declared.Place.{Place}
+use Rattle.ffi3_place_rules.specs.declared.Place.TheVariants.{Direct, ByRef}
+use Rattle.ffi3_place_rules.specs.declared.Res.{Res}
+use Rattle.ffi3_place_rules.specs.declared.Res.TheVariants.{Nothing, Direct as DirectRes, Hidden}
+use Rattle.ffi3_place_rules.specs.Standard.{Standard, plan_of}
+use Rattle.ffi3_capi.specs.declared.codes.TheConstants.{RESULT_PART, HIDDEN_PART, HOLDS_BYTES, HOLDS_ADDRESS, IN_GENERAL, IN_FLOATING, ON_STACK, REST_FREE, REST_EXTENDED, REST_EXTENDED_BY_32, REST_ONES, ADDRESS_BYTES}
+use Rattle.ffi3_capi.specs.declared.pieces.PlacedPiece.{PlacedPiece}
+
+abbrev pub place_of : Loc → ℕ
+place_of (G r) = IN_GENERAL
+place_of (F r) = IN_FLOATING
+place_of (S n) = ON_STACK
+
+-- a register's number, or the offset from the first stack argument
+abbrev pub number_of : Loc → ℕ
+number_of (G r) = r
+number_of (F r) = r
+number_of (S n) = n
+
+abbrev pub rest_of : Ext → ℕ
+rest_of Free = REST_FREE
+rest_of Widen = REST_EXTENDED
+rest_of Riscv = REST_EXTENDED_BY_32
+rest_of Boxed = REST_ONES
+
+-- bytes of an argument or of the result
+abbrev pub value_piece : ℕ → Piece → PlacedPiece
+value_piece part p =
+    record { part = part; holds = HOLDS_BYTES; place = place_of p.loc; number = number_of p.loc; offset = p.off; length = p.len; rest = rest_of p.ext }
+
+-- the address of what stands so many bytes from the start of the caller's frame
+abbrev pub address_piece : ℕ → Loc → ℕ → PlacedPiece
+address_piece part at frame =
+    record { part = part; holds = HOLDS_ADDRESS; place = place_of at; number = number_of at; offset = frame; length = ADDRESS_BYTES; rest = REST_FREE }
+
+-- ---- bytes on the stack, in as few pieces as they make
+
+-- the second stands on the stack right behind the first, and has the bytes of the value that follow
+abbrev pub goes_on : PlacedPiece → PlacedPiece → Bool
+goes_on p n =
+    (p.place == ON_STACK) && (n.place == ON_STACK) && (p.rest == n.rest) && (p.number + p.length == n.number) && (p.offset + p.length == n.offset)
+
+abbrev pub longer : PlacedPiece → PlacedPiece → PlacedPiece
+longer p n = record p { length = p.length + n.length }
+
+-- a piece, and those behind it
+abbrev pub joined_to : PlacedPiece → List PlacedPiece → List PlacedPiece
+joined_to p [] = p ∷ []
+joined_to p (n ∷ ns) = cond (goes_on p n) (joined_to (longer p n) ns) (p ∷ joined_to n ns)
+
+abbrev pub joined : List PlacedPiece → List PlacedPiece
+joined [] = []
+joined (p ∷ ps) = joined_to p ps
+
+-- ---- a whole call
+
+abbrev pub argument_pieces : ℕ → Place → List PlacedPiece
+argument_pieces i (Direct pieces) = joined (map (value_piece i) pieces)
+argument_pieces i (ByRef at copy) = address_piece i at copy ∷ []
+
+-- those of the arguments from number i on
+abbrev pub arguments_from : ℕ → List Place → List PlacedPiece
+arguments_from i [] = []
+arguments_from i (p ∷ ps) = argument_pieces i p ++ arguments_from (i + 1) ps
+
+-- the address of the result's buffer, where it is passed
+abbrev pub hidden_pieces : Res → List PlacedPiece
+hidden_pieces Nothing = []
+hidden_pieces (DirectRes pieces) = []
+hidden_pieces (Hidden at buffer) = address_piece HIDDEN_PART at buffer ∷ []
+
+-- and where it is returned
+abbrev pub returned_address : Option Loc → ℕ → List PlacedPiece
+returned_address None buffer = []
+returned_address (Some at) buffer = address_piece RESULT_PART at buffer ∷ []
+
+abbrev pub returned_pieces : Option Loc → Res → List PlacedPiece
+returned_pieces register Nothing = []
+returned_pieces register (DirectRes pieces) = map (value_piece RESULT_PART) pieces
+returned_pieces register (Hidden at buffer) = returned_address register buffer
+
+-- WHAT A CALLER PASSES: arguments by their numbers, then the address of the result's buffer
+abbrev pub passed_of : Standard → Signature → List PlacedPiece
+passed_of std s =
+    arguments_from 0 (plan_of std s).places ++ hidden_pieces (plan_of std s).res
+
+-- AND WHAT IT IS GIVEN BACK
+abbrev pub returned_of : Standard → Signature → List PlacedPiece
+returned_of std s = returned_pieces std.returned_address (plan_of std s).res

@@ -1,0 +1,83 @@
+-- What C is told of a call.
+use Rattle.std.specs.Prelude.{◌≡◌, ℕ, List, [], ◌∷◌, ◌++◌, length, Some, None, IsSome, slice_get}
+use Rattle.ffi3_type_rules.specs.declared.Target.{Target}
+use Rattle.ffi3_type_rules.specs.declared.Target.TheVariants.{Amd64, Aapcs64, Riscv, Win64}
+use Rattle.ffi3_type_rules.specs.Signature.{Signature}
+use Rattle.ffi3_place_rules.specs.Standard.{Standard, plan_of}
+use Rattle.ffi3_amd64_rules.specs.Amd64.{amd64}
+use Rattle.ffi3_aapcs64_rules.specs.Aapcs64.{aapcs64}
+use Rattle.ffi3_riscv_rules.specs.Riscv.{riscv}
+use Rattle.ffi3_win64_rules.specs.Win64.{win64}
+use Rattle.ffi3_capi.specs.declared.fault.TextFault.{TextFault}
+use Rattle.ffi3_capi.specs.declared.pieces.PlacedPiece.{PlacedPiece}
+use Rattle.ffi3_capi.specs.declared.placing.PlacedCall.{PlacedCall}
+use Rattle.ffi3_capi.specs.declared.placing.Placement.{Placement}
+use Rattle.ffi3_capi.specs.declared.status.Refusal.{Refusal}
+use Rattle.ffi3_capi.specs.declared.status.Refusal.TheVariants.{NoSuchTarget, NoSuchValue, Fault, NoMemory}
+use Rattle.ffi3_capi.specs.declared.fault.FaultKind.TheVariants.{NoFault}
+use Rattle.ffi3_capi.specs.Faults.{Declares, IsFaultOf, fault_with}
+use Rattle.ffi3_capi.specs.Filled.{has_room, filled, room_status}
+use Rattle.ffi3_capi.specs.Pieces.{passed_of, returned_of}
+use Rattle.ffi3_capi.specs.Refused.{status_of, fault_in}
+
+-- by number, from 0
+abbrev pub targets : List Target
+targets = Amd64 ∷ Aapcs64 ∷ Riscv ∷ Win64 ∷ []
+
+abbrev pub standard_of : Target → Standard
+standard_of Amd64 = amd64
+standard_of Aapcs64 = aapcs64
+standard_of Riscv = riscv
+standard_of Win64 = win64
+
+-- what is passed, and then what is given back
+abbrev pub pieces_of : Standard → Signature → List PlacedPiece
+pieces_of std s = passed_of std s ++ returned_of std s
+
+abbrev pub call_of : Standard → Signature → PlacedCall
+call_of std s = record {
+  need = (plan_of std s).need;
+  frame = (plan_of std s).frame;
+  block = (plan_of std s).block;
+  vectors = (plan_of std s).vectors;
+  arguments = length s.arguments;
+  pieces = length (pieces_of std s);
+  passed = length (passed_of std s);
+  fault = fault_with NoFault;
+}
+
+-- of a call that is none, why
+abbrev pub no_call : TextFault → PlacedCall
+no_call fault = record {
+  need = 0;
+  frame = 0;
+  block = 0;
+  vectors = 0;
+  arguments = 0;
+  pieces = 0;
+  passed = 0;
+  fault = fault;
+}
+
+abbrev pub placement_of : Standard → Signature → Placement
+placement_of std s = record { call = call_of std s; pieces = pieces_of std s }
+
+-- THE PLACES of a call, by the standard with this number, of the function that the text declares
+pub record IsPlacement (target : ℕ) (text : List ℕ) (p : Placement) : Type 0 where
+  pub to : Target
+  pub to_is : slice_get targets target ≡ Some to
+  pub signature : Signature
+  pub declared : Declares text signature
+  pub is : p ≡ placement_of (standard_of to) signature
+
+-- OR WHY THERE ARE NONE: no standard has the number, or the text declares no function. Memory alone is free.
+abbrev pub IsPlaceRefusal : ℕ → List ℕ → Refusal → Type 0
+IsPlaceRefusal target text NoSuchTarget = slice_get targets target ≡ None
+IsPlaceRefusal target text (NoSuchValue count) = ⊥
+IsPlaceRefusal target text (Fault f) = IsSome (slice_get targets target) × IsFaultOf text f
+IsPlaceRefusal target text NoMemory = Unit {0}
+
+-- WHAT ffi3_place ANSWERS, and what it writes into the caller's struct and array
+pub data Places (target : ℕ) (text : List ℕ) (old : List PlacedPiece) : ℕ → PlacedCall → List PlacedPiece → Type 0 where
+  placed : (p : Placement) → IsPlacement target text p → Places target text old (room_status (has_room p.pieces old)) p.call (filled p.pieces old)
+  refused : (r : Refusal) → IsPlaceRefusal target text r → Places target text old (status_of r) (no_call (fault_in r)) old

@@ -1,0 +1,43 @@
+// The numbers by which C names things. `capi/ffi3.h` says them again.
+
+/// `FFI3_OK`: what was asked for is there.
+pub const DONE: u32 = 0;
+/// `FFI3_TOO_SMALL`: the array has no room; the counts tell how much is wanted.
+pub const TOO_SMALL: u32 = 1;
+/// `FFI3_NOT_DECLARED`: the text declares no function that can be called; the fault tells why.
+pub const NOT_DECLARED: u32 = 2;
+/// `FFI3_UNKNOWN_TARGET`: no calling standard has this number.
+pub const UNKNOWN_TARGET: u32 = 3;
+/// `FFI3_UNKNOWN_VALUE`: the function has no argument of this number.
+pub const UNKNOWN_VALUE: u32 = 4;
+/// `FFI3_OUT_OF_MEMORY`: an allocation was refused.
+pub const OUT_OF_MEMORY: u32 = 5;
+
+/// `FFI3_RESULT`: the result, in place of an argument's number.
+pub const RESULT_PART: u32 = 0xFFFF_FFFF;
+/// `FFI3_HIDDEN`: the address of the result's buffer, which is passed before all arguments.
+pub const HIDDEN_PART: u32 = 0xFFFF_FFFE;
+
+/// `FFI3_BYTES`: bytes of the value.
+pub const HOLDS_BYTES: u32 = 0;
+/// `FFI3_ADDRESS`: the address of the value, which stands in the caller's frame.
+pub const HOLDS_ADDRESS: u32 = 1;
+
+/// `FFI3_GENERAL`: a general register.
+pub const IN_GENERAL: u32 = 0;
+/// `FFI3_FLOATING`: a floating register.
+pub const IN_FLOATING: u32 = 1;
+/// `FFI3_STACK`: the stack, by the offset from the first stack argument.
+pub const ON_STACK: u32 = 2;
+
+/// `FFI3_REST_FREE`: anything.
+pub const REST_FREE: u32 = 0;
+/// `FFI3_REST_EXTENDED`: the integer, extended to 64 bits as its type says.
+pub const REST_EXTENDED: u32 = 1;
+/// `FFI3_REST_EXTENDED_BY_32`: the integer, extended to 32 bits as its type says, and from there by its upper bit to 64.
+pub const REST_EXTENDED_BY_32: u32 = 2;
+/// `FFI3_REST_ONES`: all ones.
+pub const REST_ONES: u32 = 3;
+
+/// The addresses of an argument's copy and of a result's buffer have so many bytes.
+pub const ADDRESS_BYTES: u32 = 8;

@@ -1,0 +1,186 @@
+// The layout of the types of the function that a text declares.
+ghost use Rattle.std.specs.Prelude.{◌≡◌, ◌++◌, IfOk, IfErr, OnOk, length, map};
+ghost use Rattle.ffi3_type_rules.specs.Tree.{Scalar, scalar, scalar_number};
+ghost use Rattle.ffi3_type_rules.specs.Layout.{scalar_size};
+ghost use Rattle.ffi3_type_rules.specs.Fault.{IsLaidOut};
+ghost use Rattle.ffi3_type_rules.specs.Signature.{SignatureHasNoFault};
+ghost use Rattle.ffi3_types.specs.TreeOf.{tree_of};
+ghost use Rattle.ffi3_capi.specs.Laid.{laid_leaf, laid_leaves, laid_of, no_type, IsLaid, IsLayoutRefusal, LaysOut};
+
+use crate::codes::RESULT_PART;
+use crate::fault::{FaultKind, TextFault, fault_with};
+use crate::fill::{fill, room_status};
+use crate::reading::declared;
+use crate::status::Refusal;
+use ffi3_place::parts::{argument, count_of, result_type};
+use ffi3_place_rules::Listed;
+use ffi3_types::{FfiType, Leaf, NoMemory};
+use std::alloc::Global;
+
+/// A scalar of a type: C's `struct ffi3_leaf`.
+#[repr(C)]
+#[derive(Clone, Copy)]
+pub struct LaidLeaf {
+    /// Which scalar it is.
+    pub kind: u32,
+    /// Its bytes.
+    pub size: u32,
+    /// Where it stands, from the start of the type.
+    pub offset: usize,
+}
+
+/// Size and alignment of a type: C's `struct ffi3_layout`.
+#[repr(C)]
+#[derive(Clone, Copy)]
+pub struct LaidType {
+    pub size: usize,
+    pub align: usize,
+    /// How many scalars it has.
+    pub leaves: usize,
+    /// How many arguments the function has.
+    pub arguments: usize,
+    pub fault: TextFault,
+}
+
+/// The layout of a type.
+#[derive(Drop)]
+pub struct Laid {
+    pub layout: LaidType,
+    pub leaves: Listed<LaidLeaf>,
+}
+
+/// No layout, and why.
+fn no_type(count: usize, fault: TextFault) -> LaidType
+    ensures { result ≡ no_type count fault }
+{
+    LaidType {
+        size: 0,
+        align: 0,
+        leaves: 0,
+        arguments: count,
+        fault,
+    }
+}
+
+/// The number of a scalar.
+fn scalar_number(kind: &FfiType) -> u32
+    ensures { (s : Scalar) → tree_of kind.now ≡ scalar s → result ≡ scalar_number s }
+{
+    match kind {
+        FfiType::U8 => 0,
+        FfiType::S8 => 1,
+        FfiType::U16 => 2,
+        FfiType::S16 => 3,
+        FfiType::U32 => 4,
+        FfiType::S32 => 5,
+        FfiType::U64 => 6,
+        FfiType::S64 => 7,
+        FfiType::U128 => 8,
+        FfiType::S128 => 9,
+        FfiType::Float => 10,
+        FfiType::Double => 11,
+        FfiType::Pointer => 12,
+        FfiType::Void => 13,
+        FfiType::Struct(_) | FfiType::Array(_, _) => 13,
+        FfiType::LongDouble | FfiType::Complex | FfiType::Vector => 13,
+    }
+}
+
+/// The bytes of a scalar.
+fn scalar_size(kind: &FfiType) -> u32
+    ensures { (s : Scalar) → tree_of kind.now ≡ scalar s → result ≡ scalar_size s }
+{
+    match kind {
+        FfiType::U8 | FfiType::S8 => 1,
+        FfiType::U16 | FfiType::S16 => 2,
+        FfiType::U32 | FfiType::S32 | FfiType::Float => 4,
+        FfiType::U64 | FfiType::S64 | FfiType::Double | FfiType::Pointer => 8,
+        FfiType::U128 | FfiType::S128 => 16,
+        FfiType::Void | FfiType::Struct(_) | FfiType::Array(_, _) => 0,
+        FfiType::LongDouble | FfiType::Complex | FfiType::Vector => 0,
+    }
+}
+
+fn laid_leaf(leaf: &Leaf) -> LaidLeaf
+    ensures { (s : Scalar) → tree_of leaf.now.kind ≡ scalar s → result ≡ laid_leaf (record { at = leaf.now.at; kind = s }) }
+{
+    LaidLeaf {
+        kind: scalar_number(&leaf.kind),
+        size: scalar_size(&leaf.kind),
+        offset: leaf.at as usize,
+    }
+}
+
+/// The leaves of a type.
+fn laid_leaves(alloc: Global, ty: &FfiType) -> Result<Listed<LaidLeaf>, NoMemory>
+    requires { IsLaidOut (tree_of ty.now) }
+    ensures { IfOk result (λ ls. ls ≡ laid_leaves (tree_of ty.now)) }
+{
+    let mut laid = Listed::new(alloc);
+    let leaves = ty.leaves(alloc)?;
+    for i in 0..leaves.len() {
+        laid.push(laid_leaf(leaves.get(i)))?;
+    }
+    Ok(laid)
+}
+
+/// The layout of a type of a function with so many arguments.
+fn laid_type(alloc: Global, count: usize, ty: &FfiType) -> Result<Laid, Refusal>
+    requires { IsLaidOut (tree_of ty.now) }
+    ensures ok { IfOk result (λ l. l ≡ laid_of count (tree_of ty.now)) }
+    ensures err { IfErr result (λ r. r ≡ Refusal.NoMemory) }
+{
+    let Ok(leaves) = laid_leaves(alloc, ty) else {
+        return Err(Refusal::NoMemory);
+    };
+    let layout = LaidType {
+        size: ty.size() as usize,
+        align: ty.align() as usize,
+        leaves: leaves.len(),
+        arguments: count,
+        fault: fault_with(FaultKind::NoFault),
+    };
+    Ok(Laid { layout, leaves })
+}
+
+/// The layout of an argument, or of the result, of the function that the text declares.
+pub fn find_layout(alloc: Global, text: &[u8], value: u32) -> Result<Laid, Refusal>
+    ensures ok { IfOk result (λ l. IsLaid text.now value l) }
+    ensures err { IfErr result (λ r. IsLayoutRefusal text.now value r) }
+{
+    let sig = match declared(alloc, text) {
+        Ok(sig) => sig,
+        Err(Some(fault)) => return Err(Refusal::Fault(fault)),
+        Err(None) => return Err(Refusal::NoMemory),
+    };
+    let count = count_of(&sig);
+    if value == RESULT_PART {
+        return laid_type(alloc, count as usize, result_type(&sig));
+    }
+    if value >= count {
+        return Err(Refusal::NoSuchValue(count as usize));
+    }
+    laid_type(alloc, count as usize, argument(&sig, value))
+}
+
+/// The same for a caller's struct and array. The number tells whether the leaves had room, or why there are none.
+pub fn layout(
+    alloc: Global,
+    text: &[u8],
+    value: u32,
+    layout: &mut LaidType,
+    leaves: &mut [LaidLeaf],
+) -> u32
+    ensures { LaysOut text.now value leaves.old result layout.new leaves.new }
+{
+    match find_layout(alloc, text, value) {
+        Ok(found) => {
+            *layout = found.layout;
+            room_status(fill(&found.leaves, leaves))
+        }
+        Err(refusal) => {
+            *layout = no_type(refusal.count(), refusal.fault());
+            refusal.status()
+        }
+    }
+}

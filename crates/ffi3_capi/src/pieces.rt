@@ -1,0 +1,214 @@
+// Where bytes stand, one piece after another.
+ghost use Rattle.std.specs.Prelude.{◌≡◌, ◌+◌, ◌<◌, ◌≤◌, ◌^◌, ◌++◌, ◌∷◌, List, IfOk, OnOk, length, map};
+ghost use Rattle.std.specs.List.{AllByRecursion};
+ghost use Rattle.ffi3_type_rules.specs.declared.limits.TheConstants.{LARGEST_TYPE};
+ghost use Rattle.ffi3_capi.specs.Within.{EndsWithin, PlaceEndsWithin};
+ghost use Rattle.ffi3_capi.specs.Pieces.{place_of, number_of, rest_of, value_piece, address_piece, goes_on, longer, joined_to, joined, argument_pieces, arguments_from, hidden_pieces, returned_address, returned_pieces};
+
+use crate::codes::{
+    ADDRESS_BYTES, HIDDEN_PART, HOLDS_ADDRESS, HOLDS_BYTES, IN_FLOATING, IN_GENERAL, ON_STACK,
+    REST_EXTENDED, REST_EXTENDED_BY_32, REST_FREE, REST_ONES, RESULT_PART,
+};
+use ffi3_place::{Ext, Loc, Piece, Pieces, Place, Places, Res};
+use ffi3_place_rules::Listed;
+use ffi3_types::NoMemory;
+
+/// Where bytes of an argument or of the result stand, or their address: C's `struct ffi3_piece`.
+#[repr(C)]
+#[derive(Clone, Copy)]
+pub struct PlacedPiece {
+    /// An argument by its number, the result, or the address of the result's buffer.
+    pub part: u32,
+    /// Bytes of the value, or its address.
+    pub holds: u32,
+    /// A general register, a floating one, or the stack.
+    pub place: u32,
+    /// The register's number, or the offset from the first stack argument.
+    pub number: u32,
+    /// The first byte of the value that stands there; of an address, where in the caller's frame it leads.
+    pub offset: u32,
+    /// How many bytes stand there.
+    pub length: u32,
+    /// What the rest of a register, or of the last doubleword on the stack, holds.
+    pub rest: u32,
+}
+
+/// Pieces in the order in which C is told them.
+pub type PlacedPieces = Listed<PlacedPiece>;
+
+fn place_of(at: Loc) -> u32
+    ensures { result ≡ place_of at }
+{
+    match at {
+        Loc::G(_) => IN_GENERAL,
+        Loc::F(_) => IN_FLOATING,
+        Loc::S(_) => ON_STACK,
+    }
+}
+
+fn number_of(at: Loc) -> u32
+    ensures { result ≡ number_of at }
+{
+    match at {
+        Loc::G(r) => r as u32,
+        Loc::F(r) => r as u32,
+        Loc::S(n) => n,
+    }
+}
+
+fn rest_of(ext: Ext) -> u32
+    ensures { result ≡ rest_of ext }
+{
+    match ext {
+        Ext::Free => REST_FREE,
+        Ext::Widen => REST_EXTENDED,
+        Ext::Riscv => REST_EXTENDED_BY_32,
+        Ext::Boxed => REST_ONES,
+    }
+}
+
+/// Bytes of an argument or of the result.
+fn value_piece(part: u32, piece: &Piece) -> PlacedPiece
+    ensures { result ≡ value_piece part piece.now }
+{
+    PlacedPiece {
+        part,
+        holds: HOLDS_BYTES,
+        place: place_of(piece.loc),
+        number: number_of(piece.loc),
+        offset: piece.off,
+        length: piece.len as u32,
+        rest: rest_of(piece.ext),
+    }
+}
+
+/// The address of what stands so many bytes from the start of the caller's frame.
+fn address_piece(part: u32, at: Loc, frame: u32) -> PlacedPiece
+    ensures { result ≡ address_piece part at frame }
+{
+    PlacedPiece {
+        part,
+        holds: HOLDS_ADDRESS,
+        place: place_of(at),
+        number: number_of(at),
+        offset: frame,
+        length: ADDRESS_BYTES,
+        rest: REST_FREE,
+    }
+}
+
+/// Whether the second stands on the stack right behind the first, with the bytes of the value that follow.
+fn goes_on(piece: PlacedPiece, next: PlacedPiece) -> bool
+    ensures { result ≡ goes_on piece next }
+{
+    piece.place == ON_STACK
+        && next.place == ON_STACK
+        && piece.rest == next.rest
+        && piece.number as u64 + piece.length as u64 == next.number as u64
+        && piece.offset as u64 + piece.length as u64 == next.offset as u64
+}
+
+/// The piece to which more may be added, with the one behind it. What that does not make longer is whole.
+fn with_next(
+    pieces: &mut PlacedPieces,
+    piece: PlacedPiece,
+    next: PlacedPiece,
+) -> Result<PlacedPiece, NoMemory>
+    requires { next.offset + next.length ≤ LARGEST_TYPE }
+    ensures { IfOk result (λ p. (rest : List PlacedPiece) → pieces.new ++ joined_to p rest ≡ pieces.old ++ joined_to piece (next ∷ rest)) }
+{
+    if goes_on(piece, next) {
+        return Ok(PlacedPiece {
+            length: piece.length + next.length,
+            ..piece
+        });
+    }
+    pieces.push(piece)?;
+    Ok(next)
+}
+
+/// The pieces of a value, those on the stack in as few as they make.
+fn join(part: u32, from: &Pieces, pieces: &mut PlacedPieces) -> Result<(), NoMemory>
+    requires { AllByRecursion (EndsWithin LARGEST_TYPE) from.now }
+    ensures { OnOk result (pieces.new ≡ pieces.old ++ joined (map (value_piece part) from.now)) }
+{
+    if from.len() == 0 {
+        return Ok(());
+    }
+    let mut piece = value_piece(part, from.get(0));
+    for k in 1..from.len() {
+        piece = with_next(pieces, piece, value_piece(part, from.get(k)))?;
+    }
+    pieces.push(piece)
+}
+
+/// The pieces of an argument.
+fn put_argument(i: u32, place: &Place, pieces: &mut PlacedPieces) -> Result<(), NoMemory>
+    requires { PlaceEndsWithin LARGEST_TYPE place.now }
+    ensures { OnOk result (pieces.new ≡ pieces.old ++ argument_pieces i place.now) }
+{
+    match place {
+        Place::Direct(from) => join(i, from, pieces),
+        Place::ByRef { at, copy } => pieces.push(address_piece(i, *at, *copy)),
+    }
+}
+
+/// Those of all arguments.
+pub(crate) fn put_arguments(places: &Places, pieces: &mut PlacedPieces) -> Result<(), NoMemory>
+    requires within { AllByRecursion (PlaceEndsWithin LARGEST_TYPE) places.now }
+    requires few { length places.now < 2 ^ 32 }
+    ensures { OnOk result (pieces.new ≡ pieces.old ++ arguments_from 0 places.now) }
+{
+    for i in 0..places.len() {
+        put_argument(i as u32, places.get(i), pieces)?;
+    }
+    Ok(())
+}
+
+/// The address of the result's buffer, where it is passed.
+pub(crate) fn put_hidden(res: &Res, pieces: &mut PlacedPieces) -> Result<(), NoMemory>
+    ensures { OnOk result (pieces.new ≡ pieces.old ++ hidden_pieces res.now) }
+{
+    match res {
+        Res::Nothing => Ok(()),
+        Res::Direct(_) => Ok(()),
+        Res::Hidden { at, buffer } => pieces.push(address_piece(HIDDEN_PART, *at, *buffer)),
+    }
+}
+
+/// Where the result is given back; `register` is that of a buffer's address.
+pub(crate) fn put_returned(
+    register: Option<Loc>,
+    res: &Res,
+    pieces: &mut PlacedPieces,
+) -> Result<(), NoMemory>
+    ensures { OnOk result (pieces.new ≡ pieces.old ++ returned_pieces register res.now) }
+{
+    match res {
+        Res::Nothing => Ok(()),
+        Res::Direct(from) => put_result(from, pieces),
+        Res::Hidden { buffer, .. } => put_address(register, *buffer, pieces),
+    }
+}
+
+fn put_result(from: &Pieces, pieces: &mut PlacedPieces) -> Result<(), NoMemory>
+    ensures { OnOk result (pieces.new ≡ pieces.old ++ map (value_piece RESULT_PART) from.now) }
+{
+    for k in 0..from.len() {
+        pieces.push(value_piece(RESULT_PART, from.get(k)))?;
+    }
+    Ok(())
+}
+
+fn put_address(
+    register: Option<Loc>,
+    buffer: u32,
+    pieces: &mut PlacedPieces,
+) -> Result<(), NoMemory>
+    ensures { OnOk result (pieces.new ≡ pieces.old ++ returned_address register buffer) }
+{
+    match register {
+        None => Ok(()),
+        Some(at) => pieces.push(address_piece(RESULT_PART, at, buffer)),
+    }
+}

@@ -1,0 +1,149 @@
+// A call of the function that a text declares.
+ghost use Rattle.std.specs.Prelude.{◌≡◌, IfOk, IfErr, length, slice_get};
+ghost use Rattle.ffi3_type_rules.specs.Signature.{SignatureHasNoFault};
+ghost use Rattle.ffi3_capi.specs.Placed.{targets, standard_of, no_call, placement_of, IsPlacement, IsPlaceRefusal, Places};
+
+use crate::fault::{FaultKind, TextFault, fault_with};
+use crate::fill::{fill, room_status};
+use crate::pieces::{PlacedPiece, PlacedPieces, put_arguments, put_hidden, put_returned};
+use crate::reading::declared;
+use crate::status::Refusal;
+use ffi3_aapcs64::Aapcs64;
+use ffi3_amd64::Amd64;
+use ffi3_place::Abi;
+use ffi3_place::parts::count_of;
+use ffi3_riscv::Riscv;
+use ffi3_types::{NoMemory, Sig, Target};
+use ffi3_win64::Win64;
+use std::alloc::Global;
+
+/// The bytes of stack that a call takes, and how many pieces tell where everything stands: C's `struct ffi3_call`.
+#[repr(C)]
+#[derive(Clone, Copy)]
+pub struct PlacedCall {
+    /// All the stack that a call takes.
+    pub need: usize,
+    /// Stack arguments, copies and a hidden result's buffer.
+    pub frame: usize,
+    /// The callee's copy of its arguments.
+    pub block: usize,
+    /// How many vector registers the arguments use, where the standard tells it at a call.
+    pub vectors: usize,
+    pub arguments: usize,
+    /// How many pieces there are.
+    pub pieces: usize,
+    /// How many of them, the first, are what the caller passes.
+    pub passed: usize,
+    pub fault: TextFault,
+}
+
+/// Where everything stands in a call.
+#[derive(Drop)]
+pub struct Placement {
+    pub call: PlacedCall,
+    pub pieces: PlacedPieces,
+}
+
+const TARGETS: [Target; 4] = [Target::Amd64, Target::Aapcs64, Target::Riscv, Target::Win64];
+
+/// The target of this number.
+pub(crate) fn target_numbered(n: u32) -> Option<Target>
+    ensures { result ≡ slice_get targets n }
+{
+    TARGETS.get(n as usize).copied()
+}
+
+/// No call, and why.
+fn no_call(fault: TextFault) -> PlacedCall
+    ensures { result ≡ no_call fault }
+{
+    PlacedCall {
+        need: 0,
+        frame: 0,
+        block: 0,
+        vectors: 0,
+        arguments: 0,
+        pieces: 0,
+        passed: 0,
+        fault,
+    }
+}
+
+/// Where everything stands by a calling standard.
+fn placed<A: Abi>(alloc: Global, sig: &Sig) -> Result<Placement, NoMemory>
+    requires { SignatureHasNoFault sig.now }
+    ensures { IfOk result (λ p. p ≡ placement_of A.standard sig.now) }
+{
+    let count = count_of(sig);
+    let plan = A::plan(alloc, sig)?;
+    let mut pieces = PlacedPieces::new(alloc);
+    put_arguments(&plan.places, &mut pieces)?;
+    put_hidden(&plan.res, &mut pieces)?;
+    let passed = pieces.len();
+    put_returned(A::returned_address(), &plan.res, &mut pieces)?;
+    let call = PlacedCall {
+        need: plan.need as usize,
+        frame: plan.frame as usize,
+        block: plan.block as usize,
+        vectors: plan.vectors as usize,
+        arguments: count as usize,
+        pieces: pieces.len(),
+        passed,
+        fault: fault_with(FaultKind::NoFault),
+    };
+    Ok(Placement { call, pieces })
+}
+
+/// Where everything stands by the target's calling standard.
+fn placed_on(alloc: Global, target: Target, sig: &Sig) -> Result<Placement, NoMemory>
+    requires { SignatureHasNoFault sig.now }
+    ensures { IfOk result (λ p. p ≡ placement_of (standard_of target) sig.now) }
+{
+    match target {
+        Target::Amd64 => placed::<Amd64>(alloc, sig),
+        Target::Aapcs64 => placed::<Aapcs64>(alloc, sig),
+        Target::Riscv => placed::<Riscv>(alloc, sig),
+        Target::Win64 => placed::<Win64>(alloc, sig),
+    }
+}
+
+/// Where everything stands in a call of the function that the text declares, by the calling standard with this number.
+pub fn find_placement(alloc: Global, target: u32, text: &[u8]) -> Result<Placement, Refusal>
+    ensures ok { IfOk result (λ p. IsPlacement target text.now p) }
+    ensures err { IfErr result (λ r. IsPlaceRefusal target text.now r) }
+{
+    let Some(to) = target_numbered(target) else {
+        return Err(Refusal::NoSuchTarget);
+    };
+    let sig = match declared(alloc, text) {
+        Ok(sig) => sig,
+        Err(Some(fault)) => return Err(Refusal::Fault(fault)),
+        Err(None) => return Err(Refusal::NoMemory),
+    };
+    match placed_on(alloc, to, &sig) {
+        Ok(found) => Ok(found),
+        Err(_) => Err(Refusal::NoMemory),
+    }
+}
+
+/// The same for a caller's struct and array. The number tells whether the pieces had room, or why there are none.
+pub fn place(
+    alloc: Global,
+    target: u32,
+    text: &[u8],
+    call: &mut PlacedCall,
+    pieces: &mut [PlacedPiece],
+) -> u32
+    ensures { Places target text.now pieces.old result call.new pieces.new }
+{
+    match find_placement(alloc, target, text) {
+        Ok(found) => {
+            *call = found.call;
+            room_status(fill(&found.pieces, pieces))
+        }
+        Err(refusal) => {
+            *call = no_call(refusal.fault());
+            refusal.status()
+        }
+    }
+}

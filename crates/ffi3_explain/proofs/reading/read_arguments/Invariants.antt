@@ -1,0 +1,8 @@
+use Rattle.ffi3_place_rules.specs.Standard.{plan_of}
+use Rattle.ffi3_explain.specs.ImageOf.{image_of}
+use Rattle.ffi3_explain.proofs.Standing.{IsLeftToRead}
+use Rattle.ffi3_explain.proofs.reading.read_arguments.Given as goal
+
+abbrev pub invariant-loop-i : goal.invariant-loop-i
+invariant-loop-i g l =
+    IsLeftToRead (image_of l.image) l.base l.cif.arguments (plan_of g.A.Abi.standard l.cif).places l.i l.values

@@ -1,0 +1,206 @@
+-- The laws of the arguments that are read by the standard alone.
+use Rattle.std.specs.Prelude.{◌-◌, nat_le, cond, Option, Some, None}
+use Rattle.std.proofs.Common.{◌≡◌, ℕ, suc, ◌+◌, ◌<◌, ◌≤◌, Bool, true, false, List, [], ◌∷◌, ◌++◌, length, take, drop, refl, ap, ◌∙◌, subst, arith, length-take, length-drop}
+use Rattle.std.specs.List.{AllByRecursion, flat_map}
+use Rattle.std.proofs.lemmas.Bool.Decides.{nat_tests}
+use Rattle.ffi3_type_rules.specs.declared.Isa.{Isa}
+use Rattle.ffi3_type_rules.specs.Isa.{isa_of}
+use Rattle.ffi3_type_rules.specs.Tree.{Tree, trees_of, tree_at}
+use Rattle.ffi3_type_rules.specs.Layout.{size_of}
+use Rattle.ffi3_type_rules.specs.Fault.{IsLaidOut, IsArgumentType}
+use Rattle.ffi3_type_rules.specs.Signature.{Signature, SignatureHasNoFault}
+use Rattle.ffi3_type_rules.specs.Value.{ValueTree, value_in, values_of, fits, all_fit}
+use Rattle.ffi3_type_rules.proofs.Right.{argument_is_right, argument_is_laid_out}
+use Rattle.ffi3_place_rules.specs.declared.Loc.{Loc}
+use Rattle.ffi3_place_rules.specs.declared.Loc.TheVariants.{G, F, S}
+use Rattle.ffi3_place_rules.specs.declared.Place.{Place}
+use Rattle.ffi3_place_rules.specs.declared.Place.TheVariants.{Direct, ByRef}
+use Rattle.ffi3_place_rules.specs.Image.{Image, word_at}
+use Rattle.ffi3_place_rules.specs.Standard.{Standard, frame_of, plan_of}
+use Rattle.ffi3_place_rules.specs.Sound.{IsSound, LiesIn, PlaceHasAll, PlacesHaveAll, place_locs, argument_locs, hidden_locs, copy_locs, buffer_locs, stack_words_for}
+use Rattle.ffi3_place_rules.specs.Holds.{Own, OwnsArgument, OwnsArguments}
+use Rattle.ffi3_place_rules.proofs.Tests.{and_left, and_right}
+use Rattle.ffi3_explain_rules.specs.declared.Outside.{Outside}
+use Rattle.ffi3_explain_rules.specs.Explain.{explained, holds_values, first_bytes}
+use Rattle.ffi3_explain_rules.specs.Laws.{HasWords}
+use Rattle.ffi3_explain_rules.specs.Arguments.{is_in_image, value_at_address, value_by_standard, values_by_standard, outside_of, or_later, first_outside, are_values, arguments_by, held_by_standard, stack_end, least_stack, ArgumentLaws, AreRead}
+use Rattle.ffi3_explain_rules.proofs.Copies.{bytes_of_right, copy_fits}
+use Rattle.ffi3_explain_rules.proofs.Fitting.{both, value_fits}
+use Rattle.ffi3_explain_rules.proofs.Pieces.{first_bytes-length, stood_is_read}
+use Rattle.ffi3_explain_rules.proofs.Places.{join, left_part, right_part}
+use Rattle.ffi3_explain_rules.proofs.Laws.{is_explained}
+
+-- ---- an address in the image
+
+in_image : (m : Image) (address size : ℕ) → m.sp ≤ address → address + size ≤ m.sp + length m.stack → is_in_image m address size ≡ true
+in_image m address size low high =
+    let above : nat_le m.sp address ≡ true = grind (arith, nat_tests, low) in
+    let below : nat_le (address + size) (m.sp + length m.stack) ≡ true = grind (arith, nat_tests, high) in
+    both (nat_le m.sp address) (nat_le (address + size) (m.sp + length m.stack)) above below
+
+address_low : (m : Image) (address size : ℕ) → is_in_image m address size ≡ true → m.sp ≤ address
+address_low m address size e =
+    grind (arith, nat_tests, and_left (nat_le m.sp address) (nat_le (address + size) (m.sp + length m.stack)) e)
+
+address_high : (m : Image) (address size : ℕ) → is_in_image m address size ≡ true → address + size ≤ m.sp + length m.stack
+address_high m address size e =
+    grind (arith, nat_tests, and_right (nat_le m.sp address) (nat_le (address + size) (m.sp + length m.stack)) e)
+
+-- so many bytes are there
+pub bytes_there : (m : Image) (address size : ℕ) → is_in_image m address size ≡ true → length (take size (drop (address - m.sp) m.stack)) ≡ size
+bytes_there m address size e =
+    simp (length-take, length-drop) (omega (arith, address_low m address size e, address_high m address size e))
+
+-- and so they lie within
+pub bytes_within : (m : Image) (address size : ℕ) → is_in_image m address size ≡ true → (address - m.sp) + size ≤ length m.stack
+bytes_within m address size e =
+    omega (arith, address_low m address size e, address_high m address size e)
+
+-- ---- no address points outside
+
+both_none : (o later : Option Outside) → or_later o later ≡ None → (o ≡ None) × (later ≡ None)
+both_none None later e = (refl, e)
+both_none (Some x) later e = cc
+
+inside : (b : Bool) (o : Outside) → cond b None (Some o) ≡ None → b ≡ true
+inside true o e = refl
+inside false o e = cc
+
+-- ---- an image that owns values has these
+
+module _ (m : Image) (base : ℕ) (isa : Isa) (frame : ℕ) (room : base + frame ≤ length m.stack) where
+  -- an address that is the copy's leads to its value
+  copy_read : (t : Tree) (copy word : ℕ) (v : ValueTree) → copy + size_of t ≤ frame → word ≡ m.sp + base + copy → value_in t (take (size_of t) (drop (base + copy) m.stack)) ≡ v → (value_at_address m word t ≡ v) × (is_in_image m word (size_of t) ≡ true)
+  copy_read t copy word v fit is stands =
+      let offset : word - m.sp ≡ base + copy = omega (arith, is) in
+      (ap (λ n. value_in t (take (size_of t) (drop n m.stack))) offset ∙ stands, in_image m word (size_of t) (omega (arith, is)) (omega (arith, is, fit, room)))
+
+  argument_read : (i : ℕ) (t : Tree) (p : Place) (v : ValueTree) → IsArgumentType t → PlaceHasAll t p → AllByRecursion (LiesIn isa frame) (copy_locs (t ∷ []) (p ∷ [])) → OwnsArgument m base t p v → (value_by_standard m base t p ≡ v) × (outside_of m base i t p ≡ None)
+  argument_read i t (Direct ps) v right have lies own =
+      (stood_is_read m base t ps v have own.0 own.1, refl)
+  argument_read i t (ByRef at copy) v right have lies own =
+      let fit = copy_fits isa frame copy t (bytes_of_right t right) (left_part (LiesIn isa frame) (stack_words_for copy t) [] lies) in
+      let read = copy_read t copy (word_at m base at) v fit own.1 own.2 in
+      (read.0, ap (λ b. cond b None (Some (record { argument = i; address = word_at m base at }))) read.1)
+
+  one_copy : (t : Tree) (ts : List Tree) (p : Place) (ps : List Place) → AllByRecursion (LiesIn isa frame) (copy_locs (t ∷ ts) (p ∷ ps)) → AllByRecursion (LiesIn isa frame) (copy_locs (t ∷ []) (p ∷ [])) × AllByRecursion (LiesIn isa frame) (copy_locs ts ps)
+  one_copy t ts (Direct pieces) ps h = (tt, h)
+  one_copy t ts (ByRef at copy) ps h = (
+    join (LiesIn isa frame) (stack_words_for copy t) [] (left_part (LiesIn isa frame) (stack_words_for copy t) (copy_locs ts ps) h) tt,
+    right_part (LiesIn isa frame) (stack_words_for copy t) (copy_locs ts ps) h,
+  )
+
+  arguments_read : (i : ℕ) (ts : List Tree) (ps : List Place) (vs : List ValueTree) → ((k : ℕ) → k < length ts → IsArgumentType (tree_at ts k)) → PlacesHaveAll ts ps → AllByRecursion (LiesIn isa frame) (copy_locs ts ps) → OwnsArguments m base ts ps vs → (values_by_standard m base ts ps ≡ vs) × (first_outside m base i ts ps ≡ None)
+  arguments_read i [] [] [] right have lies own = (refl, refl)
+  arguments_read i [] [] (v ∷ vs) right have lies own = absurd own
+  arguments_read i [] (p ∷ ps) vs right have lies own = absurd have
+  arguments_read i (t ∷ ts) [] vs right have lies own = absurd have
+  arguments_read i (t ∷ ts) (p ∷ ps) [] right have lies own = absurd own
+  arguments_read i (t ∷ ts) (p ∷ ps) (v ∷ vs) right have lies own =
+      let copies = one_copy t ts p ps lies in
+      let here = argument_read i t p v (right 0 (omega arith)) have.0 copies.0 own.0 in
+      let later = arguments_read (suc i) ts ps vs (λ k h. right (suc k) (omega (arith, h))) have.1 copies.1 own.1 in
+      let same : value_by_standard m base t p ∷ values_by_standard m base ts ps ≡ v ∷ vs = λ j. here.0 j ∷ later.0 j in
+      (same, ap (λ o. or_later o (first_outside m base (suc i) ts ps)) here.1 ∙ later.1)
+
+-- ---- the values fit
+
+argument_fits : (m : Image) (base i : ℕ) (t : Tree) (p : Place) → IsLaidOut t → outside_of m base i t p ≡ None → fits t (value_by_standard m base t p) ≡ true
+argument_fits m base i t (Direct ps) right none =
+    value_fits t (first_bytes m base ps 0 (size_of t)) right (first_bytes-length m base ps 0 (size_of t))
+argument_fits m base i t (ByRef at copy) right none =
+    value_fits t (take (size_of t) (drop (word_at m base at - m.sp) m.stack)) right (bytes_there m (word_at m base at) (size_of t) (inside (is_in_image m (word_at m base at) (size_of t)) (record { argument = i; address = word_at m base at }) none))
+
+arguments_fit : (m : Image) (base i : ℕ) (ts : List Tree) (ps : List Place) → ((k : ℕ) → k < length ts → IsLaidOut (tree_at ts k)) → PlacesHaveAll ts ps → first_outside m base i ts ps ≡ None → all_fit (trees_of ts) (values_of (values_by_standard m base ts ps)) ≡ true
+arguments_fit m base i [] [] right have none = refl
+arguments_fit m base i [] (p ∷ ps) right have none = absurd have
+arguments_fit m base i (t ∷ ts) [] right have none = absurd have
+arguments_fit m base i (t ∷ ts) (p ∷ ps) right have none =
+    let each = both_none (outside_of m base i t p) (first_outside m base (suc i) ts ps) none in
+    both _ _ (argument_fits m base i t p (right 0 (omega arith)) each.0) (arguments_fit m base (suc i) ts ps (λ k h. right (suc k) (omega (arith, h))) have.1 each.1)
+
+-- what an image owns fits
+owned_fits : (m : Image) (base : ℕ) (t : Tree) (p : Place) (v : ValueTree) → OwnsArgument m base t p v → fits t v ≡ true
+owned_fits m base t (Direct ps) v own = own.0
+owned_fits m base t (ByRef at copy) v own = own.0
+
+pub owned_fit : (m : Image) (base : ℕ) (ts : List Tree) (ps : List Place) (vs : List ValueTree) → OwnsArguments m base ts ps vs → all_fit (trees_of ts) (values_of vs) ≡ true
+owned_fit m base [] [] [] own = refl
+owned_fit m base [] [] (v ∷ vs) own = absurd own
+owned_fit m base [] (p ∷ ps) vs own = absurd own
+owned_fit m base (t ∷ ts) [] vs own = absurd own
+owned_fit m base (t ∷ ts) (p ∷ ps) [] own = absurd own
+owned_fit m base (t ∷ ts) (p ∷ ps) (v ∷ vs) own =
+    both _ _ (owned_fits m base t p v own.0) (owned_fit m base ts ps vs own.1)
+
+-- ---- the stack that is needed
+
+end_within : (isa : Isa) (stack : ℕ) (ls : List Loc) → AllByRecursion (LiesIn isa stack) ls → stack_end ls ≤ stack
+end_within isa stack [] lie = omega arith
+end_within isa stack (G r ∷ ls) lie = end_within isa stack ls lie.1
+end_within isa stack (F r ∷ ls) lie = end_within isa stack ls lie.1
+end_within isa stack (S n ∷ ls) lie =
+    let later = end_within isa stack ls lie.1 in
+    omega (arith, lie.0, later)
+
+-- ---- the laws
+
+module _ (std : Standard) (s : Signature) (m : Image) (right : SignatureHasNoFault s) (sound : IsSound std s) where
+  abbrev Lies : Loc → Type 0
+  Lies = LiesIn (isa_of std.target) (frame_of std s)
+
+  abbrev copies : List Loc
+  copies = copy_locs s.arguments (plan_of std s).places
+
+  abbrev buffer : List Loc
+  buffer = buffer_locs s.result_type (plan_of std s).res
+
+  abbrev read : List ValueTree
+  read = values_by_standard m std.link s.arguments (plan_of std s).places
+
+  abbrev first : Option Outside
+  first = first_outside m std.link 0 s.arguments (plan_of std s).places
+
+  copies_lie : AllByRecursion Lies copies
+  copies_lie =
+      left_part Lies copies buffer (right_part Lies (argument_locs (plan_of std s)) (copies ++ buffer) sound.in_frame)
+
+  owned_read : (vs : List ValueTree) → Own std s vs m → held_by_standard std s m ≡ are_values vs
+  owned_read vs own =
+      let found = arguments_read m std.link (isa_of std.target) (frame_of std s) own.reaches 0 s.arguments (plan_of std s).places vs (argument_is_right s right) sound.has_all copies_lie own.arguments in
+      ap (arguments_by read) found.1 ∙ ap are_values found.0
+
+  explained_read : HasWords m → std.link + frame_of std s ≤ length m.stack → (vs : List ValueTree) → explained std s m ≡ holds_values vs → held_by_standard std s m ≡ are_values vs
+  explained_read has reaches vs is =
+      let holds = ((is_explained std s m right sound has reaches).values vs).1 is in
+      owned_read vs holds.own
+
+  values_fit : (vs : List ValueTree) → held_by_standard std s m ≡ are_values vs → all_fit (trees_of s.arguments) (values_of vs) ≡ true
+  values_fit vs is =
+      let by_case : (o : Option Outside) → first ≡ o → arguments_by read o ≡ are_values vs → all_fit (trees_of s.arguments) (values_of vs) ≡ true = λ o. elim o as (λ x. first ≡ x → arguments_by read x ≡ are_values vs → all_fit (trees_of s.arguments) (values_of vs) ≡ true) [
+        | None ↦ λ none same. let values : read ≡ vs = cc in
+            subst (λ ws. all_fit (trees_of s.arguments) (values_of ws) ≡ true) values (arguments_fit m std.link 0 s.arguments (plan_of std s).places (argument_is_laid_out s right) sound.has_all none)
+        | Some x ↦ λ e same. cc
+      ] in
+      by_case first refl is
+
+  places_lie : AllByRecursion Lies (flat_map place_locs (plan_of std s).places)
+  places_lie =
+      right_part Lies (hidden_locs (plan_of std s).res) (flat_map place_locs (plan_of std s).places) (left_part Lies (argument_locs (plan_of std s)) (copies ++ buffer) sound.in_frame)
+
+  least_is_less : least_stack std s ≤ std.link + frame_of std s
+  least_is_less =
+      let within = end_within (isa_of std.target) (frame_of std s) (flat_map place_locs (plan_of std s).places) places_lie in
+      omega (arith, within)
+
+  argument_laws : ArgumentLaws std s m
+  argument_laws = record {
+    owned = owned_read;
+    by_explanation = explained_read;
+    fit = values_fit;
+    outside = λ o is vs own. let other = owned_read vs own in cc;
+    least = least_is_less;
+  }
+
+pub are_read : (std : Standard) (s : Signature) (m : Image) → AreRead std s m
+are_read std s m right sound = argument_laws std s m right sound

@@ -1,0 +1,10 @@
+pub mod Reading
+pub mod Words
+pub mod Pieces
+pub mod Fitting
+pub mod Copies
+pub mod Places
+pub mod Laws
+pub mod Entries
+pub mod Arguments
+mod Rows

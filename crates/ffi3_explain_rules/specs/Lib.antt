@@ -1,0 +1,4 @@
+pub mod Explain
+pub mod Laws
+pub mod Entries
+pub mod Arguments

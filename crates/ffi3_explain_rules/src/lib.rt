@@ -1,0 +1,62 @@
+//! What an image at an entry is explained as: the values that it holds, or the first place that holds something else. And
+//! which arguments it has by the standard alone. The definitions are in `specs/`; these are the words that they share with
+//! the code.
+#![tactic(auto)]
+
+ghost use Rattle.std.specs.Prelude.{ℕ, List};
+ghost use Rattle.ffi3_place_rules.specs.declared.Loc.{Loc};
+ghost use Rattle.ffi3_place_rules.specs.Event.{Event};
+ghost use Rattle.ffi3_run_rules.specs.Trace.{TraceItem};
+ghost use Rattle.ffi3_run_rules.specs.Journal.{Entered};
+ghost use Rattle.ffi3_explain_rules.specs.Entries.{JournalIsExplained};
+ghost use Rattle.ffi3_place_rules.specs.Standard.{Standard};
+ghost use Rattle.ffi3_type_rules.specs.Signature.{Signature};
+ghost use Rattle.ffi3_place_rules.specs.Image.{Image};
+ghost use Rattle.ffi3_explain_rules.specs.Laws.{IsExplained};
+ghost use Rattle.ffi3_explain_rules.specs.Arguments.{AreRead};
+
+use ffi3_place_rules::Loc;
+
+/// What a place is for: argument `i`, the address of a hidden result's buffer, or the number of vector registers.
+#[derive(Clone, Copy, Debug, PartialEq, Eq)]
+pub enum Part {
+    Arg(u32),
+    Hidden,
+    Count,
+}
+
+/// The number that a place holds, and the one that it holds in an image that holds values.
+#[derive(Clone, Copy, Debug, PartialEq, Eq)]
+pub struct Check {
+    pub part: Part,
+    pub place: Loc,
+    pub found: u64,
+    pub wants: u64,
+}
+
+/// An argument by reference, of this number, whose address points outside the bytes of the stack that an image has.
+#[derive(Clone, Copy, Debug, PartialEq, Eq)]
+pub struct Outside {
+    pub argument: u32,
+    pub address: u64,
+}
+
+/// Does nothing. Its contract says of every sound standard: an image holds values exactly where each place holds what the
+/// definition wants there, these values are then the explained ones and no others, and where an image is not explained
+/// by values it holds none, and its first place that breaks this is told.
+pub fn explain_laws()
+    ensures { (std : Standard) (s : Signature) (m : Image) → IsExplained std s m }
+{}
+
+/// Does nothing. Its contract says that each event that answers to an entry of a run is explained as that entry's arguments.
+pub fn entry_laws()
+    ensures { (std : Standard) (held : Loc → ℕ) (signatures : List Signature) (unfinished : List Entered) (trace : List TraceItem) (events : List Event) →
+        JournalIsExplained std held signatures unfinished trace events }
+{}
+
+/// Does nothing. Its contract says of every sound standard: an image that owns values, or is explained by values, has these by
+/// the standard alone; what is read by it fits the arguments' types; and where an address points outside the image, the
+/// image owns no values.
+pub fn argument_laws()
+    ensures { (std : Standard) (s : Signature) (m : Image) → AreRead std s m }
+{}
