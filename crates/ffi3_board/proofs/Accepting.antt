@@ -27,10 +27,10 @@ use Rattle.ffi3_io.specs.Sink.{SinkState}
 use Rattle.ffi3_io.specs.declared.IoError.{IoError}
 use Rattle.ffi3_io.proofs.Writing.{took_nothing}
 use Rattle.ffi3_body.specs.SeenActivation.{arguments_in}
-use Rattle.ffi3_pieces.specs.Stored.{WroteWithin}
+use Rattle.ffi3_pieces.specs.Stored.{WroteWithin, with_journal_of}
 use Rattle.ffi3_callee.specs.declared.Incoming.{Incoming}
 use Rattle.ffi3_callee.specs.Received.{IsIncoming, IsReceived}
-use Rattle.ffi3_invoke.specs.Calls.{IsInCallee, entry_at, with_journal_of}
+use Rattle.ffi3_invoke.specs.Calls.{IsInCallee, entry_at}
 use Rattle.ffi3_invoke.proofs.Accepted.{counted}
 use Rattle.ffi3_invoke.proofs.Stretches.{above_stays}
 use Rattle.ffi3_board.specs.declared.activation.OpenCall.{OpenCall}

@@ -34,9 +34,9 @@ use Rattle.ffi3_closures.specs.Slots.{HoldsMap}
 use Rattle.ffi3_io.specs.Sink.{SinkState}
 use Rattle.ffi3_io.specs.Written.{TookText}
 use Rattle.ffi3_io.specs.declared.IoError.{IoError}
-use Rattle.ffi3_pieces.specs.Stored.{WroteWithin}
+use Rattle.ffi3_pieces.specs.Stored.{WroteWithin, with_journal_of}
 use Rattle.ffi3_callee.specs.Given.{ResultWrites}
-use Rattle.ffi3_invoke.specs.Calls.{HasReturned, IsInCallee, return_at, with_journal_of}
+use Rattle.ffi3_invoke.specs.Calls.{HasReturned, IsInCallee, return_at}
 use Rattle.ffi3_invoke.proofs.Returned.{result_within}
 use Rattle.ffi3_invoke.proofs.Stretches.{above_stays, mark_least}
 use Rattle.ffi3_board.specs.declared.activation.Activation.{Activation}

@@ -9,6 +9,7 @@ use ffi3_amd64::Amd64;
 use ffi3_caller::store_args;
 use ffi3_cif::Cif;
 use ffi3_machine::{Machine, STACK};
+use ffi3_pieces::{passed_floating, passed_general};
 use ffi3_place::Abi;
 use ffi3_riscv::Riscv;
 use ffi3_types::Bytes;
@@ -31,7 +32,7 @@ pub fn stored<A: Abi>(alloc: Global, cif: &Cif<A>, args: &Values) -> Result<Mach
     Ok(machine)
 }
 
-/// After one argument of these bytes was stored, general and floating register number k.
+/// After one argument of these bytes was stored, what is passed in general and floating register number k.
 fn registers_of<A: Abi>(
     alloc: Global,
     text: &str,
@@ -43,7 +44,10 @@ fn registers_of<A: Abi>(
     values.push(Value::Leaf(Bytes::from_slice(alloc, bytes)?))?;
     let list = Value::List(values);
     let machine = stored(alloc, &cif, fitting(alloc, &cif, &list)?)?;
-    Ok((machine.g(k % 32), machine.f(k % 32)))
+    Ok((
+        passed_general(&machine, k % 32),
+        passed_floating(&machine, k % 32),
+    ))
 }
 
 #[test]
@@ -66,17 +70,20 @@ fn stores_narrow_arguments(rt: HostRuntime) -> Result<(), Fail> {
     Ok(())
 }
 
-/// General registers hold these words, in this order.
+/// What is passed in general registers is these words, in this order.
 pub fn check_general(rt: &impl Abort, machine: &Machine, registers: &[u8], words: &[u64]) {
     for i in 0..registers.len() {
         if i < words.len() {
-            assert!(rt; machine.g(registers[i] % 32) == words[i], "{i}");
+            assert!(rt;
+                passed_general(machine, registers[i] % 32) == words[i],
+                "{i}"
+            );
         }
     }
 }
 
-/// After arguments of the first signature were stored, general registers hold these words, in this order. Gives floating register
-/// number k.
+/// After arguments of the first signature were stored, these words are passed in general registers, in this order. Gives what is
+/// passed in floating register number k.
 fn check_first<A: Abi>(
     rt: &impl Abort,
     alloc: Global,
@@ -88,7 +95,7 @@ fn check_first<A: Abi>(
     let list = some_arguments(alloc, &cif, &mut Bytes::new(alloc))?;
     let machine = stored(alloc, &cif, fitting(alloc, &cif, &list)?)?;
     check_general(rt, &machine, registers, words);
-    Ok(machine.f(k % 32))
+    Ok(passed_floating(&machine, k % 32))
 }
 
 /// The first integers of that signature, each extended by its sign.

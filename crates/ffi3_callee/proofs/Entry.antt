@@ -5,6 +5,7 @@ use Rattle.std.specs.List.{AllByRecursion, flat_map}
 use Rattle.std.specs.Int.{w64, from_le_bytes}
 use Rattle.std.proofs.lemmas.List.{drop-drop, drop-take, get_or-drop}
 use Rattle.ffi3_type_rules.specs.declared.Target.TheVariants.{Amd64}
+use Rattle.ffi3_type_rules.specs.Isa.{isa_of}
 use Rattle.ffi3_type_rules.specs.Tree.{Tree}
 use Rattle.ffi3_type_rules.specs.Layout.{Leaf, size_of}
 use Rattle.ffi3_type_rules.specs.Signature.{Signature, SignatureHasNoFault}
@@ -19,23 +20,29 @@ use Rattle.ffi3_place_rules.specs.declared.Res.TheVariants.{Nothing, Direct as D
 use Rattle.ffi3_place_rules.specs.Image.{Image, byte_at, word_at}
 use Rattle.ffi3_place_rules.specs.Standard.{Standard, block_bytes, frame_of, plan_of}
 use Rattle.ffi3_place_rules.specs.Holds.{Carries, LeavesStand, OwnsArgument, OwnsArguments, OwnsHidden}
-use Rattle.ffi3_place_rules.specs.Sound.{IsSound, argument_locs, buffer_locs, copy_locs, hidden_locs, place_locs}
+use Rattle.ffi3_place_rules.specs.Isa.{hidden_register, listed}
+use Rattle.ffi3_place_rules.specs.Sound.{IsOneOf, IsOnStackOrIn, IsSound, argument_locs, buffer_locs, copy_locs, hidden_locs, place_locs}
 use Rattle.ffi3_type_rules.specs.declared.limits.TheConstants.{STACK, STACK_BYTES, STACK_TOP}
 use Rattle.ffi3_machine.specs.State.{State, image_of, scribbled, stack_at, with_sp}
-use Rattle.ffi3_pieces.specs.Stored.{IsPlace, WroteOnly, WroteWithin}
+use Rattle.ffi3_pieces.specs.Passing.{passing}
+use Rattle.ffi3_pieces.specs.Stored.{IsPlace, SameAt, WroteOnly, WroteWithin, with_journal_of}
 use Rattle.ffi3_pieces.specs.Standing.{AreReady}
-use Rattle.ffi3_pieces.proofs.Composing.{wrote_then, wrote_wider}
-use Rattle.ffi3_pieces.proofs.Lawful.{all_ready, call_places, each_first}
+use Rattle.ffi3_pieces.proofs.Alike.{AreAlike, arguments_owned}
+use Rattle.ffi3_pieces.proofs.Composing.{wrote_wider}
+use Rattle.ffi3_pieces.proofs.Tables.{one_of_each}
+use Rattle.ffi3_pieces.proofs.Lawful.{all_ready, call_places, each_first, each_rest}
 use Rattle.ffi3_pieces.proofs.Owning.{image_word}
 use Rattle.ffi3_pieces.proofs.Stepping.{same_word_in}
 use Rattle.ffi3_body.specs.SeenActivation.{arguments_in}
 use Rattle.ffi3_place_rules.specs.declared.SaveWord.{SaveWord}
 use Rattle.ffi3_place_rules.specs.declared.SaveWord.TheVariants.{Register, Hidden as HiddenWord, Spare}
 use Rattle.ffi3_callee.specs.Loaded.{AreFound, image_from}
+use Rattle.ffi3_callee.specs.Entered.{IsEntered}
 use Rattle.ffi3_callee.specs.Given.{IsAddressOf}
 use Rattle.ffi3_callee.specs.Received.{IsReceived, OwnsAtEntry, hidden_of}
 use Rattle.ffi3_callee.specs.Saved.{AreSaved, HiddenLies, IsSaveable, IsToSave, hidden_word, saved_word}
-use Rattle.ffi3_callee.proofs.Copying.{each_writable, image_stays, same_image}
+use Rattle.ffi3_callee.proofs.Beside.{copied_beside, wrote_down}
+use Rattle.ffi3_callee.proofs.Copying.{each_writable, same_image, stretch_stays}
 use Rattle.ffi3_callee.proofs.Return.{any_sp}
 
 -- ---- the frame behind the return address
@@ -160,6 +167,16 @@ pub hidden_lies : (std : Standard) (s : Signature) (m : State) (base : ℕ) (hid
 hidden_lies std s m base hidden sound base_is hidden_is high =
     subst (HiddenLies (STACK_TOP - base)) (sym hidden_is) (hidden_in (frame_of std s) (STACK_TOP - base) (omega (arith, base_is, high)) (plan_of std s).res (hidden_in_frame std s sound))
 
+listed_of : (P : Loc → Type 0) (r : Res) → AllByRecursion P (hidden_locs r) → AllByRecursion P (listed (hidden_of r))
+listed_of P Nothing all = tt
+listed_of P (DirectRes pieces) all = tt
+listed_of P (Hidden at buffer) all = all
+
+-- it is the register that the stub Entry saves
+pub hidden_listed : (std : Standard) (s : Signature) (hidden : Option Loc) → hidden ≡ hidden_of (plan_of std s).res → AllByRecursion (IsOneOf (G (hidden_register (isa_of std.target)) ∷ [])) (hidden_locs (plan_of std s).res) → AllByRecursion (IsOneOf (G (hidden_register (isa_of std.target)) ∷ [])) (listed hidden)
+hidden_listed std s hidden is all =
+    subst (λ o. AllByRecursion (IsOneOf (G (hidden_register (isa_of std.target)) ∷ [])) (listed o)) (sym is) (listed_of (IsOneOf (G (hidden_register (isa_of std.target)) ∷ [])) (plan_of std s).res all)
+
 -- ---- the address of a hidden result's buffer
 
 address_at : (link room : ℕ) (m : State) (r : Res) → STACK ≤ m.sp → AllByRecursion (IsPlace room) (hidden_locs r) → OwnsHidden (image_of (link + room) m) link r → IsAddressOf (m.sp + link) (hidden_word (m.sp + link) m (hidden_of r)) r
@@ -181,53 +198,58 @@ address_known std s m vs entry base address hidden sound low own entry_is base_i
 
 -- ---- all steps
 
-moved_within : (low high sp n : ℕ) (a b c d : State) → b ≡ with_sp sp a → WroteWithin low high b c → d ≡ scribbled n c → WroteWithin low high a d
-moved_within low high sp n a b c d b_is w d_is =
-    let v = subst (λ m. WroteWithin low high m c) b_is w in
-    subst (WroteWithin low high a) (sym d_is) (record {
-      size = v.size;
-      outside = v.outside;
-      mark = v.mark;
-      target = v.target;
-      pc = v.pc;
-      code = v.code;
-      events = v.events;
-      spare_events = v.spare_events;
-      spare_bytes = v.spare_bytes;
-      exchange = v.exchange;
-      steps = v.steps;
-    })
+module _ (std : Standard) (s : Signature) (block n : ℕ) (m b c d : State) (low : STACK + std.save + block_bytes s ≤ m.sp) (high : m.sp + std.link + frame_of std s ≤ STACK_TOP) (counted : 8 * length std.save_area ≡ std.save) (sized : length m.stack ≡ STACK_BYTES) (block_is : block + block_bytes s + std.save ≡ m.sp) (entered : IsEntered std (hidden_of (plan_of std s).res) block m b) where
+  -- the image in which the arguments are found, at the entry and as they are passed
+  alike : AreAlike 0 0 (IsOnStackOrIn std.argument_registers) (image_from (m.sp + std.link) (frame_of std s) m) (image_from (m.sp + std.link) (frame_of std s) (passing b))
+  alike = record {
+    sp = refl;
+    stack = stretch_stays (m.sp - std.save) m.sp (m.sp + std.link) (frame_of std s) m (with_journal_of m b) (omega (arith, low)) (omega (arith, low, high, sized)) (inr (omega arith)) entered.within;
+    general = λ r some. one_of_each (λ l. SameAt 0 l m (passing b)) (G r) std.argument_registers entered.arguments some;
+    floating = λ r some. one_of_each (λ l. SameAt 0 l m (passing b)) (F r) std.argument_registers entered.arguments some;
+  }
 
-module _ (std : Standard) (s : Signature) (area block n : ℕ) (m a b c d : State) (low : STACK + std.save + block_bytes s ≤ m.sp) (high : m.sp + std.link + frame_of std s ≤ STACK_TOP) (counted : 8 * length std.save_area ≡ std.save) (sized : length m.stack ≡ STACK_BYTES) (area_is : area ≡ m.sp - std.save) (block_is : block + block_bytes s ≡ area) (saves : WroteOnly area (area + 8 * length std.save_area) m a) (b_is : b ≡ with_sp block a) where
-  -- the image in which the arguments are found
-  pub image_between : image_from (m.sp + std.link) (frame_of std s) b ≡ image_from (m.sp + std.link) (frame_of std s) m
-  image_between =
-      ap (image_from (m.sp + std.link) (frame_of std s)) b_is ∙ image_stays area (area + 8 * length std.save_area) (m.sp + std.link) (frame_of std s) m a (omega (arith, low)) (omega (arith, low, high, sized)) (omega (arith, counted, area_is, low)) saves
+  owned_between : (vs : List ValueTree) → IsSound std s → OwnsAtEntry std s m vs → OwnsArguments (image_from (m.sp + std.link) (frame_of std s) (passing b)) 0 s.arguments (plan_of std s).places vs
+  owned_between vs sound own =
+      let p = plan_of std s in
+      arguments_owned 0 0 (IsOnStackOrIn std.argument_registers) (image_from (m.sp + std.link) (frame_of std s) m) (image_from (m.sp + std.link) (frame_of std s) (passing b)) alike s.arguments p.places vs (each_rest (IsOnStackOrIn std.argument_registers) (hidden_locs p.res) (flat_map place_locs p.places) sound.passed) (owned_behind std s m vs (omega (arith, low)) own)
 
-  pub found_between : (vs : List ValueTree) → IsSound std s → SignatureHasNoFault s → OwnsAtEntry std s m vs → AreFound (m.sp + std.link) b (plan_of std s).places
+  pub found_between : (vs : List ValueTree) → IsSound std s → SignatureHasNoFault s → OwnsAtEntry std s m vs → AreFound (m.sp + std.link) (passing b) (plan_of std s).places
   found_between vs sound right own =
-      found_where_owned std s (m.sp + std.link) b vs sound right (omega (arith, low)) (subst (λ i. OwnsArguments i 0 s.arguments (plan_of std s).places vs) (sym image_between) (owned_behind std s m vs (omega (arith, low)) own))
+      found_where_owned std s (m.sp + std.link) (passing b) vs sound right (omega (arith, low)) (owned_between vs sound own)
 
-  pub received : AreSaved area (m.sp + std.link) (hidden_of (plan_of std s).res) std.save_area m a → WroteOnly block (block + block_bytes s) b c → d ≡ scribbled n c → ((vs : List ValueTree) → OwnsArguments (image_from (m.sp + std.link) (frame_of std s) b) 0 s.arguments (plan_of std s).places vs → arguments_in s.arguments (stack_at block (block_bytes s) c) ≡ vs) → IsReceived std s m d
-  received saved copies d_is values = record { values = all; saved = kept; sp = sp; within = within }
+  pub received : IsSound std s → WroteOnly block (block + block_bytes s) (passing b) (passing c) → d ≡ scribbled n c → ((vs : List ValueTree) → OwnsArguments (image_from (m.sp + std.link) (frame_of std s) (passing b)) 0 s.arguments (plan_of std s).places vs → arguments_in s.arguments (stack_at block (block_bytes s) (passing c)) ≡ vs) → IsReceived std s m d
+  received sound copies d_is values = record {
+    values = all;
+    saved = kept;
+    sp = sp;
+    within = within;
+    pc = λ own. ap (λ q. q.pc) d_is ∙ copies.within.pc ∙ entered.pc own;
+    events = ap (λ q. q.events) d_is ∙ copies.within.events ∙ entered.events;
+    spare_events = ap (λ q. q.spare_events) d_is ∙ copies.within.spare_events ∙ entered.spare_events;
+    spare_bytes = ap (λ q. q.spare_bytes) d_is ∙ copies.within.spare_bytes ∙ entered.spare_bytes;
+    steps = ap (λ q. q.steps) d_is ∙ copies.within.steps ∙ entered.steps;
+  }
     where
       sp_is : d.sp ≡ block
-      sp_is = ap (λ q. q.sp) d_is ∙ copies.sp ∙ ap (λ q. q.sp) b_is
+      sp_is = ap (λ q. q.sp) d_is ∙ copies.sp ∙ entered.sp
 
       all : (vs : List ValueTree) → OwnsAtEntry std s m vs → arguments_in s.arguments (stack_at d.sp (block_bytes s) d) ≡ vs
       all vs own =
-          ap (λ q. arguments_in s.arguments (stack_at q (block_bytes s) d)) sp_is ∙ ap (λ q. arguments_in s.arguments (stack_at block (block_bytes s) q)) d_is ∙ values vs (subst (λ i. OwnsArguments i 0 s.arguments (plan_of std s).places vs) (sym image_between) (owned_behind std s m vs (omega (arith, low)) own))
+          ap (λ q. arguments_in s.arguments (stack_at q (block_bytes s) d)) sp_is ∙ ap (λ q. arguments_in s.arguments (stack_at block (block_bytes s) q)) d_is ∙ values vs (owned_between vs sound own)
 
-      moved : WroteWithin block (block + block_bytes s) a d
-      moved = moved_within block (block + block_bytes s) block n a b c d b_is copies.within d_is
+      moved : WroteWithin block (block + block_bytes s) b (with_journal_of b d)
+      moved =
+          subst (λ q. WroteWithin block (block + block_bytes s) b (with_journal_of b q)) (sym d_is) (copied_beside n block (block + block_bytes s) b c copies.within)
 
       kept : AreSaved (m.sp - std.save) (m.sp + std.link) (hidden_of (plan_of std s).res) std.save_area m d
-      kept = subst (λ q. AreSaved q (m.sp + std.link) (hidden_of (plan_of std s).res) std.save_area m d) area_is (λ i w below is.
-          let same : saved_word area i d ≡ saved_word area i a = same_word_in area (S (8 * i)) a d (λ k h. moved.outside (area + 8 * i + k - STACK) (inr (omega (arith, block_is, low, area_is)))) in
-          subst (IsToSave (m.sp + std.link) m (hidden_of (plan_of std s).res) w) (sym same) (saved i w below is))
+      kept = λ i w below is.
+          let same : saved_word (m.sp - std.save) i d ≡ saved_word (m.sp - std.save) i b = same_word_in (m.sp - std.save) (S (8 * i)) b d (λ k h. moved.outside (m.sp - std.save + 8 * i + k - STACK) (inr (omega (arith, block_is, low)))) in
+          subst (IsToSave (m.sp + std.link) m (hidden_of (plan_of std s).res) w) (sym same) (entered.saved i w below is)
 
       sp : d.sp + block_bytes s + std.save ≡ m.sp
-      sp = omega (arith, sp_is, block_is, area_is, low)
+      sp = omega (arith, sp_is, block_is)
 
-      within : WroteWithin d.sp m.sp m d
-      within = subst (λ q. WroteWithin q m.sp m d) (sym sp_is) (wrote_then block m.sp m a d (wrote_wider area (area + 8 * length std.save_area) block m.sp m a (omega (arith, block_is)) (omega (arith, counted, area_is, low)) saves.within) (wrote_wider block (block + block_bytes s) block m.sp a d (omega arith) (omega (arith, block_is, area_is)) moved))
+      within : WroteWithin d.sp m.sp m (with_journal_of m d)
+      within =
+          subst (λ q. WroteWithin q m.sp m (with_journal_of m d)) (sym sp_is) (wrote_down block (m.sp - std.save) m.sp m b d (omega (arith, block_is)) (omega arith) entered.within
+          (wrote_wider block (block + block_bytes s) block (m.sp - std.save) b (with_journal_of b d) (omega arith) (omega (arith, block_is)) moved))

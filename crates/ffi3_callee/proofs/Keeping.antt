@@ -1,7 +1,9 @@
 -- The registers that a return keeps.
 use Rattle.std.specs.Prelude.{Bool, true, false, if◌then◌else◌}
-use Rattle.std.proofs.Common.{◌≡◌, ℕ, suc, ◌+◌, ◌<◌, List, [], ◌∷◌, ◌++◌, get_or, refl, ap, sym, ◌∙◌, subst, arith}
+use Rattle.std.proofs.Common.{◌≡◌, ◌⊎◌, inl, inr, ℕ, suc, ◌+◌, ◌<◌, List, [], ◌∷◌, ◌++◌, get_or, refl, ap, sym, ◌∙◌, subst, arith}
 use Rattle.std.specs.List.{AllByRecursion}
+use Rattle.std.proofs.lemmas.Bool.Decides.{nat_tests}
+use Rattle.std.proofs.lemmas.List.{ext_get_or}
 use Rattle.ffi3_type_rules.specs.declared.limits.TheConstants.{STACK_TOP}
 use Rattle.ffi3_type_rules.specs.declared.Isa.{Isa}
 use Rattle.ffi3_type_rules.specs.declared.Isa.TheVariants.{Amd64, Aarch64, Riscv}
@@ -19,8 +21,8 @@ use Rattle.ffi3_place_rules.specs.Agrees.{AgreesWithMachine, given_back, saved_r
 use Rattle.ffi3_place_rules.specs.Holds.{Kept, SameIn}
 use Rattle.ffi3_place_rules.specs.Sound.{Apart, IsNoneOf, closed_to_results, piece_locs, result_locs}
 use Rattle.ffi3_place_rules.proofs.Tests.{each_weaker}
-use Rattle.ffi3_machine.specs.State.{State, image_of, returned, scribble_general, scribbled, scribbled_register, with_sp}
-use Rattle.ffi3_machine.specs.Scribbled.{get_or-scribbled_general}
+use Rattle.ffi3_machine.specs.State.{State, image_of, returned, scribble_general, scribbled, scribbled_general, scribbled_register}
+use Rattle.ffi3_machine.specs.Scribbled.{get_or-scribbled_general, length-scribbled_general}
 use Rattle.ffi3_pieces.specs.Stored.{IsPlace, word_in}
 use Rattle.ffi3_pieces.proofs.Lawful.{across_none, each_first, each_join, each_rest, machine_places}
 use Rattle.ffi3_callee.specs.Given.{RegistersStay, ReservedStay, result_uses}
@@ -34,7 +36,7 @@ reserved_are_places Amd64 = tt
 reserved_are_places Aarch64 = (omega arith, tt)
 reserved_are_places Riscv = (omega arith, (omega arith, (omega arith, tt)))
 
-reserved_there : (std : Standard) → AgreesWithMachine std → AllByRecursion (IsPlace 0) std.reserved
+pub reserved_there : (std : Standard) → AgreesWithMachine std → AllByRecursion (IsPlace 0) std.reserved
 reserved_there std agrees =
     subst (AllByRecursion (IsPlace 0)) (sym agrees.reserved) (reserved_are_places (isa_of std.target))
 
@@ -83,7 +85,7 @@ scribble_leaves : (isa : Isa) (n k : ℕ) (m : State) → isa_of m.target ≡ is
 scribble_leaves isa n k m is below reserved =
     get_or-scribbled_general (isa_of m.target) n m.general k below ∙ ap (λ q. scribbled_register q n k (get_or m.general k 0)) is ∙ kept_old (is_reserved isa k) (get_or m.general k 0) (scribble_general n k) reserved
 
-scribble_keeps : (isa : Isa) (n : ℕ) (m : State) → isa_of m.target ≡ isa → AllByRecursion (λ at. word_in STACK_TOP (scribbled n m) at ≡ word_in STACK_TOP m at) (reserved_places isa)
+pub scribble_keeps : (isa : Isa) (n : ℕ) (m : State) → isa_of m.target ≡ isa → AllByRecursion (λ at. word_in STACK_TOP (scribbled n m) at ≡ word_in STACK_TOP m at) (reserved_places isa)
 scribble_keeps Amd64 n m is = tt
 scribble_keeps Aarch64 n m is = (scribble_leaves Aarch64 n 18 m is (omega arith) refl, tt)
 scribble_keeps Riscv n m is = (
@@ -91,18 +93,39 @@ scribble_keeps Riscv n m is = (
   (scribble_leaves Riscv n 3 m is (omega arith) refl, (scribble_leaves Riscv n 4 m is (omega arith) refl, tt)),
 )
 
-same_words : (a b : State) (l : Loc) → b.general ≡ a.general → b.floating ≡ a.floating → IsPlace 0 l → word_in STACK_TOP b l ≡ word_in STACK_TOP a l
-same_words a b (G r) general floating lies = ap (λ xs. get_or xs r 0) general
-same_words a b (F r) general floating lies = ap (λ xs. get_or xs r 0) floating
-same_words a b (S n) general floating lies = absurd (omega (arith, lies))
+-- none is lost where only the reserved ones are the same
+kept_alike : (b : Bool) (x y new : ℕ) → (b ≡ true → x ≡ y) → (if b then x else new) ≡ (if b then y else new)
+kept_alike true x y new same = same refl
+kept_alike false x y new same = refl
 
-pub reserved_received : (std : Standard) → AgreesWithMachine std → (sp n : ℕ) (m a b c d : State) → c.target ≡ std.target → a.general ≡ m.general → a.floating ≡ m.floating → b ≡ with_sp sp a → c.general ≡ b.general → c.floating ≡ b.floating → d ≡ scribbled n c → ReservedStay std m d
-reserved_received std agrees sp n m a b c d target_is general floating b_is general_c floating_c d_is =
-    let general_is : c.general ≡ m.general = general_c ∙ ap (λ q. q.general) b_is ∙ general in
-    let floating_is : c.floating ≡ m.floating = floating_c ∙ ap (λ q. q.floating) b_is ∙ floating in
-    let first : ReservedStay std m c = each_weaker (IsPlace 0) (λ at. word_in STACK_TOP c at ≡ word_in STACK_TOP m at) (λ l lies. same_words m c l general_is floating_is lies) std.reserved (reserved_there std agrees) in
-    let second : ReservedStay std c (scribbled n c) = subst (AllByRecursion (λ at. word_in STACK_TOP (scribbled n c) at ≡ word_in STACK_TOP c at)) (sym agrees.reserved) (scribble_keeps (isa_of std.target) n c (ap isa_of target_is)) in
-    reserved_then std m c d first (subst (ReservedStay std c) (sym d_is) second)
+reserved_number : (isa : Isa) (k : ℕ) (a b : State) → is_reserved isa k ≡ true → AllByRecursion (λ at. word_in STACK_TOP b at ≡ word_in STACK_TOP a at) (reserved_places isa) → get_or b.general k 0 ≡ get_or a.general k 0
+reserved_number Amd64 k a b is all = absurd cc
+reserved_number Aarch64 k a b is all =
+    let at : k ≡ 18 = grind (arith, nat_tests) in
+    ap (λ n. get_or b.general n 0) at ∙ all.0 ∙ ap (λ n. get_or a.general n 0) (sym at)
+reserved_number Riscv k a b is all = elim (one_of_three k is) [
+  | inl at ↦ ap (λ n. get_or b.general n 0) at ∙ all.0 ∙ ap (λ n. get_or a.general n 0) (sym at)
+  | inr later ↦ elim later [
+    | inl at ↦ ap (λ n. get_or b.general n 0) at ∙ all.1.0 ∙ ap (λ n. get_or a.general n 0) (sym at)
+    | inr at ↦ ap (λ n. get_or b.general n 0) at ∙ all.1.1.0 ∙ ap (λ n. get_or a.general n 0) (sym at)
+  ]
+]
+  where
+    one_of_three : (k : ℕ) → is_reserved Riscv k ≡ true → (k ≡ 0) ⊎ ((k ≡ 3) ⊎ (k ≡ 4))
+    one_of_three k h = grind (arith, nat_tests)
+
+-- a scribble tells two machines apart by their reserved registers alone
+pub scribbled_alike : (std : Standard) → AgreesWithMachine std → (n : ℕ) (a b : State) → a.target ≡ std.target → ReservedStay std a b → scribbled_general (isa_of a.target) n b.general ≡ scribbled_general (isa_of a.target) n a.general
+scribbled_alike std agrees n a b target_is stay =
+    let isa = isa_of a.target in
+    let there = subst (AllByRecursion (λ at. word_in STACK_TOP b at ≡ word_in STACK_TOP a at)) (agrees.reserved ∙ ap (λ t. reserved_places (isa_of t)) (sym target_is)) stay in
+    ext_get_or 0 (scribbled_general (isa_of a.target) n b.general) (scribbled_general (isa_of a.target) n a.general) (length-scribbled_general (isa_of a.target) n b.general ∙ sym (length-scribbled_general (isa_of a.target) n a.general)) (λ k h.
+    let below : k < 32 = omega (arith, h, length-scribbled_general (isa_of a.target) n b.general) in
+    get_or-scribbled_general (isa_of a.target) n b.general k below ∙ kept_alike (is_reserved (isa_of a.target) k) (get_or b.general k 0) (get_or a.general k 0) (scribble_general n k) (λ is. reserved_number (isa_of a.target) k a b is there) ∙ sym (get_or-scribbled_general (isa_of a.target) n a.general k below))
+
+pub reserved_scribbled : (std : Standard) → AgreesWithMachine std → (n : ℕ) (c d : State) → c.target ≡ std.target → d ≡ scribbled n c → ReservedStay std c d
+reserved_scribbled std agrees n c d target_is d_is =
+    subst (ReservedStay std c) (sym d_is) (subst (AllByRecursion (λ at. word_in STACK_TOP (scribbled n c) at ≡ word_in STACK_TOP c at)) (sym agrees.reserved) (scribble_keeps (isa_of std.target) n c (ap isa_of target_is)))
 
 -- ---- the image at a return
 

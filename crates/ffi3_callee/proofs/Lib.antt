@@ -11,3 +11,7 @@ pub mod StillOwned
 pub mod Overwriting
 pub mod Poisoned
 pub mod Searching
+pub mod Beside
+pub mod OwnKept
+pub mod ByStub
+pub mod WayBack

@@ -1,6 +1,7 @@
 -- The machine after a callee took its arguments, and what the callee remembers of its entry.
-use Rattle.std.specs.Prelude.{◌≡◌, ◌+◌, ◌-◌, ◌≤◌, List, Option, Some, None}
+use Rattle.std.specs.Prelude.{◌≡◌, ◌+◌, ◌-◌, ◌≤◌, false, List, Option, Some, None}
 use Rattle.ffi3_type_rules.specs.declared.limits.TheConstants.{STACK, STACK_TOP}
+use Rattle.ffi3_type_rules.specs.Isa.{isa_of}
 use Rattle.ffi3_type_rules.specs.Signature.{Signature}
 use Rattle.ffi3_type_rules.specs.Value.{ValueTree}
 use Rattle.ffi3_place_rules.specs.declared.Loc.{Loc}
@@ -10,7 +11,10 @@ use Rattle.ffi3_place_rules.specs.Standard.{Standard, block_bytes, frame_of, pla
 use Rattle.ffi3_place_rules.specs.Holds.{Own}
 use Rattle.ffi3_machine.specs.State.{State, image_of, stack_at}
 use Rattle.ffi3_body.specs.SeenActivation.{arguments_in}
-use Rattle.ffi3_pieces.specs.Stored.{WroteWithin}
+use Rattle.ffi3_machine.specs.Stubs.{Entry}
+use Rattle.ffi3_stubs.specs.Calls.{steps_of}
+use Rattle.ffi3_pieces.specs.Passing.{by_exchange, steps_if}
+use Rattle.ffi3_pieces.specs.Stored.{WroteWithin, with_journal_of}
 use Rattle.ffi3_callee.specs.Given.{IsAddressOf}
 use Rattle.ffi3_callee.specs.Saved.{AreSaved}
 use Rattle.ffi3_callee.specs.Remembered.{Remembered}
@@ -37,4 +41,10 @@ pub record IsReceived (std : Standard) (s : Signature) (entry m : State) : Type 
   pub values : (vs : List ValueTree) → OwnsAtEntry std s entry vs → arguments_in s.arguments (stack_at m.sp (block_bytes s) m) ≡ vs
   pub saved : AreSaved (entry.sp - std.save) (entry.sp + std.link) (hidden_of (plan_of std s).res) std.save_area entry m
   pub sp : m.sp + block_bytes s + std.save ≡ entry.sp
-  pub within : WroteWithin m.sp entry.sp entry m
+  pub within : WroteWithin m.sp entry.sp entry (with_journal_of entry m)
+  -- the stub Entry leads on, where calls go by stubs
+  pub pc : by_exchange entry.target ≡ false → m.pc ≡ entry.pc
+  pub events : m.events ≡ entry.events
+  pub spare_events : m.spare_events ≡ entry.spare_events
+  pub spare_bytes : m.spare_bytes ≡ entry.spare_bytes
+  pub steps : m.steps ≡ steps_if (by_exchange entry.target) (steps_of (isa_of entry.target) Entry) entry.steps

@@ -155,15 +155,17 @@ pub fn give_result<A: Abi>(machine: &mut Machine, cif: &Cif<A>, incoming: &Incom
     ensures holds { HoldsResult A.standard cif.now (value_of value.now) (image_from (incoming.now.entry + A.standard.link) (frame_of A.standard cif.now) (passing machine.new)) }
     ensures unused { ResultKeepsUnused (incoming.now.entry + A.standard.link) cif.now.result_type (plan_of A.standard cif.now).res (passing machine.old) (passing machine.new) }
     ensures registers { RegistersStay (result_uses A.standard (plan_of A.standard cif.now).res) (passing machine.old) (passing machine.new) }
-    ensures reserved { ReservedStay A.standard (passing machine.old) (passing machine.new) }
+    ensures reserved { ReservedStay A.standard machine.old machine.new }
     ensures saved { (base : ℕ) (hidden : Option Loc) (entry : State) → AreSaved (incoming.now.entry - A.standard.save) base hidden A.standard.save_area entry machine.old → AreSaved (incoming.now.entry - A.standard.save) base hidden A.standard.save_area entry machine.new }
     ensures writes { ResultWrites (incoming.now.entry + A.standard.link) cif.now.result_type (plan_of A.standard cif.now).res (passing machine.old) (passing machine.new) }
     ensures sp { machine.new.sp ≡ machine.old.sp }
 {
-    // its contract tells what is true of every interface
+    // their contracts tell what is true of every interface and of every machine
     let _sig = cif.sig();
+    let _m = machine.sp();
     let base = incoming.entry() + A::LINK;
     let address = incoming.address();
     let returned = A::returned_address();
     give(machine, cif, base, address, returned, value);
+    let _given = machine.sp();
 }

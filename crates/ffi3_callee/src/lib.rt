@@ -2,7 +2,7 @@
 #![tactic(auto)]
 
 ghost use Rattle.std.specs.Prelude.{◌≡◌, ◌+◌, ◌-◌, ◌<◌, ◌≤◌, List, length, slice_index_or, true};
-ghost use Rattle.ffi3_type_rules.specs.declared.limits.TheConstants.{STACK, STACK_TOP};
+ghost use Rattle.ffi3_type_rules.specs.declared.limits.TheConstants.{ENTRY, STACK, STACK_TOP};
 ghost use Rattle.ffi3_type_rules.specs.Isa.{isa_of};
 ghost use Rattle.ffi3_type_rules.specs.Tree.{tree_at};
 ghost use Rattle.ffi3_type_rules.specs.Layout.{size_of};
@@ -19,13 +19,16 @@ ghost use Rattle.ffi3_callee.specs.Given.{ReservedStay};
 ghost use Rattle.ffi3_callee.specs.Received.{IsIncoming, IsReceived, OwnsAtEntry, hidden_of};
 
 mod answering;
+mod entering;
 mod giving;
+mod going;
 mod poisoning;
 mod restoring;
 mod saving;
 mod taking;
 
 pub use answering::answer;
+use entering::enter;
 use ffi3_cif::Cif;
 use ffi3_machine::Machine;
 use ffi3_place::parts::{argument, count_of, size_of};
@@ -33,9 +36,10 @@ use ffi3_place::{Abi, Loc, Pieces, Place, Res};
 use ffi3_type_rules::round_up;
 use ffi3_types::{FfiType, Sig};
 pub use giving::give_result;
+pub use going::go_back;
 pub use poisoning::poison;
 pub use restoring::restore;
-use saving::{hidden_word, save_words};
+use saving::hidden_word;
 use std::marker::Model;
 use taking::copy_argument;
 
@@ -112,9 +116,11 @@ fn hidden_place(place: &Res) -> Option<Loc>
     }
 }
 
-/// At an entry: saves the registers that are to be given back, copies the arguments into the block below them, where sp then is,
-/// and scribbles on every register but sp and the reserved ones. It does not know the values.
+/// At an entry: saves the registers that are to be given back, by the stub Entry where calls go by stubs, copies the arguments into
+/// the block below them, where sp then is, and scribbles on every register but sp and the reserved ones. It does not know the values.
 pub fn receive<A: Abi>(machine: &mut Machine, cif: &Cif<A>) -> Incoming
+    requires target { machine.old.target ≡ A.TARGET }
+    requires entry { machine.old.pc ≡ ENTRY }
     requires room { STACK + A.standard.save + block_bytes cif.now ≤ machine.old.sp }
     requires frame { machine.old.sp + A.standard.link + frame_of A.standard cif.now ≤ STACK_TOP }
     requires some { (vs : List ValueTree) × OwnsAtEntry A.standard cif.now machine.old vs }
@@ -122,7 +128,7 @@ pub fn receive<A: Abi>(machine: &mut Machine, cif: &Cif<A>) -> Incoming
     ensures incoming { IsIncoming A.standard cif.now result }
     ensures general { machine.new.general ≡ scribbled_general (isa_of machine.old.target) (length machine.old.events) machine.old.general }
     ensures floating { machine.new.floating ≡ scribbled_floating (length machine.old.events) }
-    ensures reserved { machine.old.target ≡ A.TARGET → ReservedStay A.standard machine.old machine.new }
+    ensures reserved { ReservedStay A.standard machine.old machine.new }
     ensures entry { result.entry ≡ machine.old.sp }
     ensures block { result.block ≡ machine.new.sp }
 {
@@ -130,13 +136,14 @@ pub fn receive<A: Abi>(machine: &mut Machine, cif: &Cif<A>) -> Incoming
     let _sig = cif.sig();
     let entry = machine.sp();
     let base = entry + A::LINK;
-    let area = entry - A::SAVE;
-    let block = area - cif.block();
+    let block = entry - A::SAVE - cif.block();
     let hidden = hidden_place(cif.result_place());
     let address = hidden_word(machine, base, hidden);
-    save_words::<A>(machine, area, base, hidden);
-    machine.set_sp(block);
+    enter::<A>(machine, base, block, hidden);
+    // its contract tells what is true of every machine
+    let _entered = machine.sp();
     copy_arguments(machine, cif, base, block);
+    let _copied = machine.sp();
     let number = machine.events().len() as u64;
     machine.scribble(number);
     Incoming {

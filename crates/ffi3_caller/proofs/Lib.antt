@@ -1,4 +1,6 @@
 mod Loading
 mod Results
 mod Calling
+mod ByStub
 mod Pushing
+mod Framing

@@ -1,8 +1,9 @@
--- A call pushes the return address below the frame, or sets the register that holds it: what stood at its place still stands there.
-use Rattle.std.proofs.Common.{◌≡◌, ℕ, ◌+◌, ◌-◌, ◌≤◌, List, ◌++◌, take, drop, get_or, length, refl, ap, sym, ◌∙◌, subst, arith}
+-- Once a slot is called, what was passed still stands at its places: Call loads what carries something, and a return address is pushed below the frame, or set in a register that carries nothing.
+use Rattle.std.specs.Prelude.{⊤}
+use Rattle.std.proofs.Common.{◌≡◌, ℕ, ◌+◌, ◌-◌, ◌≤◌, Bool, true, false, List, [], ◌∷◌, ◌++◌, take, drop, length, refl, ap, sym, ◌∙◌, subst, arith}
 use Rattle.std.specs.List.{AllByRecursion, flat_map}
 use Rattle.std.specs.Int.{w64, to_le_bytes}
-use Rattle.std.proofs.lemmas.List.{drop-drop, drop-take, get_or-set_other, length-append, length-take-le}
+use Rattle.std.proofs.lemmas.List.{drop-drop, drop-take, length-append, length-take-le}
 use Rattle.std.proofs.lemmas.Slice.{drop-append-drop}
 use Rattle.ffi3_type_rules.specs.declared.Target.{Target}
 use Rattle.ffi3_type_rules.specs.declared.Isa.{Isa}
@@ -13,23 +14,26 @@ use Rattle.ffi3_type_rules.specs.Signature.{Signature}
 use Rattle.ffi3_type_rules.specs.Value.{ValueTree}
 use Rattle.ffi3_type_rules.proofs.Parts.{length_part}
 use Rattle.ffi3_place_rules.specs.declared.Loc.{Loc}
-use Rattle.ffi3_place_rules.specs.declared.Loc.TheVariants.{G}
-use Rattle.ffi3_place_rules.specs.Isa.{pushed_bytes, link_register, link_place, listed}
+use Rattle.ffi3_place_rules.specs.declared.Loc.TheVariants.{G, F, S}
+use Rattle.ffi3_place_rules.specs.Isa.{call_loads, call_scratch, exit_scratch, has_stubs, link_place, link_register, listed, pushed_bytes, reserved_places}
 use Rattle.ffi3_place_rules.specs.Standard.{Standard, frame_of, plan_of}
-use Rattle.ffi3_place_rules.specs.Agrees.{AgreesWithMachine, given_back}
-use Rattle.ffi3_place_rules.specs.Holds.{OwnsArguments, OwnsHidden, FillArguments, RegisterHolds, Holds}
-use Rattle.ffi3_place_rules.specs.Sound.{Apart, IsNoneOf, IsSound, argument_locs, closed_to_arguments, closed_to_results, hidden_locs, place_locs}
-use Rattle.ffi3_machine.specs.State.{State, called, image_of, linked_general, linked_stack, stack_at}
+use Rattle.ffi3_place_rules.specs.Agrees.{AgreesWithMachine, given_back, special}
+use Rattle.ffi3_place_rules.specs.ByStubs.{AgreesWithStubs, ResultGoesByStubs}
+use Rattle.ffi3_place_rules.specs.Holds.{OwnResult, OwnsArguments, OwnsHidden, FillArguments, RegisterHolds, Holds}
+use Rattle.ffi3_place_rules.specs.Image.{register}
+use Rattle.ffi3_place_rules.specs.Sound.{Apart, IsNoneOf, IsOneOf, IsOnStackOrIn, IsSound, argument_locs, buffer_locs, closed_to_arguments, closed_to_results, copy_locs, hidden_locs, place_locs, result_locs}
+use Rattle.ffi3_machine.specs.State.{State, image_of, linked_stack, stack_at}
+use Rattle.ffi3_pieces.specs.Passing.{by_exchange, passing}
+use Rattle.ffi3_pieces.specs.Stored.{IsPlace, SameAt}
 use Rattle.ffi3_pieces.proofs.Alike.{AreAlike, arguments_owned, arguments_filled, address_owned, count_held}
-use Rattle.ffi3_pieces.proofs.Lawful.{each_first, each_rest, each_map, machine_places}
+use Rattle.ffi3_pieces.proofs.Lawful.{call_places, each_first, each_rest, each_map, machine_places}
+use Rattle.ffi3_pieces.proofs.Outcomes.{own_result_kept}
+use Rattle.ffi3_pieces.proofs.Passing.{stubs_there}
 use Rattle.ffi3_pieces.proofs.Ranges.{range_length}
+use Rattle.ffi3_pieces.proofs.Tables.{each_with, one_of_each, preserved_not_called, preserved_not_returned, reserved_are_places, reserved_not_called, reserved_not_link, reserved_not_returned}
+use Rattle.ffi3_caller.specs.Called.{HasComeBack, IsCarried, IsLeft, IsPassedBack, IsUntouched, SlotIsCalled, at_frame}
 
--- ---- the machine's call
-
-linked_same : (isa : Isa) (general : List ℕ) (r : ℕ) → IsNoneOf (listed (link_place isa)) (G r) → get_or (linked_general (link_register isa) general) r 0 ≡ get_or general r 0
-linked_same Amd64 general r none = refl
-linked_same Aarch64 general r none = get_or-set_other general 30 r RETURN 0 none.0
-linked_same Riscv general r none = get_or-set_other general 1 r RETURN 0 none.0
+-- ---- the stack
 
 above_same : (isa : Isa) (sp : ℕ) (stack : List ℕ) → STACK + pushed_bytes isa ≤ sp → sp - STACK ≤ length stack → drop (sp - STACK) (linked_stack (link_register isa) sp stack) ≡ drop (sp - STACK) stack
 above_same Amd64 sp stack low fits =
@@ -47,21 +51,88 @@ linked_length Amd64 sp stack low fits =
 linked_length Aarch64 sp stack low fits = refl
 linked_length Riscv sp stack low fits = refl
 
--- the image after the call, with the bytes that it pushes
-called_pushed : (addr frame : ℕ) (m : State) → STACK + pushed_bytes (isa_of m.target) ≤ m.sp → m.sp - STACK ≤ length m.stack → AreAlike 0 (pushed_bytes (isa_of m.target)) (listed (link_place (isa_of m.target))) (image_of frame m) (image_of (pushed_bytes (isa_of m.target) + frame) (called addr m))
-called_pushed addr frame m low fits =
-    let isa = isa_of m.target in
-    let b = pushed_bytes (isa_of m.target) in
-    let pushed = linked_stack (link_register (isa_of m.target)) m.sp m.stack in
-    let there : m.sp - pushed_bytes (isa_of m.target) - STACK + pushed_bytes (isa_of m.target) ≡ m.sp - STACK = omega (arith, low) in
-    record {
-      sp = omega (arith, low);
-      stack = drop-take b frame (drop (m.sp - b - STACK) pushed) ∙ ap (take frame) (drop-drop b (m.sp - b - STACK) pushed ∙ ap (λ n. drop n pushed) there ∙ above_same isa m.sp m.stack low fits);
-      general = λ r none. linked_same isa m.general r none;
-      floating = refl;
-    }
-
 -- ---- by a standard
+
+-- calls that go by stubs agree with them
+pub laws_of : (std : Standard) (target : Target) → (has_stubs std.target ≡ true → AgreesWithStubs std) → std.target ≡ target → by_exchange target ≡ true → AgreesWithStubs std
+laws_of std target law same e = law (ap has_stubs same ∙ stubs_there target e)
+
+pub result_law_of : (std : Standard) (s : Signature) (target : Target) → (has_stubs std.target ≡ true → ResultGoesByStubs std s) → std.target ≡ target → by_exchange target ≡ true → ResultGoesByStubs std s
+result_law_of std s target law same e = law (ap has_stubs same ∙ stubs_there target e)
+
+on_stack_or_in : (ls ms : List Loc) → AllByRecursion (IsOneOf ms) ls → (l : Loc) → IsOnStackOrIn ls l → IsOnStackOrIn ms l
+on_stack_or_in ls ms all (G r) some = one_of_each (IsOneOf ms) (G r) ls all some
+on_stack_or_in ls ms all (F r) some = one_of_each (IsOneOf ms) (F r) ls all some
+on_stack_or_in ls ms all (S n) some = tt
+
+one_is_in : (ms : List Loc) (l : Loc) → IsOneOf ms l → IsOnStackOrIn ms l
+one_is_in ms (G r) some = some
+one_is_in ms (F r) some = some
+one_is_in ms (S n) some = tt
+
+all_free : (ls : List Loc) → AllByRecursion (λ l. ⊤) ls
+all_free [] = tt
+all_free (l ∷ ls) = (tt, all_free ls)
+
+all_back : (ls : List Loc) → AllByRecursion (λ l. ⊤) ls
+all_back [] = tt
+all_back (l ∷ ls) = (tt, all_back ls)
+
+module _ (std : Standard) (agrees : AgreesWithMachine std) where
+  pub pushed_is : (m : State) (kind : Target) → std.target ≡ kind → m.target ≡ kind → std.link ≡ pushed_bytes (isa_of m.target)
+  pushed_is m kind is same = agrees.link ∙ ap (λ k. pushed_bytes (isa_of k)) (is ∙ sym same)
+
+  reserved_from : (P : Loc → Type 0) → AllByRecursion P (reserved_places (isa_of std.target)) → AllByRecursion P std.reserved
+  reserved_from P all = subst (AllByRecursion P) (sym agrees.reserved) all
+
+  pub reserved_lie : AllByRecursion (IsPlace 0) std.reserved
+  reserved_lie = reserved_from (IsPlace 0) (reserved_are_places (isa_of std.target))
+
+  pub preserved_lie : AllByRecursion (IsPlace 0) std.preserved
+  preserved_lie = machine_places (isa_of std.target) 0 std.preserved agrees.preserved_exist
+
+  left_preserved : (b : Bool) → (b ≡ true → AgreesWithStubs std) → AllByRecursion (IsLeft b (isa_of std.target)) std.preserved
+  left_preserved true law = preserved_not_called std agrees (law refl)
+  left_preserved false law =
+      subst (λ o. AllByRecursion (IsNoneOf (listed o)) std.preserved) agrees.link_register
+      (each_map (IsNoneOf (special std)) (IsNoneOf (listed std.link_register)) (λ l none. each_first (Apart l) (listed std.link_register) (std.trampoline_registers ++ (listed std.vector_count ++ listed std.returned_address)) (each_rest (Apart l) std.reserved (listed std.link_register ++ (std.trampoline_registers ++ (listed std.vector_count ++ listed std.returned_address))) none.1)) std.preserved agrees.preserved_plain)
+
+  left_reserved : (b : Bool) → AllByRecursion (IsLeft b (isa_of std.target)) std.reserved
+  left_reserved true =
+      reserved_from (IsNoneOf (call_scratch (isa_of std.target) ++ call_loads (isa_of std.target))) (reserved_not_called (isa_of std.target))
+  left_reserved false = reserved_from (IsNoneOf (listed (link_place (isa_of std.target)))) (reserved_not_link (isa_of std.target))
+
+  -- a call leaves the preserved and the reserved registers
+  pub call_preserves : (addr : ℕ) (m n : State) → std.target ≡ m.target → (by_exchange m.target ≡ true → AgreesWithStubs std) → SlotIsCalled addr m n → AllByRecursion (λ l. SameAt 0 l m n) std.preserved
+  call_preserves addr m n same law called =
+      each_with (IsPlace 0) (IsLeft (by_exchange m.target) (isa_of m.target)) (λ l. SameAt 0 l m n) (λ l lies left. called.others l lies left) std.preserved preserved_lie
+      (subst (λ k. AllByRecursion (IsLeft (by_exchange m.target) (isa_of k)) std.preserved) same (left_preserved (by_exchange m.target) law))
+
+  pub call_reserves : (addr : ℕ) (m n : State) → std.target ≡ m.target → SlotIsCalled addr m n → AllByRecursion (λ l. SameAt 0 l m n) std.reserved
+  call_reserves addr m n same called =
+      each_with (IsPlace 0) (IsLeft (by_exchange m.target) (isa_of m.target)) (λ l. SameAt 0 l m n) (λ l lies left. called.others l lies left) std.reserved reserved_lie
+      (subst (λ k. AllByRecursion (IsLeft (by_exchange m.target) (isa_of k)) std.reserved) same (left_reserved (by_exchange m.target)))
+
+  -- and so does the way back
+  free_preserved : (b : Bool) → (b ≡ true → AgreesWithStubs std) → AllByRecursion (IsUntouched b (isa_of std.target)) std.preserved
+  free_preserved true law = preserved_not_returned std agrees (law refl)
+  free_preserved false law = all_free std.preserved
+
+  free_reserved : (b : Bool) → AllByRecursion (IsUntouched b (isa_of std.target)) std.reserved
+  free_reserved true = reserved_from (IsNoneOf (exit_scratch (isa_of std.target))) (reserved_not_returned (isa_of std.target))
+  free_reserved false = all_free std.reserved
+
+  pub back_preserves : (frame : ℕ) (m n : State) → std.target ≡ m.target → (by_exchange m.target ≡ true → AgreesWithStubs std) → HasComeBack frame m n → AllByRecursion (λ l. SameAt 0 l m n) std.preserved
+  back_preserves frame m n same law back =
+      each_with (IsPlace 0) (IsUntouched (by_exchange m.target) (isa_of m.target)) (λ l. SameAt 0 l m n) (λ l lies free. back.others l lies free) std.preserved preserved_lie
+      (subst (λ k. AllByRecursion (IsUntouched (by_exchange m.target) (isa_of k)) std.preserved) same (free_preserved (by_exchange m.target) law))
+
+  pub back_reserves : (frame : ℕ) (m n : State) → std.target ≡ m.target → HasComeBack frame m n → AllByRecursion (λ l. SameAt 0 l m n) std.reserved
+  back_reserves frame m n same back =
+      each_with (IsPlace 0) (IsUntouched (by_exchange m.target) (isa_of m.target)) (λ l. SameAt 0 l m n) (λ l lies free. back.others l lies free) std.reserved reserved_lie
+      (subst (λ k. AllByRecursion (IsUntouched (by_exchange m.target) (isa_of k)) std.reserved) same (free_reserved (by_exchange m.target)))
+
+-- ---- arguments
 
 module _ (std : Standard) (s : Signature) (sound : IsSound std s) (agrees : AgreesWithMachine std) where
   arguments_clear : AllByRecursion (IsNoneOf (listed std.link_register)) (argument_locs (plan_of std s))
@@ -77,31 +148,116 @@ module _ (std : Standard) (s : Signature) (sound : IsSound std s) (agrees : Agre
   count_clear =
       each_map (IsNoneOf (given_back std ++ (std.reserved ++ std.trampoline_registers))) (IsNoneOf (listed std.link_register)) (λ l h. each_rest (Apart l) std.preserved (listed std.link_register) (each_first (Apart l) (given_back std) (std.reserved ++ std.trampoline_registers) h)) (listed std.vector_count) agrees.count_plain
 
-  pub pushed_is : (m : State) (kind : Target) → std.target ≡ kind → m.target ≡ kind → std.link ≡ pushed_bytes (isa_of m.target)
-  pushed_is m kind is same = agrees.link ∙ ap (λ k. pushed_bytes (isa_of k)) (is ∙ sym same)
+  carried_arguments : (b : Bool) → (b ≡ true → AgreesWithStubs std) → AllByRecursion (IsCarried b (isa_of std.target)) (argument_locs (plan_of std s))
+  carried_arguments true law =
+      let laws = law refl in
+      each_map (IsOnStackOrIn std.argument_registers) (IsOnStackOrIn (call_loads (isa_of std.target))) (on_stack_or_in std.argument_registers (call_loads (isa_of std.target)) laws.arguments_loaded) (argument_locs (plan_of std s)) sound.passed
+  carried_arguments false law =
+      subst (λ o. AllByRecursion (IsNoneOf (listed o)) (argument_locs (plan_of std s))) agrees.link_register arguments_clear
 
-  -- where the frame holds the arguments before a call, the stack holds them behind the return address after it
-  pub holds_after_call : (addr : ℕ) (m : State) (kind : Target) → std.target ≡ kind → m.target ≡ kind → STACK + std.link ≤ m.sp → m.sp - STACK + frame_of std s ≤ length m.stack → (vs : List ValueTree) → OwnsArguments (image_of (frame_of std s) m) 0 s.arguments (plan_of std s).places vs → FillArguments (image_of (frame_of std s) m) 0 s.arguments (plan_of std s).places vs → OwnsHidden (image_of (frame_of std s) m) 0 (plan_of std s).res → RegisterHolds (image_of (frame_of std s) m) std.vector_count (plan_of std s).vectors → Holds std s vs (image_of (std.link + frame_of std s) (called addr m))
-  holds_after_call addr m kind is same low fits vs own fill address count =
-      let frame = frame_of std s in
-      let old = image_of (frame_of std s) m in
-      let new = image_of (std.link + frame_of std s) (called addr m) in
-      let bytes = pushed_is m kind is same in
-      let links : std.link_register ≡ link_place (isa_of m.target) = agrees.link_register ∙ ap (λ k. link_place (isa_of k)) (is ∙ sym same) in
-      let first = called_pushed addr (frame_of std s) m (omega (arith, bytes, low)) (omega (arith, fits)) in
-      let changed = subst (λ l. AreAlike 0 (pushed_bytes (isa_of m.target)) (listed l) old (image_of (pushed_bytes (isa_of m.target) + frame) (called addr m))) (sym links) first in
-      let pushed = subst (λ n. AreAlike 0 n (listed std.link_register) old (image_of (n + frame) (called addr m))) (sym bytes) changed in
-      let hidden = hidden_locs (plan_of std s).res in
-      let flat = flat_map place_locs (plan_of std s).places in
-      let in_places = each_rest (IsNoneOf (listed std.link_register)) hidden flat arguments_clear in
-      let sized : length (called addr m).stack ≡ length m.stack = linked_length (isa_of m.target) m.sp m.stack (omega (arith, bytes, low)) (omega (arith, fits)) in
-      let reaches : length (stack_at (called addr m).sp (std.link + frame) (called addr m)) ≡ std.link + frame = length_part (called addr m).stack ((called addr m).sp - STACK) (std.link + frame) (omega (arith, bytes, low, fits, sized)) in
-      record {
-        own = record {
-          reaches = omega (arith, reaches);
-          arguments = arguments_owned 0 std.link (listed std.link_register) old new pushed s.arguments (plan_of std s).places vs in_places own;
-          hidden = address_owned 0 std.link (listed std.link_register) old new pushed (plan_of std s).res (each_first (IsNoneOf (listed std.link_register)) hidden flat arguments_clear) address;
-        };
-        filled = arguments_filled 0 std.link (listed std.link_register) old new pushed s.arguments (plan_of std s).places vs in_places fill;
-        vectors = count_held 0 std.link (listed std.link_register) old new pushed std.vector_count (plan_of std s).vectors (machine_places (isa_of std.target) 0 (listed std.vector_count) agrees.count_exists) count_clear count;
-      }
+  carried_count : (b : Bool) → (b ≡ true → AgreesWithStubs std) → AllByRecursion (IsCarried b (isa_of std.target)) (listed std.vector_count)
+  carried_count true law =
+      let laws = law refl in
+      each_map (IsOneOf (call_loads (isa_of std.target))) (IsOnStackOrIn (call_loads (isa_of std.target))) (one_is_in (call_loads (isa_of std.target))) (listed std.vector_count) laws.count_loaded
+  carried_count false law = subst (λ o. AllByRecursion (IsNoneOf (listed o)) (listed std.vector_count)) agrees.link_register count_clear
+
+  module _ (addr : ℕ) (m n : State) (same : std.target ≡ m.target) (law : by_exchange m.target ≡ true → AgreesWithStubs std) (low : STACK + std.link ≤ m.sp) (fits : m.sp - STACK + frame_of std s ≤ length m.stack) (called : SlotIsCalled addr m n) where
+    abbrev isa : Isa
+    isa = isa_of m.target
+
+    abbrev IsStill : Loc → Type 0
+    IsStill l = IsPlace (frame_of std s) l × IsCarried (by_exchange m.target) (isa_of m.target) l
+
+    bytes : std.link ≡ pushed_bytes (isa_of m.target)
+    bytes = pushed_is std agrees m m.target same refl
+
+    below : STACK + pushed_bytes (isa_of m.target) ≤ m.sp
+    below = let b = bytes in omega (arith, b, low)
+
+    inside : m.sp - STACK ≤ length m.stack
+    inside = omega (arith, fits)
+
+    sized : length n.stack ≡ length m.stack
+    sized = ap length called.stack ∙ linked_length (isa_of m.target) m.sp m.stack below inside
+
+    alike_pushed : AreAlike 0 (pushed_bytes (isa_of m.target)) IsStill (image_of (frame_of std s) (passing m)) (image_of (pushed_bytes (isa_of m.target) + frame_of std s) n)
+    alike_pushed =
+        let b = pushed_bytes (isa_of m.target) in
+        let frame = frame_of std s in
+        let pushed = linked_stack (link_register (isa_of m.target)) m.sp m.stack in
+        let under = below in
+        let sp = called.sp in
+        let there : m.sp - pushed_bytes (isa_of m.target) - STACK + pushed_bytes (isa_of m.target) ≡ m.sp - STACK = omega (arith, under) in
+        record {
+          sp = omega (arith, under, sp);
+          stack = ap (λ a. drop b (take (b + frame) (drop (a - STACK) n.stack))) called.sp ∙ ap (λ xs. drop b (take (b + frame) (drop (m.sp - b - STACK) xs))) called.stack ∙ drop-take b frame (drop (m.sp - b - STACK) pushed) ∙ ap (take frame) (drop-drop b (m.sp - b - STACK) pushed ∙ ap (λ k. drop k pushed) there ∙ above_same (isa_of m.target) m.sp m.stack below inside);
+          general = λ r still. called.passed (G r) still.0 still.1;
+          floating = λ r still. called.passed (F r) still.0 still.1;
+        }
+
+    alike : AreAlike 0 std.link IsStill (image_of (frame_of std s) (passing m)) (image_of (std.link + frame_of std s) n)
+    alike =
+        subst (λ k. AreAlike 0 k IsStill (image_of (frame_of std s) (passing m)) (image_of (k + frame_of std s) n)) (sym bytes) alike_pushed
+
+    arguments_still : AllByRecursion IsStill (argument_locs (plan_of std s))
+    arguments_still =
+        let p = plan_of std s in
+        each_with (IsPlace (frame_of std s)) (IsCarried (by_exchange m.target) (isa_of m.target)) IsStill (λ l lies carried. (lies, carried)) (argument_locs (plan_of std s)) (each_first (IsPlace (frame_of std s)) (argument_locs p) (copy_locs s.arguments p.places ++ buffer_locs s.result_type p.res) (call_places std s sound))
+        (subst (λ k. AllByRecursion (IsCarried (by_exchange m.target) (isa_of k)) (argument_locs (plan_of std s))) same (carried_arguments (by_exchange m.target) law))
+
+    count_still : AllByRecursion IsStill (listed std.vector_count)
+    count_still =
+        each_with (IsPlace (frame_of std s)) (IsCarried (by_exchange m.target) (isa_of m.target)) IsStill (λ l lies carried. (lies, carried)) (listed std.vector_count) (each_map (IsPlace 0) (IsPlace (frame_of std s)) (lies_wider (frame_of std s)) (listed std.vector_count) (machine_places (isa_of std.target) 0 (listed std.vector_count) agrees.count_exists))
+        (subst (λ k. AllByRecursion (IsCarried (by_exchange m.target) (isa_of k)) (listed std.vector_count)) same (carried_count (by_exchange m.target) law))
+      where
+        lies_wider : (room : ℕ) (l : Loc) → IsPlace 0 l → IsPlace room l
+        lies_wider room (G r) lies = lies
+        lies_wider room (F r) lies = lies
+        lies_wider room (S k) lies = absurd (omega (arith, lies))
+
+    -- where the frame holds the arguments before a call, registers and the stack behind the return address hold them after it
+    pub holds_after_call : (vs : List ValueTree) → OwnsArguments (image_of (frame_of std s) (passing m)) 0 s.arguments (plan_of std s).places vs → FillArguments (image_of (frame_of std s) (passing m)) 0 s.arguments (plan_of std s).places vs → OwnsHidden (image_of (frame_of std s) (passing m)) 0 (plan_of std s).res → RegisterHolds (image_of (frame_of std s) (passing m)) std.vector_count (plan_of std s).vectors → Holds std s vs (image_of (std.link + frame_of std s) n)
+    holds_after_call vs own fill address count =
+        let frame = frame_of std s in
+        let old = image_of (frame_of std s) (passing m) in
+        let new = image_of (std.link + frame_of std s) n in
+        let hidden = hidden_locs (plan_of std s).res in
+        let flat = flat_map place_locs (plan_of std s).places in
+        let in_places = each_rest IsStill hidden flat arguments_still in
+        let b = bytes in
+        let under = below in
+        let sp = called.sp in
+        let long = sized in
+        let reaches : length (stack_at n.sp (std.link + frame) n) ≡ std.link + frame = length_part n.stack (n.sp - STACK) (std.link + frame) (omega (arith, b, under, sp, fits, long)) in
+        record {
+          own = record {
+            reaches = omega (arith, reaches);
+            arguments = arguments_owned 0 std.link IsStill old new alike s.arguments (plan_of std s).places vs in_places own;
+            hidden = address_owned 0 std.link IsStill old new alike (plan_of std s).res (each_first IsStill hidden flat arguments_still) address;
+          };
+          filled = arguments_filled 0 std.link IsStill old new alike s.arguments (plan_of std s).places vs in_places fill;
+          vectors = count_held 0 std.link IsStill old new alike std.vector_count (plan_of std s).vectors (machine_places (isa_of std.target) 0 (listed std.vector_count) agrees.count_exists) count_still count;
+        }
+
+-- ---- a result
+
+register_same : (n k : ℕ) (a b : State) (l : Loc) → IsPlace 0 l → SameAt 0 l a b → register (image_of n b) l ≡ register (image_of k a) l
+register_same n k a b (G r) lies h = h
+register_same n k a b (F r) lies h = h
+register_same n k a b (S i) lies h = absurd (omega (arith, lies))
+
+passed_back : (std : Standard) (s : Signature) (b : Bool) → (b ≡ true → ResultGoesByStubs std s) → AllByRecursion (IsPassedBack b (isa_of std.target)) (result_locs (plan_of std s).res)
+passed_back std s true law = let laws = law refl in laws.loaded
+passed_back std s false law = all_back (result_locs (plan_of std s).res)
+
+-- what the image at a return owns is passed back
+pub result_back : (std : Standard) (s : Signature) (m n : State) (v : ValueTree) → IsSound std s → std.target ≡ m.target → (by_exchange m.target ≡ true → ResultGoesByStubs std s) → HasComeBack (frame_of std s) m n → OwnResult std s v (image_of (frame_of std s) m) → OwnResult std s v (image_of (frame_of std s) (at_frame (frame_of std s) n))
+result_back std s m n v sound same law back own =
+    let frame = frame_of std s in
+    own_result_kept (image_of (frame_of std s) m) (image_of (frame_of std s) (at_frame (frame_of std s) n)) (IsPassedBack (by_exchange m.target) (isa_of m.target)) back.start (ap (λ a. stack_at a frame n) back.start ∙ ap (λ xs. take frame (drop (m.sp - STACK) xs)) back.stack) (λ l lies some. register_same frame frame m (at_frame (frame_of std s) n) l lies (moved l lies (back.passed l lies some))) std s v sound
+    (subst (λ k. AllByRecursion (IsPassedBack (by_exchange m.target) (isa_of k)) (result_locs (plan_of std s).res)) same (passed_back std s (by_exchange m.target) law)) own
+  where
+    moved : (l : Loc) → IsPlace 0 l → SameAt 0 l m (passing n) → SameAt 0 l m (at_frame (frame_of std s) n)
+    moved (G r) lies h = h
+    moved (F r) lies h = h
+    moved (S i) lies h = absurd (omega (arith, lies))

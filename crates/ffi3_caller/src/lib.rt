@@ -6,19 +6,24 @@ ghost use Rattle.std.specs.Prelude.{◌≡◌, List, ◌+◌, ◌-◌, ◌<◌, 
 ghost use Rattle.std.specs.List.{AllByRecursion};
 ghost use Rattle.ffi3_type_rules.specs.Layout.{size_of};
 ghost use Rattle.ffi3_type_rules.specs.Value.{ValueTree, value_in};
-ghost use Rattle.ffi3_place_rules.specs.Holds.{FillArguments, Holds, OwnResult, OwnsArguments, OwnsHidden, RegisterHolds};
+ghost use Rattle.ffi3_place_rules.specs.Holds.{OwnResult};
 ghost use Rattle.ffi3_place_rules.specs.Standard.{plan_of, need_of, frame_of};
 ghost use Rattle.ffi3_type_rules.specs.declared.limits.TheConstants.{STACK, STACK_TOP};
-ghost use Rattle.ffi3_machine.specs.State.{called, image_of, with_sp, IsSlot};
-ghost use Rattle.ffi3_pieces.specs.Passing.{passing};
+ghost use Rattle.ffi3_machine.specs.State.{image_of};
+ghost use Rattle.ffi3_pieces.specs.Passing.{by_exchange, passing};
+ghost use Rattle.ffi3_caller.specs.Called.{at_frame, dropped_if, frame_start};
 ghost use Rattle.ffi3_caller.specs.Loaded.{AreWithin, IsRegister, IsWithin, loaded, with_piece};
 
+mod coming;
+mod slot;
 mod store;
 
+pub use coming::come_back;
 use ffi3_cif::Cif;
 use ffi3_machine::{Machine, STACK};
-use ffi3_pieces::{passed_floating, passed_general};
+use ffi3_pieces::{by_exchange, passed_floating, passed_general};
 use ffi3_place::{Abi, Loc, Piece, Pieces, Res};
+pub use slot::call;
 pub use store::store_args;
 use thiserror::Error;
 
@@ -49,38 +54,18 @@ pub fn room_for<A: Abi>(machine: &Machine, cif: &Cif<A>) -> Result<(), StackFull
     Ok(())
 }
 
-/// Calls the code at the slot `addr`. Arguments that `store_args` stored stand for the callee behind the return address.
-pub fn call<A: Abi>(machine: &mut Machine, cif: &Cif<A>, addr: u64)
-    requires target { machine.old.target ≡ A.TARGET }
-    requires slot { IsSlot addr }
-    requires room { STACK + A.standard.link ≤ machine.old.sp }
-    requires frame { machine.old.sp + frame_of A.standard cif.now ≤ STACK_TOP }
-    ensures called { machine.new ≡ called addr machine.old }
-    ensures holds { (values : List ValueTree) →
-        OwnsArguments (image_of (frame_of A.standard cif.now) (passing machine.old)) 0 cif.now.arguments (plan_of A.standard cif.now).places values →
-        FillArguments (image_of (frame_of A.standard cif.now) (passing machine.old)) 0 cif.now.arguments (plan_of A.standard cif.now).places values →
-        OwnsHidden (image_of (frame_of A.standard cif.now) (passing machine.old)) 0 (plan_of A.standard cif.now).res →
-        RegisterHolds (image_of (frame_of A.standard cif.now) (passing machine.old)) A.standard.vector_count (plan_of A.standard cif.now).vectors →
-        Holds A.standard cif.now values (image_of (A.standard.link + frame_of A.standard cif.now) machine.new) }
-{
-    // their contracts tell what is true of every interface and of every machine
-    let _sig = cif.sig();
-    let _sp = machine.sp();
-    machine.call(addr);
-}
-
-/// The bytes of the result, at a return. Bytes of padding may be any.
+/// The bytes of the result, once the call has come back. Bytes of padding may be any.
 pub fn load_result<A: Abi>(machine: &Machine, cif: &Cif<A>, out: &mut [u8])
-    requires bottom { STACK ≤ machine.now.sp }
-    requires frame { machine.now.sp + frame_of A.standard cif.now ≤ STACK_TOP }
+    requires bottom { STACK ≤ frame_start (frame_of A.standard cif.now) machine.now }
+    requires frame { frame_start (frame_of A.standard cif.now) machine.now + frame_of A.standard cif.now ≤ STACK_TOP }
     requires sized { length out.old ≡ size_of cif.now.result_type }
     ensures sized { length out.new ≡ length out.old }
-    ensures value { (v : ValueTree) → OwnResult A.standard cif.now v (image_of (frame_of A.standard cif.now) (passing machine.now)) →
+    ensures value { (v : ValueTree) → OwnResult A.standard cif.now v (image_of (frame_of A.standard cif.now) (at_frame (frame_of A.standard cif.now) machine.now)) →
         value_in cif.now.result_type out.new ≡ v }
 {
     // its contract tells what is true of every interface
     let _sig = cif.sig();
-    let base = machine.sp();
+    let base = frame_start(machine, cif);
     match cif.result_place() {
         Res::Nothing => {}
         Res::Direct(pieces) => load_pieces(machine, pieces, out),
@@ -89,6 +74,16 @@ pub fn load_result<A: Abi>(machine: &Machine, cif: &Cif<A>, out: &mut [u8])
             out.copy_from_slice(machine.lend_stack(start, out.len() as u64));
         }
     }
+}
+
+// Where the frame of a call begins, once it has come back: at sp, or below it, where sp has been raised over the frame.
+fn frame_start<A: Abi>(machine: &Machine, cif: &Cif<A>) -> u64
+    requires { STACK ≤ frame_start (frame_of A.standard cif.now) machine.now }
+    ensures { result ≡ frame_start (frame_of A.standard cif.now) machine.now }
+{
+    let sp = machine.sp();
+    let exchanged = by_exchange(machine.target());
+    if exchanged { sp - cif.frame() } else { sp }
 }
 
 // The bytes of pieces in registers.
@@ -120,10 +115,14 @@ fn load_piece(machine: &Machine, piece: &Piece, out: &mut [u8])
     out[start..end].copy_from_slice(&word.to_le_bytes()[..piece.len as usize]);
 }
 
-/// Ends the frame of a call: the stack pointer is where it stood before the call.
+/// Ends the frame of a call that has come back: the stack pointer is where it stood before the call. The stub Return has
+/// moved it there, where calls go by stubs.
 pub fn drop_frame<A: Abi>(machine: &mut Machine, cif: &Cif<A>)
-    requires frame { machine.old.sp + frame_of A.standard cif.now ≤ STACK_TOP }
-    ensures { machine.new ≡ with_sp (machine.old.sp + frame_of A.standard cif.now) machine.old }
+    requires frame { frame_start (frame_of A.standard cif.now) machine.old + frame_of A.standard cif.now ≤ STACK_TOP }
+    ensures { machine.new ≡ dropped_if (by_exchange machine.old.target) (frame_of A.standard cif.now) machine.old }
 {
-    machine.set_sp(machine.sp() + cif.frame());
+    let exchanged = by_exchange(machine.target());
+    if !exchanged {
+        machine.set_sp(machine.sp() + cif.frame());
+    }
 }

@@ -18,13 +18,13 @@ use Rattle.ffi3_place_rules.specs.Agrees.{AgreesWithMachine}
 use Rattle.ffi3_place_rules.specs.Sound.{IsSound}
 use Rattle.ffi3_place_rules.proofs.Tests.{each_at, each_weaker}
 use Rattle.ffi3_machine.specs.State.{State, HasReturnAddress, HasReturnAt, after_enter, image_of}
-use Rattle.ffi3_pieces.specs.Stored.{WroteWithin, word_in}
+use Rattle.ffi3_pieces.specs.Stored.{WroteWithin, word_in, with_journal_of}
 use Rattle.ffi3_callee.specs.Given.{IsAddressOf, ReservedStay}
 use Rattle.ffi3_callee.specs.Received.{IsReceived, OwnsAtEntry, hidden_of}
 use Rattle.ffi3_callee.specs.Saved.{IsHiddenWord, IsSaveable, IsToSave, hidden_word, saved_word}
 use Rattle.ffi3_callee.proofs.Entry.{address_owned}
 use Rattle.ffi3_callee.proofs.Laws.{words_saveable}
-use Rattle.ffi3_invoke.specs.Calls.{IsInCallee, IsSavedOf, entry_at, with_journal_of}
+use Rattle.ffi3_invoke.specs.Calls.{IsInCallee, IsSavedOf, entry_at}
 use Rattle.ffi3_invoke.proofs.Passed.{reserved_places_lie, same_in}
 use Rattle.ffi3_invoke.proofs.Stretches.{above_stays, return_same}
 
@@ -83,8 +83,8 @@ module _ (std : Standard) (s : Signature) (agrees : AgreesWithMachine std) (m r 
       let sp = received.sp in
       let low : STACK ≤ m.sp = omega (arith, room) in
       let at_standard = subst (λ k. HasReturnAt (link_register (isa_of k)) m.general m.sp m.stack) target back in
-      let spare_events : r.spare_events ≡ m.spare_events - 1 = w.spare_events in
-      let spare_bytes : r.spare_bytes ≡ m.spare_bytes - (std.link + frame_of std s) = w.spare_bytes in
+      let spare_events : r.spare_events ≡ m.spare_events - 1 = received.spare_events in
+      let spare_bytes : r.spare_bytes ≡ m.spare_bytes - (std.link + frame_of std s) = received.spare_bytes in
       record {
         target = w.target ∙ target;
         stands = record {
@@ -92,8 +92,8 @@ module _ (std : Standard) (s : Signature) (agrees : AgreesWithMachine std) (m r 
           bottom = omega (arith, sp, room);
           top = frame;
           saved = λ i word below is. word_is vs sound low own word (saved_word (m.sp - std.save) i r) (each_at (IsSaveable 0) std.save_area i word below (sym is) (words_saveable std agrees)) (received.saved i word below is);
-          return_address = return_same (link_register (isa_of std.target)) m.general m.sp m.stack r.stack (λ none. above_stays r.sp m.sp entered r w m.sp 8 low (omega arith)) at_standard;
-          frame = above_stays r.sp m.sp entered r w m.sp (std.link + frame_of std s) low (omega arith);
+          return_address = return_same (link_register (isa_of std.target)) m.general m.sp m.stack r.stack (λ none. above_stays r.sp m.sp entered (with_journal_of entered r) w m.sp 8 low (omega arith)) at_standard;
+          frame = above_stays r.sp m.sp entered (with_journal_of entered r) w m.sp (std.link + frame_of std s) low (omega arith);
         };
         reserved = same_in (std.link + frame_of std s) 0 m r std.reserved (reserved_places_lie std agrees) stay;
         room = omega (arith, spare_events, events);

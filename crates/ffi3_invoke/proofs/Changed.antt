@@ -22,12 +22,12 @@ pub record IsChanged (changed : List Loc) (old new : Image) : Type 0 where
   pub general : (r : ℕ) → IsNoneOf changed (G r) → get_or new.general r 0 ≡ get_or old.general r 0
   pub floating : new.floating ≡ old.floating
 
-alike : (base : ℕ) (changed : List Loc) (old new : Image) → IsChanged changed old new → AreAlike base base changed old new
+alike : (base : ℕ) (changed : List Loc) (old new : Image) → IsChanged changed old new → AreAlike base base (IsNoneOf changed) old new
 alike base changed old new is = record {
   sp = ap (λ n. n + base) is.sp;
   stack = ap (drop base) is.stack;
   general = is.general;
-  floating = is.floating;
+  floating = λ r none. ap (λ xs. get_or xs r 0) is.floating;
 }
 
 -- ---- by a standard, after a trampoline
@@ -43,7 +43,7 @@ module _ (std : Standard) (s : Signature) (sound : IsSound std s) (agrees : Agre
 
   pub holds_changed : (old new : Image) → IsChanged std.trampoline_registers old new → (vs : List ValueTree) → Holds std s vs old → Holds std s vs new
   holds_changed old new is vs h =
-      let changed = std.trampoline_registers in
+      let changed = IsNoneOf std.trampoline_registers in
       let same = alike std.link std.trampoline_registers old new is in
       let hidden = hidden_locs (plan_of std s).res in
       let flat = flat_map place_locs (plan_of std s).places in

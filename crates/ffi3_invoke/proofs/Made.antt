@@ -1,7 +1,8 @@
 -- A call that has begun, that has ended, and the whole of it.
-use Rattle.std.proofs.Common.{◌≡◌, ℕ, ◌+◌, ◌-◌, ◌≤◌, List, [], ◌∷◌, ◌++◌, length, refl, ap, sym, ◌∙◌, subst, append_assoc, arith}
+use Rattle.std.proofs.Common.{◌≡◌, ◌⊎◌, Bool, true, false, get_or, ℕ, ◌+◌, ◌-◌, ◌≤◌, List, [], ◌∷◌, ◌++◌, length, refl, ap, sym, ◌∙◌, subst, append_assoc, arith}
 use Rattle.std.specs.List.{AllByRecursion}
 use Rattle.ffi3_type_rules.specs.declared.limits.TheConstants.{STACK, STACK_BYTES, STACK_TOP}
+use Rattle.ffi3_type_rules.specs.Isa.{isa_of}
 use Rattle.ffi3_type_rules.specs.Signature.{Signature}
 use Rattle.ffi3_type_rules.specs.Value.{ValueTree}
 use Rattle.ffi3_type_rules.proofs.Parts.{length_part}
@@ -10,17 +11,23 @@ use Rattle.ffi3_place_rules.specs.declared.Loc.TheVariants.{G, F, S}
 use Rattle.ffi3_place_rules.specs.Image.{register}
 use Rattle.ffi3_place_rules.specs.Standard.{Standard, block_bytes, frame_of, need_of, plan_of}
 use Rattle.ffi3_place_rules.specs.Agrees.{AgreesWithMachine}
-use Rattle.ffi3_place_rules.proofs.Tests.{each_weaker}
 use Rattle.ffi3_run_rules.specs.Journal.{Entered, needs, IsEntry}
 use Rattle.ffi3_run_rules.proofs.Aligned.{entry_is_aligned}
-use Rattle.ffi3_machine.specs.State.{State, after_enter, image_of, with_sp}
-use Rattle.ffi3_pieces.specs.Stored.{WroteWithin}
+use Rattle.ffi3_machine.specs.State.{State, after_enter, image_of}
+use Rattle.ffi3_machine.specs.Stubs.{Entry, Return}
+use Rattle.ffi3_stubs.specs.Calls.{steps_of}
+use Rattle.ffi3_pieces.specs.Passing.{by_exchange, steps_if}
+use Rattle.ffi3_pieces.specs.Stored.{IsPlace, SameAt, WroteWithin, with_journal_of}
+use Rattle.ffi3_caller.specs.Called.{HasComeBack, dropped_if, frame_start, frame_start_if}
+use Rattle.ffi3_callee.specs.Given.{ResultWrites}
+use Rattle.ffi3_callee.proofs.Beside.{wrote_down}
+use Rattle.ffi3_callee.proofs.Laws.{each_both}
 use Rattle.ffi3_callee.specs.declared.Incoming.{Incoming}
 use Rattle.ffi3_callee.specs.Received.{IsIncoming, IsReceived}
-use Rattle.ffi3_invoke.specs.Calls.{HasBegun, HasEnded, HasPassed, HasReturned, IsInCallee, IsMade, KeepsReserved, entry_at, return_at, with_journal_of}
+use Rattle.ffi3_invoke.specs.Calls.{HasBegun, HasEnded, HasPassed, HasReturned, IsInCallee, IsMade, KeepsOpen, KeepsReserved, ended_steps, entry_at, return_at}
 use Rattle.ffi3_invoke.proofs.Passed.{held_still, reserved_places_lie, same_then}
 use Rattle.ffi3_invoke.proofs.Returned.{result_within}
-use Rattle.ffi3_invoke.proofs.Stretches.{above_stays, below_stays, mark_least, open_aside, still_open, wrote_down}
+use Rattle.ffi3_invoke.proofs.Stretches.{above_stays, below_stays, mark_least, open_aside, still_open}
 
 -- ---- a call has begun
 
@@ -46,8 +53,8 @@ module _ (std : Standard) (s : Signature) (agrees : AgreesWithMachine std) (vs :
       }
 
   -- A CALL HAS BEGUN, once the callee has accepted it
-  pub begun : r.events ≡ c.events ++ entry_at std s c ∷ [] → IsReceived std s (after_enter (std.link + frame_of std s) c) r → r.sp + block_bytes s + std.save ≡ c.sp → WroteWithin r.sp c.sp c (with_journal_of c r) → KeepsReserved std c r → r.spare_events + 1 ≡ c.spare_events → r.spare_bytes + (std.link + frame_of std s) ≡ c.spare_bytes → IsInCallee std (record { signature = s; event = entry_at std s c }) r → HasBegun std s vs pointer m r
-  begun events received sp within reserved spare_events spare_bytes in_callee =
+  pub begun : r.events ≡ c.events ++ entry_at std s c ∷ [] → IsReceived std s (after_enter (std.link + frame_of std s) c) r → r.sp + block_bytes s + std.save ≡ c.sp → WroteWithin r.sp c.sp c (with_journal_of c r) → KeepsReserved std c r → r.spare_events + 1 ≡ c.spare_events → r.spare_bytes + (std.link + frame_of std s) ≡ c.spare_bytes → r.steps ≡ steps_if (by_exchange c.target) (steps_of (isa_of c.target) Entry) c.steps → IsInCallee std (record { signature = s; event = entry_at std s c }) r → HasBegun std s vs pointer m r
+  begun events received sp within reserved spare_events spare_bytes steps in_callee =
       let whole = need in
       let passed_sp = passed.sp in
       let w : WroteWithin r.sp m.sp m (with_journal_of m r) = wrote_down r.sp c.sp m.sp m c r (omega (arith, sp)) (omega (arith, passed_sp)) passed.within within in
@@ -69,25 +76,75 @@ module _ (std : Standard) (s : Signature) (agrees : AgreesWithMachine std) (vs :
         reserved = same_then std.reserved (image_of 0 m) (image_of 0 c) (image_of 0 r) passed.reserved reserved;
         room = omega (arith, spare_events, before_events);
         bytes = omega (arith, spare_bytes, before_bytes);
+        steps = steps ∙ ap (λ k. steps_if (by_exchange k) (steps_of (isa_of k) Entry) c.steps) passed.within.target ∙ ap (steps_if (by_exchange m.target) (steps_of (isa_of m.target) Entry)) passed.steps;
       }
 
 -- ---- a call has ended
 
--- registers where sp moves
-register_moved : (sp : ℕ) (m : State) (l : Loc) → register (image_of 0 (with_sp sp m)) l ≡ register (image_of 0 m) l
-register_moved sp m (G k) = refl
-register_moved sp m (F k) = refl
-register_moved sp m (S k) = refl
+-- all but sp stays where a frame is dropped
+record IsDropped (d n : State) : Type 0 where
+  pub general : d.general ≡ n.general
+  pub floating : d.floating ≡ n.floating
+  pub stack : d.stack ≡ n.stack
+  pub mark : d.mark ≡ n.mark
+  pub target : d.target ≡ n.target
+  pub code : d.code ≡ n.code
+  pub events : d.events ≡ n.events
+  pub spare_events : d.spare_events ≡ n.spare_events
+  pub spare_bytes : d.spare_bytes ≡ n.spare_bytes
+  pub steps : d.steps ≡ n.steps
 
--- what was written, where sp moves
-within_moved : (low high sp : ℕ) (a b : State) → WroteWithin low high a (with_journal_of a b) → WroteWithin low high a (with_journal_of a (with_sp sp b))
-within_moved low high sp a b w = record {
-  size = w.size;
-  outside = w.outside;
-  mark = w.mark;
-  target = w.target;
+dropped : (b : Bool) (frame : ℕ) (n : State) → IsDropped (dropped_if b frame n) n
+dropped true frame n = record {
+  general = refl;
+  floating = refl;
+  stack = refl;
+  mark = refl;
+  target = refl;
+  code = refl;
+  events = refl;
+  spare_events = refl;
+  spare_bytes = refl;
+  steps = refl;
+}
+dropped false frame n = record {
+  general = refl;
+  floating = refl;
+  stack = refl;
+  mark = refl;
+  target = refl;
+  code = refl;
+  events = refl;
+  spare_events = refl;
+  spare_bytes = refl;
+  steps = refl;
+}
+
+-- sp is behind the frame
+dropped_sp : (b : Bool) (frame sp : ℕ) (n : State) → STACK ≤ sp → frame_start_if b frame n ≡ sp → (dropped_if b frame n).sp ≡ sp + frame
+dropped_sp true frame sp n low start = omega (arith, low, start)
+dropped_sp false frame sp n low start = omega (arith, start)
+
+-- registers that stay from one machine to the next
+register_then : (a b : State) (l : Loc) → IsPlace 0 l → SameAt 0 l a b → register (image_of 0 b) l ≡ register (image_of 0 a) l
+register_then a b (G k) lies h = h
+register_then a b (F k) lies h = h
+register_then a b (S k) lies h = absurd (omega (arith, lies))
+
+register_dropped : (d n : State) → IsDropped d n → (l : Loc) → IsPlace 0 l → register (image_of 0 d) l ≡ register (image_of 0 n) l
+register_dropped d n same (G k) lies = ap (λ xs. get_or xs k 0) same.general
+register_dropped d n same (F k) lies = ap (λ xs. get_or xs k 0) same.floating
+register_dropped d n same (S k) lies = absurd (omega (arith, lies))
+
+-- what was written, where no more is
+within_still : (low high : ℕ) (a b d : State) → WroteWithin low high a (with_journal_of a b) → d.stack ≡ b.stack → d.mark ≡ b.mark → d.target ≡ b.target → d.code ≡ b.code → WroteWithin low high a (with_journal_of a d)
+within_still low high a b d w stack mark target code = record {
+  size = ap length stack ∙ w.size;
+  outside = λ i far. ap (λ xs. get_or xs i 0) stack ∙ w.outside i far;
+  mark = subst (λ n. (a.mark ≤ n) ⊎ (low ≤ n)) (sym mark) w.mark;
+  target = target ∙ w.target;
   pc = refl;
-  code = w.code;
+  code = code ∙ w.code;
   events = refl;
   spare_events = refl;
   spare_bytes = refl;
@@ -95,33 +152,57 @@ within_moved low high sp a b w = record {
   steps = refl;
 }
 
-module _ (std : Standard) (s : Signature) (v : ValueTree) (m l : State) (bottom : STACK ≤ m.sp) (returned : HasReturned std s v m l) where
-  ended_there : HasEnded std s v m (with_sp (l.sp + frame_of std s) l)
+-- what a result writes lies in the frame, beside all else
+writes_within : (std : Standard) (s : Signature) (base : ℕ) (m l : State) → ResultWrites base s.result_type (plan_of std s).res m (with_journal_of m l) → WroteWithin base (base + frame_of std s) m (with_journal_of m l)
+writes_within std s base m l w = result_within std s base (plan_of std s).res m (with_journal_of m l) refl w
+
+pub returned_target : (std : Standard) (s : Signature) (v : ValueTree) (m l : State) → HasReturned std s v m l → l.target ≡ m.target
+returned_target std s v m l returned = let w = writes_within std s l.sp m l returned.writes in w.target
+
+module _ (std : Standard) (s : Signature) (agrees : AgreesWithMachine std) (v : ValueTree) (m l n : State) (bottom : STACK ≤ m.sp) (returned : HasReturned std s v m l) (back : HasComeBack (frame_of std s) l n) (reserved : AllByRecursion (λ at. SameAt 0 at l n) std.reserved) where
+  ended_there : HasEnded std s v m (dropped_if (by_exchange n.target) (frame_of std s) n)
   ended_there =
-      let d = with_sp (l.sp + frame_of std s) l in
+      let d : State = dropped_if (by_exchange n.target) (frame_of std s) n in
+      let same : IsDropped d n = dropped (by_exchange n.target) (frame_of std s) n in
       let whole : need_of std s ≡ frame_of std s + std.link + std.save + block_bytes s = refl in
       let sp = returned.sp in
-      let w : WroteWithin l.sp (l.sp + frame_of std s) m (with_journal_of m d) = within_moved l.sp (l.sp + frame_of std s) (l.sp + frame_of std s) m l (result_within std s l.sp (plan_of std s).res m (with_journal_of m l) refl returned.writes) in
-      let least = mark_least l.sp m.mark l.mark w.mark in
+      let low : STACK ≤ l.sp = omega (arith, sp, bottom) in
+      let at_end : d.sp ≡ l.sp + frame_of std s = dropped_sp (by_exchange n.target) (frame_of std s) l.sp n low back.start in
+      let first = writes_within std s l.sp m l returned.writes in
+      let w : WroteWithin l.sp (l.sp + frame_of std s) m (with_journal_of m d) = within_still l.sp (l.sp + frame_of std s) m l d first (same.stack ∙ back.stack) (same.mark ∙ back.mark) (same.target ∙ back.target) (same.code ∙ back.code) in
+      let least = mark_least l.sp m.mark d.mark w.mark in
+      let events_room : d.spare_events ≡ l.spare_events = same.spare_events ∙ back.spare_events in
+      let bytes_room : d.spare_bytes ≡ l.spare_bytes = same.spare_bytes ∙ back.spare_bytes in
+      let room = returned.room in
+      let bytes = returned.bytes in
       record {
         return = return_at std s l;
-        events = returned.events;
+        events = same.events ∙ back.events ∙ returned.events;
         is_return = returned.is_return;
-        sp = omega (arith, sp, whole);
-        above = λ address count over. above_stays l.sp (l.sp + frame_of std s) m (with_journal_of m d) w address count (omega (arith, over, sp, bottom)) over;
+        sp = omega (arith, at_end, sp, whole);
+        above = λ address count over. above_stays l.sp (l.sp + frame_of std s) m (with_journal_of m d) w address count (omega (arith, over, at_end, sp, bottom)) (omega (arith, over, at_end));
         below = λ address count low under. below_stays l.sp (l.sp + frame_of std s) m (with_journal_of m d) w address count low (omega (arith, under, sp));
-        keeps_open = open_aside std (l.sp + frame_of std s) m d (still_open std l.sp (l.sp + frame_of std s) (l.sp + frame_of std s) m (with_journal_of m d) w (omega arith));
+        keeps_open = subst (λ q. KeepsOpen std q m d) (sym at_end) (open_aside std (l.sp + frame_of std s) m d (still_open std l.sp (l.sp + frame_of std s) (l.sp + frame_of std s) m (with_journal_of m d) w (omega arith)));
         mark = omega (arith, least, sp);
         code = w.code;
         target = w.target;
-        reserved = each_weaker (λ at. register (image_of 0 m) at ≡ register (image_of 0 l) at) (λ at. register (image_of 0 m) at ≡ register (image_of 0 d) at) (λ at h. h ∙ sym (register_moved (l.sp + frame_of std s) l at)) std.reserved returned.reserved;
-        room = returned.room;
-        bytes = returned.bytes;
+        reserved = each_both (λ at. IsPlace 0 at × SameAt 0 at l n) (λ at. register (image_of 0 m) at ≡ register (image_of 0 l) at) (λ at. register (image_of 0 m) at ≡ register (image_of 0 d) at) (λ at both h. h ∙ sym (register_then l n at both.0 both.1) ∙ sym (register_dropped d n same at both.0)) std.reserved (each_both (IsPlace 0) (λ at. SameAt 0 at l n) (λ at. IsPlace 0 at × SameAt 0 at l n) (λ at p q. (p, q)) std.reserved (reserved_places_lie std agrees) reserved) returned.reserved;
+        room = omega (arith, events_room, room);
+        bytes = omega (arith, bytes_room, bytes);
+        steps = same.steps ∙ back.steps ∙ ap (λ k. steps_if (by_exchange k) (steps_of (isa_of k) Return) l.steps) first.target ∙ ap (steps_if (by_exchange m.target) (steps_of (isa_of m.target) Return)) returned.steps;
       }
 
   -- A CALL HAS ENDED, once its frame is dropped
-  pub ended : (d : State) → d ≡ with_sp (l.sp + frame_of std s) l → HasEnded std s v m d
+  pub ended : (d : State) → d ≡ dropped_if (by_exchange n.target) (frame_of std s) n → HasEnded std s v m d
   ended d is = subst (HasEnded std s v m) (sym is) ended_there
+
+-- where the frame begins after the way back
+pub start_low : (std : Standard) (s : Signature) (v : ValueTree) (m l n : State) → STACK ≤ m.sp → HasReturned std s v m l → HasComeBack (frame_of std s) l n → STACK ≤ frame_start (frame_of std s) n
+start_low std s v m l n bottom returned back =
+    let sp = returned.sp in subst (λ q. STACK ≤ q) (sym back.start) (omega (arith, sp, bottom))
+
+pub start_high : (std : Standard) (s : Signature) (l n : State) → l.sp + frame_of std s ≤ STACK_TOP → HasComeBack (frame_of std s) l n → frame_start (frame_of std s) n + frame_of std s ≤ STACK_TOP
+start_high std s l n fits back = subst (λ q. q + frame_of std s ≤ STACK_TOP) (sym back.start) fits
 
 -- sp lies in the stack while a callee runs
 pub callee_low : (std : Standard) (s : Signature) (incoming : Incoming) (sp : ℕ) → IsIncoming std s incoming → incoming.block ≡ sp → STACK ≤ sp
@@ -161,4 +242,5 @@ made std s vs pointer v before during after begun ended =
       reserved = same_then std.reserved (image_of 0 before) (image_of 0 during) (image_of 0 after) begun.reserved ended.reserved;
       room = omega (arith, room_down, room_up);
       bytes = omega (arith, bytes_down, bytes_up);
+      steps = ended.steps ∙ ap (λ k. ended_steps k during.steps) begun.target ∙ ap (ended_steps before.target) begun.steps;
     }

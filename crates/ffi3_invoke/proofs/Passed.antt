@@ -1,5 +1,5 @@
 -- The machine at ENTRY, once the arguments are stored, the slot is called and its trampoline has run.
-use Rattle.std.proofs.Common.{◌≡◌, ℕ, ◌+◌, ◌-◌, ◌≤◌, List, [], ◌∷◌, ◌++◌, length, refl, ap, sym, ◌∙◌, subst, arith}
+use Rattle.std.proofs.Common.{◌≡◌, ℕ, ◌+◌, ◌-◌, ◌%◌, ◌^◌, ◌≤◌, List, [], ◌∷◌, ◌++◌, length, refl, ap, sym, ◌∙◌, subst, arith}
 use Rattle.std.specs.List.{AllByRecursion}
 use Rattle.ffi3_type_rules.specs.declared.Isa.{Isa}
 use Rattle.ffi3_type_rules.specs.declared.Isa.TheVariants.{Amd64, Aarch64, Riscv}
@@ -9,15 +9,19 @@ use Rattle.ffi3_type_rules.specs.Signature.{Signature}
 use Rattle.ffi3_type_rules.specs.Value.{ValueTree}
 use Rattle.ffi3_place_rules.specs.declared.Loc.{Loc}
 use Rattle.ffi3_place_rules.specs.declared.Loc.TheVariants.{G, F, S}
-use Rattle.ffi3_place_rules.specs.Isa.{link_place, link_register, pushed_bytes, reserved_places, scribble, trampoline_registers, listed}
+use Rattle.ffi3_place_rules.specs.Isa.{pushed_bytes, reserved_places, scribble, trampoline_registers, listed}
 use Rattle.ffi3_place_rules.specs.Image.{Image, register}
 use Rattle.ffi3_place_rules.specs.Standard.{Standard, frame_of}
 use Rattle.ffi3_place_rules.specs.Agrees.{AgreesWithMachine, special}
 use Rattle.ffi3_place_rules.specs.Holds.{Holds, SameIn}
 use Rattle.ffi3_place_rules.specs.Sound.{Apart, IsNoneOf, IsSound}
-use Rattle.ffi3_machine.specs.State.{State, IsMachine, called, image_of, linked_general, scribbled}
+use Rattle.ffi3_machine.specs.State.{State, IsMachine, image_of, scribbled}
+use Rattle.ffi3_machine.specs.Stubs.{Call}
+use Rattle.ffi3_stubs.specs.Calls.{steps_of}
 use Rattle.ffi3_closures.specs.Reaching.{reached}
-use Rattle.ffi3_pieces.specs.Stored.{IsPlace, SameAt, WroteWithin, word_in}
+use Rattle.ffi3_pieces.specs.Passing.{by_exchange, passing, steps_if}
+use Rattle.ffi3_pieces.specs.Stored.{IsPlace, SameAt, WroteWithin, with_journal_of, word_in}
+use Rattle.ffi3_caller.specs.Called.{SlotIsCalled}
 use Rattle.ffi3_pieces.proofs.Lawful.{each_first, each_rest, machine_places}
 use Rattle.ffi3_pieces.proofs.Stepping.{same_word_in}
 use Rattle.ffi3_callee.specs.Given.{ReservedStay}
@@ -25,8 +29,8 @@ use Rattle.ffi3_callee.proofs.Laws.{each_both}
 use Rattle.ffi3_callee.proofs.Results.{register_word}
 use Rattle.ffi3_invoke.specs.Calls.{HasPassed}
 use Rattle.ffi3_invoke.proofs.Changed.{IsChanged, holds_changed}
-use Rattle.ffi3_invoke.proofs.Reached.{link_sized, passes, pushed_within, reserved_clear_of_link, reserved_clear_of_trampoline, return_address_passed, scribbled_there, trampoline_leaves, trampoline_tells}
-use Rattle.ffi3_invoke.proofs.Stretches.{unrecorded, wrote_down}
+use Rattle.ffi3_callee.proofs.Beside.{scribbled_beside, wrote_down}
+use Rattle.ffi3_invoke.proofs.Reached.{passes, pushed_within, reserved_clear_of_trampoline, return_address_passed, scribbled_there, trampoline_leaves, trampoline_tells}
 
 -- a register of an image is the machine's
 pub register_is : (len : ℕ) (m : State) (l : Loc) → IsPlace 0 l → register (image_of len m) l ≡ word_in STACK_TOP m l
@@ -68,9 +72,9 @@ held_still len n a b held (l ∷ ls) lie same h =
 
 -- ---- the machine at ENTRY
 
-module _ (std : Standard) (s : Signature) (sound : IsSound std s) (agrees : AgreesWithMachine std) (vs : List ValueTree) (pointer : ℕ) (m a : State) (target_is : a.target ≡ std.target) (machine : IsMachine a) (room : STACK + std.link + frame_of std s ≤ m.sp) (top : m.sp ≤ STACK_TOP) (sp : a.sp + frame_of std s ≡ m.sp) (within : WroteWithin a.sp m.sp m a) where
-  abbrev there : State
-  there = reached (called pointer a)
+module _ (std : Standard) (s : Signature) (sound : IsSound std s) (agrees : AgreesWithMachine std) (vs : List ValueTree) (pointer : ℕ) (m a d : State) (target_is : a.target ≡ std.target) (machine : IsMachine a) (after : IsMachine d) (room : STACK + std.link + frame_of std s ≤ m.sp) (top : m.sp ≤ STACK_TOP) (sp : a.sp + frame_of std s ≡ m.sp) (stored : WroteWithin a.sp m.sp (passing (scribbled (length m.events) m)) (passing a)) (called : SlotIsCalled pointer a d) where
+  within : WroteWithin a.sp m.sp m (with_journal_of m a)
+  within = scribbled_beside (length m.events) a.sp m.sp m a stored
 
   pushed : std.link ≡ pushed_bytes (isa_of a.target)
   pushed = agrees.link ∙ ap (λ k. pushed_bytes (isa_of k)) (sym target_is)
@@ -81,79 +85,83 @@ module _ (std : Standard) (s : Signature) (sound : IsSound std s) (agrees : Agre
   fits : a.sp - STACK ≤ length a.stack
   fits = let sized = machine.stack in omega (arith, sized, room, sp, top)
 
-  linked : std.link_register ≡ link_place (isa_of a.target)
-  linked = agrees.link_register ∙ ap (λ k. link_place (isa_of k)) (sym target_is)
+  called_target : d.target ≡ std.target
+  called_target = called.target ∙ target_is
 
-  written : std.trampoline_registers ≡ trampoline_registers (isa_of a.target)
-  written = agrees.trampoline ∙ ap (λ k. trampoline_registers (isa_of k)) (sym target_is)
+  written : std.trampoline_registers ≡ trampoline_registers (isa_of d.target)
+  written = agrees.trampoline ∙ ap (λ k. trampoline_registers (isa_of k)) (sym called_target)
 
   -- ---- registers
 
-  stays : (l : Loc) → IsPlace 0 l → IsNoneOf (listed std.link_register) l → IsNoneOf std.trampoline_registers l → word_in STACK_TOP there l ≡ word_in STACK_TOP a l
-  stays l lies link trampoline =
-      passes pointer a l lies (subst (λ o. IsNoneOf (listed o) l) linked link) (subst (λ ls. IsNoneOf ls l) written trampoline)
+  stays : (l : Loc) → IsPlace 0 l → IsNoneOf std.trampoline_registers l → word_in STACK_TOP (reached d) l ≡ word_in STACK_TOP d l
+  stays l lies trampoline = passes d l lies (subst (λ ls. IsNoneOf ls l) written trampoline)
 
   word_kept : (b c : State) (l : Loc) → IsPlace 0 l → SameAt 0 l b c → word_in STACK_TOP c l ≡ word_in STACK_TOP b l
   word_kept b c l lies same =
       register_word STACK_TOP 0 l c lies ∙ same_word_in 0 l b c same ∙ register_word 0 STACK_TOP l b lies
 
-  preserved_there : AllByRecursion (λ l. SameAt 0 l (scribbled (length m.events) m) a) std.preserved → AllByRecursion (λ at. register (image_of (std.link + frame_of std s) there) at ≡ scribble (length m.events) at) std.preserved
-  preserved_there same =
-      each_both (IsNoneOf (special std)) (λ l. IsPlace 0 l × SameAt 0 l (scribbled (length m.events) m) a) (λ at. register (image_of (std.link + frame_of std s) there) at ≡ scribble (length m.events) at) one std.preserved agrees.preserved_plain
-      (each_both (IsPlace 0) (λ l. SameAt 0 l (scribbled (length m.events) m) a) (λ l. IsPlace 0 l × SameAt 0 l (scribbled (length m.events) m) a) (λ l p q. (p, q)) std.preserved (machine_places (isa_of std.target) 0 std.preserved agrees.preserved_exist) same)
+  preserved_there : AllByRecursion (λ l. SameAt 0 l (scribbled (length m.events) m) a) std.preserved → AllByRecursion (λ l. SameAt 0 l a d) std.preserved → AllByRecursion (λ at. register (image_of (std.link + frame_of std s) (reached d)) at ≡ scribble (length m.events) at) std.preserved
+  preserved_there same then_same =
+      each_both (IsNoneOf (special std)) (λ l. IsPlace 0 l × (SameAt 0 l (scribbled (length m.events) m) a × SameAt 0 l a d)) (λ at. register (image_of (std.link + frame_of std s) (reached d)) at ≡ scribble (length m.events) at) one std.preserved agrees.preserved_plain
+      (each_both (IsPlace 0) (λ l. SameAt 0 l (scribbled (length m.events) m) a × SameAt 0 l a d) (λ l. IsPlace 0 l × (SameAt 0 l (scribbled (length m.events) m) a × SameAt 0 l a d)) (λ l p q. (p, q)) std.preserved (machine_places (isa_of std.target) 0 std.preserved agrees.preserved_exist)
+      (each_both (λ l. SameAt 0 l (scribbled (length m.events) m) a) (λ l. SameAt 0 l a d) (λ l. SameAt 0 l (scribbled (length m.events) m) a × SameAt 0 l a d) (λ l p q. (p, q)) std.preserved same then_same))
     where
       old_target : m.target ≡ std.target
       old_target = sym within.target ∙ target_is
 
-      one : (l : Loc) → IsNoneOf (special std) l → IsPlace 0 l × SameAt 0 l (scribbled (length m.events) m) a → register (image_of (std.link + frame_of std s) there) l ≡ scribble (length m.events) l
+      one : (l : Loc) → IsNoneOf (special std) l → IsPlace 0 l × (SameAt 0 l (scribbled (length m.events) m) a × SameAt 0 l a d) → register (image_of (std.link + frame_of std s) (reached d)) l ≡ scribble (length m.events) l
       one l none both =
           let after_link = std.trampoline_registers ++ (listed std.vector_count ++ listed std.returned_address) in
           let rest = each_rest (Apart l) std.reserved (listed std.link_register ++ (std.trampoline_registers ++ (listed std.vector_count ++ listed std.returned_address))) none.1 in
-          let link = each_first (Apart l) (listed std.link_register) after_link rest in
           let trampoline = each_first (Apart l) std.trampoline_registers (listed std.vector_count ++ listed std.returned_address) (each_rest (Apart l) (listed std.link_register) after_link rest) in
           let reserved = each_first (Apart l) std.reserved (listed std.link_register ++ (std.trampoline_registers ++ (listed std.vector_count ++ listed std.returned_address))) none.1 in
           let free = subst (λ k. IsNoneOf (reserved_places (isa_of k)) l) (sym old_target) (subst (λ ls. IsNoneOf ls l) agrees.reserved reserved) in
-          register_is (std.link + frame_of std s) there l both.0 ∙ stays l both.0 link trampoline ∙ word_kept (scribbled (length m.events) m) a l both.0 both.1 ∙ scribbled_there (length m.events) m l both.0 free
+          register_is (std.link + frame_of std s) (reached d) l both.0 ∙ stays l both.0 trampoline ∙ word_kept a d l both.0 both.1.1 ∙ word_kept (scribbled (length m.events) m) a l both.0 both.1.0 ∙ scribbled_there (length m.events) m l both.0 free
 
-  reserved_there : AllByRecursion (λ l. SameAt 0 l m a) std.reserved → ReservedStay std m there
-  reserved_there same =
-      each_both (λ l. IsPlace 0 l × SameAt 0 l m a) (λ l. IsNoneOf (listed std.link_register) l × IsNoneOf std.trampoline_registers l) (λ at. word_in STACK_TOP there at ≡ word_in STACK_TOP m at) (λ l p q. stays l p.0 q.0 q.1 ∙ word_kept m a l p.0 p.1) std.reserved
-      (each_both (IsPlace 0) (λ l. SameAt 0 l m a) (λ l. IsPlace 0 l × SameAt 0 l m a) (λ l p q. (p, q)) std.reserved (reserved_places_lie std agrees) same)
-      (each_both (IsNoneOf (listed std.link_register)) (IsNoneOf std.trampoline_registers) (λ l. IsNoneOf (listed std.link_register) l × IsNoneOf std.trampoline_registers l) (λ l p q. (p, q)) std.reserved link trampoline)
+  reserved_there : AllByRecursion (λ l. SameAt 0 l m a) std.reserved → AllByRecursion (λ l. SameAt 0 l a d) std.reserved → ReservedStay std m (reached d)
+  reserved_there same then_same =
+      each_both (λ l. IsPlace 0 l × IsNoneOf std.trampoline_registers l) (λ l. SameAt 0 l m a × SameAt 0 l a d) (λ at. word_in STACK_TOP (reached d) at ≡ word_in STACK_TOP m at) (λ l p q. stays l p.0 p.1 ∙ word_kept a d l p.0 q.1 ∙ word_kept m a l p.0 q.0) std.reserved
+      (each_both (IsPlace 0) (IsNoneOf std.trampoline_registers) (λ l. IsPlace 0 l × IsNoneOf std.trampoline_registers l) (λ l p q. (p, q)) std.reserved (reserved_places_lie std agrees) trampoline)
+      (each_both (λ l. SameAt 0 l m a) (λ l. SameAt 0 l a d) (λ l. SameAt 0 l m a × SameAt 0 l a d) (λ l p q. (p, q)) std.reserved same then_same)
     where
-      link : AllByRecursion (IsNoneOf (listed std.link_register)) std.reserved
-      link = subst (λ o. AllByRecursion (IsNoneOf (listed o)) std.reserved) (sym agrees.link_register) (subst (AllByRecursion (IsNoneOf (listed (link_place (isa_of std.target))))) (sym agrees.reserved) (reserved_clear_of_link (isa_of std.target)))
-
       trampoline : AllByRecursion (IsNoneOf std.trampoline_registers) std.reserved
       trampoline = subst (λ ls. AllByRecursion (IsNoneOf ls) std.reserved) (sym agrees.trampoline) (subst (AllByRecursion (IsNoneOf (trampoline_registers (isa_of std.target)))) (sym agrees.reserved) (reserved_clear_of_trampoline (isa_of std.target)))
 
   -- ---- all together
 
-  changed : IsChanged std.trampoline_registers (image_of (std.link + frame_of std s) (called pointer a)) (image_of (std.link + frame_of std s) there)
+  changed : IsChanged std.trampoline_registers (image_of (std.link + frame_of std s) d) (image_of (std.link + frame_of std s) (reached d))
   changed =
-      subst (λ ls. IsChanged ls (image_of (std.link + frame_of std s) (called pointer a)) (image_of (std.link + frame_of std s) there)) (sym written) (record {
+      subst (λ ls. IsChanged ls (image_of (std.link + frame_of std s) d) (image_of (std.link + frame_of std s) (reached d))) (sym written) (record {
         sp = refl;
         stack = refl;
-        general = λ r none. trampoline_leaves (isa_of a.target) pointer (linked_general (link_register (isa_of a.target)) a.general) r none;
+        general = λ r none. trampoline_leaves (isa_of d.target) d.pc d.general r none;
         floating = refl;
       })
 
-  passed_there : AllByRecursion (λ l. SameAt 0 l (scribbled (length m.events) m) a) std.preserved → AllByRecursion (λ l. SameAt 0 l m a) std.reserved → Holds std s vs (image_of (std.link + frame_of std s) (called pointer a)) → HasPassed std s vs pointer m there
-  passed_there preserved reserved holds = record {
-    holds = holds_changed std s sound agrees (image_of (std.link + frame_of std s) (called pointer a)) (image_of (std.link + frame_of std s) there) changed vs holds;
+  same_target : a.target ≡ m.target
+  same_target = within.target
+
+  counted : d.steps ≡ steps_if (by_exchange m.target) (steps_of (isa_of m.target) Call) m.steps
+  counted =
+      called.steps ∙ ap (λ k. steps_if (by_exchange k) (steps_of (isa_of k) Call) a.steps) same_target ∙ ap (steps_if (by_exchange m.target) (steps_of (isa_of m.target) Call)) stored.steps
+
+  passed_there : AllByRecursion (λ l. SameAt 0 l (scribbled (length m.events) m) a) std.preserved → AllByRecursion (λ l. SameAt 0 l a d) std.preserved → AllByRecursion (λ l. SameAt 0 l m a) std.reserved → AllByRecursion (λ l. SameAt 0 l a d) std.reserved → Holds std s vs (image_of (std.link + frame_of std s) d) → HasPassed std s vs pointer m (reached d)
+  passed_there preserved then_preserved reserved then_reserved holds = record {
+    holds = holds_changed std s sound agrees (image_of (std.link + frame_of std s) d) (image_of (std.link + frame_of std s) (reached d)) changed vs holds;
     pc = refl;
-    closure = trampoline_tells (isa_of a.target) pointer (linked_general (link_register (isa_of a.target)) a.general) (link_sized (isa_of a.target) a.general ∙ machine.general);
-    return_address = return_address_passed pointer a machine.general low fits;
-    preserved = preserved_there preserved;
-    reserved = same_in 0 0 m there std.reserved (reserved_places_lie std agrees) (reserved_there reserved);
-    sp = let bytes = pushed in let above = low in omega (arith, bytes, above, sp);
-    within = wrote_down (a.sp - pushed_bytes (isa_of a.target)) a.sp m.sp m a there (omega arith) (omega (arith, sp)) (unrecorded a.sp m.sp m a within) (pushed_within pointer a low fits);
-    events = within.events;
-    spare_events = within.spare_events;
-    spare_bytes = within.spare_bytes;
+    closure = trampoline_tells (isa_of d.target) d.pc d.general after.general ∙ called.pc;
+    return_address = return_address_passed d called.return_address;
+    preserved = preserved_there preserved then_preserved;
+    reserved = same_in 0 0 m (reached d) std.reserved (reserved_places_lie std agrees) (reserved_there reserved then_reserved);
+    sp = let bytes = pushed in let above = low in let below = called.sp in omega (arith, bytes, above, below, sp);
+    within = subst (λ q. WroteWithin q m.sp m (with_journal_of m (reached d))) (sym called.sp) (wrote_down (a.sp - pushed_bytes (isa_of a.target)) a.sp m.sp m a (reached d) (omega arith) (omega (arith, sp)) within (pushed_within pointer a d called low fits));
+    events = called.events ∙ stored.events;
+    spare_events = called.spare_events ∙ stored.spare_events;
+    spare_bytes = called.spare_bytes ∙ stored.spare_bytes;
+    steps = ap (λ n. (n + 3) % 2 ^ 64) counted;
   }
 
   -- THE ARGUMENTS ARE PASSED
-  pub passed : (c : State) → c ≡ reached (called pointer a) → AllByRecursion (λ l. SameAt 0 l (scribbled (length m.events) m) a) std.preserved → AllByRecursion (λ l. SameAt 0 l m a) std.reserved → Holds std s vs (image_of (std.link + frame_of std s) (called pointer a)) → HasPassed std s vs pointer m c
-  passed c is preserved reserved holds =
-      subst (HasPassed std s vs pointer m) (sym is) (passed_there preserved reserved holds)
+  pub passed : (c : State) → c ≡ reached d → AllByRecursion (λ l. SameAt 0 l (scribbled (length m.events) m) a) std.preserved → AllByRecursion (λ l. SameAt 0 l a d) std.preserved → AllByRecursion (λ l. SameAt 0 l m a) std.reserved → AllByRecursion (λ l. SameAt 0 l a d) std.reserved → Holds std s vs (image_of (std.link + frame_of std s) d) → HasPassed std s vs pointer m c
+  passed c is preserved then_preserved reserved then_reserved holds =
+      subst (HasPassed std s vs pointer m) (sym is) (passed_there preserved then_preserved reserved then_reserved holds)

@@ -1,27 +1,26 @@
 -- A call and a trampoline: the registers that they write, the return address, and what is written of the stack.
-use Rattle.std.specs.Prelude.{None, true, false, if◌then◌else◌, ◌==◌, ◌||◌, slice_set}
-use Rattle.std.proofs.Common.{◌≡◌, ◌⊎◌, inl, inr, ℕ, ◌+◌, ◌-◌, ◌<◌, ◌≤◌, Bool, List, take, drop, get_or, length, refl, ap, sym, ◌∙◌, arith}
+use Rattle.std.specs.Prelude.{true, false, if◌then◌else◌, ◌==◌, ◌||◌, slice_set}
+use Rattle.std.proofs.Common.{◌≡◌, ◌⊎◌, inl, inr, ℕ, ◌+◌, ◌-◌, ◌<◌, ◌≤◌, Bool, List, get_or, length, refl, ap, sym, ◌∙◌, subst, arith}
 use Rattle.std.specs.List.{AllByRecursion}
 use Rattle.std.specs.Int.{w64, to_le_bytes}
 use Rattle.std.proofs.lemmas.Bool.{ne_eqb}
-use Rattle.std.proofs.lemmas.List.{ext_get_or, get_or-set_same, get_or-set_other, length-set}
+use Rattle.std.proofs.lemmas.List.{get_or-set_same, get_or-set_other, length-set}
 use Rattle.ffi3_type_rules.specs.declared.Isa.{Isa}
 use Rattle.ffi3_type_rules.specs.declared.Isa.TheVariants.{Amd64, Aarch64, Riscv}
 use Rattle.ffi3_type_rules.specs.declared.limits.TheConstants.{ENTRY, RETURN, STACK, STACK_TOP}
 use Rattle.ffi3_type_rules.specs.Isa.{isa_of}
-use Rattle.ffi3_type_rules.proofs.Parts.{index_part, length_part}
 use Rattle.ffi3_place_rules.specs.declared.Loc.{Loc}
 use Rattle.ffi3_place_rules.specs.declared.Loc.TheVariants.{G, F, S}
-use Rattle.ffi3_place_rules.specs.Isa.{closure_register, is_reserved, jump_register, link_place, link_register, pushed_bytes, reserved_places, scribble, trampoline_registers, listed}
+use Rattle.ffi3_place_rules.specs.Isa.{closure_register, is_reserved, jump_register, link_register, pushed_bytes, reserved_places, scribble, trampoline_registers}
 use Rattle.ffi3_place_rules.specs.Sound.{IsNoneOf}
 use Rattle.ffi3_place_rules.proofs.Forbidden.{each_none_of, none_of}
-use Rattle.ffi3_machine.specs.State.{State, HasReturnAddress, HasReturnAt, called, linked_general, linked_stack, scribbled}
+use Rattle.ffi3_machine.specs.State.{State, HasReturnAddress, HasReturnAt, linked_stack, scribbled}
 use Rattle.ffi3_machine.specs.Scribbled.{get_or-scribbled_floating, get_or-scribbled_general}
 use Rattle.ffi3_closures.specs.Reaching.{jumped_through, reached}
-use Rattle.ffi3_pieces.specs.Stored.{IsPlace, word_in, WroteWithin}
+use Rattle.ffi3_pieces.specs.Stored.{IsPlace, word_in, WroteWithin, with_journal_of}
+use Rattle.ffi3_caller.specs.Called.{SlotIsCalled}
 use Rattle.ffi3_pieces.proofs.Putting.{mark_within}
-use Rattle.ffi3_pieces.proofs.Ranges.{above_range, below_range, in_range, range_length}
-use Rattle.ffi3_invoke.specs.Calls.{with_journal_of}
+use Rattle.ffi3_pieces.proofs.Ranges.{above_range, below_range, range_length}
 
 -- ---- a trampoline
 
@@ -44,16 +43,6 @@ trampoline_tells Riscv pc general sized =
 
 -- ---- a call
 
-link_leaves : (isa : Isa) (general : List ℕ) (r : ℕ) → IsNoneOf (listed (link_place isa)) (G r) → get_or (linked_general (link_register isa) general) r 0 ≡ get_or general r 0
-link_leaves Amd64 general r none = refl
-link_leaves Aarch64 general r none = get_or-set_other general 30 r RETURN 0 none.0
-link_leaves Riscv general r none = get_or-set_other general 1 r RETURN 0 none.0
-
-pub link_sized : (isa : Isa) (general : List ℕ) → length (linked_general (link_register isa) general) ≡ length general
-link_sized Amd64 general = refl
-link_sized Aarch64 general = length-set general 30 RETURN
-link_sized Riscv general = length-set general 1 RETURN
-
 eight : length (to_le_bytes w64 RETURN) ≡ 8
 eight = refl
 
@@ -72,14 +61,14 @@ stack_outside Aarch64 sp stack i low fits far = refl
 stack_outside Riscv sp stack i low fits far = refl
 
 -- of the stack a call writes the bytes that it pushes, and a trampoline none
-pub pushed_within : (pointer : ℕ) (m : State) → STACK + pushed_bytes (isa_of m.target) ≤ m.sp → m.sp - STACK ≤ length m.stack → WroteWithin (m.sp - pushed_bytes (isa_of m.target)) m.sp m (with_journal_of m (reached (called pointer m)))
-pushed_within pointer m low fits = record {
-  size = stack_sized (isa_of m.target) m.sp m.stack low fits;
-  outside = λ i far. stack_outside (isa_of m.target) m.sp m.stack i low fits far;
-  mark = mark_within (m.sp - pushed_bytes (isa_of m.target)) m.mark (m.sp - pushed_bytes (isa_of m.target)) (pushed_bytes (isa_of m.target)) (omega arith);
-  target = refl;
+pub pushed_within : (pointer : ℕ) (a d : State) → SlotIsCalled pointer a d → STACK + pushed_bytes (isa_of a.target) ≤ a.sp → a.sp - STACK ≤ length a.stack → WroteWithin (a.sp - pushed_bytes (isa_of a.target)) a.sp a (with_journal_of a (reached d))
+pushed_within pointer a d called low fits = record {
+  size = ap length called.stack ∙ stack_sized (isa_of a.target) a.sp a.stack low fits;
+  outside = λ i far. ap (λ xs. get_or xs i 0) called.stack ∙ stack_outside (isa_of a.target) a.sp a.stack i low fits far;
+  mark = subst (λ k. (a.mark ≤ k) ⊎ (a.sp - pushed_bytes (isa_of a.target) ≤ k)) (sym called.mark) (mark_within (a.sp - pushed_bytes (isa_of a.target)) a.mark (a.sp - pushed_bytes (isa_of a.target)) (pushed_bytes (isa_of a.target)) (omega arith));
+  target = called.target;
   pc = refl;
-  code = refl;
+  code = called.code;
   events = refl;
   spare_events = refl;
   spare_bytes = refl;
@@ -89,20 +78,6 @@ pushed_within pointer m low fits = record {
 
 -- ---- the return address
 
-pushed_there : (sp : ℕ) (stack : List ℕ) → STACK + 8 ≤ sp → sp - STACK ≤ length stack → take 8 (drop (sp - 8 - STACK) (linked_stack None sp stack)) ≡ to_le_bytes w64 RETURN
-pushed_there sp stack low fits =
-    let whole : sp - 8 - STACK + 8 ≤ length (linked_stack None sp stack) = omega (arith, stack_sized Amd64 sp stack low fits, low, fits) in
-    let sized : length (take 8 (drop (sp - 8 - STACK) (linked_stack None sp stack))) ≡ 8 = length_part (linked_stack None sp stack) (sp - 8 - STACK) 8 whole in
-    ext_get_or 0 (take 8 (drop (sp - 8 - STACK) (linked_stack None sp stack))) (to_le_bytes w64 RETURN) (sized ∙ sym eight) (λ k h.
-    let small : k < 8 = omega (arith, h, sized) in
-    let back : sp - 8 - STACK + k - (sp - 8 - STACK) ≡ k = omega arith in
-    index_part (linked_stack None sp stack) (sp - 8 - STACK) 8 k small ∙ in_range stack (to_le_bytes w64 RETURN) (sp - 8 - STACK) (sp - STACK) (omega (arith, eight, low)) fits (sp - 8 - STACK + k) (omega arith) (omega (arith, low, small)) ∙ ap (λ n. get_or (to_le_bytes w64 RETURN) n 0) back)
-
-return_there : (isa : Isa) (sp : ℕ) (general stack : List ℕ) → length general ≡ 32 → STACK + pushed_bytes isa ≤ sp → sp - STACK ≤ length stack → HasReturnAt (link_register isa) (linked_general (link_register isa) general) (sp - pushed_bytes isa) (linked_stack (link_register isa) sp stack)
-return_there Amd64 sp general stack sized low fits = (omega (arith, low), pushed_there sp stack low fits)
-return_there Aarch64 sp general stack sized low fits = get_or-set_same general 30 RETURN 0 (omega (arith, sized))
-return_there Riscv sp general stack sized low fits = get_or-set_same general 1 RETURN 0 (omega (arith, sized))
-
 -- a trampoline leaves it
 return_reached : (isa : Isa) (pc sp : ℕ) (general stack : List ℕ) → HasReturnAt (link_register isa) general sp stack → HasReturnAt (link_register isa) (reached_general isa pc general) sp stack
 return_reached Amd64 pc sp general stack h = h
@@ -111,25 +86,17 @@ return_reached Aarch64 pc sp general stack h =
 return_reached Riscv pc sp general stack h =
     trampoline_leaves Riscv pc general 1 (none_of (trampoline_registers Riscv) (G 1) refl) ∙ h
 
-pub return_address_passed : (pointer : ℕ) (m : State) → length m.general ≡ 32 → STACK + pushed_bytes (isa_of m.target) ≤ m.sp → m.sp - STACK ≤ length m.stack → HasReturnAddress (reached (called pointer m))
-return_address_passed pointer m sized low fits =
-    let isa = isa_of m.target in
-    return_reached (isa_of m.target) pointer (m.sp - pushed_bytes (isa_of m.target)) (linked_general (link_register (isa_of m.target)) m.general) (linked_stack (link_register (isa_of m.target)) m.sp m.stack) (return_there (isa_of m.target) m.sp m.general m.stack sized low fits)
+pub return_address_passed : (d : State) → HasReturnAddress d → HasReturnAddress (reached d)
+return_address_passed d back = return_reached (isa_of d.target) d.pc d.sp d.general d.stack back
 
--- ---- registers that neither writes
+-- ---- registers that a trampoline leaves
 
-pub passes : (pointer : ℕ) (m : State) (l : Loc) → IsPlace 0 l → IsNoneOf (listed (link_place (isa_of m.target))) l → IsNoneOf (trampoline_registers (isa_of m.target)) l → word_in STACK_TOP (reached (called pointer m)) l ≡ word_in STACK_TOP m l
-passes pointer m (G r) lies link trampoline =
-    trampoline_leaves (isa_of m.target) pointer (linked_general (link_register (isa_of m.target)) m.general) r trampoline ∙ link_leaves (isa_of m.target) m.general r link
-passes pointer m (F r) lies link trampoline = refl
-passes pointer m (S n) lies link trampoline = absurd (omega (arith, lies))
+pub passes : (d : State) (l : Loc) → IsPlace 0 l → IsNoneOf (trampoline_registers (isa_of d.target)) l → word_in STACK_TOP (reached d) l ≡ word_in STACK_TOP d l
+passes d (G r) lies trampoline = trampoline_leaves (isa_of d.target) d.pc d.general r trampoline
+passes d (F r) lies trampoline = refl
+passes d (S n) lies trampoline = absurd (omega (arith, lies))
 
 -- none of them is reserved
-pub reserved_clear_of_link : (isa : Isa) → AllByRecursion (IsNoneOf (listed (link_place isa))) (reserved_places isa)
-reserved_clear_of_link Amd64 = tt
-reserved_clear_of_link Aarch64 = each_none_of (listed (link_place Aarch64)) (reserved_places Aarch64) refl
-reserved_clear_of_link Riscv = each_none_of (listed (link_place Riscv)) (reserved_places Riscv) refl
-
 pub reserved_clear_of_trampoline : (isa : Isa) → AllByRecursion (IsNoneOf (trampoline_registers isa)) (reserved_places isa)
 reserved_clear_of_trampoline Amd64 = tt
 reserved_clear_of_trampoline Aarch64 = each_none_of (trampoline_registers Aarch64) (reserved_places Aarch64) refl

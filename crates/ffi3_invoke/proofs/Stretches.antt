@@ -7,74 +7,11 @@ use Rattle.ffi3_type_rules.specs.declared.limits.TheConstants.{STACK}
 use Rattle.ffi3_place_rules.specs.declared.Loc.TheVariants.{S}
 use Rattle.ffi3_place_rules.specs.Isa.{link_register}
 use Rattle.ffi3_place_rules.specs.Standard.{Standard, frame_of}
-use Rattle.ffi3_machine.specs.State.{State, HasReturnAt, scribbled, stack_at}
-use Rattle.ffi3_pieces.specs.Stored.{WroteWithin}
+use Rattle.ffi3_machine.specs.State.{State, HasReturnAt, stack_at}
+use Rattle.ffi3_pieces.specs.Stored.{WroteWithin, with_journal_of}
 use Rattle.ffi3_pieces.proofs.Stepping.{same_word_in}
 use Rattle.ffi3_callee.specs.Saved.{saved_word}
-use Rattle.ffi3_invoke.specs.Calls.{IsSavedOf, KeepsOpen, with_journal_of}
-
--- ---- steps one after another
-
--- a step that records nothing
-pub unrecorded : (low high : ℕ) (a b : State) → WroteWithin low high a b → WroteWithin low high a (with_journal_of a b)
-unrecorded low high a b w = record {
-  size = w.size;
-  outside = w.outside;
-  mark = w.mark;
-  target = w.target;
-  pc = refl;
-  code = w.code;
-  events = refl;
-  spare_events = refl;
-  spare_bytes = refl;
-  exchange = refl;
-  steps = refl;
-}
-
--- a scribble writes registers alone
-pub scribble_beside : (n low high : ℕ) (a b : State) → WroteWithin low high (scribbled n a) b → WroteWithin low high a b
-scribble_beside n low high a b w = record {
-  size = w.size;
-  outside = w.outside;
-  mark = w.mark;
-  target = w.target;
-  pc = w.pc;
-  code = w.code;
-  events = w.events;
-  spare_events = w.spare_events;
-  spare_bytes = w.spare_bytes;
-  exchange = w.exchange;
-  steps = w.steps;
-}
-
--- first a stretch from `mid` to `high`, then one from `low` to `mid`
-pub wrote_down : (low mid high : ℕ) (a b c : State) → low ≤ mid → mid ≤ high → WroteWithin mid high a (with_journal_of a b) → WroteWithin low mid b (with_journal_of b c) → WroteWithin low high a (with_journal_of a c)
-wrote_down low mid high a b c below above s t = record {
-  size = t.size ∙ s.size;
-  outside = λ i far. t.outside i (first i far) ∙ s.outside i (second i far);
-  mark = falls s.mark t.mark;
-  target = t.target ∙ s.target;
-  pc = refl;
-  code = t.code ∙ s.code;
-  events = refl;
-  spare_events = refl;
-  spare_bytes = refl;
-  exchange = refl;
-  steps = refl;
-}
-  where
-    first : (i : ℕ) → (STACK + i < low) ⊎ (high ≤ STACK + i) → (STACK + i < low) ⊎ (mid ≤ STACK + i)
-    first i (inl far) = inl far
-    first i (inr far) = inr (omega (arith, above, far))
-
-    second : (i : ℕ) → (STACK + i < low) ⊎ (high ≤ STACK + i) → (STACK + i < mid) ⊎ (high ≤ STACK + i)
-    second i (inl far) = inl (omega (arith, below, far))
-    second i (inr far) = inr far
-
-    falls : (a.mark ≤ b.mark) ⊎ (mid ≤ b.mark) → (b.mark ≤ c.mark) ⊎ (low ≤ c.mark) → (a.mark ≤ c.mark) ⊎ (low ≤ c.mark)
-    falls x (inr h) = inr h
-    falls (inl h) (inl k) = inl (omega (arith, h, k))
-    falls (inr h) (inl k) = inr (omega (arith, below, h, k))
+use Rattle.ffi3_invoke.specs.Calls.{IsSavedOf, KeepsOpen}
 
 -- the mark is no lower than it may be
 pub mark_least : (low : ℕ) (old new : ℕ) → (old ≤ new) ⊎ (low ≤ new) → min old low ≤ new

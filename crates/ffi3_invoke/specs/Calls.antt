@@ -1,6 +1,7 @@
 -- A call from its caller's side to the return, by any calling standard: the machine before, in the callee and after. (System V psABI AMD64 3.2; Arm AAPCS64 6; RISC-V ELF psABI, "Integer Calling Convention")
-use Rattle.std.specs.Prelude.{◌≡◌, ℕ, ◌+◌, ◌-◌, ◌<◌, ◌≤◌, min, ⊤, List, [], ◌∷◌, ◌++◌, length, get_or, slice_index}
+use Rattle.std.specs.Prelude.{◌≡◌, ℕ, ◌+◌, ◌-◌, ◌%◌, ◌^◌, ◌<◌, ◌≤◌, min, ⊤, List, [], ◌∷◌, ◌++◌, length, get_or, slice_index}
 use Rattle.std.specs.List.{AllByRecursion}
+use Rattle.ffi3_type_rules.specs.declared.Target.{Target}
 use Rattle.ffi3_type_rules.specs.Isa.{isa_of}
 use Rattle.ffi3_type_rules.specs.Signature.{Signature}
 use Rattle.ffi3_type_rules.specs.Value.{ValueTree}
@@ -16,7 +17,10 @@ use Rattle.ffi3_place_rules.specs.Holds.{Holds, SameIn}
 use Rattle.ffi3_run_rules.specs.Journal.{Entered, needs, IsEntry, IsReturn}
 use Rattle.ffi3_machine.specs.State.{State, HasReturnAddress, HasReturnAt, image_of, stack_at}
 use Rattle.ffi3_body.specs.SeenActivation.{arguments_in}
-use Rattle.ffi3_pieces.specs.Stored.{WroteWithin}
+use Rattle.ffi3_machine.specs.Stubs.{Call, Entry, Exit, Return}
+use Rattle.ffi3_stubs.specs.Calls.{steps_of}
+use Rattle.ffi3_pieces.specs.Passing.{by_exchange, steps_if}
+use Rattle.ffi3_pieces.specs.Stored.{WroteWithin, with_journal_of}
 use Rattle.ffi3_callee.specs.Given.{IsAddressOf, ResultWrites}
 use Rattle.ffi3_callee.specs.Saved.{saved_word}
 
@@ -37,17 +41,6 @@ entry_at std s m = record {
 -- and the return, as the machine is after it
 abbrev pub return_at : Standard → Signature → State → Event
 return_at std s m = record { kind = leaves; closure = 0; image = image_of (frame_of std s) m }
-
--- the machine `new` with the pc, the journal, the exchange region and the count of steps of `old`, to say what else has changed
-abbrev pub with_journal_of : State → State → State
-with_journal_of old new = record new {
-  pc = old.pc;
-  events = old.events;
-  spare_events = old.spare_events;
-  spare_bytes = old.spare_bytes;
-  exchange = old.exchange;
-  steps = old.steps;
-}
 
 -- the registers that neither side of a call writes are the same
 abbrev pub KeepsReserved : Standard → State → State → Type 0
@@ -102,6 +95,7 @@ pub record HasPassed (std : Standard) (s : Signature) (arguments : List ValueTre
   pub events : after.events ≡ before.events
   pub spare_events : after.spare_events ≡ before.spare_events
   pub spare_bytes : after.spare_bytes ≡ before.spare_bytes
+  pub steps : after.steps ≡ (steps_if (by_exchange before.target) (steps_of (isa_of before.target) Call) before.steps + 3) % 2 ^ 64
 
 -- THE CALLEE HAS RETURNED: the return is in the journal, whatever open call by the signature it was, and of the stack only a hidden result's buffer is written.
 pub record HasReturned (std : Standard) (s : Signature) (outcome : ValueTree) (before after : State) : Type 0 where
@@ -113,8 +107,19 @@ pub record HasReturned (std : Standard) (s : Signature) (outcome : ValueTree) (b
   pub writes : ResultWrites after.sp s.result_type (plan_of std s).res before (with_journal_of before after)
   pub room : after.spare_events + 1 ≡ before.spare_events
   pub bytes : after.spare_bytes + frame_of std s ≡ before.spare_bytes
+  pub steps : after.steps ≡ steps_if (by_exchange before.target) (steps_of (isa_of before.target) Exit) before.steps
 
 -- ---- a call
+
+-- the count of steps where a call has begun: Call and Entry are counted where calls go by stubs, and the trampoline's three always
+abbrev pub begun_steps : Target → ℕ → ℕ
+begun_steps target n =
+    steps_if (by_exchange target) (steps_of (isa_of target) Entry) ((steps_if (by_exchange target) (steps_of (isa_of target) Call) n + 3) % 2 ^ 64)
+
+-- and where it has ended: Exit and Return are
+abbrev pub ended_steps : Target → ℕ → ℕ
+ended_steps target n =
+    steps_if (by_exchange target) (steps_of (isa_of target) Return) (steps_if (by_exchange target) (steps_of (isa_of target) Exit) n)
 
 -- A CALL HAS BEGUN: its entry is in the journal, and its callee has the arguments. It stands below the unfinished calls: of the stack it writes its own need, from sp down, and nothing else.
 pub record HasBegun (std : Standard) (s : Signature) (arguments : List ValueTree) (pointer : ℕ) (before after : State) : Type 0 where
@@ -134,6 +139,7 @@ pub record HasBegun (std : Standard) (s : Signature) (arguments : List ValueTree
   pub reserved : KeepsReserved std before after
   pub room : after.spare_events + 1 ≡ before.spare_events
   pub bytes : after.spare_bytes + (std.link + frame_of std s) ≡ before.spare_bytes
+  pub steps : after.steps ≡ begun_steps before.target before.steps
 
 -- A CALL HAS ENDED: its return is in the journal, whatever open call by the signature it was, and all its stack is free again.
 pub record HasEnded (std : Standard) (s : Signature) (outcome : ValueTree) (before after : State) : Type 0 where
@@ -150,6 +156,7 @@ pub record HasEnded (std : Standard) (s : Signature) (outcome : ValueTree) (befo
   pub reserved : KeepsReserved std before after
   pub room : after.spare_events + 1 ≡ before.spare_events
   pub bytes : after.spare_bytes + frame_of std s ≡ before.spare_bytes
+  pub steps : after.steps ≡ ended_steps before.target before.steps
 
 -- THE WHOLE CALL: entry and return stand in the journal one behind the other, and the machine's stack above sp and below the call's need, its code, target and reserved registers are as before.
 pub record IsMade (std : Standard) (s : Signature) (arguments : List ValueTree) (pointer : ℕ) (outcome : ValueTree) (before after : State) : Type 0 where
@@ -168,3 +175,4 @@ pub record IsMade (std : Standard) (s : Signature) (arguments : List ValueTree) 
   pub reserved : KeepsReserved std before after
   pub room : after.spare_events + 2 ≡ before.spare_events
   pub bytes : after.spare_bytes + (std.link + frame_of std s + frame_of std s) ≡ before.spare_bytes
+  pub steps : after.steps ≡ ended_steps before.target (begun_steps before.target before.steps)

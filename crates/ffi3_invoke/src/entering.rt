@@ -5,9 +5,12 @@ ghost use Rattle.ffi3_type_rules.specs.Value.{ValueTree};
 ghost use Rattle.ffi3_type_rules.specs.declared.limits.TheConstants.{ENTRY, STACK, STACK_TOP};
 ghost use Rattle.ffi3_place_rules.specs.Standard.{block_bytes, frame_of};
 ghost use Rattle.ffi3_machine.specs.State.{HasReturnAddress, after_enter, scribbled_floating, scribbled_general};
-ghost use Rattle.ffi3_pieces.specs.Stored.{WroteWithin};
+ghost use Rattle.ffi3_machine.specs.Stubs.{Entry};
+ghost use Rattle.ffi3_stubs.specs.Calls.{steps_of};
+ghost use Rattle.ffi3_pieces.specs.Passing.{by_exchange, steps_if};
+ghost use Rattle.ffi3_pieces.specs.Stored.{WroteWithin, with_journal_of};
 ghost use Rattle.ffi3_callee.specs.Received.{IsIncoming, IsReceived, OwnsAtEntry};
-ghost use Rattle.ffi3_invoke.specs.Calls.{IsInCallee, KeepsReserved, entered_closure, entry_at, with_journal_of};
+ghost use Rattle.ffi3_invoke.specs.Calls.{IsInCallee, KeepsReserved, entered_closure, entry_at};
 
 use ffi3_callee::{Incoming, receive};
 use ffi3_cif::Cif;
@@ -47,6 +50,7 @@ pub fn accept<A: Abi>(machine: &mut Machine, cif: &Cif<A>) -> Incoming
     ensures within { WroteWithin machine.new.sp machine.old.sp machine.old (with_journal_of machine.old machine.new) }
     ensures spare_events { machine.new.spare_events + 1 ≡ machine.old.spare_events }
     ensures spare_bytes { machine.new.spare_bytes + (A.standard.link + frame_of A.standard cif.now) ≡ machine.old.spare_bytes }
+    ensures steps { machine.new.steps ≡ steps_if (by_exchange machine.old.target) (steps_of (isa_of machine.old.target) Entry) machine.old.steps }
     ensures in_callee { HasReturnAddress machine.old → 2 ≤ machine.old.spare_events → A.standard.link + frame_of A.standard cif.now + frame_of A.standard cif.now ≤ machine.old.spare_bytes →
         IsInCallee A.standard (record { signature = cif.now; event = entry_at A.standard cif.now machine.old }) machine.new }
 {

@@ -20,7 +20,7 @@ mod returning;
 
 pub use entering::{accept, entered_closure};
 use ffi3_callee::Incoming;
-use ffi3_caller::{drop_frame, load_result};
+use ffi3_caller::{come_back, drop_frame, load_result};
 use ffi3_cif::Cif;
 use ffi3_closures::Table;
 use ffi3_machine::Machine;
@@ -78,6 +78,7 @@ pub fn end_call<A: Abi>(
     // its contract tells what is true of every machine
     let _sp = machine.sp();
     give_back(machine, cif, incoming, value);
+    come_back(machine, cif);
     load_result(machine, cif, out);
     drop_frame(machine, cif);
 }

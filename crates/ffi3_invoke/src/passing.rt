@@ -16,7 +16,7 @@ use ffi3_machine::Machine;
 use ffi3_place::Abi;
 use ffi3_values::Values;
 
-/// Stores the arguments, calls the live closure at `ptr`, and runs its trampoline: the machine is at ENTRY, and holds the values as
+/// Stores the arguments, calls the live closure at `ptr`, through the stub Call where calls go by stubs, and runs its trampoline: the machine is at ENTRY, and holds the values as
 /// the standard says. The stack has room for the frame and the return address.
 pub fn pass_arguments<A: Abi>(
     machine: &mut Machine,
@@ -40,5 +40,6 @@ pub fn pass_arguments<A: Abi>(
     store_args(machine, cif, values);
     let _stored = machine.sp();
     call(machine, cif, ptr);
+    let _called = machine.sp();
     table.run_trampoline(machine);
 }

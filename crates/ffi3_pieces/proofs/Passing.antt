@@ -1,26 +1,32 @@
 -- Registers by the exchange region: a word that is written there is a register that is set.
-use Rattle.std.proofs.Common.{◌≡◌, ◌≢◌, ℕ, ◌+◌, ◌-◌, ◌*◌, ◌^◌, ◌<◌, ◌≤◌, ◌⊎◌, inl, inr, Bool, true, false, if◌then◌else◌, List, ◌++◌, length, take, drop, get_or, set, refl, sym, ap, ◌∙◌, subst, arith, length-append, length-take, length-drop, length-set}
+use Rattle.std.proofs.Common.{◌≡◌, ℕ, ◌+◌, ◌-◌, ◌*◌, ◌%◌, ◌^◌, ◌<◌, ◌≤◌, ◌⊎◌, inl, inr, Bool, true, false, if◌then◌else◌, List, ◌++◌, length, take, drop, get_or, set, refl, sym, ap, ◌∙◌, subst, arith, length-set, ◌∷◌, [], lit<}
 use Rattle.std.specs.Prelude.{slice_index, slice_set}
 use Rattle.std.specs.List.{replace_range}
+use Rattle.std.specs.Int.{w64, from_le_bytes}
 use Rattle.std.proofs.lemmas.Bool.{cases_lt}
-use Rattle.std.proofs.lemmas.List.{ext_get_or, get_or-set_same, get_or-set_other, drop-drop, drop_at, take_at, length-take-le}
+use Rattle.std.proofs.lemmas.List.{ext_get_or, get_or-set_same, get_or-set_other, drop_at, take_at}
 use Rattle.std.proofs.lemmas.List.FromFn.{length-map-range_with_len, get_or-map-range_with_len}
-use Rattle.std.proofs.lemmas.Slice.{drop-append-drop}
 use Rattle.std.proofs.lemmas.Nat.{from_le_bytes-to_le_bytes_8}
 use Rattle.ffi3_memory.specs.Memory.{number_of, low_bytes}
+use Rattle.ffi3_type_rules.specs.declared.limits.TheConstants.{STACK}
+use Rattle.ffi3_type_rules.proofs.Parts.{index_part}
+use Rattle.ffi3_type_rules.specs.declared.Target.{Target}
 use Rattle.ffi3_type_rules.specs.Isa.{isa_of}
-use Rattle.ffi3_place_rules.specs.Isa.{is_zero_register}
-use Rattle.ffi3_machine.specs.State.{State, IsMachine, x_of, with_x, with_general, with_floating}
+use Rattle.ffi3_place_rules.specs.Isa.{has_stubs, is_zero_register}
+use Rattle.ffi3_machine.specs.State.{State, x_of, with_x, with_general, with_floating}
 use Rattle.ffi3_place_rules.specs.declared.Loc.{Loc}
 use Rattle.ffi3_place_rules.specs.declared.Loc.TheVariants.{G, F, S}
-use Rattle.ffi3_pieces.specs.Stored.{IsPlace, SameAt}
-use Rattle.ffi3_pieces.specs.Passing.{by_exchange, words_at, passing_if, passing}
+use Rattle.ffi3_machine.specs.Stubs.{exchanged_at}
+use Rattle.ffi3_pieces.specs.Stored.{IsPlace, SameAt, byte_of, word_in}
+use Rattle.ffi3_pieces.specs.Passing.{by_exchange, words_at, passing_if, passing, steps_if}
 use Rattle.ffi3_pieces.proofs.Exchanged.{word_written, word_below, word_above, above_all}
+use Rattle.ffi3_pieces.proofs.Putting.{word_there}
+use Rattle.ffi3_pieces.proofs.Ranges.{range_length}
 
--- nothing passes by the exchange region yet
-pub passing_is : (s : State) → passing s ≡ s
+-- calls that go by stubs have them
+pub stubs_there : (target : Target) → by_exchange target ≡ true → has_stubs target ≡ true
 unfolding by_exchange
-passing_is s = refl
+stubs_there target e = e
 
 pub length-words_at : (from : ℕ) (xs : List ℕ) → length (words_at from xs) ≡ 32
 unfolding words_at
@@ -159,3 +165,68 @@ pub own_register : (l : Loc) (x y : State) → IsPlace 0 l → y.target ≡ x.ta
 own_register l x y h target g f same behind =
     let t : by_exchange y.target ≡ by_exchange x.target = ap by_exchange target in
     own_same (by_exchange x.target) l x y h g f (subst (λ (b : Bool). SameAt 0 l (passing x) (passing_if b y)) t same) (subst (λ (b : Bool). (passing_if b y).exchange ≡ (passing x).exchange) t behind)
+
+-- a general register that is the machine's own
+pub own_general : (b : Bool) (x y : State) → length x.general ≡ length y.general → (passing_if b y).general ≡ (passing_if b x).general → (passing_if b y).exchange ≡ (passing_if b x).exchange → y.general ≡ x.general
+own_general true x y g same behind =
+    (same_prefix y.general x.general (y.floating ++ drop 512 y.exchange) (x.floating ++ drop 512 x.exchange) (sym g) behind).0
+own_general false x y g same behind = same
+
+-- ---- a number beside the words that are passed
+
+pub told_there : (at v : ℕ) (s : State) → at + 8 ≤ length s.exchange → v < 2 ^ 64 → x_of at (with_x at v s) ≡ v
+told_there at v s fits small = ap (number_of 8) (word_written s.exchange at v fits) ∙ number_low v small
+
+pub told_below : (n at v : ℕ) (s : State) → n + 8 ≤ at → at + 8 ≤ length s.exchange → x_of n (with_x at v s) ≡ x_of n s
+told_below n at v s near fits = ap (number_of 8) (word_below s.exchange n at v near fits)
+
+pub told_length : (at v : ℕ) (s : State) → at + 8 ≤ length s.exchange → length (with_x at v s).exchange ≡ length s.exchange
+told_length at v s fits = range_length s.exchange (low_bytes 8 v) at (at + length (low_bytes 8 v)) refl fits
+
+-- ---- words of registers, in the exchange region and on the stack
+
+-- a register that is passed is its word of the exchange region
+pub word_passed : (base : ℕ) (l : Loc) (s : State) → IsPlace 0 l → word_in base (passing_if true s) l ≡ x_of (exchanged_at l) s
+word_passed base (G r) s h = sym (general_read true r s refl h)
+word_passed base (F r) s h = sym (floating_read true r s refl h)
+word_passed base (S n) s h = absurd (omega (arith, h))
+
+-- below 512
+pub place_low : (l : Loc) → IsPlace 0 l → exchanged_at l + 8 ≤ 512
+place_low (G r) h = omega (arith, h)
+place_low (F r) h = omega (arith, h)
+place_low (S n) h = absurd (omega (arith, h))
+
+pub number_stored : (at v : ℕ) (s : State) → take 8 (drop at s.exchange) ≡ low_bytes 8 v → v < 2 ^ 64 → x_of at s ≡ v
+number_stored at v s e small = ap (number_of 8) e ∙ number_low v small
+
+pub word_stored : (from n v : ℕ) (s : State) → STACK ≤ from → take 8 (drop (from + n - STACK) s.stack) ≡ low_bytes 8 v → v < 2 ^ 64 → word_in from s (S n) ≡ v
+word_stored from n v s low e small =
+    word_there from n v s small (λ k h.
+    let there : from + n + k - STACK ≡ from + n - STACK + k = omega (arith, low) in
+    ap (λ i. get_or s.stack i 0) there ∙ sym (index_part s.stack (from + n - STACK) 8 k h) ∙ ap (λ xs. get_or xs k 0) e)
+
+pub word_read : (from n : ℕ) (s : State) → STACK ≤ from → word_in from s (S n) ≡ number_of 8 (take 8 (drop (from + n - STACK) s.stack))
+word_read from n s low =
+    let part : List ℕ = take 8 (drop (from + n - STACK) s.stack) in
+    let e : (k : ℕ) → k < 8 → byte_of from s (S n) k ≡ get_or part k 0 = λ k h. let there : from + n + k - STACK ≡ from + n - STACK + k = omega (arith, low) in
+    ap (λ i. get_or s.stack i 0) there ∙ sym (index_part s.stack (from + n - STACK) 8 k h) in
+    let e0 = e 0 (lit< tt) in
+    let e1 = e 1 (lit< tt) in
+    let e2 = e 2 (lit< tt) in
+    let e3 = e 3 (lit< tt) in
+    let e4 = e 4 (lit< tt) in
+    let e5 = e 5 (lit< tt) in
+    let e6 = e 6 (lit< tt) in
+    let e7 = e 7 (lit< tt) in
+    λ i. from_le_bytes w64 (e0 i ∷ e1 i ∷ e2 i ∷ e3 i ∷ e4 i ∷ e5 i ∷ e6 i ∷ e7 i ∷ [])
+
+-- ---- steps
+
+pub steps_more : (b : Bool) (count before after : ℕ) → b ≡ true → after ≡ (before + count) % 2 ^ 64 → after ≡ steps_if b count before
+steps_more true count before after e h = h
+steps_more false count before after e h = cc
+
+pub steps_same : (b : Bool) (count before after : ℕ) → b ≡ false → after ≡ before → after ≡ steps_if b count before
+steps_same true count before after e h = cc
+steps_same false count before after e h = h

@@ -1,13 +1,14 @@
 -- The registers through which a call passes its values: the machine's own, or the words of the exchange region, which the stubs load into registers, and store from them.
-use Rattle.std.specs.Prelude.{ℕ, ◌+◌, ◌*◌, Bool, true, false, if◌then◌else◌, List, ◌++◌, map, take, drop}
+use Rattle.std.specs.Prelude.{ℕ, ◌+◌, ◌*◌, ◌%◌, ◌^◌, Bool, true, false, if◌then◌else◌, List, ◌++◌, map, take, drop}
 use Rattle.std.specs.List.{range_with_len}
 use Rattle.ffi3_memory.specs.Memory.{number_of}
 use Rattle.ffi3_type_rules.specs.declared.Target.{Target}
+use Rattle.ffi3_place_rules.specs.Isa.{has_stubs}
 use Rattle.ffi3_machine.specs.State.{State}
 
--- whether calls of the target pass their registers by the exchange region: no target's yet. Proofs do not know which.
+-- Whether calls of the target go by its stubs, and pass their registers by the exchange region: where it has stubs. Proofs hold for either.
 unfoldable pub by_exchange : Target → Bool
-by_exchange target = false
+by_exchange target = has_stubs target
 
 -- 32 words of eight bytes each, from a place on
 unfoldable pub words_at : ℕ → List ℕ → List ℕ
@@ -23,3 +24,8 @@ passing_if b s = record s {
 
 abbrev pub passing : State → State
 passing s = passing_if (by_exchange s.target) s
+
+-- the count of steps after a stub, which does so many
+abbrev pub steps_if : Bool → ℕ → ℕ → ℕ
+steps_if true count steps = (steps + count) % 2 ^ 64
+steps_if false count steps = steps

@@ -60,6 +60,17 @@ pub record WroteWithin (low high : ℕ) (old new : State) : Type 0 where
   pub exchange : new.exchange ≡ old.exchange
   pub steps : new.steps ≡ old.steps
 
+-- the machine `new` with the pc, the journal, the exchange region and the count of steps of `old`, to say what else has changed
+abbrev pub with_journal_of : State → State → State
+with_journal_of old new = record new {
+  pc = old.pc;
+  events = old.events;
+  spare_events = old.spare_events;
+  spare_bytes = old.spare_bytes;
+  exchange = old.exchange;
+  steps = old.steps;
+}
+
 -- THE STACK CHANGES ONLY FROM `low` TO `high`, and registers do not
 pub record WroteOnly (low high : ℕ) (old new : State) : Type 0 where
   pub within : WroteWithin low high old new

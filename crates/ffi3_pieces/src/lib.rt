@@ -35,7 +35,7 @@ use ffi3_types::FfiType;
 use ffi3_values::{Value, Values, number, widen, write_bytes};
 use load::word_of;
 pub use load::{load_piece, own_word, place_bytes, place_word};
-pub use registers::{pass_floating, pass_general, passed_floating, passed_general};
+pub use registers::{by_exchange, pass_floating, pass_general, passed_floating, passed_general};
 use running::store_runs;
 
 /// A value of at most so many bytes is stored by way of a buffer of this size, since it would take longer to zero a

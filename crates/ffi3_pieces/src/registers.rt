@@ -7,12 +7,17 @@ ghost use Rattle.ffi3_pieces.specs.Passing.{by_exchange, passing};
 
 use ffi3_machine::{Machine, Target};
 
-// Whether calls of the target pass their registers by the exchange region: no target's yet.
+/// Whether calls of the target go by its stubs, and pass their registers by the exchange region: where it has stubs.
 #[tactic(auto, unfolding(crate::specs::Passing::by_exchange))]
-fn by_exchange(_target: Target) -> bool
-    ensures { result ≡ by_exchange _target }
+pub fn by_exchange(target: Target) -> bool
+    ensures { result ≡ by_exchange target }
 {
-    false
+    match target {
+        Target::Amd64 => true,
+        Target::Aapcs64 => true,
+        Target::Riscv => true,
+        Target::Win64 => false,
+    }
 }
 
 /// What a call passes in general register `k`.

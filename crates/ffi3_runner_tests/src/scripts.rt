@@ -5,6 +5,7 @@ ghost use Rattle.ffi3_ask.specs.Handed.{handed, signatures_in};
 use crate::{Native, Ran, RunEnd, Stop, run_script};
 use ffi3_aapcs64::Aapcs64;
 use ffi3_amd64::Amd64;
+use ffi3_machine::Target;
 use ffi3_place::Abi;
 use ffi3_riscv::Riscv;
 use ffi3_win64::Win64;
@@ -22,13 +23,28 @@ pub struct Wanted {
     pub mark: u64,
 }
 
-/// The run came to what it must come to.
-fn check_ran(rt: &impl Abort, ran: &Ran, wanted: &Wanted) {
+/// How many instructions the machine runs for one call: the trampoline's three, and those of the four stubs where calls go by
+/// stubs (18, 25, 14 and 6 on amd64; 22, 43, 31 and 9 on aapcs64; 21, 47, 34 and 7 on riscv).
+fn steps_of_a_call(target: Target) -> u64 {
+    match target {
+        Target::Amd64 => 66,
+        Target::Aapcs64 => 108,
+        Target::Riscv => 112,
+        Target::Win64 => 3,
+    }
+}
+
+/// The run came to what it must come to, in so many steps for each call if all have returned.
+fn check_ran(rt: &impl Abort, ran: &Ran, wanted: &Wanted, steps: u64) {
     assert_eq!(rt; ran.output.taken(), wanted.text.as_bytes());
     assert_eq!(rt; ran.end, wanted.end);
     assert_eq!(rt; ran.moves_left, wanted.moves_left);
     assert_eq!(rt; ran.machine.events().len(), wanted.events);
     assert_eq!(rt; ran.machine.mark(), wanted.mark);
+    if ran.end == RunEnd::Done {
+        let calls = wanted.events as u64 / 2;
+        assert_eq!(rt; ran.machine.steps(), calls.wrapping_mul(steps));
+    }
 }
 
 /// Runs a script by a standard.
@@ -45,7 +61,7 @@ fn check_by<A: Abi>(
     let Some(ran) = run_script::<A>(alloc, natives, script)? else {
         return Err("no script".into());
     };
-    check_ran(rt, &ran, wanted);
+    check_ran(rt, &ran, wanted, steps_of_a_call(A::TARGET));
     Ok(())
 }
 

@@ -1,21 +1,20 @@
 //! A call that is served, and its result's text.
 ghost use Rattle.std.specs.Prelude.{◌≡◌, ◌+◌, ◌<◌, ◌≤◌, ◌^◌, IfOk, List, length};
-ghost use Rattle.ffi3_type_rules.specs.declared.limits.TheConstants.{STACK, STACK_TOP};
+ghost use Rattle.ffi3_type_rules.specs.declared.limits.TheConstants.{RETURN, STACK, STACK_TOP};
 ghost use Rattle.ffi3_type_rules.specs.Value.{ValueTree};
 ghost use Rattle.ffi3_type_rules.specs.ValueText.{value_text_of};
 ghost use Rattle.ffi3_place_rules.specs.Holds.{OwnResult};
 ghost use Rattle.ffi3_place_rules.specs.Standard.{frame_of};
 ghost use Rattle.ffi3_machine.specs.State.{image_of};
-ghost use Rattle.ffi3_pieces.specs.Passing.{passing};
 ghost use Rattle.ffi3_script.specs.ScriptOf.{natives_of};
 ghost use Rattle.ffi3_ask.specs.Handed.{handed, signatures_in};
 
 use crate::showing::show_at;
 use ffi3_body::Native;
-use ffi3_caller::{drop_frame, load_result};
+use ffi3_caller::{come_back, drop_frame, load_result};
 use ffi3_cif::Cif;
 use ffi3_io::MemSink;
-use ffi3_machine::Machine;
+use ffi3_machine::{Machine, RETURN};
 use ffi3_place::Abi;
 use ffi3_place::parts::{result_type, size_of};
 use ffi3_runner::{RunEnd, Runner};
@@ -25,20 +24,23 @@ use ffi3_types::{Bytes, NoMemory};
 use ffi3_values::{Value, value_from_bytes, value_text};
 use std::alloc::Global;
 
-/// Takes the result at a return, ends the call's frame, and gives the result's text.
+/// Comes back from a return, takes the result, ends the call's frame, and gives the result's text.
 pub fn take_text<A: Abi>(
     alloc: Global,
     machine: &mut Machine,
     cif: &Cif<A>,
 ) -> Result<Bytes, NoMemory>
+    requires target { machine.old.target ≡ A.TARGET }
+    requires at_return { machine.old.pc ≡ RETURN }
     requires bottom { STACK ≤ machine.old.sp }
     requires frame { machine.old.sp + frame_of A.standard cif.now ≤ STACK_TOP }
-    ensures { IfOk result (λ text. (v : ValueTree) → OwnResult A.standard cif.now v (image_of (frame_of A.standard cif.now) (passing machine.old)) →
+    ensures { IfOk result (λ text. (v : ValueTree) → OwnResult A.standard cif.now v (image_of (frame_of A.standard cif.now) machine.old) →
         text ≡ value_text_of cif.now.result_type v) }
 {
     let ty = result_type(cif.sig());
     let mut room = [0; LARGEST_TYPE as usize];
     let out = &mut room[..size_of(ty) as usize];
+    come_back(machine, cif);
     load_result(machine, cif, out);
     drop_frame(machine, cif);
     let value = value_from_bytes(alloc, ty, out)?;
@@ -53,7 +55,7 @@ pub struct ServedOutcome {
 }
 
 /// Runs the script beside the natives, and serves a call with the value of the closure at `ptr`, with the byte over all that its
-/// callee must not look at. None where one of the two did not return, or `show_at` shows no call.
+/// callee must not look at. None where one of the two did not return to RETURN, or `show_at` shows no call.
 pub fn call_after_main<A: Abi>(
     alloc: Global,
     natives: &Vec<Box<dyn Native>>,
@@ -86,6 +88,9 @@ pub fn call_after_main<A: Abi>(
         return Ok(None);
     };
     if runner.serve(&mut machine, &mut output, false) != RunEnd::Done {
+        return Ok(None);
+    }
+    if machine.target() != A::TARGET || machine.pc() != RETURN {
         return Ok(None);
     }
     let text = take_text(alloc, &mut machine, runner.cifs().get(sig))?;

@@ -1,5 +1,5 @@
 -- What the four stubs of AArch64 leave, in readable words.
-use Rattle.std.proofs.Common.{◌≡◌, ℕ, ◌+◌, ◌-◌, ◌≤◌, [], ◌∷◌, ◌++◌, false, length, refl, ap, ◌∙◌, arith, length-set}
+use Rattle.std.proofs.Common.{◌≡◌, ℕ, ◌+◌, ◌-◌, ◌≤◌, [], ◌∷◌, ◌++◌, false, length, refl, ap, ◌∙◌, arith, length-set, ◌⊎◌, inl, inr, ⊎_elim, ◌*◌, ◌<◌, min}
 use Rattle.std.proofs.lemmas.List.{get_or-set_same}
 use Rattle.ffi3_memory.specs.Memory.{number_of}
 use Rattle.ffi3_type_rules.specs.declared.Isa.TheVariants.{Aarch64}
@@ -12,6 +12,7 @@ use Rattle.ffi3_place_rules.specs.Isa.{call_loads, entry_stores, preserved_words
 use Rattle.ffi3_stubs.specs.Effects.{held, received, addressed, with_sp_by, aarch64_placed, aarch64_loaded, aarch64_called, aarch64_saved, aarch64_passed, aarch64_entered, aarch64_restored, aarch64_left, aarch64_taken, aarch64_returned}
 use Rattle.ffi3_stubs.specs.Calls.{same_loc, is_in, HasCalled, HasEntered, HasLeft, HasReturned}
 use Rattle.ffi3_stubs.proofs.Reading.{are_apart, are_spread, are_disjoint, place, misses, neither, in_neither, other_than, exchange_others, area_others, came_from_exchange, came_from_area, came_still, came_again, area_lengths, exchange_lengths, exchange_beyond, went_from, went_to_exchange, went_to_area}
+use Rattle.ffi3_stubs.proofs.Around.{area_size, area_outside, area_mark}
 
 minus_none : (a : ℕ) → a ≡ a - 0
 minus_none a = omega arith
@@ -70,12 +71,18 @@ has_returned s is =
 pub has_entered : (s : State) → IsMachine s → STACK + 176 ≤ s.sp → s.sp ≤ STACK_TOP → HasEntered Aarch64 s (aarch64_entered s)
 unfolding place misses are_spread
 has_entered s is low high =
+    let w : State = with_sp_by 4 (s.sp - 176) s in
+    let whole : w.sp + 0 ≡ s.sp - 176 = omega arith in
+    let around : (i : ℕ) → (STACK + i < s.sp - 176) ⊎ (s.sp ≤ STACK + i) → (STACK + i < w.sp + 0) ⊎ (w.sp + 0 + 8 * length (stub_area Aarch64) ≤ STACK + i) = λ i far. ⊎_elim (λ x. inl (omega (arith, x))) (λ x. inr (omega (arith, x, low))) far in
     let t : State = addressed 4 16 (aarch64_saved s) in
     let u : State = aarch64_passed s in
     let e : State = aarch64_entered s in
     let same : (l : Loc) → same_loc l (G 16) ≡ false → held l t ≡ held l s = λ l out. other_than l 16 EXCHANGE s t refl refl out in
     record {
       saved = went_to_area Aarch64 0 (s.sp - 176) (stub_area Aarch64) (with_sp_by 4 (s.sp - 176) s) (omega arith) (omega arith) (omega arith) is.stack;
+      size = area_size Aarch64 0 (stub_area Aarch64) w (omega arith) (omega arith) is.stack;
+      outside = λ i far. area_outside Aarch64 0 (stub_area Aarch64) w i (omega arith) (omega arith) is.stack (around i far);
+      mark = area_mark Aarch64 0 (stub_area Aarch64) w (omega arith) ∙ ap (min s.mark) whole;
       stored = went_from 16 (entry_stores Aarch64) s t e refl same (went_to_exchange Aarch64 16 (entry_stores Aarch64) t refl is.exchange);
       beyond = λ at far. exchange_beyond Aarch64 16 (entry_stores Aarch64) t at far refl is.exchange;
       others = λ l out. let one = neither (same_loc l (G 16)) false out in other_than l 16 (x_of 528 u) t e refl refl one.0 ∙ same l one.0;

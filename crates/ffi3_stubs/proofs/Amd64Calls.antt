@@ -1,5 +1,5 @@
 -- What the four stubs of AMD64 leave, in readable words.
-use Rattle.std.proofs.Common.{◌≡◌, ◌+◌, ◌-◌, ◌≤◌, ◌++◌, false, length, refl, ap, ◌∙◌, arith, length-set}
+use Rattle.std.proofs.Common.{◌≡◌, ◌+◌, ◌-◌, ◌≤◌, ◌++◌, false, length, refl, ap, ◌∙◌, arith, length-set, ◌⊎◌, inl, inr, ⊎_elim, ℕ, ◌*◌, ◌<◌, min}
 use Rattle.ffi3_memory.specs.Memory.{number_of}
 use Rattle.ffi3_type_rules.specs.declared.Isa.TheVariants.{Amd64}
 use Rattle.ffi3_type_rules.specs.declared.limits.TheConstants.{STACK, STACK_TOP}
@@ -11,6 +11,7 @@ use Rattle.ffi3_place_rules.specs.Isa.{call_loads, entry_stores, preserved_words
 use Rattle.ffi3_stubs.specs.Effects.{held, addressed, with_sp_by, amd64_placed, amd64_called, amd64_saved, amd64_entered, amd64_restored, amd64_left, amd64_returned}
 use Rattle.ffi3_stubs.specs.Calls.{same_loc, is_in, HasCalled, HasEntered, HasLeft, HasReturned}
 use Rattle.ffi3_stubs.proofs.Reading.{are_apart, are_spread, are_disjoint, place, misses, neither, in_neither, addressed_other, exchange_others, area_others, came_from_exchange, came_from_area, came_still, area_lengths, exchange_beyond, went_from, went_to_exchange, went_to_area}
+use Rattle.ffi3_stubs.proofs.Around.{area_size, area_outside, area_mark}
 
 pub has_called : (s : State) → IsMachine s → HasCalled Amd64 s (amd64_called (with_pc 8050 s))
 unfolding are_apart
@@ -43,10 +44,16 @@ has_returned s is =
 pub has_entered : (s : State) → IsMachine s → STACK + 56 ≤ s.sp → s.sp ≤ STACK_TOP → HasEntered Amd64 s (amd64_entered s)
 unfolding place misses are_spread
 has_entered s is low high =
+    let w : State = with_sp_by 8 (s.sp - 56) s in
+    let whole : w.sp + 0 ≡ s.sp - 56 = omega arith in
+    let around : (i : ℕ) → (STACK + i < s.sp - 56) ⊎ (s.sp ≤ STACK + i) → (STACK + i < w.sp + 0) ⊎ (w.sp + 0 + 8 * length (stub_area Amd64) ≤ STACK + i) = λ i far. ⊎_elim (λ x. inl (omega (arith, x))) (λ x. inr (omega (arith, x, low))) far in
     let t : State = addressed 7 11 (amd64_saved s) in
     let same : (l : Loc) → same_loc l (G 11) ≡ false → held l t ≡ held l s = λ l out. addressed_other s.general l 11 EXCHANGE s t refl refl out in
     record {
       saved = went_to_area Amd64 0 (s.sp - 56) (stub_area Amd64) (with_sp_by 8 (s.sp - 56) s) (omega arith) (omega arith) (omega arith) is.stack;
+      size = area_size Amd64 0 (stub_area Amd64) w (omega arith) (omega arith) is.stack;
+      outside = λ i far. area_outside Amd64 0 (stub_area Amd64) w i (omega arith) (omega arith) is.stack (around i far);
+      mark = area_mark Amd64 0 (stub_area Amd64) w (omega arith) ∙ ap (min s.mark) whole;
       stored = went_from 11 (entry_stores Amd64) s t (amd64_entered s) refl same (went_to_exchange Amd64 11 (entry_stores Amd64) t refl is.exchange);
       beyond = λ at far. exchange_beyond Amd64 11 (entry_stores Amd64) t at far refl is.exchange;
       others = λ l out. same l (neither (same_loc l (G 11)) false out).0;

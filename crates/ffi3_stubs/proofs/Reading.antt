@@ -138,7 +138,7 @@ word_below xs n at v near low = below xs (low_bytes 8 v) n at (at + length (low_
 word_above : (xs : List ℕ) (n at v : ℕ) → at + 8 ≤ n → at + 8 ≤ length xs → take 8 (drop n (replace_range xs at (at + length (low_bytes 8 v)) (low_bytes 8 v))) ≡ take 8 (drop n xs)
 word_above xs n at v far low = above xs (low_bytes 8 v) n at (at + length (low_bytes 8 v)) 8 refl far (omega arith)
 
-word_length : (xs : List ℕ) (at v : ℕ) → at + 8 ≤ length xs → length (replace_range xs at (at + length (low_bytes 8 v)) (low_bytes 8 v)) ≡ length xs
+pub word_length : (xs : List ℕ) (at v : ℕ) → at + 8 ≤ length xs → length (replace_range xs at (at + length (low_bytes 8 v)) (low_bytes 8 v)) ≡ length xs
 word_length xs at v low = length-written xs (low_bytes 8 v) at low
 
 -- ---- to the exchange region

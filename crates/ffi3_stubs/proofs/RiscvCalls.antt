@@ -1,5 +1,5 @@
 -- What the four stubs of RISC-V leave, in readable words.
-use Rattle.std.proofs.Common.{◌≡◌, ℕ, ◌+◌, ◌-◌, ◌≤◌, [], ◌∷◌, ◌++◌, false, length, refl, ap, ◌∙◌, arith, length-set}
+use Rattle.std.proofs.Common.{◌≡◌, ℕ, ◌+◌, ◌-◌, ◌≤◌, [], ◌∷◌, ◌++◌, false, length, refl, ap, ◌∙◌, arith, length-set, ◌⊎◌, inl, inr, ⊎_elim, ◌*◌, ◌<◌, min}
 use Rattle.std.proofs.lemmas.List.{get_or-set_same}
 use Rattle.ffi3_memory.specs.Memory.{number_of}
 use Rattle.ffi3_type_rules.specs.declared.Isa.TheVariants.{Riscv}
@@ -12,6 +12,7 @@ use Rattle.ffi3_place_rules.specs.Isa.{call_loads, entry_stores, preserved_words
 use Rattle.ffi3_stubs.specs.Effects.{held, received, addressed_twice, with_sp_by, riscv_placed, riscv_loaded, riscv_called, riscv_saved, riscv_entered, riscv_restored, riscv_left, riscv_returned}
 use Rattle.ffi3_stubs.specs.Calls.{same_loc, is_in, HasCalled, HasEntered, HasLeft, HasReturned}
 use Rattle.ffi3_stubs.proofs.Reading.{are_apart, are_spread, are_disjoint, place, misses, neither, in_neither, other_than, exchange_others, area_others, came_from_exchange, came_from_area, came_still, came_again, area_lengths, exchange_lengths, exchange_beyond, went_from, went_to_exchange, went_to_area}
+use Rattle.ffi3_stubs.proofs.Around.{area_size, area_outside, area_mark}
 
 minus_none : (a : ℕ) → a ≡ a - 0
 minus_none a = omega arith
@@ -64,10 +65,16 @@ has_returned s is =
 pub has_entered : (s : State) → IsMachine s → STACK + 208 ≤ s.sp → s.sp ≤ STACK_TOP → HasEntered Riscv s (riscv_entered s)
 unfolding place misses are_spread
 has_entered s is low high =
+    let w : State = with_sp_by 4 (s.sp - 208) s in
+    let whole : w.sp + 0 ≡ s.sp - 208 = omega arith in
+    let around : (i : ℕ) → (STACK + i < s.sp - 208) ⊎ (s.sp ≤ STACK + i) → (STACK + i < w.sp + 0) ⊎ (w.sp + 0 + 8 * length (stub_area Riscv) ≤ STACK + i) = λ i far. ⊎_elim (λ x. inl (omega (arith, x))) (λ x. inr (omega (arith, x, low))) far in
     let t : State = addressed_twice 7 (riscv_saved s) in
     let same : (l : Loc) → same_loc l (G 7) ≡ false → held l t ≡ held l s = λ l out. other_than l 7 EXCHANGE s t refl refl out in
     record {
       saved = went_to_area Riscv 0 (s.sp - 208) (stub_area Riscv) (with_sp_by 4 (s.sp - 208) s) (omega arith) (omega arith) (omega arith) is.stack;
+      size = area_size Riscv 0 (stub_area Riscv) w (omega arith) (omega arith) is.stack;
+      outside = λ i far. area_outside Riscv 0 (stub_area Riscv) w i (omega arith) (omega arith) is.stack (around i far);
+      mark = area_mark Riscv 0 (stub_area Riscv) w (omega arith) ∙ ap (min s.mark) whole;
       stored = went_from 7 (entry_stores Riscv) s t (riscv_entered s) refl same (went_to_exchange Riscv 7 (entry_stores Riscv) t refl is.exchange);
       beyond = λ at far. exchange_beyond Riscv 7 (entry_stores Riscv) t at far refl is.exchange;
       others = λ l out. same l (neither (same_loc l (G 7)) false out).0;

@@ -1,7 +1,6 @@
 -- Where the stubs lead, by any instruction set.
 use Rattle.std.proofs.Common.{◌≡◌, ℕ, ◌+◌, ◌<◌, ◌≤◌, ◌^◌, refl, sym, ap, ◌∙◌, subst, arith, lit<, length-set}
 use Rattle.ffi3_memory.specs.Memory.{number_of}
-use Rattle.ffi3_type_rules.specs.Isa.{isa_of}
 use Rattle.ffi3_type_rules.specs.declared.Isa.{Isa}
 use Rattle.ffi3_type_rules.specs.declared.Isa.TheVariants.{Amd64, Aarch64, Riscv}
 use Rattle.std.specs.Prelude.{slice_index}

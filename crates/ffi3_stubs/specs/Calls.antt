@@ -1,5 +1,5 @@
 -- What the four calls of stubs leave: which registers came from where, which went where, and what stays.
-use Rattle.std.specs.Prelude.{◌≡◌, ℕ, ◌+◌, ◌-◌, ◌≤◌, Bool, false, ◌==◌, ◌||◌, ⊤, List, [], ◌∷◌, ◌++◌, take, drop, slice_index}
+use Rattle.std.specs.Prelude.{◌≡◌, ℕ, ◌+◌, ◌-◌, ◌<◌, ◌≤◌, ◌⊎◌, min, Bool, false, ◌==◌, ◌||◌, ⊤, List, [], ◌∷◌, ◌++◌, length, take, drop, get_or, slice_index}
 use Rattle.std.specs.List.{AllByRecursion, replace_range}
 use Rattle.ffi3_memory.specs.Memory.{number_of, low_bytes}
 use Rattle.ffi3_type_rules.specs.declared.Isa.{Isa}
@@ -133,6 +133,10 @@ pub record HasCalled (isa : Isa) (before after : State) : Type 0 where
 -- after run_entry
 pub record HasEntered (isa : Isa) (before after : State) : Type 0 where
   pub saved : WentToArea (before.sp - area_bytes isa) (stub_area isa) before after
+  -- of the stack nothing else is written
+  pub size : length after.stack ≡ length before.stack
+  pub outside : (i : ℕ) → (STACK + i < before.sp - area_bytes isa) ⊎ (before.sp ≤ STACK + i) → get_or after.stack i 0 ≡ get_or before.stack i 0
+  pub mark : after.mark ≡ min before.mark (before.sp - area_bytes isa)
   pub stored : WentToExchange (entry_stores isa) before after
   pub beyond : (at : ℕ) → 512 ≤ at → exchange_bytes at after ≡ exchange_bytes at before
   pub others : OthersStay (entry_scratch isa) before after

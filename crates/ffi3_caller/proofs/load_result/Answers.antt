@@ -3,6 +3,8 @@ use Rattle.ffi3_type_rules.specs.Isa.{isa_of}
 use Rattle.ffi3_type_rules.specs.Value.{value_in}
 use Rattle.ffi3_place_rules.specs.Standard.{plan_of, frame_of}
 use Rattle.ffi3_machine.specs.State.{stack_at}
+use Rattle.ffi3_caller.specs.Called.{at_frame, frame_start}
+use Rattle.ffi3_caller.proofs.Framing.{loaded_moved}
 use Rattle.ffi3_pieces.specs.Passing.{passing}
 use Rattle.ffi3_caller.specs.Loaded.{AreWithin}
 use Rattle.ffi3_caller.proofs.Results.{are_within, in_registers, direct_value, buffer_within, hidden_value}
@@ -21,19 +23,20 @@ load_pieces-requires-clause-within g c =
 
 pub lend_stack-requires-clause-high : goal.lend_stack-requires-clause-high
 lend_stack-requires-clause-high g c =
-    omega (arith, c.requires.frame, c.requires.sized, c.sp-base.ensures.value, buffer_within g.A.Abi.standard c.args.cif.now c.in-Hidden.at c.in-Hidden.buffer (sym c.result_place.ensures ∙ c.in-Hidden.is))
+    omega (arith, c.requires.frame, c.requires.sized, c.frame_start-base.ensures, buffer_within g.A.Abi.standard c.args.cif.now c.in-Hidden.at c.in-Hidden.buffer (sym c.result_place.ensures ∙ c.in-Hidden.is))
 
 pub returns-in-Direct-clause-value : goal.returns-in-Direct-clause-value
 returns-in-Direct-clause-value g c = λ v own.
     let s = c.args.cif.now in
     let sound = g.met.A.Abi.sound s c.sig-sig.ensures.faultless in
-    let out_is = c.load_pieces.ensures.loaded in
-    ap (value_in s.result_type) out_is ∙ direct_value (passing c.args.machine.now) (frame_of g.A.Abi.standard s) g.A.Abi.standard s c.in-Direct.pieces c.args.out.now v sound (sym c.result_place.ensures ∙ c.in-Direct.is) c.requires.sized (ap length (sym out_is) ∙ c.load_pieces.ensures.sized) own
+    let frame = frame_of g.A.Abi.standard s in
+    let out_is = c.load_pieces.ensures.loaded ∙ sym (loaded_moved (frame_start frame c.args.machine.now) (passing c.args.machine.now) c.in-Direct.pieces c.args.out.now) in
+    ap (value_in s.result_type) out_is ∙ direct_value (at_frame (frame_of g.A.Abi.standard s) c.args.machine.now) (frame_of g.A.Abi.standard s) g.A.Abi.standard s c.in-Direct.pieces c.args.out.now v sound (sym c.result_place.ensures ∙ c.in-Direct.is) c.requires.sized (ap length (sym out_is) ∙ c.load_pieces.ensures.sized) own
 
 pub returns-in-Hidden-clause-value : goal.returns-in-Hidden-clause-value
 returns-in-Hidden-clause-value g c = λ v own.
     let s = c.args.cif.now in
-    let m = passing c.args.machine.now in
-    let start = c.sp-base.result + c.in-Hidden.buffer in
+    let m = at_frame (frame_of g.A.Abi.standard s) c.args.machine.now in
+    let start = c.frame_start-base.result + c.in-Hidden.buffer in
     let lent = c.copy_from_slice.ensures.after ∙ c.lend_stack.ensures.value ∙ ap (λ n. stack_at start n m) c.requires.sized in
-    ap (value_in s.result_type) lent ∙ hidden_value m g.A.Abi.standard s c.in-Hidden.at c.in-Hidden.buffer start v (sym c.result_place.ensures ∙ c.in-Hidden.is) c.requires.bottom (ap (λ n. n + c.in-Hidden.buffer) c.sp-base.ensures.value) own
+    ap (value_in s.result_type) lent ∙ hidden_value m g.A.Abi.standard s c.in-Hidden.at c.in-Hidden.buffer start v (sym c.result_place.ensures ∙ c.in-Hidden.is) c.requires.bottom (ap (λ n. n + c.in-Hidden.buffer) c.frame_start-base.ensures) own

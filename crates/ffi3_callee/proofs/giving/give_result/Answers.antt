@@ -6,7 +6,8 @@ use Rattle.ffi3_pieces.specs.Passing.{passing}
 use Rattle.ffi3_callee.specs.Given.{IsAddressOf, IsSettable, ResultWrites, result_uses}
 use Rattle.ffi3_callee.specs.Loaded.{image_from}
 use Rattle.ffi3_callee.proofs.Keeping.{reserved_stay, uses_clear}
-use Rattle.ffi3_callee.proofs.Results.{keeps_from, saved_below}
+use Rattle.ffi3_callee.proofs.OwnKept.{own_reserved, written_exchange}
+use Rattle.ffi3_callee.proofs.Results.{keeps_from, saved_below, written_target}
 use Rattle.ffi3_callee.proofs.Laws.{result_written, returned_settable}
 use Rattle.ffi3_callee.proofs.giving.give_result.Goals as goal
 
@@ -48,8 +49,12 @@ pub returns-clause-reserved : goal.returns-clause-reserved
 returns-clause-reserved g c =
     let std = g.A.Abi.standard in
     let s = c.args.cif.now in
+    let m = c.args.machine.now in
+    let n = c.give.new.machine in
+    let base = c.entry.result + c.LINK.result in
+    let res = (plan_of std s).res in
     let sound = g.met.A.Abi.sound s c.sig-sig.ensures.faultless in
-    reserved_stay std g.met.A.Abi.agrees (result_uses std (plan_of std s).res) (passing c.args.machine.now) (passing c.give.new.machine) (uses_clear std g.met.A.Abi.agrees (plan_of std s).res sound.result_allowed) c.give.ensures.registers
+    own_reserved m n c.sp-m.ensures.machine c.sp-given.ensures.machine std g.met.A.Abi.agrees (written_target base s.result_type res (passing m) (passing n) c.give.ensures.writes) (written_exchange base s.result_type res (passing m) (passing n) c.give.ensures.writes) (reserved_stay std g.met.A.Abi.agrees (result_uses std res) (passing m) (passing n) (uses_clear std g.met.A.Abi.agrees res sound.result_allowed) c.give.ensures.registers)
 
 pub returns-clause-unused : goal.returns-clause-unused
 returns-clause-unused g c =

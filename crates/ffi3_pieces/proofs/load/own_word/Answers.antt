@@ -1,7 +1,6 @@
-use Rattle.std.proofs.Common.{◌≡◌, sym, subst, ◌∙◌}
+use Rattle.std.proofs.Common.{◌≡◌, sym, subst}
 use Rattle.ffi3_pieces.specs.Stored.{word_in}
 use Rattle.ffi3_pieces.specs.Passing.{passing}
-use Rattle.ffi3_place_rules.specs.declared.Loc.TheVariants.{S}
 use Rattle.ffi3_pieces.proofs.load.own_word.Goals as goal
 
 pub returns-in-S : goal.returns-in-S

@@ -1,4 +1,4 @@
-use Rattle.std.proofs.Common.{◌≡◌, ap, ◌∙◌, arith, true, false, rules}
+use Rattle.std.proofs.Common.{◌≡◌, ap, ◌∙◌, true, false, rules}
 use Rattle.ffi3_pieces.specs.Passing.{by_exchange, passing}
 use Rattle.ffi3_pieces.proofs.Passing.{general_passed, general_own}
 use Rattle.ffi3_pieces.proofs.registers.pass_general.Goals as goal

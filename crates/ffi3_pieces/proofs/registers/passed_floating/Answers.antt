@@ -1,5 +1,5 @@
-use Rattle.std.proofs.Common.{◌≡◌, ap, ◌∙◌, arith, true, false, rules}
-use Rattle.ffi3_pieces.specs.Passing.{by_exchange, passing}
+use Rattle.std.proofs.Common.{◌≡◌, ◌∙◌, true, false}
+use Rattle.ffi3_pieces.specs.Passing.{by_exchange}
 use Rattle.ffi3_pieces.proofs.Passing.{floating_read, floating_own_read}
 use Rattle.ffi3_pieces.proofs.registers.passed_floating.Goals as goal
 

@@ -1,0 +1,44 @@
+use Rattle.std.proofs.Common.{◌≡◌, ◌-◌, true, false, ap, sym, ◌∙◌, arith}
+use Rattle.ffi3_type_rules.specs.Isa.{isa_of}
+use Rattle.ffi3_place_rules.specs.Isa.{area_bytes, pushed_bytes}
+use Rattle.ffi3_pieces.specs.Passing.{by_exchange}
+use Rattle.ffi3_callee.proofs.WayBack.{gone_by_stub, gone_itself, laws_of}
+use Rattle.ffi3_callee.proofs.going.go.Goals as goal
+
+pub overflow_sub-area : goal.overflow_sub-area
+overflow_sub-area g c =
+    omega (arith, c.entry.ensures, c.SAVE.ensures, g.met.A.Abi.save_is, c.requires.incoming.entry)
+
+pub leave_by_stub-requires-clause-low : goal.leave_by_stub-requires-clause-low
+leave_by_stub-requires-clause-low g c =
+    omega (arith, c.entry.ensures, c.SAVE.ensures, g.met.A.Abi.save_is, c.requires.incoming.low, c.requires.incoming.entry)
+
+pub leave_by_stub-requires-clause-high : goal.leave_by_stub-requires-clause-high
+leave_by_stub-requires-clause-high g c =
+    let std = g.A.Abi.standard in
+    let m = c.args.machine.now in
+    let e : by_exchange c.args.machine.now.target ≡ true = cc in
+    let same : std.target ≡ m.target = g.met.A.Abi.target_is ∙ sym c.requires.target in
+    let laws = laws_of std m.target g.met.A.Abi.by_stubs same e in
+    let bytes : std.save ≡ area_bytes (isa_of m.target) = laws.area_size ∙ ap (λ k. area_bytes (isa_of k)) same in
+    let pushed : std.link ≡ pushed_bytes (isa_of m.target) = g.met.A.Abi.agrees.link ∙ ap (λ k. pushed_bytes (isa_of k)) same in
+    omega (arith, bytes, pushed, c.entry.ensures, c.SAVE.ensures, g.met.A.Abi.save_is, c.requires.incoming.entry, c.requires.incoming.high)
+
+pub returns-then-exchanged : goal.returns-then-exchanged
+returns-then-exchanged g c =
+    let std = g.A.Abi.standard in
+    let m = c.args.machine.now in
+    let entry = c.args.incoming.entry in
+    let e : by_exchange c.args.machine.now.target ≡ true = cc in
+    let same : std.target ≡ m.target = g.met.A.Abi.target_is ∙ sym c.requires.target in
+    let laws = laws_of std m.target g.met.A.Abi.by_stubs same e in
+    let area : c.entry.result - c.SAVE.result ≡ entry - std.save = omega (arith, c.entry.ensures, c.SAVE.ensures, g.met.A.Abi.save_is) in
+    gone_by_stub std g.met.A.Abi.agrees laws (c.entry.result - c.SAVE.result) entry m c.leave_by_stub.new.machine c.sp-m.ensures.machine same area (omega (arith, c.requires.incoming.low, c.requires.incoming.entry)) (omega (arith, c.requires.incoming.high)) e c.leave_by_stub.ensures.says c.leave_by_stub.ensures.counted
+
+pub returns-else-exchanged : goal.returns-else-exchanged
+returns-else-exchanged g c =
+    let std = g.A.Abi.standard in
+    let m = c.args.machine.now in
+    let e : by_exchange c.args.machine.now.target ≡ false = cc in
+    let same : std.target ≡ m.target = g.met.A.Abi.target_is ∙ sym c.requires.target in
+    gone_itself std g.met.A.Abi.agrees c.args.incoming.entry m c.restore.new.machine same e c.restore.ensures.given_back c.restore.ensures.others c.restore.ensures.within c.restore.ensures.sp

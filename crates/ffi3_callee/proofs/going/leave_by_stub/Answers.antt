@@ -1,0 +1,29 @@
+use Rattle.std.proofs.Common.{◌≡◌, ◌+◌, ◌≤◌, ◌%◌, ◌^◌, sym, subst, arith}
+use Rattle.ffi3_type_rules.specs.declared.limits.TheConstants.{STACK, STACK_TOP}
+use Rattle.ffi3_type_rules.specs.Isa.{isa_of}
+use Rattle.ffi3_place_rules.specs.Isa.{area_bytes, pushed_bytes}
+use Rattle.ffi3_machine.specs.State.{State, with_x, x_of}
+use Rattle.ffi3_machine.specs.Stubs.{Exit}
+use Rattle.ffi3_stubs.specs.Calls.{HasLeft, steps_of}
+use Rattle.ffi3_pieces.proofs.Passing.{told_there}
+use Rattle.ffi3_callee.proofs.going.leave_by_stub.Goals as goal
+
+pub run_exit-requires-clause-low : goal.run_exit-requires-clause-low
+run_exit-requires-clause-low c =
+    let m = c.args.machine.now in
+    let there : x_of 536 (with_x 536 c.args.area m) ≡ c.args.area = told_there 536 c.args.area m (omega (arith, c.sp-m.ensures.machine.exchange)) (omega (arith, c.requires.high)) in
+    subst (λ (x : State). STACK ≤ x_of 536 x) (sym c.set_x.ensures) (omega (arith, there, c.requires.low))
+
+pub run_exit-requires-clause-high : goal.run_exit-requires-clause-high
+run_exit-requires-clause-high c =
+    let m = c.args.machine.now in
+    let there : x_of 536 (with_x 536 c.args.area m) ≡ c.args.area = told_there 536 c.args.area m (omega (arith, c.sp-m.ensures.machine.exchange)) (omega (arith, c.requires.high)) in
+    subst (λ (x : State). x_of 536 x + area_bytes (isa_of x.target) + pushed_bytes (isa_of x.target) ≤ STACK_TOP) (sym c.set_x.ensures) (omega (arith, there, c.requires.high))
+
+pub returns-clause-says : goal.returns-clause-says
+returns-clause-says c =
+    subst (λ (x : State). HasLeft (isa_of x.target) x c.run_exit.new.machine) c.set_x.ensures c.run_exit.ensures.says
+
+pub returns-clause-counted : goal.returns-clause-counted
+returns-clause-counted c =
+    subst (λ (x : State). c.run_exit.new.machine.steps ≡ (x.steps + steps_of (isa_of x.target) Exit) % 2 ^ 64) c.set_x.ensures c.run_exit.ensures.counted

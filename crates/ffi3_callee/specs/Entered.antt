@@ -1,0 +1,27 @@
+-- The machine once a callee is entered.
+use Rattle.std.specs.Prelude.{◌≡◌, ℕ, ◌+◌, ◌-◌, false, Option}
+use Rattle.std.specs.List.{AllByRecursion}
+use Rattle.ffi3_type_rules.specs.Isa.{isa_of}
+use Rattle.ffi3_place_rules.specs.declared.Loc.{Loc}
+use Rattle.ffi3_place_rules.specs.Standard.{Standard}
+use Rattle.ffi3_machine.specs.State.{State}
+use Rattle.ffi3_machine.specs.Stubs.{Entry}
+use Rattle.ffi3_stubs.specs.Calls.{steps_of}
+use Rattle.ffi3_pieces.specs.Passing.{by_exchange, passing, steps_if}
+use Rattle.ffi3_pieces.specs.Stored.{SameAt, WroteWithin, with_journal_of}
+use Rattle.ffi3_callee.specs.Given.{ReservedStay}
+use Rattle.ffi3_callee.specs.Saved.{AreSaved}
+
+-- THE CALLEE IS ENTERED: what it is to give back is saved below the entry's sp, arguments are passed as they came in registers, and sp is its block's address.
+pub record IsEntered (std : Standard) (hidden : Option Loc) (block : ℕ) (entry m : State) : Type 0 where
+  pub saved : AreSaved (entry.sp - std.save) (entry.sp + std.link) hidden std.save_area entry m
+  pub arguments : AllByRecursion (λ l. SameAt 0 l entry (passing m)) std.argument_registers
+  pub reserved : ReservedStay std entry m
+  pub sp : m.sp ≡ block
+  pub within : WroteWithin (entry.sp - std.save) entry.sp entry (with_journal_of entry m)
+  -- the stub Entry leads on
+  pub pc : by_exchange entry.target ≡ false → m.pc ≡ entry.pc
+  pub events : m.events ≡ entry.events
+  pub spare_events : m.spare_events ≡ entry.spare_events
+  pub spare_bytes : m.spare_bytes ≡ entry.spare_bytes
+  pub steps : m.steps ≡ steps_if (by_exchange entry.target) (steps_of (isa_of entry.target) Entry) entry.steps

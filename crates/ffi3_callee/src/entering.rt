@@ -1,0 +1,56 @@
+// The entry of a callee: what it is to give back is saved.
+ghost use Rattle.std.specs.Prelude.{◌≡◌, ◌+◌, ◌-◌, ◌≤◌, ◌%◌, ◌^◌, true, [], ◌∷◌};
+ghost use Rattle.std.specs.List.{AllByRecursion};
+ghost use Rattle.ffi3_type_rules.specs.declared.limits.TheConstants.{ENTRY, STACK, STACK_TOP};
+ghost use Rattle.ffi3_type_rules.specs.Isa.{isa_of};
+ghost use Rattle.ffi3_place_rules.specs.declared.Loc.{Loc};
+ghost use Rattle.ffi3_place_rules.specs.declared.Loc.TheVariants.{G};
+ghost use Rattle.ffi3_place_rules.specs.Isa.{area_bytes, hidden_register, listed};
+ghost use Rattle.ffi3_place_rules.specs.Sound.{IsOneOf};
+ghost use Rattle.ffi3_machine.specs.State.{with_x};
+ghost use Rattle.ffi3_machine.specs.Stubs.{Entry};
+ghost use Rattle.ffi3_stubs.specs.Calls.{HasEntered, steps_of};
+ghost use Rattle.ffi3_pieces.specs.Passing.{by_exchange};
+ghost use Rattle.ffi3_callee.specs.Entered.{IsEntered};
+ghost use Rattle.ffi3_callee.specs.Saved.{HiddenLies};
+
+use crate::saving::save_words;
+use ffi3_machine::Machine;
+use ffi3_pieces::by_exchange;
+use ffi3_place::{Abi, Loc};
+use ffi3_stubs::run_entry;
+
+// Enters by the stub Entry, with the block's address as stack pointer.
+fn enter_by_stub(machine: &mut Machine, block: u64)
+    requires entry { machine.old.pc ≡ ENTRY }
+    requires low { STACK + area_bytes (isa_of machine.old.target) ≤ machine.old.sp }
+    requires high { machine.old.sp ≤ STACK_TOP }
+    ensures says { HasEntered (isa_of machine.old.target) (with_x 528 block machine.old) machine.new }
+    ensures counted { machine.new.steps ≡ (machine.old.steps + steps_of (isa_of machine.old.target) Entry) % 2 ^ 64 }
+{
+    machine.set_x(528, block);
+    run_entry(machine);
+}
+
+/// Enters the callee, whose block begins at an address: what is to be given back is saved below the stack pointer. Stack places
+/// count from the address `base`, the end of the return address.
+pub fn enter<A: Abi>(machine: &mut Machine, base: u64, block: u64, hidden: Option<Loc>)
+    requires target { machine.old.target ≡ A.TARGET }
+    requires entry { machine.old.pc ≡ ENTRY }
+    requires room { STACK + A.standard.save ≤ machine.old.sp }
+    requires base { base ≡ machine.old.sp + A.standard.link }
+    requires high { base ≤ STACK_TOP }
+    requires below { block ≤ machine.old.sp }
+    requires hidden { HiddenLies (STACK_TOP - base) hidden }
+    requires hidden_saved { by_exchange machine.old.target ≡ true → AllByRecursion (IsOneOf (G (hidden_register (isa_of A.standard.target)) ∷ [])) (listed hidden) }
+    ensures { IsEntered A.standard hidden block machine.old machine.new }
+{
+    let sp = machine.sp();
+    let exchanged = by_exchange(machine.target());
+    if exchanged {
+        enter_by_stub(machine, block);
+    } else {
+        save_words::<A>(machine, sp - A::SAVE, base, hidden);
+        machine.set_sp(block);
+    }
+}

@@ -1,0 +1,209 @@
+-- A call by the stub Call or by the machine's own, and the way back by the stub Return.
+use Rattle.std.proofs.Common.{◌≡◌, ℕ, ◌+◌, ◌-◌, ◌%◌, ◌^◌, ◌≤◌, Bool, true, false, List, ◌++◌, take, drop, get_or, length, refl, ap, sym, ◌∙◌, subst, arith}
+use Rattle.std.specs.List.{replace_range}
+use Rattle.std.specs.Int.{w64, to_le_bytes}
+use Rattle.std.proofs.lemmas.List.{get_or-set_other}
+use Rattle.ffi3_type_rules.specs.declared.Isa.{Isa}
+use Rattle.ffi3_type_rules.specs.declared.Isa.TheVariants.{Amd64, Aarch64, Riscv}
+use Rattle.ffi3_type_rules.specs.declared.limits.TheConstants.{RETURN, STACK, STACK_TOP}
+use Rattle.ffi3_type_rules.specs.Isa.{isa_of}
+use Rattle.ffi3_place_rules.specs.declared.Loc.{Loc}
+use Rattle.ffi3_place_rules.specs.declared.Loc.TheVariants.{G, F, S}
+use Rattle.ffi3_place_rules.specs.Isa.{call_loads, call_scratch, exit_scratch, link_place, link_register, listed, pushed_bytes, result_loads}
+use Rattle.ffi3_place_rules.specs.Sound.{IsNoneOf, IsOneOf}
+use Rattle.ffi3_machine.specs.State.{State, HasReturnAddress, HasReturnAt, IsMachine, IsSlot, called, linked_general, linked_stack, lowered, with_x, x_of}
+use Rattle.ffi3_machine.specs.Stubs.{Call, Return, exchanged_at}
+use Rattle.ffi3_stubs.specs.Calls.{CameFromExchange, HasCalled, HasReturned, IsLinked, called_stack, steps_of, target_of}
+use Rattle.ffi3_pieces.specs.Passing.{by_exchange, passing_if}
+use Rattle.ffi3_pieces.specs.Stored.{IsPlace, SameAt}
+use Rattle.ffi3_pieces.proofs.Composing.{same_itself}
+use Rattle.ffi3_pieces.proofs.Exchanged.{word_written}
+use Rattle.ffi3_pieces.proofs.Held.{left_by, loaded_as_passed, stored_as_passed}
+use Rattle.ffi3_pieces.proofs.Passing.{place_low, steps_more, steps_same, told_below, told_length, told_there}
+use Rattle.ffi3_caller.specs.Called.{HasComeBack, IsCarried, IsLeft, IsPassedBack, IsUntouched, SlotIsCalled, frame_start_if, told}
+
+-- ---- a call by its stub
+
+module _ (addr : ℕ) (m : State) (is : IsMachine m) (slot : IsSlot addr) where
+  first_fits : 512 + 8 ≤ length m.exchange
+  first_fits = let sized = is.exchange in omega (arith, sized)
+
+  second_fits : 520 + 8 ≤ length (with_x 512 addr m).exchange
+  second_fits = let sized = is.exchange in omega (arith, sized, told_length 512 addr m first_fits)
+
+  told_slot : x_of 512 (told addr m) ≡ addr
+  told_slot =
+      told_below 512 520 m.sp (with_x 512 addr m) (omega arith) second_fits ∙ told_there 512 addr m first_fits (omega (arith, slot.1, slot.2))
+
+  told_sp : x_of 520 (told addr m) ≡ m.sp
+  told_sp = told_there 520 m.sp (with_x 512 addr m) second_fits is.sp_word
+
+  told_register : (l : Loc) → IsPlace 0 l → x_of (exchanged_at l) (told addr m) ≡ x_of (exchanged_at l) m
+  told_register l lies =
+      told_below (exchanged_at l) 520 m.sp (with_x 512 addr m) (omega (arith, place_low l lies)) second_fits ∙ told_below (exchanged_at l) 512 addr m (place_low l lies) first_fits
+
+  pub call_low : (t : State) → t ≡ told addr m → STACK + pushed_bytes (isa_of m.target) ≤ m.sp → STACK + pushed_bytes (isa_of t.target) ≤ x_of 520 t
+  call_low t t_is low =
+      subst (λ (x : State). STACK + pushed_bytes (isa_of x.target) ≤ x_of 520 x) (sym t_is) (subst (λ (v : ℕ). STACK + pushed_bytes (isa_of m.target) ≤ v) (sym told_sp) low)
+
+  pub call_high : (t : State) → t ≡ told addr m → m.sp ≤ STACK_TOP → x_of 520 t ≤ STACK_TOP
+  call_high t t_is high =
+      subst (λ (x : State). x_of 520 x ≤ STACK_TOP) (sym t_is) (subst (λ (v : ℕ). v ≤ STACK_TOP) (sym told_sp) high)
+
+-- pc is a slot's address, which is even
+slot_even : (isa : Isa) (addr : ℕ) → IsSlot addr → target_of isa addr ≡ addr
+slot_even Amd64 addr slot = refl
+slot_even Aarch64 addr slot = refl
+slot_even Riscv addr slot = omega (arith, slot.2)
+
+stack_linked : (isa : Isa) (sp : ℕ) (stack : List ℕ) → STACK + pushed_bytes isa ≤ sp → called_stack isa sp stack ≡ linked_stack (link_register isa) sp stack
+stack_linked Amd64 sp stack low =
+    let end : sp - 8 - STACK + 8 ≡ sp - STACK = omega (arith, low) in
+    ap (λ e. replace_range stack (sp - 8 - STACK) e (to_le_bytes w64 RETURN)) end
+stack_linked Aarch64 sp stack low = refl
+stack_linked Riscv sp stack low = refl
+
+return_linked : (isa : Isa) (m n : State) → STACK + pushed_bytes isa ≤ m.sp → m.sp - STACK ≤ length m.stack → IsLinked isa n → n.sp ≡ m.sp - pushed_bytes isa → n.stack ≡ called_stack isa m.sp m.stack → HasReturnAt (link_register isa) n.general n.sp n.stack
+return_linked Amd64 m n low fits linked sp stack = (
+  omega (arith, low, sp),
+  ap (λ a. take 8 (drop (a - STACK) n.stack)) sp ∙ ap (λ xs. take 8 (drop (m.sp - 8 - STACK) xs)) stack ∙ word_written m.stack (m.sp - 8 - STACK) RETURN (omega (arith, low, fits)),
+)
+return_linked Aarch64 m n low fits linked sp stack = linked
+return_linked Riscv m n low fits linked sp stack = linked
+
+stub_passed : (b : Bool) → b ≡ true → (addr : ℕ) (m n : State) → ((l : Loc) → IsPlace 0 l → x_of (exchanged_at l) (told addr m) ≡ x_of (exchanged_at l) m) → CameFromExchange (call_loads (isa_of m.target)) (told addr m) n → (l : Loc) → IsPlace 0 l → IsCarried b (isa_of m.target) l → SameAt 0 l (passing_if b m) n
+stub_passed false e addr m n same came l lies some = absurd cc
+stub_passed true e addr m n same came (G r) lies some =
+    loaded_as_passed true refl (call_loads (isa_of m.target)) m (told addr m) n same came (G r) lies some
+stub_passed true e addr m n same came (F r) lies some =
+    loaded_as_passed true refl (call_loads (isa_of m.target)) m (told addr m) n same came (F r) lies some
+stub_passed true e addr m n same came (S k) lies some = absurd (omega (arith, lies))
+
+left_by_stub : (b : Bool) → b ≡ true → (isa : Isa) (l : Loc) → IsLeft b isa l → IsNoneOf (call_scratch isa ++ call_loads isa) l
+left_by_stub true e isa l h = h
+left_by_stub false e isa l h = absurd cc
+
+pub called_by_stub : (addr : ℕ) (m t n : State) → IsMachine m → IsSlot addr → t ≡ told addr m → STACK + pushed_bytes (isa_of m.target) ≤ m.sp → m.sp ≤ STACK_TOP → by_exchange m.target ≡ true → HasCalled (isa_of t.target) t n → n.steps ≡ (t.steps + steps_of (isa_of t.target) Call) % 2 ^ 64 → SlotIsCalled addr m n
+called_by_stub addr m t n is slot t_is low high e says counted =
+    let isa = isa_of m.target in
+    let sized = is.stack in
+    let s : HasCalled (isa_of m.target) (told addr m) n = subst (λ (x : State). HasCalled (isa_of x.target) x n) t_is says in
+    let more : n.steps ≡ (m.steps + steps_of (isa_of m.target) Call) % 2 ^ 64 = subst (λ (x : State). n.steps ≡ (x.steps + steps_of (isa_of x.target) Call) % 2 ^ 64) t_is counted in
+    let at_sp : x_of 520 (told addr m) ≡ m.sp = told_sp addr m is slot in
+    let sp : n.sp ≡ m.sp - pushed_bytes (isa_of m.target) = s.sp ∙ ap (λ v. v - pushed_bytes (isa_of m.target)) at_sp in
+    let stack : n.stack ≡ called_stack (isa_of m.target) m.sp m.stack = s.stack ∙ ap (λ v. called_stack (isa_of m.target) v m.stack) at_sp in
+    let target : n.target ≡ m.target = ap (λ q. q.target) s.rest in
+    record {
+      passed = λ l lies some. stub_passed (by_exchange m.target) e addr m n (told_register addr m is slot) s.loaded l lies some;
+      others = λ l lies left. left_by (call_scratch isa ++ call_loads isa) m n s.others l lies (left_by_stub (by_exchange m.target) e (isa_of m.target) l left);
+      sp = sp;
+      pc = s.pc ∙ ap (target_of (isa_of m.target)) (told_slot addr m is slot) ∙ slot_even (isa_of m.target) addr slot;
+      return_address = subst (λ k. HasReturnAt (link_register (isa_of k)) n.general n.sp n.stack) (sym target) (return_linked (isa_of m.target) m n low (omega (arith, high, sized)) s.link sp stack);
+      stack = stack ∙ stack_linked (isa_of m.target) m.sp m.stack low;
+      mark = s.mark ∙ ap (λ v. lowered m.mark (v - pushed_bytes (isa_of m.target)) (pushed_bytes (isa_of m.target))) at_sp;
+      target = target;
+      code = ap (λ q. q.code) s.rest;
+      events = ap (λ q. q.events) s.rest;
+      spare_events = ap (λ q. q.spare_events) s.rest;
+      spare_bytes = ap (λ q. q.spare_bytes) s.rest;
+      steps = steps_more (by_exchange m.target) (steps_of (isa_of m.target) Call) m.steps n.steps e more;
+    }
+
+-- ---- the machine's own call
+
+linked_same : (isa : Isa) (general : List ℕ) (r : ℕ) → IsNoneOf (listed (link_place isa)) (G r) → get_or (linked_general (link_register isa) general) r 0 ≡ get_or general r 0
+linked_same Amd64 general r none = refl
+linked_same Aarch64 general r none = get_or-set_other general 30 r RETURN 0 none.0
+linked_same Riscv general r none = get_or-set_other general 1 r RETURN 0 none.0
+
+left_alone : (addr : ℕ) (m n : State) → n ≡ called addr m → (l : Loc) → IsPlace 0 l → IsNoneOf (listed (link_place (isa_of m.target))) l → SameAt 0 l m n
+left_alone addr m n n_is (G r) lies none = ap (λ q. get_or q.general r 0) n_is ∙ linked_same (isa_of m.target) m.general r none
+left_alone addr m n n_is (F r) lies none = ap (λ q. get_or q.floating r 0) n_is
+left_alone addr m n n_is (S k) lies none = absurd (omega (arith, lies))
+
+own_passed : (b : Bool) → b ≡ false → (addr : ℕ) (m n : State) → n ≡ called addr m → (l : Loc) → IsPlace 0 l → IsCarried b (isa_of m.target) l → SameAt 0 l (passing_if b m) n
+own_passed true e addr m n n_is l lies some = absurd cc
+own_passed false e addr m n n_is l lies some = left_alone addr m n n_is l lies some
+
+own_left : (b : Bool) → b ≡ false → (addr : ℕ) (m n : State) → n ≡ called addr m → (l : Loc) → IsPlace 0 l → IsLeft b (isa_of m.target) l → SameAt 0 l m n
+own_left true e addr m n n_is l lies left = absurd cc
+own_left false e addr m n n_is l lies left = left_alone addr m n n_is l lies left
+
+pub called_itself : (addr : ℕ) (m n : State) → by_exchange m.target ≡ false → n ≡ called addr m → HasReturnAddress n → SlotIsCalled addr m n
+called_itself addr m n e n_is back = record {
+  passed = λ l lies some. own_passed (by_exchange m.target) e addr m n n_is l lies some;
+  others = λ l lies left. own_left (by_exchange m.target) e addr m n n_is l lies left;
+  sp = ap (λ q. q.sp) n_is;
+  pc = ap (λ q. q.pc) n_is;
+  return_address = back;
+  stack = ap (λ q. q.stack) n_is;
+  mark = ap (λ q. q.mark) n_is;
+  target = ap (λ q. q.target) n_is;
+  code = ap (λ q. q.code) n_is;
+  events = ap (λ q. q.events) n_is;
+  spare_events = ap (λ q. q.spare_events) n_is;
+  spare_bytes = ap (λ q. q.spare_bytes) n_is;
+  steps = steps_same (by_exchange m.target) (steps_of (isa_of m.target) Call) m.steps n.steps e (ap (λ q. q.steps) n_is);
+}
+
+-- ---- the way back
+
+back_given : (b : Bool) → b ≡ true → (isa : Isa) (l : Loc) → IsPassedBack b isa l → IsOneOf (result_loads isa) l
+back_given true e isa l h = h
+back_given false e isa l h = absurd cc
+
+untouched_by_stub : (b : Bool) → b ≡ true → (isa : Isa) (l : Loc) → IsUntouched b isa l → IsNoneOf (exit_scratch isa) l
+untouched_by_stub true e isa l h = h
+untouched_by_stub false e isa l h = absurd cc
+
+start_raised : (b : Bool) → b ≡ true → (frame : ℕ) (m n : State) → n.sp ≡ m.sp + frame → frame_start_if b frame n ≡ m.sp
+start_raised true e frame m n sp = omega (arith, sp)
+start_raised false e frame m n sp = absurd cc
+
+pub back_by_stub : (frame v : ℕ) (m t n : State) → IsMachine m → v ≡ m.sp + frame → t ≡ with_x 544 v m → m.sp + frame ≤ STACK_TOP → by_exchange m.target ≡ true → HasReturned (isa_of t.target) t n → n.steps ≡ (t.steps + steps_of (isa_of t.target) Return) % 2 ^ 64 → HasComeBack frame m n
+back_by_stub frame v m t n is v_is t_is top e says counted =
+    let isa = isa_of m.target in
+    let sized = is.exchange in
+    let s : HasReturned (isa_of m.target) (with_x 544 v m) n = subst (λ (x : State). HasReturned (isa_of x.target) x n) t_is says in
+    let more : n.steps ≡ (m.steps + steps_of (isa_of m.target) Return) % 2 ^ 64 = subst (λ (x : State). n.steps ≡ (x.steps + steps_of (isa_of x.target) Return) % 2 ^ 64) t_is counted in
+    let sp : n.sp ≡ m.sp + frame = s.sp ∙ told_there 544 v m (omega (arith, sized)) (omega (arith, v_is, top)) ∙ v_is in
+    let target : n.target ≡ m.target = ap (λ q. q.target) s.rest in
+    let same : by_exchange m.target ≡ by_exchange n.target = ap by_exchange (sym target) in
+    record {
+      passed = λ l lies some. subst (λ (b : Bool). SameAt 0 l m (passing_if b n)) same (stored_as_passed (by_exchange m.target) e (result_loads isa) m (with_x 544 v m) n is refl refl s.stored l lies (back_given (by_exchange m.target) e (isa_of m.target) l some));
+      others = λ l lies free. left_by (exit_scratch isa) m n s.others l lies (untouched_by_stub (by_exchange m.target) e (isa_of m.target) l free);
+      start = subst (λ (b : Bool). frame_start_if b frame n ≡ m.sp) same (start_raised (by_exchange m.target) e frame m n sp);
+      stack = ap (λ q. q.stack) s.rest;
+      mark = ap (λ q. q.mark) s.rest;
+      target = target;
+      code = ap (λ q. q.code) s.rest;
+      events = ap (λ q. q.events) s.rest;
+      spare_events = ap (λ q. q.spare_events) s.rest;
+      spare_bytes = ap (λ q. q.spare_bytes) s.rest;
+      steps = steps_more (by_exchange m.target) (steps_of (isa_of m.target) Return) m.steps n.steps e more;
+    }
+
+-- where nothing is done
+
+own_back : (b : Bool) → b ≡ false → (m : State) (l : Loc) → SameAt 0 l m (passing_if b m)
+own_back true e m l = absurd cc
+own_back false e m l = same_itself 0 l m
+
+start_kept : (b : Bool) → b ≡ false → (frame : ℕ) (m : State) → frame_start_if b frame m ≡ m.sp
+start_kept true e frame m = absurd cc
+start_kept false e frame m = refl
+
+pub back_itself : (frame : ℕ) (m : State) → by_exchange m.target ≡ false → HasComeBack frame m m
+back_itself frame m e = record {
+  passed = λ l lies some. own_back (by_exchange m.target) e m l;
+  others = λ l lies free. same_itself 0 l m;
+  start = start_kept (by_exchange m.target) e frame m;
+  stack = refl;
+  mark = refl;
+  target = refl;
+  code = refl;
+  events = refl;
+  spare_events = refl;
+  spare_bytes = refl;
+  steps = steps_same (by_exchange m.target) (steps_of (isa_of m.target) Return) m.steps m.steps e refl;
+}

@@ -1,0 +1,34 @@
+-- Where the frame begins once a call has come back.
+use Rattle.std.proofs.Common.{◌≡◌, ℕ, ◌+◌, ◌-◌, ◌≤◌, Bool, true, false, List, [], ◌∷◌, take, refl, ap, ◌∙◌, arith}
+use Rattle.std.specs.List.{replace_range}
+use Rattle.std.specs.Int.{w64, to_le_bytes}
+use Rattle.ffi3_type_rules.specs.declared.limits.TheConstants.{STACK}
+use Rattle.ffi3_place_rules.specs.declared.Loc.{Loc}
+use Rattle.ffi3_place_rules.specs.declared.Loc.TheVariants.{G, F, S}
+use Rattle.ffi3_place_rules.specs.declared.Piece.{Piece}
+use Rattle.ffi3_machine.specs.State.{State, with_sp}
+use Rattle.ffi3_caller.specs.Called.{frame_start_if}
+use Rattle.ffi3_caller.specs.Loaded.{loaded, register_of, with_piece}
+
+pub start_by_stub : (b : Bool) (frame : ℕ) (m : State) → b ≡ true → frame_start_if b frame m ≡ m.sp - frame
+start_by_stub true frame m e = refl
+start_by_stub false frame m e = cc
+
+pub start_itself : (b : Bool) (frame : ℕ) (m : State) → b ≡ false → frame_start_if b frame m ≡ m.sp
+start_itself true frame m e = cc
+start_itself false frame m e = refl
+
+pub frame_below : (b : Bool) (frame : ℕ) (m : State) → b ≡ true → STACK ≤ frame_start_if b frame m → frame ≤ m.sp
+frame_below true frame m e h = omega (arith, h)
+frame_below false frame m e h = absurd cc
+
+-- what is loaded does not depend on sp
+register_moved : (sp : ℕ) (m : State) (l : Loc) → register_of (with_sp sp m) l ≡ register_of m l
+register_moved sp m (G r) = refl
+register_moved sp m (F r) = refl
+register_moved sp m (S n) = refl
+
+pub loaded_moved : (sp : ℕ) (m : State) (ps : List Piece) (out : List ℕ) → loaded (with_sp sp m) ps out ≡ loaded m ps out
+loaded_moved sp m [] out = refl
+loaded_moved sp m (p ∷ ps) out =
+    ap (λ w. loaded (with_sp sp m) ps (replace_range out p.off (p.off + p.len) (take p.len (to_le_bytes w64 w)))) (register_moved sp m p.loc) ∙ loaded_moved sp m ps (with_piece m p out)
