@@ -15,6 +15,8 @@ mod runs;
 #[cfg(test)]
 mod slots;
 #[cfg(test)]
+mod stub_bytes;
+#[cfg(test)]
 mod stubs;
 #[cfg(test)]
 mod table;

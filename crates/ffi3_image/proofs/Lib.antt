@@ -1,0 +1,4 @@
+pub mod Tellings
+pub mod Texts
+pub mod Words
+pub mod Objects

@@ -1,0 +1,3 @@
+pub mod FaultOf
+pub mod Tells
+pub mod SnapshotOf

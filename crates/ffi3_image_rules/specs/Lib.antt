@@ -1,0 +1,5 @@
+pub mod Object
+pub mod Room
+pub mod Input
+pub mod Lines
+pub mod Answer

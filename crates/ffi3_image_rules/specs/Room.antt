@@ -1,0 +1,33 @@
+-- HOW MUCH OF THE STACK an image has to have.
+use Rattle.std.specs.Prelude.{ℕ, ◌+◌, ◌^◌, cond, nat_le, nat_lt, length, codes, ⊤}
+use Rattle.ffi3_type_rules.specs.Signature.{Signature}
+use Rattle.ffi3_place_rules.specs.Image.{Image}
+use Rattle.ffi3_place_rules.specs.Standard.{Standard, frame_of}
+use Rattle.ffi3_script_rules.specs.Language.{under, out_of_range}
+use Rattle.ffi3_explain_rules.specs.Arguments.{least_stack}
+use Rattle.ffi3_image_rules.specs.Object.{Read, read, fault, as_in_scripts, too_short, root}
+
+-- so many bytes from the stack pointer on end below 2^64, and at least so many are there
+abbrev pub check_room : (reach least : ℕ) → Image → Read ⊤
+check_room reach least m =
+    cond (nat_lt (m.sp + reach) (2 ^ 64))
+    (cond (nat_le least (length m.stack)) (read tt) (fault (under root (codes "stack")) (too_short (length m.stack) least)))
+    (fault (under root (codes "sp")) (as_in_scripts out_of_range))
+
+-- the return address and the whole frame
+abbrev pub whole_call : Standard → Signature → ℕ
+whole_call std s = std.link + frame_of std s
+
+-- What is asked of an image: that it be explained, which looks at the whole frame, or its arguments by the standard alone, which needs their places and no copies.
+pub data Question : Type 0 where
+  explained : Question
+  by_standard : Question
+
+abbrev pub least_for : Question → Standard → Signature → ℕ
+least_for explained std s = whole_call std s
+least_for by_standard std s = least_stack std s
+
+-- THE IMAGE HAS ROOM for the question
+abbrev pub check_room_for : Question → Standard → Signature → Image → Read ⊤
+check_room_for question std s m =
+    check_room (whole_call std s) (least_for question std s) m
