@@ -1,5 +1,5 @@
 """What the other files of this folder time: scripts that do exactly so many moves, up to the limit of 10,000, scripts
-of large types, and how long a process takes for one."""
+of large types, long declarations, and how long a process takes for one."""
 
 import json
 import os
@@ -10,6 +10,21 @@ LARGEST = 4096
 ROUNDS = 25
 FLAT = {"ret": "sint32", "args": ["sint32"]}
 NESTED = {"ret": "uint64", "args": ["uint64"] * 7}
+
+# Forms of a long declaration: what stands before, again and again, and behind; and what the answer of `cdecl` begins with.
+DEEP = "struct{" * 15
+FORMS = {
+    "a name": ("int f", "f", "(int)", "sint32(sint32)"),
+    "blanks": ("int f(int)", " ", ";", "sint32(sint32)"),
+    "stars": ("void f(int*", "*", ")", "void(pointer)"),
+    "parameters": ("int f(int", ",int", ")", "ffi3: too many arguments: "),
+    "members": ("void f(struct{", "int a;", "}s)", "ffi3: too large: "),
+    "members behind a star": ("void f(struct{", "int a;", "}*s)", "void(pointer)"),
+    "members in 16 structs": (f"void f({DEEP}struct{{", "int a;", "}s;" * 15 + "}s)", "ffi3: too large: "),
+    "structs behind stars": ("void f(struct{", "struct{int a;}*b;", "}*s)", "void(pointer)"),
+    "brackets": ("void f(struct{int a", "[1]", ";}s)", "ffi3: too deep"),
+    "brackets behind a star": ("void f(struct{int a", "[1]", ";}*s)", "void(pointer)"),
+}
 
 
 def text_of(signature, body, main):
@@ -109,6 +124,12 @@ def large_calls(elements, form, count):
                            "main": [*main, {"return": None}]}, separators=(",", ":"))
 
     return script(kind, value), script("uint8", 1)
+
+
+def declaration(form, size):
+    """A declaration of nearly so many bytes."""
+    start, part, end, _ = FORMS[form]
+    return start + part * ((size - len(start) - len(end)) // len(part)) + end
 
 
 def depth(program, target, stack=STACK):

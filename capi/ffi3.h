@@ -1,7 +1,8 @@
 /* ffi3.h: where C's calling standards put the arguments and the result of a function.
  *
- * From a function's declaration to registers, stack offsets, sizes and alignments, by four calling standards. The
- * code behind this header is proved; docs/TRUSTED.md says what its proof rests on, this header and the caller's
+ * From a function's declaration to registers, stack offsets, sizes and alignments, by four calling standards, and from
+ * the registers and the stack of a machine that entered the function back to its arguments. The code behind this header
+ * is proved; docs/TRUSTED.md says what its proof rests on, this header and the caller's
  * duties below among it.
  *
  *     const char *text = "double f(struct { int i; float x; } a)";
@@ -48,13 +49,15 @@ extern "C" {
 #define FFI3_RISCV 2   /* RISC-V psABI, LP64D */
 #define FFI3_WIN64 3   /* Microsoft x64 */
 
-/* ANSWERS of ffi3_place and ffi3_layout. */
+/* ANSWERS of ffi3_place, ffi3_layout and ffi3_arguments. */
 #define FFI3_OK 0
 #define FFI3_TOO_SMALL 1      /* the array has no room: nothing is in it, and the count says how much is wanted */
 #define FFI3_NOT_DECLARED 2   /* the text declares no function that can be called: `fault` says why */
 #define FFI3_UNKNOWN_TARGET 3 /* no calling standard has this number */
 #define FFI3_UNKNOWN_VALUE 4  /* the function has no argument of this number */
 #define FFI3_OUT_OF_MEMORY 5  /* malloc refused */
+#define FFI3_SHORT_STACK 6    /* of ffi3_arguments: arguments stand beyond the bytes of stack */
+#define FFI3_NOT_IN_STACK 7   /* of ffi3_arguments: an argument is passed by an address that is not in these bytes */
 
 /* VALUES of a function: its arguments by their numbers, from 0, and the result. */
 #define FFI3_RESULT UINT32_C(0xFFFFFFFF)
@@ -191,6 +194,46 @@ struct ffi3_layout {
  */
 uint32_t ffi3_layout(const char *text, size_t length, uint32_t value, struct ffi3_layout *layout,
                      struct ffi3_leaf *leaves, size_t capacity);
+
+/* What a machine holds where a function begins: at its first instruction, before any of this changed. */
+struct ffi3_registers {
+    uint64_t general[32];  /* by the numbers that ffi3_register_name takes; what is no register is not read */
+    uint64_t floating[32]; /* of each the low 64 bits */
+    uint64_t sp;           /* the stack pointer: on AMD64 and Windows it points to the return address */
+};
+
+/* The arguments of a call, as a whole. */
+struct ffi3_arguments {
+    size_t arguments;  /* how many arguments are named */
+    size_t size;       /* how many bytes their values take */
+    size_t stack;      /* how many bytes of the stack, from the stack pointer on, they reach into */
+    uint64_t address;  /* of FFI3_NOT_IN_STACK: the address */
+    uint32_t argument; /* and of which argument it is */
+    struct ffi3_fault fault;
+};
+
+/* uint32_t ffi3_arguments(uint32_t TARGET, const char *TEXT, size_t LENGTH, const struct ffi3_registers *REGISTERS,
+ *                         const unsigned char *STACK, size_t STACK_LENGTH, struct ffi3_arguments *FOUND,
+ *                         unsigned char *VALUES, size_t CAPACITY)
+ *
+ * Which arguments the function that the LENGTH bytes at TEXT declare was called with, by the standard TARGET. STACK has
+ * STACK_LENGTH bytes of the machine's memory, from REGISTERS->sp on. What the standard leaves free, as the upper half of a
+ * register with an int, is not looked at. An argument that is passed by an address is read where that points, if all of
+ * it is among the bytes of STACK.
+ *
+ * VALUES has room for CAPACITY bytes. It is given the values one after another, argument 0 first, each as it stands in
+ * memory, from a multiple of 8 on; ffi3_layout has their sizes. Padding in them and between them is 0.
+ *
+ * FFI3_OK: FOUND and VALUES are filled.
+ * FFI3_TOO_SMALL: FOUND is filled, and VALUES is as it was: it wants FOUND->size bytes.
+ * FFI3_SHORT_STACK: FOUND->stack says how many bytes of stack are wanted, at least; VALUES is as it was.
+ * FFI3_NOT_IN_STACK: FOUND->argument and FOUND->address say which address; VALUES is as it was.
+ * FFI3_NOT_DECLARED: FOUND->fault says why; all else in FOUND is 0, and VALUES is as it was.
+ * FFI3_UNKNOWN_TARGET, FFI3_OUT_OF_MEMORY: FOUND is 0, and VALUES as it was. An unknown target is told first.
+ */
+uint32_t ffi3_arguments(uint32_t target, const char *text, size_t length, const struct ffi3_registers *registers,
+                        const unsigned char *stack, size_t stack_length, struct ffi3_arguments *found,
+                        unsigned char *values, size_t capacity);
 
 /* size_t ffi3_fault_text(const struct ffi3_fault *FAULT, char *TEXT, size_t CAPACITY)
  *

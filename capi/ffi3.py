@@ -1,11 +1,12 @@
 #!/usr/bin/env python3
-"""Where C's calling standards put the arguments and the result of a function.
+"""Where C's calling standards put the arguments and the result of a function, and what a machine that entered it holds.
 
     import ffi3
     call = ffi3.place("riscv", "double f(struct { int i; float x; } a)")
     for piece in call.pieces:
         print(piece.part, piece.place, piece.offset, piece.length)      # 0 a0 0 4, 0 fa0 4 4, result fa0 0 8
     ffi3.layout("double f(struct { int i; float x; } a)", 0)            # size 8, align 4, two leaves
+    ffi3.arguments("riscv", "double f(struct { int i; float x; } a)", {"a0": 7, "fa0": 0x3f800000})     # [(7, 1.0)]
 
 On the command line:
 
@@ -18,6 +19,7 @@ The library is the one that FFI3_LIBRARY names, or out/libffi3.so beside this fi
 import ctypes
 import ctypes.util
 import os
+import struct
 import sys
 from pathlib import Path
 from typing import NamedTuple
@@ -26,13 +28,15 @@ TARGETS = ("amd64", "aapcs64", "riscv", "win64")
 RESULT = "result"
 HIDDEN = "hidden"
 
-_OK, _TOO_SMALL, _NOT_DECLARED, _UNKNOWN_TARGET, _UNKNOWN_VALUE, _OUT_OF_MEMORY = range(6)
+(_OK, _TOO_SMALL, _NOT_DECLARED, _UNKNOWN_TARGET, _UNKNOWN_VALUE, _OUT_OF_MEMORY, _SHORT_STACK,
+ _NOT_IN_STACK) = range(8)
 _RESULT, _HIDDEN = 0xFFFFFFFF, 0xFFFFFFFE
 _ADDRESS = 1
-_STACK = 2
+_GENERAL, _FLOATING, _STACK = range(3)
 _RESTS = ("free", "extended", "extended by 32", "ones")
 _KINDS = ("uint8", "sint8", "uint16", "sint16", "uint32", "sint32", "uint64", "sint64", "uint128", "sint128", "float",
           "double", "pointer")
+_SIZES = dict(zip(_KINDS, (1, 1, 2, 2, 4, 4, 8, 8, 16, 16, 4, 8, 8)))
 
 
 class Error(ValueError):
@@ -114,6 +118,15 @@ class _Layout(ctypes.Structure):
     _fields_ = [*((name, ctypes.c_size_t) for name in ("size", "align", "leaves", "arguments")), ("fault", _Fault)]
 
 
+class _Registers(ctypes.Structure):
+    _fields_ = [("general", ctypes.c_uint64 * 32), ("floating", ctypes.c_uint64 * 32), ("sp", ctypes.c_uint64)]
+
+
+class _Arguments(ctypes.Structure):
+    _fields_ = [*((name, ctypes.c_size_t) for name in ("arguments", "size", "stack")), ("address", ctypes.c_uint64),
+                ("argument", ctypes.c_uint32), ("fault", _Fault)]
+
+
 def _load():
     beside = Path(__file__).resolve().parent / "out" / "libffi3.so"
     name = os.environ.get("FFI3_LIBRARY") or (str(beside) if beside.exists() else ctypes.util.find_library("ffi3"))
@@ -124,6 +137,8 @@ def _load():
     for function, result, parameters in (
         ("place", uint32, [uint32, text, size, ctypes.POINTER(_Call), ctypes.POINTER(_Piece), size]),
         ("layout", uint32, [text, size, uint32, ctypes.POINTER(_Layout), ctypes.POINTER(_Leaf), size]),
+        ("arguments", uint32, [uint32, text, size, ctypes.POINTER(_Registers), text, size, ctypes.POINTER(_Arguments),
+                               text, size]),
         ("fault_text", size, [ctypes.POINTER(_Fault), text, size]),
         ("register_name", size, [uint32, uint32, uint32, text, size]),
         ("version", uint32, []),
@@ -207,6 +222,56 @@ def layout(declaration, value=RESULT):
     if status != _OK:
         _refuse(status, told.fault, value)
     return Layout(told.size, told.align, tuple((each.offset, _KINDS[each.kind]) for each in leaves), told.arguments)
+
+
+# ---- what a machine holds where a function begins
+
+def _scalar(kind, held):
+    if kind in ("float", "double"):
+        return struct.unpack("<f" if kind == "float" else "<d", held)[0]
+    return int.from_bytes(held, "little", signed=kind.startswith("sint"))
+
+
+def _named_registers(number, values, sp):
+    """The registers of a target by their names; those that are not named hold 0."""
+    files = {_register(number, place, k): (place, k) for place in (_GENERAL, _FLOATING) for k in range(32)}
+    found = _Registers(sp=sp)
+    for name, value in values.items():
+        if name not in files or not name:
+            raise KeyError(f"no register {name}")
+        place, k = files[name]
+        (found.general if place == _GENERAL else found.floating)[k] = value
+    return found
+
+
+def arguments(target, declaration, registers, sp=0, stack=b""):
+    """The arguments that a function was called with, from what the machine held at its first instruction.
+
+    registers has 64 bits for each name, of floating registers the lowest; stack has the bytes of memory from sp on. Each
+    argument is the tuple of its scalars. Raises LookupError where the stack has too few bytes, or an address points
+    elsewhere.
+    """
+    number, text, told = TARGETS.index(target), _bytes_of(declaration), _Arguments()
+    held, stack = _named_registers(number, registers, sp), bytes(stack)
+
+    def ask(array, capacity):
+        status = _library.ffi3_arguments(number, text, len(text), ctypes.byref(held), stack, len(stack), ctypes.byref(told),
+                                         array, capacity)
+        return status, told.size
+
+    status, found = _filled(ctypes.c_char, ask)
+    if status == _SHORT_STACK:
+        raise LookupError(f"{told.stack} bytes of the stack are wanted, {len(stack)} are there")
+    if status == _NOT_IN_STACK:
+        raise LookupError(f"argument {told.argument} is at {told.address:#x}, which is not among the bytes of the stack")
+    if status != _OK:
+        _refuse(status, told.fault)
+    values, start = [], 0
+    for i in range(told.arguments):
+        kind = layout(declaration, i)
+        values.append(tuple(_scalar(name, found[start + at:start + at + _SIZES[name]]) for at, name in kind.leaves))
+        start += -(-kind.size // 8) * 8
+    return values
 
 
 # ---- a drawing

@@ -5,7 +5,6 @@ libffi counts as one more compiler of the host's target: see `libffi.c`.
 
 import itertools
 import pathlib
-import random
 import re
 import shutil
 import subprocess
@@ -19,7 +18,7 @@ from signature import SIZES, text_of
 
 HERE = pathlib.Path(__file__).resolve().parent
 IN_A_CHUNK = 200
-JOBS = 2
+JOBS = 2  # processes at a time
 SECONDS = 900
 PLAN = "plan: "  # begins the reason where a plan is wrong by itself
 
@@ -30,8 +29,10 @@ TARGETS = {
     "riscv": ("riscv64-linux-gnu", "qemu-riscv64", ["-march=rv64gc", "-mabi=lp64d"]),
     "win64": ("x86_64-linux-gnu", None, []),
 }
-COMPILERS = {"amd64": ("gcc", "clang", "libffi"), "aapcs64": ("gcc", "clang"), "riscv": ("gcc", "clang"),
-             "win64": ("gcc", "clang", "libffi")}
+# libffi counts as a compiler for each of the conventions that it has on AMD64; so each is named here, as ffi.h does.
+ABIS = {"libffi-unix64": "FFI_UNIX64", "libffi-win64": "FFI_WIN64", "libffi-gnuw64": "FFI_GNUW64"}
+COMPILERS = {"amd64": ("gcc", "clang", "libffi-unix64"), "aapcs64": ("gcc", "clang"), "riscv": ("gcc", "clang"),
+             "win64": ("gcc", "clang", "libffi-win64", "libffi-gnuw64")}
 FLAGS = ["-w", "-std=gnu11", "-fno-pie", "-fno-stack-protector"]
 # Defined on a target whose programs run on the host beside those of another: player.h says what it changes.
 DEFINED = {"win64": ["-DWIN64"]}
@@ -55,7 +56,7 @@ def command_of(target, compiler):
 def missing(target, compiler):
     """The programs that this target and compiler need and that are not installed."""
     prefix, emulator, _ = TARGETS[target]
-    if compiler == "libffi":
+    if compiler in ABIS:
         return [] if libffi_version() else ["ffi.h"]
     needed = [f"{prefix}-gcc", command_of(target, compiler)[0], *([emulator] if emulator else [])]
     return [name for name in needed if shutil.which(name) is None]
@@ -72,20 +73,15 @@ def libffi_version():
 
 
 def version_of(target, compiler):
-    if compiler == "libffi":
-        return f"libffi {libffi_version()}"
+    if compiler in ABIS:
+        return f"libffi {libffi_version()}, {ABIS[compiler]}"
     lines = subprocess.run([*command_of(target, compiler), "--version"], capture_output=True, text=True).stdout
     return lines.splitlines()[0]
 
 
-def can_pass(compiler, signature):
-    """libffi has no type for an integer of 128 bits."""
-    return compiler != "libffi" or not signature.is_wide()
-
-
 class Played:
     """A program that plays cases: `command` runs it, `types` has the types of its lines `layout`, chunk by chunk.
-    After a run `layouts` has its layouts of each type."""
+    After a run `layouts` has its layouts of each type, and `dumps` what player.c dumps at each entry, by its number."""
 
     def play(self, lines):
         """Runs the cases; gives (number, direction) -> reasons for those that were played: none where one passed."""
@@ -93,7 +89,7 @@ class Played:
             told = subprocess.run(self.command, input=lines.encode(), stdout=subprocess.PIPE, timeout=SECONDS).stdout
         except subprocess.TimeoutExpired as late:
             told = late.stdout or b""
-        self.layouts, played = {}, {}
+        self.layouts, self.dumps, played = {}, {}, {}
         types = list(map(iter, self.types))
         for line in told.decode().splitlines():
             words = line.split()
@@ -102,6 +98,8 @@ class Played:
                 offsets, scalars = zip(*(leaf.split(":") for leaf in leaves))
                 layout = Layout(int(size), int(align), tuple(map(int, offsets)), tuple(map(SCALARS.get, scalars)))
                 self.layouts.setdefault(next(types[int(words[1])]), set()).add(layout)
+            elif words[0] == "dumped":
+                self.dumps[int(words[1])] = words[2:]
             elif words[0] in ("passed", "failed"):
                 played[int(words[1]), words[2]] = " ".join(words[3:])
         return played
@@ -153,27 +151,28 @@ class Compiled(Played):
         self.command = [*([emulator] if emulator else []), program]
 
     def compile(self, name, optimised):
+        """The words name no folder, so that a cache of compilers (ccache) knows the file again."""
         subprocess.run([*command_of(self.target, self.compiler), *flags_of(self.target), optimised, "-c", "-o",
-                        self.folder / f"{name}.o", self.folder / f"{name}.c"], check=True)
+                        f"{name}.o", f"{name}.c"], check=True, cwd=self.folder)
 
 
 class Libffi(Played):
     """The host's libffi: closures are the callees, ffi_call is the caller. It has no type for an array, so each is
     written as its elements."""
 
-    def __init__(self, target, signatures, folder):
-        self.target, self.compiler, self.folder = target, "libffi", pathlib.Path(folder)
+    def __init__(self, target, compiler, signatures, folder):
+        self.target, self.compiler, self.folder = target, compiler, pathlib.Path(folder)
         self.folder.mkdir(parents=True, exist_ok=True)
         program, listed = self.folder / "play", self.folder / "signatures"
         listed.write_text("".join(f"{signature.with_elements()}\n" for signature in signatures))
-        link(target, program, [HERE / "libffi.c", "-lffi"])
+        link(target, program, [f"-DABI={ABIS[compiler]}", HERE / "libffi.c", "-lffi"])
         self.types = [[kind for signature in signatures for kind in signature.types() if kind != "void"]]
         self.command = [program, listed]
 
 
 def built(target, compiler, signatures, folder, optimised=OPTIMISED):
-    if compiler == "libffi":
-        return Libffi(target, signatures, folder)
+    if compiler in ABIS:
+        return Libffi(target, compiler, signatures, folder)
     return Compiled(target, compiler, signatures, folder, optimised)
 
 
@@ -189,10 +188,9 @@ def failures(built, planned, layouts, seed):
     listed difference says that this compiler has another plan, that one is played."""
     parts, found = [], {}
     for number, (signature, plan) in planned.items():
-        drawn = random.Random(f"{seed} {number}")
         plan = differences.played(built.target, built.compiler, signature, plan)
         try:
-            parts.append(cases.lines_of(built.target, number, signature, plan, layouts, drawn))
+            parts.append(cases.lines_of(built.target, number, signature, plan, layouts, seed))
         except cases.Uncovered as fault:
             found[number, "call"] = found[number, "enter"] = f"{PLAN}{fault}"
     played = built.play("".join(parts))

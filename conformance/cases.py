@@ -4,6 +4,8 @@
 callee's. What a place holds beside a value's own bytes is docs/RULES.md, sections 5 and 11; all else is random.
 """
 
+from random import Random
+
 from signature import FLOATING, INTEGERS, SIZES, leaves_of
 
 RETURN_ADDRESS_OF_HIDDEN = {"amd64": "g0", "aapcs64": None, "riscv": None, "win64": "g0"}
@@ -17,8 +19,10 @@ class Uncovered(Exception):
     """A byte of a value that stands in no piece, or in two that are no copies."""
 
 
-def values_for(signature, random):
-    """Random bytes for each leaf of each argument, and for those of the result."""
+def values_for(signature, number, seed):
+    """Random bytes for each leaf of each argument, and for those of the result: those of a signature by its number."""
+    random = Random(f"{seed} {number}")
+
     def bytes_of(kind):
         return [random.randbytes(SIZES[leaf]) for leaf, _ in leaves_of(kind)]
     return [bytes_of(kind) for kind in signature.arguments], bytes_of(signature.result)
@@ -76,9 +80,9 @@ def in_pieces(target, kind, layout, leaves, pieces, is_widened):
 
 
 def head(direction, index, plan, values, result):
-    """The first lines of a case. A callee has the frame that it finds."""
+    """The first lines of a case. A callee has the frame that it finds, which is dumped before all else."""
     lines = [f"{direction} {index}", f"values {b''.join(sum(values, [])).hex()}", f"result {b''.join(result).hex()}"]
-    return [*lines, f"frame {plan.frame}" if direction == "call" else "begin"]
+    return [*lines, f"frame {plan.frame}"] if direction == "call" else [*lines, "begin", "dump"]
 
 
 def call_lines(target, index, signature, plan, layouts, values, result):
@@ -137,8 +141,8 @@ def enter_lines(target, index, signature, plan, layouts, values, result):
     return [*lines, "end"]
 
 
-def lines_of(target, index, signature, plan, layouts, random):
+def lines_of(target, index, signature, plan, layouts, seed):
     """The lines of both directions, or of none and what is wrong with the plan itself."""
-    values, result = values_for(signature, random)
+    values, result = values_for(signature, index, seed)
     return "\n".join(call_lines(target, index, signature, plan, layouts, values, result)
                      + enter_lines(target, index, signature, plan, layouts, values, result)) + "\n"

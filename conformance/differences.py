@@ -23,11 +23,22 @@ class Difference:
     sentence: str
     explains: Callable | None = None  # of a signature, the plan that is played, a direction and one reason
     plans: Callable | None = None  # of a signature and its plan: this compiler's own, or None where it has none
+    reads: Callable | None = None  # of a signature with such a plan: one whose arguments stand where that has them
+
+
+def argument_in(reason):
+    """The number of an argument that is another at the callee; None where the reason is no such one."""
+    found = re.fullmatch(r"the callee finds another argument (\d+)", reason)
+    return found and int(found[1])
+
+
+# Comparisons of a compiler's caller by its places: with values, and with ffi3's own caller.
+BY_PLACES = ("enter", "own")
 
 
 def narrow_on_the_stack(signature, plan, direction, reason):
     found = re.fullmatch(r"other bytes at s(\d+)\+(\d+)", reason)
-    return direction == "enter" and found is not None and any(
+    return direction in BY_PLACES and found is not None and any(
         is_narrow(kind) and str(piece.place) == f"s{found[1]}" and SIZES[kind] == int(found[2])
         for kind, stand in zip(signature.arguments, plan.arguments) for piece in stand.pieces)
 
@@ -41,7 +52,10 @@ def is_overwritten(plan):
 
 
 def last_register_and_a_vector(signature, plan, direction, reason):
-    return direction == "enter" and re.fullmatch(r"other bytes at f0\+\d+", reason) is not None and is_overwritten(plan)
+    if direction == "frame" and (i := argument_in(reason)) is not None:
+        return is_overwritten(plan) and "f0" in [str(piece.place) for piece in plan.arguments[i].pieces]
+    found = re.fullmatch(r"other bytes at f0\+\d+", reason)
+    return direction in BY_PLACES and found is not None and is_overwritten(plan)
 
 
 def taken_apart(signature, plan, direction, reason):
@@ -50,8 +64,8 @@ def taken_apart(signature, plan, direction, reason):
     wide = [i for i, kind in enumerate(signature.arguments) if kind in WIDE and places[i][0].kind == "s"]
     late = {i: str(place) for i in range(wide[0], len(places)) for place in places[i]
             if place.kind == "s" or str(place) == "g9"} if wide else {}
-    if found := re.fullmatch(r"the callee finds another argument (\d+)", reason):
-        return int(found[1]) in late
+    if (i := argument_in(reason)) is not None:
+        return i in late
     found = re.fullmatch(r"other bytes at (\w+)\+\d+", reason)
     return found is not None and found[1] in late.values()
 
@@ -85,6 +99,10 @@ def wide_result_in_xmm0(signature, plan):
                    result=Stand([Piece(Place("f", 0), 0, 8), Piece(Place("f", UPPER), 8, 8)]))
 
 
+def without_result(signature):
+    return replace(signature, result="void")
+
+
 def copy_of_its_own_alignment(signature, plan, direction, reason):
     found = re.fullmatch(r"the address at (\w+)\+0 is no multiple of 16", reason)
     return direction == "enter" and found is not None and any(
@@ -93,14 +111,16 @@ def copy_of_its_own_alignment(signature, plan, direction, reason):
 
 def reference_taken_by_value(signature, plan, direction, reason):
     """Of an argument by reference after the fixed ones, or of one after it."""
-    found = re.fullmatch(r"the callee finds another argument (\d+)", reason)
-    return direction == "call" and found is not None and signature.fixed is not None and any(
-        stand.reference for stand in plan.arguments[signature.fixed:int(found[1]) + 1])
+    i = argument_in(reason)
+    return direction == "call" and i is not None and signature.fixed is not None and any(
+        stand.reference for stand in plan.arguments[signature.fixed:i + 1])
 
 
 def fixed_in_one_register(signature, plan, direction, reason):
+    if direction == "frame" and signature.fixed is not None and (i := argument_in(reason)) is not None:
+        return i < signature.fixed and len(plan.arguments[i].pieces) == 2
     found = re.fullmatch(r"other bytes at (\w+)\+0", reason)
-    return direction == "enter" and found is not None and signature.fixed is not None and any(
+    return direction in BY_PLACES and found is not None and signature.fixed is not None and any(
         len(stand.pieces) == 2 and str(stand.pieces[0].place) == found[1]
         for stand in plan.arguments[:signature.fixed])
 
@@ -133,7 +153,7 @@ DIFFERENCES = [
         "there are no registers available for any eightbyte of an argument, the whole argument is passed on the stack.",
         taken_apart),
     Difference(
-        "ffi_call writes over xmm0", "amd64", "libffi",
+        "ffi_call writes over xmm0", "amd64", "libffi-unix64",
         "libffi 3.4.4 copies the whole rest of a struct to the place of its INTEGER eightbyte. Where that place is r9, "
         "the last one, and the next eightbyte is SSE, the copy runs on into the place of xmm0, which an earlier "
         "argument has: xmm0 then holds the struct's second eightbyte too.",
@@ -141,7 +161,7 @@ DIFFERENCES = [
         "registers are taken in the order from %xmm0 to %xmm7.",
         last_register_and_a_vector),
     Difference("gcc hands back an integer of 128 bits in xmm0", "win64", "gcc", *WIDE_RESULT,
-               plans=wide_result_in_xmm0),
+               plans=wide_result_in_xmm0, reads=without_result),
     Difference(
         "gcc doubles only what follows the fixed arguments", "win64", "gcc",
         "gcc 12 passes a fixed floating argument of a variadic function in its vector register alone. Microsoft's text "
@@ -156,7 +176,7 @@ DIFFERENCES = [
         "argument's bytes where its address stands, and goes on too far. Its callers pass the address.",
         COPIES, reference_taken_by_value),
     Difference("clang hands back an integer of 128 bits in xmm0", "win64", "clang", *WIDE_RESULT,
-               plans=wide_result_in_xmm0),
+               plans=wide_result_in_xmm0, reads=without_result),
     Difference(
         "clang aligns a copy as its type", "win64", "clang",
         "clang 14 gives a copy the alignment of its type, so its address may be no multiple of 16. ffi3's caller has "
@@ -175,6 +195,14 @@ def played(target, compiler, signature, plan):
     """The plan that is played: the compiler's own where a listed difference has one, and else ffi3's."""
     own = (difference.plans(signature, plan) for difference in listed(target, compiler) if difference.plans)
     return next(filter(None, own), plan)
+
+
+def read_by(target, compiler, signature, plan):
+    """The signature by which a frame of this compiler is read: where a listed difference has a plan of its own, one
+    whose arguments stand there."""
+    others = (difference.reads(signature) for difference in listed(target, compiler)
+              if difference.plans and difference.plans(signature, plan))
+    return next(others, signature)
 
 
 def explained(target, compiler, signature, plan, direction, reasons):

@@ -1,9 +1,11 @@
 """Random signatures, weighted to the edges of the standards' rules. The same seed gives the same signatures."""
 
-from signature import FLOATING, SIZES, Array, Signature, is_variadic_fault, is_wide, leaves_of
+import declaration
+from signature import FLOATING, SIZES, Array, Signature, is_variadic_fault
 
 SCALARS = list(SIZES)
 MOST_ARGUMENTS = 64
+MOST_NESTED = 3  # arrays
 LARGEST_TYPE, LARGEST_ARGUMENTS = 4096, 8192
 
 
@@ -61,18 +63,37 @@ def nested(random, leaves):
     return (*leaves[:start], nested(random, leaves[start:end]), *leaves[end:])
 
 
-def array(random):
+def padded(random):
+    """A struct whose end is padding: scalars, and then a narrower one."""
+    wide = random.choice([name for name in SCALARS if SIZES[name] > 1])
+    narrow = random.choice([name for name in SCALARS if SIZES[name] < SIZES[wide]])
+    return nested(random, [*(scalar(random) for _ in range(random.choice([0, 0, 1, 2]))), wide, narrow])
+
+
+def array(random, nesting=1):
     """An array of scalars, of structs or of arrays: of few elements, or of some bytes, or nearly."""
-    roll = random.random()
+    roll = random.random() if nesting < MOST_NESTED else 0
     if roll < 0.7:
         element = scalar(random)
-    elif roll < 0.9:
+    elif roll < 0.85:
         element = tuple(scalar(random) for _ in range(random.randint(1, 3)))
+    elif roll < 0.92:
+        element = array(random, nesting + 1)
     else:
-        element = Array(scalar(random), random.randint(1, 3))
-    whole = random.choice([8, 16, 16, 24, 32]) // sum(SIZES[leaf] for leaf, _ in leaves_of(element))
-    counts = [1, 2, 3, 4, whole, whole + 1] if random.random() < 0.97 else [random.randint(20, 200)]
+        element = array(random, nesting + 1), scalar(random)
+    whole = random.choice([8, 16, 16, 24, 32]) // size_of(element)
+    counts = [1, 2, 3, 4, whole, whole + 1] if nesting > 1 or random.random() < 0.97 else [random.randint(20, 200)]
     return Array(element, max(1, random.choice(counts)))
+
+
+def largest(random):
+    """A struct of 4,096 bytes, or some fewer, or one that ends in padding there; wide elements come most often."""
+    element = random.choices(SCALARS, [SIZES[name] for name in SCALARS])[0]
+    if random.random() < 0.3:
+        element = random.choice([(element, element), Array(element, 2), (Array(element, 2),)])
+    count = LARGEST_TYPE // size_of(element)
+    return random.choice([(Array(element, count),), (Array(element, count - 1),), (Array(element, count - 1), "uint8"),
+                          (element, Array(element, count - 1))])
 
 
 def of_arrays(random):
@@ -100,8 +121,8 @@ def with_arrays(random, kind):
     return tuple(found)
 
 
-STRUCTS = [homogeneous, mixed_pair, about_16_bytes, any_struct, large, of_arrays]
-WEIGHTS = [6, 6, 6, 4, 1, 5]
+STRUCTS = [homogeneous, mixed_pair, about_16_bytes, any_struct, large, of_arrays, padded, largest]
+WEIGHTS = [60, 60, 60, 40, 10, 60, 20, 1]
 
 
 def struct(random):
@@ -119,8 +140,8 @@ def result(random):
 
 
 def size_of(kind):
-    """An upper bound of a type's size, to keep frames small."""
-    return (16 if is_wide(kind) else 8) * len(leaves_of(kind))
+    """A type's size, to keep frames small."""
+    return declaration.size_of(kind)[0]
 
 
 def arguments(random):
@@ -134,7 +155,7 @@ def arguments(random):
     if random.random() < 0.5:
         random.shuffle(chosen)
     chosen += [any_type(random) for _ in range(random.choice([0, 1, 1, 2, 2, 3, 3, 4, 5, 6, 8]))]
-    if random.random() < 0.01:
+    if random.random() < 0.02:
         chosen += [any_type(random) for _ in range(MOST_ARGUMENTS)]
     while len(chosen) > MOST_ARGUMENTS or sum(map(size_of, chosen)) > LARGEST_ARGUMENTS:
         chosen.pop()

@@ -7,15 +7,15 @@ scripts stop: at a closure that was freed, at another signature, at a full stack
 """
 
 import draw
-from draw import size_of
+from declared import declaration, fixed_part
+from draw import SCALARS, size_of
 from signature import (
-    FLOATING, INTEGERS, SIZES, WIDE, Array, elements_of, is_variadic_fault, json_of, with_elements
+    FLOATING, INTEGERS, SIZES, WIDE, Array, Signature, elements_of, is_variadic_fault, json_of, object_of, with_elements
 )
 
-# No integer of 128 bits here, since libffi has no type for one. Half of the scripts are of version 2 and have arrays.
-draw.SCALARS = SCALARS = [name for name in SIZES if name not in WIDE]
+# Half of the scripts are of version 2: these have arrays, integers of 128 bits, and C declarations.
 NARROW = [name for name in INTEGERS if name not in WIDE]
-WHOLE = [*NARROW, "pointer"]
+WHOLE = [*INTEGERS, "pointer"]
 UNARY = ("sint64", ["sint64"], None)
 APPLY = ("sint64", ["pointer", "sint64"], None)
 SUM3 = ("sint64", ["sint64"] * 3, None)
@@ -31,6 +31,11 @@ def slot(number):
 
 def has(random, share):
     return random.random() < share
+
+
+def of_64_bits(kind):
+    """A type without arrays, whose integers of 128 bits are of 64."""
+    return kind.replace("128", "64") if isinstance(kind, str) else tuple(map(of_64_bits, kind))
 
 
 class Drawn:
@@ -56,19 +61,27 @@ class Drawn:
         self.main = self.draw_main()
 
     def script(self):
-        signatures = [{"ret": json_of(result), "args": [json_of(kind) for kind in arguments]}
-                      | ({} if fixed is None else {"fixed": fixed}) for result, arguments, fixed in self.signatures]
-        return {"version": self.version, "signatures": signatures, "functions": self.functions, "main": self.main}
+        return {"version": self.version, "signatures": list(map(self.written, self.signatures)),
+                "functions": self.functions, "main": self.main}
+
+    def written(self, signature):
+        """A signature as an object, or some that C can declare as a declaration."""
+        result, arguments, fixed = signature
+        one = Signature(result, tuple(arguments), fixed)
+        is_declared = self.version == 2 and one == fixed_part(one) and has(self.random, 0.3)
+        return declaration(one) if is_declared else object_of(one)
 
     def known_in(self, kind):
-        """A type as the script's version has it: version 1 has no arrays."""
-        return kind if self.version == 2 else with_elements(kind)
+        """A type as the script's version has it: version 1 has no arrays and no integers of 128 bits."""
+        return kind if self.version == 2 else of_64_bits(with_elements(kind))
 
     def draw_type(self):
         random = self.random
         if has(random, 0.5):
-            return random.choice(SCALARS)
+            return self.known_in(random.choice(SCALARS))
         most = LARGE if has(random, 0.05) else SMALL
+        if most == LARGE and self.version == 2 and has(random, 0.3):
+            return draw.largest(random)
         while size_of(kind := draw.struct(random)) > most:
             pass
         return self.known_in(kind)
@@ -129,7 +142,7 @@ class Drawn:
         self.add((result, arguments, fixed), body.moves)
 
     def condition(self, body):
-        return body.typed(self.random.choice(WHOLE))
+        return body.typed(self.known_in(self.random.choice(WHOLE)))
 
     def add_unary(self):
         """What the natives call."""
@@ -325,13 +338,14 @@ class Moves:
         if kind != "pointer" and has(random, 0.2):
             return {random.choice(["add", "sub"]): [self.value(kind), self.literal(kind)]}
         if has(random, 0.2):
-            return {"cast": self.typed(random.choice(WHOLE))}
+            return {"cast": self.typed(self.drawn.known_in(random.choice(WHOLE)))}
         return self.literal(kind)
 
     def literal(self, kind):
         bits = 8 * SIZES[kind]
         number = self.random.choice([0, 1, (1 << bits) - 1, 1 << (bits - 1), self.random.getrandbits(bits)])
-        return number - (1 << bits) if kind.startswith("s") and number >> (bits - 1) else number
+        number -= (1 << bits) * (kind.startswith("s") and number >> (bits - 1))
+        return str(number) if kind in WIDE else number
 
 
 def script(random, natives):

@@ -24,15 +24,18 @@ def member_of(kind, path):
 
 
 class Chunk:
-    """One C file: some signatures, the structs that they use, and one `struct layout` for each type."""
+    """One C file: some signatures, the structs that they use, and one `struct layout` for each type. The callers come
+    last, since gcc takes its time where a function has another convention than the one before it."""
 
     def __init__(self, number, signatures):
         self.number = number
         self.names = {}
         self.types = []
         self.parts = ['#include "player.h"\n#include <stdarg.h>\n#include <stddef.h>\n']
+        self.callers = []
         for index, signature in enumerate(signatures):
             self.add_signature(index, signature)
+        self.parts += self.callers
         entries = ", ".join(f"{{callee_{i}, caller_{i}}}" for i in range(len(signatures)))
         layouts = ", ".join(f"&layout_{i}" for i in range(len(self.types)))
         self.parts.append(f"const struct entry chunk_{number}[] = {{ {entries} }};\n"
@@ -107,8 +110,8 @@ class Chunk:
             layout = self.layout_of(signature.result)
             callee += [f"{result} result;", f"result_out(&result, {layout});", "return result;"]
             caller += [f"{result} result = {call}", f"result_in(&result, {layout});"]
-        self.parts.append("\n".join([*callee, "}", *caller, "}",
-                                     f"#define callee_{index} ((function *)real_callee_{index})", ""]))
+        self.parts.append("\n".join([*callee, "}", f"#define callee_{index} ((function *)real_callee_{index})", ""]))
+        self.callers.append("\n".join([*caller, "}", ""]))
 
 
 def index_of(counts):

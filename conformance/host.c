@@ -1,4 +1,5 @@
-/* See host.h. A program is called as `program TARGET [trace]`: the target says which needs count against its stack. */
+/* See host.h. A program is called as `program TARGET CONVENTION [trace]`: the target says which needs count against its
+   stack, the convention is one of libffi's. */
 #include "host.h"
 
 #include <pthread.h>
@@ -9,7 +10,6 @@
 #define MOVES 10000
 #define STACK 1048576
 #define TARGETS 4
-#define WIN64 3 /* the target whose convention libffi has on AMD64 too */
 #define HOST_STACK (1UL << 30) /* of the thread that runs main: calls nest as deep as there are moves */
 
 /* A closure of libffi. It is never given back to malloc: a closure that frees itself is still to return. */
@@ -21,7 +21,11 @@ struct made {
 };
 
 static const char *const targets[TARGETS] = {"amd64", "aapcs64", "riscv", "win64"};
-ffi_abi convention = FFI_DEFAULT_ABI;
+static const struct {
+    const char *name;
+    ffi_abi abi;
+} conventions[] = {{"unix64", FFI_UNIX64}, {"win64", FFI_WIN64}, {"gnuw64", FFI_GNUW64}};
+ffi_abi convention;
 static int target, is_traced;
 static long moves, left = STACK;
 static struct made *slots[SLOTS];
@@ -134,6 +138,17 @@ double double_of(const char *text)
     return value;
 }
 
+void write_wide(unsigned __int128 value, int is_signed)
+{
+    char digits[40], *at = digits + sizeof digits;
+    int is_negative = is_signed && value >> 127;
+    if (is_negative)
+        value = -value;
+    for (*--at = 0; value || !*at; value /= 10)
+        *--at = '0' + value % 10;
+    printf("%s%s", is_negative ? "-" : "", at);
+}
+
 void write_bytes(const void *from, int count)
 {
     for (const unsigned char *at = from; count--;)
@@ -235,13 +250,16 @@ int main(int count, char **words)
 {
     pthread_attr_t attributes;
     pthread_t thread;
-    while (target < TARGETS && (count < 2 || strcmp(words[1], targets[target])))
-        target++;
-    if (target == TARGETS)
+    if (count < 3)
         abort();
-    if (target == WIN64)
-        convention = FFI_GNUW64;
-    is_traced = count > 2;
+    while (target < TARGETS && strcmp(words[1], targets[target]))
+        target++;
+    for (unsigned k = 0; k < sizeof conventions / sizeof *conventions; k++)
+        if (!strcmp(words[2], conventions[k].name))
+            convention = conventions[k].abi;
+    if (target == TARGETS || !convention)
+        abort();
+    is_traced = count > 3;
     prepare_natives();
     prepare();
     if (pthread_attr_init(&attributes) || pthread_attr_setstacksize(&attributes, HOST_STACK)

@@ -2,10 +2,11 @@
 #ifndef HOST_H
 #define HOST_H
 
-#include <ffi.h>
 #include <stdio.h>
 #include <stdlib.h>
 #include <string.h>
+
+#include "wide.h"
 
 typedef unsigned long address;
 
@@ -26,7 +27,7 @@ struct function {
 
 extern const struct function apply, twice, sum3;
 
-/* How libffi calls and is called: as the target asks on a host of AMD64. */
+/* How libffi calls and is called: a convention that it has on a host of AMD64. */
 extern ffi_abi convention;
 
 /* Before each move: the run stops where 10,000 moves are counted. */
@@ -40,6 +41,16 @@ void bytes_of(void *to, const char *text);
 float float_of(const char *text);
 double double_of(const char *text);
 void write_bytes(const void *from, int count);
+
+/* An integer of 128 bits in decimal. */
+void write_wide(unsigned __int128 value, int is_signed);
+
+/* Room for a result as libffi gives it. */
+#define RESULT union __attribute__((aligned(16))) { ffi_arg word; char room[4096]; }
+
+/* The value at an address that libffi gives. It may be no multiple of the type's alignment, as where an integer of 128
+   bits came to a closure in registers. */
+#define AT(type, address) (((struct __attribute__((packed)) { type value; } *)(address))->value)
 
 /* What the script's own program gives: it prepares its signatures; main has no arguments. */
 void prepare(void);

@@ -1,17 +1,14 @@
 /* libffi in the place of a compiler: its closures are the callees, ffi_call is the caller. The first word of the
-   command line names a file with one signature a line, in the text of docs/FORMATS.md, section 3, without arrays. */
-#include <ffi.h>
+   command line names a file with one signature a line, in the text of docs/FORMATS.md, section 3, without arrays.
+   ABI is the convention by which all are prepared. */
+#include <alloca.h>
 #include <stdio.h>
 #include <stdlib.h>
 #include <string.h>
 
 #include "player.h"
+#include "wide.h"
 
-#ifdef WIN64
-#define ABI FFI_GNUW64
-#else
-#define ABI FFI_DEFAULT_ABI
-#endif
 #define MOST_LEAVES 4096
 #define MOST_ARGUMENTS 64
 
@@ -34,7 +31,8 @@ static const struct {
     { "void", &ffi_type_void }, { "uint8", &ffi_type_uint8 }, { "sint8", &ffi_type_sint8 },
     { "uint16", &ffi_type_uint16 }, { "sint16", &ffi_type_sint16 }, { "uint32", &ffi_type_uint32 },
     { "sint32", &ffi_type_sint32 }, { "uint64", &ffi_type_uint64 }, { "sint64", &ffi_type_sint64 },
-    { "float", &ffi_type_float }, { "double", &ffi_type_double }, { "pointer", &ffi_type_pointer },
+    { "uint128", &type_uint128 }, { "sint128", &type_sint128 }, { "float", &ffi_type_float },
+    { "double", &ffi_type_double }, { "pointer", &ffi_type_pointer },
 };
 
 static void stop(const char *why, const char *text)
@@ -71,6 +69,8 @@ static ffi_type *read_type(char **text)
 
 static char kind_of(ffi_type *type)
 {
+    if (type == &type_uint128 || type == &type_sint128)
+        return type == &type_uint128 ? 'u' : 's';
     switch (type->type) {
     case FFI_TYPE_UINT8: case FFI_TYPE_UINT16: case FFI_TYPE_UINT32: case FFI_TYPE_UINT64: return 'u';
     case FFI_TYPE_SINT8: case FFI_TYPE_SINT16: case FFI_TYPE_SINT32: case FFI_TYPE_SINT64: return 's';
@@ -84,7 +84,7 @@ static char kind_of(ffi_type *type)
 static void add_leaves(ffi_type *type, unsigned start, unsigned *count, unsigned short *at, unsigned char *length,
                        char *kind)
 {
-    if (type->type != FFI_TYPE_STRUCT) {
+    if (type->elements == two_longs || !type->elements) {
         at[*count] = start;
         kind[*count] = kind_of(type);
         length[(*count)++] = type->size;
@@ -109,25 +109,22 @@ static struct layout layout_of(ffi_type *type)
                             memcpy(malloc(count), length, count), memcpy(malloc(count), kind, count) };
 }
 
-static void *room(size_t size)
+static size_t room(size_t size)
 {
-    return malloc(size < 16 ? 16 : size);
+    return size < 16 ? 16 : size;
 }
 
-/* ffi_call calls the player. It may change the array of addresses (libffi 3.4.4 copies large structs itself, and writes
-   the copies' addresses there), so the rooms are freed by another array. */
+/* ffi_call calls the player. The arguments are on the stack, since libffi 3.4.4 passes the address of a small struct
+   without a copy on Microsoft x64. */
 static void caller(function *called)
 {
     struct signature *signature = signatures + current;
-    void *rooms[MOST_ARGUMENTS], *values[MOST_ARGUMENTS], *result = room(signature->result->size);
+    void *values[MOST_ARGUMENTS], *result = alloca(room(signature->result->size));
     for (unsigned k = 0; k < signature->count; k++)
-        argument_out(values[k] = rooms[k] = room(signature->arguments[k]->size), &signature->argument_layouts[k]);
+        argument_out(values[k] = alloca(room(signature->arguments[k]->size)), &signature->argument_layouts[k]);
     ffi_call(&signature->cif, called, result, values);
     if (signature->result != &ffi_type_void)
         result_in(result, &signature->result_layout);
-    for (unsigned k = 0; k < signature->count; k++)
-        free(rooms[k]);
-    free(result);
 }
 
 /* A closure's function. A narrow integer is handed back as libffi wants it, widened to an ffi_arg. */

@@ -15,6 +15,8 @@ GENERAL = {
     "riscv": {f"a{number}": 10 + number for number in range(8)},
 }
 GENERAL["win64"] = GENERAL["amd64"]
+# The bytes of the return address between the stack pointer of an entry and the first stack argument.
+LINK = {"amd64": 8, "aapcs64": 0, "riscv": 0, "win64": 8}
 # On AMD64 the player has the upper halves of vector registers as further ones. No place of ffi3 has bytes there.
 UPPER = 16
 FLOATING = {

@@ -6,7 +6,7 @@ from dataclasses import replace
 
 from batch import PLAN, layout_failure
 from places import Piece, Place, Stand
-from signature import FLOATING, SIZES, Array, leaves_of
+from signature import FLOATING, SIZES, WIDE, Array, leaves_of
 
 TRIED = 40
 
@@ -188,6 +188,79 @@ def whole_in_a_register(signature, plan, layouts):
             plan.arguments[i] = Stand([Piece(stand.reference, 0, layouts[kind].size)])
 
 
+def on_the_stack_before(stand, by):
+    """The stand with its places on the stack so many bytes before."""
+    return moved(stand, lambda place: Place("s", place.number - by) if place.kind == "s" else place)
+
+
+def wide_at_eight(signature, plan, layouts):
+    """On the stack an integer of 128 bits begins where the argument before it ends."""
+    places = [stand.pieces[0].place for stand in plan.arguments if stand.pieces]
+    gap = 0
+    for i, (kind, stand) in enumerate(zip(signature.arguments, plan.arguments)):
+        if kind in WIDE and stand.pieces[0].place.kind == "s" and not gap:
+            start = stand.pieces[0].place.number
+            ends = [place.number + layouts[other].size for place, other in zip(places, signature.arguments)
+                    if place.kind == "s" and place.number < start]
+            gap = start - -(-max(ends, default=0) // 8) * 8
+        if gap:
+            plan.arguments[i] = on_the_stack_before(stand, gap)
+
+
+def odd_registers(signature, plan, layouts):
+    """An integer of 128 bits takes the next register, also an odd one."""
+    last = 0
+    for i, (kind, stand) in enumerate(zip(signature.arguments, plan.arguments)):
+        taken = [piece.place.number for piece in stand.pieces if piece.place.kind == "g"]
+        if kind in WIDE and len(taken) == 2 and taken[0] == last + 2:
+            plan.arguments[i] = moved(stand, lambda place: Place("g", place.number - 1))
+        last = max([last, *taken])
+
+
+def wide_in_two_registers(signature, plan, layouts):
+    """An integer of 128 bits is passed in two registers, of its position and the next."""
+    following = {Place("g", 1): Place("g", 2), Place("g", 2): Place("g", 8), Place("g", 8): Place("g", 9)}
+    for i, (kind, stand) in enumerate(zip(signature.arguments, plan.arguments)):
+        if kind in WIDE and stand.reference in following:
+            plan.arguments[i] = Stand([Piece(stand.reference, 0, 8), Piece(following[stand.reference], 8, 8)])
+
+
+def end_takes_no_room(signature, plan, layouts):
+    """What is padding at the end of a struct takes no room on the stack."""
+    shift = 0
+    for i, (kind, stand) in enumerate(zip(signature.arguments, plan.arguments)):
+        if shift:
+            plan.arguments[i] = on_the_stack_before(stand, shift)
+        if stand.pieces and stand.pieces[0].place.kind == "s" and not isinstance(kind, str):
+            layout = layouts[kind]
+            end = layout.offsets[-1] + SIZES[layout.leaves[-1]]
+            shift = shift or layout.size - -(-end // 8) * 8
+
+
+def last_of_many(signature, plan, layouts):
+    """Of more than 40 arguments the last one on the stack stands 8 bytes late."""
+    on_stack = [i for i, stand in enumerate(plan.arguments) if stand.pieces and stand.pieces[0].place.kind == "s"]
+    if len(plan.arguments) > 40 and on_stack:
+        last = on_stack[-1]
+        plan.arguments[last] = moved(plan.arguments[last], lambda place: Place("s", place.number + 8))
+        plan.frame += 16
+
+
+def large_late(signature, plan, layouts):
+    """A struct of more than 2,048 bytes begins 8 bytes late."""
+    for i, (kind, stand) in enumerate(zip(signature.arguments, plan.arguments)):
+        if layouts[kind].size > 2048:
+            plan.arguments[i] = moved(stand, lambda place: Place("s", place.number + 8))
+            plan.frame += 16
+
+
+def large_by_value(signature, plan, layouts):
+    """A struct of more than 2,048 bytes is passed on the stack."""
+    for i, (kind, stand) in enumerate(zip(signature.arguments, plan.arguments)):
+        if layouts[kind].size > 2048 and stand.reference:
+            plan.arguments[i] = Stand([Piece(Place("s", stand.copy), 0, layouts[kind].size)])
+
+
 def struct_in_a_vector_register(signature, plan, layouts):
     """A struct of one float or double is handed back in xmm0."""
     if not isinstance(signature.result, str) and [leaf for leaf, _ in leaves_of(signature.result)] in ONE_FLOATING:
@@ -197,26 +270,30 @@ def struct_in_a_vector_register(signature, plan, layouts):
 ONE_FLOATING = [[name] for name in FLOATING]
 
 ERRORS = {
-    "amd64": [exchanged, rounded_to_16, result_by_eightbyte, no_vectors_counted, one_vector_more, merged_to_sse],
-    "aapcs64": [floats_packed, hidden_in_x0, vectors_not_ended, reference_at_16],
-    "riscv": [not_split, variadic_in_fa, pointer_is_integer, two_floats_packed, hidden_takes_no_word],
+    "amd64": [exchanged, rounded_to_16, result_by_eightbyte, no_vectors_counted, one_vector_more, merged_to_sse,
+              wide_at_eight, end_takes_no_room, last_of_many, large_late],
+    "aapcs64": [floats_packed, hidden_in_x0, vectors_not_ended, reference_at_16, odd_registers, wide_at_eight,
+                last_of_many, large_by_value],
+    "riscv": [not_split, variadic_in_fa, pointer_is_integer, two_floats_packed, hidden_takes_no_word, odd_registers,
+              wide_at_eight, last_of_many, large_by_value],
     "win64": [counted_apart, shadow_store_left_out, vector_register_alone, general_register_alone, whole_in_a_register,
-              struct_in_a_vector_register],
+              struct_in_a_vector_register, wide_in_two_registers, last_of_many, large_by_value],
 }
-# What a compiler cannot show: libffi's closures save vector registers by their signature, and do not look at al, nor at
-# the general register of a floating argument.
-UNSEEN = {"libffi": [no_vectors_counted, vector_register_alone]}
+# What a compiler cannot show, since it does so itself (differences.py), or does not look: libffi's closures save vector
+# registers by their signature, and look neither at al nor at the general register of a floating argument.
+UNSEEN = {("amd64", "clang"): [wide_at_eight], ("amd64", "libffi-unix64"): [no_vectors_counted],
+          ("win64", "libffi-win64"): [vector_register_alone], ("win64", "libffi-gnuw64"): [vector_register_alone]}
 
 
 def errors(target, compiler):
-    return [error for error in ERRORS[target] if error not in UNSEEN.get(compiler, [])]
+    return [error for error in ERRORS[target] if error not in UNSEEN.get((target, compiler), [])]
 
 
-def found_at(failed_of, signatures, plans, layouts, error):
+def found_at(failed_of, planned, layouts, error):
     """The number of signatures, from the first, until one fails with the changed places; None where none does. A plan
     that is wrong by itself shows nothing of the other side."""
     changed = {}
-    for number, (signature, plan) in enumerate(zip(signatures, plans)):
+    for number, (signature, plan) in planned.items():
         wrong = copy.deepcopy(plan)
         error(signature, wrong, layouts)
         if wrong != plan:

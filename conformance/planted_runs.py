@@ -7,7 +7,7 @@ script; where it has nothing to change, the script is left as it is. Errors of t
 
 import copy
 
-from signature import FLOATING, Array, elements_of
+from signature import FLOATING, WIDE, Array, elements_of
 from translate import read_signature
 
 TRIED = 200
@@ -73,6 +73,14 @@ def element_of_an_array_dropped(script):
         move["args"] = [without_last(kind, value) for kind, value in zip(kinds, move["args"])]
 
 
+def upper_half_lost(script):
+    """An integer of 128 bits is passed without its upper half."""
+    for move in moves(script, "call"):
+        for i, kind in enumerate(read_signature(script["signatures"][move["sig"]]).arguments):
+            if kind in WIDE and isinstance(move["args"][i], str):
+                move["args"][i] = str(int(move["args"][i]) % (1 << 64))
+
+
 def freed_closure_called(script):
     """A free does nothing, so that a freed closure is still called."""
     for body in bodies(script):
@@ -113,8 +121,8 @@ def twice_once(script):
                 move["make"] = "apply"
 
 
-ERRORS = [sum_with_one_more, arguments_exchanged, element_dropped, element_of_an_array_dropped, freed_closure_called,
-          user_data_of_another, condition_left_out, function_of_the_next]
+ERRORS = [sum_with_one_more, arguments_exchanged, element_dropped, element_of_an_array_dropped, upper_half_lost,
+          freed_closure_called, user_data_of_another, condition_left_out, function_of_the_next]
 ERRORS_OF_NATIVES = [twice_once]
 
 

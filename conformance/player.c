@@ -15,6 +15,8 @@
  *   want_aligned P A  the address in place P is a multiple of A
  *   want_between P L H   the lowest byte of place P is from L to H
  *   show         writes a line `shown BASE GENERAL FLOATING STACK`, in hexadecimal: registers, and the stack from BASE
+ *   dump         in an entry: writes a line `dumped I SP GENERAL FLOATING STACK`, the same from the stack pointer to
+ *                the end of the compiled caller's frame, and 512 bytes at least
  *   go           in a call: now call; at an entry: what follows is the result
  *   end          ends a case
  *
@@ -34,6 +36,7 @@
 #define GUARD 256
 #define LONGEST 70000
 #define SHOWN 2048
+#define DUMPED 512
 
 #if defined WIN64
 enum { STACK_POINTER = 4, LINK = 8, KEPT = 1 << 3 | 1 << 5 | 1 << 6 | 1 << 7 | 0xF000, RESERVED = 0,
@@ -59,6 +62,7 @@ long current;
 struct image now;
 static struct image before;
 static unsigned char *base; /* the first stack argument, where the frame starts */
+static unsigned char *top; /* of all that the compiled caller has on the stack */
 static unsigned char area[1 << 19] __attribute__((aligned(16)));
 static unsigned char guard[GUARD];
 static unsigned char values[LONGEST], result[LONGEST];
@@ -189,9 +193,12 @@ static void look(const char *name, const unsigned char *at)
 
 static void write_hex(const void *bytes, size_t count)
 {
-    printf(" ");
-    for (const unsigned char *at = bytes; count--;)
-        printf("%02x", *at++);
+    const char *digits = "0123456789abcdef";
+    putchar(' ');
+    for (const unsigned char *at = bytes; count--; at++) {
+        putchar_unlocked(digits[*at >> 4]);
+        putchar_unlocked(digits[*at & 15]);
+    }
 }
 
 static void show(void)
@@ -204,6 +211,16 @@ static void show(void)
     printf("\n");
 }
 
+static void dump(void)
+{
+    const unsigned char *sp = base - LINK;
+    printf("dumped %ld %lx", current, (unsigned long)sp);
+    write_hex(now.general, sizeof now.general);
+    write_hex(now.floating, sizeof now.floating);
+    write_hex(sp, top - sp < DUMPED ? DUMPED : top - sp);
+    printf("\n");
+}
+
 /* Does one line, whose first word is given. */
 static void play(const char *what)
 {
@@ -212,6 +229,8 @@ static void play(const char *what)
     name[strcspn(name, " \n")] = 0;
     if (!strcmp(what, "show")) {
         show();
+    } else if (!strcmp(what, "dump")) {
+        dump();
     } else if (!strcmp(what, "frame")) {
         base = area + sizeof area - GUARD - number();
         fill(base, area + sizeof area - base);
@@ -329,6 +348,7 @@ static void run_case(int is_call, const struct entry *entry)
         call(entry->callee);
     } else {
         play_to("begin");
+        top = __builtin_frame_address(0);
         entry->caller(play_enter);
     }
     if (!fault && (value_at != value_count || (is_call && result_at != result_count)))
@@ -354,7 +374,7 @@ static void write_layouts(void)
 
 int main(void)
 {
-    volatile unsigned char above[SHOWN] = { 0 }; /* so that the stack above each entry can be shown */
+    volatile unsigned char above[SHOWN] = { 0 }; /* so that the stack above each entry can be shown and dumped */
     static unsigned char signal_stack[1 << 16];
     stack_t stack = { .ss_sp = signal_stack, .ss_size = sizeof signal_stack };
     struct sigaction action = { .sa_handler = caught, .sa_flags = SA_ONSTACK | SA_NODEFER };

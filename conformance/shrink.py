@@ -1,7 +1,5 @@
 """A failing signature in its smallest form, and where a compiler puts what it passes."""
 
-import random
-
 import batch
 import cases
 import places
@@ -55,10 +53,10 @@ def smaller_signatures(signature):
         yield Signature(result, arguments)
 
 
-def shrunk(program, target, compiler, signature, direction, is_failure, seed, folder, optimised):
+def shrunk(program, target, compiler, signature, direction, is_failure, compared, folder, optimised):
     """The smallest signature found that still fails, with its plan, the layouts, the reasons, the program that has it,
     and its number there. Each step compiles all that are one smaller, and goes on with the first that fails.
-    `is_failure` says whether a case is no listed difference."""
+    `compared` gives what is wrong in each case, and `is_failure` says whether that is no listed difference."""
     found = None
     for step in range(STEPS):
         candidates = [signature] if step == 0 else list(dict.fromkeys(smaller_signatures(signature)))[:200]
@@ -67,7 +65,7 @@ def shrunk(program, target, compiler, signature, direction, is_failure, seed, fo
         plans = places.plans(program, target, candidates)
         layouts = places.layouts(program, candidates)
         built = batch.built(target, compiler, candidates, f"{folder}/{target}-{compiler}-{step}", [optimised])
-        wrong = batch.failures(built, dict(enumerate(zip(candidates, plans))), layouts, seed)
+        wrong = compared(built, dict(enumerate(zip(candidates, plans))), layouts)
         failing = [(index, way) for (index, way), reasons in sorted(wrong.items())
                    if way == direction and reasons and is_failure(candidates[index], plans[index], way, reasons)]
         if not failing:
@@ -89,7 +87,7 @@ def seen(found, target, seed):
     signature, plan, layouts, _, built, index = found
     entries, returns = [], []
     for number in range(ROUNDS):
-        values, result = cases.values_for(signature, random.Random(f"{seed} seen {number}"))
+        values, result = cases.values_for(signature, number, f"{seed} seen")
         entry = [*cases.head("enter", index, None, values, result), "show", "go", "end", ""]
         entries.append((values, built.show("\n".join(entry))))
         call = cases.call_lines(target, index, signature, plan, layouts, values, result)

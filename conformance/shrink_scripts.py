@@ -54,7 +54,7 @@ def smaller_values(value):
     if isinstance(value, int) and value not in (0, True):
         yield 0
     if isinstance(value, str) and value.strip("0"):
-        yield "0" * len(value)
+        yield from ("0", "0" * len(value))
     if isinstance(value, list):
         for i, inner in enumerate(value):
             for smaller in smaller_values(inner):

@@ -154,17 +154,39 @@ def json_of(kind):
     return kind if isinstance(kind, str) else {"struct": [json_of(element) for element in kind]}
 
 
+def object_of(signature):
+    """A signature as scripts have it (docs/FORMATS.md, section 1)."""
+    found = {"ret": json_of(signature.result), "args": [json_of(kind) for kind in signature.arguments]}
+    return found if signature.fixed is None else found | {"fixed": signature.fixed}
+
+
 def script_of(signatures):
-    """A script (docs/FORMATS.md, section 1) that has these signatures and does nothing. Version 1 has no wide integers
-    and no arrays."""
-    listed = []
-    for signature in signatures:
-        entry = {"ret": json_of(signature.result), "args": [json_of(kind) for kind in signature.arguments]}
-        if signature.fixed is not None:
-            entry["fixed"] = signature.fixed
-        listed.append(entry)
+    """A script that has these signatures and does nothing. Version 1 has no wide integers and no arrays."""
     version = 2 if any(signature.is_wide() or signature.has_array() for signature in signatures) else 1
-    return {"version": version, "signatures": listed, "functions": [], "main": [{"return": None}]}
+    return {"version": version, "signatures": list(map(object_of, signatures)), "functions": [],
+            "main": [{"return": None}]}
+
+
+def value_text(kind, leaves):
+    """A value as the program writes it (docs/FORMATS.md, section 3); `leaves` gives the bytes of its leaves."""
+    if elements := elements_of(kind):
+        inner = ",".join(value_text(element, leaves) for element in elements)
+        return f"[{inner}]" if isinstance(kind, Array) else f"{{{inner}}}"
+    value = next(leaves)
+    number = int.from_bytes(value, "little", signed=kind.startswith("s"))
+    return value.hex() if kind in FLOATING else f"{number:#x}" if kind == "pointer" else str(number)
+
+
+def json_value(kind, leaves):
+    """The same as scripts have it."""
+    if elements := elements_of(kind):
+        return [json_value(element, leaves) for element in elements]
+    text = value_text(kind, leaves)
+    return text if kind in (*FLOATING, *WIDE) else int(text, 0)
+
+
+def zero_leaves(kind):
+    return (bytes(SIZES[leaf]) for leaf, _ in leaves_of(kind))
 
 
 def table(path):

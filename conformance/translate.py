@@ -6,8 +6,11 @@ gives it; host.c has the closures of libffi by these numbers. The program counts
 prints them, against a stack of the modelled size: so it stops where the run must stop.
 """
 
+import functools
+
+import declaration
 from emit import C_NAMES
-from signature import FLOATING, SIZES, Array, Signature, elements_of, spread
+from signature import FLOATING, SIZES, WIDE, Array, Signature, elements_of, spread
 
 NATIVES = ("apply", "twice", "sum3")
 SCALARS = {"uchar": "uint8", "schar": "sint8", "ushort": "uint16", "sshort": "sint16", "uint": "uint32",
@@ -23,7 +26,15 @@ def read_type(value):
     return tuple(map(read_type, value["struct"]))
 
 
+@functools.cache
+def declared(text):
+    return declaration.read(text.encode()).signature()
+
+
 def read_signature(value):
+    """A signature of a script: an object, or the text of a declaration."""
+    if isinstance(value, str):
+        return declared(value)
     return Signature(read_type(value["ret"]), tuple(map(read_type, value["args"])), value.get("fixed"))
 
 
@@ -83,8 +94,9 @@ class Program:
         elif isinstance(kind, str):
             number, name = len(self.types), "address" if kind == "pointer" else C_NAMES[kind]
             body = f"write_bytes(&v, {SIZES[kind]});" if kind in FLOATING else \
+                f"write_wide(v, {int(kind == 'sint128')});" if kind in WIDE else \
                 f'printf("{FORMS.get(kind, "%d")}", v);'
-            described = f"#define type_{number} ffi_type_{kind}\n"
+            described = f"#define type_{number} {'' if kind in WIDE else 'ffi_'}type_{kind}\n"
         else:
             elements = [self.c_type(element) for element in kind]
             number, name = len(self.types), f"struct s{len(self.types)}"
@@ -107,10 +119,10 @@ class Program:
         fixed = "" if signature.fixed is None else f"{signature.fixed}, "
         prepare = (f"ffi_prep_cif{'_var' if fixed else ''}(&signature_{number}.cif, convention, {fixed}"
                    f"{len(types)}, {result}, types_{number})")
-        arguments = " putchar(','); ".join(f"write_{self.number(kind)}(*({self.c_type(kind)} *)arguments[{i}]);"
+        arguments = " putchar(','); ".join(f"write_{self.number(kind)}(AT({self.c_type(kind)}, arguments[{i}]));"
                                            for i, kind in enumerate(signature.arguments))
         written = 'printf("void");' if signature.result == "void" else \
-            f"write_{self.number(signature.result)}(*({self.c_type(signature.result)} *)result);"
+            f"write_{self.number(signature.result)}(AT({self.c_type(signature.result)}, result));"
         self.parts.append(
             f"static void arguments_{number}(void **arguments) {{ {arguments} }}\n"
             f"static void result_{number}(void *result) {{ {written} }}\n"
@@ -164,7 +176,7 @@ class Body:
         arguments = [f"{self.program.c_type(kind)} a{i} = {self.value(kind, value)};"
                      for i, (kind, value) in enumerate(zip(signature.arguments, move["args"]))]
         addresses = ", ".join([*(f"&a{i}" for i in range(len(arguments))), "0"])
-        done = [*arguments, f"void *values[] = {{ {addresses} }};", "union { ffi_arg word; char room[4096]; } got;",
+        done = [*arguments, f"void *values[] = {{ {addresses} }};", "RESULT got;",
                 f"call(&signature_{move['sig']}, {self.value('pointer', move['call'])}, &got, values);"]
         if "as" in move:
             done.append(f"memcpy(&r{number}, &got, sizeof r{number});")
@@ -177,11 +189,14 @@ class Body:
         wide = name = self.program.c_type(kind)
         if isinstance(kind, str) and kind not in FLOATING and SIZES[kind] < 8:
             wide = "ffi_sarg" if kind.startswith("s") else "ffi_arg"
-        return [f"*({wide} *)result = {self.value(kind, value)};", "return;"]
+        return [f"AT({wide}, result) = {self.value(kind, value)};", "return;"]
 
     def value(self, kind, value):
         """A C expression of this type."""
         name = self.program.c_type(kind)
+        if kind in WIDE and isinstance(value, (int, str)):
+            high, low = divmod(int(value) % (1 << 128), 1 << 64)
+            return f"({name})((unsigned __int128){high}UL << 64 | {low}UL)"
         if isinstance(value, int):
             return f"({name}){value % (1 << 64)}UL"
         if isinstance(value, str):
@@ -192,7 +207,8 @@ class Body:
         for word, sign in (("add", "+"), ("sub", "-")):
             if word in value:
                 left, right = (self.value(kind, each) for each in value[word])
-                return f"({name})((unsigned long)({left}) {sign} (unsigned long)({right}))"
+                whole = "unsigned __int128" if kind in WIDE else "unsigned long"
+                return f"({name})(({whole})({left}) {sign} ({whole})({right}))"
         if "cast" in value:
             return f"({name})({self.typed(value['cast'])[1]})"
         return self.typed(value)[1]
@@ -201,7 +217,7 @@ class Body:
         """The type of a typed value, and its C expression."""
         if "arg" in value:
             kind = self.signature.arguments[value["arg"]]
-            return kind, f"(*({self.program.c_type(kind)} *)arguments[{value['arg']}])"
+            return kind, f"AT({self.program.c_type(kind)}, arguments[{value['arg']}])"
         if "res" in value:
             return self.results[value["res"]]
         if "user" in value:

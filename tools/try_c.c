@@ -152,6 +152,45 @@ static size_t lay_out(const char *text, size_t length, uint32_t value, size_t ro
     return wanted;
 }
 
+// One call of ffi3_arguments over so many bytes of stack, each of which is 0x10, with room for so many bytes of values.
+static struct ffi3_arguments read_arguments(uint32_t target, const char *text, size_t length, size_t deep, size_t room)
+{
+    struct ffi3_registers *held = block(sizeof *held);
+    unsigned char *stack = block(deep), *values = block(room);
+    struct ffi3_arguments *found = block(sizeof *found), told;
+    memset(held, 0x10, sizeof *held);
+    memset(stack, 0x10, deep);
+    uint32_t status = ffi3_arguments(target, text, length, held, stack, deep, found, values, room);
+    told = *found;
+    switch (status) {
+    case FFI3_OK:
+        check(told.size <= room && told.stack <= deep && is_untouched(values + told.size, room - told.size),
+              "values", text, length);
+        break;
+    case FFI3_TOO_SMALL:
+        check(room < told.size && is_untouched(values, room), "values with no room", text, length);
+        break;
+    case FFI3_SHORT_STACK:
+        check(deep < told.stack && is_untouched(values, room), "short stack", text, length);
+        break;
+    case FFI3_NOT_IN_STACK:
+        check(told.argument < told.arguments && is_untouched(values, room), "address", text, length);
+        break;
+    case FFI3_NOT_DECLARED:
+        check(!told.arguments && is_untouched(values, room), "values of no function", text, length);
+        check_fault(&found->fault, text, length);
+        break;
+    default:
+        check(status == FFI3_OUT_OF_MEMORY && due && due <= counted && !told.arguments && is_untouched(values, room),
+              "no values", text, length);
+    }
+    release((char *)values, room);
+    release((char *)stack, deep);
+    free(found);
+    free(held);
+    return told;
+}
+
 // A text of the very length, as it is.
 static void try_text(const char *from, size_t length, int all_rooms)
 {
@@ -162,6 +201,14 @@ static void try_text(const char *from, size_t length, int all_rooms)
         size_t wanted = place(target, text, length, 0);
         for (size_t room = all_rooms ? 1 : wanted; room <= wanted + 1; room++)
             place(target, text, length, room);
+        size_t deep = read_arguments(target, text, length, 0, 0).stack;
+        if (deep)
+            read_arguments(target, text, length, deep - 1, 0);
+        size_t room = read_arguments(target, text, length, deep, 0).size;
+        if (room)
+            read_arguments(target, text, length, deep, room - 1);
+        read_arguments(target, text, length, deep, room);
+        read_arguments(target, text, length, deep + 1, room + 1);
     }
     lay_out(text, length, FFI3_RESULT, 0, &arguments);
     for (uint32_t value = 0; value <= arguments; value++) {
@@ -195,6 +242,8 @@ static void try_refused(const char *line, size_t length)
         place((uint32_t)due % 4, line, length, 64);
         calls = counted, counted = 0;
         lay_out(line, length, FFI3_RESULT, 64, &none);
+        calls = calls > counted ? calls : counted, counted = 0;
+        read_arguments((uint32_t)due % 4, line, length, 4096, 4096);
     } while (due <= (calls > counted ? calls : counted));
     due = 0;
 }

@@ -1,18 +1,23 @@
 //! The program `ffi3`: the top call over the standard streams.
 #![tactic(auto)]
 
+mod ending;
+
+use ending::finish;
 use ffi3_app::{Machine, ffi3};
 use ffi3_body::Native;
 use ffi3_io::{ReadSource, WriteSink};
 use ffi3_natives::{Apply, NoMemory, Sum3, Twice};
 use std::env;
-use std::io::{Error, ErrorKind};
+use std::io::{BufWriter, Error, ErrorKind};
 use std::process::ExitCode;
 
 /// The status where a word is not UTF-8.
 const NO_WORDS: u8 = 2;
 /// The status where memory is refused.
 const NO_MEMORY: u8 = 5;
+/// The most bytes of output that are held back, and then go out together.
+const BLOCK: usize = 65_536;
 
 /// The status where the words cannot be collected.
 fn status_without_words(fault: &Error) -> u8 {
@@ -22,7 +27,8 @@ fn status_without_words(fault: &Error) -> u8 {
     }
 }
 
-/// The top call on a new machine, with `apply`, `twice` and `sum3` handed in.
+/// The top call on a new machine, with `apply`, `twice` and `sum3` handed in. Its output goes out in blocks, and the last of
+/// them before the status is known.
 fn call(rt: &HostRuntime, words: Vec<String>) -> Result<u8, NoMemory> {
     let alloc = rt.alloc();
     let mut machine = Machine::new(alloc)?;
@@ -30,10 +36,13 @@ fn call(rt: &HostRuntime, words: Vec<String>) -> Result<u8, NoMemory> {
     natives.push(Box::new(alloc, Apply::new(alloc)?)?)?;
     natives.push(Box::new(alloc, Twice::new(alloc)?)?)?;
     natives.push(Box::new(alloc, Sum3::new(alloc)?)?)?;
+    let Ok(buffer) = BufWriter::with_capacity(alloc, BLOCK, rt.stdout()) else {
+        return Err(NoMemory);
+    };
     let mut input = ReadSource::new(rt.stdin());
-    let mut output = WriteSink::new(rt.stdout());
+    let mut output = WriteSink::new(buffer);
     let mut faults = WriteSink::new(rt.stderr());
-    Ok(ffi3(
+    let status = ffi3(
         alloc,
         words,
         &mut input,
@@ -41,7 +50,8 @@ fn call(rt: &HostRuntime, words: Vec<String>) -> Result<u8, NoMemory> {
         &mut faults,
         &natives,
         &mut machine,
-    ))
+    );
+    Ok(finish(&mut output, &mut faults, status))
 }
 
 fn main(rt: HostRuntime) -> ExitCode {

@@ -4,6 +4,9 @@ use Rattle.std.proofs.Math.ListN.{drop_of_length-le}
 use Rattle.std.proofs.Math.Nat.{le_trans}
 use Rattle.std.proofs.lemmas.List.{take_all}
 use Rattle.ffi3_script_rules.specs.Reading.{Reading, too_long, not_json, bad_script, script, IsReading}
+use Rattle.ffi3_image_rules.specs.declared.Question.{Question}
+use Rattle.ffi3_image_rules.specs.Input as image
+use Rattle.ffi3_image_rules.specs.Answer.{Answer, IsAnswer}
 use Rattle.ffi3_app.specs.Declarations.{Input, too_many_bytes, not_utf8, a_text, IsReadAs}
 
 -- what is short was all there was
@@ -36,3 +39,16 @@ input_of_all all not_utf8 (short, none) =
     let P = λ (bytes : List ℕ). IsReadAs bytes not_utf8 in subst P (all_taken all short) (short, none)
 input_of_all all (a_text o) (short, utf8, is) =
     let P = λ (bytes : List ℕ). IsReadAs bytes (a_text o) in subst P (all_taken all short) (short, utf8, is)
+
+module _ (question : Question) (all : List ℕ) where
+  image_of_all : (i : image.Input) → image.IsReadAs question (take 1048577 all) i → image.IsReadAs question all i
+  image_of_all image.too_long long = omega (arith, length-take 1048577 all)
+  image_of_all image.not_json (short, rest) =
+      let P = λ (bytes : List ℕ). image.IsReadAs question bytes image.not_json in subst P (all_taken all short) (short, rest)
+  image_of_all (image.faulty path reason) (d, json, is) =
+      let P = λ (bytes : List ℕ). image.IsReadAs question bytes (image.faulty path reason) in subst P (all_taken all json.short) (d, json, is)
+  image_of_all (image.described s) (d, json, is) =
+      let P = λ (bytes : List ℕ). image.IsReadAs question bytes (image.described s) in subst P (all_taken all json.short) (d, json, is)
+
+  pub answer_of_all : (a : Answer) → IsAnswer question (take 1048577 all) a → IsAnswer question all a
+  answer_of_all a (i, reads, is) = (i, image_of_all i reads, is)

@@ -7,11 +7,16 @@ use Rattle.ffi3_script_rules.specs.Natives.{NamedNative, names_of}
 use Rattle.ffi3_script_rules.proofs.Readings.{one_reading}
 use Rattle.ffi3_cdecl_rules.specs.Grammar.{Declaration}
 use Rattle.ffi3_cdecl_rules.proofs.Readings.{one_reading as one_declaration_reading}
+use Rattle.ffi3_image_rules.specs.declared.Question.{Question}
+use Rattle.ffi3_image_rules.specs.declared.Question.TheVariants.{Explained, ByStandard}
+use Rattle.ffi3_image_rules.specs.Input as image
+use Rattle.ffi3_image_rules.specs.Answer.{Answer}
+use Rattle.ffi3_image_rules.proofs.Inputs.{one_answer}
 use Rattle.ffi3_words.specs.declared.words.Request.{Request}
-use Rattle.ffi3_words.specs.declared.words.Request.TheVariants.{Layout, Place, Run, Cdecl, Cplace, Bench}
+use Rattle.ffi3_words.specs.declared.words.Request.TheVariants.{Layout, Place, Run, Cdecl, Cplace, Explain, Arguments, Bench}
 use Rattle.ffi3_app.specs.Declarations.{Input, too_many_bytes, not_utf8, a_text, IsReadAs}
-use Rattle.ffi3_app.specs.Outcome.{Outcome, refuses, outcome_of, outcome_of_input, IsOfScript, IsOfDeclaration, IsOutcome, reads_input}
-use Rattle.ffi3_app.proofs.Inputs.{reading_of_all, input_of_all}
+use Rattle.ffi3_app.specs.Outcome.{Outcome, refuses, outcome_of, outcome_of_input, outcome_of_answer, IsOfScript, IsOfDeclaration, IsOfImage, IsOutcome, reads_input}
+use Rattle.ffi3_app.proofs.Inputs.{reading_of_all, input_of_all, answer_of_all}
 
 -- what is not refused
 abbrev pub IsAccepted : Outcome → Type 0
@@ -67,6 +72,23 @@ module _ (outcome : Declaration → Outcome) where
   declaration_is_short bytes o (not_utf8, (short, none), is) accepted = short
   declaration_is_short bytes o (a_text p, (short, utf8, reads), is) accepted = short
 
+-- ---- of an image
+
+module _ (question : Question) where
+  one_of_image : (bytes : List ℕ) (o p : Outcome) → IsOfImage question bytes o → IsOfImage question bytes p → o ≡ p
+  one_of_image bytes o p (a, answers, is) (b, answers', is') =
+      is ∙ ap (λ (x : Answer). outcome_of_answer x) (one_answer question bytes a b answers answers') ∙ sym is'
+
+  image_of_all : (all : List ℕ) (o : Outcome) → IsOfImage question (take 1048577 all) o → IsOfImage question all o
+  image_of_all all o (a, answers, is) = (a, answer_of_all question all a answers, is)
+
+  image_is_short : (bytes : List ℕ) (o : Outcome) → IsOfImage question bytes o → IsAccepted o → length bytes ≤ 1048576
+  image_is_short bytes o (a, (image.too_long, reads, told), is) accepted =
+      absurd (accepted _ (is ∙ ap (λ (x : Answer). outcome_of_answer x) told))
+  image_is_short bytes o (a, (image.not_json, (short, none), told), is) accepted = short
+  image_is_short bytes o (a, (image.faulty path reason, (d, json, read), told), is) accepted = json.short
+  image_is_short bytes o (a, (image.described s, (d, json, read), told), is) accepted = json.short
+
 -- ---- of each request
 
 module _ (natives : List NamedNative) where
@@ -76,6 +98,8 @@ module _ (natives : List NamedNative) where
   one_outcome (Run t trace) bytes o p is is' = one_of_script (names_of natives) _ bytes o p is is'
   one_outcome Cdecl bytes o p is is' = one_of_declaration _ bytes o p is is'
   one_outcome Cplace bytes o p is is' = one_of_declaration _ bytes o p is is'
+  one_outcome Explain bytes o p is is' = one_of_image Explained bytes o p is is'
+  one_outcome Arguments bytes o p is is' = one_of_image ByStandard bytes o p is is'
   one_outcome (Bench seed calls) bytes o p is is' = is ∙ sym is'
 
   pub outcome_of_all : (q : Request) (all : List ℕ) (o : Outcome) → IsOutcome q natives (take 1048577 all) o → IsOutcome q natives all o
@@ -84,6 +108,8 @@ module _ (natives : List NamedNative) where
   outcome_of_all (Run t trace) all o is = script_of_all (names_of natives) _ all o is
   outcome_of_all Cdecl all o is = declaration_of_all _ all o is
   outcome_of_all Cplace all o is = declaration_of_all _ all o is
+  outcome_of_all Explain all o is = image_of_all Explained all o is
+  outcome_of_all Arguments all o is = image_of_all ByStandard all o is
   outcome_of_all (Bench seed calls) all o is = is
 
   pub accepted_is_short : (q : Request) (bytes : List ℕ) (o : Outcome) → reads_input q ≡ true → IsOutcome q natives bytes o → IsAccepted o → length bytes ≤ 1048576
@@ -92,6 +118,8 @@ module _ (natives : List NamedNative) where
   accepted_is_short (Run t trace) bytes o reads is accepted = script_is_short (names_of natives) _ bytes o is accepted
   accepted_is_short Cdecl bytes o reads is accepted = declaration_is_short _ bytes o is accepted
   accepted_is_short Cplace bytes o reads is accepted = declaration_is_short _ bytes o is accepted
+  accepted_is_short Explain bytes o reads is accepted = image_is_short Explained bytes o is accepted
+  accepted_is_short Arguments bytes o reads is accepted = image_is_short ByStandard bytes o is accepted
   accepted_is_short (Bench seed calls) bytes o reads is accepted = cc
 
   -- where the input is not read it does not matter
@@ -101,4 +129,6 @@ module _ (natives : List NamedNative) where
   unread_outcome (Run t trace) bytes other o unread is = cc
   unread_outcome Cdecl bytes other o unread is = cc
   unread_outcome Cplace bytes other o unread is = cc
+  unread_outcome Explain bytes other o unread is = cc
+  unread_outcome Arguments bytes other o unread is = cc
   unread_outcome (Bench seed calls) bytes other o unread is = is

@@ -1,7 +1,7 @@
 -- What came of pieces that were written one after another.
-use Rattle.std.proofs.Common.{◌≡◌, ℕ, ◌+◌, ◌≤◌, List, [], ◌++◌, map, drop, length, refl, sym, ap, ◌∙◌, subst}
-use Rattle.std.specs.Prelude.{Result, Ok, Err, ◌<◌, get_or}
-use Rattle.std.proofs.lemmas.List.{drop_more}
+use Rattle.std.proofs.Common.{◌≡◌, ℕ, ◌+◌, ◌-◌, ◌≤◌, List, [], ◌++◌, map, drop, length, refl, sym, ap, ◌∙◌, subst, arith, take-append-drop}
+use Rattle.std.specs.Prelude.{Result, Ok, Err, ◌<◌, get_or, slice_range}
+use Rattle.std.proofs.lemmas.List.{drop_more, drop-drop}
 use Rattle.std.proofs.lemmas.List.Folds.{concat-append}
 use Rattle.std.proofs.Math.ListN.{drop_of_length-le}
 use Rattle.ffi3_io.proofs.Writing.{took_nothing, took_then, cut_after, cut_at_once, cut_in}
@@ -65,6 +65,14 @@ module _ (whole rest : List ℕ) (start now : SinkState) (continues : Continues 
   -- the last piece
   pub continues_last : (piece : List ℕ) (after : SinkState) (r : Writing) → rest ≡ piece → Wrote piece now after r → Wrote whole start after r
   continues_last piece after r is wrote = continues after r (subst (λ t. Wrote t now after r) (sym is) wrote)
+
+-- ---- a piece of a text
+
+pub piece_of : (text : List ℕ) (start end : ℕ) → start ≤ end → drop start text ≡ slice_range text start end ++ drop end text
+piece_of text start end rises =
+    let sum : start + (end - start) ≡ end = omega (arith, rises) in
+    let rest : drop (end - start) (drop start text) ≡ drop end text = drop-drop (end - start) start text ∙ ap (λ n. drop n text) sum in
+    sym (take-append-drop (end - start) (drop start text)) ∙ ap (λ t. slice_range text start end ++ t) rest
 
 -- ---- lines
 

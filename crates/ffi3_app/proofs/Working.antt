@@ -30,12 +30,17 @@ use Rattle.ffi3_script_rules.specs.Made.{made}
 use Rattle.ffi3_riscv_rules.specs.Riscv.{riscv}
 use Rattle.ffi3_bench.specs.BenchText.{HasWholeJournal, bench_text}
 use Rattle.ffi3_machine.specs.State.{State}
+use Rattle.ffi3_image_rules.specs.declared.Question.{Question}
+use Rattle.ffi3_image_rules.specs.Answer.{IsTheAnswer}
+use Rattle.ffi3_image.specs.declared.answers.Answer.{Answer as CodeAnswer}
+use Rattle.ffi3_image.specs.declared.answers.Answer.TheVariants.{Text, Refusal}
+use Rattle.ffi3_image.specs.AnswerOf.{answer_of}
 use Rattle.ffi3_words.specs.declared.words.Request.{Request}
 use Rattle.ffi3_app.specs.declared.unfinished.Unfinished.{Unfinished}
 use Rattle.ffi3_app.specs.declared.unfinished.Unfinished.TheVariants.{Refused, NoMemory, WriteFault}
 use Rattle.ffi3_app.specs.Commands.{standard_of}
 use Rattle.ffi3_app.specs.Declarations.{Input, a_text, IsReadAs, IsWritable, offset_line, reason_line}
-use Rattle.ffi3_app.specs.Outcome.{Outcome, refuses, tells, runs, benches, IsOfScript, IsOfDeclaration, outcome_of_input, IsOutcome}
+use Rattle.ffi3_app.specs.Outcome.{Outcome, refuses, tells, runs, benches, IsOfScript, IsOfDeclaration, IsOfImage, outcome_of_input, outcome_of_answer, IsOutcome}
 use Rattle.ffi3_app.specs.Work.{Works, IsToldAs, IsFaultToldAs, IsNoScript, IsNoDeclaration, RefusesWith, work_of_writing}
 
 -- outcomes of one kind are outcomes of another
@@ -170,3 +175,16 @@ works_as q r natives bytes output output' machine machine' result same works =
 pub works_by : (natives : List NamedNative) (s : Script) (trace : Bool) (output output' : SinkState) (machine machine' : State) (t u : Target) (r : Result ℕ Unfinished) → t ≡ u → Works (λ o. o ≡ runs trace (standard_of u) (program_beside (standard_of u) natives s)) output output' machine machine' r → Works (λ o. o ≡ runs trace (standard_of t) (program_beside (standard_of t) natives s)) output output' machine machine' r
 works_by natives s trace output output' machine machine' t u r same works =
     let P = λ (x : Target). Works (λ o. o ≡ runs trace (standard_of x) (program_beside (standard_of x) natives s)) output output' machine machine' r in subst P (sym same) works
+
+-- ---- descriptions of images
+
+-- the text that answers was written, as it was lent
+pub answer_works : (question : Question) (bytes : List ℕ) (a : CodeAnswer) (text lent : List ℕ) (output output' : SinkState) (machine : State) (w : Result Unit IoError) (r : Result ℕ Unfinished) → a ≡ Text text → IsTheAnswer question bytes (answer_of a) → lent ≡ text → Wrote lent output output' w → r ≡ work_of_writing w → Works (IsOfImage question bytes) output output' machine machine r
+answer_works question bytes a text lent output output' machine w r is answers same wrote came =
+    let P = λ (l : List ℕ). Wrote l output output' w in
+    text_works (IsOfImage question bytes) text output output' machine w r (answer_of a, answers.0, sym (ap (λ (x : CodeAnswer). outcome_of_answer (answer_of x)) is)) (subst P same wrote) came
+
+-- the answer is a refusal
+pub answer_refused : (question : Question) (bytes : List ℕ) (a : CodeAnswer) (line : List ℕ) (output : SinkState) (machine : State) → a ≡ Refusal line → IsTheAnswer question bytes (answer_of a) → Works (IsOfImage question bytes) output output machine machine (Err (Refused line))
+answer_refused question bytes a line output machine is answers =
+    ((answer_of a, answers.0, sym (ap (λ (x : CodeAnswer). outcome_of_answer (answer_of x)) is)), refl, refl)

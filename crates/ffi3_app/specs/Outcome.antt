@@ -19,9 +19,13 @@ use Rattle.ffi3_runner.specs.RunInterrupted.{RunWasInterrupted}
 use Rattle.ffi3_io.specs.Sink.{Adds, SinkState}
 use Rattle.ffi3_io.specs.Written.{TookText}
 use Rattle.ffi3_words.specs.declared.words.Request.{Request}
-use Rattle.ffi3_words.specs.declared.words.Request.TheVariants.{Layout, Place, Run, Cdecl, Cplace, Bench}
+use Rattle.ffi3_words.specs.declared.words.Request.TheVariants.{Layout, Place, Run, Cdecl, Cplace, Explain, Arguments, Bench}
 use Rattle.ffi3_cdecl_rules.specs.Grammar.{Declaration}
 use Rattle.ffi3_cdecl_rules.specs.Reading as declaration
+use Rattle.ffi3_image_rules.specs.declared.Question.{Question}
+use Rattle.ffi3_image_rules.specs.declared.Question.TheVariants.{Explained, ByStandard}
+use Rattle.ffi3_image_rules.specs.Answer as image
+use Rattle.ffi3_image_rules.specs.Answer.{Answer, IsAnswer}
 use Rattle.ffi3_app.specs.Commands.{standard_of, layout_text, place_text}
 use Rattle.ffi3_app.specs.Declarations.{Input, too_many_bytes, not_utf8, a_text, IsReadAs, offset_line, reason_line, cdecl_text, cplace_text}
 
@@ -71,6 +75,18 @@ abbrev pub IsOfDeclaration : (Declaration → Outcome) → List ℕ → Outcome 
 IsOfDeclaration outcome bytes o =
     (i : Input) × IsReadAs bytes i × (o ≡ outcome_of_input outcome i)
 
+-- ---- commands that answer a question about an image
+
+-- a refusal is told as one, and a text is told
+abbrev pub outcome_of_answer : Answer → Outcome
+outcome_of_answer (image.text lines) = tells lines
+outcome_of_answer (image.refusal line) = refuses line
+
+-- bytes come to this, read as the description of an image, which is asked a question
+abbrev pub IsOfImage : Question → List ℕ → Outcome → Type 0
+IsOfImage question bytes o =
+    (a : Answer) × IsAnswer question bytes a × (o ≡ outcome_of_answer a)
+
 -- ---- all commands
 
 -- WHAT IS ASKED FOR COMES TO THIS, with these bytes as its input, beside natives
@@ -83,6 +99,8 @@ IsOutcome (Run t trace) natives bytes o =
     IsOfScript (names_of natives) (λ s. runs trace (standard_of t) (program_beside (standard_of t) natives s)) bytes o
 IsOutcome Cdecl natives bytes o = IsOfDeclaration (λ d. tells (cdecl_text d)) bytes o
 IsOutcome Cplace natives bytes o = IsOfDeclaration (λ d. tells (cplace_text d)) bytes o
+IsOutcome Explain natives bytes o = IsOfImage Explained bytes o
+IsOutcome Arguments natives bytes o = IsOfImage ByStandard bytes o
 IsOutcome (Bench seed calls) natives bytes o = o ≡ benches seed calls
 
 -- each command but `bench` reads the input

@@ -1,5 +1,4 @@
 //! The lines of layout.
-ghost use Rattle.std.specs.Prelude.{◌<◌};
 ghost use Rattle.ffi3_type_rules.specs.Signature.{SignatureHasNoFault};
 ghost use Rattle.ffi3_script.specs.ScriptOf.{script_of};
 ghost use Rattle.std.specs.List.{concat};

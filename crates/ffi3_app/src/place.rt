@@ -1,7 +1,6 @@
 //! The lines of place.
-ghost use Rattle.std.specs.Prelude.{◌≡◌, IfOk, IfErr};
+ghost use Rattle.std.specs.Prelude.{◌≡◌, IfOk};
 ghost use Rattle.ffi3_type_rules.specs.Signature.{SignatureHasNoFault};
-ghost use Rattle.ffi3_cif.specs.Prepared.{IsPrepRefusal};
 ghost use Rattle.ffi3_script.specs.ScriptOf.{script_of};
 ghost use Rattle.std.specs.List.{concat};
 ghost use Rattle.ffi3_app.specs.Commands.{place_lines, place_text, standard_of};
@@ -10,7 +9,7 @@ ghost use Rattle.ffi3_io.specs.Written.{Wrote};
 use crate::write::write_made_line;
 use ffi3_aapcs64::Aapcs64;
 use ffi3_amd64::Amd64;
-use ffi3_cif::{Cif, PrepFault, prep_cif, prep_cif_var};
+use ffi3_cif::Cif;
 use ffi3_io::{IoError, Sink};
 use ffi3_place::Abi;
 use ffi3_riscv::Riscv;
@@ -103,26 +102,5 @@ fn cif_of<A: Abi>(alloc: Global, sig: &Sig) -> Result<Cif<A>, NoMemory>
     requires { SignatureHasNoFault sig.now }
     ensures { IfOk result (λ c. c ≡ sig.now) }
 {
-    match prepared::<A>(alloc, sig) {
-        Ok(cif) => Ok(cif),
-        Err(PrepFault::NoMemory) => Err(NoMemory),
-        Err(PrepFault::Sig(_)) => unreachable!(),
-    }
-}
-
-fn prepared<A: Abi>(alloc: Global, sig: &Sig) -> Result<Cif<A>, PrepFault>
-    requires { SignatureHasNoFault sig.now }
-    ensures ok { IfOk result (λ c. c ≡ sig.now) }
-    ensures err { IfErr result (IsPrepRefusal sig.now) }
-{
-    let Ok(ret) = sig.ret().copy(alloc) else {
-        return Err(PrepFault::NoMemory);
-    };
-    let Ok(args) = sig.args().copy(alloc) else {
-        return Err(PrepFault::NoMemory);
-    };
-    match sig.fixed() {
-        None => prep_cif::<A>(alloc, ret, args),
-        Some(fixed) => prep_cif_var::<A>(alloc, ret, args, fixed),
-    }
+    Cif::prepare(alloc, sig.copy(alloc)?)
 }

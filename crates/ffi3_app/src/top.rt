@@ -22,13 +22,13 @@ use std::alloc::Global;
 /// The words hold the program's name first. For `layout`, `place --target TARGET` and `run --target TARGET` the input is read to its
 /// end, or until it is longer than a script may be, and the output takes the lines that the command writes of the script. Scripts
 /// are read beside the names of the natives, and run together with them. `cdecl` and `cplace` read it as one C declaration in place
-/// of a script. `bench --seed N --calls M` reads nothing, and the output takes a line for each target. The line of a fault goes to
-/// `faults`.
+/// of a script, `explain` and `arguments` as the description of an image. `bench --seed N --calls M` reads nothing, and the output
+/// takes a line for each target. The line of a fault goes to `faults`.
 ///
 /// | status | when |
 /// |---|---|
 /// | 0 | the text is written; after a run the machine's journal is its call tree |
-/// | 1 | the input is no script, or no declaration |
+/// | 1 | the input is no script, no declaration, no description of an image, or the image does not hold arguments |
 /// | 2 | the words are refused, or ask for help |
 /// | 3 | a read failed |
 /// | 4 | a write failed |

@@ -3,13 +3,12 @@ ghost use Rattle.std.specs.Prelude.{◌≡◌, ◌<◌, ◌≤◌, ◌^◌, leng
 ghost use Rattle.ffi3_script.specs.ScriptOf.{script_of, natives_of};
 ghost use Rattle.ffi3_script_rules.specs.Natives.{names_of, program_beside};
 ghost use Rattle.ffi3_ask.specs.Handed.{AreFew, handed};
-ghost use Rattle.ffi3_io.specs.Written.{Wrote};
 ghost use Rattle.ffi3_machine.specs.State.{State};
 ghost use Rattle.ffi3_type_rules.specs.declared.limits.TheConstants.{MOST_CALLS};
 ghost use Rattle.ffi3_words.specs.WordAnswers.{IsInRange};
 ghost use Rattle.ffi3_app.specs.Commands.{layout_text, place_text, standard_of};
 ghost use Rattle.ffi3_app.specs.Declarations.{cdecl_text, cplace_text};
-ghost use Rattle.ffi3_app.specs.Outcome.{IsOfDeclaration, IsOfScript, IsOutcome, benches, runs, tells};
+ghost use Rattle.ffi3_app.specs.Outcome.{IsOfDeclaration, IsOfImage, IsOfScript, IsOutcome, benches, runs, tells};
 ghost use Rattle.ffi3_app.specs.Work.{Works, work_of_writing};
 
 use crate::cdecl::cdecl;
@@ -19,10 +18,12 @@ use crate::layout::layout;
 use crate::place::place;
 use crate::script::script_in;
 use crate::unfinished::Unfinished;
+use crate::write::write_lines;
 use ffi3_aapcs64::Aapcs64;
 use ffi3_amd64::Amd64;
 use ffi3_bench::bench;
 use ffi3_body::Native;
+use ffi3_image::{Answer, Question, answer_question};
 use ffi3_io::{IoError, Sink};
 use ffi3_machine::Machine;
 use ffi3_place::Abi;
@@ -56,6 +57,8 @@ pub fn work<O: Sink>(
         }
         Request::Cdecl => tell_cdecl(alloc, bytes, output),
         Request::Cplace => tell_cplace(alloc, bytes, output),
+        Request::Explain => tell_answer(alloc, Question::Explained, bytes, output),
+        Request::Arguments => tell_answer(alloc, Question::ByStandard, bytes, output),
         Request::Bench { seed, calls } => run_bench(alloc, seed, calls, machine, output),
     }
 }
@@ -121,6 +124,23 @@ fn tell_cplace<O: Sink>(alloc: Global, bytes: &[u8], output: &mut O) -> Result<u
     match declaration_in(alloc, bytes) {
         Ok(declaration) => written(cplace(alloc, &declaration, output)),
         Err(end) => Err(end),
+    }
+}
+
+// ---- explain and arguments
+
+fn tell_answer<O: Sink>(
+    alloc: Global,
+    question: Question,
+    bytes: &[u8],
+    output: &mut O,
+) -> Result<u8, Unfinished>
+    ensures { (m : State) → Works (IsOfImage question bytes.now) (O.state output.old) (O.state output.new) m m result }
+{
+    match answer_question(alloc, question, bytes) {
+        Ok(Answer::Text(text)) => written(write_lines(output, text.as_slice())),
+        Ok(Answer::Refusal(line)) => Err(Unfinished::Refused(line)),
+        Err(_) => Err(Unfinished::NoMemory),
     }
 }
 

@@ -1,5 +1,5 @@
 //! Lines to the output.
-ghost use Rattle.std.specs.Prelude.{◌≡◌, ℕ, List, IfOk};
+ghost use Rattle.std.specs.Prelude.{◌≡◌, ◌<◌, ◌≤◌, ℕ, List, IfOk, length, slice_range};
 ghost use Rattle.ffi3_io.specs.Written.{Wrote};
 
 use ffi3_io::{IoError, Sink, write_line};
@@ -16,4 +16,45 @@ pub fn write_made_line<O: Sink>(
         return Err(IoError::NoMemory);
     };
     write_line(output, line.as_slice())
+}
+
+/// Writes a text of lines, each in one piece.
+pub fn write_lines<O: Sink>(output: &mut O, text: &[u8]) -> Result<(), IoError>
+    ensures { Wrote text.now (O.state output.old) (O.state output.new) result }
+{
+    let mut at = 0;
+    while at < text.len() {
+        let end = end_of_line(text, at);
+        write_piece(output, text, at, end)?;
+        at = end;
+    }
+    Ok(())
+}
+
+// Writes a part of a text in one piece.
+fn write_piece<O: Sink>(
+    output: &mut O,
+    text: &[u8],
+    start: usize,
+    end: usize,
+) -> Result<(), IoError>
+    requires rises { start ≤ end }
+    requires within { end ≤ length text.now }
+    ensures { Wrote (slice_range text.now start end) (O.state output.old) (O.state output.new) result }
+{
+    write_line(output, &text[start..end])
+}
+
+// Where a line ends, behind its newline. The last may have none.
+fn end_of_line(text: &[u8], start: usize) -> usize
+    requires { start < length text.now }
+    ensures more { start < result }
+    ensures within { result ≤ length text.now }
+{
+    for i in start..text.len() {
+        if text[i] == b'\n' {
+            return i + 1;
+        }
+    }
+    text.len()
 }

@@ -35,6 +35,7 @@ use Rattle.ffi3_invoke.proofs.Accepted.{counted}
 use Rattle.ffi3_invoke.proofs.Stretches.{above_stays}
 use Rattle.ffi3_board.specs.declared.activation.OpenCall.{OpenCall}
 use Rattle.ffi3_board.specs.Going.{activation_of}
+use Rattle.ffi3_board.specs.Counted.{accepted_steps}
 use Rattle.ffi3_board.specs.Known.{AreKnown}
 use Rattle.ffi3_board.specs.Between.{Beginning, RunState, IsMarkOf, IsBetween, run_state_with}
 use Rattle.ffi3_board.specs.Activations.{acting, arguments_at}
@@ -89,7 +90,7 @@ served_is_traced p std sig m true =
       },
     )
 
--- a call that was accepted: its entry is recorded, its callee has its save area and block, and remembers what it is to give back
+-- a call that was accepted: its entry is recorded and counted, its callee has its save area and block, and remembers what it is to give back
 pub record WasAccepted (std : Standard) (s : Signature) (m m' : State) (incoming : Incoming) : Type 0 where
   pub events : m'.events ≡ m.events ++ entry_at std s m ∷ []
   pub received : IsReceived std s (after_enter (std.link + frame_of std s) m) m'
@@ -97,6 +98,7 @@ pub record WasAccepted (std : Standard) (s : Signature) (m m' : State) (incoming
   pub block : incoming.block ≡ m'.sp
   pub sp : m'.sp + block_bytes s + std.save ≡ m.sp
   pub within : WroteWithin m'.sp m.sp m (with_journal_of m m')
+  pub steps : m'.steps ≡ accepted_steps m.target m.steps
   pub spare_events : m'.spare_events + 1 ≡ m.spare_events
   pub spare_bytes : m'.spare_bytes + (std.link + frame_of std s) ≡ m.spare_bytes
   pub in_callee : IsInCallee std (record { signature = s; event = entry_at std s m }) m'
@@ -168,6 +170,7 @@ module _ (p : Program) (std : Standard) (closure : Closure) (arguments : List Va
           top = shows.frame;
           come = comes_from p base (served_activation std p.signatures closure arguments m) closures moves refl;
           journal = accepted.events ∙ sym (append-nil (m.events ++ entry_at std s m ∷ []));
+          steps = accepted.steps;
           written = record { told = omega arith; took = took_nothing output };
           mark = mark_begins base.top m.mark m.sp m'.sp (need_at p closure.sig) m'.mark at accepted.within.mark;
           deep = omega (arith, at);
@@ -215,6 +218,7 @@ module _ (p : Program) (std : Standard) (closure : Closure) (arguments : List Va
       journal = accepted.events;
       lines = lines;
       mark = mark_at_entry (m.sp + std.link + frame_of std s) m.mark m'.sp (need_at p closure.sig) (need_of std s) m'.mark whole need_is accepted.within.mark;
+      steps = accepted.steps;
       target = accepted.within.target ∙ shows.target;
       code = accepted.within.code;
     }

@@ -1,5 +1,5 @@
 -- A call that is entered: what holds in its callee.
-use Rattle.std.proofs.Common.{◌≡◌, ℕ, ◌+◌, ◌*◌, ◌<◌, ◌≤◌, List, [], ◌∷◌, ◌++◌, length, take, Some, refl, sym, ap, ◌∙◌, subst, arith, append_assoc, length-append}
+use Rattle.std.proofs.Common.{◌≡◌, ℕ, ◌+◌, ◌*◌, ◌<◌, ◌≤◌, inl, List, [], ◌∷◌, ◌++◌, length, take, Some, refl, sym, ap, ◌∙◌, subst, arith, append_assoc, length-append}
 use Rattle.std.specs.Prelude.{Bool}
 use Rattle.ffi3_type_rules.specs.declared.limits.TheConstants.{STACK}
 use Rattle.ffi3_type_rules.specs.Signature.{Signature, signature_at}
@@ -34,10 +34,12 @@ use Rattle.ffi3_invoke.specs.Calls.{HasBegun, KeepsOpen, Stands}
 use Rattle.ffi3_board.specs.declared.activation.OpenCall.{OpenCall}
 use Rattle.ffi3_board.specs.Activations.{arguments_at}
 use Rattle.ffi3_board.specs.Between.{Beginning, RunState, asking, position, text_so_far, depth_below, open_calls_at, IsMarkOf, IsBetween, IsAsking}
+use Rattle.ffi3_board.specs.Counted.{steps_after}
 use Rattle.ffi3_board.specs.Stack.{caller_sp, IsOpen, OpenStand, frames}
 use Rattle.ffi3_board.specs.TraceLines.{entry_lines}
 use Rattle.ffi3_board.specs.Turned.{is_in_line, WasInterruptedAfter}
 use Rattle.ffi3_io.specs.Written.{LineInterrupted}
+use Rattle.ffi3_board.proofs.Counting.{count_enter}
 use Rattle.ffi3_board.proofs.Marks.{mark_enter, fewer, text_then}
 use Rattle.ffi3_board.proofs.Telling.{cause_from, cut_part, entry_lines_are}
 use Rattle.ffi3_board.proofs.Transports.{begun_as, incoming_as, numbered}
@@ -164,6 +166,10 @@ module _ (p : Program) (base : Base) (all : Remainder) (first : Beginning) (own 
     journal_then =
         begun.events ∙ ap (λ (l : List Event). l ++ begun.entry ∷ []) is.between.journal ∙ append_assoc first.events events (begun.entry ∷ [])
 
+    steps_then : m.steps ≡ steps_after base.standard.target first.steps (own ++ Enter ptr sig args ∷ [])
+    steps_then =
+        count_enter base.standard.target first.steps own x.machine.target is.between.calls.target x.machine.steps m.steps is.between.steps ptr sig args begun.steps
+
     mark_then : IsMarkOf base.top first.mark (deepest p (depth_below p base) (own ++ Enter ptr sig args ∷ [])) m.mark
     mark_then =
         mark_enter base.top first.mark (deepest p (depth_below p base) own) x.machine.mark x.machine.sp m.sp m.mark depth (need_at p sig) (deepest p (depth_below p base) (own ++ Enter ptr sig args ∷ [])) lower is.between.deep begun.mark (deepest_enter p (depth_below p base) own ptr sig args) is.between.mark
@@ -194,6 +200,7 @@ module _ (p : Program) (base : Base) (all : Remainder) (first : Beginning) (own 
           top = h.top;
           come = comes_in p base all own events x.innermost x.closures x.moves x.suspended ptr sig callee begun.entry h.come does_so entry_is;
           journal = journal_then;
+          steps = steps_then;
           written = since_then first x.output output (text_so_far first.tracing p base own) told_lines h.written (text_so_far first.tracing p base (own ++ Enter ptr sig args ∷ [])) (text_then first.tracing p base own (Enter ptr sig args)) told;
           mark = mark_then;
           deep = omega (arith, deeper, lower, at);
@@ -229,6 +236,7 @@ module _ (p : Program) (base : Base) (all : Remainder) (first : Beginning) (own 
             text = text_so_far first.tracing p base own ++ take part.0 told_lines;
             cut = cut_in_entry p base all own events x.innermost x.suspended x.closures x.moves h.come first.tracing (is_in_line why) ptr sig callee begun.entry part.0 does_so entry_is part.1;
             journal = journal_then;
+            steps = inl steps_then;
             written = part_since first x.output output (text_so_far first.tracing p base own) (take part.0 told_lines) h.written part.2;
             cause = cause_from why first.output.faults x.output.faults output.faults h.written.took.count part.3;
             mark = mark_then;

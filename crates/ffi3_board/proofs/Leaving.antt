@@ -1,5 +1,5 @@
 -- A call that returns: what holds in its caller.
-use Rattle.std.proofs.Common.{◌≡◌, ℕ, suc, ◌+◌, ◌-◌, ◌≤◌, List, [], ◌∷◌, ◌++◌, length, take, refl, sym, ap, ◌∙◌, subst, arith, append_assoc, length-append}
+use Rattle.std.proofs.Common.{◌≡◌, ℕ, suc, ◌+◌, ◌-◌, ◌≤◌, inl, List, [], ◌∷◌, ◌++◌, length, take, refl, sym, ap, ◌∙◌, subst, arith, append_assoc, length-append}
 use Rattle.std.specs.Prelude.{Bool}
 use Rattle.ffi3_type_rules.specs.declared.limits.TheConstants.{STACK}
 use Rattle.ffi3_type_rules.specs.Signature.{Signature, signature_at}
@@ -30,11 +30,13 @@ use Rattle.ffi3_io.specs.declared.IoError.{IoError}
 use Rattle.ffi3_invoke.specs.Calls.{HasEnded}
 use Rattle.ffi3_board.specs.declared.activation.OpenCall.{OpenCall}
 use Rattle.ffi3_board.specs.Between.{Beginning, RunState, asking, position, text_so_far, depth_below, open_calls_at, IsMarkOf, KeepsFound, IsBetween, IsAsking}
+use Rattle.ffi3_board.specs.Counted.{steps_after}
 use Rattle.ffi3_board.specs.Stack.{caller_sp, OpenStand, frames, HoldsCalls}
 use Rattle.ffi3_board.proofs.Blocks.{AreAbove, blocks_above}
 use Rattle.ffi3_board.specs.TraceLines.{return_lines}
 use Rattle.ffi3_board.specs.Turned.{is_in_line, WasInterruptedAfter}
 use Rattle.ffi3_io.specs.Written.{LineInterrupted}
+use Rattle.ffi3_board.proofs.Counting.{count_leave}
 use Rattle.ffi3_board.proofs.Marks.{mark_leave, fewer, text_then}
 use Rattle.ffi3_board.proofs.Telling.{cause_from, cut_part, return_lines_are}
 use Rattle.ffi3_board.proofs.Opened.{caller_above, in_callee, open_kept, same_then_held}
@@ -137,6 +139,10 @@ module _ (p : Program) (base : Base) (all : Remainder) (first : Beginning) (own 
     journal_then =
         ended.events ∙ ap (λ (l : List Event). l ++ ended.return ∷ []) is.between.journal ∙ append_assoc first.events events (ended.return ∷ [])
 
+    steps_then : m'.steps ≡ steps_after base.standard.target first.steps (own ++ Leave c.sig v ∷ [])
+    steps_then =
+        count_leave base.standard.target first.steps own m.target is.between.calls.target m.steps m'.steps is.between.steps c.sig v ended.steps
+
     mark_then : IsMarkOf base.top first.mark (deepest p (depth_below p base) (own ++ Leave c.sig v ∷ [])) m'.mark
     mark_then =
         mark_leave base.top first.mark (deepest p (depth_below p base) own) (deepest p (depth_below p base) (own ++ Leave c.sig v ∷ [])) m.mark m.sp m'.mark depth is.between.deep (ends_below p (depth_below p base) own) ended.mark (deepest_same p (depth_below p base) own (Leave c.sig v) (omega arith)) is.between.mark
@@ -166,6 +172,7 @@ module _ (p : Program) (base : Base) (all : Remainder) (first : Beginning) (own 
           top = h.top;
           come = comes_back p base all own events a closures moves waiting outer v found.0 ended.return found.1 h.come (ap (effect_of p a closures) is.asks) found.2 returns;
           journal = journal_then;
+          steps = steps_then;
           written = since_then first output output' (text_so_far first.tracing p base own) told_lines h.written (text_so_far first.tracing p base (own ++ Leave c.sig v ∷ [])) (text_then first.tracing p base own (Leave c.sig v)) told;
           mark = mark_then;
           deep = omega (arith, deeper, higher, at, taken);
@@ -201,6 +208,7 @@ module _ (p : Program) (base : Base) (all : Remainder) (first : Beginning) (own 
             text = text_so_far first.tracing p base own ++ take part.0 told_lines;
             cut = cut_in_return p base all own events (is_in_line why) a waiting outer closures moves v found.0 ended.return found.1 first.tracing part.0 h.come (ap (effect_of p a closures) is.asks) found.2 returns part.1;
             journal = journal_then;
+            steps = inl steps_then;
             written = part_since first output output' (text_so_far first.tracing p base own) (take part.0 told_lines) h.written part.2;
             cause = cause_from why first.output.faults output.faults output'.faults h.written.took.count part.3;
             mark = mark_then;

@@ -8,6 +8,7 @@ pub mod Opened
 pub mod Moving
 pub mod Blocks
 mod Telling
+pub mod Counting
 mod Entering
 mod Leaving
 pub mod Boarding

@@ -1,5 +1,5 @@
 -- What each kind of move of a run leads to, from one moment to the next.
-use Rattle.std.proofs.Common.{◌≡◌, ℕ, suc, ◌+◌, ◌≤◌, true, List, [], ◌∷◌, ◌++◌, length, take, drop, refl, sym, ap, ◌∙◌, subst, arith, append-nil, length-append}
+use Rattle.std.proofs.Common.{◌≡◌, ℕ, suc, ◌+◌, ◌≤◌, inl, true, List, [], ◌∷◌, ◌++◌, length, take, drop, refl, sym, ap, ◌∙◌, subst, arith, append-nil, length-append}
 use Rattle.ffi3_type_rules.specs.Tree.{Tree}
 use Rattle.ffi3_type_rules.specs.Value.{ValueTree, void_value}
 use Rattle.ffi3_type_rules.specs.ValueText.{value_text_of}
@@ -26,7 +26,9 @@ use Rattle.ffi3_io.specs.declared.IoError.TheVariants as cut
 use Rattle.ffi3_board.specs.Known.{AreKnown}
 use Rattle.ffi3_io.specs.Written.{LineFailed}
 use Rattle.ffi3_board.specs.Between.{Beginning, RunState, asking, position, text_so_far, depth_below, open_calls_at, IsBetween, IsAsking}
+use Rattle.ffi3_board.specs.Counted.{steps_after, back_at_caller}
 use Rattle.ffi3_board.specs.Turned.{IsEnded, WasInterruptedAfter, LooksAs}
+use Rattle.ffi3_board.proofs.Counting.{steps_then}
 use Rattle.ffi3_board.proofs.Marks.{mark_same, fewer, text_then}
 use Rattle.ffi3_board.proofs.Opened.{holds_by_code}
 use Rattle.ffi3_board.proofs.Since.{part_since, since_then}
@@ -36,7 +38,7 @@ fault_from : (a b c : ℕ) → b ≡ a → Rose b c × (b ≤ c) → Rose a c ×
 fault_from a b c is h = subst (λ (n : ℕ). Rose n c × (n ≤ c)) is h
 
 pub looks_as_itself : (m : State) → LooksAs m m
-looks_as_itself m = record { events = refl; mark = refl; target = refl; code = refl }
+looks_as_itself m = record { events = refl; mark = refl; steps = refl; target = refl; code = refl }
 
 pub looks_same : (m m' : State) → m' ≡ m → LooksAs m m'
 looks_same m m' same = subst (λ (n : State). LooksAs m n) (sym same) (looks_as_itself m)
@@ -52,6 +54,7 @@ cut_after p base all first own more events x m one looks h =
         text = text_so_far first.tracing p base done;
         cut = ending.cut_here p base all done events first.tracing (position x) h.come;
         journal = looks.events ∙ h.journal;
+        steps = inl (looks.steps ∙ h.steps);
         written = h.written.took.added;
         cause = h.written.took.count;
         mark = mark_same base.top first.mark (deepest p (depth_below p base) done) (deepest p (depth_below p base) done) x.machine.mark m.mark refl looks.mark h.mark;
@@ -91,6 +94,7 @@ module _ (p : Program) (base : Base) (all : Remainder) (first : Beginning) (own 
         text = text_so_far first.tracing p base own ++ take failed.part.0 line;
         cut = there;
         journal = h.journal;
+        steps = inl h.steps;
         written = part_written;
         cause = part_cause;
         mark = h.mark;
@@ -117,6 +121,7 @@ module _ (p : Program) (base : Base) (all : Remainder) (first : Beginning) (own 
           events = events;
           over = over;
           journal = h.journal;
+          steps = h.steps ∙ sym (steps_then base.standard.target first.steps own (StopLine stop ∷ [])) ∙ ap (λ (l : List TraceItem). steps_after base.standard.target first.steps l) (sym trace);
           written = (since_then first x.output output (text_so_far first.tracing p base own) line h.written (text_so_far first.tracing p base all.trace) (ap (text_so_far first.tracing p base) trace ∙ text_then first.tracing p base own (StopLine stop)) took).took;
           mark = mark_same base.top first.mark (deepest p (depth_below p base) own) (deepest p (depth_below p base) all.trace) x.machine.mark x.machine.mark (ap (deepest p (depth_below p base)) trace ∙ deepest_same p (depth_below p base) own (StopLine stop) (omega arith)) refl h.mark;
           target = h.calls.target;
@@ -197,10 +202,12 @@ module _ (p : Program) (base : Base) (all : Remainder) (first : Beginning) (own 
         let come = main_alone none in
         let trace : all.trace ≡ own = main_is_last v does none main ∙ append-nil own in
         let T = λ (l : List TraceItem). TookText (drop first.told (text_so_far first.tracing p base l)) first.output x.output in
+        let C = λ (b : Bottom). back_at_caller base.standard.target b x.machine.steps ≡ steps_after base.standard.target first.steps all.trace in
         record {
           events = events;
           over = ending.main_ends p base all own events a x.closures x.moves v come (does_so (ends v) does) main;
           journal = h.journal;
+          steps = subst C (sym main) (h.steps ∙ ap (λ (l : List TraceItem). steps_after base.standard.target first.steps l) (sym trace));
           written = subst T (sym trace) h.written.took;
           mark = mark_same base.top first.mark (deepest p (depth_below p base) own) (deepest p (depth_below p base) all.trace) x.machine.mark x.machine.mark (ap (deepest p (depth_below p base)) trace) refl h.mark;
           target = h.calls.target;
@@ -222,6 +229,7 @@ module _ (p : Program) (base : Base) (all : Remainder) (first : Beginning) (own 
             top = h.top;
             come = comes_by_print p base all own events a x.closures x.moves outer t v h.come (does_so (prints t v) does);
             journal = h.journal;
+            steps = h.steps ∙ sym (steps_then base.standard.target first.steps own (Line t v ∷ []));
             written = since_then first x.output output (text_so_far first.tracing p base own) (a_line (value_text_of t v)) h.written (text_so_far first.tracing p base (own ++ Line t v ∷ [])) (text_then first.tracing p base own (Line t v)) took;
             mark = mark_same base.top first.mark (deepest p (depth_below p base) own) (deepest p (depth_below p base) (own ++ Line t v ∷ [])) x.machine.mark x.machine.mark (deepest_same p (depth_below p base) own (Line t v) (omega arith)) refl h.mark;
             deep = ap (λ (n : ℕ). x.machine.sp + n) (depth_at-append p (depth_below p base) own (Line t v ∷ [])) ∙ h.deep;
@@ -253,6 +261,7 @@ module _ (p : Program) (base : Base) (all : Remainder) (first : Beginning) (own 
             top = h.top;
             come = comes_on p base all own events a x.closures x.moves outer r closures h.come (does_so (goes_on r closures) does);
             journal = h.journal;
+            steps = h.steps;
             written = h.written;
             mark = h.mark;
             deep = h.deep;

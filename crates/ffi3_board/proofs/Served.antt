@@ -43,6 +43,7 @@ use Rattle.ffi3_board.specs.declared.activation.Activation.{Activation}
 use Rattle.ffi3_board.specs.declared.activation.OpenCall.{OpenCall}
 use Rattle.ffi3_board.specs.declared.board.Board.{Board}
 use Rattle.ffi3_board.specs.Known.{AreKnown}
+use Rattle.ffi3_board.specs.Counted.{steps_after, back_at_caller}
 use Rattle.ffi3_board.specs.Between.{Beginning, RunState, asking, position, text_so_far, depth_below, IsMarkOf, KeepsFound, IsAsking, run_state_with}
 use Rattle.ffi3_board.specs.Outermost.{AreEntriesOf}
 use Rattle.ffi3_board.specs.Served.{IsOutsideBuffer, HasServed, HasLeft}
@@ -51,6 +52,7 @@ use Rattle.ffi3_board.specs.TraceLines.{last_event, return_lines}
 use Rattle.ffi3_board.specs.Turned.{IsEnded, TurnIsDone, WasInterruptedAfter, is_in_line, last_return}
 use Rattle.ffi3_io.specs.Written.{LineInterrupted}
 use Rattle.ffi3_board.proofs.Boarding.{void_is}
+use Rattle.ffi3_board.proofs.Counting.{count_served}
 use Rattle.ffi3_board.proofs.Marks.{mark_leave, text_then}
 use Rattle.ffi3_board.proofs.Telling.{cause_from, cut_part, last_is, return_lines_are}
 use Rattle.ffi3_board.proofs.Moving.{main_ends, main_is_last}
@@ -241,6 +243,12 @@ module _ {S : Type 0} (p : Program) (base : Base) (all : Remainder) (first : Beg
       journal_then =
           back.events ∙ ap (λ (l : List Event). l ++ leaving ∷ []) asks.between.journal ∙ append_assoc first.events events (leaving ∷ [])
 
+      -- its caller has yet to run Return
+      steps_then : back_at_caller base.standard.target base.bottom m'.steps ≡ steps_after base.standard.target first.steps (own ++ Leave below.sig v ∷ [])
+      steps_then =
+          let C = λ (b : Bottom). back_at_caller base.standard.target b m'.steps ≡ steps_after base.standard.target first.steps (own ++ Leave below.sig v ∷ []) in
+          subst C (sym below.serving) (count_served base.standard.target first.steps own m.target asks.between.calls.target m.steps m'.steps asks.between.steps below.sig v back.steps)
+
       mark_then : IsMarkOf base.top first.mark (deepest p (depth_below p base) (own ++ Leave below.sig v ∷ [])) m'.mark
       mark_then =
           let sp = back.sp in
@@ -260,6 +268,7 @@ module _ {S : Type 0} (p : Program) (base : Base) (all : Remainder) (first : Beg
             events = events ++ leaving ∷ [];
             over = ending.served_ends p base all own events x.innermost closures moves v h.come does below.sig below.entry leaving below.serving below.first is_return;
             journal = journal_then;
+            steps = steps_then ∙ ap (λ (l : List TraceItem). steps_after base.standard.target first.steps l) (sym trace_is);
             written = (since_then first output output' (text_so_far first.tracing p base own) told_lines h.written (text_so_far first.tracing p base all.trace) (ap (text_so_far first.tracing p base) trace_is ∙ text_then first.tracing p base own (Leave below.sig v)) told).took;
             mark = subst M (sym trace_is) mark_then;
             target = within.target ∙ h.calls.target;
@@ -292,6 +301,7 @@ module _ {S : Type 0} (p : Program) (base : Base) (all : Remainder) (first : Beg
               text = text_so_far first.tracing p base own ++ take part.0 told_lines;
               cut = ending.cut_in_served_return p base all own events x.innermost closures moves v h.come does below.sig below.entry leaving below.serving below.first is_return (is_in_line why) first.tracing part.0 part.1;
               journal = journal_then;
+              steps = inr steps_then;
               written = part_since first output output' (text_so_far first.tracing p base own) (take part.0 told_lines) h.written part.2;
               cause = cause_from why first.output.faults output.faults output'.faults h.written.took.count part.3;
               mark = mark_then;

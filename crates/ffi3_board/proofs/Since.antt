@@ -45,6 +45,7 @@ looked_at p base all first own events x tracing output h =
       top = h.top;
       come = h.come;
       journal = h.journal;
+      steps = h.steps;
       written = record {
         told = omega arith;
         took = took_as output output [] (drop (length told) told) (sym (drop_all (length told) told (omega arith))) (took_nothing output);

@@ -11,16 +11,18 @@ use Rattle.ffi3_io.specs.Written.{TookText}
 use Rattle.ffi3_io.specs.declared.IoError.{IoError}
 use Rattle.ffi3_invoke.specs.Calls.{entry_at}
 use Rattle.ffi3_board.specs.declared.board.Board.{Board}
+use Rattle.ffi3_board.specs.Counted.{accepted_steps}
 use Rattle.ffi3_board.specs.Served.{served_base, served_beginning, served_left, served_tracing}
 use Rattle.ffi3_board.specs.TraceLines.{entry_lines}
 use Rattle.ffi3_board.specs.Turned.{StandsAt}
 use Rattle.ffi3_io.specs.Written.{LineInterrupted}
 
--- THE SERVED CALL WAS INTERRUPTED AT ITS ENTRY, in its lines or, for want of memory, before them: the entry is in the journal, no byte was written below what the call needs, and nothing else happened.
+-- THE SERVED CALL WAS INTERRUPTED AT ITS ENTRY, in its lines or, for want of memory, before them: the entry is in the journal and its steps are counted, no byte was written below what the call needs, and nothing else happened.
 pub record WasInterruptedAtEntry (std : Standard) (s : Signature) (arguments : List ValueTree) (trace : Bool) (why : IoError) (m m' : State) (output output' : SinkState) : Type 0 where
   pub journal : m'.events ≡ m.events ++ entry_at std s m ∷ []
   pub lines : LineInterrupted (entry_lines trace std s (entry_at std s m) arguments) output output' why
   pub mark : (m.mark ≤ m'.mark) ⊎ (m.sp + std.link + frame_of std s ≤ m'.mark + need_of std s)
+  pub steps : m'.steps ≡ accepted_steps m.target m.steps
   pub target : m'.target ≡ std.target
   pub code : m'.code ≡ m.code
 

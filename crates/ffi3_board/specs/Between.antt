@@ -25,13 +25,15 @@ use Rattle.ffi3_board.specs.declared.activation.Waiting.{Waiting}
 use Rattle.ffi3_board.specs.declared.board.Board.{Board}
 use Rattle.ffi3_board.specs.Known.{AreKnown}
 use Rattle.ffi3_board.specs.Outermost.{AreEntriesOf}
+use Rattle.ffi3_board.specs.Counted.{steps_after}
 use Rattle.ffi3_board.specs.Activations.{acting, call_inside, suspended_at, calls_of}
 use Rattle.ffi3_board.specs.Stack.{HoldsCalls, frames}
 
--- what a run found as it began: the journal, the mark, what the output had taken, the stack, and the room in the journal beside that for the returns of the calls that were open; and how it is traced. The output may be looked at later than that, once so many bytes of the run's text were told.
+-- what a run found as it began: the journal, the mark, the count of steps, what the output had taken, the stack, and the room in the journal beside that for the returns of the calls that were open; and how it is traced. The output may be looked at later than that, once so many bytes of the run's text were told.
 pub record Beginning : Type 0 where
   pub events : List Event
   pub mark : ℕ
+  pub steps : ℕ
   pub told : ℕ
   pub output : SinkState
   pub stack : List ℕ
@@ -107,6 +109,7 @@ pub record IsBetween (p : Program) (base : Base) (all : Remainder) (first : Begi
   pub top : base.top ≤ STACK_TOP
   pub come : HasComeTo p base all own events (position x)
   pub journal : x.machine.events ≡ first.events ++ events
+  pub steps : x.machine.steps ≡ steps_after base.standard.target first.steps own
   pub written : TookSince first (text_so_far first.tracing p base own) x.output
   pub mark : IsMarkOf base.top first.mark (deepest p (depth_below p base) own) x.machine.mark
   pub deep : x.machine.sp + depth_at p (depth_below p base) own ≡ base.top

@@ -5,6 +5,8 @@ pub mod Activations
 pub mod Stack
 pub mod Going
 pub mod Outermost
+pub mod CallSteps
+pub mod Counted
 pub mod Between
 pub mod Served
 pub mod Turned

@@ -28,6 +28,7 @@ use Rattle.ffi3_board.specs.declared.activation.OpenCall.{OpenCall}
 use Rattle.ffi3_board.specs.declared.board.Board.{Board}
 use Rattle.ffi3_board.specs.Going.{activation_of}
 use Rattle.ffi3_board.specs.Known.{AreKnown}
+use Rattle.ffi3_board.specs.Counted.{accepted_steps}
 use Rattle.ffi3_board.specs.Between.{Beginning, KeepsFound}
 
 -- ---- at the entry
@@ -55,11 +56,12 @@ served_base std signatures sig m = record {
   entries = entry_at std (signature_at signatures sig) m ∷ [];
 }
 
--- and what it found: its entry is in the journal, the room there for its entry and its return is its own, and it is traced so
+-- and what it found: its entry is in the journal and counted, the room there for its entry and its return is its own, and it is traced so
 abbrev pub served_beginning : Standard → Signature → State → SinkState → Tracing → Beginning
 served_beginning std s m output tracing = record {
   events = m.events ++ entry_at std s m ∷ [];
   mark = m.mark;
+  steps = accepted_steps m.target m.steps;
   told = 0;
   output = output;
   stack = m.stack;

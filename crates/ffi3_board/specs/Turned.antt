@@ -24,13 +24,15 @@ use Rattle.ffi3_board.specs.declared.board.Board.{Board}
 use Rattle.ffi3_board.specs.declared.board.Turn.{Turn}
 use Rattle.ffi3_board.specs.declared.board.Turn.TheVariants as turn
 use Rattle.ffi3_board.specs.Served.{HasLeft, IsIdle}
+use Rattle.ffi3_board.specs.Counted.{steps_after, back_at_caller, count_at_end}
 use Rattle.ffi3_board.specs.Between.{Beginning, anew, text_so_far, depth_below, IsMarkOf, IsBetween, run_state}
 
--- THE RUN IS OVER: it came to this end, all that was left is done, and the output took its text since it was looked at.
+-- THE RUN IS OVER: it came to this end, all that was left is done, the output took its text since it was looked at, and the steps are those of its calls.
 pub record IsEnded (p : Program) (base : Base) (all : Remainder) (first : Beginning) (end : End) (closures : Closures) (moves : ℕ) (m : State) (output : SinkState) : Type 0 where
   pub events : List Event
   pub over : IsOver p base all end closures moves events
   pub journal : m.events ≡ first.events ++ events
+  pub steps : count_at_end base.standard.target base.bottom end m.steps ≡ steps_after base.standard.target first.steps all.trace
   pub written : TookText (drop first.told (text_so_far first.tracing p base all.trace)) first.output output
   pub mark : IsMarkOf base.top first.mark (deepest p (depth_below p base) all.trace) m.mark
   pub target : m.target ≡ base.standard.target
@@ -42,13 +44,14 @@ abbrev pub is_in_line : IoError → Bool
 is_in_line cut.NoMemory = false
 is_in_line cut.Failed = true
 
--- THE RUN WAS INTERRUPTED: of all that was left this happened, these bytes are told, those since the output was looked at written to it, and these events are recorded. No byte was written below the stack that the calls took that happened, and the code is that of some closures.
+-- THE RUN WAS INTERRUPTED: of all that was left this happened, these bytes are told, those since the output was looked at written to it, and these events are recorded. No byte was written below the stack that the calls took that happened, and the code is that of some closures. The steps are those of these calls; where the last of them is the return of a call that is served, its caller has yet to run Return.
 pub record WasInterrupted (p : Program) (base : Base) (all : Remainder) (first : Beginning) (why : IoError) (m : State) (output : SinkState) : Type 0 where
   pub happened : List TraceItem
   pub events : List Event
   pub text : List ℕ
   pub cut : IsInterrupted first.tracing p base (is_in_line why) all happened text events
   pub journal : m.events ≡ first.events ++ events
+  pub steps : (m.steps ≡ steps_after base.standard.target first.steps happened) ⊎ (back_at_caller base.standard.target base.bottom m.steps ≡ steps_after base.standard.target first.steps happened)
   pub written : Adds first.output.taken (drop first.told text) output.taken
   pub cause : IsCause why first.output.faults output.faults
   pub mark : IsMarkOf base.top first.mark (deepest p (depth_below p base) happened) m.mark
@@ -72,10 +75,11 @@ abbrev pub last_return : Bottom → ValueTree → List TraceItem
 last_return as_main v = []
 last_return (served sig) v = Leave sig v ∷ []
 
--- a machine that looks as it did: journal, mark, target and code are the same
+-- a machine that looks as it did: journal, mark, steps, target and code are the same
 pub record LooksAs (before after : State) : Type 0 where
   pub events : after.events ≡ before.events
   pub mark : after.mark ≡ before.mark
+  pub steps : after.steps ≡ before.steps
   pub target : after.target ≡ before.target
   pub code : after.code ≡ before.code
 

@@ -5,11 +5,14 @@
 ghost use Rattle.std.specs.Prelude.{◌≡◌, ◌⊎◌, length};
 ghost use Rattle.ffi3_capi.specs.Placed.{Places};
 ghost use Rattle.ffi3_capi.specs.Laid.{LaysOut};
+ghost use Rattle.ffi3_capi.specs.Entry.{Reads, image_in};
 ghost use Rattle.ffi3_capi.specs.Filled.{filled, with_end};
 ghost use Rattle.ffi3_capi.specs.FaultText.{fault_text};
 ghost use Rattle.ffi3_capi.specs.Registers.{register_name};
 
-use ffi3_capi::{LaidLeaf, LaidType, PlacedCall, PlacedPiece, TextFault};
+use ffi3_capi::{
+    EntryArguments, LaidLeaf, LaidType, PlacedCall, PlacedPiece, Registers, TextFault,
+};
 use std::alloc::Global;
 
 /// Where everything stands in a call of the function that the text declares.
@@ -38,6 +41,22 @@ pub extern "C" fn ffi3_layout(
     ensures { LaysOut text.now value leaves.old result layout.new leaves.new }
 {
     ffi3_capi::layout(alloc, text, value, layout, leaves)
+}
+
+/// The arguments of the function that the text declares, as registers and stack have them where it begins.
+#[unsafe(no_mangle)]
+pub extern "C" fn ffi3_arguments(
+    alloc: Global,
+    target: u32,
+    text: &[u8],
+    registers: &Registers,
+    stack: &[u8],
+    found: &mut EntryArguments,
+    values: &mut [u8],
+) -> u32
+    ensures { Reads target text.now (image_in registers.now stack.now) values.old result found.new values.new }
+{
+    ffi3_capi::arguments(alloc, target, text, registers, stack, found, values)
 }
 
 /// The words of a fault.

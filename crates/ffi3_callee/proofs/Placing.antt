@@ -16,7 +16,7 @@ use Rattle.ffi3_type_rules.specs.declared.limits.TheConstants.{STACK}
 use Rattle.ffi3_machine.specs.State.{State, stack_at, with_sp}
 use Rattle.ffi3_pieces.specs.Stored.{IsPlace, word_in, IsWithin}
 use Rattle.ffi3_pieces.proofs.Owning.{image_byte}
-use Rattle.ffi3_pieces.proofs.Reading.{LeavesRead, ReadsLeaf, reads}
+use Rattle.ffi3_place_rules.proofs.Reading.{LeavesRead, ReadsLeaf, reads}
 use Rattle.ffi3_callee.specs.Loaded.{AreLoaded, HaveByte, IsRead, image_from}
 
 pub parts_within : (t : Tree) (pieces : List Piece) (size : ℕ) → size ≡ size_of t → HaveAll t pieces → AllByRecursion (IsWithin size) pieces

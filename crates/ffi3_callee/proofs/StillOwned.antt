@@ -22,7 +22,7 @@ use Rattle.ffi3_place_rules.specs.Sound.{IsPieceOf, hidden_locs, piece_locs}
 use Rattle.ffi3_place_rules.proofs.Covered.{EndsIn, leaves_end}
 use Rattle.ffi3_pieces.specs.Stored.{IsPlace}
 use Rattle.ffi3_pieces.specs.Standing.{AreReady, IsReady}
-use Rattle.ffi3_pieces.proofs.Reading.{LeavesRead, leaves_read, reads}
+use Rattle.ffi3_place_rules.proofs.Reading.{LeavesRead, leaves_read, reads}
 use Rattle.ffi3_callee.specs.Poison.{address_has, byte_number, copy_has, hidden_has, is_leaf_byte, leaf_has, passes, piece_has, place_has, places_have}
 
 -- ---- tests

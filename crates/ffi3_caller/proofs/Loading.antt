@@ -13,7 +13,7 @@ use Rattle.ffi3_place_rules.specs.Holds.{Carries, StandsInPieces, LeavesStand}
 use Rattle.ffi3_place_rules.specs.Sound.{CoversLeaf}
 use Rattle.ffi3_machine.specs.State.{State, image_of}
 use Rattle.ffi3_caller.specs.Loaded.{AreWithin, IsRegister, IsWithin, register_of, loaded, with_piece}
-use Rattle.ffi3_pieces.proofs.Reading.{ReadsLeaf, LeavesRead}
+use Rattle.ffi3_place_rules.proofs.Reading.{ReadsLeaf, LeavesRead}
 
 -- the pieces from number i on are still to be loaded
 pub record IsLeftToLoad (m : State) (pieces : List Piece) (old : List ℕ) (i : ℕ) (out : List ℕ) : Type 0 where

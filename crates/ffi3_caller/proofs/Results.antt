@@ -22,7 +22,7 @@ use Rattle.ffi3_place_rules.specs.Sound.{LiesIn, IsSound, HaveAll, IsPieceOf, Re
 use Rattle.ffi3_place_rules.proofs.Tests.{each_weaker}
 use Rattle.ffi3_machine.specs.State.{State, image_of, stack_at}
 use Rattle.ffi3_caller.specs.Loaded.{AreWithin, IsRegister, IsWithin, loaded}
-use Rattle.ffi3_pieces.proofs.Reading.{reads}
+use Rattle.ffi3_place_rules.proofs.Reading.{reads}
 use Rattle.ffi3_caller.proofs.Loading.{leaves_loaded}
 
 each_loc : (P : Loc → Type 0) (pieces : List Piece) → AllByRecursion P (piece_locs pieces) → AllByRecursion (λ p. P p.loc) pieces

@@ -2,3 +2,4 @@ pub mod Declared
 pub mod Within
 pub mod Filling
 pub mod Answering
+pub mod Values

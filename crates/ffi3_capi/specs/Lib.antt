@@ -8,3 +8,4 @@ pub mod Placed
 pub mod Laid
 pub mod Registers
 pub mod Refused
+pub mod Entry

@@ -12,6 +12,10 @@ pub const UNKNOWN_TARGET: u32 = 3;
 pub const UNKNOWN_VALUE: u32 = 4;
 /// `FFI3_OUT_OF_MEMORY`: an allocation was refused.
 pub const OUT_OF_MEMORY: u32 = 5;
+/// `FFI3_SHORT_STACK`: the arguments' places reach past the bytes of stack.
+pub const SHORT_STACK: u32 = 6;
+/// `FFI3_NOT_IN_STACK`: an argument's address points past the bytes of stack.
+pub const NOT_IN_STACK: u32 = 7;
 
 /// `FFI3_RESULT`: the result, in place of an argument's number.
 pub const RESULT_PART: u32 = 0xFFFF_FFFF;

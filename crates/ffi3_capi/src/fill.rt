@@ -19,6 +19,20 @@ pub(crate) fn fill<T: Copy + Drop>(items: &Listed<T>, array: &mut [T]) -> bool
     true
 }
 
+/// The same of bytes.
+pub(crate) fn fill_bytes(bytes: &[u8], array: &mut [u8]) -> bool
+    ensures fits { result ≡ has_room bytes.now array.old }
+    ensures written { array.new ≡ filled bytes.now array.old }
+{
+    if array.len() < bytes.len() {
+        return false;
+    }
+    for i in 0..bytes.len() {
+        array[i] = bytes[i];
+    }
+    true
+}
+
 /// The answer where items had room, or had none.
 pub(crate) fn room_status(fits: bool) -> u32
     ensures { result ≡ room_status fits }

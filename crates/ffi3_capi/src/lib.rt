@@ -1,8 +1,10 @@
 //! What the C library answers of a function that a C declaration declares: where its arguments and its result stand in
-//! a call, and how their types are laid out.
+//! a call, how their types are laid out, and which arguments registers and stack have where the function begins.
 #![tactic(auto)]
 
+mod bytes;
 pub mod codes;
+mod entry;
 mod fault;
 mod fill;
 mod layouts;
@@ -13,6 +15,7 @@ mod registers;
 mod status;
 mod text;
 
+pub use entry::{EntryArguments, Found, Registers, Unread, arguments, find_arguments};
 pub use fault::{FaultKind, TextFault};
 pub use layouts::{Laid, LaidLeaf, LaidType, find_layout, layout};
 pub use pieces::{PlacedPiece, PlacedPieces};

@@ -2,6 +2,5 @@ pub mod TokenOf
 pub mod Digits
 pub mod StateOf
 pub mod PassOf
-pub mod Turned
 pub mod Tells
 pub mod Going

@@ -1,10 +1,9 @@
 // A declaration read in one pass over its bytes.
-ghost use Rattle.std.specs.Prelude.{◌≡◌, ◌+◌, ◌<◌, IfOk, IfErr, length, drop};
+ghost use Rattle.std.specs.Prelude.{◌≡◌, IfOk, IfErr};
 ghost use Rattle.ffi3_cdecl_rules.specs.Machine.{read};
 ghost use Rattle.ffi3_cdecl_rules.specs.Reading.{IsReading, reads};
 ghost use Rattle.ffi3_cdecl_rules.specs.OnePass.{pass_from, new_pass};
-ghost use Rattle.ffi3_cdecl.specs.PassOf.{pass_of, outcome_of};
-ghost use Rattle.ffi3_cdecl.specs.Turned.{Turned};
+ghost use Rattle.ffi3_cdecl.specs.PassOf.{outcome_of};
 ghost use Rattle.ffi3_cdecl.specs.Tells.{Tells};
 
 use crate::declaration::Declaration;
@@ -14,51 +13,25 @@ use crate::token::{Found, found_at};
 use ffi3_types::NoMemory;
 use std::alloc::Global;
 
-/// What comes of one byte.
-#[derive(Drop)]
-pub enum Turn {
-    /// The pass behind it, and how many bytes more are of a token already.
-    On(Pass, usize),
-    /// No token stands there.
-    Bad,
-}
-
-/// One byte.
-#[tactic(auto, using(crate::proofs::Turns::turn_inside, crate::proofs::Turns::turn_found))]
-fn one_byte(
-    alloc: Global,
-    pass: Pass,
-    inside: usize,
-    bytes: &[u8],
-    at: usize,
-) -> Result<Turn, NoMemory>
-    requires { at < length bytes.now }
-    ensures { IfOk result (λ t. Turned t at (drop (at + 1) bytes.now) (pass_from at inside (pass_of pass) (drop at bytes.now))) }
-{
-    if inside > 0 {
-        return Ok(Turn::On(pass, inside - 1));
-    }
-    match found_at(bytes, at) {
-        Found::Blank => Ok(Turn::On(pass, 0)),
-        Found::Nothing => Ok(Turn::Bad),
-        Found::Token(token, more) => Ok(Turn::On(taking(alloc, pass, at, token)?, more)),
-    }
-}
-
 /// One pass over the bytes.
-#[tactic(auto, using(crate::proofs::Turns::pass_end))]
+#[tactic(auto, using(crate::proofs::Turns::turn_inside, crate::proofs::Turns::turn_blank, crate::proofs::Turns::turn_nothing, crate::proofs::Turns::turn_token, crate::proofs::Turns::pass_end))]
 fn run_over(alloc: Global, bytes: &[u8]) -> Result<Outcome, NoMemory>
     ensures { IfOk result (λ o. outcome_of o ≡ pass_from 0 0 new_pass bytes.now) }
 {
     let mut pass = Pass::new();
     let mut inside = 0;
     for at in 0..bytes.len() {
-        match one_byte(alloc, pass, inside, bytes, at)? {
-            Turn::On(next, more) => {
-                pass = next;
-                inside = more;
+        if inside > 0 {
+            inside -= 1;
+        } else {
+            match found_at(bytes, at) {
+                Found::Blank => {}
+                Found::Nothing => return Ok(Outcome::BadToken(at)),
+                Found::Token(token, more) => {
+                    pass = taking(alloc, pass, at, token)?;
+                    inside = more;
+                }
             }
-            Turn::Bad => return Ok(Outcome::BadToken(at)),
         }
     }
     Ok(outcome_at(pass, bytes.len()))

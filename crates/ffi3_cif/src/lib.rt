@@ -11,7 +11,7 @@ ghost use Rattle.ffi3_cif.specs.Runs.{AreRunsOf, pieces_of};
 mod runs;
 
 use ffi3_place::{Abi, Place, Plan, Res};
-use ffi3_types::{FfiType, Fields, Sig, SigFault, check_sig};
+use ffi3_types::{FfiType, Fields, NoMemory, Sig, SigFault, check_sig};
 pub use runs::{Run, Runs};
 use runs::{AllRuns, all_runs};
 use std::alloc::Global;
@@ -56,6 +56,25 @@ impl<A: Abi> Model for Cif<A> {
 }
 
 impl<A: Abi> Cif<A> {
+    /// Prepares calls by a signature that has no fault.
+    pub fn prepare(alloc: Global, sig: Sig) -> Result<Cif<A>, NoMemory>
+        requires { SignatureHasNoFault sig }
+        ensures { IfOk result (λ c. c ≡ sig) }
+    {
+        let Ok(plan) = A::plan(alloc, &sig) else {
+            return Err(NoMemory);
+        };
+        let Ok(runs) = all_runs(alloc, &plan.places) else {
+            return Err(NoMemory);
+        };
+        Ok(Cif {
+            sig,
+            plan,
+            runs,
+            standard: PhantomData,
+        })
+    }
+
     /// The signature.
     pub fn sig(&self) -> &Sig
         ensures value { result.now ≡ self.now }
@@ -117,7 +136,7 @@ impl<A: Abi> Cif<A> {
 }
 
 /// Memory is looked for only where the signature has no fault.
-fn prepare<A: Abi>(alloc: Global, sig: Sig) -> Result<Cif<A>, PrepFault>
+fn checked<A: Abi>(alloc: Global, sig: Sig) -> Result<Cif<A>, PrepFault>
     ensures ok { IfOk result (λ c. c ≡ sig) }
     ensures faultless { IfOk result (λ c. SignatureHasNoFault c) }
     ensures err { IfErr result (λ f. IsPrepRefusal sig f) }
@@ -125,18 +144,10 @@ fn prepare<A: Abi>(alloc: Global, sig: Sig) -> Result<Cif<A>, PrepFault>
     if let Err(fault) = check_sig(&sig) {
         return Err(PrepFault::Sig(fault));
     }
-    let Ok(plan) = A::plan(alloc, &sig) else {
-        return Err(PrepFault::NoMemory);
-    };
-    let Ok(runs) = all_runs(alloc, &plan.places) else {
-        return Err(PrepFault::NoMemory);
-    };
-    Ok(Cif {
-        sig,
-        plan,
-        runs,
-        standard: PhantomData,
-    })
+    match Cif::prepare(alloc, sig) {
+        Ok(cif) => Ok(cif),
+        Err(_) => Err(PrepFault::NoMemory),
+    }
 }
 
 /// Prepares calls of a function of a fixed number of arguments. Refused, it drops both parts. (libffi's `ffi_prep_cif`)
@@ -145,7 +156,7 @@ pub fn prep_cif<A: Abi>(alloc: Global, ret: FfiType, args: Fields) -> Result<Cif
     ensures faultless { IfOk result (λ c. SignatureHasNoFault c) }
     ensures err { IfErr result (λ f. IsPrepRefusal (record { result_type = tree_of ret; arguments = args; fixed = None }) f) }
 {
-    prepare::<A>(alloc, Sig::new(ret, args, None))
+    checked::<A>(alloc, Sig::new(ret, args, None))
 }
 
 /// Prepares calls of a function whose first `fixed` arguments are fixed, and the others variadic. Refused, it drops both parts. (libffi's `ffi_prep_cif_var`)
@@ -159,5 +170,5 @@ pub fn prep_cif_var<A: Abi>(
     ensures faultless { IfOk result (λ c. SignatureHasNoFault c) }
     ensures err { IfErr result (λ f. IsPrepRefusal (record { result_type = tree_of ret; arguments = args; fixed = Some fixed }) f) }
 {
-    prepare::<A>(alloc, Sig::new(ret, args, Some(fixed)))
+    checked::<A>(alloc, Sig::new(ret, args, Some(fixed)))
 }

@@ -13,7 +13,7 @@ use Rattle.ffi3_type_rules.specs.declared.limits.TheConstants.{CODE}
 use Rattle.ffi3_machine.specs.State.{State, free_slot, begun_code, with_code}
 use Rattle.ffi3_run_rules.specs.declared.Closure.{Closure}
 use Rattle.ffi3_run_rules.specs.Closures.{Closures, with_closure, no_closures}
-use Rattle.ffi3_closures.proofs.Written.{length-written, range-written, above-written, below-written}
+use Rattle.ffi3_machine.proofs.Written.{length-written, range-written, above-written, below-written}
 use Rattle.ffi3_closures.specs.Slots.{trampoline, slot_head, slot_tail, slot_content, live_slot, HoldsMap}
 
 pub length-free_slot : (isa : Isa) → length (free_slot isa) ≡ 64

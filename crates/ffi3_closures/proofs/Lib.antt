@@ -1,5 +1,4 @@
 pub mod Bytes
-pub mod Written
 pub mod Holding
 pub mod Trampolines
 pub mod Live

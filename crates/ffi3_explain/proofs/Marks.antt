@@ -16,7 +16,7 @@ use Rattle.ffi3_place_rules.proofs.Tests.{and_left, and_right}
 use Rattle.ffi3_explain_rules.specs.declared.Part.TheVariants.{Arg}
 use Rattle.ffi3_explain_rules.specs.declared.Check.{Check}
 use Rattle.ffi3_explain_rules.specs.Explain.{check_of_piece, eight, extended, first_byte, first_bytes, value_in_pieces, in_leaf, wanted_byte, wanted_word}
-use Rattle.ffi3_explain_rules.proofs.Reading.{LeavesRead, leaves_read}
+use Rattle.ffi3_place_rules.proofs.Reading.{LeavesRead, leaves_read}
 use Rattle.ffi3_explain_rules.proofs.Pieces.{first_bytes-index, is_le, is_lt, or_cases}
 use Rattle.ffi3_explain_rules.proofs.Words.{index_eight, same_eight}
 use Rattle.ffi3_explain.specs.Places.{AreMarks, IsWithin, marked_byte}

@@ -1,5 +1,5 @@
 // The arguments by the standard alone.
-ghost use Rattle.std.specs.Prelude.{◌≡◌, ◌<◌, ◌≤◌, ℕ, List, length, true, IfErr, IfOk, None};
+ghost use Rattle.std.specs.Prelude.{◌≡◌, ◌<◌, ◌≤◌, List, length, true, IfErr, IfOk, None};
 ghost use Rattle.ffi3_type_rules.specs.Tree.{trees_of};
 ghost use Rattle.ffi3_type_rules.specs.Layout.{size_of};
 ghost use Rattle.ffi3_type_rules.specs.Fault.{IsLaidOut};

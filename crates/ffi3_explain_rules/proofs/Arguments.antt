@@ -1,7 +1,8 @@
 -- The laws of the arguments that are read by the standard alone.
-use Rattle.std.specs.Prelude.{◌-◌, nat_le, cond, Option, Some, None}
-use Rattle.std.proofs.Common.{◌≡◌, ℕ, suc, ◌+◌, ◌<◌, ◌≤◌, Bool, true, false, List, [], ◌∷◌, ◌++◌, length, take, drop, refl, ap, ◌∙◌, subst, arith, length-take, length-drop}
+use Rattle.std.specs.Prelude.{◌-◌, ◌&&◌, nat_le, cond, slice_get, Option, Some, None}
+use Rattle.std.proofs.Common.{◌≡◌, ℕ, zero, suc, ◌+◌, ◌<◌, ◌≤◌, Bool, true, false, List, [], ◌∷◌, ◌++◌, get_or, length, take, drop, refl, ap, sym, ◌∙◌, subst, arith, length-take, length-drop}
 use Rattle.std.specs.List.{AllByRecursion, flat_map}
+use Rattle.std.specs.Int.{w64, to_le_bytes}
 use Rattle.std.proofs.lemmas.Bool.Decides.{nat_tests}
 use Rattle.ffi3_type_rules.specs.declared.Isa.{Isa}
 use Rattle.ffi3_type_rules.specs.Isa.{isa_of}
@@ -13,19 +14,21 @@ use Rattle.ffi3_type_rules.specs.Value.{ValueTree, value_in, values_of, fits, al
 use Rattle.ffi3_type_rules.proofs.Right.{argument_is_right, argument_is_laid_out}
 use Rattle.ffi3_place_rules.specs.declared.Loc.{Loc}
 use Rattle.ffi3_place_rules.specs.declared.Loc.TheVariants.{G, F, S}
+use Rattle.ffi3_place_rules.specs.declared.Piece.{Piece}
 use Rattle.ffi3_place_rules.specs.declared.Place.{Place}
 use Rattle.ffi3_place_rules.specs.declared.Place.TheVariants.{Direct, ByRef}
-use Rattle.ffi3_place_rules.specs.Image.{Image, word_at}
+use Rattle.ffi3_place_rules.specs.Isa.{listed}
+use Rattle.ffi3_place_rules.specs.Image.{Image, byte_at, word_at, register}
 use Rattle.ffi3_place_rules.specs.Standard.{Standard, frame_of, plan_of}
-use Rattle.ffi3_place_rules.specs.Sound.{IsSound, LiesIn, PlaceHasAll, PlacesHaveAll, place_locs, argument_locs, hidden_locs, copy_locs, buffer_locs, stack_words_for}
-use Rattle.ffi3_place_rules.specs.Holds.{Own, OwnsArgument, OwnsArguments}
+use Rattle.ffi3_place_rules.specs.Sound.{IsNoneOf, IsSound, LiesIn, PlaceHasAll, PlacesHaveAll, piece_locs, place_locs, argument_locs, hidden_locs, copy_locs, buffer_locs, stack_words_for, closed_to_arguments, closed_to_results, Apart}
+use Rattle.ffi3_place_rules.specs.Holds.{Own, OwnsArgument, OwnsArguments, SameIn}
 use Rattle.ffi3_place_rules.proofs.Tests.{and_left, and_right}
 use Rattle.ffi3_explain_rules.specs.declared.Outside.{Outside}
-use Rattle.ffi3_explain_rules.specs.Explain.{explained, holds_values, first_bytes}
+use Rattle.ffi3_explain_rules.specs.Explain.{carries, explained, holds_values, first_byte, first_bytes}
 use Rattle.ffi3_explain_rules.specs.Laws.{HasWords}
 use Rattle.ffi3_explain_rules.specs.Arguments.{is_in_image, value_at_address, value_by_standard, values_by_standard, outside_of, or_later, first_outside, are_values, arguments_by, held_by_standard, stack_end, least_stack, ArgumentLaws, AreRead}
 use Rattle.ffi3_explain_rules.proofs.Copies.{bytes_of_right, copy_fits}
-use Rattle.ffi3_explain_rules.proofs.Fitting.{both, value_fits}
+use Rattle.ffi3_type_rules.proofs.Fitting.{both, value_fits}
 use Rattle.ffi3_explain_rules.proofs.Pieces.{first_bytes-length, stood_is_read}
 use Rattle.ffi3_explain_rules.proofs.Places.{join, left_part, right_part}
 use Rattle.ffi3_explain_rules.proofs.Laws.{is_explained}
@@ -119,6 +122,85 @@ arguments_fit m base i (t ∷ ts) (p ∷ ps) right have none =
     let each = both_none (outside_of m base i t p) (first_outside m base (suc i) ts ps) none in
     both _ _ (argument_fits m base i t p (right 0 (omega arith)) each.0) (arguments_fit m base (suc i) ts ps (λ k h. right (suc k) (omega (arith, h))) have.1 each.1)
 
+-- ---- what a place points to
+
+module _ (m : Image) (base : ℕ) where
+  followed_here : (i : ℕ) (u t : Tree) (p : Place) (at : Loc) (copy : ℕ) → u ≡ t → p ≡ ByRef at copy → outside_of m base i u p ≡ None → (is_in_image m (word_at m base at) (size_of t) ≡ true) × (value_by_standard m base u p ≡ value_at_address m (word_at m base at) t)
+  followed_here i u t p at copy type_is place_is none =
+      let none_there : outside_of m base i t (ByRef at copy) ≡ None = (λ j. outside_of m base i (sym type_is j) (sym place_is j)) ∙ none in
+      (inside (is_in_image m (word_at m base at) (size_of t)) (record { argument = i; address = word_at m base at }) none_there, λ j. value_by_standard m base (type_is j) (place_is j))
+
+  followed_at : (i : ℕ) (ts : List Tree) (ps : List Place) → first_outside m base i ts ps ≡ None → (k : ℕ) (t : Tree) (at : Loc) (copy : ℕ) → slice_get ts k ≡ Some t → slice_get ps k ≡ Some (ByRef at copy) → (is_in_image m (word_at m base at) (size_of t) ≡ true) × (slice_get (values_by_standard m base ts ps) k ≡ Some (value_at_address m (word_at m base at) t))
+  followed_at i [] ps none k t at copy type_is place_is = cc
+  followed_at i (u ∷ ts) [] none k t at copy type_is place_is = cc
+  followed_at i (u ∷ ts) (p ∷ ps) none zero t at copy type_is place_is =
+      let each = both_none (outside_of m base i u p) (first_outside m base (suc i) ts ps) none in
+      let same_type : u ≡ t = cc in
+      let same_place : p ≡ ByRef at copy = cc in
+      let here = followed_here i u t p at copy same_type same_place each.0 in
+      (here.0, ap Some here.1)
+  followed_at i (u ∷ ts) (p ∷ ps) none (suc k) t at copy type_is place_is =
+      let each = both_none (outside_of m base i u p) (first_outside m base (suc i) ts ps) none in
+      followed_at (suc i) ts ps each.1 k t at copy type_is place_is
+
+-- ---- images that are the same where arguments stand
+
+module _ (n m : Image) (base : ℕ) (sp : n.sp ≡ m.sp) (stack : n.stack ≡ m.stack) where
+  same_byte : (at : Loc) (k : ℕ) → register n at ≡ register m at → byte_at n base at k ≡ byte_at m base at k
+  same_byte (G r) k e = ap (λ w. get_or (to_le_bytes w64 w) k 0) e
+  same_byte (F r) k e = ap (λ w. get_or (to_le_bytes w64 w) k 0) e
+  same_byte (S i) k e = ap (λ bytes. get_or bytes (base + i + k) 0) stack
+
+  same_word : (at : Loc) → register n at ≡ register m at → word_at n base at ≡ word_at m base at
+  same_word (G r) e = e
+  same_word (F r) e = e
+  same_word (S i) e = ap (λ bytes. word_at (record { general = []; floating = []; sp = 0; stack = bytes }) base (S i)) stack
+
+  same_first_byte : (ps : List Piece) (o : ℕ) → SameIn (piece_locs ps) n m → first_byte n base ps o ≡ first_byte m base ps o
+  same_first_byte [] o h = refl
+  same_first_byte (p ∷ ps) o h =
+      let here = same_byte p.loc (o - p.off) h.0 in
+      let later = same_first_byte ps o h.1 in
+      λ j. cond (carries o p) (here j) (later j)
+
+  same_first_bytes : (ps : List Piece) (o k : ℕ) → SameIn (piece_locs ps) n m → first_bytes n base ps o k ≡ first_bytes m base ps o k
+  same_first_bytes ps o zero h = refl
+  same_first_bytes ps o (suc k) h =
+      let here = same_first_byte ps o h in
+      let later = same_first_bytes ps (suc o) k h in
+      λ j. here j ∷ later j
+
+  same_value : (t : Tree) (p : Place) → SameIn (place_locs p) n m → value_by_standard n base t p ≡ value_by_standard m base t p
+  same_value t (Direct ps) h = ap (value_in t) (same_first_bytes ps 0 (size_of t) h)
+  same_value t (ByRef at copy) h =
+      let word = same_word at h.0 in
+      λ j. value_in t (take (size_of t) (drop (word j - sp j) (stack j)))
+
+  same_outside : (i : ℕ) (t : Tree) (p : Place) → SameIn (place_locs p) n m → outside_of n base i t p ≡ outside_of m base i t p
+  same_outside i t (Direct ps) h = refl
+  same_outside i t (ByRef at copy) h =
+      let word = same_word at h.0 in
+      λ j. cond (nat_le (sp j) (word j) && nat_le (word j + size_of t) (sp j + length (stack j))) None (Some (record { argument = i; address = word j }))
+
+  same_read : (i : ℕ) (ts : List Tree) (ps : List Place) → SameIn (flat_map place_locs ps) n m → (values_by_standard n base ts ps ≡ values_by_standard m base ts ps) × (first_outside n base i ts ps ≡ first_outside m base i ts ps)
+  same_read i [] [] h = (refl, refl)
+  same_read i [] (p ∷ ps) h = (refl, refl)
+  same_read i (t ∷ ts) [] h = (refl, refl)
+  same_read i (t ∷ ts) (p ∷ ps) h =
+      let first = left_part (λ at. register n at ≡ register m at) (place_locs p) (flat_map place_locs ps) h in
+      let value = same_value t p first in
+      let out = same_outside i t p first in
+      let later = same_read (suc i) ts ps (right_part (λ at. register n at ≡ register m at) (place_locs p) (flat_map place_locs ps) h) in
+      let values : value_by_standard n base t p ∷ values_by_standard n base ts ps ≡ value_by_standard m base t p ∷ values_by_standard m base ts ps = λ j. value j ∷ later.0 j in
+      (values, λ j. or_later (out j) (later.1 j))
+
+-- registers that the count's is none of
+same_beside : (std : Standard) (n m : Image) → ((at : Loc) → IsNoneOf (listed std.vector_count) at → register n at ≡ register m at) → (ls : List Loc) → AllByRecursion (IsNoneOf (closed_to_arguments std)) ls → SameIn ls n m
+same_beside std n m same [] none = tt
+same_beside std n m same (at ∷ ls) none =
+    let beside = right_part (Apart at) std.trampoline_registers (listed std.vector_count) (right_part (Apart at) (closed_to_results std) (std.trampoline_registers ++ listed std.vector_count) none.0) in
+    (same at beside, same_beside std n m same ls none.1)
+
 -- what an image owns fits
 owned_fits : (m : Image) (base : ℕ) (t : Tree) (p : Place) (v : ValueTree) → OwnsArgument m base t p v → fits t v ≡ true
 owned_fits m base t (Direct ps) v own = own.0
@@ -175,14 +257,34 @@ module _ (std : Standard) (s : Signature) (m : Image) (right : SignatureHasNoFau
       let holds = ((is_explained std s m right sound has reaches).values vs).1 is in
       owned_read vs holds.own
 
-  values_fit : (vs : List ValueTree) → held_by_standard std s m ≡ are_values vs → all_fit (trees_of s.arguments) (values_of vs) ≡ true
-  values_fit vs is =
-      let by_case : (o : Option Outside) → first ≡ o → arguments_by read o ≡ are_values vs → all_fit (trees_of s.arguments) (values_of vs) ≡ true = λ o. elim o as (λ x. first ≡ x → arguments_by read x ≡ are_values vs → all_fit (trees_of s.arguments) (values_of vs) ≡ true) [
-        | None ↦ λ none same. let values : read ≡ vs = cc in
-            subst (λ ws. all_fit (trees_of s.arguments) (values_of ws) ≡ true) values (arguments_fit m std.link 0 s.arguments (plan_of std s).places (argument_is_laid_out s right) sound.has_all none)
+  are_read_whole : (vs : List ValueTree) → held_by_standard std s m ≡ are_values vs → (read ≡ vs) × (first ≡ None)
+  are_read_whole vs is =
+      let by_case : (o : Option Outside) → first ≡ o → arguments_by read o ≡ are_values vs → (read ≡ vs) × (first ≡ None) = λ o. elim o as (λ x. first ≡ x → arguments_by read x ≡ are_values vs → (read ≡ vs) × (first ≡ None)) [
+        | None ↦ λ none same. let values : read ≡ vs = cc in (values, none)
         | Some x ↦ λ e same. cc
       ] in
       by_case first refl is
+
+  values_fit : (vs : List ValueTree) → held_by_standard std s m ≡ are_values vs → all_fit (trees_of s.arguments) (values_of vs) ≡ true
+  values_fit vs is =
+      let read_whole = are_read_whole vs is in
+      subst (λ ws. all_fit (trees_of s.arguments) (values_of ws) ≡ true) read_whole.0 (arguments_fit m std.link 0 s.arguments (plan_of std s).places (argument_is_laid_out s right) sound.has_all read_whole.1)
+
+  followed : (vs : List ValueTree) → held_by_standard std s m ≡ are_values vs → (k : ℕ) (t : Tree) (at : Loc) (copy : ℕ) → slice_get s.arguments k ≡ Some t → slice_get (plan_of std s).places k ≡ Some (ByRef at copy) → (is_in_image m (word_at m std.link at) (size_of t) ≡ true) × (slice_get vs k ≡ Some (value_at_address m (word_at m std.link at) t))
+  followed vs is k t at copy type_is place_is =
+      let read_whole = are_read_whole vs is in
+      let there = followed_at m std.link 0 s.arguments (plan_of std s).places read_whole.1 k t at copy type_is place_is in
+      (there.0, ap (λ ws. slice_get ws k) (sym read_whole.0) ∙ there.1)
+
+  read_the_same : (n : Image) → n.sp ≡ m.sp → n.stack ≡ m.stack → SameIn (flat_map place_locs (plan_of std s).places) n m → held_by_standard std s n ≡ held_by_standard std s m
+  read_the_same n sp stack same =
+      let both_same = same_read n m std.link sp stack 0 s.arguments (plan_of std s).places same in
+      λ j. arguments_by (both_same.0 j) (both_same.1 j)
+
+  uncounted : (n : Image) → n.sp ≡ m.sp → n.stack ≡ m.stack → ((at : Loc) → IsNoneOf (listed std.vector_count) at → register n at ≡ register m at) → held_by_standard std s n ≡ held_by_standard std s m
+  uncounted n sp stack same =
+      let closed = right_part (IsNoneOf (closed_to_arguments std)) (hidden_locs (plan_of std s).res) (flat_map place_locs (plan_of std s).places) sound.allowed in
+      read_the_same n sp stack (same_beside std n m same (flat_map place_locs (plan_of std s).places) closed)
 
   places_lie : AllByRecursion Lies (flat_map place_locs (plan_of std s).places)
   places_lie =
@@ -199,6 +301,9 @@ module _ (std : Standard) (s : Signature) (m : Image) (right : SignatureHasNoFau
     by_explanation = explained_read;
     fit = values_fit;
     outside = λ o is vs own. let other = owned_read vs own in cc;
+    followed = followed;
+    others = read_the_same;
+    uncounted = uncounted;
     least = least_is_less;
   }
 

@@ -1,7 +1,5 @@
-pub mod Reading
 pub mod Words
 pub mod Pieces
-pub mod Fitting
 pub mod Copies
 pub mod Places
 pub mod Laws

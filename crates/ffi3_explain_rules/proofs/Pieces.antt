@@ -18,7 +18,7 @@ use Rattle.ffi3_place_rules.proofs.Covered.{EndsIn, leaves_end}
 use Rattle.ffi3_place_rules.proofs.Tests.{and_left, and_right, each_at}
 use Rattle.ffi3_explain_rules.specs.Explain.{carries, first_byte, first_bytes, value_in_pieces, in_leaf, wanted_byte, wanted_word, wanted, extended}
 use Rattle.ffi3_explain_rules.specs.Laws.{HasWords}
-use Rattle.ffi3_explain_rules.proofs.Reading.{LeavesRead, leaves_read, reads}
+use Rattle.ffi3_place_rules.proofs.Reading.{LeavesRead, leaves_read, reads}
 use Rattle.ffi3_explain_rules.proofs.Words.{index_eight, same_eight, bytes_of_eight, byte_small, word_of_bytes, byte_of_word, low_half, boxed_half, fills, extends}
 
 -- ---- tests that compute

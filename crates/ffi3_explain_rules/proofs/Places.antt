@@ -15,7 +15,7 @@ use Rattle.ffi3_place_rules.specs.Holds.{OwnsArgument, OwnsArguments, FillsArgum
 use Rattle.ffi3_place_rules.specs.Sound.{PlaceHasAll, PlacesHaveAll, LiesIn, stack_words, stack_words_for, copy_locs}
 use Rattle.ffi3_explain_rules.specs.Explain.{checks_of_pieces, checks_of_place, checks_of_arguments, value_at_place, values_at_places, first_bytes}
 use Rattle.ffi3_explain_rules.specs.Laws.{HasWords, IsHeld}
-use Rattle.ffi3_explain_rules.proofs.Fitting.{value_fits}
+use Rattle.ffi3_type_rules.proofs.Fitting.{value_fits}
 use Rattle.ffi3_explain_rules.proofs.Pieces.{IsAsWanted, first_bytes-length, read_stands, read_fills, stood_is_read, stood_is_wanted}
 
 -- ---- lists

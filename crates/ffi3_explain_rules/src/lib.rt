@@ -55,8 +55,9 @@ pub fn entry_laws()
 {}
 
 /// Does nothing. Its contract says of every sound standard: an image that owns values, or is explained by values, has these by
-/// the standard alone; what is read by it fits the arguments' types; and where an address points outside the image, the
-/// image owns no values.
+/// the standard alone; what is read by it fits the arguments' types; an argument by reference is the value to which its place
+/// points; no other register is looked at, so the number of vector registers is not asked; and where an address points outside
+/// the image, the image owns no values.
 pub fn argument_laws()
     ensures { (std : Standard) (s : Signature) (m : Image) → AreRead std s m }
 {}

@@ -1,4 +1,6 @@
 pub mod Tellings
 pub mod Texts
 pub mod Words
-pub mod Objects
+pub mod ArgumentLines
+pub mod Answering
+pub mod Rooms

@@ -1,16 +1,16 @@
 -- What stands under a key, targets, and places as text.
-use Rattle.std.proofs.Common.{◌≡◌, ◌≢◌, ℕ, ◌+◌, ◌<◌, List, ◌++◌, length, drop, true, false, Bool, bytes_eq, cond, codes, refl, sym, ap, ◌∙◌, append_assoc, get_or, Option, Some, None}
+use Rattle.std.proofs.Common.{◌≡◌, ◌≢◌, ℕ, ◌+◌, ◌<◌, List, ◌++◌, length, drop, true, false, Bool, bytes_eq, cond, codes, refl, sym, ap, ◌∙◌, append_assoc, get_or, Some, None}
 use Rattle.std.specs.Prelude.{slice_get, unwrap_or}
 use Rattle.std.proofs.lemmas.List.{drop_more}
 use Rattle.std.proofs.lemmas.Option.{get_or_from_slice_get}
 use Rattle.std.proofs.lemmas.Slice.Eq.{bytes_eq-Decides}
-use Rattle.serde_json.specs.Data.{Data, Items, null}
-use Rattle.serde_json.specs.Find.{get, as_str, as_array}
+use Rattle.serde_json.specs.Data.{Data, null}
+use Rattle.serde_json.specs.Find.{get}
 use Rattle.ffi3_type_rules.specs.declared.Target.TheVariants.{Amd64, Aapcs64, Riscv, Win64}
 use Rattle.ffi3_script_rules.specs.Step.{PathStep}
 use Rattle.ffi3_script_rules.specs.Language.{JsonPath, value_under}
 use Rattle.ffi3_script_rules.specs.ReasonText.{text_of_step, text_of_steps}
-use Rattle.ffi3_image_rules.specs.Object.{target_named, text_under, items_under}
+use Rattle.ffi3_image_rules.specs.Object.{target_named}
 
 -- ---- what stands under a key
 

@@ -1,3 +1,4 @@
 pub mod FaultOf
 pub mod Tells
 pub mod SnapshotOf
+pub mod AnswerOf

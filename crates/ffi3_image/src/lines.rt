@@ -1,22 +1,23 @@
 // Lines that tell what an image holds, and why an input is refused.
 ghost use Rattle.std.specs.Prelude.{◌≡◌, ◌++◌, true, IfOk, OnOk};
-ghost use Rattle.ffi3_type_rules.specs.Value.{fits};
+ghost use Rattle.ffi3_type_rules.specs.Tree.{trees_of};
+ghost use Rattle.ffi3_type_rules.specs.Value.{all_fit, fits, values_of};
 ghost use Rattle.ffi3_run_rules.specs.Lines.{address_text, word_text};
 ghost use Rattle.ffi3_script_rules.specs.ReasonText.{text_of_path, text_of_step};
 ghost use Rattle.ffi3_types.specs.TreeOf.{tree_of};
 ghost use Rattle.ffi3_values.specs.ValueOf.{value_of};
 ghost use Rattle.ffi3_json.specs.StepOf.{step_of};
-ghost use Rattle.ffi3_image_rules.specs.Lines.{argument_line, hidden_line, broken_line, outside_line, fault_line, part_text, text_of_reason};
+ghost use Rattle.ffi3_image_rules.specs.Lines.{argument_line, arguments_text, hidden_line, hidden_lines, broken_line, outside_line, fault_line, too_long_line, not_json_line, part_text, text_of_reason};
 ghost use Rattle.ffi3_image_rules.specs.Object as object;
 ghost use Rattle.ffi3_image.specs.FaultOf.{reason_of};
 
 use crate::ImageReason;
-use crate::names::write_loc;
 use ffi3_explain::{Check, Outside, Part};
 use ffi3_json::{Step, Where, reason_text};
+use ffi3_text::write_loc;
 use ffi3_type_rules::Isa;
-use ffi3_types::{Bytes, FfiType, NoMemory};
-use ffi3_values::{Value, value_text};
+use ffi3_types::{Bytes, FfiType, NoMemory, Sig};
+use ffi3_values::{Value, Values, value_text};
 use std::alloc::Global;
 
 /// The line of argument `i`.
@@ -30,6 +31,32 @@ pub fn argument_line(alloc: Global, i: u32, ty: &FfiType, value: &Value) -> Resu
     Ok(line)
 }
 
+/// The lines of all arguments.
+pub fn arguments_text(alloc: Global, sig: &Sig, values: &Values) -> Result<Bytes, NoMemory>
+    requires { all_fit (trees_of sig.now.arguments) (values_of values.now) ≡ true }
+    ensures { IfOk result (λ text. text ≡ arguments_text sig.now values.now) }
+{
+    let mut text = Bytes::new(alloc);
+    for i in 0..sig.count() {
+        write_argument(alloc, i, sig.arg(i), values.get(i as usize), &mut text)?;
+    }
+    Ok(text)
+}
+
+// The line of argument `i` at the end of a text.
+fn write_argument(
+    alloc: Global,
+    i: u32,
+    ty: &FfiType,
+    value: &Value,
+    text: &mut Bytes,
+) -> Result<(), NoMemory>
+    requires { fits (tree_of ty.now) (value_of value.now) ≡ true }
+    ensures { OnOk result (text.new ≡ text.old ++ argument_line i (tree_of ty.now) (value_of value.now)) }
+{
+    text.extend(argument_line(alloc, i, ty, value)?.as_slice())
+}
+
 /// The line of a hidden result's address.
 pub fn hidden_line(alloc: Global, address: u64) -> Result<Bytes, NoMemory>
     ensures { IfOk result (λ line. line ≡ hidden_line address) }
@@ -38,6 +65,16 @@ pub fn hidden_line(alloc: Global, address: u64) -> Result<Bytes, NoMemory>
     write_address(alloc, address, &mut line)?;
     line.push(b'\n')?;
     Ok(line)
+}
+
+/// The same where there is a hidden result, and otherwise nothing.
+pub fn hidden_lines(alloc: Global, address: Option<u64>) -> Result<Bytes, NoMemory>
+    ensures { IfOk result (λ text. text ≡ hidden_lines address) }
+{
+    match address {
+        Some(address) => hidden_line(alloc, address),
+        None => Ok(Bytes::new(alloc)),
+    }
 }
 
 /// The line of a place that does not hold what is wanted.
@@ -67,6 +104,20 @@ pub fn outside_line(alloc: Global, outside: &Outside) -> Result<Bytes, NoMemory>
     line.extend(" is not in the image".as_bytes())?;
     line.push(b'\n')?;
     Ok(line)
+}
+
+/// The line of an input of too many bytes.
+pub fn too_long_line(alloc: Global) -> Result<Bytes, NoMemory>
+    ensures { IfOk result (λ line. line ≡ too_long_line) }
+{
+    Bytes::from_slice(alloc, "ffi3: input too long\n".as_bytes())
+}
+
+/// The line of an input that is no JSON.
+pub fn not_json_line(alloc: Global) -> Result<Bytes, NoMemory>
+    ensures { IfOk result (λ line. line ≡ not_json_line) }
+{
+    Bytes::from_slice(alloc, "ffi3: not JSON\n".as_bytes())
 }
 
 /// The line of a fault of reading.

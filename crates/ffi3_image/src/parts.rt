@@ -1,5 +1,5 @@
 // The parts of the object: the target, numbers, registers and bytes.
-ghost use Rattle.std.specs.Prelude.{◌≡◌, ◌<◌, ◌^◌, IfOk, IfErr, option_map};
+ghost use Rattle.std.specs.Prelude.{◌≡◌, IfOk, IfErr, option_map};
 ghost use Rattle.ffi3_image_rules.specs.Object as object;
 ghost use Rattle.ffi3_image_rules.specs.Object.{read};
 ghost use Rattle.ffi3_image.specs.Tells.{Tells};

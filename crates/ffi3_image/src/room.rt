@@ -1,10 +1,12 @@
 // How much of the stack an image has to have, and where a hidden result stands.
 ghost use Rattle.std.specs.Prelude.{◌≡◌, ◌+◌, ◌^◌, ◌<◌, ◌≤◌, length, IfOk, IfErr};
 ghost use Rattle.ffi3_place_rules.specs.Standard.{frame_of, plan_of};
+ghost use Rattle.ffi3_explain_rules.specs.Arguments.{least_stack};
 ghost use Rattle.ffi3_explain.specs.ImageOf.{image_of};
+ghost use Rattle.ffi3_image_rules.specs.declared.Question.TheVariants.{Explained, ByStandard};
 ghost use Rattle.ffi3_image_rules.specs.Object as object;
 ghost use Rattle.ffi3_image_rules.specs.Object.{read};
-ghost use Rattle.ffi3_image_rules.specs.Room.{check_room, check_room_for, explained, by_standard, whole_call};
+ghost use Rattle.ffi3_image_rules.specs.Room.{check_room, check_room_for, whole_call};
 ghost use Rattle.ffi3_image_rules.specs.Lines.{buffer_of};
 ghost use Rattle.ffi3_image.specs.Tells.{Tells};
 
@@ -20,6 +22,8 @@ use std::alloc::Global;
 fn check_room(alloc: Global, image: &Image, reach: u64, least: u64) -> Result<(), ImageFault>
     ensures ok { IfOk result (λ u. check_room reach least (image_of image.now) ≡ read tt) }
     ensures err { IfErr result (Tells (λ p r. check_room reach least (image_of image.now) ≡ object.fault p r)) }
+    ensures below { IfOk result (λ u. image.now.sp + reach < 2 ^ 64) }
+    ensures enough { IfOk result (λ u. least ≤ length image.now.stack) }
 {
     let start = Where::new(alloc);
     let root = Way::from(&start);
@@ -52,8 +56,10 @@ pub fn room_for_explain<A: Abi>(
     image: &Image,
     cif: &Cif<A>,
 ) -> Result<(), ImageFault>
-    ensures ok { IfOk result (λ u. check_room_for explained A.standard cif.now (image_of image.now) ≡ read tt) }
-    ensures err { IfErr result (Tells (λ p r. check_room_for explained A.standard cif.now (image_of image.now) ≡ object.fault p r)) }
+    ensures ok { IfOk result (λ u. check_room_for Explained A.standard cif.now (image_of image.now) ≡ read tt) }
+    ensures err { IfErr result (Tells (λ p r. check_room_for Explained A.standard cif.now (image_of image.now) ≡ object.fault p r)) }
+    ensures below { IfOk result (λ u. image.now.sp + A.standard.link + frame_of A.standard cif.now < 2 ^ 64) }
+    ensures enough { IfOk result (λ u. A.standard.link + frame_of A.standard cif.now ≤ length image.now.stack) }
 {
     let whole = whole_call(cif);
     check_room(alloc, image, whole, whole)
@@ -65,8 +71,9 @@ pub fn room_for_arguments<A: Abi>(
     image: &Image,
     cif: &Cif<A>,
 ) -> Result<(), ImageFault>
-    ensures ok { IfOk result (λ u. check_room_for by_standard A.standard cif.now (image_of image.now) ≡ read tt) }
-    ensures err { IfErr result (Tells (λ p r. check_room_for by_standard A.standard cif.now (image_of image.now) ≡ object.fault p r)) }
+    ensures ok { IfOk result (λ u. check_room_for ByStandard A.standard cif.now (image_of image.now) ≡ read tt) }
+    ensures err { IfErr result (Tells (λ p r. check_room_for ByStandard A.standard cif.now (image_of image.now) ≡ object.fault p r)) }
+    ensures enough { IfOk result (λ u. least_stack A.standard cif.now ≤ length image.now.stack) }
 {
     check_room(alloc, image, whole_call(cif), least_stack(cif))
 }

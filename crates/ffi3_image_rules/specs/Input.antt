@@ -10,8 +10,9 @@ use Rattle.ffi3_riscv_rules.specs.Riscv.{riscv}
 use Rattle.ffi3_win64_rules.specs.Win64.{win64}
 use Rattle.ffi3_script_rules.specs.Language.{JsonPath}
 use Rattle.ffi3_script_rules.specs.Reading.{max_length, IsJson, IsNotJson}
+use Rattle.ffi3_image_rules.specs.declared.Question.{Question}
 use Rattle.ffi3_image_rules.specs.Object.{Read, Reason, Snapshot, read, fault, and_then, read_map, read_snapshot}
-use Rattle.ffi3_image_rules.specs.Room.{Question, check_room_for}
+use Rattle.ffi3_image_rules.specs.Room.{check_room_for}
 
 abbrev pub standard_of : Target → Standard
 standard_of Amd64 = amd64

@@ -5,6 +5,8 @@ use Rattle.ffi3_place_rules.specs.Image.{Image}
 use Rattle.ffi3_place_rules.specs.Standard.{Standard, frame_of}
 use Rattle.ffi3_script_rules.specs.Language.{under, out_of_range}
 use Rattle.ffi3_explain_rules.specs.Arguments.{least_stack}
+use Rattle.ffi3_image_rules.specs.declared.Question.{Question}
+use Rattle.ffi3_image_rules.specs.declared.Question.TheVariants.{Explained, ByStandard}
 use Rattle.ffi3_image_rules.specs.Object.{Read, read, fault, as_in_scripts, too_short, root}
 
 -- so many bytes from the stack pointer on end below 2^64, and at least so many are there
@@ -18,14 +20,10 @@ check_room reach least m =
 abbrev pub whole_call : Standard → Signature → ℕ
 whole_call std s = std.link + frame_of std s
 
--- What is asked of an image: that it be explained, which looks at the whole frame, or its arguments by the standard alone, which needs their places and no copies.
-pub data Question : Type 0 where
-  explained : Question
-  by_standard : Question
-
+-- what a question needs: the whole frame, or the places of the arguments
 abbrev pub least_for : Question → Standard → Signature → ℕ
-least_for explained std s = whole_call std s
-least_for by_standard std s = least_stack std s
+least_for Explained std s = whole_call std s
+least_for ByStandard std s = least_stack std s
 
 -- THE IMAGE HAS ROOM for the question
 abbrev pub check_room_for : Question → Standard → Signature → Image → Read ⊤

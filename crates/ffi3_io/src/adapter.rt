@@ -1,12 +1,13 @@
 //! Sources and sinks over std's readers and writers: the edge to the world outside.
-ghost use Rattle.std.specs.Prelude.{◌≡◌, ◌<◌, ◌≤◌, None, Some, take, length, IfOk, OnOk, OnErr};
+ghost use Rattle.std.specs.Prelude.{◌≡◌, ◌<◌, ◌≤◌, [], None, Some, take, length, IfOk, OnOk, OnErr};
+ghost use Rattle.std.specs.Io.Buffered.{writer_buffer, writer_contents};
 ghost use Rattle.ffi3_io.specs.Count.{next_count};
 ghost use Rattle.std.specs.Io.KnownBytes.{Appends, Consumes, IsAtEnd, Keeps};
 ghost use Rattle.ffi3_io.specs.Adapter.{ReaderGives};
 ghost use Rattle.ffi3_io.specs.Source.{Rose};
 
 use crate::{Failed, Sink, Source};
-use std::io::{Read, Write};
+use std::io::{BufWriter, Read, Write};
 use std::marker::Model;
 
 /// A source over a reader of std. It never tells what is left.
@@ -83,6 +84,28 @@ impl<W> WriteSink<W> {
         ensures faults { result.faults ≡ 0 }
     {
         WriteSink { inner, count: 0 }
+    }
+}
+
+impl<W: Write + Drop> WriteSink<BufWriter<W>> {
+    /// Has the buffer written out to the writer behind it. That this fails is a fault, as of a write.
+    ///
+    /// Nothing is held back where it does not fail. What was taken stays taken in either case.
+    pub fn flush(&mut self) -> Result<(), Failed>
+        ensures same { OnOk result (self.new.faults ≡ self.old.faults) }
+        ensures failed { OnErr result (Rose self.old.faults self.new.faults) }
+        ensures never_falls { self.old.faults ≤ self.new.faults }
+        ensures counted { OnErr result (self.new.faults ≡ next_count self.old.faults) }
+        ensures kept { Keeps (writer_contents W.contents self.old.inner) (writer_contents W.contents self.new.inner) }
+        ensures empty { OnOk result (writer_buffer self.new.inner ≡ []) }
+    {
+        match self.inner.flush() {
+            Ok(()) => Ok(()),
+            Err(_) => {
+                self.count = self.count.saturating_add(1);
+                Err(Failed)
+            }
+        }
     }
 }
 

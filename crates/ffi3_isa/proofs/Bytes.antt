@@ -1,5 +1,5 @@
 -- Bytes that begin with an instruction of amd64.
-use Rattle.std.proofs.Common.{◌≡◌, ℕ, ◌+◌, ◌*◌, ◌<◌, ◌≤◌, List, [], ◌∷◌, length, get_or, arith, ap, refl, ◌∙◌, ℤ, Option, Some, None, IfSome}
+use Rattle.std.proofs.Common.{◌≡◌, ℕ, ◌+◌, ◌*◌, ◌<◌, ◌≤◌, List, [], ◌∷◌, length, get_or, arith, ap, refl, sym, ◌∙◌, ℤ, Option, Some, None, IfSome}
 use Rattle.std.proofs.lemmas.Bool.Decides.{nat_tests}
 use Rattle.ffi3_isa.specs.declared.Instr.{Instr}
 use Rattle.ffi3_isa.specs.declared.Instr.TheVariants.{Endbr, Nop, Lea, JmpMem, Addi, CallMem, Ret}
@@ -132,6 +132,18 @@ names_sp bs i n h = rw (byte bs _ 0 h.is_bytes, byte bs _ 2 h.is_bytes) h.names
 
 pub means_sp : (bs : List ℕ) (i : Instr) (n : ℕ) → (h : IsMovAtSp bs i n) → mov (get_or bs 1 0) h.register 4 (disp32 (get_or bs 4 0) (get_or bs 5 0) (get_or bs 6 0) (get_or bs 7 0)) ≡ Some i
 means_sp bs i n h = ap (λ (l : List ℕ). mov (get_or l 1 0) h.register 4 (disp32 (get_or l 4 0) (get_or l 5 0) (get_or l 6 0) (get_or l 7 0))) h.is_bytes ∙ h.means
+
+-- where the register, what the opcode makes of it and the offset are said apart
+pub moves_at_sp : (bs : List ℕ) (i : Instr) (register : ℕ) (d : ℤ) → 8 ≤ length bs → get_or bs 3 0 ≡ 0x24 → IsAtSp (get_or bs 0 0) (get_or bs 2 0) register → Some i ≡ mov (get_or bs 1 0) register 4 d → d ≡ disp32 (get_or bs 4 0) (get_or bs 5 0) (get_or bs 6 0) (get_or bs 7 0) → IsMovAtSp bs i 8
+moves_at_sp bs i register d long sib names made offset =
+    is_mov_at_sp bs i register long sib names (sym (made ∙ ap (λ (z : ℤ). mov (get_or bs 1 0) register 4 z) offset))
+
+pub moves_only_at_sp : (bs : List ℕ) (i j : Instr) (n register : ℕ) (d : ℤ) → ((k : ℕ) → IsAtSp (get_or bs 0 0) (get_or bs 2 0) k → Some register ≡ Some k) → Some i ≡ mov (get_or bs 1 0) register 4 d → d ≡ disp32 (get_or bs 4 0) (get_or bs 5 0) (get_or bs 6 0) (get_or bs 7 0) → IsMovAtSp bs j n → ◌≡◌ {A = Option (Instr × ℕ)} (Some (i, 8)) (Some (j, n))
+moves_only_at_sp bs i j n register d named made offset h =
+    let e : Some register ≡ Some h.register = named h.register (names_sp bs j n h) in
+    let same : register ≡ h.register = cc in
+    let f : Some i ≡ Some j = made ∙ ap (λ (k : ℕ). mov (get_or bs 1 0) k 4 d) same ∙ ap (λ (z : ℤ). mov (get_or bs 1 0) h.register 4 z) offset ∙ means_sp bs j n h in
+    let size = h.is_size in cc
 
 pub names_xmm : (bs : List ℕ) (i : Instr) (n : ℕ) → (h : IsMovsd bs i n) → get_or bs 4 0 ≡ 128 + 8 * h.register + 3
 names_xmm bs i n h = byte bs _ 4 h.is_bytes ∙ omega arith

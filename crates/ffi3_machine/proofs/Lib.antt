@@ -1,3 +1,4 @@
+pub mod Written
 pub mod Slots
 pub mod Recording
 pub mod Standing

@@ -39,7 +39,6 @@ pub enum Stub {
     Exit,
 }
 
-#[tactic(auto, unfolding(crate::specs::Stubs::stub_bytes))]
 fn amd64_call() -> [u8; 142]
     ensures { result ≡ stub_bytes Isa.Amd64 Call }
 {
@@ -57,7 +56,6 @@ fn amd64_call() -> [u8; 142]
     ]
 }
 
-#[tactic(auto, unfolding(crate::specs::Stubs::stub_bytes))]
 fn amd64_entry() -> [u8; 199]
     ensures { result ≡ stub_bytes Isa.Amd64 Entry }
 {
@@ -79,7 +77,6 @@ fn amd64_entry() -> [u8; 199]
     ]
 }
 
-#[tactic(auto, unfolding(crate::specs::Stubs::stub_bytes))]
 fn amd64_exit() -> [u8; 103]
     ensures { result ≡ stub_bytes Isa.Amd64 Exit }
 {
@@ -94,7 +91,6 @@ fn amd64_exit() -> [u8; 103]
     ]
 }
 
-#[tactic(auto, unfolding(crate::specs::Stubs::stub_bytes))]
 fn amd64_return() -> [u8; 46]
     ensures { result ≡ stub_bytes Isa.Amd64 Return }
 {
@@ -106,7 +102,6 @@ fn amd64_return() -> [u8; 46]
     ]
 }
 
-#[tactic(auto, unfolding(crate::specs::Stubs::stub_bytes))]
 fn aarch64_call() -> [u8; 88]
     ensures { result ≡ stub_bytes Isa.Aarch64 Call }
 {
@@ -120,7 +115,6 @@ fn aarch64_call() -> [u8; 88]
     ]
 }
 
-#[tactic(auto, unfolding(crate::specs::Stubs::stub_bytes))]
 fn aarch64_entry() -> [u8; 172]
     ensures { result ≡ stub_bytes Isa.Aarch64 Entry }
 {
@@ -140,7 +134,6 @@ fn aarch64_entry() -> [u8; 172]
     ]
 }
 
-#[tactic(auto, unfolding(crate::specs::Stubs::stub_bytes))]
 fn aarch64_exit() -> [u8; 124]
     ensures { result ≡ stub_bytes Isa.Aarch64 Exit }
 {
@@ -157,7 +150,6 @@ fn aarch64_exit() -> [u8; 124]
     ]
 }
 
-#[tactic(auto, unfolding(crate::specs::Stubs::stub_bytes))]
 fn aarch64_return() -> [u8; 36]
     ensures { result ≡ stub_bytes Isa.Aarch64 Return }
 {
@@ -168,7 +160,6 @@ fn aarch64_return() -> [u8; 36]
     ]
 }
 
-#[tactic(auto, unfolding(crate::specs::Stubs::stub_bytes))]
 fn riscv_call() -> [u8; 84]
     ensures { result ≡ stub_bytes Isa.Riscv Call }
 {
@@ -182,7 +173,6 @@ fn riscv_call() -> [u8; 84]
     ]
 }
 
-#[tactic(auto, unfolding(crate::specs::Stubs::stub_bytes))]
 fn riscv_entry() -> [u8; 188]
     ensures { result ≡ stub_bytes Isa.Riscv Entry }
 {
@@ -203,7 +193,6 @@ fn riscv_entry() -> [u8; 188]
     ]
 }
 
-#[tactic(auto, unfolding(crate::specs::Stubs::stub_bytes))]
 fn riscv_exit() -> [u8; 136]
     ensures { result ≡ stub_bytes Isa.Riscv Exit }
 {
@@ -221,7 +210,6 @@ fn riscv_exit() -> [u8; 136]
     ]
 }
 
-#[tactic(auto, unfolding(crate::specs::Stubs::stub_bytes))]
 fn riscv_return() -> [u8; 28]
     ensures { result ≡ stub_bytes Isa.Riscv Return }
 {

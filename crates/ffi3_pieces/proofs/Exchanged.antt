@@ -4,7 +4,7 @@ use Rattle.std.specs.List.{replace_range}
 use Rattle.std.proofs.lemmas.List.{length-take-le}
 use Rattle.std.proofs.lemmas.Slice.{drop-append-drop}
 use Rattle.ffi3_memory.specs.Memory.{low_bytes}
-use Rattle.ffi3_pieces.proofs.Spliced.{range-written, above-written, below-written}
+use Rattle.ffi3_machine.proofs.Written.{range-written, above-written, below-written}
 
 pub word_written : (xs : List ℕ) (at v : ℕ) → at + 8 ≤ length xs → take 8 (drop at (replace_range xs at (at + length (low_bytes 8 v)) (low_bytes 8 v))) ≡ low_bytes 8 v
 word_written xs at v low = range-written xs (low_bytes 8 v) at (omega arith)

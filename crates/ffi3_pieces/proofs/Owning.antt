@@ -21,7 +21,7 @@ use Rattle.ffi3_type_rules.specs.declared.limits.TheConstants.{STACK}
 use Rattle.ffi3_machine.specs.State.{State, image_of, stack_at}
 use Rattle.ffi3_pieces.specs.Stored.{IsByteOf, IsPlace, byte_of, word_in, PieceStands}
 use Rattle.ffi3_pieces.specs.Standing.{CopyStands, PlaceStands, AllStand, IsReady, AreReady}
-use Rattle.ffi3_pieces.proofs.Reading.{counted}
+use Rattle.ffi3_place_rules.proofs.Reading.{counted}
 
 part_of_frame : (xs : List ℕ) (n at size : ℕ) → at + size ≤ n → take size (drop at (take n xs)) ≡ take size (drop at xs)
 part_of_frame xs n at size room =

@@ -15,3 +15,4 @@ pub mod Ends
 pub mod Copies
 pub mod Planned
 pub mod Alike
+pub mod Reading

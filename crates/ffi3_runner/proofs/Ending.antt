@@ -1,8 +1,9 @@
 -- What a whole run of main says, by how it ended.
-use Rattle.std.proofs.Common.{◌≡◌, ℕ, ◌+◌, ◌≤◌, inl, inr, ◌⊎◌, List, ◌++◌, length, take, refl, sym, ap, ◌∙◌, subst, arith}
+use Rattle.std.proofs.Common.{◌≡◌, ℕ, ◌+◌, ◌*◌, ◌%◌, ◌^◌, ◌≤◌, inl, inr, ◌⊎◌, List, ◌++◌, length, take, refl, sym, ap, ◌∙◌, subst, arith}
 use Rattle.std.specs.Prelude.{Bool, true, false}
 use Rattle.std.proofs.lemmas.List.{take-append-le}
 use Rattle.std.proofs.Math.Seq.{take-length}
+use Rattle.ffi3_type_rules.specs.declared.Target.{Target}
 use Rattle.ffi3_type_rules.specs.Value.{void_value}
 use Rattle.ffi3_place_rules.specs.Event.{Event}
 use Rattle.ffi3_place_rules.specs.Standard.{Standard}
@@ -27,13 +28,17 @@ use Rattle.ffi3_io.proofs.Adding.{Adds-along}
 use Rattle.ffi3_io.proofs.Writing.{whole_part}
 use Rattle.ffi3_ask.specs.declared.standing.Standing.{Standing}
 use Rattle.ffi3_board.specs.declared.board.Board.{Board}
+use Rattle.ffi3_board.specs.CallSteps.{call_steps, steps_in, returns_in}
+use Rattle.ffi3_board.specs.Counted.{steps_after}
 use Rattle.ffi3_board.specs.Turned.{IsEnded, WasInterrupted, is_in_line}
+use Rattle.ffi3_board.proofs.Counting.{counts_from_none, main_counts, whole_calls}
 use Rattle.ffi3_runner.specs.Ran.{Ran}
 use Rattle.ffi3_runner.specs.RunInterrupted.{RunWasInterrupted}
 use Rattle.ffi3_runner.specs.RunMatches.{RunMatches, WrotePart}
 use Rattle.ffi3_runner.specs.declared.run.RunEnd.{RunEnd}
 use Rattle.ffi3_runner.specs.declared.run.RunEnd.TheVariants as run
 use Rattle.ffi3_runner.specs.Started.{main_beginning, MainHasReturned, MainHasStopped}
+use Rattle.ffi3_runner.proofs.Returning.{calls_returned}
 
 reaches : (top mark deep peak : ℕ) → deep ≡ peak → (top ≤ mark) ⊎ (top ≤ mark + deep) → top ≤ mark + peak
 reaches top mark deep peak is (inl h) = omega arith
@@ -42,7 +47,22 @@ reaches top mark deep peak is (inr h) = omega (arith, is, h)
 no_fewer : (a b : ℕ) → b ≡ a → a ≤ b
 no_fewer a b same = omega arith
 
+-- main has no caller that has yet to count
+either_way : (n m : ℕ) → (n ≡ m) ⊎ (n ≡ m) → n ≡ m
+either_way n m (inl h) = h
+either_way n m (inr h) = h
+
+-- the count after a trace that is equal, on a machine that began
+count_of : (target : Target) (n : ℕ) (trace done : List TraceItem) → n ≡ steps_after target 0 trace → trace ≡ done → n ≡ steps_in target done % 2 ^ 64
+count_of target n trace done is same =
+    is ∙ counts_from_none target trace ∙ ap (λ (l : List TraceItem). steps_in target l % 2 ^ 64) same
+
 module _ (p : Program) (std : Standard) (trace : Bool) (b : Board Standing) (m : State) (o o' : SinkState) where
+  -- the instructions of a run that is over
+  counted : (end : End) (closures : Closures) (moves : ℕ) → IsEnded p (main_base std) (remainder_of (meaning_of p)) (main_beginning trace std o) end closures moves m o' → m.steps ≡ steps_in std.target (trace_of p) % 2 ^ 64
+  counted end closures moves h =
+      count_of std.target m.steps (trace_of p) (trace_of p) (sym (main_counts std.target end m.steps) ∙ h.steps) refl
+
   ended : (end : End) (closures : Closures) (moves : ℕ) → IsEnded p (main_base std) (remainder_of (meaning_of p)) (main_beginning trace std o) end closures moves m o' → RunMatches (main_tracing trace std) std p o o' m
   ended end closures moves h =
       let over = main_is_over p std end closures moves h.events h.over in
@@ -56,6 +76,8 @@ module _ (p : Program) (std : Standard) (trace : Bool) (b : Board Standing) (m :
         whole = subst Q (sym h.journal) over.3;
         code = subst R (sym over.1) h.holds;
         mark = reaches stack_top m.mark (deepest p 0 (trace_of p)) (deepest p 0 (trace_of p)) refl h.mark;
+        steps = counted end closures moves h;
+        calls = λ v is. counted end closures moves h ∙ ap (λ (k : ℕ). k % 2 ^ 64) (whole_calls std.target (trace_of p) (calls_returned p v is));
         reserved = h.reserved;
       }
 
@@ -90,6 +112,7 @@ module _ (p : Program) (std : Standard) (trace : Bool) (b : Board Standing) (m :
         journal = subst P (sym h.journal) (subst R k.happened_is k.answers.answers);
         whole = subst Q (sym h.journal) (subst T k.happened_is k.answers.whole);
         mark = reaches stack_top m.mark (deepest p 0 h.happened) (deepest p 0 (k.done ++ begun k.recorded k.later)) (ap (deepest p 0) k.happened_is) h.mark;
+        steps = count_of std.target m.steps h.happened (k.done ++ begun k.recorded k.later) (either_way m.steps (steps_after std.target 0 h.happened) h.steps) k.happened_is;
         target = h.target;
         closures = h.closures;
         code = h.holds;
@@ -109,6 +132,14 @@ module _ (p : Program) (std : Standard) (trace : Bool) (b : Board Standing) (m :
   ran_returned (run.Stopped stop) ran is = cc
   ran_returned run.NoMemory ran is = cc
   ran_returned run.Failed ran is = cc
+
+  pub ran_counted : (t : RunEnd) → Answer t → (target : Target) → std.target ≡ target → t ≡ run.Done → m.steps ≡ (call_steps target * returns_in (trace_of p)) % 2 ^ 64
+  ran_counted run.Done ran target same is =
+      (ended (returned ran.result) b.table b.moves ran.ended).calls ran.result ran.ended.over.end_is
+      ∙ ap (λ (t : Target). (call_steps t * returns_in (trace_of p)) % 2 ^ 64) same
+  ran_counted (run.Stopped stop) ran target same is = cc
+  ran_counted run.NoMemory ran target same is = cc
+  ran_counted run.Failed ran target same is = cc
 
   pub ran_left : (t : RunEnd) → Answer t → t ≡ run.Done → MainHasReturned p b m
   ran_left run.Done ran is = record { idle = ran.idle; sp = ran.left.1; closures = sym ran.ended.over.closures_are; moves = sym ran.ended.over.moves_are }

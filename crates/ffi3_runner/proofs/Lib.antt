@@ -10,3 +10,4 @@ mod Ready
 mod Serving
 mod Main
 mod Preparing
+mod Returning

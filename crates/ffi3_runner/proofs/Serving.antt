@@ -1,5 +1,5 @@
 -- A call that is served: what accepting it and running on say together.
-use Rattle.std.proofs.Common.{◌≡◌, ℕ, inl, inr, List, [], Some, refl, sym, subst}
+use Rattle.std.proofs.Common.{◌≡◌, ℕ, ◌⊎◌, inl, inr, List, [], Some, refl, sym, ◌∙◌, subst}
 use Rattle.std.specs.Prelude.{Bool}
 use Rattle.ffi3_type_rules.specs.Signature.{Signature, signature_at}
 use Rattle.ffi3_type_rules.specs.Value.{ValueTree}
@@ -29,6 +29,7 @@ use Rattle.ffi3_runner.specs.Ran.{Ran}
 use Rattle.ffi3_runner.specs.Ready.{CanGoOn, traced_or_not}
 use Rattle.ffi3_runner.specs.Serving.{IsAtEntry, HasRun, HasNotRun, Served, end_of}
 use Rattle.ffi3_runner.specs.declared.run.RunEnd.{RunEnd}
+use Rattle.ffi3_runner.specs.declared.run.RunEnd.TheVariants as run
 use Rattle.ffi3_runner.proofs.Ready.{can_go_on}
 
 -- one closure is live at an address
@@ -80,3 +81,20 @@ module _ (std : Standard) (trace : Bool) (p : Program) (b b₁ : Board Standing)
       let shows = shows_found std p b.table m found closure arguments cifs are live at in
       let here : HasNotRun std trace p found arguments b m o m₁ o₁ t = record { why = why; answer = answer; cut_off = cuts arguments shows } in
       inr (subst (λ (c : Closure). HasNotRun std trace p c arguments b m o m₁ o₁ t) same here)
+
+-- THE TARGET STAYS, however a run ended
+ran_target : (p : Program) (began : Base) (all : Remainder) (found : Beginning) (b : Board Standing) (m : State) (o : SinkState) (t : RunEnd) → Ran p began all found b m o t → m.target ≡ began.standard.target
+ran_target p began all found b m o run.Done ran = ran.ended.target
+ran_target p began all found b m o (run.Stopped stop) ran = ran.target
+ran_target p began all found b m o run.NoMemory ran = ran.target
+ran_target p began all found b m o run.Failed ran = ran.target
+
+module _ (std : Standard) (trace : Bool) (p : Program) (closure : Closure) (arguments : List ValueTree) (b b' : Board Standing) (m m' : State) (o o' : SinkState) (t : RunEnd) where
+  target_is : HasRun std trace p closure arguments b m o b' m' o' t ⊎ HasNotRun std trace p closure arguments b m o m' o' t → m'.target ≡ std.target
+  target_is (inl has) =
+      ran_target p (served_base std p.signatures closure.sig m) (served_left std p closure arguments m b.table b.moves) (served_beginning std (signature_at p.signatures closure.sig) m has.told (served_tracing trace std p.signatures closure.sig m)) b' m' o' t has.ran
+  target_is (inr not) = not.cut_off.target
+
+  pub target_stays : IsAtEntry std p b.table m closure arguments → Served std trace p b m o b' m' o' t → m'.target ≡ m.target
+  target_stays at served =
+      target_is (served closure arguments at) ∙ sym at.shows.target

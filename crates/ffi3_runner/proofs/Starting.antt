@@ -66,6 +66,7 @@ module _ (p : Program) (std : Standard) (needs : p.need ≡ need_of std) (agrees
     top = omega arith;
     come = comes_from p (main_base std) main_call no_closures most_moves refl;
     journal = refl;
+    steps = refl;
     written = record { told = omega arith; took = took_nothing o };
     mark = inl (omega arith);
     deep = omega arith;

@@ -1,5 +1,5 @@
 -- WHAT A RUN TELLS THAT WAS INTERRUPTED, against the direct meaning of its program: by a write that failed, which is in an item's lines, or by want of memory, elsewhere.
-use Rattle.std.specs.Prelude.{◌≡◌, ℕ, ◌+◌, ◌≤◌, Bool, List, ◌++◌, length, take}
+use Rattle.std.specs.Prelude.{◌≡◌, ℕ, ◌+◌, ◌%◌, ◌^◌, ◌≤◌, Bool, List, ◌++◌, length, take}
 use Rattle.ffi3_io.specs.Sink.{Adds, SinkState}
 use Rattle.ffi3_place_rules.specs.Standard.{Standard}
 use Rattle.ffi3_run_rules.specs.Closures.{Closures}
@@ -11,8 +11,9 @@ use Rattle.ffi3_turn_rules.specs.Interrupted.{past_all, next_text, begun, IsPart
 use Rattle.ffi3_turn_rules.specs.Depth.{deepest}
 use Rattle.ffi3_machine.specs.State.{State}
 use Rattle.ffi3_closures.specs.Slots.{HoldsMap}
+use Rattle.ffi3_board.specs.CallSteps.{steps_in}
 
--- THE RUN IS TOLD IN PART. A first part of its trace is done. The output took the text of that, and of the next item's lines a proper part where it was interrupted in them, and nothing elsewhere. An event is recorded before its lines; the journal answers wholly to what is done and to the item whose event came last, if that is the next. No byte was written beyond the stack that those calls take.
+-- THE RUN IS TOLD IN PART. A first part of its trace is done. The output took the text of that, and of the next item's lines a proper part where it was interrupted in them, and nothing elsewhere. An event is recorded before its lines; the journal answers wholly to what is done and to the item whose event came last, if that is the next. No byte was written beyond the stack that those calls take, and their instructions are counted and no others.
 pub record RunWasInterrupted (tracing : Tracing) (std : Standard) (p : Program) (in_line : Bool) (before after : SinkState) (machine : State) : Type 0 where
   pub done : List TraceItem
   pub later : List TraceItem
@@ -25,6 +26,7 @@ pub record RunWasInterrupted (tracing : Tracing) (std : Standard) (p : Program) 
   pub journal : JournalOf std p.signatures (done ++ begun recorded later) machine.events
   pub whole : IsWhole (done ++ begun recorded later) machine.events
   pub mark : stack_top ≤ machine.mark + deepest p 0 (done ++ begun recorded later)
+  pub steps : machine.steps ≡ steps_in std.target (done ++ begun recorded later) % 2 ^ 64
   pub target : machine.target ≡ std.target
   pub closures : Closures
   pub code : HoldsMap std.target closures machine.code

@@ -1,19 +1,21 @@
 -- WHAT A RUN TELLS: the text that its output takes and the machine that it leaves, against the direct meaning of its program.
-use Rattle.std.specs.Prelude.{◌≡◌, ℕ, ◌+◌, ◌≤◌, take}
+use Rattle.std.specs.Prelude.{◌≡◌, ℕ, ◌+◌, ◌*◌, ◌%◌, ◌^◌, ◌≤◌, take}
 use Rattle.std.specs.List.{AllByRecursion}
+use Rattle.ffi3_type_rules.specs.Value.{ValueTree}
 use Rattle.ffi3_io.specs.Sink.{Adds, SinkState}
 use Rattle.ffi3_io.specs.Written.{TookText}
 use Rattle.ffi3_place_rules.specs.Image.{register}
 use Rattle.ffi3_place_rules.specs.Standard.{Standard}
-use Rattle.ffi3_run_rules.specs.Meaning.{Program, meaning_of}
+use Rattle.ffi3_run_rules.specs.Meaning.{Program, returned, meaning_of}
 use Rattle.ffi3_run_rules.specs.Trace.{trace_of}
 use Rattle.ffi3_run_rules.specs.Lines.{Tracing, text_of_run}
 use Rattle.ffi3_run_rules.specs.Journal.{JournalOf, IsWhole, stack_top}
 use Rattle.ffi3_turn_rules.specs.Depth.{deepest}
 use Rattle.ffi3_machine.specs.State.{State, image_of}
 use Rattle.ffi3_closures.specs.Slots.{HoldsMap}
+use Rattle.ffi3_board.specs.CallSteps.{call_steps, steps_in, returns_in}
 
--- THE RUN IS TOLD WHOLE: the output took exactly the text of the direct meaning, the journal is that meaning's call tree, the code region holds the bytes of the closures that are live, no byte was written beyond the stack that the tree's calls take, and the reserved registers hold 0, as at first.
+-- THE RUN IS TOLD WHOLE: the output took exactly the text of the direct meaning, the journal is that meaning's call tree, the code region holds the bytes of the closures that are live, no byte was written beyond the stack that the tree's calls take, the instructions of these calls and no others are counted, and the reserved registers hold 0, as at first.
 pub record RunMatches (tracing : Tracing) (std : Standard) (p : Program) (before after : SinkState) (machine : State) : Type 0 where
   pub written : TookText (text_of_run tracing p) before after
   pub target : machine.target ≡ std.target
@@ -21,6 +23,9 @@ pub record RunMatches (tracing : Tracing) (std : Standard) (p : Program) (before
   pub whole : IsWhole (trace_of p) machine.events
   pub code : HoldsMap std.target (meaning_of p).closures machine.code
   pub mark : stack_top ≤ machine.mark + deepest p 0 (trace_of p)
+  pub steps : machine.steps ≡ steps_in std.target (trace_of p) % 2 ^ 64
+  -- where main returned, each call has returned
+  pub calls : (v : ValueTree) → (meaning_of p).end ≡ returned v → machine.steps ≡ (call_steps std.target * returns_in (trace_of p)) % 2 ^ 64
   pub reserved : AllByRecursion (λ at. register (image_of 0 machine) at ≡ 0) std.reserved
 
 -- a first part of the text of the direct meaning was written

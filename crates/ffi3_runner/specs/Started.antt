@@ -16,6 +16,7 @@ abbrev pub main_beginning : (trace : Bool) → Standard → SinkState → Beginn
 main_beginning trace std o = record {
   events = [];
   mark = STACK_TOP;
+  steps = 0;
   told = 0;
   output = o;
   stack = begun_stack;

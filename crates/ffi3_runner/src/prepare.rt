@@ -8,7 +8,7 @@ ghost use Rattle.ffi3_type_rules.specs.Signature.{SignatureHasNoFault};
 
 use ffi3_ask::{Native, signature, signatures};
 use ffi3_board::Cifs;
-use ffi3_cif::{Cif, prep_cif, prep_cif_var};
+use ffi3_cif::Cif;
 use ffi3_place::Abi;
 use ffi3_script::Script;
 use ffi3_types::{NoMemory, Sig};
@@ -28,13 +28,7 @@ fn prepare<A: Abi>(alloc: Global, sig: &Sig) -> Result<Cif<A>, NoMemory>
     requires { SignatureHasNoFault sig.now }
     ensures { IfOk result (λ c. c ≡ sig.now) }
 {
-    let ret = sig.ret().copy(alloc)?;
-    let args = sig.args().copy(alloc)?;
-    let prepared = match sig.fixed() {
-        Some(fixed) => prep_cif_var::<A>(alloc, ret, args, fixed),
-        None => prep_cif::<A>(alloc, ret, args),
-    };
-    prepared.map_err(|_| NoMemory)
+    Cif::prepare(alloc, sig.copy(alloc)?)
 }
 
 /// An interface for each signature of the run: the script's, and then those of each native.

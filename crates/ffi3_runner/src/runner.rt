@@ -1,11 +1,11 @@
 //! The runner: what a run is prepared with, and its board.
-ghost use Rattle.std.specs.Prelude.{◌≡◌, ◌<◌, ◌≤◌, ◌^◌, Bool, IfOk, List, [], false, length, suc, true};
+ghost use Rattle.std.specs.Prelude.{◌≡◌, ◌*◌, ◌%◌, ◌<◌, ◌≤◌, ◌^◌, Bool, IfOk, List, [], false, length, suc, true};
 ghost use Rattle.ffi3_type_rules.specs.Value.{ValueTree, void_value};
 ghost use Rattle.ffi3_place_rules.specs.Event.{Event};
 ghost use Rattle.ffi3_run_rules.specs.Meaning.{meaning_of, returned, stopped};
 ghost use Rattle.ffi3_run_rules.specs.declared.Closure.{Closure};
 ghost use Rattle.ffi3_run_rules.specs.declared.Stop.{Stop};
-ghost use Rattle.ffi3_run_rules.specs.Trace.{TraceItem};
+ghost use Rattle.ffi3_run_rules.specs.Trace.{TraceItem, trace_of};
 ghost use Rattle.ffi3_turn_rules.specs.Remainder.{Remainder, remainder_of};
 ghost use Rattle.ffi3_turn_rules.specs.MainTracing.{main_tracing};
 ghost use Rattle.ffi3_turn_rules.specs.SoFar.{Base, main_base};
@@ -16,6 +16,7 @@ ghost use Rattle.ffi3_closures.specs.Slots.{HoldsMap};
 ghost use Rattle.ffi3_io.specs.Sink.{Rose, SinkState};
 ghost use Rattle.ffi3_ask.specs.Handed.{handed, signatures_in};
 ghost use Rattle.ffi3_board.specs.Between.{Beginning};
+ghost use Rattle.ffi3_board.specs.CallSteps.{call_steps, returns_in};
 ghost use Rattle.ffi3_board.specs.Served.{IsIdle};
 ghost use Rattle.ffi3_board.specs.Turned.{StandsAt, Turned};
 ghost use Rattle.ffi3_runner.specs.Agreeing.{PositionsAgree};
@@ -168,6 +169,9 @@ impl<'a, A: Abi> Runner<'a, A> {
     /// Runs main to its end, on a machine as it begins for the standard's target. Each line is
     /// handed to the output before the next move. With `trace` each entry and each return is told
     /// as soon as it is recorded, in two lines.
+    ///
+    /// Calls alone move the machine's count of steps on: after `Done` it is 66 on amd64, 108 on aapcs64,
+    /// 112 on riscv and 3 on win64 for each call, modulo 2^64.
     pub fn run_main<O: Sink>(
         &mut self,
         machine: &mut Machine,
@@ -182,6 +186,8 @@ impl<'a, A: Abi> Runner<'a, A> {
             (O.state output.old) (O.state output.new) machine.new }
         ensures returns { result ≡ RunEnd.Done →
             (meaning_of (program A.standard self.old.prepared.script.now (handed title meaning signatures self.old.prepared.natives.now.items))).end ≡ returned void_value }
+        ensures steps { result ≡ RunEnd.Done →
+            machine.new.steps ≡ (call_steps A.TARGET * returns_in (trace_of (program A.standard self.old.prepared.script.now (handed title meaning signatures self.old.prepared.natives.now.items)))) % 2 ^ 64 }
         ensures stopped { (stop : Stop) → result ≡ RunEnd.Stopped stop →
             RunMatches (main_tracing trace A.standard) A.standard (program A.standard self.old.prepared.script.now (handed title meaning signatures self.old.prepared.natives.now.items))
             (O.state output.old) (O.state output.new) machine.new }
@@ -213,7 +219,7 @@ impl<'a, A: Abi> Runner<'a, A> {
 
     /// Serves the call of a live closure that the machine shows at its entry, by any caller: does
     /// moves until the entered activation has left. Closure and arguments are learned from the machine
-    /// alone. With `trace` entries and returns are told, the entered one's first.
+    /// alone, whose target stays. With `trace` entries and returns are told, the entered one's first.
     pub fn serve<O: Sink>(&mut self, machine: &mut Machine, output: &mut O, trace: bool) -> RunEnd
         requires prepared { IsPrepared A.standard self.old.prepared.script.now (handed title meaning signatures self.old.prepared.natives.now.items) self.old.prepared.cifs }
         requires idle { IsIdle (program A.standard self.old.prepared.script.now (handed title meaning signatures self.old.prepared.natives.now.items)) self.old.board }
@@ -222,6 +228,7 @@ impl<'a, A: Abi> Runner<'a, A> {
             IsAtEntry A.standard (program A.standard self.old.prepared.script.now (handed title meaning signatures self.old.prepared.natives.now.items)) self.old.board.table machine.old closure arguments }
         ensures served { Served A.standard trace (program A.standard self.old.prepared.script.now (handed title meaning signatures self.old.prepared.natives.now.items))
             self.old.board machine.old (O.state output.old) self.new.board machine.new (O.state output.new) result }
+        ensures target { machine.new.target ≡ machine.old.target }
         ensures prepared { self.new.prepared ≡ self.old.prepared }
         ensures going { result ≡ RunEnd.Done → self.new.over ≡ self.old.over }
         ensures over { (result ≡ RunEnd.Done → ⊥) → self.new.over ≡ true }

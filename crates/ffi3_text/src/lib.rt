@@ -7,5 +7,6 @@ mod place;
 mod trace;
 
 pub use layout::layout_line;
+pub use names::write_loc;
 pub use place::{place_line, sig_line};
 pub use trace::{enter_line, keep_line, leave_line};

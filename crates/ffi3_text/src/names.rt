@@ -52,8 +52,8 @@ fn write_floating(alloc: Global, isa: Isa, r: u8, text: &mut Bytes) -> Result<()
     }
 }
 
-/// The register's name at the end of a text; of a place on the stack its offset, as `stack8`.
-pub(crate) fn write_loc(alloc: Global, isa: Isa, at: Loc, text: &mut Bytes) -> Result<(), NoMemory>
+/// Writes a register's name at the end of a text, as `xmm0`; of a place on the stack its offset, as `stack8`.
+pub fn write_loc(alloc: Global, isa: Isa, at: Loc, text: &mut Bytes) -> Result<(), NoMemory>
     ensures { OnOk result (text.new ≡ text.old ++ loc_name isa at) }
 {
     match at {

@@ -12,7 +12,7 @@ use Rattle.std.specs.Option.{option_map, option_map_or}
 use Rattle.clap.specs.Faults.{bundle_fault, bundle_step_fault, defaults_fault, check_fault, flag_word_fault, flags_fault, level_fault, long_fault, option_fault, react_fault, settle_fault, short_fault, step_fault, turn_fault, use_fault, walk_fault, entered_fault, word_fault}
 use Rattle.clap.specs.declared.builder.value_parser.ValueParser.{ValueParser}
 use Rattle.clap.specs.declared.error.kind.ErrorKind.TheVariants.{TooManyValues}
-use Rattle.ffi3_words.specs.WordCommands.{Addresses, program, one_of_words, targets, bench_shape, cdecl_shape, cplace_shape, layout_shape}
+use Rattle.ffi3_words.specs.WordCommands.{Addresses, program, one_of_words, targets, arguments_shape, bench_shape, cdecl_shape, cplace_shape, explain_shape, layout_shape}
 use Rattle.ffi3_words.proofs.Level.{above, built_beside, built_target, built_traced, built_with, help_alone, none_beside_help, none_beside_trace, trace_and_help}
 
 -- a rule that no position names
@@ -335,22 +335,24 @@ module _ (at at' bt bt' : Addresses) where
   abbrev other : App
   other = built (program bt bt')
 
-  abbrev command : Addresses → Addresses → Bool → Bool → Bool → Bool → Bool → Bool → Bool → Option Shape
-  command x y is_layout is_place is_run is_bench is_cdecl is_cplace is_help =
-      cond is_layout (Some (built_leaf (inherited above layout_shape))) (cond is_place (Some (built_with (codes "place") (one_of_words x targets))) (cond is_run (Some (built_traced (codes "run") (one_of_words y targets))) (cond is_bench (Some (built_leaf (inherited above bench_shape))) (cond is_cdecl (Some (built_leaf (inherited above cdecl_shape))) (cond is_cplace (Some (built_leaf (inherited above cplace_shape))) (cond is_help (Some (built_leaf help_shape)) None))))))
+  abbrev command : Addresses → Addresses → Bool → Bool → Bool → Bool → Bool → Bool → Bool → Bool → Bool → Option Shape
+  command x y is_layout is_place is_run is_bench is_cdecl is_cplace is_explain is_arguments is_help =
+      cond is_layout (Some (built_leaf (inherited above layout_shape))) (cond is_place (Some (built_with (codes "place") (one_of_words x targets))) (cond is_run (Some (built_traced (codes "run") (one_of_words y targets))) (cond is_bench (Some (built_leaf (inherited above bench_shape))) (cond is_cdecl (Some (built_leaf (inherited above cdecl_shape))) (cond is_cplace (Some (built_leaf (inherited above cplace_shape))) (cond is_explain (Some (built_leaf (inherited above explain_shape))) (cond is_arguments (Some (built_leaf (inherited above arguments_shape))) (cond is_help (Some (built_leaf help_shape)) None))))))))
 
   abbrev level : List Text → Shape → Kinds
   level words s = level_fault s [] nothing_held words false []
 
-  command_fault : (is_layout is_place is_run is_bench is_cdecl is_cplace is_help : Bool) (words : List Text) → option_map_or (level words) (command at at' is_layout is_place is_run is_bench is_cdecl is_cplace is_help) [] ≡ option_map_or (level words) (command bt bt' is_layout is_place is_run is_bench is_cdecl is_cplace is_help) []
-  command_fault true b2 b3 b4 b5 b6 b7 words = refl
-  command_fault false true b3 b4 b5 b6 b7 words = same_level_alone (codes "place") at bt words
-  command_fault false false true b4 b5 b6 b7 words = same_level_traced (codes "run") at' bt' words
-  command_fault false false false true b5 b6 b7 words = refl
-  command_fault false false false false true b6 b7 words = refl
-  command_fault false false false false false true b7 words = refl
-  command_fault false false false false false false true words = refl
-  command_fault false false false false false false false words = refl
+  command_fault : (is_layout is_place is_run is_bench is_cdecl is_cplace is_explain is_arguments is_help : Bool) (words : List Text) → option_map_or (level words) (command at at' is_layout is_place is_run is_bench is_cdecl is_cplace is_explain is_arguments is_help) [] ≡ option_map_or (level words) (command bt bt' is_layout is_place is_run is_bench is_cdecl is_cplace is_explain is_arguments is_help) []
+  command_fault true b2 b3 b4 b5 b6 b7 b8 b9 words = refl
+  command_fault false true b3 b4 b5 b6 b7 b8 b9 words = same_level_alone (codes "place") at bt words
+  command_fault false false true b4 b5 b6 b7 b8 b9 words = same_level_traced (codes "run") at' bt' words
+  command_fault false false false true b5 b6 b7 b8 b9 words = refl
+  command_fault false false false false true b6 b7 b8 b9 words = refl
+  command_fault false false false false false true b7 b8 b9 words = refl
+  command_fault false false false false false false true b8 b9 words = refl
+  command_fault false false false false false false false true b9 words = refl
+  command_fault false false false false false false false false true words = refl
+  command_fault false false false false false false false false false words = refl
 
   abbrev is_word : Text → Text → Bool
   is_word name word = bytes_eq name word || false
@@ -358,25 +360,27 @@ module _ (at at' bt bt' : Addresses) where
   same_entered_fault : (stop : Option (Text × List Text)) → entered_fault app stop ≡ entered_fault other stop
   same_entered_fault None = refl
   same_entered_fault (Some x) =
-      command_fault (is_word (codes "layout") x.0) (is_word (codes "place") x.0) (is_word (codes "run") x.0) (is_word (codes "bench") x.0) (is_word (codes "cdecl") x.0) (is_word (codes "cplace") x.0) (is_word (codes "help") x.0) x.1
+      command_fault (is_word (codes "layout") x.0) (is_word (codes "place") x.0) (is_word (codes "run") x.0) (is_word (codes "bench") x.0) (is_word (codes "cdecl") x.0) (is_word (codes "cplace") x.0) (is_word (codes "explain") x.0) (is_word (codes "arguments") x.0) (is_word (codes "help") x.0) x.1
 
   abbrev rows_in : List Text → Shape → Text × List Row
   rows_in words s = rows_at s words
 
-  command_rows : (is_layout is_place is_run is_bench is_cdecl is_cplace is_help : Bool) (words : List Text) → option_map (rows_in words) (command at at' is_layout is_place is_run is_bench is_cdecl is_cplace is_help) ≡ option_map (rows_in words) (command bt bt' is_layout is_place is_run is_bench is_cdecl is_cplace is_help)
-  command_rows true b2 b3 b4 b5 b6 b7 words = refl
-  command_rows false true b3 b4 b5 b6 b7 words = ap (λ (x : Text × List Row). Some x) (same_rows_alone (codes "place") at bt words)
-  command_rows false false true b4 b5 b6 b7 words = ap (λ (x : Text × List Row). Some x) (same_rows_traced (codes "run") at' bt' words)
-  command_rows false false false true b5 b6 b7 words = refl
-  command_rows false false false false true b6 b7 words = refl
-  command_rows false false false false false true b7 words = refl
-  command_rows false false false false false false true words = refl
-  command_rows false false false false false false false words = refl
+  command_rows : (is_layout is_place is_run is_bench is_cdecl is_cplace is_explain is_arguments is_help : Bool) (words : List Text) → option_map (rows_in words) (command at at' is_layout is_place is_run is_bench is_cdecl is_cplace is_explain is_arguments is_help) ≡ option_map (rows_in words) (command bt bt' is_layout is_place is_run is_bench is_cdecl is_cplace is_explain is_arguments is_help)
+  command_rows true b2 b3 b4 b5 b6 b7 b8 b9 words = refl
+  command_rows false true b3 b4 b5 b6 b7 b8 b9 words = ap (λ (x : Text × List Row). Some x) (same_rows_alone (codes "place") at bt words)
+  command_rows false false true b4 b5 b6 b7 b8 b9 words = ap (λ (x : Text × List Row). Some x) (same_rows_traced (codes "run") at' bt' words)
+  command_rows false false false true b5 b6 b7 b8 b9 words = refl
+  command_rows false false false false true b6 b7 b8 b9 words = refl
+  command_rows false false false false false true b7 b8 b9 words = refl
+  command_rows false false false false false false true b8 b9 words = refl
+  command_rows false false false false false false false true b9 words = refl
+  command_rows false false false false false false false false true words = refl
+  command_rows false false false false false false false false false words = refl
 
   same_entered : (stop : Option (Text × List Text)) → entered app stop ≡ entered other stop
   same_entered None = refl
   same_entered (Some x) =
-      command_rows (is_word (codes "layout") x.0) (is_word (codes "place") x.0) (is_word (codes "run") x.0) (is_word (codes "bench") x.0) (is_word (codes "cdecl") x.0) (is_word (codes "cplace") x.0) (is_word (codes "help") x.0) x.1
+      command_rows (is_word (codes "layout") x.0) (is_word (codes "place") x.0) (is_word (codes "run") x.0) (is_word (codes "bench") x.0) (is_word (codes "cdecl") x.0) (is_word (codes "cplace") x.0) (is_word (codes "explain") x.0) (is_word (codes "arguments") x.0) (is_word (codes "help") x.0) x.1
 
   abbrev stop_at : List Text → Option (Text × List Text)
   stop_at words = (walk app.top.rules (names_of app) nothing_held (argument_words (program at at') words)).stopped

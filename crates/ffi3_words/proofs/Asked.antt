@@ -14,7 +14,7 @@ use Rattle.clap.specs.declared.error.kind.ErrorKind.TheVariants.{DisplayHelpOnMi
 use Rattle.ffi3_type_rules.specs.declared.Target.{Target}
 use Rattle.ffi3_type_rules.specs.declared.Target.TheVariants.{Amd64, Aapcs64, Riscv, Win64}
 use Rattle.ffi3_words.specs.declared.words.Request.{Request}
-use Rattle.ffi3_words.specs.declared.words.Request.TheVariants.{Layout, Place, Run, Cdecl, Cplace}
+use Rattle.ffi3_words.specs.declared.words.Request.TheVariants.{Layout, Place, Run, Cdecl, Cplace, Explain, Arguments}
 use Rattle.ffi3_words.specs.WordCommands.{Addresses, LacksNumbers, asked, bench_shape, is_set, one_of_words, targets, program, target_of, with_target_of}
 use Rattle.ffi3_words.proofs.Level.{above, built_target, has_target, has_target_traced, never, or_none, trace_and_help}
 
@@ -72,7 +72,7 @@ stays c names (word ∷ more) w name seen met =
 -- a command of the program, but for `help`
 abbrev Known : Text → Type 0
 Known name =
-    (name ≡ codes "layout") ⊎ ((name ≡ codes "place") ⊎ ((name ≡ codes "run") ⊎ ((name ≡ codes "bench") ⊎ ((name ≡ codes "cdecl") ⊎ (name ≡ codes "cplace")))))
+    (name ≡ codes "layout") ⊎ ((name ≡ codes "place") ⊎ ((name ≡ codes "run") ⊎ ((name ≡ codes "bench") ⊎ ((name ≡ codes "cdecl") ⊎ ((name ≡ codes "cplace") ⊎ ((name ≡ codes "explain") ⊎ (name ≡ codes "arguments")))))))
 
 abbrev StopsKnown : Option (Text × List Text) → Type 0
 StopsKnown None = Unit {0}
@@ -96,9 +96,9 @@ module _ (at at' : Addresses) where
     abbrev here : Walk
     here = standing h waiting position false
 
-    abbrev first_named : Bool → Bool → Bool → Bool → Bool → Bool → Bool → Option Text
-    first_named is_layout is_place is_run is_bench is_cdecl is_cplace is_help =
-        option_map (λ (n : Text × List Text). n.0) (cond is_layout (Some (codes "layout", [])) (cond is_place (Some (codes "place", [])) (cond is_run (Some (codes "run", [])) (cond is_bench (Some (codes "bench", [])) (cond is_cdecl (Some (codes "cdecl", [])) (cond is_cplace (Some (codes "cplace", [])) (cond is_help (Some (codes "help", [])) None)))))))
+    abbrev first_named : Bool → Bool → Bool → Bool → Bool → Bool → Bool → Bool → Bool → Option Text
+    first_named is_layout is_place is_run is_bench is_cdecl is_cplace is_explain is_arguments is_help =
+        option_map (λ (n : Text × List Text). n.0) (cond is_layout (Some (codes "layout", [])) (cond is_place (Some (codes "place", [])) (cond is_run (Some (codes "run", [])) (cond is_bench (Some (codes "bench", [])) (cond is_cdecl (Some (codes "cdecl", [])) (cond is_cplace (Some (codes "cplace", [])) (cond is_explain (Some (codes "explain", [])) (cond is_arguments (Some (codes "arguments", [])) (cond is_help (Some (codes "help", [])) None)))))))))
 
     abbrev StopsAt : Option Text → Type 0
     StopsAt met =
@@ -109,21 +109,23 @@ module _ (at at' : Addresses) where
         let meets = other_meets top.rules waiting word (bytes_eq word (45 ∷ 45 ∷ [])) position h in
         subst StopsKnown (sym (goes_on top.rules word here _ _ meets refl)) tt
 
-    stops_named : (is_layout is_place is_run is_bench is_cdecl is_cplace is_help : Bool) → other_fault top (first_named is_layout is_place is_run is_bench is_cdecl is_cplace is_help) word h ≡ [] → StopsAt (first_named is_layout is_place is_run is_bench is_cdecl is_cplace is_help)
-    stops_named true b2 b3 b4 b5 b6 b7 fine = inl refl
-    stops_named false true b3 b4 b5 b6 b7 fine = inr (inl refl)
-    stops_named false false true b4 b5 b6 b7 fine = inr (inr (inl refl))
-    stops_named false false false true b5 b6 b7 fine = inr (inr (inr (inl refl)))
-    stops_named false false false false true b6 b7 fine = inr (inr (inr (inr (inl refl))))
-    stops_named false false false false false true b7 fine = inr (inr (inr (inr (inr refl))))
-    stops_named false false false false false false true fine = absurd (never fine)
-    stops_named false false false false false false false fine = stops_none
+    stops_named : (is_layout is_place is_run is_bench is_cdecl is_cplace is_explain is_arguments is_help : Bool) → other_fault top (first_named is_layout is_place is_run is_bench is_cdecl is_cplace is_explain is_arguments is_help) word h ≡ [] → StopsAt (first_named is_layout is_place is_run is_bench is_cdecl is_cplace is_explain is_arguments is_help)
+    stops_named true b2 b3 b4 b5 b6 b7 b8 b9 fine = inl refl
+    stops_named false true b3 b4 b5 b6 b7 b8 b9 fine = inr (inl refl)
+    stops_named false false true b4 b5 b6 b7 b8 b9 fine = inr (inr (inl refl))
+    stops_named false false false true b5 b6 b7 b8 b9 fine = inr (inr (inr (inl refl)))
+    stops_named false false false false true b6 b7 b8 b9 fine = inr (inr (inr (inr (inl refl))))
+    stops_named false false false false false true b7 b8 b9 fine = inr (inr (inr (inr (inr (inl refl)))))
+    stops_named false false false false false false true b8 b9 fine = inr (inr (inr (inr (inr (inr (inl refl))))))
+    stops_named false false false false false false false true b9 fine = inr (inr (inr (inr (inr (inr (inr refl))))))
+    stops_named false false false false false false false false true fine = absurd (never fine)
+    stops_named false false false false false false false false false fine = stops_none
 
   one_word : (h : Held) (waiting : Waiting) (position : ℕ) (is_trailing : Bool) (word : Text) → turn_fault top names (standing h waiting position is_trailing) word ≡ [] → StopsKnown (walked top.rules names (standing h waiting position is_trailing) word).stopped
   unfolding walked
   one_word h waiting position true word fine = subst StopsKnown (sym (goes_to top.rules (arg_by_index top.rules position) word (standing h waiting position true) h refl)) tt
   one_word h idle position false word fine =
-      stops_named h idle position word (bytes_eq (codes "layout") word || false) (bytes_eq (codes "place") word || false) (bytes_eq (codes "run") word || false) (bytes_eq (codes "bench") word || false) (bytes_eq (codes "cdecl") word || false) (bytes_eq (codes "cplace") word || false) (bytes_eq (codes "help") word || false) (or_none _ _ fine).0
+      stops_named h idle position word (bytes_eq (codes "layout") word || false) (bytes_eq (codes "place") word || false) (bytes_eq (codes "run") word || false) (bytes_eq (codes "bench") word || false) (bytes_eq (codes "cdecl") word || false) (bytes_eq (codes "cplace") word || false) (bytes_eq (codes "explain") word || false) (bytes_eq (codes "arguments") word || false) (bytes_eq (codes "help") word || false) (or_none _ _ fine).0
   one_word h (option id) position false word fine = stops_none h (option id) position word
   one_word h positional position false word fine = stops_none h positional position word
 
@@ -210,9 +212,15 @@ module _ (at at' : Addresses) where
   asks rs (Some p) (inr (inr (inr (inr (inl is))))) fine checked =
       let P : Text → Type 0 = λ name. Asks (Some (name, p.1)) in
       subst P (sym is) (inl (Cdecl, refl))
-  asks rs (Some p) (inr (inr (inr (inr (inr is))))) fine checked =
+  asks rs (Some p) (inr (inr (inr (inr (inr (inl is)))))) fine checked =
       let P : Text → Type 0 = λ name. Asks (Some (name, p.1)) in
       subst P (sym is) (inl (Cplace, refl))
+  asks rs (Some p) (inr (inr (inr (inr (inr (inr (inl is))))))) fine checked =
+      let P : Text → Type 0 = λ name. Asks (Some (name, p.1)) in
+      subst P (sym is) (inl (Explain, refl))
+  asks rs (Some p) (inr (inr (inr (inr (inr (inr (inr is))))))) fine checked =
+      let P : Text → Type 0 = λ name. Asks (Some (name, p.1)) in
+      subst P (sym is) (inl (Arguments, refl))
   asks rs (Some p) (inr (inr (inl is))) fine checked =
       let P : Text → Type 0 = λ name. entered_fault app (Some (name, p.1)) ≡ [] → Asks (Some (name, p.1)) in
       subst P (sym is) (asks_run p.1) fine

@@ -5,7 +5,7 @@ use Rattle.std.specs.Str.{bytes_eq}
 use Rattle.clap.specs.Words.{Row, Text, first_of}
 use Rattle.ffi3_type_rules.specs.declared.Target.{Target}
 use Rattle.ffi3_words.specs.declared.words.Request.{Request}
-use Rattle.ffi3_words.specs.declared.words.Request.TheVariants.{Layout, Place, Run, Cdecl, Cplace, Bench}
+use Rattle.ffi3_words.specs.declared.words.Request.TheVariants.{Layout, Place, Run, Cdecl, Cplace, Explain, Arguments, Bench}
 use Rattle.ffi3_words.specs.WordCommands.{asked, bench_of, is_set, number_of, target_of, with_calls, with_target_of}
 use Rattle.ffi3_words.specs.WordAnswers.{IsInRange}
 
@@ -32,20 +32,22 @@ runs_in : (trace : Bool) (t : Option Target) → IfInRange (option_map (λ x. Ru
 runs_in trace None = tt
 runs_in trace (Some t) = tt
 
-request_in : (is_layout is_cdecl is_cplace is_bench is_place is_run : Bool) (target trace seed calls : Option Text) → IfInRange (cond is_layout (Some Layout) (cond is_cdecl (Some Cdecl) (cond is_cplace (Some Cplace) (cond is_bench (bench_of seed calls) (cond is_place (with_target_of target (λ t. Place t)) (cond is_run (with_target_of target (λ t. Run t (is_set trace))) None))))))
-request_in true b2 b3 b4 b5 b6 target trace seed calls = tt
-request_in false true b3 b4 b5 b6 target trace seed calls = tt
-request_in false false true b4 b5 b6 target trace seed calls = tt
-request_in false false false true b5 b6 target trace seed calls =
+request_in : (is_layout is_cdecl is_cplace is_explain is_arguments is_bench is_place is_run : Bool) (target trace seed calls : Option Text) → IfInRange (cond is_layout (Some Layout) (cond is_cdecl (Some Cdecl) (cond is_cplace (Some Cplace) (cond is_explain (Some Explain) (cond is_arguments (Some Arguments) (cond is_bench (bench_of seed calls) (cond is_place (with_target_of target (λ t. Place t)) (cond is_run (with_target_of target (λ t. Run t (is_set trace))) None))))))))
+request_in true b2 b3 b4 b5 b6 b7 b8 target trace seed calls = tt
+request_in false true b3 b4 b5 b6 b7 b8 target trace seed calls = tt
+request_in false false true b4 b5 b6 b7 b8 target trace seed calls = tt
+request_in false false false true b5 b6 b7 b8 target trace seed calls = tt
+request_in false false false false true b6 b7 b8 target trace seed calls = tt
+request_in false false false false false true b7 b8 target trace seed calls =
     numbers_in (option_and_then number_of seed) (option_and_then number_of calls)
-request_in false false false false true b6 target trace seed calls = places_in (option_and_then target_of target)
-request_in false false false false false true target trace seed calls = runs_in (is_set trace) (option_and_then target_of target)
-request_in false false false false false false target trace seed calls = tt
+request_in false false false false false false true b8 target trace seed calls = places_in (option_and_then target_of target)
+request_in false false false false false false false true target trace seed calls = runs_in (is_set trace) (option_and_then target_of target)
+request_in false false false false false false false false target trace seed calls = tt
 
 asked_in : (met : Option (Text × List Row)) → IfInRange (asked met)
 asked_in None = tt
 asked_in (Some p) =
-    request_in (bytes_eq p.0 (codes "layout")) (bytes_eq p.0 (codes "cdecl")) (bytes_eq p.0 (codes "cplace")) (bytes_eq p.0 (codes "bench")) (bytes_eq p.0 (codes "place")) (bytes_eq p.0 (codes "run")) (first_of (codes "target") p.1) (first_of (codes "trace") p.1) (first_of (codes "seed") p.1) (first_of (codes "calls") p.1)
+    request_in (bytes_eq p.0 (codes "layout")) (bytes_eq p.0 (codes "cdecl")) (bytes_eq p.0 (codes "cplace")) (bytes_eq p.0 (codes "explain")) (bytes_eq p.0 (codes "arguments")) (bytes_eq p.0 (codes "bench")) (bytes_eq p.0 (codes "place")) (bytes_eq p.0 (codes "run")) (first_of (codes "target") p.1) (first_of (codes "trace") p.1) (first_of (codes "seed") p.1) (first_of (codes "calls") p.1)
 
 pub in_range : (met : Option (Text × List Row)) (r : Request) → asked met ≡ Some r → IsInRange r
 in_range met r is = subst IfInRange is (asked_in met)

@@ -5,7 +5,7 @@ use Rattle.clap.proofs.OnLiterals.{clap_on_literals}
 use Rattle.ffi3_type_rules.specs.declared.Target.{Target}
 use Rattle.ffi3_type_rules.specs.declared.Target.TheVariants.{Amd64, Aapcs64, Riscv, Win64}
 use Rattle.ffi3_words.specs.declared.words.Request.{Request}
-use Rattle.ffi3_words.specs.declared.words.Request.TheVariants.{Layout, Place, Run, Cdecl, Cplace, Bench}
+use Rattle.ffi3_words.specs.declared.words.Request.TheVariants.{Layout, Place, Run, Cdecl, Cplace, Explain, Arguments, Bench}
 use Rattle.ffi3_words.specs.WordCommands.{Addresses, asked, program}
 use Rattle.ffi3_words.proofs.BenchWords.{calls_first, seed_first}
 use Rattle.ffi3_words.specs.Words.{IsStated, StatesAfterName, Takes, target_word}
@@ -27,6 +27,14 @@ module _ (at at' : Addresses) (name : Text) where
   declares_places : Reads (codes "cplace" ∷ []) Cplace
   unfolding clap_on_literals
   declares_places = (refl, refl)
+
+  explains : Reads (codes "explain" ∷ []) Explain
+  unfolding clap_on_literals
+  explains = (refl, refl)
+
+  reads_arguments : Reads (codes "arguments" ∷ []) Arguments
+  unfolding clap_on_literals
+  reads_arguments = (refl, refl)
 
   places : (t : Target) → Reads (codes "place" ∷ codes "--target" ∷ target_word t ∷ []) (Place t)
   unfolding clap_on_literals
@@ -60,6 +68,8 @@ module _ (at at' : Addresses) (name : Text) where
   states rest Layout is = subst (λ ws. Reads ws Layout) (sym is) lays
   states rest Cdecl is = subst (λ ws. Reads ws Cdecl) (sym is) declares
   states rest Cplace is = subst (λ ws. Reads ws Cplace) (sym is) declares_places
+  states rest Explain is = subst (λ ws. Reads ws Explain) (sym is) explains
+  states rest Arguments is = subst (λ ws. Reads ws Arguments) (sym is) reads_arguments
   states rest (Place t) is = subst (λ ws. Reads ws (Place t)) (sym is) (places t)
   states rest (Run t false) is = subst (λ ws. Reads ws (Run t false)) (sym is) (runs t)
   states rest (Run t true) (inl is) =

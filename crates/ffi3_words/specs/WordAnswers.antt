@@ -5,7 +5,7 @@ use Rattle.clap.specs.declared.error.Error.{Error}
 use Rattle.clap.specs.declared.error.kind.ErrorKind.TheVariants.{OutOfMemory}
 use Rattle.ffi3_type_rules.specs.declared.limits.TheConstants.{MOST_CALLS}
 use Rattle.ffi3_words.specs.declared.words.Request.{Request}
-use Rattle.ffi3_words.specs.declared.words.Request.TheVariants.{Layout, Place, Run, Cdecl, Cplace, Bench}
+use Rattle.ffi3_words.specs.declared.words.Request.TheVariants.{Layout, Place, Run, Cdecl, Cplace, Explain, Arguments, Bench}
 use Rattle.ffi3_words.specs.declared.words.WordsFault.{WordsFault}
 use Rattle.ffi3_words.specs.declared.words.WordsFault.TheVariants.{Refused, NoMemory}
 use Rattle.ffi3_words.specs.Words.{IsRefused, IsStated}
@@ -17,6 +17,8 @@ IsInRange (Place t) = Unit {0}
 IsInRange (Run t trace) = Unit {0}
 IsInRange Cdecl = Unit {0}
 IsInRange Cplace = Unit {0}
+IsInRange Explain = Unit {0}
+IsInRange Arguments = Unit {0}
 IsInRange (Bench seed calls) = (1 ≤ calls) × (calls ≤ MOST_CALLS)
 
 abbrev pub IsWordsRefusal : List Text → WordsFault → Type 0

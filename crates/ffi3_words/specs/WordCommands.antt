@@ -12,7 +12,7 @@ use Rattle.ffi3_type_rules.specs.declared.limits.TheConstants.{MOST_CALLS}
 use Rattle.ffi3_type_rules.specs.declared.Target.{Target}
 use Rattle.ffi3_type_rules.specs.declared.Target.TheVariants.{Amd64, Aapcs64, Riscv, Win64}
 use Rattle.ffi3_words.specs.declared.words.Request.{Request}
-use Rattle.ffi3_words.specs.declared.words.Request.TheVariants.{Layout, Place, Run, Cdecl, Cplace, Bench}
+use Rattle.ffi3_words.specs.declared.words.Request.TheVariants.{Layout, Place, Run, Cdecl, Cplace, Explain, Arguments, Bench}
 
 -- ---- the words of a target
 
@@ -73,6 +73,12 @@ cdecl_shape = plain_shape (codes "cdecl")
 abbrev pub cplace_shape : Shape
 cplace_shape = plain_shape (codes "cplace")
 
+abbrev pub explain_shape : Shape
+explain_shape = plain_shape (codes "explain")
+
+abbrev pub arguments_shape : Shape
+arguments_shape = plain_shape (codes "arguments")
+
 -- a command with a target
 abbrev pub with_target : Text → ValueParser → Shape
 with_target name parser = (with_rule (new_app name) (target_rule parser)).top
@@ -95,7 +101,7 @@ program_alone = record {
 
 abbrev pub program_with : ValueParser → ValueParser → App
 program_with placing running =
-    with_subcommand (with_subcommand (with_subcommand (with_subcommand (with_subcommand (with_subcommand program_alone layout_shape) (with_target (codes "place") placing)) (with_trace (codes "run") running)) bench_shape) cdecl_shape) cplace_shape
+    with_subcommand (with_subcommand (with_subcommand (with_subcommand (with_subcommand (with_subcommand (with_subcommand (with_subcommand program_alone layout_shape) (with_target (codes "place") placing)) (with_trace (codes "run") running)) bench_shape) cdecl_shape) cplace_shape) explain_shape) arguments_shape
 
 -- THE PROGRAM, with its texts at these addresses
 abbrev pub program : Addresses → Addresses → App
@@ -129,7 +135,7 @@ bench_of seed calls =
 -- a command's name, its target, its flag and its numbers
 abbrev pub request_of : Text → Option Text → Option Text → Option Text → Option Text → Option Request
 request_of name target trace seed calls =
-    cond (bytes_eq name (codes "layout")) (Some Layout) (cond (bytes_eq name (codes "cdecl")) (Some Cdecl) (cond (bytes_eq name (codes "cplace")) (Some Cplace) (cond (bytes_eq name (codes "bench")) (bench_of seed calls) (cond (bytes_eq name (codes "place")) (with_target_of target (λ t. Place t)) (cond (bytes_eq name (codes "run")) (with_target_of target (λ t. Run t (is_set trace))) None)))))
+    cond (bytes_eq name (codes "layout")) (Some Layout) (cond (bytes_eq name (codes "cdecl")) (Some Cdecl) (cond (bytes_eq name (codes "cplace")) (Some Cplace) (cond (bytes_eq name (codes "explain")) (Some Explain) (cond (bytes_eq name (codes "arguments")) (Some Arguments) (cond (bytes_eq name (codes "bench")) (bench_of seed calls) (cond (bytes_eq name (codes "place")) (with_target_of target (λ t. Place t)) (cond (bytes_eq name (codes "run")) (with_target_of target (λ t. Run t (is_set trace))) None)))))))
 
 -- the command that was met, with its rows
 abbrev pub asked : Option (Text × List Row) → Option Request

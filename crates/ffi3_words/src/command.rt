@@ -2,7 +2,7 @@
 ghost use Rattle.std.specs.Prelude.{◌≡◌, IfOk, false, codes};
 ghost use Rattle.clap.specs.Words.{app_of, rule_of, shape_of};
 ghost use Rattle.clap.specs.declared.builder.command.Command.TheViews.{out-Command};
-ghost use Rattle.ffi3_words.specs.WordCommands.{bench_shape, calls_rule, cdecl_shape, cplace_shape, layout_shape, program_alone, seed_rule, targets, trace_rule};
+ghost use Rattle.ffi3_words.specs.WordCommands.{arguments_shape, bench_shape, calls_rule, cdecl_shape, cplace_shape, explain_shape, layout_shape, program_alone, seed_rule, targets, trace_rule};
 ghost use Rattle.ffi3_words.specs.CommandParts.{IsProgram, IsTargetRule, HasTarget, IsTraceable};
 
 use crate::help;
@@ -22,7 +22,9 @@ pub fn program<'a>(alloc: Global) -> Result<Command<'a>, AllocError>
         .subcommand(run(alloc)?)?
         .subcommand(bench(alloc)?)?
         .subcommand(cdecl(alloc))?
-        .subcommand(cplace(alloc))
+        .subcommand(cplace(alloc))?
+        .subcommand(explain(alloc))?
+        .subcommand(arguments(alloc))
 }
 
 // The program without its commands, of which one is required.
@@ -101,6 +103,26 @@ fn cplace<'a>(alloc: Global) -> Command<'a>
         .about(help::CPLACE_ABOUT)
         .long_about(help::CPLACE_LONG_ABOUT)
         .after_help(help::CPLACE_AFTER_HELP)
+}
+
+fn explain<'a>(alloc: Global) -> Command<'a>
+    ensures shape { shape_of result ≡ explain_shape }
+    ensures local { (out-Command result).has_globals ≡ false }
+{
+    Command::new(alloc, "explain")
+        .about(help::EXPLAIN_ABOUT)
+        .long_about(help::EXPLAIN_LONG_ABOUT)
+        .after_help(help::EXPLAIN_AFTER_HELP)
+}
+
+fn arguments<'a>(alloc: Global) -> Command<'a>
+    ensures shape { shape_of result ≡ arguments_shape }
+    ensures local { (out-Command result).has_globals ≡ false }
+{
+    Command::new(alloc, "arguments")
+        .about(help::ARGUMENTS_ABOUT)
+        .long_about(help::ARGUMENTS_LONG_ABOUT)
+        .after_help(help::ARGUMENTS_AFTER_HELP)
 }
 
 // The option `--target`, which has to be one of these words.

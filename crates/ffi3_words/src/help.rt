@@ -11,9 +11,10 @@ pub const LONG_ABOUT: &str =
 layout, place and run read one script from standard input: a JSON text of at
 most 1,048,576 bytes with C signatures, functions of these signatures, and a
 main function that makes closures of the functions and calls them. cdecl and
-cplace read the C declaration of one function, and bench reads nothing. What a
-command finds goes to standard output. Calls are made on a modelled machine, in
-software: no code of the host is called.";
+cplace read the C declaration of one function, explain and arguments the
+registers and the stack of a machine at the entry of a function, and bench reads
+nothing. What a command finds goes to standard output. Calls are made on a
+modelled machine, in software: no code of the host is called.";
 
 pub const AFTER_HELP: &str = "Targets:
   amd64    System V psABI for AMD64
@@ -24,9 +25,10 @@ pub const AFTER_HELP: &str = "Targets:
 Exit status:
   0  done
   1  the input was refused: standard error has `ffi3: PATH: REASON`, where
-     PATH leads to the place in the script (or `ffi3: not JSON`, or
-     `ffi3: script too long`); of a declaration, `ffi3: at N: REASON`, where N
-     is the offset in bytes (or `ffi3: REASON`)
+     PATH leads to the place in the JSON text (or `ffi3: not JSON`, or
+     `ffi3: script too long`, or `ffi3: input too long`); of a declaration,
+     `ffi3: at N: REASON`, where N is the offset in bytes (or `ffi3: REASON`);
+     of registers and stack, the first argument that they do not hold
   2  the command line was refused, or asked for help or the version
   3  a read failed
   4  a write failed
@@ -38,7 +40,8 @@ Examples:
   ffi3 place --target riscv < examples/increment.json
   ffi3 run --target amd64 < examples/increment.json
   ffi3 bench --seed 1 --calls 2
-  echo 'int printf(const char *fmt, ...);' | ffi3 cdecl";
+  echo 'int printf(const char *fmt, ...);' | ffi3 cdecl
+  ffi3 explain < examples/explain.json";
 
 pub const LAYOUT_ABOUT: &str = "Print the size, alignment and leaves of every type";
 
@@ -238,6 +241,96 @@ Exit status:
 
 Example:
   echo 'double scale(struct { float x; float y; } p, int by);' | ffi3 cplace";
+
+pub const EXPLAIN_ABOUT: &str =
+    "Read registers and stack at an entry, and print the arguments that they hold";
+
+pub const EXPLAIN_LONG_ABOUT: &str =
+    "Read registers and stack at an entry, and print the arguments that they hold.
+
+Reads one JSON object of at most 1,048,576 bytes from standard input. It
+describes a machine as a function begins, with these keys:
+
+  target    the word of a target
+  sig       the function's signature, as in a script of version 2, which may be
+            a C declaration
+  sp        the stack pointer
+  general   32 general registers, by their numbers in instructions
+  floating  32 floating registers, by their numbers in instructions
+  stack     the bytes of the stack from sp on, as hexadecimal digits
+
+sp and registers are texts of 16 hexadecimal digits, the highest first. Writes a
+line for each argument, and one for the address of a hidden result:
+
+  arg 0 -42
+  hidden 0x7ffefff0
+
+Each place is judged as a call of this program leaves it: narrow integers are
+extended, copies stand at their offsets, and on amd64 rax has the number of
+vector registers in use. For the first place that holds something else the
+status is 1, and standard error has what it holds and what it would hold:
+
+  ffi3: arg 0: a0 holds 0000000080000000, wants ffffffff80000000
+
+What a compiler's call left is read by arguments, which judges nothing.";
+
+pub const EXPLAIN_AFTER_HELP: &str = "Targets:
+  amd64    System V psABI for AMD64
+  aapcs64  procedure call standard for the Arm 64-bit architecture
+  riscv    RISC-V psABI, LP64D
+  win64    Microsoft x64 calling convention
+
+Exit status:
+  0  done
+  1  the input was refused: standard error has `ffi3: PATH: REASON` (or
+     `ffi3: not JSON`, or `ffi3: input too long`), or the first place that does
+     not hold what it would hold
+  2  the command line was refused, or asked for help or the version
+  3  a read failed
+  4  a write failed
+  5  out of memory
+
+Example:
+  ffi3 explain < examples/explain.json";
+
+pub const ARGUMENTS_ABOUT: &str =
+    "Print the arguments in registers and stack, by the standard alone";
+
+pub const ARGUMENTS_LONG_ABOUT: &str =
+    "Print the arguments in registers and stack, by the standard alone.
+
+Reads the object that explain reads, and writes a line for each argument:
+
+  arg 0 -42
+
+Nothing is judged that the calling standard leaves free, so the call may be any
+compiler's. An argument that is passed by reference is read where its address
+points. Where that is not in the bytes of the stack, the status is 1, and
+standard error has
+
+  ffi3: arg 0: 0x7ffeff00 is not in the image
+
+The stack has to reach as far as the highest place of an argument. The address
+of a hidden result is not written. explain --help says what the object is.";
+
+pub const ARGUMENTS_AFTER_HELP: &str = "Targets:
+  amd64    System V psABI for AMD64
+  aapcs64  procedure call standard for the Arm 64-bit architecture
+  riscv    RISC-V psABI, LP64D
+  win64    Microsoft x64 calling convention
+
+Exit status:
+  0  done
+  1  the input was refused: standard error has `ffi3: PATH: REASON` (or
+     `ffi3: not JSON`, or `ffi3: input too long`), or the first address that
+     does not point into the image
+  2  the command line was refused, or asked for help or the version
+  3  a read failed
+  4  a write failed
+  5  out of memory
+
+Example:
+  ffi3 arguments < examples/explain.json";
 
 pub const SEED_HELP: &str = "Make the script of this seed, from 0 to 4294967295";
 

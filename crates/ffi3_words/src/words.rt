@@ -27,6 +27,10 @@ pub enum Request {
     Cdecl,
     /// The same, and the frame and the places on every target.
     Cplace,
+    /// The arguments that registers and stack at an entry hold, or the first place that holds something else.
+    Explain,
+    /// The arguments that they have by the standard alone, whoever called.
+    Arguments,
     /// The made script of a seed and a number of calls, from 1 to 1000, on amd64, aapcs64 and riscv.
     Bench { seed: u32, calls: u32 },
 }
@@ -95,6 +99,12 @@ fn named(
     }
     if name == "cplace" {
         return Some(Request::Cplace);
+    }
+    if name == "explain" {
+        return Some(Request::Explain);
+    }
+    if name == "arguments" {
+        return Some(Request::Arguments);
     }
     if name == "bench" {
         return bench_of(seed, calls);

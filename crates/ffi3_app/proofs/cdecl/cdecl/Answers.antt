@@ -1,4 +1,4 @@
-use Rattle.std.proofs.Common.{rules, ◌≡◌, ◌++◌, refl}
+use Rattle.std.proofs.Common.{rules, ◌≡◌, refl}
 use Rattle.std.specs.Prelude.{Err}
 use Rattle.ffi3_type_rules.specs.Text.{signature_text}
 use Rattle.ffi3_run_rules.specs.Lines.{a_line}

@@ -1,4 +1,4 @@
-use Rattle.std.proofs.Common.{◌≡◌, [], ◌∷◌, ◌++◌, codes, rules}
+use Rattle.std.proofs.Common.{[], ◌∷◌, codes, rules}
 use Rattle.std.specs.Fmt.{decimal}
 use Rattle.ffi3_run_rules.specs.Lines.{address_text}
 use Rattle.ffi3_image.proofs.Texts.{joined-line}

@@ -1,8 +1,11 @@
 use Rattle.std.proofs.Common.{◌≡◌, List, refl, map, ap, sym, ◌∙◌, subst, rules}
+use Rattle.ffi3_type_rules.specs.declared.Target.{Target}
 use Rattle.ffi3_type_rules.specs.Signature.{Signature, signature_at}
+use Rattle.ffi3_run_rules.specs.Closures.{Closures}
 use Rattle.ffi3_run_rules.specs.Meaning.{Program}
 use Rattle.ffi3_script_rules.specs.Natives.{NamedNative, program_beside}
 use Rattle.ffi3_script.specs.ScriptOf.{script_of}
+use Rattle.ffi3_closures.specs.Slots.{HoldsMap}
 use Rattle.ffi3_ask.specs.Handed.{handed_in}
 use Rattle.ffi3_board.specs.Served.{IsIdle}
 use Rattle.ffi3_runner.specs.declared.run.RunEnd.TheVariants as run
@@ -40,3 +43,12 @@ pub show_at-requires-clause-target : goal.show_at-requires-clause-target
 show_at-requires-clause-target g c =
     let done : c.run_main.result ≡ run.Done = search rules in
     (c.run_main.ensures.done done).target ∙ g.met.A.Abi.target_is
+
+pub show_at-requires-clause-holds : goal.show_at-requires-clause-holds
+show_at-requires-clause-holds g c =
+    let done : c.run_main.result ≡ run.Done = search rules in
+    let std = g.A.Abi.standard in
+    let matches = c.run_main.ensures.done done in
+    let table = c.table.ensures ∙ (c.run_main.ensures.left done).closures in
+    let held : HoldsMap std.target c.table.result.now c.run_main.new.machine.code = subst (λ (t : Closures). HoldsMap std.target t c.run_main.new.machine.code) (sym table) matches.code in
+    subst (λ (t : Target). HoldsMap t c.table.result.now c.run_main.new.machine.code) (sym matches.target) held

@@ -77,7 +77,7 @@ returns-in-Err-clause-accepted g c = λ p arguments signatures needs shown holds
     let s = c.get-cif.result.now in
     let same : signature_at p.signatures closure.sig ≡ s = sym (numbered p c.args.cifs.now closure.sig s signatures c.get-cif.ensures) in
     let here = subst (λ (t : Signature). ShowsCall std t arguments m) (sym c.get-cif.ensures) shown in
-    let accepted : WasAccepted std s m m' incoming = record { events = e.events; received = e.received; incoming_is = e.incoming; block = e.block; sp = e.sp; within = e.within; spare_events = e.spare_events; spare_bytes = e.spare_bytes; in_callee = e.in_callee here.return_address here.events here.bytes } in
+    let accepted : WasAccepted std s m m' incoming = record { events = e.events; received = e.received; incoming_is = e.incoming; block = e.block; sp = e.sp; within = e.within; steps = e.steps; spare_events = e.spare_events; spare_bytes = e.spare_bytes; in_callee = e.in_callee here.return_address here.events here.bytes } in
     let shows = subst (λ (t : Signature). ShowsCall std t arguments m) (sym same) here in
     let is = subst (λ (t : Signature). WasAccepted std t m m' incoming) (sym same) accepted in
     let below = subst (λ (l : List Signature). closure.sig < length l) (sym signatures) c.requires.below in
@@ -99,7 +99,7 @@ returns-clause-accepted g c = λ p arguments signatures needs shown holds known 
     let s = c.get-cif.result.now in
     let same : signature_at p.signatures closure.sig ≡ s = sym (numbered p c.args.cifs.now closure.sig s signatures c.get-cif.ensures) in
     let here = subst (λ (t : Signature). ShowsCall std t arguments m) (sym c.get-cif.ensures) shown in
-    let accepted : WasAccepted std s m m' incoming = record { events = e.events; received = e.received; incoming_is = e.incoming; block = e.block; sp = e.sp; within = e.within; spare_events = e.spare_events; spare_bytes = e.spare_bytes; in_callee = e.in_callee here.return_address here.events here.bytes } in
+    let accepted : WasAccepted std s m m' incoming = record { events = e.events; received = e.received; incoming_is = e.incoming; block = e.block; sp = e.sp; within = e.within; steps = e.steps; spare_events = e.spare_events; spare_bytes = e.spare_bytes; in_callee = e.in_callee here.return_address here.events here.bytes } in
     let shows = subst (λ (t : Signature). ShowsCall std t arguments m) (sym same) here in
     let is = subst (λ (t : Signature). WasAccepted std t m m' incoming) (sym same) accepted in
     let below = subst (λ (l : List Signature). closure.sig < length l) (sym signatures) c.requires.below in

@@ -1,0 +1,255 @@
+// The arguments of a function, from registers and stack where it begins.
+ghost use Rattle.std.specs.Prelude.{◌≡◌, IfOk, IfErr};
+ghost use Rattle.ffi3_type_rules.specs.Signature.{SignatureHasNoFault};
+ghost use Rattle.ffi3_capi.specs.Placed.{standard_of};
+ghost use Rattle.ffi3_capi.specs.Entry.{AreFoundBy, AreNotReadBy, AreFound, AreNotRead, Reads, arguments_of, image_in, no_arguments, unread_status};
+
+use crate::bytes::bytes_of;
+use crate::codes::{NOT_IN_STACK, SHORT_STACK};
+use crate::fault::{FaultKind, TextFault, fault_with};
+use crate::fill::{fill_bytes, room_status};
+use crate::placing::target_numbered;
+use crate::reading::declared;
+use crate::status::Refusal;
+use ffi3_aapcs64::Aapcs64;
+use ffi3_amd64::Amd64;
+use ffi3_cif::Cif;
+use ffi3_explain::{Image, least_stack};
+use ffi3_place::Abi;
+use ffi3_place::parts::count_of;
+use ffi3_riscv::Riscv;
+use ffi3_types::{Bytes, Sig, Target};
+use ffi3_win64::Win64;
+use std::alloc::Global;
+
+/// What a machine's registers hold: C's `struct ffi3_registers`.
+#[repr(C)]
+#[derive(Clone, Copy)]
+pub struct Registers {
+    /// General registers, by their numbers.
+    pub general: [u64; 32],
+    /// The low 64 bits of floating registers.
+    pub floating: [u64; 32],
+    /// The stack pointer.
+    pub sp: u64,
+}
+
+/// What is told of arguments beside their bytes: C's `struct ffi3_arguments`.
+#[repr(C)]
+#[derive(Clone, Copy)]
+pub struct EntryArguments {
+    /// How many arguments the function names.
+    pub arguments: usize,
+    /// How many bytes the values have, each begun at a multiple of 8.
+    pub size: usize,
+    /// How far the arguments' places reach in the stack, from the stack pointer on.
+    pub stack: usize,
+    /// The address that points past the stack's bytes, if that is why there are no values.
+    pub address: u64,
+    /// Of which argument it is.
+    pub argument: u32,
+    pub fault: TextFault,
+}
+
+/// Arguments that were read.
+#[derive(Drop)]
+pub struct Found {
+    pub told: EntryArguments,
+    pub bytes: Bytes,
+}
+
+/// Why arguments are not read.
+#[derive(Clone, Copy)]
+pub enum Unread {
+    /// There is no such call.
+    Call(Refusal),
+    /// Of so many arguments, whose places reach so far in the stack.
+    ShortStack {
+        arguments: usize,
+        stack: usize,
+    },
+    /// The same, and one argument's address.
+    NotInStack {
+        arguments: usize,
+        stack: usize,
+        argument: u32,
+        address: u64,
+    },
+}
+
+impl Unread {
+    /// The number that C is answered.
+    fn status(self) -> u32
+        ensures { result ≡ unread_status self }
+    {
+        match self {
+            Unread::Call(refusal) => refusal.status(),
+            Unread::ShortStack { .. } => SHORT_STACK,
+            Unread::NotInStack { .. } => NOT_IN_STACK,
+        }
+    }
+
+    /// What C is told beside it.
+    fn told(self) -> EntryArguments
+        ensures { result ≡ no_arguments self }
+    {
+        match self {
+            Unread::Call(refusal) => told(0, 0, 0, refusal.fault()),
+            Unread::ShortStack { arguments, stack } => {
+                told(arguments, 0, stack, fault_with(FaultKind::NoFault))
+            }
+            Unread::NotInStack {
+                arguments,
+                stack,
+                argument,
+                address,
+            } => EntryArguments {
+                argument,
+                address,
+                ..told(arguments, 0, stack, fault_with(FaultKind::NoFault))
+            },
+        }
+    }
+}
+
+/// No address is told.
+fn told(arguments: usize, size: usize, stack: usize, fault: TextFault) -> EntryArguments
+    ensures { result ≡ arguments_of arguments size stack fault }
+{
+    EntryArguments {
+        arguments,
+        size,
+        stack,
+        address: 0,
+        argument: 0,
+        fault,
+    }
+}
+
+/// The arguments by a calling standard.
+fn read_by<A: Abi>(
+    alloc: Global,
+    sig: Sig,
+    registers: &Registers,
+    stack: &[u8],
+) -> Result<Found, Unread>
+    requires { SignatureHasNoFault sig }
+    ensures found { IfOk result (λ f. AreFoundBy A.standard sig (image_in registers.now stack.now) f) }
+    ensures unread { IfErr result (λ u. AreNotReadBy A.standard sig (image_in registers.now stack.now) u) }
+{
+    let arguments = count_of(&sig) as usize;
+    let Ok(cif) = Cif::<A>::prepare(alloc, sig) else {
+        return Err(Unread::Call(Refusal::NoMemory));
+    };
+    let wanted = least_stack(&cif) as usize;
+    if stack.len() < wanted {
+        return Err(Unread::ShortStack {
+            arguments,
+            stack: wanted,
+        });
+    }
+    let Ok(stack) = Bytes::from_slice(alloc, stack) else {
+        return Err(Unread::Call(Refusal::NoMemory));
+    };
+    let image = Image {
+        general: registers.general,
+        floating: registers.floating,
+        sp: registers.sp,
+        stack,
+    };
+    let values = match ffi3_explain::arguments(alloc, &image, &cif) {
+        Ok(values) => values,
+        Err(ffi3_explain::Unread::PointsOutside(outside)) => {
+            return Err(Unread::NotInStack {
+                arguments,
+                stack: wanted,
+                argument: outside.argument,
+                address: outside.address,
+            });
+        }
+        Err(ffi3_explain::Unread::NoMemory) => return Err(Unread::Call(Refusal::NoMemory)),
+    };
+    let Ok(bytes) = bytes_of(alloc, cif.sig(), &values) else {
+        return Err(Unread::Call(Refusal::NoMemory));
+    };
+    Ok(Found {
+        told: told(
+            arguments,
+            bytes.len(),
+            wanted,
+            fault_with(FaultKind::NoFault),
+        ),
+        bytes,
+    })
+}
+
+/// The arguments by the target's calling standard.
+fn read_on(
+    alloc: Global,
+    target: Target,
+    sig: Sig,
+    registers: &Registers,
+    stack: &[u8],
+) -> Result<Found, Unread>
+    requires { SignatureHasNoFault sig }
+    ensures found { IfOk result (λ f. AreFoundBy (standard_of target) sig (image_in registers.now stack.now) f) }
+    ensures unread { IfErr result (λ u. AreNotReadBy (standard_of target) sig (image_in registers.now stack.now) u) }
+{
+    match target {
+        Target::Amd64 => read_by::<Amd64>(alloc, sig, registers, stack),
+        Target::Aapcs64 => read_by::<Aapcs64>(alloc, sig, registers, stack),
+        Target::Riscv => read_by::<Riscv>(alloc, sig, registers, stack),
+        Target::Win64 => read_by::<Win64>(alloc, sig, registers, stack),
+    }
+}
+
+/// The arguments of the function that the text declares, as registers and stack have them where it begins, by the calling
+/// standard with this number alone: what that leaves free is not judged, and an address is followed to wherever it points
+/// in the stack's bytes, which begin at the stack pointer.
+pub fn find_arguments(
+    alloc: Global,
+    target: u32,
+    text: &[u8],
+    registers: &Registers,
+    stack: &[u8],
+) -> Result<Found, Unread>
+    ensures found { IfOk result (λ f. AreFound target text.now (image_in registers.now stack.now) f) }
+    ensures unread { IfErr result (λ u. AreNotRead target text.now (image_in registers.now stack.now) u) }
+{
+    let Some(to) = target_numbered(target) else {
+        return Err(Unread::Call(Refusal::NoSuchTarget));
+    };
+    let sig = match declared(alloc, text) {
+        Ok(sig) => sig,
+        Err(Some(fault)) => return Err(Unread::Call(Refusal::Fault(fault))),
+        Err(None) => return Err(Unread::Call(Refusal::NoMemory)),
+    };
+    match read_on(alloc, to, sig, registers, stack) {
+        Ok(found) => Ok(found),
+        Err(unread) => Err(unread),
+    }
+}
+
+/// The same for a caller's struct and array of bytes. The number tells whether the values had room, or why there are none.
+pub fn arguments(
+    alloc: Global,
+    target: u32,
+    text: &[u8],
+    registers: &Registers,
+    stack: &[u8],
+    told: &mut EntryArguments,
+    values: &mut [u8],
+) -> u32
+    ensures { Reads target text.now (image_in registers.now stack.now) values.old result told.new values.new }
+{
+    match find_arguments(alloc, target, text, registers, stack) {
+        Ok(found) => {
+            *told = found.told;
+            room_status(fill_bytes(found.bytes.as_slice(), values))
+        }
+        Err(unread) => {
+            *told = unread.told();
+            unread.status()
+        }
+    }
+}

@@ -1,0 +1,183 @@
+// What is answered to the bytes of an input.
+ghost use Rattle.std.specs.Prelude.{◌≡◌, ◌+◌, ◌^◌, ◌<◌, ◌≤◌, length, true, IfOk};
+ghost use Rattle.ffi3_type_rules.specs.Signature.{SignatureHasNoFault};
+ghost use Rattle.ffi3_type_rules.specs.Tree.{trees_of};
+ghost use Rattle.ffi3_type_rules.specs.Value.{all_fit, values_of};
+ghost use Rattle.ffi3_place_rules.specs.Standard.{frame_of};
+ghost use Rattle.ffi3_explain_rules.specs.Arguments.{least_stack};
+ghost use Rattle.ffi3_explain.specs.ImageOf.{image_of};
+ghost use Rattle.ffi3_image_rules.specs.Input.{standard_of};
+ghost use Rattle.ffi3_image_rules.specs.Lines.{explained_text};
+ghost use Rattle.ffi3_image_rules.specs.Answer.{IsTheAnswer, answer_by};
+ghost use Rattle.ffi3_image.specs.AnswerOf.{IsToldAs, answer_about, answer_of};
+
+use crate::lines::{
+    arguments_text, broken_line, fault_line, hidden_lines, not_json_line, outside_line,
+    too_long_line,
+};
+use crate::room::{buffer_address, room_for_arguments, room_for_explain};
+use crate::{ImageFault, Snapshot, read_snapshot};
+use ffi3_aapcs64::Aapcs64;
+use ffi3_amd64::Amd64;
+use ffi3_cif::Cif;
+use ffi3_explain::{Image, Unexplained, Unread, arguments, explain};
+use ffi3_image_rules::Question;
+use ffi3_place::Abi;
+use ffi3_riscv::Riscv;
+use ffi3_type_rules::Target;
+use ffi3_types::{Bytes, NoMemory, Sig};
+use ffi3_values::Values;
+use ffi3_win64::Win64;
+use std::alloc::Global;
+
+/// What is answered to an input that is to describe an image.
+#[derive(Debug, Drop)]
+pub enum Answer {
+    /// Lines, each with its newline: what the image holds.
+    Text(Bytes),
+    /// The line that says why it does not hold arguments, or why the input describes no image.
+    Refusal(Bytes),
+}
+
+/// Reads the bytes as the description of an image, and answers a question about it: with the lines of its arguments,
+/// where it is explained behind them the line of a hidden result's address; or with the line that refuses it. Refused is,
+/// in this order, an input of more than 1,048,576 bytes, one that is no JSON, the first fault of reading, an image that
+/// lacks the room that the question needs, and one that is not explained by values, or by the standard alone has an address
+/// that points outside.
+pub fn answer_question(alloc: Global, question: Question, bytes: &[u8]) -> Result<Answer, NoMemory>
+    ensures { IfOk result (λ a. IsTheAnswer question bytes.now (answer_of a)) }
+{
+    match read_snapshot(alloc, bytes) {
+        Ok(snapshot) => answer_about(alloc, question, &snapshot),
+        Err(fault) => refusal(alloc, &fault),
+    }
+}
+
+// About an image that is described so.
+fn answer_about(alloc: Global, question: Question, snapshot: &Snapshot) -> Result<Answer, NoMemory>
+    requires { SignatureHasNoFault snapshot.now.sig }
+    ensures { IfOk result (λ a. answer_of a ≡ answer_about question (standard_of snapshot.now.target) snapshot.now.sig (image_of snapshot.now.image)) }
+{
+    let sig = &snapshot.sig;
+    let image = &snapshot.image;
+    match snapshot.target {
+        Target::Amd64 => answer_by::<Amd64>(alloc, question, sig, image),
+        Target::Aapcs64 => answer_by::<Aapcs64>(alloc, question, sig, image),
+        Target::Riscv => answer_by::<Riscv>(alloc, question, sig, image),
+        Target::Win64 => answer_by::<Win64>(alloc, question, sig, image),
+    }
+}
+
+// By a calling standard.
+fn answer_by<A: Abi>(
+    alloc: Global,
+    question: Question,
+    sig: &Sig,
+    image: &Image,
+) -> Result<Answer, NoMemory>
+    requires { SignatureHasNoFault sig.now }
+    ensures { IfOk result (λ a. answer_of a ≡ answer_about question A.standard sig.now (image_of image.now)) }
+{
+    let cif: Cif<A> = Cif::prepare(alloc, sig.copy(alloc)?)?;
+    answer_of_call(alloc, question, image, &cif)
+}
+
+// About the image of a call that is prepared.
+fn answer_of_call<A: Abi>(
+    alloc: Global,
+    question: Question,
+    image: &Image,
+    cif: &Cif<A>,
+) -> Result<Answer, NoMemory>
+    ensures { IfOk result (λ a. answer_of a ≡ answer_about question A.standard cif.now (image_of image.now)) }
+{
+    match question {
+        Question::Explained => answer_explained(alloc, image, cif),
+        Question::ByStandard => answer_by_standard(alloc, image, cif),
+    }
+}
+
+// ---- an explanation
+
+fn answer_explained<A: Abi>(alloc: Global, image: &Image, cif: &Cif<A>) -> Result<Answer, NoMemory>
+    ensures { IfOk result (λ a. answer_of a ≡ answer_about Question.Explained A.standard cif.now (image_of image.now)) }
+{
+    match room_for_explain(alloc, image, cif) {
+        Ok(()) => explanation(alloc, image, cif),
+        Err(fault) => refusal(alloc, &fault),
+    }
+}
+
+// Of an image that has room for it.
+fn explanation<A: Abi>(alloc: Global, image: &Image, cif: &Cif<A>) -> Result<Answer, NoMemory>
+    requires stack { A.standard.link + frame_of A.standard cif.now ≤ length image.now.stack }
+    requires high { image.now.sp + A.standard.link + frame_of A.standard cif.now < 2 ^ 64 }
+    ensures { IfOk result (λ a. answer_of a ≡ answer_by Question.Explained A.standard cif.now (image_of image.now)) }
+{
+    let isa = A::TARGET.isa();
+    match explain(alloc, image, cif) {
+        Ok(values) => Ok(Answer::Text(explained_text(alloc, image, cif, &values)?)),
+        Err(Unexplained::NotHeld(check)) => {
+            Ok(Answer::Refusal(broken_line(alloc, isa, &check)?))
+        }
+        Err(Unexplained::NoMemory) => Err(NoMemory),
+    }
+}
+
+// The lines of the arguments, and of a hidden result's address.
+fn explained_text<A: Abi>(
+    alloc: Global,
+    image: &Image,
+    cif: &Cif<A>,
+    values: &Values,
+) -> Result<Bytes, NoMemory>
+    requires stack { A.standard.link + frame_of A.standard cif.now ≤ length image.now.stack }
+    requires high { image.now.sp + A.standard.link + frame_of A.standard cif.now < 2 ^ 64 }
+    requires fits { all_fit (trees_of cif.now.arguments) (values_of values.now) ≡ true }
+    ensures { IfOk result (λ text. text ≡ explained_text A.standard cif.now (image_of image.now) values.now) }
+{
+    let mut text = arguments_text(alloc, cif.sig(), values)?;
+    text.extend(hidden_lines(alloc, buffer_address(image, cif))?.as_slice())?;
+    Ok(text)
+}
+
+// ---- arguments by the standard alone
+
+fn answer_by_standard<A: Abi>(
+    alloc: Global,
+    image: &Image,
+    cif: &Cif<A>,
+) -> Result<Answer, NoMemory>
+    ensures { IfOk result (λ a. answer_of a ≡ answer_about Question.ByStandard A.standard cif.now (image_of image.now)) }
+{
+    match room_for_arguments(alloc, image, cif) {
+        Ok(()) => held_arguments(alloc, image, cif),
+        Err(fault) => refusal(alloc, &fault),
+    }
+}
+
+// Of an image that has room for them.
+fn held_arguments<A: Abi>(alloc: Global, image: &Image, cif: &Cif<A>) -> Result<Answer, NoMemory>
+    requires { least_stack A.standard cif.now ≤ length image.now.stack }
+    ensures { IfOk result (λ a. answer_of a ≡ answer_by Question.ByStandard A.standard cif.now (image_of image.now)) }
+{
+    match arguments(alloc, image, cif) {
+        Ok(values) => Ok(Answer::Text(arguments_text(alloc, cif.sig(), &values)?)),
+        Err(Unread::PointsOutside(outside)) => Ok(Answer::Refusal(outside_line(alloc, &outside)?)),
+        Err(Unread::NoMemory) => Err(NoMemory),
+    }
+}
+
+// ---- faults
+
+// The refusal that tells a fault of reading.
+fn refusal(alloc: Global, fault: &ImageFault) -> Result<Answer, NoMemory>
+    ensures { IfOk result (λ a. IsToldAs fault.now (answer_of a)) }
+{
+    match fault {
+        ImageFault::TooLong => Ok(Answer::Refusal(too_long_line(alloc)?)),
+        ImageFault::BadJson => Ok(Answer::Refusal(not_json_line(alloc)?)),
+        ImageFault::BadImage { path, why } => { Ok(Answer::Refusal(fault_line(alloc, path, why)?)) }
+        ImageFault::NoMemory => Err(NoMemory),
+    }
+}

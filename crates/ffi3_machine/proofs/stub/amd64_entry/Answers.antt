@@ -1,0 +1,7 @@
+use Rattle.std.proofs.Common.{refl}
+use Rattle.ffi3_machine.specs.Stubs.{stub_bytes}
+use Rattle.ffi3_machine.proofs.stub.amd64_entry.Goals as goal
+
+pub returns : goal.returns
+unfolding stub_bytes
+returns c = refl
