@@ -1,4 +1,4 @@
--- WHAT layout AND place WRITE OF A SCRIPT.
+-- What layout and place write of a script.
 use Rattle.std.specs.Prelude.{ℕ, ◌+◌, List, [], ◌∷◌, ◌++◌, map}
 use Rattle.std.specs.List.{concat}
 use Rattle.ffi3_type_rules.specs.declared.Target.{Target}

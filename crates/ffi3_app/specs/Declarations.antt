@@ -1,4 +1,4 @@
--- WHAT cdecl AND cplace WRITE OF A C DECLARATION, and with which line they refuse an input that is none.
+-- What cdecl and cplace write of a C declaration, and with which line they refuse an input that is none.
 use Rattle.std.specs.Prelude.{◌<◌, ◌≤◌, ℕ, ◌++◌, List, [], ◌∷◌, length, codes, decimal, IsUtf8}
 use Rattle.std.specs.List.{concat, flat_map}
 use Rattle.ffi3_type_rules.specs.declared.Target.{Target}

@@ -1,4 +1,4 @@
--- WHAT A COMMAND DOES TO ITS INPUT: one definition for all commands.
+-- What each command does to its input, and what is done of it: one definition for all commands.
 use Rattle.std.specs.Prelude.{◌≡◌, ℕ, Bool, true, false, ◌++◌, List, take, codes}
 use Rattle.ffi3_place_rules.specs.Standard.{Standard}
 use Rattle.ffi3_run_rules.specs.Meaning.{End, Program, returned, stopped, meaning_of}

@@ -1,4 +1,4 @@
--- WHAT THE TOP CALL SAYS, by its status.
+-- What each status of the top call says, with its cause.
 use Rattle.std.specs.Prelude.{◌≡◌, ℕ, Bool, true, false, ◌+◌, List, [], drop, Some, codes}
 use Rattle.ffi3_io.specs.Sink.{AddsSome, Rose, SinkState}
 use Rattle.ffi3_io.specs.Source.{LosesSome, SourceState}

@@ -1,4 +1,4 @@
--- WHAT bench WRITES: a line for each target, of the made script's run by its standard.
+-- What bench writes: a line for each target, of the made script's run by its standard.
 use Rattle.std.specs.Prelude.{ℕ, ◌-◌, ◌/◌, max, List, [], ◌∷◌, ◌++◌, map, codes}
 use Rattle.std.specs.Fmt.{decimal}
 use Rattle.ffi3_place_rules.specs.Standard.{Standard}

@@ -1,4 +1,4 @@
--- What C is told of a type's layout.
+-- What `ffi3_layout` answers, and what it writes.
 use Rattle.std.specs.Prelude.{◌≡◌, ℕ, cond, ◌==◌, List, map, length, Option, Some, None, slice_get}
 use Rattle.ffi3_type_rules.specs.Tree.{Tree, scalar_number}
 use Rattle.ffi3_type_rules.specs.Layout.{Leaf, size_of, align_of, leaves_of, scalar_size}

@@ -1,4 +1,4 @@
--- What a refusal of the code tells.
+-- What a refusal of the reader of declarations tells.
 use Rattle.std.specs.Prelude.{Option, None}
 use Rattle.ffi3_types.specs.SignatureFaultOf.{signature_fault_of}
 use Rattle.ffi3_cdecl_rules.specs.Reading.{bad_token, unexpected, bad_number, bad_signature}

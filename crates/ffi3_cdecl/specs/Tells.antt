@@ -1,4 +1,4 @@
--- What a refusal tells.
+-- Which outcome of the reading a fault of the code tells.
 use Rattle.std.specs.Prelude.{⊤}
 use Rattle.ffi3_types.specs.SignatureFaultOf.{signature_fault_of}
 use Rattle.ffi3_cdecl_rules.specs.Reading.{Outcome, bad_token, unexpected, bad_number, bad_signature}

@@ -1,4 +1,4 @@
--- The canonical tokens of a declaration.
+-- The canonical text of a declaration, by its tokens.
 use Rattle.std.specs.Prelude.{◌≡◌, ℕ, ◌+◌, Bool, true, false, List, [], ◌∷◌, ◌++◌, ◌&&◌, ◌||◌, length, Some, is_some, codes, decimal}
 use Rattle.ffi3_type_rules.specs.Tree.{Scalar, u8, s8, u16, s16, u32, s32, u64, s64, u128, s128, float, double, pointer, Tree, Trees, void, scalar, left_out, structure, array, no_trees, tree}
 use Rattle.ffi3_cdecl_rules.specs.Tokens.{Token, unsigned, type_word, sign_word, int128_word, void_word, struct_word, name, number, open_round, close_round, open_curly, close_curly, open_square, close_square, comma, semicolon, star, dots, signed, const_word, short_word, int_word, long_word, char_word, is_letter, goes_on_word, word_of}

@@ -1,4 +1,4 @@
--- What `declaration_laws` says.
+-- What `declaration_laws` says: one reading of each text, computed in one pass, and the canonical text read back.
 use Rattle.std.specs.Prelude.{◌≡◌, ℕ, ◌↔◌, false, List}
 use Rattle.ffi3_cdecl_rules.specs.Tokens.{Token}
 use Rattle.ffi3_cdecl_rules.specs.Grammar.{Declaration, IsDeclaration}

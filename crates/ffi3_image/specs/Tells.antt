@@ -1,4 +1,4 @@
--- What a refusal tells.
+-- What a refusal of the code tells of the bytes.
 use Rattle.std.specs.Prelude.{◌≡◌, ◌<◌, ℕ, List, length}
 use Rattle.serde_json.specs.Data.{Data}
 use Rattle.ffi3_script_rules.specs.Language.{JsonPath}

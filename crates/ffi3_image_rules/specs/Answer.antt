@@ -1,4 +1,4 @@
--- WHAT IS ANSWERED to a question about an image: a text, or the line of a refusal.
+-- What is answered to a question about an image: a text, or the line of a refusal.
 use Rattle.std.specs.Prelude.{◌≡◌, ℕ, List}
 use Rattle.ffi3_type_rules.specs.Isa.{isa_of}
 use Rattle.ffi3_type_rules.specs.Signature.{Signature}

@@ -1,4 +1,4 @@
--- WHAT THE BYTES OF AN INPUT ARE READ AS, for a question.
+-- What the bytes of an input are read as, for a question.
 use Rattle.std.specs.Prelude.{◌≡◌, ◌<◌, ℕ, List, length}
 use Rattle.serde_json.specs.Data.{Data}
 use Rattle.ffi3_type_rules.specs.declared.Target.{Target}

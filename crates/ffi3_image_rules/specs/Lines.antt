@@ -1,4 +1,4 @@
--- THE LINES that tell what an image holds, and why an input is refused.
+-- The lines that tell what an image holds, and why an input is refused.
 use Rattle.std.specs.Prelude.{ℕ, suc, ◌+◌, List, [], ◌∷◌, ◌++◌, Option, Some, None, codes}
 use Rattle.std.specs.Fmt.{decimal}
 use Rattle.ffi3_type_rules.specs.declared.Isa.{Isa}

@@ -1,4 +1,4 @@
--- THE OBJECT THAT DESCRIBES AN IMAGE, by cases on the JSON value: what it is read as, or its first fault in the order of reading. Objects and signatures are read as those of a script in version 2 of its language.
+-- The object that describes an image, by cases on the JSON value: what it is read as, or its first fault in the order of reading. Objects and signatures are read as those of a script in version 2 of its language.
 use Rattle.std.specs.Prelude.{ℕ, ◌+◌, ◌==◌, List, [], ◌∷◌, cond, Option, Some, None, Result, Ok, Err, bytes_eq, codes}
 use Rattle.std.specs.Int.{w64, from_be_bytes}
 use Rattle.hex.specs.Hex.{decode_of, decode_sized}

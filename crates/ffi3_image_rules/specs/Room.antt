@@ -1,4 +1,4 @@
--- HOW MUCH OF THE STACK an image has to have.
+-- How much of the stack an image has to have for a question.
 use Rattle.std.specs.Prelude.{ℕ, ◌+◌, ◌^◌, cond, nat_le, nat_lt, length, codes, ⊤}
 use Rattle.ffi3_type_rules.specs.Signature.{Signature}
 use Rattle.ffi3_place_rules.specs.Image.{Image}

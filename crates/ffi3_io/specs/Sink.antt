@@ -1,4 +1,4 @@
--- What a sink takes. Bytes taken are `None` where the sink does not tell them.
+-- What a write takes, where the sink tells it. Bytes taken are `None` where the sink does not tell them.
 use Rattle.std.specs.Prelude.{◌≡◌, ℕ, ◌<◌, List, ◌++◌, take, length, Option, Some}
 pub use Rattle.ffi3_io.specs.Count.{Rose}
 

@@ -1,4 +1,4 @@
--- What a source gives. Bytes left are `None` where the source does not tell them.
+-- What reads give, and where they end. Bytes left are `None` where the source does not tell them.
 use Rattle.std.specs.Prelude.{◌≡◌, ℕ, ◌+◌, ◌<◌, ◌≤◌, ◌↔◌, List, [], ◌++◌, take, drop, length, Option, Some, None}
 pub use Rattle.ffi3_io.specs.Count.{Rose}
 

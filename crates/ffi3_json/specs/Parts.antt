@@ -1,4 +1,4 @@
--- Parts of a JSON value.
+-- Parts of a JSON value: items by their numbers, and the one member of an object that has no other.
 use Rattle.std.specs.Prelude.{ℕ, zero, suc, List, Option, Some, None}
 use Rattle.serde_json.specs.Data.{Data, null, boolean, number, string, array, object, Items, no_items, item, Members, no_members, member}
 

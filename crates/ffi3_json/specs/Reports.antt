@@ -1,4 +1,4 @@
--- What a refusal tells.
+-- Which fault, place and reason an error of the code reports.
 use Rattle.std.specs.Prelude.{ℕ, ◌<◌, List, length}
 use Rattle.ffi3_script_rules.specs.Language.{JsonPath, Reason}
 use Rattle.ffi3_script_rules.specs.Reading.{max_length, IsNotJson}

@@ -1,4 +1,4 @@
--- What is seen of a run, in order: its call tree written out.
+-- The trace of a run, which is what is seen of it in order: its call tree written out.
 use Rattle.std.specs.Prelude.{ℕ, List, [], ◌∷◌, ◌++◌, Option, Some, None}
 use Rattle.ffi3_type_rules.specs.Tree.{Tree}
 use Rattle.ffi3_type_rules.specs.Value.{ValueTree}

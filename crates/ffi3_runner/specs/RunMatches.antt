@@ -1,4 +1,4 @@
--- WHAT A RUN TELLS: the text that its output takes and the machine that it leaves, against the direct meaning of its program.
+-- What a run tells against the direct meaning of its program: the text that its output takes, and the machine that it leaves.
 use Rattle.std.specs.Prelude.{◌≡◌, ℕ, ◌+◌, ◌*◌, ◌%◌, ◌^◌, ◌≤◌, take}
 use Rattle.std.specs.List.{AllByRecursion}
 use Rattle.ffi3_type_rules.specs.Value.{ValueTree}

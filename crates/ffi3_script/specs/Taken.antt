@@ -1,4 +1,4 @@
--- Whether a thing has a name.
+-- Whether a name is taken.
 use Rattle.std.specs.Prelude.{ℕ, List, Bool, Option, is_some, position}
 use Rattle.ffi3_script_rules.specs.Values.{is_name_of}
 

@@ -1,4 +1,4 @@
--- The types of what a list of values consists of.
+-- The types of the elements of a struct or an array, for values of scripts.
 use Rattle.std.specs.Prelude.{List, Option, Some, None, if◌then◌else◌}
 use Rattle.ffi3_type_rules.specs.Tree.{Tree, elements_of}
 use Rattle.ffi3_script_rules.specs.Values.{is_list_type}

@@ -1,4 +1,4 @@
--- MOVES, BODIES AND THE WHOLE SCRIPT, in the order of reading.
+-- Moves, bodies and the whole script, in the order of reading.
 use Rattle.std.specs.Prelude.{ℕ, ◌+◌, ◌==◌, ◌&&◌, ◌||◌, List, [], ◌∷◌, ◌++◌, length, map, Bool, true, false, not, Option, Some, None, if◌then◌else◌, nat_lt, nat_le, bytes_eq, codes, option_and_then, is_some, is_none, position, pos}
 use Rattle.std.specs.Char.{is_ascii_alphanumeric}
 use Rattle.std.specs.List.{list_all, list_any}

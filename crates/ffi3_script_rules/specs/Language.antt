@@ -1,4 +1,4 @@
--- THE SCRIPT LANGUAGE, by cases on the JSON value: what a value at a place is read as, or its first fault in the order of reading. Here: reasons, places, objects, types and signatures. `Values` and `Bodies` go on.
+-- The script language, by cases on the JSON value: objects, types and signatures, or the first fault in the order of reading. Here: reasons, places, objects, types and signatures. `Values` and `Bodies` go on.
 use Rattle.std.specs.Prelude.{ℕ, ◌+◌, ◌<◌, ◌^◌, ◌||◌, ◌&&◌, List, [], ◌∷◌, ◌++◌, Bool, true, false, not, ◌==◌, cond, Option, Some, None, option_and_then, is_some, unwrap_or, nat_lt, bytes_eq, codes, ⊤}
 use Rattle.serde_json.specs.Data.{Data, null, boolean, number, string, array, object, Items, no_items, item, Members, no_members, member}
 use Rattle.serde_json.specs.Find.{get, as_number, as_u64, as_str}

@@ -1,4 +1,4 @@
--- THE MADE SCRIPT, by a seed and a number of calls: what the bench runs. (`docs/FORMATS.md`, "The script of bench")
+-- The script of bench, made by a seed and a number of calls. (`docs/FORMATS.md`, "The script of bench")
 use Rattle.std.specs.Prelude.{ℕ, zero, suc, ◌+◌, ◌*◌, ◌/◌, ◌%◌, ◌^◌, if◌then◌else◌, List, [], ◌∷◌, ◌++◌, length, map, replicate, slice_index_or, None, codes, pos}
 use Rattle.ffi3_type_rules.specs.Tree.{Tree, void, scalar, left_out, structure, array, Trees, no_trees, tree, tree_at, struct_of, Scalar, u8, s32, u64, float, double, pointer}
 use Rattle.ffi3_type_rules.specs.Integer.{bytes_of_number, is_integer, is_floating}

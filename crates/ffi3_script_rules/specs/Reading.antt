@@ -1,4 +1,4 @@
--- WHAT THE BYTES OF A SCRIPT ARE READ AS.
+-- What the bytes of a script are read as.
 use Rattle.std.specs.Prelude.{◌≡◌, ℕ, ◌<◌, ◌≤◌, List, length, Some, None, IsUtf8}
 use Rattle.serde_json.specs.Data.{Data}
 use Rattle.serde_json.specs.Read.{read}

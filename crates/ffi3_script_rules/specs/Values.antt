@@ -1,4 +1,4 @@
--- VALUES of a script: what stands where a value is asked for, against a type or with a type of its own.
+-- Values of a script: what stands where a value is asked for, against a type or with a type of its own.
 use Rattle.std.specs.Prelude.{ℕ, ◌+◌, ◌-◌, ◌*◌, ◌^◌, ◌==◌, ◌&&◌, ◌||◌, List, [], ◌∷◌, length, Bool, true, false, cond, drop, Option, Some, None, Result, Ok, Err, if◌then◌else◌, nat_lt, bytes_eq, ⊤, codes, option_and_then, ℤ, pos, negsuc, neg_ℤ, nat_le, slice_get, position}
 use Rattle.std.specs.Str.{all_ascii_digits}
 use Rattle.std.specs.Str.Parse.{starts_with_minus}

@@ -1,4 +1,4 @@
--- What every layout keeps. (libffi manual, "Size and Alignment"; C, "Structure and union specifiers": elements lie in order, each at a multiple of its alignment; "Types": the elements of an array lie one after another, and there is one at least)
+-- What every layout keeps: least multiples, the greatest alignment, leaves in order; an array is laid out as its elements. (libffi manual, "Size and Alignment"; C, "Structure and union specifiers": elements lie in order, each at a multiple of its alignment; "Types": the elements of an array lie one after another, and there is one at least)
 use Rattle.std.specs.Prelude.{◌≡◌, ℕ, zero, suc, ◌+◌, ◌%◌, ◌<◌, ◌≤◌, List, [], ◌∷◌, ◌++◌, length, replicate, Option, Some, slice_get, option_and_then}
 use Rattle.ffi3_type_rules.specs.Tree.{Tree, scalar, Scalar, tree_at, elements_of, struct_of, array_of}
 use Rattle.ffi3_type_rules.specs.Layout.{Leaf, IsLeastMultiple, scalar_size, layout, size_of, align_of, leaves_of, leaf_at, offset_of}

@@ -1,4 +1,4 @@
--- The words for types. (libffi manual, "Primitive Types"; the words are the names there without `ffi_type_`)
+-- The names of types in the script language. (libffi manual, "Primitive Types"; the words are the names there without `ffi_type_`)
 use Rattle.std.specs.Prelude.{ℕ, List, [], ◌∷◌, Option, Some, None, cond, ◌==◌, ◌++◌, codes, bytes_eq}
 use Rattle.ffi3_type_rules.specs.Tree.{Tree, void, scalar, left_out, u8, s8, u16, s16, u32, s32, u64, s64, u128, s128, float, double, pointer, long_double, complex, vector}
 

@@ -1,4 +1,4 @@
--- A struct or an array has more nodes than each of its elements.
+-- The number of nodes, by which recursions over types end: a struct or an array has more than each of its elements.
 use Rattle.std.specs.Prelude.{◌≤◌, max, List, [], ◌∷◌, map}
 use Rattle.std.proofs.Common.{arith}
 use denote.Param.Weighed.{most}
