@@ -25,7 +25,7 @@ pub enum Part {
     Count,
 }
 
-/// The number that a place holds, and the one that it holds in an image that holds values.
+/// The number that a place holds, `found`, and the one that it holds where values are passed, `wants`.
 #[derive(Clone, Copy, Debug, PartialEq, Eq)]
 pub struct Check {
     pub part: Part,
@@ -42,8 +42,8 @@ pub struct Outside {
 }
 
 /// Does nothing. Its contract says of every sound standard: an image holds values exactly where each place holds what the
-/// definition wants there, these values are then the explained ones and no others, and where an image is not explained
-/// by values it holds none, and its first place that breaks this is told.
+/// definition wants there, and these are then the explained ones; an image that is not explained by values holds none,
+/// and the first place that does not hold what is wanted is told.
 pub fn explain_laws()
     ensures { (std : Standard) (s : Signature) (m : Image) → IsExplained std s m }
 {}

@@ -1,4 +1,4 @@
-//! A small machine: registers, a stack, a code region, and the journal of entries and returns.
+//! A small machine: registers, memory (stack, slots, stubs, exchange region), and the journal of entries and returns.
 #![tactic(auto)]
 
 ghost use Rattle.std.specs.Prelude.{◌≡◌, ℕ, ◌<◌, ◌≤◌, ◌+◌, ◌-◌, ◌*◌, ◌%◌, ◌^◌, length, IfOk, IsTrue, OnOk, OnErr, slice_index, ◌↔◌};
@@ -66,7 +66,8 @@ pub use step::Trap;
 use stub::{begin_stubs, new_stubs};
 pub use stub::{EXCHANGE, EXCHANGE_BYTES, EXCHANGE_END, STUBS, STUBS_BYTES, STUBS_END, Stub};
 
-/// Registers, stack, code region and journal. General and floating registers go by their numbers in the target's instructions; sp is apart.
+/// Registers, four regions of memory, the count of steps and the journal. General and floating registers go by their
+/// numbers in the target's instructions; sp is apart.
 #[derive(Drop)]
 pub struct Machine {
     target: Target,
@@ -201,7 +202,7 @@ impl Machine {
         self.pc
     }
 
-    /// The lowest stack address written since `begin`, or STACK_TOP.
+    /// The low-water mark of the stack: the lowest address written since `begin`, or STACK_TOP.
     pub fn mark(&self) -> u64
         ensures { result ≡ self.now.mark }
     {
@@ -345,7 +346,7 @@ impl Machine {
         self.journal.make_room(bytes)
     }
 
-    /// Sets every register but sp and the reserved ones to a number of its own, which tells `n` too.
+    /// Clobbers the registers: sets each but sp and the reserved ones to a number of its own, which tells `n` too.
     pub fn scribble(&mut self, n: u64)
         ensures { self.new ≡ scribbled n self.old }
     {
