@@ -37,7 +37,8 @@ pub struct Image {
     pub stack: Bytes,
 }
 
-/// Why an image is not explained by values: a place does not hold what it holds where values are passed, or memory is wanting.
+/// Why an image is not explained by values: a place does not hold what it would where values are passed, or memory is
+/// wanting.
 #[derive(Debug, Drop, Error)]
 pub enum Unexplained {
     #[error("a place does not hold what it would hold")]
