@@ -128,7 +128,8 @@ impl Machine {
         Ok(machine)
     }
 
-    /// Begins anew for a target: an empty stack of A5 bytes, an empty journal, free slots, its stubs, an exchange region of zeros, pc at RETURN, no steps, and scribbled registers. The journal's room stays.
+    /// Begins anew for a target: an empty stack of A5 bytes, an empty journal, free slots, its stubs, an exchange
+    /// region of zeros, pc at RETURN, no steps, and scribbled registers. The journal's room stays.
     pub fn begin(&mut self, target: Target)
         ensures { self.new ≡ begun target self.old.spare_events self.old.spare_bytes }
     {
@@ -295,7 +296,8 @@ impl Machine {
         }
     }
 
-    /// Copies `len` bytes of the stack to other places of it, as through a buffer. The mark falls to `to` if that is lower, and `len` is not 0.
+    /// Copies `len` bytes of the stack to other places of it, as through a buffer. The mark falls to `to` if that is
+    /// lower, and `len` is not 0.
     pub fn copy_stack(&mut self, from: u64, to: u64, len: u64)
         requires from_low { STACK ≤ from }
         requires from_high { from + len ≤ STACK_TOP }
@@ -354,7 +356,8 @@ impl Machine {
         scribble_floating(&mut self.floating, n);
     }
 
-    /// Calls the code at the slot `addr`: RETURN is the return address, and pc is `addr`. What is pushed lies in the stack.
+    /// Calls the code at the slot `addr`: RETURN is the return address, and pc is `addr`. What is pushed lies in the
+    /// stack.
     pub fn call(&mut self, addr: u64)
         requires slot { IsSlot addr }
         requires room { LieInStack (self.old.sp - pushed_bytes (isa_of self.old.target)) (pushed_bytes (isa_of self.old.target)) }
@@ -393,8 +396,8 @@ impl Machine {
             .add(event, from_sp(&self.stack, self.sp, bytes));
     }
 
-    /// Returns to RETURN, and records it with `bytes` bytes of stack from the sp after it on. These, and what is popped,
-    /// lie in the stack.
+    /// Returns to RETURN, and records it with `bytes` bytes of stack from the sp after it on. These, and what is
+    /// popped, lie in the stack.
     pub fn leave(&mut self, bytes: u64)
         requires address { HasReturnAddress self.old }
         requires stack { LieInStack self.old.sp (pushed_bytes (isa_of self.old.target) + bytes) }
