@@ -2,8 +2,7 @@
  *
  * From a function's declaration to registers, stack offsets, sizes and alignments, by four calling standards, and from
  * the registers and the stack of a machine that entered the function back to its arguments. The code behind this header
- * is proved; docs/TRUSTED.md says what its proof rests on, this header and the caller's
- * duties below among it.
+ * is proved; docs/TRUSTED.md says what its proof rests on, this header and the caller's duties below among it.
  *
  *     const char *text = "double f(struct { int i; float x; } a)";
  *     struct ffi3_call call;
@@ -17,14 +16,14 @@
  * ...);`. Types are char with a sign, short, int, long and long long (a long has 64 bits), __int128, the names of
  * <stdint.h> as int32_t, size_t, float, double, pointers to anything, and structs that are written out where they
  * are used, `struct { int8_t a[2][3]; }`, with arrays in them. There is no preprocessor, typedef, union, enum or
- * comment. Of a function with dots the arguments that are named are placed. At most 64 arguments, 4,096 bytes a
+ * comment. Of a variadic function (`, ...`) the named arguments are placed. At most 64 arguments, 4,096 bytes a
  * struct, and structs and arrays 16 deep.
  *
  * DUTIES OF A CALLER. No pointer is NULL, and each points to memory of its type that the caller may read, and, where it
  * is not const, write; to as many elements as the length or the capacity behind it says. Where that is 0, nothing is
- * read or written there, but the pointer is none the less that of an object, or of the end of one. No two of them overlap,
- * and no other thread writes what a call reads, or touches what it writes. What stood before in what is written does not
- * matter. No function is called from a signal handler.
+ * read or written there, but the pointer is none the less that of an object, or of the end of one. No two of them
+ * overlap, and no other thread writes what a call reads, or touches what it writes. What is written need not be
+ * initialized. No function is called from a signal handler, nor in the forked child of a process with threads.
  *
  * Nothing that the library makes outlives a call, so there is nothing to free, and any number of threads may call. It
  * takes memory from malloc and gives it back before it returns. No function ends the program: where memory is refused
@@ -40,7 +39,7 @@
 extern "C" {
 #endif
 
-/* Of version 1.2.3, 10203. */
+/* 10000 * major + 100 * minor + patch: 10203 would be version 1.2.3. */
 #define FFI3_VERSION 100
 
 /* CALLING STANDARDS, by their machines. */
@@ -61,7 +60,7 @@ extern "C" {
 
 /* VALUES of a function: its arguments by their numbers, from 0, and the result. */
 #define FFI3_RESULT UINT32_C(0xFFFFFFFF)
-/* What is passed beside the arguments: the address of the buffer in which the callee leaves the result. */
+/* What is passed beside the arguments: the address of the buffer in which the callee leaves the result (sret). */
 #define FFI3_HIDDEN UINT32_C(0xFFFFFFFE)
 
 /* KINDS OF FAULT: what is wrong with a text (kinds 1 to 4), or with the signature that it declares. */
@@ -74,16 +73,16 @@ extern "C" {
 #define FFI3_LEFT_OUT_LONG_DOUBLE 6  /* kinds 6 to 8, 12 and 13 are of no declaration that can be written today */
 #define FFI3_LEFT_OUT_COMPLEX 7
 #define FFI3_LEFT_OUT_VECTOR 8
-#define FFI3_TOO_LARGE 9             /* a struct or an array of `number` bytes */
+#define FFI3_TOO_LARGE 9             /* a struct or an array of `number` bytes, more than 4,096 */
 #define FFI3_TOO_DEEP 10             /* structs and arrays more than 16 deep */
-#define FFI3_TOO_MANY 11  /* `number` of them */
+#define FFI3_TOO_MANY 11             /* `number` arguments, more than 64 */
 #define FFI3_BAD_FIXED 12            /* of `number` arguments, `argument` are fixed */
-#define FFI3_BAD_VARIADIC 13
+#define FFI3_BAD_VARIADIC 13         /* C would promote the type of variadic argument `argument` */
 
 /* Why a text declares no function that can be called: the first fault. What a kind does not speak of is 0. */
 struct ffi3_fault {
     uint32_t kind;     /* FFI3_BAD_TOKEN and so on; FFI3_NO_FAULT where the text is right */
-    uint32_t argument; /* of kinds 5 to 10: whose type has the fault, an argument's number or FFI3_RESULT */
+    uint32_t argument; /* of kinds 5 to 10: whose type has the fault, an argument's number or FFI3_RESULT. See 12, 13 */
     size_t offset;     /* where in the text, in bytes */
     size_t number;     /* how large, or how many */
 };
@@ -95,13 +94,13 @@ struct ffi3_fault {
 /* PLACES. */
 #define FFI3_GENERAL 0  /* a general register: ffi3_register_name has its name */
 #define FFI3_FLOATING 1 /* a floating or vector register */
-#define FFI3_STACK 2    /* the stack, from where stack arguments begin: on Windows from the home area on */
+#define FFI3_STACK 2    /* the stack, from where stack arguments begin: on Windows from the 32-byte shadow store on */
 
 /* What the REST of a register, or of the last eight bytes on the stack, holds. */
 #define FFI3_REST_FREE 0           /* anything */
-#define FFI3_REST_EXTENDED 1       /* the integer is extended to 64 bits, by its sign or by zeros as its type is */
-#define FFI3_REST_EXTENDED_BY_32 2 /* so to 32 bits, and from there by bit 31 to 64 */
-#define FFI3_REST_ONES 3           /* ones: a float in a wider register */
+#define FFI3_REST_EXTENDED 1       /* the integer is sign- or zero-extended to 64 bits, by its type */
+#define FFI3_REST_EXTENDED_BY_32 2 /* so to 32 bits, and from there sign-extended to 64 */
+#define FFI3_REST_ONES 3           /* ones: the float is NaN-boxed */
 
 /* Where bytes of one value stand, or their address. */
 struct ffi3_piece {
@@ -130,17 +129,19 @@ struct ffi3_call {
 /* uint32_t ffi3_place(uint32_t TARGET, const char *TEXT, size_t LENGTH,
  *                     struct ffi3_call *CALL, struct ffi3_piece *PIECES, size_t CAPACITY)
  *
- * Where everything stands in a call, by the standard TARGET, of the function that the LENGTH bytes at TEXT declare. No 0
- * need stand behind them.
+ * Where everything stands in a call, by the standard TARGET, of the function that the LENGTH bytes at TEXT declare.
+ * These need no terminating NUL.
  *
  * PIECES is an array of CAPACITY elements. Its first CALL->passed elements are what a caller passes: the pieces of
- * argument 0, then those of argument 1 and so on, and then that of FFI3_HIDDEN, if the result is left in a buffer. Behind
- * them stands what is given back: the pieces of FFI3_RESULT, which has none where it is void; or, where the result is
- * left in a buffer, the register in which the callee returns the buffer's address, if the standard has one. The bytes of
- * a value that stand on the stack one behind another are one piece. What stands behind CALL->pieces stays as it was.
+ * argument 0, then those of argument 1 and so on, and then that of FFI3_HIDDEN, if the result is left in a buffer.
+ * Behind them stands what is given back: the pieces of FFI3_RESULT, which has none where it is void; or, where the
+ * result is left in a buffer, the register in which the callee returns the buffer's address, if the standard has one.
+ * The bytes of a value that stand on the stack one behind another are one piece. The elements from CALL->pieces on stay
+ * as they were.
  *
  * FFI3_OK: CALL and PIECES are filled.
- * FFI3_TOO_SMALL: CALL is filled, and PIECES is as it was: it wants CALL->pieces elements. A CAPACITY of 0 asks for that.
+ * FFI3_TOO_SMALL: CALL is filled, and PIECES is as it was: it wants CALL->pieces elements. A CAPACITY of 0 asks for
+ *     that number.
  * FFI3_NOT_DECLARED: CALL->fault says why; all else in CALL is 0, and PIECES is as it was.
  * FFI3_UNKNOWN_TARGET, FFI3_OUT_OF_MEMORY: CALL is 0, and PIECES as it was. An unknown target is told first.
  */
@@ -181,8 +182,8 @@ struct ffi3_layout {
 /* uint32_t ffi3_layout(const char *TEXT, size_t LENGTH, uint32_t VALUE,
  *                      struct ffi3_layout *LAYOUT, struct ffi3_leaf *LEAVES, size_t CAPACITY)
  *
- * How the type of argument VALUE is laid out, or of the result where VALUE is FFI3_RESULT, of the function that the LENGTH
- * bytes at TEXT declare. All four standards lay out alike.
+ * How the type of argument VALUE is laid out, or of the result where VALUE is FFI3_RESULT, of the function that the
+ * LENGTH bytes at TEXT declare. All four standards lay out alike.
  *
  * LEAVES is an array of CAPACITY elements, and is given the type's scalars from the front.
  *
@@ -195,7 +196,7 @@ struct ffi3_layout {
 uint32_t ffi3_layout(const char *text, size_t length, uint32_t value, struct ffi3_layout *layout,
                      struct ffi3_leaf *leaves, size_t capacity);
 
-/* What a machine holds where a function begins: at its first instruction, before any of this changed. */
+/* What a machine holds at a function's entry: at its first instruction, before any of this changed. */
 struct ffi3_registers {
     uint64_t general[32];  /* by the numbers that ffi3_register_name takes; what is no register is not read */
     uint64_t floating[32]; /* of each the low 64 bits */
@@ -217,9 +218,9 @@ struct ffi3_arguments {
  *                         unsigned char *VALUES, size_t CAPACITY)
  *
  * Which arguments the function that the LENGTH bytes at TEXT declare was called with, by the standard TARGET. STACK has
- * STACK_LENGTH bytes of the machine's memory, from REGISTERS->sp on. What the standard leaves free, as the upper half of a
- * register with an int, is not looked at. An argument that is passed by an address is read where that points, if all of
- * it is among the bytes of STACK.
+ * STACK_LENGTH bytes of the machine's memory, from REGISTERS->sp on. What the standard leaves free, as the upper half
+ * of a register with an int, is not looked at. An argument that is passed by an address is read where that points, if
+ * all of it is among the bytes of STACK.
  *
  * VALUES has room for CAPACITY bytes. It is given the values one after another, argument 0 first, each as it stands in
  * memory, from a multiple of 8 on; ffi3_layout has their sizes. Padding in them and between them is 0.
@@ -237,18 +238,18 @@ uint32_t ffi3_arguments(uint32_t target, const char *text, size_t length, const 
 
 /* size_t ffi3_fault_text(const struct ffi3_fault *FAULT, char *TEXT, size_t CAPACITY)
  *
- * The words of a fault, as "at 8: bad token". Answers how long they are, without the 0 that ends a text in C; they are
- * written, with that 0, only where CAPACITY is greater: 64 is enough for each. Answers 0 where FAULT has no such kind, for
+ * The words of a fault, as "at 8: bad token". Answers how long they are, without the terminating NUL; they are written,
+ * with that NUL, only where CAPACITY is greater: 64 is enough for each. Answers 0 where FAULT has no such kind, for
  * FFI3_NO_FAULT, and where malloc refused; only then may TEXT be as it was though it had room.
  */
 size_t ffi3_fault_text(const struct ffi3_fault *fault, char *text, size_t capacity);
 
 /* size_t ffi3_register_name(uint32_t TARGET, uint32_t PLACE, uint32_t NUMBER, char *NAME, size_t CAPACITY)
  *
- * The name of register NUMBER, as "rdi", "x0", "fa0": a general one where PLACE is FFI3_GENERAL, a floating one where it is
- * FFI3_FLOATING. Numbers are those of the machine's instructions. Answers how long the name is, without the 0 that ends a
- * text in C; it is written, with that 0, only where CAPACITY is greater: 8 is enough for each. What is no register has
- * the empty name.
+ * The name of register NUMBER, as "rdi", "x0", "fa0": a general one where PLACE is FFI3_GENERAL, a floating one where
+ * it is FFI3_FLOATING. Numbers are those of the machine's instructions. Answers how long the name is, without the
+ * terminating NUL; it is written, with that NUL, only where CAPACITY is greater: 8 is enough for each. What is no
+ * register has the empty name.
  */
 size_t ffi3_register_name(uint32_t target, uint32_t place, uint32_t number, char *name, size_t capacity);
 

@@ -11,7 +11,7 @@
 On the command line:
 
     python3 ffi3.py TARGET "double f(..)"           one line a piece; TARGET is amd64, aapcs64, riscv or win64
-    python3 ffi3.py --svg FILE "double f(..)"       draws registers and stack of the four targets, each value in a colour
+    python3 ffi3.py --svg FILE "double f(..)"       draws registers and stack of the four targets in colours
 
 The library is the one that FFI3_LIBRARY names, or out/libffi3.so beside this file, or that of the system.
 """
@@ -52,7 +52,9 @@ class Piece(NamedTuple):
     """Where bytes of one value stand, or its address.
 
     part is an argument's number, "hidden" or "result"; place a register's name, or "stack". On the stack number is the
-    offset from the first stack argument. Of an address, offset says where in the caller's frame the value stands.
+    offset from the first stack argument. Of an address, offset says where in the caller's frame the value stands. rest
+    is what the rest of a register, or of the last eight bytes on the stack, holds: "free", "extended", "extended by 32"
+    or "ones", as ffi3.h says.
     """
 
     part: object
@@ -72,7 +74,7 @@ class Piece(NamedTuple):
 
 
 class Call(NamedTuple):
-    """A call as a whole, sizes in bytes. Of its pieces the first, as many as passed says, are what a caller passes."""
+    """A call as a whole, sizes in bytes. The first of its pieces, as many as passed says, are what a caller passes."""
 
     need: int
     frame: int
@@ -87,7 +89,7 @@ class Call(NamedTuple):
 
 
 class Layout(NamedTuple):
-    """Size and alignment of a type, and its scalars from the front, each with its offset."""
+    """Size and alignment of a type in bytes, and its scalars from the front, each as a pair of offset and name."""
 
     size: int
     align: int
@@ -194,7 +196,10 @@ def _part(number):
 
 
 def place(target, declaration):
-    """Where everything stands in a call, by a target's standard, of the function that a text declares."""
+    """Where everything stands in a call, by a target's standard, of the function that a text declares.
+
+    Raises Error where the text declares none, and ValueError where there is no such target.
+    """
     number, text, told = TARGETS.index(target), _bytes_of(declaration), _Call()
 
     def ask(array, capacity):
@@ -211,7 +216,10 @@ def place(target, declaration):
 
 
 def layout(declaration, value=RESULT):
-    """The layout of an argument, by its number, or of the result, of the function that a text declares."""
+    """The layout of an argument, by its number, or of the result, of the function that a text declares.
+
+    Raises Error where the text declares none, and IndexError where it has no such argument.
+    """
     text, told, number = _bytes_of(declaration), _Layout(), _RESULT if value == RESULT else value
 
     def ask(array, capacity):
@@ -247,9 +255,10 @@ def _named_registers(number, values, sp):
 def arguments(target, declaration, registers, sp=0, stack=b""):
     """The arguments that a function was called with, from what the machine held at its first instruction.
 
-    registers has 64 bits for each name, of floating registers the lowest; stack has the bytes of memory from sp on. Each
-    argument is the tuple of its scalars. Raises LookupError where the stack has too few bytes, or an address points
-    elsewhere.
+    registers has 64 bits for each name, of floating registers the lowest; those that are not named hold 0. stack has
+    the bytes of memory from sp on. Each argument is the tuple of its scalars, a pointer an int. Raises LookupError
+    where the stack has too few bytes, or an address points elsewhere; KeyError where a name is no register; otherwise
+    as place does.
     """
     number, text, told = TARGETS.index(target), _bytes_of(declaration), _Arguments()
     held, stack = _named_registers(number, registers, sp), bytes(stack)
@@ -351,7 +360,7 @@ def _draw_registers(drawing, x, y, pieces):
 
 
 def _stack_bytes(call, sizes):
-    """What stands in the frame: of each stretch its first byte, its piece, its length and its first byte of the value."""
+    """What stands in the frame: of each stretch its first byte, piece, length and first byte of the value."""
     for piece in call.pieces[:call.passed]:
         if piece.place == "stack":
             yield piece.number, piece, piece.length, 0 if piece.is_address else piece.offset

@@ -20,7 +20,8 @@ fn write_words(alloc: Global, words: &[u64; 32], line: &mut Bytes) -> Result<(),
     Ok(())
 }
 
-/// The line of an entry: the stack pointer, general and floating registers, and the stack's bytes from the stack pointer on.
+/// The line of an entry: the stack pointer, general and floating registers, and the stack's bytes from the stack
+/// pointer on.
 fn entry_line(alloc: Global, event: &Event, stack: &[u8]) -> Result<Bytes, NoMemory> {
     let sp = event.sp;
     let mut line = Bytes::from_slice(alloc, format!(in alloc; "entry {sp:016x} ")?.as_bytes())?;

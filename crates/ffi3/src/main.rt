@@ -27,8 +27,8 @@ fn status_without_words(fault: &Error) -> u8 {
     }
 }
 
-/// The top call on a new machine, with `apply`, `twice` and `sum3` handed in. Its output goes out in blocks, and the last of
-/// them before the status is known.
+/// The top call on a new machine, with `apply`, `twice` and `sum3` handed in. Its output goes out in blocks, and the
+/// last of them before the status is known.
 fn call(rt: &HostRuntime, words: Vec<String>) -> Result<u8, NoMemory> {
     let alloc = rt.alloc();
     let mut machine = Machine::new(alloc)?;

@@ -1,4 +1,5 @@
-//! Where the arguments and the result of a call stand on Arm AAPCS64. The definitions are in `specs/`; of the code they need the kind alone.
+//! Where the arguments and the result of a call stand on Arm AAPCS64. The definitions are in `specs/`; of the code they
+//! need the kind alone.
 #![tactic(auto)]
 
 /// The type of each member of a homogeneous floating-point aggregate.

@@ -19,11 +19,12 @@ use std::alloc::Global;
 
 /// Runs the command line and returns the exit status.
 ///
-/// The words hold the program's name first. For `layout`, `place --target TARGET` and `run --target TARGET` the input is read to its
-/// end, or until it is longer than a script may be, and the output takes the lines that the command writes of the script. Scripts
-/// are read beside the names of the natives, and run together with them. `cdecl` and `cplace` read it as one C declaration in place
-/// of a script, `explain` and `arguments` as the description of an image. `bench --seed N --calls M` reads nothing, and the output
-/// takes a line for each target. The line of a fault goes to `faults`.
+/// The words hold the program's name first. For `layout`, `place --target TARGET` and `run --target TARGET` the input
+/// is read to its end, or until it is longer than a script may be, and the output takes the lines that the command
+/// writes of the script. Scripts are read beside the names of the natives, and run together with them. `cdecl` and
+/// `cplace` read it as one C declaration in place of a script, `explain` and `arguments` as the description of an
+/// image. `bench --seed N --calls M` reads nothing, and the output takes a line for each target. The line of a fault
+/// goes to `faults`.
 ///
 /// | status | when |
 /// |---|---|

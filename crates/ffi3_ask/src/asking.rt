@@ -19,9 +19,9 @@ use ffi3_script_body::{Cursor, ScriptBody};
 use ffi3_types::NoMemory;
 use std::alloc::Global;
 
-/// What an activation's function asks for next, by the numbers of the run. After any result of the move's type, where it
-/// stands agrees with what it has seen then: so all calls in an activation pass each move of a script's body once. Where
-/// memory was refused it may stand further on, and still agrees with what was seen.
+/// What an activation's function asks for next, by the numbers of the run. `standing` moves on with it, and agrees with
+/// what is seen then, whatever the move's result is: so all calls in an activation pass each move of a script's body
+/// once. Where memory was refused `standing` may be further on, and still agrees with what was seen.
 pub fn ask(
     alloc: Global,
     script: &Script,

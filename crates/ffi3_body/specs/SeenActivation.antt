@@ -1,4 +1,4 @@
--- An activation of a function: its arguments as the closure's stub hands them over, its user data, and the results of its moves so far. (libffi manual, "The Closure API")
+-- An activation of a function: its arguments as they stand in the callee's block, its user data, and the results of its moves so far. (libffi manual, "The Closure API")
 use Rattle.std.specs.Prelude.{ℕ, List, [], ◌∷◌, take, drop, refl}
 use Rattle.std.specs.List.{sum_by}
 use Rattle.std.specs.Coded.{Coded, code_by, coded×, coded_list, coded_ℕ}

@@ -1,5 +1,5 @@
-//! Real ends behind the sources and sinks: a slice, a vector, and a reader that fails. Answers are written as text: the bytes given,
-//! or the digit of how many were taken, or '!' for a failure.
+//! Real ends behind the sources and sinks: a slice, a vector, and a reader that fails. Answers are written as text: the
+//! bytes given, or the digit of how many were taken, or '!' for a failure.
 
 use ffi3_io::{Failed, ReadSource, Sink, Source, WriteSink};
 use ffi3_types::NoMemory;

@@ -82,8 +82,8 @@ pub fn check_general(rt: &impl Abort, machine: &Machine, registers: &[u8], words
     }
 }
 
-/// After arguments of the first signature were stored, these words are passed in general registers, in this order. Gives what is
-/// passed in floating register number k.
+/// After arguments of the first signature were stored, these words are passed in general registers, in this order.
+/// Gives what is passed in floating register number k.
 fn check_first<A: Abi>(
     rt: &impl Abort,
     alloc: Global,

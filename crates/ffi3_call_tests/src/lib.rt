@@ -1,5 +1,5 @@
-//! Tests of values of public calls that only the language reaches: instructions, stubs, regions, slots and ends by themselves, and calls on
-//! the machine by all four standards, with no program among them.
+//! Tests of values of public calls that only the language reaches: instructions, stubs, regions, slots and ends by
+//! themselves, and calls on the machine by all four standards, with no program among them.
 #![tactic(auto)]
 
 #[cfg(test)]

@@ -1,5 +1,5 @@
-//! Calls of closures through their slots, on each target: what the callee has and what the caller loads is what was sent, and the
-//! caller's registers come back.
+//! Calls of closures through their slots, on each target: what the callee has and what the caller loads is what was
+//! sent, and the caller's registers come back.
 ghost use Rattle.std.specs.Prelude.{◌≡◌, ◌+◌, ◌<◌, ◌≤◌, IfOk, IsSome, List, length, true};
 ghost use Rattle.ffi3_type_rules.specs.declared.limits.TheConstants.{ENTRY, STACK, STACK_TOP};
 ghost use Rattle.ffi3_type_rules.specs.Fault.{IsLaidOut};
@@ -162,8 +162,8 @@ fn overwrite<A: Abi>(machine: &mut Machine, cif: &Cif<A>, over: Option<u8>)
     }
 }
 
-/// Calls the live closure at `ptr` up to its callee, which has the arguments in its block, with the byte over all that it must
-/// not look at, if there is one.
+/// Calls the live closure at `ptr` up to its callee, which has the arguments in its block, with the byte over all that
+/// it must not look at, if there is one.
 fn begin<A: Abi>(
     machine: &mut Machine,
     table: &Table,
@@ -190,8 +190,8 @@ fn begin<A: Abi>(
     accept(machine, cif)
 }
 
-/// What a call of a closure came to: whether the arguments that the callee has and the result that the caller loads are those that
-/// were sent, the registers at its entry and at its return, and the first bytes of the frame that it leaves.
+/// What a call of a closure came to: whether the arguments that the callee has and the result that the caller loads are
+/// those that were sent, the registers at its entry and at its return, and the first bytes of the frame that it leaves.
 #[derive(Drop)]
 pub struct Came {
     pub right: bool,
@@ -313,8 +313,8 @@ pub fn prepared<A: Abi>(alloc: Global, text: &str) -> Result<Cif<A>, Fail> {
     Ok(cif)
 }
 
-/// Signatures with every scalar, and structs of each shape: nested, in mixed registers, homogeneous, by reference, hidden, variadic,
-/// and spilled to the stack; with gaps, even registers and a split of integers of 128 bits.
+/// Signatures with every scalar, and structs of each shape: nested, in mixed registers, homogeneous, by reference,
+/// hidden, variadic, and spilled to the stack; with gaps, even registers and a split of integers of 128 bits.
 pub const SIGNATURES: [&str; 22] = [
     r#"{"ret":"uint8","args":["uint8","sint8","uint16","sint16","uint32","sint32","uint64","sint64","float","double","pointer"]}"#,
     r#"{"ret":"sint8","args":["sint64","sint64","sint64","sint64","sint64","sint64","sint64","sint64","uint8","sint8","uint16","sint16","uint32","sint32","float"]}"#,

@@ -3,7 +3,8 @@ use ffi3_machine::{CODE, ENTRY, Machine, NoMemory, RETURN, STACK, STACK_TOP, Tar
 use ffi3_stubs::{run_call, run_entry, run_exit, run_return};
 use std::process::Abort;
 
-/// The count of steps after Return, Call, Exit and Entry in this order, and the size of a save area with what a call pushes.
+/// The count of steps after Return, Call, Exit and Entry in this order, and the size of a save area with what a call
+/// pushes.
 #[derive(Clone, Copy)]
 struct Row {
     target: Target,

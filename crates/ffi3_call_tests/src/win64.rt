@@ -1,6 +1,6 @@
-//! What Microsoft x64 alone has: one register or eight bytes of stack for each position, the address of a hidden result in the first
-//! of them; an argument of three bytes by reference; copies at multiples of 16; a variadic double in two registers; and 32 bytes of
-//! stack for the callee.
+//! What Microsoft x64 alone has: one register or eight bytes of stack for each position, the address of a hidden result
+//! in the first of them; an argument of three bytes by reference; copies at multiples of 16; a variadic double in two
+//! registers; and 32 bytes of stack for the callee.
 
 use crate::arguments::{check_general, stored};
 use crate::slots::{SIGNATURES, come, fitting, gives_back, prepared, some_arguments};
@@ -41,7 +41,8 @@ fn each_position_has_its_place(rt: HostRuntime) -> Result<(), Fail> {
     Ok(())
 }
 
-/// Whatever the callee leaves in its bytes of the frame, the result comes, its address in rax, and the registers come back.
+/// Whatever the callee leaves in its bytes of the frame, the result comes, its address in rax, and the registers come
+/// back.
 #[test]
 fn the_first_bytes_are_the_callees(rt: HostRuntime) -> Result<(), Fail> {
     let alloc = rt.alloc();

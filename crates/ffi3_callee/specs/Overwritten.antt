@@ -1,4 +1,4 @@
--- What stands so far while what carries nothing is overwritten: register by register, then the frame byte by byte.
+-- What holds while the bytes that carry nothing are overwritten: register by register, then the frame byte by byte.
 use Rattle.std.specs.Prelude.{◌≡◌, ℕ, ◌+◌, ◌<◌, ◌⊎◌, true, false, nat_lt, ◌&&◌, take}
 use Rattle.std.specs.List.{list_any}
 use Rattle.ffi3_type_rules.specs.Signature.{Signature}

@@ -36,7 +36,7 @@ pub record IsIncoming (std : Standard) (s : Signature) (incoming : Remembered) :
   pub high : incoming.entry + std.link + frame_of std s ≤ STACK_TOP
   pub address : IsAddressOf (incoming.entry + std.link) incoming.address (plan_of std s).res
 
--- THE BLOCK HAS EVERY VALUES THAT THE ENTRY OWNS, the words are saved above it, and of the stack nothing is written from the entry's sp on
+-- THE BLOCK HAS EVERY LIST OF VALUES THAT THE ENTRY OWNS, the words are saved above it, and of the stack nothing is written from the entry's sp on
 pub record IsReceived (std : Standard) (s : Signature) (entry m : State) : Type 0 where
   pub values : (vs : List ValueTree) → OwnsAtEntry std s entry vs → arguments_in s.arguments (stack_at m.sp (block_bytes s) m) ≡ vs
   pub saved : AreSaved (entry.sp - std.save) (entry.sp + std.link) (hidden_of (plan_of std s).res) std.save_area entry m

@@ -16,9 +16,9 @@ use ffi3_machine::Machine;
 use ffi3_place::Abi;
 use ffi3_values::Value;
 
-/// From an entry up to its return, which the stub Exit makes where calls go by stubs: takes the arguments, gives the value, and gives all
-/// else back. At the return the registers and the stack pointer are the entry's, as far as a callee keeps them, and the result stands
-/// where the caller looks for it.
+/// From an entry up to its return, which the stub Exit makes where calls go by stubs: takes the arguments, gives the
+/// value, and gives all else back. At the return the registers and the stack pointer are the entry's, as far as a
+/// callee keeps them, and the result stands where the caller looks for it.
 pub fn answer<A: Abi>(machine: &mut Machine, cif: &Cif<A>, value: &Value)
     requires target { machine.old.target ≡ A.TARGET }
     requires entry { machine.old.pc ≡ ENTRY }

@@ -32,8 +32,8 @@ fn enter_by_stub(machine: &mut Machine, block: u64)
     run_entry(machine);
 }
 
-/// Enters the callee, whose block begins at an address: what is to be given back is saved below the stack pointer. Stack places
-/// count from the address `base`, the end of the return address.
+/// Enters the callee, whose block begins at an address: what is to be given back is saved below the stack pointer.
+/// Stack places count from the address `base`, the end of the return address.
 pub fn enter<A: Abi>(machine: &mut Machine, base: u64, block: u64, hidden: Option<Loc>)
     requires target { machine.old.target ≡ A.TARGET }
     requires entry { machine.old.pc ≡ ENTRY }

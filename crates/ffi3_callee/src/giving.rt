@@ -49,7 +49,8 @@ fn give_pieces(machine: &mut Machine, base: u64, pieces: &Pieces, ty: &FfiType, 
     store_pieces(machine, base, pieces, ty, value);
 }
 
-// Stores a result in the caller's buffer, by way of `bytes`, which are as many as it has. The buffer's padding keeps what stood there.
+// Stores a result in the caller's buffer, by way of `bytes`, which are as many as it has. The buffer's padding keeps
+// what stood there.
 fn give_buffer_by(
     machine: &mut Machine,
     address: u64,

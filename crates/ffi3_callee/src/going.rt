@@ -54,8 +54,8 @@ fn go<A: Abi>(machine: &mut Machine, cif: &Cif<A>, incoming: Incoming)
     }
 }
 
-/// Goes back from a callee that has given its result, up to the return, which the stub Exit makes where calls go by stubs. A
-/// result that was given stands in its registers, and the registers are those that a callee keeps.
+/// Goes back from a callee that has given its result, up to the return, which the stub Exit makes where calls go by
+/// stubs. A result that was given stands in its registers, and the registers are those that a callee keeps.
 pub fn go_back<A: Abi>(machine: &mut Machine, cif: &Cif<A>, incoming: Incoming)
     requires target { machine.old.target ≡ A.TARGET }
     requires incoming { IsIncoming A.standard cif.now incoming }

@@ -43,7 +43,8 @@ use saving::hidden_word;
 use std::marker::Model;
 use taking::copy_argument;
 
-/// What a callee remembers of its entry until it returns: the addresses of its copy of the arguments and of a hidden result's buffer, and the stack pointer.
+/// What a callee remembers of its entry until it returns: the addresses of its copy of the arguments and of a hidden
+/// result's buffer, and the stack pointer.
 #[derive(Debug, Drop)]
 pub struct Incoming {
     block: u64,
@@ -116,8 +117,9 @@ fn hidden_place(place: &Res) -> Option<Loc>
     }
 }
 
-/// At an entry: saves the registers that are to be given back, by the stub Entry where calls go by stubs, copies the arguments into
-/// the block below them, where sp then is, and scribbles on every register but sp and the reserved ones. It does not know the values.
+/// At an entry: saves the registers that are to be given back, by the stub Entry where calls go by stubs, copies the
+/// arguments into the block below them, where sp then is, and scribbles on every register but sp and the reserved ones.
+/// It does not know the values.
 pub fn receive<A: Abi>(machine: &mut Machine, cif: &Cif<A>) -> Incoming
     requires target { machine.old.target ≡ A.TARGET }
     requires entry { machine.old.pc ≡ ENTRY }

@@ -19,8 +19,8 @@ use ffi3_cif::Cif;
 use ffi3_machine::Machine;
 use ffi3_place::Abi;
 
-/// Gives back the saved registers and the stack: sp is the entry's. A result that was given stays, and after the return the registers are
-/// those that a callee keeps.
+/// Gives back the saved registers and the stack: sp is the entry's. A result that was given stays, and after the return
+/// the registers are those that a callee keeps.
 pub fn restore<A: Abi>(machine: &mut Machine, cif: &Cif<A>, incoming: Incoming)
     requires target { machine.old.target ≡ A.TARGET }
     requires incoming { IsIncoming A.standard cif.now incoming }

@@ -22,7 +22,8 @@ use ffi3_place::parts::size_of;
 use ffi3_place::{Loc, Piece, Pieces, Place};
 use ffi3_types::FfiType;
 
-// Copies an argument's bytes that stand on the stack, run by run, to the argument's copy at `to`. Stack places count from the address `base`.
+// Copies an argument's bytes that stand on the stack, run by run, to the argument's copy at `to`. Stack places count
+// from the address `base`.
 fn copy_runs(machine: &mut Machine, base: u64, runs: &Runs, to: u64)
     requires low { STACK ≤ to }
     requires below { to ≤ base }
@@ -80,7 +81,8 @@ fn copy_registers(machine: &mut Machine, base: u64, pieces: &Pieces, to: u64)
     }
 }
 
-/// Copies an argument from its place to an address: what stands on the stack by runs, a copy by reference from the address that is found. Stack places count from the address `base`.
+/// Copies an argument from its place to an address: what stands on the stack by runs, a copy by reference from the
+/// address that is found. Stack places count from the address `base`.
 pub fn copy_argument(
     machine: &mut Machine,
     base: u64,

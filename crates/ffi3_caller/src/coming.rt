@@ -31,8 +31,8 @@ fn come_over(machine: &mut Machine, frame: u64)
     }
 }
 
-/// Comes back to the caller, at RETURN: where the target's calls go by stubs, the stub Return stores the registers of results,
-/// and raises the stack pointer over the frame. What the image at the return owns can then be loaded.
+/// Comes back to the caller, at RETURN: where the target's calls go by stubs, the stub Return stores the registers of
+/// results, and raises the stack pointer over the frame. What the image at the return owns can then be loaded.
 pub fn come_back<A: Abi>(machine: &mut Machine, cif: &Cif<A>)
     requires target { machine.old.target ≡ A.TARGET }
     requires at_return { machine.old.pc ≡ RETURN }

@@ -37,7 +37,8 @@ pub struct StackFull {
     pub left: u64,
 }
 
-/// Whether the stack has room for a call, the callee's save area and block included. The stack pointer is an address of the stack, or its top.
+/// Whether the stack has room for a call, the callee's save area and block included. The stack pointer is an address of
+/// the stack, or its top.
 pub fn room_for<A: Abi>(machine: &Machine, cif: &Cif<A>) -> Result<(), StackFull>
     requires bottom { STACK ≤ machine.now.sp }
     requires top { machine.now.sp ≤ STACK_TOP }
@@ -115,8 +116,8 @@ fn load_piece(machine: &Machine, piece: &Piece, out: &mut [u8])
     out[start..end].copy_from_slice(&word.to_le_bytes()[..piece.len as usize]);
 }
 
-/// Ends the frame of a call that has come back: the stack pointer is where it stood before the call. The stub Return has
-/// moved it there, where calls go by stubs.
+/// Ends the frame of a call that has come back: the stack pointer is where it stood before the call. The stub Return
+/// has moved it there, where calls go by stubs.
 pub fn drop_frame<A: Abi>(machine: &mut Machine, cif: &Cif<A>)
     requires frame { frame_start (frame_of A.standard cif.now) machine.old + frame_of A.standard cif.now ≤ STACK_TOP }
     ensures { machine.new ≡ dropped_if (by_exchange machine.old.target) (frame_of A.standard cif.now) machine.old }

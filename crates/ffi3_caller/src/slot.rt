@@ -46,8 +46,8 @@ fn call_slot(machine: &mut Machine, addr: u64)
     }
 }
 
-/// Calls the code at the slot `addr`, through the stub Call where the target's calls go by stubs. Arguments that `store_args`
-/// stored stand for the callee in registers and behind the return address.
+/// Calls the code at the slot `addr`, through the stub Call where the target's calls go by stubs. Arguments that
+/// `store_args` stored stand for the callee in registers and behind the return address.
 pub fn call<A: Abi>(machine: &mut Machine, cif: &Cif<A>, addr: u64)
     requires target { machine.old.target ≡ A.TARGET }
     requires slot { IsSlot addr }

@@ -54,9 +54,10 @@ fn begin_frame(machine: &mut Machine, frame: u64)
     machine.fill_stack(sp, frame, 0xA5);
 }
 
-/// Stores what a call's callee is to find: scribbles on the registers, by the number of events, lowers the stack pointer by
-/// the frame, fills the frame with A5 bytes, and puts the arguments, a hidden result's address and the number of vector
-/// registers in their places. The stack pointer is an address of the stack, or its top, and the frame has room.
+/// Stores what a call's callee is to find: scribbles on the registers, by the number of events, lowers the stack
+/// pointer by the frame, fills the frame with A5 bytes, and puts the arguments, a hidden result's address and the
+/// number of vector registers in their places. The stack pointer is an address of the stack, or its top, and the frame
+/// has room.
 pub fn store_args<A: Abi>(machine: &mut Machine, cif: &Cif<A>, values: &Values)
     requires target { machine.old.target ≡ A.TARGET }
     requires fit { all_fit (trees_of cif.now.arguments) (values_of values.now) ≡ true }
@@ -68,7 +69,8 @@ pub fn store_args<A: Abi>(machine: &mut Machine, cif: &Cif<A>, values: &Values)
     ensures hidden { OwnsHidden (image_of (frame_of A.standard cif.now) (passing machine.new)) 0 (plan_of A.standard cif.now).res }
     ensures vectors { RegisterHolds (image_of (frame_of A.standard cif.now) (passing machine.new)) A.standard.vector_count (plan_of A.standard cif.now).vectors }
     ensures sp { machine.new.sp + frame_of A.standard cif.now ≡ machine.old.sp }
-    // a register that carries nothing is as the scribble left it, and so are the preserved ones; it leaves the reserved ones
+    // a register that carries nothing is as the scribble left it, and so are the preserved ones; it leaves the reserved
+    // ones
     ensures others { (l : Loc) → IsPlace 0 l → IsNoneOf (argument_locs (plan_of A.standard cif.now) ++ listed A.standard.vector_count) l → SameAt 0 l (scribbled (length machine.old.events) machine.old) machine.new }
     ensures preserved { AllByRecursion (λ l. SameAt 0 l (scribbled (length machine.old.events) machine.old) machine.new) A.standard.preserved }
     ensures reserved { AllByRecursion (λ l. SameAt 0 l machine.old machine.new) A.standard.reserved }
@@ -76,7 +78,8 @@ pub fn store_args<A: Abi>(machine: &mut Machine, cif: &Cif<A>, values: &Values)
     ensures free { (at k : ℕ) → at + 8 ≤ frame_of A.standard cif.now → IsNoneOf (argument_locs (plan_of A.standard cif.now) ++ copy_locs cif.now.arguments (plan_of A.standard cif.now).places) (S at) → k < 8 → stack_byte machine.new (machine.new.sp + at + k) ≡ 0xA5 }
     // what no leaf of an argument has is as the scribble and the A5 bytes left it
     ensures unused { AllKeepUnused machine.new.sp (passing (with_frame (frame_of A.standard cif.now) machine.old)) (passing machine.new) cif.now.arguments (plan_of A.standard cif.now).places }
-    // below the new and at or above the old stack pointer nothing is written, nor behind what a call passes but for the scribble
+    // below the new and at or above the old stack pointer nothing is written, nor behind what a call passes but for the
+    // scribble
     ensures within { WroteWithin machine.new.sp machine.old.sp (passing (scribbled (length machine.old.events) machine.old)) (passing machine.new) }
 {
     // its contract tells what is true of every interface

@@ -14,6 +14,6 @@ abbrev pub room_status : Bool → ℕ
 room_status true = DONE
 room_status false = TOO_SMALL
 
--- a text with the 0 behind it by which C knows its end
+-- a text with its terminating NUL
 abbrev pub with_end : List ℕ → List ℕ
 with_end text = text ++ 0 ∷ []

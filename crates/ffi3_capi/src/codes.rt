@@ -19,7 +19,7 @@ pub const NOT_IN_STACK: u32 = 7;
 
 /// `FFI3_RESULT`: the result, in place of an argument's number.
 pub const RESULT_PART: u32 = 0xFFFF_FFFF;
-/// `FFI3_HIDDEN`: the address of the result's buffer, which is passed before all arguments.
+/// `FFI3_HIDDEN`: the address of the result's buffer, which is passed beside the arguments (sret).
 pub const HIDDEN_PART: u32 = 0xFFFF_FFFE;
 
 /// `FFI3_BYTES`: bytes of the value.
@@ -38,7 +38,7 @@ pub const ON_STACK: u32 = 2;
 pub const REST_FREE: u32 = 0;
 /// `FFI3_REST_EXTENDED`: the integer, extended to 64 bits as its type says.
 pub const REST_EXTENDED: u32 = 1;
-/// `FFI3_REST_EXTENDED_BY_32`: the integer, extended to 32 bits as its type says, and from there by its upper bit to 64.
+/// `FFI3_REST_EXTENDED_BY_32`: the integer, extended to 32 bits as its type says, then sign-extended to 64.
 pub const REST_EXTENDED_BY_32: u32 = 2;
 /// `FFI3_REST_ONES`: all ones.
 pub const REST_ONES: u32 = 3;

@@ -203,9 +203,9 @@ fn read_on(
     }
 }
 
-/// The arguments of the function that the text declares, as registers and stack have them where it begins, by the calling
-/// standard with this number alone: what that leaves free is not judged, and an address is followed to wherever it points
-/// in the stack's bytes, which begin at the stack pointer.
+/// The arguments of the function that the text declares, as registers and stack have them where it begins, by the
+/// calling standard with this number alone: what that leaves free is not judged, and an address is followed to wherever
+/// it points in the stack's bytes, which begin at the stack pointer.
 pub fn find_arguments(
     alloc: Global,
     target: u32,
@@ -230,7 +230,8 @@ pub fn find_arguments(
     }
 }
 
-/// The same for a caller's struct and array of bytes. The number tells whether the values had room, or why there are none.
+/// The same for a caller's struct and array of bytes. The number tells whether the values had room, or why there are
+/// none.
 pub fn arguments(
     alloc: Global,
     target: u32,

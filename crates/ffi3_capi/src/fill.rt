@@ -5,7 +5,7 @@ ghost use Rattle.ffi3_capi.specs.Filled.{has_room, filled, room_status, with_end
 use crate::codes::{DONE, TOO_SMALL};
 use ffi3_place_rules::Listed;
 
-/// Writes the items to the front of the array, if all of them have room there; whether they have.
+/// Writes the items to the front of the array, if all of them have room there. Answers whether they have.
 pub(crate) fn fill<T: Copy + Drop>(items: &Listed<T>, array: &mut [T]) -> bool
     ensures fits { result ≡ has_room items.now array.old }
     ensures written { array.new ≡ filled items.now array.old }
@@ -40,7 +40,7 @@ pub(crate) fn room_status(fits: bool) -> u32
     if fits { DONE } else { TOO_SMALL }
 }
 
-/// Writes the text and a 0 to the front of the array, if both have room there; how long the text is.
+/// Writes the text and a 0 to the front of the array, if both have room there. Answers how long the text is.
 pub(crate) fn fill_text(text: &[u8], array: &mut [u8]) -> usize
     ensures count { result ≡ length text.now }
     ensures written { array.new ≡ filled (with_end text.now) array.old }

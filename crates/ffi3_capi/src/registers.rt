@@ -83,8 +83,8 @@ fn name_by(place: u32, isa: Isa, r: u32) -> &'static str
     ""
 }
 
-/// The name of a register of a target, for an array of the caller: it is written with a 0 behind it, if all of that has
-/// room there. How long it is; what is no register has no name.
+/// The name of a register of a target, for an array of the caller: it is written with a terminating NUL, if all of that
+/// has room there. Answers how long it is; what is no register has the empty name.
 pub fn register_name(target: u32, place: u32, number: u32, array: &mut [u8]) -> usize
     ensures count { result ≡ length (register_name target place number) }
     ensures written { array.new ≡ filled (with_end (register_name target place number)) array.old }

@@ -61,8 +61,8 @@ fn kind_text(alloc: Global, kind: FaultKind, fault: &TextFault) -> Result<Bytes,
     Bytes::from_slice(alloc, words.as_bytes())
 }
 
-/// The words of a fault, for an array of the caller: they are written with a 0 behind them, if all of that has room
-/// there. How long they are; 0 too where memory was refused, and nothing written.
+/// The words of a fault, for an array of the caller: they are written with a terminating NUL, if all of that has room
+/// there. Answers how long they are, or 0 where memory was refused and nothing is written.
 pub fn fault_text(alloc: Global, fault: &TextFault, array: &mut [u8]) -> usize
     ensures { ((result ≡ length (fault_text fault.now)) × (array.new ≡ filled (with_end (fault_text fault.now)) array.old)) ⊎ ((result ≡ 0) × (array.new ≡ array.old)) }
 {

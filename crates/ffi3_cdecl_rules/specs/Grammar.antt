@@ -1,4 +1,4 @@
--- The grammar of C declarations that are read: what the tokens before make a type of, where the tokens after are left. (C11 6.7.2 "Type specifiers", 6.7.2.1 "Structure and union specifiers", 6.7.3 "Type qualifiers", 6.7.6.1 to 6.7.6.3 for pointers, arrays and functions; a signature by its parameters' types alone)
+-- The grammar of the C declarations that are read, as relations: from a list of tokens to what its front is and to the tokens after that. (C11 6.7.2 "Type specifiers", 6.7.2.1 "Structure and union specifiers", 6.7.3 "Type qualifiers", 6.7.6.1 to 6.7.6.3 for pointers, arrays and functions; a signature by its parameters' types alone)
 use Rattle.std.specs.Prelude.{refl, ℕ, suc, ◌<◌, Bool, true, false, cond, List, [], ◌∷◌, length, Some, None}
 use Rattle.std.specs.Coded.{Coded, code_by, coded×, coded_list, coded_ℕ}
 use Rattle.ffi3_type_rules.specs.Tree.{Scalar, u8, s8, u16, s16, u32, s32, u64, s64, u128, s128, pointer, Tree, void, scalar, struct_of, array_of}

@@ -1,4 +1,4 @@
--- A pushdown machine that reads declarations token by token; nothing of it is to be believed: that it accepts what the grammar has is proved.
+-- A pushdown machine that reads declarations token by token; it need not be believed, since that it accepts exactly what the grammar has is proved.
 use Rattle.std.specs.Prelude.{◌≡◌, ℕ, suc, Bool, true, false, cond, List, [], ◌∷◌, length, Option, Some, None, ltb}
 use Rattle.ffi3_type_rules.specs.Tree.{s32, s128, Tree, void, scalar, struct_of, array_of}
 use Rattle.ffi3_cdecl_rules.specs.Tokens.{Token, Sign, signed, type_word, sign_word, const_word, short_word, int_word, long_word, int128_word, char_word, void_word, struct_word, name, number, open_round, close_round, open_curly, close_curly, open_square, close_square, comma, semicolon, star, dots, Placed, Cut, tokens, bad_at, cut}

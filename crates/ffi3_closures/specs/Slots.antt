@@ -1,4 +1,4 @@
--- The bytes of a slot, and the code region that holds those of a map of closures. (libffi manual, "The Closure API"; Intel 64 and IA-32 Architectures Software Developer's Manual, volume 2; Arm Architecture Reference Manual for A-profile, C6.2; RISC-V unprivileged ISA, 2)
+-- The bytes of a slot, which are a closure's trampoline and its data, and the code region that holds those of a map of closures. (libffi manual, "The Closure API"; Intel 64 and IA-32 Architectures Software Developer's Manual, volume 2; Arm Architecture Reference Manual for A-profile, C6.2; RISC-V unprivileged ISA, 2)
 use Rattle.std.specs.Prelude.{◌≡◌, ℕ, ◌*◌, ◌<◌, List, [], ◌∷◌, ◌++◌, length, take, drop, replicate, slice_index_or, Option, Some, None, is_some, count_by}
 use Rattle.std.specs.Int.{w64, to_le_bytes}
 use Rattle.ffi3_type_rules.specs.declared.Target.{Target}

@@ -37,7 +37,8 @@ pub struct Image {
     pub stack: Bytes,
 }
 
-/// Why an image is not explained by values: a place does not hold what it holds where values are passed, or memory is wanting.
+/// Why an image is not explained by values: a place does not hold what it would where values are passed, or memory is
+/// wanting.
 #[derive(Debug, Drop, Error)]
 pub enum Unexplained {
     #[error("a place does not hold what it would hold")]
@@ -79,10 +80,10 @@ fn are_small(general: &[u64], floating: &[u64], stack: &[u8])
     ensures stack { (i : ℕ) → get_or stack.now i 0 < 256 }
 {}
 
-/// The values that an image at an entry holds by the standard `A`, or the first place that holds something else: arguments
-/// from the left, each by its pieces in the order of its place, then the address of a hidden result, then the number of
-/// vector registers. The values are those of a caller of this library: narrow integers are extended as it extends them, and
-/// copies stand where it has them.
+/// The values that an image at an entry holds by the standard `A`, or the first place that holds something else:
+/// arguments from the left, each by its pieces in the order of its place, then the address of a hidden result, then the
+/// number of vector registers. The values are those of a caller of this library: narrow integers are extended as it
+/// extends them, and copies stand where it has them.
 pub fn explain<A: Abi>(alloc: Global, image: &Image, cif: &Cif<A>) -> Result<Values, Unexplained>
     requires stack { A.standard.link + frame_of A.standard cif.now ≤ length image.now.stack }
     requires high { image.now.sp + A.standard.link + frame_of A.standard cif.now < 2 ^ 64 }

@@ -69,8 +69,8 @@ pub fn value_in_pieces(
     value_from_bytes(alloc, ty, out)
 }
 
-// Byte `k` of a piece's place, as it is wanted: a byte of a leaf, the same in `low` and in `high`, is the value's, and any
-// other is as it is found.
+// Byte `k` of a piece's place, as it is wanted: a byte of a leaf, the same in `low` and in `high`, is the value's, and
+// any other is as it is found.
 fn wanted_byte(piece: &Piece, found: &[u8], low: &[u8], high: &[u8], k: u8) -> u8
     requires eight { length found.now ≡ 8 }
     requires low { IsWithin (length low.now) piece.now }
@@ -106,7 +106,8 @@ fn wanted_word(piece: &Piece, found: &[u8], low: &[u8], high: &[u8]) -> u64
     ])
 }
 
-// The 8 bytes of an integer in a register, extended by its sign to 32 bits where it is narrower, and from there by the upper bit.
+// The 8 bytes of an integer in a register, extended by its sign to 32 bits where it is narrower, and from there by the
+// upper bit.
 fn widen_from_32(ty: &FfiType, value: &Value) -> u64
     requires kind { is_number_type (tree_of ty.now) ≡ true }
     requires small { size_of (tree_of ty.now) ≤ 8 }

@@ -1,6 +1,6 @@
-//! What an image at an entry is explained as: the values that it holds, or the first place that holds something else. And
-//! which arguments it has by the standard alone. The definitions are in `specs/`; these are the words that they share with
-//! the code.
+//! What an image at an entry is explained as: the values that it holds, or the first place that holds something else.
+//! And which arguments it has by the standard alone. The definitions are in `specs/`; these are the words that they
+//! share with the code.
 #![tactic(auto)]
 
 ghost use Rattle.std.specs.Prelude.{ℕ, List};
@@ -25,7 +25,7 @@ pub enum Part {
     Count,
 }
 
-/// The number that a place holds, and the one that it holds in an image that holds values.
+/// The number that a place holds, `found`, and the one that it holds where values are passed, `wants`.
 #[derive(Clone, Copy, Debug, PartialEq, Eq)]
 pub struct Check {
     pub part: Part,
@@ -41,23 +41,24 @@ pub struct Outside {
     pub address: u64,
 }
 
-/// Does nothing. Its contract says of every sound standard: an image holds values exactly where each place holds what the
-/// definition wants there, these values are then the explained ones and no others, and where an image is not explained
-/// by values it holds none, and its first place that breaks this is told.
+/// Does nothing. Its contract says of every sound standard: an image holds values exactly where each place holds what
+/// the definition wants there, and these are then the explained ones; an image that is not explained by values holds
+/// none, and the first place that does not hold what is wanted is told.
 pub fn explain_laws()
     ensures { (std : Standard) (s : Signature) (m : Image) → IsExplained std s m }
 {}
 
-/// Does nothing. Its contract says that each event that answers to an entry of a run is explained as that entry's arguments.
+/// Does nothing. Its contract says that each event that answers to an entry of a run is explained as that entry's
+/// arguments.
 pub fn entry_laws()
     ensures { (std : Standard) (held : Loc → ℕ) (signatures : List Signature) (unfinished : List Entered) (trace : List TraceItem) (events : List Event) →
         JournalIsExplained std held signatures unfinished trace events }
 {}
 
-/// Does nothing. Its contract says of every sound standard: an image that owns values, or is explained by values, has these by
-/// the standard alone; what is read by it fits the arguments' types; an argument by reference is the value to which its place
-/// points; no other register is looked at, so the number of vector registers is not asked; and where an address points outside
-/// the image, the image owns no values.
+/// Does nothing. Its contract says of every sound standard: an image that owns values, or is explained by values, has
+/// these by the standard alone; what is read by it fits the arguments' types; an argument by reference is the value to
+/// which its place points; no other register is looked at, so the number of vector registers is not asked; and where an
+/// address points outside the image, the image owns no values.
 pub fn argument_laws()
     ensures { (std : Standard) (s : Signature) (m : Image) → AreRead std s m }
 {}

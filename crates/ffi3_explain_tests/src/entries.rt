@@ -71,8 +71,8 @@ fn are_right<A: Abi>(cifs: &Cifs<A>)
     }
 }
 
-/// Looks at events and signatures, and does nothing. Its contract says that each event that answers to an entry of a run, of
-/// any trace by these signatures, is explained as that entry's arguments.
+/// Looks at events and signatures, and does nothing. Its contract says that each event that answers to an entry of a
+/// run, of any trace by these signatures, is explained as that entry's arguments.
 pub fn entries_are_explained<A: Abi>(machine: &Machine, cifs: &Cifs<A>)
     ensures { (top : ℕ) (held : Loc → ℕ) (n : ℕ) (unfinished : List Entered) (trace : List TraceItem) →
         Answers A.standard top held cifs.now n unfinished trace machine.now.events → EntriesAreExplained A.standard cifs.now trace machine.now.events }

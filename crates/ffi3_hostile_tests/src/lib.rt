@@ -1,5 +1,5 @@
-//! Natives that nest to the stack's end, free themselves, make closures without end or print without end, and runs with them:
-//! whatever a native does within its contract, the run keeps its own.
+//! Natives that nest to the stack's end, free themselves, make closures without end or print without end, and runs with
+//! them: whatever a native does within its contract, the run keeps its own.
 #![tactic(auto)]
 
 mod again;

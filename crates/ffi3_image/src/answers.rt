@@ -39,11 +39,11 @@ pub enum Answer {
     Refusal(Bytes),
 }
 
-/// Reads the bytes as the description of an image, and answers a question about it: with the lines of its arguments,
-/// where it is explained behind them the line of a hidden result's address; or with the line that refuses it. Refused is,
-/// in this order, an input of more than 1,048,576 bytes, one that is no JSON, the first fault of reading, an image that
-/// lacks the room that the question needs, and one that is not explained by values, or by the standard alone has an address
-/// that points outside.
+/// Reads the bytes as the description of an image, and answers a question about it: with the lines of its arguments
+/// and, where it is explained, the line of a hidden result's address behind them; or with the line that refuses it.
+/// These are refused, in this order: more than 1,048,576 bytes; what is no JSON; the first fault of reading; an image
+/// that lacks the room that the question needs; one that values do not explain, or, by the standard alone, one with an
+/// address that points outside.
 pub fn answer_question(alloc: Global, question: Question, bytes: &[u8]) -> Result<Answer, NoMemory>
     ensures { IfOk result (λ a. IsTheAnswer question bytes.now (answer_of a)) }
 {

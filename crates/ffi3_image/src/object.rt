@@ -134,11 +134,11 @@ fn read_object(alloc: Global, value: &Node, at: &Way) -> Result<Snapshot, ImageF
     }
 }
 
-/// The image that the bytes describe: an object with `target`, a target's word, `sig`, a signature as scripts of version 2
-/// have them, `sp`, a number, `general` and `floating`, arrays of 32 numbers, and `stack`, the bytes from the stack pointer
-/// on, two hexadecimal digits each. A number is a text of 16 hexadecimal digits. The first fault in this order is told:
-/// more than 1,048,576 bytes, no JSON, the object and its keys, and each key's value. Whether the stack has the bytes that
-/// a question needs is not looked at.
+/// The image that the bytes describe: an object with `target`, a target's word, `sig`, a signature as scripts of
+/// version 2 have them, `sp`, a number, `general` and `floating`, arrays of 32 numbers, and `stack`, the bytes from the
+/// stack pointer on, two hexadecimal digits each. A number is a text of 16 hexadecimal digits. The first fault in this
+/// order is told: more than 1,048,576 bytes, no JSON, the object and its keys, and each key's value. Whether the stack
+/// has the bytes that a question needs is not looked at.
 pub fn read_snapshot(alloc: Global, bytes: &[u8]) -> Result<Snapshot, ImageFault>
     ensures ok { IfOk result (λ s. Describe bytes.now (snapshot_of s)) }
     ensures right { IfOk result (λ s. SignatureHasNoFault s.sig) }

@@ -65,7 +65,8 @@ pub fn room_for_explain<A: Abi>(
     check_room(alloc, image, whole, whole)
 }
 
-/// Whether an image has the places of all arguments, as `arguments` looks at them, and its whole frame would end below 2^64.
+/// Whether an image has the places of all arguments, as `arguments` looks at them, and its whole frame would end below
+/// 2^64.
 pub fn room_for_arguments<A: Abi>(
     alloc: Global,
     image: &Image,

@@ -29,8 +29,9 @@ pub fn entered_closure(machine: &Machine) -> u64
     })
 }
 
-/// At an entry of any caller whose image owns some values: records it, and takes the arguments into the callee's block. Where RETURN is
-/// the return address and the journal has room for the return too, the callee of an open call then runs.
+/// At an entry of any caller whose image owns some values: records it, and takes the arguments into the callee's block.
+/// Where RETURN is the return address and the journal has room for the return too, the callee of an open call then
+/// runs.
 pub fn accept<A: Abi>(machine: &mut Machine, cif: &Cif<A>) -> Incoming
     requires target { machine.old.target ≡ A.TARGET }
     requires entry { machine.old.pc ≡ ENTRY }

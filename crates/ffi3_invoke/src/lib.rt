@@ -1,4 +1,5 @@
-//! One call of a closure by its trampoline, of any signature by any calling standard: the caller's side and the callee's put together.
+//! One call of a closure by its trampoline, of any signature by any calling standard: the caller's side and the
+//! callee's put together.
 #![tactic(auto)]
 
 ghost use Rattle.std.specs.Prelude.{◌≡◌, ◌+◌, ◌≤◌, IsSome, length, true};
@@ -29,8 +30,9 @@ use ffi3_values::{Value, Values};
 pub use passing::pass_arguments;
 pub use returning::give_back;
 
-/// Calls the live closure at `ptr` by its trampoline, up to its callee, which has the arguments in its block. The journal has room for
-/// the entry and the return, as `Machine::journal_room` makes it for the bytes of the return address and the frame.
+/// Calls the live closure at `ptr` by its trampoline, up to its callee, which has the arguments in its block. The
+/// journal has room for the entry and the return, as `Machine::journal_room` makes it for the bytes of the return
+/// address and the frame.
 pub fn begin_call<A: Abi>(
     machine: &mut Machine,
     table: &Table,
@@ -57,8 +59,8 @@ pub fn begin_call<A: Abi>(
     accept(machine, cif)
 }
 
-/// Returns from the callee of an open call with its result, whose bytes the caller then has, and ends the call's frame. Bytes of
-/// padding may be any.
+/// Returns from the callee of an open call with its result, whose bytes the caller then has, and ends the call's frame.
+/// Bytes of padding may be any.
 pub fn end_call<A: Abi>(
     machine: &mut Machine,
     cif: &Cif<A>,

@@ -16,8 +16,9 @@ use ffi3_machine::Machine;
 use ffi3_place::Abi;
 use ffi3_values::Values;
 
-/// Stores the arguments, calls the live closure at `ptr`, through the stub Call where calls go by stubs, and runs its trampoline: the machine is at ENTRY, and holds the values as
-/// the standard says. The stack has room for the frame and the return address.
+/// Stores the arguments, calls the live closure at `ptr`, through the stub Call where calls go by stubs, and runs its
+/// trampoline: the machine is at ENTRY, and holds the values as the standard says. The stack has room for the frame and
+/// the return address.
 pub fn pass_arguments<A: Abi>(
     machine: &mut Machine,
     table: &Table,

@@ -33,8 +33,9 @@ fn record_return(machine: &mut Machine, frame: u64)
     }
 }
 
-/// Gives the result of any open call whose callee runs, gives back all else, returns, by the stub Exit where calls go by stubs, and
-/// records it: the result stands where the caller looks for it, and the registers and the stack pointer are those that a callee keeps.
+/// Gives the result of any open call whose callee runs, gives back all else, returns, by the stub Exit where calls go
+/// by stubs, and records it: the result stands where the caller looks for it, and the registers and the stack pointer
+/// are those that a callee keeps.
 pub fn give_back<A: Abi>(machine: &mut Machine, cif: &Cif<A>, incoming: Incoming, value: &Value)
     requires called { IsCalled A.standard cif.now machine.old }
     requires incoming { IsIncoming A.standard cif.now incoming }

@@ -88,7 +88,7 @@ impl<W> WriteSink<W> {
 }
 
 impl<W: Write + Drop> WriteSink<BufWriter<W>> {
-    /// Has the buffer written out to the writer behind it. That this fails is a fault, as of a write.
+    /// Has the buffer written out to the writer behind it. A failure is a fault, as that of a write is.
     ///
     /// Nothing is held back where it does not fail. What was taken stays taken in either case.
     pub fn flush(&mut self) -> Result<(), Failed>

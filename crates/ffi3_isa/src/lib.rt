@@ -1,4 +1,4 @@
-//! Instructions of the three targets, read from their bytes.
+//! Instructions of the three instruction sets, read from their bytes.
 #![tactic(auto)]
 
 mod aarch64;

@@ -14,7 +14,7 @@ use Rattle.ffi3_place_rules.specs.Image.{Image}
 use Rattle.ffi3_place_rules.specs.Event.{EventKind, enters, leaves, Event}
 use Rattle.ffi3_place_rules.specs.Isa.{pushed_bytes, link_register, is_reserved, is_zero_register, closure_register, scribble}
 
--- Byte i of `stack` stands at STACK + i, byte i of `code` at CODE + i, and byte i of `exchange` at EXCHANGE + i. `steps` counts instructions modulo 2^64. `mark` is the lowest stack address written since the machine began, STACK_TOP where none was.
+-- Byte i of `stack` stands at STACK + i, byte i of `code` at CODE + i, and byte i of `exchange` at EXCHANGE + i. `steps` counts instructions modulo 2^64. `mark` is the low-water mark: the lowest stack address written since the machine began, STACK_TOP where none was.
 -- There is room in the journal for `spare_events` further events with `spare_bytes` bytes of stack in all.
 pub record State : Type 0 where
   pub target : Target

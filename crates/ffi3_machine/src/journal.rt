@@ -14,7 +14,8 @@ pub enum EventKind {
     Leave,
 }
 
-/// The registers at an entry or at a return. `closure` is the address of the closure that is entered, and 0 at a return.
+/// The registers at an entry or at a return. `closure` is the address of the closure that is entered, and 0 at a
+/// return.
 #[derive(Clone, Copy, Debug)]
 pub struct Event {
     pub kind: EventKind,

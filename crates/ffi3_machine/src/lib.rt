@@ -1,4 +1,4 @@
-//! A small machine: registers, a stack, a code region, and the journal of entries and returns.
+//! A small machine: registers, memory (stack, slots, stubs, exchange region), and the journal of entries and returns.
 #![tactic(auto)]
 
 ghost use Rattle.std.specs.Prelude.{◌≡◌, ℕ, ◌<◌, ◌≤◌, ◌+◌, ◌-◌, ◌*◌, ◌%◌, ◌^◌, length, IfOk, IsTrue, OnOk, OnErr, slice_index, ◌↔◌};
@@ -66,7 +66,8 @@ pub use step::Trap;
 use stub::{begin_stubs, new_stubs};
 pub use stub::{EXCHANGE, EXCHANGE_BYTES, EXCHANGE_END, STUBS, STUBS_BYTES, STUBS_END, Stub};
 
-/// Registers, stack, code region and journal. General and floating registers go by their numbers in the target's instructions; sp is apart.
+/// Registers, four regions of memory, the count of steps and the journal. General and floating registers go by their
+/// numbers in the target's instructions; sp is apart.
 #[derive(Drop)]
 pub struct Machine {
     target: Target,
@@ -127,7 +128,8 @@ impl Machine {
         Ok(machine)
     }
 
-    /// Begins anew for a target: an empty stack of A5 bytes, an empty journal, free slots, its stubs, an exchange region of zeros, pc at RETURN, no steps, and scribbled registers. The journal's room stays.
+    /// Begins anew for a target: an empty stack of A5 bytes, an empty journal, free slots, its stubs, an exchange
+    /// region of zeros, pc at RETURN, no steps, and scribbled registers. The journal's room stays.
     pub fn begin(&mut self, target: Target)
         ensures { self.new ≡ begun target self.old.spare_events self.old.spare_bytes }
     {
@@ -201,7 +203,7 @@ impl Machine {
         self.pc
     }
 
-    /// The lowest stack address written since `begin`, or STACK_TOP.
+    /// The low-water mark of the stack: the lowest address written since `begin`, or STACK_TOP.
     pub fn mark(&self) -> u64
         ensures { result ≡ self.now.mark }
     {
@@ -294,7 +296,8 @@ impl Machine {
         }
     }
 
-    /// Copies `len` bytes of the stack to other places of it, as through a buffer. The mark falls to `to` if that is lower, and `len` is not 0.
+    /// Copies `len` bytes of the stack to other places of it, as through a buffer. The mark falls to `to` if that is
+    /// lower, and `len` is not 0.
     pub fn copy_stack(&mut self, from: u64, to: u64, len: u64)
         requires from_low { STACK ≤ from }
         requires from_high { from + len ≤ STACK_TOP }
@@ -345,7 +348,7 @@ impl Machine {
         self.journal.make_room(bytes)
     }
 
-    /// Sets every register but sp and the reserved ones to a number of its own, which tells `n` too.
+    /// Clobbers the registers: sets each but sp and the reserved ones to a number of its own, which tells `n` too.
     pub fn scribble(&mut self, n: u64)
         ensures { self.new ≡ scribbled n self.old }
     {
@@ -353,7 +356,8 @@ impl Machine {
         scribble_floating(&mut self.floating, n);
     }
 
-    /// Calls the code at the slot `addr`: RETURN is the return address, and pc is `addr`. What is pushed lies in the stack.
+    /// Calls the code at the slot `addr`: RETURN is the return address, and pc is `addr`. What is pushed lies in the
+    /// stack.
     pub fn call(&mut self, addr: u64)
         requires slot { IsSlot addr }
         requires room { LieInStack (self.old.sp - pushed_bytes (isa_of self.old.target)) (pushed_bytes (isa_of self.old.target)) }
@@ -392,8 +396,8 @@ impl Machine {
             .add(event, from_sp(&self.stack, self.sp, bytes));
     }
 
-    /// Returns to RETURN, and records it with `bytes` bytes of stack from the sp after it on. These, and what is popped,
-    /// lie in the stack.
+    /// Returns to RETURN, and records it with `bytes` bytes of stack from the sp after it on. These, and what is
+    /// popped, lie in the stack.
     pub fn leave(&mut self, bytes: u64)
         requires address { HasReturnAddress self.old }
         requires stack { LieInStack self.old.sp (pushed_bytes (isa_of self.old.target) + bytes) }

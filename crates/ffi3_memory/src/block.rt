@@ -1,20 +1,21 @@
 //! What is raw in this crate: one block that the allocator gave, and the two places where it is taken and given back.
 //!
-//! A [`Block`] is a pointer and a size, and with them the right to free. The bytes themselves are lodged in a
-//! `Vec<u8, Lodged>`: a vector over the very same memory, which never grows, never moves elsewhere and never frees. So a
-//! byte has one owner, the vector; the block's end has one owner, the `Block`; and no other code sees a pointer.
+//! A [`Block`] is a pointer and a size, and with them the right to free. The bytes themselves are lodged in a `Vec<u8,
+//! Lodged>`: a vector over the very same memory, which never grows, never moves elsewhere and never frees. So a byte
+//! has one owner, the vector; the block's end has one owner, the `Block`; and no other code sees a pointer.
 //!
 //! Why each `unsafe` is safe:
 //!
 //! - `lodge` wants memory of `size` bytes that nobody else uses, none of which counts as written. `take` hands on what
 //!   `allocate` has just given, whole, and keeps no way to reach it but the vector's.
-//! - `deallocate` wants a block that this allocator gave, at the size and the alignment that were asked for, that has not
+//! - `deallocate` wants a block that this allocator gave, at the size and the alignment that were asked for, that has
+//! not
 //!   gone back yet, and whose bytes nobody owns. `give` consumes the `Block`, which holds the one right to free its
-//!   memory; by its contract the vector lies in this block and the allocator is the one it came from; and `dislodge` ends
-//!   the vector before the memory goes.
+//! memory; by its contract the vector lies in this block and the allocator is the one it came from; and `dislodge` ends
+//! the vector before the memory goes.
 //!
-//! A `Block` has no `Drop`: to let one go is a compile error, so it ends in `give` alone. No pointer becomes a number, and
-//! none is made from one. The size is never 0, since an allocator gives no block of no bytes.
+//! A `Block` has no `Drop`: to let one go is a compile error, so it ends in `give` alone. No pointer becomes a number,
+//! and none is made from one. The size is never 0, since an allocator gives no block of no bytes.
 
 ghost use Rattle.std.specs.Prelude.{◌≡◌, [], IfSome};
 ghost use Rattle.ffi3_memory.specs.Block.{IsBlockSize, IsPlaced, block_owns};

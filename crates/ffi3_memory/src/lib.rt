@@ -117,7 +117,8 @@ impl Region {
         self.bytes[at..at + bytes.len()].copy_from_slice(bytes);
     }
 
-    /// Replaces `width` bytes from `addr` on by the lowest bytes of `value`. They lie in the region, and `width` is 1, 2, 4 or 8.
+    /// Replaces `width` bytes from `addr` on by the lowest bytes of `value`. They lie in the region, and `width` is 1,
+    /// 2, 4 or 8.
     pub fn store(&mut self, addr: u64, width: u8, value: u64)
         requires width { IsWidth width }
         requires low { self.old.base ≤ addr }
@@ -138,7 +139,8 @@ impl Region {
         self.bytes[at..at + len as usize].fill(byte);
     }
 
-    /// Copies the `len` bytes from `from` on to the places from `to` on, as through a buffer. Both ranges lie in the region.
+    /// Copies the `len` bytes from `from` on to the places from `to` on, as through a buffer. Both ranges lie in the
+    /// region.
     pub fn copy_within(&mut self, from: u64, to: u64, len: u64)
         requires from_low { self.old.base ≤ from }
         requires from_high { from + len ≤ self.old.base + length self.old.bytes }

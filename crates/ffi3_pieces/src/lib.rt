@@ -87,7 +87,8 @@ pub fn put_word(machine: &mut Machine, base: u64, at: Loc, word: u64)
     put(machine, base, at, &word.to_le_bytes());
 }
 
-/// Puts the bytes that a piece carries into its place, whose other bytes stay. Stack places count from the address `base`.
+/// Puts the bytes that a piece carries into its place, whose other bytes stay. Stack places count from the address
+/// `base`.
 pub fn set_piece(machine: &mut Machine, base: u64, piece: Piece, bytes: &[u8])
     requires low { STACK ≤ base }
     requires high { base ≤ STACK_TOP }
@@ -123,7 +124,8 @@ fn boxed(bytes: &[u8], from: usize) -> u64
     ])
 }
 
-// The 8 bytes of an integer in a register, extended by its sign to 32 bits where it is narrower, and from there by the upper bit.
+// The 8 bytes of an integer in a register, extended by its sign to 32 bits where it is narrower, and from there by the
+// upper bit.
 fn widen_from_32(ty: &FfiType, value: &Value) -> u64
     requires kind { is_number_type (tree_of ty.now) ≡ true }
     requires small { size_of (tree_of ty.now) ≤ 8 }
@@ -134,7 +136,8 @@ fn widen_from_32(ty: &FfiType, value: &Value) -> u64
     ((low as u32).cast_signed() as i64).cast_unsigned()
 }
 
-// Puts the bytes that a piece of a value carries into its place, and fills the rest of the place. `bytes` are the value's bytes in memory.
+// Puts the bytes that a piece of a value carries into its place, and fills the rest of the place. `bytes` are the
+// value's bytes in memory.
 fn fill_piece(
     machine: &mut Machine,
     base: u64,
@@ -161,8 +164,9 @@ fn fill_piece(
     }
 }
 
-/// Stores a piece of a value, and fills the rest of the piece's place. Padding keeps what stood there, and so does the rest of the place where nothing fills it.
-/// `bytes` are as many as the value has, whatever they hold. Stack places count from the address `base`.
+/// Stores a piece of a value, and fills the rest of the piece's place. Padding keeps what stood there, and so does the
+/// rest of the place where nothing fills it. `bytes` are as many as the value has, whatever they hold. Stack places
+/// count from the address `base`.
 pub fn store_piece(
     machine: &mut Machine,
     base: u64,
@@ -284,7 +288,8 @@ fn store_pieces_by(
     store_each(machine, base, pieces, ty, value, bytes);
 }
 
-/// Stores all pieces of a value that stands in registers, and fills the rest of them. Padding keeps what stood there, and so does the rest of a register where nothing fills it.
+/// Stores all pieces of a value that stands in registers, and fills the rest of them. Padding keeps what stood there,
+/// and so does the rest of a register where nothing fills it.
 pub fn store_pieces(machine: &mut Machine, base: u64, pieces: &Pieces, ty: &FfiType, value: &Value)
     requires low { STACK ≤ base }
     requires high { base ≤ STACK_TOP }
@@ -309,7 +314,8 @@ pub fn store_pieces(machine: &mut Machine, base: u64, pieces: &Pieces, ty: &FfiT
     }
 }
 
-// Stores a value in pieces, by way of `bytes`, which are as many as it has. What stands on the stack goes by runs, but where something fills the rest of a place.
+// Stores a value in pieces, by way of `bytes`, which are as many as it has. What stands on the stack goes by runs, but
+// where something fills the rest of a place.
 fn store_direct(
     machine: &mut Machine,
     base: u64,
@@ -338,7 +344,8 @@ fn store_direct(
     store_each(machine, base, pieces, ty, value, bytes);
 }
 
-// Stores an argument by reference, by way of `bytes`, which are as many as it has: a copy of the value `copy` bytes from `base` on, and the copy's address in a place. The copy's padding keeps what stood there.
+// Stores an argument by reference, by way of `bytes`, which are as many as it has: a copy of the value `copy` bytes
+// from `base` on, and the copy's address in a place. The copy's padding keeps what stood there.
 fn store_copy(
     machine: &mut Machine,
     base: u64,
@@ -399,7 +406,8 @@ fn store_place_by(
     }
 }
 
-/// Stores an argument at its place. What no leaf of it has keeps what stood there. Stack places count from the address `base`.
+/// Stores an argument at its place. What no leaf of it has keeps what stood there. Stack places count from the address
+/// `base`.
 pub fn store_place(
     machine: &mut Machine,
     base: u64,
@@ -432,7 +440,8 @@ pub fn store_place(
     }
 }
 
-/// Stores all arguments in the frame that starts at the stack pointer. What no leaf of an argument has keeps what stood there.
+/// Stores all arguments in the frame that starts at the stack pointer. What no leaf of an argument has keeps what stood
+/// there.
 pub fn store_places<A: Abi>(machine: &mut Machine, cif: &Cif<A>, values: &Values)
     requires fit { all_fit (trees_of cif.now.arguments) (values_of values.now) ≡ true }
     requires target { machine.old.target ≡ A.TARGET }

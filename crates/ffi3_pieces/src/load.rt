@@ -50,7 +50,8 @@ pub fn place_word(machine: &Machine, base: u64, at: Loc) -> u64
     }
 }
 
-/// The number in a place, of the machine's own registers, whatever a call passes. Stack places count from the address `base`.
+/// The number in a place, of the machine's own registers, whatever a call passes. Stack places count from the address
+/// `base`.
 pub fn own_word(machine: &Machine, base: u64, at: Loc) -> u64
     requires low { STACK ≤ base }
     requires high { base ≤ STACK_TOP }

@@ -16,7 +16,8 @@ use ffi3_machine::Machine;
 use ffi3_types::FfiType;
 use ffi3_values::{Value, write_bytes};
 
-// Stores a run of a value's bytes. Padding keeps what stood there. `bytes` are as many as the value has, whatever they hold.
+// Stores a run of a value's bytes. Padding keeps what stood there. `bytes` are as many as the value has, whatever they
+// hold.
 fn store_run(
     machine: &mut Machine,
     base: u64,
@@ -44,7 +45,8 @@ fn store_run(
     machine.store_stack(start, &bytes[from..to]);
 }
 
-/// Stores the runs of a value's bytes. Padding keeps what stood there. `bytes` are as many as the value has, whatever they hold.
+/// Stores the runs of a value's bytes. Padding keeps what stood there. `bytes` are as many as the value has, whatever
+/// they hold.
 pub fn store_runs(
     machine: &mut Machine,
     base: u64,

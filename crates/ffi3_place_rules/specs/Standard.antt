@@ -20,7 +20,7 @@ pub data Spot : Type 0 where
   in_pieces : List Piece → Spot
   by_reference : Loc → Spot
 
--- where a standard places a result: nowhere, in pieces, or in the caller's buffer, whose address is passed
+-- where a standard places a result: nowhere, in pieces, or in the caller's buffer, whose address is passed: a hidden result (sret)
 pub data ResultSpot : Type 0 where
   no_result : ResultSpot
   in_result_pieces : List Piece → ResultSpot
@@ -30,6 +30,7 @@ pub data ResultSpot : Type 0 where
 pub record Placing : Type 0 where
   pub arguments : List Spot
   pub result_spot : ResultSpot
+  -- the bytes of stack arguments
   pub stack_bytes : ℕ
   -- what the register `vector_count` tells; 0 where the standard has none
   pub vector_registers : ℕ
@@ -41,7 +42,7 @@ pub record Standard : Type 0 where
   pub link : ℕ
   pub save : ℕ
   pub stack_pointer : Loc
-  -- the registers that a callee preserves; those that nothing writes; the one that holds the return address
+  -- the callee-saved registers; those that neither side of a call writes; the one that holds the return address
   pub preserved : List Loc
   pub reserved : List Loc
   pub link_register : Option Loc
@@ -78,7 +79,7 @@ doubleword at j n e = record { loc = at; off = 8 * j; len = min 8 (n - 8 * j); e
 abbrev pub start : ℕ → Tree → ℕ
 start end t = least_multiple (max 8 (align_of t)) end
 
--- ---- the frame of a call: stack arguments, then copies in the order of the arguments, then the buffer of a hidden result
+-- ---- the frame of a call, the caller's outgoing argument area: stack arguments, then copies in the order of the arguments, then the buffer of a hidden result
 
 -- an argument's place, where what stands before it in the frame ends at `end`
 abbrev pub place_at : (ℕ → Tree → ℕ) → ℕ → Tree → Spot → Place

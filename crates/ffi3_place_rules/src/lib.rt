@@ -6,11 +6,14 @@ mod listed;
 pub use listed::Listed;
 pub use std::alloc::AllocError as NoMemory;
 
-/// A general register, a floating register, or a byte offset from the first stack argument.
+/// A place: a general register, a floating register, or a byte offset from the first stack argument.
 #[derive(Clone, Copy, Debug, PartialEq, Eq)]
 pub enum Loc {
+    /// A general register, by its number in instructions.
     G(u8),
+    /// A floating or vector register, by its number in instructions.
     F(u8),
+    /// The stack, so many bytes above where the first stack argument begins.
     S(u32),
 }
 
@@ -19,15 +22,16 @@ pub enum Loc {
 pub enum Ext {
     /// Anything.
     Free,
-    /// An integer is extended to 64 bits, by sign or by zeros as its type is.
+    /// A lone integer is sign- or zero-extended to 64 bits, by its type.
     Widen,
-    /// An integer is extended to 32 bits, by sign or by zeros as its type is, and from there by its upper bit to 64.
+    /// A lone integer is sign- or zero-extended to 32 bits, by its type, and from there sign-extended to 64.
     Riscv,
     /// The upper 32 bits are all ones: the float is NaN-boxed.
     Boxed,
 }
 
-/// Bytes `off` to `off + len` of a value stand in the low bytes of `loc`. A piece has at most eight bytes.
+/// Bytes `off` to `off + len` of a value stand in the low bytes of `loc`. A piece has at most eight bytes: a doubleword
+/// of the value (an eightbyte, on AMD64), or one of its leaves.
 #[derive(Clone, Copy, Debug, PartialEq, Eq)]
 pub struct Piece {
     pub loc: Loc,
@@ -39,7 +43,8 @@ pub struct Piece {
 /// The pieces of one value.
 pub type Pieces = Listed<Piece>;
 
-/// Where an argument stands: in pieces, or as the address at `at` of a copy, `copy` bytes from the frame's start.
+/// Where an argument stands: in pieces, or by reference, where `at` has the address of a copy, `copy` bytes from the
+/// frame's start.
 #[derive(Debug, Drop)]
 pub enum Place {
     Direct(Pieces),
@@ -49,7 +54,8 @@ pub enum Place {
 /// One place for each argument.
 pub type Places = Listed<Place>;
 
-/// Where a result stands: nowhere, in pieces, or in a buffer of the caller, `buffer` bytes from the frame's start, whose address is at `at`.
+/// Where a result stands: nowhere, in pieces, or hidden (sret), in a buffer of the caller, `buffer` bytes from the
+/// frame's start, whose address is passed at `at`.
 #[derive(Debug, Drop)]
 pub enum Res {
     Nothing,
@@ -62,9 +68,13 @@ pub enum Res {
 pub struct Plan {
     pub places: Places,
     pub res: Res,
+    /// All the stack that the call takes, in bytes: frame, return address, save area and block.
     pub need: u64,
+    /// The caller's part in bytes: stack arguments, copies, and a hidden result's buffer.
     pub frame: u64,
+    /// The callee's copy of its arguments, in bytes.
     pub block: u64,
+    /// How many vector registers the arguments use, where a register tells it (AMD64's al); otherwise 0.
     pub vectors: u8,
 }
 
@@ -79,8 +89,8 @@ pub enum SaveWord {
     Spare,
 }
 
-/// The general registers, the floating registers and the bytes of stack that earlier arguments take. AAPCS64 counts on
-/// past the last register, so that none is free any more.
+/// The general registers, the floating registers and the bytes of stack that earlier arguments take. On AAPCS64 (NGRN,
+/// NSRN, NSAA) the numbers of registers go past the last one, so that none is free any more.
 #[derive(Clone, Copy, Debug)]
 pub struct Taken {
     pub general: u64,

@@ -1,7 +1,9 @@
-//! Where the arguments and the result of a call stand on RISC-V with LP64D. The definitions are in `specs/`; of the code they need the shape and the counts alone.
+//! Where the arguments and the result of a call stand on RISC-V with LP64D. The definitions are in `specs/`; of the
+//! code they need the shape and the counts alone.
 #![tactic(auto)]
 
-/// How a value is passed, by its size and its leaves. (RISC-V ELF psABI, "Integer Calling Convention" and "Hardware Floating-point Calling Convention")
+/// How a value is passed, by its size and its leaves. (RISC-V ELF psABI, "Integer Calling Convention" and "Hardware
+/// Floating-point Calling Convention")
 #[derive(Clone, Copy, Debug, PartialEq, Eq)]
 pub enum Shape {
     /// One floating leaf, in a floating register.

@@ -1,4 +1,5 @@
-//! What a run of functions is: their moves, the direct meaning, its text and its journal. The definitions are in `specs/`; these are the words that they share with the code.
+//! What a run of functions is: their moves, the direct meaning, its text and its journal. The definitions are in
+//! `specs/`; these are the words that they share with the code.
 #![tactic(auto)]
 
 ghost use Rattle.ffi3_run_rules.specs.Meaning.{Program};
@@ -28,9 +29,9 @@ pub enum Stop {
     MoveLimit,
 }
 
-/// Does nothing. Its contract says that the direct meaning of every program is the plain recursion: an activation with no move
-/// left stops, and one with a move left does it, and what follows goes on with one move less. And an activation that does not stop
-/// for want of stack acts the same with more of it.
+/// Does nothing. Its contract says that the direct meaning of every program is the plain recursion: an activation with
+/// no move left stops, and one with a move left does it, and what follows goes on with one move less. And an activation
+/// that does not stop for want of stack acts the same with more of it.
 pub fn meaning_laws()
     ensures recursion { (p : Program) → IsPlainRecursion p }
     ensures more_stack { (p : Program) → MoreStackIsTheSame p }

@@ -1,4 +1,4 @@
--- What an interrupted run tells, as far as it came: by a write that failed, which is in an item's lines, or by want of memory, elsewhere.
+-- What a run tells that was interrupted: within an item's lines by a write that failed, or elsewhere by want of memory.
 use Rattle.std.specs.Prelude.{◌≡◌, ℕ, ◌+◌, ◌%◌, ◌^◌, ◌≤◌, Bool, List, ◌++◌, length, take}
 use Rattle.ffi3_io.specs.Sink.{Adds, SinkState}
 use Rattle.ffi3_place_rules.specs.Standard.{Standard}

@@ -1,4 +1,4 @@
--- What a run tells against the direct meaning of its program: the text that its output takes, and the machine that it leaves.
+-- A run is as the direct meaning of its program says: the text that its output takes, and the machine that it leaves.
 use Rattle.std.specs.Prelude.{◌≡◌, ℕ, ◌+◌, ◌*◌, ◌%◌, ◌^◌, ◌≤◌, take}
 use Rattle.std.specs.List.{AllByRecursion}
 use Rattle.ffi3_type_rules.specs.Value.{ValueTree}

@@ -131,11 +131,11 @@ impl<'a, A: Abi> Runner<'a, A> {
     /// Does one move of the innermost activation. It is counted, and none is asked for where none
     /// is left. With `trace` an entry or a return is told as soon as it is recorded, in two lines.
     ///
-    /// `More` and `Done` count one move, and `Stopped` does too, but for the move limit, where none
-    /// is left. As closures and moves are then the direct meaning's, what happened is this move's
-    /// alone: one item at most; at `Done` the return of the call that is served, and nothing where
-    /// main returns; at `Stopped` the stop. `NoMemory` and `Failed` count one move at most, and one
-    /// item happened at most.
+    /// `More` and `Done` count one move, and so does `Stopped`, but at the move limit, where none is
+    /// left. What happened is this move's alone, since closures and moves are then the direct
+    /// meaning's: one item of the trace at most; at `Done` the return of the call that is served, or
+    /// nothing where main returns; at `Stopped` the stop. At `NoMemory` and `Failed` one move at most
+    /// is counted, and one item at most happened.
     ///
     /// Nothing is asked of the output: between two turns a caller may write to it, hand in another,
     /// and change `trace`.

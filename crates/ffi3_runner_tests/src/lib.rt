@@ -1,5 +1,5 @@
-//! Runs of scripts by the runner on each target: what they print, how they end, how many moves are left, and what stands in
-//! the journal and at the mark. Other crates of tests run their scripts by it.
+//! Runs of scripts by the runner on each target: what they print, how they end, how many moves are left, and what
+//! stands in the journal and at the mark. Other crates of tests run their scripts by it.
 #![tactic(auto)]
 
 #[cfg(test)]

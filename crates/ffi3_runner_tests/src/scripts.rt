@@ -23,8 +23,8 @@ pub struct Wanted {
     pub mark: u64,
 }
 
-/// How many instructions the machine runs for one call: the trampoline's three, and those of the four stubs where calls go by
-/// stubs (18, 25, 14 and 6 on amd64; 22, 43, 31 and 9 on aapcs64; 21, 47, 34 and 7 on riscv).
+/// How many instructions the machine runs for one call: the trampoline's three, and those of the four stubs where calls
+/// go by stubs (18, 25, 14 and 6 on amd64; 22, 43, 31 and 9 on aapcs64; 21, 47, 34 and 7 on riscv).
 fn steps_of_a_call(target: Target) -> u64 {
     match target {
         Target::Amd64 => 66,
@@ -116,8 +116,8 @@ const ENDLESS: &str =
 const FREES_ITSELF: &str =
     r#"{"version":1,"signatures":[{"ret":"sint32","args":[]},{"ret":"sint64","args":[]}],"functions":[{"name":"f","sig":0,"body":[{"free":65536},{"make":"g"},{"return":7}]},{"name":"g","sig":0,"body":[{"return":9}]}],"main":[{"make":"f","as":"p"},{"call":{"res":"p"},"sig":0,"args":[],"as":"a"},{"print":{"res":"a"}},{"call":{"res":"p"},"sig":0,"args":[],"as":"b"},{"print":{"res":"b"}},{"call":{"res":"p"},"sig":1,"args":[]},{"return":null}]}"#;
 
-/// A function with a struct on the stack or by reference, one in registers, and one through a buffer as its result, which it
-/// gives after a call of another function.
+/// A function with a struct on the stack or by reference, one in registers, and one through a buffer as its result,
+/// which it gives after a call of another function.
 const STRUCTS: &str =
     r#"{"version":1,"signatures":[{"ret":{"struct":["sint64","sint64","sint64"]},"args":[{"struct":["sint64","sint64","sint64"]},{"struct":["sint32","float"]},"double"]},{"ret":"sint64","args":["sint64"]}],"functions":[{"name":"inner","sig":1,"body":[{"return":{"add":[{"arg":0},5]}}]},{"name":"outer","sig":0,"body":[{"call":65536,"sig":1,"args":[{"field":[{"arg":0},1]}],"as":"n"},{"print":{"arg":1}},{"print":{"arg":2}},{"return":[{"field":[{"arg":0},2]},{"res":"n"},{"field":[{"arg":0},0]}]}]}],"main":[{"make":"inner"},{"make":"outer","as":"f"},{"call":{"res":"f"},"sig":0,"args":[[1,20,300],[-7,"0000803f"],"000000000000f03f"],"as":"r"},{"print":{"res":"r"}},{"return":null}]}"#;
 

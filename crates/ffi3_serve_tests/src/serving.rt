@@ -54,8 +54,8 @@ pub struct ServedOutcome {
     pub moves_left: u32,
 }
 
-/// Runs the script beside the natives, and serves a call with the value of the closure at `ptr`, with the byte over all that its
-/// callee must not look at. None where one of the two did not return to RETURN, or `show_at` shows no call.
+/// Runs the script beside the natives, and serves a call with the value of the closure at `ptr`, with the byte over all
+/// that its callee must not look at. None where one of the two did not return to RETURN, or `show_at` shows no call.
 pub fn call_after_main<A: Abi>(
     alloc: Global,
     natives: &Vec<Box<dyn Native>>,

@@ -24,8 +24,8 @@ use ffi3_types::{NoMemory, Sig};
 use ffi3_values::{Value, Values, fits};
 use std::alloc::Global;
 
-/// Stores the values, calls the closure at `ptr`, runs its trampoline, and writes the byte over all that a callee must not look
-/// at.
+/// Stores the values, calls the closure at `ptr`, runs its trampoline, and writes the byte over all that a callee must
+/// not look at.
 pub fn show_call<A: Abi>(
     machine: &mut Machine,
     table: &Table,
@@ -64,9 +64,9 @@ pub fn takes(sig: &Sig, value: &Value) -> bool
     alone && fits(value, sig.arg(0))
 }
 
-/// Shows the machine a call with one value of the live closure at `ptr`, with the byte over all that its callee must not look at,
-/// and says by which signature. None where no closure is live there, its signature does not take the value alone, or the stack
-/// has no room.
+/// Shows the machine a call with one value of the live closure at `ptr`, with the byte over all that its callee must
+/// not look at, and says by which signature. None where no closure is live there, its signature does not take the value
+/// alone, or the stack has no room.
 pub fn show_at<A: Abi>(
     alloc: Global,
     machine: &mut Machine,

@@ -202,7 +202,8 @@ fn says_why_words_are_refused(rt: HostRuntime) -> Result<(), Fail> {
     Ok(())
 }
 
-/// A run by the words over ends that move one byte at a time, and the machine after it: one entry, one return, and the mark.
+/// A run by the words over ends that move one byte at a time, and the machine after it: one entry, one return, and the
+/// mark.
 fn check_machine(
     rt: &impl Abort,
     alloc: Global,

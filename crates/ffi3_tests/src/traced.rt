@@ -17,7 +17,8 @@ const AMD64: &[&str] = &["ffi3", "run", "--target", "amd64", "--trace"];
 
 const WIN64: &[&str] = &["ffi3", "run", "--target", "win64", "--trace"];
 
-/// The first lines by Microsoft x64, and the last: 18 registers are kept, and the frame of `twice` begins 32 bytes down.
+/// The first lines by Microsoft x64, and the last: 18 registers are kept, and the frame of `twice` begins 32 bytes
+/// down.
 const BEGINS: &str =
     "enter 0x100c0 sp 0x7ffeffd8 (0x10080,10)\nkeep a5a5000000000003 a5a5000000000005 a5a5000000000007 a5a5000000000006 a5a500000000000c a5a500000000000d a5a500000000000e a5a500000000000f 5a5a000000000006 5a5a000000000007 5a5a000000000008 5a5a000000000009 5a5a00000000000a 5a5a00000000000b 5a5a00000000000c 5a5a00000000000d 5a5a00000000000e 5a5a00000000000f\nenter 0x10080 sp 0x7ffeff08 (10)\n";
 

@@ -1,4 +1,4 @@
--- The peak of a trace: the most stack that its calls take at a time, where some bytes are taken before.
+-- The peak of a trace: the most stack that is taken at a time, by calls that are open together and by what was taken before.
 use Rattle.std.specs.Prelude.{ℕ, ◌+◌, ◌-◌, max, List, [], ◌∷◌}
 use Rattle.ffi3_run_rules.specs.Meaning.{Program, need_at}
 use Rattle.ffi3_run_rules.specs.Trace.{TraceItem, Enter, Line, Leave, StopLine}

@@ -1,4 +1,4 @@
--- Where the text of a run stands after a part of its trace, and what of the next item is there where the run was interrupted.
+-- How far the text of a run has come after a part of its trace, and what is there of the next item where the run was interrupted.
 use Rattle.std.specs.Prelude.{◌≡◌, ℕ, ◌<◌, Bool, true, false, List, [], ◌∷◌}
 use Rattle.ffi3_type_rules.specs.Signature.{Signature}
 use Rattle.ffi3_run_rules.specs.Trace.{TraceItem, Enter, Line, Leave, StopLine}

@@ -13,7 +13,7 @@ pub record IsLeastMultiple (a n m : ℕ) : Type 0 where
 unfoldable pub least_multiple : ℕ → ℕ → ℕ
 least_multiple a n = next_multiple_of n a
 
--- a scalar that stands at an offset
+-- a scalar in a flattened type, with its offset in bytes from the start
 pub record Leaf : Type 0 where
   pub at : ℕ
   pub kind : Scalar

@@ -9,6 +9,7 @@ use Rattle.ffi3_type_rules.specs.Fault.{Fault, IsFirstFault}
 pub record Signature : Type 0 where
   pub result_type : Tree
   pub arguments : List Tree
+  -- of a variadic function, how many arguments are fixed, or named; libffi's nfixedargs
   pub fixed : Option ℕ
 
 abbrev pub signature_code : Coded Signature

@@ -19,8 +19,8 @@ pub fn round_up(n: u64, align: u64) -> u64
     n.next_multiple_of(align)
 }
 
-/// What a type is used as: a result, an argument, or an element of a struct or an array; or anything that has a layout, values and
-/// texts, where what may stand in any of these places may stand.
+/// What a type is used as: a result, an argument, or an element of a struct or an array; or any of these, where its
+/// layout, its values or its text alone are asked for.
 #[derive(Clone, Copy, Debug, PartialEq, Eq)]
 pub enum Role {
     AsResult,

@@ -38,7 +38,7 @@ pub const CODE_BYTES: u64 = 16_384;
 pub const CODE: u64 = 0x1_0000;
 /// The address above the code region's highest byte.
 pub const CODE_END: u64 = 0x1_4000;
-/// Where a closure's code jumps to.
+/// The address to which every trampoline jumps.
 pub const ENTRY: u64 = 0x1000;
-/// Where a call returns to.
+/// The return address of every call.
 pub const RETURN: u64 = 0x2000;

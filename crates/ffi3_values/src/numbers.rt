@@ -95,7 +95,8 @@ pub fn bits(ty: &FfiType, value: &Value) -> u128
     }
 }
 
-/// The 8 bytes of an integer of at most 64 bits or of a pointer in a register: libffi's `ffi_arg`, extended by the type's sign.
+/// The 8 bytes of an integer of at most 64 bits or of a pointer in a register: libffi's `ffi_arg`, extended by the
+/// type's sign.
 pub fn widen(ty: &FfiType, value: &Value) -> u64
     requires kind { is_number_type (tree_of ty.now) ≡ true }
     requires small { size_of (tree_of ty.now) ≤ 8 }

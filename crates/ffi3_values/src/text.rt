@@ -12,7 +12,8 @@ use crate::{Bytes, NoMemory, Value, Values, number, widen};
 use ffi3_types::{FfiType, Members};
 use std::alloc::Global;
 
-/// The value's text: integers in decimal, pointers as `0xbef`, the bytes of floats in hexadecimal, structs as `{1,-2}`, arrays as `[1,2]`, and `void`.
+/// The value's text: integers in decimal, pointers as `0xbef`, the bytes of floats in hexadecimal, structs as `{1,-2}`,
+/// arrays as `[1,2]`, and `void`.
 pub fn value_text(alloc: Global, ty: &FfiType, value: &Value) -> Result<Bytes, NoMemory>
     requires { fits (tree_of ty.now) (value_of value.now) ≡ true }
     ensures { IfOk result (λ text. text ≡ value_text_of (tree_of ty.now) (value_of value.now)) }
