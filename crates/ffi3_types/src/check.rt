@@ -1,15 +1,17 @@
 // The first fault of a type.
-ghost use Rattle.std.specs.Prelude.{◌≡◌, ◌<◌, ◌≤◌, ◌+◌, ℕ, length, OnOk, IfErr};
+ghost use Rattle.std.specs.Prelude.{◌≡◌, ◌+◌, ◌<◌, ◌≤◌, ℕ, length, OnOk, IfOk, IfErr};
 ghost use Rattle.ffi3_type_rules.specs.declared.limits.TheConstants.{DEEPEST_NESTING};
 ghost use Rattle.ffi3_type_rules.specs.Tree.{struct_of, tree_at, array, trees_of};
+ghost use Rattle.ffi3_type_rules.specs.Layout.{size_of, align_of};
 ghost use Rattle.ffi3_type_rules.specs.Fault.{HasNoFault, IsFirstFault};
 ghost use Rattle.ffi3_types.specs.TreeOf.{tree_of};
 ghost use Rattle.ffi3_types.specs.FaultOf.{path_of, fault_of};
 ghost use Rattle.ffi3_types.specs.FirstElement.{NoElementHasFault, IsFirstInElements, role_of};
 
+use crate::layout::Extent;
 use crate::{FfiType, Fields, Path, TypeFault};
-use ffi3_type_rules::Role;
 use ffi3_type_rules::limits::{DEEPEST_NESTING, LARGEST_TYPE};
+use ffi3_type_rules::{Role, round_up};
 
 /// Whether the type can be an argument or, `as_result`, a result; otherwise its first fault,
 /// going through the tree from the front: a node's own fault comes before those of its
@@ -19,7 +21,10 @@ pub fn check_type(ty: &FfiType, as_result: bool) -> Result<(), TypeFault>
     ensures err { IfErr result
         (λ e. IsFirstFault 0 (role_of as_result) (tree_of ty.now) (path_of e) (fault_of e)) }
 {
-    check_node(ty, 0, role(as_result))
+    match check_node(ty, 0, role(as_result)) {
+        Ok(_) => Ok(()),
+        Err(fault) => Err(fault),
+    }
 }
 
 fn role(as_result: bool) -> Role
@@ -32,10 +37,13 @@ fn role(as_result: bool) -> Role
     }
 }
 
+/// The extent of a type without fault, which is found in the same pass as its faults.
 #[cycle(check)]
-fn check_node(ty: &FfiType, outer: u32, role: Role) -> Result<(), TypeFault>
+fn check_node(ty: &FfiType, outer: u32, role: Role) -> Result<Extent, TypeFault>
     requires { outer ≤ DEEPEST_NESTING }
     ensures ok { OnOk result (HasNoFault outer role (tree_of ty.now)) }
+    ensures size { IfOk result (λ x. x.size ≡ size_of (tree_of ty.now)) }
+    ensures align { IfOk result (λ x. x.align ≡ align_of (tree_of ty.now)) }
     ensures err { IfErr result
         (λ e. IsFirstFault outer role (tree_of ty.now) (path_of e) (fault_of e)) }
     ensures room { IfErr result (λ e. outer + length (path_of e) ≤ DEEPEST_NESTING) }
@@ -43,7 +51,7 @@ fn check_node(ty: &FfiType, outer: u32, role: Role) -> Result<(), TypeFault>
     match ty {
         FfiType::Void => {
             if role.takes_void() {
-                Ok(())
+                Ok(Extent { size: 0, align: 1 })
             } else {
                 Err(TypeFault::BadTypedef { path: Path::new() })
             }
@@ -60,47 +68,58 @@ fn check_node(ty: &FfiType, outer: u32, role: Role) -> Result<(), TypeFault>
             path: Path::new(),
             kind: FfiType::Vector,
         }),
-        FfiType::Struct(fields) => {
-            if outer as u64 >= DEEPEST_NESTING {
-                return Err(TypeFault::TooDeep { path: Path::new() });
-            }
-            if fields.len() == 0 {
-                return Err(TypeFault::BadTypedef { path: Path::new() });
-            }
-            if let Err(fault) = check_elements(fields, outer + 1) {
-                return Err(fault);
-            }
-            let size = fields.extent().size;
-            if size > LARGEST_TYPE {
-                Err(TypeFault::TooLarge {
-                    path: Path::new(),
-                    size,
-                })
-            } else {
-                Ok(())
-            }
-        }
+        FfiType::Struct(fields) => check_struct(fields, outer, role),
         FfiType::Array(fields, count) => check_array(fields, *count, outer, role),
-        FfiType::U8
-        | FfiType::S8
-        | FfiType::U16
-        | FfiType::S16
-        | FfiType::U32
-        | FfiType::S32
-        | FfiType::U64
-        | FfiType::S64
-        | FfiType::U128
-        | FfiType::S128
-        | FfiType::Float
-        | FfiType::Double
-        | FfiType::Pointer => Ok(()),
+        FfiType::U8 | FfiType::S8 => Ok(Extent { size: 1, align: 1 }),
+        FfiType::U16 | FfiType::S16 => Ok(Extent { size: 2, align: 2 }),
+        FfiType::U32 | FfiType::S32 | FfiType::Float => Ok(Extent { size: 4, align: 4 }),
+        FfiType::U64 | FfiType::S64 | FfiType::Double | FfiType::Pointer => {
+            Ok(Extent { size: 8, align: 8 })
+        }
+        FfiType::U128 | FfiType::S128 => Ok(Extent {
+            size: 16,
+            align: 16,
+        }),
     }
 }
 
 #[cycle(check)]
-fn check_array(fields: &Fields, count: u32, outer: u32, role: Role) -> Result<(), TypeFault>
+fn check_struct(fields: &Fields, outer: u32, role: Role) -> Result<Extent, TypeFault>
+    requires { outer ≤ DEEPEST_NESTING }
+    ensures ok { OnOk result (HasNoFault outer role (struct_of fields.now)) }
+    ensures size { IfOk result (λ x. x.size ≡ size_of (struct_of fields.now)) }
+    ensures align { IfOk result (λ x. x.align ≡ align_of (struct_of fields.now)) }
+    ensures err { IfErr result
+        (λ e. IsFirstFault outer role (struct_of fields.now) (path_of e) (fault_of e)) }
+    ensures room { IfErr result (λ e. outer + length (path_of e) ≤ DEEPEST_NESTING) }
+{
+    if outer as u64 >= DEEPEST_NESTING {
+        return Err(TypeFault::TooDeep { path: Path::new() });
+    }
+    if fields.len() == 0 {
+        return Err(TypeFault::BadTypedef { path: Path::new() });
+    }
+    match check_elements(fields, outer + 1) {
+        Err(fault) => Err(fault),
+        Ok(whole) => {
+            if whole.size > LARGEST_TYPE {
+                Err(TypeFault::TooLarge {
+                    path: Path::new(),
+                    size: whole.size,
+                })
+            } else {
+                Ok(whole)
+            }
+        }
+    }
+}
+
+#[cycle(check)]
+fn check_array(fields: &Fields, count: u32, outer: u32, role: Role) -> Result<Extent, TypeFault>
     requires { outer ≤ DEEPEST_NESTING }
     ensures ok { OnOk result (HasNoFault outer role (array (trees_of fields.now) count)) }
+    ensures size { IfOk result (λ x. x.size ≡ size_of (array (trees_of fields.now) count)) }
+    ensures align { IfOk result (λ x. x.align ≡ align_of (array (trees_of fields.now) count)) }
     ensures err { IfErr result
         (λ e. IsFirstFault outer role (array (trees_of fields.now) count) (path_of e) (fault_of e)) }
     ensures room { IfErr result (λ e. outer + length (path_of e) ≤ DEEPEST_NESTING) }
@@ -118,33 +137,54 @@ fn check_array(fields: &Fields, count: u32, outer: u32, role: Role) -> Result<()
         return Err(TypeFault::BadTypedef { path: Path::new() });
     }
     let inside = outer + 1;
-    if let Err(fault) = check_elements(fields, inside) {
-        return Err(fault);
-    }
-    let size = count as u64 * fields.get(0).extent().size;
-    if size > LARGEST_TYPE {
-        Err(TypeFault::TooLarge {
-            path: Path::new(),
-            size,
-        })
-    } else {
-        Ok(())
+    match check_node(fields.get(0), inside, Role::AsElement) {
+        Err(fault) => Err(fault.inside(0)),
+        Ok(item) => {
+            let size = count as u64 * item.size;
+            if size > LARGEST_TYPE {
+                Err(TypeFault::TooLarge {
+                    path: Path::new(),
+                    size,
+                })
+            } else {
+                Ok(Extent {
+                    size,
+                    align: item.align,
+                })
+            }
+        }
     }
 }
 
+/// The extent of the struct of these elements, if none has a fault.
 #[cycle(check)]
-fn check_elements(fields: &Fields, outer: u32) -> Result<(), TypeFault>
+fn check_elements(fields: &Fields, outer: u32) -> Result<Extent, TypeFault>
     requires inside { 0 < outer }
     requires shallow { outer ≤ DEEPEST_NESTING }
     ensures ok { OnOk result (NoElementHasFault outer fields.now (length fields.now)) }
+    ensures size { IfOk result (λ x. x.size ≡ size_of (struct_of fields.now)) }
+    ensures align { IfOk result (λ x. x.align ≡ align_of (struct_of fields.now)) }
     ensures err { IfErr result
         (λ e. IsFirstInElements outer fields.now (path_of e) (fault_of e)) }
     ensures room { IfErr result (λ e. outer + length (path_of e) ≤ DEEPEST_NESTING + 1) }
 {
+    let mut end = 0;
+    let mut align = 1;
     for i in 0..fields.len() {
-        if let Err(fault) = check_node(fields.get(i), outer, Role::AsElement) {
-            return Err(fault.inside(i as u32));
+        match check_node(fields.get(i), outer, Role::AsElement) {
+            Err(fault) => {
+                return Err(fault.inside(i as u32));
+            }
+            Ok(item) => {
+                end = round_up(end, item.align) + item.size;
+                if item.align > align {
+                    align = item.align;
+                }
+            }
         }
     }
-    Ok(())
+    Ok(Extent {
+        size: round_up(end, align),
+        align,
+    })
 }

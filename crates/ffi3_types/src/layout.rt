@@ -8,11 +8,11 @@ ghost use Rattle.ffi3_types.specs.TreeOf.{tree_of};
 use crate::{FfiType, Fields};
 use ffi3_type_rules::round_up;
 
-/// Size and alignment.
+/// Size and alignment in bytes.
 #[derive(Clone, Copy)]
-pub(crate) struct Extent {
-    pub(crate) size: u64,
-    pub(crate) align: u64,
+pub struct Extent {
+    pub size: u64,
+    pub align: u64,
 }
 
 impl FfiType {
@@ -46,8 +46,9 @@ impl FfiType {
         }
     }
 
+    /// Size and alignment, which are found together.
     #[cycle(extent)]
-    pub(crate) fn extent(&self) -> Extent
+    pub fn extent(&self) -> Extent
         requires { IsLaidOut (tree_of self.now) }
         ensures size { result.size ≡ size_of (tree_of self.now) }
         ensures align { result.align ≡ align_of (tree_of self.now) }

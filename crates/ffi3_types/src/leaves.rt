@@ -92,7 +92,10 @@ impl FfiType {
         ensures at { result.at ≡ (leaf_at (tree_of self.now) i).at }
         ensures kind { tree_of result.kind ≡ scalar (leaf_at (tree_of self.now) i).kind }
     {
-        self.find_leaf(i)
+        match self {
+            FfiType::Struct(fields) => fields.find_leaf(i),
+            _ => self.find_leaf(i, self.extent().size, self.count_leaves()),
+        }
     }
 
     /// All leaves, from the front, in one pass: time is in proportion to the type as it is written
@@ -166,10 +169,13 @@ impl FfiType {
         }
     }
 
+    /// Leaf `i` of a type of this size and number of leaves.
     #[cycle(find_leaf)]
-    fn find_leaf(&self, i: u32) -> Leaf
+    fn find_leaf(&self, i: u32, size: u64, leaves: u32) -> Leaf
         requires right { IsLaidOut (tree_of self.now) }
         requires in_range { i < length (leaves_of (tree_of self.now)) }
+        requires sized { size ≡ size_of (tree_of self.now) }
+        requires counted { leaves ≡ length (leaves_of (tree_of self.now)) }
         ensures at { result.at ≡ (leaf_at (tree_of self.now) i).at }
         ensures kind { tree_of result.kind ≡ scalar (leaf_at (tree_of self.now) i).kind }
         ensures inside { result.at < size_of (tree_of self.now) }
@@ -192,7 +198,7 @@ impl FfiType {
                 return fields.find_leaf(i);
             }
             FfiType::Array(fields, count) => {
-                return fields.find_leaf_of_array(*count, i);
+                return fields.find_leaf_of_array(*count, i, size, leaves);
             }
             FfiType::Void | FfiType::LongDouble | FfiType::Complex | FfiType::Vector => {
                 unreachable!()
@@ -261,21 +267,24 @@ impl Fields {
         count * self.get(0).count_leaves()
     }
 
+    /// Leaf `i` of an array of this size and number of leaves, of which each element has its part.
     #[cycle(find_leaf)]
-    fn find_leaf_of_array(&self, count: u32, i: u32) -> Leaf
+    fn find_leaf_of_array(&self, count: u32, i: u32, whole: u64, leaves: u32) -> Leaf
         requires right { IsLaidOut (array (trees_of self.now) count) }
         requires in_range { i < length (leaves_of (array (trees_of self.now) count)) }
+        requires sized { whole ≡ size_of (array (trees_of self.now) count) }
+        requires counted { leaves ≡ length (leaves_of (array (trees_of self.now) count)) }
         ensures at { result.at ≡ (leaf_at (array (trees_of self.now) count) i).at }
         ensures kind { tree_of result.kind ≡ scalar (leaf_at (array (trees_of self.now) count) i).kind }
         ensures inside { result.at < size_of (array (trees_of self.now) count) }
     {
         let item = self.get(0);
-        let size = item.extent().size;
-        let each = item.count_leaves();
+        let size = whole / count as u64;
+        let each = leaves / count;
         let number = i / each;
         let rest = i % each;
         let start = number as u64 * size;
-        let leaf = item.find_leaf(rest);
+        let leaf = item.find_leaf(rest, size, each);
         Leaf {
             at: start + leaf.at,
             kind: leaf.kind,
@@ -298,7 +307,7 @@ impl Fields {
             let start = round_up(end, extent.align);
             let count = item.count_leaves();
             if i < before + count {
-                let leaf = item.find_leaf(i - before);
+                let leaf = item.find_leaf(i - before, extent.size, count);
                 return Leaf {
                     at: start + leaf.at,
                     kind: leaf.kind,

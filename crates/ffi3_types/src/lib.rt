@@ -2,7 +2,7 @@
 #![tactic(auto)]
 
 ghost use Rattle.std.specs.Prelude.{◌≡◌, ◌+◌, ◌<◌, ◌^◌, ◌++◌, ◌∷◌, [], length, OnErr, OnOk, slice_get, Some};
-ghost use Rattle.std.specs.Prelude.{All, ◌≤◌, IfOk, true};
+ghost use Rattle.std.specs.Prelude.{All, ◌≤◌, IfOk, IsOk, true};
 ghost use Rattle.ffi3_type_rules.specs.Fault.{HasNoFault};
 ghost use Rattle.ffi3_type_rules.specs.Tree.{struct_of, tree_at, trees_of, nodes, all_nodes};
 ghost use Rattle.ffi3_type_rules.specs.Layout.{size_of, align_of};
@@ -29,6 +29,7 @@ pub use check::check_type;
 pub use fault::TypeFault;
 pub use ffi3_type_rules::Target;
 pub use laws::layout_laws;
+pub use layout::Extent;
 pub use leaves::{Leaf, Leaves};
 pub use members::Members;
 pub use path::Path;
@@ -114,6 +115,16 @@ impl Fields {
         Fields {
             types: Vec::new(alloc),
         }
+    }
+
+    /// No types yet, and room for so many.
+    pub fn with_capacity(alloc: Global, capacity: usize) -> Result<Fields, NoMemory>
+        ensures value { IfOk result (λ fields. fields ≡ []) }
+        ensures succeeds { capacity ≡ 0 → IsOk result }
+    {
+        Ok(Fields {
+            types: Vec::with_capacity(alloc, capacity)?,
+        })
     }
 
     /// How many types there are.

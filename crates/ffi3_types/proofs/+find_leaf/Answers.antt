@@ -1,4 +1,5 @@
 use Rattle.std.proofs.Common.{◌≡◌, ◌+◌, ◌*◌, ◌/◌, ◌%◌, ◌<◌, ℕ, List, ap, sym, ◌∙◌, arith, length}
+use Rattle.std.proofs.Math.Nat.{mul-div_cancel_left}
 use Rattle.ffi3_type_rules.specs.declared.Role.TheVariants.{Anywhere}
 use Rattle.ffi3_type_rules.specs.Tree.{Tree, struct_of, array, tree_at, trees_of, scalar}
 use Rattle.ffi3_type_rules.specs.Layout.{size_of, leaves_of, layouts, least_multiple, start_of, end_before, align_of}
@@ -7,7 +8,8 @@ use Rattle.ffi3_type_rules.proofs.Leaves.{leaves-turn, leaves_at_end, leaves_wit
 use Rattle.ffi3_type_rules.proofs.Values.{element_within, end_within}
 use Rattle.ffi3_type_rules.proofs.Faults.{right_is_small}
 use Rattle.ffi3_type_rules.proofs.ElementPlaces.{right_here}
-use Rattle.ffi3_type_rules.proofs.ArrayPlaces.{Lies, lies_in_element, array_is_shaped, array_element_is_right, array_count_is, array_leaf_there, element_in_array}
+use Rattle.ffi3_type_rules.proofs.ArrayPlaces.{Lies, lies_in_element, array_is_shaped, array_element_is_right, array_count_is, array_size_is, array_leaf_there, element_in_array}
+use Rattle.ffi3_type_rules.specs.Fault.{IsLaidOut}
 use Rattle.ffi3_types.specs.TreeOf.{tree_of}
 use Rattle.ffi3_types.proofs.+find_leaf.Goals as goal
 
@@ -38,7 +40,7 @@ Fields::find_leaf-overflow_add-before t c =
 
 pub Fields::find_leaf-find_leaf-leaf-requires : goal.Fields::find_leaf-find_leaf-leaf-requires
 Fields::find_leaf-find_leaf-leaf-requires t c =
-    (omega arith, (right_here c.args.self.now c.loop-k.k _ c.requires.right (omega arith) c.get-item.ensures.element, omega (arith, c.count_leaves-count.ensures)))
+    (omega arith, (right_here c.args.self.now c.loop-k.k _ c.requires.right (omega arith) c.get-item.ensures.element, (omega (arith, c.count_leaves-count.ensures), (c.extent-extent.ensures.size, c.count_leaves-count.ensures))))
 
 pub Fields::find_leaf-overflow_add-result : goal.Fields::find_leaf-overflow_add-result
 Fields::find_leaf-overflow_add-result t c =
@@ -95,58 +97,83 @@ lies_there ts count i t each is e below =
     let whole = array_count_is ts count ∙ ap (λ k. count * k) (sym one) in
     lies_in_element count each i (omega (arith, whole, below))
 
+-- of size and leaves of an array, each element has its part
+item_size : (ts : List Tree) (count whole : ℕ) (t : Tree) → t ≡ tree_at ts 0 → IsLaidOut (array (trees_of ts) count) → whole ≡ size_of (array (trees_of ts) count) → whole / count ≡ size_of t
+item_size ts count whole t is right w =
+    let some = (array_is_shaped 0 Anywhere ts count right).1 in
+    ap (λ k. k / count) (w ∙ array_size_is ts count) ∙ mul-div_cancel_left (size_of (tree_at ts 0)) some ∙ ap size_of (sym is)
+
+item_leaves : (ts : List Tree) (count whole : ℕ) (t : Tree) → t ≡ tree_at ts 0 → IsLaidOut (array (trees_of ts) count) → whole ≡ length (leaves_of (array (trees_of ts) count)) → whole / count ≡ length (leaves_of t)
+item_leaves ts count whole t is right w =
+    let some = (array_is_shaped 0 Anywhere ts count right).1 in
+    ap (λ k. k / count) (w ∙ array_count_is ts count) ∙ mul-div_cancel_left (length (leaves_of (tree_at ts 0))) some ∙ ap (λ u. length (leaves_of u)) (sym is)
+
 pub Fields::find_leaf_of_array-get-item-requires : goal.Fields::find_leaf_of_array-get-item-requires
 Fields::find_leaf_of_array-get-item-requires t c =
     omega (arith, (array_is_shaped 0 Anywhere c.args.self.now c.args.count c.requires.right).0)
 
-pub Fields::find_leaf_of_array-extent-size-requires : goal.Fields::find_leaf_of_array-extent-size-requires
-Fields::find_leaf_of_array-extent-size-requires t c =
-    rw c.get-item.ensures.element (array_element_is_right Anywhere c.args.self.now c.args.count c.requires.right)
+pub Fields::find_leaf_of_array-nonzero_div-size : goal.Fields::find_leaf_of_array-nonzero_div-size
+Fields::find_leaf_of_array-nonzero_div-size t c =
+    omega (arith, (array_is_shaped 0 Anywhere c.args.self.now c.args.count c.requires.right).1)
 
-pub Fields::find_leaf_of_array-count_leaves-each-requires : goal.Fields::find_leaf_of_array-count_leaves-each-requires
-Fields::find_leaf_of_array-count_leaves-each-requires t c =
-    rw c.get-item.ensures.element (array_element_is_right Anywhere c.args.self.now c.args.count c.requires.right)
+pub Fields::find_leaf_of_array-nonzero_div-each : goal.Fields::find_leaf_of_array-nonzero_div-each
+Fields::find_leaf_of_array-nonzero_div-each t c =
+    omega (arith, (array_is_shaped 0 Anywhere c.args.self.now c.args.count c.requires.right).1)
 
 pub Fields::find_leaf_of_array-nonzero_div-number : goal.Fields::find_leaf_of_array-nonzero_div-number
 Fields::find_leaf_of_array-nonzero_div-number t c =
-    (lies_there c.args.self.now c.args.count c.args.i _ _ c.get-item.ensures.element c.count_leaves-each.ensures c.requires.in_range).some
+    let each = item_leaves c.args.self.now c.args.count c.args.leaves _ c.get-item.ensures.element c.requires.right c.requires.counted in
+    (lies_there c.args.self.now c.args.count c.args.i _ _ c.get-item.ensures.element each c.requires.in_range).some
 
 pub Fields::find_leaf_of_array-nonzero_rem-rest : goal.Fields::find_leaf_of_array-nonzero_rem-rest
 Fields::find_leaf_of_array-nonzero_rem-rest t c =
-    (lies_there c.args.self.now c.args.count c.args.i _ _ c.get-item.ensures.element c.count_leaves-each.ensures c.requires.in_range).some
+    let each = item_leaves c.args.self.now c.args.count c.args.leaves _ c.get-item.ensures.element c.requires.right c.requires.counted in
+    (lies_there c.args.self.now c.args.count c.args.i _ _ c.get-item.ensures.element each c.requires.in_range).some
 
 pub Fields::find_leaf_of_array-overflow_mul-start : goal.Fields::find_leaf_of_array-overflow_mul-start
 Fields::find_leaf_of_array-overflow_mul-start t c =
-    let here = lies_there c.args.self.now c.args.count c.args.i _ _ c.get-item.ensures.element c.count_leaves-each.ensures c.requires.in_range in
-    let within = element_in_array c.args.self.now c.args.count (c.args.i / c.count_leaves-each.result) c.extent-size.result.size (c.extent-size.ensures.size ∙ ap size_of c.get-item.ensures.element) here.number in
+    let size = item_size c.args.self.now c.args.count c.args.whole _ c.get-item.ensures.element c.requires.right c.requires.sized in
+    let each = item_leaves c.args.self.now c.args.count c.args.leaves _ c.get-item.ensures.element c.requires.right c.requires.counted in
+    let here = lies_there c.args.self.now c.args.count c.args.i _ _ c.get-item.ensures.element each c.requires.in_range in
+    let within = element_in_array c.args.self.now c.args.count (c.args.i / (c.args.leaves / c.args.count)) (c.args.whole / c.args.count) (size ∙ ap size_of c.get-item.ensures.element) here.number in
     omega (arith, within, right_is_small 0 Anywhere (array (trees_of c.args.self.now) c.args.count) c.requires.right)
 
 pub Fields::find_leaf_of_array-find_leaf-leaf-requires : goal.Fields::find_leaf_of_array-find_leaf-leaf-requires
 Fields::find_leaf_of_array-find_leaf-leaf-requires t c =
-    let here = lies_there c.args.self.now c.args.count c.args.i _ _ c.get-item.ensures.element c.count_leaves-each.ensures c.requires.in_range in
-    let below : c.args.i % c.count_leaves-each.result < length (leaves_of (tree_of c.get-item.result.now)) = omega (arith, here.rest, c.count_leaves-each.ensures) in
-    (omega (arith, c.get-item.ensures.fewer_nodes), (rw c.get-item.ensures.element (array_element_is_right Anywhere c.args.self.now c.args.count c.requires.right), below))
+    let size = item_size c.args.self.now c.args.count c.args.whole _ c.get-item.ensures.element c.requires.right c.requires.sized in
+    let each = item_leaves c.args.self.now c.args.count c.args.leaves _ c.get-item.ensures.element c.requires.right c.requires.counted in
+    let here = lies_there c.args.self.now c.args.count c.args.i _ _ c.get-item.ensures.element each c.requires.in_range in
+    let below : c.args.i % (c.args.leaves / c.args.count) < length (leaves_of (tree_of c.get-item.result.now)) = omega (arith, here.rest, each) in
+    (omega (arith, c.get-item.ensures.fewer_nodes), (rw c.get-item.ensures.element (array_element_is_right Anywhere c.args.self.now c.args.count c.requires.right), (below, (size, each))))
 
 pub Fields::find_leaf_of_array-overflow_add-result : goal.Fields::find_leaf_of_array-overflow_add-result
 Fields::find_leaf_of_array-overflow_add-result t c =
-    let here = lies_there c.args.self.now c.args.count c.args.i _ _ c.get-item.ensures.element c.count_leaves-each.ensures c.requires.in_range in
-    let within = element_in_array c.args.self.now c.args.count (c.args.i / c.count_leaves-each.result) c.extent-size.result.size (c.extent-size.ensures.size ∙ ap size_of c.get-item.ensures.element) here.number in
-    omega (arith, within, right_is_small 0 Anywhere (array (trees_of c.args.self.now) c.args.count) c.requires.right, c.find_leaf-leaf.ensures.inside, c.extent-size.ensures.size)
+    let size = item_size c.args.self.now c.args.count c.args.whole _ c.get-item.ensures.element c.requires.right c.requires.sized in
+    let each = item_leaves c.args.self.now c.args.count c.args.leaves _ c.get-item.ensures.element c.requires.right c.requires.counted in
+    let here = lies_there c.args.self.now c.args.count c.args.i _ _ c.get-item.ensures.element each c.requires.in_range in
+    let within = element_in_array c.args.self.now c.args.count (c.args.i / (c.args.leaves / c.args.count)) (c.args.whole / c.args.count) (size ∙ ap size_of c.get-item.ensures.element) here.number in
+    omega (arith, within, right_is_small 0 Anywhere (array (trees_of c.args.self.now) c.args.count) c.requires.right, c.find_leaf-leaf.ensures.inside, size)
 
 pub Fields::find_leaf_of_array-returns-clause-at : goal.Fields::find_leaf_of_array-returns-clause-at
 Fields::find_leaf_of_array-returns-clause-at t c =
-    let here = lies_there c.args.self.now c.args.count c.args.i _ _ c.get-item.ensures.element c.count_leaves-each.ensures c.requires.in_range in
-    let found = array_leaf_there c.args.self.now c.args.count c.args.i _ c.extent-size.result.size c.count_leaves-each.result c.get-item.ensures.element c.extent-size.ensures.size c.count_leaves-each.ensures here in
-    ap (λ k. c.args.i / c.count_leaves-each.result * c.extent-size.result.size + k) c.find_leaf-leaf.ensures.at ∙ sym (ap (λ l. l.at) found)
+    let size = item_size c.args.self.now c.args.count c.args.whole _ c.get-item.ensures.element c.requires.right c.requires.sized in
+    let each = item_leaves c.args.self.now c.args.count c.args.leaves _ c.get-item.ensures.element c.requires.right c.requires.counted in
+    let here = lies_there c.args.self.now c.args.count c.args.i _ _ c.get-item.ensures.element each c.requires.in_range in
+    let found = array_leaf_there c.args.self.now c.args.count c.args.i _ (c.args.whole / c.args.count) (c.args.leaves / c.args.count) c.get-item.ensures.element size each here in
+    ap (λ k. c.args.i / (c.args.leaves / c.args.count) * (c.args.whole / c.args.count) + k) c.find_leaf-leaf.ensures.at ∙ sym (ap (λ l. l.at) found)
 
 pub Fields::find_leaf_of_array-returns-clause-kind : goal.Fields::find_leaf_of_array-returns-clause-kind
 Fields::find_leaf_of_array-returns-clause-kind t c =
-    let here = lies_there c.args.self.now c.args.count c.args.i _ _ c.get-item.ensures.element c.count_leaves-each.ensures c.requires.in_range in
-    let found = array_leaf_there c.args.self.now c.args.count c.args.i _ c.extent-size.result.size c.count_leaves-each.result c.get-item.ensures.element c.extent-size.ensures.size c.count_leaves-each.ensures here in
+    let size = item_size c.args.self.now c.args.count c.args.whole _ c.get-item.ensures.element c.requires.right c.requires.sized in
+    let each = item_leaves c.args.self.now c.args.count c.args.leaves _ c.get-item.ensures.element c.requires.right c.requires.counted in
+    let here = lies_there c.args.self.now c.args.count c.args.i _ _ c.get-item.ensures.element each c.requires.in_range in
+    let found = array_leaf_there c.args.self.now c.args.count c.args.i _ (c.args.whole / c.args.count) (c.args.leaves / c.args.count) c.get-item.ensures.element size each here in
     c.find_leaf-leaf.ensures.kind ∙ ap (λ l. scalar l.kind) (sym found)
 
 pub Fields::find_leaf_of_array-returns-clause-inside : goal.Fields::find_leaf_of_array-returns-clause-inside
 Fields::find_leaf_of_array-returns-clause-inside t c =
-    let here = lies_there c.args.self.now c.args.count c.args.i _ _ c.get-item.ensures.element c.count_leaves-each.ensures c.requires.in_range in
-    let within = element_in_array c.args.self.now c.args.count (c.args.i / c.count_leaves-each.result) c.extent-size.result.size (c.extent-size.ensures.size ∙ ap size_of c.get-item.ensures.element) here.number in
-    omega (arith, within, c.find_leaf-leaf.ensures.inside, c.extent-size.ensures.size)
+    let size = item_size c.args.self.now c.args.count c.args.whole _ c.get-item.ensures.element c.requires.right c.requires.sized in
+    let each = item_leaves c.args.self.now c.args.count c.args.leaves _ c.get-item.ensures.element c.requires.right c.requires.counted in
+    let here = lies_there c.args.self.now c.args.count c.args.i _ _ c.get-item.ensures.element each c.requires.in_range in
+    let within = element_in_array c.args.self.now c.args.count (c.args.i / (c.args.leaves / c.args.count)) (c.args.whole / c.args.count) (size ∙ ap size_of c.get-item.ensures.element) here.number in
+    omega (arith, within, c.find_leaf-leaf.ensures.inside, size)
