@@ -1,22 +1,25 @@
 //! The System V AMD64 calling standard.
 #![tactic(auto)]
 
-ghost use Rattle.std.specs.Prelude.{◌*◌, ◌≡◌, ◌<◌, ◌≤◌, ◌+◌, length, slice_index, IfOk, [], true, false};
+ghost use Rattle.std.specs.Prelude.{◌*◌, ◌≡◌, ◌<◌, ◌≤◌, ◌+◌, ◌||◌, cond, length, slice_index, slice_index_or, IfOk, [], true, false};
+ghost use Rattle.std.specs.List.{list_any, count_by};
 ghost use Rattle.ffi3_type_rules.specs.declared.limits.TheConstants.{ARGUMENT_BYTES, ARGUMENT_SPAN, LARGEST_TYPE};
 ghost use Rattle.ffi3_type_rules.specs.Layout.{leaves_of, leaf_at};
 ghost use Rattle.ffi3_type_rules.specs.Fault.{IsLaidOut};
 ghost use Rattle.ffi3_type_rules.specs.Signature.{SignatureHasNoFault};
 ghost use Rattle.ffi3_types.specs.TreeOf.{tree_of};
 ghost use Rattle.ffi3_place_rules.specs.Standard.{places_from, result_at};
-ghost use Rattle.ffi3_amd64_rules.specs.Amd64.{amd64, is_integer_leaf_in, class_of, in_memory, integers, sses, register_pieces, classes, in_registers, stack_end, pieces_after, taken_with, taken_after, taken_at_first, spots_after, result_spot_of};
+ghost use Rattle.ffi3_amd64_rules.specs.declared.Class.{Class};
+ghost use Rattle.ffi3_amd64_rules.specs.declared.Class.TheVariants.{Integer, Sse};
+ghost use Rattle.ffi3_amd64_rules.specs.Amd64.{amd64, is_integer_leaf_in, is_integer_class, is_sse_class, is_struct, class_of, in_memory, integers, sses, register_pieces, classes, in_registers, pieces_after, taken_with, taken_after, taken_at_first, spots_after, result_spot_of};
+ghost use Rattle.ffi3_amd64.specs.Listed.{listed, is_memory};
 ghost use Rattle.ffi3_amd64_rules.specs.Ends.{IsPlacedByEnds};
 ghost use Rattle.ffi3_place_rules.specs.Alike.{GoesByLayout};
 
 pub use ffi3_amd64_rules::Class;
 use ffi3_place::ends::{buffer_end, planned, start};
 use ffi3_place::parts::{
-    argument, count_of, doubleword, doublewords, is_floating, pieces_on_stack, result_type,
-    size_of, widening,
+    argument, count_of, doubleword, is_floating, pieces_on_stack, result_type, size_of, widening,
 };
 use ffi3_place::{Abi, Loc, Pieces, Place, Places, Plan, Res, SaveWord};
 use ffi3_place_rules::Taken;
@@ -57,31 +60,173 @@ pub fn in_memory(ty: &FfiType) -> bool
     matches!(ty, FfiType::Struct(_) | FfiType::Array(_, _)) && size_of(ty) > 16
 }
 
-/// How many eightbytes of each class a value has, none where it is in memory.
+/// Which of a value's first two eightbytes have a byte of an integer or a pointer.
 #[derive(Clone, Copy)]
-struct Classes {
-    integers: u64,
-    sses: u64,
+struct Integers {
+    first: bool,
+    second: bool,
 }
 
-fn count_classes(ty: &FfiType) -> Classes
-    requires { IsLaidOut (tree_of ty.now) }
-    ensures general { result.integers ≡ integers (tree_of ty.now) }
-    ensures vector { result.sses ≡ sses (tree_of ty.now) }
-    ensures few_general { 8 * result.integers ≤ LARGEST_TYPE }
-    ensures few_vector { 8 * result.sses ≤ LARGEST_TYPE }
+/// Those found before, and where leaf `i` lies if it is an integer or a pointer.
+fn with_leaf(before: Integers, ty: &FfiType, i: u32) -> Integers
+    requires right { IsLaidOut (tree_of ty.now) }
+    requires in_range { i < length (leaves_of (tree_of ty.now)) }
+    ensures first { result.first ≡ (before.first || is_integer_leaf_in 0 (leaf_at (tree_of ty.now) i)) }
+    ensures second { result.second ≡ (before.second || is_integer_leaf_in 1 (leaf_at (tree_of ty.now) i)) }
 {
-    let mut integers = 0;
-    let mut sses = 0;
-    if !in_memory(ty) {
-        for j in 0..doublewords(ty) {
-            match class_of(ty, j as u32) {
-                Class::Integer => integers += 1,
-                Class::Sse => sses += 1,
-            }
+    let leaf = ty.leaf(i);
+    let end = leaf.at + leaf.kind.size();
+    let is_integer = !is_floating(&leaf.kind);
+    Integers {
+        first: before.first || (leaf.at < 8 && 0 < end && is_integer),
+        second: before.second || (leaf.at < 16 && 8 < end && is_integer),
+    }
+}
+
+/// Where integers and pointers lie in a value, all leaves taken together.
+fn integers_in(ty: &FfiType) -> Integers
+    requires { IsLaidOut (tree_of ty.now) }
+    ensures first { result.first ≡ list_any (is_integer_leaf_in 0) (leaves_of (tree_of ty.now)) }
+    ensures second { result.second ≡ list_any (is_integer_leaf_in 1) (leaves_of (tree_of ty.now)) }
+{
+    let mut found = Integers {
+        first: false,
+        second: false,
+    };
+    for i in 0..ty.leaf_count() {
+        found = with_leaf(found, ty, i);
+        if found.first && found.second {
+            return found;
         }
     }
-    Classes { integers, sses }
+    found
+}
+
+/// The classes of a value's eightbytes, found once for all that needs them.
+#[derive(Clone, Copy)]
+enum Classes {
+    /// The value is in memory.
+    Memory,
+    /// It has no bytes.
+    Nothing,
+    One(Class),
+    Two(Class, Class),
+}
+
+impl Classes {
+    fn is_memory(self) -> bool
+        ensures { result ≡ is_memory self }
+    {
+        matches!(self, Classes::Memory)
+    }
+
+    /// How many eightbytes are passed in registers.
+    fn len(self) -> u64
+        ensures { result ≡ length (listed self) }
+    {
+        match self {
+            Classes::Memory => 0,
+            Classes::Nothing => 0,
+            Classes::One(_) => 1,
+            Classes::Two(_, _) => 2,
+        }
+    }
+
+    /// The class of eightbyte `j`.
+    fn get(self, j: u64) -> Class
+        requires { j < length (listed self) }
+        ensures { result ≡ slice_index_or (listed self) j result }
+    {
+        match self {
+            Classes::Memory => unreachable!(),
+            Classes::Nothing => unreachable!(),
+            Classes::One(first) => first,
+            Classes::Two(first, second) => if j == 0 { first } else { second },
+        }
+    }
+
+    /// How many eightbytes have the class INTEGER.
+    fn integers(self) -> u64
+        ensures value { result ≡ count_by is_integer_class (listed self) }
+        ensures few { result ≤ 2 }
+    {
+        match self {
+            Classes::Memory => 0,
+            Classes::Nothing => 0,
+            Classes::One(Class::Integer) => 1,
+            Classes::One(Class::Sse) => 0,
+            Classes::Two(Class::Integer, Class::Integer) => 2,
+            Classes::Two(Class::Integer, Class::Sse) => 1,
+            Classes::Two(Class::Sse, Class::Integer) => 1,
+            Classes::Two(Class::Sse, Class::Sse) => 0,
+        }
+    }
+
+    /// How many have the class SSE.
+    fn sses(self) -> u64
+        ensures value { result ≡ count_by is_sse_class (listed self) }
+        ensures few { result ≤ 2 }
+    {
+        match self {
+            Classes::Memory => 0,
+            Classes::Nothing => 0,
+            Classes::One(Class::Integer) => 0,
+            Classes::One(Class::Sse) => 1,
+            Classes::Two(Class::Integer, Class::Integer) => 0,
+            Classes::Two(Class::Integer, Class::Sse) => 1,
+            Classes::Two(Class::Sse, Class::Integer) => 1,
+            Classes::Two(Class::Sse, Class::Sse) => 2,
+        }
+    }
+}
+
+fn class_from(has_integer: bool) -> Class
+    ensures { result ≡ cond {A = Class} has_integer Integer Sse }
+{
+    if has_integer {
+        Class::Integer
+    } else {
+        Class::Sse
+    }
+}
+
+fn classes_of_struct(ty: &FfiType) -> Classes
+    requires right { IsLaidOut (tree_of ty.now) }
+    requires is_struct { is_struct (tree_of ty.now) ≡ true }
+    ensures memory { is_memory result ≡ in_memory (tree_of ty.now) }
+    ensures all { listed result ≡ classes (tree_of ty.now) }
+{
+    let size = size_of(ty);
+    if size > 16 {
+        return Classes::Memory;
+    }
+    let found = integers_in(ty);
+    if size > 8 {
+        Classes::Two(class_from(found.first), class_from(found.second))
+    } else if size > 0 {
+        Classes::One(class_from(found.first))
+    } else {
+        Classes::Nothing
+    }
+}
+
+/// The classes of a value's eightbytes. A scalar is its own only leaf.
+fn classes_of(ty: &FfiType) -> Classes
+    requires { IsLaidOut (tree_of ty.now) }
+    ensures memory { is_memory result ≡ in_memory (tree_of ty.now) }
+    ensures all { listed result ≡ classes (tree_of ty.now) }
+{
+    match ty {
+        FfiType::U8 | FfiType::S8 | FfiType::U16 | FfiType::S16 => Classes::One(Class::Integer),
+        FfiType::U32 | FfiType::S32 | FfiType::U64 | FfiType::S64 => Classes::One(Class::Integer),
+        FfiType::Pointer => Classes::One(Class::Integer),
+        FfiType::U128 | FfiType::S128 => Classes::Two(Class::Integer, Class::Integer),
+        FfiType::Float | FfiType::Double => Classes::One(Class::Sse),
+        FfiType::Struct(_) | FfiType::Array(_, _) => classes_of_struct(ty),
+        FfiType::Void | FfiType::LongDouble | FfiType::Complex | FfiType::Vector => {
+            Classes::Nothing
+        }
+    }
 }
 
 /// rdi, rsi, rdx, rcx, r8, r9
@@ -97,12 +242,14 @@ const PRESERVED_REGISTERS: [u8; 6] = [3, 5, 12, 13, 14, 15];
 fn pieces_in_registers(
     alloc: Global,
     ty: &FfiType,
+    found: Classes,
     general: u64,
     vector: u64,
     registers: &[u8],
 ) -> Result<Pieces, NoMemory>
     requires right { IsLaidOut (tree_of ty.now) }
     requires direct { in_memory (tree_of ty.now) ≡ false }
+    requires all { listed found ≡ classes (tree_of ty.now) }
     requires enough_general { general + integers (tree_of ty.now) ≤ length registers.now }
     requires enough_vector { vector + sses (tree_of ty.now) ≤ 8 }
     requires few { length registers.now ≤ 8 }
@@ -113,8 +260,8 @@ fn pieces_in_registers(
     let mut pieces = Pieces::new(alloc);
     let mut next_general = general;
     let mut next_vector = vector;
-    for j in 0..doublewords(ty) {
-        let loc = match class_of(ty, j as u32) {
+    for j in 0..found.len() {
+        let loc = match found.get(j) {
             Class::Integer => {
                 next_general += 1;
                 Loc::G(registers[next_general as usize - 1])
@@ -129,73 +276,81 @@ fn pieces_in_registers(
     Ok(pieces)
 }
 
-/// Whether the registers that are left suffice for the whole argument.
-fn fits_registers(before: Taken, ty: &FfiType) -> bool
-    requires right { IsLaidOut (tree_of ty.now) }
-    requires few_general { before.general ≤ 6 }
-    requires few_vector { before.vector ≤ 8 }
-    ensures { result ≡ in_registers before (tree_of ty.now) }
-{
-    let count = count_classes(ty);
-    let general = before.general + count.integers;
-    let vector = before.vector + count.sses;
-    !in_memory(ty) && general <= 6 && vector <= 8
+/// The pieces of an argument, and what it takes with those before it.
+#[derive(Drop)]
+struct Argument {
+    pieces: Pieces,
+    taken: Taken,
 }
 
-fn argument_pieces(alloc: Global, before: Taken, ty: &FfiType) -> Result<Pieces, NoMemory>
+/// In registers, if those that are left suffice for the whole argument, otherwise on the stack.
+fn place_argument(alloc: Global, before: Taken, ty: &FfiType) -> Result<Argument, NoMemory>
     requires right { IsLaidOut (tree_of ty.now) }
     requires few_general { before.general ≤ 6 }
     requires few_vector { before.vector ≤ 8 }
     requires low { before.stack ≤ ARGUMENT_BYTES }
-    ensures { IfOk result (λ p. p ≡ pieces_after before (tree_of ty.now)) }
+    ensures pieces { IfOk result (λ a. a.pieces ≡ pieces_after before (tree_of ty.now)) }
+    ensures taken { IfOk result (λ a. a.taken ≡ taken_with before (tree_of ty.now)) }
+    ensures few_general { IfOk result (λ a. a.taken.general ≤ 6) }
+    ensures few_vector { IfOk result (λ a. a.taken.vector ≤ 8) }
+    ensures low { IfOk result (λ a. a.taken.stack ≤ before.stack + ARGUMENT_SPAN) }
 {
-    if fits_registers(before, ty) {
-        pieces_in_registers(
-            alloc,
-            ty,
-            before.general,
-            before.vector,
-            &ARGUMENT_REGISTERS,
-        )
-    } else {
-        pieces_on_stack(alloc, ty, start(ty, before.stack))
+    let found = classes_of(ty);
+    let general = before.general + found.integers();
+    let vector = before.vector + found.sses();
+    if !found.is_memory() && general <= 6 && vector <= 8 {
+        return argument_in_registers(alloc, before, ty, found);
     }
+    argument_on_stack(alloc, before, ty)
 }
 
-/// Where an argument on the stack ends, if what stands before it ends at `end`.
-fn stack_end(end: u64, ty: &FfiType) -> u64
+fn argument_in_registers(
+    alloc: Global,
+    before: Taken,
+    ty: &FfiType,
+    found: Classes,
+) -> Result<Argument, NoMemory>
     requires right { IsLaidOut (tree_of ty.now) }
-    requires low { end ≤ ARGUMENT_BYTES }
-    ensures value { result ≡ stack_end end (tree_of ty.now) }
-    ensures low { result ≤ end + ARGUMENT_SPAN }
+    requires all { listed found ≡ classes (tree_of ty.now) }
+    requires fits { in_registers before (tree_of ty.now) ≡ true }
+    ensures pieces { IfOk result (λ a. a.pieces ≡ pieces_after before (tree_of ty.now)) }
+    ensures taken { IfOk result (λ a. a.taken ≡ taken_with before (tree_of ty.now)) }
+    ensures few_general { IfOk result (λ a. a.taken.general ≤ 6) }
+    ensures few_vector { IfOk result (λ a. a.taken.vector ≤ 8) }
+    ensures low { IfOk result (λ a. a.taken.stack ≡ before.stack) }
 {
-    start(ty, end) + round_up(size_of(ty), 8)
+    let pieces = pieces_in_registers(
+        alloc,
+        ty,
+        found,
+        before.general,
+        before.vector,
+        &ARGUMENT_REGISTERS,
+    )?;
+    let taken = Taken {
+        general: before.general + found.integers(),
+        vector: before.vector + found.sses(),
+        stack: before.stack,
+    };
+    Ok(Argument { pieces, taken })
 }
 
-fn with_argument(before: Taken, ty: &FfiType) -> Taken
+fn argument_on_stack(alloc: Global, before: Taken, ty: &FfiType) -> Result<Argument, NoMemory>
     requires right { IsLaidOut (tree_of ty.now) }
-    requires few_general { before.general ≤ 6 }
-    requires few_vector { before.vector ≤ 8 }
     requires low { before.stack ≤ ARGUMENT_BYTES }
-    ensures value { result ≡ taken_with before (tree_of ty.now) }
-    ensures few_general { result.general ≤ 6 }
-    ensures few_vector { result.vector ≤ 8 }
-    ensures low { result.stack ≤ before.stack + ARGUMENT_SPAN }
+    requires spills { in_registers before (tree_of ty.now) ≡ false }
+    ensures pieces { IfOk result (λ a. a.pieces ≡ pieces_after before (tree_of ty.now)) }
+    ensures taken { IfOk result (λ a. a.taken ≡ taken_with before (tree_of ty.now)) }
+    ensures low { IfOk result (λ a. a.taken.stack ≤ before.stack + ARGUMENT_SPAN) }
 {
-    if fits_registers(before, ty) {
-        let count = count_classes(ty);
-        Taken {
-            general: before.general + count.integers,
-            vector: before.vector + count.sses,
-            stack: before.stack,
-        }
-    } else {
-        Taken {
-            general: before.general,
-            vector: before.vector,
-            stack: stack_end(before.stack, ty),
-        }
-    }
+    let begin = start(ty, before.stack);
+    let taken = Taken {
+        general: before.general,
+        vector: before.vector,
+        stack: begin + round_up(size_of(ty), 8),
+    };
+    let pieces = pieces_on_stack(alloc, ty, begin)?;
+    Ok(Argument { pieces, taken })
 }
 
 /// The places of all arguments, and what they take.
@@ -228,9 +383,9 @@ fn place_all(alloc: Global, sig: &Sig) -> Result<Placed, NoMemory>
     let mut before = at_first(result_type(sig));
     let mut places = Places::new(alloc);
     for i in 0..count_of(sig) {
-        let ty = argument(sig, i);
-        places.push(Place::Direct(argument_pieces(alloc, before, ty)?))?;
-        before = with_argument(before, ty);
+        let next = place_argument(alloc, before, argument(sig, i))?;
+        before = next.taken;
+        places.push(Place::Direct(next.pieces))?;
     }
     Ok(Placed {
         places,
@@ -247,13 +402,15 @@ fn place_result(alloc: Global, ty: &FfiType, end: u64) -> Result<Res, NoMemory>
     if let FfiType::Void = ty {
         return Ok(Res::Nothing);
     }
-    if in_memory(ty) {
+    let found = classes_of(ty);
+    if found.is_memory() {
         return Ok(Res::Hidden {
             at: Loc::G(ARGUMENT_REGISTERS[0]),
             buffer: start(ty, end) as u32,
         });
     }
-    Ok(Res::Direct(pieces_in_registers(alloc, ty, 0, 0, &RESULT_REGISTERS)?))
+    let pieces = pieces_in_registers(alloc, ty, found, 0, 0, &RESULT_REGISTERS)?;
+    Ok(Res::Direct(pieces))
 }
 
 /// Does nothing. Its contract says by sums over all arguments which of them are in registers, and by where those before each end where arguments on the stack, copies, the buffer of a hidden result and the frame's end are; and that no other choice of arguments in registers agrees with the sums. (psABI AMD64 3.2.3) And that structs of equal layout are placed alike, as one with an array and one with its elements there.

@@ -84,7 +84,7 @@ pub fn broken_line(alloc: Global, isa: Isa, check: &Check) -> Result<Bytes, NoMe
     let mut line = Bytes::from_slice(alloc, "ffi3: ".as_bytes())?;
     write_part(alloc, check.part, &mut line)?;
     line.extend(": ".as_bytes())?;
-    write_loc(alloc, isa, check.place, &mut line)?;
+    write_loc(isa, check.place, &mut line)?;
     line.extend(" holds ".as_bytes())?;
     write_word(alloc, check.found, &mut line)?;
     line.extend(", wants ".as_bytes())?;

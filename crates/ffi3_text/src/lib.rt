@@ -3,6 +3,7 @@
 
 mod layout;
 mod names;
+mod numbers;
 mod place;
 mod trace;
 

@@ -2,10 +2,10 @@
 ghost use Rattle.std.specs.Prelude.{◌≡◌, ◌++◌, [], OnOk, map, slice_index_or};
 ghost use Rattle.ffi3_text.specs.Registers.{general_name, floating_name, loc_name};
 
+use crate::numbers::write_labelled;
 use ffi3_place::Loc;
 use ffi3_type_rules::Isa;
 use ffi3_types::{Bytes, NoMemory};
-use std::alloc::Global;
 
 const AMD64_GENERAL: [&str; 16] = [
     "rax", "rcx", "rdx", "rbx", "rsp", "rbp", "rsi", "rdi", "r8", "r9", "r10", "r11", "r12", "r13",
@@ -32,33 +32,33 @@ fn name_in(names: &[&'static str], r: u8) -> &'static str
     if k < names.len() { names[k] } else { "" }
 }
 
-fn write_general(alloc: Global, isa: Isa, r: u8, text: &mut Bytes) -> Result<(), NoMemory>
+fn write_general(isa: Isa, r: u8, text: &mut Bytes) -> Result<(), NoMemory>
     ensures { OnOk result (text.new ≡ text.old ++ general_name isa r) }
 {
     match isa {
         Isa::Amd64 => text.extend(name_in(&AMD64_GENERAL, r).as_bytes()),
-        Isa::Aarch64 => text.extend(format!(in alloc; "x{r}")?.as_bytes()),
+        Isa::Aarch64 => write_labelled("x", r as u64, text),
         Isa::Riscv => text.extend(name_in(&RISCV_GENERAL, r).as_bytes()),
     }
 }
 
-fn write_floating(alloc: Global, isa: Isa, r: u8, text: &mut Bytes) -> Result<(), NoMemory>
+fn write_floating(isa: Isa, r: u8, text: &mut Bytes) -> Result<(), NoMemory>
     ensures { OnOk result (text.new ≡ text.old ++ floating_name isa r) }
 {
     match isa {
-        Isa::Amd64 => text.extend(format!(in alloc; "xmm{r}")?.as_bytes()),
-        Isa::Aarch64 => text.extend(format!(in alloc; "v{r}")?.as_bytes()),
+        Isa::Amd64 => write_labelled("xmm", r as u64, text),
+        Isa::Aarch64 => write_labelled("v", r as u64, text),
         Isa::Riscv => text.extend(name_in(&RISCV_FLOATING, r).as_bytes()),
     }
 }
 
 /// Writes a register's name at the end of a text, as `xmm0`; of a place on the stack its offset, as `stack8`.
-pub fn write_loc(alloc: Global, isa: Isa, at: Loc, text: &mut Bytes) -> Result<(), NoMemory>
+pub fn write_loc(isa: Isa, at: Loc, text: &mut Bytes) -> Result<(), NoMemory>
     ensures { OnOk result (text.new ≡ text.old ++ loc_name isa at) }
 {
     match at {
-        Loc::G(r) => write_general(alloc, isa, r, text),
-        Loc::F(r) => write_floating(alloc, isa, r, text),
-        Loc::S(n) => text.extend(format!(in alloc; "stack{n}")?.as_bytes()),
+        Loc::G(r) => write_general(isa, r, text),
+        Loc::F(r) => write_floating(isa, r, text),
+        Loc::S(n) => write_labelled("stack", n as u64, text),
     }
 }

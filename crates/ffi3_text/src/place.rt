@@ -1,15 +1,18 @@
 // Lines of place.
 ghost use Rattle.std.specs.Prelude.{◌≡◌, ◌<◌, ◌++◌, IfOk, OnOk, length};
+ghost use Rattle.std.specs.Fmt.{decimal};
 ghost use Rattle.ffi3_type_rules.specs.Signature.{at_result, at_argument};
 ghost use Rattle.ffi3_types.specs.SignatureFaultOf.{position_of};
 ghost use Rattle.ffi3_text.specs.LayoutLines.{IsIn};
 ghost use Rattle.ffi3_text.specs.PlaceLines.{is_on_stack, piece_text, register_piece_text, register_texts, first_on_stack, stack_length, bytes_on_stack, stack_text, pieces_text, argument_text, result_text, place_text_of, vectors_text, sig_text_of};
 
 use crate::names::write_loc;
+use crate::numbers::write_labelled;
 use ffi3_cif::Cif;
 use ffi3_place::{Abi, Loc, Piece, Pieces, Place, Res};
 use ffi3_type_rules::Isa;
 use ffi3_types::{At, Bytes, NoMemory, Target};
+use itoa::Buffer;
 use std::alloc::Global;
 
 /// The bytes of stack that a call takes, as `sig 0 need 80 frame 0 block 16` with a newline; on
@@ -20,23 +23,21 @@ pub fn sig_line<A: Abi>(alloc: Global, sig_number: u32, cif: &Cif<A>) -> Result<
     let need = cif.need();
     let frame = cif.frame();
     let block = cif.block();
-    let start = format!(in alloc; "sig {sig_number} need {need} frame {frame} block {block}")?;
-    let mut text = Bytes::from_slice(alloc, start.as_bytes())?;
-    write_vectors(alloc, A::TARGET, cif.vectors(), &mut text)?;
+    let mut text = Bytes::new(alloc);
+    write_labelled("sig ", sig_number as u64, &mut text)?;
+    write_labelled(" need ", need, &mut text)?;
+    write_labelled(" frame ", frame, &mut text)?;
+    write_labelled(" block ", block, &mut text)?;
+    write_vectors(A::TARGET, cif.vectors(), &mut text)?;
     text.push(b'\n')?;
     Ok(text)
 }
 
-fn write_vectors(
-    alloc: Global,
-    target: Target,
-    vectors: u8,
-    text: &mut Bytes,
-) -> Result<(), NoMemory>
+fn write_vectors(target: Target, vectors: u8, text: &mut Bytes) -> Result<(), NoMemory>
     ensures { OnOk result (text.new ≡ text.old ++ vectors_text target vectors) }
 {
     match target {
-        Target::Amd64 => text.extend(format!(in alloc; " rax {vectors}")?.as_bytes()),
+        Target::Amd64 => write_labelled(" rax ", vectors as u64, text),
         Target::Aapcs64 | Target::Riscv | Target::Win64 => Ok(()),
     }
 }
@@ -57,7 +58,7 @@ fn result_line<A: Abi>(alloc: Global, cif: &Cif<A>) -> Result<Bytes, NoMemory>
     ensures { IfOk result (λ text. text ≡ place_text_of A.standard cif.now at_result) }
 {
     let mut text = Bytes::from_slice(alloc, "ret".as_bytes())?;
-    write_result(alloc, A::TARGET.isa(), cif.result_place(), &mut text)?;
+    write_result(A::TARGET.isa(), cif.result_place(), &mut text)?;
     text.push(b'\n')?;
     Ok(text)
 }
@@ -66,102 +67,95 @@ fn argument_line<A: Abi>(alloc: Global, cif: &Cif<A>, i: u32) -> Result<Bytes, N
     requires { i < length cif.now.arguments }
     ensures { IfOk result (λ text. text ≡ place_text_of A.standard cif.now (at_argument i)) }
 {
-    let start = format!(in alloc; "arg {i}")?;
-    let mut text = Bytes::from_slice(alloc, start.as_bytes())?;
-    write_argument(alloc, A::TARGET.isa(), cif.place(i), &mut text)?;
+    let mut text = Bytes::new(alloc);
+    write_labelled("arg ", i as u64, &mut text)?;
+    write_argument(A::TARGET.isa(), cif.place(i), &mut text)?;
     text.push(b'\n')?;
     Ok(text)
 }
 
-fn write_result(alloc: Global, isa: Isa, res: &Res, text: &mut Bytes) -> Result<(), NoMemory>
+fn write_result(isa: Isa, res: &Res, text: &mut Bytes) -> Result<(), NoMemory>
     ensures { OnOk result (text.new ≡ text.old ++ result_text isa res.now) }
 {
     match res {
         Res::Nothing => text.extend(" void".as_bytes()),
-        Res::Direct(pieces) => write_pieces(alloc, isa, pieces, text),
+        Res::Direct(pieces) => write_pieces(isa, pieces, text),
         Res::Hidden { at, buffer } => {
             text.extend(" hidden ".as_bytes())?;
-            write_loc(alloc, isa, *at, text)?;
-            text.extend(format!(in alloc; " buffer {buffer}")?.as_bytes())
+            write_loc(isa, *at, text)?;
+            write_labelled(" buffer ", *buffer as u64, text)
         }
     }
 }
 
-fn write_argument(alloc: Global, isa: Isa, place: &Place, text: &mut Bytes) -> Result<(), NoMemory>
+fn write_argument(isa: Isa, place: &Place, text: &mut Bytes) -> Result<(), NoMemory>
     ensures { OnOk result (text.new ≡ text.old ++ argument_text isa place.now) }
 {
     match place {
-        Place::Direct(pieces) => write_pieces(alloc, isa, pieces, text),
+        Place::Direct(pieces) => write_pieces(isa, pieces, text),
         Place::ByRef { at, copy } => {
             text.extend(" ref ".as_bytes())?;
-            write_loc(alloc, isa, *at, text)?;
-            text.extend(format!(in alloc; " copy {copy}")?.as_bytes())
+            write_loc(isa, *at, text)?;
+            write_labelled(" copy ", *copy as u64, text)
         }
     }
 }
 
 /// Pieces in registers, and then all that are on the stack as one.
-fn write_pieces(alloc: Global, isa: Isa, pieces: &Pieces, text: &mut Bytes) -> Result<(), NoMemory>
+fn write_pieces(isa: Isa, pieces: &Pieces, text: &mut Bytes) -> Result<(), NoMemory>
     ensures { OnOk result (text.new ≡ text.old ++ pieces_text isa pieces.now) }
 {
-    write_registers(alloc, isa, pieces, text)?;
-    write_on_stack(alloc, isa, pieces, text)
+    write_registers(isa, pieces, text)?;
+    write_on_stack(isa, pieces, text)
 }
 
-fn write_on_stack(
-    alloc: Global,
-    isa: Isa,
-    pieces: &Pieces,
-    text: &mut Bytes,
-) -> Result<(), NoMemory>
+fn write_on_stack(isa: Isa, pieces: &Pieces, text: &mut Bytes) -> Result<(), NoMemory>
     ensures { OnOk result (text.new ≡ text.old ++ stack_text isa (first_on_stack pieces.now) (bytes_on_stack pieces.now)) }
 {
     match first_on_stack(pieces) {
         None => Ok(()),
         Some(piece) => {
             let len = bytes_on_stack(pieces);
-            write_piece(alloc, isa, piece.loc, piece.off, len, text)
+            write_piece(isa, piece.loc, piece.off, len, text)
         }
     }
 }
 
-fn write_registers(
-    alloc: Global,
-    isa: Isa,
-    pieces: &Pieces,
-    text: &mut Bytes,
-) -> Result<(), NoMemory>
+fn write_registers(isa: Isa, pieces: &Pieces, text: &mut Bytes) -> Result<(), NoMemory>
     ensures { OnOk result (text.new ≡ text.old ++ register_texts isa pieces.now) }
 {
     for k in 0..pieces.len() {
-        write_register(alloc, isa, *pieces.get(k), text)?;
+        write_register(isa, *pieces.get(k), text)?;
     }
     Ok(())
 }
 
 /// A piece in a register; of one on the stack nothing.
-fn write_register(alloc: Global, isa: Isa, piece: Piece, text: &mut Bytes) -> Result<(), NoMemory>
+fn write_register(isa: Isa, piece: Piece, text: &mut Bytes) -> Result<(), NoMemory>
     ensures { OnOk result (text.new ≡ text.old ++ register_piece_text isa piece) }
 {
     if is_on_stack(piece.loc) {
         return Ok(());
     }
-    write_piece(alloc, isa, piece.loc, piece.off, piece.len as u128, text)
+    write_piece(isa, piece.loc, piece.off, piece.len as u128, text)
 }
 
-fn write_piece(
-    alloc: Global,
-    isa: Isa,
-    at: Loc,
-    off: u32,
-    len: u128,
-    text: &mut Bytes,
-) -> Result<(), NoMemory>
+fn write_piece(isa: Isa, at: Loc, off: u32, len: u128, text: &mut Bytes) -> Result<(), NoMemory>
     ensures { OnOk result (text.new ≡ text.old ++ piece_text isa at off len) }
 {
     text.push(b' ')?;
-    write_loc(alloc, isa, at, text)?;
-    text.extend(format!(in alloc; ":{off}+{len}")?.as_bytes())
+    write_loc(isa, at, text)?;
+    write_labelled(":", off as u64, text)?;
+    text.push(b'+')?;
+    write_length(len, text)
+}
+
+/// A length in decimal at the end of a text.
+fn write_length(len: u128, text: &mut Bytes) -> Result<(), NoMemory>
+    ensures { OnOk result (text.new ≡ text.old ++ decimal len) }
+{
+    let mut buffer = Buffer::new();
+    text.extend(buffer.format(len).as_bytes())
 }
 
 fn is_on_stack(at: Loc) -> bool

@@ -7,6 +7,7 @@ pub pieces_in_registers-requires : goal.pieces_in_registers-requires
 pieces_in_registers-requires c = record {
   right = c.requires.right;
   direct = search rules;
+  all = c.classes_of-found.ensures.all;
   enough_general = omega (arith, integers_few (tree_of c.args.ty.now));
   enough_vector = omega (arith, sses_few (tree_of c.args.ty.now));
   few = omega arith;
