@@ -7,6 +7,7 @@ use Rattle.ffi3_type_rules.specs.declared.limits.TheConstants.{STACK}
 use Rattle.ffi3_type_rules.specs.declared.Target.{Target}
 use Rattle.ffi3_type_rules.specs.Signature.{Signature, signature_at}
 use Rattle.ffi3_type_rules.specs.Value.{ValueTree}
+use Rattle.ffi3_type_rules.proofs.Tests.{if_true, if_false}
 use Rattle.ffi3_place_rules.specs.declared.Loc.{Loc}
 use Rattle.ffi3_place_rules.specs.Event.{Event}
 use Rattle.ffi3_place_rules.specs.Holds.{Own}
@@ -43,7 +44,6 @@ use Rattle.ffi3_board.specs.Accepted.{WasInterruptedAtEntry}
 use Rattle.ffi3_board.specs.TraceLines.{last_event, entry_lines}
 use Rattle.ffi3_io.specs.Written.{LineInterrupted}
 use Rattle.ffi3_board.proofs.Telling.{last_is}
-use Rattle.ffi3_script_rules.proofs.Tests.{if_true, if_false}
 use Rattle.ffi3_board.specs.Served.{ShowsCall, served_leaves, served_tracing, served_activation, served_base, served_beginning, served_left}
 use Rattle.ffi3_board.proofs.Opened.{same_then_held}
 

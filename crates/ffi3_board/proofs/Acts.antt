@@ -4,12 +4,12 @@ use Rattle.std.specs.Prelude.{if◌then◌else◌, nat_lt}
 use Rattle.ffi3_type_rules.specs.Signature.{signature_at}
 use Rattle.ffi3_type_rules.specs.Same.{same_signature}
 use Rattle.ffi3_type_rules.specs.Value.{ValueTree, void_value}
+use Rattle.ffi3_type_rules.proofs.Tests.{if_true, if_false}
 use Rattle.ffi3_run_rules.specs.declared.Closure.{Closure}
 use Rattle.ffi3_run_rules.specs.declared.Stop.TheVariants.{NoClosure, WrongSig, TableFull, StackFull}
 use Rattle.ffi3_run_rules.specs.Closures.{Closures, slots, slot_address, closure_at, first_free, with_closure, freed}
 use Rattle.ffi3_run_rules.specs.Move.{call, make, free}
 use Rattle.ffi3_run_rules.specs.Meaning.{Program, Activation, Effect, stops, goes_on, enters, at_closure, call_of, callee_of, effect_of, need_at, function_at, pointer_value}
-use Rattle.ffi3_script_rules.proofs.Tests.{if_true, if_false}
 
 module _ (p : Program) (a : Activation) (c : Closures) where
   -- ---- a call

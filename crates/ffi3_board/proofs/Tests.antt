@@ -5,7 +5,7 @@ use Rattle.std.proofs.lemmas.Bool.{eqb-true, eq-eqb, false_from_ne_true}
 use Rattle.ffi3_type_rules.specs.Tree.{Tree}
 use Rattle.ffi3_type_rules.specs.Signature.{Signature}
 use Rattle.ffi3_type_rules.specs.Same.{same_tree, same_list, same_fixed, same_signature}
-use Rattle.ffi3_script_rules.proofs.Tests.{and_left, and_right, both, types_are_same, type_is_itself, types_are_themselves}
+use Rattle.ffi3_type_rules.proofs.Tests.{and_left, and_right, both, types_are_same, type_is_itself, types_are_themselves}
 
 list_is_same : (ts us : List Tree) → same_list ts us ≡ true → ts ≡ us
 list_is_same [] [] h = refl

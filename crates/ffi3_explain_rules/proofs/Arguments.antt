@@ -22,13 +22,13 @@ use Rattle.ffi3_place_rules.specs.Image.{Image, byte_at, word_at, register}
 use Rattle.ffi3_place_rules.specs.Standard.{Standard, frame_of, plan_of}
 use Rattle.ffi3_place_rules.specs.Sound.{IsNoneOf, IsSound, LiesIn, PlaceHasAll, PlacesHaveAll, piece_locs, place_locs, argument_locs, hidden_locs, copy_locs, buffer_locs, stack_words_for, closed_to_arguments, closed_to_results, Apart}
 use Rattle.ffi3_place_rules.specs.Holds.{Own, OwnsArgument, OwnsArguments, SameIn}
-use Rattle.ffi3_place_rules.proofs.Tests.{and_left, and_right}
 use Rattle.ffi3_explain_rules.specs.declared.Outside.{Outside}
 use Rattle.ffi3_explain_rules.specs.Explain.{carries, explained, holds_values, first_byte, first_bytes}
 use Rattle.ffi3_explain_rules.specs.Laws.{HasWords}
 use Rattle.ffi3_explain_rules.specs.Arguments.{is_in_image, value_at_address, value_by_standard, values_by_standard, outside_of, or_later, first_outside, are_values, arguments_by, held_by_standard, stack_end, least_stack, ArgumentLaws, AreRead}
 use Rattle.ffi3_explain_rules.proofs.Copies.{bytes_of_right, copy_fits}
-use Rattle.ffi3_type_rules.proofs.Fitting.{both, value_fits}
+use Rattle.ffi3_type_rules.proofs.Fitting.{value_fits}
+use Rattle.ffi3_type_rules.proofs.Tests.{and_left, and_right, both}
 use Rattle.ffi3_explain_rules.proofs.Pieces.{first_bytes-length, stood_is_read}
 use Rattle.ffi3_explain_rules.proofs.Places.{join, left_part, right_part}
 use Rattle.ffi3_explain_rules.proofs.Laws.{is_explained}

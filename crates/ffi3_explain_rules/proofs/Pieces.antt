@@ -7,6 +7,7 @@ use Rattle.std.proofs.lemmas.Bool.Decides.{nat_tests}
 use Rattle.ffi3_type_rules.specs.Tree.{Tree, void, scalar, left_out, structure, array, Scalar, u8, s8, u16, s16, u32, s32, u64, s64, u128, s128, float, double, pointer}
 use Rattle.ffi3_type_rules.specs.Layout.{Leaf, leaves_of, size_of, scalar_size}
 use Rattle.ffi3_type_rules.specs.Value.{ValueTree, value_in, fits}
+use Rattle.ffi3_type_rules.proofs.Tests.{and_left, and_right, both}
 use Rattle.ffi3_type_rules.proofs.Widened.{byte-widened, byte-widened_from_32}
 use Rattle.ffi3_place_rules.specs.declared.Ext.{Ext}
 use Rattle.ffi3_place_rules.specs.declared.Ext.TheVariants.{Free, Widen, Riscv, Boxed}
@@ -15,7 +16,7 @@ use Rattle.ffi3_place_rules.specs.Image.{Image, byte_at, word_at}
 use Rattle.ffi3_place_rules.specs.Holds.{Carries, LeavesStand, FillsAs, FillPieces, leaf_bytes}
 use Rattle.ffi3_place_rules.specs.Sound.{CoversLeaf, HaveAll, IsPieceOf, IsExtended, is_narrow_integer}
 use Rattle.ffi3_place_rules.proofs.Covered.{EndsIn, leaves_end}
-use Rattle.ffi3_place_rules.proofs.Tests.{and_left, and_right, each_at}
+use Rattle.ffi3_place_rules.proofs.Tests.{each_at}
 use Rattle.ffi3_explain_rules.specs.Explain.{carries, first_byte, first_bytes, value_in_pieces, in_leaf, wanted_byte, wanted_word, wanted, extended}
 use Rattle.ffi3_explain_rules.specs.Laws.{HasWords}
 use Rattle.ffi3_place_rules.proofs.Reading.{LeavesRead, leaves_read, reads}
@@ -47,10 +48,6 @@ or_cases false b h = inr h
 decide : (b : Bool) → (b ≡ true) ⊎ (b ≡ false)
 decide true = inl refl
 decide false = inr refl
-
-both : (a b : Bool) → a ≡ true → b ≡ true → (a && b) ≡ true
-both true b h k = k
-both false b h k = cc
 
 leaf_here : (l : Leaf) (k : ℕ) → k < scalar_size l.kind → (nat_le l.at (l.at + k) && nat_lt (l.at + k) (l.at + scalar_size l.kind)) ≡ true
 leaf_here l k h =

@@ -1,15 +1,8 @@
--- The parts of a test, and of what holds for each of a list or of the first numbers.
-use Rattle.std.proofs.Common.{◌≡◌, ℕ, zero, suc, ◌<◌, Bool, true, false, not, ◌&&◌, refl, List, [], ◌∷◌, get_or, length, subst, arith}
+-- What holds for each of a list or of the first numbers, and the parts of a test.
+use Rattle.std.proofs.Common.{◌≡◌, ℕ, zero, suc, ◌<◌, Bool, true, false, not, refl, List, [], ◌∷◌, get_or, length, subst, arith}
 use Rattle.std.specs.List.{AllByRecursion}
 use Rattle.std.proofs.lemmas.List.Elements.{All-from_recursion}
-
-pub and_left : (a b : Bool) → (a && b) ≡ true → a ≡ true
-and_left true b h = refl
-and_left false b h = h
-
-pub and_right : (a b : Bool) → (a && b) ≡ true → b ≡ true
-and_right true b h = h
-and_right false b h = cc
+pub use Rattle.ffi3_type_rules.proofs.Tests.{and_left, and_right}
 
 pub not_true : (b : Bool) → not b ≡ true → b ≡ false
 not_true true h = cc

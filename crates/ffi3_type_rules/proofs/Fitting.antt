@@ -9,11 +9,8 @@ use Rattle.ffi3_type_rules.specs.Fault.{bad_typedef, left_out_type, left_out_kin
 use Rattle.ffi3_type_rules.specs.Value.{ValueTree, value_in, values_in, first_value_in, repeated_values, part, fits, all_fit}
 use Rattle.ffi3_type_rules.proofs.Faults.{part_is_right}
 use Rattle.ffi3_type_rules.proofs.Parts.{length_part}
+use Rattle.ffi3_type_rules.proofs.Tests.{both}
 use Rattle.ffi3_type_rules.proofs.Values.{element_within}
-
-pub both : (a b : Bool) → a ≡ true → b ≡ true → (a && b) ≡ true
-both true b h k = k
-both false b h k = cc
 
 same_count : (n m : ℕ) → n ≡ m → (n == m) ≡ true
 same_count n m e = search (arith, e)

@@ -5,19 +5,8 @@ use Rattle.std.proofs.lemmas.Bool.{cases_lt}
 use Rattle.std.proofs.lemmas.List.{get_or_append_left}
 use Rattle.ffi3_type_rules.specs.Tree.{Tree, tree_at, trees_of}
 use Rattle.ffi3_type_rules.specs.Value.{ValueTree, void_value, values_of, fits, all_fit}
+use Rattle.ffi3_type_rules.proofs.Tests.{and_left, and_right, both}
 use Rattle.ffi3_type_rules.proofs.Values.{value_at, get_or-append_at}
-
-and_left : (a b : Bool) → (a && b) ≡ true → a ≡ true
-and_left true b h = refl
-and_left false b h = cc
-
-and_right : (a b : Bool) → (a && b) ≡ true → b ≡ true
-and_right true b h = h
-and_right false b h = cc
-
-both : (a b : Bool) → a ≡ true → b ≡ true → (a && b) ≡ true
-both true b h k = k
-both false b h k = cc
 
 -- there are as many values as elements
 pub fitting_lengths : (ts : List Tree) (vs : List ValueTree) → all_fit (trees_of ts) (values_of vs) ≡ true → length vs ≡ length ts
