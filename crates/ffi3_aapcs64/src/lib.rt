@@ -4,8 +4,8 @@
 ghost use Rattle.std.specs.Prelude.{◌≡◌, ◌<◌, ◌≤◌, ◌+◌, ◌*◌, cond, length, IfOk, true, false};
 ghost use Rattle.std.specs.List.{list_all};
 ghost use Rattle.ffi3_type_rules.specs.declared.limits.TheConstants.{ARGUMENT_BYTES, ARGUMENT_SPAN, LARGEST_GAP, LARGEST_TYPE, MOST_ARGUMENTS};
-ghost use Rattle.ffi3_type_rules.specs.Tree.{Scalar, scalar};
-ghost use Rattle.ffi3_type_rules.specs.Layout.{size_of, align_of, leaves_of, leaf_at, scalar_size};
+ghost use Rattle.ffi3_type_rules.specs.Tree.{struct_of};
+ghost use Rattle.ffi3_type_rules.specs.Layout.{size_of, align_of, leaves_of};
 ghost use Rattle.ffi3_type_rules.specs.Fault.{IsLaidOut};
 ghost use Rattle.ffi3_type_rules.specs.Signature.{SignatureHasNoFault};
 ghost use Rattle.ffi3_types.specs.TreeOf.{tree_of};
@@ -13,51 +13,58 @@ ghost use Rattle.ffi3_place_rules.specs.declared.Loc.{Loc};
 ghost use Rattle.ffi3_place_rules.specs.declared.Loc.TheVariants.{G, S};
 ghost use Rattle.ffi3_place_rules.specs.Standard.{places_from, place_at, copies_end, result_at};
 ghost use Rattle.ffi3_place_rules.specs.Doublewords.{doublewords, stack_pieces};
-ghost use Rattle.ffi3_aapcs64_rules.specs.Aapcs64.{aapcs64, is_of, is_member, homogeneous, in_vectors, is_copied, passed, registers_needed, stack_size, first_general, stack_start, member_pieces, general_pieces, register_pieces, register_start, register_end, in_registers, stack_end, taken_with, taken_after, untouched, spot_after, spots_after, result_spot_of};
+ghost use Rattle.ffi3_aapcs64_rules.specs.Aapcs64.{aapcs64, is_member, homogeneous, in_vectors, is_copied, passed, registers_needed, stack_size, first_general, stack_start, member_pieces, general_pieces, register_pieces, register_start, register_end, in_registers, stack_end, taken_with, taken_after, untouched, spot_after, spots_after, result_spot_of};
 ghost use Rattle.ffi3_aapcs64_rules.specs.Ends.{IsPlacedByEnds};
 ghost use Rattle.ffi3_place_rules.specs.Alike.{GoesByLayout};
 
 pub use ffi3_aapcs64_rules::Kind;
 use ffi3_place::ends::{buffer_end, copy_end, planned, start};
 use ffi3_place::parts::{
-    argument, count_of, doubleword, doublewords, leaf_piece, pieces_on_stack, result_type, size_of,
-    widening,
+    argument, count_of, doubleword, leaf_piece, pieces_on_stack, result_type, widening,
 };
 use ffi3_place::{Abi, Ext, Loc, Pieces, Place, Places, Plan, Res, SaveWord};
 use ffi3_place_rules::Taken;
 use ffi3_type_rules::round_up;
-use ffi3_types::{FfiType, NoMemory, Sig, Target};
+use ffi3_types::{FfiType, Fields, NoMemory, Sig, Target};
 use std::alloc::Global;
+use std::marker::Model;
 
 // ---- homogeneous aggregates
 
-/// Whether a scalar is of the kind.
-fn is_of(kind: Kind, ty: &FfiType) -> bool
-    ensures { (s : Scalar) → tree_of ty.now ≡ scalar s → result ≡ is_of kind s }
-{
-    match kind {
-        Kind::Float => matches!(ty, FfiType::Float),
-        Kind::Double => matches!(ty, FfiType::Double),
-    }
-}
-
-/// Whether leaf `i` is of the kind.
-fn is_member(ty: &FfiType, i: u32, kind: Kind) -> bool
-    requires right { IsLaidOut (tree_of ty.now) }
-    requires in_range { i < length (leaves_of (tree_of ty.now)) }
-    ensures { result ≡ is_member kind (leaf_at (tree_of ty.now) i) }
-{
-    let leaf = ty.leaf(i);
-    is_of(kind, &leaf.kind)
-}
-
-/// Whether every leaf is of the kind.
+/// Whether every leaf is of the kind. Of an array's elements, which are alike, one is looked at.
+#[cycle(has_only)]
 fn has_only(ty: &FfiType, kind: Kind) -> bool
     requires { IsLaidOut (tree_of ty.now) }
     ensures { result ≡ list_all (is_member kind) (leaves_of (tree_of ty.now)) }
 {
-    for i in 0..ty.leaf_count() {
-        if !is_member(ty, i, kind) {
+    match ty {
+        FfiType::Float => matches!(kind, Kind::Float),
+        FfiType::Double => matches!(kind, Kind::Double),
+        FfiType::Struct(fields) => have_only(fields, kind),
+        FfiType::Array(fields, _count) => has_only(fields.get(0), kind),
+        FfiType::Void | FfiType::LongDouble | FfiType::Complex | FfiType::Vector => true,
+        FfiType::U8
+        | FfiType::S8
+        | FfiType::U16
+        | FfiType::S16
+        | FfiType::U32
+        | FfiType::S32
+        | FfiType::U64
+        | FfiType::S64
+        | FfiType::U128
+        | FfiType::S128
+        | FfiType::Pointer => false,
+    }
+}
+
+/// Whether every leaf of a struct with these elements is of the kind.
+#[cycle(has_only)]
+fn have_only(fields: &Fields, kind: Kind) -> bool
+    requires { IsLaidOut (struct_of fields.now) }
+    ensures { result ≡ list_all (is_member kind) (leaves_of (struct_of fields.now)) }
+{
+    for i in 0..fields.len() {
+        if !has_only(fields.get(i), kind) {
             return false;
         }
     }
@@ -114,30 +121,147 @@ fn in_vectors(ty: &FfiType) -> bool
     }
 }
 
-/// Whether the caller copies a value and passes a pointer to the copy.
-fn is_copied(ty: &FfiType) -> bool
-    requires { IsLaidOut (tree_of ty.now) }
+/// Whether the caller copies a value of this size and passes a pointer to the copy.
+fn is_copied(ty: &FfiType, vectors: bool, size: u64) -> bool
+    requires vectors { vectors ≡ in_vectors (tree_of ty.now) }
+    requires sized { size ≡ size_of (tree_of ty.now) }
     ensures { result ≡ is_copied (tree_of ty.now) }
 {
-    matches!(ty, FfiType::Struct(_) | FfiType::Array(_, _)) && !in_vectors(ty) && size_of(ty) > 16
+    matches!(ty, FfiType::Struct(_) | FfiType::Array(_, _)) && !vectors && size > 16
 }
 
-/// The size of what is passed: the value, or the pointer to its copy.
-fn passed_size(ty: &FfiType) -> u64
-    requires { IsLaidOut (tree_of ty.now) }
-    ensures value { result ≡ size_of (passed (tree_of ty.now)) }
-    ensures small { result ≤ LARGEST_TYPE }
+/// How many registers of its kind a value of this size needs. (AAPCS64 C.1, C.2, C.9, C.12)
+fn registers_needed(ty: &FfiType, vectors: bool, copied: bool, size: u64) -> u64
+    requires right { IsLaidOut (tree_of ty.now) }
+    requires vectors { vectors ≡ in_vectors (tree_of ty.now) }
+    requires copied { copied ≡ is_copied (tree_of ty.now) }
+    requires sized { size ≡ size_of (tree_of ty.now) }
+    requires small { size ≤ LARGEST_TYPE }
+    ensures { result ≡ registers_needed (tree_of ty.now) }
 {
-    if is_copied(ty) { 8 } else { size_of(ty) }
+    if vectors {
+        return ty.leaf_count() as u64;
+    }
+    if copied {
+        return 1;
+    }
+    (size + 7) / 8
 }
 
-/// How many doublewords a value has that goes directly in general registers.
-fn doublewords_of(ty: &FfiType) -> u64
-    requires { IsLaidOut (tree_of ty.now) }
-    ensures value { result ≡ doublewords (tree_of ty.now) }
-    ensures few { in_vectors (tree_of ty.now) ≡ false → is_copied (tree_of ty.now) ≡ false → result ≤ 2 }
-{
-    doublewords(ty)
+/// The type of an argument or a result, with what placing asks of it again and again.
+#[derive(Drop)]
+struct Classed<'a> {
+    ty: &'a FfiType,
+    size: u64,
+    align: u64,
+    vectors: bool,
+    copied: bool,
+    registers: u64,
+}
+
+impl<'a> Model for Classed<'a> {
+    ghost use Rattle.std.specs.Prelude.{◌≡◌, ◌≤◌};
+    ghost use Rattle.ffi3_type_rules.specs.declared.limits.TheConstants.{LARGEST_TYPE};
+    ghost use Rattle.ffi3_type_rules.specs.Tree.{Tree, tree_code};
+    ghost use Rattle.ffi3_type_rules.specs.Layout.{size_of, align_of};
+    ghost use Rattle.ffi3_types.specs.TreeOf.{tree_of};
+    ghost use Rattle.ffi3_aapcs64_rules.specs.Aapcs64.{in_vectors, is_copied, registers_needed};
+
+    ghost Value = { Tree };
+
+    ghost coded = { tree_code };
+
+    ghost view = { λ v. tree_of v.ty.now };
+
+    ghost invariant = { λ v. record {
+      sized : v.size ≡ size_of (tree_of v.ty.now);
+      small : v.size ≤ LARGEST_TYPE;
+      aligned : v.align ≡ align_of (tree_of v.ty.now);
+      by_vectors : v.vectors ≡ in_vectors (tree_of v.ty.now);
+      by_copy : v.copied ≡ is_copied (tree_of v.ty.now);
+      needed : v.registers ≡ registers_needed (tree_of v.ty.now);
+    } };
+}
+
+impl<'a> Classed<'a> {
+    /// A value of this type.
+    fn of(ty: &'a FfiType) -> Classed<'a>
+        requires { IsLaidOut (tree_of ty.now) }
+        ensures { result ≡ tree_of ty.now }
+    {
+        let extent = ty.extent();
+        let vectors = in_vectors(ty);
+        let copied = is_copied(ty, vectors, extent.size);
+        Classed {
+            ty,
+            size: extent.size,
+            align: extent.align,
+            vectors,
+            copied,
+            registers: registers_needed(ty, vectors, copied, extent.size),
+        }
+    }
+
+    /// Its type.
+    fn ty(&self) -> &FfiType
+        ensures { tree_of result.now ≡ self.now }
+    {
+        self.ty
+    }
+
+    /// Its size in bytes.
+    fn size(&self) -> u64
+        ensures value { result ≡ size_of self.now }
+        ensures small { result ≤ LARGEST_TYPE }
+    {
+        self.size
+    }
+
+    /// How many doublewords it takes. The last has what is left where the size is no multiple of 8.
+    fn doublewords(&self) -> u64
+        ensures value { result ≡ doublewords self.now }
+        ensures few { 8 * result ≤ LARGEST_TYPE + 7 }
+    {
+        (self.size + 7) / 8
+    }
+
+    /// Whether it takes SIMD and floating-point registers.
+    fn in_vectors(&self) -> bool
+        ensures { result ≡ in_vectors self.now }
+    {
+        self.vectors
+    }
+
+    /// Whether the caller copies it and passes a pointer to the copy.
+    fn is_copied(&self) -> bool
+        ensures { result ≡ is_copied self.now }
+    {
+        self.copied
+    }
+
+    /// How many registers of its kind it needs.
+    fn registers(&self) -> u64
+        ensures value { result ≡ registers_needed self.now }
+        ensures few { result ≤ 4 }
+    {
+        self.registers
+    }
+
+    /// The size of what is passed: the value, or the pointer to its copy.
+    fn passed_size(&self) -> u64
+        ensures value { result ≡ size_of (passed self.now) }
+        ensures small { result ≤ LARGEST_TYPE }
+    {
+        if self.copied { 8 } else { self.size }
+    }
+
+    /// The alignment of what is passed: the value, or the pointer to its copy.
+    fn passed_align(&self) -> u64
+        ensures value { result ≡ align_of (passed self.now) }
+        ensures small { result ≤ 16 }
+    {
+        if self.copied { 8 } else { self.align }
+    }
 }
 
 /// The registers that an argument needs: whether they are SIMD and floating-point registers, and how many. (AAPCS64 C.1, C.2, C.9, C.12)
@@ -145,55 +269,32 @@ pub fn need_of(ty: &FfiType) -> (bool, u8)
     requires { IsLaidOut (tree_of ty.now) }
     ensures { result ≡ (in_vectors (tree_of ty.now), registers_needed (tree_of ty.now)) }
 {
-    if in_vectors(ty) {
-        return (true, ty.leaf_count() as u8);
-    }
-    if is_copied(ty) {
-        return (false, 1);
-    }
-    (false, doublewords_of(ty) as u8)
-}
-
-/// The same number, which is at most 4.
-fn number_needed(ty: &FfiType) -> u64
-    requires { IsLaidOut (tree_of ty.now) }
-    ensures value { result ≡ registers_needed (tree_of ty.now) }
-    ensures few { result ≤ 4 }
-{
-    need_of(ty).1 as u64
+    let classed = Classed::of(ty);
+    (classed.in_vectors(), classed.registers() as u8)
 }
 
 /// The stack that an argument takes where it is not in registers.
-fn stack_size(ty: &FfiType) -> u64
-    requires { IsLaidOut (tree_of ty.now) }
-    ensures value { result ≡ stack_size (tree_of ty.now) }
+fn stack_size(classed: &Classed<'_>) -> u64
+    requires { IsLaidOut classed.now }
+    ensures value { result ≡ stack_size classed.now }
     ensures small { result ≤ LARGEST_TYPE + 7 }
 {
-    round_up(passed_size(ty), 8)
+    round_up(classed.passed_size(), 8)
 }
 
 // ---- where one thing begins after another
 
-/// The alignment of what is passed: the value, or the pointer to its copy.
-fn passed_align(ty: &FfiType) -> u64
-    requires { IsLaidOut (tree_of ty.now) }
-    ensures value { result ≡ align_of (passed (tree_of ty.now)) }
-    ensures small { result ≤ 16 }
-{
-    if is_copied(ty) { 8 } else { ty.align() }
-}
-
 /// The first general register of an argument, where those before it end. (AAPCS64 C.10)
-fn first_general(end: u64, ty: &FfiType) -> u64
-    requires right { IsLaidOut (tree_of ty.now) }
+fn first_general(end: u64, classed: &Classed<'_>) -> u64
+    requires right { IsLaidOut classed.now }
     requires few { end ≤ 5 * MOST_ARGUMENTS }
-    ensures value { result ≡ first_general end (passed (tree_of ty.now)) }
+    ensures value { result ≡ first_general end (passed classed.now) }
     ensures near { result ≤ end + 1 }
 {
     if end % 2 == 0 {
         return end;
     }
-    if 16 <= passed_align(ty) {
+    if 16 <= classed.passed_align() {
         round_up(end, 2)
     } else {
         end
@@ -201,114 +302,114 @@ fn first_general(end: u64, ty: &FfiType) -> u64
 }
 
 /// The first byte of an argument on the stack, where what stands before it ends. (AAPCS64 C.4, C.14)
-fn stack_start(end: u64, ty: &FfiType) -> u64
-    requires right { IsLaidOut (tree_of ty.now) }
+fn stack_start(end: u64, classed: &Classed<'_>) -> u64
+    requires right { IsLaidOut classed.now }
     requires low { end ≤ ARGUMENT_BYTES }
-    ensures value { result ≡ stack_start end (passed (tree_of ty.now)) }
+    ensures value { result ≡ stack_start end (passed classed.now) }
     ensures near { result ≤ end + LARGEST_GAP }
 {
-    round_up(end, 8_u64.max(passed_align(ty)))
+    round_up(end, 8_u64.max(classed.passed_align()))
 }
 
 // ---- what an argument takes
 
 /// The first register of an argument, by its kind.
-fn register_start(before: Taken, ty: &FfiType) -> u64
-    requires right { IsLaidOut (tree_of ty.now) }
+fn register_start(before: Taken, classed: &Classed<'_>) -> u64
+    requires right { IsLaidOut classed.now }
     requires few_general { before.general ≤ 5 * MOST_ARGUMENTS }
-    ensures value { result ≡ register_start before (tree_of ty.now) }
-    ensures vector { in_vectors (tree_of ty.now) ≡ true → result ≡ before.vector }
-    ensures general { in_vectors (tree_of ty.now) ≡ false → result ≤ before.general + 1 }
+    ensures value { result ≡ register_start before classed.now }
+    ensures vector { in_vectors classed.now ≡ true → result ≡ before.vector }
+    ensures general { in_vectors classed.now ≡ false → result ≤ before.general + 1 }
 {
-    if in_vectors(ty) {
+    if classed.in_vectors() {
         before.vector
     } else {
-        first_general(before.general, ty)
+        first_general(before.general, classed)
     }
 }
 
 /// Where the registers of an argument end. Each argument takes at most five with the gap before it.
-fn register_end(before: Taken, ty: &FfiType) -> u64
-    requires right { IsLaidOut (tree_of ty.now) }
+fn register_end(before: Taken, classed: &Classed<'_>) -> u64
+    requires right { IsLaidOut classed.now }
     requires few_general { before.general ≤ 5 * MOST_ARGUMENTS }
     requires few_vector { before.vector ≤ 5 * MOST_ARGUMENTS }
-    ensures value { result ≡ register_end before (tree_of ty.now) }
-    ensures vector { in_vectors (tree_of ty.now) ≡ true → result ≤ before.vector + 5 }
-    ensures general { in_vectors (tree_of ty.now) ≡ false → result ≤ before.general + 5 }
+    ensures value { result ≡ register_end before classed.now }
+    ensures vector { in_vectors classed.now ≡ true → result ≤ before.vector + 5 }
+    ensures general { in_vectors classed.now ≡ false → result ≤ before.general + 5 }
 {
-    register_start(before, ty) + number_needed(ty)
+    register_start(before, classed) + classed.registers()
 }
 
 /// Whether the registers that are left suffice for the whole argument.
-fn fits_registers(before: Taken, ty: &FfiType) -> bool
-    requires right { IsLaidOut (tree_of ty.now) }
+fn fits_registers(before: Taken, classed: &Classed<'_>) -> bool
+    requires right { IsLaidOut classed.now }
     requires few_general { before.general ≤ 5 * MOST_ARGUMENTS }
     requires few_vector { before.vector ≤ 5 * MOST_ARGUMENTS }
-    ensures value { result ≡ in_registers before (tree_of ty.now) }
+    ensures value { result ≡ in_registers before classed.now }
 {
-    register_end(before, ty) <= 8
+    register_end(before, classed) <= 8
 }
 
 /// The general registers that are taken after an argument.
-fn general_end(before: Taken, ty: &FfiType) -> u64
-    requires right { IsLaidOut (tree_of ty.now) }
+fn general_end(before: Taken, classed: &Classed<'_>) -> u64
+    requires right { IsLaidOut classed.now }
     requires few_general { before.general ≤ 5 * MOST_ARGUMENTS }
     requires few_vector { before.vector ≤ 5 * MOST_ARGUMENTS }
-    ensures value { result ≡ (taken_with before (tree_of ty.now)).general }
+    ensures value { result ≡ (taken_with before classed.now).general }
     ensures few { result ≤ before.general + 5 }
 {
-    if in_vectors(ty) {
+    if classed.in_vectors() {
         before.general
     } else {
-        register_end(before, ty)
+        register_end(before, classed)
     }
 }
 
 /// The SIMD and floating-point registers that are taken after an argument.
-fn vector_end(before: Taken, ty: &FfiType) -> u64
-    requires right { IsLaidOut (tree_of ty.now) }
+fn vector_end(before: Taken, classed: &Classed<'_>) -> u64
+    requires right { IsLaidOut classed.now }
     requires few_general { before.general ≤ 5 * MOST_ARGUMENTS }
     requires few_vector { before.vector ≤ 5 * MOST_ARGUMENTS }
-    ensures value { result ≡ (taken_with before (tree_of ty.now)).vector }
+    ensures value { result ≡ (taken_with before classed.now).vector }
     ensures few { result ≤ before.vector + 5 }
 {
-    if in_vectors(ty) {
-        register_end(before, ty)
+    if classed.in_vectors() {
+        register_end(before, classed)
     } else {
         before.vector
     }
 }
 
 /// The bytes of stack that are taken after an argument.
-fn stack_end(before: Taken, ty: &FfiType) -> u64
-    requires right { IsLaidOut (tree_of ty.now) }
+fn stack_end(before: Taken, classed: &Classed<'_>) -> u64
+    requires right { IsLaidOut classed.now }
     requires few_general { before.general ≤ 5 * MOST_ARGUMENTS }
     requires few_vector { before.vector ≤ 5 * MOST_ARGUMENTS }
     requires low { before.stack ≤ ARGUMENT_BYTES }
-    ensures value { result ≡ (taken_with before (tree_of ty.now)).stack }
+    ensures value { result ≡ (taken_with before classed.now).stack }
     ensures low { result ≤ before.stack + ARGUMENT_SPAN }
 {
-    if fits_registers(before, ty) {
+    if fits_registers(before, classed) {
         before.stack
     } else {
-        stack_start(before.stack, ty) + stack_size(ty)
+        stack_start(before.stack, classed) + stack_size(classed)
     }
 }
 
-fn with_argument(before: Taken, ty: &FfiType) -> Taken
-    requires right { IsLaidOut (tree_of ty.now) }
+fn with_argument(before: Taken, classed: &Classed<'_>) -> Taken
+    requires right { IsLaidOut classed.now }
     requires few_general { before.general ≤ 5 * MOST_ARGUMENTS }
     requires few_vector { before.vector ≤ 5 * MOST_ARGUMENTS }
     requires low { before.stack ≤ ARGUMENT_BYTES }
-    ensures value { result ≡ taken_with before (tree_of ty.now) }
+    ensures value { result ≡ taken_with before classed.now }
     ensures few_general { result.general ≤ before.general + 5 }
     ensures few_vector { result.vector ≤ before.vector + 5 }
     ensures low { result.stack ≤ before.stack + ARGUMENT_SPAN }
 {
     Taken {
-        general: general_end(before, ty),
-        vector: vector_end(before, ty),
-        stack: stack_end(before, ty),
+        general: general_end(before, classed),
+        vector: vector_end(before, classed),
+        stack: stack_end(before, classed),
     }
 }
 
@@ -326,7 +427,7 @@ fn taken_by_all(sig: &Sig) -> Taken
 {
     let mut before = UNTOUCHED;
     for i in 0..count_of(sig) {
-        before = with_argument(before, argument(sig, i));
+        before = with_argument(before, &Classed::of(argument(sig, i)));
     }
     before
 }
@@ -334,26 +435,27 @@ fn taken_by_all(sig: &Sig) -> Taken
 // ---- pieces
 
 /// A value's doublewords in general registers, from number `general` on.
-fn pieces_in_general(alloc: Global, ty: &FfiType, general: u64) -> Result<Pieces, NoMemory>
-    requires right { IsLaidOut (tree_of ty.now) }
-    requires enough { general + doublewords (tree_of ty.now) ≤ 8 }
-    ensures { IfOk result (λ p. p ≡ general_pieces general (tree_of ty.now)) }
+fn pieces_in_general(alloc: Global, classed: &Classed<'_>, general: u64) -> Result<Pieces, NoMemory>
+    requires right { IsLaidOut classed.now }
+    requires enough { general + doublewords classed.now ≤ 8 }
+    ensures { IfOk result (λ p. p ≡ general_pieces general classed.now) }
 {
-    let ext = widening(ty);
-    let size = size_of(ty);
+    let ext = widening(classed.ty());
+    let size = classed.size();
     let mut pieces = Pieces::new(alloc);
-    for j in 0..doublewords(ty) {
+    for j in 0..classed.doublewords() {
         pieces.push(doubleword(size, j, Loc::G((general + j) as u8), ext))?;
     }
     Ok(pieces)
 }
 
 /// A value's leaves in vector registers, from number `vector` on.
-fn pieces_in_vectors(alloc: Global, ty: &FfiType, vector: u64) -> Result<Pieces, NoMemory>
-    requires right { IsLaidOut (tree_of ty.now) }
-    requires enough { vector + length (leaves_of (tree_of ty.now)) ≤ 8 }
-    ensures { IfOk result (λ p. p ≡ member_pieces vector (leaves_of (tree_of ty.now))) }
+fn pieces_in_vectors(alloc: Global, classed: &Classed<'_>, vector: u64) -> Result<Pieces, NoMemory>
+    requires right { IsLaidOut classed.now }
+    requires enough { vector + length (leaves_of classed.now) ≤ 8 }
+    ensures { IfOk result (λ p. p ≡ member_pieces vector (leaves_of classed.now)) }
 {
+    let ty = classed.ty();
     let mut pieces = Pieces::new(alloc);
     for i in 0..ty.leaf_count() {
         pieces.push(leaf_piece(ty, i, Loc::F((vector + i as u64) as u8), Ext::Free))?;
@@ -362,70 +464,75 @@ fn pieces_in_vectors(alloc: Global, ty: &FfiType, vector: u64) -> Result<Pieces,
 }
 
 /// A value in registers of its kind, from number `first` on.
-fn pieces_in_registers(alloc: Global, ty: &FfiType, first: u64) -> Result<Pieces, NoMemory>
-    requires right { IsLaidOut (tree_of ty.now) }
-    requires enough_vector { in_vectors (tree_of ty.now) ≡ true → first + length (leaves_of (tree_of ty.now)) ≤ 8 }
-    requires enough_general { in_vectors (tree_of ty.now) ≡ false → first + doublewords (tree_of ty.now) ≤ 8 }
-    ensures { IfOk result (λ p. p ≡ register_pieces first (tree_of ty.now)) }
+fn pieces_in_registers(alloc: Global, classed: &Classed<'_>, first: u64) -> Result<Pieces, NoMemory>
+    requires right { IsLaidOut classed.now }
+    requires enough_vector { in_vectors classed.now ≡ true → first + length (leaves_of classed.now) ≤ 8 }
+    requires enough_general { in_vectors classed.now ≡ false → first + doublewords classed.now ≤ 8 }
+    ensures { IfOk result (λ p. p ≡ register_pieces first classed.now) }
 {
-    if in_vectors(ty) {
-        pieces_in_vectors(alloc, ty, first)
+    if classed.in_vectors() {
+        pieces_in_vectors(alloc, classed, first)
     } else {
-        pieces_in_general(alloc, ty, first)
+        pieces_in_general(alloc, classed, first)
     }
 }
 
 // ---- arguments
 
 /// An argument that is not copied.
-fn direct_pieces(alloc: Global, before: Taken, ty: &FfiType) -> Result<Pieces, NoMemory>
-    requires right { IsLaidOut (tree_of ty.now) }
-    requires direct { is_copied (tree_of ty.now) ≡ false }
+fn direct_pieces(alloc: Global, before: Taken, classed: &Classed<'_>) -> Result<Pieces, NoMemory>
+    requires right { IsLaidOut classed.now }
+    requires direct { is_copied classed.now ≡ false }
     requires few_general { before.general ≤ 5 * MOST_ARGUMENTS }
     requires few_vector { before.vector ≤ 5 * MOST_ARGUMENTS }
     requires low { before.stack ≤ ARGUMENT_BYTES }
-    ensures { IfOk result (λ p. p ≡ cond (in_registers before (tree_of ty.now)) (register_pieces (register_start before (tree_of ty.now)) (tree_of ty.now)) (stack_pieces (stack_start before.stack (passed (tree_of ty.now))) (tree_of ty.now))) }
+    ensures { IfOk result (λ p. p ≡ cond (in_registers before classed.now) (register_pieces (register_start before classed.now) classed.now) (stack_pieces (stack_start before.stack (passed classed.now)) classed.now)) }
 {
-    if fits_registers(before, ty) {
-        pieces_in_registers(alloc, ty, register_start(before, ty))
+    if fits_registers(before, classed) {
+        pieces_in_registers(alloc, classed, register_start(before, classed))
     } else {
-        pieces_on_stack(alloc, ty, stack_start(before.stack, ty))
+        pieces_on_stack(alloc, classed.ty(), stack_start(before.stack, classed))
     }
 }
 
 /// Where the pointer to an argument's copy stands.
-fn pointer_place(before: Taken, ty: &FfiType) -> Loc
-    requires right { IsLaidOut (tree_of ty.now) }
-    requires copied { is_copied (tree_of ty.now) ≡ true }
+fn pointer_place(before: Taken, classed: &Classed<'_>) -> Loc
+    requires right { IsLaidOut classed.now }
+    requires copied { is_copied classed.now ≡ true }
     requires few_general { before.general ≤ 5 * MOST_ARGUMENTS }
     requires few_vector { before.vector ≤ 5 * MOST_ARGUMENTS }
     requires low { before.stack ≤ ARGUMENT_BYTES }
-    ensures { result ≡ cond (in_registers before (tree_of ty.now)) (G (register_start before (tree_of ty.now))) (S (stack_start before.stack (passed (tree_of ty.now)))) }
+    ensures { result ≡ cond (in_registers before classed.now) (G (register_start before classed.now)) (S (stack_start before.stack (passed classed.now))) }
 {
-    if fits_registers(before, ty) {
-        Loc::G(register_start(before, ty) as u8)
+    if fits_registers(before, classed) {
+        Loc::G(register_start(before, classed) as u8)
     } else {
-        Loc::S(stack_start(before.stack, ty) as u32)
+        Loc::S(stack_start(before.stack, classed) as u32)
     }
 }
 
 /// Where an argument stands, if what is before its copy ends at `end`.
-fn place_of(alloc: Global, before: Taken, ty: &FfiType, end: u64) -> Result<Place, NoMemory>
-    requires right { IsLaidOut (tree_of ty.now) }
+fn place_of(
+    alloc: Global,
+    before: Taken,
+    classed: &Classed<'_>,
+    end: u64,
+) -> Result<Place, NoMemory>
+    requires right { IsLaidOut classed.now }
     requires few_general { before.general ≤ 5 * MOST_ARGUMENTS }
     requires few_vector { before.vector ≤ 5 * MOST_ARGUMENTS }
     requires low { before.stack ≤ ARGUMENT_BYTES }
     requires low_copy { end ≤ 4 * ARGUMENT_BYTES }
-    ensures { IfOk result (λ p. p ≡ place_at aapcs64.copy_start end (tree_of ty.now) (spot_after before (tree_of ty.now))) }
+    ensures { IfOk result (λ p. p ≡ place_at aapcs64.copy_start end classed.now (spot_after before classed.now)) }
 {
-    if is_copied(ty) {
-        let copy = start(ty, end);
+    if classed.is_copied() {
+        let copy = start(classed.ty(), end);
         return Ok(Place::ByRef {
-            at: pointer_place(before, ty),
+            at: pointer_place(before, classed),
             copy: copy as u32,
         });
     }
-    Ok(Place::Direct(direct_pieces(alloc, before, ty)?))
+    Ok(Place::Direct(direct_pieces(alloc, before, classed)?))
 }
 
 /// The places of all arguments, and where their copies end.
@@ -448,10 +555,11 @@ fn place_all(alloc: Global, sig: &Sig, start: u64) -> Result<Placed, NoMemory>
     let mut places = Places::new(alloc);
     for i in 0..count_of(sig) {
         let ty = argument(sig, i);
-        let place = place_of(alloc, before, ty, end)?;
+        let classed = Classed::of(ty);
+        let place = place_of(alloc, before, &classed, end)?;
         end = copy_end(&place, ty, end);
         places.push(place)?;
-        before = with_argument(before, ty);
+        before = with_argument(before, &classed);
     }
     Ok(Placed { places, end })
 }
@@ -467,14 +575,15 @@ fn place_result(alloc: Global, ty: &FfiType, end: u64) -> Result<Res, NoMemory>
     if let FfiType::Void = ty {
         return Ok(Res::Nothing);
     }
-    if is_copied(ty) {
+    let classed = Classed::of(ty);
+    if classed.is_copied() {
         // x8 holds the buffer's address
         return Ok(Res::Hidden {
             at: Loc::G(8),
             buffer: start(ty, end) as u32,
         });
     }
-    Ok(Res::Direct(pieces_in_registers(alloc, ty, 0)?))
+    Ok(Res::Direct(pieces_in_registers(alloc, &classed, 0)?))
 }
 
 // ---- the standard

@@ -1,7 +1,6 @@
 use Rattle.std.proofs.Common.{◌≡◌, ℕ, ◌%◌, Bool, true, false, cond, nat_le, arith, refl, sym}
 use Rattle.ffi3_type_rules.specs.Layout.{align_of, least_multiple}
 use Rattle.ffi3_type_rules.proofs.LeastMultiples.{is_least_multiple}
-use Rattle.ffi3_types.specs.TreeOf.{tree_of}
 use Rattle.ffi3_aapcs64_rules.specs.Aapcs64.{passed}
 use Rattle.ffi3_aapcs64.proofs.first_general.Goals as goal
 
@@ -14,4 +13,4 @@ even_stays false end h = refl
 
 pub returns-then-end-eq0-clause-value : goal.returns-then-end-eq0-clause-value
 returns-then-end-eq0-clause-value c =
-    sym (even_stays (nat_le 16 (align_of (passed (tree_of c.args.ty.now)))) c.args.end c.if-end-eq0.true)
+    sym (even_stays (nat_le 16 (align_of (passed c.args.classed.now))) c.args.end c.if-end-eq0.true)

@@ -11,14 +11,15 @@ loop-i-preserved c =
     let t = tree_of c.argument-ty.result.now in
     let a = c.loop-i.before in
     let spot = spot_after a t in
-    let taken = c.with_argument-before.ensures.value in
+    let taken = rw c.of-classed.ensures at c.with_argument-before.ensures.value in
     let inside = subst (λ n. c.loop-i.i < n) c.count_of-i-end.ensures.value c.loop-i-test.true in
-    let ends = c.copy_end-end.ensures.value aapcs64.copy_start spot c.in_ok-place.ensures in
+    let placed = rw c.of-classed.ensures at c.in_ok-place.ensures in
+    let ends = c.copy_end-end.ensures.value aapcs64.copy_start spot placed in
     record {
       few_general = omega (arith, c.with_argument-before.ensures.few_general, c.loop-i.invariant.few_general);
       few_vector = omega (arith, c.with_argument-before.ensures.few_vector, c.loop-i.invariant.few_vector);
       low = omega (arith, c.with_argument-before.ensures.low, c.loop-i.invariant.low);
-      low_copy = omega (arith, c.loop-i.invariant.low_copy, c.copy_end-end.ensures.low aapcs64.copy_start spot c.in_ok-place.ensures (start-near c.loop-i.end t));
+      low_copy = omega (arith, c.loop-i.invariant.low_copy, c.copy_end-end.ensures.low aapcs64.copy_start spot placed (start-near c.loop-i.end t));
       copies = copies_turn s.arguments c.loop-i.i t a _ c.loop-i.end _ inside c.argument-ty.ensures.element taken ends _ c.loop-i.invariant.copies;
-      done = places_turn s.arguments c.loop-i.i t a _ c.loop-i.end _ inside c.argument-ty.ensures.element taken ends c.loop-i.places _ _ _ c.in_ok-place.ensures c.in_ok-push.ensures.ok c.loop-i.invariant.done;
+      done = places_turn s.arguments c.loop-i.i t a _ c.loop-i.end _ inside c.argument-ty.ensures.element taken ends c.loop-i.places _ _ _ placed c.in_ok-push.ensures.ok c.loop-i.invariant.done;
     }

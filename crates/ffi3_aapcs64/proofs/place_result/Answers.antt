@@ -6,7 +6,7 @@ use Rattle.ffi3_types.specs.TreeOf.{tree_of}
 use Rattle.ffi3_place_rules.specs.declared.Loc.TheVariants.{G}
 use Rattle.ffi3_place_rules.specs.declared.Res.TheVariants.{Direct, Hidden}
 use Rattle.ffi3_place_rules.specs.Standard.{result_at}
-use Rattle.ffi3_aapcs64_rules.specs.Aapcs64.{aapcs64}
+use Rattle.ffi3_aapcs64_rules.specs.Aapcs64.{aapcs64, is_copied, register_pieces}
 use Rattle.ffi3_aapcs64_rules.proofs.Steps.{spot_of_copied, spot_of_registers}
 use Rattle.ffi3_aapcs64.proofs.place_result.Goals as goal
 
@@ -17,10 +17,10 @@ not_void _ some e = cc
 pub returns-then-is_copied : goal.returns-then-is_copied
 returns-then-is_copied c =
     let t = tree_of c.args.ty.now in
-    ap (Hidden (G 8)) c.start.ensures.value ∙ ap (λ spot. result_at aapcs64.copy_start c.args.end t spot) (sym (spot_of_copied t (sym c.is_copied.ensures ∙ c.if-is_copied.true)))
+    ap (Hidden (G 8)) c.start.ensures.value ∙ ap (λ spot. result_at aapcs64.copy_start c.args.end t spot) (sym (spot_of_copied t (ap is_copied (sym c.of-classed.ensures) ∙ sym c.is_copied.ensures ∙ c.if-is_copied.true)))
 
 pub returns : goal.returns
 returns c =
     let t = tree_of c.args.ty.now in
     let some = not_void c.args.ty.now c.in_default.not-Void in
-    ap Direct c.in_ok-pieces_in_registers.ensures ∙ ap (λ spot. result_at aapcs64.copy_start c.args.end t spot) (sym (spot_of_registers t some (sym c.is_copied.ensures ∙ c.if-is_copied.false)))
+    ap Direct (c.in_ok-pieces_in_registers.ensures ∙ ap (register_pieces 0) c.of-classed.ensures) ∙ ap (λ spot. result_at aapcs64.copy_start c.args.end t spot) (sym (spot_of_registers t some (ap is_copied (sym c.of-classed.ensures) ∙ sym c.is_copied.ensures ∙ c.if-is_copied.false)))
