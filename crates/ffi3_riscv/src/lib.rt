@@ -1,9 +1,9 @@
 //! The RISC-V calling standard with LP64D.
 #![tactic(auto)]
 
-ghost use Rattle.std.specs.Prelude.{◌≡◌, ◌<◌, ◌≤◌, ◌+◌, ◌*◌, ◌/◌, ◌^◌, length, IfOk, [], ◌∷◌, true, false, cond};
+ghost use Rattle.std.specs.Prelude.{◌≡◌, ◌<◌, ◌≤◌, ◌+◌, ◌*◌, ◌/◌, ◌^◌, length, IfOk, [], ◌∷◌, true, false, cond, nat_le};
 ghost use Rattle.ffi3_type_rules.specs.declared.limits.TheConstants.{ARGUMENT_BYTES, MOST_ARGUMENTS};
-ghost use Rattle.ffi3_type_rules.specs.Tree.{Scalar, scalar};
+ghost use Rattle.ffi3_type_rules.specs.Tree.{Scalar, scalar, Tree};
 ghost use Rattle.ffi3_type_rules.specs.Layout.{size_of, leaves_of, leaf_at};
 ghost use Rattle.ffi3_type_rules.specs.Integer.{is_floating};
 ghost use Rattle.ffi3_type_rules.specs.Fault.{IsLaidOut};
@@ -11,15 +11,17 @@ ghost use Rattle.ffi3_type_rules.specs.Signature.{SignatureHasNoFault};
 ghost use Rattle.ffi3_types.specs.TreeOf.{tree_of};
 ghost use Rattle.ffi3_place_rules.specs.Standard.{place_at, copy_end, places_from, copies_end, result_at, buffer_end, round8};
 ghost use Rattle.ffi3_place_rules.specs.Doublewords.{doublewords};
-ghost use Rattle.ffi3_riscv_rules.specs.Riscv.{riscv, is_word_integer, integer_shape, shape_of, words_of, floats_of, registers_suffice, passed_as, word, extension, boxing, floating_piece, integer_piece, word_pieces, spot_of, is_fixed, is_at_even_word, first_word, used_at_start, used_with, used_at_first, used_by_all, spots_after, result_shape, result_spot_of, is_by_reference, stack_of, unused};
+ghost use Rattle.ffi3_riscv_rules.specs.Riscv.{riscv, is_word_integer, shape_of_two, shape_of_leaves, shape_of, words_of, floats_of, registers_suffice, passed_as, word, extension, boxing, floating_piece, integer_piece, word_pieces, spot_of, is_fixed, is_at_even_word, first_word, used_at_start, used_with, used_at_first, used_by_all, spots_after, result_shape, result_spot_of, is_by_reference, stack_of, unused};
+ghost use Rattle.ffi3_riscv_rules.specs.declared.Shape.{Shape};
+ghost use Rattle.ffi3_riscv_rules.specs.declared.Shape.TheVariants.{OneF, Words, ByRef};
 ghost use Rattle.ffi3_riscv_rules.proofs.Shapes.{Suits, HasRoom};
+ghost use Rattle.ffi3_riscv.specs.Found.{IsFound};
 
 pub mod laws;
 
 use ffi3_place::ends::{buffer_end, copy_end, planned, start};
 use ffi3_place::parts::{
-    argument, count_of, doubleword, doublewords, filling, is_floating, leaf_piece, result_type,
-    size_of,
+    argument, count_of, doubleword, filling, is_floating, leaf_piece, result_type, size_of,
 };
 use ffi3_place::{Abi, Ext, Loc, Piece, Pieces, Place, Places, Plan, Res, SaveWord};
 pub use ffi3_riscv_rules::Shape;
@@ -44,63 +46,105 @@ fn integer(kind: &FfiType) -> bool
     }
 }
 
-/// Whether leaf `i` is a float or a double.
-fn is_floating_leaf(ty: &FfiType, i: u32) -> bool
-    requires right { IsLaidOut (tree_of ty.now) }
-    requires in_range { i < length (leaves_of (tree_of ty.now)) }
-    ensures { result ≡ is_floating (leaf_at (tree_of ty.now) i).kind }
+/// How a value of so many bytes is passed by the integer convention: in at most two words, or by reference.
+fn shape_of_size(size: u64) -> Shape
+    ensures value { result ≡ cond {A = Shape} (nat_le size 16) (Words ((size + 7) / 8)) ByRef }
+    ensures small { words_of result ≤ 2 }
+    ensures no_float { floats_of result ≡ 0 }
 {
-    let leaf = ty.leaf(i);
-    is_floating(&leaf.kind)
-}
-
-/// Whether leaf `i` is such an integer.
-fn is_integer_leaf(ty: &FfiType, i: u32) -> bool
-    requires right { IsLaidOut (tree_of ty.now) }
-    requires in_range { i < length (leaves_of (tree_of ty.now)) }
-    ensures { result ≡ is_word_integer (leaf_at (tree_of ty.now) i).kind }
-{
-    let leaf = ty.leaf(i);
-    integer(&leaf.kind)
-}
-
-/// How a value is passed by the integer convention: in at most two words, or by reference.
-fn integer_shape(ty: &FfiType) -> Shape
-    requires { IsLaidOut (tree_of ty.now) }
-    ensures { result ≡ integer_shape (tree_of ty.now) }
-{
-    if size_of(ty) <= 16 {
-        Shape::Words(doublewords(ty))
+    if size <= 16 {
+        Shape::Words((size + 7) / 8)
     } else {
         Shape::ByRef
     }
 }
 
-fn shape_of_one(ty: &FfiType) -> Shape
-    requires right { IsLaidOut (tree_of ty.now) }
-    requires one { length (leaves_of (tree_of ty.now)) ≡ 1 }
-    ensures { result ≡ shape_of (tree_of ty.now) }
+/// How a value with one leaf is passed, if `otherwise` is how it is by the integer convention.
+fn shape_of_one(leaf: &FfiType, otherwise: Shape) -> Shape
+    requires { words_of otherwise ≤ 2 }
+    ensures value { (s : Scalar) → tree_of leaf.now ≡ scalar s → result ≡ cond {A = Shape} (is_floating s) OneF otherwise }
+    ensures small { words_of result ≤ 2 }
 {
-    if is_floating_leaf(ty, 0) {
+    if is_floating(leaf) {
         Shape::OneF
     } else {
-        integer_shape(ty)
+        otherwise
     }
 }
 
-fn shape_of_two(ty: &FfiType) -> Shape
-    requires right { IsLaidOut (tree_of ty.now) }
-    requires two { length (leaves_of (tree_of ty.now)) ≡ 2 }
-    ensures { result ≡ shape_of (tree_of ty.now) }
+/// How one with two leaves is.
+fn shape_of_two(first: &FfiType, second: &FfiType, otherwise: Shape) -> Shape
+    requires { words_of otherwise ≤ 2 }
+    ensures value { (s u : Scalar) → tree_of first.now ≡ scalar s → tree_of second.now ≡ scalar u → result ≡ shape_of_two otherwise s u }
+    ensures small { words_of result ≤ 2 }
 {
-    if is_floating_leaf(ty, 0) && is_floating_leaf(ty, 1) {
+    let first_floats = is_floating(first);
+    let second_floats = is_floating(second);
+    if first_floats && second_floats {
         Shape::TwoF
-    } else if is_floating_leaf(ty, 0) && is_integer_leaf(ty, 1) {
+    } else if first_floats && integer(second) {
         Shape::FI
-    } else if is_integer_leaf(ty, 0) && is_floating_leaf(ty, 1) {
+    } else if integer(first) && second_floats {
         Shape::IF
     } else {
-        integer_shape(ty)
+        otherwise
+    }
+}
+
+/// The same of a struct or an array, by its leaves.
+fn shape_of_leaves(ty: &FfiType, otherwise: Shape) -> Shape
+    requires right { IsLaidOut (tree_of ty.now) }
+    requires small { words_of otherwise ≤ 2 }
+    ensures value { result ≡ shape_of_leaves otherwise (leaves_of (tree_of ty.now)) }
+    ensures small { words_of result ≤ 2 }
+{
+    let count = ty.leaf_count();
+    if count == 1 {
+        let leaf = ty.leaf(0);
+        shape_of_one(&leaf.kind, otherwise)
+    } else if count == 2 {
+        let first = ty.leaf(0);
+        let second = ty.leaf(1);
+        shape_of_two(&first.kind, &second.kind, otherwise)
+    } else {
+        otherwise
+    }
+}
+
+/// What the standard asks of a type, found once for all that needs it.
+#[derive(Clone, Copy)]
+struct Found {
+    /// How a fixed argument or a result is passed where enough registers are free.
+    shape: Shape,
+    /// How a value is passed by the integer convention.
+    otherwise: Shape,
+    size: u64,
+    align: u64,
+}
+
+/// A scalar is its own only leaf.
+fn found_of(ty: &FfiType) -> Found
+    requires { IsLaidOut (tree_of ty.now) }
+    ensures is { IsFound (tree_of ty.now) result }
+    ensures small { words_of result.shape ≤ 2 }
+    ensures otherwise_small { words_of result.otherwise ≤ 2 }
+    ensures otherwise_no_float { floats_of result.otherwise ≡ 0 }
+{
+    let size = size_of(ty);
+    let otherwise = shape_of_size(size);
+    let shape = match ty {
+        FfiType::Float | FfiType::Double => Shape::OneF,
+        FfiType::Struct(_) | FfiType::Array(_, _) => shape_of_leaves(ty, otherwise),
+        FfiType::U8 | FfiType::S8 | FfiType::U16 | FfiType::S16 => otherwise,
+        FfiType::U32 | FfiType::S32 | FfiType::U64 | FfiType::S64 => otherwise,
+        FfiType::U128 | FfiType::S128 | FfiType::Pointer => otherwise,
+        FfiType::Void | FfiType::LongDouble | FfiType::Complex | FfiType::Vector => otherwise,
+    };
+    Found {
+        shape,
+        otherwise,
+        size,
+        align: ty.align(),
     }
 }
 
@@ -109,14 +153,7 @@ pub fn shape_of(ty: &FfiType) -> Shape
     requires { IsLaidOut (tree_of ty.now) }
     ensures { result ≡ shape_of (tree_of ty.now) }
 {
-    let count = ty.leaf_count();
-    if count == 1 {
-        shape_of_one(ty)
-    } else if count == 2 {
-        shape_of_two(ty)
-    } else {
-        integer_shape(ty)
-    }
+    found_of(ty).shape
 }
 
 /// How many integer words a value takes.
@@ -165,38 +202,37 @@ fn registers_suffice(before: Used, shape: Shape) -> bool
 }
 
 /// How an argument is passed, by what is used where it begins.
-fn passed_as(before: Used, fixed: bool, ty: &FfiType) -> Shape
-    requires right { IsLaidOut (tree_of ty.now) }
+fn passed_as(before: Used, fixed: bool, found: Found) -> Shape
     requires few { before.floats ≤ 8 }
     requires low { before.words ≤ 16 * MOST_ARGUMENTS }
-    ensures value { result ≡ passed_as before fixed (tree_of ty.now) }
+    requires small { words_of found.shape ≤ 2 }
+    requires otherwise_small { words_of found.otherwise ≤ 2 }
+    requires otherwise_no_float { floats_of found.otherwise ≡ 0 }
+    ensures value { (t : Tree) → IsFound t found → result ≡ passed_as before fixed t }
     ensures small { words_of result ≤ 2 }
     ensures room { before.floats + floats_of result ≤ 8 }
 {
-    let shape = shape_of(ty);
-    if fixed && registers_suffice(before, shape) {
-        shape
+    if fixed && registers_suffice(before, found.shape) {
+        found.shape
     } else {
-        integer_shape(ty)
+        found.otherwise
     }
 }
 
 /// Whether an argument begins at an even word, behind words that end at `end`.
-fn is_at_even_word(fixed: bool, ty: &FfiType, end: u64) -> bool
-    requires { IsLaidOut (tree_of ty.now) }
-    ensures { result ≡ is_at_even_word fixed (tree_of ty.now) end }
+fn is_at_even_word(fixed: bool, found: Found, end: u64) -> bool
+    ensures { (t : Tree) → IsFound t found → result ≡ is_at_even_word fixed t end }
 {
-    16 <= ty.align() && size_of(ty) <= 16 && (!fixed || 8 <= end)
+    16 <= found.align && found.size <= 16 && (!fixed || 8 <= end)
 }
 
 /// Where an argument's words begin, behind words that end at `end`.
-fn first_word(fixed: bool, ty: &FfiType, end: u64) -> u64
-    requires right { IsLaidOut (tree_of ty.now) }
-    requires low { end ≤ 16 * MOST_ARGUMENTS }
-    ensures value { result ≡ first_word fixed (tree_of ty.now) end }
+fn first_word(fixed: bool, found: Found, end: u64) -> u64
+    requires { end ≤ 16 * MOST_ARGUMENTS }
+    ensures value { (t : Tree) → IsFound t found → result ≡ first_word fixed t end }
     ensures near { result ≤ end + 1 }
 {
-    if is_at_even_word(fixed, ty, end) {
+    if is_at_even_word(fixed, found, end) {
         round_up(end, 2)
     } else {
         end
@@ -204,15 +240,14 @@ fn first_word(fixed: bool, ty: &FfiType, end: u64) -> u64
 }
 
 /// What is used where an argument begins, behind others.
-fn at_start(end: Used, fixed: bool, ty: &FfiType) -> Used
-    requires right { IsLaidOut (tree_of ty.now) }
-    requires low { end.words ≤ 16 * MOST_ARGUMENTS }
-    ensures value { result ≡ used_at_start end fixed (tree_of ty.now) }
+fn at_start(end: Used, fixed: bool, found: Found) -> Used
+    requires { end.words ≤ 16 * MOST_ARGUMENTS }
+    ensures value { (t : Tree) → IsFound t found → result ≡ used_at_start end fixed t }
     ensures near { result.words ≤ end.words + 1 }
     ensures same { result.floats ≡ end.floats }
 {
     Used {
-        words: first_word(fixed, ty, end.words),
+        words: first_word(fixed, found, end.words),
         floats: end.floats,
     }
 }
@@ -381,7 +416,7 @@ fn result_shape(ty: &FfiType) -> Shape
     requires { IsLaidOut (tree_of ty.now) }
     ensures { result ≡ result_shape (tree_of ty.now) }
 {
-    passed_as(UNUSED, true, ty)
+    passed_as(UNUSED, true, found_of(ty))
 }
 
 /// The hidden pointer to a result's buffer takes the first word.
@@ -411,8 +446,9 @@ fn used_by_all(sig: &Sig) -> Used
     for i in 0..count_of(sig) {
         let ty = argument(sig, i);
         let fixed = is_fixed(sig, i);
-        let before = at_start(end, fixed, ty);
-        let shape = passed_as(before, fixed, ty);
+        let found = found_of(ty);
+        let before = at_start(end, fixed, found);
+        let shape = passed_as(before, fixed, found);
         end = used_with(before, shape);
     }
     end
@@ -451,8 +487,9 @@ fn place_all(alloc: Global, sig: &Sig, start: u64) -> Result<Placed, NoMemory>
     for i in 0..count_of(sig) {
         let ty = argument(sig, i);
         let fixed = is_fixed(sig, i);
-        let before = at_start(end, fixed, ty);
-        let shape = passed_as(before, fixed, ty);
+        let found = found_of(ty);
+        let before = at_start(end, fixed, found);
+        let shape = passed_as(before, fixed, found);
         let place = place_of(alloc, before, ty, shape, copy)?;
         copy = copy_end(&place, ty, copy);
         places.push(place)?;

@@ -9,5 +9,5 @@ loop-i-preserved c =
     record {
       few = omega (arith, ap (λ u. u.floats) next, c.passed_as-shape.ensures.room);
       low = omega (arith, ap (λ u. u.words) next, c.passed_as-shape.ensures.small, c.at_start-before.ensures.near, c.loop-i.invariant.low);
-      done = used_turn c.args.sig.now.fixed c.loop-i.end c.at_start-before.result c.used_with-end.result c.loop-i.i c.args.sig.now.arguments (tree_of c.argument-ty.result.now) c.is_fixed-fixed.result c.passed_as-shape.result (subst (λ n. c.loop-i.i < n) c.count_of-i-end.ensures.value c.loop-i-test.true) c.argument-ty.ensures.element c.is_fixed-fixed.ensures c.at_start-before.ensures.value c.passed_as-shape.ensures.value next _ c.loop-i.invariant.done;
+      done = used_turn c.args.sig.now.fixed c.loop-i.end c.at_start-before.result c.used_with-end.result c.loop-i.i c.args.sig.now.arguments (tree_of c.argument-ty.result.now) c.is_fixed-fixed.result c.passed_as-shape.result (subst (λ n. c.loop-i.i < n) c.count_of-i-end.ensures.value c.loop-i-test.true) c.argument-ty.ensures.element c.is_fixed-fixed.ensures (c.at_start-before.ensures.value (tree_of c.argument-ty.result.now) c.found_of-found.ensures.is) (c.passed_as-shape.ensures.value (tree_of c.argument-ty.result.now) c.found_of-found.ensures.is) next _ c.loop-i.invariant.done;
     }
