@@ -1,5 +1,5 @@
 // The object that describes an image.
-ghost use Rattle.std.specs.Prelude.{◌≡◌, IfOk, IfErr, codes};
+ghost use Rattle.std.specs.Prelude.{◌≡◌, IfOk, IfErr, map, codes};
 ghost use Rattle.ffi3_type_rules.specs.Signature.{SignatureHasNoFault};
 ghost use Rattle.ffi3_script_rules.specs.Language as language;
 ghost use Rattle.ffi3_script_rules.specs.Language.{value_under, under};
@@ -14,9 +14,11 @@ use crate::ImageFault;
 use crate::fault::{bad_as_in_scripts, of_script};
 use crate::parts::{read_bytes, read_registers, read_target, read_word, text_under};
 use ffi3_explain::Image;
-use ffi3_json::{Key, Keys, Node, Reason, Way, Where, check_object_at, parse, read_signature_at};
+use ffi3_json::{
+    Key, Node, Reason, Way, Where, check_object_at, parse, read_signature_at, required,
+};
 use ffi3_type_rules::Target;
-use ffi3_types::{NoMemory, Sig};
+use ffi3_types::Sig;
 use std::alloc::Global;
 
 /// Registers and stack of a machine at an entry, its target, and the signature of what is called.
@@ -28,27 +30,17 @@ pub struct Snapshot {
 }
 
 // The keys of the object.
-fn snapshot_keys(alloc: Global) -> Result<Keys, NoMemory>
-    ensures { IfOk result (λ keys. keys ≡ snapshot_keys) }
+fn snapshot_keys() -> [Key<'static>; 6]
+    ensures { map key_of result ≡ snapshot_keys }
 {
-    let mut keys = Keys::new(alloc);
-    keys.push(required(alloc, "target")?)?;
-    keys.push(required(alloc, "sig")?)?;
-    keys.push(required(alloc, "sp")?)?;
-    keys.push(required(alloc, "general")?)?;
-    keys.push(required(alloc, "floating")?)?;
-    keys.push(required(alloc, "stack")?)?;
-    Ok(keys)
-}
-
-// A key that must be there.
-fn required(alloc: Global, name: &str) -> Result<Key, NoMemory>
-    ensures { IfOk result (λ k. key_of k ≡ language.required name.now) }
-{
-    Ok(Key {
-        name: String::from_str(alloc, name)?,
-        optional: false,
-    })
+    [
+        required("target"),
+        required("sig"),
+        required("sp"),
+        required("general"),
+        required("floating"),
+        required("stack"),
+    ]
 }
 
 // Whether the value is an object with these keys and no others.
@@ -56,10 +48,7 @@ fn check_keys(alloc: Global, value: &Node, at: &Way) -> Result<(), ImageFault>
     ensures ok { IfOk result (λ u. object.of_script (language.check_object value.now snapshot_keys at.now) ≡ read tt) }
     ensures err { IfErr result (Tells (λ p r. object.of_script (language.check_object value.now snapshot_keys at.now) ≡ object.fault p r)) }
 {
-    let Ok(keys) = snapshot_keys(alloc) else {
-        return Err(ImageFault::NoMemory);
-    };
-    match check_object_at(alloc, value.json(), &keys, at) {
+    match check_object_at(alloc, value, &snapshot_keys(), at) {
         Ok(()) => Ok(()),
         Err(fault) => Err(of_script(fault)),
     }

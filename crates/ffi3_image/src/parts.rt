@@ -13,17 +13,17 @@ use hex::{FromHex, FromHexError};
 use std::alloc::Global;
 
 // The text under a key, where one stands there.
-pub(crate) fn text_under<'a>(value: &Node<'a>, name: &str) -> Option<&'a str>
+pub(crate) fn text_under<'t>(value: &Node<'t, '_>, name: &str) -> Option<&'t str>
     ensures { option_map (λ s. s.now) result ≡ object.text_under name.now value.now }
 {
     match value.get(name) {
-        Some(part) => part.json().as_str(),
+        Some(part) => part.as_str(),
         None => None,
     }
 }
 
 // The items of the array under a key, where one stands there.
-pub(crate) fn items_under<'a>(value: &Node<'a>, name: &str) -> Option<Nodes<'a>>
+pub(crate) fn items_under<'t, 'a>(value: &Node<'t, 'a>, name: &str) -> Option<Nodes<'t, 'a>>
     ensures { result ≡ object.items_under name.now value.now }
 {
     match value.get(name) {
@@ -80,7 +80,7 @@ fn read_words(alloc: Global, items: &Nodes, at: &Way) -> Result<Vec<u64>, ImageF
 {
     let mut words = Vec::new(alloc);
     for i in 0..items.len() {
-        match read_word(alloc, items.get(i).json().as_str(), &at.item(i as u32)) {
+        match read_word(alloc, items.get(i).as_str(), &at.item(i as u32)) {
             Ok(word) => {
                 let Ok(()) = words.push(word) else {
                     return Err(ImageFault::NoMemory);

@@ -4,3 +4,4 @@ pub mod Objects
 pub mod Items
 mod Signatures
 pub mod Short
+pub mod InTexts

@@ -113,13 +113,13 @@ none_left (x ∷ xs) zero h = absurd (omega arith)
 none_left (x ∷ xs) (suc i) h = none_left xs i (omega arith)
 
 pub key_later : (keys : List Key) (i : ℕ) (x : Key) (name : List ℕ) → i < length keys → x ≡ slice_index_or keys i x
-    → is_key_of (map key_of keys) name ≡ is_key_of (map key_of (drop i keys)) name → bytes_eq (string_bytes x.name) name ≡ false
+    → is_key_of (map key_of keys) name ≡ is_key_of (map key_of (drop i keys)) name → bytes_eq (x.name.now) name ≡ false
     → is_key_of (map key_of keys) name ≡ is_key_of (map key_of (drop (i + 1) keys)) name
 key_later keys i x name below is so_far other =
     so_far ∙ ap (λ ks. is_key_of (map key_of ks) name) (next keys i x below is) ∙ ap (λ b. b || is_key_of (map key_of (drop (i + 1) keys)) name) other
 
 pub key_here : (all : List language.Key) (keys : List Key) (i : ℕ) (x : Key) (name : List ℕ) → all ≡ map key_of keys → i < length keys → x ≡ slice_index_or keys i x
-    → is_key_of (map key_of keys) name ≡ is_key_of (map key_of (drop i keys)) name → bytes_eq (string_bytes x.name) name ≡ true
+    → is_key_of (map key_of keys) name ≡ is_key_of (map key_of (drop i keys)) name → bytes_eq (x.name.now) name ≡ true
     → true ≡ is_key_of all name
 key_here all keys i x name e below is so_far same =
     sym (ap (λ ks. is_key_of ks name) e ∙ so_far ∙ ap (λ ks. is_key_of (map key_of ks) name) (next keys i x below is) ∙ ap (λ b. b || is_key_of (map key_of (drop (i + 1) keys)) name) same)
@@ -131,19 +131,19 @@ key_nowhere all keys i name e end so_far =
 
 -- whether a key may be missing, or is there
 abbrev pub settled : Key → Data → Bool
-settled x d = x.optional || is_some (get (string_bytes x.name) d)
+settled x d = x.optional || is_some (get (x.name.now) d)
 
 pub missing_later : (keys : List Key) (i : ℕ) (x : Key) (d : Data) → i < length keys → x ≡ slice_index_or keys i x
     → first_missing (map key_of keys) d ≡ first_missing (map key_of (drop i keys)) d → settled x d ≡ true
     → first_missing (map key_of keys) d ≡ first_missing (map key_of (drop (i + 1) keys)) d
 missing_later keys i x d below is so_far known =
-    so_far ∙ ap (λ ks. first_missing (map key_of ks) d) (next keys i x below is) ∙ ap (λ b. cond b (first_missing (map key_of (drop (i + 1) keys)) d) (Some (string_bytes x.name))) known
+    so_far ∙ ap (λ ks. first_missing (map key_of ks) d) (next keys i x below is) ∙ ap (λ b. cond b (first_missing (map key_of (drop (i + 1) keys)) d) (Some (x.name.now))) known
 
 pub missing_here : (all : List language.Key) (keys : List Key) (i : ℕ) (x : Key) (d : Data) → all ≡ map key_of keys → i < length keys → x ≡ slice_index_or keys i x
     → first_missing (map key_of keys) d ≡ first_missing (map key_of (drop i keys)) d → settled x d ≡ false
-    → Some (string_bytes x.name) ≡ first_missing all d
+    → Some (x.name.now) ≡ first_missing all d
 missing_here all keys i x d e below is so_far known =
-    sym (ap (λ ks. first_missing ks d) e ∙ so_far ∙ ap (λ ks. first_missing (map key_of ks) d) (next keys i x below is) ∙ ap (λ b. cond b (first_missing (map key_of (drop (i + 1) keys)) d) (Some (string_bytes x.name))) known)
+    sym (ap (λ ks. first_missing ks d) e ∙ so_far ∙ ap (λ ks. first_missing (map key_of ks) d) (next keys i x below is) ∙ ap (λ b. cond b (first_missing (map key_of (drop (i + 1) keys)) d) (Some (x.name.now))) known)
 
 pub missing_nowhere : (all : List language.Key) (keys : List Key) (i : ℕ) (d : Data) → all ≡ map key_of keys → length keys ≤ i
     → first_missing (map key_of keys) d ≡ first_missing (map key_of (drop i keys)) d → None ≡ first_missing all d
@@ -187,7 +187,7 @@ depth-get k (object ms) inside e = omega (arith, depth-member k ms inside e)
 
 -- ---- the one member of an object
 
-not_one : (ms : Members) → (members_len ms ≡ 1 → ⊥) → None ≡ member_in ms
+pub not_one : (ms : Members) → (members_len ms ≡ 1 → ⊥) → None ≡ member_in ms
 not_one no_members h = refl
 not_one (member name d no_members) h = absurd (h refl)
 not_one (member name d (member k x ms)) h = refl

@@ -1,7 +1,6 @@
 -- Which key a key of the code is.
-use Rattle.std.specs.Prelude.{string_bytes}
 use Rattle.ffi3_script_rules.specs.Language as language
 use Rattle.ffi3_json.specs.declared.keys.Key.{Key}
 
 abbrev pub key_of : Key → language.Key
-key_of k = record { name = string_bytes k.name; optional = k.optional }
+key_of k = record { name = k.name.now; optional = k.optional }

@@ -5,3 +5,5 @@ pub mod Reports
 pub mod Within
 pub mod DataCode
 pub mod Parts
+pub mod InText
+pub mod RefOf

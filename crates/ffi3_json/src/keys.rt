@@ -1,27 +1,49 @@
 // The keys of an object.
-ghost use Rattle.std.specs.Prelude.{◌≡◌, ◌<◌, ◌++◌, ◌∷◌, [], OnOk, OnErr, length, slice_get, Some, option_map, string_bytes};
-ghost use Rattle.serde_json.specs.View.{view};
+ghost use Rattle.std.specs.Prelude.{◌≡◌, ◌<◌, ◌++◌, ◌∷◌, [], OnOk, OnErr, length, map, slice_get, Some, option_map};
+ghost use Rattle.ffi3_script_rules.specs.Language as language;
 ghost use Rattle.ffi3_script_rules.specs.Language.{is_key_of, first_missing};
 ghost use Rattle.ffi3_json.specs.KeyOf.{key_of};
+ghost use Rattle.ffi3_json.specs.RefOf.{data_of, IsInRange};
 
-use crate::{Json, NoMemory};
+use crate::NoMemory;
+use crate::json_ref::JsonRef;
 use std::alloc::Global;
 use std::marker::Model;
 
 /// A key that an object may have, or must have where it is not optional.
-#[derive(Debug, Drop)]
-pub struct Key {
-    pub name: String,
+#[derive(Clone, Copy, Debug)]
+pub struct Key<'a> {
+    pub name: &'a str,
     pub optional: bool,
+}
+
+/// A key that an object must have.
+pub fn required<'a>(name: &'a str) -> Key<'a>
+    ensures { key_of result ≡ language.required name.now }
+{
+    Key {
+        name,
+        optional: false,
+    }
+}
+
+/// A key that an object may have.
+pub fn optional<'a>(name: &'a str) -> Key<'a>
+    ensures { key_of result ≡ language.optional name.now }
+{
+    Key {
+        name,
+        optional: true,
+    }
 }
 
 /// An object's keys, in the order in which they are read.
 #[derive(Debug, Drop)]
-pub struct Keys {
-    keys: Vec<Key>,
+pub struct Keys<'a> {
+    keys: Vec<Key<'a>>,
 }
 
-impl Model for Keys {
+impl<'a> Model for Keys<'a> {
     ghost use Rattle.std.specs.Prelude.{List, map};
     ghost use Rattle.ffi3_script_rules.specs.Language as language;
     ghost use Rattle.ffi3_json.specs.KeyOf.{key_of};
@@ -31,9 +53,9 @@ impl Model for Keys {
     ghost view = { λ k. map key_of k.keys.items };
 }
 
-impl Keys {
+impl<'a> Keys<'a> {
     /// No keys.
-    pub fn new(alloc: Global) -> Keys
+    pub fn new(alloc: Global) -> Keys<'a>
         ensures { result ≡ [] }
     {
         Keys {
@@ -49,7 +71,7 @@ impl Keys {
     }
 
     /// Key `i`.
-    pub fn get(&self, i: usize) -> &Key
+    pub fn get(&self, i: usize) -> &Key<'a>
         requires { i < length self.now }
         ensures { slice_get self.now i ≡ Some (key_of result.now) }
     {
@@ -57,35 +79,43 @@ impl Keys {
     }
 
     /// One more key at the end. Refused, it leaves the list as it was.
-    pub fn push(&mut self, key: Key) -> Result<(), NoMemory>
-        ensures ok { OnOk result (self.new ≡ self.old ++ key_of key ∷ []) }
+    pub fn push(&mut self, key: Key<'a>) -> Result<(), NoMemory>
+        ensures ok { OnOk result (self.new ≡ self.old ++ key_of key.entry ∷ []) }
         ensures err { OnErr result (self.new ≡ self.old) }
     {
         self.keys.push(key)?;
         Ok(())
     }
 
-    /// Whether a name is one of the keys.
-    pub(crate) fn has(&self, name: &str) -> bool
-        ensures { result ≡ is_key_of self.now name.now }
+    /// All of them.
+    pub(crate) fn as_slice(&self) -> &[Key<'a>]
+        ensures { map key_of result.now ≡ self.now }
     {
-        for key in &self.keys {
-            if key.name.as_str() == name {
-                return true;
-            }
-        }
-        false
+        self.keys.as_slice()
     }
+}
 
-    /// The first key that is not optional, and not there.
-    pub(crate) fn first_missing(&self, value: &Json) -> Option<&str>
-        ensures { option_map (λ s. s.now) result ≡ first_missing self.now (view value.now) }
-    {
-        for key in &self.keys {
-            if !key.optional && value.get(key.name.as_str()).is_none() {
-                return Some(key.name.as_str());
-            }
+/// Whether a name is one of the keys.
+pub(crate) fn is_key_of(keys: &[Key], name: &str) -> bool
+    ensures { result ≡ is_key_of (map key_of keys.now) name.now }
+{
+    for key in keys {
+        if key.name == name {
+            return true;
         }
-        None
     }
+    false
+}
+
+/// The first key that is not optional, and not there.
+pub(crate) fn first_missing<'a>(keys: &[Key<'a>], value: JsonRef) -> Option<&'a str>
+    requires { IsInRange value }
+    ensures { option_map (λ s. s.now) result ≡ first_missing (map key_of keys.now) (data_of value.entry) }
+{
+    for key in keys {
+        if !key.optional && value.get(key.name).is_none() {
+            return Some(key.name);
+        }
+    }
+    None
 }

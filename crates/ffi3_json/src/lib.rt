@@ -1,14 +1,19 @@
 //! JSON objects, types and signatures of a script, with the place and reason of the first fault.
 #![tactic(auto)]
 
+mod borrowed;
 mod document;
 mod fault;
+mod json_ref;
 mod keys;
+mod members;
 mod node;
+mod number;
 mod object;
 mod place;
 mod reason;
 mod signature;
+mod text;
 mod types;
 mod way;
 
@@ -17,7 +22,9 @@ pub use fault::{ScriptFault, bad};
 pub use ffi3_types::Bytes;
 /// A want of memory: the one answer that no clause ties to a cause.
 pub use ffi3_types::NoMemory;
-pub use keys::{Key, Keys};
+/// What reading a `Document` needs memory for, beside its arrays and objects.
+pub use json::Scratch;
+pub use keys::{Key, Keys, optional, required};
 pub use node::{Node, Nodes};
 pub use object::{check_object, check_object_at};
 pub use place::{Step, Where};
@@ -25,6 +32,7 @@ pub use reason::{Reason, reason_text};
 /// A JSON value.
 pub use serde_json::Value as Json;
 pub use signature::{bad_type, read_signature, read_signature_at, reason_of_signature};
+pub use text::Document;
 pub use types::{read_type, read_type_at};
 pub use way::Way;
 

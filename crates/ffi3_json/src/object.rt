@@ -1,13 +1,16 @@
 // The keys of an object.
-ghost use Rattle.std.specs.Prelude.{◌≡◌, IfErr, OnOk};
-ghost use Rattle.serde_json.specs.View.{view, members_view};
+ghost use Rattle.std.specs.Prelude.{◌≡◌, map, IfErr, OnOk};
+ghost use Rattle.serde_json.specs.View.{view};
 ghost use Rattle.ffi3_script_rules.specs.Language as language;
-ghost use Rattle.ffi3_script_rules.specs.Language.{read, has_only};
+ghost use Rattle.ffi3_script_rules.specs.Language.{read};
+ghost use Rattle.ffi3_json.specs.KeyOf.{key_of};
+ghost use Rattle.ffi3_json.specs.RefOf.{data_of, IsInRange};
 ghost use Rattle.ffi3_json.specs.Reports.{Reports};
 
 use crate::fault::bad;
-use crate::{Json, Keys, Reason, ScriptFault, Way, Where};
-use serde_json::Map;
+use crate::json_ref::JsonRef;
+use crate::keys::first_missing;
+use crate::{Json, Key, Keys, Node, Reason, ScriptFault, Way, Where};
 use std::alloc::Global;
 
 /// Whether the value is an object, has no key but these, and each that is not optional. The first of this that is not
@@ -16,40 +19,45 @@ pub fn check_object(alloc: Global, value: &Json, keys: &Keys, at: &Where) -> Res
     ensures ok { OnOk result (language.check_object (view value.now) keys.now at.now ≡ read tt) }
     ensures err { IfErr result (Reports (λ p r. language.check_object (view value.now) keys.now at.now ≡ language.fault p r)) }
 {
-    check_object_at(alloc, value, keys, &Way::from(at))
+    check_reference(
+        alloc,
+        JsonRef::Owned(value),
+        keys.as_slice(),
+        &Way::from(at),
+    )
 }
 
-/// The same, at a place on the way to a value.
+/// The same of a value of a script, at a place on the way to it.
 pub fn check_object_at(
     alloc: Global,
-    value: &Json,
-    keys: &Keys,
+    value: &Node,
+    keys: &[Key],
     at: &Way,
 ) -> Result<(), ScriptFault>
-    ensures ok { OnOk result (language.check_object (view value.now) keys.now at.now ≡ read tt) }
-    ensures err { IfErr result (Reports (λ p r. language.check_object (view value.now) keys.now at.now ≡ language.fault p r)) }
+    ensures ok { OnOk result (language.check_object value.now (map key_of keys.now) at.now ≡ read tt) }
+    ensures err { IfErr result
+        (Reports (λ p r. language.check_object value.now (map key_of keys.now) at.now ≡ language.fault p r)) }
 {
-    let Some(members) = value.as_object() else {
+    check_reference(alloc, value.json(), keys, at)
+}
+
+// The same of a value by reference.
+fn check_reference(alloc: Global, value: JsonRef, keys: &[Key], at: &Way) -> Result<(), ScriptFault>
+    requires { IsInRange value }
+    ensures ok { OnOk result (language.check_object (data_of value.entry) (map key_of keys.now) at.now ≡ read tt) }
+    ensures err { IfErr result
+        (Reports (λ p r. language.check_object (data_of value.entry) (map key_of keys.now) at.now
+        ≡ language.fault p r)) }
+{
+    let Some(has_only) = value.has_only(keys) else {
         return Err(bad(alloc, at, Reason::NotAnObject));
     };
-    if !has_only(members, keys) {
+    if !has_only {
         return Err(bad(alloc, at, Reason::UnknownKey));
     }
-    if let Some(missing) = keys.first_missing(value) {
+    if let Some(missing) = first_missing(keys, value) {
         let name = String::from_str(alloc, missing)?;
         return Err(bad(alloc, at, Reason::MissingKey { name }));
     }
     Ok(())
-}
-
-// Whether each member has one of these keys.
-fn has_only(members: &Map<String, Json>, keys: &Keys) -> bool
-    ensures { result ≡ has_only keys.now (members_view members.now.entries) }
-{
-    for (name, _member) in members.iter() {
-        if !keys.has(name.as_str()) {
-            return false;
-        }
-    }
-    true
 }

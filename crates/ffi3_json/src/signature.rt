@@ -1,5 +1,5 @@
 // Signatures.
-ghost use Rattle.std.specs.Prelude.{◌≡◌, IfOk, IfErr, codes, get_or, option_map};
+ghost use Rattle.std.specs.Prelude.{◌≡◌, IfOk, IfErr, codes, get_or, map, option_map};
 ghost use Rattle.serde_json.specs.Find.{get};
 ghost use Rattle.serde_json.specs.View.{view};
 ghost use Rattle.ffi3_script_rules.specs.Language as language;
@@ -11,13 +11,14 @@ ghost use Rattle.ffi3_type_rules.specs.Signature.{SignatureHasNoFault, IsSignatu
 ghost use Rattle.ffi3_types.specs.TreeOf.{tree_of};
 ghost use Rattle.ffi3_types.specs.FaultOf.{fault_of, path_of};
 ghost use Rattle.ffi3_types.specs.SignatureFaultOf.{signature_fault_of};
+ghost use Rattle.ffi3_json.specs.KeyOf.{key_of};
 ghost use Rattle.ffi3_json.specs.ReasonOf.{reason_of};
 ghost use Rattle.ffi3_json.specs.Reports.{Reports};
 
 use crate::fault::bad;
 use crate::object::check_object_at;
 use crate::types::{read_count, read_list, read_type_at};
-use crate::{Json, Key, Keys, NoMemory, Node, Reason, ScriptFault, Way, Where};
+use crate::{Json, Key, NoMemory, Node, Reason, ScriptFault, Way, Where, optional, required};
 use ffi3_cdecl::{DeclFault, read_decl};
 use ffi3_types::{At, FfiType, Fields, Path, Sig, SigFault, TypeFault, check_sig};
 use std::alloc::Global;
@@ -66,13 +67,13 @@ pub fn read_signature_at(
 }
 
 // The text of a C declaration, where the value is one in a version of the language: the first has none.
-fn declaration_in<'a>(value: &Node<'a>, version: u8) -> Option<&'a str>
+fn declaration_in<'t>(value: &Node<'t, '_>, version: u8) -> Option<&'t str>
     ensures { option_map (λ s. s.now) result ≡ declaration_in version value.now }
 {
     if version == 1 {
         return None;
     }
-    value.json().as_str()
+    value.as_str()
 }
 
 // The signature of the function that a text declares. Its name says nothing here.
@@ -115,8 +116,7 @@ fn read_shapes(alloc: Global, value: &Node, at: &Way, version: u8) -> Result<Sig
     ensures ok { IfOk result (λ s. read_shapes version value.now at.now ≡ read s) }
     ensures err { IfErr result (Reports (λ p r. read_shapes version value.now at.now ≡ language.fault p r)) }
 {
-    let keys = signature_keys(alloc)?;
-    check_object_at(alloc, value.json(), &keys, at)?;
+    check_object_at(alloc, value, &signature_keys(), at)?;
     let ret = read_ret(alloc, value, at, version)?;
     let args = read_args(alloc, value, at, version)?;
     let fixed = read_fixed(alloc, value, at)?;
@@ -124,23 +124,10 @@ fn read_shapes(alloc: Global, value: &Node, at: &Way, version: u8) -> Result<Sig
 }
 
 // The keys of a signature.
-fn signature_keys(alloc: Global) -> Result<Keys, NoMemory>
-    ensures { IfOk result (λ keys. keys ≡ signature_keys) }
+fn signature_keys() -> [Key<'static>; 3]
+    ensures { map key_of result ≡ signature_keys }
 {
-    let mut keys = Keys::new(alloc);
-    keys.push(Key {
-        name: String::from_str(alloc, "ret")?,
-        optional: false,
-    })?;
-    keys.push(Key {
-        name: String::from_str(alloc, "args")?,
-        optional: false,
-    })?;
-    keys.push(Key {
-        name: String::from_str(alloc, "fixed")?,
-        optional: true,
-    })?;
-    Ok(keys)
+    [required("ret"), required("args"), optional("fixed")]
 }
 
 // The shape of the result. One that is not there is read as null.

@@ -38,7 +38,7 @@ pub fn read_type_at(
     ensures ok { IfOk result (λ t. language.read_type version value.now at.now ≡ read (tree_of t)) }
     ensures err { IfErr result (Reports (λ p r. language.read_type version value.now at.now ≡ language.fault p r)) }
 {
-    if let Some(name) = value.json().as_str() {
+    if let Some(name) = value.as_str() {
         return match FfiType::from_name(name, version) {
             Some(ty) => Ok(ty),
             None => Err(bad(alloc, at, Reason::UnknownType)),
@@ -94,7 +94,7 @@ pub(crate) fn read_count(alloc: Global, value: &Node, at: &Way) -> Result<u32, S
     ensures ok { IfOk result (λ n. language.read_count value.now at.now ≡ read n) }
     ensures err { IfErr result (Reports (λ p r. language.read_count value.now at.now ≡ language.fault p r)) }
 {
-    let Some(n) = value.json().as_u64() else {
+    let Some(n) = value.as_u64() else {
         return Err(bad(alloc, at, Reason::NotACount));
     };
     if n < 4_294_967_296 {

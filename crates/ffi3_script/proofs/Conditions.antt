@@ -4,7 +4,7 @@ use Rattle.serde_json.specs.Data.{Data}
 use Rattle.serde_json.specs.Find.{get, as_str}
 use Rattle.ffi3_type_rules.specs.Tree.{scalar, pointer}
 use Rattle.ffi3_type_rules.specs.Signature.{signature_at}
-use Rattle.ffi3_script_rules.specs.Language.{JsonPath, Reason, Read, read, fault, and_then, read_map, under, value_under, Key, check_object}
+use Rattle.ffi3_script_rules.specs.Language.{JsonPath, Reason, Read, read, fault, and_then, read_map, under, value_under, check_object}
 use Rattle.ffi3_script_rules.specs.Script.{Expression, Expressions, Typed, Act, call, make, free, print, ScriptMove}
 use Rattle.ffi3_script_rules.specs.Values.{Given, Scope, read_value, read_typed}
 use Rattle.ffi3_script_rules.specs.Bodies.{Surroundings, Kind, call_kind, make_kind, free_kind, print_kind, return_kind, kind_of, keys_of, scope_of, unnamed, read_signature_number, read_arguments, read_name, read_function, read_user, read_result, read_condition, read_act, read_kind, read_move}
@@ -57,12 +57,12 @@ with_condition s given scope return_kind d path c =
     act-under c (λ a. a) (read_result scope s.own.result_type (value_under (codes "return") d) (under path (codes "return")))
 
 -- the move that an object is, of a kind, where its keys are right and its condition was read
-module _ (s : Surroundings) (given : List Given) (d seen : Data) (seen_is : seen ≡ d) (path : JsonPath) (k : Kind) {keys : List Key} (c : Option Typed) (kind_is : Some k ≡ kind_of d) (keys_are : keys ≡ keys_of k) (checked : check_object seen keys path ≡ read tt)
+module _ (s : Surroundings) (given : List Given) (d : Data) (path : JsonPath) (k : Kind) (c : Option Typed) (kind_is : Some k ≡ kind_of d) (checked : check_object d (keys_of k) path ≡ read tt)
     (condition_is : read_condition (scope_of s given) (get (codes "when") d) (under path (codes "when")) ≡ read c) where
   fields_left : read_move s given d path ≡ read_act s given (scope_of s given) k d path c
   fields_left =
       ap (read_kind s given d path) (sym kind_is)
-      ∙ then_read _ (check_object d (keys_of k) path) tt (ap (λ ks. check_object d ks path) (sym keys_are) ∙ ap (λ e. check_object e keys path) (sym seen_is) ∙ checked)
+      ∙ then_read _ (check_object d (keys_of k) path) tt checked
       ∙ then_read (read_act s given (scope_of s given) k d path) (read_condition (scope_of s given) (get (codes "when") d) (under path (codes "when"))) c condition_is
 
   pub move-read : (m : ScriptMove) → read_act s given (scope_of s given) k d path None ≡ read m → read_move s given d path ≡ read (under_condition c m)

@@ -9,7 +9,7 @@ use Rattle.serde_json.specs.Find.{get, get_member, as_array, as_number, as_u64}
 use Rattle.std.specs.Ordering.{nat_cmp}
 use Rattle.std.specs.Cmp.Lexicographic.{slice_cmp}
 use Rattle.ffi3_type_rules.specs.Signature.{Signature}
-use Rattle.ffi3_script_rules.specs.Language.{JsonPath, Reason, Read, read, fault, and_then, read_map, under, value_under, at_item, Key, check_object, read_signature}
+use Rattle.ffi3_script_rules.specs.Language.{JsonPath, Reason, Read, read, fault, and_then, read_map, under, value_under, at_item, check_object, read_signature}
 use Rattle.ffi3_script_rules.specs.Script.{Script, ScriptFunction, ScriptMove}
 use Rattle.ffi3_script_rules.specs.Bodies.{Heading, script_keys, version_of, items_at, read_signatures, read_headings, read_body, read_bodies, read_rest, read_script}
 use Rattle.ffi3_run_rules.specs.Move.{no_signature}
@@ -79,20 +79,19 @@ rest_at natives d version path on ss =
     and_then (λ signatures. functions_left natives d version signatures (under path (codes "functions"))) (read_signatures version ss on 0)
 
 -- the language has it at the root
-abbrev script_at : List (List ℕ) → Data → List Key → JsonPath → Read Script
-script_at natives d keys path =
+abbrev script_at : List (List ℕ) → Data → JsonPath → Read Script
+script_at natives d path =
     and_then
     (λ checked. and_then
     (λ version. and_then (rest_at natives d version path (under path (codes "signatures"))) (items_at (value_under (codes "signatures") d) (under path (codes "signatures"))))
     (version_at d path))
-    (check_object d keys path)
+    (check_object d script_keys path)
 
-module _ (natives : List (List ℕ)) (d seen : Data) (seen_is : seen ≡ d) (path : JsonPath) (root : path ≡ []) (keys : List Key) (keys_are : keys ≡ script_keys) (e0 : check_object seen keys path ≡ read tt) (version : ℕ) (e1 : version_at d path ≡ read version)
+module _ (natives : List (List ℕ)) (d : Data) (path : JsonPath) (root : path ≡ []) (e0 : check_object d script_keys path ≡ read tt) (version : ℕ) (e1 : version_at d path ≡ read version)
     (on : JsonPath) (on_is : on ≡ under path (codes "signatures")) where
   signatures-next : read_script natives d ≡ and_then (rest_at natives d version path on) (items_at (value_under (codes "signatures") d) on)
   signatures-next =
-      ap (script_at natives d script_keys) (sym root) ∙ ap (λ k. script_at natives d k path) (sym keys_are)
-      ∙ then_read _ (check_object d keys path) tt (ap (λ e. check_object e keys path) (sym seen_is) ∙ e0) ∙ then_read _ (version_at d path) version e1
+      ap (script_at natives d) (sym root) ∙ then_read _ (check_object d script_keys path) tt e0 ∙ then_read _ (version_at d path) version e1
       ∙ ap (λ q. and_then (rest_at natives d version path q) (items_at (value_under (codes "signatures") d) q)) (sym on_is)
 
   pub root-items : (p : JsonPath) (r : Reason) → items_at (value_under (codes "signatures") d) on ≡ fault p r → read_script natives d ≡ fault p r

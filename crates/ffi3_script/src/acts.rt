@@ -1,10 +1,11 @@
 // Moves, by their kind.
-ghost use Rattle.std.specs.Prelude.{◌≡◌, ◌<◌, ◌^◌, ◌++◌, ◌∷◌, [], IfOk, IfErr, OnOk, None};
-ghost use Rattle.std.specs.Prelude.{true, false, length, codes, option_map};
+ghost use Rattle.std.specs.Prelude.{◌≡◌, ◌<◌, ◌^◌, ◌∷◌, [], IfOk, IfErr, OnOk, None};
+ghost use Rattle.std.specs.Prelude.{true, false, length, map, codes, option_map};
 ghost use Rattle.serde_json.specs.Find.{get};
 ghost use Rattle.ffi3_script_rules.specs.Language as language;
 ghost use Rattle.ffi3_script_rules.specs.Language.{read};
 ghost use Rattle.ffi3_script_rules.specs.Bodies.{kind_of, keys_of, read_call, read_make, read_act, read_move};
+ghost use Rattle.ffi3_json.specs.KeyOf.{key_of};
 ghost use Rattle.ffi3_json.specs.Reports.{Reports};
 ghost use Rattle.ffi3_script_body.specs.ExprOf.{script_move_of};
 ghost use Rattle.ffi3_script.specs.ScopeOf.{scope_of, given_in, surroundings_of, IsEven};
@@ -17,8 +18,8 @@ use crate::fields::{
 };
 use crate::heads::{read_function, read_signature_number};
 use crate::scope::{Globals, Scope};
-use crate::{Act, NoMemory, ScriptMove};
-use ffi3_json::{Key, Keys, Node, Reason, ScriptFault, Way, bad, check_object_at};
+use crate::{Act, ScriptMove};
+use ffi3_json::{Key, Node, Reason, ScriptFault, Way, bad, check_object_at, optional, required};
 use ffi3_types::{FfiType, Members};
 use std::alloc::Global;
 
@@ -54,69 +55,51 @@ fn kind_of(value: &Node) -> Option<Kind>
     None
 }
 
-/// One more key.
-pub(crate) fn add_key(
-    alloc: Global,
-    keys: &mut Keys,
-    name: &str,
-    optional: bool,
-) -> Result<(), NoMemory>
-    ensures { OnOk result (keys.new ≡ keys.old ++ record { name = name.now; optional = optional } ∷ []) }
-{
-    keys.push(Key {
-        name: String::from_str(alloc, name)?,
-        optional,
-    })?;
-    Ok(())
-}
-
 // The keys of a call.
-fn call_keys(alloc: Global) -> Result<Keys, NoMemory>
-    ensures { IfOk result (λ keys. keys ≡ keys_of (kind_from Kind.Call)) }
+fn call_keys() -> [Key<'static>; 5]
+    ensures { map key_of result ≡ keys_of (kind_from Kind.Call) }
 {
-    let mut keys = Keys::new(alloc);
-    add_key(alloc, &mut keys, "when", true)?;
-    add_key(alloc, &mut keys, "call", false)?;
-    add_key(alloc, &mut keys, "sig", false)?;
-    add_key(alloc, &mut keys, "args", false)?;
-    add_key(alloc, &mut keys, "as", true)?;
-    Ok(keys)
+    [
+        optional("when"),
+        required("call"),
+        required("sig"),
+        required("args"),
+        optional("as"),
+    ]
 }
 
 // The keys of a move that makes a closure.
-fn make_keys(alloc: Global) -> Result<Keys, NoMemory>
-    ensures { IfOk result (λ keys. keys ≡ keys_of (kind_from Kind.Make)) }
+fn make_keys() -> [Key<'static>; 4]
+    ensures { map key_of result ≡ keys_of (kind_from Kind.Make) }
 {
-    let mut keys = Keys::new(alloc);
-    add_key(alloc, &mut keys, "when", true)?;
-    add_key(alloc, &mut keys, "make", false)?;
-    add_key(alloc, &mut keys, "user", true)?;
-    add_key(alloc, &mut keys, "as", true)?;
-    Ok(keys)
+    [
+        optional("when"),
+        required("make"),
+        optional("user"),
+        optional("as"),
+    ]
 }
 
 // The keys of a move that has but one beside `when`.
-fn lone_keys(alloc: Global, name: &str) -> Result<Keys, NoMemory>
-    ensures { IfOk result
-        (λ keys. keys
-        ≡ record { name = codes "when"; optional = true } ∷ record { name = name.now; optional = false } ∷ []) }
+fn lone_keys<'a>(name: &'a str) -> [Key<'a>; 2]
+    ensures { map key_of result
+        ≡ record { name = codes "when"; optional = true } ∷ record { name = name.now; optional = false } ∷ [] }
 {
-    let mut keys = Keys::new(alloc);
-    add_key(alloc, &mut keys, "when", true)?;
-    add_key(alloc, &mut keys, name, false)?;
-    Ok(keys)
+    [optional("when"), required(name)]
 }
 
-// The keys of moves of a kind.
-fn keys_of(alloc: Global, kind: Kind) -> Result<Keys, NoMemory>
-    ensures { IfOk result (λ keys. keys ≡ keys_of (kind_from kind)) }
+// Whether the value is an object with the keys of moves of a kind.
+fn check_keys(alloc: Global, kind: Kind, value: &Node, at: &Way) -> Result<(), ScriptFault>
+    ensures ok { OnOk result (language.check_object value.now (keys_of (kind_from kind)) at.now ≡ read tt) }
+    ensures err { IfErr result
+        (Reports (λ p r. language.check_object value.now (keys_of (kind_from kind)) at.now ≡ language.fault p r)) }
 {
     match kind {
-        Kind::Call => call_keys(alloc),
-        Kind::Make => make_keys(alloc),
-        Kind::Free => lone_keys(alloc, "free"),
-        Kind::Print => lone_keys(alloc, "print"),
-        Kind::Return => lone_keys(alloc, "return"),
+        Kind::Call => check_object_at(alloc, value, &call_keys(), at),
+        Kind::Make => check_object_at(alloc, value, &make_keys(), at),
+        Kind::Free => check_object_at(alloc, value, &lone_keys("free"), at),
+        Kind::Print => check_object_at(alloc, value, &lone_keys("print"), at),
+        Kind::Return => check_object_at(alloc, value, &lone_keys("return"), at),
     }
 }
 
@@ -247,8 +230,7 @@ pub(crate) fn read_move(
     let Some(kind) = kind_of(value) else {
         return Err(bad(alloc, at, Reason::NotAMove));
     };
-    let keys = keys_of(alloc, kind)?;
-    check_object_at(alloc, value.json(), &keys, at)?;
+    check_keys(alloc, kind, value, at)?;
     let condition = read_condition(alloc, scope, value, at)?;
     let NamedAct { act, name } = read_act(alloc, globals, scope, kind, value, at)?;
     Ok(ScriptMove {

@@ -11,12 +11,12 @@ use ffi3_json::{Node, Nodes, Reason, ScriptFault, Way, bad};
 use std::alloc::Global;
 
 /// The items of the array at a place, which a value has under this key. What is not there is read as null.
-pub(crate) fn items_under<'a>(
+pub(crate) fn items_under<'t, 'a>(
     alloc: Global,
     name: &str,
-    value: &Node<'a>,
+    value: &Node<'t, 'a>,
     at: &Way,
-) -> Result<Nodes<'a>, ScriptFault>
+) -> Result<Nodes<'t, 'a>, ScriptFault>
     ensures within { (n : ℕ) → HasArraysWithin n value.now → IfOk result (λ items. items_len items ≤ n) }
     ensures ok { IfOk result (λ items. items_at (value_under name.now value.now) at.now ≡ read items) }
     ensures err { IfErr result

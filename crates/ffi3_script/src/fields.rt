@@ -187,7 +187,7 @@ pub(crate) fn read_result(
         let Some(inside) = value.get("return") else {
             return Ok(Act::ReturnVoid);
         };
-        if inside.json().is_null() {
+        if inside.is_null() {
             return Ok(Act::ReturnVoid);
         }
         return Err(bad(alloc, &place, Reason::NotNull));

@@ -55,12 +55,20 @@ pub(crate) fn form_named(name: &str) -> Form
 pub(crate) fn is_untyped(value: &Node) -> bool
     ensures { result ≡ is_untyped value.now }
 {
-    let json = value.json();
-    json.is_number() || json.is_string() || json.is_array()
+    if let Some(_number) = value.as_number() {
+        return true;
+    }
+    if let Some(_text) = value.as_str() {
+        return true;
+    }
+    if let Some(_items) = value.items() {
+        return true;
+    }
+    false
 }
 
 /// The items of an array of two. None where the value is no array, or has another number of items.
-pub(crate) fn two_items<'a>(value: &Node<'a>) -> Option<(Node<'a>, Node<'a>)>
+pub(crate) fn two_items<'t, 'a>(value: &Node<'t, 'a>) -> Option<(Node<'t, 'a>, Node<'t, 'a>)>
     ensures { result ≡ two_items value.now }
 {
     let Some(items) = value.items() else {

@@ -1,19 +1,19 @@
 // The names and signatures of functions.
-ghost use Rattle.std.specs.Prelude.{◌≡◌, ◌<◌, ◌++◌, ◌∷◌, [], All, IfOk, IfErr, OnOk, length, codes, string_bytes};
+ghost use Rattle.std.specs.Prelude.{◌≡◌, ◌<◌, ◌++◌, ◌∷◌, [], All, IfOk, IfErr, OnOk, length, map, codes, string_bytes};
 ghost use Rattle.serde_json.specs.Events.{items_len};
 ghost use Rattle.serde_json.specs.Find.{as_str};
 ghost use Rattle.ffi3_script_rules.specs.Language as language;
 ghost use Rattle.ffi3_script_rules.specs.Language.{read, under, value_under};
 ghost use Rattle.ffi3_script_rules.specs.Bodies.{is_one_of, new_name, function_keys, read_heading};
 ghost use Rattle.ffi3_script_rules.specs.Bodies.{read_headings, names_of};
+ghost use Rattle.ffi3_json.specs.KeyOf.{key_of};
 ghost use Rattle.ffi3_json.specs.Reports.{Reports};
 ghost use Rattle.ffi3_script.specs.PartsOf.{heading_of, headings_of};
 
 use crate::NoMemory;
-use crate::acts::add_key;
 use crate::functions::FunctionNames;
 use crate::heads::{new_name, read_signature_number};
-use ffi3_json::{Keys, Node, Nodes, Reason, ScriptFault, Way, bad, check_object_at};
+use ffi3_json::{Key, Node, Nodes, Reason, ScriptFault, Way, bad, check_object_at, required};
 use ffi3_types::Sigs;
 use std::alloc::Global;
 
@@ -32,14 +32,10 @@ pub(crate) struct Headings {
 }
 
 // The keys of a function.
-fn function_keys(alloc: Global) -> Result<Keys, NoMemory>
-    ensures { IfOk result (λ keys. keys ≡ function_keys) }
+fn function_keys() -> [Key<'static>; 3]
+    ensures { map key_of result ≡ function_keys }
 {
-    let mut keys = Keys::new(alloc);
-    add_key(alloc, &mut keys, "name", false)?;
-    add_key(alloc, &mut keys, "sig", false)?;
-    add_key(alloc, &mut keys, "body", false)?;
-    Ok(keys)
+    [required("name"), required("sig"), required("body")]
 }
 
 // The name of a function, which no earlier one has.
@@ -76,8 +72,7 @@ fn read_heading(
     ensures err { IfErr result
         (Reports (λ p r. read_heading (length sigs.now) earlier.now value.now at.now ≡ language.fault p r)) }
 {
-    let keys = function_keys(alloc)?;
-    check_object_at(alloc, value.json(), &keys, at)?;
+    check_object_at(alloc, value, &function_keys(), at)?;
     let name = read_function_name(alloc, earlier, value, at)?;
     let sig = read_signature_number(alloc, sigs, value, at)?;
     Ok(Heading { name, sig })

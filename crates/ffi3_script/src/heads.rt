@@ -56,7 +56,7 @@ pub(crate) fn new_name(
     ensures err { IfErr result
         (Reports (λ p r. new_name (is_taken names.now) (as_str value.now) at.now ≡ language.fault p r)) }
 {
-    let Some(name) = value.json().as_str() else {
+    let Some(name) = value.as_str() else {
         return Err(bad(alloc, at, Reason::BadName));
     };
     if !is_name(name) {
@@ -87,7 +87,7 @@ pub(crate) fn read_signature_number(
     let Some(sig) = value.get("sig") else {
         return Err(bad(alloc, &place, Reason::NoSuchSignature));
     };
-    let Some(i) = sig.json().as_u64() else {
+    let Some(i) = sig.as_u64() else {
         return Err(bad(alloc, &place, Reason::NoSuchSignature));
     };
     if i >= sigs.len() as u64 {
@@ -115,7 +115,7 @@ pub(crate) fn read_function(
     let Some(make) = value.get("make") else {
         return Err(bad(alloc, &place, Reason::NoSuchFunction));
     };
-    let Some(name) = make.json().as_str() else {
+    let Some(name) = make.as_str() else {
         return Err(bad(alloc, &place, Reason::NoSuchFunction));
     };
     let Some(k) = functions.find(name) else {

@@ -152,7 +152,7 @@ pub(crate) fn argument_of(
         (Reports (λ p r. argument_of (scope_of scope.now).arguments (option_and_then as_u64 (as_number value.now))
         at.now ≡ fault p r)) }
 {
-    let Some(i) = value.json().as_u64() else {
+    let Some(i) = value.as_u64() else {
         return Err(bad(alloc, at, Reason::NoSuchArgument));
     };
     if i >= scope.own.count() as u64 {
@@ -177,7 +177,7 @@ pub(crate) fn result_of(
     ensures err { IfErr result
         (Reports (λ p r. result_of (scope_of scope.now).given (as_str value.now) at.now ≡ fault p r)) }
 {
-    let Some(name) = value.json().as_str() else {
+    let Some(name) = value.as_str() else {
         return Err(bad(alloc, at, Reason::NoSuchResult));
     };
     let Some(i) = scope.names.find(name) else {
@@ -196,7 +196,7 @@ pub(crate) fn user_of(alloc: Global, value: &Node, at: &Way) -> Result<TypedExpr
     ensures ok { IfOk result (λ v. user_of value.now at.now ≡ read (typed_of v)) }
     ensures err { IfErr result (Reports (λ p r. user_of value.now at.now ≡ fault p r)) }
 {
-    match value.json().as_bool() {
+    match value.as_bool() {
         Some(true) => Ok(TypedExpr {
             ty: FfiType::Pointer,
             value: Expr::User,
@@ -221,7 +221,7 @@ pub(crate) fn element_of(
         (option_and_then as_u64 (as_number number.now)) at.now ≡ fault p r)) }
 {
     let value = boxed(alloc, value)?;
-    let Some(i) = number.json().as_u64() else {
+    let Some(i) = number.as_u64() else {
         return Err(bad(alloc, at, Reason::NoSuchField));
     };
     if i >= types.len() as u64 {

@@ -13,7 +13,7 @@ ghost use Rattle.ffi3_script.specs.ScriptOf.{script_of, natives_of};
 use crate::function_parts::FunctionPart;
 use crate::root::{Parts, read_root};
 use crate::{Names, NoMemory, Script, ScriptBody, ScriptFunction};
-use ffi3_json::{Node, ScriptFault, parse};
+use ffi3_json::{Document, Scratch, ScriptFault};
 use ffi3_types::Sigs;
 use std::alloc::Global;
 use std::rc::Rc;
@@ -27,8 +27,12 @@ pub fn read_script(alloc: Global, bytes: &[u8], natives: &Names) -> Result<Scrip
     ensures natives { IfOk result (λ s. natives_of s ≡ length natives.now) }
     ensures err { IfErr result (IsScriptRefusal natives.now bytes.now) }
 {
-    let value = parse(alloc, bytes)?;
-    let parts = read_root(alloc, &Node::of(&value), natives)?;
+    let mut scratch = Scratch::new(alloc);
+    let document = match Document::read(alloc, bytes, &mut scratch) {
+        Ok(document) => document,
+        Err(fault) => return Err(fault),
+    };
+    let parts = read_root(alloc, &document.root(), natives)?;
     Ok(script_of(alloc, parts, natives.len() as u32)?)
 }
 

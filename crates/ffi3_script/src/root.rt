@@ -1,6 +1,6 @@
 // The whole of a script.
 ghost use Rattle.std.specs.Prelude.{◌≡◌, ◌+◌, ◌<◌, ◌≤◌, ◌^◌, ◌++◌, [], All, IfOk, IfErr};
-ghost use Rattle.std.specs.Prelude.{OnOk, length, codes, option_and_then};
+ghost use Rattle.std.specs.Prelude.{OnOk, length, map, codes, option_and_then};
 ghost use Rattle.serde_json.specs.Find.{as_number, as_u64};
 ghost use Rattle.serde_json.specs.Events.{items_len};
 ghost use Rattle.ffi3_script_rules.specs.Language as language;
@@ -8,11 +8,11 @@ ghost use Rattle.ffi3_script_rules.specs.Language.{read, under, value_under};
 ghost use Rattle.ffi3_script_rules.specs.Bodies.{script_keys, version_of, read_signatures, read_headings};
 ghost use Rattle.ffi3_script_rules.specs.Bodies.{read_rest, read_script, names_of};
 ghost use Rattle.ffi3_script_rules.specs.Reading.{max_length};
+ghost use Rattle.ffi3_json.specs.KeyOf.{key_of};
 ghost use Rattle.ffi3_json.specs.Reports.{Reports};
 ghost use Rattle.ffi3_json.specs.Within.{HasArraysWithin};
 ghost use Rattle.ffi3_script.specs.PartsOf.{headings_of, script_in, bodies_and_main};
 
-use crate::acts::add_key;
 use crate::arrays::items_under;
 use crate::bodies::read_body;
 use crate::function_parts::{FunctionPart, read_parts};
@@ -21,7 +21,8 @@ use crate::headings::{Heading, Headings, read_headings};
 use crate::scope::Globals;
 use crate::{Names, NoMemory, ScriptMove};
 use ffi3_json::{
-    Keys, Node, Nodes, Reason, ScriptFault, Way, Where, bad, check_object_at, read_signature_at,
+    Key, Node, Nodes, Reason, ScriptFault, Way, Where, bad, check_object_at, read_signature_at,
+    required,
 };
 use ffi3_types::{FfiType, Fields, Sig, Sigs};
 use std::alloc::Global;
@@ -43,15 +44,24 @@ struct AllBodies {
 }
 
 // The keys of a script.
-fn script_keys(alloc: Global) -> Result<Keys, NoMemory>
-    ensures { IfOk result (λ keys. keys ≡ script_keys) }
+fn script_keys() -> [Key<'static>; 4]
+    ensures { map key_of result ≡ script_keys }
 {
-    let mut keys = Keys::new(alloc);
-    add_key(alloc, &mut keys, "version", false)?;
-    add_key(alloc, &mut keys, "signatures", false)?;
-    add_key(alloc, &mut keys, "functions", false)?;
-    add_key(alloc, &mut keys, "main", false)?;
-    Ok(keys)
+    [
+        required("version"),
+        required("signatures"),
+        required("functions"),
+        required("main"),
+    ]
+}
+
+// Whether the value is an object with these keys.
+fn check_keys(alloc: Global, value: &Node, at: &Way) -> Result<(), ScriptFault>
+    ensures ok { OnOk result (language.check_object value.now script_keys at.now ≡ read tt) }
+    ensures err { IfErr result
+        (Reports (λ p r. language.check_object value.now script_keys at.now ≡ language.fault p r)) }
+{
+    check_object_at(alloc, value, &script_keys(), at)
 }
 
 // The version, which is 1 or 2.
@@ -67,7 +77,7 @@ fn read_version(alloc: Global, value: &Node, at: &Way) -> Result<u8, ScriptFault
     let Some(version) = value.get("version") else {
         return Err(bad(alloc, &place, Reason::VersionNotKnown));
     };
-    let Some(n) = version.json().as_u64() else {
+    let Some(n) = version.as_u64() else {
         return Err(bad(alloc, &place, Reason::VersionNotKnown));
     };
     if n == 1 {
@@ -171,8 +181,7 @@ pub(crate) fn read_root(alloc: Global, value: &Node, natives: &Names) -> Result<
 {
     let root = Where::new(alloc);
     let at = Way::from(&root);
-    let keys = script_keys(alloc)?;
-    check_object_at(alloc, value.json(), &keys, &at)?;
+    check_keys(alloc, value, &at)?;
     let version = read_version(alloc, value, &at)?;
     let place = at.key("signatures");
     let signatures = items_under(alloc, "signatures", value, &place)?;

@@ -36,11 +36,10 @@ pub(crate) fn read_value(
     ensures err { IfErr result
         (Reports (λ p r. read_value (scope_of scope.now) (tree_of ty.now) value.now at.now ≡ fault p r)) }
 {
-    let json = value.json();
-    if let Some(n) = json.as_number() {
-        return read_number(alloc, ty, n, at);
+    if let Some(n) = value.as_number() {
+        return read_number(alloc, ty, &n, at);
     }
-    if let Some(text) = json.as_str() {
+    if let Some(text) = value.as_str() {
         return read_text(alloc, ty, text, at);
     }
     if let Some(items) = value.items() {

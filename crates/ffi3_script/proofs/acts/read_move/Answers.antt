@@ -1,5 +1,4 @@
 use Rattle.std.proofs.Common.{None, option_map}
-use Rattle.serde_json.specs.View.{view}
 use Rattle.ffi3_script_rules.specs.Bodies.{read_act, read_move}
 use Rattle.ffi3_json.proofs.Tellings.{part_handed_on}
 use Rattle.ffi3_script_body.specs.ExprOf.{typed_of}
@@ -11,8 +10,8 @@ use Rattle.ffi3_script.proofs.acts.read_move.Goals as goal
 
 pub returns-clause-ok : goal.returns-clause-ok
 returns-clause-ok c =
-    move-read (surroundings_of c.args.globals.now c.args.scope.now) (given_in c.args.scope.now) c.args.value.now (view c.json.result.now) c.json.ensures c.args.at.now (kind_from c.in-Some.kind) (option_map typed_of c.in_ok-condition.condition)
-    c.in-Some.ensures c.in_ok-keys.ensures c.in_ok-check_object_at.ensures.ok c.in_ok-condition.ensures.ok (move_by None c.in_ok-act.field-0) c.in_ok-act.ensures.ok
+    move-read (surroundings_of c.args.globals.now c.args.scope.now) (given_in c.args.scope.now) c.args.value.now c.args.at.now (kind_from c.in-Some.kind) (option_map typed_of c.in_ok-condition.condition)
+    c.in-Some.ensures c.in_ok-check_keys.ensures.ok c.in_ok-condition.ensures.ok (move_by None c.in_ok-act.field-0) c.in_ok-act.ensures.ok
 
 pub returns-in_err-act-clause-err : goal.returns-in_err-act-clause-err
 returns-in_err-act-clause-err c =
@@ -22,5 +21,5 @@ returns-in_err-act-clause-err c =
     let path = c.args.at.now in
     let kind = kind_from c.in-Some.kind in
     part_handed_on (read_move s given d path) (read_act s given (scope_of c.args.scope.now) kind d path None)
-    (move-refused s given d (view c.json.result.now) c.json.ensures path kind (option_map typed_of c.in_ok-condition.condition) c.in-Some.ensures c.in_ok-keys.ensures c.in_ok-check_object_at.ensures.ok c.in_ok-condition.ensures.ok)
+    (move-refused s given d path kind (option_map typed_of c.in_ok-condition.condition) c.in-Some.ensures c.in_ok-check_keys.ensures.ok c.in_ok-condition.ensures.ok)
     c.from_residual-in_err-act.result c.in_err-act.field-0.0 c.from_residual-in_err-act.ensures.1 c.in_err-act.ensures.err

@@ -15,7 +15,7 @@ returns-in_default-find-clause-err c =
     let types = c.args.scope.now.types.now in
     let none = no_result c.in-Some.name.now names types c.args.at.now c.requires (sym c.in_default-find.ensures) in
     tells_made (result_of (given_of names types) (as_str c.args.value.now) c.args.at.now) c.args.at.now no_such_result
-    (ap (λ o. result_of (given_of names types) o c.args.at.now) (ap as_str (sym c.json.ensures) ∙ sym c.in-Some.ensures) ∙ none)
+    (ap (λ o. result_of (given_of names types) o c.args.at.now) (sym c.in-Some.ensures) ∙ none)
     c.bad-in_default-find.result c.bad-in_default-find.ensures
 
 pub overflow_cast-result : goal.overflow_cast-result
@@ -28,7 +28,7 @@ returns-clause-ok c =
     let types = c.args.scope.now.types.now in
     let some = a_result c.in-Some.name.now names types c.args.at.now c.requires c.in-Some-find.i (sym c.in-Some-find.ensures) in
     let same = sym (ap tree_of c.in_ok-copy.ensures ∙ c.get.ensures.element) in
-    ap (λ o. result_of (given_of names types) o c.args.at.now) (ap as_str (sym c.json.ensures) ∙ sym c.in-Some.ensures) ∙ some ∙ ap (λ t. read (typed t (outcome c.in-Some-find.i))) same
+    ap (λ o. result_of (given_of names types) o c.args.at.now) (sym c.in-Some.ensures) ∙ some ∙ ap (λ t. read (typed t (outcome c.in-Some-find.i))) same
 
 pub get-requires : goal.get-requires
 get-requires c =

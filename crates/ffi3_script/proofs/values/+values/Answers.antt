@@ -158,8 +158,8 @@ read_value-returns-in-Some-clause-err t c =
     let s = scope_of c.args.scope.now in
     let d = c.args.value.now in
     let ty = tree_of c.args.ty.now in
-    let n = number_view c.in-Some.n.now in
-    err_by (λ f k. tells_part (read_value s ty d c.args.at.now) (read_number ty n c.args.at.now) (λ p r is. of_number s ty d c.args.at.now n (ap as_number (sym c.json-json.ensures) ∙ sym c.in-Some.ensures) ∙ is) f k) c.read_number.result c.read_number.ensures.err
+    let n = number_view c.in-Some.n in
+    err_by (λ f k. tells_part (read_value s ty d c.args.at.now) (read_number ty n c.args.at.now) (λ p r is. of_number s ty d c.args.at.now n (sym c.in-Some.ensures) ∙ is) f k) c.read_number.result c.read_number.ensures.err
 
 pub read_value-returns-in_default-element_types-clause-err : goal.read_value-returns-in_default-element_types-clause-err
 read_value-returns-in_default-element_types-clause-err t c =

@@ -1,7 +1,0 @@
-use Rattle.std.proofs.Common.{◌≡◌}
-use Rattle.serde_json.specs.View.{members_view}
-use Rattle.ffi3_script_rules.specs.Language.{has_only}
-use Rattle.ffi3_json.proofs.object.has_only.Given as goal
-
-abbrev pub invariant-loop-name : goal.invariant-loop-name
-invariant-loop-name l = has_only l.keys (members_view l.members.entries) ≡ has_only l.keys (members_view l.name-iterator)
