@@ -19,7 +19,7 @@ from signature import SIZES, text_of
 HERE = pathlib.Path(__file__).resolve().parent
 IN_A_CHUNK = 200
 JOBS = 2  # processes at a time
-SECONDS = 900
+SECONDS = 3600
 PLAN = "plan: "  # begins the reason where a plan is wrong by itself
 
 # The GNU prefix of a target, the emulator that runs its programs (none on the host), and what clang is told.
@@ -38,7 +38,7 @@ FLAGS = ["-w", "-std=gnu11", "-fno-pie", "-fno-stack-protector"]
 DEFINED = {"win64": ["-DWIN64"]}
 # A leaf's scalar, by what C knows of it: the kind of player.h, and its bytes.
 SCALARS = {f"{'f' if name == 'double' else name[0]}{size}": name for name, size in SIZES.items()}
-# The files of one batch are optimised in turn: not at all, and much.
+# The files of one batch are optimised in turn: not at all, and much; with an even seed the other way round.
 OPTIMISED = ["-O0", "-O2"]
 
 
@@ -170,15 +170,20 @@ class Libffi(Played):
         self.command = [program, listed]
 
 
-def built(target, compiler, signatures, folder, optimised=OPTIMISED):
+def built(target, compiler, signatures, folder, optimised):
     if compiler in ABIS:
         return Libffi(target, compiler, signatures, folder)
     return Compiled(target, compiler, signatures, folder, optimised)
 
 
-def optimised_at(index):
+def optimised(seed):
+    """How the files are optimised, in turn: what an odd seed has not at all, an even one has much."""
+    return OPTIMISED if seed % 2 else OPTIMISED[::-1]
+
+
+def optimised_at(index, seed):
     """How the file is optimised that has a signature, by its number."""
-    return OPTIMISED[index // IN_A_CHUNK % len(OPTIMISED)]
+    return optimised(seed)[index // IN_A_CHUNK % len(OPTIMISED)]
 
 
 def failures(built, planned, layouts, seed):
