@@ -55,16 +55,7 @@ pub(crate) fn form_named(name: &str) -> Form
 pub(crate) fn is_untyped(value: &Node) -> bool
     ensures { result ≡ is_untyped value.now }
 {
-    if let Some(_number) = value.as_number() {
-        return true;
-    }
-    if let Some(_text) = value.as_str() {
-        return true;
-    }
-    if let Some(_items) = value.items() {
-        return true;
-    }
-    false
+    value.as_number().is_some() || value.as_str().is_some() || value.items().is_some()
 }
 
 /// The items of an array of two. None where the value is no array, or has another number of items.

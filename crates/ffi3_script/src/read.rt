@@ -28,10 +28,7 @@ pub fn read_script(alloc: Global, bytes: &[u8], natives: &Names) -> Result<Scrip
     ensures err { IfErr result (IsScriptRefusal natives.now bytes.now) }
 {
     let mut scratch = Scratch::new(alloc);
-    let document = match Document::read(alloc, bytes, &mut scratch) {
-        Ok(document) => document,
-        Err(fault) => return Err(fault),
-    };
+    let document = Document::read(alloc, bytes, &mut scratch)?;
     let parts = read_root(alloc, &document.root(), natives)?;
     Ok(script_of(alloc, parts, natives.len() as u32)?)
 }
