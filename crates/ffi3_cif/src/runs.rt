@@ -1,6 +1,6 @@
 //! The bytes of arguments that stand on the stack, in runs.
 
-ghost use Rattle.std.specs.Prelude.{◌≡◌, ◌+◌, ◌<◌, ◌≤◌, ◌++◌, List, [], ◌∷◌, length, slice_index_or, IfOk, OnOk, OnErr};
+ghost use Rattle.std.specs.Prelude.{◌≡◌, ◌+◌, ◌<◌, ◌≤◌, ◌^◌, ◌++◌, List, [], ◌∷◌, length, replicate, slice_index_or, IfOk, OnOk, OnErr};
 ghost use Rattle.std.specs.List.{AllByRecursion};
 ghost use Rattle.ffi3_type_rules.specs.declared.limits.TheConstants.{LARGEST_TYPE};
 ghost use Rattle.ffi3_place_rules.specs.Sound.{AreRising, PlaceRises};
@@ -71,8 +71,73 @@ impl Runs {
     }
 }
 
-/// The runs of each argument.
-pub type AllRuns = Listed<Runs>;
+/// The runs of each argument. Of arguments without any that come last only the number is kept.
+#[derive(Drop)]
+pub struct AllRuns {
+    listed: Listed<Runs>,
+    none: Runs,
+    more: usize,
+}
+
+impl Model for AllRuns {
+    ghost use Rattle.std.specs.Prelude.{◌≡◌, ◌++◌, List, [], replicate};
+    ghost use Rattle.ffi3_cif.specs.declared.runs.Run.{Run};
+
+    ghost Value = { List (List Run) };
+
+    ghost view = { λ a. a.listed ++ replicate a.more [] };
+
+    ghost invariant = { λ a. a.none ≡ [] };
+}
+
+impl AllRuns {
+    fn new(alloc: Global) -> AllRuns
+        ensures { result ≡ [] }
+    {
+        AllRuns {
+            listed: Listed::new(alloc),
+            none: Runs::new(alloc),
+            more: 0,
+        }
+    }
+
+    /// The runs of one argument more.
+    fn push(&mut self, alloc: Global, runs: Runs) -> Result<(), NoMemory>
+        requires { length self.old + 1 < 2 ^ 64 }
+        ensures { OnOk result (self.new ≡ self.old ++ runs ∷ []) }
+    {
+        if runs.len() == 0 {
+            self.more += 1;
+            return Ok(());
+        }
+        push_empty(alloc, self.more, &mut self.listed)?;
+        self.more = 0;
+        self.listed.push(runs)?;
+        Ok(())
+    }
+
+    /// Those of argument `i`.
+    pub fn get(&self, i: usize) -> &Runs
+        requires { i < length self.now }
+        ensures { result.now ≡ slice_index_or self.now i result.now }
+    {
+        if i < self.listed.len() {
+            self.listed.get(i)
+        } else {
+            &self.none
+        }
+    }
+}
+
+/// So many arguments without runs at the end of a list.
+fn push_empty(alloc: Global, count: usize, listed: &mut Listed<Runs>) -> Result<(), NoMemory>
+    ensures { OnOk result (listed.new ≡ listed.old ++ replicate count []) }
+{
+    for _k in 0..count {
+        listed.push(Runs::new(alloc))?;
+    }
+    Ok(())
+}
 
 /// The bytes of a piece that stands on the stack.
 fn run_at(piece: &Piece) -> Option<Run>
@@ -157,7 +222,7 @@ pub fn all_runs(alloc: Global, places: &Places) -> Result<AllRuns, NoMemory>
 {
     let mut all = AllRuns::new(alloc);
     for i in 0..places.len() {
-        all.push(place_runs(alloc, places.get(i))?)?;
+        all.push(alloc, place_runs(alloc, places.get(i))?)?;
     }
     Ok(all)
 }
