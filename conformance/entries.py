@@ -12,7 +12,8 @@ import subprocess
 
 import cases
 import differences
-from frames import Image, dumped, words_of
+import places
+from frames import GENERAL, Image, dumped, words_of
 from places import LINK, LONGEST_SCRIPT
 from signature import SIZES, json_value, object_of, zero_leaves
 
@@ -107,7 +108,36 @@ def failures(own, built, planned, layouts, seed):
     return found
 
 
-# ---- planted errors: each changes the image of ffi3's caller, and of a value's own bytes none
+# ---- planted errors: each changes the image of ffi3's caller
+
+def first_two_exchanged(image, signature, plan):
+    """The first two registers of arguments are exchanged."""
+    a, b = GENERAL[image.target]
+    image.general[a], image.general[b] = image.general[b], image.general[a]
+
+
+def vectors_exchanged(image, signature, plan):
+    """The first two floating registers of arguments are exchanged."""
+    a = places.FLOATING[image.target].get("fa0", 0)
+    image.floating[a], image.floating[a + 1] = image.floating[a + 1], image.floating[a]
+
+
+def stack_a_word_late(image, signature, plan):
+    """The stack's bytes are those from eight bytes above the stack pointer on."""
+    image.stack = image.stack[8:]
+
+
+def stack_pointer_above(image, signature, plan):
+    """The stack pointer is eight higher than it is."""
+    image.sp += 8
+
+
+def buffer_at_an_odd_address(image, signature, plan):
+    """The address of a hidden result is one higher."""
+    if plan.result.reference:
+        number = plan.result.reference.number
+        image.general[number] = (int.from_bytes(image.general[number], "little") + 1).to_bytes(8, "little")
+
 
 def fill_above(image, place, size, byte):
     """The bytes of a place above the first `size` are this one."""
@@ -181,11 +211,12 @@ def address_moved(image, signature, plan):
             image.general[number] = moved.to_bytes(8, "little")
 
 
+EVERYWHERE = [first_two_exchanged, vectors_exchanged, stack_a_word_late, stack_pointer_above, buffer_at_an_odd_address]
 ERRORS = {
-    "amd64": [no_vectors_counted, nine_vectors_counted],
-    "aapcs64": [address_moved],
-    "riscv": [extended_by_zeros, not_extended, not_extended_on_the_stack, not_boxed, address_moved],
-    "win64": [vector_register_alone, address_moved],
+    "amd64": [*EVERYWHERE, no_vectors_counted, nine_vectors_counted],
+    "aapcs64": [*EVERYWHERE, address_moved],
+    "riscv": [*EVERYWHERE, extended_by_zeros, not_extended, not_extended_on_the_stack, not_boxed, address_moved],
+    "win64": [*EVERYWHERE, vector_register_alone, address_moved],
 }
 # What a compiler cannot show, since it does so itself: see differences.py, and libffi's extension is its own.
 UNSEEN = {("riscv", "clang"): [not_extended_on_the_stack]}
