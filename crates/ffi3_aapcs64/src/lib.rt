@@ -79,17 +79,18 @@ pub fn homogeneous(ty: &FfiType) -> Option<(Kind, u8)>
     let FfiType::Struct(_) = ty else {
         return None;
     };
+    let kind = if has_only(ty, Kind::Float) {
+        Kind::Float
+    } else if has_only(ty, Kind::Double) {
+        Kind::Double
+    } else {
+        return None;
+    };
     let count = ty.leaf_count();
     if count == 0 || count > 4 {
         return None;
     }
-    if has_only(ty, Kind::Float) {
-        return Some((Kind::Float, count as u8));
-    }
-    if has_only(ty, Kind::Double) {
-        return Some((Kind::Double, count as u8));
-    }
-    None
+    Some((kind, count as u8))
 }
 
 // ---- what is passed, and what it needs

@@ -1,6 +1,7 @@
 -- Types that are one of the scalars.
-use Rattle.std.proofs.Common.{◌≡◌, ◌⊎◌, inl, inr, ap}
-use Rattle.ffi3_type_rules.specs.Tree.{Scalar, scalar, u8, s8, u16, s16, u32, s32, u64, s64, u128, s128, float, double, pointer}
+use Rattle.std.proofs.Common.{◌≡◌, ◌⊎◌, inl, inr, refl, ap}
+use Rattle.ffi3_type_rules.specs.Tree.{Tree, void, left_out, structure, array, Scalar, scalar, u8, s8, u16, s16, u32, s32, u64, s64, u128, s128, float, double, pointer}
+use Rattle.ffi3_types.specs.ScalarSize.{scalar_size_of}
 use Rattle.ffi3_types.specs.TreeOf.{tree_of}
 use Rattle.ffi3_types.specs.declared.FfiType.{FfiType}
 use Rattle.ffi3_types.specs.declared.FfiType.TheVariants.{U8, S8, U16, S16, U32, S32, U64, S64, U128, S128, Float, Double, Pointer}
@@ -24,3 +25,11 @@ one_scalar t (inr (inr (inr (inr (inr (inr (inr (inr (inr (inl e)))))))))) = (s1
 one_scalar t (inr (inr (inr (inr (inr (inr (inr (inr (inr (inr (inl e))))))))))) = (float, ap tree_of e)
 one_scalar t (inr (inr (inr (inr (inr (inr (inr (inr (inr (inr (inr (inl e)))))))))))) = (double, ap tree_of e)
 one_scalar t (inr (inr (inr (inr (inr (inr (inr (inr (inr (inr (inr (inr e)))))))))))) = (pointer, ap tree_of e)
+
+-- what has such a size is a scalar
+pub sized_scalar : (t : Tree) → ¬ (scalar_size_of t ≡ 0) → (s : Scalar) × (t ≡ scalar s)
+sized_scalar void h = absurd (h refl)
+sized_scalar (scalar s) h = (s, refl)
+sized_scalar (left_out k) h = absurd (h refl)
+sized_scalar (structure ts) h = absurd (h refl)
+sized_scalar (array ts n) h = absurd (h refl)

@@ -4,6 +4,7 @@ ghost use Rattle.ffi3_type_rules.specs.declared.limits.TheConstants.{DEEPEST_NES
 ghost use Rattle.ffi3_type_rules.specs.Tree.{struct_of, tree_at, array, trees_of};
 ghost use Rattle.ffi3_type_rules.specs.Layout.{size_of, align_of};
 ghost use Rattle.ffi3_type_rules.specs.Fault.{HasNoFault, IsFirstFault};
+ghost use Rattle.ffi3_types.specs.ScalarSize.{scalar_size_of};
 ghost use Rattle.ffi3_types.specs.TreeOf.{tree_of};
 ghost use Rattle.ffi3_types.specs.FaultOf.{path_of, fault_of};
 ghost use Rattle.ffi3_types.specs.FirstElement.{NoElementHasFault, IsFirstInElements, role_of};
@@ -48,6 +49,25 @@ fn check_node(ty: &FfiType, outer: u32, role: Role) -> Result<Extent, TypeFault>
         (λ e. IsFirstFault outer role (tree_of ty.now) (path_of e) (fault_of e)) }
     ensures room { IfErr result (λ e. outer + length (path_of e) ≤ DEEPEST_NESTING) }
 {
+    let size = ty.scalar_size();
+    if size != 0 {
+        return Ok(Extent { size, align: size });
+    }
+    check_other(ty, outer, role)
+}
+
+/// The same of a type that is no scalar.
+#[cycle(check)]
+fn check_other(ty: &FfiType, outer: u32, role: Role) -> Result<Extent, TypeFault>
+    requires shallow { outer ≤ DEEPEST_NESTING }
+    requires no_scalar { scalar_size_of (tree_of ty.now) ≡ 0 }
+    ensures ok { OnOk result (HasNoFault outer role (tree_of ty.now)) }
+    ensures size { IfOk result (λ x. x.size ≡ size_of (tree_of ty.now)) }
+    ensures align { IfOk result (λ x. x.align ≡ align_of (tree_of ty.now)) }
+    ensures err { IfErr result
+        (λ e. IsFirstFault outer role (tree_of ty.now) (path_of e) (fault_of e)) }
+    ensures room { IfErr result (λ e. outer + length (path_of e) ≤ DEEPEST_NESTING) }
+{
     match ty {
         FfiType::Void => {
             if role.takes_void() {
@@ -70,16 +90,19 @@ fn check_node(ty: &FfiType, outer: u32, role: Role) -> Result<Extent, TypeFault>
         }),
         FfiType::Struct(fields) => check_struct(fields, outer, role),
         FfiType::Array(fields, count) => check_array(fields, *count, outer, role),
-        FfiType::U8 | FfiType::S8 => Ok(Extent { size: 1, align: 1 }),
-        FfiType::U16 | FfiType::S16 => Ok(Extent { size: 2, align: 2 }),
-        FfiType::U32 | FfiType::S32 | FfiType::Float => Ok(Extent { size: 4, align: 4 }),
-        FfiType::U64 | FfiType::S64 | FfiType::Double | FfiType::Pointer => {
-            Ok(Extent { size: 8, align: 8 })
-        }
-        FfiType::U128 | FfiType::S128 => Ok(Extent {
-            size: 16,
-            align: 16,
-        }),
+        FfiType::U8
+        | FfiType::S8
+        | FfiType::U16
+        | FfiType::S16
+        | FfiType::U32
+        | FfiType::S32
+        | FfiType::U64
+        | FfiType::S64
+        | FfiType::U128
+        | FfiType::S128
+        | FfiType::Float
+        | FfiType::Double
+        | FfiType::Pointer => unreachable!(),
     }
 }
 

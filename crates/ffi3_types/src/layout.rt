@@ -3,6 +3,7 @@ ghost use Rattle.std.specs.Prelude.{◌≡◌, ◌+◌, ◌<◌, ◌≤◌, All,
 ghost use Rattle.ffi3_type_rules.specs.Tree.{struct_of, array, tree_at, trees_of, elements_of};
 ghost use Rattle.ffi3_type_rules.specs.Layout.{size_of, align_of, offset_of, layouts, end_before, align_before};
 ghost use Rattle.ffi3_type_rules.specs.Fault.{IsLaidOut};
+ghost use Rattle.ffi3_types.specs.ScalarSize.{scalar_size_of};
 ghost use Rattle.ffi3_types.specs.TreeOf.{tree_of};
 
 use crate::{FfiType, Fields};
@@ -43,6 +44,21 @@ impl FfiType {
             FfiType::Struct(fields) => fields.offset(i as usize),
             FfiType::Array(fields, count) => fields.offset_in_array(*count, i),
             _ => unreachable!(),
+        }
+    }
+
+    /// The size of a scalar, which is its alignment too; 0 of any other type.
+    pub(crate) fn scalar_size(&self) -> u64
+        ensures { result ≡ scalar_size_of (tree_of self.now) }
+    {
+        match self {
+            FfiType::U8 | FfiType::S8 => 1,
+            FfiType::U16 | FfiType::S16 => 2,
+            FfiType::U32 | FfiType::S32 | FfiType::Float => 4,
+            FfiType::U64 | FfiType::S64 | FfiType::Double | FfiType::Pointer => 8,
+            FfiType::U128 | FfiType::S128 => 16,
+            FfiType::Void | FfiType::Struct(_) | FfiType::Array(_, _) => 0,
+            FfiType::LongDouble | FfiType::Complex | FfiType::Vector => 0,
         }
     }
 

@@ -4,14 +4,16 @@ use Rattle.std.proofs.lemmas.Bool.{false≢true, cases_lt}
 use Rattle.std.proofs.lemmas.List.{nil_from_length}
 use Rattle.ffi3_type_rules.specs.declared.limits.TheConstants.{LARGEST_TYPE}
 use Rattle.ffi3_type_rules.specs.declared.Role.TheVariants.{AsElement}
-use Rattle.ffi3_type_rules.specs.Tree.{Tree, array, trees_of, tree_at, long_double, complex, vector, u8, s8, u16, s16, u32, s32, u64, s64, u128, s128, float, double, pointer}
+use Rattle.ffi3_type_rules.specs.Tree.{Tree, array, trees_of, tree_at, long_double, complex, vector}
 use Rattle.ffi3_type_rules.specs.Layout.{size_of, align_of, layouts, element, end_before}
 use Rattle.ffi3_type_rules.specs.Fault.{HasNoFault, IsFirstFault, takes_array, too_large}
 use Rattle.ffi3_type_rules.proofs.Faults.{first_too_deep, first_empty, first_void, first_left_out, first_inside, struct_is_right, first_too_large, void_faults, scalar_faults}
 use Rattle.ffi3_type_rules.proofs.Faults.{right_is_small}
-use Rattle.ffi3_type_rules.proofs.Layouts.{align_positive, align_bounded, aligns_bounded, align_before-positive, align_before-bounded, element-layouts, least_multiple-below, end_before-turn, align_before-turn, size_at_end, align_at_end}
+use Rattle.ffi3_type_rules.proofs.Layouts.{scalar_size-bounds, align_positive, align_bounded, aligns_bounded, align_before-positive, align_before-bounded, element-layouts, least_multiple-below, end_before-turn, align_before-turn, size_at_end, align_at_end}
 use Rattle.ffi3_type_rules.proofs.ArrayPlaces.{array_size_is, array_align_is, array_too_deep, array_out_of_place, array_of_many, array_of_none, array_first_inside, array_is_right, array_too_large}
+use Rattle.ffi3_types.specs.ScalarSize.{scalar_size_of}
 use Rattle.ffi3_types.specs.TreeOf.{tree_of}
+use Rattle.ffi3_types.proofs.Scalars.{one_scalar, sized_scalar}
 use Rattle.ffi3_types.specs.FirstElement.{NoElementHasFault}
 use Rattle.ffi3_types.proofs.check.+check.Goals.{check_elements-then-item-align, check_elements-else-item-align}
 use Rattle.ffi3_types.proofs.check.+check.Goals as goal
@@ -46,55 +48,46 @@ check_struct-returns-in-Err-clause-err t c =
 
 -- ---- a node
 
-pub check_node-returns-then-takes_void-clause-ok : goal.check_node-returns-then-takes_void-clause-ok
-check_node-returns-then-takes_void-clause-ok t c =
+pub check_node-returns-then-size-ne0 : goal.check_node-returns-then-size-ne0
+check_node-returns-then-size-ne0 t c =
+    let is = sized_scalar (tree_of c.args.ty.now) (λ e. omega (arith, c.if-size-ne0.true, c.scalar_size-size.ensures, e)) in
+    record {
+      ok = rw is.1 (scalar_faults is.0);
+      size = c.scalar_size-size.ensures ∙ ap scalar_size_of is.1 ∙ sym (ap size_of is.1);
+      align = c.scalar_size-size.ensures ∙ ap scalar_size_of is.1 ∙ sym (ap align_of is.1);
+      err = tt;
+      room = tt;
+    }
+
+pub check_node-check_other-requires : goal.check_node-check_other-requires
+check_node-check_other-requires t c =
+    (omega arith, (c.requires, omega (arith, c.if-size-ne0.false, c.scalar_size-size.ensures)))
+
+pub check_other-unreachable-requires : goal.check_other-unreachable-requires
+check_other-unreachable-requires t c =
+    let is = one_scalar c.args.ty.now c.in-U8.is in
+    omega (arith, ap scalar_size_of is.1, (scalar_size-bounds is.0).0, c.requires.no_scalar)
+
+pub check_other-returns-then-takes_void-clause-ok : goal.check_other-returns-then-takes_void-clause-ok
+check_other-returns-then-takes_void-clause-ok t c =
     let taken = sym c.takes_void.ensures ∙ c.if-takes_void.true in
     rw c.in-Void.is (λ path f fault. absurd (false≢true (sym (void_faults path f fault).2 ∙ taken)))
 
-pub check_node-returns-else-takes_void-clause-err : goal.check_node-returns-else-takes_void-clause-err
-check_node-returns-else-takes_void-clause-err t c =
+pub check_other-returns-else-takes_void-clause-err : goal.check_other-returns-else-takes_void-clause-err
+check_other-returns-else-takes_void-clause-err t c =
     rw (c.in-Void.is, c.new.ensures) (first_void (sym c.takes_void.ensures ∙ c.if-takes_void.false))
 
-pub check_node-returns-in-LongDouble-clause-err : goal.check_node-returns-in-LongDouble-clause-err
-check_node-returns-in-LongDouble-clause-err t c =
+pub check_other-returns-in-LongDouble-clause-err : goal.check_other-returns-in-LongDouble-clause-err
+check_other-returns-in-LongDouble-clause-err t c =
     rw (c.in-LongDouble.is, c.new-in-LongDouble.ensures) (first_left_out long_double)
 
-pub check_node-returns-in-Complex-clause-err : goal.check_node-returns-in-Complex-clause-err
-check_node-returns-in-Complex-clause-err t c =
+pub check_other-returns-in-Complex-clause-err : goal.check_other-returns-in-Complex-clause-err
+check_other-returns-in-Complex-clause-err t c =
     rw (c.in-Complex.is, c.new-in-Complex.ensures) (first_left_out complex)
 
-pub check_node-returns-in-Vector-clause-err : goal.check_node-returns-in-Vector-clause-err
-check_node-returns-in-Vector-clause-err t c =
+pub check_other-returns-in-Vector-clause-err : goal.check_other-returns-in-Vector-clause-err
+check_other-returns-in-Vector-clause-err t c =
     rw (c.in-Vector.is, c.new-in-Vector.ensures) (first_left_out vector)
-
-pub check_node-returns-in-U8-clause-ok : goal.check_node-returns-in-U8-clause-ok
-check_node-returns-in-U8-clause-ok t c =
-    elim c.in-U8.is [ inl is ↦ rw is (scalar_faults u8) | inr is ↦ rw is (scalar_faults s8) ]
-
-pub check_node-returns-in-U16-clause-ok : goal.check_node-returns-in-U16-clause-ok
-check_node-returns-in-U16-clause-ok t c =
-    elim c.in-U16.is [ inl is ↦ rw is (scalar_faults u16) | inr is ↦ rw is (scalar_faults s16) ]
-
-pub check_node-returns-in-U32-clause-ok : goal.check_node-returns-in-U32-clause-ok
-check_node-returns-in-U32-clause-ok t c =
-    elim c.in-U32.is [
-      | inl is ↦ rw is (scalar_faults u32)
-      | inr (inl is) ↦ rw is (scalar_faults s32)
-      | inr (inr is) ↦ rw is (scalar_faults float)
-    ]
-
-pub check_node-returns-in-U64-clause-ok : goal.check_node-returns-in-U64-clause-ok
-check_node-returns-in-U64-clause-ok t c =
-    elim c.in-U64.is [
-      | inl is ↦ rw is (scalar_faults u64)
-      | inr (inl is) ↦ rw is (scalar_faults s64)
-      | inr (inr (inl is)) ↦ rw is (scalar_faults double)
-      | inr (inr (inr is)) ↦ rw is (scalar_faults pointer)
-    ]
-
-pub check_node-returns-in-U128-clause-ok : goal.check_node-returns-in-U128-clause-ok
-check_node-returns-in-U128-clause-ok t c =
-    elim c.in-U128.is [ inl is ↦ rw is (scalar_faults u128) | inr is ↦ rw is (scalar_faults s128) ]
 
 -- ---- an array
 

@@ -6,16 +6,19 @@ use Rattle.ffi3_types.specs.FirstElement.{NoElementHasFault}
 use Rattle.ffi3_types.proofs.check.+check.Given as goal
 
 abbrev pub decreases-check_node : goal.decreases-check_node
-decreases-check_node l = 3 * nodes (tree_of l.ty.now)
+decreases-check_node l = 4 * nodes (tree_of l.ty.now) + 1
+
+abbrev pub decreases-check_other : goal.decreases-check_other
+decreases-check_other l = 4 * nodes (tree_of l.ty.now)
 
 abbrev pub decreases-check_struct : goal.decreases-check_struct
-decreases-check_struct l = 3 * all_nodes (trees_of l.fields.now) + 2
+decreases-check_struct l = 4 * all_nodes (trees_of l.fields.now) + 3
 
 abbrev pub decreases-check_array : goal.decreases-check_array
-decreases-check_array l = 3 * all_nodes (trees_of l.fields.now) + 1
+decreases-check_array l = 4 * all_nodes (trees_of l.fields.now) + 2
 
 abbrev pub decreases-check_elements : goal.decreases-check_elements
-decreases-check_elements l = 3 * all_nodes (trees_of l.fields.now) + 1
+decreases-check_elements l = 4 * all_nodes (trees_of l.fields.now) + 2
 
 abbrev pub invariant-check_elements-loop-i : goal.invariant-check_elements-loop-i
 invariant-check_elements-loop-i l = record {
