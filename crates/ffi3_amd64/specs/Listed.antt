@@ -1,6 +1,9 @@
--- Which classes of the definitions those found for a value are.
-use Rattle.std.specs.Prelude.{Bool, true, false, List, [], ◌∷◌}
+-- Which classes of the definitions those found for a value are, and the register of one.
+use Rattle.std.specs.Prelude.{ℕ, Bool, true, false, cond, List, [], ◌∷◌}
+use Rattle.ffi3_place_rules.specs.declared.Loc.{Loc}
+use Rattle.ffi3_place_rules.specs.declared.Loc.TheVariants.{G, F}
 use Rattle.ffi3_amd64_rules.specs.declared.Class.{Class}
+use Rattle.ffi3_amd64_rules.specs.declared.Class.TheVariants.{Integer, Sse}
 use Rattle.ffi3_amd64.specs.declared.Classes.{Classes}
 use Rattle.ffi3_amd64.specs.declared.Classes.TheVariants.{Memory, Nothing, One, Two}
 
@@ -17,3 +20,12 @@ is_memory Memory = true
 is_memory Nothing = false
 is_memory (One first) = false
 is_memory (Two first second) = false
+
+-- 1 for a class of this kind, otherwise 0
+abbrev pub one_if : (Class → Bool) → Class → ℕ
+one_if p c = cond (p c) 1 0
+
+-- the register of an eightbyte of a class, where g and f are the numbers of the next general and vector register
+abbrev pub register_at : (ℕ → ℕ) → ℕ → ℕ → Class → Loc
+register_at general g f Integer = G (general g)
+register_at general g f Sse = F f

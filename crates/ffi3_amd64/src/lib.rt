@@ -1,7 +1,7 @@
 //! The System V AMD64 calling standard.
 #![tactic(auto)]
 
-ghost use Rattle.std.specs.Prelude.{◌*◌, ◌≡◌, ◌<◌, ◌≤◌, ◌+◌, ◌||◌, cond, length, slice_index, slice_index_or, IfOk, [], true, false};
+ghost use Rattle.std.specs.Prelude.{◌*◌, ◌≡◌, ◌<◌, ◌≤◌, ◌+◌, ◌||◌, cond, length, slice_index, IfOk, [], ◌∷◌, true, false};
 ghost use Rattle.std.specs.List.{list_any, count_by};
 ghost use Rattle.ffi3_type_rules.specs.declared.limits.TheConstants.{ARGUMENT_BYTES, ARGUMENT_SPAN, LARGEST_TYPE};
 ghost use Rattle.ffi3_type_rules.specs.Layout.{leaves_of, leaf_at};
@@ -12,7 +12,7 @@ ghost use Rattle.ffi3_place_rules.specs.Standard.{places_from, result_at};
 ghost use Rattle.ffi3_amd64_rules.specs.declared.Class.{Class};
 ghost use Rattle.ffi3_amd64_rules.specs.declared.Class.TheVariants.{Integer, Sse};
 ghost use Rattle.ffi3_amd64_rules.specs.Amd64.{amd64, is_integer_leaf_in, is_integer_class, is_sse_class, is_struct, class_of, in_memory, integers, sses, register_pieces, classes, in_registers, pieces_after, taken_with, taken_after, taken_at_first, spots_after, result_spot_of};
-ghost use Rattle.ffi3_amd64.specs.Listed.{listed, is_memory};
+ghost use Rattle.ffi3_amd64.specs.Listed.{listed, is_memory, one_if, register_at};
 ghost use Rattle.ffi3_amd64_rules.specs.Ends.{IsPlacedByEnds};
 ghost use Rattle.ffi3_place_rules.specs.Alike.{GoesByLayout};
 
@@ -21,7 +21,7 @@ use ffi3_place::ends::{buffer_end, planned, start};
 use ffi3_place::parts::{
     argument, count_of, doubleword, is_floating, pieces_on_stack, result_type, size_of, widening,
 };
-use ffi3_place::{Abi, Loc, Pieces, Place, Places, Plan, Res, SaveWord};
+use ffi3_place::{Abi, Loc, Piece, Pieces, Place, Places, Plan, Res, SaveWord};
 use ffi3_place_rules::Taken;
 use ffi3_type_rules::round_up;
 use ffi3_types::{FfiType, NoMemory, Sig, Target};
@@ -120,31 +120,6 @@ impl Classes {
         matches!(self, Classes::Memory)
     }
 
-    /// How many eightbytes are passed in registers.
-    fn len(self) -> u64
-        ensures { result ≡ length (listed self) }
-    {
-        match self {
-            Classes::Memory => 0,
-            Classes::Nothing => 0,
-            Classes::One(_) => 1,
-            Classes::Two(_, _) => 2,
-        }
-    }
-
-    /// The class of eightbyte `j`.
-    fn get(self, j: u64) -> Class
-        requires { j < length (listed self) }
-        ensures { result ≡ slice_index_or (listed self) j result }
-    {
-        match self {
-            Classes::Memory => unreachable!(),
-            Classes::Nothing => unreachable!(),
-            Classes::One(first) => first,
-            Classes::Two(first, second) => if j == 0 { first } else { second },
-        }
-    }
-
     /// How many eightbytes have the class INTEGER.
     fn integers(self) -> u64
         ensures value { result ≡ count_by is_integer_class (listed self) }
@@ -238,6 +213,35 @@ const RESULT_REGISTERS: [u8; 2] = [0, 2];
 /// rbx, rbp, r12 to r15
 const PRESERVED_REGISTERS: [u8; 6] = [3, 5, 12, 13, 14, 15];
 
+/// The register of an eightbyte of a class, where `general` and `vector` are the numbers of the next ones.
+fn register(class: Class, general: u64, vector: u64, registers: &[u8]) -> Loc
+    requires enough_general { general + one_if is_integer_class class ≤ length registers.now }
+    requires enough_vector { vector + one_if is_sse_class class ≤ 8 }
+    ensures { result ≡ register_at (slice_index registers.now) general vector class }
+{
+    match class {
+        Class::Integer => Loc::G(registers[general as usize]),
+        Class::Sse => Loc::F(vector as u8),
+    }
+}
+
+fn one_piece(alloc: Global, piece: Piece) -> Result<Pieces, NoMemory>
+    ensures { IfOk result (λ p. p ≡ piece ∷ []) }
+{
+    let mut pieces = Pieces::new(alloc);
+    pieces.push(piece)?;
+    Ok(pieces)
+}
+
+fn two_pieces(alloc: Global, first: Piece, second: Piece) -> Result<Pieces, NoMemory>
+    ensures { IfOk result (λ p. p ≡ first ∷ second ∷ []) }
+{
+    let mut pieces = Pieces::new(alloc);
+    pieces.push(first)?;
+    pieces.push(second)?;
+    Ok(pieces)
+}
+
 /// A value's eightbytes in registers, from numbers `general` and `vector` on.
 fn pieces_in_registers(
     alloc: Global,
@@ -255,25 +259,26 @@ fn pieces_in_registers(
     requires few { length registers.now ≤ 8 }
     ensures { IfOk result (λ p. p ≡ register_pieces (slice_index registers.now) general vector (tree_of ty.now) [] (classes (tree_of ty.now))) }
 {
-    let ext = widening(ty);
-    let size = size_of(ty);
-    let mut pieces = Pieces::new(alloc);
-    let mut next_general = general;
-    let mut next_vector = vector;
-    for j in 0..found.len() {
-        let loc = match found.get(j) {
-            Class::Integer => {
-                next_general += 1;
-                Loc::G(registers[next_general as usize - 1])
-            }
-            Class::Sse => {
-                next_vector += 1;
-                Loc::F(next_vector as u8 - 1)
-            }
-        };
-        pieces.push(doubleword(size, j, loc, ext))?;
+    match found {
+        Classes::Memory => Ok(Pieces::new(alloc)),
+        Classes::Nothing => Ok(Pieces::new(alloc)),
+        Classes::One(class) => {
+            let at = register(class, general, vector, registers);
+            one_piece(alloc, doubleword(size_of(ty), 0, at, widening(ty)))
+        }
+        Classes::Two(first, second) => {
+            let before = Classes::One(first);
+            let low = register(first, general, vector, registers);
+            let next_general = general + before.integers();
+            let next_vector = vector + before.sses();
+            let high = register(second, next_general, next_vector, registers);
+            let size = size_of(ty);
+            let ext = widening(ty);
+            let first_piece = doubleword(size, 0, low, ext);
+            let second_piece = doubleword(size, 1, high, ext);
+            two_pieces(alloc, first_piece, second_piece)
+        }
     }
-    Ok(pieces)
 }
 
 /// The pieces of an argument, and what it takes with those before it.

@@ -1,2 +1,3 @@
 mod Glue
 mod Gather
+mod Empty

@@ -66,6 +66,10 @@ pub record AreRunsOf (pieces : List Piece) (runs : List Run) : Type 0 where
   -- each next one stands higher and has later bytes
   pub rising : Neighbours Rises runs
 
+-- nothing of it stands on the stack
+abbrev pub HasNoRuns : Place → Type 0
+HasNoRuns p = stack_runs (pieces_of p) ≡ []
+
 -- the runs of each argument
 abbrev pub PlacesHaveRuns : List Place → List (List Run) → Type 0
 PlacesHaveRuns [] [] = ⊤

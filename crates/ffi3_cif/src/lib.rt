@@ -13,7 +13,7 @@ mod runs;
 use ffi3_place::{Abi, Place, Plan, Res};
 use ffi3_types::{FfiType, Fields, NoMemory, Sig, SigFault, check_sig};
 pub use runs::{Run, Runs};
-use runs::{AllRuns, all_runs};
+use runs::{AllRuns, runs_in_frame};
 use std::alloc::Global;
 use std::marker::{Model, PhantomData};
 use thiserror::Error;
@@ -64,7 +64,7 @@ impl<A: Abi> Cif<A> {
         let Ok(plan) = A::plan(alloc, &sig) else {
             return Err(NoMemory);
         };
-        let Ok(runs) = all_runs(alloc, &plan.places) else {
+        let Ok(runs) = runs_in_frame(alloc, &plan.places, plan.frame) else {
             return Err(NoMemory);
         };
         Ok(Cif {

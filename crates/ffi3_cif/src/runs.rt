@@ -4,7 +4,7 @@ ghost use Rattle.std.specs.Prelude.{◌≡◌, ◌+◌, ◌<◌, ◌≤◌, ◌^
 ghost use Rattle.std.specs.List.{AllByRecursion};
 ghost use Rattle.ffi3_type_rules.specs.declared.limits.TheConstants.{LARGEST_TYPE};
 ghost use Rattle.ffi3_place_rules.specs.Sound.{AreRising, PlaceRises};
-ghost use Rattle.ffi3_cif.specs.Runs.{AreRunsOf, EndsWithin, PlaceEndsWithin, PlacesHaveRuns, pieces_of, run_at, goes_on, some_run, glued};
+ghost use Rattle.ffi3_cif.specs.Runs.{AreRunsOf, EndsWithin, PlaceEndsWithin, PlacesHaveRuns, HasNoRuns, pieces_of, run_at, goes_on, some_run, glued};
 
 use ffi3_place::{Loc, Piece, Pieces, Place, Places};
 use ffi3_place_rules::Listed;
@@ -91,13 +91,14 @@ impl Model for AllRuns {
 }
 
 impl AllRuns {
-    fn new(alloc: Global) -> AllRuns
-        ensures { result ≡ [] }
+    /// So many arguments without runs.
+    fn empty(alloc: Global, count: usize) -> AllRuns
+        ensures { result ≡ replicate count [] }
     {
         AllRuns {
             listed: Listed::new(alloc),
             none: Runs::new(alloc),
-            more: 0,
+            more: count,
         }
     }
 
@@ -214,13 +215,25 @@ fn place_runs(alloc: Global, place: &Place) -> Result<Runs, NoMemory>
     }
 }
 
-/// The runs of each argument.
-pub fn all_runs(alloc: Global, places: &Places) -> Result<AllRuns, NoMemory>
+/// The runs of each argument, in a frame of so many bytes. Where it has none, nothing stands on the stack.
+pub fn runs_in_frame(alloc: Global, places: &Places, frame: u64) -> Result<AllRuns, NoMemory>
+    requires within { AllByRecursion (PlaceEndsWithin LARGEST_TYPE) places.now }
+    requires rising { AllByRecursion PlaceRises places.now }
+    requires empty { frame ≡ 0 → AllByRecursion HasNoRuns places.now }
+    ensures { IfOk result (λ r. PlacesHaveRuns places.now r) }
+{
+    if frame == 0 {
+        return Ok(AllRuns::empty(alloc, places.len()));
+    }
+    all_runs(alloc, places)
+}
+
+fn all_runs(alloc: Global, places: &Places) -> Result<AllRuns, NoMemory>
     requires within { AllByRecursion (PlaceEndsWithin LARGEST_TYPE) places.now }
     requires rising { AllByRecursion PlaceRises places.now }
     ensures { IfOk result (λ r. PlacesHaveRuns places.now r) }
 {
-    let mut all = AllRuns::new(alloc);
+    let mut all = AllRuns::empty(alloc, 0);
     for i in 0..places.len() {
         all.push(alloc, place_runs(alloc, places.get(i))?)?;
     }

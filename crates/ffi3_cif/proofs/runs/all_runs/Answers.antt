@@ -7,7 +7,7 @@ use Rattle.ffi3_cif.proofs.Gather.{as_many, place_taken, all_places}
 use Rattle.ffi3_cif.proofs.runs.all_runs.Goals as goal
 
 pub loop-i-init : goal.loop-i-init
-loop-i-init c = subst (λ rs. PlacesHaveRuns [] rs) (sym c.new-all.ensures) tt
+loop-i-init c = subst (λ rs. PlacesHaveRuns [] rs) (sym c.empty-all.ensures) tt
 
 pub place_runs-requires-clause-within : goal.place_runs-requires-clause-within
 place_runs-requires-clause-within c =
