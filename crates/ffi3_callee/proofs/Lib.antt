@@ -15,3 +15,4 @@ pub mod Beside
 pub mod OwnKept
 pub mod ByStub
 pub mod WayBack
+pub mod Answered

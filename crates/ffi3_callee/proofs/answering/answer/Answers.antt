@@ -7,6 +7,7 @@ use Rattle.ffi3_pieces.specs.Passing.{passing}
 use Rattle.ffi3_callee.specs.Loaded.{image_from}
 use Rattle.ffi3_callee.specs.Received.{hidden_of}
 use Rattle.ffi3_callee.specs.Saved.{AreSaved}
+use Rattle.ffi3_callee.proofs.Answered.{answered}
 use Rattle.ffi3_callee.proofs.Keeping.{reserved_then}
 use Rattle.ffi3_callee.proofs.Results.{written_target}
 use Rattle.ffi3_callee.proofs.WayBack.{held_registers, same_reserved}
@@ -45,3 +46,15 @@ returns-clause-holds g c =
 pub returns-clause-sp : goal.returns-clause-sp
 returns-clause-sp g c =
     c.go_back.ensures.back.sp ∙ ap (λ n. n + g.A.Abi.standard.link) c.receive-incoming.ensures.entry
+
+pub returns-clause-answered : goal.returns-clause-answered
+returns-clause-answered g c =
+    let std = g.A.Abi.standard in
+    let m = c.args.machine.now in
+    let base = m.sp + std.link in
+    let hidden = hidden_of (plan_of std c.args.cif.now).res in
+    let taken = c.receive-incoming.new.machine in
+    let given = c.give_result.new.machine in
+    let saved = subst (λ n. AreSaved (n - std.save) (m.sp + std.link) (hidden_of (plan_of std c.args.cif.now).res) std.save_area m taken) (sym c.receive-incoming.ensures.entry) c.receive-incoming.ensures.received.saved in
+    let hold = held_registers std g.met.A.Abi.agrees (c.receive-incoming.result.entry - std.save) base 0 hidden m given (c.give_result.ensures.saved base hidden m saved) in
+    answered std c.args.cif.now g.met.A.Abi.agrees m taken given c.go_back.new.machine c.receive-incoming.result.entry (c.requires.target ∙ sym g.met.A.Abi.target_is) c.receive-incoming.ensures.entry c.requires.room c.requires.frame c.sp-entry.ensures.machine.stack c.receive-incoming.ensures.received c.give_result.ensures.writes c.go_back.ensures.back hold
