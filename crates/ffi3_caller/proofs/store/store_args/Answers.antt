@@ -130,6 +130,18 @@ returns-clause-unused g c =
     subst (λ low. AllKeepUnused low (passing (with_frame (frame_of std s) m)) d s.arguments (plan_of std s).places) (sym all.sp)
     (subst (λ x. AllKeepUnused o.sp x d s.arguments (plan_of std s).places) (ap passing (c.begin_frame.ensures.opened ∙ ap (λ n. with_frame n m) c.frame.ensures)) all.unused)
 
+pub returns-clause-passed : goal.returns-clause-passed
+returns-clause-passed g c =
+    let std = g.A.Abi.standard in
+    let s = c.args.cif.now in
+    let sound = g.met.A.Abi.sound s c.sig-sig.ensures.faultless in
+    let m = c.args.machine.now in
+    let write = written_by_law std s sound g.met.A.Abi.agrees m.target _ g.met.A.Abi.target_is c.requires.target in
+    let registers = subst (λ k. AllByRecursion (IsPlace 0) (listed k)) (sym c.vector_count-count.ensures) (count_is_register std g.met.A.Abi.agrees) in
+    let low : STACK ≤ c.sp-base.result = omega (arith, c.begin_frame.ensures.sp, c.frame.ensures, c.sp-base.ensures.value, c.requires.room) in
+    let all = call_stored std s sound c.sig-sig.ensures.faultless c.args.values.now m.target c.sp-base.result c.result_place.result.now c.vector_count-count.result c.vectors.result (passing (scribbled (length m.events) m)) (passing c.begin_frame.new.machine) (passing c.store_places.new.machine) (passing c.store_hidden.new.machine) (passing c.put_count.new.machine) c.sp-base.ensures.value low c.result_place.ensures c.vector_count-count.ensures c.vectors.ensures write registers c.requires.fit c.begin_frame.ensures.registers c.store_places.ensures.stand c.store_places.ensures.stays c.store_places.ensures.within c.store_places.ensures.unused c.store_hidden.ensures.stands c.store_hidden.ensures.stays c.store_hidden.ensures.within c.put_count.ensures.told c.put_count.ensures.stays c.put_count.ensures.within in
+    all.others
+
 pub returns-clause-others : goal.returns-clause-others
 returns-clause-others g c =
     let std = g.A.Abi.standard in
