@@ -1,10 +1,12 @@
 -- Where the arguments and the result of a call stand on AArch64. (Arm AAPCS64, IHI 0055, "Parameter passing rules" and "Result return". Rules are named by stage and number, as B.4, as the releases from 2020Q2 on number them.)
-use Rattle.std.specs.Prelude.{ℕ, ◌+◌, ◌*◌, Bool, true, false, not, ◌&&◌, cond, nat_le, nat_lt, List, [], ◌∷◌, ◌++◌, map, length, Option, Some, None, is_some}
+use Rattle.std.specs.Prelude.{ℕ, ◌+◌, ◌*◌, Bool, true, false, not, ◌&&◌, cond, nat_le, nat_lt, List, [], ◌∷◌, ◌++◌, map}
+use Rattle.std.specs.Prelude.{length, Option, Some, None, is_some}
 use Rattle.std.specs.List.{list_all}
 use Rattle.ffi3_type_rules.specs.declared.Target.TheVariants as target
 use Rattle.ffi3_type_rules.specs.declared.Isa.{Isa}
 use Rattle.ffi3_type_rules.specs.Isa.{isa_of}
-use Rattle.ffi3_type_rules.specs.Tree.{Tree, void, scalar, structure, Scalar, u8, s8, u16, s16, u32, s32, u64, s64, u128, s128, float, double, pointer, array}
+use Rattle.ffi3_type_rules.specs.Tree.{Tree, void, scalar, structure, Scalar, u8, s8, u16, s16, u32, s32, u64, s64}
+use Rattle.ffi3_type_rules.specs.Tree.{u128, s128, float, double, pointer, array}
 use Rattle.ffi3_type_rules.specs.Layout.{Leaf, leaves_of, size_of, align_of, least_multiple}
 use Rattle.ffi3_type_rules.specs.Signature.{Signature}
 use Rattle.ffi3_place_rules.specs.declared.Loc.{Loc}
@@ -14,8 +16,10 @@ use Rattle.ffi3_place_rules.specs.declared.Piece.{Piece}
 use Rattle.ffi3_place_rules.specs.declared.SaveWord.{SaveWord}
 use Rattle.ffi3_place_rules.specs.declared.SaveWord.TheVariants.{Register, Hidden, Spare}
 use Rattle.ffi3_place_rules.specs.declared.Taken.{Taken}
-use Rattle.ffi3_place_rules.specs.Isa.{pushed_bytes, stack_pointer, reserved_places, link_place, closure_register, trampoline_registers, listed}
-use Rattle.ffi3_place_rules.specs.Standard.{Standard, Placing, Spot, in_pieces, by_reference, ResultSpot, no_result, in_result_pieces, in_buffer, start, round8}
+use Rattle.ffi3_place_rules.specs.Isa.{pushed_bytes, stack_pointer, reserved_places, link_place, closure_register}
+use Rattle.ffi3_place_rules.specs.Isa.{trampoline_registers, listed}
+use Rattle.ffi3_place_rules.specs.Standard.{Standard, Placing, Spot, in_pieces, by_reference, ResultSpot, no_result}
+use Rattle.ffi3_place_rules.specs.Standard.{in_result_pieces, in_buffer, start, round8}
 use Rattle.ffi3_place_rules.specs.Doublewords.{doublewords, doublewords_at, widening, stack_pieces, leaf_piece}
 use Rattle.ffi3_aapcs64_rules.specs.declared.Kind.{Kind}
 use Rattle.ffi3_aapcs64_rules.specs.declared.Kind.TheVariants.{Float, Double}

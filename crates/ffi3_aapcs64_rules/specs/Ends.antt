@@ -5,7 +5,8 @@ use Rattle.ffi3_type_rules.specs.Signature.{Signature}
 use Rattle.ffi3_place_rules.specs.Standard.{Spot}
 use Rattle.ffi3_place_rules.specs.Sums.{sum_below, end_below}
 use Rattle.ffi3_place_rules.specs.Copies.{CopiesByEnds}
-use Rattle.ffi3_aapcs64_rules.specs.Aapcs64.{aapcs64, in_vectors, passed, registers_needed, stack_size, first_general, stack_start, register_spot, stack_spot, placing_of}
+use Rattle.ffi3_aapcs64_rules.specs.Aapcs64.{aapcs64, in_vectors, passed, registers_needed, stack_size, first_general}
+use Rattle.ffi3_aapcs64_rules.specs.Aapcs64.{stack_start, register_spot, stack_spot, placing_of}
 
 -- ---- arguments
 
@@ -54,19 +55,25 @@ module _ (s : Signature) where
   -- THE ENDS PLACE THE ARGUMENTS: each in registers, or on the stack, behind the end of those before it.
   pub record ArePlacedByEnds (spots : List Spot) (stack_bytes : ℕ) : Type 0 where
     pub one_each : length spots ≡ length s.arguments
-    pub in_registers : (i : ℕ) → i < length s.arguments → is_in_registers i ≡ true → slice_get spots i ≡ Some (register_spot (first_of i) (tree_at s.arguments i))
-    pub on_stack : (i : ℕ) → i < length s.arguments → is_in_registers i ≡ false → slice_get spots i ≡ Some (stack_spot (stack_at i (stack_before i)) (tree_at s.arguments i))
+    pub in_registers : (i : ℕ) → i < length s.arguments → is_in_registers i ≡ true
+        → slice_get spots i ≡ Some (register_spot (first_of i) (tree_at s.arguments i))
+    pub on_stack : (i : ℕ) → i < length s.arguments → is_in_registers i ≡ false
+        → slice_get spots i ≡ Some (stack_spot (stack_at i (stack_before i)) (tree_at s.arguments i))
     pub stack_total : stack_bytes ≡ stack_before (length s.arguments)
 
   -- no other places and no other number of stack bytes are those of the ends
   abbrev pub IsOnlyPlacing : Type 0
   IsOnlyPlacing =
-      (spots : List Spot) (stack_bytes : ℕ) → ArePlacedByEnds spots stack_bytes → (spots ≡ (placing_of s).arguments) × (stack_bytes ≡ (placing_of s).stack_bytes)
+      (spots : List Spot) (stack_bytes : ℕ) → ArePlacedByEnds spots stack_bytes
+      → (spots ≡ (placing_of s).arguments) × (stack_bytes ≡ (placing_of s).stack_bytes)
 
   -- once an argument does not fit, no later one of its kind is in registers (C.3, C.13)
   abbrev pub NoneFitsLater : Type 0
   NoneFitsLater =
-      (i j : ℕ) → i ≤ j → j < length s.arguments → in_vectors (tree_at s.arguments i) ≡ in_vectors (tree_at s.arguments j) → is_in_registers i ≡ false → is_in_registers j ≡ false
+      (i j : ℕ)
+      → i ≤ j → j < length s.arguments → in_vectors (tree_at s.arguments i) ≡ in_vectors (tree_at s.arguments j)
+      → is_in_registers i ≡ false
+      → is_in_registers j ≡ false
 
 -- ---- THE ENDS PLACE A CALL
 

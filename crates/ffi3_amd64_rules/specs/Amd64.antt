@@ -1,5 +1,6 @@
 -- Where the arguments and the result of a call stand on AMD64. (System V psABI AMD64 3.2.3, "Parameter Passing" and "Returning of Values")
-use Rattle.std.specs.Prelude.{ℕ, zero, suc, ◌+◌, ◌*◌, Bool, true, false, not, ◌&&◌, cond, nat_le, nat_lt, List, [], ◌∷◌, ◌++◌, map, get_or, length, Some}
+use Rattle.std.specs.Prelude.{ℕ, zero, suc, ◌+◌, ◌*◌, Bool, true, false, not, ◌&&◌, cond, nat_le, nat_lt, List, [], ◌∷◌}
+use Rattle.std.specs.Prelude.{◌++◌, map, get_or, length, Some}
 use Rattle.std.specs.List.{list_any, count_by}
 use Rattle.ffi3_type_rules.specs.declared.Isa.TheVariants as isa
 use Rattle.ffi3_type_rules.specs.declared.Target.TheVariants as target
@@ -14,8 +15,10 @@ use Rattle.ffi3_place_rules.specs.declared.Piece.{Piece}
 use Rattle.ffi3_place_rules.specs.declared.SaveWord.{SaveWord}
 use Rattle.ffi3_place_rules.specs.declared.SaveWord.TheVariants.{Register, Hidden}
 use Rattle.ffi3_place_rules.specs.declared.Taken.{Taken}
-use Rattle.ffi3_place_rules.specs.Isa.{pushed_bytes, stack_pointer, link_place, reserved_places, closure_register, trampoline_registers}
-use Rattle.ffi3_place_rules.specs.Standard.{Standard, Placing, Spot, in_pieces, ResultSpot, no_result, in_result_pieces, in_buffer, doubleword, round8, start}
+use Rattle.ffi3_place_rules.specs.Isa.{pushed_bytes, stack_pointer, link_place, reserved_places, closure_register}
+use Rattle.ffi3_place_rules.specs.Isa.{trampoline_registers}
+use Rattle.ffi3_place_rules.specs.Standard.{Standard, Placing, Spot, in_pieces, ResultSpot, no_result, in_result_pieces}
+use Rattle.ffi3_place_rules.specs.Standard.{in_buffer, doubleword, round8, start}
 use Rattle.ffi3_place_rules.specs.Doublewords.{doublewords, widening, stack_pieces}
 use Rattle.ffi3_amd64_rules.specs.declared.Class.{Class}
 use Rattle.ffi3_amd64_rules.specs.declared.Class.TheVariants.{Integer, Sse}
@@ -94,13 +97,15 @@ register_of general g f earlier Sse = F (vector_register (f + count_by is_sse_cl
 abbrev pub register_pieces : (ℕ → ℕ) → ℕ → ℕ → Tree → List Class → List Class → List Piece
 register_pieces general g f t earlier [] = []
 register_pieces general g f t earlier (c ∷ cs) =
-    doubleword (register_of general g f earlier c) (length earlier) (size_of t) (widening t) ∷ register_pieces general g f t (earlier ++ c ∷ []) cs
+    doubleword (register_of general g f earlier c) (length earlier) (size_of t) (widening t)
+    ∷ register_pieces general g f t (earlier ++ c ∷ []) cs
 
 -- ---- arguments
 
 -- Registers are available for every eightbyte of the argument: there are six general ones and eight vector registers. (Passing: "If there are no registers available for any eightbyte of an argument, the whole argument is passed on the stack")
 abbrev pub in_registers : Taken → Tree → Bool
-in_registers before t = not (in_memory t) && (nat_le (before.general + integers t) 6 && nat_le (before.vector + sses t) 8)
+in_registers before t =
+    not (in_memory t) && (nat_le (before.general + integers t) 6 && nat_le (before.vector + sses t) 8)
 
 -- where an argument on the stack begins, after the end of the one before it (Passing, step 1: at an address respecting its alignment; Classification, on __int128: on a 16-byte boundary)
 abbrev pub stack_start : ℕ → Tree → ℕ

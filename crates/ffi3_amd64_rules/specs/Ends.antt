@@ -7,7 +7,8 @@ use Rattle.ffi3_place_rules.specs.declared.Taken.{Taken}
 use Rattle.ffi3_place_rules.specs.Sums.{sum_below, end_below}
 use Rattle.ffi3_place_rules.specs.Copies.{CopiesByEnds}
 use Rattle.ffi3_place_rules.specs.Standard.{plan_of}
-use Rattle.ffi3_amd64_rules.specs.Amd64.{amd64, integers, sses, in_memory, in_registers, stack_end, pieces_after, placing_of}
+use Rattle.ffi3_amd64_rules.specs.Amd64.{amd64, integers, sses, in_memory, in_registers, stack_end, pieces_after}
+use Rattle.ffi3_amd64_rules.specs.Amd64.{placing_of}
 
 -- the sum of the terms below n that are chosen
 abbrev pub sum_where : (ℕ → Bool) → (ℕ → ℕ) → ℕ → ℕ
@@ -45,7 +46,8 @@ module _ (s : Signature) (chosen : ℕ → Bool) where
   -- each argument stands where sums and ends say, and they give the bytes of stack and the vector registers of all
   pub record ArePlacedByEnds : Type 0 where
     pub registers_suffice : AreChosenBySums
-    pub placed : (i : ℕ) → i < length s.arguments → slice_get (plan_of amd64 s).places i ≡ Some (Direct (pieces_after (taken_before i) (tree_at s.arguments i)))
+    pub placed : (i : ℕ) → i < length s.arguments
+        → slice_get (plan_of amd64 s).places i ≡ Some (Direct (pieces_after (taken_before i) (tree_at s.arguments i)))
     pub stack_total : (placing_of s).stack_bytes ≡ stack_before (length s.arguments)
     pub vector_total : (plan_of amd64 s).vectors ≡ vector_before (length s.arguments)
 

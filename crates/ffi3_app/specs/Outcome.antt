@@ -19,7 +19,8 @@ use Rattle.ffi3_runner.specs.RunInterrupted.{RunWasInterrupted}
 use Rattle.ffi3_io.specs.Sink.{Adds, SinkState}
 use Rattle.ffi3_io.specs.Written.{TookText}
 use Rattle.ffi3_words.specs.declared.words.Request.{Request}
-use Rattle.ffi3_words.specs.declared.words.Request.TheVariants.{Layout, Place, Run, Cdecl, Cplace, Explain, Arguments, Bench}
+use Rattle.ffi3_words.specs.declared.words.Request.TheVariants.{Layout, Place, Run, Cdecl, Cplace, Explain, Arguments}
+use Rattle.ffi3_words.specs.declared.words.Request.TheVariants.{Bench}
 use Rattle.ffi3_cdecl_rules.specs.Grammar.{Declaration}
 use Rattle.ffi3_cdecl_rules.specs.Reading as declaration
 use Rattle.ffi3_image_rules.specs.declared.Question.{Question}
@@ -27,7 +28,8 @@ use Rattle.ffi3_image_rules.specs.declared.Question.TheVariants.{Explained, BySt
 use Rattle.ffi3_image_rules.specs.Answer as image
 use Rattle.ffi3_image_rules.specs.Answer.{Answer, IsAnswer}
 use Rattle.ffi3_app.specs.Commands.{standard_of, layout_text, place_text}
-use Rattle.ffi3_app.specs.Declarations.{Input, too_many_bytes, not_utf8, a_text, IsReadAs, offset_line, reason_line, cdecl_text, cplace_text}
+use Rattle.ffi3_app.specs.Declarations.{Input, too_many_bytes, not_utf8, a_text, IsReadAs, offset_line, reason_line}
+use Rattle.ffi3_app.specs.Declarations.{cdecl_text, cplace_text}
 
 -- WHAT A COMMAND COMES TO: its input is refused with a line; or a text is told; or a program is run by a standard, traced or not, and told; or the bench of a seed and a number of calls is run and told
 pub data Outcome : Type 0 where
@@ -125,12 +127,14 @@ outcome_status (benches seed calls) = 0
 -- A RUN IS DONE: it is told whole, and its status says how it ended
 abbrev pub IsRun : (trace : Bool) → Standard → Program → SinkState → SinkState → State → ℕ → Type 0
 IsRun trace std program output output' machine' status =
-    RunMatches (main_tracing trace std) std program output output' machine' × (status ≡ status_of (meaning_of program).end)
+    RunMatches (main_tracing trace std) std program output output' machine'
+    × (status ≡ status_of (meaning_of program).end)
 
 -- THE BENCH IS DONE: its lines are written whole, and the machine has the whole journal of the made script's run by the last standard
 abbrev pub IsBench : (seed calls : ℕ) → SinkState → SinkState → State → Type 0
 IsBench seed calls output output' machine' =
-    TookText (bench_text seed calls) output output' × HasWholeJournal riscv (program_of riscv (made seed calls)) machine'
+    TookText (bench_text seed calls) output output'
+    × HasWholeJournal riscv (program_of riscv (made seed calls)) machine'
 
 -- THE WORK IS DONE, with this status: a text is written whole, and the machine is as it was; or a run or the bench is done. What is refused is not worked on.
 abbrev pub IsDone : Outcome → SinkState → SinkState → State → State → ℕ → Type 0
@@ -149,7 +153,8 @@ WroteFirst text output output' = (part : ℕ) × Adds output.taken (take part te
 -- A RUN IS DONE IN PART, interrupted in a line or elsewhere: a first part of its text is written, and it is told as far as it came
 abbrev pub IsRunInPart : (in_line trace : Bool) → Standard → Program → SinkState → SinkState → State → Type 0
 IsRunInPart in_line trace std program output output' machine' =
-    WrotePart (main_tracing trace std) program output output' × RunWasInterrupted (main_tracing trace std) std program in_line output output' machine'
+    WrotePart (main_tracing trace std) program output output'
+    × RunWasInterrupted (main_tracing trace std) std program in_line output output' machine'
 
 -- THE WORK IS DONE IN PART, interrupted in a line or elsewhere: a first part of the text is written; where nothing runs the machine is as it was
 abbrev pub IsDoneInPart : (in_line : Bool) → Outcome → SinkState → SinkState → State → State → Type 0

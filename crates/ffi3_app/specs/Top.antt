@@ -63,19 +63,47 @@ LeftInput true (benches seed calls) input input' =
 -- a line was handed to the sink of faults: it took the line whole, or it failed in it, which is status 4 whatever the status was before
 pub data ReportsFault (line : List ℕ) (status : ℕ) (before after : SinkState) : ℕ → Type 0 where
   whole : TookText line before after → ReportsFault line status before after status
-  cut : AddsSome before.taken line after.taken → Rose before.faults after.faults → ReportsFault line status before after 4
+  cut : AddsSome before.taken line after.taken → Rose before.faults after.faults
+      → ReportsFault line status before after 4
 
 -- WHAT GOES WRONG, with the status and the line that tell it: its cause, what was written, and what stayed as it was
-pub data Fails (words : List (List ℕ)) (natives : List NamedNative) (input input' : SourceState) (output output' : SinkState) (machine machine' : State) : ℕ → List ℕ → Type 0 where
-  refused : {request : Request} → Takes words request → {line : List ℕ} → ComesTo request natives input (refuses line) → LeftInput (reads_input request) (refuses line) input input' → output' ≡ output → machine' ≡ machine → Fails words natives input input' output output' machine machine' 1 line
-  bad_words : {line : List ℕ} → IsRefused words → input' ≡ input → output' ≡ output → machine' ≡ machine → Fails words natives input input' output output' machine machine' 2 line
-  read_failed : {request : Request} → Takes words request → reads_input request ≡ true → Rose input.faults input'.faults → IsReadInPart input input' → output' ≡ output → machine' ≡ machine → Fails words natives input input' output output' machine machine' 3 read_fault_line
-  write_failed : {request : Request} → Takes words request → (o : Outcome) → ComesTo request natives input o → LeftInput (reads_input request) o input input' → IsDoneInPart true o output output' machine machine' → Rose output.faults output'.faults → Fails words natives input input' output output' machine machine' 4 write_fault_line
-  no_memory_for_words : input' ≡ input → output' ≡ output → machine' ≡ machine → Fails words natives input input' output output' machine machine' 5 no_memory_line
-  no_memory_to_begin : {request : Request} → Takes words request → IsReadInPart input input' → input'.faults ≡ input.faults → (reads_input request ≡ false → input' ≡ input) → output' ≡ output → machine' ≡ machine → Fails words natives input input' output output' machine machine' 5 no_memory_line
-  no_memory_to_end : {request : Request} → Takes words request → (o : Outcome) → ComesTo request natives input o → LeftInput (reads_input request) o input input' → IsDoneInPart false o output output' machine machine' → output'.faults ≡ output.faults → Fails words natives input input' output output' machine machine' 5 no_memory_line
+pub data Fails (words : List (List ℕ)) (natives : List NamedNative) (input input' : SourceState)
+    (output output' : SinkState) (machine machine' : State) : ℕ → List ℕ → Type 0 where
+  refused : {request : Request}
+      → Takes words request → {line : List ℕ} → ComesTo request natives input (refuses line)
+      → LeftInput (reads_input request) (refuses line) input input' → output' ≡ output → machine' ≡ machine
+      → Fails words natives input input' output output' machine machine' 1 line
+  bad_words : {line : List ℕ} → IsRefused words → input' ≡ input → output' ≡ output → machine' ≡ machine
+      → Fails words natives input input' output output' machine machine' 2 line
+  read_failed : {request : Request}
+      → Takes words request → reads_input request ≡ true → Rose input.faults input'.faults → IsReadInPart input input'
+      → output' ≡ output → machine' ≡ machine
+      → Fails words natives input input' output output' machine machine' 3 read_fault_line
+  write_failed : {request : Request}
+      → Takes words request → (o : Outcome) → ComesTo request natives input o
+      → LeftInput (reads_input request) o input input' → IsDoneInPart true o output output' machine machine'
+      → Rose output.faults output'.faults
+      → Fails words natives input input' output output' machine machine' 4 write_fault_line
+  no_memory_for_words : input' ≡ input → output' ≡ output → machine' ≡ machine
+      → Fails words natives input input' output output' machine machine' 5 no_memory_line
+  no_memory_to_begin : {request : Request}
+      → Takes words request → IsReadInPart input input' → input'.faults ≡ input.faults
+      → (reads_input request ≡ false → input' ≡ input) → output' ≡ output → machine' ≡ machine
+      → Fails words natives input input' output output' machine machine' 5 no_memory_line
+  no_memory_to_end : {request : Request}
+      → Takes words request → (o : Outcome) → ComesTo request natives input o
+      → LeftInput (reads_input request) o input input' → IsDoneInPart false o output output' machine machine'
+      → output'.faults ≡ output.faults
+      → Fails words natives input input' output output' machine machine' 5 no_memory_line
 
 -- WHAT EACH STATUS SAYS: the work is done whole, or what goes wrong is told, and then 4 in place of its status where that failed
-pub data Says (words : List (List ℕ)) (natives : List NamedNative) (input input' : SourceState) (output output' told told' : SinkState) (machine machine' : State) : ℕ → Type 0 where
-  done : {request : Request} {status : ℕ} → Takes words request → (o : Outcome) → ComesTo request natives input o → LeftInput (reads_input request) o input input' → IsDone o output output' machine machine' status → told' ≡ told → Says words natives input input' output output' told told' machine machine' status
-  failed : {status : ℕ} {line : List ℕ} {answer : ℕ} → Fails words natives input input' output output' machine machine' status line → ReportsFault line status told told' answer → Says words natives input input' output output' told told' machine machine' answer
+pub data Says (words : List (List ℕ)) (natives : List NamedNative) (input input' : SourceState)
+    (output output' told told' : SinkState) (machine machine' : State) : ℕ → Type 0 where
+  done : {request : Request} {status : ℕ}
+      → Takes words request → (o : Outcome) → ComesTo request natives input o
+      → LeftInput (reads_input request) o input input' → IsDone o output output' machine machine' status → told' ≡ told
+      → Says words natives input input' output output' told told' machine machine' status
+  failed : {status : ℕ} {line : List ℕ} {answer : ℕ}
+      → Fails words natives input input' output output' machine machine' status line
+      → ReportsFault line status told told' answer
+      → Says words natives input input' output output' told told' machine machine' answer

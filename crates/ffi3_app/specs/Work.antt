@@ -37,7 +37,9 @@ Works IsOne output output' machine machine' (Err (Refused line)) =
 Works IsOne output output' machine machine' (Err WriteFault) =
     ((o : Outcome) × IsOne o × IsDoneInPart true o output output' machine machine') × Rose output.faults output'.faults
 Works IsOne output output' machine machine' (Err NoMemory) =
-    (((output' ≡ output) × (machine' ≡ machine)) ⊎ ((o : Outcome) × IsOne o × IsDoneInPart false o output output' machine machine')) × (output'.faults ≡ output.faults)
+    (((output' ≡ output) × (machine' ≡ machine))
+    ⊎ ((o : Outcome) × IsOne o × IsDoneInPart false o output output' machine machine'))
+    × (output'.faults ≡ output.faults)
 
 -- what writing came to is what the work came to
 abbrev pub work_of_writing : Result Unit IoError → Result ℕ Unfinished

@@ -19,7 +19,8 @@ pub record IsAsked (p : Program) (who : Who) (a : SeenActivation) (Holds : Value
   pub after : (r : ValueTree) → IsOfType r (result_type_of p.signatures m) → Holds r
 
 -- the same of a body by its own numbers
-pub record IsNext (signatures : List Signature) (functions : ℕ) (behaviour : Behaviour) (a : SeenActivation) (Holds : ValueTree → Type 0) (m : Move) : Type 0 where
+pub record IsNext (signatures : List Signature) (functions : ℕ) (behaviour : Behaviour) (a : SeenActivation)
+    (Holds : ValueTree → Type 0) (m : Move) : Type 0 where
   pub is : m ≡ behaviour (arguments_of a) a.user a.results
   pub fits : MoveFits signatures functions a.signature.result_type m
   pub after : (r : ValueTree) → IsOfType r (result_type_of signatures m) → Holds r

@@ -45,7 +45,8 @@ pub record IsInFunction (s : Script) (k : ℕ) (a : SeenActivation) (c : Cursor)
 pub record IsNative (s : Script) (ns : List NamedNative) (k first : ℕ) (n : NamedNative) : Type 0 where
   pub above : length (script_of s).functions ≤ k
   pub is : slice_get ns (k - length (script_of s).functions) ≡ Some n
-  pub begins : first ≡ length (script_of s).signatures + signatures_before (natives_in ns) (k - length (script_of s).functions)
+  pub begins :
+      first ≡ length (script_of s).signatures + signatures_before (natives_in ns) (k - length (script_of s).functions)
 
 -- in the native that is function k of the run
 pub record IsInHanded (s : Script) (ns : List NamedNative) (k first : ℕ) (a : SeenActivation) : Type 0 where
@@ -62,4 +63,6 @@ StandingAgrees s ns a (InNative k first) = IsInHanded s ns k first a
 -- Where function k of the run stands BEFORE ITS FIRST MOVE: it agrees with any activation of its signature that has no results.
 pub record IsBeforeMoves (s : Script) (ns : List NamedNative) (k : ℕ) (x : Standing) : Type 0 where
   pub who : who_of x ≡ function k
-  pub agrees : (std : Standard) (a : SeenActivation) → a.signature ≡ own_signature (program_beside std ns (script_of s)) (function k) → a.results ≡ [] → StandingAgrees s ns a x
+  pub agrees : (std : Standard) (a : SeenActivation)
+      → a.signature ≡ own_signature (program_beside std ns (script_of s)) (function k) → a.results ≡ []
+      → StandingAgrees s ns a x

@@ -30,7 +30,8 @@ need_of_all p = greatest (map p.need p.signatures)
 
 abbrev pub counts_text : (calls moves need : ℕ) → List ℕ
 counts_text calls moves need =
-    codes " calls " ++ decimal calls ++ codes " moves " ++ decimal moves ++ codes " need " ++ decimal need ++ codes " result "
+    codes " calls " ++ decimal calls ++ codes " moves " ++ decimal moves ++ codes " need " ++ decimal need
+    ++ codes " result "
 
 -- The line of a run that returns. It ends with the run's own line.
 abbrev pub line_of : (target : List ℕ) → Program → List ℕ
@@ -43,7 +44,9 @@ line_by target std seed calls = line_of target (program_of std (made seed calls)
 -- THE TEXT OF bench
 abbrev pub bench_text : (seed calls : ℕ) → List ℕ
 bench_text seed calls =
-    line_by (codes "amd64") amd64 seed calls ++ (line_by (codes "aapcs64") aapcs64 seed calls ++ line_by (codes "riscv") riscv seed calls)
+    line_by (codes "amd64") amd64 seed calls
+    ++ (line_by (codes "aapcs64") aapcs64 seed calls
+    ++ line_by (codes "riscv") riscv seed calls)
 
 -- a machine ends with the whole journal of a program's run
 pub record HasWholeJournal (std : Standard) (p : Program) (m : State) : Type 0 where

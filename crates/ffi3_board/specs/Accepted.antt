@@ -18,7 +18,8 @@ use Rattle.ffi3_board.specs.Turned.{StandsAt}
 use Rattle.ffi3_io.specs.Written.{LineInterrupted}
 
 -- THE SERVED CALL WAS INTERRUPTED AT ITS ENTRY, in its lines or, for want of memory, before them: the entry is in the journal and its steps are counted, no byte was written below what the call needs, and nothing else happened.
-pub record WasInterruptedAtEntry (std : Standard) (s : Signature) (arguments : List ValueTree) (trace : Bool) (why : IoError) (m m' : State) (output output' : SinkState) : Type 0 where
+pub record WasInterruptedAtEntry (std : Standard) (s : Signature) (arguments : List ValueTree) (trace : Bool)
+    (why : IoError) (m m' : State) (output output' : SinkState) : Type 0 where
   pub journal : m'.events ≡ m.events ++ entry_at std s m ∷ []
   pub lines : LineInterrupted (entry_lines trace std s (entry_at std s m) arguments) output output' why
   pub mark : (m.mark ≤ m'.mark) ⊎ (m.sp + std.link + frame_of std s ≤ m'.mark + need_of std s)
@@ -27,7 +28,18 @@ pub record WasInterruptedAtEntry (std : Standard) (s : Signature) (arguments : L
   pub code : m'.code ≡ m.code
 
 -- THE SERVED CALL WAS ACCEPTED: its entry is told where the run is traced, and its run stands before the first move; or it was interrupted there.
-abbrev pub Accepted : {S A : Type 0} → Standard → Program → Closure → List ValueTree → (trace : Bool) → Board S → State → SinkState → Board S → State → SinkState → Result A IoError → Type 0
+abbrev pub Accepted : {S A : Type 0} → Standard → Program → Closure → List ValueTree → (trace : Bool) → Board S → State
+    → SinkState → Board S → State → SinkState → Result A IoError → Type 0
 Accepted std p closure arguments trace b m output b' m' output' (Ok done) =
-    TookText (entry_lines trace std (signature_at p.signatures closure.sig) (entry_at std (signature_at p.signatures closure.sig) m) arguments) output output' × StandsAt p (served_base std p.signatures closure.sig m) (served_left std p closure arguments m b.table b.moves) (served_beginning std (signature_at p.signatures closure.sig) m output' (served_tracing trace std p.signatures closure.sig m)) [] [] b' m' output'
-Accepted std p closure arguments trace b m output b' m' output' (Err why) = WasInterruptedAtEntry std (signature_at p.signatures closure.sig) arguments trace why m m' output output'
+    TookText
+    (entry_lines trace std (signature_at p.signatures closure.sig)
+    (entry_at std (signature_at p.signatures closure.sig) m) arguments)
+    output output'
+    × StandsAt p
+    (served_base std p.signatures closure.sig m)
+    (served_left std p closure arguments m b.table b.moves)
+    (served_beginning std (signature_at p.signatures closure.sig) m output'
+    (served_tracing trace std p.signatures closure.sig m))
+    [] [] b' m' output'
+Accepted std p closure arguments trace b m output b' m' output' (Err why) =
+    WasInterruptedAtEntry std (signature_at p.signatures closure.sig) arguments trace why m m' output output'

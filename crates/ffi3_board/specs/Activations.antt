@@ -29,7 +29,9 @@ left_below (Some c) = c.incoming.block - STACK
 abbrev pub arguments_at : List Signature → State → Option OpenCall → List ValueTree
 arguments_at signatures m None = []
 arguments_at signatures m (Some c) =
-    arguments_in (signature_at signatures c.sig).arguments (stack_at c.incoming.block (block_bytes (signature_at signatures c.sig)) m)
+    arguments_in
+    (signature_at signatures c.sig).arguments
+    (stack_at c.incoming.block (block_bytes (signature_at signatures c.sig)) m)
 
 -- the type of what it returns
 abbrev pub result_type_at : List Signature → Option OpenCall → Tree
@@ -61,7 +63,8 @@ module _ {S : Type 0} where
   abbrev pub suspended_at : List Signature → State → Option OpenCall → List (Waiting S) → List Suspended
   suspended_at signatures m served [] = []
   suspended_at signatures m served (w ∷ outer) =
-      record { activation = acting signatures m (call_inside served outer) w.activation; signature = w.call.sig } ∷ suspended_at signatures m served outer
+      record { activation = acting signatures m (call_inside served outer) w.activation; signature = w.call.sig }
+      ∷ suspended_at signatures m served outer
 
   -- the open calls, the innermost first
   abbrev pub calls_of : Option OpenCall → List (Waiting S) → List OpenCall

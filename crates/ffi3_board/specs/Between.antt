@@ -1,5 +1,6 @@
 -- A run between two moves.
-use Rattle.std.specs.Prelude.{◌≡◌, ℕ, suc, ◌+◌, ◌-◌, ◌≤◌, ◌⊎◌, ⊤, List, [], ◌∷◌, ◌++◌, length, take, drop, reverse, Option}
+use Rattle.std.specs.Prelude.{◌≡◌, ℕ, suc, ◌+◌, ◌-◌, ◌≤◌, ◌⊎◌, ⊤, List, [], ◌∷◌, ◌++◌, length, take, drop, reverse}
+use Rattle.std.specs.Prelude.{Option}
 use Rattle.ffi3_type_rules.specs.declared.limits.TheConstants.{STACK, STACK_TOP}
 use Rattle.ffi3_type_rules.specs.Signature.{Signature}
 use Rattle.ffi3_place_rules.specs.Event.{Event}
@@ -90,7 +91,8 @@ IsMarkOf top first deep mark = (first ≤ mark) ⊎ (top ≤ mark + deep)
 -- each activation that waits has no more results than moves were done
 abbrev pub ResultsWithinMoves : ℕ → List Suspended → Type 0
 ResultsWithinMoves moves [] = ⊤
-ResultsWithinMoves moves (s ∷ outer) = (length s.activation.results + moves ≤ most_moves) × ResultsWithinMoves moves outer
+ResultsWithinMoves moves (s ∷ outer) =
+    (length s.activation.results + moves ≤ most_moves) × ResultsWithinMoves moves outer
 
 -- the calls that are open at this moment, after these events of the run
 abbrev pub open_calls_at : Program → Base → List Event → RunState → List Entered
@@ -98,12 +100,14 @@ open_calls_at p base events x = open_at p base x.suspended events
 
 -- WHAT A RUN KEEPS of what it found: the stack from its top on, and the room in the journal that the returns of open calls do not need.
 pub record KeepsFound (base : Base) (first : Beginning) (entered : List Entered) (m : State) : Type 0 where
-  pub above : (address count : ℕ) → base.top ≤ address → stack_at address count m ≡ take count (drop (address - STACK) first.stack)
+  pub above : (address count : ℕ) → base.top ≤ address
+      → stack_at address count m ≡ take count (drop (address - STACK) first.stack)
   pub events : first.spare_events + length entered ≤ m.spare_events
   pub bytes : first.spare_bytes + frames base.standard entered ≤ m.spare_bytes
 
 -- WHAT HOLDS BETWEEN TWO MOVES of a run with this base, of which all this was left as it began: this trace is done of it, these events answer to it, and the call stack's calls stand on the machine's stack.
-pub record IsBetween (p : Program) (base : Base) (all : Remainder) (first : Beginning) (own : List TraceItem) (events : List Event) (x : RunState) : Type 0 where
+pub record IsBetween (p : Program) (base : Base) (all : Remainder) (first : Beginning) (own : List TraceItem)
+    (events : List Event) (x : RunState) : Type 0 where
   pub needs : p.need ≡ need_of base.standard
   pub count : base.count ≡ length first.events
   pub top : base.top ≤ STACK_TOP
@@ -123,13 +127,15 @@ pub record IsBetween (p : Program) (base : Base) (all : Remainder) (first : Begi
   pub outermost : AreEntriesOf base.bottom base.entries
 
 -- the innermost activation asks for this move, which was counted
-pub record IsAsking (p : Program) (base : Base) (all : Remainder) (first : Beginning) (own : List TraceItem) (events : List Event) (x : RunState) (asked : Move) : Type 0 where
+pub record IsAsking (p : Program) (base : Base) (all : Remainder) (first : Beginning) (own : List TraceItem)
+    (events : List Event) (x : RunState) (asked : Move) : Type 0 where
   pub between : IsBetween p base all first own events (asking x)
   pub asks : next_move p x.innermost ≡ asked
 
 module _ {S : Type 0} where
   -- the moment at which this activation is the innermost, inside those that wait
-  abbrev pub run_state_with : List Signature → Option OpenCall → List (Waiting S) → Closures → ℕ → State → SinkState → Activation S → RunState
+  abbrev pub run_state_with : List Signature → Option OpenCall → List (Waiting S) → Closures → ℕ → State → SinkState
+      → Activation S → RunState
   run_state_with signatures served outer closures moves machine output a = record {
     innermost = acting signatures machine (call_inside served outer) a;
     suspended = suspended_at signatures machine served outer;

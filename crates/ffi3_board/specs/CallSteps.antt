@@ -22,7 +22,8 @@ return_steps Win64 = 0
 abbrev pub call_steps : Target → ℕ
 call_steps target = entry_steps target + return_steps target
 
-pub call_steps_are : (call_steps Amd64 ≡ 66) × (call_steps Aapcs64 ≡ 108) × (call_steps Riscv ≡ 112) × (call_steps Win64 ≡ 3)
+pub call_steps_are :
+    (call_steps Amd64 ≡ 66) × (call_steps Aapcs64 ≡ 108) × (call_steps Riscv ≡ 112) × (call_steps Win64 ≡ 3)
 call_steps_are = (refl, refl, refl, refl)
 
 -- one item: lines take none

@@ -20,7 +20,8 @@ use Rattle.ffi3_io.specs.Written.{LineFailed}
 abbrev pub StoppedBy : List Signature → Stop → SinkState → SinkState → Turn → Type 0
 StoppedBy signatures stop before after More = ⊥
 StoppedBy signatures stop before after Done = ⊥
-StoppedBy signatures stop before after (Stopped s) = (s ≡ stop) × TookText (a_line (stop_text signatures stop)) before after
+StoppedBy signatures stop before after (Stopped s) =
+    (s ≡ stop) × TookText (a_line (stop_text signatures stop)) before after
 StoppedBy signatures stop before after NoMemory = after ≡ before
 StoppedBy signatures stop before after Failed = LineFailed (a_line (stop_text signatures stop)) before after
 
@@ -43,7 +44,8 @@ module _ {S : Type 0} where
   GoneOn r a old new Failed = ⊥
 
   -- a closure's function, before its first move, is the innermost activation, and this one waits for the call
-  pub record HasGoneIn (closure : Closure) (standing : S) (sig : ℕ) (a : Activation S) (old new : Board S) : Type 0 where
+  pub record HasGoneIn (closure : Closure) (standing : S) (sig : ℕ) (a : Activation S) (old new : Board S)
+      : Type 0 where
     pub call : OpenCall
     pub signature : call.sig ≡ sig
     pub innermost : new.innermost ≡ Some (activation_of closure standing)

@@ -27,7 +27,8 @@ AreBelow count closures =
     (k : ℕ) (c : Closure) → slice_index_or closures k None ≡ Some c → c.sig < count
 
 -- the closure at a pointer has the call's signature, and the stack below sp suffices
-pub record CanEnter (std : Standard) (signatures : List Signature) (closures : Closures) (ptr sig : ℕ) (sp : ℕ) (c : Closure) : Type 0 where
+pub record CanEnter (std : Standard) (signatures : List Signature) (closures : Closures) (ptr sig : ℕ) (sp : ℕ)
+    (c : Closure) : Type 0 where
   pub live : closure_at closures ptr ≡ Some c
   pub slot : IsSlot ptr
   pub same : signature_at signatures sig ≡ signature_at signatures c.sig

@@ -1,5 +1,6 @@
 -- A call that is served: what a machine shows of it at its entry, what its run begins with, and what it leaves.
-use Rattle.std.specs.Prelude.{◌≡◌, ℕ, ◌+◌, ◌-◌, ◌<◌, ◌≤◌, ◌⊎◌, ⊤, Bool, true, false, if◌then◌else◌, nat_lt, List, [], ◌∷◌, ◌++◌, length, get_or, Some, None}
+use Rattle.std.specs.Prelude.{◌≡◌, ℕ, ◌+◌, ◌-◌, ◌<◌, ◌≤◌, ◌⊎◌, ⊤, Bool, true, false, if◌then◌else◌, nat_lt, List, []}
+use Rattle.std.specs.Prelude.{◌∷◌, ◌++◌, length, get_or, Some, None}
 use Rattle.ffi3_type_rules.specs.declared.limits.TheConstants.{ENTRY, RETURN, STACK, STACK_TOP}
 use Rattle.ffi3_type_rules.specs.Tree.{Tree}
 use Rattle.ffi3_type_rules.specs.Layout.{size_of}
@@ -78,7 +79,10 @@ served_leaves entry count n at =
 -- how its run is traced: not at all; or by its standard, from the top of its part of the stack
 abbrev pub served_tracing : (trace : Bool) → Standard → List Signature → ℕ → State → Tracing
 served_tracing false std signatures sig m = untraced
-served_tracing true std signatures sig m = traced std (m.sp + std.link + frame_of std (signature_at signatures sig)) (served_leaves (entry_at std (signature_at signatures sig) m) (length m.events + 1))
+served_tracing true std signatures sig m =
+    traced std
+    (m.sp + std.link + frame_of std (signature_at signatures sig))
+    (served_leaves (entry_at std (signature_at signatures sig) m) (length m.events + 1))
 
 -- the activation of the closure's function, with the stack below its block
 abbrev pub served_activation : Standard → List Signature → Closure → List ValueTree → State → meaning.Activation
@@ -92,7 +96,8 @@ served_activation std signatures closure arguments m = record {
 
 -- ALL THAT IS LEFT OF THE CALL after its entry, by the direct meaning: what its function does, and the return
 abbrev pub served_left : Standard → Program → Closure → List ValueTree → State → Closures → ℕ → Remainder
-served_left std p closure arguments m closures moves = rest p (served closure.sig) (alone (served_activation std p.signatures closure arguments m)) closures moves
+served_left std p closure arguments m closures moves =
+    rest p (served closure.sig) (alone (served_activation std p.signatures closure arguments m)) closures moves
 
 module _ {S : Type 0} where
   -- the call was accepted: its function's activation, before its first move, is the only one
@@ -126,11 +131,16 @@ pub record HasServed (base : Base) (first : Beginning) (entered : Entered) (v : 
   pub is_return : IsReturn base.standard entered v (return_at base.standard entered.signature m)
   pub pc : m.pc ≡ RETURN
   pub sp : m.sp ≡ entered.event.image.sp + base.standard.link
-  pub frame : (i : ℕ) → i < base.standard.link + frame_of base.standard entered.signature → IsOutsideBuffer m.sp entered.signature.result_type (plan_of base.standard entered.signature).res (entered.event.image.sp + i) → get_or m.stack (entered.event.image.sp + i - STACK) 0 ≡ get_or entered.event.image.stack i 0
+  pub frame : (i : ℕ)
+      → i < base.standard.link + frame_of base.standard entered.signature
+      → IsOutsideBuffer m.sp
+      entered.signature.result_type (plan_of base.standard entered.signature).res (entered.event.image.sp + i)
+      → get_or m.stack (entered.event.image.sp + i - STACK) 0 ≡ get_or entered.event.image.stack i 0
   pub found : KeepsFound base first [] m
 
 -- WHAT THE RETURN OF THE OUTERMOST ACTIVATION LEAVES: all of its stack is free where that was main, which gives no value
 abbrev pub HasLeft : Program → Base → Beginning → Bottom → List Event → ValueTree → State → Type 0
 HasLeft p base first as_main entries v m = (v ≡ void_value) × (m.sp ≡ base.top)
 HasLeft p base first (served sig) [] v m = ⊥
-HasLeft p base first (served sig) (entry ∷ _) v m = HasServed base first (record { signature = signature_at p.signatures sig; event = entry }) v m
+HasLeft p base first (served sig) (entry ∷ _) v m =
+    HasServed base first (record { signature = signature_at p.signatures sig; event = entry }) v m

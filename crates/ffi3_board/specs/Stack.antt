@@ -18,7 +18,8 @@ abbrev pub caller_sp : Standard → Entered → ℕ
 caller_sp std e = e.event.image.sp + std.link + frame_of std e.signature
 
 -- AN OPEN CALL STANDS ON THE STACK: its callee's block begins at sp, the arguments in that block are those that the image at its entry owns, and the reserved registers were at its entry as they were at first.
-pub record IsOpen (std : Standard) (signatures : List Signature) (held : Loc → ℕ) (m : State) (c : OpenCall) (e : Entered) (sp : ℕ) : Type 0 where
+pub record IsOpen (std : Standard) (signatures : List Signature) (held : Loc → ℕ) (m : State) (c : OpenCall)
+    (e : Entered) (sp : ℕ) : Type 0 where
   pub below : c.sig < length signatures
   pub signature : e.signature ≡ signature_at signatures c.sig
   pub stands : Stands std e sp m
@@ -28,11 +29,13 @@ pub record IsOpen (std : Standard) (signatures : List Signature) (held : Loc →
   pub arguments : Own std e.signature (arguments_at signatures m (Some c)) e.event.image
 
 -- EACH OPEN CALL STANDS JUST BELOW THE ONE AROUND IT, the outermost just below the top.
-abbrev pub OpenStand : Standard → List Signature → (Loc → ℕ) → (top : ℕ) → State → List OpenCall → List Entered → (sp : ℕ) → Type 0
+abbrev pub OpenStand : Standard → List Signature → (Loc → ℕ) → (top : ℕ) → State → List OpenCall → List Entered
+    → (sp : ℕ) → Type 0
 OpenStand std signatures held top m [] [] sp = sp ≡ top
 OpenStand std signatures held top m [] (e ∷ outer) sp = ⊥
 OpenStand std signatures held top m (c ∷ calls) [] sp = ⊥
-OpenStand std signatures held top m (c ∷ calls) (e ∷ outer) sp = IsOpen std signatures held m c e sp × OpenStand std signatures held top m calls outer (caller_sp std e)
+OpenStand std signatures held top m (c ∷ calls) (e ∷ outer) sp =
+    IsOpen std signatures held m c e sp × OpenStand std signatures held top m calls outer (caller_sp std e)
 
 -- the bytes of stack that the returns of open calls record
 abbrev pub frames : Standard → List Entered → ℕ
@@ -40,7 +43,8 @@ frames std [] = 0
 frames std (e ∷ outer) = frame_of std e.signature + frames std outer
 
 -- THE MACHINE HOLDS THE OPEN CALLS: they stand on its stack, and its journal has room for their returns.
-pub record HoldsCalls (std : Standard) (signatures : List Signature) (held : Loc → ℕ) (top : ℕ) (m : State) (calls : List OpenCall) (entered : List Entered) : Type 0 where
+pub record HoldsCalls (std : Standard) (signatures : List Signature) (held : Loc → ℕ) (top : ℕ) (m : State)
+    (calls : List OpenCall) (entered : List Entered) : Type 0 where
   pub target : m.target ≡ std.target
   pub stand : OpenStand std signatures held top m calls entered m.sp
   pub reserved : AllByRecursion (λ at. register (image_of 0 m) at ≡ held at) std.reserved

@@ -1,5 +1,6 @@
 -- What a move comes to.
-use Rattle.std.specs.Prelude.{◌≡◌, ℕ, suc, ◌≤◌, ◌⊎◌, List, [], ◌∷◌, ◌++◌, length, drop, Bool, true, false, Option, Some, None}
+use Rattle.std.specs.Prelude.{◌≡◌, ℕ, suc, ◌≤◌, ◌⊎◌, List, [], ◌∷◌, ◌++◌, length, drop, Bool, true, false, Option, Some}
+use Rattle.std.specs.Prelude.{None}
 use Rattle.std.specs.List.{AllByRecursion}
 use Rattle.ffi3_type_rules.specs.Value.{ValueTree}
 use Rattle.ffi3_place_rules.specs.Image.{register}
@@ -28,11 +29,13 @@ use Rattle.ffi3_board.specs.Counted.{steps_after, back_at_caller, count_at_end}
 use Rattle.ffi3_board.specs.Between.{Beginning, anew, text_so_far, depth_below, IsMarkOf, IsBetween, run_state}
 
 -- THE RUN IS OVER: it came to this end, all that was left is done, the output took its text since it was looked at, and the steps are those of its calls.
-pub record IsEnded (p : Program) (base : Base) (all : Remainder) (first : Beginning) (end : End) (closures : Closures) (moves : ℕ) (m : State) (output : SinkState) : Type 0 where
+pub record IsEnded (p : Program) (base : Base) (all : Remainder) (first : Beginning) (end : End) (closures : Closures)
+    (moves : ℕ) (m : State) (output : SinkState) : Type 0 where
   pub events : List Event
   pub over : IsOver p base all end closures moves events
   pub journal : m.events ≡ first.events ++ events
-  pub steps : count_at_end base.standard.target base.bottom end m.steps ≡ steps_after base.standard.target first.steps all.trace
+  pub steps :
+      count_at_end base.standard.target base.bottom end m.steps ≡ steps_after base.standard.target first.steps all.trace
   pub written : TookText (drop first.told (text_so_far first.tracing p base all.trace)) first.output output
   pub mark : IsMarkOf base.top first.mark (deepest p (depth_below p base) all.trace) m.mark
   pub target : m.target ≡ base.standard.target
@@ -45,13 +48,17 @@ is_in_line cut.NoMemory = false
 is_in_line cut.Failed = true
 
 -- THE RUN WAS INTERRUPTED: of all that was left this happened, these bytes are told, those since the output was looked at written to it, and these events are recorded. No byte was written below the stack that the calls took that happened, and the code is that of some closures. The steps are those of these calls; where the last of them is the return of a call that is served, its caller has yet to run Return.
-pub record WasInterrupted (p : Program) (base : Base) (all : Remainder) (first : Beginning) (why : IoError) (m : State) (output : SinkState) : Type 0 where
+pub record WasInterrupted (p : Program) (base : Base) (all : Remainder) (first : Beginning) (why : IoError) (m : State)
+    (output : SinkState) : Type 0 where
   pub happened : List TraceItem
   pub events : List Event
   pub text : List ℕ
   pub cut : IsInterrupted first.tracing p base (is_in_line why) all happened text events
   pub journal : m.events ≡ first.events ++ events
-  pub steps : (m.steps ≡ steps_after base.standard.target first.steps happened) ⊎ (back_at_caller base.standard.target base.bottom m.steps ≡ steps_after base.standard.target first.steps happened)
+  pub steps :
+      (m.steps ≡ steps_after base.standard.target first.steps happened)
+      ⊎ (back_at_caller base.standard.target base.bottom m.steps
+      ≡ steps_after base.standard.target first.steps happened)
   pub written : Adds first.output.taken (drop first.told text) output.taken
   pub cause : IsCause why first.output.faults output.faults
   pub mark : IsMarkOf base.top first.mark (deepest p (depth_below p base) happened) m.mark
@@ -60,7 +67,8 @@ pub record WasInterrupted (p : Program) (base : Base) (all : Remainder) (first :
   pub holds : HoldsMap base.standard.target closures m.code
 
 -- and beyond this trace at most one item happened
-pub record WasInterruptedAfter (p : Program) (base : Base) (all : Remainder) (first : Beginning) (own : List TraceItem) (why : IoError) (m : State) (output : SinkState) : Type 0 where
+pub record WasInterruptedAfter (p : Program) (base : Base) (all : Remainder) (first : Beginning) (own : List TraceItem)
+    (why : IoError) (m : State) (output : SinkState) : Type 0 where
   pub interrupted : WasInterrupted p base all first why m output
   pub more : List TraceItem
   pub happened : interrupted.happened ≡ own ++ more
@@ -90,27 +98,34 @@ turn_of cut.Failed = turn.Failed
 
 module _ {S : Type 0} where
   -- THE RUN IS DONE: the outermost activation gave its result, and none is left.
-  pub record IsDone (p : Program) (base : Base) (all : Remainder) (first : Beginning) (b : Board S) (m : State) (output : SinkState) : Type 0 where
+  pub record IsDone (p : Program) (base : Base) (all : Remainder) (first : Beginning) (b : Board S) (m : State)
+      (output : SinkState) : Type 0 where
     pub result : ValueTree
     pub ended : IsEnded p base all first (returned result) b.table b.moves m output
     pub left : HasLeft p base first base.bottom base.entries result m
     pub idle : IsIdle p b
 
   -- the run stands between two moves on this board
-  abbrev pub StandsWith : Program → Base → Remainder → Beginning → List TraceItem → List Event → Board S → State → SinkState → Option (Activation S) → Type 0
+  abbrev pub StandsWith : Program → Base → Remainder → Beginning → List TraceItem → List Event → Board S → State
+      → SinkState → Option (Activation S) → Type 0
   StandsWith p base all first own events b m output None = ⊥
-  StandsWith p base all first own events b m output (Some a) = IsBetween p base all first own events (run_state p.signatures a b m output)
+  StandsWith p base all first own events b m output (Some a) =
+      IsBetween p base all first own events (run_state p.signatures a b m output)
 
-  abbrev pub StandsAt : Program → Base → Remainder → Beginning → List TraceItem → List Event → Board S → State → SinkState → Type 0
+  abbrev pub StandsAt : Program → Base → Remainder → Beginning → List TraceItem → List Event → Board S → State
+      → SinkState → Type 0
   StandsAt p base all first own events b m output = StandsWith p base all first own events b m output b.innermost
 
   -- THE SAME FOR ANY OUTPUT, whatever it took before, and for any tracing from here on
-  abbrev pub StandsAnew : Program → Base → Remainder → Beginning → List TraceItem → List Event → Board S → State → Type 0
+  abbrev pub StandsAnew : Program → Base → Remainder → Beginning → List TraceItem → List Event → Board S → State
+      → Type 0
   StandsAnew p base all first own events b m =
-      (tracing : Tracing) (output : SinkState) → StandsAt p base all (anew tracing output p base own first) own events b m output
+      (tracing : Tracing) (output : SinkState)
+      → StandsAt p base all (anew tracing output p base own first) own events b m output
 
   -- THE RUN WENT ON by one move: what happened in it, one item at most, is done too, and one move fewer is left.
-  pub record WentOn (p : Program) (base : Base) (all : Remainder) (first : Beginning) (own : List TraceItem) (moves : ℕ) (b : Board S) (m : State) (output : SinkState) : Type 0 where
+  pub record WentOn (p : Program) (base : Base) (all : Remainder) (first : Beginning) (own : List TraceItem) (moves : ℕ)
+      (b : Board S) (m : State) (output : SinkState) : Type 0 where
     pub more : List TraceItem
     pub events : List Event
     pub stands : StandsAt p base all first (own ++ more) events b m output
@@ -119,21 +134,27 @@ module _ {S : Type 0} where
     pub counted : moves ≡ suc b.moves
 
   -- THE RUN IS DONE BY ONE MOVE, the return of the outermost activation.
-  pub record TurnIsDone (p : Program) (base : Base) (all : Remainder) (first : Beginning) (own : List TraceItem) (moves : ℕ) (b : Board S) (m : State) (output : SinkState) : Type 0 where
+  pub record TurnIsDone (p : Program) (base : Base) (all : Remainder) (first : Beginning) (own : List TraceItem)
+      (moves : ℕ) (b : Board S) (m : State) (output : SinkState) : Type 0 where
     pub done : IsDone p base all first b m output
     pub last : all.trace ≡ own ++ last_return base.bottom done.result
     pub counted : moves ≡ suc b.moves
 
   -- THE RUN STOPPED IN ONE MOVE, or before it, where none was left; and nothing happened but the stop.
-  pub record TurnHasStopped (p : Program) (base : Base) (all : Remainder) (first : Beginning) (own : List TraceItem) (moves : ℕ) (stop : Stop) (b : Board S) (m : State) (output : SinkState) : Type 0 where
+  pub record TurnHasStopped (p : Program) (base : Base) (all : Remainder) (first : Beginning) (own : List TraceItem)
+      (moves : ℕ) (stop : Stop) (b : Board S) (m : State) (output : SinkState) : Type 0 where
     pub ended : IsEnded p base all first (stopped stop) b.table b.moves m output
     pub last : all.trace ≡ own ++ StopLine stop ∷ []
     pub counted : (moves ≡ suc b.moves) ⊎ ((stop ≡ MoveLimit) × (moves ≡ 0) × (b.moves ≡ 0))
 
   -- WHAT A MOVE CAME TO, of which there were so many left
-  abbrev pub Turned : Program → Base → Remainder → Beginning → List TraceItem → ℕ → Board S → State → SinkState → Turn → Type 0
+  abbrev pub Turned : Program → Base → Remainder → Beginning → List TraceItem → ℕ → Board S → State → SinkState → Turn
+      → Type 0
   Turned p base all first own moves b m output turn.More = WentOn p base all first own moves b m output
   Turned p base all first own moves b m output turn.Done = TurnIsDone p base all first own moves b m output
-  Turned p base all first own moves b m output (turn.Stopped stop) = TurnHasStopped p base all first own moves stop b m output
-  Turned p base all first own moves b m output turn.NoMemory = WasInterruptedAfter p base all first own cut.NoMemory m output × CountedAtMostOne moves b.moves
-  Turned p base all first own moves b m output turn.Failed = WasInterruptedAfter p base all first own cut.Failed m output × CountedAtMostOne moves b.moves
+  Turned p base all first own moves b m output (turn.Stopped stop) =
+      TurnHasStopped p base all first own moves stop b m output
+  Turned p base all first own moves b m output turn.NoMemory =
+      WasInterruptedAfter p base all first own cut.NoMemory m output × CountedAtMostOne moves b.moves
+  Turned p base all first own moves b m output turn.Failed =
+      WasInterruptedAfter p base all first own cut.Failed m output × CountedAtMostOne moves b.moves

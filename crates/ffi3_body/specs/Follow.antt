@@ -13,4 +13,7 @@ IsOfType v (Some t) = fits t v ≡ true
 -- after a return there is no result
 abbrev pub ResultsFollow : List Signature → Behaviour → List ValueTree → ℕ → List ValueTree → Type 0
 ResultsFollow signatures behaviour arguments user results =
-    (i : ℕ) → i < length results → IsOfType (slice_index_or results i void_value) (result_type_of signatures (behaviour arguments user (take i results)))
+    (i : ℕ) → i < length results
+    → IsOfType
+    (slice_index_or results i void_value)
+    (result_type_of signatures (behaviour arguments user (take i results)))

@@ -18,7 +18,12 @@ pub record SeenActivation : Type 0 where
 
 abbrev pub activation_code : Coded SeenActivation
 activation_code =
-    code_by (Signature × (List ℕ × (ℕ × List ValueTree))) (coded× signature_code (coded× (coded_list coded_ℕ) (coded× coded_ℕ value_list_code))) (λ a. (a.signature, (a.block, (a.user, a.results)))) (λ p. record { signature = p.0; block = p.1.0; user = p.1.1.0; results = p.1.1.1 }) (λ _. refl)
+    code_by
+    (Signature × (List ℕ × (ℕ × List ValueTree)))
+    (coded× signature_code (coded× (coded_list coded_ℕ) (coded× coded_ℕ value_list_code)))
+    (λ a. (a.signature, (a.block, (a.user, a.results))))
+    (λ p. record { signature = p.0; block = p.1.0; user = p.1.1.0; results = p.1.1.1 })
+    (λ _. refl)
 
 -- where argument i stands in the block: behind the arguments before it, each in whole doublewords
 abbrev pub block_offset : List Tree → ℕ → ℕ

@@ -36,7 +36,8 @@ IsGiven false std l = IsNoneOf (saved_registers std.save_area) l
 -- the registers that stay
 abbrev pub IsLeftAlone : Bool → Standard → Loc → Type 0
 IsLeftAlone true std l =
-    IsNoneOf (exit_scratch (isa_of std.target) ++ (preserved_words (isa_of std.target) ++ result_loads (isa_of std.target))) l
+    IsNoneOf
+    (exit_scratch (isa_of std.target) ++ (preserved_words (isa_of std.target) ++ result_loads (isa_of std.target))) l
 IsLeftAlone false std l = IsNoneOf (saved_registers std.save_area) l
 
 -- THE CALLEE HAS GONE BACK, whose sp at the entry was `entry`: the saved registers have their values again, what was given stands in the registers of results, and sp is behind the return address. Of the stack nothing is written.
@@ -46,7 +47,10 @@ pub record HasGoneBack (std : Standard) (entry : ℕ) (before after : State) : T
   pub others : (l : Loc) → IsPlace 0 l → IsLeftAlone (by_exchange before.target) std l → SameAt 0 l before after
   pub sp : (returned_by after).sp ≡ entry + std.link
   -- where RETURN was the return address at the entry
-  pub at_return : (e : Image) → HoldRegisters (entry - std.save) std.save_area (register e) before → HasReturnAt (link_register (isa_of std.target)) e.general entry before.stack → IsAtReturn (by_exchange after.target) after
+  pub at_return : (e : Image)
+      → HoldRegisters (entry - std.save) std.save_area (register e) before
+      → HasReturnAt (link_register (isa_of std.target)) e.general entry before.stack
+      → IsAtReturn (by_exchange after.target) after
   pub within : WroteWithin STACK_TOP STACK_TOP before (with_journal_of before after)
   -- the stub Exit leads to the return address
   pub pc : by_exchange before.target ≡ false → after.pc ≡ before.pc

@@ -38,4 +38,6 @@ AreFound base m places = AllByRecursion (IsFound base m) places
 -- THE BYTES HAVE EVERY VALUE THAT THE IMAGE OWNS AT THE PLACE
 abbrev pub IsRead : ℕ → State → Tree → Place → List ℕ → Type 0
 IsRead base m t p bytes =
-    (room : ℕ) → PlaceLies room t p → base + room ≤ STACK_TOP → (v : ValueTree) → OwnsArgument (image_from base room m) 0 t p v → value_in t bytes ≡ v
+    (room : ℕ)
+    → PlaceLies room t p → base + room ≤ STACK_TOP → (v : ValueTree) → OwnsArgument (image_from base room m) 0 t p v
+    → value_in t bytes ≡ v

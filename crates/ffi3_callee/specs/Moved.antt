@@ -38,5 +38,6 @@ pub record IsPieceMoved (base to : ℕ) (p : Piece) (old new : State) : Type 0 w
 
 -- each byte that a piece in a register carries, and all in the same way, stands at its offset of the copy; one that stood there before still does
 pub record ArePiecesMoved (base to : ℕ) (pieces : List Piece) (old new : State) : Type 0 where
-  pub right : (o x : ℕ) → HaveByte base old o x pieces → OneCarriesInRegister o pieces ⊎ (stack_byte old (to + o) ≡ x) → stack_byte new (to + o) ≡ x
+  pub right : (o x : ℕ) → HaveByte base old o x pieces → OneCarriesInRegister o pieces ⊎ (stack_byte old (to + o) ≡ x)
+      → stack_byte new (to + o) ≡ x
   pub only : (size : ℕ) → AllByRecursion (IsWithin size) pieces → WroteOnly to (to + size) old new

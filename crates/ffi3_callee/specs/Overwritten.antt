@@ -17,7 +17,8 @@ IsLeftOrFree std s base byte old new l k =
 -- what is true of every register while some are overwritten
 pub record RegistersKeep (std : Standard) (s : Signature) (base byte : ℕ) (old new : State) : Type 0 where
   pub each : (l : Loc) (k : ℕ) → IsPlace 0 l → k < 8 → IsLeftOrFree std s base byte old new l k
-  pub whole : (l : Loc) → IsPlace 0 l → ((k : ℕ) → k < 8 → is_free std s l k ≡ false) → word_in base new l ≡ word_in base old l
+  pub whole : (l : Loc) → IsPlace 0 l → ((k : ℕ) → k < 8 → is_free std s l k ≡ false)
+      → word_in base new l ≡ word_in base old l
   pub sp : new.sp ≡ old.sp
   pub mark : new.mark ≡ old.mark
   pub within : WroteWithin base base old new
@@ -29,7 +30,10 @@ pub record IsRegisterDone (std : Standard) (s : Signature) (base byte : ℕ) (at
 
 -- those of the first argument registers are
 pub record AreRegistersDone (std : Standard) (s : Signature) (base byte count : ℕ) (old new : State) : Type 0 where
-  pub free : (l : Loc) (k : ℕ) → IsPlace 0 l → list_any (is_register l) (take count std.argument_registers) ≡ true → k < 8 → is_free std s l k ≡ true → byte_of base new l k ≡ byte
+  pub free : (l : Loc) (k : ℕ)
+      → IsPlace 0 l → list_any (is_register l) (take count std.argument_registers) ≡ true → k < 8
+      → is_free std s l k ≡ true
+      → byte_of base new l k ≡ byte
   pub keep : RegistersKeep std s base byte old new
 
 -- those of the first bytes of the frame are

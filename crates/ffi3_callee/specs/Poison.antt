@@ -1,5 +1,6 @@
 -- Which bytes of a call's places carry something, and the machine once all others are overwritten. What these hold is free. (System V psABI AMD64, "Parameter Passing"; Arm AAPCS64, "Parameter passing"; RISC-V ELF psABI, "Integer Calling Convention")
-use Rattle.std.specs.Prelude.{◌≡◌, ℕ, ◌+◌, ◌-◌, ◌<◌, ◌≤◌, ◌⊎◌, ◌==◌, nat_lt, if◌then◌else◌, Bool, true, false, not, ◌&&◌, ◌||◌, List, ◌∷◌, Option, Some, None}
+use Rattle.std.specs.Prelude.{◌≡◌, ℕ, ◌+◌, ◌-◌, ◌<◌, ◌≤◌, ◌⊎◌, ◌==◌, nat_lt, if◌then◌else◌, Bool, true, false, not}
+use Rattle.std.specs.Prelude.{◌&&◌, ◌||◌, List, ◌∷◌, Option, Some, None}
 use Rattle.std.specs.List.{AllByRecursion, list_any}
 use Rattle.ffi3_type_rules.specs.Tree.{Tree}
 use Rattle.ffi3_type_rules.specs.Layout.{Leaf, leaves_of, scalar_size}
@@ -103,11 +104,13 @@ pub record MarkFalls (written : ℕ → Bool) (base old new : ℕ) : Type 0 wher
 -- EACH FREE BYTE BECOMES `byte`, AND ALL ELSE STAYS. The frame begins at `base`.
 pub record IsPoisoned (std : Standard) (s : Signature) (base byte : ℕ) (old new : State) : Type 0 where
   pub register_free : (l : Loc) (k : ℕ) → IsPlace 0 l → k < 8 → is_free std s l k ≡ true → byte_of base new l k ≡ byte
-  pub register_kept : (l : Loc) (k : ℕ) → IsPlace 0 l → k < 8 → is_free std s l k ≡ false → byte_of base new l k ≡ byte_of base old l k
+  pub register_kept : (l : Loc) (k : ℕ) → IsPlace 0 l → k < 8 → is_free std s l k ≡ false
+      → byte_of base new l k ≡ byte_of base old l k
   pub frame_free : (n : ℕ) → is_free std s (S n) 0 ≡ true → stack_byte new (base + n) ≡ byte
   pub frame_kept : (n : ℕ) → is_free std s (S n) 0 ≡ false → stack_byte new (base + n) ≡ stack_byte old (base + n)
   -- a register without a free byte, whole; those that are no argument registers are among them, and so those that are closed to arguments
-  pub whole : (l : Loc) → IsPlace 0 l → ((k : ℕ) → k < 8 → is_free std s l k ≡ false) → word_in base new l ≡ word_in base old l
+  pub whole : (l : Loc) → IsPlace 0 l → ((k : ℕ) → k < 8 → is_free std s l k ≡ false)
+      → word_in base new l ≡ word_in base old l
   pub others : (l : Loc) → IsPlace 0 l → is_argument_register std l ≡ false → word_in base new l ≡ word_in base old l
   pub closed : AllByRecursion (λ l. word_in base new l ≡ word_in base old l) (closed_to_arguments std)
   pub sp : new.sp ≡ old.sp

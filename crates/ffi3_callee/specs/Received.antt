@@ -38,7 +38,8 @@ pub record IsIncoming (std : Standard) (s : Signature) (incoming : Remembered) :
 
 -- THE BLOCK HAS EVERY VALUES THAT THE ENTRY OWNS, the words are saved above it, and of the stack nothing is written from the entry's sp on
 pub record IsReceived (std : Standard) (s : Signature) (entry m : State) : Type 0 where
-  pub values : (vs : List ValueTree) → OwnsAtEntry std s entry vs → arguments_in s.arguments (stack_at m.sp (block_bytes s) m) ≡ vs
+  pub values : (vs : List ValueTree) → OwnsAtEntry std s entry vs
+      → arguments_in s.arguments (stack_at m.sp (block_bytes s) m) ≡ vs
   pub saved : AreSaved (entry.sp - std.save) (entry.sp + std.link) (hidden_of (plan_of std s).res) std.save_area entry m
   pub sp : m.sp + block_bytes s + std.save ≡ entry.sp
   pub within : WroteWithin m.sp entry.sp entry (with_journal_of entry m)

@@ -47,7 +47,8 @@ IsToSave base m hidden Spare n = ⊤
 -- EACH WORD HOLDS WHAT IT IS TO HOLD of the machine `entry`
 abbrev pub AreSaved : ℕ → ℕ → Option Loc → List SaveWord → State → State → Type 0
 AreSaved from base hidden words entry m =
-    (i : ℕ) (w : SaveWord) → i < length words → w ≡ get_or words i w → IsToSave base entry hidden w (saved_word from i m)
+    (i : ℕ) (w : SaveWord) → i < length words → w ≡ get_or words i w
+    → IsToSave base entry hidden w (saved_word from i m)
 
 -- a register that is given back is a register, and writes to it are not dropped
 abbrev pub IsRestorable : Target → SaveWord → Type 0
@@ -63,9 +64,12 @@ HoldRegisters from words value m =
 -- EACH REGISTER OF THE WORDS HAS ITS VALUE, where the words hold these values. A register may stand there twice.
 abbrev pub AreGivenBack : ℕ → List SaveWord → (Loc → ℕ) → State → State → Type 0
 AreGivenBack from words value old new =
-    HoldRegisters from words value old → (i : ℕ) (at : Loc) → i < length words → Register at ≡ get_or words i (Register at) → word_in STACK_TOP new at ≡ value at
+    HoldRegisters from words value old → (i : ℕ) (at : Loc) → i < length words
+    → Register at ≡ get_or words i (Register at)
+    → word_in STACK_TOP new at ≡ value at
 
 -- EACH REGISTER OF THE WORDS HAS WHAT IT HAD in the machine `entry`
 abbrev pub HaveRegisters : List SaveWord → ℕ → State → State → Type 0
 HaveRegisters words base entry m =
-    (i : ℕ) (at : Loc) → i < length words → Register at ≡ get_or words i (Register at) → word_in STACK_TOP m at ≡ word_in base entry at
+    (i : ℕ) (at : Loc) → i < length words → Register at ≡ get_or words i (Register at)
+    → word_in STACK_TOP m at ≡ word_in base entry at

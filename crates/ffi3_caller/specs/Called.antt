@@ -3,9 +3,11 @@ use Rattle.std.specs.Prelude.{◌≡◌, ℕ, ◌+◌, ◌-◌, ⊤, Bool, true,
 use Rattle.ffi3_type_rules.specs.declared.Isa.{Isa}
 use Rattle.ffi3_type_rules.specs.Isa.{isa_of}
 use Rattle.ffi3_place_rules.specs.declared.Loc.{Loc}
-use Rattle.ffi3_place_rules.specs.Isa.{call_loads, call_scratch, exit_scratch, link_place, link_register, listed, pushed_bytes, result_loads}
+use Rattle.ffi3_place_rules.specs.Isa.{call_loads, call_scratch, exit_scratch, link_place, link_register, listed}
+use Rattle.ffi3_place_rules.specs.Isa.{pushed_bytes, result_loads}
 use Rattle.ffi3_place_rules.specs.Sound.{IsNoneOf, IsOneOf, IsOnStackOrIn}
-use Rattle.ffi3_machine.specs.State.{State, HasReturnAddress, called, filled, linked_stack, lowered, scribbled, with_pc, with_sp, with_x}
+use Rattle.ffi3_machine.specs.State.{State, HasReturnAddress, called, filled, linked_stack, lowered, scribbled, with_pc}
+use Rattle.ffi3_machine.specs.State.{with_sp, with_x}
 use Rattle.ffi3_machine.specs.Stubs.{Call, Return, stub_at}
 use Rattle.ffi3_stubs.specs.Calls.{after_call, after_return, steps_of}
 use Rattle.ffi3_pieces.specs.Passing.{by_exchange, passing, steps_if}
@@ -43,13 +45,16 @@ IsLeft false isa l = IsNoneOf (listed (link_place isa)) l
 
 -- THE SLOT IS CALLED: what was passed stands in its registers, RETURN is the return address, pc is the slot's address, and of the stack nothing is written but a return address that is pushed.
 pub record SlotIsCalled (addr : ℕ) (before after : State) : Type 0 where
-  pub passed : (l : Loc) → IsPlace 0 l → IsCarried (by_exchange before.target) (isa_of before.target) l → SameAt 0 l (passing before) after
-  pub others : (l : Loc) → IsPlace 0 l → IsLeft (by_exchange before.target) (isa_of before.target) l → SameAt 0 l before after
+  pub passed : (l : Loc) → IsPlace 0 l → IsCarried (by_exchange before.target) (isa_of before.target) l
+      → SameAt 0 l (passing before) after
+  pub others : (l : Loc) → IsPlace 0 l → IsLeft (by_exchange before.target) (isa_of before.target) l
+      → SameAt 0 l before after
   pub sp : after.sp ≡ before.sp - pushed_bytes (isa_of before.target)
   pub pc : after.pc ≡ addr
   pub return_address : HasReturnAddress after
   pub stack : after.stack ≡ linked_stack (link_register (isa_of before.target)) before.sp before.stack
-  pub mark : after.mark ≡ lowered before.mark (before.sp - pushed_bytes (isa_of before.target)) (pushed_bytes (isa_of before.target))
+  pub mark : after.mark
+      ≡ lowered before.mark (before.sp - pushed_bytes (isa_of before.target)) (pushed_bytes (isa_of before.target))
   pub target : after.target ≡ before.target
   pub code : after.code ≡ before.code
   pub events : after.events ≡ before.events
@@ -93,8 +98,10 @@ IsUntouched false isa l = ⊤
 
 -- THE CALL HAS COME BACK: what stood in the registers of results is passed back, the frame begins where sp stood, and stack, code and journal stay.
 pub record HasComeBack (frame : ℕ) (before after : State) : Type 0 where
-  pub passed : (l : Loc) → IsPlace 0 l → IsPassedBack (by_exchange before.target) (isa_of before.target) l → SameAt 0 l before (passing after)
-  pub others : (l : Loc) → IsPlace 0 l → IsUntouched (by_exchange before.target) (isa_of before.target) l → SameAt 0 l before after
+  pub passed : (l : Loc) → IsPlace 0 l → IsPassedBack (by_exchange before.target) (isa_of before.target) l
+      → SameAt 0 l before (passing after)
+  pub others : (l : Loc) → IsPlace 0 l → IsUntouched (by_exchange before.target) (isa_of before.target) l
+      → SameAt 0 l before after
   pub start : frame_start frame after ≡ before.sp
   pub stack : after.stack ≡ before.stack
   pub mark : after.mark ≡ before.mark

@@ -41,7 +41,9 @@ pub record HasOneMore (t : Tree) (v : ValueTree) (old new : List ℕ) : Type 0 w
 -- THE BYTES OF VALUES, one value after another, each begun at a multiple of 8
 pub data AreBytesOf : List Tree → List ValueTree → List ℕ → Type 0 where
   none : AreBytesOf [] [] []
-  first_and : (t : Tree) (v : ValueTree) (ts : List Tree) (vs : List ValueTree) (first rest : List ℕ) → HasOneMore t v [] first → AreBytesOf ts vs rest → AreBytesOf (t ∷ ts) (v ∷ vs) (first ++ rest)
+  first_and : (t : Tree) (v : ValueTree) (ts : List Tree) (vs : List ValueTree) (first rest : List ℕ)
+      → HasOneMore t v [] first → AreBytesOf ts vs rest
+      → AreBytesOf (t ∷ ts) (v ∷ vs) (first ++ rest)
 
 -- of so many arguments, whose values have so many bytes, and whose places reach so far in the stack
 abbrev pub arguments_of : ℕ → ℕ → ℕ → TextFault → EntryArguments
@@ -128,5 +130,6 @@ no_arguments (NotInStack count stack argument address) = record {
 
 -- WHAT ffi3_arguments ANSWERS, and what it writes into the caller's struct and array
 pub data Reads (target : ℕ) (text : List ℕ) (m : Image) (old : List ℕ) : ℕ → EntryArguments → List ℕ → Type 0 where
-  read : (f : Found) → AreFound target text m f → Reads target text m old (room_status (has_room f.bytes old)) f.told (filled f.bytes old)
+  read : (f : Found) → AreFound target text m f
+      → Reads target text m old (room_status (has_room f.bytes old)) f.told (filled f.bytes old)
   unread : (u : Unread) → AreNotRead target text m u → Reads target text m old (unread_status u) (no_arguments u) old

@@ -3,7 +3,10 @@ use Rattle.std.specs.Prelude.{ℕ, List, [], ◌++◌, codes, Option, Some, None
 use Rattle.std.specs.Fmt.{decimal}
 use Rattle.ffi3_capi.specs.declared.fault.TextFault.{TextFault}
 use Rattle.ffi3_capi.specs.declared.fault.FaultKind.{FaultKind}
-use Rattle.ffi3_capi.specs.declared.fault.FaultKind.TheVariants.{NoFault, NotUtf8, BadToken, Unexpected, BadNumber, BadTypedef, LeftOutLongDouble, LeftOutComplex, LeftOutVector, TooLarge, TooDeep, TooMany, BadFixed, BadVariadic}
+use Rattle.ffi3_capi.specs.declared.fault.FaultKind.TheVariants.{NoFault, NotUtf8, BadToken, Unexpected, BadNumber}
+use Rattle.ffi3_capi.specs.declared.fault.FaultKind.TheVariants.{BadTypedef, LeftOutLongDouble, LeftOutComplex}
+use Rattle.ffi3_capi.specs.declared.fault.FaultKind.TheVariants.{LeftOutVector, TooLarge, TooDeep, TooMany, BadFixed}
+use Rattle.ffi3_capi.specs.declared.fault.FaultKind.TheVariants.{BadVariadic}
 use Rattle.ffi3_capi.specs.Faults.{kinds}
 
 abbrev pub kind_text : FaultKind → TextFault → List ℕ

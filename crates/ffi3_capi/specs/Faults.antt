@@ -2,17 +2,22 @@
 use Rattle.std.specs.Prelude.{◌≡◌, ℕ, List, [], ◌∷◌, Option, Some, None, IsUtf8}
 use Rattle.ffi3_type_rules.specs.Tree.{Tree, void, scalar, left_out, structure, array, long_double, complex, vector}
 use Rattle.ffi3_type_rules.specs.Fault.{Fault, bad_typedef, left_out_type, too_large, too_deep}
-use Rattle.ffi3_type_rules.specs.Signature.{Signature, Position, at_result, at_argument, SignatureFault, too_many, bad_type, bad_fixed, bad_argument_type}
+use Rattle.ffi3_type_rules.specs.Signature.{Signature, Position, at_result, at_argument, SignatureFault, too_many}
+use Rattle.ffi3_type_rules.specs.Signature.{bad_type, bad_fixed, bad_argument_type}
 use Rattle.ffi3_cdecl_rules.specs.Reading.{Outcome, reads, bad_token, unexpected, bad_number, bad_signature, IsReading}
 use Rattle.ffi3_capi.specs.declared.codes.TheConstants.{RESULT_PART}
 use Rattle.ffi3_capi.specs.declared.fault.TextFault.{TextFault}
 use Rattle.ffi3_capi.specs.declared.fault.FaultKind.{FaultKind}
-use Rattle.ffi3_capi.specs.declared.fault.FaultKind.TheVariants.{NoFault, NotUtf8, BadToken, Unexpected, BadNumber, BadTypedef, LeftOutLongDouble, LeftOutComplex, LeftOutVector, TooLarge, TooDeep, TooMany, BadFixed, BadVariadic}
+use Rattle.ffi3_capi.specs.declared.fault.FaultKind.TheVariants.{NoFault, NotUtf8, BadToken, Unexpected, BadNumber}
+use Rattle.ffi3_capi.specs.declared.fault.FaultKind.TheVariants.{BadTypedef, LeftOutLongDouble, LeftOutComplex}
+use Rattle.ffi3_capi.specs.declared.fault.FaultKind.TheVariants.{LeftOutVector, TooLarge, TooDeep, TooMany, BadFixed}
+use Rattle.ffi3_capi.specs.declared.fault.FaultKind.TheVariants.{BadVariadic}
 
 -- by number, from 0
 abbrev pub kinds : List FaultKind
 kinds =
-    NoFault ∷ NotUtf8 ∷ BadToken ∷ Unexpected ∷ BadNumber ∷ BadTypedef ∷ LeftOutLongDouble ∷ LeftOutComplex ∷ LeftOutVector ∷ TooLarge ∷ TooDeep ∷ TooMany ∷ BadFixed ∷ BadVariadic ∷ []
+    NoFault ∷ NotUtf8 ∷ BadToken ∷ Unexpected ∷ BadNumber ∷ BadTypedef ∷ LeftOutLongDouble ∷ LeftOutComplex
+    ∷ LeftOutVector ∷ TooLarge ∷ TooDeep ∷ TooMany ∷ BadFixed ∷ BadVariadic ∷ []
 
 abbrev pub kind_number : FaultKind → ℕ
 kind_number NoFault = 0

@@ -69,5 +69,7 @@ IsLayoutRefusal text value NoMemory = Unit {0}
 
 -- WHAT ffi3_layout ANSWERS, and what it writes into the caller's struct and array
 pub data LaysOut (text : List ℕ) (value : ℕ) (old : List LaidLeaf) : ℕ → LaidType → List LaidLeaf → Type 0 where
-  laid_out : (l : Laid) → IsLaid text value l → LaysOut text value old (room_status (has_room l.leaves old)) l.layout (filled l.leaves old)
-  refused : (r : Refusal) → IsLayoutRefusal text value r → LaysOut text value old (status_of r) (no_type (count_in r) (fault_in r)) old
+  laid_out : (l : Laid) → IsLaid text value l
+      → LaysOut text value old (room_status (has_room l.leaves old)) l.layout (filled l.leaves old)
+  refused : (r : Refusal) → IsLayoutRefusal text value r
+      → LaysOut text value old (status_of r) (no_type (count_in r) (fault_in r)) old

@@ -11,7 +11,9 @@ use Rattle.ffi3_place_rules.specs.declared.Place.TheVariants.{Direct, ByRef}
 use Rattle.ffi3_place_rules.specs.declared.Res.{Res}
 use Rattle.ffi3_place_rules.specs.declared.Res.TheVariants.{Nothing, Direct as DirectRes, Hidden}
 use Rattle.ffi3_place_rules.specs.Standard.{Standard, plan_of}
-use Rattle.ffi3_capi.specs.declared.codes.TheConstants.{RESULT_PART, HIDDEN_PART, HOLDS_BYTES, HOLDS_ADDRESS, IN_GENERAL, IN_FLOATING, ON_STACK, REST_FREE, REST_EXTENDED, REST_EXTENDED_BY_32, REST_ONES, ADDRESS_BYTES}
+use Rattle.ffi3_capi.specs.declared.codes.TheConstants.{RESULT_PART, HIDDEN_PART, HOLDS_BYTES, HOLDS_ADDRESS}
+use Rattle.ffi3_capi.specs.declared.codes.TheConstants.{IN_GENERAL, IN_FLOATING, ON_STACK, REST_FREE, REST_EXTENDED}
+use Rattle.ffi3_capi.specs.declared.codes.TheConstants.{REST_EXTENDED_BY_32, REST_ONES, ADDRESS_BYTES}
 use Rattle.ffi3_capi.specs.declared.pieces.PlacedPiece.{PlacedPiece}
 
 abbrev pub place_of : Loc → ℕ
@@ -33,20 +35,35 @@ rest_of Boxed = REST_ONES
 
 -- bytes of an argument or of the result
 abbrev pub value_piece : ℕ → Piece → PlacedPiece
-value_piece part p =
-    record { part = part; holds = HOLDS_BYTES; place = place_of p.loc; number = number_of p.loc; offset = p.off; length = p.len; rest = rest_of p.ext }
+value_piece part p = record {
+  part = part;
+  holds = HOLDS_BYTES;
+  place = place_of p.loc;
+  number = number_of p.loc;
+  offset = p.off;
+  length = p.len;
+  rest = rest_of p.ext;
+}
 
 -- the address of what stands so many bytes from the start of the caller's frame
 abbrev pub address_piece : ℕ → Loc → ℕ → PlacedPiece
-address_piece part at frame =
-    record { part = part; holds = HOLDS_ADDRESS; place = place_of at; number = number_of at; offset = frame; length = ADDRESS_BYTES; rest = REST_FREE }
+address_piece part at frame = record {
+  part = part;
+  holds = HOLDS_ADDRESS;
+  place = place_of at;
+  number = number_of at;
+  offset = frame;
+  length = ADDRESS_BYTES;
+  rest = REST_FREE;
+}
 
 -- ---- bytes on the stack, in as few pieces as they make
 
 -- the second stands on the stack right behind the first, and has the bytes of the value that follow
 abbrev pub goes_on : PlacedPiece → PlacedPiece → Bool
 goes_on p n =
-    (p.place == ON_STACK) && (n.place == ON_STACK) && (p.rest == n.rest) && (p.number + p.length == n.number) && (p.offset + p.length == n.offset)
+    (p.place == ON_STACK) && (n.place == ON_STACK) && (p.rest == n.rest)
+    && (p.number + p.length == n.number) && (p.offset + p.length == n.offset)
 
 abbrev pub longer : PlacedPiece → PlacedPiece → PlacedPiece
 longer p n = record p { length = p.length + n.length }

@@ -79,5 +79,7 @@ IsPlaceRefusal target text NoMemory = Unit {0}
 
 -- WHAT ffi3_place ANSWERS, and what it writes into the caller's struct and array
 pub data Places (target : ℕ) (text : List ℕ) (old : List PlacedPiece) : ℕ → PlacedCall → List PlacedPiece → Type 0 where
-  placed : (p : Placement) → IsPlacement target text p → Places target text old (room_status (has_room p.pieces old)) p.call (filled p.pieces old)
-  refused : (r : Refusal) → IsPlaceRefusal target text r → Places target text old (status_of r) (no_call (fault_in r)) old
+  placed : (p : Placement) → IsPlacement target text p
+      → Places target text old (room_status (has_room p.pieces old)) p.call (filled p.pieces old)
+  refused : (r : Refusal) → IsPlaceRefusal target text r
+      → Places target text old (status_of r) (no_call (fault_in r)) old

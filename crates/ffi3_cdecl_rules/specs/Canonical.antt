@@ -1,7 +1,12 @@
 -- The canonical text of a declaration, by its tokens.
-use Rattle.std.specs.Prelude.{◌≡◌, ℕ, ◌+◌, Bool, true, false, List, [], ◌∷◌, ◌++◌, ◌&&◌, ◌||◌, length, Some, is_some, codes, decimal}
-use Rattle.ffi3_type_rules.specs.Tree.{Scalar, u8, s8, u16, s16, u32, s32, u64, s64, u128, s128, float, double, pointer, Tree, Trees, void, scalar, left_out, structure, array, no_trees, tree}
-use Rattle.ffi3_cdecl_rules.specs.Tokens.{Token, unsigned, type_word, sign_word, int128_word, void_word, struct_word, name, number, open_round, close_round, open_curly, close_curly, open_square, close_square, comma, semicolon, star, dots, signed, const_word, short_word, int_word, long_word, char_word, is_letter, goes_on_word, word_of}
+use Rattle.std.specs.Prelude.{◌≡◌, ℕ, ◌+◌, Bool, true, false, List, [], ◌∷◌, ◌++◌, ◌&&◌, ◌||◌, length, Some, is_some}
+use Rattle.std.specs.Prelude.{codes, decimal}
+use Rattle.ffi3_type_rules.specs.Tree.{Scalar, u8, s8, u16, s16, u32, s32, u64, s64, u128, s128, float, double, pointer}
+use Rattle.ffi3_type_rules.specs.Tree.{Tree, Trees, void, scalar, left_out, structure, array, no_trees, tree}
+use Rattle.ffi3_cdecl_rules.specs.Tokens.{Token, unsigned, type_word, sign_word, int128_word, void_word, struct_word}
+use Rattle.ffi3_cdecl_rules.specs.Tokens.{name, number, open_round, close_round, open_curly, close_curly, open_square}
+use Rattle.ffi3_cdecl_rules.specs.Tokens.{close_square, comma, semicolon, star, dots, signed, const_word, short_word}
+use Rattle.ffi3_cdecl_rules.specs.Tokens.{int_word, long_word, char_word, is_letter, goes_on_word, word_of}
 use Rattle.ffi3_type_rules.specs.Signature.{Signature}
 
 -- a scalar, in front of other tokens
@@ -65,7 +70,8 @@ parameter_tokens (t ∷ ts) variadic rest =
 -- the tokens of a declaration of a function
 abbrev pub declaration_tokens : List ℕ → Signature → List Token
 declaration_tokens called s =
-    type_tokens s.result_type (name called ∷ open_round ∷ parameter_tokens s.arguments (is_some s.fixed) (semicolon ∷ []))
+    type_tokens s.result_type
+    (name called ∷ open_round ∷ parameter_tokens s.arguments (is_some s.fixed) (semicolon ∷ []))
 
 -- dots stand behind the last of the parameters: of a function that is declared, all that are named are fixed
 abbrev pub FixesAll : Signature → Type 0

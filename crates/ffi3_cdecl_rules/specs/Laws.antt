@@ -23,4 +23,5 @@ pub record DeclarationLaws : Type 0 where
   -- one pass over the bytes computes it too
   pub one_pass : (text : List ℕ) → pass_from 0 0 new_pass text ≡ read text
   -- the canonical text reads as what it is of
-  pub written : (called : List ℕ) (s : Signature) → IsIdentifier called → SignatureHasNoFault s → FixesAll s → IsReading (declaration_text called s) (reads (record { called = called; signature = s }))
+  pub written : (called : List ℕ) (s : Signature) → IsIdentifier called → SignatureHasNoFault s → FixesAll s
+      → IsReading (declaration_text called s) (reads (record { called = called; signature = s }))

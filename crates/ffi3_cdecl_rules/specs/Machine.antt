@@ -1,9 +1,14 @@
 -- A pushdown machine that reads declarations token by token; nothing of it is to be believed: that it accepts what the grammar has is proved.
 use Rattle.std.specs.Prelude.{◌≡◌, ℕ, suc, Bool, true, false, cond, List, [], ◌∷◌, length, Option, Some, None, ltb}
 use Rattle.ffi3_type_rules.specs.Tree.{s32, s128, Tree, void, scalar, struct_of, array_of}
-use Rattle.ffi3_cdecl_rules.specs.Tokens.{Token, Sign, signed, type_word, sign_word, const_word, short_word, int_word, long_word, int128_word, char_word, void_word, struct_word, name, number, open_round, close_round, open_curly, close_curly, open_square, close_square, comma, semicolon, star, dots, Placed, Cut, tokens, bad_at, cut}
-use Rattle.ffi3_cdecl_rules.specs.Grammar.{Kind, whole, bare, nothing, MOST_OPEN, pointer_type, char_of, short_of, int_of, long_of, int128_of, Head, Declaration, declared}
-use Rattle.ffi3_cdecl_rules.specs.Reading.{tokens_of, first_too_great, Outcome, reads, bad_token, unexpected, bad_number, bad_signature}
+use Rattle.ffi3_cdecl_rules.specs.Tokens.{Token, Sign, signed, type_word, sign_word, const_word, short_word, int_word}
+use Rattle.ffi3_cdecl_rules.specs.Tokens.{long_word, int128_word, char_word, void_word, struct_word, name, number}
+use Rattle.ffi3_cdecl_rules.specs.Tokens.{open_round, close_round, open_curly, close_curly, open_square, close_square}
+use Rattle.ffi3_cdecl_rules.specs.Tokens.{comma, semicolon, star, dots, Placed, Cut, tokens, bad_at, cut}
+use Rattle.ffi3_cdecl_rules.specs.Grammar.{Kind, whole, bare, nothing, MOST_OPEN, pointer_type, char_of, short_of}
+use Rattle.ffi3_cdecl_rules.specs.Grammar.{int_of, long_of, int128_of, Head, Declaration, declared}
+use Rattle.ffi3_cdecl_rules.specs.Reading.{tokens_of, first_too_great, Outcome, reads, bad_token, unexpected}
+use Rattle.ffi3_cdecl_rules.specs.Reading.{bad_number, bad_signature}
 use Rattle.ffi3_type_rules.specs.Signature.{SignatureFault}
 use Rattle.ffi3_type_rules.specs.FirstFault.{first_signature_fault}
 

@@ -1,10 +1,12 @@
 -- The same reading in one pass over the bytes, without a list of tokens, and with few of the counts of an array.
-use Rattle.std.specs.Prelude.{ℕ, zero, suc, ◌+◌, min, Bool, true, false, cond, ltb, List, [], ◌∷◌, length, Option, Some, None, unwrap_or}
+use Rattle.std.specs.Prelude.{ℕ, zero, suc, ◌+◌, min, Bool, true, false, cond, ltb, List, [], ◌∷◌, length, Option, Some}
+use Rattle.std.specs.Prelude.{None, unwrap_or}
 use Rattle.ffi3_type_rules.specs.Tree.{Tree}
 use Rattle.ffi3_cdecl_rules.specs.Tokens.{Token, number, Found, blank, nothing_known, found, found_at}
 use Rattle.ffi3_cdecl_rules.specs.Grammar.{Declaration}
 use Rattle.ffi3_cdecl_rules.specs.Reading.{is_too_great, Outcome, bad_token, unexpected}
-use Rattle.ffi3_cdecl_rules.specs.Machine.{Where, State, wants_count, counted, dead, step, is_dead, finish, begun, with_number}
+use Rattle.ffi3_cdecl_rules.specs.Machine.{Where, State, wants_count, counted, dead, step, is_dead, finish, begun}
+use Rattle.ffi3_cdecl_rules.specs.Machine.{with_number}
 
 -- So many counts of an array are kept, the outermost: with that many it is too deep, wherever it stands.
 abbrev pub MOST_COUNTS : ℕ
@@ -40,8 +42,11 @@ kept None false here = None
 
 -- one token at an offset
 abbrev pub taking : Pass → ℕ → Token → Pass
-taking p at t =
-    record { state = keeping p.state t; died = kept p.died (is_dead (keeping p.state t)) at; great = kept p.great (is_too_great t) at }
+taking p at t = record {
+  state = keeping p.state t;
+  died = kept p.died (is_dead (keeping p.state t)) at;
+  great = kept p.great (is_too_great t) at;
+}
 
 abbrev pub outcome_by : ℕ → Pass → Option Declaration → Outcome
 outcome_by end p (Some d) = with_number d p.great

@@ -45,7 +45,17 @@ pub data Outcome : Type 0 where
 
 pub data IsReading (text : List ℕ) : Outcome → Type 0 where
   has_bad_token : {at : ℕ} → cut text ≡ bad_at at → IsReading text (bad_token at)
-  has_unexpected : (start rest : List Placed) → cut text ≡ tokens (start ++ rest) → IsUnexpected (tokens_of start) (tokens_of rest) → IsReading text (unexpected (begins_at (length text) rest))
-  has_bad_number : {ps : List Placed} {at : ℕ} {d : Declaration} → cut text ≡ tokens ps → IsDeclaration (tokens_of ps) d → first_too_great ps ≡ Some at → IsReading text (bad_number at)
-  is_read : {ps : List Placed} {d : Declaration} → cut text ≡ tokens ps → IsDeclaration (tokens_of ps) d → first_too_great ps ≡ None → SignatureHasNoFault d.signature → IsReading text (reads d)
-  has_bad_signature : {ps : List Placed} {d : Declaration} {f : SignatureFault} → cut text ≡ tokens ps → IsDeclaration (tokens_of ps) d → first_too_great ps ≡ None → IsFirstSignatureFault d.signature f → IsReading text (bad_signature f)
+  has_unexpected : (start rest : List Placed)
+      → cut text ≡ tokens (start ++ rest) → IsUnexpected (tokens_of start) (tokens_of rest)
+      → IsReading text (unexpected (begins_at (length text) rest))
+  has_bad_number : {ps : List Placed} {at : ℕ} {d : Declaration}
+      → cut text ≡ tokens ps → IsDeclaration (tokens_of ps) d → first_too_great ps ≡ Some at
+      → IsReading text (bad_number at)
+  is_read : {ps : List Placed} {d : Declaration}
+      → cut text ≡ tokens ps → IsDeclaration (tokens_of ps) d → first_too_great ps ≡ None
+      → SignatureHasNoFault d.signature
+      → IsReading text (reads d)
+  has_bad_signature : {ps : List Placed} {d : Declaration} {f : SignatureFault}
+      → cut text ≡ tokens ps → IsDeclaration (tokens_of ps) d → first_too_great ps ≡ None
+      → IsFirstSignatureFault d.signature f
+      → IsReading text (bad_signature f)

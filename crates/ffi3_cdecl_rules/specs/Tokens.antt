@@ -1,5 +1,6 @@
 -- The words and marks of a C declaration, and how bytes are cut into them. (C11 6.4: keywords 6.4.1, identifiers 6.4.2.1, decimal constants 6.4.4.1, punctuators 6.4.6; names of types that headers give, C11 7.19 and 7.20.1, are words here, where a long has 64 bits)
-use Rattle.std.specs.Prelude.{ℕ, zero, suc, ◌+◌, ◌-◌, ◌*◌, min, Bool, cond, ◌&&◌, ◌||◌, ◌==◌, List, [], ◌∷◌, length, nat_le, codes, bytes_eq}
+use Rattle.std.specs.Prelude.{ℕ, zero, suc, ◌+◌, ◌-◌, ◌*◌, min, Bool, cond, ◌&&◌, ◌||◌, ◌==◌, List, [], ◌∷◌, length}
+use Rattle.std.specs.Prelude.{nat_le, codes, bytes_eq}
 use Rattle.ffi3_type_rules.specs.Tree.{Scalar, u8, s8, u16, s16, u32, s32, u64, s64, float, double}
 
 pub data Sign : Type 0 where
@@ -35,7 +36,14 @@ pub data Token : Type 0 where
 -- the words of the grammar
 abbrev pub words : List (List ℕ × Token)
 words =
-    (codes "float", type_word float) ∷ (codes "double", type_word double) ∷ (codes "int8_t", type_word s8) ∷ (codes "int16_t", type_word s16) ∷ (codes "int32_t", type_word s32) ∷ (codes "int64_t", type_word s64) ∷ (codes "uint8_t", type_word u8) ∷ (codes "uint16_t", type_word u16) ∷ (codes "uint32_t", type_word u32) ∷ (codes "uint64_t", type_word u64) ∷ (codes "size_t", type_word u64) ∷ (codes "uintptr_t", type_word u64) ∷ (codes "intptr_t", type_word s64) ∷ (codes "signed", sign_word signed) ∷ (codes "unsigned", sign_word unsigned) ∷ (codes "const", const_word) ∷ (codes "short", short_word) ∷ (codes "int", int_word) ∷ (codes "long", long_word) ∷ (codes "__int128", int128_word) ∷ (codes "char", char_word) ∷ (codes "void", void_word) ∷ (codes "struct", struct_word) ∷ []
+    (codes "float", type_word float) ∷ (codes "double", type_word double) ∷ (codes "int8_t", type_word s8)
+    ∷ (codes "int16_t", type_word s16) ∷ (codes "int32_t", type_word s32) ∷ (codes "int64_t", type_word s64)
+    ∷ (codes "uint8_t", type_word u8) ∷ (codes "uint16_t", type_word u16) ∷ (codes "uint32_t", type_word u32)
+    ∷ (codes "uint64_t", type_word u64) ∷ (codes "size_t", type_word u64) ∷ (codes "uintptr_t", type_word u64)
+    ∷ (codes "intptr_t", type_word s64) ∷ (codes "signed", sign_word signed) ∷ (codes "unsigned", sign_word unsigned)
+    ∷ (codes "const", const_word) ∷ (codes "short", short_word) ∷ (codes "int", int_word) ∷ (codes "long", long_word)
+    ∷ (codes "__int128", int128_word) ∷ (codes "char", char_word) ∷ (codes "void", void_word)
+    ∷ (codes "struct", struct_word) ∷ []
 
 abbrev pub word_among : List ℕ → List (List ℕ × Token) → Token
 word_among bytes [] = name bytes
@@ -86,7 +94,9 @@ pub data Found : Type 0 where
 -- a number with a 0 in front is none
 abbrev pub number_at : ℕ → List ℕ → Found
 number_at b digits =
-    cond (b == 48) (cond (length digits == 0) (found (number 0) 0) nothing_known) (found (number (with_digits 0 (b ∷ digits))) (length digits))
+    cond (b == 48)
+    (cond (length digits == 0) (found (number 0) 0) nothing_known)
+    (found (number (with_digits 0 (b ∷ digits))) (length digits))
 
 -- three dots, where these bytes stand behind the first
 abbrev pub dots_at : List ℕ → Found
@@ -97,7 +107,8 @@ dots_at (b ∷ c ∷ bs) = cond ((b == 46) && (c == 46)) (found dots 2) nothing_
 -- the marks of one byte
 abbrev pub marks : List (ℕ × Token)
 marks =
-    (40, open_round) ∷ (41, close_round) ∷ (123, open_curly) ∷ (125, close_curly) ∷ (91, open_square) ∷ (93, close_square) ∷ (44, comma) ∷ (59, semicolon) ∷ (42, star) ∷ []
+    (40, open_round) ∷ (41, close_round) ∷ (123, open_curly) ∷ (125, close_curly) ∷ (91, open_square)
+    ∷ (93, close_square) ∷ (44, comma) ∷ (59, semicolon) ∷ (42, star) ∷ []
 
 abbrev pub mark_among : ℕ → List (ℕ × Token) → Found
 mark_among b [] = nothing_known
@@ -106,7 +117,11 @@ mark_among b (mark ∷ rest) = cond (b == mark.0) (found mark.1 0) (mark_among b
 -- the longest token at the front of a byte and those behind it
 abbrev pub found_at : ℕ → List ℕ → Found
 found_at b bs =
-    cond (is_blank b) blank (cond (is_letter b) (found (word_of (b ∷ front goes_on_word bs)) (length (front goes_on_word bs))) (cond (is_digit b) (number_at b (front is_digit bs)) (cond (b == 46) (dots_at bs) (mark_among b marks))))
+    cond (is_blank b) blank
+    (cond (is_letter b)
+    (found (word_of (b ∷ front goes_on_word bs)) (length (front goes_on_word bs)))
+    (cond (is_digit b) (number_at b (front is_digit bs))
+    (cond (b == 46) (dots_at bs) (mark_among b marks))))
 
 -- a token and the offset of its first byte
 pub record Placed : Type 0 where

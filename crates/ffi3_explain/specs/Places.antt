@@ -1,5 +1,6 @@
 -- Places that an image has, pieces that are read from them, and the bytes of a value over two fillings of its padding.
-use Rattle.std.specs.Prelude.{◌≡◌, ℕ, ◌+◌, ◌-◌, ◌<◌, ◌≤◌, ◌^◌, ◌⊎◌, ⊤, true, false, cond, ◌&&◌, ◌==◌, nat_lt, List, [], ◌∷◌, length, get_or, Option, Some, None}
+use Rattle.std.specs.Prelude.{◌≡◌, ℕ, ◌+◌, ◌-◌, ◌<◌, ◌≤◌, ◌^◌, ◌⊎◌, ⊤, true, false, cond, ◌&&◌, ◌==◌, nat_lt, List, []}
+use Rattle.std.specs.Prelude.{◌∷◌, length, get_or, Option, Some, None}
 use Rattle.std.specs.List.{AllByRecursion}
 use Rattle.ffi3_type_rules.specs.Tree.{Tree}
 use Rattle.ffi3_type_rules.specs.Layout.{leaves_of, size_of}
@@ -39,14 +40,18 @@ pub record IsPieceRead (m : Image) (base : ℕ) (p : Piece) (old new : List ℕ)
 -- byte k of a piece's place: a byte of the value where both fillings have the same there, and else the one that is found
 abbrev pub marked_byte : Piece → (found low high : List ℕ) → ℕ → ℕ
 marked_byte p found low high k =
-    cond (nat_lt k p.len && (get_or low (p.off + k) 0 == get_or high (p.off + k) 0)) (get_or low (p.off + k) 0) (get_or found k 0)
+    cond (nat_lt k p.len && (get_or low (p.off + k) 0 == get_or high (p.off + k) 0))
+    (get_or low (p.off + k) 0)
+    (get_or found k 0)
 
 -- The value's bytes over zeros and over ones: both have a leaf's byte, and they differ in each byte of padding.
 pub record AreMarks (m : Image) (base : ℕ) (t : Tree) (pieces : List Piece) (low high : List ℕ) : Type 0 where
   pub low_sized : length low ≡ size_of t
   pub high_sized : length high ≡ size_of t
-  pub leaf : (o : ℕ) → o < size_of t → in_leaf (leaves_of t) o ≡ true → (get_or low o 0 ≡ first_byte m base pieces o) × (get_or high o 0 ≡ first_byte m base pieces o)
-  pub padding : (o : ℕ) → o < size_of t → in_leaf (leaves_of t) o ≡ false → (get_or low o 0 ≡ 0) × (get_or high o 0 ≡ 255)
+  pub leaf : (o : ℕ) → o < size_of t → in_leaf (leaves_of t) o ≡ true
+      → (get_or low o 0 ≡ first_byte m base pieces o) × (get_or high o 0 ≡ first_byte m base pieces o)
+  pub padding : (o : ℕ) → o < size_of t → in_leaf (leaves_of t) o ≡ false
+      → (get_or low o 0 ≡ 0) × (get_or high o 0 ≡ 255)
 
 -- an argument's place is there, and its copy too
 abbrev pub PlaceIsThere : Image → ℕ → Tree → Place → Type 0

@@ -1,5 +1,6 @@
 -- Which arguments an image at an entry has by the standard alone, whoever called: what it leaves free is not judged, and a copy stands wherever its address points. (System V psABI AMD64 3.2.3; Arm AAPCS64, "Parameter Passing"; RISC-V ELF psABI, "Integer Calling Convention" and "Hardware Floating-point Calling Convention"; Microsoft, "x64 calling convention". Where a caller has its copies, and what it leaves in the rest of a place, is its own affair by all four, but for narrow integers and floats on RISC-V)
-use Rattle.std.specs.Prelude.{◌≡◌, ℕ, suc, ◌+◌, ◌-◌, ◌≤◌, true, Bool, ◌&&◌, nat_le, cond, max, List, [], ◌∷◌, take, drop, length, slice_get, Option, Some, None}
+use Rattle.std.specs.Prelude.{◌≡◌, ℕ, suc, ◌+◌, ◌-◌, ◌≤◌, true, Bool, ◌&&◌, nat_le, cond, max, List, [], ◌∷◌, take}
+use Rattle.std.specs.Prelude.{drop, length, slice_get, Option, Some, None}
 use Rattle.std.specs.List.{flat_map}
 use Rattle.ffi3_type_rules.specs.Tree.{Tree, trees_of}
 use Rattle.ffi3_type_rules.specs.Layout.{size_of}
@@ -48,7 +49,8 @@ values_by_standard m base _ _ = []
 abbrev pub outside_of : Image → ℕ → ℕ → Tree → Place → Option Outside
 outside_of m base i t (Direct pieces) = None
 outside_of m base i t (ByRef at copy) =
-    cond (is_in_image m (word_at m base at) (size_of t)) None (Some (record { argument = i; address = word_at m base at }))
+    cond (is_in_image m (word_at m base at) (size_of t)) None
+    (Some (record { argument = i; address = word_at m base at }))
 
 abbrev pub or_later : Option Outside → Option Outside → Option Outside
 or_later (Some o) later = Some o
@@ -71,7 +73,9 @@ arguments_by vs (Some o) = points_outside o
 -- WHICH ARGUMENTS THE IMAGE HAS BY THE STANDARD ALONE: the values whose bytes stand at the places, or the first address that points outside the image
 abbrev pub held_by_standard : Standard → Signature → Image → Arguments
 held_by_standard std s m =
-    arguments_by (values_by_standard m std.link s.arguments (plan_of std s).places) (first_outside m std.link 0 s.arguments (plan_of std s).places)
+    arguments_by
+    (values_by_standard m std.link s.arguments (plan_of std s).places)
+    (first_outside m std.link 0 s.arguments (plan_of std s).places)
 
 -- ---- how much of the stack they need
 
@@ -92,17 +96,29 @@ pub record ArgumentLaws (std : Standard) (s : Signature) (m : Image) : Type 0 wh
   -- an image that owns values has these
   pub owned : (vs : List ValueTree) → Own std s vs m → held_by_standard std s m ≡ are_values vs
   -- and so has one that is explained by values
-  pub by_explanation : HasWords m → std.link + frame_of std s ≤ length m.stack → (vs : List ValueTree) → explained std s m ≡ holds_values vs → held_by_standard std s m ≡ are_values vs
+  pub by_explanation : HasWords m → std.link + frame_of std s ≤ length m.stack
+      → (vs : List ValueTree) → explained std s m ≡ holds_values vs
+      → held_by_standard std s m ≡ are_values vs
   -- the values fit the arguments' types
-  pub fit : (vs : List ValueTree) → held_by_standard std s m ≡ are_values vs → all_fit (trees_of s.arguments) (values_of vs) ≡ true
+  pub fit : (vs : List ValueTree) → held_by_standard std s m ≡ are_values vs
+      → all_fit (trees_of s.arguments) (values_of vs) ≡ true
   -- an image whose address points outside owns no values
   pub outside : (o : Outside) → held_by_standard std s m ≡ points_outside o → (vs : List ValueTree) → ¬ Own std s vs m
   -- an argument by reference is the value to which its place points, wherever in the image that is
-  pub followed : (vs : List ValueTree) → held_by_standard std s m ≡ are_values vs → (k : ℕ) (t : Tree) (at : Loc) (copy : ℕ) → slice_get s.arguments k ≡ Some t → slice_get (plan_of std s).places k ≡ Some (ByRef at copy) → (is_in_image m (word_at m std.link at) (size_of t) ≡ true) × (slice_get vs k ≡ Some (value_at_address m (word_at m std.link at) t))
+  pub followed : (vs : List ValueTree)
+      → held_by_standard std s m ≡ are_values vs
+      → (k : ℕ) (t : Tree) (at : Loc) (copy : ℕ) → slice_get s.arguments k ≡ Some t
+      → slice_get (plan_of std s).places k ≡ Some (ByRef at copy)
+      → (is_in_image m (word_at m std.link at) (size_of t) ≡ true)
+      × (slice_get vs k ≡ Some (value_at_address m (word_at m std.link at) t))
   -- no other register is looked at: an image with the same stack at the same address, and the same in the arguments' registers, has the same
-  pub others : (n : Image) → n.sp ≡ m.sp → n.stack ≡ m.stack → SameIn (flat_map place_locs (plan_of std s).places) n m → held_by_standard std s n ≡ held_by_standard std s m
+  pub others : (n : Image) → n.sp ≡ m.sp → n.stack ≡ m.stack → SameIn (flat_map place_locs (plan_of std s).places) n m
+      → held_by_standard std s n ≡ held_by_standard std s m
   -- so the number of vector registers is not asked
-  pub uncounted : (n : Image) → n.sp ≡ m.sp → n.stack ≡ m.stack → ((at : Loc) → IsNoneOf (listed std.vector_count) at → register n at ≡ register m at) → held_by_standard std s n ≡ held_by_standard std s m
+  pub uncounted : (n : Image)
+      → n.sp ≡ m.sp → n.stack ≡ m.stack
+      → ((at : Loc) → IsNoneOf (listed std.vector_count) at → register n at ≡ register m at)
+      → held_by_standard std s n ≡ held_by_standard std s m
   -- what is needed of the stack is never more than return address and frame
   pub least : least_stack std s ≤ std.link + frame_of std s
 

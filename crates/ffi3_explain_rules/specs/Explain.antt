@@ -1,5 +1,6 @@
 -- What an image at an entry is explained as: each place in order, what it holds and what it holds where values are held; the values, or the first place that holds something else. (System V psABI AMD64 3.2.3; Arm AAPCS64, "Parameter Passing"; RISC-V ELF psABI, "Integer Calling Convention" and "Hardware Floating-point Calling Convention"; Microsoft, "x64 calling convention")
-use Rattle.std.specs.Prelude.{ℕ, zero, suc, ◌+◌, ◌-◌, ◌*◌, ◌%◌, ◌^◌, Bool, false, cond, ◌&&◌, ◌||◌, ◌==◌, nat_le, nat_lt, List, [], ◌∷◌, ◌++◌, take, drop, Option, Some, None}
+use Rattle.std.specs.Prelude.{ℕ, zero, suc, ◌+◌, ◌-◌, ◌*◌, ◌%◌, ◌^◌, Bool, false, cond, ◌&&◌, ◌||◌, ◌==◌, nat_le}
+use Rattle.std.specs.Prelude.{nat_lt, List, [], ◌∷◌, ◌++◌, take, drop, Option, Some, None}
 use Rattle.std.specs.Int.{w64, from_le_bytes}
 use Rattle.ffi3_type_rules.specs.Tree.{Tree, scalar}
 use Rattle.ffi3_type_rules.specs.Layout.{Leaf, leaves_of, size_of, scalar_size}
@@ -51,7 +52,9 @@ in_leaf (l ∷ ls) o =
 -- byte k of the place: a leaf's byte is the value's, and any other is as it is found
 abbrev pub wanted_byte : Image → ℕ → Tree → List Piece → Piece → ℕ → ℕ
 wanted_byte m base t all p k =
-    cond (nat_lt k p.len && in_leaf (leaves_of t) (p.off + k)) (first_byte m base all (p.off + k)) (byte_at m base p.loc k)
+    cond (nat_lt k p.len && in_leaf (leaves_of t) (p.off + k))
+    (first_byte m base all (p.off + k))
+    (byte_at m base p.loc k)
 
 abbrev pub eight : (ℕ → ℕ) → List ℕ
 eight f = f 0 ∷ f 1 ∷ f 2 ∷ f 3 ∷ f 4 ∷ f 5 ∷ f 6 ∷ f 7 ∷ []
@@ -110,7 +113,8 @@ checks_of_count m None n = []
 -- arguments from the left, then the hidden result's address, then the number of vector registers
 abbrev pub checks : Standard → Signature → Image → List Check
 checks std s m =
-    checks_of_arguments m std.link 0 s.arguments (plan_of std s).places ++ (checks_of_hidden m std.link (plan_of std s).res ++ checks_of_count m std.vector_count (plan_of std s).vectors)
+    checks_of_arguments m std.link 0 s.arguments (plan_of std s).places
+    ++ (checks_of_hidden m std.link (plan_of std s).res ++ checks_of_count m std.vector_count (plan_of std s).vectors)
 
 -- ---- the explanation
 

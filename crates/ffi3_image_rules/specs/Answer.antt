@@ -9,7 +9,8 @@ use Rattle.ffi3_explain_rules.specs.Arguments.{Arguments, are_values, points_out
 use Rattle.ffi3_image_rules.specs.declared.Question.{Question}
 use Rattle.ffi3_image_rules.specs.declared.Question.TheVariants.{Explained, ByStandard}
 use Rattle.ffi3_image_rules.specs.Input.{Input, too_long, not_json, faulty, described, standard_of, IsReadAs}
-use Rattle.ffi3_image_rules.specs.Lines.{explained_text, arguments_text, broken_line, outside_line, fault_line, too_long_line, not_json_line}
+use Rattle.ffi3_image_rules.specs.Lines.{explained_text, arguments_text, broken_line, outside_line, fault_line}
+use Rattle.ffi3_image_rules.specs.Lines.{too_long_line, not_json_line}
 
 pub data Answer : Type 0 where
   text : List ℕ → Answer

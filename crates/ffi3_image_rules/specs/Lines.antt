@@ -63,12 +63,16 @@ part_text Count = codes "count"
 -- THE LINE OF A PLACE that does not hold what is wanted
 abbrev pub broken_line : Isa → Check → List ℕ
 broken_line isa c =
-    a_line (codes "ffi3: " ++ (part_text c.part ++ (codes ": " ++ (loc_name isa c.place ++ (codes " holds " ++ (word_text c.found ++ (codes ", wants " ++ word_text c.wants)))))))
+    a_line
+    (codes "ffi3: " ++ (part_text c.part ++ (codes ": " ++ (loc_name isa c.place
+    ++ (codes " holds " ++ (word_text c.found ++ (codes ", wants " ++ word_text c.wants)))))))
 
 -- THE LINE OF AN ADDRESS that points outside the image
 abbrev pub outside_line : Outside → List ℕ
 outside_line o =
-    a_line (codes "ffi3: arg " ++ (decimal o.argument ++ (codes ": " ++ (address_text o.address ++ codes " is not in the image"))))
+    a_line
+    (codes "ffi3: arg " ++ (decimal o.argument ++ (codes ": "
+    ++ (address_text o.address ++ codes " is not in the image"))))
 
 -- ---- why an input is refused
 

@@ -11,7 +11,8 @@ use Rattle.ffi3_type_rules.specs.declared.Target.TheVariants.{Amd64, Aapcs64, Ri
 use Rattle.ffi3_type_rules.specs.Signature.{Signature}
 use Rattle.ffi3_place_rules.specs.Image.{Image}
 use Rattle.ffi3_script_rules.specs.Language as language
-use Rattle.ffi3_script_rules.specs.Language.{JsonPath, Key, required, under, at_item, value_under, not_an_array, wrong_count, bad_bytes}
+use Rattle.ffi3_script_rules.specs.Language.{JsonPath, Key, required, under, at_item, value_under, not_an_array}
+use Rattle.ffi3_script_rules.specs.Language.{wrong_count, bad_bytes}
 
 -- ---- reasons
 
@@ -45,7 +46,10 @@ of_script (language.fault path reason) = fault path (as_in_scripts reason)
 
 abbrev pub target_named : List ℕ → Option Target
 target_named name =
-    cond (bytes_eq (codes "amd64") name) (Some Amd64) (cond (bytes_eq (codes "aapcs64") name) (Some Aapcs64) (cond (bytes_eq (codes "riscv") name) (Some Riscv) (cond (bytes_eq (codes "win64") name) (Some Win64) None)))
+    cond (bytes_eq (codes "amd64") name) (Some Amd64)
+    (cond (bytes_eq (codes "aapcs64") name) (Some Aapcs64)
+    (cond (bytes_eq (codes "riscv") name) (Some Riscv)
+    (cond (bytes_eq (codes "win64") name) (Some Win64) None)))
 
 abbrev pub target_or_fault : JsonPath → Option Target → Read Target
 target_or_fault path (Some t) = read t
@@ -100,7 +104,8 @@ pub record Snapshot : Type 0 where
 
 abbrev pub snapshot_keys : List Key
 snapshot_keys =
-    required (codes "target") ∷ required (codes "sig") ∷ required (codes "sp") ∷ required (codes "general") ∷ required (codes "floating") ∷ required (codes "stack") ∷ []
+    required (codes "target") ∷ required (codes "sig") ∷ required (codes "sp") ∷ required (codes "general")
+    ∷ required (codes "floating") ∷ required (codes "stack") ∷ []
 
 abbrev pub root : JsonPath
 root = []

@@ -13,7 +13,8 @@ use Rattle.ffi3_image_rules.specs.Object.{Read, read, fault, as_in_scripts, too_
 abbrev pub check_room : (reach least : ℕ) → Image → Read ⊤
 check_room reach least m =
     cond (nat_lt (m.sp + reach) (2 ^ 64))
-    (cond (nat_le least (length m.stack)) (read tt) (fault (under root (codes "stack")) (too_short (length m.stack) least)))
+    (cond (nat_le least (length m.stack)) (read tt)
+    (fault (under root (codes "stack")) (too_short (length m.stack) least)))
     (fault (under root (codes "sp")) (as_in_scripts out_of_range))
 
 -- the return address and the whole frame

@@ -1,5 +1,6 @@
 -- A call from its caller's side to the return, by any calling standard: the machine before, in the callee and after. (System V psABI AMD64 3.2; Arm AAPCS64 6; RISC-V ELF psABI, "Integer Calling Convention")
-use Rattle.std.specs.Prelude.{◌≡◌, ℕ, ◌+◌, ◌-◌, ◌%◌, ◌^◌, ◌<◌, ◌≤◌, min, ⊤, List, [], ◌∷◌, ◌++◌, length, get_or, slice_index}
+use Rattle.std.specs.Prelude.{◌≡◌, ℕ, ◌+◌, ◌-◌, ◌%◌, ◌^◌, ◌<◌, ◌≤◌, min, ⊤, List, [], ◌∷◌, ◌++◌, length, get_or}
+use Rattle.std.specs.Prelude.{slice_index}
 use Rattle.std.specs.List.{AllByRecursion}
 use Rattle.ffi3_type_rules.specs.declared.Target.{Target}
 use Rattle.ffi3_type_rules.specs.Isa.{isa_of}
@@ -59,8 +60,10 @@ pub record Stands (std : Standard) (entered : Entered) (block : ℕ) (m : State)
   pub place : block + block_bytes entered.signature + std.save ≡ entered.event.image.sp
   pub bottom : STACK ≤ block
   pub top : entered.event.image.sp + std.link + frame_of std entered.signature ≤ STACK_TOP
-  pub saved : (i : ℕ) (w : SaveWord) → i < length std.save_area → w ≡ get_or std.save_area i w → IsSavedOf std entered.signature entered.event.image w (saved_word (entered.event.image.sp - std.save) i m)
-  pub return_address : HasReturnAt (link_register (isa_of std.target)) entered.event.image.general entered.event.image.sp m.stack
+  pub saved : (i : ℕ) (w : SaveWord) → i < length std.save_area → w ≡ get_or std.save_area i w
+      → IsSavedOf std entered.signature entered.event.image w (saved_word (entered.event.image.sp - std.save) i m)
+  pub return_address :
+      HasReturnAt (link_register (isa_of std.target)) entered.event.image.general entered.event.image.sp m.stack
   pub frame : stack_at entered.event.image.sp (std.link + frame_of std entered.signature) m ≡ entered.event.image.stack
 
 -- The callee of an open call runs: its block begins at sp, the reserved registers are those of the entry, and the journal has room for the return.
@@ -83,24 +86,30 @@ KeepsOpen std from before after =
 -- ---- the steps of a call
 
 -- THE ARGUMENTS ARE PASSED: the machine is at ENTRY, its image holds the values, and of the stack only the frame and the return address are written.
-pub record HasPassed (std : Standard) (s : Signature) (arguments : List ValueTree) (pointer : ℕ) (before after : State) : Type 0 where
+pub record HasPassed (std : Standard) (s : Signature) (arguments : List ValueTree) (pointer : ℕ) (before after : State)
+    : Type 0 where
   pub holds : Holds std s arguments (image_of (std.link + frame_of std s) after)
   pub pc : after.pc ≡ ENTRY
   pub closure : slice_index after.general (closure_register (isa_of after.target)) ≡ pointer
   pub return_address : HasReturnAddress after
-  pub preserved : AllByRecursion (λ at. register (image_of (std.link + frame_of std s) after) at ≡ scribble (length before.events) at) std.preserved
+  pub preserved :
+      AllByRecursion
+      (λ at. register (image_of (std.link + frame_of std s) after) at ≡ scribble (length before.events) at)
+      std.preserved
   pub reserved : KeepsReserved std before after
   pub sp : after.sp + std.link + frame_of std s ≡ before.sp
   pub within : WroteWithin after.sp before.sp before (with_journal_of before after)
   pub events : after.events ≡ before.events
   pub spare_events : after.spare_events ≡ before.spare_events
   pub spare_bytes : after.spare_bytes ≡ before.spare_bytes
-  pub steps : after.steps ≡ (steps_if (by_exchange before.target) (steps_of (isa_of before.target) Call) before.steps + 3) % 2 ^ 64
+  pub steps : after.steps
+      ≡ (steps_if (by_exchange before.target) (steps_of (isa_of before.target) Call) before.steps + 3) % 2 ^ 64
 
 -- THE CALLEE HAS RETURNED: the return is in the journal, whatever open call by the signature it was, and of the stack only a hidden result's buffer is written.
 pub record HasReturned (std : Standard) (s : Signature) (outcome : ValueTree) (before after : State) : Type 0 where
   pub events : after.events ≡ before.events ++ return_at std s after ∷ []
-  pub is_return : (entry : Event) → IsInCallee std (record { signature = s; event = entry }) before → IsReturn std (record { signature = s; event = entry }) outcome (return_at std s after)
+  pub is_return : (entry : Event) → IsInCallee std (record { signature = s; event = entry }) before
+      → IsReturn std (record { signature = s; event = entry }) outcome (return_at std s after)
   pub pc : after.pc ≡ RETURN
   pub sp : after.sp ≡ before.sp + block_bytes s + std.save + std.link
   pub reserved : KeepsReserved std before after
@@ -114,24 +123,33 @@ pub record HasReturned (std : Standard) (s : Signature) (outcome : ValueTree) (b
 -- the count of steps where a call has begun: Call and Entry are counted where calls go by stubs, and the trampoline's three always
 abbrev pub begun_steps : Target → ℕ → ℕ
 begun_steps target n =
-    steps_if (by_exchange target) (steps_of (isa_of target) Entry) ((steps_if (by_exchange target) (steps_of (isa_of target) Call) n + 3) % 2 ^ 64)
+    steps_if (by_exchange target)
+    (steps_of (isa_of target) Entry)
+    ((steps_if (by_exchange target) (steps_of (isa_of target) Call) n + 3) % 2 ^ 64)
 
 -- and where it has ended: Exit and Return are
 abbrev pub ended_steps : Target → ℕ → ℕ
 ended_steps target n =
-    steps_if (by_exchange target) (steps_of (isa_of target) Return) (steps_if (by_exchange target) (steps_of (isa_of target) Exit) n)
+    steps_if (by_exchange target)
+    (steps_of (isa_of target) Return)
+    (steps_if (by_exchange target) (steps_of (isa_of target) Exit) n)
 
 -- A CALL HAS BEGUN: its entry is in the journal, and its callee has the arguments. It stands below the unfinished calls: of the stack it writes its own need, from sp down, and nothing else.
-pub record HasBegun (std : Standard) (s : Signature) (arguments : List ValueTree) (pointer : ℕ) (before after : State) : Type 0 where
+pub record HasBegun (std : Standard) (s : Signature) (arguments : List ValueTree) (pointer : ℕ) (before after : State)
+    : Type 0 where
   pub entry : Event
   pub events : after.events ≡ before.events ++ entry ∷ []
-  pub is_entry : (top : ℕ) (held : Loc → ℕ) (outer : List Entered) → before.sp + needs std outer ≡ top → AllByRecursion (λ at. register (image_of 0 before) at ≡ held at) std.reserved → IsEntry std top held outer (length before.events) pointer s arguments entry
+  pub is_entry : (top : ℕ) (held : Loc → ℕ) (outer : List Entered)
+      → before.sp + needs std outer ≡ top
+      → AllByRecursion (λ at. register (image_of 0 before) at ≡ held at) std.reserved
+      → IsEntry std top held outer (length before.events) pointer s arguments entry
   pub in_callee : IsInCallee std (record { signature = s; event = entry }) after
   pub arguments_stand : arguments_in s.arguments (stack_at after.sp (block_bytes s) after) ≡ arguments
   pub sp : after.sp + need_of std s ≡ before.sp
   pub above : (address count : ℕ) → before.sp ≤ address → stack_at address count after ≡ stack_at address count before
   -- also where the mark was lower before
-  pub below : (address count : ℕ) → STACK ≤ address → address + count ≤ after.sp → stack_at address count after ≡ stack_at address count before
+  pub below : (address count : ℕ) → STACK ≤ address → address + count ≤ after.sp
+      → stack_at address count after ≡ stack_at address count before
   pub keeps_open : KeepsOpen std before.sp before after
   pub mark : min before.mark after.sp ≤ after.mark
   pub code : after.code ≡ before.code
@@ -145,10 +163,12 @@ pub record HasBegun (std : Standard) (s : Signature) (arguments : List ValueTree
 pub record HasEnded (std : Standard) (s : Signature) (outcome : ValueTree) (before after : State) : Type 0 where
   pub return : Event
   pub events : after.events ≡ before.events ++ return ∷ []
-  pub is_return : (entry : Event) → IsInCallee std (record { signature = s; event = entry }) before → IsReturn std (record { signature = s; event = entry }) outcome return
+  pub is_return : (entry : Event) → IsInCallee std (record { signature = s; event = entry }) before
+      → IsReturn std (record { signature = s; event = entry }) outcome return
   pub sp : after.sp ≡ before.sp + need_of std s
   pub above : (address count : ℕ) → after.sp ≤ address → stack_at address count after ≡ stack_at address count before
-  pub below : (address count : ℕ) → STACK ≤ address → address + count ≤ before.sp → stack_at address count after ≡ stack_at address count before
+  pub below : (address count : ℕ) → STACK ≤ address → address + count ≤ before.sp
+      → stack_at address count after ≡ stack_at address count before
   pub keeps_open : KeepsOpen std after.sp before after
   pub mark : min before.mark before.sp ≤ after.mark
   pub code : after.code ≡ before.code
@@ -159,15 +179,20 @@ pub record HasEnded (std : Standard) (s : Signature) (outcome : ValueTree) (befo
   pub steps : after.steps ≡ ended_steps before.target before.steps
 
 -- THE WHOLE CALL: entry and return stand in the journal one behind the other, and the machine's stack above sp and below the call's need, its code, target and reserved registers are as before.
-pub record IsMade (std : Standard) (s : Signature) (arguments : List ValueTree) (pointer : ℕ) (outcome : ValueTree) (before after : State) : Type 0 where
+pub record IsMade (std : Standard) (s : Signature) (arguments : List ValueTree) (pointer : ℕ) (outcome : ValueTree)
+    (before after : State) : Type 0 where
   pub entry : Event
   pub return : Event
   pub events : after.events ≡ before.events ++ entry ∷ return ∷ []
-  pub is_entry : (top : ℕ) (held : Loc → ℕ) (outer : List Entered) → before.sp + needs std outer ≡ top → AllByRecursion (λ at. register (image_of 0 before) at ≡ held at) std.reserved → IsEntry std top held outer (length before.events) pointer s arguments entry
+  pub is_entry : (top : ℕ) (held : Loc → ℕ) (outer : List Entered)
+      → before.sp + needs std outer ≡ top
+      → AllByRecursion (λ at. register (image_of 0 before) at ≡ held at) std.reserved
+      → IsEntry std top held outer (length before.events) pointer s arguments entry
   pub is_return : IsReturn std (record { signature = s; event = entry }) outcome return
   pub sp : after.sp ≡ before.sp
   pub above : (address count : ℕ) → before.sp ≤ address → stack_at address count after ≡ stack_at address count before
-  pub below : (address count : ℕ) → STACK ≤ address → address + count + need_of std s ≤ before.sp → stack_at address count after ≡ stack_at address count before
+  pub below : (address count : ℕ) → STACK ≤ address → address + count + need_of std s ≤ before.sp
+      → stack_at address count after ≡ stack_at address count before
   pub keeps_open : KeepsOpen std before.sp before after
   pub mark : min before.mark (before.sp - need_of std s) ≤ after.mark
   pub code : after.code ≡ before.code

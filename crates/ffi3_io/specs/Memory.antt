@@ -1,5 +1,6 @@
 -- Sources and sinks in memory, as their callers see them.
-use Rattle.std.specs.Prelude.{◌≡◌, ℕ, ◌+◌, List, ◌++◌, length, take, drop, min, Contains, Option, None, Some, if◌then◌else◌, nat_le}
+use Rattle.std.specs.Prelude.{◌≡◌, ℕ, ◌+◌, List, ◌++◌, length, take, drop, min, Contains, Option, None, Some}
+use Rattle.std.specs.Prelude.{if◌then◌else◌, nat_le}
 use Rattle.ffi3_io.specs.Count.{next_count}
 
 -- the bytes left, the most of them that one read gives, the calls that fail, the number of the last
@@ -44,7 +45,10 @@ IsNextRead before after =
 -- a read gives as many of the bytes left as there is room for, and no more than its chunk, and fails where the number of its call is one of those that fail
 abbrev pub MemoryGives : MemSourceState → ℕ → Option (List ℕ) → MemSourceState → Type 0
 MemoryGives before room (Some piece) after =
-    IsNextRead before after × (¬ Contains before.fails after.calls) × (piece ≡ take (min room before.chunk) before.left) × (after.left ≡ drop (min room before.chunk) before.left)
+    IsNextRead before after
+    × (¬ Contains before.fails after.calls)
+    × (piece ≡ take (min room before.chunk) before.left)
+    × (after.left ≡ drop (min room before.chunk) before.left)
 MemoryGives before room None after =
     IsNextRead before after × Contains before.fails after.calls × (after.left ≡ before.left)
 

@@ -37,16 +37,22 @@ module _ {S : Type 0} (gives : S → ℕ → Option (List ℕ) → S → Type 0)
   -- THE READS SO FAR, each of which took at least one byte, and none of which had room for more than is wanted: all their bytes, and the source after them
   pub data HasRead : List ℕ → S → Type 0 where
     not_yet : HasRead [] from
-    one_more : {bytes piece : List ℕ} {s t : S} {room : ℕ} → HasRead bytes s → length bytes + room ≤ limit → gives s room (Some piece) t → 0 < length piece → HasRead (bytes ++ piece) t
+    one_more : {bytes piece : List ℕ} {s t : S} {room : ℕ}
+        → HasRead bytes s → length bytes + room ≤ limit → gives s room (Some piece) t → 0 < length piece
+        → HasRead (bytes ++ piece) t
 
   -- WHERE READING ENDS: where as many bytes were taken as the limit, or at a read that had room and gave no byte
   pub data HasReadAll : List ℕ → S → Type 0 where
     at_limit : {bytes : List ℕ} {t : S} → HasRead bytes t → length bytes ≡ limit → HasReadAll bytes t
-    at_end : {bytes : List ℕ} {s t : S} {room : ℕ} → HasRead bytes s → 0 < room → length bytes + room ≤ limit → gives s room (Some []) t → HasReadAll bytes t
+    at_end : {bytes : List ℕ} {s t : S} {room : ℕ}
+        → HasRead bytes s → 0 < room → length bytes + room ≤ limit → gives s room (Some []) t
+        → HasReadAll bytes t
 
   -- WHERE READING FAILS: at a read that had room and failed
   pub data HasFailed : S → Type 0 where
-    at_fault : {bytes : List ℕ} {s t : S} {room : ℕ} → HasRead bytes s → 0 < room → length bytes + room ≤ limit → gives s room None t → HasFailed t
+    at_fault : {bytes : List ℕ} {s t : S} {room : ℕ}
+        → HasRead bytes s → 0 < room → length bytes + room ≤ limit → gives s room None t
+        → HasFailed t
 
   -- a read with room for no more than is wanted gave n bytes, put after those read before
   pub record HasOneMore (before : List ℕ) (n : ℕ) (after : List ℕ) (to : S) : Type 0 where

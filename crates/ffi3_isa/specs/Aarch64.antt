@@ -7,9 +7,12 @@ use Rattle.ffi3_isa.specs.Fields.{sign_extend, first_word}
 -- those of which trampolines are made
 pub data IsTrampolineWord (word : ℕ) : Instr → Type 0 where
   -- LDR (literal), 64 bits: opc 01, 011, V 0, 00, imm19, Rt; the offset is SignExtend(imm19:'00')
-  ldr_literal : {imm19 t : ℕ} → imm19 < 2 ^ 19 → t < 32 → word ≡ 0b01011000 * 2 ^ 24 + imm19 * 2 ^ 5 + t → IsTrampolineWord word (LdrLit t (sign_extend 21 (imm19 * 4)))
+  ldr_literal : {imm19 t : ℕ} → imm19 < 2 ^ 19 → t < 32 → word ≡ 0b01011000 * 2 ^ 24 + imm19 * 2 ^ 5 + t
+      → IsTrampolineWord word (LdrLit t (sign_extend 21 (imm19 * 4)))
   -- ADR: op 0, immlo, 10000, immhi, Rd; the offset is SignExtend(immhi:immlo)
-  adr : {immlo immhi rd : ℕ} → immlo < 4 → immhi < 2 ^ 19 → rd < 32 → word ≡ immlo * 2 ^ 29 + 0b10000 * 2 ^ 24 + immhi * 2 ^ 5 + rd → IsTrampolineWord word (Adr rd (sign_extend 21 (immhi * 4 + immlo)))
+  adr : {immlo immhi rd : ℕ}
+      → immlo < 4 → immhi < 2 ^ 19 → rd < 32 → word ≡ immlo * 2 ^ 29 + 0b10000 * 2 ^ 24 + immhi * 2 ^ 5 + rd
+      → IsTrampolineWord word (Adr rd (sign_extend 21 (immhi * 4 + immlo)))
   -- BR: 1101011, Z 0, 0, op 00, 11111, 0000, A 0, M 0, Rn, Rm 00000
   br : {n : ℕ} → n < 32 → word ≡ 0b1101011000011111000000 * 2 ^ 10 + n * 2 ^ 5 → IsTrampolineWord word (Br n)
 
@@ -39,7 +42,8 @@ immediate op imm12 n t =
 
 -- those of which stubs are made besides
 pub data IsStubWord (word : ℕ) : Instr → Type 0 where
-  based : {op imm12 n t : ℕ} {i : Instr} → IsImmediate word op imm12 n t → immediate op imm12 n t ≡ Some i → IsStubWord word i
+  based : {op imm12 n t : ℕ} {i : Instr} → IsImmediate word op imm12 n t → immediate op imm12 n t ≡ Some i
+      → IsStubWord word i
   -- BLR: 1101011, Z 0, 0, op 01, 11111, 0000, A 0, M 0, Rn, Rm 00000
   blr : {n : ℕ} → n < 32 → word ≡ 0b1101011000111111000000 * 2 ^ 10 + n * 2 ^ 5 → IsStubWord word (Blr n)
   -- RET: op 10

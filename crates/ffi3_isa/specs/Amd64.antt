@@ -33,11 +33,15 @@ pub data IsTrampolineCode (bytes : List ℕ) : Instr → ℕ → Type 0 where
   -- ENDBR64: F3 0F 1E FA
   endbr64 : {rest : List ℕ} → bytes ≡ 0xF3 ∷ 0x0F ∷ 0x1E ∷ 0xFA ∷ rest → IsTrampolineCode bytes Endbr 4
   -- LEA r64, m: REX.W 8D /r
-  lea : {prefix mod_reg_rm register a b c d : ℕ} {rest : List ℕ} → bytes ≡ prefix ∷ 0x8D ∷ mod_reg_rm ∷ a ∷ b ∷ c ∷ d ∷ rest → IsLeaOf prefix mod_reg_rm register → IsTrampolineCode bytes (Lea register (disp32 a b c d)) 7
+  lea : {prefix mod_reg_rm register a b c d : ℕ} {rest : List ℕ}
+      → bytes ≡ prefix ∷ 0x8D ∷ mod_reg_rm ∷ a ∷ b ∷ c ∷ d ∷ rest → IsLeaOf prefix mod_reg_rm register
+      → IsTrampolineCode bytes (Lea register (disp32 a b c d)) 7
   -- JMP r/m64: FF /4, here with mod 00, r/m 101
-  jmp : {a b c d : ℕ} {rest : List ℕ} → bytes ≡ 0xFF ∷ mod_rm 0 4 5 ∷ a ∷ b ∷ c ∷ d ∷ rest → IsTrampolineCode bytes (JmpMem (disp32 a b c d)) 6
+  jmp : {a b c d : ℕ} {rest : List ℕ} → bytes ≡ 0xFF ∷ mod_rm 0 4 5 ∷ a ∷ b ∷ c ∷ d ∷ rest
+      → IsTrampolineCode bytes (JmpMem (disp32 a b c d)) 6
   -- NOP r/m32: 0F 1F /0, here with mod 10, r/m 000
-  nop : {a b c d : ℕ} {rest : List ℕ} → bytes ≡ 0x0F ∷ 0x1F ∷ mod_rm 2 0 0 ∷ a ∷ b ∷ c ∷ d ∷ rest → IsTrampolineCode bytes Nop 7
+  nop : {a b c d : ℕ} {rest : List ℕ} → bytes ≡ 0x0F ∷ 0x1F ∷ mod_rm 2 0 0 ∷ a ∷ b ∷ c ∷ d ∷ rest
+      → IsTrampolineCode bytes Nop 7
 
 -- The prefix and the ModR/M byte of an instruction of 64 bits with a register and [r11 + disp32]: REX.W and REX.B; mod 10, r/m 011. Register 4 is the stack pointer
 pub record IsAtR11 (prefix mod_reg_rm register : ℕ) : Type 0 where
@@ -124,9 +128,11 @@ pub record IsMovsd (bytes : List ℕ) (instr : Instr) (size : ℕ) : Type 0 wher
 
 pub data IsFixed (bytes : List ℕ) : Instr → ℕ → Type 0 where
   -- LEA r64, m: of rsp and [rsp + disp32]
-  lea_sp : {a b c d : ℕ} {rest : List ℕ} → bytes ≡ rex 1 0 0 0 ∷ 0x8D ∷ mod_rm 2 4 4 ∷ 0x24 ∷ a ∷ b ∷ c ∷ d ∷ rest → IsFixed bytes (Addi 4 4 (disp32 a b c d)) 8
+  lea_sp : {a b c d : ℕ} {rest : List ℕ} → bytes ≡ rex 1 0 0 0 ∷ 0x8D ∷ mod_rm 2 4 4 ∷ 0x24 ∷ a ∷ b ∷ c ∷ d ∷ rest
+      → IsFixed bytes (Addi 4 4 (disp32 a b c d)) 8
   -- CALL r/m64: FF /2, here with REX.B, mod 10, r/m 011
-  call : {a b c d : ℕ} {rest : List ℕ} → bytes ≡ rex 0 0 0 1 ∷ 0xFF ∷ mod_rm 2 2 3 ∷ a ∷ b ∷ c ∷ d ∷ rest → IsFixed bytes (CallMem 11 (disp32 a b c d)) 7
+  call : {a b c d : ℕ} {rest : List ℕ} → bytes ≡ rex 0 0 0 1 ∷ 0xFF ∷ mod_rm 2 2 3 ∷ a ∷ b ∷ c ∷ d ∷ rest
+      → IsFixed bytes (CallMem 11 (disp32 a b c d)) 7
   -- RET: C3
   ret : {rest : List ℕ} → bytes ≡ 0xC3 ∷ rest → IsFixed bytes Ret 1
 

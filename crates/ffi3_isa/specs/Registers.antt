@@ -1,7 +1,8 @@
 -- The registers that an instruction names.
 use Rattle.std.specs.Prelude.{ℕ, ◌<◌}
 use Rattle.ffi3_isa.specs.declared.Instr.{Instr}
-use Rattle.ffi3_isa.specs.declared.Instr.TheVariants.{Endbr, Nop, Lea, JmpMem, LdrLit, Adr, Br, Auipc, Ld, Jalr, Addi, Sd, Fld, Fsd, CallMem, Ret, Blr}
+use Rattle.ffi3_isa.specs.declared.Instr.TheVariants.{Endbr, Nop, Lea, JmpMem, LdrLit, Adr, Br, Auipc, Ld, Jalr, Addi}
+use Rattle.ffi3_isa.specs.declared.Instr.TheVariants.{Sd, Fld, Fsd, CallMem, Ret, Blr}
 
 -- each register that the instruction names has a number below n
 abbrev pub HasRegistersBelow : ℕ → Instr → Type 0

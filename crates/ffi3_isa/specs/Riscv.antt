@@ -35,11 +35,13 @@ pub data IsRiscvWord (word : ℕ) : Instr → Type 0 where
   -- ADDI: opcode OP-IMM, funct3 000
   addi : {imm rs1 rd : ℕ} → IsI word imm rs1 0b000 rd 0b0010011 → IsRiscvWord word (Addi rd rs1 (sign_extend 12 imm))
   -- SD: opcode STORE, width 011
-  sd : {high low rs2 rs1 : ℕ} → IsS word high low rs2 rs1 0b011 0b0100011 → IsRiscvWord word (Sd rs2 rs1 (sign_extend 12 (high * 32 + low)))
+  sd : {high low rs2 rs1 : ℕ} → IsS word high low rs2 rs1 0b011 0b0100011
+      → IsRiscvWord word (Sd rs2 rs1 (sign_extend 12 (high * 32 + low)))
   -- FLD: opcode LOAD-FP, width 011 (RISC-V unprivileged ISA, "D" extension)
   fld : {imm rs1 rd : ℕ} → IsI word imm rs1 0b011 rd 0b0000111 → IsRiscvWord word (Fld rd rs1 (sign_extend 12 imm))
   -- FSD: opcode STORE-FP, width 011
-  fsd : {high low rs2 rs1 : ℕ} → IsS word high low rs2 rs1 0b011 0b0100111 → IsRiscvWord word (Fsd rs2 rs1 (sign_extend 12 (high * 32 + low)))
+  fsd : {high low rs2 rs1 : ℕ} → IsS word high low rs2 rs1 0b011 0b0100111
+      → IsRiscvWord word (Fsd rs2 rs1 (sign_extend 12 (high * 32 + low)))
 
 -- the bytes begin with the instruction, which has so many bytes
 pub record IsRiscv (bytes : List ℕ) (instr : Instr) (size : ℕ) : Type 0 where

@@ -3,7 +3,8 @@ use Rattle.std.specs.Prelude.{◌≡◌, ℕ, zero, suc, ℤ, pos, negsuc, Bool,
 use Rattle.std.specs.Float.{nan, inf, fin}
 use Rattle.std.specs.Coded.{Coded, code_by}
 use Rattle.std.proofs.Common.{ap}
-use Rattle.serde_json.specs.Data.{Num, unsigned, negative, float, Data, null, boolean, number, string, array, object, Items, no_items, item, Members, no_members, member}
+use Rattle.serde_json.specs.Data.{Num, unsigned, negative, float, Data, null, boolean, number, string, array, object}
+use Rattle.serde_json.specs.Data.{Items, no_items, item, Members, no_members, member}
 use denote.Struct.Codes.{itself}
 use base.Stored.{Gv, gnil, gnum, gcons}
 
@@ -58,7 +59,8 @@ restored_float (gcons (gcons f g) h) = fin (restored_bool f) (number_in g) (rest
 restored_float-stored_float : (x : Float) → restored_float (stored_float x) ≡ x
 restored_float-stored_float nan = refl
 restored_float-stored_float (inf b) = ap inf (restored_bool-stored_bool b)
-restored_float-stored_float (fin b m z) = λ i. fin (restored_bool-stored_bool b i) m (restored_integer-stored_integer z i)
+restored_float-stored_float (fin b m z) =
+    λ i. fin (restored_bool-stored_bool b i) m (restored_integer-stored_integer z i)
 
 abbrev stored_num : Num → Gv
 stored_num (unsigned n) = gnum n

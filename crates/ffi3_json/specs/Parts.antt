@@ -1,6 +1,7 @@
 -- Parts of a JSON value: items by their numbers, and the one member of an object that has no other.
 use Rattle.std.specs.Prelude.{ℕ, zero, suc, List, Option, Some, None}
-use Rattle.serde_json.specs.Data.{Data, null, boolean, number, string, array, object, Items, no_items, item, Members, no_members, member}
+use Rattle.serde_json.specs.Data.{Data, null, boolean, number, string, array, object, Items, no_items, item, Members}
+use Rattle.serde_json.specs.Data.{no_members, member}
 
 -- item number i, and null past the end
 abbrev pub item_at : Items → ℕ → Data

@@ -2,7 +2,16 @@
 use Rattle.std.specs.Prelude.{string_bytes}
 use Rattle.ffi3_script_rules.specs.Language as language
 use Rattle.ffi3_json.specs.declared.reason.Reason.{Reason}
-use Rattle.ffi3_json.specs.declared.reason.Reason.TheVariants.{NotAnObject, NotAnArray, UnknownKey, MissingKey, VersionNotKnown, NotAType, UnknownType, NotACount, BadTypedef, LeftOutLongDouble, LeftOutComplex, LeftOutVector, TooLarge, TooDeep, TooManyArguments, BadFixed, BadVariadicArgument, BadDeclaration, BadName, NameTwice, NoSuchSignature, NoSuchFunction, NotAMove, VoidResult, WrongCount, NotNull, NoReturnAtTheEnd, NotAnInteger, BadInteger, OutOfRange, BadBytes, WrongType, NotAValue, NoTypeOfItsOwn, NoSuchArgument, NoSuchResult, NoSuchField}
+use Rattle.ffi3_json.specs.declared.reason.Reason.TheVariants.{NotAnObject, NotAnArray, UnknownKey, MissingKey}
+use Rattle.ffi3_json.specs.declared.reason.Reason.TheVariants.{VersionNotKnown, NotAType, UnknownType, NotACount}
+use Rattle.ffi3_json.specs.declared.reason.Reason.TheVariants.{BadTypedef, LeftOutLongDouble, LeftOutComplex}
+use Rattle.ffi3_json.specs.declared.reason.Reason.TheVariants.{LeftOutVector, TooLarge, TooDeep, TooManyArguments}
+use Rattle.ffi3_json.specs.declared.reason.Reason.TheVariants.{BadFixed, BadVariadicArgument, BadDeclaration, BadName}
+use Rattle.ffi3_json.specs.declared.reason.Reason.TheVariants.{NameTwice, NoSuchSignature, NoSuchFunction, NotAMove}
+use Rattle.ffi3_json.specs.declared.reason.Reason.TheVariants.{VoidResult, WrongCount, NotNull, NoReturnAtTheEnd}
+use Rattle.ffi3_json.specs.declared.reason.Reason.TheVariants.{NotAnInteger, BadInteger, OutOfRange, BadBytes}
+use Rattle.ffi3_json.specs.declared.reason.Reason.TheVariants.{WrongType, NotAValue, NoTypeOfItsOwn, NoSuchArgument}
+use Rattle.ffi3_json.specs.declared.reason.Reason.TheVariants.{NoSuchResult, NoSuchField}
 
 abbrev pub reason_of : Reason → language.Reason
 reason_of NotAnObject = language.not_an_object

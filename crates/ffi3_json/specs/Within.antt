@@ -1,6 +1,7 @@
 -- How many items the arrays of a value have.
 use Rattle.std.specs.Prelude.{ℕ, ◌≤◌}
-use Rattle.serde_json.specs.Data.{Data, null, boolean, number, string, array, object, Items, no_items, item, Members, no_members, member}
+use Rattle.serde_json.specs.Data.{Data, null, boolean, number, string, array, object, Items, no_items, item, Members}
+use Rattle.serde_json.specs.Data.{no_members, member}
 use Rattle.serde_json.specs.Events.{items_len}
 
 -- each array has at most n items

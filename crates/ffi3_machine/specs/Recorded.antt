@@ -10,4 +10,5 @@ pub record Recorded : Type 0 where
 -- event i, and an empty one past the last
 abbrev pub event_at : List Event → ℕ → Event
 event_at events i =
-    slice_index_or events i (record { kind = enters; closure = 0; image = record { general = []; floating = []; sp = 0; stack = [] } })
+    slice_index_or events i
+    (record { kind = enters; closure = 0; image = record { general = []; floating = []; sp = 0; stack = [] } })

@@ -1,5 +1,7 @@
 -- What one instruction does. (Intel 64 and IA-32 Architectures Software Developer's Manual, volume 2; Arm Architecture Reference Manual for A-profile, C6.2; RISC-V unprivileged ISA, 2.4 to 2.6, and RV64I)
-use Rattle.std.specs.Prelude.{◌≡◌, ℕ, zero, suc, ⊤, ◌+◌, ◌-◌, ◌%◌, ◌^◌, ◌<◌, Bool, false, ◌&&◌, ◌||◌, ◌==◌, nat_le, if◌then◌else◌, min, ℤ, pos, negsuc, List, [], length, take, drop, slice_index, slice_set, Option, Some, None, option_map, unwrap_or, IfSome}
+use Rattle.std.specs.Prelude.{◌≡◌, ℕ, zero, suc, ⊤, ◌+◌, ◌-◌, ◌%◌, ◌^◌, ◌<◌, Bool, false, ◌&&◌, ◌||◌, ◌==◌, nat_le}
+use Rattle.std.specs.Prelude.{if◌then◌else◌, min, ℤ, pos, negsuc, List, [], length, take, drop, slice_index, slice_set}
+use Rattle.std.specs.Prelude.{Option, Some, None, option_map, unwrap_or, IfSome}
 use Rattle.std.specs.Int.{w64, cast_unsigned}
 use Rattle.std.specs.List.{replace_range}
 use Rattle.ffi3_memory.specs.Memory.{number_of, low_bytes}
@@ -9,7 +11,8 @@ use Rattle.ffi3_type_rules.specs.declared.limits.TheConstants.{STACK, STACK_TOP,
 use Rattle.ffi3_type_rules.specs.Isa.{isa_of}
 use Rattle.ffi3_place_rules.specs.Isa.{is_zero_register, stack_pointer}
 use Rattle.ffi3_isa.specs.declared.Instr.{Instr}
-use Rattle.ffi3_isa.specs.declared.Instr.TheVariants.{Endbr, Nop, Lea, JmpMem, LdrLit, Adr, Br, Auipc, Ld, Jalr, Addi, Sd, Fld, Fsd, CallMem, Ret, Blr}
+use Rattle.ffi3_isa.specs.declared.Instr.TheVariants.{Endbr, Nop, Lea, JmpMem, LdrLit, Adr, Br, Auipc, Ld, Jalr, Addi}
+use Rattle.ffi3_isa.specs.declared.Instr.TheVariants.{Sd, Fld, Fsd, CallMem, Ret, Blr}
 use Rattle.ffi3_isa.specs.Amd64.{IsAmd64}
 use Rattle.ffi3_isa.specs.Aarch64.{IsAarch64}
 use Rattle.ffi3_isa.specs.Riscv.{IsRiscv}
@@ -141,7 +144,8 @@ change_of isa (Addi rd rs d) size s = Some (sums isa rd (next size s) (moved (ba
 change_of isa (Sd rd rs d) size s = stores None (next size s) (moved (base isa rs s) d) (register isa rd s)
 change_of isa (Fld rd rs d) size s = option_map (floats rd (next size s)) (loaded isa (moved (base isa rs s) d) s)
 change_of isa (Fsd rd rs d) size s = stores None (next size s) (moved (base isa rs s) d) (slice_index s.floating rd)
-change_of isa (CallMem rs d) size s = pushes (moved s.sp (negsuc 7)) (next size s) (loaded isa (moved (base isa rs s) d) s)
+change_of isa (CallMem rs d) size s =
+    pushes (moved s.sp (negsuc 7)) (next size s) (loaded isa (moved (base isa rs s) d) s)
 change_of isa Ret size s = option_map (pops (moved s.sp (pos 8))) (loaded isa s.sp s)
 change_of isa (Blr n) size s = Some (sets isa 30 (register isa n s) (next size s))
 

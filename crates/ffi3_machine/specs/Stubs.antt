@@ -1,12 +1,14 @@
 -- The stubs: code through which calls and returns lead, in a region of its own. Each is a table of rows, and its bytes are those of the rows in order. (Intel 64 and IA-32 Architectures Software Developer's Manual, volume 2; Arm Architecture Reference Manual for A-profile, C6.2; RISC-V unprivileged ISA, 2.4 to 2.6, RV64I and "D")
-use Rattle.std.specs.Prelude.{ℕ, suc, ◌+◌, ◌-◌, ◌*◌, ◌/◌, ◌%◌, ◌^◌, ◌==◌, if◌then◌else◌, ℤ, pos, negsuc, List, [], ◌∷◌, ◌++◌, map, length}
+use Rattle.std.specs.Prelude.{ℕ, suc, ◌+◌, ◌-◌, ◌*◌, ◌/◌, ◌%◌, ◌^◌, ◌==◌, if◌then◌else◌, ℤ, pos, negsuc, List, [], ◌∷◌}
+use Rattle.std.specs.Prelude.{◌++◌, map, length}
 use Rattle.std.specs.List.{repeat, replace_range}
 use Rattle.std.specs.Int.{w32, to_le_bytes}
 use Rattle.ffi3_type_rules.specs.declared.Isa.{Isa}
 use Rattle.ffi3_type_rules.specs.declared.Isa.TheVariants.{Amd64, Aarch64, Riscv}
 use Rattle.ffi3_place_rules.specs.declared.Loc.{Loc}
 use Rattle.ffi3_place_rules.specs.declared.Loc.TheVariants.{G, F, S}
-use Rattle.ffi3_place_rules.specs.Isa.{stack_pointer, call_loads, entry_stores, preserved_words, stub_area, area_bytes, result_loads}
+use Rattle.ffi3_place_rules.specs.Isa.{stack_pointer, call_loads, entry_stores, preserved_words, stub_area, area_bytes}
+use Rattle.ffi3_place_rules.specs.Isa.{result_loads}
 use Rattle.ffi3_isa.specs.Amd64.{rex, mod_rm}
 use Rattle.ffi3_machine.specs.declared.stub.TheConstants.{STUBS, EXCHANGE}
 use Rattle.ffi3_machine.specs.declared.stub.Stub.{Stub}
@@ -101,10 +103,28 @@ call_jump Aarch64 = load (G 16) 17 512 ∷ jump (calls 16) ∷ []
 call_jump Riscv = load (G 7) 6 512 ∷ jump (calls 7) ∷ []
 
 abbrev pub rows : Isa → StubName → List Row
-rows isa Call = address (call_base isa) ∷ (sp_rows isa (call_base isa) 16 520 ++ (exchange_loads (call_base isa) (call_loads isa) ++ call_jump isa))
-rows isa Entry = sum (stack_pointer isa) (stack_pointer isa) (area_below isa) ∷ (area_stores (stack_pointer isa) 0 (stub_area isa) ++ (address (entry_base isa) ∷ (exchange_stores (entry_base isa) (entry_stores isa) ++ sp_rows isa (entry_base isa) 16 528)))
-rows isa Exit = address (return_base isa) ∷ (sp_rows isa (return_base isa) 17 536 ++ (area_loads (stack_pointer isa) 0 (preserved_words isa) ++ (exchange_loads (return_base isa) (result_loads isa) ++ (sum (stack_pointer isa) (stack_pointer isa) (pos (area_bytes isa)) ∷ jump returns ∷ []))))
-rows isa Return = address (return_base isa) ∷ (exchange_stores (return_base isa) (result_loads isa) ++ sp_rows isa (return_base isa) 17 544)
+rows isa Call =
+    address (call_base isa)
+    ∷ (sp_rows isa (call_base isa) 16 520
+    ++ (exchange_loads (call_base isa) (call_loads isa)
+    ++ call_jump isa))
+rows isa Entry =
+    sum (stack_pointer isa) (stack_pointer isa) (area_below isa)
+    ∷ (area_stores (stack_pointer isa) 0 (stub_area isa)
+    ++ (address (entry_base isa)
+    ∷ (exchange_stores (entry_base isa) (entry_stores isa)
+    ++ sp_rows isa (entry_base isa) 16 528)))
+rows isa Exit =
+    address (return_base isa)
+    ∷ (sp_rows isa (return_base isa) 17 536
+    ++ (area_loads (stack_pointer isa) 0 (preserved_words isa)
+    ++ (exchange_loads (return_base isa) (result_loads isa)
+    ++ (sum (stack_pointer isa) (stack_pointer isa) (pos (area_bytes isa))
+    ∷ jump returns ∷ []))))
+rows isa Return =
+    address (return_base isa)
+    ∷ (exchange_stores (return_base isa) (result_loads isa)
+    ++ sp_rows isa (return_base isa) 17 544)
 
 -- ---- the rows' bytes
 
@@ -122,7 +142,8 @@ amd64_move general_op floating_op (G k) base offset =
     if base == 4
     then rex 1 (k / 8) 0 0 ∷ general_op ∷ mod_rm 2 (k % 8) 4 ∷ 0x24 ∷ word offset
     else rex 1 (k / 8) 0 1 ∷ general_op ∷ mod_rm 2 (k % 8) 3 ∷ word offset
-amd64_move general_op floating_op (F k) base offset = 0xF2 ∷ rex 0 0 0 1 ∷ 0x0F ∷ floating_op ∷ mod_rm 2 k 3 ∷ word offset
+amd64_move general_op floating_op (F k) base offset =
+    0xF2 ∷ rex 0 0 0 1 ∷ 0x0F ∷ floating_op ∷ mod_rm 2 k 3 ∷ word offset
 amd64_move general_op floating_op (S k) base offset = []
 
 -- LEA, MOV, MOVSD, LEA rsp, CALL, RET; `at` is the instruction's address
@@ -161,11 +182,14 @@ abbrev pub riscv_i : ℕ → ℕ → ℕ → ℕ → ℕ → List ℕ
 riscv_i imm rs1 funct3 rd opcode = word (imm * 2 ^ 20 + rs1 * 2 ^ 15 + funct3 * 2 ^ 12 + rd * 2 ^ 7 + opcode)
 
 abbrev pub riscv_s : ℕ → ℕ → ℕ → ℕ → List ℕ
-riscv_s imm rs2 rs1 opcode = word (imm / 32 * 2 ^ 25 + rs2 * 2 ^ 20 + rs1 * 2 ^ 15 + 0b011 * 2 ^ 12 + imm % 32 * 2 ^ 7 + opcode)
+riscv_s imm rs2 rs1 opcode =
+    word (imm / 32 * 2 ^ 25 + rs2 * 2 ^ 20 + rs1 * 2 ^ 15 + 0b011 * 2 ^ 12 + imm % 32 * 2 ^ 7 + opcode)
 
 -- AUIPC and ADDI, LD, FLD, SD, FSD, ADDI, JALR
 abbrev pub riscv_row : ℕ → Row → List ℕ
-riscv_row at (address k) = word ((EXCHANGE - at + 2048) / 4096 * 2 ^ 12 + k * 2 ^ 7 + 0b0010111) ++ riscv_i ((EXCHANGE - at) % 4096) k 0b000 k 0b0010011
+riscv_row at (address k) =
+    word ((EXCHANGE - at + 2048) / 4096 * 2 ^ 12 + k * 2 ^ 7 + 0b0010111)
+    ++ riscv_i ((EXCHANGE - at) % 4096) k 0b000 k 0b0010011
 riscv_row at (load (G k) base offset) = riscv_i offset base 0b011 k 0b0000011
 riscv_row at (load (F k) base offset) = riscv_i offset base 0b011 k 0b0000111
 riscv_row at (load (S k) base offset) = []
@@ -230,7 +254,8 @@ stub_bytes isa name = bytes_of isa (stub_at isa name) (rows isa name)
 -- a region with the stub's bytes in place
 abbrev pub with_stub : Isa → StubName → List ℕ → List ℕ
 with_stub isa name region =
-    replace_range region (stub_at isa name - STUBS) (stub_at isa name - STUBS + length (stub_bytes isa name)) (stub_bytes isa name)
+    replace_range region
+    (stub_at isa name - STUBS) (stub_at isa name - STUBS + length (stub_bytes isa name)) (stub_bytes isa name)
 
 -- the four stubs, and a free slot's filling between them
 unfoldable pub begun_stubs : Isa → List ℕ

@@ -52,4 +52,6 @@ twice_behaviour arguments user (_ ∷ r ∷ _) = return r
 -- SUM3 returns the sum of its three arguments, modulo two to the 64th.
 abbrev pub sum3_behaviour : Behaviour
 sum3_behaviour arguments user results =
-    return (leaf_value (sum_of s64 (sum_of s64 (bytes_of (argument arguments 0)) (bytes_of (argument arguments 1))) (bytes_of (argument arguments 2))))
+    return (leaf_value (sum_of s64
+    (sum_of s64 (bytes_of (argument arguments 0)) (bytes_of (argument arguments 1)))
+    (bytes_of (argument arguments 2))))

@@ -21,14 +21,18 @@ RunLies room size r = (r.at + r.len ≤ room) × (r.off + r.len ≤ size)
 -- a run of a value's bytes is stored: the leaves' bytes stand, padding keeps what stood there
 pub record IsRunStored (base : ℕ) (t : Tree) (v : ValueTree) (r : Run) (old new : State) : Type 0 where
   pub stand : (at off : ℕ) → Copies at off r → IsByteOf (leaves_of t) (leaf_bytes v) off (stack_byte new (base + at))
-  pub unused : (at off : ℕ) → Copies at off r → IsPadding t off → stack_byte new (base + at) ≡ stack_byte old (base + at)
+  pub unused : (at off : ℕ) → Copies at off r → IsPadding t off
+      → stack_byte new (base + at) ≡ stack_byte old (base + at)
   pub only : WroteOnly (base + r.at) (base + r.at + r.len) old new
 
 -- THE RUNS OF A VALUE'S BYTES ARE STORED, and nothing beside them is written
 pub record AreRunsStored (base : ℕ) (t : Tree) (v : ValueTree) (runs : List Run) (old new : State) : Type 0 where
-  pub stand : (at off : ℕ) → OneCopies at off runs → IsByteOf (leaves_of t) (leaf_bytes v) off (stack_byte new (base + at))
-  pub unused : (at off : ℕ) → OneCopies at off runs → IsPadding t off → stack_byte new (base + at) ≡ stack_byte old (base + at)
-  pub others : (at : ℕ) → ((off : ℕ) → ¬ OneCopies at off runs) → stack_byte new (base + at) ≡ stack_byte old (base + at)
+  pub stand : (at off : ℕ) → OneCopies at off runs
+      → IsByteOf (leaves_of t) (leaf_bytes v) off (stack_byte new (base + at))
+  pub unused : (at off : ℕ) → OneCopies at off runs → IsPadding t off
+      → stack_byte new (base + at) ≡ stack_byte old (base + at)
+  pub others : (at : ℕ) → ((off : ℕ) → ¬ OneCopies at off runs)
+      → stack_byte new (base + at) ≡ stack_byte old (base + at)
   pub only : (room size : ℕ) → AllByRecursion (RunLies room size) runs → WroteOnly base (base + room) old new
 
 -- a piece is whole once runs are stored: it stands on the stack, and nothing fills the rest of its place

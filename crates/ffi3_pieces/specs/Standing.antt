@@ -14,7 +14,8 @@ use Rattle.ffi3_place_rules.specs.declared.Res.TheVariants.{Nothing, Direct as D
 use Rattle.ffi3_place_rules.specs.Sound.{PlaceHasAll, piece_locs, place_locs, stack_words_for}
 use Rattle.ffi3_type_rules.specs.declared.limits.TheConstants.{STACK}
 use Rattle.ffi3_machine.specs.State.{State, stack_at}
-use Rattle.ffi3_pieces.specs.Stored.{IsPlace, word_in, IsWritable, KeepsPadding, KeepsUnused, PieceStands, Stays, WroteWithin}
+use Rattle.ffi3_pieces.specs.Stored.{IsPlace, word_in, IsWritable, KeepsPadding, KeepsUnused, PieceStands, Stays}
+use Rattle.ffi3_pieces.specs.Stored.{WroteWithin}
 
 -- the registers and the bytes of the stack that an argument uses
 abbrev pub place_uses : Tree → Place → List Loc

@@ -31,7 +31,9 @@ abbrev pub word_in : ℕ → State → Loc → ℕ
 word_in base m (G r) = get_or m.general r 0
 word_in base m (F r) = get_or m.floating r 0
 word_in base m (S n) =
-    from_le_bytes w64 (byte_of base m (S n) 0 ∷ byte_of base m (S n) 1 ∷ byte_of base m (S n) 2 ∷ byte_of base m (S n) 3 ∷ byte_of base m (S n) 4 ∷ byte_of base m (S n) 5 ∷ byte_of base m (S n) 6 ∷ byte_of base m (S n) 7 ∷ [])
+    from_le_bytes w64
+    (byte_of base m (S n) 0 ∷ byte_of base m (S n) 1 ∷ byte_of base m (S n) 2 ∷ byte_of base m (S n) 3
+    ∷ byte_of base m (S n) 4 ∷ byte_of base m (S n) 5 ∷ byte_of base m (S n) 6 ∷ byte_of base m (S n) 7 ∷ [])
 
 -- the place holds the same in both: a register its word, a place on the stack its eight bytes
 abbrev pub SameAt : ℕ → Loc → State → State → Type 0
@@ -136,7 +138,8 @@ pub record IsSet (base : ℕ) (p : Piece) (bytes : List ℕ) (old new : State) :
   pub within : (room : ℕ) → IsPlace room p.loc → WroteWithin base (base + room) old new
 
 -- the same, and what fills the rest of the place is right. Where nothing fills it, it stays.
-pub record IsSetAndFilled (base : ℕ) (t : Tree) (v : ValueTree) (bytes : List ℕ) (p : Piece) (old new : State) : Type 0 where
+pub record IsSetAndFilled (base : ℕ) (t : Tree) (v : ValueTree) (bytes : List ℕ) (p : Piece) (old new : State)
+    : Type 0 where
   pub held : HasPiece base new bytes p
   pub filled : FillsAs p.ext (word_in base new p.loc) t v
   pub kept : p.ext ≡ Free → KeepsFrom base p.loc p.len old new

@@ -9,7 +9,8 @@ use Rattle.ffi3_place_rules.specs.declared.Loc.{Loc}
 use Rattle.ffi3_place_rules.specs.declared.Loc.TheVariants.{G}
 use Rattle.ffi3_place_rules.specs.declared.SaveWord.{SaveWord}
 use Rattle.ffi3_place_rules.specs.declared.SaveWord.TheVariants.{Register, Hidden, Spare}
-use Rattle.ffi3_place_rules.specs.Isa.{call_loads, entry_stores, listed, preserved_words, hidden_register, area_bytes, result_loads, call_scratch, entry_scratch, exit_scratch}
+use Rattle.ffi3_place_rules.specs.Isa.{call_loads, entry_stores, listed, preserved_words, hidden_register, area_bytes}
+use Rattle.ffi3_place_rules.specs.Isa.{result_loads, call_scratch, entry_scratch, exit_scratch}
 use Rattle.ffi3_place_rules.specs.Standard.{Standard, plan_of}
 use Rattle.ffi3_place_rules.specs.Sound.{IsNoneOf, IsOneOf, hidden_locs, result_locs}
 
@@ -26,7 +27,8 @@ stub_scratch isa = call_scratch isa ++ (entry_scratch isa ++ exit_scratch isa)
 -- THE STANDARD'S CALLS CAN LEAD THROUGH THE STUBS
 pub record AgreesWithStubs (std : Standard) : Type 0 where
   -- the save area is that of the stubs: the same words in the same order, and as many bytes
-  pub area : std.save_area ≡ map Register (preserved_words (isa_of std.target)) ++ (Hidden ∷ spare_words (isa_of std.target))
+  pub area :
+      std.save_area ≡ map Register (preserved_words (isa_of std.target)) ++ (Hidden ∷ spare_words (isa_of std.target))
   pub area_size : std.save ≡ area_bytes (isa_of std.target)
   -- Call loads all registers in which arguments and a hidden result's address are passed, and the one that tells the number of vector registers
   pub arguments_loaded : AllByRecursion (IsOneOf (call_loads (isa_of std.target))) std.argument_registers

@@ -1,6 +1,7 @@
 -- A value in doublewords, and a leaf in a place of its own; what fills the rest of a lone integer's place.
 use Rattle.std.specs.Prelude.{ℕ, zero, suc, ◌+◌, ◌*◌, ◌/◌, List, [], ◌∷◌}
-use Rattle.ffi3_type_rules.specs.Tree.{Tree, scalar, Scalar, u8, s8, u16, s16, u32, s32, u64, s64, u128, s128, float, double, pointer}
+use Rattle.ffi3_type_rules.specs.Tree.{Tree, scalar, Scalar, u8, s8, u16, s16, u32, s32, u64, s64, u128, s128, float}
+use Rattle.ffi3_type_rules.specs.Tree.{double, pointer}
 use Rattle.ffi3_type_rules.specs.Layout.{Leaf, size_of, scalar_size}
 use Rattle.ffi3_place_rules.specs.declared.Loc.{Loc}
 use Rattle.ffi3_place_rules.specs.declared.Loc.TheVariants.{S}

@@ -1,10 +1,12 @@
 -- What it means that an image holds the arguments of a call, or its result, and that registers are preserved. (System V psABI AMD64 3.2.3; Arm AAPCS64, "Parameter Passing" and "Result Return"; RISC-V ELF psABI, "Integer Calling Convention" and "Hardware Floating-point Calling Convention"; Microsoft, "x64 calling convention")
-use Rattle.std.specs.Prelude.{◌≡◌, ℕ, ◌+◌, ◌-◌, ◌/◌, ◌^◌, ◌<◌, ◌≤◌, ⊤, true, List, [], ◌∷◌, ◌++◌, take, drop, length, get_or, Option, Some, None}
+use Rattle.std.specs.Prelude.{◌≡◌, ℕ, ◌+◌, ◌-◌, ◌/◌, ◌^◌, ◌<◌, ◌≤◌, ⊤, true, List, [], ◌∷◌, ◌++◌, take, drop, length}
+use Rattle.std.specs.Prelude.{get_or, Option, Some, None}
 use Rattle.std.specs.List.{AllByRecursion}
 use Rattle.ffi3_type_rules.specs.Tree.{Tree, scalar}
 use Rattle.ffi3_type_rules.specs.Layout.{Leaf, leaves_of, size_of, scalar_size}
 use Rattle.ffi3_type_rules.specs.Signature.{Signature}
-use Rattle.ffi3_type_rules.specs.Value.{ValueTree, void_value, leaf_value, struct_value, ValueTrees, no_values, value, value_in, fits}
+use Rattle.ffi3_type_rules.specs.Value.{ValueTree, void_value, leaf_value, struct_value, ValueTrees, no_values, value}
+use Rattle.ffi3_type_rules.specs.Value.{value_in, fits}
 use Rattle.ffi3_type_rules.specs.Integer.{widened, widened_from_32}
 use Rattle.ffi3_place_rules.specs.declared.Loc.{Loc}
 use Rattle.ffi3_place_rules.specs.declared.Ext.{Ext}
@@ -35,7 +37,8 @@ Carries o p = (p.off ≤ o) × (o < p.off + p.len)
 -- each byte of the leaf that a piece has stands at its place
 abbrev pub StandsInPieces : Image → ℕ → List Piece → Leaf → List ℕ → Type 0
 StandsInPieces m base pieces l bytes =
-    (k : ℕ) → k < scalar_size l.kind → AllByRecursion (λ p. Carries (l.at + k) p → byte_at m base p.loc (l.at + k - p.off) ≡ get_or bytes k 0) pieces
+    (k : ℕ) → k < scalar_size l.kind
+    → AllByRecursion (λ p. Carries (l.at + k) p → byte_at m base p.loc (l.at + k - p.off) ≡ get_or bytes k 0) pieces
 
 abbrev pub LeavesStand : Image → ℕ → List Piece → List Leaf → List (List ℕ) → Type 0
 LeavesStand m base pieces [] [] = ⊤

@@ -22,7 +22,9 @@ abbrev pub word_at : Image → ℕ → Loc → ℕ
 word_at m base (G r) = get_or m.general r 0
 word_at m base (F r) = get_or m.floating r 0
 word_at m base (S n) =
-    from_le_bytes w64 (byte_at m base (S n) 0 ∷ byte_at m base (S n) 1 ∷ byte_at m base (S n) 2 ∷ byte_at m base (S n) 3 ∷ byte_at m base (S n) 4 ∷ byte_at m base (S n) 5 ∷ byte_at m base (S n) 6 ∷ byte_at m base (S n) 7 ∷ [])
+    from_le_bytes w64
+    (byte_at m base (S n) 0 ∷ byte_at m base (S n) 1 ∷ byte_at m base (S n) 2 ∷ byte_at m base (S n) 3
+    ∷ byte_at m base (S n) 4 ∷ byte_at m base (S n) 5 ∷ byte_at m base (S n) 6 ∷ byte_at m base (S n) 7 ∷ [])
 
 -- what a register holds
 abbrev pub register : Image → Loc → ℕ

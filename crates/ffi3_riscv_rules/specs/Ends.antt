@@ -6,7 +6,8 @@ use Rattle.ffi3_place_rules.specs.Sums.{sum_below, end_below}
 use Rattle.ffi3_place_rules.specs.Copies.{CopiesByEnds}
 use Rattle.ffi3_riscv_rules.specs.declared.Shape.{Shape}
 use Rattle.ffi3_riscv_rules.specs.declared.Used.{Used}
-use Rattle.ffi3_riscv_rules.specs.Riscv.{words_of, floats_of, passed_as, is_fixed, first_word, used_at_start, spot_of, result_shape, is_by_reference, stack_of, placing_of, riscv}
+use Rattle.ffi3_riscv_rules.specs.Riscv.{words_of, floats_of, passed_as, is_fixed, first_word, used_at_start, spot_of}
+use Rattle.ffi3_riscv_rules.specs.Riscv.{result_shape, is_by_reference, stack_of, placing_of, riscv}
 
 -- how each argument is passed, by its number
 module _ (s : Signature) (passed : ℕ → Shape) where
@@ -40,7 +41,8 @@ module _ (s : Signature) (passed : ℕ → Shape) where
   pub record ArePlacedByEnds : Type 0 where
     pub chosen : AreChosenByEnds
     pub one_each : length (placing_of s).arguments ≡ length s.arguments
-    pub placed : (i : ℕ) → i < length s.arguments → slice_get (placing_of s).arguments i ≡ Some (spot_of (start_of i) (tree_at s.arguments i) (passed i))
+    pub placed : (i : ℕ) → i < length s.arguments
+        → slice_get (placing_of s).arguments i ≡ Some (spot_of (start_of i) (tree_at s.arguments i) (passed i))
     pub stack_total : (placing_of s).stack_bytes ≡ stack_of (used_before (length s.arguments))
 
 -- THE ENDS PLACE A CALL: one way to pass the arguments meets them, and no other one; copies and buffer follow.

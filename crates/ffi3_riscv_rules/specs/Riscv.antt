@@ -1,8 +1,10 @@
 -- Where the arguments and the result of a call stand on RISC-V with LP64D: XLEN and ABI_FLEN are 64. (RISC-V ELF psABI: each rule names its section, "Integer Calling Convention" or "Hardware Floating-point Calling Convention", and the paragraph by what it is on.)
-use Rattle.std.specs.Prelude.{ℕ, ◌+◌, ◌-◌, ◌*◌, Bool, true, false, not, ◌&&◌, ◌||◌, cond, nat_le, nat_lt, List, [], ◌∷◌, ◌++◌, map, length, Option, Some, None}
+use Rattle.std.specs.Prelude.{ℕ, ◌+◌, ◌-◌, ◌*◌, Bool, true, false, not, ◌&&◌, ◌||◌, cond, nat_le, nat_lt, List, [], ◌∷◌}
+use Rattle.std.specs.Prelude.{◌++◌, map, length, Option, Some, None}
 use Rattle.ffi3_type_rules.specs.declared.Target.TheVariants as target
 use Rattle.ffi3_type_rules.specs.declared.Isa.TheVariants as isa
-use Rattle.ffi3_type_rules.specs.Tree.{Tree, void, Scalar, u8, s8, u16, s16, u32, s32, u64, s64, u128, s128, float, double, pointer}
+use Rattle.ffi3_type_rules.specs.Tree.{Tree, void, Scalar, u8, s8, u16, s16, u32, s32, u64, s64, u128, s128, float}
+use Rattle.ffi3_type_rules.specs.Tree.{double, pointer}
 use Rattle.ffi3_type_rules.specs.Layout.{Leaf, leaves_of, leaf_at, size_of, align_of, scalar_size, least_multiple}
 use Rattle.ffi3_type_rules.specs.Signature.{Signature}
 use Rattle.ffi3_type_rules.specs.Integer.{is_floating, is_integer}
@@ -13,8 +15,10 @@ use Rattle.ffi3_place_rules.specs.declared.Ext.TheVariants.{Free, Riscv, Boxed}
 use Rattle.ffi3_place_rules.specs.declared.Piece.{Piece}
 use Rattle.ffi3_place_rules.specs.declared.SaveWord.{SaveWord}
 use Rattle.ffi3_place_rules.specs.declared.SaveWord.TheVariants.{Register, Hidden}
-use Rattle.ffi3_place_rules.specs.Isa.{pushed_bytes, stack_pointer, link_place, reserved_places, closure_register, trampoline_registers, listed}
-use Rattle.ffi3_place_rules.specs.Standard.{Standard, Placing, Spot, in_pieces, by_reference, ResultSpot, no_result, in_result_pieces, in_buffer, start}
+use Rattle.ffi3_place_rules.specs.Isa.{pushed_bytes, stack_pointer, link_place, reserved_places, closure_register}
+use Rattle.ffi3_place_rules.specs.Isa.{trampoline_registers, listed}
+use Rattle.ffi3_place_rules.specs.Standard.{Standard, Placing, Spot, in_pieces, by_reference, ResultSpot, no_result}
+use Rattle.ffi3_place_rules.specs.Standard.{in_result_pieces, in_buffer, start}
 use Rattle.ffi3_place_rules.specs.Doublewords.{doublewords, filling, doublewords_at, leaf_piece}
 use Rattle.ffi3_riscv_rules.specs.declared.Shape.{Shape}
 use Rattle.ffi3_riscv_rules.specs.declared.Shape.TheVariants.{OneF, TwoF, FI, IF, Words, ByRef}
@@ -239,7 +243,8 @@ placing_of s = record {
 -- s0 to s11 and fs0 to fs11, which are callee-saved ("Integer Register Convention", "Floating-point Register Convention")
 abbrev pub callee_saved : List Loc
 callee_saved =
-    G 8 ∷ G 9 ∷ G 18 ∷ G 19 ∷ G 20 ∷ G 21 ∷ G 22 ∷ G 23 ∷ G 24 ∷ G 25 ∷ G 26 ∷ G 27 ∷ F 8 ∷ F 9 ∷ F 18 ∷ F 19 ∷ F 20 ∷ F 21 ∷ F 22 ∷ F 23 ∷ F 24 ∷ F 25 ∷ F 26 ∷ F 27 ∷ []
+    G 8 ∷ G 9 ∷ G 18 ∷ G 19 ∷ G 20 ∷ G 21 ∷ G 22 ∷ G 23 ∷ G 24 ∷ G 25 ∷ G 26 ∷ G 27
+    ∷ F 8 ∷ F 9 ∷ F 18 ∷ F 19 ∷ F 20 ∷ F 21 ∷ F 22 ∷ F 23 ∷ F 24 ∷ F 25 ∷ F 26 ∷ F 27 ∷ []
 
 -- a0 to a7 and fa0 to fa7 ("Integer Register Convention", "Floating-point Register Convention")
 abbrev pub passing : List Loc

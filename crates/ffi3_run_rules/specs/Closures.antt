@@ -1,5 +1,6 @@
 -- The live closures: a finite map from the numbers of slots. (libffi manual, "The Closure API")
-use Rattle.std.specs.Prelude.{ℕ, ◌+◌, ◌-◌, ◌*◌, ◌/◌, ◌%◌, ◌==◌, ◌&&◌, nat_le, List, [], ◌∷◌, replicate, slice_index_or, slice_set, Option, Some, None, option_and_then, if◌then◌else◌}
+use Rattle.std.specs.Prelude.{ℕ, ◌+◌, ◌-◌, ◌*◌, ◌/◌, ◌%◌, ◌==◌, ◌&&◌, nat_le, List, [], ◌∷◌, replicate, slice_index_or}
+use Rattle.std.specs.Prelude.{slice_set, Option, Some, None, option_and_then, if◌then◌else◌}
 use Rattle.ffi3_type_rules.specs.declared.limits.TheConstants.{SLOTS, SLOT_BYTES, CODE}
 use Rattle.ffi3_run_rules.specs.declared.Closure.{Closure}
 

@@ -26,7 +26,8 @@ abbrev pub needs : Standard → List Entered → ℕ
 needs std outer = needs_of std (map (λ e. e.signature) outer)
 
 -- Event number n is the entry of a call with these arguments, below the unfinished calls around it, the outermost of which lies just below `top`; a reserved register holds what it `held` where these calls began.
-pub record IsEntry (std : Standard) (top : ℕ) (held : Loc → ℕ) (outer : List Entered) (n pointer : ℕ) (s : Signature) (arguments : List ValueTree) (e : Event) : Type 0 where
+pub record IsEntry (std : Standard) (top : ℕ) (held : Loc → ℕ) (outer : List Entered) (n pointer : ℕ) (s : Signature)
+    (arguments : List ValueTree) (e : Event) : Type 0 where
   pub kind : e.kind ≡ enters
   pub closure : e.closure ≡ pointer
   pub holds : Holds std s arguments e.image
@@ -46,13 +47,18 @@ pub record IsReturn (std : Standard) (entered : Entered) (result : ValueTree) (e
   pub stack : length e.image.stack ≡ frame_of std entered.signature
 
 -- Each event answers to the entry or return of its number; n events came before. `unfinished` are the calls that are open, the innermost first.
-abbrev pub Answers : Standard → (top : ℕ) → (held : Loc → ℕ) → List Signature → ℕ → List Entered → List TraceItem → List Event → Type 0
+abbrev pub Answers : Standard → (top : ℕ) → (held : Loc → ℕ) → List Signature → ℕ → List Entered → List TraceItem
+    → List Event → Type 0
 Answers std top held signatures n unfinished trace [] = ⊤
 Answers std top held signatures n unfinished [] (e ∷ events) = ⊥
-Answers std top held signatures n unfinished (Line t v ∷ rest) (e ∷ events) = Answers std top held signatures n unfinished rest (e ∷ events)
-Answers std top held signatures n unfinished (StopLine stop ∷ rest) (e ∷ events) = Answers std top held signatures n unfinished rest (e ∷ events)
+Answers std top held signatures n unfinished (Line t v ∷ rest) (e ∷ events) =
+    Answers std top held signatures n unfinished rest (e ∷ events)
+Answers std top held signatures n unfinished (StopLine stop ∷ rest) (e ∷ events) =
+    Answers std top held signatures n unfinished rest (e ∷ events)
 Answers std top held signatures n unfinished (Enter ptr sig args ∷ rest) (e ∷ events) =
-    IsEntry std top held unfinished n ptr (signature_at signatures sig) args e × Answers std top held signatures (n + 1) (record { signature = signature_at signatures sig; event = e } ∷ unfinished) rest events
+    IsEntry std top held unfinished n ptr (signature_at signatures sig) args e
+    × Answers std top held signatures (n + 1)
+    (record { signature = signature_at signatures sig; event = e } ∷ unfinished) rest events
 Answers std top held signatures n [] (Leave sig r ∷ rest) (e ∷ events) = ⊥
 Answers std top held signatures n (entered ∷ unfinished) (Leave sig r ∷ rest) (e ∷ events) =
     IsReturn std entered r e × Answers std top held signatures (n + 1) unfinished rest events

@@ -25,7 +25,9 @@ address_text address = codes "0x" ++ digits 16 false address
 abbrev pub stop_text : List Signature → Stop → List ℕ
 stop_text signatures (NoClosure ptr) = codes "stop: no closure at " ++ address_text ptr
 stop_text signatures (WrongSig ptr site found) =
-    codes "stop: wrong signature at " ++ address_text ptr ++ codes ": called as " ++ signature_text (signature_at signatures site) ++ codes ", is " ++ signature_text (signature_at signatures found)
+    codes "stop: wrong signature at " ++ address_text ptr
+    ++ codes ": called as " ++ signature_text (signature_at signatures site)
+    ++ codes ", is " ++ signature_text (signature_at signatures found)
 stop_text signatures TableFull = codes "stop: closure table full"
 stop_text signatures (StackFull need left) =
     codes "stop: stack full: need " ++ decimal need ++ codes ", left " ++ decimal left
@@ -71,7 +73,9 @@ sp_at_call std top outer s =
 
 abbrev pub enter_text : Standard → (top : ℕ) → List OpenCall → (address : ℕ) → Signature → List ValueTree → List ℕ
 enter_text std top outer address s args =
-    codes "enter " ++ address_text address ++ codes " sp " ++ address_text (sp_at_call std top outer s - std.link) ++ codes " (" ++ join_with_byte 44 (value_texts_of (trees_of s.arguments) (values_of args)) ++ codes ")"
+    codes "enter " ++ address_text address
+    ++ codes " sp " ++ address_text (sp_at_call std top outer s - std.link)
+    ++ codes " (" ++ join_with_byte 44 (value_texts_of (trees_of s.arguments) (values_of args)) ++ codes ")"
 
 abbrev pub leave_text : Standard → (top : ℕ) → List OpenCall → Signature → ValueTree → List ℕ
 leave_text std top outer s r =

@@ -1,5 +1,6 @@
 -- The direct meaning of a program: a recursion on values, without registers, frames or addresses of the stack. Its one number of the machine is the bytes of stack that are left.
-use Rattle.std.specs.Prelude.{ℕ, zero, suc, ◌+◌, ◌-◌, List, [], ◌∷◌, ◌++◌, length, slice_index_or, Option, Some, None, if◌then◌else◌, nat_lt}
+use Rattle.std.specs.Prelude.{ℕ, zero, suc, ◌+◌, ◌-◌, List, [], ◌∷◌, ◌++◌, length, slice_index_or, Option, Some, None}
+use Rattle.std.specs.Prelude.{if◌then◌else◌, nat_lt}
 use Rattle.ffi3_type_rules.specs.Tree.{Tree}
 use Rattle.ffi3_type_rules.specs.Signature.{Signature, signature_at}
 use Rattle.ffi3_type_rules.specs.Same.{same_signature}
@@ -10,7 +11,8 @@ use Rattle.ffi3_run_rules.specs.declared.Closure.{Closure}
 use Rattle.ffi3_run_rules.specs.declared.Stop.{Stop}
 use Rattle.ffi3_run_rules.specs.declared.Stop.TheVariants.{NoClosure, WrongSig, TableFull, StackFull, MoveLimit}
 use Rattle.ffi3_run_rules.specs.Move.{Move, call, make, free, print, return, Behaviour}
-use Rattle.ffi3_run_rules.specs.Closures.{Closures, no_closures, slots, slot_address, closure_at, first_free, with_closure, freed}
+use Rattle.ffi3_run_rules.specs.Closures.{Closures, no_closures, slots, slot_address, closure_at, first_free}
+use Rattle.ffi3_run_rules.specs.Closures.{with_closure, freed}
 
 -- a function: what it does, and the number of its signature
 pub record Function : Type 0 where
@@ -71,7 +73,8 @@ pointer_value address = leaf_value (to_le_bytes w64 address)
 mutual
   pub data TreeNode : Type 0 where
     line : Tree → ValueTree → TreeNode
-    called : (pointer signature : ℕ) → (arguments : List ValueTree) → (inside : CallTree) → (result : Option ValueTree) → TreeNode
+    called : (pointer signature : ℕ) → (arguments : List ValueTree) → (inside : CallTree)
+        → (result : Option ValueTree) → TreeNode
     stop_line : Stop → TreeNode
 
   pub data CallTree : Type 0 where
@@ -114,7 +117,9 @@ effect_of p a closures (return v) = ends v
 effect_of p a closures (print t v) = prints t v
 effect_of p a closures (make func user) =
     if nat_lt (first_free closures) slots
-    then goes_on (pointer_value (slot_address (first_free closures))) (with_closure closures (first_free closures) (Some (record { func = func; sig = (function_at p func).signature; user = user })))
+    then goes_on (pointer_value (slot_address (first_free closures)))
+    (with_closure closures (first_free closures)
+    (Some (record { func = func; sig = (function_at p func).signature; user = user })))
     else stops TableFull
 effect_of p a closures (free ptr) =
     at_closure (closure_at closures ptr) ptr (λ closure. goes_on void_value (freed closures ptr))

@@ -17,4 +17,6 @@ with_left a more = record a { left = more }
 -- Where an activation does not stop for want of stack, it acts the same with more of it: the same end, closures and moves left, and the same call tree, in which its lines are.
 abbrev pub MoreStackIsTheSame : Program → Type 0
 MoreStackIsTheSame p =
-    (a : Activation) (closures : Closures) (moves more : ℕ) → a.left ≤ more → ¬ StoppedForStack (act p a closures moves).end → act p (with_left a more) closures moves ≡ act p a closures moves
+    (a : Activation) (closures : Closures) (moves more : ℕ)
+    → a.left ≤ more → ¬ StoppedForStack (act p a closures moves).end
+    → act p (with_left a more) closures moves ≡ act p a closures moves

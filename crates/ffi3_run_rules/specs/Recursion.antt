@@ -6,6 +6,7 @@ use Rattle.ffi3_run_rules.specs.Meaning.{Program, Activation, effect_of, next_mo
 
 pub record IsPlainRecursion (p : Program) : Type 0 where
   pub none_left : (a : Activation) (closures : Closures) → act p a closures 0 ≡ stops_with MoveLimit closures 0
-  pub one_more : (a : Activation) (closures : Closures) (moves : ℕ) → act p a closures (suc moves) ≡ follows (act p) a closures moves (effect_of p a closures (next_move p a))
+  pub one_more : (a : Activation) (closures : Closures) (moves : ℕ)
+      → act p a closures (suc moves) ≡ follows (act p) a closures moves (effect_of p a closures (next_move p a))
   -- no more moves are left after it than before
   pub never_rise : (a : Activation) (closures : Closures) (moves : ℕ) → (act p a closures moves).moves ≤ moves

@@ -3,7 +3,8 @@ use Rattle.std.specs.Prelude.{ℕ, List, [], ◌∷◌, ◌++◌, Option, Some, 
 use Rattle.ffi3_type_rules.specs.Tree.{Tree}
 use Rattle.ffi3_type_rules.specs.Value.{ValueTree}
 use Rattle.ffi3_run_rules.specs.declared.Stop.{Stop}
-use Rattle.ffi3_run_rules.specs.Meaning.{Program, TreeNode, line, called, stop_line, CallTree, no_nodes, node, meaning_of}
+use Rattle.ffi3_run_rules.specs.Meaning.{Program, TreeNode, line, called, stop_line, CallTree, no_nodes, node}
+use Rattle.ffi3_run_rules.specs.Meaning.{meaning_of}
 
 pub data TraceItem : Type 0 where
   Enter : (pointer signature : ℕ) → (arguments : List ValueTree) → TraceItem

@@ -38,25 +38,32 @@ seen_by signatures m None a = seen_by_main a
 seen_by signatures m (Some c) a = seen_by_callee signatures m c a
 
 -- The activation stands in the body that it runs, where it agrees with what it has seen.
-pub record IsStanding (s : Script) (natives : List NamedNative) (signatures : List Signature) (m : State) (call : Option OpenCall) (a : Activation Standing) : Type 0 where
+pub record IsStanding (s : Script) (natives : List NamedNative) (signatures : List Signature) (m : State)
+    (call : Option OpenCall) (a : Activation Standing) : Type 0 where
   pub who : who_of a.who ≡ ask.who_of a.standing
   pub agrees : StandingAgrees s natives (seen_by signatures m call a) a.standing
 
 -- The same of one that waits for a call by this signature: after any result of it
-pub record WillStand (s : Script) (natives : List NamedNative) (signatures : List Signature) (m : State) (call : Option OpenCall) (a : Activation Standing) (awaited : Signature) : Type 0 where
+pub record WillStand (s : Script) (natives : List NamedNative) (signatures : List Signature) (m : State)
+    (call : Option OpenCall) (a : Activation Standing) (awaited : Signature) : Type 0 where
   pub who : who_of a.who ≡ ask.who_of a.standing
-  pub agrees : (r : ValueTree) → fits awaited.result_type r ≡ true → StandingAgrees s natives (one_more (seen_by signatures m call a) r) a.standing
+  pub agrees : (r : ValueTree) → fits awaited.result_type r ≡ true
+      → StandingAgrees s natives (one_more (seen_by signatures m call a) r) a.standing
 
-abbrev pub AllWillStand : Script → List NamedNative → List Signature → State → Option OpenCall → List (Waiting Standing) → Type 0
+abbrev pub AllWillStand : Script → List NamedNative → List Signature → State → Option OpenCall → List (Waiting Standing)
+    → Type 0
 AllWillStand s natives signatures m served [] = ⊤
 AllWillStand s natives signatures m served (w ∷ outer) =
-    WillStand s natives signatures m (call_inside served outer) w.activation (signature_at signatures w.call.sig) × AllWillStand s natives signatures m served outer
+    WillStand s natives signatures m (call_inside served outer) w.activation (signature_at signatures w.call.sig)
+    × AllWillStand s natives signatures m served outer
 
-abbrev pub InnermostStands : Script → List NamedNative → List Signature → State → Option OpenCall → Option (Activation Standing) → Type 0
+abbrev pub InnermostStands : Script → List NamedNative → List Signature → State → Option OpenCall
+    → Option (Activation Standing) → Type 0
 InnermostStands s natives signatures m call None = ⊥
 InnermostStands s natives signatures m call (Some a) = IsStanding s natives signatures m call a
 
 -- ALL ACTIVATIONS STAND IN THEIR BODIES: the innermost where its next move is asked for, those around it where the move after their call's result is.
-pub record PositionsAgree (s : Script) (natives : List NamedNative) (signatures : List Signature) (m : State) (b : Board Standing) : Type 0 where
+pub record PositionsAgree (s : Script) (natives : List NamedNative) (signatures : List Signature) (m : State)
+    (b : Board Standing) : Type 0 where
   pub innermost : InnermostStands s natives signatures m (call_inside b.served (reverse b.suspended.items)) b.innermost
   pub others : AllWillStand s natives signatures m b.served (reverse b.suspended.items)

@@ -14,13 +14,18 @@ use Rattle.ffi3_closures.specs.Slots.{HoldsMap}
 use Rattle.ffi3_board.specs.CallSteps.{steps_in}
 
 -- THE RUN IS TOLD IN PART. A first part of its trace is done. The output took the text of that, and of the next item's lines a proper part where it was interrupted in them, and nothing elsewhere. An event is recorded before its lines; the journal answers wholly to what is done and to the item whose event came last, if that is the next. No byte was written beyond the stack that those calls take, and their instructions are counted and no others.
-pub record RunWasInterrupted (tracing : Tracing) (std : Standard) (p : Program) (in_line : Bool) (before after : SinkState) (machine : State) : Type 0 where
+pub record RunWasInterrupted (tracing : Tracing) (std : Standard) (p : Program) (in_line : Bool)
+    (before after : SinkState) (machine : State) : Type 0 where
   pub done : List TraceItem
   pub later : List TraceItem
   pub all : trace_of p ≡ done ++ later
   pub part : ℕ
   pub proper : IsPart in_line part (length (next_text tracing p.signatures (past_all p.signatures at_start done) later))
-  pub written : Adds before.taken (text tracing p.signatures at_start done ++ take part (next_text tracing p.signatures (past_all p.signatures at_start done) later)) after.taken
+  pub written :
+      Adds before.taken
+      (text tracing p.signatures at_start done
+      ++ take part (next_text tracing p.signatures (past_all p.signatures at_start done) later))
+      after.taken
   pub recorded : Bool
   pub its_event : HasItsEvent recorded in_line later
   pub journal : JournalOf std p.signatures (done ++ begun recorded later) machine.events

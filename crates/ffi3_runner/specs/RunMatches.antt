@@ -16,7 +16,8 @@ use Rattle.ffi3_closures.specs.Slots.{HoldsMap}
 use Rattle.ffi3_board.specs.CallSteps.{call_steps, steps_in, returns_in}
 
 -- THE RUN IS TOLD WHOLE: the output took exactly the text of the direct meaning, the journal is that meaning's call tree, the code region holds the bytes of the closures that are live, no byte was written beyond the stack that the tree's calls take, the instructions of these calls and no others are counted, and the reserved registers hold 0, as at first.
-pub record RunMatches (tracing : Tracing) (std : Standard) (p : Program) (before after : SinkState) (machine : State) : Type 0 where
+pub record RunMatches (tracing : Tracing) (std : Standard) (p : Program) (before after : SinkState) (machine : State)
+    : Type 0 where
   pub written : TookText (text_of_run tracing p) before after
   pub target : machine.target ≡ std.target
   pub journal : JournalOf std p.signatures (trace_of p) machine.events
@@ -25,7 +26,8 @@ pub record RunMatches (tracing : Tracing) (std : Standard) (p : Program) (before
   pub mark : stack_top ≤ machine.mark + deepest p 0 (trace_of p)
   pub steps : machine.steps ≡ steps_in std.target (trace_of p) % 2 ^ 64
   -- where main returned, each call has returned
-  pub calls : (v : ValueTree) → (meaning_of p).end ≡ returned v → machine.steps ≡ (call_steps std.target * returns_in (trace_of p)) % 2 ^ 64
+  pub calls : (v : ValueTree) → (meaning_of p).end ≡ returned v
+      → machine.steps ≡ (call_steps std.target * returns_in (trace_of p)) % 2 ^ 64
   pub reserved : AllByRecursion (λ at. register (image_of 0 machine) at ≡ 0) std.reserved
 
 -- a first part of the text of the direct meaning was written

@@ -20,7 +20,8 @@ abbrev pub program : Standard → Script → List NamedNative → Program
 program std s natives = program_beside std natives (script_of s)
 
 -- A run is prepared: there is an interface for each of its signatures, and there are as many natives as the script was read beside, at least.
-pub record IsPrepared (std : Standard) (s : Script) (natives : List NamedNative) (signatures : List Signature) : Type 0 where
+pub record IsPrepared (std : Standard) (s : Script) (natives : List NamedNative) (signatures : List Signature)
+    : Type 0 where
   pub are : signatures ≡ (program std s natives).signatures
   pub beside : natives_of s ≤ length natives
   pub few_natives : length natives < 2 ^ 31

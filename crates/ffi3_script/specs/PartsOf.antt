@@ -32,12 +32,15 @@ script_in version signatures functions main = record {
 }
 
 -- The bodies of functions of these headings, and then main. The language has it at the root, and the names are those of the functions and then of the natives.
-abbrev pub bodies_and_main : (version : ℕ) → List Signature → List (List ℕ) → List bodies.Heading → Items → Data → JsonPath → Read script.Script
+abbrev pub bodies_and_main : (version : ℕ) → List Signature → List (List ℕ) → List bodies.Heading → Items → Data
+    → JsonPath → Read script.Script
 bodies_and_main version signatures names hs fs d path =
     and_then
     (λ functions. read_map
     (λ main. record { version = version; signatures = signatures; functions = functions; main = main })
-    (read_body (record { version = version; signatures = signatures; functions = names; own = no_signature }) (value_under (codes "main") d) (under path (codes "main"))))
+    (read_body
+    (record { version = version; signatures = signatures; functions = names; own = no_signature })
+    (value_under (codes "main") d) (under path (codes "main"))))
     (read_bodies version signatures names hs fs (under path (codes "functions")) 0)
 
 -- the function has this name and this signature

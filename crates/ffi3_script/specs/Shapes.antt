@@ -6,7 +6,8 @@ use Rattle.ffi3_script_rules.specs.Language.{Read, fault, JsonPath, under, wrong
 use Rattle.ffi3_script_rules.specs.Script.{Expression}
 use Rattle.ffi3_script_rules.specs.Script as script
 use Rattle.ffi3_script_rules.specs.Values as values
-use Rattle.ffi3_script_rules.specs.Values.{Scope, Pair, is_integer_type, typed_by, value_by, read_field, read_of, read_two, read_typed}
+use Rattle.ffi3_script_rules.specs.Values.{Scope, Pair, is_integer_type, typed_by, value_by, read_field, read_of}
+use Rattle.ffi3_script_rules.specs.Values.{read_two, read_typed}
 use Rattle.ffi3_script.specs.declared.forms.TypedForm.{TypedForm}
 use Rattle.ffi3_script.specs.declared.forms.TypedForm.TheVariants.{Arg, Res, User, Field, Of}
 use Rattle.ffi3_script.specs.declared.forms.Form.{Form}
@@ -59,7 +60,11 @@ typed_under scope name d path form =
 -- a value against a type, of a form, with this under its key
 abbrev pub value_under_form : Scope → Tree → List ℕ → Data → JsonPath → values.Form → Read Expression
 value_under_form scope t name d path form =
-    value_by t path (under path name) (typed_under scope name d path) (λ _. read_two scope t d (under path name)) (λ _. read_typed scope d (under path name)) form
+    value_by t path (under path name)
+    (typed_under scope name d path)
+    (λ _. read_two scope t d (under path name))
+    (λ _. read_typed scope d (under path name))
+    form
 
 -- the two values of a sum or difference, after its type
 abbrev pub read_terms : Scope → Tree → List ℕ → Data → JsonPath → Read Pair

@@ -41,8 +41,11 @@ kinds_at b a c = kinds_from b.sigs.value a (pasts_at b c)
 pub record Agrees (b : ScriptBody) (a : SeenActivation) (c : Cursor) : Type 0 where
   pub below : c.first + length c.marks.items < length b.moves.items
   -- what it knows of the move at which it stands
-  pub ready : c.ready ≡ true → first_is_done (known_at b a c) (drop (c.first + length c.marks.items) (moves_of b)) ≡ true
-  pub walked : Walked (setting_of b) a (meaning_of b (arguments_of a) a.user) (pasts_at b c) c.taken (drop (c.first + length c.marks.items) (moves_of b))
+  pub ready : c.ready ≡ true
+      → first_is_done (known_at b a c) (drop (c.first + length c.marks.items) (moves_of b)) ≡ true
+  pub walked :
+      Walked (setting_of b) a (meaning_of b (arguments_of a) a.user) (pasts_at b c) c.taken
+      (drop (c.first + length c.marks.items) (moves_of b))
 
 -- the activation after one result more
 abbrev pub one_more : SeenActivation → ValueTree → SeenActivation

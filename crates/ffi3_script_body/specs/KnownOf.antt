@@ -1,5 +1,6 @@
 -- What a body knows at one of its moves.
-use Rattle.std.specs.Prelude.{ℕ, ◌+◌, ◌&&◌, List, [], ◌∷◌, ◌++◌, map, Bool, true, Option, Some, None, nat_lt, slice_index_or}
+use Rattle.std.specs.Prelude.{ℕ, ◌+◌, ◌&&◌, List, [], ◌∷◌, ◌++◌, map, Bool, true, Option, Some, None, nat_lt}
+use Rattle.std.specs.Prelude.{slice_index_or}
 use Rattle.ffi3_type_rules.specs.Tree.{Tree}
 use Rattle.ffi3_type_rules.specs.Signature.{Signature}
 use Rattle.ffi3_type_rules.specs.Value.{ValueTree, void_value, zero_value}

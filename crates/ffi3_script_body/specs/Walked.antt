@@ -12,10 +12,16 @@ use Rattle.ffi3_script_rules.specs.Typed.{Setting, moves_are_typed}
 use Rattle.ffi3_script_body.specs.KnownOf.{Past, past_type, past_value, is_there, kinds_from, known_from}
 
 -- After these moves, which took so many results, these moves are left: whatever results follow those taken, the next move is the one that the moves left give.
-pub record Walked (s : Setting) (a : SeenActivation) (next : List ValueTree → Move) (pasts : List Past) (taken : ℕ) (ms : List ScriptMove) : Type 0 where
+pub record Walked (s : Setting) (a : SeenActivation) (next : List ValueTree → Move) (pasts : List Past) (taken : ℕ)
+    (ms : List ScriptMove) : Type 0 where
   pub typed : moves_are_typed s (kinds_from s.signatures a pasts) ms ≡ true
   pub ended : ends ms ≡ true
   pub there : list_all (is_there (length s.signatures) (length a.results)) pasts ≡ true
-  pub fit : all_fit (trees_of (map (past_type s.signatures) pasts)) (values_of (map (past_value s.signatures a.results) pasts)) ≡ true
+  pub fit :
+      all_fit
+      (trees_of (map (past_type s.signatures) pasts))
+      (values_of (map (past_value s.signatures a.results) pasts))
+      ≡ true
   pub within : taken ≤ length a.results
-  pub left : (rest : List ValueTree) → next (take taken a.results ++ rest) ≡ next_of s.signatures ms (known_from s.signatures a pasts) rest
+  pub left : (rest : List ValueTree)
+      → next (take taken a.results ++ rest) ≡ next_of s.signatures ms (known_from s.signatures a pasts) rest

@@ -1,5 +1,7 @@
 -- Moves, bodies and the whole script, in the order of reading.
-use Rattle.std.specs.Prelude.{ℕ, ◌+◌, ◌==◌, ◌&&◌, ◌||◌, List, [], ◌∷◌, ◌++◌, length, map, Bool, true, false, not, Option, Some, None, if◌then◌else◌, nat_lt, nat_le, bytes_eq, codes, option_and_then, is_some, is_none, position, pos}
+use Rattle.std.specs.Prelude.{ℕ, ◌+◌, ◌==◌, ◌&&◌, ◌||◌, List, [], ◌∷◌, ◌++◌, length, map, Bool, true, false, not}
+use Rattle.std.specs.Prelude.{Option, Some, None, if◌then◌else◌, nat_lt, nat_le, bytes_eq, codes, option_and_then}
+use Rattle.std.specs.Prelude.{is_some, is_none, position, pos}
 use Rattle.std.specs.Char.{is_ascii_alphanumeric}
 use Rattle.std.specs.List.{list_all, list_any}
 use Rattle.serde_json.specs.Data.{Data, null, array, Items, no_items, item}
@@ -9,8 +11,13 @@ use Rattle.ffi3_type_rules.specs.Tree.{Tree, void, scalar, pointer}
 use Rattle.ffi3_type_rules.specs.Integer.{is_number_type, bytes_of_number}
 use Rattle.ffi3_type_rules.specs.Signature.{Signature, signature_at}
 use Rattle.ffi3_run_rules.specs.Move.{no_signature}
-use Rattle.ffi3_script_rules.specs.Language.{Read, read, fault, and_then, read_map, JsonPath, under, at_item, Key, required, optional, check_object, value_under, read_signature, not_an_array, version_not_known, bad_name, name_twice, no_such_signature, no_such_function, not_a_move, void_result, wrong_count, not_null, no_return_at_the_end, wrong_type}
-use Rattle.ffi3_script_rules.specs.Script.{Expression, constant, Expressions, Typed, Act, call, make, free, print, return, return_void, ScriptMove, ScriptFunction, Script}
+use Rattle.ffi3_script_rules.specs.Language.{Read, read, fault, and_then, read_map, JsonPath, under, at_item, Key}
+use Rattle.ffi3_script_rules.specs.Language.{required, optional, check_object, value_under, read_signature}
+use Rattle.ffi3_script_rules.specs.Language.{not_an_array, version_not_known, bad_name, name_twice, no_such_signature}
+use Rattle.ffi3_script_rules.specs.Language.{no_such_function, not_a_move, void_result, wrong_count, not_null}
+use Rattle.ffi3_script_rules.specs.Language.{no_return_at_the_end, wrong_type}
+use Rattle.ffi3_script_rules.specs.Script.{Expression, constant, Expressions, Typed, Act, call, make, free, print}
+use Rattle.ffi3_script_rules.specs.Script.{return, return_void, ScriptMove, ScriptFunction, Script}
 use Rattle.ffi3_script_rules.specs.Values.{Given, Scope, has_name, read_value, read_values, read_typed}
 
 -- ---- names and numbers
@@ -79,8 +86,11 @@ kind_of d =
     else None
 
 abbrev pub keys_of : Kind → List Key
-keys_of call_kind = optional (codes "when") ∷ required (codes "call") ∷ required (codes "sig") ∷ required (codes "args") ∷ optional (codes "as") ∷ []
-keys_of make_kind = optional (codes "when") ∷ required (codes "make") ∷ optional (codes "user") ∷ optional (codes "as") ∷ []
+keys_of call_kind =
+    optional (codes "when") ∷ required (codes "call") ∷ required (codes "sig") ∷ required (codes "args")
+    ∷ optional (codes "as") ∷ []
+keys_of make_kind =
+    optional (codes "when") ∷ required (codes "make") ∷ optional (codes "user") ∷ optional (codes "as") ∷ []
 keys_of free_kind = optional (codes "when") ∷ required (codes "free") ∷ []
 keys_of print_kind = optional (codes "when") ∷ required (codes "print") ∷ []
 keys_of return_kind = optional (codes "when") ∷ required (codes "return") ∷ []
@@ -123,7 +133,8 @@ read_call s given scope condition d path =
     (λ arguments. read_map
     (λ name. record { condition = condition; act = call pointer sig arguments; name = name })
     (read_name given (signature_at s.signatures sig).result_type (get (codes "as") d) (under path (codes "as"))))
-    (read_arguments scope (signature_at s.signatures sig).arguments (value_under (codes "args") d) (under path (codes "args"))))
+    (read_arguments scope (signature_at s.signatures sig).arguments
+    (value_under (codes "args") d) (under path (codes "args"))))
     (read_signature_number (length s.signatures) (value_under (codes "sig") d) (under path (codes "sig"))))
     (read_value scope (scalar pointer) (value_under (codes "call") d) (under path (codes "call")))
 
@@ -166,11 +177,16 @@ abbrev pub read_act : Surroundings → List Given → Scope → Kind → Data �
 read_act s given scope call_kind d path condition = read_call s given scope condition d path
 read_act s given scope make_kind d path condition = read_make s given scope condition d path
 read_act s given scope free_kind d path condition =
-    read_map (λ v. unnamed condition (free v)) (read_value scope (scalar pointer) (value_under (codes "free") d) (under path (codes "free")))
+    read_map
+    (λ v. unnamed condition (free v))
+    (read_value scope (scalar pointer) (value_under (codes "free") d) (under path (codes "free")))
 read_act s given scope print_kind d path condition =
-    read_map (λ v. unnamed condition (print v)) (read_typed scope (value_under (codes "print") d) (under path (codes "print")))
+    read_map
+    (λ v. unnamed condition (print v))
+    (read_typed scope (value_under (codes "print") d) (under path (codes "print")))
 read_act s given scope return_kind d path condition =
-    read_map (unnamed condition) (read_result scope s.own.result_type (value_under (codes "return") d) (under path (codes "return")))
+    read_map (unnamed condition)
+    (read_result scope s.own.result_type (value_under (codes "return") d) (under path (codes "return")))
 
 abbrev pub scope_of : Surroundings → List Given → Scope
 scope_of s given = record { version = s.version; arguments = s.own.arguments; given = given }
@@ -203,7 +219,9 @@ given_by signatures m = record { name = m.name; type = type_of_act signatures m.
 abbrev pub read_moves : Surroundings → List Given → Items → JsonPath → ℕ → Read (List ScriptMove)
 read_moves s given no_items path i = read []
 read_moves s given (item d ds) path i =
-    and_then (λ m. read_map (λ ms. m ∷ ms) (read_moves s (given ++ given_by s.signatures m ∷ []) ds path (i + 1))) (read_move s given d (at_item path i))
+    and_then
+    (λ m. read_map (λ ms. m ∷ ms) (read_moves s (given ++ given_by s.signatures m ∷ []) ds path (i + 1)))
+    (read_move s given d (at_item path i))
 
 abbrev pub is_return : Act → Bool
 is_return (return v) = true
@@ -230,7 +248,9 @@ read_body s _ path = fault path not_an_array
 -- ---- the whole
 
 abbrev pub script_keys : List Key
-script_keys = required (codes "version") ∷ required (codes "signatures") ∷ required (codes "functions") ∷ required (codes "main") ∷ []
+script_keys =
+    required (codes "version") ∷ required (codes "signatures")
+    ∷ required (codes "functions") ∷ required (codes "main") ∷ []
 
 abbrev pub function_keys : List Key
 function_keys = required (codes "name") ∷ required (codes "sig") ∷ required (codes "body") ∷ []
@@ -249,7 +269,9 @@ version_of (Some n) path =
 abbrev pub read_signatures : (version : ℕ) → Items → JsonPath → (i : ℕ) → Read (List Signature)
 read_signatures version no_items path i = read []
 read_signatures version (item d ds) path i =
-    and_then (λ s. read_map (λ ss. s ∷ ss) (read_signatures version ds path (i + 1))) (read_signature version d (at_item path i))
+    and_then
+    (λ s. read_map (λ ss. s ∷ ss) (read_signatures version ds path (i + 1)))
+    (read_signature version d (at_item path i))
 
 -- a function's name and signature
 pub record Heading : Type 0 where
@@ -270,19 +292,29 @@ read_heading count earlier d path =
 abbrev pub read_headings : ℕ → List (List ℕ) → Items → JsonPath → ℕ → Read (List Heading)
 read_headings count earlier no_items path i = read []
 read_headings count earlier (item d ds) path i =
-    and_then (λ h. read_map (λ hs. h ∷ hs) (read_headings count (earlier ++ h.name ∷ []) ds path (i + 1))) (read_heading count earlier d (at_item path i))
+    and_then
+    (λ h. read_map (λ hs. h ∷ hs) (read_headings count (earlier ++ h.name ∷ []) ds path (i + 1)))
+    (read_heading count earlier d (at_item path i))
 
 abbrev pub function_of : Heading → List ScriptMove → ScriptFunction
 function_of h moves = record { name = h.name; signature = h.signature; body = moves }
 
 -- the bodies of an array's functions from number i on
-abbrev pub read_bodies : (version : ℕ) → List Signature → List (List ℕ) → List Heading → Items → JsonPath → ℕ → Read (List ScriptFunction)
+abbrev pub read_bodies : (version : ℕ) → List Signature → List (List ℕ) → List Heading → Items → JsonPath → ℕ
+    → Read (List ScriptFunction)
 read_bodies version signatures names hs no_items path i = read []
 read_bodies version signatures names [] (item d ds) path i = read []
 read_bodies version signatures names (h ∷ hs) (item d ds) path i =
     and_then
     (λ moves. read_map (λ fs. function_of h moves ∷ fs) (read_bodies version signatures names hs ds path (i + 1)))
-    (read_body (record { version = version; signatures = signatures; functions = names; own = signature_at signatures h.signature }) (value_under (codes "body") d) (under (at_item path i) (codes "body")))
+    (read_body
+    (record {
+      version = version;
+      signatures = signatures;
+      functions = names;
+      own = signature_at signatures h.signature;
+    })
+    (value_under (codes "body") d) (under (at_item path i) (codes "body")))
 
 abbrev pub names_of : List Heading → List (List ℕ)
 names_of hs = map (λ h. h.name) hs
@@ -293,7 +325,9 @@ read_rest natives d version signatures fs hs =
     and_then
     (λ functions. read_map
     (λ main. record { version = version; signatures = signatures; functions = functions; main = main })
-    (read_body (record { version = version; signatures = signatures; functions = names_of hs ++ natives; own = no_signature }) (value_under (codes "main") d) (under [] (codes "main"))))
+    (read_body
+    (record { version = version; signatures = signatures; functions = names_of hs ++ natives; own = no_signature })
+    (value_under (codes "main") d) (under [] (codes "main"))))
     (read_bodies version signatures (names_of hs ++ natives) hs fs (under [] (codes "functions")) 0)
 
 -- A SCRIPT, beside natives of these names: the object, version, signatures, each function's name and signature, bodies, main.

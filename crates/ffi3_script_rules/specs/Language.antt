@@ -1,13 +1,17 @@
 -- The script language, by cases on the JSON value: objects, types and signatures, or the first fault in the order of reading. Here: reasons, places, objects, types and signatures. `Values` and `Bodies` go on.
-use Rattle.std.specs.Prelude.{ℕ, ◌+◌, ◌<◌, ◌^◌, ◌||◌, ◌&&◌, List, [], ◌∷◌, ◌++◌, Bool, true, false, not, ◌==◌, cond, Option, Some, None, option_and_then, is_some, unwrap_or, nat_lt, bytes_eq, codes, ⊤}
-use Rattle.serde_json.specs.Data.{Data, null, boolean, number, string, array, object, Items, no_items, item, Members, no_members, member}
+use Rattle.std.specs.Prelude.{ℕ, ◌+◌, ◌<◌, ◌^◌, ◌||◌, ◌&&◌, List, [], ◌∷◌, ◌++◌, Bool, true, false, not, ◌==◌, cond}
+use Rattle.std.specs.Prelude.{Option, Some, None, option_and_then, is_some, unwrap_or, nat_lt, bytes_eq, codes, ⊤}
+use Rattle.serde_json.specs.Data.{Data, null, boolean, number, string, array, object, Items, no_items, item, Members}
+use Rattle.serde_json.specs.Data.{no_members, member}
 use Rattle.serde_json.specs.Find.{get, as_number, as_u64, as_str}
 use Rattle.serde_json.specs.Events.{items_len}
-use Rattle.ffi3_type_rules.specs.Tree.{Tree, void, scalar, left_out, structure, struct_of, array_of, tree_at, parts_of, long_double, complex, vector}
+use Rattle.ffi3_type_rules.specs.Tree.{Tree, void, scalar, left_out, structure, struct_of, array_of, tree_at, parts_of}
+use Rattle.ffi3_type_rules.specs.Tree.{long_double, complex, vector}
 use Rattle.ffi3_type_rules.specs.Tree as types
 use Rattle.ffi3_type_rules.specs.Names.{type_named}
 use Rattle.ffi3_type_rules.specs.Fault as type_fault
-use Rattle.ffi3_type_rules.specs.Signature.{Signature, SignatureFault, too_many, bad_type, bad_argument_type, Position, at_result, at_argument}
+use Rattle.ffi3_type_rules.specs.Signature.{Signature, SignatureFault, too_many, bad_type, bad_argument_type, Position}
+use Rattle.ffi3_type_rules.specs.Signature.{at_result, at_argument}
 use Rattle.ffi3_type_rules.specs.Signature as signature
 use Rattle.ffi3_script_rules.specs.Step.{PathStep, key}
 use Rattle.ffi3_script_rules.specs.Step as step
@@ -115,7 +119,8 @@ unless_missing path (Some name) = fault path (missing_key name)
 
 -- an object; no key but these; each required key
 abbrev pub check_object : Data → List Key → JsonPath → Read ⊤
-check_object (object ms) keys path = cond (has_only keys ms) (unless_missing path (first_missing keys (object ms))) (fault path unknown_key)
+check_object (object ms) keys path =
+    cond (has_only keys ms) (unless_missing path (first_missing keys (object ms))) (fault path unknown_key)
 check_object _ keys path = fault path not_an_object
 
 -- what stands under a key that is there
@@ -154,13 +159,18 @@ abbrev mutual
 
   pub read_composite : (version : ℕ) → Members → JsonPath → Read Tree
   read_composite version no_members path = fault path not_a_type
-  read_composite version (member name d no_members) path = cond (bytes_eq (codes "struct") name) (read_map struct_of (read_types version d (under path (codes "struct")))) (cond (bytes_eq (codes "array") name && has_arrays version) (read_array version d path) (fault path not_a_type))
+  read_composite version (member name d no_members) path =
+      cond (bytes_eq (codes "struct") name)
+      (read_map struct_of (read_types version d (under path (codes "struct"))))
+      (cond (bytes_eq (codes "array") name && has_arrays version) (read_array version d path) (fault path not_a_type))
   read_composite version (member name d (member other e ms)) path = fault path not_a_type
 
   -- an array, of the element type and how many elements there are; another shape is no type
   pub read_array : (version : ℕ) → Data → JsonPath → Read Tree
   read_array version (array (item d (item e no_items))) path =
-      and_then (λ t. read_map (array_of t) (read_count e (at_item (under path (codes "array")) 1))) (read_type version d (at_item (under path (codes "array")) 0))
+      and_then
+      (λ t. read_map (array_of t) (read_count e (at_item (under path (codes "array")) 1)))
+      (read_type version d (at_item (under path (codes "array")) 0))
   read_array version _ path = fault path not_a_type
 
   -- an array of types
@@ -175,7 +185,8 @@ abbrev mutual
   -- each of the items from number i on, from the left
   pub read_each : (version : ℕ) → Items → JsonPath → (i : ℕ) → Read (List Tree)
   read_each version no_items path i = read []
-  read_each version (item d ds) path i = and_then (λ t. read_map (λ ts. t ∷ ts) (read_each version ds path (i + 1))) (read_type version d (at_item path i))
+  read_each version (item d ds) path i =
+      and_then (λ t. read_map (λ ts. t ∷ ts) (read_each version ds path (i + 1))) (read_type version d (at_item path i))
 
 -- ---- signatures
 

@@ -1,11 +1,15 @@
 -- The script of bench, made by a seed and a number of calls. (`docs/FORMATS.md`, "The script of bench")
-use Rattle.std.specs.Prelude.{ℕ, zero, suc, ◌+◌, ◌*◌, ◌/◌, ◌%◌, ◌^◌, if◌then◌else◌, List, [], ◌∷◌, ◌++◌, length, map, replicate, slice_index_or, None, codes, pos}
-use Rattle.ffi3_type_rules.specs.Tree.{Tree, void, scalar, left_out, structure, array, Trees, no_trees, tree, tree_at, struct_of, Scalar, u8, s32, u64, float, double, pointer}
+use Rattle.std.specs.Prelude.{ℕ, zero, suc, ◌+◌, ◌*◌, ◌/◌, ◌%◌, ◌^◌, if◌then◌else◌, List, [], ◌∷◌, ◌++◌, length, map}
+use Rattle.std.specs.Prelude.{replicate, slice_index_or, None, codes, pos}
+use Rattle.ffi3_type_rules.specs.Tree.{Tree, void, scalar, left_out, structure, array, Trees, no_trees, tree, tree_at}
+use Rattle.ffi3_type_rules.specs.Tree.{struct_of, Scalar, u8, s32, u64, float, double, pointer}
 use Rattle.ffi3_type_rules.specs.Integer.{bytes_of_number, is_integer, is_floating}
 use Rattle.ffi3_type_rules.specs.Layout.{scalar_size}
 use Rattle.ffi3_type_rules.specs.Signature.{Signature}
 use Rattle.ffi3_run_rules.specs.Closures.{slot_address}
-use Rattle.ffi3_script_rules.specs.Script.{Expression, constant, composed, argument, outcome, element, sum, cast, Expressions, no_expressions, expression, expressions_of, Act, call, make, print, return, return_void, ScriptMove, ScriptFunction, Script}
+use Rattle.ffi3_script_rules.specs.Script.{Expression, constant, composed, argument, outcome, element, sum, cast}
+use Rattle.ffi3_script_rules.specs.Script.{Expressions, no_expressions, expression, expressions_of, Act, call, make}
+use Rattle.ffi3_script_rules.specs.Script.{print, return, return_void, ScriptMove, ScriptFunction, Script}
 
 -- ---- draws
 
@@ -30,7 +34,13 @@ state_after (suc n) x = state_after n (next_state x)
 -- the types, by number
 abbrev pub made_type : ℕ → Tree
 made_type n =
-    tree_at (scalar u8 ∷ scalar s32 ∷ scalar float ∷ scalar double ∷ struct_of (scalar u64 ∷ scalar u64 ∷ []) ∷ struct_of (scalar double ∷ scalar u8 ∷ []) ∷ struct_of (scalar float ∷ scalar float ∷ []) ∷ struct_of (scalar u64 ∷ scalar u64 ∷ scalar u64 ∷ []) ∷ []) n
+    tree_at
+    (scalar u8 ∷ scalar s32 ∷ scalar float ∷ scalar double
+    ∷ struct_of (scalar u64 ∷ scalar u64 ∷ [])
+    ∷ struct_of (scalar double ∷ scalar u8 ∷ [])
+    ∷ struct_of (scalar float ∷ scalar float ∷ [])
+    ∷ struct_of (scalar u64 ∷ scalar u64 ∷ scalar u64 ∷ []) ∷ [])
+    n
 
 -- so many types, drawn from state x on
 abbrev pub drawn_types : ℕ → ℕ → List Tree
@@ -52,7 +62,8 @@ state_before seed (suc s) = after_arguments (state_before seed s)
 -- the argument types of the four signatures
 abbrev pub made_types : ℕ → List (List Tree)
 made_types seed =
-    drawn_arguments (state_before seed 0) ∷ drawn_arguments (state_before seed 1) ∷ drawn_arguments (state_before seed 2) ∷ drawn_arguments (state_before seed 3) ∷ []
+    drawn_arguments (state_before seed 0) ∷ drawn_arguments (state_before seed 1)
+    ∷ drawn_arguments (state_before seed 2) ∷ drawn_arguments (state_before seed 3) ∷ []
 
 abbrev pub types_at : List (List Tree) → ℕ → List Tree
 types_at types s = slice_index_or types s []
@@ -133,7 +144,8 @@ does act = record { condition = None; act = act; name = None }
 -- a call of the closure of function s, filled with v, the total last
 abbrev pub made_call : List (List Tree) → (s v : ℕ) → (total : Expression) → ScriptMove
 made_call types s v total =
-    does (call (number pointer (slot_address s)) s (expressions_of (filled_arguments v (types_at types s) ++ total ∷ [])))
+    does
+    (call (number pointer (slot_address s)) s (expressions_of (filled_arguments v (types_at types s) ++ total ∷ [])))
 
 -- a function's own total: its last argument
 abbrev pub own_total : List Tree → Expression
@@ -144,7 +156,9 @@ abbrev pub made_body : List (List Tree) → ℕ → List ScriptMove
 made_body types zero =
     does (return (with_arguments (own_total (types_at types 0)) 0 (types_at types 0))) ∷ []
 made_body types (suc s) =
-    made_call types s 0 (own_total (types_at types (suc s))) ∷ does (return (with_arguments (sum u64 (own_total (types_at types (suc s))) (outcome 0)) 0 (types_at types (suc s)))) ∷ []
+    made_call types s 0 (own_total (types_at types (suc s)))
+    ∷ does (return
+    (with_arguments (sum u64 (own_total (types_at types (suc s))) (outcome 0)) 0 (types_at types (suc s)))) ∷ []
 
 abbrev pub made_function : List (List Tree) → ℕ → ScriptFunction
 made_function types s =
@@ -160,7 +174,8 @@ abbrev pub made_calls : List (List Tree) → (n j x : ℕ) → List ScriptMove
 made_calls types zero j x =
     does (print (record { type = scalar u64; value = total_of j })) ∷ does return_void ∷ []
 made_calls types (suc n) j x =
-    made_call types (drawn 4 (next_state x)) (drawn 100 (next_state (next_state x))) (total_of j) ∷ made_calls types n (suc j) (next_state (next_state x))
+    made_call types (drawn 4 (next_state x)) (drawn 100 (next_state (next_state x))) (total_of j)
+    ∷ made_calls types n (suc j) (next_state (next_state x))
 
 -- a closure of function s, without user data
 abbrev pub makes : ℕ → ScriptMove

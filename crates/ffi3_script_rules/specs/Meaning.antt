@@ -1,15 +1,20 @@
 -- What a script means: its values computed from what an activation has seen, its bodies as moves, the whole as a program.
-use Rattle.std.specs.Prelude.{ℕ, List, [], ◌∷◌, ◌++◌, map, Option, Some, None, Bool, true, false, not, ◌==◌, slice_index_or, ℤ, pos, ◌-ℤ◌}
+use Rattle.std.specs.Prelude.{ℕ, List, [], ◌∷◌, ◌++◌, map, Option, Some, None, Bool, true, false, not, ◌==◌}
+use Rattle.std.specs.Prelude.{slice_index_or, ℤ, pos, ◌-ℤ◌}
 use Rattle.std.specs.Int.{w64, from_le_bytes}
 use Rattle.ffi3_type_rules.specs.Tree.{Scalar}
 use Rattle.ffi3_type_rules.specs.Signature.{Signature}
 use Rattle.ffi3_type_rules.specs.Integer.{bytes_of_number, number_of, scalar_of, sum_of}
-use Rattle.ffi3_type_rules.specs.Value.{ValueTree, ValueTrees, no_values, value, void_value, leaf_value, struct_value, bytes_of, elements_of, list_of_values, zero_value}
+use Rattle.ffi3_type_rules.specs.Value.{ValueTree, ValueTrees, no_values, value, void_value, leaf_value, struct_value}
+use Rattle.ffi3_type_rules.specs.Value.{bytes_of, elements_of, list_of_values, zero_value}
 use Rattle.ffi3_place_rules.specs.Standard.{Standard, need_of}
 use Rattle.ffi3_run_rules.specs.Move.{Move, Behaviour}
 use Rattle.ffi3_run_rules.specs.Move as run
 use Rattle.ffi3_run_rules.specs.Meaning.{Function, Program, pointer_value}
-use Rattle.ffi3_script_rules.specs.Script.{Expression, constant, composed, argument, outcome, user_data, element, typed_as, sum, difference, cast, Expressions, no_expressions, expression, Typed, Act, call, make, free, print, return, return_void, ScriptMove, ScriptFunction, Script}
+use Rattle.ffi3_script_rules.specs.Script.{Expression, constant, composed, argument, outcome, user_data, element}
+use Rattle.ffi3_script_rules.specs.Script.{typed_as, sum, difference, cast, Expressions, no_expressions, expression}
+use Rattle.ffi3_script_rules.specs.Script.{Typed, Act, call, make, free, print, return, return_void, ScriptMove}
+use Rattle.ffi3_script_rules.specs.Script.{ScriptFunction, Script}
 use Rattle.ffi3_script_rules.specs.Bodies.{type_of_act}
 
 -- ---- values
@@ -76,7 +81,8 @@ abbrev pub knows_too : Known → ValueTree → Known
 knows_too k v = record k { outcomes = k.outcomes ++ v ∷ [] }
 
 -- one move: it is next, or its result is there, or it is not done and its value is zero; and then the moves after it, from that value and the results that are left
-abbrev pub next_by : Bool → Move → (zero : ValueTree) → (after : ValueTree → List ValueTree → Move) → List ValueTree → Move
+abbrev pub next_by : Bool → Move → (zero : ValueTree) → (after : ValueTree → List ValueTree → Move)
+    → List ValueTree → Move
 next_by true this zero after [] = this
 next_by true this zero after (r ∷ results) = after r results
 next_by false this zero after results = after zero results
@@ -85,7 +91,9 @@ next_by false this zero after results = after zero results
 abbrev pub next_of : List Signature → List ScriptMove → Known → List ValueTree → Move
 next_of signatures [] k results = run.return void_value
 next_of signatures (m ∷ ms) k results =
-    next_by (is_done k m.condition) (move_of k m.act) (zero_value (type_of_act signatures m.act)) (λ v rest. next_of signatures ms (knows_too k v) rest) results
+    next_by (is_done k m.condition) (move_of k m.act)
+    (zero_value (type_of_act signatures m.act))
+    (λ v rest. next_of signatures ms (knows_too k v) rest) results
 
 abbrev pub known : List ValueTree → ℕ → Known
 known arguments user = record { arguments = arguments; user = user; outcomes = [] }

@@ -2,7 +2,15 @@
 use Rattle.std.specs.Prelude.{ℕ, List, [], ◌∷◌, ◌++◌, codes}
 use Rattle.std.specs.Fmt.{decimal}
 use Rattle.ffi3_script_rules.specs.Step.{PathStep, key, number}
-use Rattle.ffi3_script_rules.specs.Language.{JsonPath, Reason, not_an_object, not_an_array, unknown_key, missing_key, version_not_known, not_a_type, unknown_type, not_a_count, bad_typedef, left_out_long_double, left_out_complex, left_out_vector, too_large, too_deep, too_many_arguments, bad_fixed, bad_variadic_argument, bad_declaration, bad_name, name_twice, no_such_signature, no_such_function, not_a_move, void_result, wrong_count, not_null, no_return_at_the_end, not_an_integer, bad_integer, out_of_range, bad_bytes, wrong_type, not_a_value, no_type_of_its_own, no_such_argument, no_such_result, no_such_field}
+use Rattle.ffi3_script_rules.specs.Language.{JsonPath, Reason, not_an_object, not_an_array, unknown_key, missing_key}
+use Rattle.ffi3_script_rules.specs.Language.{version_not_known, not_a_type, unknown_type, not_a_count, bad_typedef}
+use Rattle.ffi3_script_rules.specs.Language.{left_out_long_double, left_out_complex, left_out_vector, too_large}
+use Rattle.ffi3_script_rules.specs.Language.{too_deep, too_many_arguments, bad_fixed, bad_variadic_argument}
+use Rattle.ffi3_script_rules.specs.Language.{bad_declaration, bad_name, name_twice, no_such_signature, no_such_function}
+use Rattle.ffi3_script_rules.specs.Language.{not_a_move, void_result, wrong_count, not_null, no_return_at_the_end}
+use Rattle.ffi3_script_rules.specs.Language.{not_an_integer, bad_integer, out_of_range, bad_bytes, wrong_type}
+use Rattle.ffi3_script_rules.specs.Language.{not_a_value, no_type_of_its_own, no_such_argument, no_such_result}
+use Rattle.ffi3_script_rules.specs.Language.{no_such_field}
 
 abbrev pub text_of_reason : Reason → List ℕ
 text_of_reason not_an_object = codes "not an object"

@@ -4,7 +4,8 @@ use Rattle.serde_json.specs.Data.{Data}
 use Rattle.ffi3_type_rules.specs.Signature.{Signature, SignatureFault, SignatureHasNoFault, IsFirstSignatureFault}
 use Rattle.ffi3_cdecl_rules.specs.Grammar.{Declaration}
 use Rattle.ffi3_cdecl_rules.specs.Reading.{Outcome, reads, bad_token, unexpected, bad_number, bad_signature, IsReading}
-use Rattle.ffi3_script_rules.specs.Language.{JsonPath, Reason, bad_declaration, read, fault, read_shapes, place_of_fault, reason_of_fault, declaration_in}
+use Rattle.ffi3_script_rules.specs.Language.{JsonPath, Reason, bad_declaration, read, fault, read_shapes}
+use Rattle.ffi3_script_rules.specs.Language.{place_of_fault, reason_of_fault, declaration_in}
 
 -- the place and reason of the first fault of a signature that stands at a path
 pub record TellsFirstFault (s : Signature) (path place : JsonPath) (reason : Reason) : Type 0 where
@@ -32,11 +33,18 @@ pub record TellsReading (text : List ℕ) (path place : JsonPath) (reason : Reas
 
 -- THE VALUE AT A PATH IS THIS SIGNATURE in a version of the language
 pub data IsSignature (version : ℕ) (d : Data) (path : JsonPath) (s : Signature) : Type 0 where
-  from_object : declaration_in version d ≡ None → read_shapes version d path ≡ read s → SignatureHasNoFault s → IsSignature version d path s
-  from_declaration : {text : List ℕ} {declared : Declaration} → declaration_in version d ≡ Some text → IsReading text (reads declared) → declared.signature ≡ s → IsSignature version d path s
+  from_object : declaration_in version d ≡ None → read_shapes version d path ≡ read s → SignatureHasNoFault s
+      → IsSignature version d path s
+  from_declaration : {text : List ℕ} {declared : Declaration}
+      → declaration_in version d ≡ Some text → IsReading text (reads declared) → declared.signature ≡ s
+      → IsSignature version d path s
 
 -- THE VALUE AT A PATH IS NO SIGNATURE of a version of the language, for this reason at this place
 pub data IsNoSignature (version : ℕ) (d : Data) (path place : JsonPath) (reason : Reason) : Type 0 where
-  by_shapes : declaration_in version d ≡ None → read_shapes version d path ≡ fault place reason → IsNoSignature version d path place reason
-  by_first_fault : {s : Signature} → declaration_in version d ≡ None → read_shapes version d path ≡ read s → TellsFirstFault s path place reason → IsNoSignature version d path place reason
-  by_declaration : {text : List ℕ} → declaration_in version d ≡ Some text → TellsReading text path place reason → IsNoSignature version d path place reason
+  by_shapes : declaration_in version d ≡ None → read_shapes version d path ≡ fault place reason
+      → IsNoSignature version d path place reason
+  by_first_fault : {s : Signature}
+      → declaration_in version d ≡ None → read_shapes version d path ≡ read s → TellsFirstFault s path place reason
+      → IsNoSignature version d path place reason
+  by_declaration : {text : List ℕ} → declaration_in version d ≡ Some text → TellsReading text path place reason
+      → IsNoSignature version d path place reason

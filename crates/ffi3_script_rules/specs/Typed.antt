@@ -1,8 +1,10 @@
 -- When a value of a script has a type, and when a body is well typed: its numbers lie in their lists and its values have their types. Every script that is read is well typed (`proofs/WellTyped.antt`), and what is well typed fits (`proofs/Fits.antt`).
-use Rattle.std.specs.Prelude.{◌≡◌, ℕ, ◌+◌, ◌==◌, ◌&&◌, List, [], ◌∷◌, ◌++◌, length, map, Bool, true, false, Option, Some, None, nat_lt, is_none, replicate}
+use Rattle.std.specs.Prelude.{◌≡◌, ℕ, ◌+◌, ◌==◌, ◌&&◌, List, [], ◌∷◌, ◌++◌, length, map, Bool, true, false, Option}
+use Rattle.std.specs.Prelude.{Some, None, nat_lt, is_none, replicate}
 use Rattle.std.specs.List.{list_all}
 use Rattle.ffi3_type_rules.specs.declared.Role.TheVariants.{AsResult, AsArgument, Anywhere}
-use Rattle.ffi3_type_rules.specs.Tree.{Tree, void, scalar, structure, array, Trees, no_trees, tree, first_of, tree_at, trees_of, Scalar, scalar_number, pointer}
+use Rattle.ffi3_type_rules.specs.Tree.{Tree, void, scalar, structure, array, Trees, no_trees, tree, first_of, tree_at}
+use Rattle.ffi3_type_rules.specs.Tree.{trees_of, Scalar, scalar_number, pointer}
 use Rattle.ffi3_type_rules.specs.Tree as types
 use Rattle.ffi3_type_rules.specs.Integer.{is_integer, is_number, is_number_type}
 use Rattle.ffi3_type_rules.specs.Layout.{scalar_size}
@@ -11,7 +13,10 @@ use Rattle.ffi3_type_rules.specs.Signature.{Signature, signature_at}
 use Rattle.ffi3_type_rules.specs.Value.{ValueTree, fits}
 use Rattle.ffi3_run_rules.specs.Move.{no_signature}
 use Rattle.ffi3_type_rules.specs.FirstFault.{first_fault, first_signature_fault}
-use Rattle.ffi3_script_rules.specs.Script.{Expression, constant, composed, argument, outcome, user_data, element, typed_as, sum, difference, cast, Expressions, no_expressions, expression, Typed, Act, call, make, free, print, return, return_void, ScriptMove, ScriptFunction, Script}
+use Rattle.ffi3_script_rules.specs.Script.{Expression, constant, composed, argument, outcome, user_data, element}
+use Rattle.ffi3_script_rules.specs.Script.{typed_as, sum, difference, cast, Expressions, no_expressions, expression}
+use Rattle.ffi3_script_rules.specs.Script.{Typed, Act, call, make, free, print, return, return_void, ScriptMove}
+use Rattle.ffi3_script_rules.specs.Script.{ScriptFunction, Script}
 use Rattle.ffi3_script_rules.specs.Values.{Given, Scope, is_list_type}
 use Rattle.ffi3_script_rules.specs.Bodies.{Surroundings, type_of_act, ends}
 
@@ -112,7 +117,8 @@ pub record Setting : Type 0 where
 
 abbrev pub act_is_typed : Setting → Kinds → Act → Bool
 act_is_typed s k (call to sig arguments) =
-    nat_lt sig (length s.signatures) && (has_type k (scalar pointer) to && have_types k (trees_of (signature_at s.signatures sig).arguments) arguments)
+    nat_lt sig (length s.signatures)
+    && (has_type k (scalar pointer) to && have_types k (trees_of (signature_at s.signatures sig).arguments) arguments)
 act_is_typed s k (make function user) =
     nat_lt function s.functions && has_type k (scalar pointer) user
 act_is_typed s k (free to) = has_type k (scalar pointer) to
@@ -127,12 +133,16 @@ gives_too k t = record k { outcomes = k.outcomes ++ t ∷ [] }
 abbrev pub moves_are_typed : Setting → Kinds → List ScriptMove → Bool
 moves_are_typed s k [] = true
 moves_are_typed s k (m ∷ ms) =
-    is_condition k m.condition && (act_is_typed s k m.act && moves_are_typed s (gives_too k (type_of_act s.signatures m.act)) ms)
+    is_condition k m.condition
+    && (act_is_typed s k m.act && moves_are_typed s (gives_too k (type_of_act s.signatures m.act)) ms)
 
 -- A BODY OF A SIGNATURE IS WELL TYPED: it ends with a return, and each of its moves has its types
 abbrev pub body_is_typed : List Signature → ℕ → Signature → List ScriptMove → Bool
 body_is_typed signatures functions own ms =
-    ends ms && moves_are_typed (record { signatures = signatures; functions = functions; result_type = own.result_type }) (record { arguments = own.arguments; outcomes = [] }) ms
+    ends ms
+    && moves_are_typed
+    (record { signatures = signatures; functions = functions; result_type = own.result_type })
+    (record { arguments = own.arguments; outcomes = [] }) ms
 
 -- ---- what a value stands in
 
@@ -168,9 +178,12 @@ signature_is_right s = is_none (first_signature_fault s)
 
 abbrev pub function_is_typed : List Signature → ℕ → ScriptFunction → Bool
 function_is_typed signatures functions f =
-    nat_lt f.signature (length signatures) && body_is_typed signatures functions (signature_at signatures f.signature) f.body
+    nat_lt f.signature (length signatures)
+    && body_is_typed signatures functions (signature_at signatures f.signature) f.body
 
 -- A SCRIPT IS WELL TYPED, beside so many natives
 abbrev pub script_is_typed : ℕ → Script → Bool
 script_is_typed natives script =
-    list_all signature_is_right script.signatures && (list_all (function_is_typed script.signatures (length script.functions + natives)) script.functions && body_is_typed script.signatures (length script.functions + natives) no_signature script.main)
+    list_all signature_is_right script.signatures
+    && (list_all (function_is_typed script.signatures (length script.functions + natives)) script.functions
+    && body_is_typed script.signatures (length script.functions + natives) no_signature script.main)

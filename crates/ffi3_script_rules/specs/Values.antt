@@ -1,22 +1,31 @@
 -- Values of a script: what stands where a value is asked for, against a type or with a type of its own.
-use Rattle.std.specs.Prelude.{ℕ, ◌+◌, ◌-◌, ◌*◌, ◌^◌, ◌==◌, ◌&&◌, ◌||◌, List, [], ◌∷◌, length, Bool, true, false, cond, drop, Option, Some, None, Result, Ok, Err, if◌then◌else◌, nat_lt, bytes_eq, ⊤, codes, option_and_then, ℤ, pos, negsuc, neg_ℤ, nat_le, slice_get, position}
+use Rattle.std.specs.Prelude.{ℕ, ◌+◌, ◌-◌, ◌*◌, ◌^◌, ◌==◌, ◌&&◌, ◌||◌, List, [], ◌∷◌, length, Bool, true, false, cond}
+use Rattle.std.specs.Prelude.{drop, Option, Some, None, Result, Ok, Err, if◌then◌else◌, nat_lt, bytes_eq, ⊤, codes}
+use Rattle.std.specs.Prelude.{option_and_then, ℤ, pos, negsuc, neg_ℤ, nat_le, slice_get, position}
 use Rattle.std.specs.Str.{all_ascii_digits}
 use Rattle.std.specs.Str.Parse.{starts_with_minus}
 use Rattle.hex.specs.Hex.{decode_sized}
 use Rattle.hex.specs.declared.error.FromHexError.{FromHexError}
-use Rattle.serde_json.specs.Data.{Data, null, boolean, number, string, array, object, Items, no_items, item, Members, no_members, member, Num}
+use Rattle.serde_json.specs.Data.{Data, null, boolean, number, string, array, object, Items, no_items, item, Members}
+use Rattle.serde_json.specs.Data.{no_members, member, Num}
 use Rattle.serde_json.specs.Find.{as_number, as_u64, as_str, as_integer}
 use Rattle.serde_json.specs.Events.{items_len}
 use Rattle.ffi3_type_rules.specs.declared.Role.TheVariants.{AsArgument}
-use Rattle.ffi3_type_rules.specs.Tree.{Tree, scalar, structure, no_trees, tree, elements_of, Scalar, u128, s128, pointer}
+use Rattle.ffi3_type_rules.specs.Tree.{Tree, scalar, structure, no_trees, tree, elements_of, Scalar, u128, s128}
+use Rattle.ffi3_type_rules.specs.Tree.{pointer}
 use Rattle.ffi3_type_rules.specs.Tree as types
 pub use Rattle.ffi3_type_rules.specs.Integer.{is_integer_type, is_floating_type}
 use Rattle.ffi3_type_rules.specs.Integer.{is_number_type, is_signed, scalar_of, width_of, bit_count, bytes_of_number}
 use Rattle.ffi3_type_rules.specs.Layout.{scalar_size}
 use Rattle.ffi3_type_rules.specs.Same.{same_tree}
 use Rattle.ffi3_type_rules.specs.FirstFault.{Found, first_fault}
-use Rattle.ffi3_script_rules.specs.Language.{Read, read, fault, and_then, read_map, JsonPath, under, at_item, read_type, inside_type, reason_of_type_fault, wrong_count, not_an_integer, bad_integer, out_of_range, bad_bytes, wrong_type, not_a_value, no_type_of_its_own, no_such_argument, no_such_result, no_such_field}
-use Rattle.ffi3_script_rules.specs.Script.{Expression, constant, composed, argument, outcome, user_data, element, typed_as, sum, difference, cast, Expressions, no_expressions, expression, Typed}
+use Rattle.ffi3_script_rules.specs.Language.{Read, read, fault, and_then, read_map, JsonPath, under, at_item, read_type}
+use Rattle.ffi3_script_rules.specs.Language.{inside_type, reason_of_type_fault, wrong_count, not_an_integer}
+use Rattle.ffi3_script_rules.specs.Language.{bad_integer, out_of_range, bad_bytes, wrong_type, not_a_value}
+use Rattle.ffi3_script_rules.specs.Language.{no_type_of_its_own, no_such_argument, no_such_result, no_such_field}
+use Rattle.ffi3_script_rules.specs.Script.{Expression, constant, composed, argument, outcome, user_data, element}
+use Rattle.ffi3_script_rules.specs.Script.{typed_as, sum, difference, cast, Expressions, no_expressions, expression}
+use Rattle.ffi3_script_rules.specs.Script.{Typed}
 
 -- what an earlier move of the body gives: its name, where it has one, and its type
 pub record Given : Type 0 where
@@ -199,7 +208,14 @@ pub data Form : Type 0 where
 -- by the one key of the object
 abbrev pub form_named : List ℕ → Form
 form_named name =
-    cond (bytes_eq name (codes "arg")) (typed_form arg_form) (cond (bytes_eq name (codes "res")) (typed_form res_form) (cond (bytes_eq name (codes "user")) (typed_form user_form) (cond (bytes_eq name (codes "field")) (typed_form field_form) (cond (bytes_eq name (codes "of")) (typed_form of_form) (cond (bytes_eq name (codes "add")) add_form (cond (bytes_eq name (codes "sub")) sub_form (cond (bytes_eq name (codes "cast")) cast_form no_form)))))))
+    cond (bytes_eq name (codes "arg")) (typed_form arg_form)
+    (cond (bytes_eq name (codes "res")) (typed_form res_form)
+    (cond (bytes_eq name (codes "user")) (typed_form user_form)
+    (cond (bytes_eq name (codes "field")) (typed_form field_form)
+    (cond (bytes_eq name (codes "of")) (typed_form of_form)
+    (cond (bytes_eq name (codes "add")) add_form
+    (cond (bytes_eq name (codes "sub")) sub_form
+    (cond (bytes_eq name (codes "cast")) cast_form no_form)))))))
 
 -- sums and differences are of integer types, casts of integers and pointers; looked at before the parts
 abbrev pub if_integer : Tree → JsonPath → (⊤ → Read Expression) → Read Expression
@@ -217,7 +233,9 @@ cast_of to place v =
 -- a list of values is the value of a struct or an array that has as many elements
 abbrev pub composed_of : Tree → ℕ → JsonPath → Read Expressions → Read Expression
 composed_of t n path es =
-    cond (is_list_type t) (cond (n == length (elements_of t)) (read_map composed es) (fault path wrong_count)) (fault path wrong_type)
+    cond (is_list_type t)
+    (cond (n == length (elements_of t)) (read_map composed es) (fault path wrong_count))
+    (fault path wrong_type)
 
 -- the two values of a sum or difference
 abbrev pub Pair : Type 0
@@ -239,7 +257,8 @@ typed_by scope d path field of field_form = field tt
 typed_by scope d path field of of_form = of tt
 
 -- A value against a type, by its form. What stands under the key is that of a typed form, or two values against the type, or a typed value.
-abbrev pub value_by : Tree → JsonPath → JsonPath → (own : TypedForm → Read Typed) → (two : ⊤ → Read Pair) → (inner : ⊤ → Read Typed) → Form → Read Expression
+abbrev pub value_by : Tree → JsonPath → JsonPath → (own : TypedForm → Read Typed) → (two : ⊤ → Read Pair)
+    → (inner : ⊤ → Read Typed) → Form → Read Expression
 value_by t path place own two inner no_form = fault path not_a_value
 value_by t path place own two inner (typed_form form) = and_then (against t path) (own form)
 value_by t path place own two inner add_form =
@@ -271,19 +290,27 @@ abbrev mutual
   read_values scope ts no_items path i = read no_expressions
   read_values scope [] (item d ds) path i = read no_expressions
   read_values scope (t ∷ ts) (item d ds) path i =
-      and_then (λ e. read_map (λ es. expression e es) (read_values scope ts ds path (i + 1))) (read_value scope t d (at_item path i))
+      and_then
+      (λ e. read_map (λ es. expression e es) (read_values scope ts ds path (i + 1)))
+      (read_value scope t d (at_item path i))
 
   -- an object has one key, by which its form goes
   pub read_object : Scope → Tree → Members → JsonPath → Read Expression
   read_object scope t no_members path = fault path not_a_value
   read_object scope t (member name d no_members) path =
-      value_by t path (under path name) (typed_by scope d path (λ _. read_field scope d (under path name) path) (λ _. read_of scope d (under path name))) (λ _. read_two scope t d (under path name)) (λ _. read_typed scope d (under path name)) (form_named name)
+      value_by t path (under path name)
+      (typed_by scope d path (λ _. read_field scope d (under path name) path) (λ _. read_of scope d (under path name)))
+      (λ _. read_two scope t d (under path name))
+      (λ _. read_typed scope d (under path name))
+      (form_named name)
   read_object scope t (member name d (member other e ms)) path = fault path not_a_value
 
   -- an array of two values
   pub read_two : Scope → Tree → Data → JsonPath → Read Pair
   read_two scope t (array (item d (item e no_items))) place =
-      and_then (λ a. read_map (λ b. (a, b)) (read_value scope t e (at_item place 1))) (read_value scope t d (at_item place 0))
+      and_then
+      (λ a. read_map (λ b. (a, b)) (read_value scope t e (at_item place 1)))
+      (read_value scope t d (at_item place 0))
   read_two scope t _ place = fault place wrong_count
 
   -- A VALUE WITH A TYPE OF ITS OWN
@@ -298,17 +325,23 @@ abbrev mutual
   pub read_typed_object : Scope → Members → JsonPath → Read Typed
   read_typed_object scope no_members path = fault path not_a_value
   read_typed_object scope (member name d no_members) path =
-      own_by path (typed_by scope d path (λ _. read_field scope d (under path name) path) (λ _. read_of scope d (under path name))) (form_named name)
+      own_by path
+      (typed_by scope d path (λ _. read_field scope d (under path name) path) (λ _. read_of scope d (under path name)))
+      (form_named name)
   read_typed_object scope (member name d (member other e ms)) path = fault path not_a_value
 
   -- an array of two: the value of a struct or an array, with a type of its own, and the number of an element
   pub read_field : Scope → Data → JsonPath → JsonPath → Read Typed
   read_field scope (array (item d (item e no_items))) place path =
-      and_then (field_of path (at_item place 0) (option_and_then as_u64 (as_number e))) (read_typed scope d (at_item place 0))
+      and_then
+      (field_of path (at_item place 0) (option_and_then as_u64 (as_number e)))
+      (read_typed scope d (at_item place 0))
   read_field scope _ place path = fault place wrong_count
 
   -- an array of a type, and a value against it
   pub read_of : Scope → Data → JsonPath → Read Typed
   read_of scope (array (item d (item e no_items))) place =
-      and_then (λ t. read_map (λ v. typed t (typed_as t v)) (read_value scope t e (at_item place 1))) (read_right_type scope.version d (at_item place 0))
+      and_then
+      (λ t. read_map (λ v. typed t (typed_as t v)) (read_value scope t e (at_item place 1)))
+      (read_right_type scope.version d (at_item place 0))
   read_of scope _ place = fault place wrong_count

@@ -14,7 +14,8 @@ use Rattle.ffi3_invoke.specs.Calls.{entered_closure}
 use Rattle.ffi3_board.specs.Served.{ShowsCall}
 
 -- THE MACHINE STANDS AT THE ENTRY of a live closure by this signature, with these values.
-pub record IsShown (std : Standard) (signatures : List Signature) (closures : Closures) (arguments : List ValueTree) (sig : ℕ) (m : State) : Type 0 where
+pub record IsShown (std : Standard) (signatures : List Signature) (closures : Closures) (arguments : List ValueTree)
+    (sig : ℕ) (m : State) : Type 0 where
   pub closure : Closure
   pub signature : closure.sig ≡ sig
   pub below : sig < length signatures
@@ -23,5 +24,6 @@ pub record IsShown (std : Standard) (signatures : List Signature) (closures : Cl
 
 -- AT THE ENTRY OF A CALL BY THIS SIGNATURE THE BYTE STANDS IN ALL that the callee must not look at: in registers, and in the frame.
 pub record IsOverwritten (std : Standard) (s : Signature) (byte : ℕ) (m : State) : Type 0 where
-  pub registers : (l : Loc) (k : ℕ) → IsPlace 0 l → k < 8 → is_free std s l k ≡ true → byte_of (m.sp + std.link) m l k ≡ byte
+  pub registers : (l : Loc) (k : ℕ) → IsPlace 0 l → k < 8 → is_free std s l k ≡ true
+      → byte_of (m.sp + std.link) m l k ≡ byte
   pub frame : (n : ℕ) → is_free std s (S n) 0 ≡ true → stack_byte m (m.sp + std.link + n) ≡ byte

@@ -1,5 +1,6 @@
 -- What the four calls of stubs leave: which registers came from where, which went where, and what stays.
-use Rattle.std.specs.Prelude.{◌≡◌, ℕ, ◌+◌, ◌-◌, ◌<◌, ◌≤◌, ◌⊎◌, min, Bool, false, ◌==◌, ◌||◌, ⊤, List, [], ◌∷◌, ◌++◌, length, take, drop, get_or, slice_index}
+use Rattle.std.specs.Prelude.{◌≡◌, ℕ, ◌+◌, ◌-◌, ◌<◌, ◌≤◌, ◌⊎◌, min, Bool, false, ◌==◌, ◌||◌, ⊤, List, [], ◌∷◌, ◌++◌}
+use Rattle.std.specs.Prelude.{length, take, drop, get_or, slice_index}
 use Rattle.std.specs.List.{AllByRecursion, replace_range}
 use Rattle.ffi3_memory.specs.Memory.{number_of, low_bytes}
 use Rattle.ffi3_type_rules.specs.declared.Isa.{Isa}
@@ -7,11 +8,14 @@ use Rattle.ffi3_type_rules.specs.declared.Isa.TheVariants.{Amd64, Aarch64, Riscv
 use Rattle.ffi3_type_rules.specs.declared.limits.TheConstants.{STACK, RETURN}
 use Rattle.ffi3_place_rules.specs.declared.Loc.{Loc}
 use Rattle.ffi3_place_rules.specs.declared.Loc.TheVariants.{G, F, S}
-use Rattle.ffi3_place_rules.specs.Isa.{pushed_bytes, call_scratch, entry_scratch, exit_scratch, call_loads, entry_stores, preserved_words, stub_area, area_bytes, result_loads}
+use Rattle.ffi3_place_rules.specs.Isa.{pushed_bytes, call_scratch, entry_scratch, exit_scratch, call_loads}
+use Rattle.ffi3_place_rules.specs.Isa.{entry_stores, preserved_words, stub_area, area_bytes, result_loads}
 use Rattle.ffi3_machine.specs.State.{State, x_of, stack_at, lowered}
 use Rattle.ffi3_machine.specs.Step.{even}
 use Rattle.ffi3_machine.specs.Stubs.{StubName, Call, Entry, Exit, Return, exchanged_at}
-use Rattle.ffi3_stubs.specs.Effects.{held, held_in, amd64_called, amd64_entered, amd64_left, amd64_returned, aarch64_called, aarch64_entered, aarch64_left, aarch64_returned, riscv_called, riscv_entered, riscv_left, riscv_returned}
+use Rattle.ffi3_stubs.specs.Effects.{held, held_in, amd64_called, amd64_entered, amd64_left, amd64_returned}
+use Rattle.ffi3_stubs.specs.Effects.{aarch64_called, aarch64_entered, aarch64_left, aarch64_returned, riscv_called}
+use Rattle.ffi3_stubs.specs.Effects.{riscv_entered, riscv_left, riscv_returned}
 
 abbrev pub same_loc : Loc → Loc → Bool
 same_loc (G a) (G b) = a == b
@@ -33,7 +37,8 @@ exchange_bytes at s = take 8 (drop at s.exchange)
 
 -- at its place of the exchange region stands what each register of the list held
 abbrev pub WentToExchange : List Loc → State → State → Type 0
-WentToExchange ls before after = AllByRecursion (λ l. exchange_bytes (exchanged_at l) after ≡ low_bytes 8 (held l before)) ls
+WentToExchange ls before after =
+    AllByRecursion (λ l. exchange_bytes (exchanged_at l) after ≡ low_bytes 8 (held l before)) ls
 
 -- each register of the list has its word of a stack, the first at `addr`
 abbrev pub CameFromWords : ℕ → List Loc → List ℕ → State → Type 0
@@ -48,7 +53,8 @@ CameFromArea addr ls before after = CameFromWords addr ls before.stack after
 abbrev pub WentToWords : ℕ → List Loc → List ℕ → List ℕ → List ℕ → Type 0
 WentToWords addr [] general floating stack = ⊤
 WentToWords addr (l ∷ ls) general floating stack =
-    (take 8 (drop (addr - STACK) stack) ≡ low_bytes 8 (held_in l general floating)) × WentToWords (addr + 8) ls general floating stack
+    (take 8 (drop (addr - STACK) stack) ≡ low_bytes 8 (held_in l general floating))
+    × WentToWords (addr + 8) ls general floating stack
 
 abbrev pub WentToArea : ℕ → List Loc → State → State → Type 0
 WentToArea addr ls before after = WentToWords addr ls before.general before.floating after.stack
@@ -128,20 +134,39 @@ pub record HasCalled (isa : Isa) (before after : State) : Type 0 where
   pub link : IsLinked isa after
   pub stack : after.stack ≡ called_stack isa (x_of 520 before) before.stack
   pub mark : after.mark ≡ lowered before.mark (x_of 520 before - pushed_bytes isa) (pushed_bytes isa)
-  pub rest : after ≡ record before { general = after.general; floating = after.floating; sp = after.sp; pc = after.pc; stack = after.stack; mark = after.mark; steps = after.steps }
+  pub rest : after
+      ≡ record before {
+        general = after.general;
+        floating = after.floating;
+        sp = after.sp;
+        pc = after.pc;
+        stack = after.stack;
+        mark = after.mark;
+        steps = after.steps;
+      }
 
 -- after run_entry
 pub record HasEntered (isa : Isa) (before after : State) : Type 0 where
   pub saved : WentToArea (before.sp - area_bytes isa) (stub_area isa) before after
   -- of the stack nothing else is written
   pub size : length after.stack ≡ length before.stack
-  pub outside : (i : ℕ) → (STACK + i < before.sp - area_bytes isa) ⊎ (before.sp ≤ STACK + i) → get_or after.stack i 0 ≡ get_or before.stack i 0
+  pub outside : (i : ℕ) → (STACK + i < before.sp - area_bytes isa) ⊎ (before.sp ≤ STACK + i)
+      → get_or after.stack i 0 ≡ get_or before.stack i 0
   pub mark : after.mark ≡ min before.mark (before.sp - area_bytes isa)
   pub stored : WentToExchange (entry_stores isa) before after
   pub beyond : (at : ℕ) → 512 ≤ at → exchange_bytes at after ≡ exchange_bytes at before
   pub others : OthersStay (entry_scratch isa) before after
   pub sp : after.sp ≡ x_of 528 before
-  pub rest : after ≡ record before { general = after.general; sp = after.sp; pc = after.pc; stack = after.stack; mark = after.mark; exchange = after.exchange; steps = after.steps }
+  pub rest : after
+      ≡ record before {
+        general = after.general;
+        sp = after.sp;
+        pc = after.pc;
+        stack = after.stack;
+        mark = after.mark;
+        exchange = after.exchange;
+        steps = after.steps;
+      }
 
 -- after run_exit
 pub record HasLeft (isa : Isa) (before after : State) : Type 0 where
@@ -150,7 +175,14 @@ pub record HasLeft (isa : Isa) (before after : State) : Type 0 where
   pub others : OthersStay (exit_scratch isa ++ (preserved_words isa ++ result_loads isa)) before after
   pub sp : after.sp ≡ x_of 536 before + area_bytes isa + pushed_bytes isa
   pub pc : after.pc ≡ left_to isa before after
-  pub rest : after ≡ record before { general = after.general; floating = after.floating; sp = after.sp; pc = after.pc; steps = after.steps }
+  pub rest : after
+      ≡ record before {
+        general = after.general;
+        floating = after.floating;
+        sp = after.sp;
+        pc = after.pc;
+        steps = after.steps;
+      }
 
 -- after run_return
 pub record HasReturned (isa : Isa) (before after : State) : Type 0 where
@@ -158,4 +190,11 @@ pub record HasReturned (isa : Isa) (before after : State) : Type 0 where
   pub beyond : (at : ℕ) → 512 ≤ at → exchange_bytes at after ≡ exchange_bytes at before
   pub others : OthersStay (exit_scratch isa) before after
   pub sp : after.sp ≡ x_of 544 before
-  pub rest : after ≡ record before { general = after.general; sp = after.sp; pc = after.pc; exchange = after.exchange; steps = after.steps }
+  pub rest : after
+      ≡ record before {
+        general = after.general;
+        sp = after.sp;
+        pc = after.pc;
+        exchange = after.exchange;
+        steps = after.steps;
+      }

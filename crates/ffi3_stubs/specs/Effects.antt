@@ -7,7 +7,8 @@ use Rattle.ffi3_type_rules.specs.declared.Isa.TheVariants.{Amd64, Aarch64, Riscv
 use Rattle.ffi3_type_rules.specs.declared.limits.TheConstants.{STACK}
 use Rattle.ffi3_place_rules.specs.declared.Loc.{Loc}
 use Rattle.ffi3_place_rules.specs.declared.Loc.TheVariants.{G, F, S}
-use Rattle.ffi3_place_rules.specs.Isa.{stack_pointer, call_loads, preserved_words, stub_area, entry_stores, result_loads}
+use Rattle.ffi3_place_rules.specs.Isa.{stack_pointer, call_loads, preserved_words, stub_area, entry_stores}
+use Rattle.ffi3_place_rules.specs.Isa.{result_loads}
 use Rattle.ffi3_machine.specs.declared.stub.TheConstants.{EXCHANGE}
 use Rattle.ffi3_machine.specs.State.{State, x_of, stack_at}
 use Rattle.ffi3_machine.specs.Step.{even}
@@ -54,7 +55,8 @@ from_exchange isa base (l ∷ ls) s =
 abbrev pub from_area : Isa → ℕ → List Loc → State → State
 from_area isa at [] s = s
 from_area isa at (l ∷ ls) s =
-    from_area isa (at + 8) ls (received (size_of isa (load l (stack_pointer isa) 0)) l (number_of 8 (stack_at (s.sp + at) 8 s)) s)
+    from_area isa (at + 8) ls
+    (received (size_of isa (load l (stack_pointer isa) 0)) l (number_of 8 (stack_at (s.sp + at) 8 s)) s)
 
 -- eight bytes of the exchange region get a value
 abbrev pub exchanged : ℕ → ℕ → ℕ → State → State
@@ -107,7 +109,9 @@ addressed_twice k s = record s {
 abbrev pub pushed : ℕ → ℕ → State → State
 pushed size to s = record s {
   sp = s.sp - 8;
-  stack = replace_range s.stack (s.sp - 8 - STACK) (s.sp - 8 - STACK + length (low_bytes 8 (s.pc + size))) (low_bytes 8 (s.pc + size));
+  stack =
+      replace_range s.stack (s.sp - 8 - STACK)
+      (s.sp - 8 - STACK + length (low_bytes 8 (s.pc + size))) (low_bytes 8 (s.pc + size));
   mark = min s.mark (s.sp - 8);
   pc = to;
   steps = counted s;
@@ -172,7 +176,8 @@ abbrev pub aarch64_loaded : State → State
 aarch64_loaded s = from_exchange Aarch64 17 (call_loads Aarch64) (aarch64_placed s)
 
 abbrev pub aarch64_called : State → State
-aarch64_called s = linked 4 30 (x_of 512 (aarch64_loaded s)) (received 4 (G 16) (x_of 512 (aarch64_loaded s)) (aarch64_loaded s))
+aarch64_called s =
+    linked 4 30 (x_of 512 (aarch64_loaded s)) (received 4 (G 16) (x_of 512 (aarch64_loaded s)) (aarch64_loaded s))
 
 -- from the first address of Entry
 abbrev pub aarch64_saved : State → State
@@ -192,7 +197,8 @@ abbrev pub aarch64_given : State → State
 aarch64_given s = from_exchange Aarch64 16 (result_loads Aarch64) (aarch64_restored s)
 
 abbrev pub aarch64_left : State → State
-aarch64_left s = jumped (slice_index (aarch64_given s).general 30) (with_sp_by 4 ((aarch64_given s).sp + 176) (aarch64_given s))
+aarch64_left s =
+    jumped (slice_index (aarch64_given s).general 30) (with_sp_by 4 ((aarch64_given s).sp + 176) (aarch64_given s))
 
 -- from the first address of Return
 abbrev pub aarch64_taken : State → State
@@ -211,7 +217,8 @@ abbrev pub riscv_loaded : State → State
 riscv_loaded s = from_exchange Riscv 6 (call_loads Riscv) (riscv_placed s)
 
 abbrev pub riscv_called : State → State
-riscv_called s = linked 4 1 (even (x_of 512 (riscv_loaded s))) (received 4 (G 7) (x_of 512 (riscv_loaded s)) (riscv_loaded s))
+riscv_called s =
+    linked 4 1 (even (x_of 512 (riscv_loaded s))) (received 4 (G 7) (x_of 512 (riscv_loaded s)) (riscv_loaded s))
 
 -- from the first address of Entry
 abbrev pub riscv_saved : State → State
@@ -231,7 +238,8 @@ abbrev pub riscv_given : State → State
 riscv_given s = from_exchange Riscv 6 (result_loads Riscv) (riscv_restored s)
 
 abbrev pub riscv_left : State → State
-riscv_left s = jumped (even (slice_index (riscv_given s).general 1)) (with_sp_by 4 ((riscv_given s).sp + 208) (riscv_given s))
+riscv_left s =
+    jumped (even (slice_index (riscv_given s).general 1)) (with_sp_by 4 ((riscv_given s).sp + 208) (riscv_given s))
 
 -- from the first address of Return
 abbrev pub riscv_taken : State → State

@@ -25,7 +25,8 @@ leaf_texts ls = flat_map leaf_text ls
 -- size, alignment and leaves
 abbrev pub sized_text : Tree → List ℕ
 sized_text t =
-    (codes " size " ++ (decimal (size_of t) ++ (codes " align " ++ (decimal (align_of t) ++ codes " leaves")))) ++ leaf_texts (leaves_of t)
+    (codes " size " ++ (decimal (size_of t) ++ (codes " align " ++ (decimal (align_of t) ++ codes " leaves"))))
+    ++ leaf_texts (leaves_of t)
 
 -- nothing follows Void
 abbrev pub layout_text : Tree → List ℕ
@@ -40,4 +41,5 @@ abbrev pub layout_text_of : ℕ → Signature → Position → List ℕ
 layout_text_of i s at_result =
     (codes "sig " ++ (decimal i ++ codes " ret ")) ++ type_layout_text s.result_type ++ 10 ∷ []
 layout_text_of i s (at_argument j) =
-    (codes "sig " ++ (decimal i ++ (codes " arg " ++ (decimal j ++ codes " ")))) ++ type_layout_text (tree_at s.arguments j) ++ 10 ∷ []
+    (codes "sig " ++ (decimal i ++ (codes " arg " ++ (decimal j ++ codes " "))))
+    ++ type_layout_text (tree_at s.arguments j) ++ 10 ∷ []

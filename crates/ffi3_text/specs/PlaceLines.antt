@@ -1,5 +1,6 @@
 -- Lines of place: where the arguments and the result of a signature stand.
-use Rattle.std.specs.Prelude.{ℕ, Bool, true, false, cond, List, [], ◌∷◌, ◌++◌, codes, Option, Some, None, slice_index_or}
+use Rattle.std.specs.Prelude.{ℕ, Bool, true, false, cond, List, [], ◌∷◌, ◌++◌, codes, Option, Some, None}
+use Rattle.std.specs.Prelude.{slice_index_or}
 use Rattle.std.specs.List.{flat_map, find, sum_by}
 use Rattle.std.specs.Fmt.{decimal}
 use Rattle.ffi3_type_rules.specs.declared.Target.{Target}
@@ -72,7 +73,8 @@ abbrev pub place_text_of : Standard → Signature → Position → List ℕ
 place_text_of std s at_result =
     codes "ret" ++ result_text (isa_of std.target) (plan_of std s).res ++ 10 ∷ []
 place_text_of std s (at_argument j) =
-    (codes "arg " ++ decimal j) ++ argument_text (isa_of std.target) (argument_place (plan_of std s).places j) ++ 10 ∷ []
+    (codes "arg " ++ decimal j)
+    ++ argument_text (isa_of std.target) (argument_place (plan_of std s).places j) ++ 10 ∷ []
 
 -- the number of vector registers that arguments use, which a call tells on AMD64 alone
 abbrev pub vectors_text : Target → ℕ → List ℕ
@@ -84,4 +86,7 @@ vectors_text Win64 n = []
 -- THE LINE OF SIGNATURE i: the bytes of stack that a call takes
 abbrev pub sig_text_of : ℕ → Standard → Signature → List ℕ
 sig_text_of i std s =
-    (codes "sig " ++ (decimal i ++ (codes " need " ++ (decimal (plan_of std s).need ++ (codes " frame " ++ (decimal (plan_of std s).frame ++ (codes " block " ++ decimal (plan_of std s).block))))))) ++ vectors_text std.target (plan_of std s).vectors ++ 10 ∷ []
+    (codes "sig " ++ (decimal i ++ (codes " need " ++ (decimal (plan_of std s).need
+    ++ (codes " frame " ++ (decimal (plan_of std s).frame
+    ++ (codes " block " ++ decimal (plan_of std s).block)))))))
+    ++ vectors_text std.target (plan_of std s).vectors ++ 10 ∷ []

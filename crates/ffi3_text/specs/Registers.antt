@@ -9,15 +9,23 @@ use Rattle.ffi3_place_rules.specs.declared.Loc.TheVariants.{G, F, S}
 -- by number, from 0
 abbrev pub amd64_general : List (List ℕ)
 amd64_general =
-    codes "rax" ∷ codes "rcx" ∷ codes "rdx" ∷ codes "rbx" ∷ codes "rsp" ∷ codes "rbp" ∷ codes "rsi" ∷ codes "rdi" ∷ codes "r8" ∷ codes "r9" ∷ codes "r10" ∷ codes "r11" ∷ codes "r12" ∷ codes "r13" ∷ codes "r14" ∷ codes "r15" ∷ []
+    codes "rax" ∷ codes "rcx" ∷ codes "rdx" ∷ codes "rbx" ∷ codes "rsp" ∷ codes "rbp" ∷ codes "rsi" ∷ codes "rdi"
+    ∷ codes "r8" ∷ codes "r9" ∷ codes "r10" ∷ codes "r11" ∷ codes "r12" ∷ codes "r13" ∷ codes "r14" ∷ codes "r15" ∷ []
 
 abbrev pub riscv_general : List (List ℕ)
 riscv_general =
-    codes "zero" ∷ codes "ra" ∷ codes "sp" ∷ codes "gp" ∷ codes "tp" ∷ codes "t0" ∷ codes "t1" ∷ codes "t2" ∷ codes "s0" ∷ codes "s1" ∷ codes "a0" ∷ codes "a1" ∷ codes "a2" ∷ codes "a3" ∷ codes "a4" ∷ codes "a5" ∷ codes "a6" ∷ codes "a7" ∷ codes "s2" ∷ codes "s3" ∷ codes "s4" ∷ codes "s5" ∷ codes "s6" ∷ codes "s7" ∷ codes "s8" ∷ codes "s9" ∷ codes "s10" ∷ codes "s11" ∷ codes "t3" ∷ codes "t4" ∷ codes "t5" ∷ codes "t6" ∷ []
+    codes "zero" ∷ codes "ra" ∷ codes "sp" ∷ codes "gp" ∷ codes "tp" ∷ codes "t0" ∷ codes "t1" ∷ codes "t2" ∷ codes "s0"
+    ∷ codes "s1" ∷ codes "a0" ∷ codes "a1" ∷ codes "a2" ∷ codes "a3" ∷ codes "a4" ∷ codes "a5" ∷ codes "a6" ∷ codes "a7"
+    ∷ codes "s2" ∷ codes "s3" ∷ codes "s4" ∷ codes "s5" ∷ codes "s6" ∷ codes "s7" ∷ codes "s8" ∷ codes "s9"
+    ∷ codes "s10" ∷ codes "s11" ∷ codes "t3" ∷ codes "t4" ∷ codes "t5" ∷ codes "t6" ∷ []
 
 abbrev pub riscv_floating : List (List ℕ)
 riscv_floating =
-    codes "ft0" ∷ codes "ft1" ∷ codes "ft2" ∷ codes "ft3" ∷ codes "ft4" ∷ codes "ft5" ∷ codes "ft6" ∷ codes "ft7" ∷ codes "fs0" ∷ codes "fs1" ∷ codes "fa0" ∷ codes "fa1" ∷ codes "fa2" ∷ codes "fa3" ∷ codes "fa4" ∷ codes "fa5" ∷ codes "fa6" ∷ codes "fa7" ∷ codes "fs2" ∷ codes "fs3" ∷ codes "fs4" ∷ codes "fs5" ∷ codes "fs6" ∷ codes "fs7" ∷ codes "fs8" ∷ codes "fs9" ∷ codes "fs10" ∷ codes "fs11" ∷ codes "ft8" ∷ codes "ft9" ∷ codes "ft10" ∷ codes "ft11" ∷ []
+    codes "ft0" ∷ codes "ft1" ∷ codes "ft2" ∷ codes "ft3" ∷ codes "ft4" ∷ codes "ft5" ∷ codes "ft6" ∷ codes "ft7"
+    ∷ codes "fs0" ∷ codes "fs1" ∷ codes "fa0" ∷ codes "fa1" ∷ codes "fa2" ∷ codes "fa3" ∷ codes "fa4" ∷ codes "fa5"
+    ∷ codes "fa6" ∷ codes "fa7" ∷ codes "fs2" ∷ codes "fs3" ∷ codes "fs4" ∷ codes "fs5" ∷ codes "fs6" ∷ codes "fs7"
+    ∷ codes "fs8" ∷ codes "fs9" ∷ codes "fs10" ∷ codes "fs11" ∷ codes "ft8" ∷ codes "ft9" ∷ codes "ft10" ∷ codes "ft11"
+    ∷ []
 
 -- a number past the table has no name
 abbrev pub general_name : Isa → ℕ → List ℕ

@@ -21,7 +21,9 @@ IsRegister (S n) = ⊥
 -- THE LINE OF AN ENTRY: the closure's address, the stack pointer, and the arguments
 abbrev pub enter_text_of : Signature → Event → List ValueTree → List ℕ
 enter_text_of s e args =
-    a_line (codes "enter " ++ address_text e.closure ++ codes " sp " ++ address_text e.image.sp ++ codes " (" ++ join_with_byte 44 (value_texts_of (trees_of s.arguments) (values_of args)) ++ codes ")")
+    a_line
+    (codes "enter " ++ address_text e.closure ++ codes " sp " ++ address_text e.image.sp
+    ++ codes " (" ++ join_with_byte 44 (value_texts_of (trees_of s.arguments) (values_of args)) ++ codes ")")
 
 -- THE LINE OF A RETURN: the stack pointer, and the result
 abbrev pub leave_text_of : Signature → Event → ValueTree → List ℕ

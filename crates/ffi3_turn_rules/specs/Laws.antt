@@ -4,7 +4,8 @@ use Rattle.ffi3_type_rules.specs.Signature.{Signature}
 use Rattle.ffi3_type_rules.specs.Value.{ValueTree}
 use Rattle.ffi3_run_rules.specs.declared.Stop.TheVariants.{MoveLimit}
 use Rattle.ffi3_run_rules.specs.Closures.{Closures, no_closures}
-use Rattle.ffi3_run_rules.specs.Meaning.{Program, Activation, End, returned, stopped, called, act, meaning_of, main_call, most_moves, stack_size}
+use Rattle.ffi3_run_rules.specs.Meaning.{Program, Activation, End, returned, stopped, called, act, meaning_of}
+use Rattle.ffi3_run_rules.specs.Meaning.{main_call, most_moves, stack_size}
 use Rattle.ffi3_run_rules.specs.Peak.{peak_of}
 use Rattle.ffi3_run_rules.specs.Trace.{TraceItem, Enter, written_out_one, trace_of}
 use Rattle.ffi3_run_rules.specs.Lines.{Point, Tracing, text}
@@ -16,8 +17,10 @@ use Rattle.ffi3_turn_rules.specs.Interrupted.{past_all}
 -- THE DIRECT MEANING GOES STEP BY STEP: it is what is left at main, and one move leads to what its step says, until none is left.
 pub record GoesByStep (p : Program) : Type 0 where
   pub whole : remainder_of (meaning_of p) ≡ rest p as_main (alone main_call) no_closures most_moves
-  pub one : (bottom : Bottom) (call_stack : CallStack) (closures : Closures) (moves : ℕ) → rest p bottom call_stack closures (suc moves) ≡ left_before p bottom moves (step p bottom call_stack closures)
-  pub none : (bottom : Bottom) (call_stack : CallStack) (closures : Closures) → rest p bottom call_stack closures 0 ≡ only_stops MoveLimit closures 0
+  pub one : (bottom : Bottom) (call_stack : CallStack) (closures : Closures) (moves : ℕ)
+      → rest p bottom call_stack closures (suc moves) ≡ left_before p bottom moves (step p bottom call_stack closures)
+  pub none : (bottom : Bottom) (call_stack : CallStack) (closures : Closures)
+      → rest p bottom call_stack closures 0 ≡ only_stops MoveLimit closures 0
 
 -- THE PEAK OF THE CALL TREE is that of its trace, and no run takes more stack than there is.
 pub record PeaksAlike (p : Program) : Type 0 where
@@ -32,9 +35,15 @@ result_of (stopped stop) = None
 -- A CALL THAT IS SERVED is its entry, and then what is left of its function.
 abbrev pub ServesAlike : Program → Type 0
 ServesAlike p =
-    (pointer signature : ℕ) (callee : Activation) (closures : Closures) (moves : ℕ) → written_out_one (called pointer signature callee.arguments (act p callee closures moves).call_tree (result_of (act p callee closures moves).end)) ≡ Enter pointer signature callee.arguments ∷ (rest p (served signature) (alone callee) closures moves).trace
+    (pointer signature : ℕ) (callee : Activation) (closures : Closures) (moves : ℕ)
+    → written_out_one
+    (called pointer signature callee.arguments
+    (act p callee closures moves).call_tree (result_of (act p callee closures moves).end))
+    ≡ Enter pointer signature callee.arguments ∷ (rest p (served signature) (alone callee) closures moves).trace
 
 -- THE TEXT OF A TRACE in two parts is that of the first, and that of the second from where the first comes to.
 abbrev pub TextGoesByParts : Type 0
 TextGoesByParts =
-    (tracing : Tracing) (signatures : List Signature) (at : Point) (a b : List TraceItem) → text tracing signatures at (a ++ b) ≡ text tracing signatures at a ++ text tracing signatures (past_all signatures at a) b
+    (tracing : Tracing) (signatures : List Signature) (at : Point) (a b : List TraceItem)
+    → text tracing signatures at (a ++ b)
+    ≡ text tracing signatures at a ++ text tracing signatures (past_all signatures at a) b

@@ -18,4 +18,5 @@ depth_of p (sig ∷ outer) = need_at p sig + depth_of p outer
 -- each activation has left what its caller has but for the need of the call, and the outermost all
 abbrev pub IsNested : Program → ℕ → Activation → List Suspended → Type 0
 IsNested p room a [] = a.left ≡ room
-IsNested p room a (s ∷ outer) = (a.left + need_at p s.signature ≡ s.activation.left) × IsNested p room s.activation outer
+IsNested p room a (s ∷ outer) =
+    (a.left + need_at p s.signature ≡ s.activation.left) × IsNested p room s.activation outer

@@ -22,7 +22,8 @@ unreturned entries (e ∷ events) = unreturned (after_event e.kind e entries) ev
 
 -- THE OPEN CALLS: their signatures by number, and their entries
 abbrev pub open_calls : List Signature → List ℕ → List Event → List Entered
-open_calls signatures (sig ∷ sigs) (e ∷ entries) = record { signature = signature_at signatures sig; event = e } ∷ open_calls signatures sigs entries
+open_calls signatures (sig ∷ sigs) (e ∷ entries) =
+    record { signature = signature_at signatures sig; event = e } ∷ open_calls signatures sigs entries
 open_calls signatures _ _ = []
 
 -- ---- from the trace and its events
@@ -36,10 +37,13 @@ open_after signatures unfinished (Enter ptr sig args ∷ later) (e ∷ events) =
     open_after signatures (record { signature = signature_at signatures sig; event = e } ∷ unfinished) later events
 open_after signatures unfinished (Leave sig r ∷ later) [] = unfinished
 open_after signatures [] (Leave sig r ∷ later) (e ∷ events) = open_after signatures [] later events
-open_after signatures (entered ∷ unfinished) (Leave sig r ∷ later) (e ∷ events) = open_after signatures unfinished later events
+open_after signatures (entered ∷ unfinished) (Leave sig r ∷ later) (e ∷ events) =
+    open_after signatures unfinished later events
 
 -- THE EVENTS ANSWER TO ALL OF THIS TRACE, after n events and with these calls open, and leave those calls open.
-pub record AnswersTo (std : Standard) (top : ℕ) (held : Loc → ℕ) (signatures : List Signature) (n : ℕ) (unfinished : List Entered) (trace : List TraceItem) (events : List Event) (unfinished' : List Entered) : Type 0 where
+pub record AnswersTo (std : Standard) (top : ℕ) (held : Loc → ℕ) (signatures : List Signature) (n : ℕ)
+    (unfinished : List Entered) (trace : List TraceItem) (events : List Event) (unfinished' : List Entered)
+    : Type 0 where
   pub answers : Answers std top held signatures n unfinished trace events
   pub whole : IsWhole trace events
   pub left_open : open_after signatures unfinished trace events ≡ unfinished'

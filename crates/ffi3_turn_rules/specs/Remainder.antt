@@ -74,7 +74,8 @@ abbrev pub alone : Activation → CallStack
 alone a = record { innermost = a; suspended = [] }
 
 -- the call stack in an activation that was just entered
-abbrev pub inside : (callee : Activation) → (signature : ℕ) → (caller : Activation) → (outer : List Suspended) → CallStack
+abbrev pub inside : (callee : Activation) → (signature : ℕ) → (caller : Activation)
+    → (outer : List Suspended) → CallStack
 inside callee sig caller outer =
     record { innermost = callee; suspended = record { activation = caller; signature = sig } ∷ outer }
 

@@ -9,7 +9,8 @@ use Rattle.ffi3_run_rules.specs.Meaning.{Program, End, stack_size}
 use Rattle.ffi3_run_rules.specs.Trace.{TraceItem}
 use Rattle.ffi3_run_rules.specs.Journal.{Entered, stack_top}
 use Rattle.ffi3_run_rules.specs.Lines.{OpenCall, Point, Tracing}
-use Rattle.ffi3_turn_rules.specs.Remainder.{Remainder, before, Suspended, Bottom, as_main, served, CallStack, rest, awaited}
+use Rattle.ffi3_turn_rules.specs.Remainder.{Remainder, before, Suspended, Bottom, as_main, served, CallStack, rest}
+use Rattle.ffi3_turn_rules.specs.Remainder.{awaited}
 use Rattle.ffi3_turn_rules.specs.Nested.{depth_at, depth_of, IsNested}
 use Rattle.ffi3_turn_rules.specs.Open.{unreturned, open_calls, AnswersTo}
 use Rattle.ffi3_turn_rules.specs.Interrupted.{past_all}
@@ -27,7 +28,15 @@ pub record Base : Type 0 where
 
 -- main begins on a new machine
 abbrev pub main_base : Standard → Base
-main_base std = record { standard = std; top = stack_top; room = stack_size; held = λ at. 0; count = 0; bottom = as_main; entries = [] }
+main_base std = record {
+  standard = std;
+  top = stack_top;
+  room = stack_size;
+  held = λ at. 0;
+  count = 0;
+  bottom = as_main;
+  entries = [];
+}
 
 -- the calls that are open as a run begins, as its text sees them: the entry of a call that is served came last
 abbrev pub calls_below : List Signature → (count : ℕ) → Bottom → List OpenCall
@@ -60,10 +69,12 @@ open_at p b outer events =
 
 -- these events answer to all of this trace
 abbrev pub Answer : Program → Base → List TraceItem → List Event → List Entered → Type 0
-Answer p b trace events left_open = AnswersTo b.standard b.top b.held p.signatures b.count (open_at p b [] []) trace events left_open
+Answer p b trace events left_open =
+    AnswersTo b.standard b.top b.held p.signatures b.count (open_at p b [] []) trace events left_open
 
 -- THE RUN HAS COME TO A POINT: of all that was left this trace is done, these events answer to it, and the call stack's calls are open, with the entries of the inner ones before those of the beginning.
-pub record HasComeTo (p : Program) (b : Base) (all : Remainder) (own : List TraceItem) (events : List Event) (x : Position) : Type 0 where
+pub record HasComeTo (p : Program) (b : Base) (all : Remainder) (own : List TraceItem) (events : List Event)
+    (x : Position) : Type 0 where
   pub follows : all ≡ before own (left_at_position p b x)
   pub answers : Answer p b own events (open_at p b x.call_stack.suspended events)
   pub inner : List Event
@@ -73,7 +84,8 @@ pub record HasComeTo (p : Program) (b : Base) (all : Remainder) (own : List Trac
   pub nested : IsNested p b.room x.call_stack.innermost x.call_stack.suspended
 
 -- THE RUN IS OVER: all that was left is done.
-pub record IsOver (p : Program) (b : Base) (all : Remainder) (end : End) (closures : Closures) (moves : ℕ) (events : List Event) : Type 0 where
+pub record IsOver (p : Program) (b : Base) (all : Remainder) (end : End) (closures : Closures) (moves : ℕ)
+    (events : List Event) : Type 0 where
   pub end_is : all.end ≡ end
   pub closures_are : all.closures ≡ closures
   pub moves_are : all.moves ≡ moves
@@ -81,5 +93,8 @@ pub record IsOver (p : Program) (b : Base) (all : Remainder) (end : End) (closur
   pub answers : Answer p b all.trace events left_open
 
 -- THE RUN WAS INTERRUPTED since it began: of all that was left this happened, these bytes are written, and these events are recorded.
-abbrev pub IsInterrupted : Tracing → Program → Base → (in_line : Bool) → Remainder → (happened : List TraceItem) → (written : List ℕ) → List Event → Type 0
-IsInterrupted tracing p b in_line all happened written events = TraceWasInterrupted b.standard b.top b.held tracing p.signatures (text_start p b) b.count (open_at p b [] []) in_line all.trace happened written events
+abbrev pub IsInterrupted : Tracing → Program → Base → (in_line : Bool) → Remainder → (happened : List TraceItem)
+    → (written : List ℕ) → List Event → Type 0
+IsInterrupted tracing p b in_line all happened written events =
+    TraceWasInterrupted b.standard b.top b.held tracing p.signatures (text_start p b) b.count (open_at p b [] [])
+    in_line all.trace happened written events

@@ -2,9 +2,11 @@
 use Rattle.std.specs.Prelude.{ℕ, List, [], ◌∷◌}
 use Rattle.ffi3_type_rules.specs.Value.{ValueTree, void_value}
 use Rattle.ffi3_run_rules.specs.Closures.{Closures}
-use Rattle.ffi3_run_rules.specs.Meaning.{Program, Activation, Effect, ends, stops, prints, goes_on, enters, End, returned, stopped, with_result, effect_of, next_move}
+use Rattle.ffi3_run_rules.specs.Meaning.{Program, Activation, Effect, ends, stops, prints, goes_on, enters, End}
+use Rattle.ffi3_run_rules.specs.Meaning.{returned, stopped, with_result, effect_of, next_move}
 use Rattle.ffi3_run_rules.specs.Trace.{TraceItem, Enter, Line, Leave, StopLine}
-use Rattle.ffi3_turn_rules.specs.Remainder.{Remainder, before, only, Suspended, Bottom, as_main, served, CallStack, rest, inside}
+use Rattle.ffi3_turn_rules.specs.Remainder.{Remainder, before, only, Suspended, Bottom, as_main, served, CallStack}
+use Rattle.ffi3_turn_rules.specs.Remainder.{rest, inside}
 
 -- the run stands at a call stack, or it is over
 pub data Step : Type 0 where
@@ -31,12 +33,14 @@ step_of bottom a outer closures (ends v) = returns_to bottom outer closures v
 step_of bottom a outer closures (stops stop) = over (StopLine stop ∷ []) (stopped stop) closures
 step_of bottom a outer closures (prints t v) = on (Line t v ∷ []) (acts_on a void_value outer) closures
 step_of bottom a outer closures (goes_on r closures') = on [] (acts_on a r outer) closures'
-step_of bottom a outer closures (enters ptr sig callee) = on (Enter ptr sig callee.arguments ∷ []) (inside callee sig a outer) closures
+step_of bottom a outer closures (enters ptr sig callee) =
+    on (Enter ptr sig callee.arguments ∷ []) (inside callee sig a outer) closures
 
 -- THE STEP OF A PATH
 abbrev pub step : Program → Bottom → CallStack → Closures → Step
 step p bottom call_stack closures =
-    step_of bottom call_stack.innermost call_stack.suspended closures (effect_of p call_stack.innermost closures (next_move p call_stack.innermost))
+    step_of bottom call_stack.innermost call_stack.suspended closures
+    (effect_of p call_stack.innermost closures (next_move p call_stack.innermost))
 
 -- what was left before the step, by what is left after it
 abbrev pub left_before : Program → Bottom → ℕ → Step → Remainder

@@ -11,14 +11,16 @@ use Rattle.ffi3_run_rules.specs.Meaning.{Program}
 use Rattle.ffi3_turn_rules.specs.SoFar.{Base, text_start, open_at}
 
 -- An open call is told as its entry was: the stack pointer stood below the calls around it, and each preserved register had what the tracing says of the entry's number.
-pub record IsTracedAsEntered (std : Standard) (top : ℕ) (leaves : ℕ → Loc → ℕ) (outer : List Entered) (e : Entered) (c : OpenCall) : Type 0 where
+pub record IsTracedAsEntered (std : Standard) (top : ℕ) (leaves : ℕ → Loc → ℕ) (outer : List Entered) (e : Entered)
+    (c : OpenCall) : Type 0 where
   pub signature : e.signature ≡ c.signature
   pub sp : e.event.image.sp + (std.link + frame_of std e.signature + needs std outer) ≡ top
   pub preserved : AllByRecursion (λ at. register e.event.image at ≡ leaves c.entry at) std.preserved
 
 abbrev pub AreTracedAsEntered : Standard → (top : ℕ) → (leaves : ℕ → Loc → ℕ) → List Entered → List OpenCall → Type 0
 AreTracedAsEntered std top leaves [] [] = ⊤
-AreTracedAsEntered std top leaves (e ∷ es) (c ∷ cs) = IsTracedAsEntered std top leaves es e c × AreTracedAsEntered std top leaves es cs
+AreTracedAsEntered std top leaves (e ∷ es) (c ∷ cs) =
+    IsTracedAsEntered std top leaves es e c × AreTracedAsEntered std top leaves es cs
 AreTracedAsEntered std top leaves _ _ = ⊥
 
 -- A run's callers leave what `scribble` leaves, each by its entry's number, and the calls that were open as it began are told as their entries were.

@@ -1,9 +1,11 @@
 -- What is wrong with a type, and which fault is the first. (libffi manual, "Structures": FFI_BAD_TYPEDEF; "Arrays, Unions, and Enumerations": an array is a part of a struct or of an array, and no argument or result; the limits, the left-out kinds, and what an array has to be made of are this library's)
-use Rattle.std.specs.Prelude.{◌≡◌, ℕ, zero, suc, ◌+◌, ◌<◌, ◌⊎◌, Bool, true, false, List, [], ◌∷◌, length, Option, Some, slice_get, option_and_then}
+use Rattle.std.specs.Prelude.{◌≡◌, ℕ, zero, suc, ◌+◌, ◌<◌, ◌⊎◌, Bool, true, false, List, [], ◌∷◌, length, Option, Some}
+use Rattle.std.specs.Prelude.{slice_get, option_and_then}
 use Rattle.ffi3_type_rules.specs.declared.limits.TheConstants.{LARGEST_TYPE, DEEPEST_NESTING}
 use Rattle.ffi3_type_rules.specs.declared.Role.{Role}
 use Rattle.ffi3_type_rules.specs.declared.Role.TheVariants.{AsResult, AsArgument, AsElement, Anywhere}
-use Rattle.ffi3_type_rules.specs.Tree.{Tree, void, scalar, left_out, structure, array, LeftOutKind, no_trees, tree, parts_of}
+use Rattle.ffi3_type_rules.specs.Tree.{Tree, void, scalar, left_out, structure, array, LeftOutKind, no_trees, tree}
+use Rattle.ffi3_type_rules.specs.Tree.{parts_of}
 use Rattle.ffi3_type_rules.specs.Layout.{size_of}
 
 pub data Fault : Type 0 where
@@ -70,11 +72,18 @@ is_misshapen (array (tree t (tree u us)) n) = true
 
 -- a fault of the node at a path, in a type that stands inside so many structs and arrays
 pub data IsFault (outer : ℕ) (role : Role) (root : Tree) : List ℕ → Fault → Type 0 where
-  out_of_place : {path : List ℕ} {node : Tree} → node_at path root ≡ Some node → takes (role_at role path) node ≡ false → IsFault outer role root path bad_typedef
-  left_out_kind : {path : List ℕ} {kind : LeftOutKind} → node_at path root ≡ Some (left_out kind) → IsFault outer role root path (left_out_type (left_out kind))
-  nested_deep : {path : List ℕ} {node : Tree} → node_at path root ≡ Some node → has_parts node ≡ true → DEEPEST_NESTING < outer + length path + 1 → IsFault outer role root path too_deep
-  misshapen : {path : List ℕ} {node : Tree} → node_at path root ≡ Some node → is_misshapen node ≡ true → IsFault outer role root path bad_typedef
-  over_limit : {path : List ℕ} {node : Tree} → node_at path root ≡ Some node → has_parts node ≡ true → LARGEST_TYPE < size_of node → IsFault outer role root path (too_large (size_of node))
+  out_of_place : {path : List ℕ} {node : Tree} → node_at path root ≡ Some node → takes (role_at role path) node ≡ false
+      → IsFault outer role root path bad_typedef
+  left_out_kind : {path : List ℕ} {kind : LeftOutKind} → node_at path root ≡ Some (left_out kind)
+      → IsFault outer role root path (left_out_type (left_out kind))
+  nested_deep : {path : List ℕ} {node : Tree}
+      → node_at path root ≡ Some node → has_parts node ≡ true → DEEPEST_NESTING < outer + length path + 1
+      → IsFault outer role root path too_deep
+  misshapen : {path : List ℕ} {node : Tree} → node_at path root ≡ Some node → is_misshapen node ≡ true
+      → IsFault outer role root path bad_typedef
+  over_limit : {path : List ℕ} {node : Tree}
+      → node_at path root ≡ Some node → has_parts node ≡ true → LARGEST_TYPE < size_of node
+      → IsFault outer role root path (too_large (size_of node))
 
 -- which of two faults of one node comes first
 abbrev pub rank : Fault → ℕ

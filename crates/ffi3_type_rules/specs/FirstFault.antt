@@ -1,12 +1,15 @@
 -- The first fault of a type and of a signature, computed. `proofs/FirstFaults.antt` and `proofs/FirstSignatureFaults.antt` have that each is the first fault by the order of faults, and that it is there wherever one is.
-use Rattle.std.specs.Prelude.{ℕ, ◌+◌, ◌==◌, ◌&&◌, ◌||◌, not, List, [], ◌∷◌, length, drop, Option, Some, None, option_map, if◌then◌else◌, nat_lt}
+use Rattle.std.specs.Prelude.{ℕ, ◌+◌, ◌==◌, ◌&&◌, ◌||◌, not, List, [], ◌∷◌, length, drop, Option, Some, None}
+use Rattle.std.specs.Prelude.{option_map, if◌then◌else◌, nat_lt}
 use Rattle.ffi3_type_rules.specs.declared.limits.TheConstants.{DEEPEST_NESTING, LARGEST_TYPE, MOST_ARGUMENTS}
 use Rattle.ffi3_type_rules.specs.declared.Role.{Role}
 use Rattle.ffi3_type_rules.specs.declared.Role.TheVariants.{AsResult, AsArgument, AsElement}
 use Rattle.ffi3_type_rules.specs.Tree.{Tree, void, scalar, left_out, structure, array, Trees, no_trees, tree}
 use Rattle.ffi3_type_rules.specs.Layout.{size_of}
-use Rattle.ffi3_type_rules.specs.Fault.{Fault, bad_typedef, left_out_type, too_large, too_deep, takes, takes_void, is_misshapen}
-use Rattle.ffi3_type_rules.specs.Signature.{Signature, SignatureFault, too_many, bad_type, bad_fixed, bad_argument_type, Position, at_result, at_argument, is_promoted}
+use Rattle.ffi3_type_rules.specs.Fault.{Fault, bad_typedef, left_out_type, too_large, too_deep, takes, takes_void}
+use Rattle.ffi3_type_rules.specs.Fault.{is_misshapen}
+use Rattle.ffi3_type_rules.specs.Signature.{Signature, SignatureFault, too_many, bad_type, bad_fixed, bad_argument_type}
+use Rattle.ffi3_type_rules.specs.Signature.{Position, at_result, at_argument, is_promoted}
 
 -- a fault, and the element numbers that lead to its node
 abbrev pub Found : Type 0
@@ -80,4 +83,6 @@ abbrev pub first_signature_fault : Signature → Option SignatureFault
 first_signature_fault s =
     if nat_lt MOST_ARGUMENTS (length s.arguments)
     then Some (too_many (length s.arguments))
-    else or_else (option_map (at_position at_result) (first_fault 0 AsResult s.result_type)) (or_else (first_in_arguments 0 s.arguments) (first_in_fixed s.fixed s.arguments))
+    else or_else
+    (option_map (at_position at_result) (first_fault 0 AsResult s.result_type))
+    (or_else (first_in_arguments 0 s.arguments) (first_in_fixed s.fixed s.arguments))

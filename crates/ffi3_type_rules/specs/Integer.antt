@@ -1,7 +1,8 @@
 -- The number that the bytes of an integer make, and back: little-endian, two's complement. (psABI AMD64 3.1.2, AAPCS64 5.1, RISC-V ELF psABI "C/C++ type details")
 use Rattle.std.specs.Prelude.{ℕ, suc, ◌-◌, ◌%◌, ◌^◌, Bool, true, false, if◌then◌else◌, ℤ, pos, negsuc, ◌+ℤ◌, List}
 use Rattle.std.specs.Int.{Width, w8, w16, w32, w64, w128, to_le_bytes, from_le_bytes, cast_signed, cast_unsigned}
-use Rattle.ffi3_type_rules.specs.Tree.{Scalar, u8, s8, u16, s16, u32, s32, u64, s64, u128, s128, float, double, pointer, Tree, void, scalar, left_out, structure, array}
+use Rattle.ffi3_type_rules.specs.Tree.{Scalar, u8, s8, u16, s16, u32, s32, u64, s64, u128, s128, float, double, pointer}
+use Rattle.ffi3_type_rules.specs.Tree.{Tree, void, scalar, left_out, structure, array}
 
 -- the ten integer types
 abbrev pub is_integer : Scalar → Bool

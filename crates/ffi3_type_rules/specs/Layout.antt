@@ -1,7 +1,9 @@
 -- Size, alignment and leaves of a type. (libffi manual, "Size and Alignment"; arrays: C, "Types")
-use Rattle.std.specs.Prelude.{◌≡◌, ℕ, zero, suc, ◌+◌, ◌*◌, ◌≤◌, ◌%◌, max, List, [], ◌∷◌, ◌++◌, map, length, slice_index_or}
+use Rattle.std.specs.Prelude.{◌≡◌, ℕ, zero, suc, ◌+◌, ◌*◌, ◌≤◌, ◌%◌, max, List, [], ◌∷◌, ◌++◌, map, length}
+use Rattle.std.specs.Prelude.{slice_index_or}
 use Rattle.std.specs.Int.{next_multiple_of}
-use Rattle.ffi3_type_rules.specs.Tree.{Scalar, u8, s8, u16, s16, u32, s32, u64, s64, u128, s128, float, double, pointer, Tree, void, scalar, left_out, structure, Trees, no_trees, tree, array}
+use Rattle.ffi3_type_rules.specs.Tree.{Scalar, u8, s8, u16, s16, u32, s32, u64, s64, u128, s128, float, double, pointer}
+use Rattle.ffi3_type_rules.specs.Tree.{Tree, void, scalar, left_out, structure, Trees, no_trees, tree, array}
 
 -- m is the least multiple of a that is not below n
 pub record IsLeastMultiple (a n m : ℕ) : Type 0 where
@@ -76,8 +78,11 @@ leaves_before es (suc i) =
 
 -- a struct with these elements
 abbrev pub struct_layout : List Layout → Layout
-struct_layout es =
-    record { size = least_multiple (align_before es (length es)) (end_before es (length es)); align = align_before es (length es); leaves = leaves_before es (length es) }
+struct_layout es = record {
+  size = least_multiple (align_before es (length es)) (end_before es (length es));
+  align = align_before es (length es);
+  leaves = leaves_before es (length es);
+}
 
 -- the leaves of the first elements of an array: element i starts at i times its size
 abbrev pub repeated : Layout → ℕ → List Leaf

@@ -1,7 +1,9 @@
 -- What every layout keeps: least multiples, the greatest alignment, leaves in order; an array is laid out as its elements. (libffi manual, "Size and Alignment"; C, "Structure and union specifiers": elements lie in order, each at a multiple of its alignment; "Types": the elements of an array lie one after another, and there is one at least)
-use Rattle.std.specs.Prelude.{◌≡◌, ℕ, zero, suc, ◌+◌, ◌%◌, ◌<◌, ◌≤◌, List, [], ◌∷◌, ◌++◌, length, replicate, Option, Some, slice_get, option_and_then}
+use Rattle.std.specs.Prelude.{◌≡◌, ℕ, zero, suc, ◌+◌, ◌%◌, ◌<◌, ◌≤◌, List, [], ◌∷◌, ◌++◌, length, replicate, Option}
+use Rattle.std.specs.Prelude.{Some, slice_get, option_and_then}
 use Rattle.ffi3_type_rules.specs.Tree.{Tree, scalar, Scalar, tree_at, elements_of, struct_of, array_of}
-use Rattle.ffi3_type_rules.specs.Layout.{Leaf, IsLeastMultiple, scalar_size, layout, size_of, align_of, leaves_of, leaf_at, offset_of}
+use Rattle.ffi3_type_rules.specs.Layout.{Leaf, IsLeastMultiple, scalar_size, layout, size_of, align_of, leaves_of}
+use Rattle.ffi3_type_rules.specs.Layout.{leaf_at, offset_of}
 
 -- where a leaf ends
 abbrev pub leaf_end : Leaf → ℕ
@@ -44,11 +46,13 @@ pub record IsGreatestAlignment (ts : List Tree) (align : ℕ) : Type 0 where
 
 pub record IsWellLaidOut (t : Tree) : Type 0 where
   -- each element of a struct or an array stands at the least multiple of its alignment that is not below the end of the one before
-  pub placed : (i : ℕ) → i < length (elements_of t) → IsLeastMultiple (align_of (tree_at (elements_of t) i)) (end_of_previous t i) (offset_of t i)
+  pub placed : (i : ℕ) → i < length (elements_of t)
+      → IsLeastMultiple (align_of (tree_at (elements_of t) i)) (end_of_previous t i) (offset_of t i)
   -- the alignment of what has elements is the greatest of theirs
   pub greatest : 0 < length (elements_of t) → IsGreatestAlignment (elements_of t) (align_of t)
   -- its size is the least multiple of its alignment that is not below the end of its last element
-  pub least : 0 < length (elements_of t) → IsLeastMultiple (align_of t) (end_of_previous t (length (elements_of t))) (size_of t)
+  pub least : 0 < length (elements_of t)
+      → IsLeastMultiple (align_of t) (end_of_previous t (length (elements_of t))) (size_of t)
   -- leaves lie in the type
   pub inside : (i : ℕ) → i < length (leaves_of t) → leaf_end (leaf_at t i) ≤ size_of t
   -- they rise from the left and do not overlap
@@ -70,4 +74,5 @@ ArrayIsStruct =
 -- an array of one element or more in a struct is laid out as if its elements stood there
 abbrev pub ArrayIsItsElements : Type 0
 ArrayIsItsElements =
-    (xs ys : List Tree) (t : Tree) (n : ℕ) → 0 < n → layout (struct_of (xs ++ array_of t n ∷ ys)) ≡ layout (struct_of (xs ++ (replicate n t ++ ys)))
+    (xs ys : List Tree) (t : Tree) (n : ℕ) → 0 < n
+    → layout (struct_of (xs ++ array_of t n ∷ ys)) ≡ layout (struct_of (xs ++ (replicate n t ++ ys)))

@@ -1,6 +1,7 @@
 -- When two types, and two signatures, are equal, as a test that computes.
 use Rattle.std.specs.Prelude.{ℕ, Bool, true, false, ◌&&◌, ◌==◌, List, [], ◌∷◌, Option, Some, None}
-use Rattle.ffi3_type_rules.specs.Tree.{scalar_number, LeftOutKind, long_double, complex, vector, Tree, void, scalar, left_out, structure, array, Trees, no_trees, tree}
+use Rattle.ffi3_type_rules.specs.Tree.{scalar_number, LeftOutKind, long_double, complex, vector, Tree, void, scalar}
+use Rattle.ffi3_type_rules.specs.Tree.{left_out, structure, array, Trees, no_trees, tree}
 use Rattle.ffi3_type_rules.specs.Signature.{Signature}
 
 abbrev same_kind : LeftOutKind → LeftOutKind → Bool

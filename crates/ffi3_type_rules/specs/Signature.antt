@@ -1,8 +1,11 @@
 -- A signature, and its first fault. (libffi manual, "The Basics" and "Variadic functions")
-use Rattle.std.specs.Prelude.{◌≡◌, ℕ, ◌<◌, ◌≤◌, ◌⊎◌, Bool, true, false, List, [], length, Option, Some, None, refl, slice_index_or}
+use Rattle.std.specs.Prelude.{◌≡◌, ℕ, ◌<◌, ◌≤◌, ◌⊎◌, Bool, true, false, List, [], length, Option, Some, None, refl}
+use Rattle.std.specs.Prelude.{slice_index_or}
 use Rattle.std.specs.Coded.{Coded, code_by, coded×, coded_list, coded_option, coded_ℕ}
 use Rattle.ffi3_type_rules.specs.declared.limits.TheConstants.{MOST_ARGUMENTS}
-use Rattle.ffi3_type_rules.specs.Tree.{Tree, void, scalar, tree_at, tree_code, tree_list_code, Scalar, u8, s8, u16, s16, float, left_out, structure, u32, s32, u64, s64, u128, s128, double, pointer, array}
+use Rattle.ffi3_type_rules.specs.Tree.{Tree, void, scalar, tree_at, tree_code, tree_list_code, Scalar, u8, s8, u16, s16}
+use Rattle.ffi3_type_rules.specs.Tree.{float, left_out, structure, u32, s32, u64, s64, u128, s128, double, pointer}
+use Rattle.ffi3_type_rules.specs.Tree.{array}
 use Rattle.ffi3_type_rules.specs.declared.Role.TheVariants.{AsResult, AsArgument}
 use Rattle.ffi3_type_rules.specs.Fault.{Fault, IsFirstFault}
 
@@ -13,7 +16,12 @@ pub record Signature : Type 0 where
 
 abbrev pub signature_code : Coded Signature
 signature_code =
-    code_by (Tree × (List Tree × Option ℕ)) (coded× tree_code (coded× tree_list_code (coded_option coded_ℕ))) (λ s. (s.result_type, (s.arguments, s.fixed))) (λ p. record { result_type = p.0; arguments = p.1.0; fixed = p.1.1 }) (λ _. refl)
+    code_by
+    (Tree × (List Tree × Option ℕ))
+    (coded× tree_code (coded× tree_list_code (coded_option coded_ℕ)))
+    (λ s. (s.result_type, (s.arguments, s.fixed)))
+    (λ p. record { result_type = p.0; arguments = p.1.0; fixed = p.1.1 })
+    (λ _. refl)
 
 abbrev pub signature_list_code : Coded (List Signature)
 signature_list_code = coded_list signature_code
@@ -59,10 +67,15 @@ is_promoted (array ts n) = false
 
 pub data IsSignatureFault (s : Signature) : SignatureFault → Type 0 where
   over_most : MOST_ARGUMENTS < length s.arguments → IsSignatureFault s (too_many (length s.arguments))
-  in_result : {path : List ℕ} {fault : Fault} → IsFirstFault 0 AsResult s.result_type path fault → IsSignatureFault s (bad_type at_result path fault)
-  in_argument : {i : ℕ} {path : List ℕ} {fault : Fault} → i < length s.arguments → IsFirstFault 0 AsArgument (tree_at s.arguments i) path fault → IsSignatureFault s (bad_type (at_argument i) path fault)
-  fixed_outside : {n : ℕ} → s.fixed ≡ Some n → (n ≡ 0) ⊎ (length s.arguments < n) → IsSignatureFault s (bad_fixed n (length s.arguments))
-  promoted : {n i : ℕ} → s.fixed ≡ Some n → n ≤ i → i < length s.arguments → is_promoted (tree_at s.arguments i) ≡ true → IsSignatureFault s (bad_argument_type i)
+  in_result : {path : List ℕ} {fault : Fault} → IsFirstFault 0 AsResult s.result_type path fault
+      → IsSignatureFault s (bad_type at_result path fault)
+  in_argument : {i : ℕ} {path : List ℕ} {fault : Fault}
+      → i < length s.arguments → IsFirstFault 0 AsArgument (tree_at s.arguments i) path fault
+      → IsSignatureFault s (bad_type (at_argument i) path fault)
+  fixed_outside : {n : ℕ} → s.fixed ≡ Some n → (n ≡ 0) ⊎ (length s.arguments < n)
+      → IsSignatureFault s (bad_fixed n (length s.arguments))
+  promoted : {n i : ℕ} → s.fixed ≡ Some n → n ≤ i → i < length s.arguments → is_promoted (tree_at s.arguments i) ≡ true
+      → IsSignatureFault s (bad_argument_type i)
 
 -- the order of the faults: by kind, and then by the number of the argument
 abbrev pub kind_rank : SignatureFault → ℕ

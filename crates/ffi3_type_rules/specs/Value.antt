@@ -1,5 +1,6 @@
 -- What a value is, and which value the bytes of a type have. (libffi manual, "The Basics": a value lies in memory as C lays it out)
-use Rattle.std.specs.Prelude.{◌≡◌, ℕ, zero, suc, ◌+◌, ◌*◌, ◌<◌, ◌≤◌, Bool, true, false, ◌&&◌, ◌==◌, List, [], ◌∷◌, length, take, drop, replicate, All, slice_index, ◌≢◌, refl}
+use Rattle.std.specs.Prelude.{◌≡◌, ℕ, zero, suc, ◌+◌, ◌*◌, ◌<◌, ◌≤◌, Bool, true, false, ◌&&◌, ◌==◌, List, [], ◌∷◌}
+use Rattle.std.specs.Prelude.{length, take, drop, replicate, All, slice_index, ◌≢◌, refl}
 use Rattle.std.proofs.Common.{ap, ◌∙◌}
 use Rattle.std.specs.Coded.{Coded, code_by, coded_list}
 use denote.Struct.Codes.{itself}
@@ -171,7 +172,8 @@ mutual
   pub restored_values-stored_values : (vs : ValueTrees) → restored_values (stored_values vs) ≡ vs
   restored_values-stored_values no_values = refl
   restored_values-stored_values (value v vs) =
-      ap (λ w. value w (restored_values (stored_values vs))) (restored_value-stored_value v) ∙ ap (λ ws. value v ws) (restored_values-stored_values vs)
+      ap (λ w. value w (restored_values (stored_values vs))) (restored_value-stored_value v)
+      ∙ ap (λ ws. value v ws) (restored_values-stored_values vs)
 
 abbrev pub value_code : Coded ValueTree
 value_code = code_by Gv itself stored_value restored_value restored_value-stored_value

@@ -20,7 +20,12 @@ leaf_in ls i = slice_index_or ls i (record { at = 0; kind = u8 })
 
 abbrev leaf_code : Coded Leaf
 leaf_code =
-    code_by (ℕ × Tree) (coded× coded_ℕ tree_code) (λ l. (l.at, scalar l.kind)) (λ p. record { at = p.0; kind = scalar_of p.1 }) (λ _. refl)
+    code_by
+    (ℕ × Tree)
+    (coded× coded_ℕ tree_code)
+    (λ l. (l.at, scalar l.kind))
+    (λ p. record { at = p.0; kind = scalar_of p.1 })
+    (λ _. refl)
 
 abbrev pub leaf_list_code : Coded (List Leaf)
 leaf_list_code = coded_list leaf_code

@@ -9,7 +9,8 @@ use Rattle.ffi3_place_rules.specs.declared.Res.TheVariants.{Nothing, Direct as D
 use Rattle.ffi3_place_rules.specs.declared.Plan.{Plan}
 use Rattle.ffi3_place_rules.specs.Sums.{sum_below}
 use Rattle.ffi3_place_rules.specs.Standard.{plan_of, block_bytes, round16}
-use Rattle.ffi3_win64_rules.specs.Win64.{win64, is_copied, position_place, argument_pieces, whole, result_place, first_position, stack_of}
+use Rattle.ffi3_win64_rules.specs.Win64.{win64, is_copied, position_place, argument_pieces, whole, result_place}
+use Rattle.ffi3_win64_rules.specs.Win64.{first_position, stack_of}
 
 module _ (s : Signature) where
   abbrev pub position : ℕ → ℕ
@@ -37,7 +38,8 @@ module _ (s : Signature) where
     pub one_each : length p.places ≡ length s.arguments
     pub placed : (i : ℕ) → i < length s.arguments → slice_get p.places i ≡ Some (place_by_position i)
     pub no_result : s.result_type ≡ void → p.res ≡ Nothing
-    pub in_register : ¬ (s.result_type ≡ void) → is_copied s.result_type ≡ false → p.res ≡ DirectRes (whole (result_place s.result_type) s.result_type ∷ [])
+    pub in_register : ¬ (s.result_type ≡ void) → is_copied s.result_type ≡ false
+        → p.res ≡ DirectRes (whole (result_place s.result_type) s.result_type ∷ [])
     pub hidden : is_copied s.result_type ≡ true → p.res ≡ Hidden (position_place 0) (copies_before (length s.arguments))
     pub frame_end : p.frame ≡ copies_before (length s.arguments) + buffer_bytes
     pub block_total : p.block ≡ block_bytes s

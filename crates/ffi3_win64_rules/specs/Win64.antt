@@ -1,5 +1,6 @@
 -- Where the arguments and the result of a call stand by the Microsoft x64 calling convention. (Microsoft, "x64 calling convention": each rule names its section, "Calling convention defaults", "Parameter passing", "Varargs", "Return values" or "Caller/callee saved registers"; the stack also "x64 stack usage", "Stack allocation". Integer names keep the sizes that they have on the other targets: `ulong` and `slong` have 64 bits, where Windows' `long` has 32)
-use Rattle.std.specs.Prelude.{ℕ, ◌+◌, ◌*◌, ◌==◌, ◌||◌, Bool, false, not, ◌&&◌, cond, nat_lt, max, List, [], ◌∷◌, ◌++◌, map, get_or, length, Some, None, is_some}
+use Rattle.std.specs.Prelude.{ℕ, ◌+◌, ◌*◌, ◌==◌, ◌||◌, Bool, false, not, ◌&&◌, cond, nat_lt, max, List, [], ◌∷◌, ◌++◌}
+use Rattle.std.specs.Prelude.{map, get_or, length, Some, None, is_some}
 use Rattle.ffi3_type_rules.specs.declared.Target.TheVariants as target
 use Rattle.ffi3_type_rules.specs.declared.Isa.{Isa}
 use Rattle.ffi3_type_rules.specs.Isa.{isa_of}
@@ -13,8 +14,10 @@ use Rattle.ffi3_place_rules.specs.declared.Ext.TheVariants.{Free, Widen}
 use Rattle.ffi3_place_rules.specs.declared.Piece.{Piece}
 use Rattle.ffi3_place_rules.specs.declared.SaveWord.{SaveWord}
 use Rattle.ffi3_place_rules.specs.declared.SaveWord.TheVariants.{Register, Hidden}
-use Rattle.ffi3_place_rules.specs.Isa.{pushed_bytes, stack_pointer, reserved_places, link_place, closure_register, trampoline_registers}
-use Rattle.ffi3_place_rules.specs.Standard.{Standard, Placing, Spot, in_pieces, by_reference, ResultSpot, no_result, in_result_pieces, in_buffer, round16}
+use Rattle.ffi3_place_rules.specs.Isa.{pushed_bytes, stack_pointer, reserved_places, link_place, closure_register}
+use Rattle.ffi3_place_rules.specs.Isa.{trampoline_registers}
+use Rattle.ffi3_place_rules.specs.Standard.{Standard, Placing, Spot, in_pieces, by_reference, ResultSpot, no_result}
+use Rattle.ffi3_place_rules.specs.Standard.{in_result_pieces, in_buffer, round16}
 use Rattle.ffi3_place_rules.specs.Doublewords.{widening}
 
 -- ---- what is passed
@@ -112,7 +115,8 @@ passing = G 1 ∷ G 2 ∷ G 8 ∷ G 9 ∷ F 0 ∷ F 1 ∷ F 2 ∷ F 3 ∷ []
 -- nonvolatile: rbx, rbp, rdi, rsi, r12 to r15, and xmm6 to xmm15. ("Caller/callee saved registers". A callee keeps all 128 bits of a vector register; the machine here has the low 64 alone.)
 abbrev pub nonvolatile : List Loc
 nonvolatile =
-    G 3 ∷ G 5 ∷ G 7 ∷ G 6 ∷ G 12 ∷ G 13 ∷ G 14 ∷ G 15 ∷ F 6 ∷ F 7 ∷ F 8 ∷ F 9 ∷ F 10 ∷ F 11 ∷ F 12 ∷ F 13 ∷ F 14 ∷ F 15 ∷ []
+    G 3 ∷ G 5 ∷ G 7 ∷ G 6 ∷ G 12 ∷ G 13 ∷ G 14 ∷ G 15
+    ∷ F 6 ∷ F 7 ∷ F 8 ∷ F 9 ∷ F 10 ∷ F 11 ∷ F 12 ∷ F 13 ∷ F 14 ∷ F 15 ∷ []
 
 -- Each of them, and above them the address of a hidden result. (Their order in the save area is this library's rule.)
 abbrev pub saved_words : List SaveWord

@@ -5,7 +5,8 @@ use Rattle.clap.specs.declared.error.Error.{Error}
 use Rattle.clap.specs.declared.error.kind.ErrorKind.TheVariants.{OutOfMemory}
 use Rattle.ffi3_type_rules.specs.declared.limits.TheConstants.{MOST_CALLS}
 use Rattle.ffi3_words.specs.declared.words.Request.{Request}
-use Rattle.ffi3_words.specs.declared.words.Request.TheVariants.{Layout, Place, Run, Cdecl, Cplace, Explain, Arguments, Bench}
+use Rattle.ffi3_words.specs.declared.words.Request.TheVariants.{Layout, Place, Run, Cdecl, Cplace, Explain, Arguments}
+use Rattle.ffi3_words.specs.declared.words.Request.TheVariants.{Bench}
 use Rattle.ffi3_words.specs.declared.words.WordsFault.{WordsFault}
 use Rattle.ffi3_words.specs.declared.words.WordsFault.TheVariants.{Refused, NoMemory}
 use Rattle.ffi3_words.specs.Words.{IsRefused, IsStated}

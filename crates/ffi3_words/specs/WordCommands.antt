@@ -1,5 +1,6 @@
 -- The program as clap reads it: its commands and their options, and what its matches ask for.
-use Rattle.std.specs.Prelude.{◌≡◌, ℕ, suc, ◌^◌, ◌&&◌, nat_lt, nat_le, Bool, true, false, cond, List, [], ◌∷◌, codes, decimal, Option, Some, None}
+use Rattle.std.specs.Prelude.{◌≡◌, ℕ, suc, ◌^◌, ◌&&◌, nat_lt, nat_le, Bool, true, false, cond, List, [], ◌∷◌, codes}
+use Rattle.std.specs.Prelude.{decimal, Option, Some, None}
 use Rattle.std.specs.Option.{option_and_then, option_map}
 use Rattle.std.specs.Str.{bytes_eq}
 use Rattle.std.specs.Str.Parse.{digits_value}
@@ -12,7 +13,8 @@ use Rattle.ffi3_type_rules.specs.declared.limits.TheConstants.{MOST_CALLS}
 use Rattle.ffi3_type_rules.specs.declared.Target.{Target}
 use Rattle.ffi3_type_rules.specs.declared.Target.TheVariants.{Amd64, Aapcs64, Riscv, Win64}
 use Rattle.ffi3_words.specs.declared.words.Request.{Request}
-use Rattle.ffi3_words.specs.declared.words.Request.TheVariants.{Layout, Place, Run, Cdecl, Cplace, Explain, Arguments, Bench}
+use Rattle.ffi3_words.specs.declared.words.Request.TheVariants.{Layout, Place, Run, Cdecl, Cplace, Explain, Arguments}
+use Rattle.ffi3_words.specs.declared.words.Request.TheVariants.{Bench}
 
 -- ---- the words of a target
 
@@ -21,7 +23,10 @@ targets = codes "amd64" ∷ codes "aapcs64" ∷ codes "riscv" ∷ codes "win64" 
 
 abbrev pub target_of : Text → Option Target
 target_of word =
-    cond (bytes_eq word (codes "amd64")) (Some Amd64) (cond (bytes_eq word (codes "aapcs64")) (Some Aapcs64) (cond (bytes_eq word (codes "riscv")) (Some Riscv) (cond (bytes_eq word (codes "win64")) (Some Win64) None)))
+    cond (bytes_eq word (codes "amd64")) (Some Amd64)
+    (cond (bytes_eq word (codes "aapcs64")) (Some Aapcs64)
+    (cond (bytes_eq word (codes "riscv")) (Some Riscv)
+    (cond (bytes_eq word (codes "win64")) (Some Win64) None)))
 
 -- ---- the commands and their options
 
@@ -42,8 +47,12 @@ one_of_words at words = vp.Names (record { ref_ptr = at 0; now = lent (after_fir
 
 -- `--target TARGET`, which is required
 abbrev pub target_rule : ValueParser → Rule
-target_rule parser =
-    record (new_rule (codes "target")) { long = Some (codes "target"); value_names = 1; required = true; parser = Some parser }
+target_rule parser = record (new_rule (codes "target")) {
+  long = Some (codes "target");
+  value_names = 1;
+  required = true;
+  parser = Some parser;
+}
 
 -- `--trace`, a flag
 abbrev pub trace_rule : Rule
@@ -95,13 +104,31 @@ bench_shape = (with_rule (with_rule (new_app (codes "bench")) seed_rule) calls_r
 -- the program alone: one of its commands is required
 abbrev pub program_alone : App
 program_alone = record {
-  top = record (new_app (codes "ffi3")).top { has_version = true; subcommand_required = true; arg_required_else_help = true };
+  top = record (new_app (codes "ffi3")).top {
+    has_version = true;
+    subcommand_required = true;
+    arg_required_else_help = true;
+  };
   subs = [];
 }
 
 abbrev pub program_with : ValueParser → ValueParser → App
 program_with placing running =
-    with_subcommand (with_subcommand (with_subcommand (with_subcommand (with_subcommand (with_subcommand (with_subcommand (with_subcommand program_alone layout_shape) (with_target (codes "place") placing)) (with_trace (codes "run") running)) bench_shape) cdecl_shape) cplace_shape) explain_shape) arguments_shape
+    with_subcommand
+    (with_subcommand
+    (with_subcommand
+    (with_subcommand
+    (with_subcommand
+    (with_subcommand
+    (with_subcommand
+    (with_subcommand program_alone layout_shape)
+    (with_target (codes "place") placing))
+    (with_trace (codes "run") running))
+    bench_shape)
+    cdecl_shape)
+    cplace_shape)
+    explain_shape)
+    arguments_shape
 
 -- THE PROGRAM, with its texts at these addresses
 abbrev pub program : Addresses → Addresses → App
@@ -130,17 +157,29 @@ with_calls seed calls =
 -- what `bench` asks for: a seed of 32 bits, and 1 to 1000 calls
 abbrev pub bench_of : Option Text → Option Text → Option Request
 bench_of seed calls =
-    option_and_then (λ n. option_and_then (with_calls n) (option_and_then number_of calls)) (option_and_then number_of seed)
+    option_and_then
+    (λ n. option_and_then (with_calls n) (option_and_then number_of calls))
+    (option_and_then number_of seed)
 
 -- a command's name, its target, its flag and its numbers
 abbrev pub request_of : Text → Option Text → Option Text → Option Text → Option Text → Option Request
 request_of name target trace seed calls =
-    cond (bytes_eq name (codes "layout")) (Some Layout) (cond (bytes_eq name (codes "cdecl")) (Some Cdecl) (cond (bytes_eq name (codes "cplace")) (Some Cplace) (cond (bytes_eq name (codes "explain")) (Some Explain) (cond (bytes_eq name (codes "arguments")) (Some Arguments) (cond (bytes_eq name (codes "bench")) (bench_of seed calls) (cond (bytes_eq name (codes "place")) (with_target_of target (λ t. Place t)) (cond (bytes_eq name (codes "run")) (with_target_of target (λ t. Run t (is_set trace))) None)))))))
+    cond (bytes_eq name (codes "layout")) (Some Layout)
+    (cond (bytes_eq name (codes "cdecl")) (Some Cdecl)
+    (cond (bytes_eq name (codes "cplace")) (Some Cplace)
+    (cond (bytes_eq name (codes "explain")) (Some Explain)
+    (cond (bytes_eq name (codes "arguments")) (Some Arguments)
+    (cond (bytes_eq name (codes "bench")) (bench_of seed calls)
+    (cond (bytes_eq name (codes "place")) (with_target_of target (λ t. Place t))
+    (cond (bytes_eq name (codes "run")) (with_target_of target (λ t. Run t (is_set trace))) None)))))))
 
 -- the command that was met, with its rows
 abbrev pub asked : Option (Text × List Row) → Option Request
 asked =
-    option_and_then (λ p. request_of p.0 (first_of (codes "target") p.1) (first_of (codes "trace") p.1) (first_of (codes "seed") p.1) (first_of (codes "calls") p.1))
+    option_and_then
+    (λ p. request_of p.0
+    (first_of (codes "target") p.1) (first_of (codes "trace") p.1)
+    (first_of (codes "seed") p.1) (first_of (codes "calls") p.1))
 
 -- `bench` was met, and its values are no seed and number of calls
 abbrev pub LacksNumbers : Option (Text × List Row) → Type 0

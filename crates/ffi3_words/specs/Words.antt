@@ -5,7 +5,8 @@ use Rattle.ffi3_type_rules.specs.declared.limits.TheConstants.{MOST_CALLS}
 use Rattle.ffi3_type_rules.specs.declared.Target.{Target}
 use Rattle.ffi3_type_rules.specs.declared.Target.TheVariants.{Amd64, Aapcs64, Riscv, Win64}
 use Rattle.ffi3_words.specs.declared.words.Request.{Request}
-use Rattle.ffi3_words.specs.declared.words.Request.TheVariants.{Layout, Place, Run, Cdecl, Cplace, Explain, Arguments, Bench}
+use Rattle.ffi3_words.specs.declared.words.Request.TheVariants.{Layout, Place, Run, Cdecl, Cplace, Explain, Arguments}
+use Rattle.ffi3_words.specs.declared.words.Request.TheVariants.{Bench}
 use Rattle.ffi3_words.specs.WordCommands.{Addresses, LacksNumbers, program, asked}
 
 abbrev pub target_word : Target → Text
@@ -20,13 +21,18 @@ StatesAfterName rest Layout = rest ≡ codes "layout" ∷ []
 StatesAfterName rest (Place t) = rest ≡ codes "place" ∷ codes "--target" ∷ target_word t ∷ []
 StatesAfterName rest (Run t false) = rest ≡ codes "run" ∷ codes "--target" ∷ target_word t ∷ []
 StatesAfterName rest (Run t true) =
-    (rest ≡ codes "run" ∷ codes "--trace" ∷ codes "--target" ∷ target_word t ∷ []) ⊎ (rest ≡ codes "run" ∷ codes "--target" ∷ target_word t ∷ codes "--trace" ∷ [])
+    (rest ≡ codes "run" ∷ codes "--trace" ∷ codes "--target" ∷ target_word t ∷ [])
+    ⊎ (rest ≡ codes "run" ∷ codes "--target" ∷ target_word t ∷ codes "--trace" ∷ [])
 StatesAfterName rest Cdecl = rest ≡ codes "cdecl" ∷ []
 StatesAfterName rest Cplace = rest ≡ codes "cplace" ∷ []
 StatesAfterName rest Explain = rest ≡ codes "explain" ∷ []
 StatesAfterName rest Arguments = rest ≡ codes "arguments" ∷ []
 StatesAfterName rest (Bench seed calls) =
-    (seed < 2 ^ 32) × (1 ≤ calls) × (calls ≤ MOST_CALLS) × ((rest ≡ codes "bench" ∷ codes "--seed" ∷ decimal seed ∷ codes "--calls" ∷ decimal calls ∷ []) ⊎ (rest ≡ codes "bench" ∷ codes "--calls" ∷ decimal calls ∷ codes "--seed" ∷ decimal seed ∷ []))
+    (seed < 2 ^ 32)
+    × (1 ≤ calls)
+    × (calls ≤ MOST_CALLS)
+    × ((rest ≡ codes "bench" ∷ codes "--seed" ∷ decimal seed ∷ codes "--calls" ∷ decimal calls ∷ [])
+    ⊎ (rest ≡ codes "bench" ∷ codes "--calls" ∷ decimal calls ∷ codes "--seed" ∷ decimal seed ∷ []))
 
 -- THE STATED WORDS of what is asked for: the program's name, and then `layout`, `place --target T`, `run --target T`, where `--trace` stands before the target or after it, `cdecl`, `cplace`, `explain`, `arguments`, or `bench --seed N --calls M` in either order, N below 2 to the 32, M from 1 to 1000
 abbrev pub IsStated : List Text → Request → Type 0
