@@ -92,7 +92,8 @@ pub record HasPassed (std : Standard) (s : Signature) (arguments : List ValueTre
   pub pc : after.pc ≡ ENTRY
   pub closure : slice_index after.general (closure_register (isa_of after.target)) ≡ pointer
   pub return_address : HasReturnAddress after
-  pub preserved : AllByRecursion
+  pub preserved :
+      AllByRecursion
       (λ at. register (image_of (std.link + frame_of std s) after) at ≡ scribble (length before.events) at)
       std.preserved
   pub reserved : KeepsReserved std before after

@@ -33,10 +33,8 @@ ghost use Rattle.ffi3_machine.specs.Step.{
   written,
 };
 
-use crate::{
-    CODE, CODE_END, EXCHANGE, EXCHANGE_END, Machine, STACK, STACK_TOP, STUBS, STUBS_END,
-    is_zero_register,
-};
+use crate::registers::is_zero_register;
+use crate::{CODE, CODE_END, EXCHANGE, EXCHANGE_END, Machine, STACK, STACK_TOP, STUBS, STUBS_END};
 use ffi3_isa::{Instr, decode_aarch64, decode_amd64, decode_riscv};
 use ffi3_type_rules::Isa;
 

@@ -12,7 +12,8 @@ ghost use Rattle.ffi3_machine.specs.Stubs.{
   with_stub,
 };
 
-use crate::{NoMemory, free_word};
+use crate::NoMemory;
+use crate::regions::free_word;
 use ffi3_memory::Region;
 use ffi3_type_rules::Isa;
 use std::alloc::Global;

@@ -37,11 +37,13 @@ module _ (std : Standard) (trace : Bool) (p : Program) (closure : Closure) (argu
   -- THE CALL RAN: its entry was told where it is traced, and what came then is what the direct meaning leaves of the closure's function on these values, with the closures and moves that were left.
   pub record HasRun (b' : Board Standing) (m' : State) (output' : SinkState) (end : RunEnd) : Type 0 where
     pub told : SinkState
-    pub entry : TookText
+    pub entry :
+        TookText
         (entry_lines trace std (signature_at p.signatures closure.sig)
         (entry_at std (signature_at p.signatures closure.sig) m) arguments)
         output told
-    pub ran : Ran p
+    pub ran :
+        Ran p
         (served_base std p.signatures closure.sig m)
         (served_left std p closure arguments m b.table b.moves)
         (served_beginning std (signature_at p.signatures closure.sig) m told

@@ -2,7 +2,7 @@ use Rattle.std.proofs.Common.{◌≡◌, ◌*◌, ◌++◌, drop, length}
 use Rattle.std.specs.List.{repeat}
 use Rattle.ffi3_type_rules.specs.declared.limits.TheConstants.{CODE, CODE_BYTES}
 use Rattle.ffi3_machine.specs.State.{free_word}
-use Rattle.ffi3_machine.proofs.free_slots.Given as goal
+use Rattle.ffi3_machine.proofs.regions.free_slots.Given as goal
 
 abbrev pub invariant-loop-k : goal.invariant-loop-k
 invariant-loop-k l = record {

@@ -3,7 +3,7 @@ use Rattle.ffi3_memory.specs.Memory.{low_bytes, Memory}
 use Rattle.ffi3_type_rules.specs.declared.limits.TheConstants.{CODE}
 use Rattle.ffi3_machine.specs.State.{free_word}
 use Rattle.ffi3_machine.proofs.Slots.{freed-turn, begun_code-is, length-replaced}
-use Rattle.ffi3_machine.proofs.free_slots.Goals as goal
+use Rattle.ffi3_machine.proofs.regions.free_slots.Goals as goal
 
 pub loop-k-preserved : goal.loop-k-preserved
 loop-k-preserved c =

@@ -1,5 +1,5 @@
 use Rattle.ffi3_machine.specs.State.{begun_stack}
-use Rattle.ffi3_machine.proofs.begin_stack.Goals as goal
+use Rattle.ffi3_machine.proofs.regions.begin_stack.Goals as goal
 
 pub returns : goal.returns
 unfolding begun_stack
