@@ -42,24 +42,24 @@ module _ (q : Request) (natives : List NamedNative) (input input' : SourceState)
   left_by : (reads : Bool) → reads_input q ≡ reads → WasGiven reads input bytes input' → (o : Outcome) → IsOutcome q natives bytes o → LeftInput reads o input input'
   left_by true by (gives, count) o is =
       left_as input input' bytes gives o count (accepted_is_short natives q bytes o by is)
-  left_by false by same o is = same
+  left_by false by (same, none) o is = same
 
   pub left_so : WasGiven (reads_input q) input bytes input' → (o : Outcome) → IsOutcome q natives bytes o → LeftInput (reads_input q) o input input'
   left_so given o is = left_by (reads_input q) refl given o is
 
   part_by : (reads : Bool) → WasGiven reads input bytes input' → IsReadInPart input input'
   part_by true (gives, count) = read_in_part input input' bytes gives
-  part_by false same =
+  part_by false (same, none) =
       let P = λ (i : SourceState). IsReadInPart input i in
       subst P (sym same) (0, lit≤ tt, λ all known. known)
 
   count_by : (reads : Bool) → WasGiven reads input bytes input' → input'.faults ≡ input.faults
   count_by true (gives, count) = count
-  count_by false same = ap (λ (i : SourceState). i.faults) same
+  count_by false (same, none) = ap (λ (i : SourceState). i.faults) same
 
   untouched_by : (reads : Bool) → WasGiven reads input bytes input' → reads ≡ false → input' ≡ input
   untouched_by true given by = cc
-  untouched_by false same by = same
+  untouched_by false (same, none) by = same
 
   pub given_in_part : WasGiven (reads_input q) input bytes input' → IsReadInPart input input'
   given_in_part given = part_by (reads_input q) given

@@ -1,5 +1,6 @@
 pub mod Coming
 pub mod Inputs
+pub mod LineEnds
 pub mod Naming
 pub mod Outcomes
 pub mod Pieces

@@ -1,5 +1,5 @@
 -- What a command did with the bytes of its input, and why it ended before its end.
-use Rattle.std.specs.Prelude.{◌≡◌, ◌+◌, ◌⊎◌, ℕ, Bool, true, false, List, codes, Result, Ok, Err}
+use Rattle.std.specs.Prelude.{◌≡◌, ◌+◌, ◌⊎◌, ℕ, Bool, true, false, List, [], codes, Result, Ok, Err}
 use Rattle.ffi3_cdecl.specs.declared.fault.DeclFault.{DeclFault}
 use Rattle.ffi3_cdecl.specs.declared.fault.DeclFault.TheVariants as decl
 use Rattle.ffi3_cdecl_rules.specs.Grammar.{Declaration}
@@ -26,7 +26,7 @@ use Rattle.ffi3_app.specs.Outcome.{Outcome, refuses, located_line, IsOfScript, I
 abbrev pub WasGiven : (reads : Bool) → SourceState → List ℕ → SourceState → Type 0
 WasGiven true input bytes input' =
     GivesFirst (max_length + 1) input.left bytes input'.left × (input'.faults ≡ input.faults)
-WasGiven false input bytes input' = input' ≡ input
+WasGiven false input bytes input' = (input' ≡ input) × (bytes ≡ [])
 
 -- WHAT CAME OF WORK whose outcomes are these: one of them is done; or the input is refused by one of them; or one is done in part
 abbrev pub Works : (Outcome → Type 0) → SinkState → SinkState → State → State → Result ℕ Unfinished → Type 0

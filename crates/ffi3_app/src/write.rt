@@ -1,6 +1,7 @@
 //! Lines to the output.
-ghost use Rattle.std.specs.Prelude.{◌≡◌, ◌<◌, ◌≤◌, ℕ, List, IfOk, length, slice_range};
+ghost use Rattle.std.specs.Prelude.{◌≡◌, ◌+◌, ◌<◌, ◌≤◌, ℕ, List, IfOk, drop, length, slice_range};
 ghost use Rattle.ffi3_io.specs.Written.{Wrote};
+ghost use Rattle.ffi3_app.specs.LineEnds.{line_length};
 
 use ffi3_io::{IoError, Sink, write_line};
 use ffi3_types::{Bytes, NoMemory};
@@ -45,16 +46,17 @@ fn write_piece<O: Sink>(
     write_line(output, &text[start..end])
 }
 
-// Where a line ends, behind its newline. The last may have none.
+// Where the line ends that begins there, behind its newline. The last may have none.
+#[tactic(auto, using(crate::proofs::LineEnds::line_more, crate::proofs::LineEnds::line_stops, crate::proofs::LineEnds::line_ends))]
 fn end_of_line(text: &[u8], start: usize) -> usize
     requires { start < length text.now }
+    ensures is { result ≡ start + line_length (drop start text.now) }
     ensures more { start < result }
     ensures within { result ≤ length text.now }
 {
-    for i in start..text.len() {
-        if text[i] == b'\n' {
-            return i + 1;
-        }
+    let mut at = start;
+    while at < text.len() && text[at] != b'\n' {
+        at += 1;
     }
-    text.len()
+    if at < text.len() { at + 1 } else { at }
 }
