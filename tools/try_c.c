@@ -1,7 +1,7 @@
 // Tries the exports of the C library under the compiler's sanitizers: try_c FILE, with one declaration a line.
 //
-// Each text and each array is a block of its own of the very size, so that a byte too far is found. Texts are whole, cut
-// short, and with one byte changed; arrays have room for nothing up to one element more than is wanted; and each
+// Each text and each array is a block of its own of the very size, so that a byte too far is found. Texts are whole,
+// cut short, and with one byte changed; arrays have room for nothing up to one element more than is wanted; and each
 // allocation of a call is refused in turn. The last line is 'N passed, M failed'.
 #include "ffi3.h"
 
@@ -29,6 +29,29 @@ void *__wrap_realloc(void *block, size_t size)
 {
     return is_refused() ? NULL : __real_realloc(block, size);
 }
+
+#ifdef PLANTED
+// ffi3_place with one of the errors that are to be found; tools/check_c lists them.
+uint32_t __real_ffi3_place(uint32_t target, const char *text, size_t length, struct ffi3_call *call,
+                           struct ffi3_piece *pieces, size_t capacity);
+
+uint32_t __wrap_ffi3_place(uint32_t target, const char *text, size_t length, struct ffi3_call *call,
+                           struct ffi3_piece *pieces, size_t capacity)
+{
+    static void *volatile kept;
+    uint32_t status = __real_ffi3_place(target, text, length, call, pieces, capacity);
+    if (PLANTED == 0 && status == FFI3_OK)
+        pieces[capacity].part = 0;
+    if (PLANTED == 1 && ((const volatile char *)text)[length] == 'x')
+        call->need = 0;
+    if (PLANTED == 2)
+        kept = __real_malloc(8);
+    if (PLANTED == 3 && status == FFI3_TOO_SMALL && capacity)
+        pieces->part = 0;
+    (void)kept;
+    return status;
+}
+#endif
 
 static long passed, failed;
 
@@ -97,14 +120,14 @@ static size_t place(uint32_t target, const char *text, size_t length, size_t roo
     size_t wanted = call->pieces;
     switch (status) {
     case FFI3_OK:
-        check(wanted <= room && is_untouched(pieces + wanted, (room - wanted) * sizeof *pieces), "pieces behind the last",
-              text, length);
+        check(wanted <= room && is_untouched(pieces + wanted, (room - wanted) * sizeof *pieces),
+              "pieces behind the last", text, length);
         for (size_t i = 0; i < wanted; i++) {
             char name[8];
             const struct ffi3_piece *p = pieces + i;
             size_t named = ffi3_register_name(target, p->place, p->number, name, sizeof name);
-            check(is_right_piece(call, i, p) && (p->place == FFI3_STACK ? !named : named && named < sizeof name), "piece",
-                  text, length);
+            check(is_right_piece(call, i, p) && (p->place == FFI3_STACK ? !named : named && named < sizeof name),
+                  "piece", text, length);
         }
         break;
     case FFI3_TOO_SMALL:
@@ -134,8 +157,8 @@ static size_t lay_out(const char *text, size_t length, uint32_t value, size_t ro
     size_t wanted = layout->leaves;
     *arguments = layout->arguments;
     if (status == FFI3_OK) {
-        check(wanted <= room && is_untouched(leaves + wanted, (room - wanted) * sizeof *leaves), "leaves behind the last",
-              text, length);
+        check(wanted <= room && is_untouched(leaves + wanted, (room - wanted) * sizeof *leaves),
+              "leaves behind the last", text, length);
         for (size_t i = 0; i < wanted; i++)
             check(leaves[i].kind <= FFI3_POINTER && leaves[i].offset + leaves[i].size <= layout->size, "leaf", text,
                   length);
