@@ -386,7 +386,7 @@ fn place_all(alloc: Global, sig: &Sig) -> Result<Placed, NoMemory>
     ensures few_vector { IfOk result (λ p. p.taken.vector ≤ 8) }
 {
     let mut before = at_first(result_type(sig));
-    let mut places = Places::new(alloc);
+    let mut places = Places::with_capacity(alloc, count_of(sig) as usize)?;
     for i in 0..count_of(sig) {
         let next = place_argument(alloc, before, argument(sig, i))?;
         before = next.taken;

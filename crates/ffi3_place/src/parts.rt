@@ -63,13 +63,22 @@ pub fn sizes_of(sig: &Sig) -> u64
 
 // ---- types
 
-/// The size of a type without fault, in bytes.
+/// The size of a type without fault, in bytes. Of a scalar it is known at once; that of a struct or an array is a walk over
+/// its elements.
 pub fn size_of(ty: &FfiType) -> u64
     requires { IsLaidOut (tree_of ty.now) }
     ensures value { result ≡ size_of (tree_of ty.now) }
     ensures small { result ≤ LARGEST_TYPE }
 {
-    ty.size()
+    match ty {
+        FfiType::Void | FfiType::LongDouble | FfiType::Complex | FfiType::Vector => 0,
+        FfiType::U8 | FfiType::S8 => 1,
+        FfiType::U16 | FfiType::S16 => 2,
+        FfiType::U32 | FfiType::S32 | FfiType::Float => 4,
+        FfiType::U64 | FfiType::S64 | FfiType::Double | FfiType::Pointer => 8,
+        FfiType::U128 | FfiType::S128 => 16,
+        FfiType::Struct(_) | FfiType::Array(_, _) => ty.size(),
+    }
 }
 
 /// How many doublewords a value takes. The last has what is left where the size is no multiple of 8.

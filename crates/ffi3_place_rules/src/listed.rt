@@ -1,5 +1,5 @@
 // A list of which contracts see the items.
-ghost use Rattle.std.specs.Prelude.{◌≡◌, ◌<◌, ◌++◌, [], ◌∷◌, length, slice_index_or, OnOk, OnErr};
+ghost use Rattle.std.specs.Prelude.{◌≡◌, ◌<◌, ◌++◌, [], ◌∷◌, length, slice_index_or, IfOk, OnOk, OnErr};
 
 use crate::NoMemory;
 use std::alloc::Global;
@@ -27,6 +27,15 @@ impl<T: Drop> Listed<T> {
         Listed {
             items: Vec::new(alloc),
         }
+    }
+
+    /// None, with room for so many.
+    pub fn with_capacity(alloc: Global, capacity: usize) -> Result<Listed<T>, NoMemory>
+        ensures { IfOk result (λ l. l ≡ []) }
+    {
+        Ok(Listed {
+            items: Vec::with_capacity(alloc, capacity)?,
+        })
     }
 
     /// One more. Refused, it drops the item and leaves the list as it was.
