@@ -397,7 +397,7 @@ fn stack_end(before: Taken, classed: &Classed<'_>) -> u64
     }
 }
 
-fn with_argument(before: Taken, classed: &Classed<'_>) -> Taken
+fn taken_with(before: Taken, classed: &Classed<'_>) -> Taken
     requires right { IsLaidOut classed.now }
     requires few_general { before.general ≤ 5 * MOST_ARGUMENTS }
     requires few_vector { before.vector ≤ 5 * MOST_ARGUMENTS }
@@ -428,7 +428,7 @@ fn taken_by_all(sig: &Sig) -> Taken
 {
     let mut before = UNTOUCHED;
     for i in 0..count_of(sig) {
-        before = with_argument(before, &Classed::of(argument(sig, i)));
+        before = taken_with(before, &Classed::of(argument(sig, i)));
     }
     before
 }
@@ -553,14 +553,14 @@ fn place_all(alloc: Global, sig: &Sig, start: u64) -> Result<Placed, NoMemory>
 {
     let mut before = UNTOUCHED;
     let mut end = start;
-    let mut places = Places::new(alloc);
+    let mut places = Places::with_capacity(alloc, count_of(sig) as usize)?;
     for i in 0..count_of(sig) {
         let ty = argument(sig, i);
         let classed = Classed::of(ty);
         let place = place_of(alloc, before, &classed, end)?;
         end = copy_end(&place, ty, end);
         places.push(place)?;
-        before = with_argument(before, &classed);
+        before = taken_with(before, &classed);
     }
     Ok(Placed { places, end })
 }
@@ -670,7 +670,7 @@ impl Abi for Aapcs64 {
 
     const PASSING: u8 = 17;
 
-    fn kept_register(k: u8) -> Loc {
+    fn callee_saved(k: u8) -> Loc {
         CALLEE_SAVED[k as usize]
     }
 

@@ -471,7 +471,7 @@ impl Abi for Amd64 {
 
     const PASSING: u8 = 14;
 
-    fn kept_register(k: u8) -> Loc {
+    fn callee_saved(k: u8) -> Loc {
         Loc::G(PRESERVED_REGISTERS[k as usize])
     }
 
@@ -481,7 +481,7 @@ impl Abi for Amd64 {
 
     fn saved_word(k: u8) -> SaveWord {
         if k < Self::KEPT {
-            SaveWord::Register(Self::kept_register(k))
+            SaveWord::Register(Self::callee_saved(k))
         } else {
             SaveWord::Hidden
         }

@@ -15,7 +15,7 @@ use Rattle.ffi3_place_rules.proofs.Ends.{start-near, even-near}
 use Rattle.ffi3_amd64_rules.specs.Amd64 as amd
 use Rattle.ffi3_aapcs64_rules.specs.Aapcs64 as arm
 use Rattle.ffi3_riscv_rules.specs.declared.Shape.{Shape}
-use Rattle.ffi3_riscv_rules.specs.declared.Used.{Used}
+use Rattle.ffi3_riscv_rules.specs.declared.TakenWords.{TakenWords}
 use Rattle.ffi3_riscv_rules.specs.Riscv as risc
 use Rattle.ffi3_script_rules.specs.Made.{next_state, drawn, made_type, drawn_types, drawn_arguments, state_before, made_types, made_signature}
 use Rattle.ffi3_script_rules.proofs.Made.{drawn_below}
@@ -123,13 +123,13 @@ shape_words : (b : Bool) (s r : Shape) → risc.words_of s ≤ 3 → risc.words_
 shape_words true s r h k = h
 shape_words false s r h k = k
 
-risc_words : (fixed : Option ℕ) (ts : List Tree) (before : Used) (i : ℕ) → AreSmall ts → (risc.used_after fixed before i ts).words ≤ before.words + 4 * length ts
+risc_words : (fixed : Option ℕ) (ts : List Tree) (before : TakenWords) (i : ℕ) → AreSmall ts → (risc.taken_after fixed before i ts).words ≤ before.words + 4 * length ts
 risc_words fixed [] before i small = omega arith
 risc_words fixed (t ∷ ts) before i small =
     let named = risc.is_fixed fixed i in
-    let one = shape_words (named && risc.registers_suffice (risc.used_at_start before named t) (risc.shape_of t)) (risc.shape_of t) (risc.integer_shape t) small.0.words small.0.integer_words in
+    let one = shape_words (named && risc.registers_suffice (risc.taken_at_start before named t) (risc.shape_of t)) (risc.shape_of t) (risc.integer_shape t) small.0.words small.0.integer_words in
     let first = even-near (risc.is_at_even_word named t before.words) before.words in
-    omega (arith, one, first, risc_words fixed ts (risc.used_next before (risc.is_fixed fixed i) t) (i + 1) small.1)
+    omega (arith, one, first, risc_words fixed ts (risc.taken_next before (risc.is_fixed fixed i) t) (i + 1) small.1)
 
 -- ---- the three standards
 
@@ -152,8 +152,8 @@ module _ (n x : ℕ) (few : n ≤ 4) where
 
   risc_need : need_of risc.riscv signature ≤ 16384
   risc_need =
-      let begun : (risc.used_at_first (scalar u64)).words ≤ 1 = either (risc.is_by_reference (risc.result_shape (scalar u64))) 1 0 1 (omega arith) (omega arith) in
-      need_few risc.riscv signature start-near small_word.size (small_types n x) few_arguments (omega (arith, risc_words None signature.arguments (risc.used_at_first (scalar u64)) 0 (small_types n x), few_arguments, begun)) (lit≤ tt)
+      let begun : (risc.taken_at_first (scalar u64)).words ≤ 1 = either (risc.is_by_reference (risc.result_shape (scalar u64))) 1 0 1 (omega arith) (omega arith) in
+      need_few risc.riscv signature start-near small_word.size (small_types n x) few_arguments (omega (arith, risc_words None signature.arguments (risc.taken_at_first (scalar u64)) 0 (small_types n x), few_arguments, begun)) (lit≤ tt)
 
 drawn_little : (std : Standard) → ((n x : ℕ) → n ≤ 4 → need_of std (made_signature (drawn_types n x)) ≤ 16384) → (x : ℕ) → need_of std (made_signature (drawn_arguments x)) ≤ 16384
 drawn_little std need x =

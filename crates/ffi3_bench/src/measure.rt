@@ -10,7 +10,7 @@ ghost use Rattle.ffi3_bench.specs.BenchText.{greatest, calls_of, moves_of, need_
 
 use crate::line::LineSink;
 use ffi3_ask::Native;
-use ffi3_board::Cifs;
+use ffi3_configuration::Cifs;
 use ffi3_machine::Machine;
 use ffi3_place::Abi;
 use ffi3_runner::{RunEnd, Runner};

@@ -279,7 +279,7 @@ fn word_at(event: &Event, at: Loc) -> u64 {
 /// Whether the return has each preserved register of the entry.
 pub fn gives_back<A: Abi>(came: &Came) -> bool {
     for k in 0..A::KEPT {
-        let at = A::kept_register(k);
+        let at = A::callee_saved(k);
         if word_at(&came.entry, at) != word_at(&came.leave, at) {
             return false;
         }

@@ -3,7 +3,7 @@ ghost use Rattle.std.specs.Prelude.{◌≡◌};
 ghost use Rattle.ffi3_image.specs.FaultOf.{fault_of, reason_of};
 ghost use Rattle.ffi3_image.specs.Tells.{Tells};
 
-use ffi3_json::{Reason, ScriptFault, Way, Where};
+use ffi3_json::{JsonPath, Reason, ScriptFault, Where};
 use std::alloc::Global;
 use thiserror::Error;
 
@@ -37,7 +37,7 @@ pub enum ImageFault {
 }
 
 // The fault of the value at a place, or a want of memory.
-pub(crate) fn bad(alloc: Global, at: &Way, why: ImageReason) -> ImageFault
+pub(crate) fn bad(alloc: Global, at: &JsonPath, why: ImageReason) -> ImageFault
     ensures { Tells (λ p r. (p ≡ at.now) × (r ≡ reason_of why)) result }
 {
     match at.owned(alloc) {
@@ -47,7 +47,7 @@ pub(crate) fn bad(alloc: Global, at: &Way, why: ImageReason) -> ImageFault
 }
 
 // The same for a reason that scripts have too.
-pub(crate) fn bad_as_in_scripts(alloc: Global, at: &Way, why: Reason) -> ImageFault
+pub(crate) fn bad_as_in_scripts(alloc: Global, at: &JsonPath, why: Reason) -> ImageFault
     ensures { Tells (λ p r. (p ≡ at.now) × (r ≡ reason_of (ImageReason.AsInScripts why))) result }
 {
     bad(alloc, at, ImageReason::AsInScripts(why))

@@ -15,7 +15,7 @@ use crate::fault::{bad_as_in_scripts, of_script};
 use crate::parts::{read_bytes, read_registers, read_target, read_word, text_under};
 use ffi3_explain::Image;
 use ffi3_json::{
-    Key, Node, Reason, Way, Where, check_object_at, parse, read_signature_at, required,
+    JsonPath, Key, Node, Reason, Where, check_object_at, parse, read_signature_at, required,
 };
 use ffi3_type_rules::Target;
 use ffi3_types::Sig;
@@ -44,7 +44,7 @@ fn snapshot_keys() -> [Key<'static>; 6]
 }
 
 // Whether the value is an object with these keys and no others.
-fn check_keys(alloc: Global, value: &Node, at: &Way) -> Result<(), ImageFault>
+fn check_keys(alloc: Global, value: &Node, at: &JsonPath) -> Result<(), ImageFault>
     ensures ok { IfOk result (λ u. object.of_script (language.check_object value.now snapshot_keys at.now) ≡ read tt) }
     ensures err { IfErr result (Tells (λ p r. object.of_script (language.check_object value.now snapshot_keys at.now) ≡ object.fault p r)) }
 {
@@ -55,7 +55,7 @@ fn check_keys(alloc: Global, value: &Node, at: &Way) -> Result<(), ImageFault>
 }
 
 // The signature that stands under a key. One that is not there is read as null.
-fn read_sig(alloc: Global, value: &Node, at: &Way) -> Result<Sig, ImageFault>
+fn read_sig(alloc: Global, value: &Node, at: &JsonPath) -> Result<Sig, ImageFault>
     ensures ok { IfOk result (λ s. object.of_script (language.read_signature signature_version (value_under (codes "sig") value.now) (under at.now (codes "sig"))) ≡ read s) }
     ensures right { IfOk result SignatureHasNoFault }
     ensures err { IfErr result (Tells (λ p r. object.of_script (language.read_signature signature_version (value_under (codes "sig") value.now) (under at.now (codes "sig"))) ≡ object.fault p r)) }
@@ -71,7 +71,7 @@ fn read_sig(alloc: Global, value: &Node, at: &Way) -> Result<Sig, ImageFault>
 }
 
 // The stack pointer, the registers and the bytes of the stack.
-fn read_image(alloc: Global, value: &Node, at: &Way) -> Result<Image, ImageFault>
+fn read_image(alloc: Global, value: &Node, at: &JsonPath) -> Result<Image, ImageFault>
     requires { at.now ≡ root }
     ensures ok { IfOk result (λ m. object.read_image value.now ≡ read (image_of m)) }
     ensures err { IfErr result (Tells (λ p r. object.read_image value.now ≡ object.fault p r)) }
@@ -100,7 +100,7 @@ fn read_image(alloc: Global, value: &Node, at: &Way) -> Result<Image, ImageFault
 }
 
 // The whole object, at the root.
-fn read_object(alloc: Global, value: &Node, at: &Way) -> Result<Snapshot, ImageFault>
+fn read_object(alloc: Global, value: &Node, at: &JsonPath) -> Result<Snapshot, ImageFault>
     requires { at.now ≡ root }
     ensures ok { IfOk result (λ s. object.read_snapshot value.now ≡ read (snapshot_of s)) }
     ensures right { IfOk result (λ s. SignatureHasNoFault s.sig) }
@@ -138,5 +138,5 @@ pub fn read_snapshot(alloc: Global, bytes: &[u8]) -> Result<Snapshot, ImageFault
         Err(fault) => return Err(of_script(fault)),
     };
     let start = Where::new(alloc);
-    read_object(alloc, &Node::of(&value), &Way::from(&start))
+    read_object(alloc, &Node::of(&value), &JsonPath::from(&start))
 }

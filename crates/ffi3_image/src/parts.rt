@@ -6,7 +6,7 @@ ghost use Rattle.ffi3_image.specs.Tells.{Tells};
 
 use crate::fault::{bad, bad_as_in_scripts};
 use crate::{ImageFault, ImageReason};
-use ffi3_json::{Node, Nodes, Reason, Way};
+use ffi3_json::{JsonPath, Node, Nodes, Reason};
 use ffi3_type_rules::Target;
 use ffi3_types::Bytes;
 use hex::{FromHex, FromHexError};
@@ -46,7 +46,11 @@ fn target_named(name: &str) -> Option<Target>
 }
 
 // The target that a text is the word of.
-pub(crate) fn read_target(alloc: Global, text: Option<&str>, at: &Way) -> Result<Target, ImageFault>
+pub(crate) fn read_target(
+    alloc: Global,
+    text: Option<&str>,
+    at: &JsonPath,
+) -> Result<Target, ImageFault>
     ensures ok { IfOk result (λ t. object.read_target (option_map (λ s. s.now) text.entry) at.now ≡ read t) }
     ensures err { IfErr result (Tells (λ p r. object.read_target (option_map (λ s. s.now) text.entry) at.now ≡ object.fault p r)) }
 {
@@ -60,7 +64,7 @@ pub(crate) fn read_target(alloc: Global, text: Option<&str>, at: &Way) -> Result
 }
 
 // The number that a text of 16 hexadecimal digits is.
-pub(crate) fn read_word(alloc: Global, text: Option<&str>, at: &Way) -> Result<u64, ImageFault>
+pub(crate) fn read_word(alloc: Global, text: Option<&str>, at: &JsonPath) -> Result<u64, ImageFault>
     ensures ok { IfOk result (λ w. object.read_word (option_map (λ s. s.now) text.entry) at.now ≡ read w) }
     ensures err { IfErr result (Tells (λ p r. object.read_word (option_map (λ s. s.now) text.entry) at.now ≡ object.fault p r)) }
 {
@@ -74,7 +78,7 @@ pub(crate) fn read_word(alloc: Global, text: Option<&str>, at: &Way) -> Result<u
 }
 
 // The numbers that the items of an array are.
-fn read_words(alloc: Global, items: &Nodes, at: &Way) -> Result<Vec<u64>, ImageFault>
+fn read_words(alloc: Global, items: &Nodes, at: &JsonPath) -> Result<Vec<u64>, ImageFault>
     ensures ok { IfOk result (λ ws. object.read_words items.now at.now 0 ≡ read ws.items) }
     ensures err { IfErr result (Tells (λ p r. object.read_words items.now at.now 0 ≡ object.fault p r)) }
 {
@@ -97,7 +101,7 @@ pub(crate) fn read_registers(
     alloc: Global,
     value: &Node,
     name: &str,
-    at: &Way,
+    at: &JsonPath,
 ) -> Result<[u64; 32], ImageFault>
     ensures ok { IfOk result (λ ws. object.read_registers (object.items_under name.now value.now) at.now ≡ read ws) }
     ensures err { IfErr result (Tells (λ p r. object.read_registers (object.items_under name.now value.now) at.now ≡ object.fault p r)) }
@@ -119,7 +123,11 @@ pub(crate) fn read_registers(
 }
 
 // The bytes that a text of two hexadecimal digits for each is.
-pub(crate) fn read_bytes(alloc: Global, text: Option<&str>, at: &Way) -> Result<Bytes, ImageFault>
+pub(crate) fn read_bytes(
+    alloc: Global,
+    text: Option<&str>,
+    at: &JsonPath,
+) -> Result<Bytes, ImageFault>
     ensures ok { IfOk result (λ bytes. object.read_bytes (option_map (λ s. s.now) text.entry) at.now ≡ read bytes) }
     ensures err { IfErr result (Tells (λ p r. object.read_bytes (option_map (λ s. s.now) text.entry) at.now ≡ object.fault p r)) }
 {

@@ -14,7 +14,7 @@ use crate::fault::{bad, bad_as_in_scripts};
 use crate::{ImageFault, ImageReason};
 use ffi3_cif::Cif;
 use ffi3_explain::{Image, least_stack};
-use ffi3_json::{Reason, Way, Where};
+use ffi3_json::{JsonPath, Reason, Where};
 use ffi3_place::{Abi, Res};
 use std::alloc::Global;
 
@@ -26,7 +26,7 @@ fn check_room(alloc: Global, image: &Image, reach: u64, least: u64) -> Result<()
     ensures enough { IfOk result (λ u. least ≤ length image.now.stack) }
 {
     let start = Where::new(alloc);
-    let root = Way::from(&start);
+    let root = JsonPath::from(&start);
     if image.sp > u64::MAX - reach {
         return Err(bad_as_in_scripts(alloc, &root.key("sp"), Reason::OutOfRange));
     }

@@ -3,8 +3,8 @@ use Rattle.std.specs.Prelude.{string_bytes}
 use Rattle.ffi3_script_rules.specs.Step.{PathStep, key, number}
 use Rattle.ffi3_json.specs.declared.place.Step.{Step}
 use Rattle.ffi3_json.specs.declared.place.Step.TheVariants.{Key, Number}
-use Rattle.ffi3_json.specs.declared.way.BorrowedStep.{BorrowedStep}
-use Rattle.ffi3_json.specs.declared.way.BorrowedStep.TheVariants as borrowed
+use Rattle.ffi3_json.specs.declared.json_path.BorrowedStep.{BorrowedStep}
+use Rattle.ffi3_json.specs.declared.json_path.BorrowedStep.TheVariants as borrowed
 
 abbrev pub step_of : Step → PathStep
 step_of (Key k) = key (string_bytes k)

@@ -3,7 +3,7 @@ ghost use Rattle.std.specs.Prelude.{◌≡◌};
 ghost use Rattle.ffi3_json.specs.ReasonOf.{reason_of};
 ghost use Rattle.ffi3_json.specs.Reports.{Reports};
 
-use crate::{NoMemory, Reason, Way, Where};
+use crate::{JsonPath, NoMemory, Reason, Where};
 use std::alloc::Global;
 use thiserror::Error;
 
@@ -35,7 +35,7 @@ impl From<NoMemory> for ScriptFault {
 }
 
 /// The fault of the value at a place, or a want of memory.
-pub fn bad(alloc: Global, at: &Way, why: Reason) -> ScriptFault
+pub fn bad(alloc: Global, at: &JsonPath, why: Reason) -> ScriptFault
     ensures { Reports (λ p r. (p ≡ at.now) × (r ≡ reason_of why)) result }
 {
     match at.owned(alloc) {

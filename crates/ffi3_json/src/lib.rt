@@ -4,6 +4,7 @@
 mod borrowed;
 mod document;
 mod fault;
+mod json_path;
 mod json_ref;
 mod keys;
 mod members;
@@ -15,7 +16,6 @@ mod reason;
 mod signature;
 mod text;
 mod types;
-mod way;
 
 pub use document::parse;
 pub use fault::{ScriptFault, bad};
@@ -30,11 +30,11 @@ pub use object::{check_object, check_object_at};
 pub use place::{Step, Where};
 pub use reason::{Reason, reason_text};
 /// A JSON value.
+pub use json_path::JsonPath;
 pub use serde_json::Value as Json;
 pub use signature::{bad_type, read_signature, read_signature_at, reason_of_signature};
 pub use text::Document;
 pub use types::{read_type, read_type_at};
-pub use way::Way;
 
 /// The greatest length of a script in bytes.
 pub const MAX_LENGTH: usize = ffi3_type_rules::limits::LONGEST_SCRIPT as usize;

@@ -10,7 +10,7 @@ ghost use Rattle.ffi3_json.specs.Reports.{Reports};
 use crate::fault::bad;
 use crate::json_ref::JsonRef;
 use crate::keys::first_missing;
-use crate::{Json, Key, Keys, Node, Reason, ScriptFault, Way, Where};
+use crate::{Json, JsonPath, Key, Keys, Node, Reason, ScriptFault, Where};
 use std::alloc::Global;
 
 /// Whether the value is an object, has no key but these, and each that is not optional. The first of this that is not
@@ -23,7 +23,7 @@ pub fn check_object(alloc: Global, value: &Json, keys: &Keys, at: &Where) -> Res
         alloc,
         JsonRef::Owned(value),
         keys.as_slice(),
-        &Way::from(at),
+        &JsonPath::from(at),
     )
 }
 
@@ -32,7 +32,7 @@ pub fn check_object_at(
     alloc: Global,
     value: &Node,
     keys: &[Key],
-    at: &Way,
+    at: &JsonPath,
 ) -> Result<(), ScriptFault>
     ensures ok { OnOk result (language.check_object value.now (map key_of keys.now) at.now ≡ read tt) }
     ensures err { IfErr result
@@ -42,7 +42,12 @@ pub fn check_object_at(
 }
 
 // The same of a value by reference.
-fn check_reference(alloc: Global, value: JsonRef, keys: &[Key], at: &Way) -> Result<(), ScriptFault>
+fn check_reference(
+    alloc: Global,
+    value: JsonRef,
+    keys: &[Key],
+    at: &JsonPath,
+) -> Result<(), ScriptFault>
     requires { IsInRange value }
     ensures ok { OnOk result (language.check_object (data_of value.entry) (map key_of keys.now) at.now ≡ read tt) }
     ensures err { IfErr result

@@ -18,7 +18,7 @@ ghost use Rattle.ffi3_json.specs.Reports.{Reports};
 use crate::fault::bad;
 use crate::object::check_object_at;
 use crate::types::{read_count, read_list, read_type_at};
-use crate::{Json, Key, NoMemory, Node, Reason, ScriptFault, Way, Where, optional, required};
+use crate::{Json, JsonPath, Key, NoMemory, Node, Reason, ScriptFault, Where, optional, required};
 use ffi3_cdecl::{DeclFault, read_decl};
 use ffi3_types::{At, FfiType, Fields, Path, Sig, SigFault, TypeFault, check_sig};
 use std::alloc::Global;
@@ -44,14 +44,14 @@ pub fn read_signature(
     ensures right { IfOk result SignatureHasNoFault }
     ensures first { IfErr result (Reports (IsNoSignature version (view value.now) at.now)) }
 {
-    read_signature_at(alloc, &Node::of(value), &Way::from(at), version)
+    read_signature_at(alloc, &Node::of(value), &JsonPath::from(at), version)
 }
 
 /// The same, at a place on the way to a value.
 pub fn read_signature_at(
     alloc: Global,
     value: &Node,
-    at: &Way,
+    at: &JsonPath,
     version: u8,
 ) -> Result<Sig, ScriptFault>
     ensures ok { IfOk result (λ s. language.read_signature version value.now at.now ≡ read s) }
@@ -78,7 +78,7 @@ fn declaration_in<'t>(value: &Node<'t, '_>, version: u8) -> Option<&'t str>
 
 // The signature of the function that a text declares. Its name says nothing here.
 #[tactic(auto, using(crate::proofs::Signatures::declared, crate::proofs::Signatures::tells_declaration))]
-fn read_declared(alloc: Global, text: &str, place: &Way) -> Result<Sig, ScriptFault>
+fn read_declared(alloc: Global, text: &str, place: &JsonPath) -> Result<Sig, ScriptFault>
     ensures ok { IfOk result (λ s. declared_signature place.now (declaration.read text.now) ≡ read s) }
     ensures err { IfErr result (Reports (λ p r. declared_signature place.now (declaration.read text.now) ≡ language.fault p r)) }
 {
@@ -93,14 +93,14 @@ fn read_declared(alloc: Global, text: &str, place: &Way) -> Result<Sig, ScriptFa
 }
 
 // The fault at an offset in the text at a place, which is no declaration.
-fn bad_declaration(alloc: Global, place: &Way, at: u64) -> ScriptFault
+fn bad_declaration(alloc: Global, place: &JsonPath, at: u64) -> ScriptFault
     ensures { Reports (λ p r. (p ≡ place.now) × (r ≡ language.bad_declaration at)) result }
 {
     bad(alloc, place, Reason::BadDeclaration { at })
 }
 
 // The signature that an object is: its shapes, and only then its own first fault.
-fn read_object(alloc: Global, value: &Node, at: &Way, version: u8) -> Result<Sig, ScriptFault>
+fn read_object(alloc: Global, value: &Node, at: &JsonPath, version: u8) -> Result<Sig, ScriptFault>
     ensures ok { IfOk result (λ s. object_signature version value.now at.now ≡ read s) }
     ensures err { IfErr result (Reports (λ p r. object_signature version value.now at.now ≡ language.fault p r)) }
 {
@@ -112,7 +112,7 @@ fn read_object(alloc: Global, value: &Node, at: &Way, version: u8) -> Result<Sig
 }
 
 // The shapes of a signature.
-fn read_shapes(alloc: Global, value: &Node, at: &Way, version: u8) -> Result<Sig, ScriptFault>
+fn read_shapes(alloc: Global, value: &Node, at: &JsonPath, version: u8) -> Result<Sig, ScriptFault>
     ensures ok { IfOk result (λ s. read_shapes version value.now at.now ≡ read s) }
     ensures err { IfErr result (Reports (λ p r. read_shapes version value.now at.now ≡ language.fault p r)) }
 {
@@ -131,7 +131,7 @@ fn signature_keys() -> [Key<'static>; 3]
 }
 
 // The shape of the result. One that is not there is read as null.
-fn read_ret(alloc: Global, value: &Node, at: &Way, version: u8) -> Result<FfiType, ScriptFault>
+fn read_ret(alloc: Global, value: &Node, at: &JsonPath, version: u8) -> Result<FfiType, ScriptFault>
     ensures ok { IfOk result (λ t. read_type version (value_under (codes "ret") value.now) (under at.now (codes "ret")) ≡ read (tree_of t)) }
     ensures err { IfErr result (Reports (λ p r. read_type version (value_under (codes "ret") value.now) (under at.now (codes "ret")) ≡ language.fault p r)) }
 {
@@ -143,7 +143,7 @@ fn read_ret(alloc: Global, value: &Node, at: &Way, version: u8) -> Result<FfiTyp
 }
 
 // The shapes of the arguments. An array that is not there is read as null.
-fn read_args(alloc: Global, value: &Node, at: &Way, version: u8) -> Result<Fields, ScriptFault>
+fn read_args(alloc: Global, value: &Node, at: &JsonPath, version: u8) -> Result<Fields, ScriptFault>
     ensures ok { IfOk result (λ ts. read_types version (value_under (codes "args") value.now) (under at.now (codes "args")) ≡ read ts) }
     ensures err { IfErr result (Reports (λ p r. read_types version (value_under (codes "args") value.now) (under at.now (codes "args")) ≡ language.fault p r)) }
 {
@@ -155,7 +155,7 @@ fn read_args(alloc: Global, value: &Node, at: &Way, version: u8) -> Result<Field
 }
 
 // The number of fixed arguments, where there is one.
-fn read_fixed(alloc: Global, value: &Node, at: &Way) -> Result<Option<u32>, ScriptFault>
+fn read_fixed(alloc: Global, value: &Node, at: &JsonPath) -> Result<Option<u32>, ScriptFault>
     ensures ok { IfOk result (λ n. read_fixed (get (codes "fixed") value.now) (under at.now (codes "fixed")) ≡ read n) }
     ensures err { IfErr result (Reports (λ p r. read_fixed (get (codes "fixed") value.now) (under at.now (codes "fixed")) ≡ language.fault p r)) }
 {
@@ -167,7 +167,7 @@ fn read_fixed(alloc: Global, value: &Node, at: &Way) -> Result<Option<u32>, Scri
 }
 
 // A fault of the signature at a place, as that of a script.
-fn told(alloc: Global, at: &Way, sig: &Sig, fault: &SigFault) -> ScriptFault
+fn told(alloc: Global, at: &JsonPath, sig: &Sig, fault: &SigFault) -> ScriptFault
     requires { IsSignatureFault sig.now (signature_fault_of fault.now) }
     ensures { Reports (λ p r. (p ≡ place_of_fault at.now sig.now (signature_fault_of fault.now)) × (r ≡ reason_of_fault (signature_fault_of fault.now))) result }
 {
@@ -203,7 +203,7 @@ pub fn reason_of_signature(fault: &SigFault) -> Reason
 }
 
 /// The fault of the type at a place, as that of a script.
-pub fn bad_type(alloc: Global, at: &Way, ty: &FfiType, fault: &TypeFault) -> ScriptFault
+pub fn bad_type(alloc: Global, at: &JsonPath, ty: &FfiType, fault: &TypeFault) -> ScriptFault
     ensures { Reports (λ p r. (p ≡ inside_type at.now (tree_of ty.now) (path_of fault.now)) × (r ≡ reason_of_type_fault (fault_of fault.now))) result }
 {
     match place_inside(alloc, at, ty, fault.path()) {
@@ -216,7 +216,7 @@ pub fn bad_type(alloc: Global, at: &Way, ty: &FfiType, fault: &TypeFault) -> Scr
 }
 
 // Where the node in a type stands that the way leads to.
-fn place_inside(alloc: Global, at: &Way, ty: &FfiType, way: &Path) -> Result<Where, NoMemory>
+fn place_inside(alloc: Global, at: &JsonPath, ty: &FfiType, way: &Path) -> Result<Where, NoMemory>
     ensures { IfOk result (λ w. w ≡ inside_type at.now (tree_of ty.now) way.now) }
 {
     let mut place = at.owned(alloc)?;

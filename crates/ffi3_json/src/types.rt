@@ -7,7 +7,7 @@ ghost use Rattle.ffi3_types.specs.TreeOf.{tree_of};
 ghost use Rattle.ffi3_json.specs.Reports.{Reports};
 
 use crate::fault::bad;
-use crate::{Json, Node, Reason, ScriptFault, Way, Where};
+use crate::{Json, JsonPath, Node, Reason, ScriptFault, Where};
 use ffi3_types::{FfiType, Fields};
 use std::alloc::Global;
 
@@ -24,7 +24,7 @@ pub fn read_type(
     ensures ok { IfOk result (λ t. language.read_type version (view value.now) at.now ≡ read (tree_of t)) }
     ensures err { IfErr result (Reports (λ p r. language.read_type version (view value.now) at.now ≡ language.fault p r)) }
 {
-    read_type_at(alloc, &Node::of(value), &Way::from(at), version)
+    read_type_at(alloc, &Node::of(value), &JsonPath::from(at), version)
 }
 
 /// The same, at a place on the way to a value.
@@ -32,7 +32,7 @@ pub fn read_type(
 pub fn read_type_at(
     alloc: Global,
     value: &Node,
-    at: &Way,
+    at: &JsonPath,
     version: u8,
 ) -> Result<FfiType, ScriptFault>
     ensures ok { IfOk result (λ t. language.read_type version value.now at.now ≡ read (tree_of t)) }
@@ -71,7 +71,12 @@ fn has_arrays(version: u8) -> bool
 
 // An array, by what stands under its key: its element type, which is read first, and how many elements it has.
 #[cycle(types)]
-fn read_array(alloc: Global, value: &Node, at: &Way, version: u8) -> Result<FfiType, ScriptFault>
+fn read_array(
+    alloc: Global,
+    value: &Node,
+    at: &JsonPath,
+    version: u8,
+) -> Result<FfiType, ScriptFault>
     ensures ok { IfOk result (λ t. language.read_array version value.now at.now ≡ read (tree_of t)) }
     ensures err { IfErr result (Reports (λ p r. language.read_array version value.now at.now ≡ language.fault p r)) }
 {
@@ -90,7 +95,7 @@ fn read_array(alloc: Global, value: &Node, at: &Way, version: u8) -> Result<FfiT
 }
 
 /// The integer from 0 to 4294967295 that the value at a place is.
-pub(crate) fn read_count(alloc: Global, value: &Node, at: &Way) -> Result<u32, ScriptFault>
+pub(crate) fn read_count(alloc: Global, value: &Node, at: &JsonPath) -> Result<u32, ScriptFault>
     ensures ok { IfOk result (λ n. language.read_count value.now at.now ≡ read n) }
     ensures err { IfErr result (Reports (λ p r. language.read_count value.now at.now ≡ language.fault p r)) }
 {
@@ -109,7 +114,7 @@ pub(crate) fn read_count(alloc: Global, value: &Node, at: &Way) -> Result<u32, S
 pub(crate) fn read_list(
     alloc: Global,
     value: &Node,
-    at: &Way,
+    at: &JsonPath,
     version: u8,
 ) -> Result<Fields, ScriptFault>
     ensures ok { IfOk result (λ ts. language.read_types version value.now at.now ≡ read ts) }

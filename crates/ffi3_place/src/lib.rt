@@ -49,7 +49,7 @@ pub trait Abi {
     const PASSING: u8;
 
     /// Preserved register `k`.
-    fn kept_register(k: u8) -> Loc
+    fn callee_saved(k: u8) -> Loc
         requires { k < KEPT }
         ensures { result ≡ slice_index_or standard.preserved k result };
 

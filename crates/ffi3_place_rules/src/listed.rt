@@ -5,7 +5,7 @@ use crate::NoMemory;
 use std::alloc::Global;
 use std::marker::Model;
 
-/// Things of one kind, in order.
+/// A vector of which contracts see the items, in order: pieces of a value, places of arguments, leaves of a layout.
 #[derive(Debug, Drop)]
 pub struct Listed<T: Drop> {
     items: Vec<T>,

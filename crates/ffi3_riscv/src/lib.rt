@@ -11,7 +11,7 @@ ghost use Rattle.ffi3_type_rules.specs.Signature.{SignatureHasNoFault};
 ghost use Rattle.ffi3_types.specs.TreeOf.{tree_of};
 ghost use Rattle.ffi3_place_rules.specs.Standard.{place_at, copy_end, places_from, copies_end, result_at, buffer_end, round8};
 ghost use Rattle.ffi3_place_rules.specs.Doublewords.{doublewords};
-ghost use Rattle.ffi3_riscv_rules.specs.Riscv.{riscv, is_word_integer, shape_of_two, shape_of_leaves, shape_of, words_of, floats_of, registers_suffice, passed_as, word, extension, boxing, floating_piece, integer_piece, word_pieces, spot_of, is_fixed, is_at_even_word, first_word, used_at_start, used_with, used_at_first, used_by_all, spots_after, result_shape, result_spot_of, is_by_reference, stack_of, unused};
+ghost use Rattle.ffi3_riscv_rules.specs.Riscv.{riscv, is_word_integer, shape_of_two, shape_of_leaves, shape_of, words_of, floats_of, registers_suffice, passed_as, word, extension, boxing, floating_piece, integer_piece, word_pieces, spot_of, is_fixed, is_at_even_word, first_word, taken_at_start, taken_with, taken_at_first, taken_by_all, spots_after, result_shape, result_spot_of, is_by_reference, stack_of, untouched};
 ghost use Rattle.ffi3_riscv_rules.specs.declared.Shape.{Shape};
 ghost use Rattle.ffi3_riscv_rules.specs.declared.Shape.TheVariants.{OneF, Words, ByRef};
 ghost use Rattle.ffi3_riscv_rules.proofs.Shapes.{Suits, HasRoom};
@@ -25,7 +25,7 @@ use ffi3_place::parts::{
 };
 use ffi3_place::{Abi, Ext, Loc, Piece, Pieces, Place, Places, Plan, Res, SaveWord};
 pub use ffi3_riscv_rules::Shape;
-use ffi3_riscv_rules::Used;
+use ffi3_riscv_rules::TakenWords;
 use ffi3_type_rules::round_up;
 use ffi3_types::{FfiType, NoMemory, Sig, Target};
 pub use laws::placement_laws;
@@ -186,7 +186,7 @@ fn floats_of(shape: Shape) -> u64
 }
 
 /// Whether enough registers are free for a value of this shape.
-fn registers_suffice(before: Used, shape: Shape) -> bool
+fn registers_suffice(before: TakenWords, shape: Shape) -> bool
     requires few { before.floats ≤ 8 }
     requires low { before.words ≤ 16 * MOST_ARGUMENTS }
     ensures { result ≡ registers_suffice before shape }
@@ -201,8 +201,8 @@ fn registers_suffice(before: Used, shape: Shape) -> bool
     }
 }
 
-/// How an argument is passed, by what is used where it begins.
-fn passed_as(before: Used, fixed: bool, found: Found) -> Shape
+/// How an argument is passed, by what is taken where it begins.
+fn passed_as(before: TakenWords, fixed: bool, found: Found) -> Shape
     requires few { before.floats ≤ 8 }
     requires low { before.words ≤ 16 * MOST_ARGUMENTS }
     requires small { words_of found.shape ≤ 2 }
@@ -239,26 +239,26 @@ fn first_word(fixed: bool, found: Found, end: u64) -> u64
     }
 }
 
-/// What is used where an argument begins, behind others.
-fn at_start(end: Used, fixed: bool, found: Found) -> Used
+/// What is taken where an argument begins, behind others.
+fn at_start(end: TakenWords, fixed: bool, found: Found) -> TakenWords
     requires { end.words ≤ 16 * MOST_ARGUMENTS }
-    ensures value { (t : Tree) → IsFound t found → result ≡ used_at_start end fixed t }
+    ensures value { (t : Tree) → IsFound t found → result ≡ taken_at_start end fixed t }
     ensures near { result.words ≤ end.words + 1 }
     ensures same { result.floats ≡ end.floats }
 {
-    Used {
+    TakenWords {
         words: first_word(fixed, found, end.words),
         floats: end.floats,
     }
 }
 
-fn used_with(before: Used, shape: Shape) -> Used
+fn taken_with(before: TakenWords, shape: Shape) -> TakenWords
     requires few { before.floats ≤ 8 }
     requires low { before.words ≤ 16 * MOST_ARGUMENTS }
     requires small { words_of shape ≤ 2 }
-    ensures { result ≡ used_with before shape }
+    ensures { result ≡ taken_with before shape }
 {
-    Used {
+    TakenWords {
         words: before.words + words_of(shape),
         floats: before.floats + floats_of(shape),
     }
@@ -356,7 +356,7 @@ fn two_pieces(alloc: Global, first: Piece, second: Piece) -> Result<Pieces, NoMe
 /// Where a value of a shape stands, behind others. What stands before its copy ends `end` bytes from the frame's start.
 fn place_of(
     alloc: Global,
-    before: Used,
+    before: TakenWords,
     ty: &FfiType,
     shape: Shape,
     end: u64,
@@ -406,7 +406,7 @@ fn is_fixed(sig: &Sig, i: u32) -> bool
     }
 }
 
-const UNUSED: Used = Used {
+const UNTOUCHED: TakenWords = TakenWords {
     words: 0,
     floats: 0,
 };
@@ -416,17 +416,17 @@ fn result_shape(ty: &FfiType) -> Shape
     requires { IsLaidOut (tree_of ty.now) }
     ensures { result ≡ result_shape (tree_of ty.now) }
 {
-    passed_as(UNUSED, true, found_of(ty))
+    passed_as(UNTOUCHED, true, found_of(ty))
 }
 
 /// The hidden pointer to a result's buffer takes the first word.
-fn at_first(ty: &FfiType) -> Used
+fn at_first(ty: &FfiType) -> TakenWords
     requires { IsLaidOut (tree_of ty.now) }
-    ensures value { result ≡ used_at_first (tree_of ty.now) }
+    ensures value { result ≡ taken_at_first (tree_of ty.now) }
     ensures one { result.words ≤ 1 }
     ensures none { result.floats ≡ 0 }
 {
-    Used {
+    TakenWords {
         words: if let Shape::ByRef = result_shape(ty) {
             1
         } else {
@@ -436,10 +436,10 @@ fn at_first(ty: &FfiType) -> Used
     }
 }
 
-/// What all arguments use.
-fn used_by_all(sig: &Sig) -> Used
+/// What all arguments take.
+fn taken_by_all(sig: &Sig) -> TakenWords
     requires { SignatureHasNoFault sig.now }
-    ensures value { result ≡ used_by_all sig.now }
+    ensures value { result ≡ taken_by_all sig.now }
     ensures low { result.words ≤ 3 * MOST_ARGUMENTS + 1 }
 {
     let mut end = at_first(result_type(sig));
@@ -449,13 +449,13 @@ fn used_by_all(sig: &Sig) -> Used
         let found = found_of(ty);
         let before = at_start(end, fixed, found);
         let shape = passed_as(before, fixed, found);
-        end = used_with(before, shape);
+        end = taken_with(before, shape);
     }
     end
 }
 
 /// The bytes of the words that stand on the stack.
-fn stack_of(used: Used) -> u64
+fn stack_of(used: TakenWords) -> u64
     requires { used.words ≤ 16 * MOST_ARGUMENTS }
     ensures value { result ≡ stack_of used }
     ensures small { result ≤ 8 * used.words }
@@ -474,16 +474,17 @@ struct Placed {
     end: u64,
 }
 
+/// The places of all arguments, if the copies stand from `start` on.
 fn place_all(alloc: Global, sig: &Sig, start: u64) -> Result<Placed, NoMemory>
     requires right { SignatureHasNoFault sig.now }
     requires near { start ≤ 32 * MOST_ARGUMENTS }
-    ensures places { IfOk result (λ p. p.places ≡ places_from riscv.copy_start start sig.now.arguments (spots_after sig.now.fixed (used_at_first sig.now.result_type) 0 sig.now.arguments)) }
-    ensures end { IfOk result (λ p. p.end ≡ copies_end riscv.copy_start start sig.now.arguments (spots_after sig.now.fixed (used_at_first sig.now.result_type) 0 sig.now.arguments)) }
+    ensures places { IfOk result (λ p. p.places ≡ places_from riscv.copy_start start sig.now.arguments (spots_after sig.now.fixed (taken_at_first sig.now.result_type) 0 sig.now.arguments)) }
+    ensures end { IfOk result (λ p. p.end ≡ copies_end riscv.copy_start start sig.now.arguments (spots_after sig.now.fixed (taken_at_first sig.now.result_type) 0 sig.now.arguments)) }
     ensures near { IfOk result (λ p. p.end ≤ start + ARGUMENT_BYTES) }
 {
     let mut end = at_first(result_type(sig));
     let mut copy = start;
-    let mut places = Places::new(alloc);
+    let mut places = Places::with_capacity(alloc, count_of(sig) as usize)?;
     for i in 0..count_of(sig) {
         let ty = argument(sig, i);
         let fixed = is_fixed(sig, i);
@@ -493,7 +494,7 @@ fn place_all(alloc: Global, sig: &Sig, start: u64) -> Result<Placed, NoMemory>
         let place = place_of(alloc, before, ty, shape, copy)?;
         copy = copy_end(&place, ty, copy);
         places.push(place)?;
-        end = used_with(before, shape);
+        end = taken_with(before, shape);
     }
     Ok(Placed { places, end: copy })
 }
@@ -508,7 +509,7 @@ fn place_result(alloc: Global, ty: &FfiType, buffer: u64) -> Result<Res, NoMemor
         return Ok(Res::Nothing);
     }
     let shape = result_shape(ty);
-    match place_of(alloc, UNUSED, ty, shape, buffer)? {
+    match place_of(alloc, UNTOUCHED, ty, shape, buffer)? {
         Place::Direct(pieces) => Ok(Res::Direct(pieces)),
         Place::ByRef { at, copy } => Ok(Res::Hidden { at, buffer: copy }),
     }
@@ -591,7 +592,7 @@ impl Abi for Riscv {
 
     const PASSING: u8 = 16;
 
-    fn kept_register(k: u8) -> Loc {
+    fn callee_saved(k: u8) -> Loc {
         REGISTERS[k as usize]
     }
 
@@ -619,7 +620,7 @@ impl Abi for Riscv {
     }
 
     fn plan(alloc: Global, sig: &Sig) -> Result<Plan, NoMemory> {
-        let used = used_by_all(sig);
+        let used = taken_by_all(sig);
         let all = place_all(alloc, sig, round_up(stack_of(used), 16))?;
         let ret = result_type(sig);
         let res = place_result(alloc, ret, all.end)?;

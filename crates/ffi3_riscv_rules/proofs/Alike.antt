@@ -11,13 +11,13 @@ use Rattle.ffi3_place_rules.specs.Alike.{AreAlike, same_type, same_layout, AllAl
 use Rattle.ffi3_place_rules.proofs.Alike.{plan_alike, start_alike}
 use Rattle.ffi3_riscv_rules.specs.declared.Shape.{Shape}
 use Rattle.ffi3_riscv_rules.specs.declared.Shape.TheVariants.{OneF, TwoF, FI, IF, Words, ByRef}
-use Rattle.ffi3_riscv_rules.specs.declared.Used.{Used}
-use Rattle.ffi3_riscv_rules.specs.Riscv.{integer_shape, shape_of_leaves, shape_of, registers_suffice, passed_as, word, floating_piece, integer_piece, spot_of, is_fixed, used_at_start, used_with, spot_next, used_next, spots_after, used_after, unused, result_shape, result_from, result_spot_of, is_by_reference, used_at_first, stack_of, placing_of, riscv}
+use Rattle.ffi3_riscv_rules.specs.declared.TakenWords.{TakenWords}
+use Rattle.ffi3_riscv_rules.specs.Riscv.{integer_shape, shape_of_leaves, shape_of, registers_suffice, passed_as, word, floating_piece, integer_piece, spot_of, is_fixed, taken_at_start, taken_with, spot_next, taken_next, spots_after, taken_after, untouched, result_shape, result_from, result_spot_of, is_by_reference, taken_at_first, stack_of, placing_of, riscv}
 
 -- ---- structs
 
 module _ (ts us : Trees) (e : layout (structure ts) ≡ layout (structure us)) where
-  struct_start_alike : (end : Used) (fixed : Bool) → used_at_start end fixed (structure ts) ≡ used_at_start end fixed (structure us)
+  struct_start_alike : (end : TakenWords) (fixed : Bool) → taken_at_start end fixed (structure ts) ≡ taken_at_start end fixed (structure us)
   struct_start_alike end fixed =
       ap (λ (l : Layout). record { words = cond (nat_le 16 l.align && (nat_le l.size 16 && (not fixed || nat_le 8 end.words))) (least_multiple 2 end.words) end.words; floats = end.floats }) e
 
@@ -29,7 +29,7 @@ module _ (ts us : Trees) (e : layout (structure ts) ≡ layout (structure us)) w
   integer_alike =
       ap (λ (l : Layout). cond {A = Shape} (nat_le l.size 16) (Words ((l.size + 7) / 8)) ByRef) e
 
-  struct_passed_alike : (before : Used) (fixed : Bool) → passed_as before fixed (structure ts) ≡ passed_as before fixed (structure us)
+  struct_passed_alike : (before : TakenWords) (fixed : Bool) → passed_as before fixed (structure ts) ≡ passed_as before fixed (structure us)
   struct_passed_alike before fixed =
       ap (λ s. cond {A = Shape} (fixed && registers_suffice before s) s (integer_shape (structure ts))) shape_alike ∙ ap (λ s. cond {A = Shape} (fixed && registers_suffice before (shape_of (structure us))) (shape_of (structure us)) s) integer_alike
 
@@ -39,7 +39,7 @@ module _ (ts us : Trees) (e : layout (structure ts) ≡ layout (structure us)) w
   abbrev second : Layout → Leaf
   second l = slice_index_or l.leaves 1 (record { at = 0; kind = u8 })
 
-  struct_spot_alike : (before : Used) (s : Shape) → spot_of before (structure ts) s ≡ spot_of before (structure us) s
+  struct_spot_alike : (before : TakenWords) (s : Shape) → spot_of before (structure ts) s ≡ spot_of before (structure us) s
   struct_spot_alike before OneF = ap (λ (l : Layout). in_pieces (floating_piece before.floats (first l) ∷ [])) e
   struct_spot_alike before TwoF =
       ap (λ (l : Layout). in_pieces (floating_piece before.floats (first l) ∷ floating_piece (before.floats + 1) (second l) ∷ [])) e
@@ -54,9 +54,9 @@ module _ (ts us : Trees) (e : layout (structure ts) ≡ layout (structure us)) w
 -- ---- what a type shows to this standard
 
 record ShowsTheSame (t u : Tree) : Type 0 where
-  begins : (end : Used) (fixed : Bool) → used_at_start end fixed t ≡ used_at_start end fixed u
-  passed : (before : Used) (fixed : Bool) → passed_as before fixed t ≡ passed_as before fixed u
-  spot : (before : Used) (s : Shape) → spot_of before t s ≡ spot_of before u s
+  begins : (end : TakenWords) (fixed : Bool) → taken_at_start end fixed t ≡ taken_at_start end fixed u
+  passed : (before : TakenWords) (fixed : Bool) → passed_as before fixed t ≡ passed_as before fixed u
+  spot : (before : TakenWords) (s : Shape) → spot_of before t s ≡ spot_of before u s
   result : result_spot_of t ≡ result_spot_of u
 
 shows : (t u : Tree) → AreAlike t u → ShowsTheSame t u
@@ -70,47 +70,47 @@ shows t u (same_layout {ts = ts} {us = us} e) = record {
   begins = struct_start_alike ts us e;
   passed = struct_passed_alike ts us e;
   spot = struct_spot_alike ts us e;
-  result = ap (λ s. result_from (spot_of unused (structure ts) s)) (struct_passed_alike ts us e unused true) ∙ ap result_from (struct_spot_alike ts us e unused (result_shape (structure us)));
+  result = ap (λ s. result_from (spot_of untouched (structure ts) s)) (struct_passed_alike ts us e untouched true) ∙ ap result_from (struct_spot_alike ts us e untouched (result_shape (structure us)));
 }
 
 -- ---- one argument
 
-module _ (t u : Tree) (h : ShowsTheSame t u) (end : Used) (fixed : Bool) where
-  abbrev start : Used
-  start = used_at_start end fixed u
+module _ (t u : Tree) (h : ShowsTheSame t u) (end : TakenWords) (fixed : Bool) where
+  abbrev start : TakenWords
+  start = taken_at_start end fixed u
 
   spot_alike : spot_next end fixed t ≡ spot_next end fixed u
   spot_alike =
       ap (λ b. spot_of b t (passed_as b fixed t)) (h.begins end fixed) ∙ ap (spot_of start t) (h.passed start fixed) ∙ h.spot start (passed_as start fixed u)
 
-  used_alike : used_next end fixed t ≡ used_next end fixed u
-  used_alike =
-      ap (λ b. used_with b (passed_as b fixed t)) (h.begins end fixed) ∙ ap (used_with start) (h.passed start fixed)
+  taken_alike : taken_next end fixed t ≡ taken_next end fixed u
+  taken_alike =
+      ap (λ b. taken_with b (passed_as b fixed t)) (h.begins end fixed) ∙ ap (taken_with start) (h.passed start fixed)
 
 -- ---- all arguments
 
-spots_alike : (fixed : Option ℕ) (ts us : List Tree) → AllAlike ts us → (end : Used) (i : ℕ) → spots_after fixed end i ts ≡ spots_after fixed end i us
+spots_alike : (fixed : Option ℕ) (ts us : List Tree) → AllAlike ts us → (end : TakenWords) (i : ℕ) → spots_after fixed end i ts ≡ spots_after fixed end i us
 spots_alike fixed [] [] h end i = refl
 spots_alike fixed [] (u ∷ us) h end i = absurd h
 spots_alike fixed (t ∷ ts) [] h end i = absurd h
 spots_alike fixed (t ∷ ts) (u ∷ us) h end i =
     let here = shows t u h.0 in
     let named = is_fixed fixed i in
-    ap (λ s. s ∷ spots_after fixed (used_next end named t) (i + 1) ts) (spot_alike t u here end named) ∙ ap (λ k. spot_next end named u ∷ spots_after fixed k (i + 1) ts) (used_alike t u here end named) ∙ ap (λ ss. spot_next end named u ∷ ss) (spots_alike fixed ts us h.1 (used_next end named u) (i + 1))
+    ap (λ s. s ∷ spots_after fixed (taken_next end named t) (i + 1) ts) (spot_alike t u here end named) ∙ ap (λ k. spot_next end named u ∷ spots_after fixed k (i + 1) ts) (taken_alike t u here end named) ∙ ap (λ ss. spot_next end named u ∷ ss) (spots_alike fixed ts us h.1 (taken_next end named u) (i + 1))
 
-all_used_alike : (fixed : Option ℕ) (ts us : List Tree) → AllAlike ts us → (end : Used) (i : ℕ) → used_after fixed end i ts ≡ used_after fixed end i us
+all_used_alike : (fixed : Option ℕ) (ts us : List Tree) → AllAlike ts us → (end : TakenWords) (i : ℕ) → taken_after fixed end i ts ≡ taken_after fixed end i us
 all_used_alike fixed [] [] h end i = refl
 all_used_alike fixed [] (u ∷ us) h end i = absurd h
 all_used_alike fixed (t ∷ ts) [] h end i = absurd h
 all_used_alike fixed (t ∷ ts) (u ∷ us) h end i =
-    ap (λ k. used_after fixed k (i + 1) ts) (used_alike t u (shows t u h.0) end (is_fixed fixed i)) ∙ all_used_alike fixed ts us h.1 (used_next end (is_fixed fixed i) u) (i + 1)
+    ap (λ k. taken_after fixed k (i + 1) ts) (taken_alike t u (shows t u h.0) end (is_fixed fixed i)) ∙ all_used_alike fixed ts us h.1 (taken_next end (is_fixed fixed i) u) (i + 1)
 
 placing_alike : (s r : Signature) → SignaturesAreAlike s r → placing_of s ≡ placing_of r
 placing_alike s r h =
     let result = shows s.result_type r.result_type h.result_type in
-    let first : used_at_first s.result_type ≡ used_at_first r.result_type = ap (λ p. record { words = cond (is_by_reference p) 1 0; floats = 0 }) (result.passed unused true) in
-    let spots : spots_after s.fixed (used_at_first s.result_type) 0 s.arguments ≡ spots_after r.fixed (used_at_first r.result_type) 0 r.arguments = ap (λ n. spots_after n (used_at_first s.result_type) 0 s.arguments) h.fixed ∙ ap (λ k. spots_after r.fixed k 0 s.arguments) first ∙ spots_alike r.fixed s.arguments r.arguments h.arguments (used_at_first r.result_type) 0 in
-    let used : used_after s.fixed (used_at_first s.result_type) 0 s.arguments ≡ used_after r.fixed (used_at_first r.result_type) 0 r.arguments = ap (λ n. used_after n (used_at_first s.result_type) 0 s.arguments) h.fixed ∙ ap (λ k. used_after r.fixed k 0 s.arguments) first ∙ all_used_alike r.fixed s.arguments r.arguments h.arguments (used_at_first r.result_type) 0 in
+    let first : taken_at_first s.result_type ≡ taken_at_first r.result_type = ap (λ p. record { words = cond (is_by_reference p) 1 0; floats = 0 }) (result.passed untouched true) in
+    let spots : spots_after s.fixed (taken_at_first s.result_type) 0 s.arguments ≡ spots_after r.fixed (taken_at_first r.result_type) 0 r.arguments = ap (λ n. spots_after n (taken_at_first s.result_type) 0 s.arguments) h.fixed ∙ ap (λ k. spots_after r.fixed k 0 s.arguments) first ∙ spots_alike r.fixed s.arguments r.arguments h.arguments (taken_at_first r.result_type) 0 in
+    let used : taken_after s.fixed (taken_at_first s.result_type) 0 s.arguments ≡ taken_after r.fixed (taken_at_first r.result_type) 0 r.arguments = ap (λ n. taken_after n (taken_at_first s.result_type) 0 s.arguments) h.fixed ∙ ap (λ k. taken_after r.fixed k 0 s.arguments) first ∙ all_used_alike r.fixed s.arguments r.arguments h.arguments (taken_at_first r.result_type) 0 in
     let spot = result.result in
     λ i. record {
       arguments = spots i;

@@ -14,8 +14,8 @@ use Rattle.ffi3_place_rules.proofs.Covered.{EndsIn, leaves_end}
 use Rattle.ffi3_place_rules.proofs.Doublewords.{filling_suits, leaf_is_piece, doublewords_have_all}
 use Rattle.ffi3_riscv_rules.specs.declared.Shape.{Shape}
 use Rattle.ffi3_riscv_rules.specs.declared.Shape.TheVariants.{OneF, TwoF, FI, IF, Words, ByRef}
-use Rattle.ffi3_riscv_rules.specs.declared.Used.{Used}
-use Rattle.ffi3_riscv_rules.specs.Riscv.{word, extension, boxing, argument_register, floating_register, floating_piece, integer_piece, word_pieces, spot_of, is_fixed, used_at_start, passed_next, spot_next, used_next, spots_after}
+use Rattle.ffi3_riscv_rules.specs.declared.TakenWords.{TakenWords}
+use Rattle.ffi3_riscv_rules.specs.Riscv.{word, extension, boxing, argument_register, floating_register, floating_piece, integer_piece, word_pieces, spot_of, is_fixed, taken_at_start, passed_next, spot_next, taken_next, spots_after}
 use Rattle.ffi3_riscv_rules.proofs.Shapes.{Suits, HasSmall, leaf, passed_suits, passed_small}
 
 -- ---- doublewords
@@ -72,7 +72,7 @@ have_all t ps h = record { each = h.0; covered = h.1 }
 
 -- ---- by shapes
 
-pub spot_has_all : (start : ℕ → Tree → ℕ) (copies : ℕ) (before : Used) (t : Tree) (shape : Shape) → Suits (size_of t) (leaves_of t) shape → HasSmall (leaves_of t) shape → PlaceHasAll t (place_at start copies t (spot_of before t shape))
+pub spot_has_all : (start : ℕ → Tree → ℕ) (copies : ℕ) (before : TakenWords) (t : Tree) (shape : Shape) → Suits (size_of t) (leaves_of t) shape → HasSmall (leaves_of t) shape → PlaceHasAll t (place_at start copies t (spot_of before t shape))
 spot_has_all start copies before t OneF h small =
     have_all t _ (one_leaf t (leaves_of t) (floating_piece before.floats) (floating_piece_of t before.floats) (λ l. (refl, refl)) h small (leaves_end t))
 spot_has_all start copies before t TwoF h small =
@@ -84,9 +84,9 @@ spot_has_all start copies before t IF h small =
 spot_has_all start copies before t (Words n) h small = words_have_all before.words t n h.0
 spot_has_all start copies before t ByRef h small = tt
 
-pub arguments_have_all : (start : ℕ → Tree → ℕ) (copies : ℕ) (fixed : Option ℕ) (end : Used) (i : ℕ) (ts : List Tree) → PlacesHaveAll ts (places_from start copies ts (spots_after fixed end i ts))
+pub arguments_have_all : (start : ℕ → Tree → ℕ) (copies : ℕ) (fixed : Option ℕ) (end : TakenWords) (i : ℕ) (ts : List Tree) → PlacesHaveAll ts (places_from start copies ts (spots_after fixed end i ts))
 arguments_have_all start copies fixed end i [] = tt
 arguments_have_all start copies fixed end i (t ∷ ts) =
     let named = is_fixed fixed i in
-    let before = used_at_start end named t in
-    (spot_has_all start copies before t (passed_next end named t) (passed_suits before named t) (passed_small before named t), arguments_have_all start (copy_end start copies t (spot_next end named t)) fixed (used_next end named t) (i + 1) ts)
+    let before = taken_at_start end named t in
+    (spot_has_all start copies before t (passed_next end named t) (passed_suits before named t) (passed_small before named t), arguments_have_all start (copy_end start copies t (spot_next end named t)) fixed (taken_next end named t) (i + 1) ts)

@@ -13,8 +13,8 @@ use Rattle.ffi3_place_rules.proofs.Tests.{and_left}
 use Rattle.ffi3_place_rules.proofs.Filled.{doublewords_filled}
 use Rattle.ffi3_riscv_rules.specs.declared.Shape.{Shape}
 use Rattle.ffi3_riscv_rules.specs.declared.Shape.TheVariants.{OneF, TwoF, FI, IF, Words, ByRef}
-use Rattle.ffi3_riscv_rules.specs.declared.Used.{Used}
-use Rattle.ffi3_riscv_rules.specs.Riscv.{riscv, argument_register, word, boxing, floating_piece, integer_piece, spot_of, is_fixed, used_at_start, passed_next, spot_next, used_next, spots_after}
+use Rattle.ffi3_riscv_rules.specs.declared.TakenWords.{TakenWords}
+use Rattle.ffi3_riscv_rules.specs.Riscv.{riscv, argument_register, word, boxing, floating_piece, integer_piece, spot_of, is_fixed, taken_at_start, passed_next, spot_next, taken_next, spots_after}
 use Rattle.ffi3_riscv_rules.proofs.Shapes.{Suits, HasFloats, passed_suits, passed_floats}
 
 -- ---- values that are no lone narrow integer
@@ -84,7 +84,7 @@ word_not_floating w = word_if w (ltb w 8)
 
 -- ---- by shapes
 
-pub spot_filled : (start : ℕ → Tree → ℕ) (copies : ℕ) (before : Used) (t : Tree) (shape : Shape) → Suits (size_of t) (leaves_of t) shape → HasFloats (leaves_of t) shape → PlaceIsFilled riscv t (place_at start copies t (spot_of before t shape))
+pub spot_filled : (start : ℕ → Tree → ℕ) (copies : ℕ) (before : TakenWords) (t : Tree) (shape : Shape) → Suits (size_of t) (leaves_of t) shape → HasFloats (leaves_of t) shape → PlaceIsFilled riscv t (place_at start copies t (spot_of before t shape))
 spot_filled start copies before t OneF h f =
     (floating_filled t (first_floats t f) before.floats (leaf_at t 0) f, tt)
 spot_filled start copies before t TwoF h f =
@@ -97,9 +97,9 @@ spot_filled start copies before t (Words n) h f =
     doublewords_filled riscv t (λ j. word (before.words + j)) (λ j. word_not_floating (before.words + j)) 0 n
 spot_filled start copies before t ByRef h f = tt
 
-pub arguments_filled : (start : ℕ → Tree → ℕ) (copies : ℕ) (fixed : Option ℕ) (end : Used) (i : ℕ) (ts : List Tree) → PlacesAreFilled riscv ts (places_from start copies ts (spots_after fixed end i ts))
+pub arguments_filled : (start : ℕ → Tree → ℕ) (copies : ℕ) (fixed : Option ℕ) (end : TakenWords) (i : ℕ) (ts : List Tree) → PlacesAreFilled riscv ts (places_from start copies ts (spots_after fixed end i ts))
 arguments_filled start copies fixed end i [] = tt
 arguments_filled start copies fixed end i (t ∷ ts) =
     let named = is_fixed fixed i in
-    let before = used_at_start end named t in
-    (spot_filled start copies before t (passed_next end named t) (passed_suits before named t) (passed_floats before named t), arguments_filled start (copy_end start copies t (spot_next end named t)) fixed (used_next end named t) (i + 1) ts)
+    let before = taken_at_start end named t in
+    (spot_filled start copies before t (passed_next end named t) (passed_suits before named t) (passed_floats before named t), arguments_filled start (copy_end start copies t (spot_next end named t)) fixed (taken_next end named t) (i + 1) ts)

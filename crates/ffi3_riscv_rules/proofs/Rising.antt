@@ -13,8 +13,8 @@ use Rattle.ffi3_place_rules.specs.Sound.{AreRising, PlaceRises}
 use Rattle.ffi3_place_rules.proofs.Rising.{PlacesRise, register_rises, general_not_stack, floating_not_stack, stack_at, doublewords_rise}
 use Rattle.ffi3_riscv_rules.specs.declared.Shape.{Shape}
 use Rattle.ffi3_riscv_rules.specs.declared.Shape.TheVariants.{OneF, TwoF, FI, IF, Words, ByRef}
-use Rattle.ffi3_riscv_rules.specs.declared.Used.{Used}
-use Rattle.ffi3_riscv_rules.specs.Riscv.{argument_register, floating_register, floating_piece, integer_piece, word, word_pieces, extension, spot_of, is_fixed, used_at_start, passed_next, spot_next, used_next, spots_after}
+use Rattle.ffi3_riscv_rules.specs.declared.TakenWords.{TakenWords}
+use Rattle.ffi3_riscv_rules.specs.Riscv.{argument_register, floating_register, floating_piece, integer_piece, word, word_pieces, extension, spot_of, is_fixed, taken_at_start, passed_next, spot_next, taken_next, spots_after}
 
 -- ---- the stream of words
 
@@ -40,7 +40,7 @@ words_rise w t count =
 pair_rises : (p q : Piece) → ((at : ℕ) → p.loc ≡ S at → ⊥) → AreRising (p ∷ q ∷ [])
 pair_rises p q none = (register_rises p none (q ∷ []), (tt, tt))
 
-spot_rises : (start : ℕ → Tree → ℕ) (copies : ℕ) (before : Used) (t : Tree) (shape : Shape) → PlaceRises (place_at start copies t (spot_of before t shape))
+spot_rises : (start : ℕ → Tree → ℕ) (copies : ℕ) (before : TakenWords) (t : Tree) (shape : Shape) → PlaceRises (place_at start copies t (spot_of before t shape))
 spot_rises start copies before t OneF = (tt, tt)
 spot_rises start copies before t TwoF =
     pair_rises (floating_piece before.floats (leaf_at t 0)) (floating_piece (before.floats + 1) (leaf_at t 1)) (floating_not_stack (floating_register before.floats))
@@ -51,8 +51,8 @@ spot_rises start copies before t IF =
 spot_rises start copies before t (Words n) = words_rise before.words t n
 spot_rises start copies before t ByRef = tt
 
-pub arguments_rise : (start : ℕ → Tree → ℕ) (copies : ℕ) (fixed : Option ℕ) (end : Used) (i : ℕ) (ts : List Tree) → AllByRecursion PlaceRises (places_from start copies ts (spots_after fixed end i ts))
+pub arguments_rise : (start : ℕ → Tree → ℕ) (copies : ℕ) (fixed : Option ℕ) (end : TakenWords) (i : ℕ) (ts : List Tree) → AllByRecursion PlaceRises (places_from start copies ts (spots_after fixed end i ts))
 arguments_rise start copies fixed end i [] = tt
 arguments_rise start copies fixed end i (t ∷ ts) =
     let named = is_fixed fixed i in
-    (spot_rises start copies (used_at_start end named t) t (passed_next end named t), arguments_rise start (copy_end start copies t (spot_next end named t)) fixed (used_next end named t) (i + 1) ts)
+    (spot_rises start copies (taken_at_start end named t) t (passed_next end named t), arguments_rise start (copy_end start copies t (spot_next end named t)) fixed (taken_next end named t) (i + 1) ts)

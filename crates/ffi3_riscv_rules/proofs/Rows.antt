@@ -245,7 +245,7 @@ pub split_wide : plan_of riscv (sig_of void (integer ∷ integer ∷ integer ∷
 unfolding least_multiple
 split_wide = refl
 
--- the same, the last two variadic: the uint128 begins at an even word, and a7 stays unused
+-- the same, the last two variadic: the uint128 begins at an even word, and a7 stays untouched
 pub variadic_wide : plan_of riscv (variadic_from void (integer ∷ integer ∷ integer ∷ integer ∷ integer ∷ integer ∷ integer ∷ wide ∷ integer ∷ []) 7) ≡ record {
   places = alone (G 10) ∷ alone (G 11) ∷ alone (G 12) ∷ alone (G 13) ∷ alone (G 14) ∷ alone (G 15) ∷ alone (G 16) ∷ halves (S 0) (S 8) ∷ alone (S 16) ∷ [];
   res = Nothing;

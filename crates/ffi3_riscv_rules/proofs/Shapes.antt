@@ -8,7 +8,7 @@ use Rattle.ffi3_type_rules.specs.Integer.{is_floating, is_integer}
 use Rattle.ffi3_place_rules.proofs.Tests.{and_left, and_right}
 use Rattle.ffi3_riscv_rules.specs.declared.Shape.{Shape}
 use Rattle.ffi3_riscv_rules.specs.declared.Shape.TheVariants.{OneF, TwoF, FI, IF, Words, ByRef}
-use Rattle.ffi3_riscv_rules.specs.declared.Used.{Used}
+use Rattle.ffi3_riscv_rules.specs.declared.TakenWords.{TakenWords}
 use Rattle.ffi3_riscv_rules.specs.Riscv.{is_word_integer, integer_shape, shape_of_leaves, shape_of, registers_suffice, passed_as, words_of, floats_of}
 
 abbrev no_leaf : Leaf
@@ -52,7 +52,7 @@ pub shape_suits : (t : Tree) → Suits (size_of t) (leaves_of t) (shape_of t)
 shape_suits t =
     leaves_suit (size_of t) (integer_shape t) (leaves_of t) (integer_suits t)
 
-pub passed_suits : (before : Used) (fixed : Bool) (t : Tree) → Suits (size_of t) (leaves_of t) (passed_as before fixed t)
+pub passed_suits : (before : TakenWords) (fixed : Bool) (t : Tree) → Suits (size_of t) (leaves_of t) (passed_as before fixed t)
 passed_suits before fixed t =
     choose (Suits (size_of t) (leaves_of t)) (fixed && registers_suffice before (shape_of t)) (shape_of t) (integer_shape t) (shape_suits t) (integer_suits t)
 
@@ -84,7 +84,7 @@ integer_floats : (t : Tree) → HasFloats (leaves_of t) (integer_shape t)
 integer_floats t =
     choose (HasFloats (leaves_of t)) (leb (size_of t) 16) (Words ((size_of t + 7) / 8)) ByRef tt tt
 
-pub passed_floats : (before : Used) (fixed : Bool) (t : Tree) → HasFloats (leaves_of t) (passed_as before fixed t)
+pub passed_floats : (before : TakenWords) (fixed : Bool) (t : Tree) → HasFloats (leaves_of t) (passed_as before fixed t)
 passed_floats before fixed t =
     choose (HasFloats (leaves_of t)) (fixed && registers_suffice before (shape_of t)) (shape_of t) (integer_shape t) (leaves_float (integer_shape t) (leaves_of t) (integer_floats t)) (integer_floats t)
 
@@ -124,12 +124,12 @@ integer_small : (t : Tree) → HasSmall (leaves_of t) (integer_shape t)
 integer_small t =
     choose (HasSmall (leaves_of t)) (leb (size_of t) 16) (Words ((size_of t + 7) / 8)) ByRef tt tt
 
-pub passed_small : (before : Used) (fixed : Bool) (t : Tree) → HasSmall (leaves_of t) (passed_as before fixed t)
+pub passed_small : (before : TakenWords) (fixed : Bool) (t : Tree) → HasSmall (leaves_of t) (passed_as before fixed t)
 passed_small before fixed t =
     choose (HasSmall (leaves_of t)) (fixed && registers_suffice before (shape_of t)) (shape_of t) (integer_shape t) (leaves_small (integer_shape t) (leaves_of t) (integer_small t)) (integer_small t)
 
 -- registers are free for the shape
-abbrev pub HasRoom : Used → Shape → Type 0
+abbrev pub HasRoom : TakenWords → Shape → Type 0
 HasRoom before OneF = before.floats + 1 ≤ 8
 HasRoom before TwoF = before.floats + 2 ≤ 8
 HasRoom before FI = (before.floats + 1 ≤ 8) × (before.words + 1 ≤ 8)
@@ -140,7 +140,7 @@ HasRoom before ByRef = ⊤
 both_free : (f w : ℕ) → (leb f 8 && leb w 8) ≡ true → (f ≤ 8) × (w ≤ 8)
 both_free f w h = (leb-true f 8 (and_left (leb f 8) (leb w 8) h), leb-true w 8 (and_right (leb f 8) (leb w 8) h))
 
-room_of : (before : Used) (shape : Shape) → registers_suffice before shape ≡ true → HasRoom before shape
+room_of : (before : TakenWords) (shape : Shape) → registers_suffice before shape ≡ true → HasRoom before shape
 room_of before OneF h = leb-true (before.floats + 1) 8 h
 room_of before TwoF h = leb-true (before.floats + 2) 8 h
 room_of before FI h = both_free (before.floats + 1) (before.words + 1) h
@@ -148,15 +148,15 @@ room_of before IF h = both_free (before.floats + 1) (before.words + 1) h
 room_of before (Words n) h = tt
 room_of before ByRef h = tt
 
-integer_room : (before : Used) (t : Tree) → HasRoom before (integer_shape t)
+integer_room : (before : TakenWords) (t : Tree) → HasRoom before (integer_shape t)
 integer_room before t =
     choose (HasRoom before) (leb (size_of t) 16) (Words ((size_of t + 7) / 8)) ByRef tt tt
 
-room_if : (before : Used) (fixed : Bool) (t : Tree) (b : Bool) → (fixed && registers_suffice before (shape_of t)) ≡ b → HasRoom before (cond {A = Shape} b (shape_of t) (integer_shape t))
+room_if : (before : TakenWords) (fixed : Bool) (t : Tree) (b : Bool) → (fixed && registers_suffice before (shape_of t)) ≡ b → HasRoom before (cond {A = Shape} b (shape_of t) (integer_shape t))
 room_if before fixed t true e = room_of before (shape_of t) (and_right fixed (registers_suffice before (shape_of t)) e)
 room_if before fixed t false e = integer_room before t
 
-pub passed_has_room : (before : Used) (fixed : Bool) (t : Tree) → HasRoom before (passed_as before fixed t)
+pub passed_has_room : (before : TakenWords) (fixed : Bool) (t : Tree) → HasRoom before (passed_as before fixed t)
 passed_has_room before fixed t = room_if before fixed t (fixed && registers_suffice before (shape_of t)) refl
 
 few_words : (n : ℕ) (ls : List Leaf) (shape : Shape) → Suits n ls shape → words_of shape ≤ 2
@@ -167,10 +167,10 @@ few_words n ls IF h = omega arith
 few_words n ls (Words count) h = omega (arith, h.0, h.1)
 few_words n ls ByRef h = omega arith
 
-pub passed_few : (before : Used) (fixed : Bool) (t : Tree) → words_of (passed_as before fixed t) ≤ 2
+pub passed_few : (before : TakenWords) (fixed : Bool) (t : Tree) → words_of (passed_as before fixed t) ≤ 2
 passed_few before fixed t = few_words (size_of t) (leaves_of t) (passed_as before fixed t) (passed_suits before fixed t)
 
-pub floats_room : (before : Used) (shape : Shape) → before.floats ≤ 8 → HasRoom before shape → before.floats + floats_of shape ≤ 8
+pub floats_room : (before : TakenWords) (shape : Shape) → before.floats ≤ 8 → HasRoom before shape → before.floats + floats_of shape ≤ 8
 floats_room before OneF few h = h
 floats_room before TwoF few h = h
 floats_room before FI few h = h.0

@@ -23,8 +23,8 @@ use Rattle.ffi3_place_rules.proofs.Forbidden.{is_one_of, one_of}
 use Rattle.ffi3_place_rules.proofs.Determines.{determined}
 use Rattle.ffi3_riscv_rules.specs.declared.Shape.{Shape}
 use Rattle.ffi3_riscv_rules.specs.declared.Shape.TheVariants.{OneF, TwoF, FI, IF, Words, ByRef}
-use Rattle.ffi3_riscv_rules.specs.declared.Used.{Used}
-use Rattle.ffi3_riscv_rules.specs.Riscv.{riscv, argument_register, floating_register, word, words_of, floats_of, extension, word_pieces, spot_of, is_at_even_word, first_word, is_fixed, used_with, used_at_start, passed_next, spot_next, used_next, used_after, used_at_first, used_by_all, unused, spots_after, result_shape, result_from, result_spot_of, is_by_reference, placing_of}
+use Rattle.ffi3_riscv_rules.specs.declared.TakenWords.{TakenWords}
+use Rattle.ffi3_riscv_rules.specs.Riscv.{riscv, argument_register, floating_register, word, words_of, floats_of, extension, word_pieces, spot_of, is_at_even_word, first_word, is_fixed, taken_with, taken_at_start, passed_next, spot_next, taken_next, taken_after, taken_at_first, taken_by_all, untouched, spots_after, result_shape, result_from, result_spot_of, is_by_reference, placing_of}
 use Rattle.ffi3_riscv_rules.proofs.Shapes.{HasRoom, passed_has_room, passed_few, passed_suits, passed_small, passed_floats}
 use Rattle.ffi3_riscv_rules.proofs.Covered.{spot_has_all, arguments_have_all}
 use Rattle.ffi3_riscv_rules.proofs.Filled.{spot_filled, arguments_filled}
@@ -36,7 +36,7 @@ use Rattle.ffi3_riscv_rules.proofs.Registers.{all_registers, argument_exists, fl
 abbrev taken_of : ℕ → ℕ → Taken
 taken_of w f = record { general = w; vector = f; stack = 8 * (w - 8) }
 
-abbrev taken : Used → Taken
+abbrev taken : TakenWords → Taken
 taken used = taken_of used.words used.floats
 
 abbrev WordsChain : Taken → List Loc → Taken → Type 0
@@ -99,7 +99,7 @@ general_first w f ls b room rest = (
   rest,
 )
 
-spot_chain : (start : ℕ → Tree → ℕ) (copies : ℕ) (before : Used) (t : Tree) (shape : Shape) → HasRoom before shape → WordsChain (taken before) (place_locs (place_at start copies t (spot_of before t shape))) (taken (used_with before shape))
+spot_chain : (start : ℕ → Tree → ℕ) (copies : ℕ) (before : TakenWords) (t : Tree) (shape : Shape) → HasRoom before shape → WordsChain (taken before) (place_locs (place_at start copies t (spot_of before t shape))) (taken (taken_with before shape))
 spot_chain start copies before t OneF room =
     floating_first before.words before.floats [] _ room (more_words before.words (before.words + 0) (before.floats + 1) (before.floats + 1) (omega arith) (omega arith))
 spot_chain start copies before t TwoF room =
@@ -134,79 +134,79 @@ spot_chain start copies before t ByRef room = (
 first_word-behind : (fixed : Bool) (t : Tree) (end : ℕ) → end ≤ first_word fixed t end
 first_word-behind fixed t end = even-behind (is_at_even_word fixed t end) end
 
-used_at_start-behind : (end : Used) (fixed : Bool) (t : Tree) → AtMost (taken end) (taken (used_at_start end fixed t))
-used_at_start-behind end fixed t = more_words end.words (first_word fixed t end.words) end.floats end.floats (first_word-behind fixed t end.words) (omega arith)
+taken_at_start-behind : (end : TakenWords) (fixed : Bool) (t : Tree) → AtMost (taken end) (taken (taken_at_start end fixed t))
+taken_at_start-behind end fixed t = more_words end.words (first_word fixed t end.words) end.floats end.floats (first_word-behind fixed t end.words) (omega arith)
 
-argument_chain : (start : ℕ → Tree → ℕ) (copies : ℕ) (end : Used) (fixed : Bool) (t : Tree) → WordsChain (taken end) (place_locs (place_at start copies t (spot_next end fixed t))) (taken (used_next end fixed t))
+argument_chain : (start : ℕ → Tree → ℕ) (copies : ℕ) (end : TakenWords) (fixed : Bool) (t : Tree) → WordsChain (taken end) (place_locs (place_at start copies t (spot_next end fixed t))) (taken (taken_next end fixed t))
 argument_chain start copies end fixed t =
-    let before = used_at_start end fixed t in
-    chain_less argument_register floating_register 8 8 (taken end) (taken before) _ _ (used_at_start-behind end fixed t) (spot_chain start copies before t (passed_next end fixed t) (passed_has_room before fixed t))
+    let before = taken_at_start end fixed t in
+    chain_less argument_register floating_register 8 8 (taken end) (taken before) _ _ (taken_at_start-behind end fixed t) (spot_chain start copies before t (passed_next end fixed t) (passed_has_room before fixed t))
 
-places_chain : (start : ℕ → Tree → ℕ) (copies : ℕ) (fixed : Option ℕ) (end : Used) (i : ℕ) (ts : List Tree) → WordsChain (taken end) (flat_map place_locs (places_from start copies ts (spots_after fixed end i ts))) (taken (used_after fixed end i ts))
+places_chain : (start : ℕ → Tree → ℕ) (copies : ℕ) (fixed : Option ℕ) (end : TakenWords) (i : ℕ) (ts : List Tree) → WordsChain (taken end) (flat_map place_locs (places_from start copies ts (spots_after fixed end i ts))) (taken (taken_after fixed end i ts))
 places_chain start copies fixed end i [] = at_most_self (taken end)
 places_chain start copies fixed end i (t ∷ ts) =
     let named = is_fixed fixed i in
-    chain_append argument_register floating_register 8 8 (taken end) (place_locs (place_at start copies t (spot_next end named t))) (taken (used_next end named t)) _ _
-    (argument_chain start copies end named t) (places_chain start (copy_end start copies t (spot_next end named t)) fixed (used_next end named t) (i + 1) ts)
+    chain_append argument_register floating_register 8 8 (taken end) (place_locs (place_at start copies t (spot_next end named t))) (taken (taken_next end named t)) _ _
+    (argument_chain start copies end named t) (places_chain start (copy_end start copies t (spot_next end named t)) fixed (taken_next end named t) (i + 1) ts)
 
 -- ---- the whole signature
 
 -- A result is nowhere, or as its place as a first named argument says.
-result_cases : (P : ResultSpot → Type 0) (t : Tree) → (t ≡ void → P nowhere) → P (result_from (spot_of unused t (result_shape t))) → P (result_spot_of t)
+result_cases : (P : ResultSpot → Type 0) (t : Tree) → (t ≡ void → P nowhere) → P (result_from (spot_of untouched t (result_shape t))) → P (result_spot_of t)
 result_cases P void none h = none refl
 result_cases P (scalar s) none h = h
 result_cases P (left_out k) none h = h
 result_cases P (structure ts) none h = h
 result_cases P (array ts n) none h = h
 
-abbrev first_used : Shape → Used
+abbrev first_used : Shape → TakenWords
 first_used shape = record { words = cond (is_by_reference shape) 1 0; floats = 0 }
 
-hidden_of : (t : Tree) (buffer : ℕ) (shape : Shape) → WordsChain (taken unused) (hidden_locs (result_at riscv.copy_start buffer t (result_from (spot_of unused t shape)))) (taken (first_used shape))
-hidden_of t buffer OneF = at_most_self (taken unused)
-hidden_of t buffer TwoF = at_most_self (taken unused)
-hidden_of t buffer FI = at_most_self (taken unused)
-hidden_of t buffer IF = at_most_self (taken unused)
-hidden_of t buffer (Words n) = at_most_self (taken unused)
+hidden_of : (t : Tree) (buffer : ℕ) (shape : Shape) → WordsChain (taken untouched) (hidden_locs (result_at riscv.copy_start buffer t (result_from (spot_of untouched t shape)))) (taken (first_used shape))
+hidden_of t buffer OneF = at_most_self (taken untouched)
+hidden_of t buffer TwoF = at_most_self (taken untouched)
+hidden_of t buffer FI = at_most_self (taken untouched)
+hidden_of t buffer IF = at_most_self (taken untouched)
+hidden_of t buffer (Words n) = at_most_self (taken untouched)
 hidden_of t buffer ByRef = general_first 0 0 [] (taken_of 1 0) (omega arith) (at_most_self (taken_of 1 0))
 
-hidden_chain : (t : Tree) (buffer : ℕ) → WordsChain (taken unused) (hidden_locs (result_at riscv.copy_start buffer t (result_spot_of t))) (taken (used_at_first t))
+hidden_chain : (t : Tree) (buffer : ℕ) → WordsChain (taken untouched) (hidden_locs (result_at riscv.copy_start buffer t (result_spot_of t))) (taken (taken_at_first t))
 hidden_chain t buffer =
-    let first = used_at_first t in
-    result_cases (λ spot. WordsChain (taken unused) (hidden_locs (result_at riscv.copy_start buffer t spot)) (taken first)) t (λ e. more_words 0 first.words 0 0 (omega arith) (omega arith)) (hidden_of t buffer (result_shape t))
+    let first = taken_at_first t in
+    result_cases (λ spot. WordsChain (taken untouched) (hidden_locs (result_at riscv.copy_start buffer t spot)) (taken first)) t (λ e. more_words 0 first.words 0 0 (omega arith) (omega arith)) (hidden_of t buffer (result_shape t))
 
-plan_chain : (s : Signature) → WordsChain (taken unused) (argument_locs (plan_of riscv s)) (taken (used_by_all s))
+plan_chain : (s : Signature) → WordsChain (taken untouched) (argument_locs (plan_of riscv s)) (taken (taken_by_all s))
 plan_chain s =
-    chain_append argument_register floating_register 8 8 (taken unused) (hidden_locs (plan_of riscv s).res) (taken (used_at_first s.result_type)) _ _
-    (hidden_chain s.result_type (frame_copies_end riscv s)) (places_chain riscv.copy_start (copies_start (placing_of s)) s.fixed (used_at_first s.result_type) 0 s.arguments)
+    chain_append argument_register floating_register 8 8 (taken untouched) (hidden_locs (plan_of riscv s).res) (taken (taken_at_first s.result_type)) _ _
+    (hidden_chain s.result_type (frame_copies_end riscv s)) (places_chain riscv.copy_start (copies_start (placing_of s)) s.fixed (taken_at_first s.result_type) 0 s.arguments)
 
 plan_allowed : (s : Signature) → AllByRecursion (IsNoneOf (closed_to_arguments riscv)) (argument_locs (plan_of riscv s))
 plan_allowed s =
-    chain_allowed argument_register floating_register 8 8 (closed_to_arguments riscv) argument_allowed floating_allowed stack_allowed (taken unused) _ _ (plan_chain s)
+    chain_allowed argument_register floating_register 8 8 (closed_to_arguments riscv) argument_allowed floating_allowed stack_allowed (taken untouched) _ _ (plan_chain s)
 
 plan_passed : (s : Signature) → AllByRecursion (IsOnStackOrIn riscv.argument_registers) (argument_locs (plan_of riscv s))
 plan_passed s =
-    chain_passed argument_register floating_register 8 8 riscv.argument_registers argument_passes floating_passes (taken unused) _ _ (plan_chain s)
+    chain_passed argument_register floating_register 8 8 riscv.argument_registers argument_passes floating_passes (taken untouched) _ _ (plan_chain s)
 
 plan_lies_in : (s : Signature) → AllByRecursion (LiesIn isa.Riscv (placing_of s).stack_bytes) (argument_locs (plan_of riscv s))
 plan_lies_in s =
-    chain_lies_in argument_register floating_register 8 8 isa.Riscv argument_exists floating_exists (taken unused) _ _ (placing_of s).stack_bytes (omega arith) (plan_chain s)
+    chain_lies_in argument_register floating_register 8 8 isa.Riscv argument_exists floating_exists (taken untouched) _ _ (placing_of s).stack_bytes (omega arith) (plan_chain s)
 
 -- ---- the frame
 
 abbrev framed : Signature → Taken
-framed s = up_to (taken (used_by_all s)) (frame_of riscv s)
+framed s = up_to (taken (taken_by_all s)) (frame_of riscv s)
 
-call_chain : (s : Signature) → WordsChain (taken unused) (call_locs s (plan_of riscv s)) (framed s)
+call_chain : (s : Signature) → WordsChain (taken untouched) (call_locs s (plan_of riscv s)) (framed s)
 call_chain s =
-    chain_append argument_register floating_register 8 8 (taken unused) (argument_locs (plan_of riscv s)) (taken (used_by_all s)) _ (framed s) (plan_chain s) (frame_chain argument_register floating_register 8 8 riscv start-behind s (taken (used_by_all s)) (omega arith))
+    chain_append argument_register floating_register 8 8 (taken untouched) (argument_locs (plan_of riscv s)) (taken (taken_by_all s)) _ (framed s) (plan_chain s) (frame_chain argument_register floating_register 8 8 riscv start-behind s (taken (taken_by_all s)) (omega arith))
 
 plan_apart : (s : Signature) → AreApart (call_locs s (plan_of riscv s))
-plan_apart s = chain_apart argument_register floating_register 8 8 all_registers (taken unused) _ _ (call_chain s)
+plan_apart s = chain_apart argument_register floating_register 8 8 all_registers (taken untouched) _ _ (call_chain s)
 
 plan_in_frame : (s : Signature) → AllByRecursion (LiesIn isa.Riscv (frame_of riscv s)) (call_locs s (plan_of riscv s))
 plan_in_frame s =
-    chain_lies_in argument_register floating_register 8 8 isa.Riscv argument_exists floating_exists (taken unused) _ (framed s) (frame_of riscv s) (omega arith) (call_chain s)
+    chain_lies_in argument_register floating_register 8 8 isa.Riscv argument_exists floating_exists (taken untouched) _ (framed s) (frame_of riscv s) (omega arith) (call_chain s)
 
 -- ---- the result
 
@@ -227,36 +227,36 @@ module _ (t : Tree) (buffer : ℕ) where
   abbrev shape : Shape
   shape = result_shape t
 
-  result_is : (P : List Loc → Type 0) → P [] → P (place_locs (place_at riscv.copy_start 0 t (spot_of unused t shape))) → P (result_locs (result_at riscv.copy_start buffer t (result_spot_of t)))
+  result_is : (P : List Loc → Type 0) → P [] → P (place_locs (place_at riscv.copy_start 0 t (spot_of untouched t shape))) → P (result_locs (result_at riscv.copy_start buffer t (result_spot_of t)))
   result_is P none h =
-      result_cases (λ spot. P (result_locs (result_at riscv.copy_start buffer t spot))) t (λ e. none) (locs_of P none t buffer (spot_of unused t shape) h)
+      result_cases (λ spot. P (result_locs (result_at riscv.copy_start buffer t spot))) t (λ e. none) (locs_of P none t buffer (spot_of untouched t shape) h)
 
-  result_chain : WordsChain (taken unused) (place_locs (place_at riscv.copy_start 0 t (spot_of unused t shape))) (taken (used_with unused shape))
-  result_chain = spot_chain riscv.copy_start 0 unused t shape (passed_has_room unused true t)
+  result_chain : WordsChain (taken untouched) (place_locs (place_at riscv.copy_start 0 t (spot_of untouched t shape))) (taken (taken_with untouched shape))
+  result_chain = spot_chain riscv.copy_start 0 untouched t shape (passed_has_room untouched true t)
 
   no_stack : (w : ℕ) → w ≤ 2 → 8 * (0 + w - 8) ≤ 0
   no_stack w h = omega (arith, h)
 
   result_apart : AreApart (result_locs (result_at riscv.copy_start buffer t (result_spot_of t)))
-  result_apart = result_is AreApart tt (chain_apart argument_register floating_register 8 8 all_registers (taken unused) _ _ result_chain)
+  result_apart = result_is AreApart tt (chain_apart argument_register floating_register 8 8 all_registers (taken untouched) _ _ result_chain)
 
   result_in_registers : AllByRecursion (LiesIn isa.Riscv 0) (result_locs (result_at riscv.copy_start buffer t (result_spot_of t)))
   result_in_registers =
-      result_is (AllByRecursion (LiesIn isa.Riscv 0)) tt (chain_lies_in argument_register floating_register 8 8 isa.Riscv argument_exists floating_exists (taken unused) _ _ 0 (no_stack (words_of shape) (passed_few unused true t)) result_chain)
+      result_is (AllByRecursion (LiesIn isa.Riscv 0)) tt (chain_lies_in argument_register floating_register 8 8 isa.Riscv argument_exists floating_exists (taken untouched) _ _ 0 (no_stack (words_of shape) (passed_few untouched true t)) result_chain)
 
   result_allowed : AllByRecursion (IsNoneOf (closed_to_results riscv)) (result_locs (result_at riscv.copy_start buffer t (result_spot_of t)))
   result_allowed =
-      result_is (AllByRecursion (IsNoneOf (closed_to_results riscv))) tt (chain_allowed argument_register floating_register 8 8 (closed_to_results riscv) result_allowed_general result_allowed_floating result_allowed_stack (taken unused) _ _ result_chain)
+      result_is (AllByRecursion (IsNoneOf (closed_to_results riscv))) tt (chain_allowed argument_register floating_register 8 8 (closed_to_results riscv) result_allowed_general result_allowed_floating result_allowed_stack (taken untouched) _ _ result_chain)
 
   result_has_all : ResultHasAll t (result_at riscv.copy_start buffer t (result_spot_of t))
   result_has_all =
-      let stands = spot_has_all riscv.copy_start 0 unused t shape (passed_suits unused true t) (passed_small unused true t) in
-      result_cases (λ spot. ResultHasAll t (result_at riscv.copy_start buffer t spot)) t (λ e. e) (all_of t buffer (spot_of unused t shape) stands)
+      let stands = spot_has_all riscv.copy_start 0 untouched t shape (passed_suits untouched true t) (passed_small untouched true t) in
+      result_cases (λ spot. ResultHasAll t (result_at riscv.copy_start buffer t spot)) t (λ e. e) (all_of t buffer (spot_of untouched t shape) stands)
 
   result_filled : ResultIsFilled riscv t (result_at riscv.copy_start buffer t (result_spot_of t))
   result_filled =
-      let fills = spot_filled riscv.copy_start 0 unused t shape (passed_suits unused true t) (passed_floats unused true t) in
-      result_cases (λ spot. ResultIsFilled riscv t (result_at riscv.copy_start buffer t spot)) t (λ e. tt) (filled_of t buffer (spot_of unused t shape) fills)
+      let fills = spot_filled riscv.copy_start 0 untouched t shape (passed_suits untouched true t) (passed_floats untouched true t) in
+      result_cases (λ spot. ResultIsFilled riscv t (result_at riscv.copy_start buffer t spot)) t (λ e. tt) (filled_of t buffer (spot_of untouched t shape) fills)
 
 -- every law of the places
 pub sound : (s : Signature) → IsSound riscv s
@@ -268,9 +268,9 @@ sound s =
       on_stack = plan_lies_in s;
       allowed = plan_allowed s;
       passed = plan_passed s;
-      has_all = arguments_have_all riscv.copy_start (copies_start (placing_of s)) s.fixed (used_at_first s.result_type) 0 s.arguments;
-      filled = arguments_filled riscv.copy_start (copies_start (placing_of s)) s.fixed (used_at_first s.result_type) 0 s.arguments;
-      rising = arguments_rise riscv.copy_start (copies_start (placing_of s)) s.fixed (used_at_first s.result_type) 0 s.arguments;
+      has_all = arguments_have_all riscv.copy_start (copies_start (placing_of s)) s.fixed (taken_at_first s.result_type) 0 s.arguments;
+      filled = arguments_filled riscv.copy_start (copies_start (placing_of s)) s.fixed (taken_at_first s.result_type) 0 s.arguments;
+      rising = arguments_rise riscv.copy_start (copies_start (placing_of s)) s.fixed (taken_at_first s.result_type) 0 s.arguments;
       result_apart = result_apart s.result_type buffer;
       result_in_registers = result_in_registers s.result_type buffer;
       result_allowed = result_allowed s.result_type buffer;
@@ -308,11 +308,11 @@ pub result_loaded : (s : Signature) → AllByRecursion (IsOneOf (result_loads is
 result_loaded s =
     let t = s.result_type in
     let shape = result_shape t in
-    let words = passed_few unused true t in
+    let words = passed_few untouched true t in
     let floats = few_floats shape in
-    result_is t (frame_copies_end riscv s) (AllByRecursion (IsOneOf (result_loads isa.Riscv))) tt (chain_in argument_register floating_register 8 8 (result_loads isa.Riscv) (taken (used_with unused shape)) (no_stack_taken (words_of shape) words) (λ k h. in_results k (omega (arith, h, words))) (λ k h. in_floating_results k (omega (arith, h, floats))) (taken unused) _ (result_chain t (frame_copies_end riscv s)))
+    result_is t (frame_copies_end riscv s) (AllByRecursion (IsOneOf (result_loads isa.Riscv))) tt (chain_in argument_register floating_register 8 8 (result_loads isa.Riscv) (taken (taken_with untouched shape)) (no_stack_taken (words_of shape) words) (λ k h. in_results k (omega (arith, h, words))) (λ k h. in_floating_results k (omega (arith, h, floats))) (taken untouched) _ (result_chain t (frame_copies_end riscv s)))
 
-hidden_saved_if : (t : Tree) (buffer : ℕ) (shape : Shape) → AllByRecursion (IsOneOf (G 10 ∷ [])) (hidden_locs (result_at riscv.copy_start buffer t (result_from (spot_of unused t shape))))
+hidden_saved_if : (t : Tree) (buffer : ℕ) (shape : Shape) → AllByRecursion (IsOneOf (G 10 ∷ [])) (hidden_locs (result_at riscv.copy_start buffer t (result_from (spot_of untouched t shape))))
 hidden_saved_if t buffer OneF = tt
 hidden_saved_if t buffer TwoF = tt
 hidden_saved_if t buffer FI = tt

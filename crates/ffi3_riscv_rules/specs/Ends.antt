@@ -5,8 +5,8 @@ use Rattle.ffi3_type_rules.specs.Signature.{Signature}
 use Rattle.ffi3_place_rules.specs.Sums.{sum_below, end_below}
 use Rattle.ffi3_place_rules.specs.Copies.{CopiesByEnds}
 use Rattle.ffi3_riscv_rules.specs.declared.Shape.{Shape}
-use Rattle.ffi3_riscv_rules.specs.declared.Used.{Used}
-use Rattle.ffi3_riscv_rules.specs.Riscv.{words_of, floats_of, passed_as, is_fixed, first_word, used_at_start, spot_of}
+use Rattle.ffi3_riscv_rules.specs.declared.TakenWords.{TakenWords}
+use Rattle.ffi3_riscv_rules.specs.Riscv.{words_of, floats_of, passed_as, is_fixed, first_word, taken_at_start, spot_of}
 use Rattle.ffi3_riscv_rules.specs.Riscv.{result_shape, is_by_reference, stack_of, placing_of, riscv}
 
 -- how each argument is passed, by its number
@@ -25,12 +25,12 @@ module _ (s : Signature) (passed : ℕ → Shape) where
   abbrev pub floats_before : ℕ → ℕ
   floats_before i = sum_below (λ j. floats_of (passed j)) i
 
-  abbrev pub used_before : ℕ → Used
-  used_before i = record { words = words_before i; floats = floats_before i }
+  abbrev pub taken_before : ℕ → TakenWords
+  taken_before i = record { words = words_before i; floats = floats_before i }
 
   -- where argument i begins
-  abbrev pub start_of : ℕ → Used
-  start_of i = used_at_start (used_before i) (is_fixed s.fixed i) (tree_at s.arguments i)
+  abbrev pub start_of : ℕ → TakenWords
+  start_of i = taken_at_start (taken_before i) (is_fixed s.fixed i) (tree_at s.arguments i)
 
   -- an argument is passed by its shape exactly where it is named and enough registers are left where it begins
   abbrev pub AreChosenByEnds : Type 0
@@ -43,7 +43,7 @@ module _ (s : Signature) (passed : ℕ → Shape) where
     pub one_each : length (placing_of s).arguments ≡ length s.arguments
     pub placed : (i : ℕ) → i < length s.arguments
         → slice_get (placing_of s).arguments i ≡ Some (spot_of (start_of i) (tree_at s.arguments i) (passed i))
-    pub stack_total : (placing_of s).stack_bytes ≡ stack_of (used_before (length s.arguments))
+    pub stack_total : (placing_of s).stack_bytes ≡ stack_of (taken_before (length s.arguments))
 
 -- THE ENDS PLACE A CALL: one way to pass the arguments meets them, and no other one; copies and buffer follow.
 pub record IsPlacedByEnds (s : Signature) : Type 0 where

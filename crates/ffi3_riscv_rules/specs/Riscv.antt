@@ -22,7 +22,7 @@ use Rattle.ffi3_place_rules.specs.Standard.{in_result_pieces, in_buffer, start}
 use Rattle.ffi3_place_rules.specs.Doublewords.{doublewords, filling, doublewords_at, leaf_piece}
 use Rattle.ffi3_riscv_rules.specs.declared.Shape.{Shape}
 use Rattle.ffi3_riscv_rules.specs.declared.Shape.TheVariants.{OneF, TwoF, FI, IF, Words, ByRef}
-use Rattle.ffi3_riscv_rules.specs.declared.Used.{Used}
+use Rattle.ffi3_riscv_rules.specs.declared.TakenWords.{TakenWords}
 
 -- ---- shapes
 
@@ -72,7 +72,7 @@ floats_of (Words n) = 0
 floats_of ByRef = 0
 
 -- Enough of fa0 to fa7 and of a0 to a7 are free for a value of the floating-point convention. The integer convention always has words left. ("Hardware Floating-point Calling Convention", the conditions of each of its paragraphs)
-abbrev pub registers_suffice : Used → Shape → Bool
+abbrev pub registers_suffice : TakenWords → Shape → Bool
 registers_suffice before OneF = nat_le (before.floats + 1) 8
 registers_suffice before TwoF = nat_le (before.floats + 2) 8
 registers_suffice before FI = nat_le (before.floats + 1) 8 && nat_le (before.words + 1) 8
@@ -81,7 +81,7 @@ registers_suffice before (Words n) = true
 registers_suffice before ByRef = true
 
 -- A named argument is passed by its shape where enough registers are free. All others, and variadic arguments, follow the integer convention. ("Hardware Floating-point Calling Convention": "the remainder of this section applies only to named arguments", and "otherwise, it is passed according to the integer calling convention")
-abbrev pub passed_as : Used → Bool → Tree → Shape
+abbrev pub passed_as : TakenWords → Bool → Tree → Shape
 passed_as before fixed t =
     cond {A = Shape} (fixed && registers_suffice before (shape_of t)) (shape_of t) (integer_shape t)
 
@@ -133,7 +133,7 @@ word_pieces w t count =
     doublewords_at (λ j. word (w + j)) (size_of t) (extension t) 0 count
 
 -- where a value stands, by how it is passed
-abbrev pub spot_of : Used → Tree → Shape → Spot
+abbrev pub spot_of : TakenWords → Tree → Shape → Spot
 spot_of before t OneF = in_pieces (floating_piece before.floats (leaf_at t 0) ∷ [])
 spot_of before t TwoF =
     in_pieces (floating_piece before.floats (leaf_at t 0) ∷ floating_piece (before.floats + 1) (leaf_at t 1) ∷ [])
@@ -161,47 +161,47 @@ abbrev pub first_word : Bool → Tree → ℕ → ℕ
 first_word fixed t end =
     cond (is_at_even_word fixed t end) (least_multiple 2 end) end
 
--- what is used where an argument begins, behind others
-abbrev pub used_at_start : Used → Bool → Tree → Used
-used_at_start end fixed t =
+-- what is taken where an argument begins, behind others
+abbrev pub taken_at_start : TakenWords → Bool → Tree → TakenWords
+taken_at_start end fixed t =
     record { words = first_word fixed t end.words; floats = end.floats }
 
--- what is used once a value of this shape is placed behind what was used before
-abbrev pub used_with : Used → Shape → Used
-used_with before shape =
+-- what is taken once a value of this shape is placed behind what was taken before
+abbrev pub taken_with : TakenWords → Shape → TakenWords
+taken_with before shape =
     record { words = before.words + words_of shape; floats = before.floats + floats_of shape }
 
--- how an argument is passed behind others, where it stands, and what is used after it
-module _ (end : Used) (fixed : Bool) (t : Tree) where
+-- how an argument is passed behind others, where it stands, and what is taken after it
+module _ (end : TakenWords) (fixed : Bool) (t : Tree) where
   abbrev pub passed_next : Shape
-  passed_next = passed_as (used_at_start end fixed t) fixed t
+  passed_next = passed_as (taken_at_start end fixed t) fixed t
 
   abbrev pub spot_next : Spot
-  spot_next = spot_of (used_at_start end fixed t) t passed_next
+  spot_next = spot_of (taken_at_start end fixed t) t passed_next
 
-  abbrev pub used_next : Used
-  used_next = used_with (used_at_start end fixed t) passed_next
+  abbrev pub taken_next : TakenWords
+  taken_next = taken_with (taken_at_start end fixed t) passed_next
 
 -- the arguments from number i on
-abbrev pub spots_after : Option ℕ → Used → ℕ → List Tree → List Spot
+abbrev pub spots_after : Option ℕ → TakenWords → ℕ → List Tree → List Spot
 spots_after fixed end i [] = []
 spots_after fixed end i (t ∷ ts) =
-    spot_next end (is_fixed fixed i) t ∷ spots_after fixed (used_next end (is_fixed fixed i) t) (i + 1) ts
+    spot_next end (is_fixed fixed i) t ∷ spots_after fixed (taken_next end (is_fixed fixed i) t) (i + 1) ts
 
-abbrev pub used_after : Option ℕ → Used → ℕ → List Tree → Used
-used_after fixed end i [] = end
-used_after fixed end i (t ∷ ts) =
-    used_after fixed (used_next end (is_fixed fixed i) t) (i + 1) ts
+abbrev pub taken_after : Option ℕ → TakenWords → ℕ → List Tree → TakenWords
+taken_after fixed end i [] = end
+taken_after fixed end i (t ∷ ts) =
+    taken_after fixed (taken_next end (is_fixed fixed i) t) (i + 1) ts
 
 -- ---- results
 
--- what is used where nothing is placed yet
-abbrev pub unused : Used
-unused = record { words = 0; floats = 0 }
+-- what is taken where nothing is placed yet
+abbrev pub untouched : TakenWords
+untouched = record { words = 0; floats = 0 }
 
 -- A result is returned as a first named argument of its type would be passed. Where that is by reference, the address of a buffer is an implicit first argument. ("Integer Calling Convention" and "Hardware Floating-point Calling Convention", on return values)
 abbrev pub result_shape : Tree → Shape
-result_shape t = passed_as unused true t
+result_shape t = passed_as untouched true t
 
 abbrev pub result_from : Spot → ResultSpot
 result_from (in_pieces pieces) = in_result_pieces pieces
@@ -209,7 +209,7 @@ result_from (by_reference at) = in_buffer at
 
 abbrev pub result_spot_of : Tree → ResultSpot
 result_spot_of void = no_result
-result_spot_of t = result_from (spot_of unused t (result_shape t))
+result_spot_of t = result_from (spot_of untouched t (result_shape t))
 
 abbrev pub is_by_reference : Shape → Bool
 is_by_reference OneF = false
@@ -220,23 +220,23 @@ is_by_reference (Words n) = false
 is_by_reference ByRef = true
 
 -- the hidden pointer to a result's buffer takes the first word
-abbrev pub used_at_first : Tree → Used
-used_at_first result_type =
+abbrev pub taken_at_first : Tree → TakenWords
+taken_at_first result_type =
     record { words = cond (is_by_reference (result_shape result_type)) 1 0; floats = 0 }
 
 -- what all arguments use, and the hidden pointer before them
-abbrev pub used_by_all : Signature → Used
-used_by_all s = used_after s.fixed (used_at_first s.result_type) 0 s.arguments
+abbrev pub taken_by_all : Signature → TakenWords
+taken_by_all s = taken_after s.fixed (taken_at_first s.result_type) 0 s.arguments
 
 -- the bytes of the words that stand on the stack
-abbrev pub stack_of : Used → ℕ
+abbrev pub stack_of : TakenWords → ℕ
 stack_of used = 8 * (used.words - 8)
 
 abbrev pub placing_of : Signature → Placing
 placing_of s = record {
-  arguments = spots_after s.fixed (used_at_first s.result_type) 0 s.arguments;
+  arguments = spots_after s.fixed (taken_at_first s.result_type) 0 s.arguments;
   result_spot = result_spot_of s.result_type;
-  stack_bytes = stack_of (used_by_all s);
+  stack_bytes = stack_of (taken_by_all s);
   vector_registers = 0;
 }
 

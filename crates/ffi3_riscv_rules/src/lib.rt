@@ -20,9 +20,9 @@ pub enum Shape {
     ByRef,
 }
 
-/// The integer words and the floating registers that earlier arguments use.
+/// The integer words and the floating registers that earlier arguments take.
 #[derive(Clone, Copy, Debug, PartialEq, Eq)]
-pub struct Used {
+pub struct TakenWords {
     pub words: u64,
     pub floats: u64,
 }

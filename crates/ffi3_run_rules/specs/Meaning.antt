@@ -1,4 +1,4 @@
--- The direct meaning of a program: a recursion on values, without registers, frames or addresses of the stack. Its one number of the machine is the bytes of stack that are left.
+-- The direct meaning of a program, its big-step semantics: a recursion on values, without registers, frames or addresses of the stack. Its one number of the machine is the bytes of stack that are left.
 use Rattle.std.specs.Prelude.{ℕ, zero, suc, ◌+◌, ◌-◌, List, [], ◌∷◌, ◌++◌, length, slice_index_or, Option, Some, None}
 use Rattle.std.specs.Prelude.{if◌then◌else◌, nat_lt}
 use Rattle.ffi3_type_rules.specs.Tree.{Tree}

@@ -12,23 +12,23 @@ use Rattle.ffi3_script.specs.declared.script.Script.{Script}
 use Rattle.ffi3_ask.specs.Stands as ask
 use Rattle.ffi3_ask.specs.Stands.{StandingAgrees}
 use Rattle.ffi3_ask.specs.declared.standing.Standing.{Standing}
-use Rattle.ffi3_board.specs.declared.activation.Activation.{Activation}
-use Rattle.ffi3_board.specs.declared.activation.OpenCall.{OpenCall}
-use Rattle.ffi3_board.specs.declared.activation.Waiting.{Waiting}
-use Rattle.ffi3_board.specs.declared.activation.Who.TheVariants.{Function}
-use Rattle.ffi3_board.specs.declared.board.Board.{Board}
-use Rattle.ffi3_board.specs.Going.{HasGoneIn, HasGoneBack}
-use Rattle.ffi3_board.specs.Activations.{call_inside, calls_of, result_type_at}
-use Rattle.ffi3_board.specs.Served.{HasAccepted}
-use Rattle.ffi3_board.proofs.Blocks.{AreAbove}
-use Rattle.ffi3_board.proofs.Opened.{StaysFrom}
+use Rattle.ffi3_configuration.specs.declared.activation.Activation.{Activation}
+use Rattle.ffi3_configuration.specs.declared.activation.OpenCall.{OpenCall}
+use Rattle.ffi3_configuration.specs.declared.activation.Waiting.{Waiting}
+use Rattle.ffi3_configuration.specs.declared.activation.Who.TheVariants.{Function}
+use Rattle.ffi3_configuration.specs.declared.configuration.Configuration.{Configuration}
+use Rattle.ffi3_configuration.specs.Going.{HasGoneIn, HasGoneBack}
+use Rattle.ffi3_configuration.specs.Activations.{call_inside, calls_of, result_type_at}
+use Rattle.ffi3_configuration.specs.Served.{HasAccepted}
+use Rattle.ffi3_configuration.proofs.Blocks.{AreAbove}
+use Rattle.ffi3_configuration.proofs.Opened.{StaysFrom}
 use Rattle.ffi3_runner.specs.Agreeing.{seen_by, InnermostStands, IsStanding, WillStand, AllWillStand, PositionsAgree}
 use Rattle.ffi3_runner.proofs.Seen.{standing_kept, will_kept, all_will_kept, now_stands, stays_equal, all_above}
 
 last_first : {X : Type 0} (xs : List X) (x : X) → reverse (xs ++ x ∷ []) ≡ x ∷ reverse xs
 last_first xs x = reverse-append xs (x ∷ [])
 
-module _ (s : Script) (natives : List NamedNative) (ss : List Signature) (m m' : State) (low : ℕ) (stays : StaysFrom low m m') (b b' : Board Standing) where
+module _ (s : Script) (natives : List NamedNative) (ss : List Signature) (m m' : State) (low : ℕ) (stays : StaysFrom low m m') (b b' : Configuration Standing) where
   abbrev outer : List (Waiting Standing)
   outer = reverse b.suspended.items
 
@@ -71,7 +71,7 @@ module _ (s : Script) (natives : List NamedNative) (ss : List Signature) (m m' :
       }
 
 -- A CALL WAS ACCEPTED, and nothing waits for it
-pub accepted_stands : (s : Script) (natives : List NamedNative) (ss : List Signature) (m : State) (b b' : Board Standing) (closure : Closure) (standing : Standing) → HasAccepted closure standing b b' → b.suspended.items ≡ [] → ask.who_of standing ≡ function closure.func → ((z : SeenActivation) → z.signature ≡ signature_at ss closure.sig → z.results ≡ [] → StandingAgrees s natives z standing) → PositionsAgree s natives ss m b'
+pub accepted_stands : (s : Script) (natives : List NamedNative) (ss : List Signature) (m : State) (b b' : Configuration Standing) (closure : Closure) (standing : Standing) → HasAccepted closure standing b b' → b.suspended.items ≡ [] → ask.who_of standing ≡ function closure.func → ((z : SeenActivation) → z.signature ≡ signature_at ss closure.sig → z.results ≡ [] → StandingAgrees s natives z standing) → PositionsAgree s natives ss m b'
 accepted_stands s natives ss m b b' closure standing gone none who agrees =
     let new : Activation Standing = record { who = Function closure.func; standing = standing; user = closure.user; results = [] } in
     let items : b'.suspended.items ≡ [] = gone.suspended ∙ none in
@@ -83,7 +83,7 @@ accepted_stands s natives ss m b b' closure standing gone none who agrees =
     record { innermost = subst Q (sym gone.innermost) (subst P (sym call) here); others = subst R (sym items) tt }
 
 -- THE INNERMOST ACTIVATION GOES ON, on a stack that is the same
-pub went_stands : (s : Script) (natives : List NamedNative) (ss : List Signature) (m m' : State) (b b' : Board Standing) (x : Activation Standing) → m'.stack ≡ m.stack → b'.innermost ≡ Some x → b'.served ≡ b.served → b'.suspended.items ≡ b.suspended.items → IsStanding s natives ss m (call_inside b.served (reverse b.suspended.items)) x → AllWillStand s natives ss m b.served (reverse b.suspended.items) → PositionsAgree s natives ss m' b'
+pub went_stands : (s : Script) (natives : List NamedNative) (ss : List Signature) (m m' : State) (b b' : Configuration Standing) (x : Activation Standing) → m'.stack ≡ m.stack → b'.innermost ≡ Some x → b'.served ≡ b.served → b'.suspended.items ≡ b.suspended.items → IsStanding s natives ss m (call_inside b.served (reverse b.suspended.items)) x → AllWillStand s natives ss m b.served (reverse b.suspended.items) → PositionsAgree s natives ss m' b'
 went_stands s natives ss m m' b b' x stack innermost served items stands others =
     let outer = reverse b.suspended.items in
     let stays = stays_equal m m' stack in

@@ -27,11 +27,11 @@ use Rattle.ffi3_io.specs.declared.IoError.TheVariants as cut
 use Rattle.ffi3_io.proofs.Adding.{Adds-along}
 use Rattle.ffi3_io.proofs.Writing.{whole_part}
 use Rattle.ffi3_ask.specs.declared.standing.Standing.{Standing}
-use Rattle.ffi3_board.specs.declared.board.Board.{Board}
-use Rattle.ffi3_board.specs.CallSteps.{call_steps, steps_in, returns_in}
-use Rattle.ffi3_board.specs.Counted.{steps_after}
-use Rattle.ffi3_board.specs.Turned.{IsEnded, WasInterrupted, is_in_line}
-use Rattle.ffi3_board.proofs.Counting.{counts_from_none, main_counts, whole_calls}
+use Rattle.ffi3_configuration.specs.declared.configuration.Configuration.{Configuration}
+use Rattle.ffi3_configuration.specs.CallSteps.{call_steps, steps_in, returns_in}
+use Rattle.ffi3_configuration.specs.Counted.{steps_after}
+use Rattle.ffi3_configuration.specs.Turned.{IsEnded, WasInterrupted, is_in_line}
+use Rattle.ffi3_configuration.proofs.Counting.{counts_from_none, main_counts, whole_calls}
 use Rattle.ffi3_runner.specs.Ran.{Ran}
 use Rattle.ffi3_runner.specs.RunInterrupted.{RunWasInterrupted}
 use Rattle.ffi3_runner.specs.RunMatches.{RunMatches, WrotePart}
@@ -57,7 +57,7 @@ count_of : (target : Target) (n : ℕ) (trace done : List TraceItem) → n ≡ s
 count_of target n trace done is same =
     is ∙ counts_from_none target trace ∙ ap (λ (l : List TraceItem). steps_in target l % 2 ^ 64) same
 
-module _ (p : Program) (std : Standard) (trace : Bool) (b : Board Standing) (m : State) (o o' : SinkState) where
+module _ (p : Program) (std : Standard) (trace : Bool) (b : Configuration Standing) (m : State) (o o' : SinkState) where
   -- the instructions of a run that is over
   counted : (end : End) (closures : Closures) (moves : ℕ) → IsEnded p (main_base std) (remainder_of (meaning_of p)) (main_beginning trace std o) end closures moves m o' → m.steps ≡ steps_in std.target (trace_of p) % 2 ^ 64
   counted end closures moves h =

@@ -10,13 +10,13 @@ use Rattle.ffi3_machine.specs.State.{State, stack_at}
 use Rattle.ffi3_callee.specs.declared.Incoming.{Incoming}
 use Rattle.ffi3_callee.specs.Received.{IsIncoming}
 use Rattle.ffi3_ask.specs.declared.standing.Standing.{Standing}
-use Rattle.ffi3_board.specs.declared.activation.Activation.{Activation}
-use Rattle.ffi3_board.specs.declared.activation.OpenCall.{OpenCall}
-use Rattle.ffi3_board.specs.declared.activation.Waiting.{Waiting}
-use Rattle.ffi3_board.specs.Activations.{calls_below, calls_of}
-use Rattle.ffi3_board.specs.Stack.{HoldsCalls}
-use Rattle.ffi3_board.proofs.Boarding.{popped_holds, reverse-last}
-use Rattle.ffi3_board.proofs.Opened.{block_at, is_incoming, sig_below}
+use Rattle.ffi3_configuration.specs.declared.activation.Activation.{Activation}
+use Rattle.ffi3_configuration.specs.declared.activation.OpenCall.{OpenCall}
+use Rattle.ffi3_configuration.specs.declared.activation.Waiting.{Waiting}
+use Rattle.ffi3_configuration.specs.Activations.{calls_below, calls_of}
+use Rattle.ffi3_configuration.specs.Stack.{HoldsCalls}
+use Rattle.ffi3_configuration.proofs.Configuring.{popped_holds, reverse-last}
+use Rattle.ffi3_configuration.proofs.Opened.{block_at, is_incoming, sig_below}
 use Rattle.ffi3_runner.specs.Agreeing.{seen_by_callee}
 
 module _ {X : Type 0} where

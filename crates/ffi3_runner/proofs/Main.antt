@@ -22,14 +22,14 @@ use Rattle.ffi3_script.specs.declared.script.Script.{Script}
 use Rattle.ffi3_ask.specs.Stands as ask
 use Rattle.ffi3_ask.specs.Stands.{StandingAgrees}
 use Rattle.ffi3_ask.specs.declared.standing.Standing.{Standing}
-use Rattle.ffi3_board.specs.declared.activation.Activation.{Activation}
-use Rattle.ffi3_board.specs.declared.activation.OpenCall.{OpenCall}
-use Rattle.ffi3_board.specs.declared.activation.Waiting.{Waiting}
-use Rattle.ffi3_board.specs.declared.activation.Who.TheVariants.{Main}
-use Rattle.ffi3_board.specs.declared.board.Board.{Board}
-use Rattle.ffi3_board.specs.Between.{Beginning}
-use Rattle.ffi3_board.specs.Activations.{call_inside, who_of}
-use Rattle.ffi3_board.specs.Turned.{StandsAt}
+use Rattle.ffi3_configuration.specs.declared.activation.Activation.{Activation}
+use Rattle.ffi3_configuration.specs.declared.activation.OpenCall.{OpenCall}
+use Rattle.ffi3_configuration.specs.declared.activation.Waiting.{Waiting}
+use Rattle.ffi3_configuration.specs.declared.activation.Who.TheVariants.{Main}
+use Rattle.ffi3_configuration.specs.declared.configuration.Configuration.{Configuration}
+use Rattle.ffi3_configuration.specs.Between.{Beginning}
+use Rattle.ffi3_configuration.specs.Activations.{call_inside, who_of}
+use Rattle.ffi3_configuration.specs.Turned.{StandsAt}
 use Rattle.ffi3_runner.specs.Agreeing.{seen_by_main, IsStanding, AllWillStand, PositionsAgree}
 use Rattle.ffi3_runner.specs.Ran.{Ran}
 use Rattle.ffi3_runner.specs.Ready.{CanGoOn, traced_or_not}
@@ -40,7 +40,7 @@ use Rattle.ffi3_runner.proofs.Ready.{can_go_on}
 use Rattle.ffi3_runner.proofs.Starting.{stands_at_start}
 
 -- main stands before its first move
-pub main_stands : (s : Script) (natives : List NamedNative) (ss : List Signature) (m : State) (b : Board Standing) → IsNew b → (a : Activation Standing) → a.who ≡ Main → a.results ≡ [] → ask.who_of a.standing ≡ main → ((z : SeenActivation) → z.signature ≡ no_signature → z.results ≡ [] → StandingAgrees s natives z a.standing) → PositionsAgree s natives ss m (record b { innermost = Some a })
+pub main_stands : (s : Script) (natives : List NamedNative) (ss : List Signature) (m : State) (b : Configuration Standing) → IsNew b → (a : Activation Standing) → a.who ≡ Main → a.results ≡ [] → ask.who_of a.standing ≡ main → ((z : SeenActivation) → z.signature ≡ no_signature → z.results ≡ [] → StandingAgrees s natives z a.standing) → PositionsAgree s natives ss m (record b { innermost = Some a })
 main_stands s natives ss m b new a is_main none who agrees =
     let here : IsStanding s natives ss m None a = record { who = ap who_of is_main ∙ sym who; agrees = agrees (seen_by_main a) refl none } in
     let P = λ (o : Option OpenCall). IsStanding s natives ss m o a in
@@ -48,7 +48,7 @@ main_stands s natives ss m b new a is_main none who agrees =
     let call : call_inside b.served (reverse b.suspended.items) ≡ None = ap (λ (l : List (Waiting Standing)). call_inside b.served (reverse l)) new.suspended ∙ new.served in
     record { innermost = subst P (sym call) here; others = subst Q (sym new.suspended) tt }
 
-module _ (std : Standard) (s : Script) (natives : List NamedNative) (cifs : List Signature) (prepared : IsPrepared std s natives cifs) (agrees : AgreesWithMachine std) (target : Target) (target_is : std.target ≡ target) (k l : ℕ) (m : State) (begins : m ≡ begun target k l) (o : SinkState) (b : Board Standing) (new : IsNew b) (a : Activation Standing) (who : a.who ≡ Main) (user : a.user ≡ 0) (results : a.results ≡ []) (trace : Bool) where
+module _ (std : Standard) (s : Script) (natives : List NamedNative) (cifs : List Signature) (prepared : IsPrepared std s natives cifs) (agrees : AgreesWithMachine std) (target : Target) (target_is : std.target ≡ target) (k l : ℕ) (m : State) (begins : m ≡ begun target k l) (o : SinkState) (b : Configuration Standing) (new : IsNew b) (a : Activation Standing) (who : a.who ≡ Main) (user : a.user ≡ 0) (results : a.results ≡ []) (trace : Bool) where
   pub starts_here : StandsAt (program std s natives) (main_base std) (remainder_of (meaning_of (program std s natives))) (main_beginning trace std o) [] [] (record b { innermost = Some a }) m o
   starts_here =
       let P = λ (x : State). StandsAt (program std s natives) (main_base std) (remainder_of (meaning_of (program std s natives))) (main_beginning trace std o) [] [] (record b { innermost = Some a }) x o in
@@ -56,11 +56,11 @@ module _ (std : Standard) (s : Script) (natives : List NamedNative) (cifs : List
       subst P same (stands_at_start (program std s natives) std refl agrees k l o trace b new a who user results)
 
 -- where a run of main starts
-module _ (std : Standard) (s : Script) (natives : List NamedNative) (cifs : List Signature) (prepared : IsPrepared std s natives cifs) (trace : Bool) (m : State) (o : SinkState) (b : Board Standing) (stands : StandsAt (program std s natives) (main_base std) (remainder_of (meaning_of (program std s natives))) (main_beginning trace std o) [] [] b m o) where
+module _ (std : Standard) (s : Script) (natives : List NamedNative) (cifs : List Signature) (prepared : IsPrepared std s natives cifs) (trace : Bool) (m : State) (o : SinkState) (b : Configuration Standing) (stands : StandsAt (program std s natives) (main_base std) (remainder_of (meaning_of (program std s natives))) (main_beginning trace std o) [] [] b m o) where
   pub start_between : CanGoOn std (program std s natives) traced_or_not b m
   start_between =
       can_go_on std (program std s natives) (main_base std) (remainder_of (meaning_of (program std s natives))) (main_beginning trace std o) [] [] (λ t. main_tracing t std) b m o refl (main_is_traced (program std s natives) std) stands
 
-  pub main_ran : (b' : Board Standing) (m' : State) (o' : SinkState) (t : RunEnd) → ((base : Base) (all : Remainder) (first : Beginning) (own : List TraceItem) (events : List Event) → base.standard ≡ std → IsTracingOf (program std s natives) base trace first.tracing → StandsAt (program std s natives) base all first own events b m o → Ran (program std s natives) base all first b' m' o' t) → Ran (program std s natives) (main_base std) (remainder_of (meaning_of (program std s natives))) (main_beginning trace std o) b' m' o' t
+  pub main_ran : (b' : Configuration Standing) (m' : State) (o' : SinkState) (t : RunEnd) → ((base : Base) (all : Remainder) (first : Beginning) (own : List TraceItem) (events : List Event) → base.standard ≡ std → IsTracingOf (program std s natives) base trace first.tracing → StandsAt (program std s natives) base all first own events b m o → Ran (program std s natives) base all first b' m' o' t) → Ran (program std s natives) (main_base std) (remainder_of (meaning_of (program std s natives))) (main_beginning trace std o) b' m' o' t
   main_ran b' m' o' t ran =
       ran (main_base std) (remainder_of (meaning_of (program std s natives))) (main_beginning trace std o) [] [] refl (main_is_traced (program std s natives) std trace) stands

@@ -26,8 +26,8 @@ use Rattle.ffi3_run_rules.specs.Move as run
 use Rattle.ffi3_run_rules.specs.Trace.{TraceItem}
 use Rattle.ffi3_turn_rules.specs.Remainder.{Remainder}
 use Rattle.ffi3_turn_rules.specs.SoFar.{Base}
-use Rattle.ffi3_board.specs.Between.{Beginning, RunState, IsAsking}
-use Rattle.ffi3_board.specs.Known.{LeadsTo}
+use Rattle.ffi3_configuration.specs.Between.{Beginning, RunState, IsAsking}
+use Rattle.ffi3_configuration.specs.Known.{LeadsTo}
 use Rattle.ffi3_ask.specs.Handed.{signatures_in}
 use Rattle.ffi3_runner.specs.Running.{program, IsPrepared}
 use Rattle.ffi3_runner.proofs.Turning.{count_of_functions}

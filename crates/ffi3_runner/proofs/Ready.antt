@@ -12,18 +12,18 @@ use Rattle.ffi3_turn_rules.specs.TracingOf.{IsTracingOf}
 use Rattle.ffi3_machine.specs.State.{State}
 use Rattle.ffi3_io.specs.Sink.{SinkState}
 use Rattle.ffi3_ask.specs.declared.standing.Standing.{Standing}
-use Rattle.ffi3_board.specs.declared.board.Board.{Board}
-use Rattle.ffi3_board.specs.declared.board.Turn.{Turn}
-use Rattle.ffi3_board.specs.declared.board.Turn.TheVariants as turn
-use Rattle.ffi3_board.specs.Between.{Beginning, anew}
-use Rattle.ffi3_board.specs.Turned.{StandsAt, WentOn}
-use Rattle.ffi3_board.proofs.Since.{board_looked_at}
+use Rattle.ffi3_configuration.specs.declared.configuration.Configuration.{Configuration}
+use Rattle.ffi3_configuration.specs.declared.configuration.Turn.{Turn}
+use Rattle.ffi3_configuration.specs.declared.configuration.Turn.TheVariants as turn
+use Rattle.ffi3_configuration.specs.Between.{Beginning, anew}
+use Rattle.ffi3_configuration.specs.Turned.{StandsAt, WentOn}
+use Rattle.ffi3_configuration.proofs.Since.{configuration_looked_at}
 use Rattle.ffi3_runner.specs.Ready.{CanGoOn, traced_or_not}
 use Rattle.ffi3_runner.proofs.Running.{Turns}
 use Rattle.ffi3_runner.proofs.Turning.{went_on}
 
 -- where it stands for one output
-pub can_go_on : (std : Standard) (p : Program) (base : Base) (all : Remainder) (first : Beginning) (own : List TraceItem) (events : List Event) (tracing : Bool → Tracing) (b : Board Standing) (m : State) (o : SinkState) → base.standard ≡ std → ((trace : Bool) → IsTracingOf p base trace (tracing trace)) → StandsAt p base all first own events b m o → CanGoOn std p traced_or_not b m
+pub can_go_on : (std : Standard) (p : Program) (base : Base) (all : Remainder) (first : Beginning) (own : List TraceItem) (events : List Event) (tracing : Bool → Tracing) (b : Configuration Standing) (m : State) (o : SinkState) → base.standard ≡ std → ((trace : Bool) → IsTracingOf p base trace (tracing trace)) → StandsAt p base all first own events b m o → CanGoOn std p traced_or_not b m
 can_go_on std p base all first own events tracing b m o standard traced h = record {
   base = base;
   all = all;
@@ -33,10 +33,10 @@ can_go_on std p base all first own events tracing b m o standard traced h = reco
   tracing = tracing;
   standard = standard;
   traced = λ trace _. traced trace;
-  stands = board_looked_at p base all first own events b m o b.innermost h;
+  stands = configuration_looked_at p base all first own events b m o b.innermost h;
 }
 
-module _ (std : Standard) (p : Program) (traces : Bool → Bool) (b : Board Standing) (m : State) (h : CanGoOn std p traces b m) (trace : Bool) (with_it : traces trace ≡ true) (o : SinkState) where
+module _ (std : Standard) (p : Program) (traces : Bool → Bool) (b : Configuration Standing) (m : State) (h : CanGoOn std p traces b m) (trace : Bool) (with_it : traces trace ≡ true) (o : SinkState) where
   abbrev seen : Beginning
   seen = anew (h.tracing trace) o p h.base h.own h.first
 
@@ -44,7 +44,7 @@ module _ (std : Standard) (p : Program) (traces : Bool → Bool) (b : Board Stan
   pub stands_here : (base : Base) × (all : Remainder) × (first : Beginning) × (own : List TraceItem) × (events : List Event) × (base.standard ≡ std) × IsTracingOf p base trace first.tracing × StandsAt p base all first own events b m o
   stands_here = (h.base, h.all, seen, h.own, h.events, h.standard, h.traced trace with_it, h.stands (h.tracing trace) o)
 
-  module _ (b' : Board Standing) (m' : State) (o' : SinkState) (t : Turn) (turned : Turns std trace p b m o b' m' o' t) (more : t ≡ turn.More) where
+  module _ (b' : Configuration Standing) (m' : State) (o' : SinkState) (t : Turn) (turned : Turns std trace p b m o b' m' o' t) (more : t ≡ turn.More) where
     went : WentOn p h.base h.all seen h.own b.moves b' m' o'
     went =
         went_on p h.base h.all seen h.own b.moves b' m' o' t (turned h.base h.all seen h.own h.events h.standard (h.traced trace with_it) (h.stands (h.tracing trace) o)) more

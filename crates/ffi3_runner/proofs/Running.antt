@@ -12,21 +12,21 @@ use Rattle.ffi3_turn_rules.specs.TracingOf.{IsTracingOf}
 use Rattle.ffi3_machine.specs.State.{State}
 use Rattle.ffi3_io.specs.Sink.{SinkState}
 use Rattle.ffi3_ask.specs.declared.standing.Standing.{Standing}
-use Rattle.ffi3_board.specs.declared.board.Board.{Board}
-use Rattle.ffi3_board.specs.declared.board.Turn.{Turn}
-use Rattle.ffi3_board.specs.declared.board.Turn.TheVariants as turn
-use Rattle.ffi3_board.specs.Between.{Beginning}
-use Rattle.ffi3_board.specs.Turned.{StandsAt, Turned}
+use Rattle.ffi3_configuration.specs.declared.configuration.Configuration.{Configuration}
+use Rattle.ffi3_configuration.specs.declared.configuration.Turn.{Turn}
+use Rattle.ffi3_configuration.specs.declared.configuration.Turn.TheVariants as turn
+use Rattle.ffi3_configuration.specs.Between.{Beginning}
+use Rattle.ffi3_configuration.specs.Turned.{StandsAt, Turned}
 use Rattle.ffi3_runner.specs.Ran.{ComesTo, Ran}
 use Rattle.ffi3_runner.specs.declared.run.RunEnd.TheVariants as run
 use Rattle.ffi3_runner.proofs.Turning.{went_on}
 
 -- what a move's answer says, from any moment
-abbrev pub Turns : Standard → (trace : Bool) → Program → Board Standing → State → SinkState → Board Standing → State → SinkState → Turn → Type 0
+abbrev pub Turns : Standard → (trace : Bool) → Program → Configuration Standing → State → SinkState → Configuration Standing → State → SinkState → Turn → Type 0
 Turns std trace p b m o b' m' o' t =
     (base : Base) (all : Remainder) (first : Beginning) (own : List TraceItem) (events : List Event) → base.standard ≡ std → IsTracingOf p base trace first.tracing → StandsAt p base all first own events b m o → Turned p base all first own b.moves b' m' o' t
 
-module _ (std : Standard) (trace : Bool) (p : Program) (b₀ b b' : Board Standing) (m₀ m m' : State) (o₀ o o' : SinkState) where
+module _ (std : Standard) (trace : Bool) (p : Program) (b₀ b b' : Configuration Standing) (m₀ m m' : State) (o₀ o o' : SinkState) where
   pub comes_nowhere : ComesTo std trace p b₀ m₀ o₀ b₀ m₀ o₀
   comes_nowhere = λ base all first own events standard tracing h. (own, events, h)
 

@@ -10,13 +10,13 @@ use Rattle.ffi3_script.specs.declared.script.Script.{Script}
 use Rattle.ffi3_ask.specs.Stands.{StandingAgrees}
 use Rattle.ffi3_script_body.specs.Agrees.{one_more}
 use Rattle.ffi3_ask.specs.declared.standing.Standing.{Standing}
-use Rattle.ffi3_board.specs.declared.activation.Activation.{Activation}
-use Rattle.ffi3_board.specs.declared.activation.OpenCall.{OpenCall}
-use Rattle.ffi3_board.specs.declared.activation.Waiting.{Waiting}
-use Rattle.ffi3_board.specs.Going.{and_result}
-use Rattle.ffi3_board.specs.Activations.{calls_below, call_inside, calls_of}
-use Rattle.ffi3_board.proofs.Blocks.{AreAbove}
-use Rattle.ffi3_board.proofs.Opened.{StaysFrom}
+use Rattle.ffi3_configuration.specs.declared.activation.Activation.{Activation}
+use Rattle.ffi3_configuration.specs.declared.activation.OpenCall.{OpenCall}
+use Rattle.ffi3_configuration.specs.declared.activation.Waiting.{Waiting}
+use Rattle.ffi3_configuration.specs.Going.{and_result}
+use Rattle.ffi3_configuration.specs.Activations.{calls_below, call_inside, calls_of}
+use Rattle.ffi3_configuration.proofs.Blocks.{AreAbove}
+use Rattle.ffi3_configuration.proofs.Opened.{StaysFrom}
 use Rattle.ffi3_runner.specs.Agreeing.{seen_by, seen_by_callee, IsStanding, WillStand, AllWillStand}
 
 -- with one result more

@@ -18,13 +18,13 @@ use Rattle.ffi3_io.specs.Written.{TookText}
 use Rattle.ffi3_io.specs.declared.IoError.{IoError}
 use Rattle.ffi3_invoke.specs.Calls.{entered_closure, entry_at}
 use Rattle.ffi3_ask.specs.declared.standing.Standing.{Standing}
-use Rattle.ffi3_board.specs.declared.board.Board.{Board}
-use Rattle.ffi3_board.specs.Between.{Beginning}
-use Rattle.ffi3_board.specs.Accepted.{WasInterruptedAtEntry}
-use Rattle.ffi3_board.specs.Served.{ShowsCall, served_base, served_beginning, served_left, served_tracing}
-use Rattle.ffi3_board.specs.TraceLines.{entry_lines}
-use Rattle.ffi3_board.proofs.Accepting.{served_is_traced}
-use Rattle.ffi3_board.specs.Turned.{StandsAt}
+use Rattle.ffi3_configuration.specs.declared.configuration.Configuration.{Configuration}
+use Rattle.ffi3_configuration.specs.Between.{Beginning}
+use Rattle.ffi3_configuration.specs.Accepted.{WasInterruptedAtEntry}
+use Rattle.ffi3_configuration.specs.Served.{ShowsCall, served_base, served_beginning, served_left, served_tracing}
+use Rattle.ffi3_configuration.specs.TraceLines.{entry_lines}
+use Rattle.ffi3_configuration.proofs.Accepting.{served_is_traced}
+use Rattle.ffi3_configuration.specs.Turned.{StandsAt}
 use Rattle.ffi3_runner.specs.Ran.{Ran}
 use Rattle.ffi3_runner.specs.Ready.{CanGoOn, traced_or_not}
 use Rattle.ffi3_runner.specs.Serving.{IsAtEntry, HasRun, HasNotRun, Served, end_of}
@@ -44,7 +44,7 @@ shows_found std p closures m found closure arguments cifs are live at =
     let Q = λ (l : List Signature). ShowsCall std (signature_at l found.sig) arguments m in
     subst Q (sym are) (subst P same at.shows)
 
-module _ (std : Standard) (trace : Bool) (p : Program) (b b₁ : Board Standing) (m m₁ : State) (o o₁ : SinkState) (found : Closure) (cifs : List Signature) (are : cifs ≡ p.signatures) (live : closure_at b.table (entered_closure m) ≡ Some found) where
+module _ (std : Standard) (trace : Bool) (p : Program) (b b₁ : Configuration Standing) (m m₁ : State) (o o₁ : SinkState) (found : Closure) (cifs : List Signature) (are : cifs ≡ p.signatures) (live : closure_at b.table (entered_closure m) ≡ Some found) where
   abbrev s : Signature
   s = signature_at p.signatures found.sig
 
@@ -62,7 +62,7 @@ module _ (std : Standard) (trace : Bool) (p : Program) (b b₁ : Board Standing)
         can_go_on std p base (served_left std p found arguments m b.table b.moves) first [] [] (λ t. served_tracing t std p.signatures found.sig m) b₁ m₁ o₁ refl (served_is_traced p std found.sig m) (begins arguments shows).1
 
     -- THE CALL RAN
-    pub call_served : (b' : Board Standing) (m' : State) (o' : SinkState) (t : RunEnd) → ((base : Base) (all : Remainder) (first : Beginning) (own : List TraceItem) (events : List Event) → base.standard ≡ std → IsTracingOf p base trace first.tracing → StandsAt p base all first own events b₁ m₁ o₁ → Ran p base all first b' m' o' t) → Served std trace p b m o b' m' o' t
+    pub call_served : (b' : Configuration Standing) (m' : State) (o' : SinkState) (t : RunEnd) → ((base : Base) (all : Remainder) (first : Beginning) (own : List TraceItem) (events : List Event) → base.standard ≡ std → IsTracingOf p base trace first.tracing → StandsAt p base all first own events b₁ m₁ o₁ → Ran p base all first b' m' o' t) → Served std trace p b m o b' m' o' t
     call_served b' m' o' t ran = λ closure arguments at.
         let same = one_closure b.table (entered_closure m) found closure live at.live in
         let shows = shows_found std p b.table m found closure arguments cifs are live at in
@@ -83,13 +83,13 @@ module _ (std : Standard) (trace : Bool) (p : Program) (b b₁ : Board Standing)
       inr (subst (λ (c : Closure). HasNotRun std trace p c arguments b m o m₁ o₁ t) same here)
 
 -- THE TARGET STAYS, however a run ended
-ran_target : (p : Program) (began : Base) (all : Remainder) (found : Beginning) (b : Board Standing) (m : State) (o : SinkState) (t : RunEnd) → Ran p began all found b m o t → m.target ≡ began.standard.target
+ran_target : (p : Program) (began : Base) (all : Remainder) (found : Beginning) (b : Configuration Standing) (m : State) (o : SinkState) (t : RunEnd) → Ran p began all found b m o t → m.target ≡ began.standard.target
 ran_target p began all found b m o run.Done ran = ran.ended.target
 ran_target p began all found b m o (run.Stopped stop) ran = ran.target
 ran_target p began all found b m o run.NoMemory ran = ran.target
 ran_target p began all found b m o run.Failed ran = ran.target
 
-module _ (std : Standard) (trace : Bool) (p : Program) (closure : Closure) (arguments : List ValueTree) (b b' : Board Standing) (m m' : State) (o o' : SinkState) (t : RunEnd) where
+module _ (std : Standard) (trace : Bool) (p : Program) (closure : Closure) (arguments : List ValueTree) (b b' : Configuration Standing) (m m' : State) (o o' : SinkState) (t : RunEnd) where
   target_is : HasRun std trace p closure arguments b m o b' m' o' t ⊎ HasNotRun std trace p closure arguments b m o m' o' t → m'.target ≡ std.target
   target_is (inl has) =
       ran_target p (served_base std p.signatures closure.sig m) (served_left std p closure arguments m b.table b.moves) (served_beginning std (signature_at p.signatures closure.sig) m has.told (served_tracing trace std p.signatures closure.sig m)) b' m' o' t has.ran

@@ -20,15 +20,15 @@ use Rattle.ffi3_closures.specs.Slots.{HoldsMap}
 use Rattle.ffi3_io.specs.Sink.{SinkState}
 use Rattle.ffi3_io.proofs.Writing.{took_nothing}
 use Rattle.ffi3_ask.specs.declared.standing.Standing.{Standing}
-use Rattle.ffi3_board.specs.declared.activation.Activation.{Activation}
-use Rattle.ffi3_board.specs.declared.activation.OpenCall.{OpenCall}
-use Rattle.ffi3_board.specs.declared.activation.Waiting.{Waiting}
-use Rattle.ffi3_board.specs.declared.activation.Who.TheVariants.{Main}
-use Rattle.ffi3_board.specs.declared.board.Board.{Board}
-use Rattle.ffi3_board.specs.Between.{RunState, IsBetween, run_state, run_state_with}
-use Rattle.ffi3_board.specs.Activations.{acting, who_of}
-use Rattle.ffi3_board.specs.Turned.{StandsAt}
-use Rattle.ffi3_board.proofs.Closed.{none_known}
+use Rattle.ffi3_configuration.specs.declared.activation.Activation.{Activation}
+use Rattle.ffi3_configuration.specs.declared.activation.OpenCall.{OpenCall}
+use Rattle.ffi3_configuration.specs.declared.activation.Waiting.{Waiting}
+use Rattle.ffi3_configuration.specs.declared.activation.Who.TheVariants.{Main}
+use Rattle.ffi3_configuration.specs.declared.configuration.Configuration.{Configuration}
+use Rattle.ffi3_configuration.specs.Between.{RunState, IsBetween, run_state, run_state_with}
+use Rattle.ffi3_configuration.specs.Activations.{acting, who_of}
+use Rattle.ffi3_configuration.specs.Turned.{StandsAt}
+use Rattle.ffi3_configuration.proofs.Closed.{none_known}
 use Rattle.ffi3_runner.specs.Running.{IsNew}
 use Rattle.ffi3_runner.specs.Started.{main_beginning}
 
@@ -81,7 +81,7 @@ module _ (p : Program) (std : Standard) (needs : p.need ≡ need_of std) (agrees
   }
 
   -- THE RUN STANDS at main's first move
-  module _ (b : Board Standing) (new : IsNew b) (a : Activation Standing) (who : a.who ≡ Main) (user : a.user ≡ 0) (results : a.results ≡ []) where
+  module _ (b : Configuration Standing) (new : IsNew b) (a : Activation Standing) (who : a.who ≡ Main) (user : a.user ≡ 0) (results : a.results ≡ []) where
     acts : acting p.signatures machine None a ≡ main_call
     acts =
         λ i. record { who = who_of (who i); arguments = []; user = user i; left = stack_size; results = results i }

@@ -24,16 +24,16 @@ use Rattle.ffi3_ask.specs.Stands as ask
 use Rattle.ffi3_ask.specs.Stands.{StandingAgrees}
 use Rattle.ffi3_script_body.specs.Agrees.{one_more}
 use Rattle.ffi3_ask.specs.declared.standing.Standing.{Standing}
-use Rattle.ffi3_board.specs.declared.activation.Activation.{Activation}
-use Rattle.ffi3_board.specs.declared.activation.OpenCall.{OpenCall}
-use Rattle.ffi3_board.specs.declared.activation.Waiting.{Waiting}
-use Rattle.ffi3_board.specs.declared.board.Board.{Board}
-use Rattle.ffi3_board.specs.Between.{Beginning, ResultsWithinMoves, IsBetween, IsAsking, run_state}
-use Rattle.ffi3_board.specs.Going.{and_result}
-use Rattle.ffi3_board.specs.Activations.{who_of, acting, arguments_at, call_inside, suspended_at, result_type_at, AreShort}
-use Rattle.ffi3_board.specs.Turned.{StandsAt, StandsWith, Turned, WentOn}
-use Rattle.ffi3_board.specs.declared.board.Turn.{Turn}
-use Rattle.ffi3_board.specs.declared.board.Turn.TheVariants as turn
+use Rattle.ffi3_configuration.specs.declared.activation.Activation.{Activation}
+use Rattle.ffi3_configuration.specs.declared.activation.OpenCall.{OpenCall}
+use Rattle.ffi3_configuration.specs.declared.activation.Waiting.{Waiting}
+use Rattle.ffi3_configuration.specs.declared.configuration.Configuration.{Configuration}
+use Rattle.ffi3_configuration.specs.Between.{Beginning, ResultsWithinMoves, IsBetween, IsAsking, run_state}
+use Rattle.ffi3_configuration.specs.Going.{and_result}
+use Rattle.ffi3_configuration.specs.Activations.{who_of, acting, arguments_at, call_inside, suspended_at, result_type_at, AreShort}
+use Rattle.ffi3_configuration.specs.Turned.{StandsAt, StandsWith, Turned, WentOn}
+use Rattle.ffi3_configuration.specs.declared.configuration.Turn.{Turn}
+use Rattle.ffi3_configuration.specs.declared.configuration.Turn.TheVariants as turn
 use Rattle.ffi3_runner.specs.Agreeing.{seen_by, InnermostStands, IsStanding, WillStand, PositionsAgree}
 use Rattle.ffi3_runner.specs.Running.{program, IsPrepared}
 use Rattle.ffi3_runner.proofs.Seen.{seen_more, seen_still}
@@ -59,17 +59,17 @@ after_stands s natives ss m call a b r same who who' agrees =
       agrees = subst (λ (z : SeenActivation). StandingAgrees s natives z b.standing) (sym (seen_more ss m call b r ∙ ap (λ (z : SeenActivation). one_more z r) seen)) agrees;
     }
 
--- the innermost of a board that stands
-pub innermost_stands : (s : Script) (natives : List NamedNative) (ss : List Signature) (m : State) (b : Board Standing) (a : Activation Standing) → b.innermost ≡ Some a → PositionsAgree s natives ss m b → IsStanding s natives ss m (call_inside b.served (reverse b.suspended.items)) a
+-- the innermost of a configuration that stands
+pub innermost_stands : (s : Script) (natives : List NamedNative) (ss : List Signature) (m : State) (b : Configuration Standing) (a : Activation Standing) → b.innermost ≡ Some a → PositionsAgree s natives ss m b → IsStanding s natives ss m (call_inside b.served (reverse b.suspended.items)) a
 innermost_stands s natives ss m b a is h =
     subst (λ (i : Option (Activation Standing)). InnermostStands s natives ss m (call_inside b.served (reverse b.suspended.items)) i) is h.innermost
 
-module _ (p : Program) (base : Base) (all : Remainder) (first : Beginning) (own : List TraceItem) (events : List Event) (b : Board Standing) (a : Activation Standing) (m : State) (output : SinkState) where
+module _ (p : Program) (base : Base) (all : Remainder) (first : Beginning) (own : List TraceItem) (events : List Event) (b : Configuration Standing) (a : Activation Standing) (m : State) (output : SinkState) where
   pub between_of : b.innermost ≡ Some a → StandsAt p base all first own events b m output → IsBetween p base all first own events (run_state p.signatures a b m output)
   between_of is h =
       subst (λ (i : Option (Activation Standing)). StandsWith p base all first own events b m output i) is h
 
-  -- THE INNERMOST ACTIVATION ASKS FOR ITS MOVE, which was counted. Meanwhile it was taken from the board, and its place in its body is known further on.
+  -- THE INNERMOST ACTIVATION ASKS FOR ITS MOVE, which was counted. Meanwhile it was taken from the configuration, and its place in its body is known further on.
   pub is_asking : (i : Option (Activation Standing)) (k : ℕ) (z : Activation Standing) (asked : Move) → b.innermost ≡ Some a → b.moves ≡ suc k → z ≡ record a { standing = z.standing } → StandsAt p base all first own events b m output → next_move p (acting p.signatures m (call_inside b.served (reverse b.suspended.items)) a) ≡ asked → IsAsking p base all first own events (run_state p.signatures z (record b { innermost = i; moves = k }) m output) asked
   is_asking i k z asked is counted same h next =
       let between = between_of is h in
@@ -102,7 +102,7 @@ count_of_functions std s natives =
 
 -- ---- the whole of it, by what a runner has
 
-module _ (std : Standard) (s : Script) (natives : List NamedNative) (cifs : List Signature) (prepared : IsPrepared std s natives cifs) (b : Board Standing) (m : State) (output : SinkState) (a z : Activation Standing) (i : Option (Activation Standing)) (k : ℕ) (is : b.innermost ≡ Some a) (counted : b.moves ≡ suc k) (stand : PositionsAgree s natives cifs m b) (same : z ≡ record a { standing = z.standing }) (Later : ValueTree → Type 0) (asked mv : Move) (it : IsAsked (program std s natives) (ask.who_of a.standing) (seen_by cifs m (call_inside b.served (reverse b.suspended.items)) a) Later asked) (what : asked ≡ mv) where
+module _ (std : Standard) (s : Script) (natives : List NamedNative) (cifs : List Signature) (prepared : IsPrepared std s natives cifs) (b : Configuration Standing) (m : State) (output : SinkState) (a z : Activation Standing) (i : Option (Activation Standing)) (k : ℕ) (is : b.innermost ≡ Some a) (counted : b.moves ≡ suc k) (stand : PositionsAgree s natives cifs m b) (same : z ≡ record a { standing = z.standing }) (Later : ValueTree → Type 0) (asked mv : Move) (it : IsAsked (program std s natives) (ask.who_of a.standing) (seen_by cifs m (call_inside b.served (reverse b.suspended.items)) a) Later asked) (what : asked ≡ mv) where
   next_is : next_move (program std s natives) (acting (program std s natives).signatures m (call_inside b.served (reverse b.suspended.items)) a) ≡ mv
   next_is =
       let p = program std s natives in
@@ -124,19 +124,19 @@ module _ (std : Standard) (s : Script) (natives : List NamedNative) (cifs : List
       it.after r (subst (λ (x : Move). IsOfType r (result_type_of (program std s natives).signatures x)) (sym what) typed)
 
 -- the same with an equal number of moves
-pub turned_as : {S : Type 0} (p : Program) (base : Base) (all : Remainder) (first : Beginning) (own : List TraceItem) (n n' : ℕ) (b : Board S) (m : State) (o : SinkState) (t : Turn) → n ≡ n' → Turned p base all first own n b m o t → Turned p base all first own n' b m o t
+pub turned_as : {S : Type 0} (p : Program) (base : Base) (all : Remainder) (first : Beginning) (own : List TraceItem) (n n' : ℕ) (b : Configuration S) (m : State) (o : SinkState) (t : Turn) → n ≡ n' → Turned p base all first own n b m o t → Turned p base all first own n' b m o t
 turned_as p base all first own n n' b m o t same h =
     subst (λ (k : ℕ). Turned p base all first own k b m o t) same h
 
 -- where no move is left the run does not go on
-pub never_more : {S : Type 0} (p : Program) (base : Base) (all : Remainder) (first : Beginning) (own : List TraceItem) (b : Board S) (m : State) (o : SinkState) (t : Turn) → Turned p base all first own 0 b m o t → t ≡ turn.More → ⊥
+pub never_more : {S : Type 0} (p : Program) (base : Base) (all : Remainder) (first : Beginning) (own : List TraceItem) (b : Configuration S) (m : State) (o : SinkState) (t : Turn) → Turned p base all first own 0 b m o t → t ≡ turn.More → ⊥
 never_more p base all first own b m o t h more =
     let went = subst (λ (u : Turn). Turned p base all first own 0 b m o u) more h in
     let counted : 0 ≡ suc b.moves = went.counted in
     omega (arith, counted)
 
 -- where it goes on
-pub went_on : {S : Type 0} (p : Program) (base : Base) (all : Remainder) (first : Beginning) (own : List TraceItem) (n : ℕ) (b : Board S) (m : State) (o : SinkState) (t : Turn) → Turned p base all first own n b m o t → t ≡ turn.More → WentOn p base all first own n b m o
+pub went_on : {S : Type 0} (p : Program) (base : Base) (all : Remainder) (first : Beginning) (own : List TraceItem) (n : ℕ) (b : Configuration S) (m : State) (o : SinkState) (t : Turn) → Turned p base all first own n b m o t → t ≡ turn.More → WentOn p base all first own n b m o
 went_on p base all first own n b m o t h more =
     subst (λ (u : Turn). Turned p base all first own n b m o u) more h
 

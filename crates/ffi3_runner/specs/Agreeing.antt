@@ -12,11 +12,11 @@ use Rattle.ffi3_script.specs.declared.script.Script.{Script}
 use Rattle.ffi3_ask.specs.Stands as ask
 use Rattle.ffi3_ask.specs.Stands.{StandingAgrees}
 use Rattle.ffi3_ask.specs.declared.standing.Standing.{Standing}
-use Rattle.ffi3_board.specs.declared.activation.Activation.{Activation}
-use Rattle.ffi3_board.specs.declared.activation.OpenCall.{OpenCall}
-use Rattle.ffi3_board.specs.declared.activation.Waiting.{Waiting}
-use Rattle.ffi3_board.specs.declared.board.Board.{Board}
-use Rattle.ffi3_board.specs.Activations.{who_of, call_inside}
+use Rattle.ffi3_configuration.specs.declared.activation.Activation.{Activation}
+use Rattle.ffi3_configuration.specs.declared.activation.OpenCall.{OpenCall}
+use Rattle.ffi3_configuration.specs.declared.activation.Waiting.{Waiting}
+use Rattle.ffi3_configuration.specs.declared.configuration.Configuration.{Configuration}
+use Rattle.ffi3_configuration.specs.Activations.{who_of, call_inside}
 
 -- what main's activation has seen
 abbrev pub seen_by_main : Activation Standing → SeenActivation
@@ -64,6 +64,6 @@ InnermostStands s natives signatures m call (Some a) = IsStanding s natives sign
 
 -- ALL ACTIVATIONS STAND IN THEIR BODIES: the innermost where its next move is asked for, those around it where the move after their call's result is.
 pub record PositionsAgree (s : Script) (natives : List NamedNative) (signatures : List Signature) (m : State)
-    (b : Board Standing) : Type 0 where
+    (b : Configuration Standing) : Type 0 where
   pub innermost : InnermostStands s natives signatures m (call_inside b.served (reverse b.suspended.items)) b.innermost
   pub others : AllWillStand s natives signatures m b.served (reverse b.suspended.items)

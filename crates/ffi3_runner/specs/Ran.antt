@@ -11,21 +11,21 @@ use Rattle.ffi3_machine.specs.State.{State}
 use Rattle.ffi3_io.specs.Sink.{SinkState}
 use Rattle.ffi3_io.specs.declared.IoError.TheVariants as cut
 use Rattle.ffi3_ask.specs.declared.standing.Standing.{Standing}
-use Rattle.ffi3_board.specs.declared.board.Board.{Board}
-use Rattle.ffi3_board.specs.Between.{Beginning}
-use Rattle.ffi3_board.specs.Turned.{IsDone, IsEnded, StandsAt, WasInterrupted}
+use Rattle.ffi3_configuration.specs.declared.configuration.Configuration.{Configuration}
+use Rattle.ffi3_configuration.specs.Between.{Beginning}
+use Rattle.ffi3_configuration.specs.Turned.{IsDone, IsEnded, StandsAt, WasInterrupted}
 use Rattle.ffi3_runner.specs.declared.run.RunEnd.{RunEnd}
 use Rattle.ffi3_runner.specs.declared.run.RunEnd.TheVariants as run
 
 -- WHAT A RUN'S ANSWER SAYS
-abbrev pub Ran : Program → Base → Remainder → Beginning → Board Standing → State → SinkState → RunEnd → Type 0
+abbrev pub Ran : Program → Base → Remainder → Beginning → Configuration Standing → State → SinkState → RunEnd → Type 0
 Ran p base all first b m output run.Done = IsDone p base all first b m output
 Ran p base all first b m output (run.Stopped stop) = IsEnded p base all first (stopped stop) b.table b.moves m output
 Ran p base all first b m output run.NoMemory = WasInterrupted p base all first cut.NoMemory m output
 Ran p base all first b m output run.Failed = WasInterrupted p base all first cut.Failed m output
 
 -- A RUN OF MAIN, traced or not, COMES FROM one moment to another: where it stands at the first it stands at the second, with more done.
-abbrev pub ComesTo : Standard → (trace : Bool) → Program → Board Standing → State → SinkState → Board Standing → State
+abbrev pub ComesTo : Standard → (trace : Bool) → Program → Configuration Standing → State → SinkState → Configuration Standing → State
     → SinkState → Type 0
 ComesTo std trace p b m output b' m' output' =
     (base : Base) (all : Remainder) (first : Beginning) (own : List TraceItem) (events : List Event)

@@ -10,16 +10,16 @@ use Rattle.ffi3_turn_rules.specs.SoFar.{Base}
 use Rattle.ffi3_turn_rules.specs.TracingOf.{IsTracingOf}
 use Rattle.ffi3_machine.specs.State.{State}
 use Rattle.ffi3_ask.specs.declared.standing.Standing.{Standing}
-use Rattle.ffi3_board.specs.declared.board.Board.{Board}
-use Rattle.ffi3_board.specs.Between.{Beginning}
-use Rattle.ffi3_board.specs.Turned.{StandsAnew}
+use Rattle.ffi3_configuration.specs.declared.configuration.Configuration.{Configuration}
+use Rattle.ffi3_configuration.specs.Between.{Beginning}
+use Rattle.ffi3_configuration.specs.Turned.{StandsAnew}
 
 -- traced and untraced
 abbrev pub traced_or_not : Bool → Bool
 traced_or_not trace = true
 
 -- THE RUN STANDS BETWEEN TWO MOVES, and can be told with each of these values of `trace`. Nothing is said of an output: the next move may write to any, whatever that took before.
-pub record CanGoOn (std : Standard) (p : Program) (traces : Bool → Bool) (b : Board Standing) (m : State) : Type 0 where
+pub record CanGoOn (std : Standard) (p : Program) (traces : Bool → Bool) (b : Configuration Standing) (m : State) : Type 0 where
   pub base : Base
   pub all : Remainder
   pub first : Beginning

@@ -11,7 +11,7 @@ use Rattle.ffi3_turn_rules.specs.Interrupted.{past_all, next_text, begun, IsPart
 use Rattle.ffi3_turn_rules.specs.Depth.{deepest}
 use Rattle.ffi3_machine.specs.State.{State}
 use Rattle.ffi3_closures.specs.Slots.{HoldsMap}
-use Rattle.ffi3_board.specs.CallSteps.{steps_in}
+use Rattle.ffi3_configuration.specs.CallSteps.{steps_in}
 
 -- THE RUN IS TOLD IN PART. A first part of its trace is done. The output took the text of that, and of the next item's lines a proper part where it was interrupted in them, and nothing elsewhere. An event is recorded before its lines; the journal answers wholly to what is done and to the item whose event came last, if that is the next. No byte was written beyond the stack that those calls take, and their instructions are counted and no others.
 pub record RunWasInterrupted (tracing : Tracing) (std : Standard) (p : Program) (in_line : Bool)

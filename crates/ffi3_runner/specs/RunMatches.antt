@@ -13,7 +13,7 @@ use Rattle.ffi3_run_rules.specs.Journal.{JournalOf, IsWhole, stack_top}
 use Rattle.ffi3_turn_rules.specs.Depth.{deepest}
 use Rattle.ffi3_machine.specs.State.{State, image_of}
 use Rattle.ffi3_closures.specs.Slots.{HoldsMap}
-use Rattle.ffi3_board.specs.CallSteps.{call_steps, steps_in, returns_in}
+use Rattle.ffi3_configuration.specs.CallSteps.{call_steps, steps_in, returns_in}
 
 -- THE RUN IS TOLD WHOLE: the output took exactly the text of the direct meaning, the journal is that meaning's call tree, the code region holds the bytes of the closures that are live, no byte was written beyond the stack that the tree's calls take, the instructions of these calls and no others are counted, and the reserved registers hold 0, as at first.
 pub record RunMatches (tracing : Tracing) (std : Standard) (p : Program) (before after : SinkState) (machine : State)

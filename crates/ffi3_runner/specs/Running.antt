@@ -13,7 +13,7 @@ use Rattle.ffi3_run_rules.specs.Closures.{no_closures}
 use Rattle.ffi3_run_rules.specs.Meaning.{Program, most_moves}
 use Rattle.ffi3_ask.specs.Handed.{signatures_in}
 use Rattle.ffi3_ask.specs.declared.standing.Standing.{Standing}
-use Rattle.ffi3_board.specs.declared.board.Board.{Board}
+use Rattle.ffi3_configuration.specs.declared.configuration.Configuration.{Configuration}
 
 -- the program of a script beside natives
 abbrev pub program : Standard → Script → List NamedNative → Program
@@ -27,8 +27,8 @@ pub record IsPrepared (std : Standard) (s : Script) (natives : List NamedNative)
   pub few_natives : length natives < 2 ^ 31
   pub few_signatures : length (signatures_in natives) < 2 ^ 31
 
--- a board on which nothing has begun
-pub record IsNew (b : Board Standing) : Type 0 where
+-- a configuration on which nothing has begun
+pub record IsNew (b : Configuration Standing) : Type 0 where
   pub innermost : b.innermost ≡ None
   pub suspended : b.suspended.items ≡ []
   pub served : b.served ≡ None

@@ -13,10 +13,10 @@ use Rattle.ffi3_io.specs.declared.IoError.{IoError}
 use Rattle.ffi3_io.specs.declared.IoError.TheVariants as cut
 use Rattle.ffi3_invoke.specs.Calls.{entered_closure, entry_at}
 use Rattle.ffi3_ask.specs.declared.standing.Standing.{Standing}
-use Rattle.ffi3_board.specs.declared.board.Board.{Board}
-use Rattle.ffi3_board.specs.Accepted.{WasInterruptedAtEntry}
-use Rattle.ffi3_board.specs.Served.{ShowsCall, served_base, served_beginning, served_left, served_tracing}
-use Rattle.ffi3_board.specs.TraceLines.{entry_lines}
+use Rattle.ffi3_configuration.specs.declared.configuration.Configuration.{Configuration}
+use Rattle.ffi3_configuration.specs.Accepted.{WasInterruptedAtEntry}
+use Rattle.ffi3_configuration.specs.Served.{ShowsCall, served_base, served_beginning, served_left, served_tracing}
+use Rattle.ffi3_configuration.specs.TraceLines.{entry_lines}
 use Rattle.ffi3_runner.specs.Ran.{Ran}
 use Rattle.ffi3_runner.specs.declared.run.RunEnd.{RunEnd}
 use Rattle.ffi3_runner.specs.declared.run.RunEnd.TheVariants as run
@@ -33,9 +33,9 @@ end_of cut.NoMemory = run.NoMemory
 end_of cut.Failed = run.Failed
 
 module _ (std : Standard) (trace : Bool) (p : Program) (closure : Closure) (arguments : List ValueTree)
-    (b : Board Standing) (m : State) (output : SinkState) where
+    (b : Configuration Standing) (m : State) (output : SinkState) where
   -- THE CALL RAN: its entry was told where it is traced, and what came then is what the direct meaning leaves of the closure's function on these values, with the closures and moves that were left.
-  pub record HasRun (b' : Board Standing) (m' : State) (output' : SinkState) (end : RunEnd) : Type 0 where
+  pub record HasRun (b' : Configuration Standing) (m' : State) (output' : SinkState) (end : RunEnd) : Type 0 where
     pub told : SinkState
     pub entry :
         TookText
@@ -58,7 +58,7 @@ module _ (std : Standard) (trace : Bool) (p : Program) (closure : Closure) (argu
         WasInterruptedAtEntry std (signature_at p.signatures closure.sig) arguments trace why m m' output output'
 
 -- WHAT CAME OF A CALL THAT IS SERVED, whatever closure and values the machine showed
-abbrev pub Served : Standard → (trace : Bool) → Program → Board Standing → State → SinkState → Board Standing → State
+abbrev pub Served : Standard → (trace : Bool) → Program → Configuration Standing → State → SinkState → Configuration Standing → State
     → SinkState → RunEnd → Type 0
 Served std trace p b m output b' m' output' end =
     (closure : Closure) (arguments : List ValueTree) → IsAtEntry std p b.table m closure arguments

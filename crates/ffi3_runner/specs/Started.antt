@@ -7,9 +7,9 @@ use Rattle.ffi3_turn_rules.specs.MainTracing.{main_tracing}
 use Rattle.ffi3_machine.specs.State.{State, begun_stack}
 use Rattle.ffi3_io.specs.Sink.{SinkState}
 use Rattle.ffi3_ask.specs.declared.standing.Standing.{Standing}
-use Rattle.ffi3_board.specs.declared.board.Board.{Board}
-use Rattle.ffi3_board.specs.Between.{Beginning}
-use Rattle.ffi3_board.specs.Served.{IsIdle}
+use Rattle.ffi3_configuration.specs.declared.configuration.Configuration.{Configuration}
+use Rattle.ffi3_configuration.specs.Between.{Beginning}
+use Rattle.ffi3_configuration.specs.Served.{IsIdle}
 
 -- what a run of main finds, and how it is traced
 abbrev pub main_beginning : (trace : Bool) → Standard → SinkState → Beginning
@@ -26,13 +26,13 @@ main_beginning trace std o = record {
 }
 
 -- AFTER MAIN'S RETURN no activation is unfinished and all of the stack is free; closures and moves are those that are left then.
-pub record MainHasReturned (p : Program) (b : Board Standing) (m : State) : Type 0 where
+pub record MainHasReturned (p : Program) (b : Configuration Standing) (m : State) : Type 0 where
   pub idle : IsIdle p b
   pub sp : m.sp ≡ STACK_TOP
   pub closures : b.table ≡ (meaning_of p).closures
   pub moves : b.moves ≡ (meaning_of p).moves
 
 -- AFTER A STOP closures and moves are those that are left then.
-pub record MainHasStopped (p : Program) (b : Board Standing) : Type 0 where
+pub record MainHasStopped (p : Program) (b : Configuration Standing) : Type 0 where
   pub closures : b.table ≡ (meaning_of p).closures
   pub moves : b.moves ≡ (meaning_of p).moves

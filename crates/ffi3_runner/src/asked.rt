@@ -14,7 +14,7 @@ ghost use Rattle.ffi3_runner.specs.Agreeing.{seen_by_callee, seen_by_main};
 ghost use Rattle.ffi3_runner.specs.Running.{program};
 
 use ffi3_ask::{Move, Native, Seen, Standing, ask};
-use ffi3_board::{Activation, Cifs, OpenCall};
+use ffi3_configuration::{Activation, Cifs, OpenCall};
 use ffi3_machine::Machine;
 use ffi3_place::Abi;
 use ffi3_script::Script;

@@ -6,7 +6,7 @@ ghost use Rattle.ffi3_turn_rules.specs.SoFar.{main_base};
 ghost use Rattle.ffi3_machine.specs.State.{State, begun};
 ghost use Rattle.ffi3_io.specs.Sink.{SinkState};
 ghost use Rattle.ffi3_ask.specs.Handed.{handed};
-ghost use Rattle.ffi3_board.specs.Turned.{StandsAt};
+ghost use Rattle.ffi3_configuration.specs.Turned.{StandsAt};
 ghost use Rattle.ffi3_runner.specs.Agreeing.{PositionsAgree};
 ghost use Rattle.ffi3_runner.specs.Ready.{CanGoOn, traced_or_not};
 ghost use Rattle.ffi3_runner.specs.Running.{IsNew, IsPrepared, program};
@@ -14,24 +14,24 @@ ghost use Rattle.ffi3_runner.specs.Started.{main_beginning};
 
 use crate::prepare::Prepared;
 use ffi3_ask::Standing;
-use ffi3_board::{Activation, Board, Who};
+use ffi3_configuration::{Activation, Configuration, Who};
 use ffi3_place::Abi;
 use ffi3_values::Values;
 
 impl<'a, A: Abi> Prepared<'a, A> {
-    // Puts main's activation on the board, before its first move.
-    pub(crate) fn start(&self, board: &mut Board<Standing>)
+    // Puts main's activation on the configuration, before its first move.
+    pub(crate) fn start(&self, configuration: &mut Configuration<Standing>)
         requires prepared { IsPrepared A.standard self.now.script.now (handed title meaning signatures self.now.natives.now.items) self.now.cifs }
-        requires new { IsNew board.old }
-        ensures standing { (m : State) → PositionsAgree self.now.script.now (handed title meaning signatures self.now.natives.now.items) self.now.cifs m board.new }
+        requires new { IsNew configuration.old }
+        ensures standing { (m : State) → PositionsAgree self.now.script.now (handed title meaning signatures self.now.natives.now.items) self.now.cifs m configuration.new }
         ensures between { let p = program A.standard self.now.script.now (handed title meaning signatures self.now.natives.now.items) in
             (trace : Bool) (m : State) (output : SinkState) → m ≡ begun A.TARGET m.spare_events m.spare_bytes →
-            StandsAt p (main_base A.standard) (remainder_of (meaning_of p)) (main_beginning trace A.standard output) [] [] board.new m output }
+            StandsAt p (main_base A.standard) (remainder_of (meaning_of p)) (main_beginning trace A.standard output) [] [] configuration.new m output }
         ensures goes_on { (m : State) → m ≡ begun A.TARGET m.spare_events m.spare_bytes →
-            CanGoOn A.standard (program A.standard self.now.script.now (handed title meaning signatures self.now.natives.now.items)) traced_or_not board.new m }
+            CanGoOn A.standard (program A.standard self.now.script.now (handed title meaning signatures self.now.natives.now.items)) traced_or_not configuration.new m }
     {
         let alloc = self.alloc;
-        board.innermost = Some(Activation {
+        configuration.innermost = Some(Activation {
             who: Who::Main,
             standing: Standing::in_main(alloc, self.script),
             user: 0,

@@ -18,17 +18,17 @@ ghost use Rattle.ffi3_ask.specs.Handed.{handed, signatures_in};
 ghost use Rattle.ffi3_ask.specs.Stands.{StandingAgrees};
 ghost use Rattle.ffi3_script_body.specs.Agrees.{one_more};
 ghost use Rattle.ffi3_ask.specs.Stands as ask;
-ghost use Rattle.ffi3_board.specs.Between.{Beginning, IsAsking, run_state};
-ghost use Rattle.ffi3_board.specs.Activations.{call_inside, calls_of};
-ghost use Rattle.ffi3_board.specs.Stack.{HoldsCalls};
-ghost use Rattle.ffi3_board.specs.Turned.{StandsAt, Turned};
+ghost use Rattle.ffi3_configuration.specs.Between.{Beginning, IsAsking, run_state};
+ghost use Rattle.ffi3_configuration.specs.Activations.{call_inside, calls_of};
+ghost use Rattle.ffi3_configuration.specs.Stack.{HoldsCalls};
+ghost use Rattle.ffi3_configuration.specs.Turned.{StandsAt, Turned};
 ghost use Rattle.ffi3_runner.specs.Agreeing.{PositionsAgree, AllWillStand, IsStanding, WillStand, seen_by};
 ghost use Rattle.ffi3_runner.specs.Running.{IsPrepared, program};
 
 use crate::asked::{asked_by_callee, asked_by_main};
 use crate::prepare::Prepared;
 use ffi3_ask::{Move, Standing};
-use ffi3_board::{Activation, Board, Turn};
+use ffi3_configuration::{Activation, Configuration, Turn};
 use ffi3_io::Sink;
 use ffi3_machine::Machine;
 use ffi3_place::Abi;
@@ -39,24 +39,24 @@ impl<'a, A: Abi> Prepared<'a, A> {
     // The move that the innermost activation asks for.
     pub(crate) fn asked(
         &self,
-        board: &Board<Standing>,
+        configuration: &Configuration<Standing>,
         machine: &Machine,
         current: &mut Activation<Standing>,
     ) -> Result<Move, NoMemory>
         requires prepared { IsPrepared A.standard self.now.script.now (handed title meaning signatures self.now.natives.now.items) self.now.cifs }
         requires holds { (held : Loc → ℕ) × (top : ℕ) × (entered : List Entered) ×
-            HoldsCalls A.standard self.now.cifs held top machine.now (calls_of board.now.served (reverse board.now.suspended.items)) entered }
+            HoldsCalls A.standard self.now.cifs held top machine.now (calls_of configuration.now.served (reverse configuration.now.suspended.items)) entered }
         requires stands { IsStanding self.now.script.now (handed title meaning signatures self.now.natives.now.items) self.now.cifs machine.now
-            (call_inside board.now.served (reverse board.now.suspended.items)) current.old }
+            (call_inside configuration.now.served (reverse configuration.now.suspended.items)) current.old }
         ensures asked { let all = handed title meaning signatures self.now.natives.now.items in
-            let call = call_inside board.now.served (reverse board.now.suspended.items) in
+            let call = call_inside configuration.now.served (reverse configuration.now.suspended.items) in
             IfOk result
             (λ m. IsAsked (program A.standard self.now.script.now all) (ask.who_of current.old.standing) (seen_by self.now.cifs machine.now call current.old)
             (λ r. StandingAgrees self.now.script.now all (one_more (seen_by self.now.cifs machine.now call current.old) r) current.new.standing) (move_of m)) }
         ensures who { ask.who_of current.new.standing ≡ ask.who_of current.old.standing }
         ensures same { current.new ≡ record current.old { standing = current.new.standing } }
     {
-        match board.suspended.last() {
+        match configuration.suspended.last() {
             Some(waiting) => asked_by_callee(
                 self.alloc,
                 self.script,
@@ -66,7 +66,7 @@ impl<'a, A: Abi> Prepared<'a, A> {
                 &waiting.call,
                 current,
             ),
-            None => match &board.served {
+            None => match &configuration.served {
                 Some(call) => asked_by_callee(
                     self.alloc,
                     self.script,
@@ -84,7 +84,7 @@ impl<'a, A: Abi> Prepared<'a, A> {
     // Calls a closure, or stops the run there.
     pub(crate) fn call<O: Sink>(
         &self,
-        board: &mut Board<Standing>,
+        configuration: &mut Configuration<Standing>,
         machine: &mut Machine,
         output: &mut O,
         current: Activation<Standing>,
@@ -97,31 +97,31 @@ impl<'a, A: Abi> Prepared<'a, A> {
         requires site { sig < length self.now.cifs }
         requires fit { all_fit (trees_of (signature_at self.now.cifs sig).arguments) (values_of args.now) ≡ true }
         requires others { AllWillStand self.now.script.now (handed title meaning signatures self.now.natives.now.items) self.now.cifs machine.old
-            board.old.served (reverse board.old.suspended.items) }
+            configuration.old.served (reverse configuration.old.suspended.items) }
         requires will { WillStand self.now.script.now (handed title meaning signatures self.now.natives.now.items) self.now.cifs machine.old
-            (call_inside board.old.served (reverse board.old.suspended.items)) current (signature_at self.now.cifs sig) }
+            (call_inside configuration.old.served (reverse configuration.old.suspended.items)) current (signature_at self.now.cifs sig) }
         requires asking { let p = program A.standard self.now.script.now (handed title meaning signatures self.now.natives.now.items) in
             (base : Base) × (all : Remainder) × (first : Beginning) × (own : List TraceItem) × (events : List Event) ×
             (base.standard ≡ A.standard) ×
-            IsAsking p base all first own events (run_state p.signatures current board.old machine.old (O.state output.old)) (asks.call ptr sig args.now) }
+            IsAsking p base all first own events (run_state p.signatures current configuration.old machine.old (O.state output.old)) (asks.call ptr sig args.now) }
         ensures turned { let p = program A.standard self.now.script.now (handed title meaning signatures self.now.natives.now.items) in
             (base : Base) (all : Remainder) (first : Beginning) (own : List TraceItem) (events : List Event) →
             base.standard ≡ A.standard → IsTracingOf p base trace first.tracing →
-            IsAsking p base all first own events (run_state p.signatures current board.old machine.old (O.state output.old)) (asks.call ptr sig args.now) →
-            Turned p base all first own (suc board.old.moves) board.new machine.new (O.state output.new) result }
+            IsAsking p base all first own events (run_state p.signatures current configuration.old machine.old (O.state output.old)) (asks.call ptr sig args.now) →
+            Turned p base all first own (suc configuration.old.moves) configuration.new machine.new (O.state output.new) result }
         ensures standing { result ≡ Turn.More →
-            PositionsAgree self.now.script.now (handed title meaning signatures self.now.natives.now.items) self.now.cifs machine.new board.new }
+            PositionsAgree self.now.script.now (handed title meaning signatures self.now.natives.now.items) self.now.cifs machine.new configuration.new }
     {
-        let closure = match board.callee(machine, &self.cifs, ptr, sig) {
+        let closure = match configuration.callee(machine, &self.cifs, ptr, sig) {
             Ok(closure) => closure,
             Err(why) => {
                 let alloc = self.alloc;
-                return board.stop_for(alloc, output, &self.cifs, current, why);
+                return configuration.stop_for(alloc, output, &self.cifs, current, why);
             }
         };
         let standing = Standing::in_function(self.alloc, self.script, self.natives, closure.func);
         let alloc = self.alloc;
-        board.enter(
+        configuration.enter(
             alloc, machine, output, &self.cifs, current, closure, standing, ptr, sig, args, trace,
         )
     }

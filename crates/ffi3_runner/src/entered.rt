@@ -4,14 +4,14 @@ ghost use Rattle.ffi3_type_rules.specs.Value.{ValueTree};
 ghost use Rattle.ffi3_run_rules.specs.declared.Closure.{Closure};
 ghost use Rattle.ffi3_closures.specs.Slots.{HoldsMap};
 ghost use Rattle.ffi3_ask.specs.Handed.{handed};
-ghost use Rattle.ffi3_board.specs.Served.{IsIdle};
+ghost use Rattle.ffi3_configuration.specs.Served.{IsIdle};
 ghost use Rattle.ffi3_runner.specs.Running.{IsPrepared, program};
 ghost use Rattle.ffi3_runner.specs.Serving.{IsAtEntry, Served};
 
 use crate::prepare::Prepared;
 use crate::run::RunEnd;
 use ffi3_ask::Standing;
-use ffi3_board::Board;
+use ffi3_configuration::Configuration;
 use ffi3_invoke::entered_closure;
 use ffi3_io::Sink;
 use ffi3_machine::Machine;
@@ -22,29 +22,29 @@ impl<'a, A: Abi> Prepared<'a, A> {
     // `trace` its entry is told first.
     pub(crate) fn serve<O: Sink>(
         &self,
-        board: &mut Board<Standing>,
+        configuration: &mut Configuration<Standing>,
         machine: &mut Machine,
         output: &mut O,
         trace: bool,
     ) -> RunEnd
         requires prepared { IsPrepared A.standard self.now.script.now (handed title meaning signatures self.now.natives.now.items) self.now.cifs }
-        requires idle { IsIdle (program A.standard self.now.script.now (handed title meaning signatures self.now.natives.now.items)) board.old }
-        requires holds { HoldsMap machine.old.target board.old.table machine.old.code }
+        requires idle { IsIdle (program A.standard self.now.script.now (handed title meaning signatures self.now.natives.now.items)) configuration.old }
+        requires holds { HoldsMap machine.old.target configuration.old.table machine.old.code }
         requires entry { (closure : Closure) × (arguments : List ValueTree) ×
-            IsAtEntry A.standard (program A.standard self.now.script.now (handed title meaning signatures self.now.natives.now.items)) board.old.table machine.old closure arguments }
+            IsAtEntry A.standard (program A.standard self.now.script.now (handed title meaning signatures self.now.natives.now.items)) configuration.old.table machine.old closure arguments }
         ensures { Served A.standard trace (program A.standard self.now.script.now (handed title meaning signatures self.now.natives.now.items))
-            board.old machine.old (O.state output.old) board.new machine.new (O.state output.new) result }
+            configuration.old machine.old (O.state output.old) configuration.new machine.new (O.state output.new) result }
     {
-        let Some(closure) = board.table.find(entered_closure(machine)) else {
+        let Some(closure) = configuration.table.find(entered_closure(machine)) else {
             unreachable!()
         };
         let alloc = self.alloc;
         let standing = Standing::in_function(alloc, self.script, self.natives, closure.func);
-        if let Err(why) = board.accept_call(
+        if let Err(why) = configuration.accept_call(
             alloc, machine, output, &self.cifs, closure, standing, trace,
         ) {
             return RunEnd::cut_off(why);
         }
-        self.run_on(board, machine, output, trace)
+        self.run_on(configuration, machine, output, trace)
     }
 }

@@ -7,8 +7,8 @@ ghost use Rattle.ffi3_ask.specs.Handed.{AreFew, handed};
 ghost use Rattle.ffi3_type_rules.specs.Signature.{SignatureHasNoFault};
 
 use ffi3_ask::{Native, signature, signatures};
-use ffi3_board::Cifs;
 use ffi3_cif::Cif;
+use ffi3_configuration::Cifs;
 use ffi3_place::Abi;
 use ffi3_script::Script;
 use ffi3_types::{NoMemory, Sig};

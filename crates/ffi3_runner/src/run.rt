@@ -6,8 +6,8 @@ ghost use Rattle.ffi3_turn_rules.specs.Remainder.{Remainder};
 ghost use Rattle.ffi3_turn_rules.specs.SoFar.{Base};
 ghost use Rattle.ffi3_turn_rules.specs.TracingOf.{IsTracingOf};
 ghost use Rattle.ffi3_ask.specs.Handed.{handed};
-ghost use Rattle.ffi3_board.specs.Between.{Beginning};
-ghost use Rattle.ffi3_board.specs.Turned.{StandsAt};
+ghost use Rattle.ffi3_configuration.specs.Between.{Beginning};
+ghost use Rattle.ffi3_configuration.specs.Turned.{StandsAt};
 ghost use Rattle.ffi3_runner.specs.Agreeing.{PositionsAgree};
 ghost use Rattle.ffi3_runner.specs.Ran.{Ran};
 ghost use Rattle.ffi3_runner.specs.Ready.{CanGoOn};
@@ -16,7 +16,7 @@ ghost use Rattle.ffi3_runner.specs.Running.{IsPrepared, program};
 
 use crate::prepare::Prepared;
 use ffi3_ask::Standing;
-use ffi3_board::{Board, Stop, Turn};
+use ffi3_configuration::{Configuration, Stop, Turn};
 use ffi3_io::{IoError, Sink};
 use ffi3_machine::Machine;
 use ffi3_place::Abi;
@@ -50,23 +50,23 @@ impl<'a, A: Abi> Prepared<'a, A> {
     // Does moves until the run ends.
     pub(crate) fn run_on<O: Sink>(
         &self,
-        board: &mut Board<Standing>,
+        configuration: &mut Configuration<Standing>,
         machine: &mut Machine,
         output: &mut O,
         trace: bool,
     ) -> RunEnd
         requires prepared { IsPrepared A.standard self.now.script.now (handed title meaning signatures self.now.natives.now.items) self.now.cifs }
-        requires standing { PositionsAgree self.now.script.now (handed title meaning signatures self.now.natives.now.items) self.now.cifs machine.old board.old }
+        requires standing { PositionsAgree self.now.script.now (handed title meaning signatures self.now.natives.now.items) self.now.cifs machine.old configuration.old }
         requires between { (traces : Bool → Bool) × (traces trace ≡ true) ×
-            CanGoOn A.standard (program A.standard self.now.script.now (handed title meaning signatures self.now.natives.now.items)) traces board.old machine.old }
+            CanGoOn A.standard (program A.standard self.now.script.now (handed title meaning signatures self.now.natives.now.items)) traces configuration.old machine.old }
         ensures { let p = program A.standard self.now.script.now (handed title meaning signatures self.now.natives.now.items) in
             (base : Base) (all : Remainder) (first : Beginning) (own : List TraceItem) (events : List Event) →
             base.standard ≡ A.standard → IsTracingOf p base trace first.tracing →
-            StandsAt p base all first own events board.old machine.old (O.state output.old) →
-            Ran p base all first board.new machine.new (O.state output.new) result }
+            StandsAt p base all first own events configuration.old machine.old (O.state output.old) →
+            Ran p base all first configuration.new machine.new (O.state output.new) result }
     {
         loop {
-            match self.turn(board, machine, output, trace) {
+            match self.turn(configuration, machine, output, trace) {
                 Turn::More => {}
                 Turn::Done => return RunEnd::Done,
                 Turn::Stopped(stop) => return RunEnd::Stopped(stop),

@@ -1,4 +1,4 @@
-//! The runner: what a run is prepared with, and its board.
+//! The runner: what a run is prepared with, and its configuration.
 ghost use Rattle.std.specs.Prelude.{◌≡◌, ◌*◌, ◌%◌, ◌<◌, ◌≤◌, ◌^◌, Bool, IfOk, List, [], false, length, suc, true};
 ghost use Rattle.ffi3_type_rules.specs.Value.{ValueTree, void_value};
 ghost use Rattle.ffi3_place_rules.specs.Event.{Event};
@@ -15,10 +15,10 @@ ghost use Rattle.ffi3_machine.specs.State.{State, begun};
 ghost use Rattle.ffi3_closures.specs.Slots.{HoldsMap};
 ghost use Rattle.ffi3_io.specs.Sink.{Rose, SinkState};
 ghost use Rattle.ffi3_ask.specs.Handed.{handed, signatures_in};
-ghost use Rattle.ffi3_board.specs.Between.{Beginning};
-ghost use Rattle.ffi3_board.specs.CallSteps.{call_steps, returns_in};
-ghost use Rattle.ffi3_board.specs.Served.{IsIdle};
-ghost use Rattle.ffi3_board.specs.Turned.{StandsAt, Turned};
+ghost use Rattle.ffi3_configuration.specs.Between.{Beginning};
+ghost use Rattle.ffi3_configuration.specs.CallSteps.{call_steps, returns_in};
+ghost use Rattle.ffi3_configuration.specs.Served.{IsIdle};
+ghost use Rattle.ffi3_configuration.specs.Turned.{StandsAt, Turned};
 ghost use Rattle.ffi3_runner.specs.Agreeing.{PositionsAgree};
 ghost use Rattle.ffi3_runner.specs.Ready.{CanGoOn, traced_or_not};
 ghost use Rattle.ffi3_runner.specs.RunInterrupted.{RunWasInterrupted};
@@ -30,7 +30,7 @@ ghost use Rattle.ffi3_runner.specs.Running.{IsNew, IsPrepared, program};
 use crate::prepare::{Prepared, prepare_all};
 use crate::run::RunEnd;
 use ffi3_ask::{Native, Standing};
-use ffi3_board::{Board, Cifs, Table, Turn};
+use ffi3_configuration::{Cifs, Configuration, Table, Turn};
 use ffi3_io::Sink;
 use ffi3_machine::Machine;
 use ffi3_place::Abi;
@@ -43,7 +43,7 @@ use std::alloc::Global;
 #[derive(Drop)]
 pub struct Runner<'a, A: Abi> {
     pub(crate) prepared: Prepared<'a, A>,
-    pub(crate) board: Board<Standing>,
+    pub(crate) configuration: Configuration<Standing>,
     pub(crate) over: bool,
 }
 
@@ -59,7 +59,7 @@ impl<'a, A: Abi> Runner<'a, A> {
         requires few_signatures { length (signatures_in (handed title meaning signatures natives.now.items)) < 2 ^ 31 }
         ensures prepared { IfOk result (λ r. IsPrepared A.standard r.prepared.script.now
             (handed title meaning signatures r.prepared.natives.now.items) r.prepared.cifs) }
-        ensures new { IfOk result (λ r. IsNew r.board) }
+        ensures new { IfOk result (λ r. IsNew r.configuration) }
         ensures going { IfOk result (λ r. r.over ≡ false) }
         ensures script { IfOk result (λ r. r.prepared.script.now ≡ script.now) }
         ensures natives { IfOk result (λ r. r.prepared.natives.now ≡ natives.now) }
@@ -71,7 +71,7 @@ impl<'a, A: Abi> Runner<'a, A> {
                 natives,
                 cifs: prepare_all::<A>(alloc, script, natives)?,
             },
-            board: Board {
+            configuration: Configuration {
                 innermost: None,
                 suspended: Vec::new(alloc),
                 served: None,
@@ -92,9 +92,9 @@ impl<'a, A: Abi> Runner<'a, A> {
 
     /// The live closures.
     pub fn table(&self) -> &Table
-        ensures { result.now ≡ self.now.board.table }
+        ensures { result.now ≡ self.now.configuration.table }
     {
-        &self.board.table
+        &self.configuration.table
     }
 
     /// The call interfaces of the run's signatures.
@@ -106,26 +106,26 @@ impl<'a, A: Abi> Runner<'a, A> {
 
     /// How many moves are left.
     pub fn moves_left(&self) -> u32
-        ensures { result ≡ self.now.board.moves }
+        ensures { result ≡ self.now.configuration.moves }
     {
-        self.board.moves
+        self.configuration.moves
     }
 
-    /// Puts main's activation on the board, before its first move. It takes no memory.
+    /// Puts main's activation on the configuration, before its first move. It takes no memory.
     pub fn start(&mut self)
         requires prepared { IsPrepared A.standard self.old.prepared.script.now (handed title meaning signatures self.old.prepared.natives.now.items) self.old.prepared.cifs }
-        requires new { IsNew self.old.board }
+        requires new { IsNew self.old.configuration }
         ensures standing { (m : State) →
-            PositionsAgree self.old.prepared.script.now (handed title meaning signatures self.old.prepared.natives.now.items) self.old.prepared.cifs m self.new.board }
+            PositionsAgree self.old.prepared.script.now (handed title meaning signatures self.old.prepared.natives.now.items) self.old.prepared.cifs m self.new.configuration }
         ensures between { let p = program A.standard self.old.prepared.script.now (handed title meaning signatures self.old.prepared.natives.now.items) in
             (trace : Bool) (m : State) (output : SinkState) → m ≡ begun A.TARGET m.spare_events m.spare_bytes →
-            StandsAt p (main_base A.standard) (remainder_of (meaning_of p)) (main_beginning trace A.standard output) [] [] self.new.board m output }
+            StandsAt p (main_base A.standard) (remainder_of (meaning_of p)) (main_beginning trace A.standard output) [] [] self.new.configuration m output }
         ensures goes_on { (m : State) → m ≡ begun A.TARGET m.spare_events m.spare_bytes →
-            CanGoOn A.standard (program A.standard self.old.prepared.script.now (handed title meaning signatures self.old.prepared.natives.now.items)) traced_or_not self.new.board m }
+            CanGoOn A.standard (program A.standard self.old.prepared.script.now (handed title meaning signatures self.old.prepared.natives.now.items)) traced_or_not self.new.configuration m }
         ensures prepared { self.new.prepared ≡ self.old.prepared }
         ensures going { self.new.over ≡ self.old.over }
     {
-        self.prepared.start(&mut self.board);
+        self.prepared.start(&mut self.configuration);
     }
 
     /// Does one move of the innermost activation. It is counted, and none is asked for where none
@@ -141,25 +141,27 @@ impl<'a, A: Abi> Runner<'a, A> {
     /// and change `trace`.
     pub fn turn<O: Sink>(&mut self, machine: &mut Machine, output: &mut O, trace: bool) -> Turn
         requires prepared { IsPrepared A.standard self.old.prepared.script.now (handed title meaning signatures self.old.prepared.natives.now.items) self.old.prepared.cifs }
-        requires standing { PositionsAgree self.old.prepared.script.now (handed title meaning signatures self.old.prepared.natives.now.items) self.old.prepared.cifs machine.old self.old.board }
+        requires standing { PositionsAgree self.old.prepared.script.now (handed title meaning signatures self.old.prepared.natives.now.items) self.old.prepared.cifs machine.old self.old.configuration }
         requires between { (traces : Bool → Bool) × (traces trace ≡ true) ×
-            CanGoOn A.standard (program A.standard self.old.prepared.script.now (handed title meaning signatures self.old.prepared.natives.now.items)) traces self.old.board machine.old }
+            CanGoOn A.standard (program A.standard self.old.prepared.script.now (handed title meaning signatures self.old.prepared.natives.now.items)) traces self.old.configuration machine.old }
         ensures turned { let p = program A.standard self.old.prepared.script.now (handed title meaning signatures self.old.prepared.natives.now.items) in
             (base : Base) (all : Remainder) (first : Beginning) (own : List TraceItem) (events : List Event) →
             base.standard ≡ A.standard → IsTracingOf p base trace first.tracing →
-            StandsAt p base all first own events self.old.board machine.old (O.state output.old) →
-            Turned p base all first own self.old.board.moves self.new.board machine.new (O.state output.new) result }
+            StandsAt p base all first own events self.old.configuration machine.old (O.state output.old) →
+            Turned p base all first own self.old.configuration.moves self.new.configuration machine.new (O.state output.new) result }
         ensures standing { result ≡ Turn.More →
-            PositionsAgree self.old.prepared.script.now (handed title meaning signatures self.old.prepared.natives.now.items) self.old.prepared.cifs machine.new self.new.board }
+            PositionsAgree self.old.prepared.script.now (handed title meaning signatures self.old.prepared.natives.now.items) self.old.prepared.cifs machine.new self.new.configuration }
         ensures between { let p = program A.standard self.old.prepared.script.now (handed title meaning signatures self.old.prepared.natives.now.items) in
-            (traces : Bool → Bool) → traces trace ≡ true → CanGoOn A.standard p traces self.old.board machine.old →
-            result ≡ Turn.More → CanGoOn A.standard p traces self.new.board machine.new }
-        ensures counted { result ≡ Turn.More → self.old.board.moves ≡ suc self.new.board.moves }
+            (traces : Bool → Bool) → traces trace ≡ true → CanGoOn A.standard p traces self.old.configuration machine.old →
+            result ≡ Turn.More → CanGoOn A.standard p traces self.new.configuration machine.new }
+        ensures counted { result ≡ Turn.More → self.old.configuration.moves ≡ suc self.new.configuration.moves }
         ensures prepared { self.new.prepared ≡ self.old.prepared }
         ensures going { result ≡ Turn.More → self.new.over ≡ self.old.over }
         ensures over { (result ≡ Turn.More → ⊥) → self.new.over ≡ true }
     {
-        let turn = self.prepared.turn(&mut self.board, machine, output, trace);
+        let turn = self
+            .prepared
+            .turn(&mut self.configuration, machine, output, trace);
         if turn != Turn::More {
             self.over = true;
         }
@@ -179,7 +181,7 @@ impl<'a, A: Abi> Runner<'a, A> {
         trace: bool,
     ) -> RunEnd
         requires prepared { IsPrepared A.standard self.old.prepared.script.now (handed title meaning signatures self.old.prepared.natives.now.items) self.old.prepared.cifs }
-        requires new { IsNew self.old.board }
+        requires new { IsNew self.old.configuration }
         requires begun { machine.old ≡ begun A.TARGET machine.old.spare_events machine.old.spare_bytes }
         ensures done { result ≡ RunEnd.Done →
             RunMatches (main_tracing trace A.standard) A.standard (program A.standard self.old.prepared.script.now (handed title meaning signatures self.old.prepared.natives.now.items))
@@ -205,16 +207,16 @@ impl<'a, A: Abi> Runner<'a, A> {
         ensures part { WrotePart (main_tracing trace A.standard) (program A.standard self.old.prepared.script.now (handed title meaning signatures self.old.prepared.natives.now.items))
             (O.state output.old) (O.state output.new) }
         ensures left { result ≡ RunEnd.Done →
-            MainHasReturned (program A.standard self.old.prepared.script.now (handed title meaning signatures self.old.prepared.natives.now.items)) self.new.board machine.new }
+            MainHasReturned (program A.standard self.old.prepared.script.now (handed title meaning signatures self.old.prepared.natives.now.items)) self.new.configuration machine.new }
         ensures left_at_stop { (stop : Stop) → result ≡ RunEnd.Stopped stop →
-            MainHasStopped (program A.standard self.old.prepared.script.now (handed title meaning signatures self.old.prepared.natives.now.items)) self.new.board }
+            MainHasStopped (program A.standard self.old.prepared.script.now (handed title meaning signatures self.old.prepared.natives.now.items)) self.new.configuration }
         ensures prepared { self.new.prepared ≡ self.old.prepared }
         ensures over { self.new.over ≡ true }
     {
-        self.prepared.start(&mut self.board);
+        self.prepared.start(&mut self.configuration);
         self.over = true;
         self.prepared
-            .run_on(&mut self.board, machine, output, trace)
+            .run_on(&mut self.configuration, machine, output, trace)
     }
 
     /// Serves the call of a live closure that the machine shows at its entry, by any caller: does
@@ -222,18 +224,20 @@ impl<'a, A: Abi> Runner<'a, A> {
     /// alone, whose target stays. With `trace` entries and returns are told, the entered one's first.
     pub fn serve<O: Sink>(&mut self, machine: &mut Machine, output: &mut O, trace: bool) -> RunEnd
         requires prepared { IsPrepared A.standard self.old.prepared.script.now (handed title meaning signatures self.old.prepared.natives.now.items) self.old.prepared.cifs }
-        requires idle { IsIdle (program A.standard self.old.prepared.script.now (handed title meaning signatures self.old.prepared.natives.now.items)) self.old.board }
-        requires holds { HoldsMap machine.old.target self.old.board.table machine.old.code }
+        requires idle { IsIdle (program A.standard self.old.prepared.script.now (handed title meaning signatures self.old.prepared.natives.now.items)) self.old.configuration }
+        requires holds { HoldsMap machine.old.target self.old.configuration.table machine.old.code }
         requires entry { (closure : Closure) × (arguments : List ValueTree) ×
-            IsAtEntry A.standard (program A.standard self.old.prepared.script.now (handed title meaning signatures self.old.prepared.natives.now.items)) self.old.board.table machine.old closure arguments }
+            IsAtEntry A.standard (program A.standard self.old.prepared.script.now (handed title meaning signatures self.old.prepared.natives.now.items)) self.old.configuration.table machine.old closure arguments }
         ensures served { Served A.standard trace (program A.standard self.old.prepared.script.now (handed title meaning signatures self.old.prepared.natives.now.items))
-            self.old.board machine.old (O.state output.old) self.new.board machine.new (O.state output.new) result }
+            self.old.configuration machine.old (O.state output.old) self.new.configuration machine.new (O.state output.new) result }
         ensures target { machine.new.target ≡ machine.old.target }
         ensures prepared { self.new.prepared ≡ self.old.prepared }
         ensures going { result ≡ RunEnd.Done → self.new.over ≡ self.old.over }
         ensures over { (result ≡ RunEnd.Done → ⊥) → self.new.over ≡ true }
     {
-        let end = self.prepared.serve(&mut self.board, machine, output, trace);
+        let end = self
+            .prepared
+            .serve(&mut self.configuration, machine, output, trace);
         if end != RunEnd::Done {
             self.over = true;
         }

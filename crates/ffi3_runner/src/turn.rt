@@ -6,15 +6,15 @@ ghost use Rattle.ffi3_turn_rules.specs.Remainder.{Remainder};
 ghost use Rattle.ffi3_turn_rules.specs.SoFar.{Base};
 ghost use Rattle.ffi3_turn_rules.specs.TracingOf.{IsTracingOf};
 ghost use Rattle.ffi3_ask.specs.Handed.{handed};
-ghost use Rattle.ffi3_board.specs.Between.{Beginning};
-ghost use Rattle.ffi3_board.specs.Turned.{StandsAt, Turned};
+ghost use Rattle.ffi3_configuration.specs.Between.{Beginning};
+ghost use Rattle.ffi3_configuration.specs.Turned.{StandsAt, Turned};
 ghost use Rattle.ffi3_runner.specs.Agreeing.{PositionsAgree};
 ghost use Rattle.ffi3_runner.specs.Ready.{CanGoOn};
 ghost use Rattle.ffi3_runner.specs.Running.{IsPrepared, program};
 
 use crate::prepare::Prepared;
 use ffi3_ask::{Move, Standing, sig_of};
-use ffi3_board::{Board, Turn};
+use ffi3_configuration::{Configuration, Turn};
 use ffi3_io::Sink;
 use ffi3_machine::Machine;
 use ffi3_place::Abi;
@@ -23,75 +23,88 @@ impl<'a, A: Abi> Prepared<'a, A> {
     /// Does one move of the innermost activation, after which the next can be done.
     pub(crate) fn turn<O: Sink>(
         &self,
-        board: &mut Board<Standing>,
+        configuration: &mut Configuration<Standing>,
         machine: &mut Machine,
         output: &mut O,
         trace: bool,
     ) -> Turn
         requires prepared { IsPrepared A.standard self.now.script.now (handed title meaning signatures self.now.natives.now.items) self.now.cifs }
-        requires standing { PositionsAgree self.now.script.now (handed title meaning signatures self.now.natives.now.items) self.now.cifs machine.old board.old }
+        requires standing { PositionsAgree self.now.script.now (handed title meaning signatures self.now.natives.now.items) self.now.cifs machine.old configuration.old }
         requires between { (traces : Bool → Bool) × (traces trace ≡ true) ×
-            CanGoOn A.standard (program A.standard self.now.script.now (handed title meaning signatures self.now.natives.now.items)) traces board.old machine.old }
+            CanGoOn A.standard (program A.standard self.now.script.now (handed title meaning signatures self.now.natives.now.items)) traces configuration.old machine.old }
         ensures turned { let p = program A.standard self.now.script.now (handed title meaning signatures self.now.natives.now.items) in
             (base : Base) (all : Remainder) (first : Beginning) (own : List TraceItem) (events : List Event) →
             base.standard ≡ A.standard → IsTracingOf p base trace first.tracing →
-            StandsAt p base all first own events board.old machine.old (O.state output.old) →
-            Turned p base all first own board.old.moves board.new machine.new (O.state output.new) result }
+            StandsAt p base all first own events configuration.old machine.old (O.state output.old) →
+            Turned p base all first own configuration.old.moves configuration.new machine.new (O.state output.new) result }
         ensures standing { result ≡ Turn.More →
-            PositionsAgree self.now.script.now (handed title meaning signatures self.now.natives.now.items) self.now.cifs machine.new board.new }
+            PositionsAgree self.now.script.now (handed title meaning signatures self.now.natives.now.items) self.now.cifs machine.new configuration.new }
         ensures between { let p = program A.standard self.now.script.now (handed title meaning signatures self.now.natives.now.items) in
-            (traces : Bool → Bool) → traces trace ≡ true → CanGoOn A.standard p traces board.old machine.old →
-            result ≡ Turn.More → CanGoOn A.standard p traces board.new machine.new }
-        ensures counted { result ≡ Turn.More → board.old.moves ≡ suc board.new.moves }
+            (traces : Bool → Bool) → traces trace ≡ true → CanGoOn A.standard p traces configuration.old machine.old →
+            result ≡ Turn.More → CanGoOn A.standard p traces configuration.new machine.new }
+        ensures counted { result ≡ Turn.More → configuration.old.moves ≡ suc configuration.new.moves }
     {
-        self.one_move(board, machine, output, trace)
+        self.one_move(configuration, machine, output, trace)
     }
 
     // The move, where the run stands for this output. It is counted, and none is asked for where
     // none is left. Where the run is traced, an entry or a return is told.
     fn one_move<O: Sink>(
         &self,
-        board: &mut Board<Standing>,
+        configuration: &mut Configuration<Standing>,
         machine: &mut Machine,
         output: &mut O,
         trace: bool,
     ) -> Turn
         requires prepared { IsPrepared A.standard self.now.script.now (handed title meaning signatures self.now.natives.now.items) self.now.cifs }
-        requires standing { PositionsAgree self.now.script.now (handed title meaning signatures self.now.natives.now.items) self.now.cifs machine.old board.old }
+        requires standing { PositionsAgree self.now.script.now (handed title meaning signatures self.now.natives.now.items) self.now.cifs machine.old configuration.old }
         requires between { (base : Base) × (all : Remainder) × (first : Beginning) × (own : List TraceItem) × (events : List Event) ×
             (base.standard ≡ A.standard) ×
             IsTracingOf (program A.standard self.now.script.now (handed title meaning signatures self.now.natives.now.items)) base trace first.tracing ×
-            StandsAt (program A.standard self.now.script.now (handed title meaning signatures self.now.natives.now.items)) base all first own events board.old machine.old (O.state output.old) }
+            StandsAt (program A.standard self.now.script.now (handed title meaning signatures self.now.natives.now.items)) base all first own events configuration.old machine.old (O.state output.old) }
         ensures turned { let p = program A.standard self.now.script.now (handed title meaning signatures self.now.natives.now.items) in
             (base : Base) (all : Remainder) (first : Beginning) (own : List TraceItem) (events : List Event) →
             base.standard ≡ A.standard → IsTracingOf p base trace first.tracing →
-            StandsAt p base all first own events board.old machine.old (O.state output.old) →
-            Turned p base all first own board.old.moves board.new machine.new (O.state output.new) result }
+            StandsAt p base all first own events configuration.old machine.old (O.state output.old) →
+            Turned p base all first own configuration.old.moves configuration.new machine.new (O.state output.new) result }
         ensures standing { result ≡ Turn.More →
-            PositionsAgree self.now.script.now (handed title meaning signatures self.now.natives.now.items) self.now.cifs machine.new board.new }
+            PositionsAgree self.now.script.now (handed title meaning signatures self.now.natives.now.items) self.now.cifs machine.new configuration.new }
     {
-        let Some(mut current) = board.innermost.take() else {
+        let Some(mut current) = configuration.innermost.take() else {
             unreachable!()
         };
         let alloc = self.alloc;
-        if board.moves == 0 {
-            return board.stop_at_limit(alloc, output, &self.cifs, current);
+        if configuration.moves == 0 {
+            return configuration.stop_at_limit(alloc, output, &self.cifs, current);
         }
-        let Ok(asked) = self.asked(board, machine, &mut current) else {
+        let Ok(asked) = self.asked(configuration, machine, &mut current) else {
             return Turn::NoMemory;
         };
-        board.moves -= 1;
+        configuration.moves -= 1;
         match asked {
-            Move::Print { ty, value } => board.print(alloc, output, current, &ty, &value),
+            Move::Print { ty, value } => configuration.print(alloc, output, current, &ty, &value),
             Move::Make { func, user } => {
                 let sig = sig_of(self.script, self.natives, func);
-                board.make(alloc, machine, output, &self.cifs, current, func, sig, user)
+                configuration.make(alloc, machine, output, &self.cifs, current, func, sig, user)
             }
-            Move::Free { ptr } => board.free(alloc, machine, output, &self.cifs, current, ptr),
+            Move::Free { ptr } => configuration.free(
+                alloc, machine, output, &self.cifs, current, ptr,
+            ),
             Move::Call { ptr, sig, args } => {
-                self.call(board, machine, output, current, ptr, sig, &args, trace)
+                self.call(
+                    configuration,
+                    machine,
+                    output,
+                    current,
+                    ptr,
+                    sig,
+                    &args,
+                    trace,
+                )
             }
-            Move::Return(value) => board.leave(alloc, machine, output, &self.cifs, &value, trace),
+            Move::Return(value) => configuration.leave(
+                alloc, machine, output, &self.cifs, &value, trace,
+            ),
         }
     }
 }

@@ -19,7 +19,9 @@ use crate::fields::{
 use crate::heads::{read_function, read_signature_number};
 use crate::scope::{Globals, Scope};
 use crate::{Act, ScriptMove};
-use ffi3_json::{Key, Node, Reason, ScriptFault, Way, bad, check_object_at, optional, required};
+use ffi3_json::{
+    JsonPath, Key, Node, Reason, ScriptFault, bad, check_object_at, optional, required,
+};
 use ffi3_types::{FfiType, Members};
 use std::alloc::Global;
 
@@ -89,7 +91,7 @@ fn lone_keys<'a>(name: &'a str) -> [Key<'a>; 2]
 }
 
 // Whether the value is an object with the keys of moves of a kind.
-fn check_keys(alloc: Global, kind: Kind, value: &Node, at: &Way) -> Result<(), ScriptFault>
+fn check_keys(alloc: Global, kind: Kind, value: &Node, at: &JsonPath) -> Result<(), ScriptFault>
     ensures ok { OnOk result (language.check_object value.now (keys_of (kind_from kind)) at.now ≡ read tt) }
     ensures err { IfErr result
         (Reports (λ p r. language.check_object value.now (keys_of (kind_from kind)) at.now ≡ language.fault p r)) }
@@ -116,7 +118,7 @@ fn read_call(
     globals: &Globals,
     scope: &Scope,
     value: &Node,
-    at: &Way,
+    at: &JsonPath,
 ) -> Result<NamedAct, ScriptFault>
     requires even { IsEven scope.now }
     ensures within { IfOk result (λ d. CallsWithin (length globals.now.sigs.now) d.act) }
@@ -144,7 +146,7 @@ fn read_make(
     globals: &Globals,
     scope: &Scope,
     value: &Node,
-    at: &Way,
+    at: &JsonPath,
 ) -> Result<NamedAct, ScriptFault>
     requires even { IsEven scope.now }
     requires few { length globals.now.functions.now < 2 ^ 32 }
@@ -179,7 +181,7 @@ fn read_act(
     scope: &Scope,
     kind: Kind,
     value: &Node,
-    at: &Way,
+    at: &JsonPath,
 ) -> Result<NamedAct, ScriptFault>
     requires even { IsEven scope.now }
     requires few { length globals.now.functions.now < 2 ^ 32 }
@@ -215,7 +217,7 @@ pub(crate) fn read_move(
     globals: &Globals,
     scope: &Scope,
     value: &Node,
-    at: &Way,
+    at: &JsonPath,
 ) -> Result<ScriptMove, ScriptFault>
     requires even { IsEven scope.now }
     requires few { length globals.now.functions.now < 2 ^ 32 }

@@ -7,7 +7,7 @@ ghost use Rattle.ffi3_script_rules.specs.Bodies.{items_at};
 ghost use Rattle.ffi3_json.specs.Reports.{Reports};
 ghost use Rattle.ffi3_json.specs.Within.{HasArraysWithin};
 
-use ffi3_json::{Node, Nodes, Reason, ScriptFault, Way, bad};
+use ffi3_json::{JsonPath, Node, Nodes, Reason, ScriptFault, bad};
 use std::alloc::Global;
 
 /// The items of the array at a place, which a value has under this key. What is not there is read as null.
@@ -15,7 +15,7 @@ pub(crate) fn items_under<'t, 'a>(
     alloc: Global,
     name: &str,
     value: &Node<'t, 'a>,
-    at: &Way,
+    at: &JsonPath,
 ) -> Result<Nodes<'t, 'a>, ScriptFault>
     ensures within { (n : ℕ) → HasArraysWithin n value.now → IfOk result (λ items. items_len items ≤ n) }
     ensures ok { IfOk result (λ items. items_at (value_under name.now value.now) at.now ≡ read items) }

@@ -16,7 +16,7 @@ use crate::arrays::items_under;
 use crate::index::NameIndex;
 use crate::scope::{Globals, Scope};
 use crate::{Act, NoMemory, ScriptMove};
-use ffi3_json::{Node, Nodes, Reason, ScriptFault, Way, bad};
+use ffi3_json::{JsonPath, Node, Nodes, Reason, ScriptFault, bad};
 use ffi3_types::{FfiType, Fields, Sig, Sigs};
 use std::alloc::Global;
 
@@ -77,7 +77,7 @@ fn read_next(
     names: &NameIndex,
     types: &Fields,
     value: &Node,
-    at: &Way,
+    at: &JsonPath,
 ) -> Result<ScriptMove, ScriptFault>
     requires even { length names.now ≡ length types.now }
     requires few { length globals.now.functions.now < 2 ^ 32 }
@@ -104,7 +104,7 @@ fn read_moves(
     globals: &Globals,
     own: &Sig,
     items: &Nodes,
-    at: &Way,
+    at: &JsonPath,
 ) -> Result<Vec<ScriptMove>, ScriptFault>
     requires few { length globals.now.functions.now < 2 ^ 32 }
     ensures ok { IfOk result
@@ -169,7 +169,7 @@ pub(crate) fn read_body(
     own: &Sig,
     name: &str,
     value: &Node,
-    at: &Way,
+    at: &JsonPath,
 ) -> Result<Vec<ScriptMove>, ScriptFault>
     requires few { length globals.now.functions.now < 2 ^ 32 }
     ensures ok { IfOk result

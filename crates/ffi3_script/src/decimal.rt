@@ -10,7 +10,7 @@ ghost use Rattle.ffi3_json.specs.Reports.{Reports};
 ghost use Rattle.ffi3_script_body.specs.ExprOf.{expression_of};
 
 use crate::Expr;
-use ffi3_json::{Reason, ScriptFault, Way, bad};
+use ffi3_json::{JsonPath, Reason, ScriptFault, bad};
 use ffi3_types::FfiType;
 use ffi3_values::{Value, integer, of_bits};
 use std::alloc::Global;
@@ -78,7 +78,7 @@ fn is_within(ty: &FfiType, n: u128) -> bool
 }
 
 // The number of an integer of 128 bits that digits write.
-fn read_plain(alloc: Global, ty: &FfiType, text: &str, at: &Way) -> Result<Expr, ScriptFault>
+fn read_plain(alloc: Global, ty: &FfiType, text: &str, at: &JsonPath) -> Result<Expr, ScriptFault>
     requires wide { is_wide_type (tree_of ty.now) ≡ true }
     requires some { 0 < length text.now }
     requires digits { all_ascii_digits text.now ≡ true }
@@ -104,7 +104,12 @@ fn read_plain(alloc: Global, ty: &FfiType, text: &str, at: &Way) -> Result<Expr,
 }
 
 // The number below 0 of an integer of 128 bits that a text writes.
-fn read_negative(alloc: Global, ty: &FfiType, text: &str, at: &Way) -> Result<Expr, ScriptFault>
+fn read_negative(
+    alloc: Global,
+    ty: &FfiType,
+    text: &str,
+    at: &JsonPath,
+) -> Result<Expr, ScriptFault>
     requires wide { is_wide_type (tree_of ty.now) ≡ true }
     requires negative { is_negative_number text.now ≡ true }
     ensures ok { IfOk result
@@ -131,7 +136,7 @@ pub(crate) fn read_decimal(
     alloc: Global,
     ty: &FfiType,
     text: &str,
-    at: &Way,
+    at: &JsonPath,
 ) -> Result<Expr, ScriptFault>
     requires { is_wide_type (tree_of ty.now) ≡ true }
     ensures ok { IfOk result

@@ -17,7 +17,7 @@ use crate::heads::new_name;
 use crate::scope::Scope;
 use crate::values::{read_typed, read_value, read_values};
 use crate::{Act, Expr, TypedExpr};
-use ffi3_json::{Bytes, Node, Reason, ScriptFault, Way, bad};
+use ffi3_json::{Bytes, JsonPath, Node, Reason, ScriptFault, bad};
 use ffi3_types::{FfiType, Members};
 use std::alloc::Global;
 
@@ -27,7 +27,7 @@ pub(crate) fn read_name(
     scope: &Scope,
     ty: &FfiType,
     value: &Node,
-    at: &Way,
+    at: &JsonPath,
 ) -> Result<Option<String>, ScriptFault>
     requires even { IsEven scope.now }
     ensures ok { IfOk result
@@ -53,7 +53,7 @@ pub(crate) fn read_condition(
     alloc: Global,
     scope: &Scope,
     value: &Node,
-    at: &Way,
+    at: &JsonPath,
 ) -> Result<Option<TypedExpr>, ScriptFault>
     requires even { IsEven scope.now }
     ensures ok { IfOk result
@@ -80,7 +80,7 @@ pub(crate) fn read_arguments(
     scope: &Scope,
     types: &Members,
     value: &Node,
-    at: &Way,
+    at: &JsonPath,
 ) -> Result<Vec<Expr>, ScriptFault>
     requires even { IsEven scope.now }
     ensures ok { IfOk result
@@ -104,7 +104,7 @@ pub(crate) fn read_pointer(
     scope: &Scope,
     name: &str,
     value: &Node,
-    at: &Way,
+    at: &JsonPath,
 ) -> Result<Expr, ScriptFault>
     requires even { IsEven scope.now }
     ensures ok { IfOk result
@@ -126,7 +126,7 @@ pub(crate) fn read_user(
     alloc: Global,
     scope: &Scope,
     value: &Node,
-    at: &Way,
+    at: &JsonPath,
 ) -> Result<Expr, ScriptFault>
     requires even { IsEven scope.now }
     ensures ok { IfOk result
@@ -148,7 +148,7 @@ pub(crate) fn read_printed(
     alloc: Global,
     scope: &Scope,
     value: &Node,
-    at: &Way,
+    at: &JsonPath,
 ) -> Result<TypedExpr, ScriptFault>
     requires even { IsEven scope.now }
     ensures ok { IfOk result
@@ -171,7 +171,7 @@ pub(crate) fn read_result(
     scope: &Scope,
     ty: &FfiType,
     value: &Node,
-    at: &Way,
+    at: &JsonPath,
 ) -> Result<Act, ScriptFault>
     requires even { IsEven scope.now }
     ensures within { IfOk result (λ a. (count : ℕ) → CallsWithin count a) }

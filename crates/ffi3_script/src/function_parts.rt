@@ -14,7 +14,7 @@ use crate::bodies::read_body;
 use crate::headings::Heading;
 use crate::scope::Globals;
 use crate::{NoMemory, ScriptMove};
-use ffi3_json::{Node, Nodes, ScriptFault, Way};
+use ffi3_json::{JsonPath, Node, Nodes, ScriptFault};
 use std::alloc::Global;
 
 /// A function of a script: its name, the number of its signature, its moves.
@@ -31,7 +31,7 @@ fn read_part(
     globals: &Globals,
     heading: &Heading,
     value: &Node,
-    at: &Way,
+    at: &JsonPath,
 ) -> Result<FunctionPart, ScriptFault>
     requires few { length globals.now.functions.now < 2 ^ 32 }
     requires within { heading.now.sig < length globals.now.sigs.now }
@@ -66,7 +66,7 @@ pub(crate) fn read_parts(
     globals: &Globals,
     headings: &Vec<Heading>,
     items: &Nodes,
-    at: &Way,
+    at: &JsonPath,
 ) -> Result<Vec<FunctionPart>, ScriptFault>
     requires few { length globals.now.functions.now < 2 ^ 32 }
     requires within { All (λ h. h.sig < length globals.now.sigs.now) headings.now.items }

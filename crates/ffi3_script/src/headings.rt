@@ -13,7 +13,7 @@ ghost use Rattle.ffi3_script.specs.PartsOf.{heading_of, headings_of};
 use crate::NoMemory;
 use crate::functions::FunctionNames;
 use crate::heads::{new_name, read_signature_number};
-use ffi3_json::{Key, Node, Nodes, Reason, ScriptFault, Way, bad, check_object_at, required};
+use ffi3_json::{JsonPath, Key, Node, Nodes, Reason, ScriptFault, bad, check_object_at, required};
 use ffi3_types::Sigs;
 use std::alloc::Global;
 
@@ -43,7 +43,7 @@ fn read_function_name(
     alloc: Global,
     earlier: &FunctionNames,
     value: &Node,
-    at: &Way,
+    at: &JsonPath,
 ) -> Result<String, ScriptFault>
     ensures ok { IfOk result
         (λ name. new_name (is_one_of earlier.now) (as_str (value_under (codes "name") value.now))
@@ -65,7 +65,7 @@ fn read_heading(
     sigs: &Sigs,
     earlier: &FunctionNames,
     value: &Node,
-    at: &Way,
+    at: &JsonPath,
 ) -> Result<Heading, ScriptFault>
     ensures within { IfOk result (λ h. h.sig < length sigs.now) }
     ensures ok { IfOk result (λ h. read_heading (length sigs.now) earlier.now value.now at.now ≡ read (heading_of h)) }
@@ -98,7 +98,7 @@ pub(crate) fn read_headings(
     alloc: Global,
     sigs: &Sigs,
     items: &Nodes,
-    at: &Way,
+    at: &JsonPath,
 ) -> Result<Headings, ScriptFault>
     ensures within { IfOk result (λ h. All (λ x. x.sig < length sigs.now) h.list.items) }
     ensures count { IfOk result (λ h. length h.list.items ≡ items_len items.now) }

@@ -10,7 +10,7 @@ ghost use Rattle.ffi3_script.specs.Taken.{is_taken};
 
 use crate::functions::FunctionNames;
 use crate::index::NameIndex;
-use ffi3_json::{Node, Reason, ScriptFault, Way, bad};
+use ffi3_json::{JsonPath, Node, Reason, ScriptFault, bad};
 use ffi3_types::Sigs;
 use std::alloc::Global;
 
@@ -49,7 +49,7 @@ pub(crate) fn new_name(
     alloc: Global,
     names: &NameIndex,
     value: &Node,
-    at: &Way,
+    at: &JsonPath,
 ) -> Result<String, ScriptFault>
     ensures ok { IfOk result
         (λ name. new_name (is_taken names.now) (as_str value.now) at.now ≡ read (string_bytes name)) }
@@ -73,7 +73,7 @@ pub(crate) fn read_signature_number(
     alloc: Global,
     sigs: &Sigs,
     value: &Node,
-    at: &Way,
+    at: &JsonPath,
 ) -> Result<u32, ScriptFault>
     ensures below { IfOk result (λ i. i < length sigs.now) }
     ensures ok { IfOk result
@@ -101,7 +101,7 @@ pub(crate) fn read_function(
     alloc: Global,
     functions: &FunctionNames,
     value: &Node,
-    at: &Way,
+    at: &JsonPath,
 ) -> Result<u32, ScriptFault>
     requires few { length functions.now < 2 ^ 32 }
     ensures ok { IfOk result

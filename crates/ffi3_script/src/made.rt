@@ -2,7 +2,7 @@
 ghost use Rattle.std.specs.Prelude.{◌≡◌, ◌<◌, ◌≤◌, ◌+◌, ◌^◌, ◌++◌, ◌∷◌, [], All, IfOk, length, map, codes};
 ghost use Rattle.ffi3_type_rules.specs.declared.limits.TheConstants.{MOST_CALLS};
 ghost use Rattle.ffi3_script_rules.specs.Made.{made, made_function};
-ghost use Rattle.ffi3_made.specs.ShapesOf.{types_in};
+ghost use Rattle.ffi3_bench_script.specs.ShapesOf.{types_in};
 ghost use Rattle.ffi3_script.specs.PartsOf.{part_of};
 ghost use Rattle.ffi3_script.specs.ScriptOf.{script_of, natives_of};
 
@@ -10,7 +10,7 @@ use crate::function_parts::{FunctionPart, push_part};
 use crate::read::script_of;
 use crate::root::Parts;
 use crate::{NoMemory, Script};
-use ffi3_made::{Draws, Shapes};
+use ffi3_bench_script::{Draws, Shapes};
 use std::alloc::Global;
 
 // Function `s`, which has this name.

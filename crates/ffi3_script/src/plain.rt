@@ -16,7 +16,7 @@ ghost use Rattle.ffi3_script.specs.ScopeOf.{scope_of};
 use crate::decimal::read_decimal;
 use crate::scope::Scope;
 use crate::{Expr, NoMemory, TypedExpr};
-use ffi3_json::{Node, Reason, ScriptFault, Way, bad, bad_type, read_type_at};
+use ffi3_json::{JsonPath, Node, Reason, ScriptFault, bad, bad_type, read_type_at};
 use ffi3_types::{Bytes, FfiType, Members, check_type, same_type};
 use ffi3_values::{Value, integer};
 use hex::FromHex;
@@ -93,7 +93,7 @@ pub(crate) fn read_number(
     alloc: Global,
     ty: &FfiType,
     n: &Number,
-    at: &Way,
+    at: &JsonPath,
 ) -> Result<Expr, ScriptFault>
     ensures ok { IfOk result (λ e. read_number (tree_of ty.now) (number_view n.now) at.now ≡ read (expression_of e)) }
     ensures err { IfErr result (Reports (λ p r. read_number (tree_of ty.now) (number_view n.now) at.now ≡ fault p r)) }
@@ -119,7 +119,7 @@ pub(crate) fn read_text(
     alloc: Global,
     ty: &FfiType,
     text: &str,
-    at: &Way,
+    at: &JsonPath,
 ) -> Result<Expr, ScriptFault>
     ensures ok { IfOk result (λ e. read_text (tree_of ty.now) text.now at.now ≡ read (expression_of e)) }
     ensures err { IfErr result (Reports (λ p r. read_text (tree_of ty.now) text.now at.now ≡ fault p r)) }
@@ -143,7 +143,7 @@ pub(crate) fn argument_of(
     alloc: Global,
     scope: &Scope,
     value: &Node,
-    at: &Way,
+    at: &JsonPath,
 ) -> Result<TypedExpr, ScriptFault>
     ensures ok { IfOk result
         (λ v. argument_of (scope_of scope.now).arguments (option_and_then as_u64 (as_number value.now)) at.now
@@ -170,7 +170,7 @@ pub(crate) fn result_of(
     alloc: Global,
     scope: &Scope,
     value: &Node,
-    at: &Way,
+    at: &JsonPath,
 ) -> Result<TypedExpr, ScriptFault>
     requires { length scope.now.names.now ≡ length scope.now.types.now }
     ensures ok { IfOk result (λ v. result_of (scope_of scope.now).given (as_str value.now) at.now ≡ read (typed_of v)) }
@@ -192,7 +192,7 @@ pub(crate) fn result_of(
 }
 
 /// The user data of the closure.
-pub(crate) fn user_of(alloc: Global, value: &Node, at: &Way) -> Result<TypedExpr, ScriptFault>
+pub(crate) fn user_of(alloc: Global, value: &Node, at: &JsonPath) -> Result<TypedExpr, ScriptFault>
     ensures ok { IfOk result (λ v. user_of value.now at.now ≡ read (typed_of v)) }
     ensures err { IfErr result (Reports (λ p r. user_of value.now at.now ≡ fault p r)) }
 {
@@ -211,7 +211,7 @@ pub(crate) fn element_of(
     value: Expr,
     types: &Members,
     number: &Node,
-    at: &Way,
+    at: &JsonPath,
 ) -> Result<TypedExpr, ScriptFault>
     ensures ok { IfOk result
         (λ v. element_of (expression_of value) types.now (option_and_then as_u64 (as_number number.now)) at.now
@@ -238,7 +238,7 @@ pub(crate) fn against(
     alloc: Global,
     ty: &FfiType,
     value: TypedExpr,
-    at: &Way,
+    at: &JsonPath,
 ) -> Result<Expr, ScriptFault>
     ensures ok { IfOk result (λ e. against (tree_of ty.now) at.now (typed_of value) ≡ read (expression_of e)) }
     ensures err { IfErr result (Reports (λ p r. against (tree_of ty.now) at.now (typed_of value) ≡ fault p r)) }
@@ -255,7 +255,7 @@ pub(crate) fn cast_of(
     alloc: Global,
     to: &FfiType,
     value: TypedExpr,
-    at: &Way,
+    at: &JsonPath,
 ) -> Result<Expr, ScriptFault>
     ensures ok { IfOk result
         (λ e. cast_of (scalar_of (tree_of to.now)) at.now (typed_of value) ≡ read (expression_of e)) }
@@ -274,7 +274,7 @@ pub(crate) fn cast_of(
 pub(crate) fn read_right_type(
     alloc: Global,
     value: &Node,
-    at: &Way,
+    at: &JsonPath,
     version: u8,
 ) -> Result<FfiType, ScriptFault>
     ensures ok { IfOk result (λ t. read_right_type version value.now at.now ≡ read (tree_of t)) }

@@ -21,8 +21,8 @@ use crate::headings::{Heading, Headings, read_headings};
 use crate::scope::Globals;
 use crate::{Names, NoMemory, ScriptMove};
 use ffi3_json::{
-    Key, Node, Nodes, Reason, ScriptFault, Way, Where, bad, check_object_at, read_signature_at,
-    required,
+    JsonPath, Key, Node, Nodes, Reason, ScriptFault, Where, bad, check_object_at,
+    read_signature_at, required,
 };
 use ffi3_types::{FfiType, Fields, Sig, Sigs};
 use std::alloc::Global;
@@ -56,7 +56,7 @@ fn script_keys() -> [Key<'static>; 4]
 }
 
 // Whether the value is an object with these keys.
-fn check_keys(alloc: Global, value: &Node, at: &Way) -> Result<(), ScriptFault>
+fn check_keys(alloc: Global, value: &Node, at: &JsonPath) -> Result<(), ScriptFault>
     ensures ok { OnOk result (language.check_object value.now script_keys at.now ≡ read tt) }
     ensures err { IfErr result
         (Reports (λ p r. language.check_object value.now script_keys at.now ≡ language.fault p r)) }
@@ -65,7 +65,7 @@ fn check_keys(alloc: Global, value: &Node, at: &Way) -> Result<(), ScriptFault>
 }
 
 // The version, which is 1 or 2.
-fn read_version(alloc: Global, value: &Node, at: &Way) -> Result<u8, ScriptFault>
+fn read_version(alloc: Global, value: &Node, at: &JsonPath) -> Result<u8, ScriptFault>
     ensures ok { IfOk result
         (λ v. version_of (option_and_then as_u64 (as_number (value_under (codes "version") value.now)))
         (under at.now (codes "version")) ≡ read v) }
@@ -90,7 +90,12 @@ fn read_version(alloc: Global, value: &Node, at: &Way) -> Result<u8, ScriptFault
 }
 
 // The signatures that the items of an array are.
-fn read_signatures(alloc: Global, items: &Nodes, at: &Way, version: u8) -> Result<Sigs, ScriptFault>
+fn read_signatures(
+    alloc: Global,
+    items: &Nodes,
+    at: &JsonPath,
+    version: u8,
+) -> Result<Sigs, ScriptFault>
     ensures ok { IfOk result (λ ss. read_signatures version items.now at.now 0 ≡ read ss) }
     ensures err { IfErr result (Reports (λ p r. read_signatures version items.now at.now 0 ≡ language.fault p r)) }
 {
@@ -119,7 +124,7 @@ fn read_all_bodies(
     headings: &Vec<Heading>,
     items: &Nodes,
     value: &Node,
-    at: &Way,
+    at: &JsonPath,
 ) -> Result<AllBodies, ScriptFault>
     requires few { length globals.now.functions.now < 2 ^ 32 }
     requires within { All (λ h. h.sig < length globals.now.sigs.now) headings.now.items }
@@ -146,7 +151,7 @@ fn read_rest(
     headings: Headings,
     items: &Nodes,
     value: &Node,
-    at: &Way,
+    at: &JsonPath,
 ) -> Result<AllBodies, ScriptFault>
     requires count { items_len items.now ≤ max_length + 1 }
     requires few { length natives.now < 2 ^ 31 }
@@ -180,7 +185,7 @@ pub(crate) fn read_root(alloc: Global, value: &Node, natives: &Names) -> Result<
     ensures err { IfErr result (Reports (λ p r. read_script natives.now value.now ≡ language.fault p r)) }
 {
     let root = Where::new(alloc);
-    let at = Way::from(&root);
+    let at = JsonPath::from(&root);
     check_keys(alloc, value, &at)?;
     let version = read_version(alloc, value, &at)?;
     let place = at.key("signatures");

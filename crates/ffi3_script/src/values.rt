@@ -16,7 +16,7 @@ use crate::plain::{
 };
 use crate::scope::Scope;
 use crate::{Expr, TypedExpr};
-use ffi3_json::{Node, Nodes, Reason, ScriptFault, Way, bad};
+use ffi3_json::{JsonPath, Node, Nodes, Reason, ScriptFault, bad};
 use ffi3_script_body::element_types;
 use ffi3_types::{FfiType, Members};
 use std::alloc::Global;
@@ -28,7 +28,7 @@ pub(crate) fn read_value(
     scope: &Scope,
     ty: &FfiType,
     value: &Node,
-    at: &Way,
+    at: &JsonPath,
 ) -> Result<Expr, ScriptFault>
     requires even { length scope.now.names.now ≡ length scope.now.types.now }
     ensures ok { IfOk result
@@ -65,7 +65,7 @@ pub(crate) fn read_values(
     scope: &Scope,
     types: &Members,
     items: &Nodes,
-    at: &Way,
+    at: &JsonPath,
 ) -> Result<Vec<Expr>, ScriptFault>
     requires even { length scope.now.names.now ≡ length scope.now.types.now }
     requires count { items_len items.now ≡ length types.now }
@@ -96,7 +96,7 @@ fn read_form(
     ty: &FfiType,
     name: &str,
     inside: &Node,
-    at: &Way,
+    at: &JsonPath,
 ) -> Result<Expr, ScriptFault>
     requires even { length scope.now.names.now ≡ length scope.now.types.now }
     ensures ok { IfOk result
@@ -139,7 +139,7 @@ fn read_terms(
     ty: &FfiType,
     name: &str,
     inside: &Node,
-    at: &Way,
+    at: &JsonPath,
 ) -> Result<(Expr, Expr), ScriptFault>
     requires even { length scope.now.names.now ≡ length scope.now.types.now }
     ensures ok { IfOk result
@@ -166,7 +166,7 @@ pub(crate) fn read_typed(
     alloc: Global,
     scope: &Scope,
     value: &Node,
-    at: &Way,
+    at: &JsonPath,
 ) -> Result<TypedExpr, ScriptFault>
     requires even { length scope.now.names.now ≡ length scope.now.types.now }
     ensures ok { IfOk result (λ v. read_typed (scope_of scope.now) value.now at.now ≡ read (typed_of v)) }
@@ -193,7 +193,7 @@ fn read_own(
     form: TypedForm,
     name: &str,
     inside: &Node,
-    at: &Way,
+    at: &JsonPath,
 ) -> Result<TypedExpr, ScriptFault>
     requires even { length scope.now.names.now ≡ length scope.now.types.now }
     ensures ok { IfOk result
@@ -218,7 +218,7 @@ fn read_field(
     scope: &Scope,
     name: &str,
     inside: &Node,
-    at: &Way,
+    at: &JsonPath,
 ) -> Result<TypedExpr, ScriptFault>
     requires even { length scope.now.names.now ≡ length scope.now.types.now }
     ensures ok { IfOk result
@@ -245,7 +245,7 @@ fn read_of(
     scope: &Scope,
     name: &str,
     inside: &Node,
-    at: &Way,
+    at: &JsonPath,
 ) -> Result<TypedExpr, ScriptFault>
     requires even { length scope.now.names.now ≡ length scope.now.types.now }
     ensures ok { IfOk result

@@ -18,7 +18,7 @@ use Rattle.ffi3_pieces.proofs.Lawful.{each_first, each_rest}
 use Rattle.ffi3_callee.specs.Poison.{IsPoisoned, is_free}
 use Rattle.ffi3_callee.specs.Received.{OwnsAtEntry}
 use Rattle.ffi3_invoke.specs.Calls.{HasPassed, entered_closure}
-use Rattle.ffi3_board.specs.Served.{ShowsCall}
+use Rattle.ffi3_configuration.specs.Served.{ShowsCall}
 use Rattle.ffi3_serve_tests.specs.Shown.{IsOverwritten}
 
 -- no argument stands in the closure register

@@ -9,7 +9,7 @@ use Rattle.ffi3_io.specs.Sink.{SinkState}
 use Rattle.ffi3_io.specs.declared.IoError.{IoError}
 use Rattle.ffi3_io.specs.declared.IoError.TheVariants as cut
 use Rattle.ffi3_ask.specs.declared.standing.Standing.{Standing}
-use Rattle.ffi3_board.specs.declared.board.Board.{Board}
+use Rattle.ffi3_configuration.specs.declared.configuration.Configuration.{Configuration}
 use Rattle.ffi3_runner.specs.Serving.{HasNotRun, HasRun, IsAtEntry, Served, end_of}
 use Rattle.ffi3_runner.specs.declared.run.RunEnd.{RunEnd}
 use Rattle.ffi3_runner.specs.declared.run.RunEnd.TheVariants as run
@@ -18,7 +18,7 @@ no_end : (why : IoError) → run.Done ≡ end_of why → ⊥
 no_end cut.NoMemory is = cc
 no_end cut.Failed is = cc
 
-module _ (std : Standard) (trace : Bool) (p : Program) (closure : Closure) (arguments : List ValueTree) (b : Board Standing) (m : State) (output : SinkState) (b' : Board Standing) (m' : State) (output' : SinkState) where
+module _ (std : Standard) (trace : Bool) (p : Program) (closure : Closure) (arguments : List ValueTree) (b : Configuration Standing) (m : State) (output : SinkState) (b' : Configuration Standing) (m' : State) (output' : SinkState) where
   -- where it returned, the return address is popped
   popped : HasRun std trace p closure arguments b m output b' m' output' run.Done ⊎ HasNotRun std trace p closure arguments b m output m' output' run.Done → m'.sp ≡ m.sp + std.link
   popped (inl has) = has.ran.left.sp

@@ -12,8 +12,8 @@ use Rattle.ffi3_machine.specs.State.{State}
 use Rattle.ffi3_io.specs.Sink.{SinkState}
 use Rattle.ffi3_invoke.specs.Calls.{entered_closure}
 use Rattle.ffi3_ask.specs.declared.standing.Standing.{Standing}
-use Rattle.ffi3_board.specs.declared.board.Board.{Board}
-use Rattle.ffi3_board.specs.Served.{ShowsCall}
+use Rattle.ffi3_configuration.specs.declared.configuration.Configuration.{Configuration}
+use Rattle.ffi3_configuration.specs.Served.{ShowsCall}
 use Rattle.ffi3_runner.specs.Serving.{IsAtEntry, Served}
 use Rattle.ffi3_runner.specs.declared.run.RunEnd.{RunEnd}
 use Rattle.ffi3_runner.specs.declared.run.RunEnd.TheVariants as run
@@ -33,9 +33,9 @@ module _ (std : Standard) (p : Program) (signatures : List Signature) (table clo
   pub at_entry : (closure : Closure) × (vs : List ValueTree) × IsAtEntry std p table m closure vs
   at_entry = (shown.closure, arguments, entry_of)
 
-  module _ (b b' : Board Standing) (m' : State) (output output' : SinkState) (end : RunEnd) (done : end ≡ run.Done) (board : b.table ≡ table) (served : Served std false p b m output b' m' output' end) where
+  module _ (b b' : Configuration Standing) (m' : State) (output output' : SinkState) (end : RunEnd) (done : end ≡ run.Done) (configuration : b.table ≡ table) (served : Served std false p b m output b' m' output' end) where
     popped_to : m'.sp ≡ m.sp + std.link
-    popped_to = returned_sp std false p shown.closure arguments b m output b' m' output' end done (subst (λ (t : Closures). IsAtEntry std p t m shown.closure arguments) (sym board) entry_of) served
+    popped_to = returned_sp std false p shown.closure arguments b m output b' m' output' end done (subst (λ (t : Closures). IsAtEntry std p t m shown.closure arguments) (sym configuration) entry_of) served
 
     pub bottom : STACK ≤ m'.sp
     bottom = omega (arith, popped_to, shown.shows.room)

@@ -11,7 +11,7 @@ use Rattle.ffi3_machine.specs.State.{State}
 use Rattle.ffi3_pieces.specs.Stored.{IsPlace, byte_of, stack_byte}
 use Rattle.ffi3_callee.specs.Poison.{is_free}
 use Rattle.ffi3_invoke.specs.Calls.{entered_closure}
-use Rattle.ffi3_board.specs.Served.{ShowsCall}
+use Rattle.ffi3_configuration.specs.Served.{ShowsCall}
 
 -- THE MACHINE STANDS AT THE ENTRY of a live closure by this signature, with these values.
 pub record IsShown (std : Standard) (signatures : List Signature) (closures : Closures) (arguments : List ValueTree)

@@ -10,7 +10,7 @@ ghost use Rattle.ffi3_run_rules.specs.Closures.{closure_at};
 ghost use Rattle.ffi3_machine.specs.State.{IsSlot};
 ghost use Rattle.ffi3_closures.specs.Slots.{HoldsMap};
 ghost use Rattle.ffi3_invoke.specs.Calls.{entered_closure};
-ghost use Rattle.ffi3_board.specs.Served.{ShowsCall};
+ghost use Rattle.ffi3_configuration.specs.Served.{ShowsCall};
 ghost use Rattle.ffi3_serve_tests.specs.Shown.{IsOverwritten, IsShown};
 
 use ffi3_callee::poison;

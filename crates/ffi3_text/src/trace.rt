@@ -110,7 +110,7 @@ fn write_kept<A: Abi>(alloc: Global, event: &Event, text: &mut Bytes) -> Result<
     ensures { (stack : List ℕ) → OnOk result (text.new ≡ text.old ++ concat (map (register_text (event_of event.now stack)) A.standard.preserved)) }
 {
     for k in 0..A::KEPT {
-        write_register(alloc, event, A::kept_register(k), text)?;
+        write_register(alloc, event, A::callee_saved(k), text)?;
     }
     Ok(())
 }

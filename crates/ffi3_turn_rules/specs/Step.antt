@@ -1,4 +1,4 @@
--- One move of a run: what happens at once, and where the run stands then.
+-- One move of a run, the small-step semantics of a program: what happens at once, and where the run stands then.
 use Rattle.std.specs.Prelude.{ℕ, List, [], ◌∷◌}
 use Rattle.ffi3_type_rules.specs.Value.{ValueTree, void_value}
 use Rattle.ffi3_run_rules.specs.Closures.{Closures}

@@ -179,7 +179,7 @@ fn place_all(alloc: Global, sig: &Sig, first: u64, start: u64) -> Result<Placed,
 {
     let variadic = is_variadic(sig);
     let mut end = start;
-    let mut places = Places::new(alloc);
+    let mut places = Places::with_capacity(alloc, count_of(sig) as usize)?;
     for i in 0..count_of(sig) {
         let ty = argument(sig, i);
         let p = first + i as u64;
@@ -304,7 +304,7 @@ impl Abi for Win64 {
 
     const PASSING: u8 = 8;
 
-    fn kept_register(k: u8) -> Loc {
+    fn callee_saved(k: u8) -> Loc {
         NONVOLATILE[k as usize]
     }
 
@@ -314,7 +314,7 @@ impl Abi for Win64 {
 
     fn saved_word(k: u8) -> SaveWord {
         if k < Self::KEPT {
-            SaveWord::Register(Self::kept_register(k))
+            SaveWord::Register(Self::callee_saved(k))
         } else {
             SaveWord::Hidden
         }

@@ -3,8 +3,8 @@ use Rattle.ffi3_script_rules.specs.Script as script
 use Rattle.ffi3_script_rules.specs.Made.{made, made_types, made_signature, made_function, made_main}
 use Rattle.ffi3_script_rules.specs.Typed.{script_is_typed}
 use Rattle.ffi3_script_rules.proofs.Made.{made_is_typed}
-use Rattle.ffi3_made.specs.ShapesOf.{types_in}
-use Rattle.ffi3_made.specs.KindOf.{state_of}
+use Rattle.ffi3_bench_script.specs.ShapesOf.{types_in}
+use Rattle.ffi3_bench_script.specs.KindOf.{state_of}
 use Rattle.ffi3_script_body.specs.ExprOf.{script_moves_of}
 use Rattle.ffi3_script.specs.PartsOf.{part_of, script_in}
 use Rattle.ffi3_script.proofs.made.made_script.Goals as goal

@@ -1,9 +1,9 @@
 use Rattle.std.proofs.Common.{◌≡◌, List, [], Option, Some, None, reverse, sym, ap, ◌∙◌, rules}
 use Rattle.ffi3_type_rules.specs.Signature.{signature_at}
 use Rattle.ffi3_ask.specs.declared.standing.Standing.{Standing}
-use Rattle.ffi3_board.specs.declared.activation.OpenCall.{OpenCall}
-use Rattle.ffi3_board.specs.declared.activation.Waiting.{Waiting}
-use Rattle.ffi3_board.specs.Activations.{call_inside}
+use Rattle.ffi3_configuration.specs.declared.activation.OpenCall.{OpenCall}
+use Rattle.ffi3_configuration.specs.declared.activation.Waiting.{Waiting}
+use Rattle.ffi3_configuration.specs.Activations.{call_inside}
 use Rattle.ffi3_runner.specs.Agreeing.{seen_by, seen_by_callee, seen_by_main}
 use Rattle.ffi3_runner.proofs.Last.{block_high, block_low, last_call, last_none, served_call}
 use Rattle.ffi3_runner.proofs.Numbers.{agrees_as, asked_as}
@@ -11,7 +11,7 @@ use Rattle.ffi3_runner.proofs.prepare.Prepared.asked.Goals as goal
 
 pub asked_by_callee-requires-clause-below : goal.asked_by_callee-requires-clause-below
 asked_by_callee-requires-clause-below g c =
-    let b = c.args.board.now in
+    let b = c.args.configuration.now in
     let w = c.in-Some.waiting.now in
     let t = c.requires.holds in
     let last = last_call g.A.Abi.standard c.args.self.now.cifs t.0 t.1 c.args.machine.now t.2 b.served c.deref.result.now b.suspended.items w c.deref.ensures.value c.in-Some.ensures.value t.3 in
@@ -19,7 +19,7 @@ asked_by_callee-requires-clause-below g c =
 
 pub asked_by_callee-requires-clause-block : goal.asked_by_callee-requires-clause-block
 asked_by_callee-requires-clause-block g c =
-    let b = c.args.board.now in
+    let b = c.args.configuration.now in
     let w = c.in-Some.waiting.now in
     let t = c.requires.holds in
     let last = last_call g.A.Abi.standard c.args.self.now.cifs t.0 t.1 c.args.machine.now t.2 b.served c.deref.result.now b.suspended.items w c.deref.ensures.value c.in-Some.ensures.value t.3 in
@@ -27,7 +27,7 @@ asked_by_callee-requires-clause-block g c =
 
 pub asked_by_callee-requires-clause-low : goal.asked_by_callee-requires-clause-low
 asked_by_callee-requires-clause-low g c =
-    let b = c.args.board.now in
+    let b = c.args.configuration.now in
     let w = c.in-Some.waiting.now in
     let t = c.requires.holds in
     let last = last_call g.A.Abi.standard c.args.self.now.cifs t.0 t.1 c.args.machine.now t.2 b.served c.deref.result.now b.suspended.items w c.deref.ensures.value c.in-Some.ensures.value t.3 in
@@ -35,7 +35,7 @@ asked_by_callee-requires-clause-low g c =
 
 pub asked_by_callee-requires-clause-high : goal.asked_by_callee-requires-clause-high
 asked_by_callee-requires-clause-high g c =
-    let b = c.args.board.now in
+    let b = c.args.configuration.now in
     let w = c.in-Some.waiting.now in
     let t = c.requires.holds in
     let last = last_call g.A.Abi.standard c.args.self.now.cifs t.0 t.1 c.args.machine.now t.2 b.served c.deref.result.now b.suspended.items w c.deref.ensures.value c.in-Some.ensures.value t.3 in
@@ -43,7 +43,7 @@ asked_by_callee-requires-clause-high g c =
 
 pub asked_by_callee-requires-in-Some-served-clause-below : goal.asked_by_callee-requires-in-Some-served-clause-below
 asked_by_callee-requires-in-Some-served-clause-below g c =
-    let b = c.args.board.now in
+    let b = c.args.configuration.now in
     let k = c.in-Some-served.call in
     let none : b.suspended.items ≡ [] = sym c.deref.ensures.value ∙ last_none c.deref.result.now (sym c.in-None.ensures.value) in
     let is : b.served ≡ Some k = search rules in
@@ -53,7 +53,7 @@ asked_by_callee-requires-in-Some-served-clause-below g c =
 
 pub asked_by_callee-requires-in-Some-served-clause-block : goal.asked_by_callee-requires-in-Some-served-clause-block
 asked_by_callee-requires-in-Some-served-clause-block g c =
-    let b = c.args.board.now in
+    let b = c.args.configuration.now in
     let k = c.in-Some-served.call in
     let none : b.suspended.items ≡ [] = sym c.deref.ensures.value ∙ last_none c.deref.result.now (sym c.in-None.ensures.value) in
     let is : b.served ≡ Some k = search rules in
@@ -63,7 +63,7 @@ asked_by_callee-requires-in-Some-served-clause-block g c =
 
 pub asked_by_callee-requires-in-Some-served-clause-low : goal.asked_by_callee-requires-in-Some-served-clause-low
 asked_by_callee-requires-in-Some-served-clause-low g c =
-    let b = c.args.board.now in
+    let b = c.args.configuration.now in
     let k = c.in-Some-served.call in
     let none : b.suspended.items ≡ [] = sym c.deref.ensures.value ∙ last_none c.deref.result.now (sym c.in-None.ensures.value) in
     let is : b.served ≡ Some k = search rules in
@@ -73,7 +73,7 @@ asked_by_callee-requires-in-Some-served-clause-low g c =
 
 pub asked_by_callee-requires-in-Some-served-clause-high : goal.asked_by_callee-requires-in-Some-served-clause-high
 asked_by_callee-requires-in-Some-served-clause-high g c =
-    let b = c.args.board.now in
+    let b = c.args.configuration.now in
     let k = c.in-Some-served.call in
     let none : b.suspended.items ≡ [] = sym c.deref.ensures.value ∙ last_none c.deref.result.now (sym c.in-None.ensures.value) in
     let is : b.served ≡ Some k = search rules in
@@ -83,7 +83,7 @@ asked_by_callee-requires-in-Some-served-clause-high g c =
 
 pub asked_by_callee-requires-clause-agrees : goal.asked_by_callee-requires-clause-agrees
 asked_by_callee-requires-clause-agrees g c =
-    let b = c.args.board.now in
+    let b = c.args.configuration.now in
     let a = c.args.current.now in
     let cifs = c.args.self.now.cifs in
     let m = c.args.machine.now in
@@ -95,7 +95,7 @@ asked_by_callee-requires-clause-agrees g c =
 
 pub asked_by_callee-requires-in-Some-served-clause-agrees : goal.asked_by_callee-requires-in-Some-served-clause-agrees
 asked_by_callee-requires-in-Some-served-clause-agrees g c =
-    let b = c.args.board.now in
+    let b = c.args.configuration.now in
     let a = c.args.current.now in
     let cifs = c.args.self.now.cifs in
     let m = c.args.machine.now in
@@ -107,7 +107,7 @@ asked_by_callee-requires-in-Some-served-clause-agrees g c =
 
 pub asked_by_main-requires-clause-agrees : goal.asked_by_main-requires-clause-agrees
 asked_by_main-requires-clause-agrees g c =
-    let b = c.args.board.now in
+    let b = c.args.configuration.now in
     let a = c.args.current.now in
     let cifs = c.args.self.now.cifs in
     let m = c.args.machine.now in
@@ -118,7 +118,7 @@ asked_by_main-requires-clause-agrees g c =
 
 pub returns-in-None-served-clause-asked : goal.returns-in-None-served-clause-asked
 returns-in-None-served-clause-asked g c =
-    let b = c.args.board.now in
+    let b = c.args.configuration.now in
     let a = c.args.current.now in
     let cifs = c.args.self.now.cifs in
     let m = c.args.machine.now in
@@ -129,7 +129,7 @@ returns-in-None-served-clause-asked g c =
 
 pub returns-in-Some-served-clause-asked : goal.returns-in-Some-served-clause-asked
 returns-in-Some-served-clause-asked g c =
-    let b = c.args.board.now in
+    let b = c.args.configuration.now in
     let a = c.args.current.now in
     let cifs = c.args.self.now.cifs in
     let m = c.args.machine.now in
@@ -141,7 +141,7 @@ returns-in-Some-served-clause-asked g c =
 
 pub returns-in-Some-clause-asked : goal.returns-in-Some-clause-asked
 returns-in-Some-clause-asked g c =
-    let b = c.args.board.now in
+    let b = c.args.configuration.now in
     let a = c.args.current.now in
     let cifs = c.args.self.now.cifs in
     let m = c.args.machine.now in

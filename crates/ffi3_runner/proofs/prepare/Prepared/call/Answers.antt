@@ -2,8 +2,8 @@ use Rattle.std.proofs.Common.{◌<◌, List, length, Ok, Err, sym, subst, arith}
 use Rattle.std.proofs.lemmas.List.{length-map}
 use Rattle.ffi3_type_rules.specs.Signature.{Signature}
 use Rattle.ffi3_run_rules.specs.Move.{call}
-use Rattle.ffi3_board.proofs.Blocks.{blocks_above}
-use Rattle.ffi3_board.proofs.Closed.{known_at}
+use Rattle.ffi3_configuration.proofs.Blocks.{blocks_above}
+use Rattle.ffi3_configuration.proofs.Closed.{known_at}
 use Rattle.ffi3_runner.proofs.Agreed.{entered_stands}
 use Rattle.ffi3_runner.proofs.Numbers.{does_at, func_below, own_at}
 use Rattle.ffi3_runner.proofs.prepare.Prepared.call.Goals as goal
@@ -20,7 +20,7 @@ returns-in-Err-clause-turned g c = λ base all first own events standard tracing
 
 pub in_function-standing-requires-clause-below : goal.in_function-standing-requires-clause-below
 in_function-standing-requires-clause-below g c =
-    let known = known_at _ c.args.board.now.table c.args.ptr c.in-Ok.closure c.requires.asking.6.between.known c.in-Ok.ensures.entered.live in
+    let known = known_at _ c.args.configuration.now.table c.args.ptr c.in-Ok.closure c.requires.asking.6.between.known c.in-Ok.ensures.entered.live in
     func_below g.A.Abi.standard c.args.self.now.script.now _ (length c.args.self.now.natives.now.items) c.in-Ok.closure.func (length-map c.args.self.now.natives.now.items _) known.function
 
 pub returns-clause-turned : goal.returns-clause-turned
@@ -32,7 +32,7 @@ pub returns-clause-standing : goal.returns-clause-standing
 returns-clause-standing g c = λ more.
     let asking = c.requires.asking.6 in
     let base = c.requires.asking.0 in
-    let b = c.args.board.now in
+    let b = c.args.configuration.now in
     let m = c.args.machine.now in
     let above = blocks_above base.standard _ base.held base.top m m.sp _ _ m.sp (omega arith) asking.between.calls.stand in
     let known = known_at _ b.table c.args.ptr c.in-Ok.closure asking.between.known c.in-Ok.ensures.entered.live in

@@ -8,30 +8,30 @@ use Rattle.ffi3_values.specs.ValueOf.{value_of}
 use Rattle.ffi3_run_rules.specs.Move.{call, make, free, print, return}
 use Rattle.ffi3_body.specs.MoveOf.{move_of}
 use Rattle.ffi3_ask.specs.declared.standing.Standing.{Standing}
-use Rattle.ffi3_board.specs.declared.board.Board.{Board}
-use Rattle.ffi3_board.specs.Between.{run_state}
-use Rattle.ffi3_board.specs.Activations.{call_inside}
+use Rattle.ffi3_configuration.specs.declared.configuration.Configuration.{Configuration}
+use Rattle.ffi3_configuration.specs.Between.{run_state}
+use Rattle.ffi3_configuration.specs.Activations.{call_inside}
 use Rattle.ffi3_run_rules.specs.Meaning.{pointer_value}
-use Rattle.ffi3_board.specs.Going.{and_result}
-use Rattle.ffi3_board.proofs.Blocks.{blocks_above}
-use Rattle.ffi3_board.proofs.Moving.{cut_between, looks_as_itself}
+use Rattle.ffi3_configuration.specs.Going.{and_result}
+use Rattle.ffi3_configuration.proofs.Blocks.{blocks_above}
+use Rattle.ffi3_configuration.proofs.Moving.{cut_between, looks_as_itself}
 use Rattle.ffi3_runner.proofs.Agreed.{went_stands, returned_stands}
 use Rattle.ffi3_runner.proofs.Numbers.{func_below}
 use Rattle.ffi3_runner.proofs.Turning.{after_stands, asks_move, between_of, innermost_stands, later, move_fits, never_more, returns_type, short_by_few, turned_as, went_on, will_stand}
 use Rattle.ffi3_runner.proofs.prepare.Prepared.one_move.Goals as goal
 
-pub returns-then-board-eq0-clause-turned : goal.returns-then-board-eq0-clause-turned
-returns-then-board-eq0-clause-turned g c = λ base all first own events standard tracing h.
-    let b = c.args.board.now in
+pub returns-then-configuration-eq0-clause-turned : goal.returns-then-configuration-eq0-clause-turned
+returns-then-configuration-eq0-clause-turned g c = λ base all first own events standard tracing h.
+    let b = c.args.configuration.now in
     let a = c.in-Some.current in
     let m = c.args.machine.now in
     let is : b.innermost ≡ Some a = search rules in
     let between = between_of _ base all first own events b a m (g.O.Sink.state c.args.output.now) is h in
-    turned_as _ base all first own 0 b.moves c.stop_at_limit.new.self m (g.O.Sink.state c.stop_at_limit.new.output) c.stop_at_limit.result (sym c.if-board-eq0.true) (c.stop_at_limit.ensures _ base all first own events m (sym c.requires.prepared.are) between)
+    turned_as _ base all first own 0 b.moves c.stop_at_limit.new.self m (g.O.Sink.state c.stop_at_limit.new.output) c.stop_at_limit.result (sym c.if-configuration-eq0.true) (c.stop_at_limit.ensures _ base all first own events m (sym c.requires.prepared.are) between)
 
-pub returns-then-board-eq0-clause-standing : goal.returns-then-board-eq0-clause-standing
-returns-then-board-eq0-clause-standing g c = λ more.
-    let b = c.args.board.now in
+pub returns-then-configuration-eq0-clause-standing : goal.returns-then-configuration-eq0-clause-standing
+returns-then-configuration-eq0-clause-standing g c = λ more.
+    let b = c.args.configuration.now in
     let a = c.in-Some.current in
     let m = c.args.machine.now in
     let t = c.requires.between in
@@ -41,7 +41,7 @@ returns-then-board-eq0-clause-standing g c = λ more.
 
 pub returns-in_default-asked-clause-turned : goal.returns-in_default-asked-clause-turned
 returns-in_default-asked-clause-turned g c = λ base all first own events standard tracing h.
-    let b = c.args.board.now in
+    let b = c.args.configuration.now in
     let a = c.in-Some.current in
     let m = c.args.machine.now in
     let o = g.O.Sink.state c.args.output.now in
@@ -50,7 +50,7 @@ returns-in_default-asked-clause-turned g c = λ base all first own events standa
 
 pub sig_of-sig-requires-clause-below : goal.sig_of-sig-requires-clause-below
 sig_of-sig-requires-clause-below g c =
-    let b = c.args.board.now in
+    let b = c.args.configuration.now in
     let a = c.in-Some.current in
     let z = c.asked.new.current in
     let m = c.args.machine.now in
@@ -61,7 +61,7 @@ sig_of-sig-requires-clause-below g c =
 
 pub call-requires-clause-asking : goal.call-requires-clause-asking
 call-requires-clause-asking g c =
-    let b = c.args.board.now in
+    let b = c.args.configuration.now in
     let a = c.in-Some.current in
     let z = c.asked.new.current in
     let m = c.args.machine.now in
@@ -76,7 +76,7 @@ call-requires-clause-asking g c =
 
 pub leave-requires-clause-few : goal.leave-requires-clause-few
 leave-requires-clause-few g c =
-    let b = c.args.board.now in
+    let b = c.args.configuration.now in
     let a = c.in-Some.current in
     let m = c.args.machine.now in
     let t = c.requires.between in
@@ -86,7 +86,7 @@ leave-requires-clause-few g c =
 
 pub returns-in-Print-clause-turned : goal.returns-in-Print-clause-turned
 returns-in-Print-clause-turned g c = λ base all first own events standard tracing h.
-    let b = c.args.board.now in
+    let b = c.args.configuration.now in
     let a = c.in-Some.current in
     let z = c.asked.new.current in
     let m = c.args.machine.now in
@@ -101,7 +101,7 @@ returns-in-Print-clause-turned g c = λ base all first own events standard traci
 
 pub returns-in-Make-clause-turned : goal.returns-in-Make-clause-turned
 returns-in-Make-clause-turned g c = λ base all first own events standard tracing h.
-    let b = c.args.board.now in
+    let b = c.args.configuration.now in
     let a = c.in-Some.current in
     let z = c.asked.new.current in
     let m = c.args.machine.now in
@@ -117,7 +117,7 @@ returns-in-Make-clause-turned g c = λ base all first own events standard tracin
 
 pub returns-in-Make-clause-standing : goal.returns-in-Make-clause-standing
 returns-in-Make-clause-standing g c = λ more.
-    let b = c.args.board.now in
+    let b = c.args.configuration.now in
     let a = c.in-Some.current in
     let z = c.asked.new.current in
     let m = c.args.machine.now in
@@ -131,11 +131,11 @@ returns-in-Make-clause-standing g c = λ more.
     let r = pointer_value goes.0 in
     let stood = innermost_stands s _ cifs m b a is c.requires.standing in
     let stands = after_stands s _ cifs m (call_inside b.served (reverse b.suspended.items)) a z r c.asked.ensures.same stood.who c.asked.ensures.who (later std s _ cifs c.requires.prepared b m o a z c.take.new.self (b.moves - 1) is counted c.requires.standing c.asked.ensures.same _ (move_of c.in-Ok.asked) (make c.in-Make.func c.in-Make.user) c.in-Ok.ensures.asked (ap move_of c.in-Make.is) r refl) in
-    went_stands s _ cifs m c.make.new.machine b c.make.new.self (and_result z r) c.make.ensures.stack (ap (λ (x : Board Standing). x.innermost) goes.1) (ap (λ (x : Board Standing). x.served) goes.1) (ap (λ (x : Board Standing). x.suspended.items) goes.1) stands c.requires.standing.others
+    went_stands s _ cifs m c.make.new.machine b c.make.new.self (and_result z r) c.make.ensures.stack (ap (λ (x : Configuration Standing). x.innermost) goes.1) (ap (λ (x : Configuration Standing). x.served) goes.1) (ap (λ (x : Configuration Standing). x.suspended.items) goes.1) stands c.requires.standing.others
 
 pub returns-in-Free-clause-turned : goal.returns-in-Free-clause-turned
 returns-in-Free-clause-turned g c = λ base all first own events standard tracing h.
-    let b = c.args.board.now in
+    let b = c.args.configuration.now in
     let a = c.in-Some.current in
     let z = c.asked.new.current in
     let m = c.args.machine.now in
@@ -150,7 +150,7 @@ returns-in-Free-clause-turned g c = λ base all first own events standard tracin
 
 pub returns-in-Free-clause-standing : goal.returns-in-Free-clause-standing
 returns-in-Free-clause-standing g c = λ more.
-    let b = c.args.board.now in
+    let b = c.args.configuration.now in
     let a = c.in-Some.current in
     let z = c.asked.new.current in
     let m = c.args.machine.now in
@@ -163,11 +163,11 @@ returns-in-Free-clause-standing g c = λ more.
     let goes = c.free.ensures.goes more in
     let stood = innermost_stands s _ cifs m b a is c.requires.standing in
     let stands = after_stands s _ cifs m (call_inside b.served (reverse b.suspended.items)) a z void_value c.asked.ensures.same stood.who c.asked.ensures.who (later std s _ cifs c.requires.prepared b m o a z c.take.new.self (b.moves - 1) is counted c.requires.standing c.asked.ensures.same _ (move_of c.in-Ok.asked) (free c.in-Free.ptr) c.in-Ok.ensures.asked (ap move_of c.in-Free.is) void_value refl) in
-    went_stands s _ cifs m c.free.new.machine b c.free.new.self (and_result z void_value) c.free.ensures.stack (ap (λ (x : Board Standing). x.innermost) goes) (ap (λ (x : Board Standing). x.served) goes) (ap (λ (x : Board Standing). x.suspended.items) goes) stands c.requires.standing.others
+    went_stands s _ cifs m c.free.new.machine b c.free.new.self (and_result z void_value) c.free.ensures.stack (ap (λ (x : Configuration Standing). x.innermost) goes) (ap (λ (x : Configuration Standing). x.served) goes) (ap (λ (x : Configuration Standing). x.suspended.items) goes) stands c.requires.standing.others
 
 pub returns-in-Call-clause-turned : goal.returns-in-Call-clause-turned
 returns-in-Call-clause-turned g c = λ base all first own events standard tracing h.
-    let b = c.args.board.now in
+    let b = c.args.configuration.now in
     let a = c.in-Some.current in
     let z = c.asked.new.current in
     let m = c.args.machine.now in
@@ -178,11 +178,11 @@ returns-in-Call-clause-turned g c = λ base all first own events standard tracin
     let is : b.innermost ≡ Some a = search rules in
     let counted : b.moves ≡ suc (b.moves - 1) = omega arith in
     let asking = asks_move std s _ cifs c.requires.prepared b m o a z c.take.new.self (b.moves - 1) is counted c.requires.standing c.asked.ensures.same _ (move_of c.in-Ok.asked) (call c.in-Call.ptr c.in-Call.sig c.in-Call.args) c.in-Ok.ensures.asked (ap move_of c.in-Call.is) base all first own events h in
-    turned_as _ base all first own (suc (b.moves - 1)) b.moves c.call.new.board c.call.new.machine (g.O.Sink.state c.call.new.output) c.call.result (sym counted) (c.call.ensures.turned base all first own events standard tracing asking)
+    turned_as _ base all first own (suc (b.moves - 1)) b.moves c.call.new.configuration c.call.new.machine (g.O.Sink.state c.call.new.output) c.call.result (sym counted) (c.call.ensures.turned base all first own events standard tracing asking)
 
 pub returns-in-Return-clause-turned : goal.returns-in-Return-clause-turned
 returns-in-Return-clause-turned g c = λ base all first own events standard tracing h.
-    let b = c.args.board.now in
+    let b = c.args.configuration.now in
     let a = c.in-Some.current in
     let z = c.asked.new.current in
     let m = c.args.machine.now in
@@ -197,7 +197,7 @@ returns-in-Return-clause-turned g c = λ base all first own events standard trac
 
 pub returns-in-Return-clause-standing : goal.returns-in-Return-clause-standing
 returns-in-Return-clause-standing g c = λ more.
-    let b = c.args.board.now in
+    let b = c.args.configuration.now in
     let a = c.in-Some.current in
     let z = c.asked.new.current in
     let m = c.args.machine.now in
@@ -221,7 +221,7 @@ returns-in-Return-clause-standing g c = λ more.
 
 pub call-requires-clause-will : goal.call-requires-clause-will
 call-requires-clause-will g c =
-    let b = c.args.board.now in
+    let b = c.args.configuration.now in
     let a = c.in-Some.current in
     let z = c.asked.new.current in
     let m = c.args.machine.now in
@@ -236,7 +236,7 @@ call-requires-clause-will g c =
 
 pub returns-in-Print-clause-standing : goal.returns-in-Print-clause-standing
 returns-in-Print-clause-standing g c = λ more.
-    let b = c.args.board.now in
+    let b = c.args.configuration.now in
     let a = c.in-Some.current in
     let z = c.asked.new.current in
     let m = c.args.machine.now in
@@ -249,4 +249,4 @@ returns-in-Print-clause-standing g c = λ more.
     let goes = c.print.ensures.goes more in
     let stood = innermost_stands s _ cifs m b a is c.requires.standing in
     let stands = after_stands s _ cifs m (call_inside b.served (reverse b.suspended.items)) a z void_value c.asked.ensures.same stood.who c.asked.ensures.who (later std s _ cifs c.requires.prepared b m o a z c.take.new.self (b.moves - 1) is counted c.requires.standing c.asked.ensures.same _ (move_of c.in-Ok.asked) (print (tree_of c.in-Print.ty) (value_of c.in-Print.value)) c.in-Ok.ensures.asked (ap move_of c.in-Print.is) void_value refl) in
-    went_stands s _ cifs m m b c.print.new.self (and_result z void_value) refl (ap (λ (x : Board Standing). x.innermost) goes) (ap (λ (x : Board Standing). x.served) goes) (ap (λ (x : Board Standing). x.suspended.items) goes) stands c.requires.standing.others
+    went_stands s _ cifs m m b c.print.new.self (and_result z void_value) refl (ap (λ (x : Configuration Standing). x.innermost) goes) (ap (λ (x : Configuration Standing). x.served) goes) (ap (λ (x : Configuration Standing). x.suspended.items) goes) stands c.requires.standing.others

@@ -3,7 +3,7 @@ use Rattle.std.proofs.lemmas.List.{length-map}
 use Rattle.ffi3_type_rules.specs.Signature.{Signature}
 use Rattle.ffi3_run_rules.specs.Closures.{closure_at}
 use Rattle.ffi3_invoke.specs.Calls.{entered_closure}
-use Rattle.ffi3_board.proofs.Closed.{known_at}
+use Rattle.ffi3_configuration.proofs.Closed.{known_at}
 use Rattle.ffi3_runner.proofs.Agreed.{accepted_stands}
 use Rattle.ffi3_runner.proofs.Numbers.{func_below, own_at}
 use Rattle.ffi3_runner.specs.Ready.{traced_or_not}
@@ -12,7 +12,7 @@ use Rattle.ffi3_runner.proofs.prepare.Prepared.serve.Goals as goal
 
 pub in_function-standing-requires-clause-below : goal.in_function-standing-requires-clause-below
 in_function-standing-requires-clause-below g c =
-    let b = c.args.board.now in
+    let b = c.args.configuration.now in
     let m = c.args.machine.now in
     let live : closure_at b.table (entered_closure m) ≡ Some c.in-Some.closure = search rules in
     let known = known_at _ b.table (entered_closure m) c.in-Some.closure c.requires.idle.known live in
@@ -20,7 +20,7 @@ in_function-standing-requires-clause-below g c =
 
 pub accept_call-requires-clause-below : goal.accept_call-requires-clause-below
 accept_call-requires-clause-below g c =
-    let b = c.args.board.now in
+    let b = c.args.configuration.now in
     let m = c.args.machine.now in
     let found = c.in-Some.closure in
     let live : closure_at b.table (entered_closure m) ≡ Some found = search rules in
@@ -29,7 +29,7 @@ accept_call-requires-clause-below g c =
 
 pub accept_call-requires-clause-shows : goal.accept_call-requires-clause-shows
 accept_call-requires-clause-shows g c =
-    let b = c.args.board.now in
+    let b = c.args.configuration.now in
     let m = c.args.machine.now in
     let found = c.in-Some.closure in
     let live : closure_at b.table (entered_closure m) ≡ Some found = search rules in
@@ -38,7 +38,7 @@ accept_call-requires-clause-shows g c =
 
 pub run_on-requires-clause-standing : goal.run_on-requires-clause-standing
 run_on-requires-clause-standing g c =
-    let b = c.args.board.now in
+    let b = c.args.configuration.now in
     let m = c.args.machine.now in
     let found = c.in-Some.closure in
     let live : closure_at b.table (entered_closure m) ≡ Some found = search rules in
@@ -49,7 +49,7 @@ run_on-requires-clause-standing g c =
 
 pub run_on-requires-clause-between : goal.run_on-requires-clause-between
 run_on-requires-clause-between g c =
-    let b = c.args.board.now in
+    let b = c.args.configuration.now in
     let m = c.args.machine.now in
     let o = g.O.Sink.state c.args.output.now in
     let o' = g.O.Sink.state c.accept_call.new.output in
@@ -60,7 +60,7 @@ run_on-requires-clause-between g c =
 
 pub returns-in-Err : goal.returns-in-Err
 returns-in-Err g c =
-    let b = c.args.board.now in
+    let b = c.args.configuration.now in
     let m = c.args.machine.now in
     let o = g.O.Sink.state c.args.output.now in
     let o' = g.O.Sink.state c.accept_call.new.output in
@@ -70,10 +70,10 @@ returns-in-Err g c =
 
 pub returns : goal.returns
 returns g c =
-    let b = c.args.board.now in
+    let b = c.args.configuration.now in
     let m = c.args.machine.now in
     let o = g.O.Sink.state c.args.output.now in
     let o' = g.O.Sink.state c.accept_call.new.output in
     let found = c.in-Some.closure in
     let live : closure_at b.table (entered_closure m) ≡ Some found = search rules in
-    call_served g.A.Abi.standard c.args.trace _ b c.accept_call.new.self m c.accept_call.new.machine o o' found c.args.self.now.cifs c.requires.prepared.are live (λ arguments shows. c.in_default-accept_call.ensures.accepted _ arguments (sym c.requires.prepared.are) refl shows c.requires.holds c.requires.idle.known c.requires.idle.few) c.run_on.new.board c.run_on.new.machine (g.O.Sink.state c.run_on.new.output) c.run_on.result c.run_on.ensures
+    call_served g.A.Abi.standard c.args.trace _ b c.accept_call.new.self m c.accept_call.new.machine o o' found c.args.self.now.cifs c.requires.prepared.are live (λ arguments shows. c.in_default-accept_call.ensures.accepted _ arguments (sym c.requires.prepared.are) refl shows c.requires.holds c.requires.idle.known c.requires.idle.few) c.run_on.new.configuration c.run_on.new.machine (g.O.Sink.state c.run_on.new.output) c.run_on.result c.run_on.ensures

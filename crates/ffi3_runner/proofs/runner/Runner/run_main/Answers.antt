@@ -11,7 +11,7 @@ pub run_on-requires-clause-between : goal.run_on-requires-clause-between
 run_on-requires-clause-between g c =
     let m = c.args.machine.now in
     let o = g.O.Sink.state c.args.output.now in
-    (traced_or_not, refl, start_between g.A.Abi.standard c.args.self.now.prepared.script.now _ c.args.self.now.prepared.cifs c.requires.prepared c.args.trace m o c.start.new.board (c.start.ensures.between c.args.trace m o c.requires.begun))
+    (traced_or_not, refl, start_between g.A.Abi.standard c.args.self.now.prepared.script.now _ c.args.self.now.prepared.cifs c.requires.prepared c.args.trace m o c.start.new.configuration (c.start.ensures.between c.args.trace m o c.requires.begun))
 
 pub returns-clause-done : goal.returns-clause-done
 returns-clause-done g c =
@@ -19,8 +19,8 @@ returns-clause-done g c =
     let m = c.args.machine.now in
     let o = g.O.Sink.state c.args.output.now in
     let o' = g.O.Sink.state c.run_on.new.output in
-    let ran = main_ran std c.args.self.now.prepared.script.now _ c.args.self.now.prepared.cifs c.requires.prepared c.args.trace m o c.start.new.board (c.start.ensures.between c.args.trace m o c.requires.begun) c.run_on.new.board c.run_on.new.machine o' c.run_on.result c.run_on.ensures in
-    ran_done _ std c.args.trace c.run_on.new.board c.run_on.new.machine o o' c.run_on.result ran
+    let ran = main_ran std c.args.self.now.prepared.script.now _ c.args.self.now.prepared.cifs c.requires.prepared c.args.trace m o c.start.new.configuration (c.start.ensures.between c.args.trace m o c.requires.begun) c.run_on.new.configuration c.run_on.new.machine o' c.run_on.result c.run_on.ensures in
+    ran_done _ std c.args.trace c.run_on.new.configuration c.run_on.new.machine o o' c.run_on.result ran
 
 pub returns-clause-returns : goal.returns-clause-returns
 returns-clause-returns g c =
@@ -28,8 +28,8 @@ returns-clause-returns g c =
     let m = c.args.machine.now in
     let o = g.O.Sink.state c.args.output.now in
     let o' = g.O.Sink.state c.run_on.new.output in
-    let ran = main_ran std c.args.self.now.prepared.script.now _ c.args.self.now.prepared.cifs c.requires.prepared c.args.trace m o c.start.new.board (c.start.ensures.between c.args.trace m o c.requires.begun) c.run_on.new.board c.run_on.new.machine o' c.run_on.result c.run_on.ensures in
-    ran_returned _ std c.args.trace c.run_on.new.board c.run_on.new.machine o o' c.run_on.result ran
+    let ran = main_ran std c.args.self.now.prepared.script.now _ c.args.self.now.prepared.cifs c.requires.prepared c.args.trace m o c.start.new.configuration (c.start.ensures.between c.args.trace m o c.requires.begun) c.run_on.new.configuration c.run_on.new.machine o' c.run_on.result c.run_on.ensures in
+    ran_returned _ std c.args.trace c.run_on.new.configuration c.run_on.new.machine o o' c.run_on.result ran
 
 pub returns-clause-steps : goal.returns-clause-steps
 returns-clause-steps g c =
@@ -37,8 +37,8 @@ returns-clause-steps g c =
     let m = c.args.machine.now in
     let o = g.O.Sink.state c.args.output.now in
     let o' = g.O.Sink.state c.run_on.new.output in
-    let ran = main_ran std c.args.self.now.prepared.script.now _ c.args.self.now.prepared.cifs c.requires.prepared c.args.trace m o c.start.new.board (c.start.ensures.between c.args.trace m o c.requires.begun) c.run_on.new.board c.run_on.new.machine o' c.run_on.result c.run_on.ensures in
-    ran_counted _ std c.args.trace c.run_on.new.board c.run_on.new.machine o o' c.run_on.result ran _ g.met.A.Abi.target_is
+    let ran = main_ran std c.args.self.now.prepared.script.now _ c.args.self.now.prepared.cifs c.requires.prepared c.args.trace m o c.start.new.configuration (c.start.ensures.between c.args.trace m o c.requires.begun) c.run_on.new.configuration c.run_on.new.machine o' c.run_on.result c.run_on.ensures in
+    ran_counted _ std c.args.trace c.run_on.new.configuration c.run_on.new.machine o o' c.run_on.result ran _ g.met.A.Abi.target_is
 
 pub returns-clause-stopped : goal.returns-clause-stopped
 returns-clause-stopped g c =
@@ -46,8 +46,8 @@ returns-clause-stopped g c =
     let m = c.args.machine.now in
     let o = g.O.Sink.state c.args.output.now in
     let o' = g.O.Sink.state c.run_on.new.output in
-    let ran = main_ran std c.args.self.now.prepared.script.now _ c.args.self.now.prepared.cifs c.requires.prepared c.args.trace m o c.start.new.board (c.start.ensures.between c.args.trace m o c.requires.begun) c.run_on.new.board c.run_on.new.machine o' c.run_on.result c.run_on.ensures in
-    ran_stopped _ std c.args.trace c.run_on.new.board c.run_on.new.machine o o' c.run_on.result ran
+    let ran = main_ran std c.args.self.now.prepared.script.now _ c.args.self.now.prepared.cifs c.requires.prepared c.args.trace m o c.start.new.configuration (c.start.ensures.between c.args.trace m o c.requires.begun) c.run_on.new.configuration c.run_on.new.machine o' c.run_on.result c.run_on.ensures in
+    ran_stopped _ std c.args.trace c.run_on.new.configuration c.run_on.new.machine o o' c.run_on.result ran
 
 pub returns-clause-stops : goal.returns-clause-stops
 returns-clause-stops g c =
@@ -55,8 +55,8 @@ returns-clause-stops g c =
     let m = c.args.machine.now in
     let o = g.O.Sink.state c.args.output.now in
     let o' = g.O.Sink.state c.run_on.new.output in
-    let ran = main_ran std c.args.self.now.prepared.script.now _ c.args.self.now.prepared.cifs c.requires.prepared c.args.trace m o c.start.new.board (c.start.ensures.between c.args.trace m o c.requires.begun) c.run_on.new.board c.run_on.new.machine o' c.run_on.result c.run_on.ensures in
-    ran_stops _ std c.args.trace c.run_on.new.board c.run_on.new.machine o o' c.run_on.result ran
+    let ran = main_ran std c.args.self.now.prepared.script.now _ c.args.self.now.prepared.cifs c.requires.prepared c.args.trace m o c.start.new.configuration (c.start.ensures.between c.args.trace m o c.requires.begun) c.run_on.new.configuration c.run_on.new.machine o' c.run_on.result c.run_on.ensures in
+    ran_stops _ std c.args.trace c.run_on.new.configuration c.run_on.new.machine o o' c.run_on.result ran
 
 pub returns-clause-no_memory : goal.returns-clause-no_memory
 returns-clause-no_memory g c =
@@ -64,8 +64,8 @@ returns-clause-no_memory g c =
     let m = c.args.machine.now in
     let o = g.O.Sink.state c.args.output.now in
     let o' = g.O.Sink.state c.run_on.new.output in
-    let ran = main_ran std c.args.self.now.prepared.script.now _ c.args.self.now.prepared.cifs c.requires.prepared c.args.trace m o c.start.new.board (c.start.ensures.between c.args.trace m o c.requires.begun) c.run_on.new.board c.run_on.new.machine o' c.run_on.result c.run_on.ensures in
-    ran_no_memory _ std c.args.trace c.run_on.new.board c.run_on.new.machine o o' c.run_on.result ran
+    let ran = main_ran std c.args.self.now.prepared.script.now _ c.args.self.now.prepared.cifs c.requires.prepared c.args.trace m o c.start.new.configuration (c.start.ensures.between c.args.trace m o c.requires.begun) c.run_on.new.configuration c.run_on.new.machine o' c.run_on.result c.run_on.ensures in
+    ran_no_memory _ std c.args.trace c.run_on.new.configuration c.run_on.new.machine o o' c.run_on.result ran
 
 pub returns-clause-failed : goal.returns-clause-failed
 returns-clause-failed g c =
@@ -73,8 +73,8 @@ returns-clause-failed g c =
     let m = c.args.machine.now in
     let o = g.O.Sink.state c.args.output.now in
     let o' = g.O.Sink.state c.run_on.new.output in
-    let ran = main_ran std c.args.self.now.prepared.script.now _ c.args.self.now.prepared.cifs c.requires.prepared c.args.trace m o c.start.new.board (c.start.ensures.between c.args.trace m o c.requires.begun) c.run_on.new.board c.run_on.new.machine o' c.run_on.result c.run_on.ensures in
-    ran_failed _ std c.args.trace c.run_on.new.board c.run_on.new.machine o o' c.run_on.result ran
+    let ran = main_ran std c.args.self.now.prepared.script.now _ c.args.self.now.prepared.cifs c.requires.prepared c.args.trace m o c.start.new.configuration (c.start.ensures.between c.args.trace m o c.requires.begun) c.run_on.new.configuration c.run_on.new.machine o' c.run_on.result c.run_on.ensures in
+    ran_failed _ std c.args.trace c.run_on.new.configuration c.run_on.new.machine o o' c.run_on.result ran
 
 pub returns-clause-cut_by_memory : goal.returns-clause-cut_by_memory
 returns-clause-cut_by_memory g c =
@@ -82,8 +82,8 @@ returns-clause-cut_by_memory g c =
     let m = c.args.machine.now in
     let o = g.O.Sink.state c.args.output.now in
     let o' = g.O.Sink.state c.run_on.new.output in
-    let ran = main_ran std c.args.self.now.prepared.script.now _ c.args.self.now.prepared.cifs c.requires.prepared c.args.trace m o c.start.new.board (c.start.ensures.between c.args.trace m o c.requires.begun) c.run_on.new.board c.run_on.new.machine o' c.run_on.result c.run_on.ensures in
-    ran_cut_by_memory _ std c.args.trace c.run_on.new.board c.run_on.new.machine o o' c.run_on.result ran
+    let ran = main_ran std c.args.self.now.prepared.script.now _ c.args.self.now.prepared.cifs c.requires.prepared c.args.trace m o c.start.new.configuration (c.start.ensures.between c.args.trace m o c.requires.begun) c.run_on.new.configuration c.run_on.new.machine o' c.run_on.result c.run_on.ensures in
+    ran_cut_by_memory _ std c.args.trace c.run_on.new.configuration c.run_on.new.machine o o' c.run_on.result ran
 
 pub returns-clause-cut_by_write : goal.returns-clause-cut_by_write
 returns-clause-cut_by_write g c =
@@ -91,8 +91,8 @@ returns-clause-cut_by_write g c =
     let m = c.args.machine.now in
     let o = g.O.Sink.state c.args.output.now in
     let o' = g.O.Sink.state c.run_on.new.output in
-    let ran = main_ran std c.args.self.now.prepared.script.now _ c.args.self.now.prepared.cifs c.requires.prepared c.args.trace m o c.start.new.board (c.start.ensures.between c.args.trace m o c.requires.begun) c.run_on.new.board c.run_on.new.machine o' c.run_on.result c.run_on.ensures in
-    ran_cut_by_write _ std c.args.trace c.run_on.new.board c.run_on.new.machine o o' c.run_on.result ran
+    let ran = main_ran std c.args.self.now.prepared.script.now _ c.args.self.now.prepared.cifs c.requires.prepared c.args.trace m o c.start.new.configuration (c.start.ensures.between c.args.trace m o c.requires.begun) c.run_on.new.configuration c.run_on.new.machine o' c.run_on.result c.run_on.ensures in
+    ran_cut_by_write _ std c.args.trace c.run_on.new.configuration c.run_on.new.machine o o' c.run_on.result ran
 
 pub returns-clause-never_falls : goal.returns-clause-never_falls
 returns-clause-never_falls g c =
@@ -100,8 +100,8 @@ returns-clause-never_falls g c =
     let m = c.args.machine.now in
     let o = g.O.Sink.state c.args.output.now in
     let o' = g.O.Sink.state c.run_on.new.output in
-    let ran = main_ran std c.args.self.now.prepared.script.now _ c.args.self.now.prepared.cifs c.requires.prepared c.args.trace m o c.start.new.board (c.start.ensures.between c.args.trace m o c.requires.begun) c.run_on.new.board c.run_on.new.machine o' c.run_on.result c.run_on.ensures in
-    ran_never_falls _ std c.args.trace c.run_on.new.board c.run_on.new.machine o o' c.run_on.result ran
+    let ran = main_ran std c.args.self.now.prepared.script.now _ c.args.self.now.prepared.cifs c.requires.prepared c.args.trace m o c.start.new.configuration (c.start.ensures.between c.args.trace m o c.requires.begun) c.run_on.new.configuration c.run_on.new.machine o' c.run_on.result c.run_on.ensures in
+    ran_never_falls _ std c.args.trace c.run_on.new.configuration c.run_on.new.machine o o' c.run_on.result ran
 
 pub returns-clause-part : goal.returns-clause-part
 returns-clause-part g c =
@@ -109,8 +109,8 @@ returns-clause-part g c =
     let m = c.args.machine.now in
     let o = g.O.Sink.state c.args.output.now in
     let o' = g.O.Sink.state c.run_on.new.output in
-    let ran = main_ran std c.args.self.now.prepared.script.now _ c.args.self.now.prepared.cifs c.requires.prepared c.args.trace m o c.start.new.board (c.start.ensures.between c.args.trace m o c.requires.begun) c.run_on.new.board c.run_on.new.machine o' c.run_on.result c.run_on.ensures in
-    ran_part _ std c.args.trace c.run_on.new.board c.run_on.new.machine o o' c.run_on.result ran
+    let ran = main_ran std c.args.self.now.prepared.script.now _ c.args.self.now.prepared.cifs c.requires.prepared c.args.trace m o c.start.new.configuration (c.start.ensures.between c.args.trace m o c.requires.begun) c.run_on.new.configuration c.run_on.new.machine o' c.run_on.result c.run_on.ensures in
+    ran_part _ std c.args.trace c.run_on.new.configuration c.run_on.new.machine o o' c.run_on.result ran
 
 pub returns-clause-left : goal.returns-clause-left
 returns-clause-left g c =
@@ -118,8 +118,8 @@ returns-clause-left g c =
     let m = c.args.machine.now in
     let o = g.O.Sink.state c.args.output.now in
     let o' = g.O.Sink.state c.run_on.new.output in
-    let ran = main_ran std c.args.self.now.prepared.script.now _ c.args.self.now.prepared.cifs c.requires.prepared c.args.trace m o c.start.new.board (c.start.ensures.between c.args.trace m o c.requires.begun) c.run_on.new.board c.run_on.new.machine o' c.run_on.result c.run_on.ensures in
-    ran_left _ std c.args.trace c.run_on.new.board c.run_on.new.machine o o' c.run_on.result ran
+    let ran = main_ran std c.args.self.now.prepared.script.now _ c.args.self.now.prepared.cifs c.requires.prepared c.args.trace m o c.start.new.configuration (c.start.ensures.between c.args.trace m o c.requires.begun) c.run_on.new.configuration c.run_on.new.machine o' c.run_on.result c.run_on.ensures in
+    ran_left _ std c.args.trace c.run_on.new.configuration c.run_on.new.machine o o' c.run_on.result ran
 
 pub returns-clause-left_at_stop : goal.returns-clause-left_at_stop
 returns-clause-left_at_stop g c =
@@ -127,5 +127,5 @@ returns-clause-left_at_stop g c =
     let m = c.args.machine.now in
     let o = g.O.Sink.state c.args.output.now in
     let o' = g.O.Sink.state c.run_on.new.output in
-    let ran = main_ran std c.args.self.now.prepared.script.now _ c.args.self.now.prepared.cifs c.requires.prepared c.args.trace m o c.start.new.board (c.start.ensures.between c.args.trace m o c.requires.begun) c.run_on.new.board c.run_on.new.machine o' c.run_on.result c.run_on.ensures in
-    ran_left_at_stop _ std c.args.trace c.run_on.new.board c.run_on.new.machine o o' c.run_on.result ran
+    let ran = main_ran std c.args.self.now.prepared.script.now _ c.args.self.now.prepared.cifs c.requires.prepared c.args.trace m o c.start.new.configuration (c.start.ensures.between c.args.trace m o c.requires.begun) c.run_on.new.configuration c.run_on.new.machine o' c.run_on.result c.run_on.ensures in
+    ran_left_at_stop _ std c.args.trace c.run_on.new.configuration c.run_on.new.machine o o' c.run_on.result ran

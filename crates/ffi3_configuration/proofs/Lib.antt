@@ -1,0 +1,18 @@
+mod Tests
+mod Spelling
+mod Acts
+pub mod Closed
+mod Marks
+pub mod Since
+pub mod Opened
+pub mod Moving
+pub mod Blocks
+mod Telling
+pub mod Counting
+mod Entering
+mod Leaving
+pub mod Configuring
+mod Made
+mod Served
+pub mod Accepting
+mod Transports

@@ -1,0 +1,49 @@
+-- Closures that are made and freed: what a configuration comes to.
+use Rattle.std.proofs.Common.{◌≡◌, ℕ, suc, List, [], ◌++◌, sym, subst, append-nil, arith}
+use Rattle.ffi3_type_rules.specs.declared.Target.{Target}
+use Rattle.ffi3_type_rules.specs.Value.{ValueTree}
+use Rattle.ffi3_place_rules.specs.Event.{Event}
+use Rattle.ffi3_run_rules.specs.Closures.{Closures}
+use Rattle.ffi3_run_rules.specs.Meaning.{Program, goes_on, effect_of}
+use Rattle.ffi3_run_rules.specs.Move.{Move}
+use Rattle.ffi3_run_rules.specs.Trace.{TraceItem}
+use Rattle.ffi3_turn_rules.specs.Remainder.{Remainder}
+use Rattle.ffi3_turn_rules.specs.SoFar.{Base}
+use Rattle.ffi3_machine.specs.State.{State, with_code}
+use Rattle.ffi3_closures.specs.Slots.{HoldsMap}
+use Rattle.ffi3_io.specs.Sink.{SinkState}
+use Rattle.ffi3_io.specs.declared.IoError.TheVariants as cut
+use Rattle.ffi3_configuration.specs.declared.activation.Activation.{Activation}
+use Rattle.ffi3_configuration.specs.declared.configuration.Configuration.{Configuration}
+use Rattle.ffi3_configuration.specs.declared.configuration.Turn.{Turn}
+use Rattle.ffi3_configuration.specs.Known.{AreKnown}
+use Rattle.ffi3_configuration.specs.Going.{GoneOn, and_result}
+use Rattle.ffi3_configuration.specs.Between.{Beginning, IsBetween, IsAsking, run_state}
+use Rattle.ffi3_configuration.specs.Turned.{CountedAtMostOne, Turned, WasInterruptedAfter}
+use Rattle.ffi3_configuration.proofs.Configuring.{goes}
+use Rattle.ffi3_configuration.proofs.Moving.{cut_after, change_on, looks_as_itself}
+
+module _ {S : Type 0} (p : Program) (base : Base) (all : Remainder) (first : Beginning) (own : List TraceItem) (events : List Event) (b : Configuration S) (a : Activation S) (m m' : State) (output : SinkState) (asked : Move) (is : IsAsking p base all first own events (run_state p.signatures a b m output) asked) (r : ValueTree) (closures : Closures) (does : effect_of p (run_state p.signatures a b m output).innermost b.table asked ≡ goes_on r closures) (address : ℕ) (bytes : List ℕ) (written : m' ≡ with_code address bytes m) (holds : HoldsMap m'.target closures m'.code) (known : AreKnown p closures) where
+  abbrev changed_configuration : Configuration S
+  changed_configuration = record b { table = closures }
+
+  changed : IsBetween p base all first (own ++ []) events (run_state p.signatures (and_result a r) changed_configuration m' output)
+  changed =
+      let n = with_code address bytes m in
+      let h = subst (λ (k : State). HoldsMap k.target closures k.code) written holds in
+      let target : m.target ≡ base.standard.target = is.between.calls.target in
+      let here = subst (λ (t : Target). HoldsMap t closures n.code) target h in
+      let on = change_on p base all first own events (run_state p.signatures a b m output) asked is r closures does address bytes here known in
+      let P = λ (k : State). IsBetween p base all first own events (run_state p.signatures (and_result a r) changed_configuration k output) in
+      let Q = λ (l : List TraceItem). IsBetween p base all first l events (run_state p.signatures (and_result a r) changed_configuration m' output) in
+      subst Q (sym (append-nil own)) (subst P (sym written) on)
+
+  -- the run goes on, or there is no memory for the result
+  pub made_on : (b' : Configuration S) (t : Turn) → GoneOn r a changed_configuration b' t → Turned p base all first own (suc b.moves) b' m' output t
+  made_on b' t gone =
+      goes p base all first own changed_configuration b' a m' output r [] events t (omega arith) gone changed
+
+  -- there is no memory for it
+  pub made_refused : WasInterruptedAfter p base all first own cut.NoMemory m' output × CountedAtMostOne (suc b.moves) b.moves
+  made_refused =
+      (cut_after p base all first own [] events (run_state p.signatures (and_result a r) changed_configuration m' output) m' (omega arith) (looks_as_itself m') changed, (omega arith, omega arith))

@@ -1,0 +1,160 @@
+-- What a move comes to.
+use Rattle.std.specs.Prelude.{◌≡◌, ℕ, suc, ◌≤◌, ◌⊎◌, List, [], ◌∷◌, ◌++◌, length, drop, Bool, true, false, Option, Some}
+use Rattle.std.specs.Prelude.{None}
+use Rattle.std.specs.List.{AllByRecursion}
+use Rattle.ffi3_type_rules.specs.Value.{ValueTree}
+use Rattle.ffi3_place_rules.specs.Image.{register}
+use Rattle.ffi3_place_rules.specs.Event.{Event}
+use Rattle.ffi3_run_rules.specs.declared.Stop.{Stop}
+use Rattle.ffi3_run_rules.specs.declared.Stop.TheVariants.{MoveLimit}
+use Rattle.ffi3_run_rules.specs.Closures.{Closures}
+use Rattle.ffi3_run_rules.specs.Lines.{Tracing}
+use Rattle.ffi3_run_rules.specs.Meaning.{Program, End, returned, stopped}
+use Rattle.ffi3_run_rules.specs.Trace.{TraceItem, Leave, StopLine}
+use Rattle.ffi3_turn_rules.specs.Remainder.{Remainder, Bottom, as_main, served}
+use Rattle.ffi3_turn_rules.specs.Depth.{deepest}
+use Rattle.ffi3_turn_rules.specs.SoFar.{Base, IsOver, IsInterrupted}
+use Rattle.ffi3_machine.specs.State.{State, image_of}
+use Rattle.ffi3_closures.specs.Slots.{HoldsMap}
+use Rattle.ffi3_io.specs.Sink.{Adds, SinkState}
+use Rattle.ffi3_io.specs.Written.{TookText, IsCause}
+use Rattle.ffi3_io.specs.declared.IoError.{IoError}
+use Rattle.ffi3_io.specs.declared.IoError.TheVariants as cut
+use Rattle.ffi3_configuration.specs.declared.activation.Activation.{Activation}
+use Rattle.ffi3_configuration.specs.declared.configuration.Configuration.{Configuration}
+use Rattle.ffi3_configuration.specs.declared.configuration.Turn.{Turn}
+use Rattle.ffi3_configuration.specs.declared.configuration.Turn.TheVariants as turn
+use Rattle.ffi3_configuration.specs.Served.{HasLeft, IsIdle}
+use Rattle.ffi3_configuration.specs.Counted.{steps_after, back_at_caller, count_at_end}
+use Rattle.ffi3_configuration.specs.Between.{Beginning, anew, text_so_far, depth_below, IsMarkOf, IsBetween, run_state}
+
+-- THE RUN IS OVER: it came to this end, all that was left is done, the output took its text since it was looked at, and the steps are those of its calls.
+pub record IsEnded (p : Program) (base : Base) (all : Remainder) (first : Beginning) (end : End) (closures : Closures)
+    (moves : ℕ) (m : State) (output : SinkState) : Type 0 where
+  pub events : List Event
+  pub over : IsOver p base all end closures moves events
+  pub journal : m.events ≡ first.events ++ events
+  pub steps :
+      count_at_end base.standard.target base.bottom end m.steps ≡ steps_after base.standard.target first.steps all.trace
+  pub written : TookText (drop first.told (text_so_far first.tracing p base all.trace)) first.output output
+  pub mark : IsMarkOf base.top first.mark (deepest p (depth_below p base) all.trace) m.mark
+  pub target : m.target ≡ base.standard.target
+  pub reserved : AllByRecursion (λ at. register (image_of 0 m) at ≡ base.held at) base.standard.reserved
+  pub holds : HoldsMap base.standard.target closures m.code
+
+-- a write fails in a line, and memory is refused elsewhere
+abbrev pub is_in_line : IoError → Bool
+is_in_line cut.NoMemory = false
+is_in_line cut.Failed = true
+
+-- THE RUN WAS INTERRUPTED: of all that was left this happened, these bytes are told, those since the output was looked at written to it, and these events are recorded. No byte was written below the stack that the calls took that happened, and the code is that of some closures. The steps are those of these calls; where the last of them is the return of a call that is served, its caller has yet to run Return.
+pub record WasInterrupted (p : Program) (base : Base) (all : Remainder) (first : Beginning) (why : IoError) (m : State)
+    (output : SinkState) : Type 0 where
+  pub happened : List TraceItem
+  pub events : List Event
+  pub text : List ℕ
+  pub cut : IsInterrupted first.tracing p base (is_in_line why) all happened text events
+  pub journal : m.events ≡ first.events ++ events
+  pub steps :
+      (m.steps ≡ steps_after base.standard.target first.steps happened)
+      ⊎ (back_at_caller base.standard.target base.bottom m.steps
+      ≡ steps_after base.standard.target first.steps happened)
+  pub written : Adds first.output.taken (drop first.told text) output.taken
+  pub cause : IsCause why first.output.faults output.faults
+  pub mark : IsMarkOf base.top first.mark (deepest p (depth_below p base) happened) m.mark
+  pub target : m.target ≡ base.standard.target
+  pub closures : Closures
+  pub holds : HoldsMap base.standard.target closures m.code
+
+-- and beyond this trace at most one item happened
+pub record WasInterruptedAfter (p : Program) (base : Base) (all : Remainder) (first : Beginning) (own : List TraceItem)
+    (why : IoError) (m : State) (output : SinkState) : Type 0 where
+  pub interrupted : WasInterrupted p base all first why m output
+  pub more : List TraceItem
+  pub happened : interrupted.happened ≡ own ++ more
+  pub one : length more ≤ 1
+
+-- one move was counted, or none
+abbrev pub CountedAtMostOne : (moves left : ℕ) → Type 0
+CountedAtMostOne moves left = (left ≤ moves) × (moves ≤ suc left)
+
+-- what happens where the outermost activation returns: the call that is served is left, and main was not called
+abbrev pub last_return : Bottom → ValueTree → List TraceItem
+last_return as_main v = []
+last_return (served sig) v = Leave sig v ∷ []
+
+-- a machine that looks as it did: journal, mark, steps, target and code are the same
+pub record LooksAs (before after : State) : Type 0 where
+  pub events : after.events ≡ before.events
+  pub mark : after.mark ≡ before.mark
+  pub steps : after.steps ≡ before.steps
+  pub target : after.target ≡ before.target
+  pub code : after.code ≡ before.code
+
+-- what a move came to that was interrupted
+abbrev pub turn_of : IoError → Turn
+turn_of cut.NoMemory = turn.NoMemory
+turn_of cut.Failed = turn.Failed
+
+module _ {S : Type 0} where
+  -- THE RUN IS DONE: the outermost activation gave its result, and none is left.
+  pub record IsDone (p : Program) (base : Base) (all : Remainder) (first : Beginning) (b : Configuration S) (m : State)
+      (output : SinkState) : Type 0 where
+    pub result : ValueTree
+    pub ended : IsEnded p base all first (returned result) b.table b.moves m output
+    pub left : HasLeft p base first base.bottom base.entries result m
+    pub idle : IsIdle p b
+
+  -- the run stands between two moves on this configuration
+  abbrev pub StandsWith : Program → Base → Remainder → Beginning → List TraceItem → List Event → Configuration S → State
+      → SinkState → Option (Activation S) → Type 0
+  StandsWith p base all first own events b m output None = ⊥
+  StandsWith p base all first own events b m output (Some a) =
+      IsBetween p base all first own events (run_state p.signatures a b m output)
+
+  abbrev pub StandsAt : Program → Base → Remainder → Beginning → List TraceItem → List Event → Configuration S → State
+      → SinkState → Type 0
+  StandsAt p base all first own events b m output = StandsWith p base all first own events b m output b.innermost
+
+  -- THE SAME FOR ANY OUTPUT, whatever it took before, and for any tracing from here on
+  abbrev pub StandsAnew : Program → Base → Remainder → Beginning → List TraceItem → List Event → Configuration S → State
+      → Type 0
+  StandsAnew p base all first own events b m =
+      (tracing : Tracing) (output : SinkState)
+      → StandsAt p base all (anew tracing output p base own first) own events b m output
+
+  -- THE RUN WENT ON by one move: what happened in it, one item at most, is done too, and one move fewer is left.
+  pub record WentOn (p : Program) (base : Base) (all : Remainder) (first : Beginning) (own : List TraceItem) (moves : ℕ)
+      (b : Configuration S) (m : State) (output : SinkState) : Type 0 where
+    pub more : List TraceItem
+    pub events : List Event
+    pub stands : StandsAt p base all first (own ++ more) events b m output
+    pub stands_anew : StandsAnew p base all first (own ++ more) events b m
+    pub one : length more ≤ 1
+    pub counted : moves ≡ suc b.moves
+
+  -- THE RUN IS DONE BY ONE MOVE, the return of the outermost activation.
+  pub record TurnIsDone (p : Program) (base : Base) (all : Remainder) (first : Beginning) (own : List TraceItem)
+      (moves : ℕ) (b : Configuration S) (m : State) (output : SinkState) : Type 0 where
+    pub done : IsDone p base all first b m output
+    pub last : all.trace ≡ own ++ last_return base.bottom done.result
+    pub counted : moves ≡ suc b.moves
+
+  -- THE RUN STOPPED IN ONE MOVE, or before it, where none was left; and nothing happened but the stop.
+  pub record TurnHasStopped (p : Program) (base : Base) (all : Remainder) (first : Beginning) (own : List TraceItem)
+      (moves : ℕ) (stop : Stop) (b : Configuration S) (m : State) (output : SinkState) : Type 0 where
+    pub ended : IsEnded p base all first (stopped stop) b.table b.moves m output
+    pub last : all.trace ≡ own ++ StopLine stop ∷ []
+    pub counted : (moves ≡ suc b.moves) ⊎ ((stop ≡ MoveLimit) × (moves ≡ 0) × (b.moves ≡ 0))
+
+  -- WHAT A MOVE CAME TO, of which there were so many left
+  abbrev pub Turned : Program → Base → Remainder → Beginning → List TraceItem → ℕ → Configuration S → State → SinkState → Turn
+      → Type 0
+  Turned p base all first own moves b m output turn.More = WentOn p base all first own moves b m output
+  Turned p base all first own moves b m output turn.Done = TurnIsDone p base all first own moves b m output
+  Turned p base all first own moves b m output (turn.Stopped stop) =
+      TurnHasStopped p base all first own moves stop b m output
+  Turned p base all first own moves b m output turn.NoMemory =
+      WasInterruptedAfter p base all first own cut.NoMemory m output × CountedAtMostOne moves b.moves
+  Turned p base all first own moves b m output turn.Failed =
+      WasInterruptedAfter p base all first own cut.Failed m output × CountedAtMostOne moves b.moves

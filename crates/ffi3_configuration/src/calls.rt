@@ -1,0 +1,184 @@
+//! Calls that are entered, and returns.
+ghost use Rattle.std.specs.Prelude.{◌≡◌, ℕ, ◌<◌, ◌≤◌, IfOk, List, None, length, reverse, suc, true};
+ghost use Rattle.ffi3_type_rules.specs.declared.limits.TheConstants.{STACK_TOP};
+ghost use Rattle.ffi3_type_rules.specs.Layout.{size_of};
+ghost use Rattle.ffi3_type_rules.specs.Signature.{signature_at};
+ghost use Rattle.ffi3_type_rules.specs.Tree.{trees_of};
+ghost use Rattle.ffi3_type_rules.specs.Value.{all_fit, fits, values_of};
+ghost use Rattle.ffi3_values.specs.ValueOf.{value_of};
+ghost use Rattle.ffi3_place_rules.specs.declared.Loc.{Loc};
+ghost use Rattle.ffi3_place_rules.specs.Event.{Event};
+ghost use Rattle.ffi3_run_rules.specs.Journal.{Entered};
+ghost use Rattle.ffi3_run_rules.specs.Meaning.{Program, callee_of, effect_of, enters};
+ghost use Rattle.ffi3_run_rules.specs.Move as asks;
+ghost use Rattle.ffi3_run_rules.specs.Trace.{TraceItem};
+ghost use Rattle.ffi3_turn_rules.specs.Remainder.{Remainder};
+ghost use Rattle.ffi3_turn_rules.specs.SoFar.{Base};
+ghost use Rattle.ffi3_turn_rules.specs.TracingOf.{IsTracingOf};
+ghost use Rattle.ffi3_machine.specs.State.{stack_at};
+ghost use Rattle.ffi3_closures.specs.Slots.{HoldsMap};
+ghost use Rattle.ffi3_callee.specs.Received.{IsIncoming};
+ghost use Rattle.ffi3_invoke.specs.Calls.{HasEnded, IsCalled};
+ghost use Rattle.ffi3_configuration.specs.Between.{Beginning, IsAsking, run_state};
+ghost use Rattle.ffi3_configuration.specs.Going.{HasGoneBack, HasGoneIn};
+ghost use Rattle.ffi3_configuration.specs.Known.{CanEnter};
+ghost use Rattle.ffi3_configuration.specs.Activations.{AreShort, call_inside, calls_of, result_type_at};
+ghost use Rattle.ffi3_configuration.specs.Stack.{HoldsCalls};
+ghost use Rattle.ffi3_configuration.specs.Turned.{Turned};
+
+use crate::tracing::{tell_entry, tell_return};
+use crate::{Activation, Cifs, Configuration, OpenCall, Turn, Waiting};
+use ffi3_callee::Incoming;
+use ffi3_cif::Cif;
+use ffi3_invoke::{begin_call, end_call};
+use ffi3_io::Sink;
+use ffi3_machine::Machine;
+use ffi3_pieces::SMALL;
+use ffi3_place::Abi;
+use ffi3_place::parts::size_of;
+use ffi3_run_rules::Closure;
+use ffi3_type_rules::limits::LARGEST_TYPE;
+use ffi3_types::NoMemory;
+use ffi3_values::{Value, Values, value_from_bytes};
+use std::alloc::Global;
+
+/// Returns from the callee of a call, and reads the result by way of `out`, which has as many bytes.
+fn end_by<A: Abi>(
+    alloc: Global,
+    machine: &mut Machine,
+    cif: &Cif<A>,
+    incoming: Incoming,
+    value: &Value,
+    out: &mut [u8],
+) -> Result<Value, NoMemory>
+    requires called { IsCalled A.standard cif.now machine.old }
+    requires incoming { IsIncoming A.standard cif.now incoming }
+    requires block { incoming.block ≡ machine.old.sp }
+    requires fits { fits cif.now.result_type (value_of value.now) ≡ true }
+    requires sized { length out.old ≡ size_of cif.now.result_type }
+    ensures ended { HasEnded A.standard cif.now (value_of value.now) machine.old machine.new }
+    ensures value { IfOk result (λ v. value_of v ≡ value_of value.now) }
+{
+    end_call(machine, cif, incoming, value, out);
+    value_from_bytes(alloc, cif.sig().ret(), out)
+}
+
+/// Returns from the callee of an open call. The caller reads the result from where it stands.
+fn end_with<A: Abi>(
+    alloc: Global,
+    machine: &mut Machine,
+    cifs: &Cifs<A>,
+    call: OpenCall,
+    value: &Value,
+) -> Result<Value, NoMemory>
+    requires below { call.sig < length cifs.now }
+    requires called { IsCalled A.standard (signature_at cifs.now call.sig) machine.old }
+    requires incoming { IsIncoming A.standard (signature_at cifs.now call.sig) call.incoming }
+    requires block { call.incoming.block ≡ machine.old.sp }
+    requires fits { fits (signature_at cifs.now call.sig).result_type (value_of value.now) ≡ true }
+    ensures ended { HasEnded A.standard (signature_at cifs.now call.sig) (value_of value.now) machine.old machine.new }
+    ensures value { IfOk result (λ v. value_of v ≡ value_of value.now) }
+{
+    let OpenCall { sig, incoming } = call;
+    let cif = cifs.get(sig);
+    let size = size_of(cif.sig().ret()) as usize;
+    if size <= SMALL {
+        let mut room = [0; SMALL];
+        end_by(alloc, machine, cif, incoming, value, &mut room[..size])
+    } else {
+        let mut room = [0; LARGEST_TYPE as usize];
+        end_by(alloc, machine, cif, incoming, value, &mut room[..size])
+    }
+}
+
+impl<S: Drop> Configuration<S> {
+    /// Calls a closure that the call can enter: its function's activation, which stands here before
+    /// its first move, is then the innermost. Where the run is traced, the entry is told. But for
+    /// its lines all memory is taken before the call begins.
+    pub fn enter<A: Abi, O: Sink>(
+        &mut self,
+        alloc: Global,
+        machine: &mut Machine,
+        output: &mut O,
+        cifs: &Cifs<A>,
+        current: Activation<S>,
+        closure: Closure,
+        standing: S,
+        ptr: u64,
+        sig: u32,
+        args: &Values,
+        trace: bool,
+    ) -> Turn
+        requires target { machine.old.target ≡ A.TARGET }
+        requires site { sig < length cifs.now }
+        requires fit { all_fit (trees_of (signature_at cifs.now sig).arguments) (values_of args.now) ≡ true }
+        requires can { CanEnter A.standard cifs.now self.old.table ptr sig machine.old.sp closure }
+        requires top { machine.old.sp ≤ STACK_TOP }
+        requires holds { HoldsMap machine.old.target self.old.table machine.old.code }
+        ensures goes { result ≡ Turn.More → HasGoneIn closure standing sig current self.old self.new }
+        ensures above { result ≡ Turn.More →
+            (address count : ℕ) → machine.old.sp ≤ address → stack_at address count machine.new ≡ stack_at address count machine.old }
+        ensures turned { (p : Program) (base : Base) (all : Remainder) (first : Beginning) (own : List TraceItem) (events : List Event) →
+            base.standard ≡ A.standard → p.signatures ≡ cifs.now → IsTracingOf p base trace first.tracing →
+            IsAsking p base all first own events (run_state p.signatures current self.old machine.old (O.state output.old)) (asks.call ptr sig args.now) →
+            effect_of p (run_state p.signatures current self.old machine.old (O.state output.old)).innermost self.old.table (asks.call ptr sig args.now) ≡
+            enters ptr sig (callee_of p (run_state p.signatures current self.old machine.old (O.state output.old)).innermost sig args.now closure) →
+            Turned p base all first own (suc self.old.moves) self.new machine.new (O.state output.new) result }
+    {
+        let cif = cifs.get(sig);
+        let Ok(()) = self.suspended.reserve(1) else {
+            return Turn::NoMemory;
+        };
+        let Ok(()) = machine.journal_room(A::LINK + cif.frame()) else {
+            return Turn::NoMemory;
+        };
+        let incoming = begin_call(machine, &self.table, cif, args, ptr);
+        if let Err(why) = tell_entry(alloc, machine, output, cif, trace) {
+            return Turn::cut_off(why);
+        }
+        self.suspended.push_reserved(Waiting {
+            activation: current,
+            call: OpenCall { sig, incoming },
+        });
+        self.innermost = Some(Activation::of_closure(alloc, closure, standing));
+        Turn::More
+    }
+
+    /// Returns from the innermost activation, which was taken from the configuration, to the one that waits
+    /// for it. Where none waits, the run is done. Where the run is traced, the return is told.
+    pub fn leave<A: Abi, O: Sink>(
+        &mut self,
+        alloc: Global,
+        machine: &mut Machine,
+        output: &mut O,
+        cifs: &Cifs<A>,
+        value: &Value,
+        trace: bool,
+    ) -> Turn
+        requires taken { self.old.innermost ≡ None }
+        requires stand { (held : Loc → ℕ) × (top : ℕ) × (entered : List Entered) ×
+            HoldsCalls A.standard cifs.now held top machine.old (calls_of self.old.served (reverse self.old.suspended.items)) entered }
+        requires fits { fits (result_type_at cifs.now (call_inside self.old.served (reverse self.old.suspended.items))) (value_of value.now) ≡ true }
+        requires few { AreShort (reverse self.old.suspended.items) }
+        ensures goes { result ≡ Turn.More → HasGoneBack (value_of value.now) self.old self.new }
+        ensures above { result ≡ Turn.More →
+            (address count : ℕ) → machine.new.sp ≤ address → stack_at address count machine.new ≡ stack_at address count machine.old }
+        ensures turned { (p : Program) (base : Base) (all : Remainder) (first : Beginning) (own : List TraceItem) (events : List Event) (current : Activation S) →
+            base.standard ≡ A.standard → p.signatures ≡ cifs.now → IsTracingOf p base trace first.tracing →
+            IsAsking p base all first own events (run_state p.signatures current self.old machine.old (O.state output.old)) (asks.return (value_of value.now)) →
+            Turned p base all first own (suc self.old.moves) self.new machine.new (O.state output.new) result }
+    {
+        let Some(Waiting { activation, call }) = self.suspended.pop() else {
+            return self.leave_run(alloc, machine, output, cifs, value, trace);
+        };
+        let sig = call.sig;
+        let outcome = match end_with(alloc, machine, cifs, call, value) {
+            Ok(outcome) => outcome,
+            Err(_) => return Turn::NoMemory,
+        };
+        if let Err(why) = tell_return(alloc, machine, output, cifs.get(sig), value, trace) {
+            return Turn::cut_off(why);
+        }
+        self.go_on(activation, outcome)
+    }
+}
