@@ -15,6 +15,9 @@ use ffi3_types::{At, Bytes, NoMemory, Target};
 use itoa::Buffer;
 use std::alloc::Global;
 
+// Most lines fit, so that no text grows.
+const LINE_ROOM: usize = 64;
+
 /// The bytes of stack that a call takes, as `sig 0 need 80 frame 0 block 16` with a newline; on
 /// AMD64 followed by ` rax 1`, the number of vector registers that arguments use.
 pub fn sig_line<A: Abi>(alloc: Global, sig_number: u32, cif: &Cif<A>) -> Result<Bytes, NoMemory>
@@ -23,7 +26,7 @@ pub fn sig_line<A: Abi>(alloc: Global, sig_number: u32, cif: &Cif<A>) -> Result<
     let need = cif.need();
     let frame = cif.frame();
     let block = cif.block();
-    let mut text = Bytes::new(alloc);
+    let mut text = Bytes::with_capacity(alloc, LINE_ROOM)?;
     write_labelled("sig ", sig_number as u64, &mut text)?;
     write_labelled(" need ", need, &mut text)?;
     write_labelled(" frame ", frame, &mut text)?;
@@ -57,7 +60,8 @@ pub fn place_line<A: Abi>(alloc: Global, cif: &Cif<A>, at: At) -> Result<Bytes, 
 fn result_line<A: Abi>(alloc: Global, cif: &Cif<A>) -> Result<Bytes, NoMemory>
     ensures { IfOk result (λ text. text ≡ place_text_of A.standard cif.now at_result) }
 {
-    let mut text = Bytes::from_slice(alloc, "ret".as_bytes())?;
+    let mut text = Bytes::with_capacity(alloc, LINE_ROOM)?;
+    text.extend("ret".as_bytes())?;
     write_result(A::TARGET.isa(), cif.result_place(), &mut text)?;
     text.push(b'\n')?;
     Ok(text)
@@ -67,7 +71,7 @@ fn argument_line<A: Abi>(alloc: Global, cif: &Cif<A>, i: u32) -> Result<Bytes, N
     requires { i < length cif.now.arguments }
     ensures { IfOk result (λ text. text ≡ place_text_of A.standard cif.now (at_argument i)) }
 {
-    let mut text = Bytes::new(alloc);
+    let mut text = Bytes::with_capacity(alloc, LINE_ROOM)?;
     write_labelled("arg ", i as u64, &mut text)?;
     write_argument(A::TARGET.isa(), cif.place(i), &mut text)?;
     text.push(b'\n')?;
