@@ -10,6 +10,7 @@ ghost use Rattle.ffi3_types.specs.TreeOf.{tree_of};
 
 mod bytes;
 mod check;
+mod checked;
 mod copy;
 mod fault;
 mod kinds;
@@ -26,6 +27,7 @@ mod text;
 
 pub use bytes::Bytes;
 pub use check::check_type;
+pub use checked::{CheckedSig, CheckedType};
 pub use fault::TypeFault;
 pub use ffi3_type_rules::Target;
 pub use laws::layout_laws;
