@@ -10,6 +10,7 @@ mod memory;
 mod regions;
 mod registers;
 mod scribble;
+mod stack_base;
 mod step;
 mod stub;
 
@@ -22,6 +23,7 @@ pub use ffi3_type_rules::limits::{CODE, CODE_END, ENTRY, RETURN, STACK, STACK_TO
 pub use journal::{Event, EventKind, Journal};
 use regions::{begin_exchange, begin_stack, free_slots, new_region};
 use scribble::{scribble_floating, scribble_general};
+pub use stack_base::StackBase;
 use std::alloc::Global;
 use std::marker::Model;
 pub use step::Trap;
