@@ -24,7 +24,6 @@ agrees = record {
   stack_pointer = refl;
   link_register = refl;
   reserved = refl;
-  closure_register = refl;
   trampoline = refl;
   written = written;
   preserved_exist = each_exists (isa_of aapcs64.target) aapcs64.preserved refl;

@@ -3,7 +3,7 @@ use Rattle.std.proofs.Common.{refl}
 use Rattle.ffi3_type_rules.specs.declared.Isa.TheVariants.{Aarch64}
 use Rattle.ffi3_type_rules.specs.Signature.{Signature}
 use Rattle.ffi3_place_rules.specs.declared.Loc.TheVariants.{G}
-use Rattle.ffi3_place_rules.specs.Isa.{call_loads, entry_scratch, entry_stores}
+use Rattle.ffi3_place_rules.specs.Isa.{closure_register, call_loads, entry_scratch, entry_stores}
 use Rattle.ffi3_place_rules.specs.ByStubs.{stub_scratch, AgreesWithStubs, ResultGoesByStubs}
 use Rattle.ffi3_place_rules.proofs.Forbidden.{each_none_of, each_one_of, none_of, one_of}
 use Rattle.ffi3_aapcs64_rules.specs.Aapcs64.{aapcs64}
@@ -16,13 +16,13 @@ by_stubs = record {
   arguments_loaded = each_one_of (call_loads Aarch64) aapcs64.argument_registers refl;
   count_loaded = tt;
   arguments_stored = each_one_of (entry_stores Aarch64) aapcs64.argument_registers refl;
-  closure_stored = one_of (entry_stores Aarch64) (G aapcs64.closure_register) refl;
+  closure_stored = one_of (entry_stores Aarch64) (G (closure_register Aarch64)) refl;
   returned_loaded = tt;
   preserved_kept = each_none_of (stub_scratch Aarch64) aapcs64.preserved refl;
   reserved_kept = each_none_of (stub_scratch Aarch64) aapcs64.reserved refl;
   arguments_kept = each_none_of (stub_scratch Aarch64) aapcs64.argument_registers refl;
   count_kept = tt;
-  closure_kept = none_of (entry_scratch Aarch64) (G aapcs64.closure_register) refl;
+  closure_kept = none_of (entry_scratch Aarch64) (G (closure_register Aarch64)) refl;
 }
 
 pub result_by_stubs : (s : Signature) → ResultGoesByStubs aapcs64 s

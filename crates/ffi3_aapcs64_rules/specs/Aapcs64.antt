@@ -16,7 +16,7 @@ use Rattle.ffi3_place_rules.specs.declared.Piece.{Piece}
 use Rattle.ffi3_place_rules.specs.declared.SaveWord.{SaveWord}
 use Rattle.ffi3_place_rules.specs.declared.SaveWord.TheVariants.{Register, Hidden, Spare}
 use Rattle.ffi3_place_rules.specs.declared.Taken.{Taken}
-use Rattle.ffi3_place_rules.specs.Isa.{pushed_bytes, stack_pointer, reserved_places, link_place, closure_register}
+use Rattle.ffi3_place_rules.specs.Isa.{pushed_bytes, stack_pointer, reserved_places, link_place}
 use Rattle.ffi3_place_rules.specs.Isa.{trampoline_registers, listed}
 use Rattle.ffi3_place_rules.specs.Standard.{Standard, Placing, Spot, in_pieces, by_reference, ResultSpot, no_result}
 use Rattle.ffi3_place_rules.specs.Standard.{in_result_pieces, in_buffer, start, round8}
@@ -231,7 +231,6 @@ aapcs64 = record {
   link_register = link_place machine;
   argument_registers = passing;
   save_area = saved_words;
-  closure_register = closure_register machine;
   trampoline_registers = trampoline_registers machine;
   vector_count = None;
   returned_address = None;

@@ -15,7 +15,6 @@ agrees = record {
   stack_pointer = refl;
   link_register = refl;
   reserved = refl;
-  closure_register = refl;
   trampoline = refl;
   written = written;
   preserved_exist = each_exists Amd64 amd64.preserved refl;

@@ -15,7 +15,7 @@ use Rattle.ffi3_place_rules.specs.declared.Piece.{Piece}
 use Rattle.ffi3_place_rules.specs.declared.SaveWord.{SaveWord}
 use Rattle.ffi3_place_rules.specs.declared.SaveWord.TheVariants.{Register, Hidden}
 use Rattle.ffi3_place_rules.specs.declared.Taken.{Taken}
-use Rattle.ffi3_place_rules.specs.Isa.{pushed_bytes, stack_pointer, link_place, reserved_places, closure_register}
+use Rattle.ffi3_place_rules.specs.Isa.{pushed_bytes, stack_pointer, link_place, reserved_places}
 use Rattle.ffi3_place_rules.specs.Isa.{trampoline_registers}
 use Rattle.ffi3_place_rules.specs.Standard.{Standard, Placing, Spot, in_pieces, ResultSpot, no_result, in_result_pieces}
 use Rattle.ffi3_place_rules.specs.Standard.{in_buffer, doubleword, round8, start}
@@ -186,7 +186,6 @@ amd64 = record {
   link_register = link_place isa.Amd64;
   argument_registers = passing;
   save_area = saved_words;
-  closure_register = closure_register isa.Amd64;
   trampoline_registers = trampoline_registers isa.Amd64;
   vector_count = Some (G (result_register 0));
   returned_address = Some (G (result_register 0));

@@ -6,7 +6,7 @@ use Rattle.ffi3_place_rules.specs.declared.Loc.{Loc}
 use Rattle.ffi3_place_rules.specs.declared.Loc.TheVariants.{G}
 use Rattle.ffi3_place_rules.specs.declared.SaveWord.{SaveWord}
 use Rattle.ffi3_place_rules.specs.declared.SaveWord.TheVariants.{Register, Hidden, Spare}
-use Rattle.ffi3_place_rules.specs.Isa.{pushed_bytes, stack_pointer, link_place, reserved_places, closure_register}
+use Rattle.ffi3_place_rules.specs.Isa.{pushed_bytes, stack_pointer, link_place, reserved_places}
 use Rattle.ffi3_place_rules.specs.Isa.{trampoline_registers, TakesWrites, listed}
 use Rattle.ffi3_place_rules.specs.Standard.{Standard}
 use Rattle.ffi3_place_rules.specs.Sound.{AreApart, IsNoneOf, IsOneOf, LiesIn, closed_to_arguments}
@@ -42,7 +42,6 @@ pub record AgreesWithMachine (std : Standard) : Type 0 where
   pub stack_pointer : std.stack_pointer ≡ G (stack_pointer (isa_of std.target))
   pub link_register : std.link_register ≡ link_place (isa_of std.target)
   pub reserved : std.reserved ≡ reserved_places (isa_of std.target)
-  pub closure_register : std.closure_register ≡ closure_register (isa_of std.target)
   pub trampoline : std.trampoline_registers ≡ trampoline_registers (isa_of std.target)
   -- a register to which writes are dropped is reserved
   pub written : (l : Loc) → IsNoneOf std.reserved l → TakesWrites (isa_of std.target) l

@@ -9,7 +9,7 @@ use Rattle.ffi3_place_rules.specs.declared.Loc.{Loc}
 use Rattle.ffi3_place_rules.specs.declared.Loc.TheVariants.{G}
 use Rattle.ffi3_place_rules.specs.declared.SaveWord.{SaveWord}
 use Rattle.ffi3_place_rules.specs.declared.SaveWord.TheVariants.{Register, Hidden, Spare}
-use Rattle.ffi3_place_rules.specs.Isa.{call_loads, entry_stores, listed, preserved_words, hidden_register, area_bytes}
+use Rattle.ffi3_place_rules.specs.Isa.{closure_register, call_loads, entry_stores, listed, preserved_words, hidden_register, area_bytes}
 use Rattle.ffi3_place_rules.specs.Isa.{result_loads, call_scratch, entry_scratch, exit_scratch}
 use Rattle.ffi3_place_rules.specs.Standard.{Standard, plan_of}
 use Rattle.ffi3_place_rules.specs.Sound.{IsNoneOf, IsOneOf, hidden_locs, result_locs}
@@ -35,7 +35,7 @@ pub record AgreesWithStubs (std : Standard) : Type 0 where
   pub count_loaded : AllByRecursion (IsOneOf (call_loads (isa_of std.target))) (listed std.vector_count)
   -- Entry stores all registers in which arguments and a hidden result's address are passed, and the one that holds the closure's address
   pub arguments_stored : AllByRecursion (IsOneOf (entry_stores (isa_of std.target))) std.argument_registers
-  pub closure_stored : IsOneOf (entry_stores (isa_of std.target)) (G std.closure_register)
+  pub closure_stored : IsOneOf (entry_stores (isa_of std.target)) (G (closure_register (isa_of std.target)))
   -- Exit loads the register in which a hidden result's address is returned, and Return stores it
   pub returned_loaded : AllByRecursion (IsOneOf (result_loads (isa_of std.target))) (listed std.returned_address)
   -- no preserved, no reserved and no argument register is among those that a stub overwrites
@@ -44,7 +44,7 @@ pub record AgreesWithStubs (std : Standard) : Type 0 where
   pub arguments_kept : AllByRecursion (IsNoneOf (stub_scratch (isa_of std.target))) std.argument_registers
   -- Call overwrites no register that tells the number of vector registers, and Entry none that holds the closure's address
   pub count_kept : AllByRecursion (IsNoneOf (call_scratch (isa_of std.target))) (listed std.vector_count)
-  pub closure_kept : IsNoneOf (entry_scratch (isa_of std.target)) (G std.closure_register)
+  pub closure_kept : IsNoneOf (entry_scratch (isa_of std.target)) (G (closure_register (isa_of std.target)))
 
 -- the same of one signature's result
 pub record ResultGoesByStubs (std : Standard) (s : Signature) : Type 0 where

@@ -35,7 +35,7 @@ pub record Placing : Type 0 where
   -- what the register `vector_count` tells; 0 where the standard has none
   pub vector_registers : ℕ
 
--- What a standard names of the machine of its target (`link`, `stack_pointer`, `reserved`, `link_register`, `closure_register`, `trampoline_registers`) is what the machine has; `AgreesWithMachine` is that law.
+-- What a standard names of the machine of its target (`link`, `stack_pointer`, `reserved`, `link_register`, `trampoline_registers`) is what the machine has; `AgreesWithMachine` is that law.
 pub record Standard : Type 0 where
   pub target : Target
   -- bytes of the return address on the stack at entry, and of the callee's save area
@@ -51,7 +51,6 @@ pub record Standard : Type 0 where
   -- the words of a callee's save area, from its lowest address
   pub save_area : List SaveWord
   -- the register that holds the closure's address at entry, and all that a trampoline writes
-  pub closure_register : ℕ
   pub trampoline_registers : List Loc
   -- the register that tells at a call how many vector registers the arguments use, and the one in which a hidden result's address is returned
   pub vector_count : Option Loc

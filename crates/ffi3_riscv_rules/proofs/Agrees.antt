@@ -25,7 +25,6 @@ agrees = record {
   stack_pointer = refl;
   link_register = refl;
   reserved = refl;
-  closure_register = refl;
   trampoline = refl;
   written = written;
   preserved_exist = each_exists isa.Riscv callee_saved refl;

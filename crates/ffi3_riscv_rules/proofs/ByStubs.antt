@@ -3,7 +3,7 @@ use Rattle.std.proofs.Common.{refl}
 use Rattle.ffi3_type_rules.specs.declared.Isa.TheVariants as isa
 use Rattle.ffi3_type_rules.specs.Signature.{Signature}
 use Rattle.ffi3_place_rules.specs.declared.Loc.TheVariants.{G}
-use Rattle.ffi3_place_rules.specs.Isa.{call_loads, entry_scratch, entry_stores}
+use Rattle.ffi3_place_rules.specs.Isa.{closure_register, call_loads, entry_scratch, entry_stores}
 use Rattle.ffi3_place_rules.specs.ByStubs.{stub_scratch, AgreesWithStubs, ResultGoesByStubs}
 use Rattle.ffi3_place_rules.proofs.Forbidden.{each_none_of, each_one_of, none_of, one_of}
 use Rattle.ffi3_riscv_rules.specs.Riscv.{riscv}
@@ -16,13 +16,13 @@ by_stubs = record {
   arguments_loaded = each_one_of (call_loads isa.Riscv) riscv.argument_registers refl;
   count_loaded = tt;
   arguments_stored = each_one_of (entry_stores isa.Riscv) riscv.argument_registers refl;
-  closure_stored = one_of (entry_stores isa.Riscv) (G riscv.closure_register) refl;
+  closure_stored = one_of (entry_stores isa.Riscv) (G (closure_register isa.Riscv)) refl;
   returned_loaded = tt;
   preserved_kept = each_none_of (stub_scratch isa.Riscv) riscv.preserved refl;
   reserved_kept = each_none_of (stub_scratch isa.Riscv) riscv.reserved refl;
   arguments_kept = each_none_of (stub_scratch isa.Riscv) riscv.argument_registers refl;
   count_kept = tt;
-  closure_kept = none_of (entry_scratch isa.Riscv) (G riscv.closure_register) refl;
+  closure_kept = none_of (entry_scratch isa.Riscv) (G (closure_register isa.Riscv)) refl;
 }
 
 pub result_by_stubs : (s : Signature) → ResultGoesByStubs riscv s

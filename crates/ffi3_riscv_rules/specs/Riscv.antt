@@ -15,7 +15,7 @@ use Rattle.ffi3_place_rules.specs.declared.Ext.TheVariants.{Free, Riscv, Boxed}
 use Rattle.ffi3_place_rules.specs.declared.Piece.{Piece}
 use Rattle.ffi3_place_rules.specs.declared.SaveWord.{SaveWord}
 use Rattle.ffi3_place_rules.specs.declared.SaveWord.TheVariants.{Register, Hidden}
-use Rattle.ffi3_place_rules.specs.Isa.{pushed_bytes, stack_pointer, link_place, reserved_places, closure_register}
+use Rattle.ffi3_place_rules.specs.Isa.{pushed_bytes, stack_pointer, link_place, reserved_places}
 use Rattle.ffi3_place_rules.specs.Isa.{trampoline_registers, listed}
 use Rattle.ffi3_place_rules.specs.Standard.{Standard, Placing, Spot, in_pieces, by_reference, ResultSpot, no_result}
 use Rattle.ffi3_place_rules.specs.Standard.{in_result_pieces, in_buffer, start}
@@ -268,7 +268,6 @@ riscv = record {
   link_register = link_place isa.Riscv;
   argument_registers = passing;
   save_area = saved_words;
-  closure_register = closure_register isa.Riscv;
   trampoline_registers = trampoline_registers isa.Riscv;
   vector_count = None;
   returned_address = None;

@@ -16,7 +16,6 @@ in_registers = record {
   link_register = None;
   argument_registers = [];
   save_area = [];
-  closure_register = 10;
   trampoline_registers = [];
   vector_count = None;
   returned_address = None;

@@ -1,7 +1,6 @@
 -- Worked lines, computed.
-use Rattle.std.specs.Prelude.{◌≡◌, ℕ, List, [], ◌∷◌, ◌++◌, refl, None, codes}
+use Rattle.std.specs.Prelude.{◌≡◌, ℕ, List, [], ◌∷◌, ◌++◌, refl, Some, None, codes}
 use Rattle.std.specs.Fmt.{digits}
-use Rattle.ffi3_type_rules.specs.declared.Target.TheVariants.{Win64}
 use Rattle.ffi3_type_rules.specs.declared.Isa.TheVariants.{Amd64, Aarch64, Riscv}
 use Rattle.ffi3_type_rules.specs.Tree.{Tree, void, scalar, struct_of, array_of, u8, s8, u16, s16, u32, s32, float, double, pointer}
 use Rattle.ffi3_type_rules.specs.Layout.{least_multiple}
@@ -97,9 +96,13 @@ pub hidden_in_rcx : result_text Amd64 (Hidden (G 1) 32) ≡ codes " hidden rcx b
 unfolding digits
 hidden_in_rcx = refl
 
--- Microsoft x64 has AMD64's registers, and tells no number of vector registers
-pub no_number : vectors_text Win64 2 ≡ []
+-- a standard that tells no number of vector registers
+pub no_number : vectors_text Amd64 None 2 ≡ []
 no_number = refl
+
+pub number_in_rax : vectors_text Amd64 (Some (G 0)) 2 ≡ codes " rax 2"
+unfolding digits
+number_in_rax = refl
 
 -- ---- lines of a trace
 

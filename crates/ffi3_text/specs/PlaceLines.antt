@@ -3,8 +3,6 @@ use Rattle.std.specs.Prelude.{ℕ, Bool, true, false, cond, List, [], ◌∷◌,
 use Rattle.std.specs.Prelude.{slice_index_or}
 use Rattle.std.specs.List.{flat_map, find, sum_by}
 use Rattle.std.specs.Fmt.{decimal}
-use Rattle.ffi3_type_rules.specs.declared.Target.{Target}
-use Rattle.ffi3_type_rules.specs.declared.Target.TheVariants.{Amd64, Aapcs64, Riscv, Win64}
 use Rattle.ffi3_type_rules.specs.declared.Isa.{Isa}
 use Rattle.ffi3_type_rules.specs.Isa.{isa_of}
 use Rattle.ffi3_type_rules.specs.Signature.{Signature, Position, at_result, at_argument}
@@ -76,12 +74,10 @@ place_text_of std s (at_argument j) =
     (codes "arg " ++ decimal j)
     ++ argument_text (isa_of std.target) (argument_place (plan_of std s).places j) ++ 10 ∷ []
 
--- the number of vector registers that arguments use, which a call tells on AMD64 alone
-abbrev pub vectors_text : Target → ℕ → List ℕ
-vectors_text Amd64 n = codes " rax " ++ decimal n
-vectors_text Aapcs64 n = []
-vectors_text Riscv n = []
-vectors_text Win64 n = []
+-- the number of vector registers that arguments use, behind the register that tells it, where the standard has one
+abbrev pub vectors_text : Isa → Option Loc → ℕ → List ℕ
+vectors_text isa None n = []
+vectors_text isa (Some at) n = codes " " ++ (loc_name isa at ++ (codes " " ++ decimal n))
 
 -- THE LINE OF SIGNATURE i: the bytes of stack that a call takes
 abbrev pub sig_text_of : ℕ → Standard → Signature → List ℕ
@@ -89,4 +85,4 @@ sig_text_of i std s =
     (codes "sig " ++ (decimal i ++ (codes " need " ++ (decimal (plan_of std s).need
     ++ (codes " frame " ++ (decimal (plan_of std s).frame
     ++ (codes " block " ++ decimal (plan_of std s).block)))))))
-    ++ vectors_text std.target (plan_of std s).vectors ++ 10 ∷ []
+    ++ vectors_text (isa_of std.target) std.vector_count (plan_of std s).vectors ++ 10 ∷ []

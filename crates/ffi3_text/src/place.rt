@@ -2,6 +2,7 @@
 ghost use Rattle.std.specs.Prelude.{◌≡◌, ◌<◌, ◌++◌, IfOk, OnOk, length};
 ghost use Rattle.std.specs.Fmt.{decimal};
 ghost use Rattle.ffi3_type_rules.specs.Signature.{at_result, at_argument};
+ghost use Rattle.ffi3_type_rules.specs.Isa.{isa_of};
 ghost use Rattle.ffi3_types.specs.SignatureFaultOf.{position_of};
 ghost use Rattle.ffi3_text.specs.LayoutLines.{IsIn};
 ghost use Rattle.ffi3_text.specs.PlaceLines.{is_on_stack, piece_text, register_piece_text, register_texts, first_on_stack, stack_length, bytes_on_stack, stack_text, pieces_text, argument_text, result_text, place_text_of, vectors_text, sig_text_of};
@@ -11,7 +12,7 @@ use crate::numbers::write_labelled;
 use ffi3_cif::Cif;
 use ffi3_place::{Abi, Loc, Piece, Pieces, Place, Res};
 use ffi3_type_rules::Isa;
-use ffi3_types::{At, Bytes, NoMemory, Target};
+use ffi3_types::{At, Bytes, NoMemory};
 use itoa::Buffer;
 use std::alloc::Global;
 
@@ -19,7 +20,7 @@ use std::alloc::Global;
 const LINE_ROOM: usize = 64;
 
 /// The bytes of stack that a call takes, as `sig 0 need 80 frame 0 block 16` with a newline; on
-/// AMD64 followed by ` rax 1`, the number of vector registers that arguments use.
+/// AMD64 followed by ` rax 1`: the register that tells the number of vector registers that arguments use, and the number.
 pub fn sig_line<A: Abi>(alloc: Global, sig_number: u32, cif: &Cif<A>) -> Result<Bytes, NoMemory>
     ensures { IfOk result (λ text. text ≡ sig_text_of sig_number A.standard cif.now) }
 {
@@ -31,18 +32,20 @@ pub fn sig_line<A: Abi>(alloc: Global, sig_number: u32, cif: &Cif<A>) -> Result<
     write_labelled(" need ", need, &mut text)?;
     write_labelled(" frame ", frame, &mut text)?;
     write_labelled(" block ", block, &mut text)?;
-    write_vectors(A::TARGET, cif.vectors(), &mut text)?;
+    write_vectors::<A>(cif.vectors(), &mut text)?;
     text.push(b'\n')?;
     Ok(text)
 }
 
-fn write_vectors(target: Target, vectors: u8, text: &mut Bytes) -> Result<(), NoMemory>
-    ensures { OnOk result (text.new ≡ text.old ++ vectors_text target vectors) }
+fn write_vectors<A: Abi>(vectors: u8, text: &mut Bytes) -> Result<(), NoMemory>
+    ensures { OnOk result (text.new ≡ text.old ++ vectors_text (isa_of A.standard.target) A.standard.vector_count vectors) }
 {
-    match target {
-        Target::Amd64 => write_labelled(" rax ", vectors as u64, text),
-        Target::Aapcs64 | Target::Riscv | Target::Win64 => Ok(()),
-    }
+    let Some(at) = A::vector_count() else {
+        return Ok(());
+    };
+    text.push(b' ')?;
+    write_loc(A::TARGET.isa(), at, text)?;
+    write_labelled(" ", vectors as u64, text)
 }
 
 /// Where the result or an argument stands, as `arg 1 xmm0:0+8 rdi:8+8`, `arg 0 ref x0 copy 0` or

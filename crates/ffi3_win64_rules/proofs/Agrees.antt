@@ -21,7 +21,6 @@ agrees = record {
   stack_pointer = refl;
   link_register = refl;
   reserved = refl;
-  closure_register = refl;
   trampoline = refl;
   written = written;
   preserved_exist = each_exists (isa_of win64.target) win64.preserved refl;
