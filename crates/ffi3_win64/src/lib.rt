@@ -294,15 +294,15 @@ impl Abi for Win64 {
 
     ghost PASSING = { length win64.argument_registers };
 
-    const SAVE: u64 = 152;
+    const SAVE: u64 = 8 * (NONVOLATILE.len() as u64 + 1);
 
     const LINK: u64 = 8;
 
     const TARGET: Target = Target::Win64;
 
-    const KEPT: u8 = 18;
+    const KEPT: u8 = NONVOLATILE.len() as u8;
 
-    const PASSING: u8 = 8;
+    const PASSING: u8 = PASSING_REGISTERS.len() as u8;
 
     fn callee_saved(k: u8) -> Loc {
         NONVOLATILE[k as usize]
