@@ -266,10 +266,10 @@ const NONVOLATILE: [Loc; 18] = [
 
 /// rcx, rdx, r8 and r9, and xmm0 to xmm3
 const PASSING_REGISTERS: [Loc; 8] = [
-    Loc::G(1),
-    Loc::G(2),
-    Loc::G(8),
-    Loc::G(9),
+    Loc::G(ARGUMENT_REGISTERS[0]),
+    Loc::G(ARGUMENT_REGISTERS[1]),
+    Loc::G(ARGUMENT_REGISTERS[2]),
+    Loc::G(ARGUMENT_REGISTERS[3]),
     Loc::F(0),
     Loc::F(1),
     Loc::F(2),
