@@ -152,9 +152,10 @@ pub fn pieces_on_stack(alloc: Global, ty: &CheckedType<'_>, start: u64) -> Resul
     requires { start ≤ 2 * ARGUMENT_BYTES }
     ensures { IfOk result (λ p. p ≡ stack_pieces start ty.now) }
 {
-    let ext = widening(ty.as_type());
+    let plain = ty.as_type();
+    let ext = widening(plain);
     // asked for once: it is found by a walk over all elements
-    let size = size_of(ty.as_type());
+    let size = size_of(plain);
     let mut pieces = Pieces::new(alloc);
     for j in 0..doublewords(ty) {
         pieces.push(doubleword(size, j, Loc::S((start + 8 * j) as u32), ext))?;

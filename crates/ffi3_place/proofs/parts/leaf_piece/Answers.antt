@@ -13,4 +13,4 @@ size-size-requires c = subst (IsLaidOut) (sym c.leaf-leaf.ensures.kind) (scalar_
 pub overflow_cast-result : goal.overflow_cast-result
 overflow_cast-result c =
     let below = subst (λ t. c.args.i < length (leaves_of t)) (sym c.as_type-plain.ensures.value) c.requires in
-    omega (arith, c.leaf-leaf.ensures.at, leaf_ends (tree_of c.plain.now) c.args.i below, right_is_small 0 Anywhere (tree_of c.plain.now) c.as_type-plain.ensures.right)
+    omega (arith, c.leaf-leaf.ensures.at, leaf_ends (tree_of c.as_type-plain.result.now) c.args.i below, right_is_small 0 Anywhere (tree_of c.as_type-plain.result.now) c.as_type-plain.ensures.right)
