@@ -1,57 +1,57 @@
 // Where things begin and end in the frame of a call, and the plan that ends with them: alike by every standard.
-ghost use Rattle.std.specs.Prelude.{◌<◌, ◌^◌, ◌≡◌, ◌≤◌, ◌+◌, ℕ, true};
+ghost use Rattle.std.specs.Prelude.{◌<◌, ◌^◌, ◌≡◌, ◌≤◌, ◌+◌, ℕ};
 ghost use Rattle.ffi3_type_rules.specs.declared.limits.TheConstants.{ARGUMENT_SPAN, LARGEST_GAP, LARGEST_TYPE, STACK_BYTES};
 ghost use Rattle.ffi3_type_rules.specs.Tree.{Tree};
-ghost use Rattle.ffi3_type_rules.specs.Fault.{IsLaidOut};
-ghost use Rattle.ffi3_type_rules.specs.Signature.{SignatureHasNoFault};
-ghost use Rattle.ffi3_types.specs.TreeOf.{tree_of};
 ghost use Rattle.ffi3_place_rules.specs.Standard.{Spot, ResultSpot, start, place_at, copy_end, result_at, buffer_end};
 ghost use Rattle.ffi3_place_rules.specs.Planned.{planned};
 
 use crate::parts::{size_of, sizes_of};
 use ffi3_place_rules::{Place, Places, Plan, Res};
 use ffi3_type_rules::round_up;
-use ffi3_types::{FfiType, Sig};
+use ffi3_types::{CheckedSig, CheckedType};
 
 /// Where something of a type begins, after the end of what stands before it: at the next multiple of the type's alignment, and of eight bytes at least.
-pub fn start(ty: &FfiType, end: u64) -> u64
-    requires right { IsLaidOut (tree_of ty.now) }
-    requires low { end < 2 ^ 32 }
-    ensures value { result ≡ start end (tree_of ty.now) }
+pub fn start(ty: &CheckedType<'_>, end: u64) -> u64
+    requires { end < 2 ^ 32 }
+    ensures value { result ≡ start end ty.now }
     ensures near { result ≤ end + LARGEST_GAP }
 {
     round_up(end, 8_u64.max(ty.align()))
 }
 
 /// Where an argument's copy ends. Without one, that is `end`, where what stands before it ends.
-pub fn copy_end(place: &Place, ty: &FfiType, end: u64) -> u64
-    requires { IsLaidOut (tree_of ty.now) }
-    ensures value { (begin : ℕ → Tree → ℕ) (spot : Spot) → place.now ≡ place_at begin end (tree_of ty.now) spot → result ≡ copy_end begin end (tree_of ty.now) spot }
-    ensures low { (begin : ℕ → Tree → ℕ) (spot : Spot) → place.now ≡ place_at begin end (tree_of ty.now) spot → begin end (tree_of ty.now) ≤ end + LARGEST_GAP → result ≤ end + ARGUMENT_SPAN }
+pub fn copy_end(place: &Place, ty: &CheckedType<'_>, end: u64) -> u64
+    ensures value { (begin : ℕ → Tree → ℕ) (spot : Spot) → place.now ≡ place_at begin end ty.now spot → result ≡ copy_end begin end ty.now spot }
+    ensures low { (begin : ℕ → Tree → ℕ) (spot : Spot) → place.now ≡ place_at begin end ty.now spot → begin end ty.now ≤ end + LARGEST_GAP → result ≤ end + ARGUMENT_SPAN }
 {
     match place {
         Place::Direct(_) => end,
-        Place::ByRef { copy, .. } => *copy as u64 + round_up(size_of(ty), 8),
+        Place::ByRef { copy, .. } => *copy as u64 + round_up(size_of(ty.as_type()), 8),
     }
 }
 
 /// Where the buffer of a hidden result ends. Without one, that is `end`, where what stands before it ends.
-pub fn buffer_end(res: &Res, ty: &FfiType, end: u64) -> u64
-    requires right { IsLaidOut (tree_of ty.now) }
-    requires low { end < 2 ^ 32 }
-    ensures value { (begin : ℕ → Tree → ℕ) (spot : ResultSpot) → res.now ≡ result_at begin end (tree_of ty.now) spot → result ≡ buffer_end begin end (tree_of ty.now) spot }
+pub fn buffer_end(res: &Res, ty: &CheckedType<'_>, end: u64) -> u64
+    requires { end < 2 ^ 32 }
+    ensures value { (begin : ℕ → Tree → ℕ) (spot : ResultSpot) → res.now ≡ result_at begin end ty.now spot → result ≡ buffer_end begin end ty.now spot }
     ensures low { result < 2 ^ 32 + (LARGEST_TYPE + 7) }
 {
     match res {
         Res::Nothing => end,
         Res::Direct(_) => end,
-        Res::Hidden { buffer, .. } => *buffer as u64 + round_up(size_of(ty), 8),
+        Res::Hidden { buffer, .. } => *buffer as u64 + round_up(size_of(ty.as_type()), 8),
     }
 }
 
 /// The plan of a call from its places: the last copy or buffer ends at `end`, and the return address and the callee's save area take `area` bytes.
-pub fn planned(sig: &Sig, places: Places, res: Res, end: u64, area: u64, vectors: u8) -> Plan
-    requires right { SignatureHasNoFault sig.now }
+pub fn planned(
+    sig: &CheckedSig<'_>,
+    places: Places,
+    res: Res,
+    end: u64,
+    area: u64,
+    vectors: u8,
+) -> Plan
     requires low { end < 2 ^ 32 + (LARGEST_TYPE + 7) }
     requires small { area ≤ STACK_BYTES }
     ensures { result ≡ planned sig.now places res end area vectors }

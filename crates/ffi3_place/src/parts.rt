@@ -13,7 +13,7 @@ ghost use Rattle.ffi3_place_rules.specs.Doublewords.{doublewords, filling, widen
 
 use ffi3_place_rules::{Ext, Loc, Piece, Pieces};
 use ffi3_type_rules::round_up;
-use ffi3_types::{FfiType, NoMemory, Sig};
+use ffi3_types::{CheckedSig, CheckedType, FfiType, NoMemory, Sig};
 use std::alloc::Global;
 
 // ---- signatures
@@ -49,14 +49,14 @@ pub fn result_type(sig: &Sig) -> &FfiType
 }
 
 /// The sizes of all arguments in bytes, each a multiple of 8.
-pub fn sizes_of(sig: &Sig) -> u64
-    requires { SignatureHasNoFault sig.now }
+pub fn sizes_of(sig: &CheckedSig<'_>) -> u64
     ensures value { result ≡ sum_by (λ t. round8 (size_of t)) sig.now.arguments }
     ensures bound { result ≤ ARGUMENT_BYTES }
 {
     let mut all = 0;
-    for i in 0..count_of(sig) {
-        all += round_up(size_of(argument(sig, i)), 8);
+    for i in 0..sig.count() {
+        let ty = sig.arg(i);
+        all += round_up(size_of(ty.as_type()), 8);
     }
     all
 }
@@ -82,12 +82,11 @@ pub fn size_of(ty: &FfiType) -> u64
 }
 
 /// How many doublewords a value takes. The last has what is left where the size is no multiple of 8.
-pub fn doublewords(ty: &FfiType) -> u64
-    requires { IsLaidOut (tree_of ty.now) }
-    ensures value { result ≡ doublewords (tree_of ty.now) }
+pub fn doublewords(ty: &CheckedType<'_>) -> u64
+    ensures value { result ≡ doublewords ty.now }
     ensures few { 8 * result ≤ LARGEST_TYPE }
 {
-    (size_of(ty) + 7) / 8
+    (size_of(ty.as_type()) + 7) / 8
 }
 
 /// Whether a scalar is a float or a double.
@@ -133,12 +132,12 @@ pub fn doubleword(size: u64, j: u64, loc: Loc, ext: Ext) -> Piece
 }
 
 /// Leaf `i` of a value, in its place, whose rest `ext` fills.
-pub fn leaf_piece(ty: &FfiType, i: u32, loc: Loc, ext: Ext) -> Piece
-    requires right { IsLaidOut (tree_of ty.now) }
-    requires in_range { i < length (leaves_of (tree_of ty.now)) }
-    ensures { result ≡ leaf_piece loc ext (leaf_at (tree_of ty.now) i) }
+pub fn leaf_piece(ty: &CheckedType<'_>, i: u32, loc: Loc, ext: Ext) -> Piece
+    requires { i < length (leaves_of ty.now) }
+    ensures { result ≡ leaf_piece loc ext (leaf_at ty.now i) }
 {
-    let leaf = ty.leaf(i);
+    let plain = ty.as_type();
+    let leaf = plain.leaf(i);
     let size = leaf.kind.size();
     Piece {
         loc,
@@ -149,14 +148,14 @@ pub fn leaf_piece(ty: &FfiType, i: u32, loc: Loc, ext: Ext) -> Piece
 }
 
 /// A value's doublewords on the stack, from byte `start` of the stack arguments on. A narrow integer is extended by its sign.
-pub fn pieces_on_stack(alloc: Global, ty: &FfiType, start: u64) -> Result<Pieces, NoMemory>
-    requires right { IsLaidOut (tree_of ty.now) }
-    requires low { start ≤ 2 * ARGUMENT_BYTES }
-    ensures { IfOk result (λ p. p ≡ stack_pieces start (tree_of ty.now)) }
+pub fn pieces_on_stack(alloc: Global, ty: &CheckedType<'_>, start: u64) -> Result<Pieces, NoMemory>
+    requires { start ≤ 2 * ARGUMENT_BYTES }
+    ensures { IfOk result (λ p. p ≡ stack_pieces start ty.now) }
 {
-    let ext = widening(ty);
+    let plain = ty.as_type();
+    let ext = widening(plain);
     // asked for once: it is found by a walk over all elements
-    let size = size_of(ty);
+    let size = size_of(plain);
     let mut pieces = Pieces::new(alloc);
     for j in 0..doublewords(ty) {
         pieces.push(doubleword(size, j, Loc::S((start + 8 * j) as u32), ext))?;

@@ -7,9 +7,8 @@ ghost use Rattle.ffi3_type_rules.specs.Tree.{Scalar, scalar, Tree};
 ghost use Rattle.ffi3_type_rules.specs.Layout.{size_of, leaves_of, leaf_at};
 ghost use Rattle.ffi3_type_rules.specs.Integer.{is_floating};
 ghost use Rattle.ffi3_type_rules.specs.Fault.{IsLaidOut};
-ghost use Rattle.ffi3_type_rules.specs.Signature.{SignatureHasNoFault};
 ghost use Rattle.ffi3_types.specs.TreeOf.{tree_of};
-ghost use Rattle.ffi3_place_rules.specs.Standard.{place_at, copy_end, places_from, copies_end, result_at, buffer_end, round8};
+ghost use Rattle.ffi3_place_rules.specs.Standard.{place_at, copy_end, places_from, copies_end, result_at, buffer_end, round8, plan_of};
 ghost use Rattle.ffi3_place_rules.specs.Doublewords.{doublewords};
 ghost use Rattle.ffi3_riscv_rules.specs.Riscv.{riscv, is_word_integer, shape_of_two, shape_of_leaves, shape_of, words_of, floats_of, registers_suffice, passed_as, word, extension, boxing, floating_piece, integer_piece, word_pieces, spot_of, is_fixed, is_at_even_word, first_word, taken_at_start, taken_with, taken_at_first, taken_by_all, spots_after, result_shape, result_spot_of, is_by_reference, stack_of, untouched};
 ghost use Rattle.ffi3_riscv_rules.specs.declared.Shape.{Shape};
@@ -20,14 +19,12 @@ ghost use Rattle.ffi3_riscv.specs.Found.{IsFound};
 pub mod laws;
 
 use ffi3_place::ends::{buffer_end, copy_end, planned, start};
-use ffi3_place::parts::{
-    argument, count_of, doubleword, filling, is_floating, leaf_piece, result_type, size_of,
-};
+use ffi3_place::parts::{doubleword, filling, is_floating, leaf_piece, size_of};
 use ffi3_place::{Abi, Ext, Loc, Piece, Pieces, Place, Places, Plan, Res, SaveWord};
 pub use ffi3_riscv_rules::Shape;
 use ffi3_riscv_rules::TakenWords;
 use ffi3_type_rules::round_up;
-use ffi3_types::{FfiType, NoMemory, Sig, Target};
+use ffi3_types::{CheckedSig, CheckedType, FfiType, NoMemory, Sig, Target};
 pub use laws::placement_laws;
 use std::alloc::Global;
 
@@ -92,10 +89,9 @@ fn shape_of_two(first: &FfiType, second: &FfiType, otherwise: Shape) -> Shape
 }
 
 /// The same of a struct or an array, by its leaves.
-fn shape_of_leaves(ty: &FfiType, otherwise: Shape) -> Shape
-    requires right { IsLaidOut (tree_of ty.now) }
-    requires small { words_of otherwise ≤ 2 }
-    ensures value { result ≡ shape_of_leaves otherwise (leaves_of (tree_of ty.now)) }
+fn shape_of_leaves(ty: &CheckedType<'_>, otherwise: Shape) -> Shape
+    requires { words_of otherwise ≤ 2 }
+    ensures value { result ≡ shape_of_leaves otherwise (leaves_of ty.now) }
     ensures small { words_of result ≤ 2 }
 {
     let count = ty.leaf_count();
@@ -123,16 +119,16 @@ struct Found {
 }
 
 /// A scalar is its own only leaf.
-fn found_of(ty: &FfiType) -> Found
-    requires { IsLaidOut (tree_of ty.now) }
-    ensures is { IsFound (tree_of ty.now) result }
+fn found_of(ty: &CheckedType<'_>) -> Found
+    ensures is { IsFound ty.now result }
     ensures small { words_of result.shape ≤ 2 }
     ensures otherwise_small { words_of result.otherwise ≤ 2 }
     ensures otherwise_no_float { floats_of result.otherwise ≡ 0 }
 {
-    let size = size_of(ty);
+    let plain = ty.as_type();
+    let size = size_of(plain);
     let otherwise = shape_of_size(size);
-    let shape = match ty {
+    let shape = match plain {
         FfiType::Float | FfiType::Double => Shape::OneF,
         FfiType::Struct(_) | FfiType::Array(_, _) => shape_of_leaves(ty, otherwise),
         FfiType::U8 | FfiType::S8 | FfiType::U16 | FfiType::S16 => otherwise,
@@ -153,7 +149,7 @@ pub fn shape_of(ty: &FfiType) -> Shape
     requires { IsLaidOut (tree_of ty.now) }
     ensures { result ≡ shape_of (tree_of ty.now) }
 {
-    found_of(ty).shape
+    found_of(&CheckedType::of(ty)).shape
 }
 
 /// How many integer words a value takes.
@@ -299,15 +295,20 @@ fn boxed(kind: &FfiType) -> Ext
 }
 
 /// A value's doublewords, in the stream of words from number `first` on.
-fn word_pieces(alloc: Global, ty: &FfiType, first: u64, count: u64) -> Result<Pieces, NoMemory>
-    requires right { IsLaidOut (tree_of ty.now) }
+fn word_pieces(
+    alloc: Global,
+    ty: &CheckedType<'_>,
+    first: u64,
+    count: u64,
+) -> Result<Pieces, NoMemory>
     requires low { first ≤ 16 * MOST_ARGUMENTS }
-    requires all { count ≡ doublewords (tree_of ty.now) }
+    requires all { count ≡ doublewords ty.now }
     requires few { count ≤ 2 }
-    ensures { IfOk result (λ p. p ≡ word_pieces first (tree_of ty.now) count) }
+    ensures { IfOk result (λ p. p ≡ word_pieces first ty.now count) }
 {
-    let ext = extended(ty);
-    let size = size_of(ty);
+    let plain = ty.as_type();
+    let ext = extended(plain);
+    let size = size_of(plain);
     let mut pieces = Pieces::new(alloc);
     for j in 0..count {
         pieces.push(doubleword(size, j, word(first + j), ext))?;
@@ -316,22 +317,20 @@ fn word_pieces(alloc: Global, ty: &FfiType, first: u64, count: u64) -> Result<Pi
 }
 
 /// Leaf `i` in floating register fa`number`.
-fn floating_piece(ty: &FfiType, i: u32, number: u64) -> Piece
-    requires right { IsLaidOut (tree_of ty.now) }
-    requires in_range { i < length (leaves_of (tree_of ty.now)) }
+fn floating_piece(ty: &CheckedType<'_>, i: u32, number: u64) -> Piece
+    requires in_range { i < length (leaves_of ty.now) }
     requires few { number ≤ 7 }
-    ensures { result ≡ floating_piece number (leaf_at (tree_of ty.now) i) }
+    ensures { result ≡ floating_piece number (leaf_at ty.now i) }
 {
     let leaf = ty.leaf(i);
     leaf_piece(ty, i, Loc::F(10 + number as u8), boxed(&leaf.kind))
 }
 
 /// Leaf `i` in integer register a`number`.
-fn integer_piece(ty: &FfiType, i: u32, number: u64) -> Piece
-    requires right { IsLaidOut (tree_of ty.now) }
-    requires in_range { i < length (leaves_of (tree_of ty.now)) }
+fn integer_piece(ty: &CheckedType<'_>, i: u32, number: u64) -> Piece
+    requires in_range { i < length (leaves_of ty.now) }
     requires few { number ≤ 7 }
-    ensures { result ≡ integer_piece number (leaf_at (tree_of ty.now) i) }
+    ensures { result ≡ integer_piece number (leaf_at ty.now i) }
 {
     leaf_piece(ty, i, Loc::G(10 + number as u8), Ext::Free)
 }
@@ -357,16 +356,15 @@ fn two_pieces(alloc: Global, first: Piece, second: Piece) -> Result<Pieces, NoMe
 fn place_of(
     alloc: Global,
     before: TakenWords,
-    ty: &FfiType,
+    ty: &CheckedType<'_>,
     shape: Shape,
     end: u64,
 ) -> Result<Place, NoMemory>
-    requires right { IsLaidOut (tree_of ty.now) }
-    requires suits { Suits (size_of (tree_of ty.now)) (leaves_of (tree_of ty.now)) shape }
+    requires suits { Suits (size_of ty.now) (leaves_of ty.now) shape }
     requires room { HasRoom before shape }
     requires low { before.words ≤ 16 * MOST_ARGUMENTS }
     requires near { end ≤ 2 * ARGUMENT_BYTES }
-    ensures { IfOk result (λ p. p ≡ place_at riscv.copy_start end (tree_of ty.now) (spot_of before (tree_of ty.now) shape)) }
+    ensures { IfOk result (λ p. p ≡ place_at riscv.copy_start end ty.now (spot_of before ty.now shape)) }
 {
     match shape {
         Shape::OneF => {
@@ -397,7 +395,7 @@ fn place_of(
 }
 
 /// Whether argument `i` is a named one, and no variadic one.
-fn is_fixed(sig: &Sig, i: u32) -> bool
+fn is_fixed(sig: &CheckedSig<'_>, i: u32) -> bool
     ensures { result ≡ is_fixed sig.now.fixed i }
 {
     match sig.fixed() {
@@ -412,17 +410,15 @@ const UNTOUCHED: TakenWords = TakenWords {
 };
 
 /// A result is returned as a first named argument would be passed.
-fn result_shape(ty: &FfiType) -> Shape
-    requires { IsLaidOut (tree_of ty.now) }
-    ensures { result ≡ result_shape (tree_of ty.now) }
+fn result_shape(ty: &CheckedType<'_>) -> Shape
+    ensures { result ≡ result_shape ty.now }
 {
     passed_as(UNTOUCHED, true, found_of(ty))
 }
 
 /// The hidden pointer to a result's buffer takes the first word.
-fn at_first(ty: &FfiType) -> TakenWords
-    requires { IsLaidOut (tree_of ty.now) }
-    ensures value { result ≡ taken_at_first (tree_of ty.now) }
+fn at_first(ty: &CheckedType<'_>) -> TakenWords
+    ensures value { result ≡ taken_at_first ty.now }
     ensures one { result.words ≤ 1 }
     ensures none { result.floats ≡ 0 }
 {
@@ -437,16 +433,16 @@ fn at_first(ty: &FfiType) -> TakenWords
 }
 
 /// What all arguments take.
-fn taken_by_all(sig: &Sig) -> TakenWords
-    requires { SignatureHasNoFault sig.now }
+fn taken_by_all(sig: &CheckedSig<'_>) -> TakenWords
     ensures value { result ≡ taken_by_all sig.now }
     ensures low { result.words ≤ 3 * MOST_ARGUMENTS + 1 }
 {
-    let mut end = at_first(result_type(sig));
-    for i in 0..count_of(sig) {
-        let ty = argument(sig, i);
+    let ret = sig.ret();
+    let mut end = at_first(&ret);
+    for i in 0..sig.count() {
+        let ty = sig.arg(i);
         let fixed = is_fixed(sig, i);
-        let found = found_of(ty);
+        let found = found_of(&ty);
         let before = at_start(end, fixed, found);
         let shape = passed_as(before, fixed, found);
         end = taken_with(before, shape);
@@ -475,24 +471,24 @@ struct Placed {
 }
 
 /// The places of all arguments, if the copies stand from `start` on.
-fn place_all(alloc: Global, sig: &Sig, start: u64) -> Result<Placed, NoMemory>
-    requires right { SignatureHasNoFault sig.now }
-    requires near { start ≤ 32 * MOST_ARGUMENTS }
+fn place_all(alloc: Global, sig: &CheckedSig<'_>, start: u64) -> Result<Placed, NoMemory>
+    requires { start ≤ 32 * MOST_ARGUMENTS }
     ensures places { IfOk result (λ p. p.places ≡ places_from riscv.copy_start start sig.now.arguments (spots_after sig.now.fixed (taken_at_first sig.now.result_type) 0 sig.now.arguments)) }
     ensures end { IfOk result (λ p. p.end ≡ copies_end riscv.copy_start start sig.now.arguments (spots_after sig.now.fixed (taken_at_first sig.now.result_type) 0 sig.now.arguments)) }
     ensures near { IfOk result (λ p. p.end ≤ start + ARGUMENT_BYTES) }
 {
-    let mut end = at_first(result_type(sig));
+    let ret = sig.ret();
+    let mut end = at_first(&ret);
     let mut copy = start;
-    let mut places = Places::with_capacity(alloc, count_of(sig) as usize)?;
-    for i in 0..count_of(sig) {
-        let ty = argument(sig, i);
+    let mut places = Places::with_capacity(alloc, sig.count() as usize)?;
+    for i in 0..sig.count() {
+        let ty = sig.arg(i);
         let fixed = is_fixed(sig, i);
-        let found = found_of(ty);
+        let found = found_of(&ty);
         let before = at_start(end, fixed, found);
         let shape = passed_as(before, fixed, found);
-        let place = place_of(alloc, before, ty, shape, copy)?;
-        copy = copy_end(&place, ty, copy);
+        let place = place_of(alloc, before, &ty, shape, copy)?;
+        copy = copy_end(&place, &ty, copy);
         places.push(place)?;
         end = taken_with(before, shape);
     }
@@ -500,12 +496,11 @@ fn place_all(alloc: Global, sig: &Sig, start: u64) -> Result<Placed, NoMemory>
 }
 
 /// A result's place is that of an argument, and its buffer takes the place of a copy.
-fn place_result(alloc: Global, ty: &FfiType, buffer: u64) -> Result<Res, NoMemory>
-    requires right { IsLaidOut (tree_of ty.now) }
-    requires near { buffer ≤ 2 * ARGUMENT_BYTES }
-    ensures { IfOk result (λ r. r ≡ result_at riscv.copy_start buffer (tree_of ty.now) (result_spot_of (tree_of ty.now))) }
+fn place_result(alloc: Global, ty: &CheckedType<'_>, buffer: u64) -> Result<Res, NoMemory>
+    requires { buffer ≤ 2 * ARGUMENT_BYTES }
+    ensures { IfOk result (λ r. r ≡ result_at riscv.copy_start buffer ty.now (result_spot_of ty.now)) }
 {
-    if let FfiType::Void = ty {
+    if let FfiType::Void = ty.as_type() {
         return Ok(Res::Nothing);
     }
     let shape = result_shape(ty);
@@ -566,6 +561,18 @@ const PASSING_REGISTERS: [Loc; 16] = [
     Loc::F(17),
 ];
 
+/// Where everything stands in a call.
+fn plan_of(alloc: Global, sig: &CheckedSig<'_>) -> Result<Plan, NoMemory>
+    ensures { IfOk result (λ p. p ≡ plan_of riscv sig.now) }
+{
+    let used = taken_by_all(sig);
+    let all = place_all(alloc, sig, round_up(stack_of(used), 16))?;
+    let ret = sig.ret();
+    let res = place_result(alloc, &ret, all.end)?;
+    let end = buffer_end(&res, &ret, all.end);
+    Ok(planned(sig, all.places, res, end, Riscv::LINK + Riscv::SAVE, 0))
+}
+
 impl Abi for Riscv {
     ghost use Rattle.ffi3_type_rules.specs.declared.Target.TheVariants as target;
     ghost use Rattle.ffi3_riscv_rules.specs.Riscv.{riscv};
@@ -620,12 +627,7 @@ impl Abi for Riscv {
     }
 
     fn plan(alloc: Global, sig: &Sig) -> Result<Plan, NoMemory> {
-        let used = taken_by_all(sig);
-        let all = place_all(alloc, sig, round_up(stack_of(used), 16))?;
-        let ret = result_type(sig);
-        let res = place_result(alloc, ret, all.end)?;
-        let end = buffer_end(&res, ret, all.end);
-        Ok(planned(sig, all.places, res, end, Self::LINK + Self::SAVE, 0))
+        plan_of(alloc, &CheckedSig::of(sig))
     }
 
     ghost use Rattle.std.specs.Prelude.{refl};

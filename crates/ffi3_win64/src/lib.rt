@@ -4,18 +4,17 @@
 ghost use Rattle.std.specs.Prelude.{◌≡◌, ◌<◌, ◌≤◌, ◌+◌, ◌*◌, [], ◌∷◌, length, IfOk, is_some, false};
 ghost use Rattle.ffi3_type_rules.specs.declared.limits.TheConstants.{ARGUMENT_BYTES, MOST_ARGUMENTS};
 ghost use Rattle.ffi3_type_rules.specs.Fault.{IsLaidOut};
-ghost use Rattle.ffi3_type_rules.specs.Signature.{SignatureHasNoFault};
 ghost use Rattle.ffi3_types.specs.TreeOf.{tree_of};
-ghost use Rattle.ffi3_place_rules.specs.Standard.{places_from, place_at, copies_end, result_at, round16};
+ghost use Rattle.ffi3_place_rules.specs.Standard.{places_from, place_at, copies_end, result_at, round16, plan_of};
 ghost use Rattle.ffi3_win64_rules.specs.Win64.{win64, is_whole_size, is_copied, is_floating_type, position_place, floating_places, whole, whole_in, argument_pieces, spot_at, spots_from, first_position, result_place, result_spot_of, stack_of};
 
 pub mod laws;
 
 use ffi3_place::ends::{buffer_end, copy_end, planned};
-use ffi3_place::parts::{argument, count_of, result_type, size_of, widening};
+use ffi3_place::parts::{size_of, widening};
 use ffi3_place::{Abi, Loc, Piece, Pieces, Place, Places, Plan, Res, SaveWord};
 use ffi3_type_rules::round_up;
-use ffi3_types::{FfiType, NoMemory, Sig, Target};
+use ffi3_types::{CheckedSig, CheckedType, FfiType, NoMemory, Sig, Target};
 pub use laws::placement_laws;
 use std::alloc::Global;
 
@@ -61,16 +60,16 @@ fn position_place(p: u64) -> Loc
 }
 
 /// A value in one place.
-fn whole(ty: &FfiType, loc: Loc) -> Piece
-    requires right { IsLaidOut (tree_of ty.now) }
-    requires direct { is_copied (tree_of ty.now) ≡ false }
-    ensures { result ≡ whole loc (tree_of ty.now) }
+fn whole(ty: &CheckedType<'_>, loc: Loc) -> Piece
+    requires { is_copied ty.now ≡ false }
+    ensures { result ≡ whole loc ty.now }
 {
+    let plain = ty.as_type();
     Piece {
         loc,
         off: 0,
-        len: size_of(ty) as u8,
-        ext: widening(ty),
+        len: size_of(plain) as u8,
+        ext: widening(plain),
     }
 }
 
@@ -92,11 +91,15 @@ fn two_pieces(alloc: Global, first: Piece, second: Piece) -> Result<Pieces, NoMe
 }
 
 /// A floating-point value in registers: the vector register of its position, and before it the general one where arguments are variable. ("Varargs")
-fn floating_pieces(alloc: Global, variadic: bool, p: u64, ty: &FfiType) -> Result<Pieces, NoMemory>
-    requires right { IsLaidOut (tree_of ty.now) }
-    requires direct { is_copied (tree_of ty.now) ≡ false }
+fn floating_pieces(
+    alloc: Global,
+    variadic: bool,
+    p: u64,
+    ty: &CheckedType<'_>,
+) -> Result<Pieces, NoMemory>
+    requires direct { is_copied ty.now ≡ false }
     requires few { p < 4 }
-    ensures { IfOk result (λ ps. ps ≡ whole_in (tree_of ty.now) (floating_places variadic p)) }
+    ensures { IfOk result (λ ps. ps ≡ whole_in ty.now (floating_places variadic p)) }
 {
     let vector = whole(ty, Loc::F(p as u8));
     if variadic {
@@ -108,13 +111,17 @@ fn floating_pieces(alloc: Global, variadic: bool, p: u64, ty: &FfiType) -> Resul
 }
 
 /// The pieces of an argument that is not copied.
-fn argument_pieces(alloc: Global, variadic: bool, p: u64, ty: &FfiType) -> Result<Pieces, NoMemory>
-    requires right { IsLaidOut (tree_of ty.now) }
-    requires direct { is_copied (tree_of ty.now) ≡ false }
+fn argument_pieces(
+    alloc: Global,
+    variadic: bool,
+    p: u64,
+    ty: &CheckedType<'_>,
+) -> Result<Pieces, NoMemory>
+    requires direct { is_copied ty.now ≡ false }
     requires few { p ≤ MOST_ARGUMENTS }
-    ensures { IfOk result (λ ps. ps ≡ argument_pieces variadic p (tree_of ty.now)) }
+    ensures { IfOk result (λ ps. ps ≡ argument_pieces variadic p ty.now) }
 {
-    if is_floating_type(ty) && p < 4 {
+    if is_floating_type(ty.as_type()) && p < 4 {
         floating_pieces(alloc, variadic, p, ty)
     } else {
         one_piece(alloc, whole(ty, position_place(p)))
@@ -137,15 +144,14 @@ fn place_of(
     alloc: Global,
     variadic: bool,
     p: u64,
-    ty: &FfiType,
+    ty: &CheckedType<'_>,
     end: u64,
 ) -> Result<Place, NoMemory>
-    requires right { IsLaidOut (tree_of ty.now) }
     requires few { p ≤ MOST_ARGUMENTS }
     requires low { end ≤ 2 * ARGUMENT_BYTES }
-    ensures { IfOk result (λ r. r ≡ place_at win64.copy_start end (tree_of ty.now) (spot_at variadic p (tree_of ty.now))) }
+    ensures { IfOk result (λ r. r ≡ place_at win64.copy_start end ty.now (spot_at variadic p ty.now)) }
 {
-    if is_copied(ty) {
+    if is_copied(ty.as_type()) {
         return Ok(Place::ByRef {
             at: position_place(p),
             copy: copy_start(end) as u32,
@@ -162,15 +168,19 @@ struct Placed {
 }
 
 /// Whether a signature has variable arguments.
-fn is_variadic(sig: &Sig) -> bool
+fn is_variadic(sig: &CheckedSig<'_>) -> bool
     ensures { result ≡ is_some sig.now.fixed }
 {
     sig.fixed().is_some()
 }
 
 /// The places of all arguments, in the positions from `first` on, if the copies stand from `start` on.
-fn place_all(alloc: Global, sig: &Sig, first: u64, start: u64) -> Result<Placed, NoMemory>
-    requires right { SignatureHasNoFault sig.now }
+fn place_all(
+    alloc: Global,
+    sig: &CheckedSig<'_>,
+    first: u64,
+    start: u64,
+) -> Result<Placed, NoMemory>
     requires few { first ≤ 1 }
     requires low { start ≤ 16 * MOST_ARGUMENTS }
     ensures places { IfOk result (λ p. p.places ≡ places_from win64.copy_start start sig.now.arguments (spots_from (is_some sig.now.fixed) first sig.now.arguments)) }
@@ -179,24 +189,27 @@ fn place_all(alloc: Global, sig: &Sig, first: u64, start: u64) -> Result<Placed,
 {
     let variadic = is_variadic(sig);
     let mut end = start;
-    let mut places = Places::with_capacity(alloc, count_of(sig) as usize)?;
-    for i in 0..count_of(sig) {
-        let ty = argument(sig, i);
+    let mut places = Places::with_capacity(alloc, sig.count() as usize)?;
+    for i in 0..sig.count() {
+        let ty = sig.arg(i);
         let p = first + i as u64;
-        let place = place_of(alloc, variadic, p, ty, end)?;
-        end = copy_end(&place, ty, end);
+        let place = place_of(alloc, variadic, p, &ty, end)?;
+        end = copy_end(&place, &ty, end);
         places.push(place)?;
     }
     Ok(Placed { places, end })
 }
 
 /// The position of the first argument: the address of a result in memory stands before it.
-fn first_position(result_type: &FfiType) -> u64
-    requires { IsLaidOut (tree_of result_type.now) }
-    ensures value { result ≡ first_position (tree_of result_type.now) }
+fn first_position(result_type: &CheckedType<'_>) -> u64
+    ensures value { result ≡ first_position result_type.now }
     ensures few { result ≤ 1 }
 {
-    if is_copied(result_type) { 1 } else { 0 }
+    if is_copied(result_type.as_type()) {
+        1
+    } else {
+        0
+    }
 }
 
 /// The stack of so many positions, of which the callee has that of four at least.
@@ -222,21 +235,21 @@ fn result_place(ty: &FfiType) -> Loc
 }
 
 /// Where a result stands, if what is before its buffer ends at `end`.
-fn place_result(alloc: Global, ty: &FfiType, end: u64) -> Result<Res, NoMemory>
-    requires right { IsLaidOut (tree_of ty.now) }
-    requires low { end ≤ 2 * ARGUMENT_BYTES }
-    ensures { IfOk result (λ r. r ≡ result_at win64.copy_start end (tree_of ty.now) (result_spot_of (tree_of ty.now))) }
+fn place_result(alloc: Global, ty: &CheckedType<'_>, end: u64) -> Result<Res, NoMemory>
+    requires { end ≤ 2 * ARGUMENT_BYTES }
+    ensures { IfOk result (λ r. r ≡ result_at win64.copy_start end ty.now (result_spot_of ty.now)) }
 {
-    if let FfiType::Void = ty {
+    let plain = ty.as_type();
+    if let FfiType::Void = plain {
         return Ok(Res::Nothing);
     }
-    if is_copied(ty) {
+    if is_copied(plain) {
         return Ok(Res::Hidden {
             at: position_place(0),
             buffer: copy_start(end) as u32,
         });
     }
-    let piece = whole(ty, result_place(ty));
+    let piece = whole(ty, result_place(plain));
     Ok(Res::Direct(one_piece(alloc, piece)?))
 }
 
@@ -278,6 +291,19 @@ const PASSING_REGISTERS: [Loc; 8] = [
 
 /// The Microsoft x64 calling standard. ("x64 calling convention")
 pub struct Win64;
+
+/// Where everything stands in a call.
+fn plan_of(alloc: Global, sig: &CheckedSig<'_>) -> Result<Plan, NoMemory>
+    ensures { IfOk result (λ p. p ≡ plan_of win64 sig.now) }
+{
+    let ret = sig.ret();
+    let first = first_position(&ret);
+    let stack = stack_of(first + sig.count() as u64);
+    let all = place_all(alloc, sig, first, round_up(stack, 16))?;
+    let res = place_result(alloc, &ret, all.end)?;
+    let end = buffer_end(&res, &ret, all.end);
+    Ok(planned(sig, all.places, res, end, Win64::LINK + Win64::SAVE, 0))
+}
 
 impl Abi for Win64 {
     ghost use Rattle.ffi3_win64_rules.specs.Win64.{win64};
@@ -329,13 +355,7 @@ impl Abi for Win64 {
     }
 
     fn plan(alloc: Global, sig: &Sig) -> Result<Plan, NoMemory> {
-        let ret = result_type(sig);
-        let first = first_position(ret);
-        let stack = stack_of(first + count_of(sig) as u64);
-        let all = place_all(alloc, sig, first, round_up(stack, 16))?;
-        let res = place_result(alloc, ret, all.end)?;
-        let end = buffer_end(&res, ret, all.end);
-        Ok(planned(sig, all.places, res, end, Self::LINK + Self::SAVE, 0))
+        plan_of(alloc, &CheckedSig::of(sig))
     }
 
     ghost use Rattle.std.specs.Prelude.{refl};

@@ -1,5 +1,4 @@
 use Rattle.std.proofs.Common.{◌<◌, ap, subst, arith}
-use Rattle.ffi3_types.specs.TreeOf.{tree_of}
 use Rattle.ffi3_riscv_rules.proofs.Turns.{taken_turn}
 use Rattle.ffi3_riscv.proofs.taken_by_all.Goals as goal
 
@@ -9,5 +8,5 @@ loop-i-preserved c =
     record {
       few = omega (arith, ap (λ u. u.floats) next, c.passed_as-shape.ensures.room);
       low = omega (arith, ap (λ u. u.words) next, c.passed_as-shape.ensures.small, c.at_start-before.ensures.near, c.loop-i.invariant.low);
-      done = taken_turn c.args.sig.now.fixed c.loop-i.end c.at_start-before.result c.taken_with-end.result c.loop-i.i c.args.sig.now.arguments (tree_of c.argument-ty.result.now) c.is_fixed-fixed.result c.passed_as-shape.result (subst (λ n. c.loop-i.i < n) c.count_of-i-end.ensures.value c.loop-i-test.true) c.argument-ty.ensures.element c.is_fixed-fixed.ensures (c.at_start-before.ensures.value (tree_of c.argument-ty.result.now) c.found_of-found.ensures.is) (c.passed_as-shape.ensures.value (tree_of c.argument-ty.result.now) c.found_of-found.ensures.is) next _ c.loop-i.invariant.done;
+      done = taken_turn c.args.sig.now.fixed c.loop-i.end c.at_start-before.result c.taken_with-end.result c.loop-i.i c.args.sig.now.arguments c.arg-ty.result c.is_fixed-fixed.result c.passed_as-shape.result (subst (λ n. c.loop-i.i < n) c.count-i-end.ensures.value c.loop-i-test.true) c.arg-ty.ensures c.is_fixed-fixed.ensures (c.at_start-before.ensures.value c.arg-ty.result c.found_of-found.ensures.is) (c.passed_as-shape.ensures.value c.arg-ty.result c.found_of-found.ensures.is) next _ c.loop-i.invariant.done;
     }

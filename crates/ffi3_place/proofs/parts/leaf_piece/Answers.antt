@@ -1,5 +1,6 @@
-use Rattle.std.proofs.Common.{sym, subst, arith}
+use Rattle.std.proofs.Common.{◌<◌, length, sym, subst, arith}
 use Rattle.ffi3_type_rules.specs.declared.Role.TheVariants.{Anywhere}
+use Rattle.ffi3_type_rules.specs.Layout.{leaves_of}
 use Rattle.ffi3_type_rules.specs.Fault.{IsLaidOut}
 use Rattle.ffi3_type_rules.proofs.Faults.{scalar_faults, right_is_small}
 use Rattle.ffi3_types.specs.TreeOf.{tree_of}
@@ -11,4 +12,5 @@ size-size-requires c = subst (IsLaidOut) (sym c.leaf-leaf.ensures.kind) (scalar_
 
 pub overflow_cast-result : goal.overflow_cast-result
 overflow_cast-result c =
-    omega (arith, c.leaf-leaf.ensures.at, leaf_ends (tree_of c.args.ty.now) c.args.i c.requires.in_range, right_is_small 0 Anywhere (tree_of c.args.ty.now) c.requires.right)
+    let below = subst (λ t. c.args.i < length (leaves_of t)) (sym c.as_type-plain.ensures.value) c.requires in
+    omega (arith, c.leaf-leaf.ensures.at, leaf_ends (tree_of c.as_type-plain.result.now) c.args.i below, right_is_small 0 Anywhere (tree_of c.as_type-plain.result.now) c.as_type-plain.ensures.right)

@@ -1,5 +1,4 @@
 use Rattle.std.proofs.Common.{◌+◌, ◌*◌, refl}
-use Rattle.ffi3_types.specs.TreeOf.{tree_of}
 use Rattle.ffi3_type_rules.specs.Layout.{size_of}
 use Rattle.ffi3_place_rules.specs.declared.Loc.TheVariants.{S}
 use Rattle.ffi3_place_rules.specs.Doublewords.{widening}
@@ -8,4 +7,4 @@ use Rattle.ffi3_place.proofs.parts.pieces_on_stack.Goals as goal
 
 pub loop-j-preserved : goal.loop-j-preserved
 loop-j-preserved c =
-    doublewords_turn (λ k. S (c.args.start + 8 * k)) (size_of (tree_of c.args.ty.now)) (widening (tree_of c.args.ty.now)) c.loop-j.j _ c.loop-j.pieces _ _ _ _ (rw c.doublewords-j-end.ensures.value at c.loop-j-test.true) refl (rw (c.widening-ext.ensures, c.size_of-size.ensures.value) at c.doubleword.ensures) c.in_ok-push.ensures.ok c.loop-j.invariant
+    doublewords_turn (λ k. S (c.args.start + 8 * k)) (size_of c.args.ty.now) (widening c.args.ty.now) c.loop-j.j _ c.loop-j.pieces _ _ _ _ (rw c.doublewords-j-end.ensures.value at c.loop-j-test.true) refl (rw (c.widening-ext.ensures, c.size_of-size.ensures.value, c.as_type-plain.ensures.value) at c.doubleword.ensures) c.in_ok-push.ensures.ok c.loop-j.invariant

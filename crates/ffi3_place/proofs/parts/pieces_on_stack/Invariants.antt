@@ -1,9 +1,8 @@
 use Rattle.std.proofs.Common.{◌≡◌, ◌+◌, ◌-◌, ◌*◌, ◌++◌}
-use Rattle.ffi3_types.specs.TreeOf.{tree_of}
 use Rattle.ffi3_type_rules.specs.Layout.{size_of}
 use Rattle.ffi3_place_rules.specs.declared.Loc.TheVariants.{S}
 use Rattle.ffi3_place_rules.specs.Doublewords.{doublewords, doublewords_at, widening, stack_pieces}
 use Rattle.ffi3_place.proofs.parts.pieces_on_stack.Given as goal
 
 abbrev pub invariant-loop-j : goal.invariant-loop-j
-invariant-loop-j l = l.pieces ++ doublewords_at (λ k. S (l.start + 8 * k)) (size_of (tree_of l.ty)) (widening (tree_of l.ty)) l.j (doublewords (tree_of l.ty) - l.j) ≡ stack_pieces l.start (tree_of l.ty)
+invariant-loop-j l = l.pieces ++ doublewords_at (λ k. S (l.start + 8 * k)) (size_of l.ty) (widening l.ty) l.j (doublewords l.ty - l.j) ≡ stack_pieces l.start l.ty
