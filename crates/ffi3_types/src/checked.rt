@@ -69,6 +69,10 @@ impl<'a> CheckedType<'a> {
         ensures value { result ≡ size_of self.now }
         ensures small { result ≤ LARGEST_TYPE }
     {
+        let size = self.ty.scalar_size();
+        if size != 0 {
+            return size;
+        }
         self.ty.size()
     }
 
