@@ -5,7 +5,7 @@ ghost use Rattle.ffi3_type_rules.specs.Tree.{Tree};
 ghost use Rattle.ffi3_place_rules.specs.Standard.{Spot, ResultSpot, start, place_at, copy_end, result_at, buffer_end};
 ghost use Rattle.ffi3_place_rules.specs.Planned.{planned};
 
-use crate::parts::{size_of, sizes_of};
+use crate::parts::sizes_of;
 use ffi3_place_rules::{Place, Places, Plan, Res};
 use ffi3_type_rules::round_up;
 use ffi3_types::{CheckedSig, CheckedType};
@@ -26,7 +26,7 @@ pub fn copy_end(place: &Place, ty: &CheckedType<'_>, end: u64) -> u64
 {
     match place {
         Place::Direct(_) => end,
-        Place::ByRef { copy, .. } => *copy as u64 + round_up(size_of(ty.as_type()), 8),
+        Place::ByRef { copy, .. } => *copy as u64 + round_up(ty.size(), 8),
     }
 }
 
@@ -39,7 +39,7 @@ pub fn buffer_end(res: &Res, ty: &CheckedType<'_>, end: u64) -> u64
     match res {
         Res::Nothing => end,
         Res::Direct(_) => end,
-        Res::Hidden { buffer, .. } => *buffer as u64 + round_up(size_of(ty.as_type()), 8),
+        Res::Hidden { buffer, .. } => *buffer as u64 + round_up(ty.size(), 8),
     }
 }
 

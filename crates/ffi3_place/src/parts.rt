@@ -56,7 +56,7 @@ pub fn sizes_of(sig: &CheckedSig<'_>) -> u64
     let mut all = 0;
     for i in 0..sig.count() {
         let ty = sig.arg(i);
-        all += round_up(size_of(ty.as_type()), 8);
+        all += round_up(ty.size(), 8);
     }
     all
 }
@@ -86,7 +86,7 @@ pub fn doublewords(ty: &CheckedType<'_>) -> u64
     ensures value { result ≡ doublewords ty.now }
     ensures few { 8 * result ≤ LARGEST_TYPE }
 {
-    (size_of(ty.as_type()) + 7) / 8
+    (ty.size() + 7) / 8
 }
 
 /// Whether a scalar is a float or a double.
@@ -152,10 +152,9 @@ pub fn pieces_on_stack(alloc: Global, ty: &CheckedType<'_>, start: u64) -> Resul
     requires { start ≤ 2 * ARGUMENT_BYTES }
     ensures { IfOk result (λ p. p ≡ stack_pieces start ty.now) }
 {
-    let plain = ty.as_type();
-    let ext = widening(plain);
+    let ext = widening(ty.as_type());
     // asked for once: it is found by a walk over all elements
-    let size = size_of(plain);
+    let size = ty.size();
     let mut pieces = Pieces::new(alloc);
     for j in 0..doublewords(ty) {
         pieces.push(doubleword(size, j, Loc::S((start + 8 * j) as u32), ext))?;

@@ -19,7 +19,7 @@ ghost use Rattle.ffi3_riscv.specs.Found.{IsFound};
 pub mod laws;
 
 use ffi3_place::ends::{buffer_end, copy_end, planned, start};
-use ffi3_place::parts::{doubleword, filling, is_floating, leaf_piece, size_of};
+use ffi3_place::parts::{doubleword, filling, is_floating, leaf_piece};
 use ffi3_place::{Abi, Ext, Loc, Piece, Pieces, Place, Places, Plan, Res, SaveWord};
 pub use ffi3_riscv_rules::Shape;
 use ffi3_riscv_rules::TakenWords;
@@ -126,7 +126,7 @@ fn found_of(ty: &CheckedType<'_>) -> Found
     ensures otherwise_no_float { floats_of result.otherwise ≡ 0 }
 {
     let plain = ty.as_type();
-    let size = size_of(plain);
+    let size = ty.size();
     let otherwise = shape_of_size(size);
     let shape = match plain {
         FfiType::Float | FfiType::Double => Shape::OneF,
@@ -306,9 +306,8 @@ fn word_pieces(
     requires few { count ≤ 2 }
     ensures { IfOk result (λ p. p ≡ word_pieces first ty.now count) }
 {
-    let plain = ty.as_type();
-    let ext = extended(plain);
-    let size = size_of(plain);
+    let ext = extended(ty.as_type());
+    let size = ty.size();
     let mut pieces = Pieces::new(alloc);
     for j in 0..count {
         pieces.push(doubleword(size, j, word(first + j), ext))?;

@@ -11,7 +11,7 @@ ghost use Rattle.ffi3_win64_rules.specs.Win64.{win64, is_whole_size, is_copied, 
 pub mod laws;
 
 use ffi3_place::ends::{buffer_end, copy_end, planned};
-use ffi3_place::parts::{size_of, widening};
+use ffi3_place::parts::widening;
 use ffi3_place::{Abi, Loc, Piece, Pieces, Place, Places, Plan, Res, SaveWord};
 use ffi3_type_rules::round_up;
 use ffi3_types::{CheckedSig, CheckedType, FfiType, NoMemory, Sig, Target};
@@ -32,7 +32,7 @@ pub fn is_copied(ty: &FfiType) -> bool
     requires { IsLaidOut (tree_of ty.now) }
     ensures { result ≡ is_copied (tree_of ty.now) }
 {
-    !is_whole_size(size_of(ty))
+    !is_whole_size(CheckedType::of(ty).size())
 }
 
 /// Whether a type is a float or a double.
@@ -64,12 +64,11 @@ fn whole(ty: &CheckedType<'_>, loc: Loc) -> Piece
     requires { is_copied ty.now ≡ false }
     ensures { result ≡ whole loc ty.now }
 {
-    let plain = ty.as_type();
     Piece {
         loc,
         off: 0,
-        len: size_of(plain) as u8,
-        ext: widening(plain),
+        len: ty.size() as u8,
+        ext: widening(ty.as_type()),
     }
 }
 

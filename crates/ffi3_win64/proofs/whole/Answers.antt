@@ -7,4 +7,4 @@ use Rattle.ffi3_win64.proofs.whole.Goals as goal
 pub returns : goal.returns
 returns c =
     let piece : ℕ → Ext → Piece = λ n e. record { loc = c.args.loc; off = 0; len = n; ext = e } in
-    ap (λ n. piece n c.widening.result) (rw c.as_type-plain.ensures.value at c.size_of.ensures.value) ∙ ap (piece (size_of c.args.ty.now)) (rw c.as_type-plain.ensures.value at c.widening.ensures)
+    ap (λ n. piece n c.widening.result) c.size.ensures.value ∙ ap (piece (size_of c.args.ty.now)) (rw c.as_type.ensures.value at c.widening.ensures)
