@@ -7,11 +7,10 @@ ghost use Rattle.ffi3_type_rules.specs.declared.limits.TheConstants.{ARGUMENT_BY
 ghost use Rattle.ffi3_type_rules.specs.Tree.{struct_of};
 ghost use Rattle.ffi3_type_rules.specs.Layout.{size_of, align_of, leaves_of};
 ghost use Rattle.ffi3_type_rules.specs.Fault.{IsLaidOut};
-ghost use Rattle.ffi3_type_rules.specs.Signature.{SignatureHasNoFault};
 ghost use Rattle.ffi3_types.specs.TreeOf.{tree_of};
 ghost use Rattle.ffi3_place_rules.specs.declared.Loc.{Loc};
 ghost use Rattle.ffi3_place_rules.specs.declared.Loc.TheVariants.{G, S};
-ghost use Rattle.ffi3_place_rules.specs.Standard.{places_from, place_at, copies_end, result_at};
+ghost use Rattle.ffi3_place_rules.specs.Standard.{places_from, place_at, copies_end, plan_of, result_at};
 ghost use Rattle.ffi3_place_rules.specs.Doublewords.{doublewords, stack_pieces};
 ghost use Rattle.ffi3_aapcs64_rules.specs.Aapcs64.{aapcs64, is_member, homogeneous, in_vectors, is_copied, passed, registers_needed, stack_size, first_general, stack_start, member_pieces, general_pieces, register_pieces, register_start, register_end, in_registers, stack_end, taken_with, taken_after, untouched, spot_after, spots_after, result_spot_of};
 ghost use Rattle.ffi3_aapcs64_rules.specs.Ends.{IsPlacedByEnds};
@@ -19,13 +18,11 @@ ghost use Rattle.ffi3_place_rules.specs.Alike.{GoesByLayout};
 
 pub use ffi3_aapcs64_rules::Kind;
 use ffi3_place::ends::{buffer_end, copy_end, planned, start};
-use ffi3_place::parts::{
-    argument, count_of, doubleword, leaf_piece, pieces_on_stack, result_type, widening,
-};
+use ffi3_place::parts::{doubleword, leaf_piece, pieces_on_stack, widening};
 use ffi3_place::{Abi, Ext, Loc, Pieces, Place, Places, Plan, Res, SaveWord};
 use ffi3_place_rules::Taken;
 use ffi3_type_rules::round_up;
-use ffi3_types::{FfiType, Fields, NoMemory, Sig, Target};
+use ffi3_types::{CheckedSig, CheckedType, FfiType, Fields, NoMemory, Sig, Target};
 use std::alloc::Global;
 use std::marker::Model;
 
@@ -96,13 +93,13 @@ pub fn homogeneous(ty: &FfiType) -> Option<(Kind, u8)>
 // ---- what is passed, and what it needs
 
 /// Whether a value takes SIMD and floating-point registers.
-fn in_vectors(ty: &FfiType) -> bool
-    requires { IsLaidOut (tree_of ty.now) }
-    ensures { result ≡ in_vectors (tree_of ty.now) }
+fn in_vectors(ty: &CheckedType<'_>) -> bool
+    ensures { result ≡ in_vectors ty.now }
 {
-    match ty {
+    let plain = ty.as_type();
+    match plain {
         FfiType::Float | FfiType::Double => true,
-        FfiType::Struct(_) => homogeneous(ty).is_some(),
+        FfiType::Struct(_) => homogeneous(plain).is_some(),
         FfiType::Void
         | FfiType::U8
         | FfiType::S8
@@ -123,22 +120,21 @@ fn in_vectors(ty: &FfiType) -> bool
 }
 
 /// Whether the caller copies a value of this size and passes a pointer to the copy.
-fn is_copied(ty: &FfiType, vectors: bool, size: u64) -> bool
-    requires vectors { vectors ≡ in_vectors (tree_of ty.now) }
-    requires sized { size ≡ size_of (tree_of ty.now) }
-    ensures { result ≡ is_copied (tree_of ty.now) }
+fn is_copied(ty: &CheckedType<'_>, vectors: bool, size: u64) -> bool
+    requires vectors { vectors ≡ in_vectors ty.now }
+    requires sized { size ≡ size_of ty.now }
+    ensures { result ≡ is_copied ty.now }
 {
-    matches!(ty, FfiType::Struct(_) | FfiType::Array(_, _)) && !vectors && size > 16
+    matches!(ty.as_type(), FfiType::Struct(_) | FfiType::Array(_, _)) && !vectors && size > 16
 }
 
 /// How many registers of its kind a value of this size needs. (AAPCS64 C.1, C.2, C.9, C.12)
-fn registers_needed(ty: &FfiType, vectors: bool, copied: bool, size: u64) -> u64
-    requires right { IsLaidOut (tree_of ty.now) }
-    requires vectors { vectors ≡ in_vectors (tree_of ty.now) }
-    requires copied { copied ≡ is_copied (tree_of ty.now) }
-    requires sized { size ≡ size_of (tree_of ty.now) }
+fn registers_needed(ty: &CheckedType<'_>, vectors: bool, copied: bool, size: u64) -> u64
+    requires vectors { vectors ≡ in_vectors ty.now }
+    requires copied { copied ≡ is_copied ty.now }
+    requires sized { size ≡ size_of ty.now }
     requires small { size ≤ LARGEST_TYPE }
-    ensures { result ≡ registers_needed (tree_of ty.now) }
+    ensures { result ≡ registers_needed ty.now }
 {
     if vectors {
         return ty.leaf_count() as u64;
@@ -152,7 +148,7 @@ fn registers_needed(ty: &FfiType, vectors: bool, copied: bool, size: u64) -> u64
 /// The type of an argument or a result, with what placing asks of it again and again.
 #[derive(Drop)]
 struct Classed<'a> {
-    ty: &'a FfiType,
+    ty: CheckedType<'a>,
     size: u64,
     align: u64,
     vectors: bool,
@@ -165,49 +161,48 @@ impl<'a> Model for Classed<'a> {
     ghost use Rattle.ffi3_type_rules.specs.declared.limits.TheConstants.{LARGEST_TYPE};
     ghost use Rattle.ffi3_type_rules.specs.Tree.{Tree, tree_code};
     ghost use Rattle.ffi3_type_rules.specs.Layout.{size_of, align_of};
-    ghost use Rattle.ffi3_types.specs.TreeOf.{tree_of};
     ghost use Rattle.ffi3_aapcs64_rules.specs.Aapcs64.{in_vectors, is_copied, registers_needed};
 
     ghost Value = { Tree };
 
     ghost coded = { tree_code };
 
-    ghost view = { λ v. tree_of v.ty.now };
+    ghost view = { λ v. v.ty };
 
     ghost invariant = { λ v. record {
-      sized : v.size ≡ size_of (tree_of v.ty.now);
+      sized : v.size ≡ size_of v.ty;
       small : v.size ≤ LARGEST_TYPE;
-      aligned : v.align ≡ align_of (tree_of v.ty.now);
-      by_vectors : v.vectors ≡ in_vectors (tree_of v.ty.now);
-      by_copy : v.copied ≡ is_copied (tree_of v.ty.now);
-      needed : v.registers ≡ registers_needed (tree_of v.ty.now);
+      aligned : v.align ≡ align_of v.ty;
+      by_vectors : v.vectors ≡ in_vectors v.ty;
+      by_copy : v.copied ≡ is_copied v.ty;
+      needed : v.registers ≡ registers_needed v.ty;
     } };
 }
 
 impl<'a> Classed<'a> {
     /// A value of this type.
-    fn of(ty: &'a FfiType) -> Classed<'a>
-        requires { IsLaidOut (tree_of ty.now) }
-        ensures { result ≡ tree_of ty.now }
+    fn of(ty: CheckedType<'a>) -> Classed<'a>
+        ensures { result ≡ ty.entry }
     {
-        let extent = ty.extent();
-        let vectors = in_vectors(ty);
-        let copied = is_copied(ty, vectors, extent.size);
+        let extent = ty.as_type().extent();
+        let vectors = in_vectors(&ty);
+        let copied = is_copied(&ty, vectors, extent.size);
+        let registers = registers_needed(&ty, vectors, copied, extent.size);
         Classed {
             ty,
             size: extent.size,
             align: extent.align,
             vectors,
             copied,
-            registers: registers_needed(ty, vectors, copied, extent.size),
+            registers,
         }
     }
 
     /// Its type.
-    fn ty(&self) -> &FfiType
-        ensures { tree_of result.now ≡ self.now }
+    fn ty(&self) -> &CheckedType<'a>
+        ensures { result.now ≡ self.now }
     {
-        self.ty
+        &self.ty
     }
 
     /// Its size in bytes.
@@ -270,13 +265,12 @@ pub fn need_of(ty: &FfiType) -> (bool, u8)
     requires { IsLaidOut (tree_of ty.now) }
     ensures { result ≡ (in_vectors (tree_of ty.now), registers_needed (tree_of ty.now)) }
 {
-    let classed = Classed::of(ty);
+    let classed = Classed::of(CheckedType::of(ty));
     (classed.in_vectors(), classed.registers() as u8)
 }
 
 /// The stack that an argument takes where it is not in registers.
 fn stack_size(classed: &Classed<'_>) -> u64
-    requires { IsLaidOut classed.now }
     ensures value { result ≡ stack_size classed.now }
     ensures small { result ≤ LARGEST_TYPE + 7 }
 {
@@ -287,8 +281,7 @@ fn stack_size(classed: &Classed<'_>) -> u64
 
 /// The first general register of an argument, where those before it end. (AAPCS64 C.10)
 fn first_general(end: u64, classed: &Classed<'_>) -> u64
-    requires right { IsLaidOut classed.now }
-    requires few { end ≤ 5 * MOST_ARGUMENTS }
+    requires { end ≤ 5 * MOST_ARGUMENTS }
     ensures value { result ≡ first_general end (passed classed.now) }
     ensures near { result ≤ end + 1 }
 {
@@ -304,8 +297,7 @@ fn first_general(end: u64, classed: &Classed<'_>) -> u64
 
 /// The first byte of an argument on the stack, where what stands before it ends. (AAPCS64 C.4, C.14)
 fn stack_start(end: u64, classed: &Classed<'_>) -> u64
-    requires right { IsLaidOut classed.now }
-    requires low { end ≤ ARGUMENT_BYTES }
+    requires { end ≤ ARGUMENT_BYTES }
     ensures value { result ≡ stack_start end (passed classed.now) }
     ensures near { result ≤ end + LARGEST_GAP }
 {
@@ -316,8 +308,7 @@ fn stack_start(end: u64, classed: &Classed<'_>) -> u64
 
 /// The first register of an argument, by its kind.
 fn register_start(before: Taken, classed: &Classed<'_>) -> u64
-    requires right { IsLaidOut classed.now }
-    requires few_general { before.general ≤ 5 * MOST_ARGUMENTS }
+    requires { before.general ≤ 5 * MOST_ARGUMENTS }
     ensures value { result ≡ register_start before classed.now }
     ensures vector { in_vectors classed.now ≡ true → result ≡ before.vector }
     ensures general { in_vectors classed.now ≡ false → result ≤ before.general + 1 }
@@ -331,7 +322,6 @@ fn register_start(before: Taken, classed: &Classed<'_>) -> u64
 
 /// Where the registers of an argument end. Each argument takes at most five with the gap before it.
 fn register_end(before: Taken, classed: &Classed<'_>) -> u64
-    requires right { IsLaidOut classed.now }
     requires few_general { before.general ≤ 5 * MOST_ARGUMENTS }
     requires few_vector { before.vector ≤ 5 * MOST_ARGUMENTS }
     ensures value { result ≡ register_end before classed.now }
@@ -343,7 +333,6 @@ fn register_end(before: Taken, classed: &Classed<'_>) -> u64
 
 /// Whether the registers that are left suffice for the whole argument.
 fn fits_registers(before: Taken, classed: &Classed<'_>) -> bool
-    requires right { IsLaidOut classed.now }
     requires few_general { before.general ≤ 5 * MOST_ARGUMENTS }
     requires few_vector { before.vector ≤ 5 * MOST_ARGUMENTS }
     ensures value { result ≡ in_registers before classed.now }
@@ -353,7 +342,6 @@ fn fits_registers(before: Taken, classed: &Classed<'_>) -> bool
 
 /// The general registers that are taken after an argument.
 fn general_end(before: Taken, classed: &Classed<'_>) -> u64
-    requires right { IsLaidOut classed.now }
     requires few_general { before.general ≤ 5 * MOST_ARGUMENTS }
     requires few_vector { before.vector ≤ 5 * MOST_ARGUMENTS }
     ensures value { result ≡ (taken_with before classed.now).general }
@@ -368,7 +356,6 @@ fn general_end(before: Taken, classed: &Classed<'_>) -> u64
 
 /// The SIMD and floating-point registers that are taken after an argument.
 fn vector_end(before: Taken, classed: &Classed<'_>) -> u64
-    requires right { IsLaidOut classed.now }
     requires few_general { before.general ≤ 5 * MOST_ARGUMENTS }
     requires few_vector { before.vector ≤ 5 * MOST_ARGUMENTS }
     ensures value { result ≡ (taken_with before classed.now).vector }
@@ -383,7 +370,6 @@ fn vector_end(before: Taken, classed: &Classed<'_>) -> u64
 
 /// The bytes of stack that are taken after an argument.
 fn stack_end(before: Taken, classed: &Classed<'_>) -> u64
-    requires right { IsLaidOut classed.now }
     requires few_general { before.general ≤ 5 * MOST_ARGUMENTS }
     requires few_vector { before.vector ≤ 5 * MOST_ARGUMENTS }
     requires low { before.stack ≤ ARGUMENT_BYTES }
@@ -398,7 +384,6 @@ fn stack_end(before: Taken, classed: &Classed<'_>) -> u64
 }
 
 fn taken_with(before: Taken, classed: &Classed<'_>) -> Taken
-    requires right { IsLaidOut classed.now }
     requires few_general { before.general ≤ 5 * MOST_ARGUMENTS }
     requires few_vector { before.vector ≤ 5 * MOST_ARGUMENTS }
     requires low { before.stack ≤ ARGUMENT_BYTES }
@@ -421,14 +406,13 @@ const UNTOUCHED: Taken = Taken {
 };
 
 /// What all arguments take.
-fn taken_by_all(sig: &Sig) -> Taken
-    requires { SignatureHasNoFault sig.now }
+fn taken_by_all(sig: &CheckedSig<'_>) -> Taken
     ensures value { result ≡ taken_after untouched sig.now.arguments }
     ensures low { result.stack ≤ MOST_ARGUMENTS * ARGUMENT_SPAN }
 {
     let mut before = UNTOUCHED;
-    for i in 0..count_of(sig) {
-        before = taken_with(before, &Classed::of(argument(sig, i)));
+    for i in 0..sig.count() {
+        before = taken_with(before, &Classed::of(sig.arg(i)));
     }
     before
 }
@@ -437,11 +421,10 @@ fn taken_by_all(sig: &Sig) -> Taken
 
 /// A value's doublewords in general registers, from number `general` on.
 fn pieces_in_general(alloc: Global, classed: &Classed<'_>, general: u64) -> Result<Pieces, NoMemory>
-    requires right { IsLaidOut classed.now }
-    requires enough { general + doublewords classed.now ≤ 8 }
+    requires { general + doublewords classed.now ≤ 8 }
     ensures { IfOk result (λ p. p ≡ general_pieces general classed.now) }
 {
-    let ext = widening(classed.ty());
+    let ext = widening(classed.ty().as_type());
     let size = classed.size();
     let mut pieces = Pieces::new(alloc);
     for j in 0..classed.doublewords() {
@@ -452,8 +435,7 @@ fn pieces_in_general(alloc: Global, classed: &Classed<'_>, general: u64) -> Resu
 
 /// A value's leaves in vector registers, from number `vector` on.
 fn pieces_in_vectors(alloc: Global, classed: &Classed<'_>, vector: u64) -> Result<Pieces, NoMemory>
-    requires right { IsLaidOut classed.now }
-    requires enough { vector + length (leaves_of classed.now) ≤ 8 }
+    requires { vector + length (leaves_of classed.now) ≤ 8 }
     ensures { IfOk result (λ p. p ≡ member_pieces vector (leaves_of classed.now)) }
 {
     let ty = classed.ty();
@@ -466,7 +448,6 @@ fn pieces_in_vectors(alloc: Global, classed: &Classed<'_>, vector: u64) -> Resul
 
 /// A value in registers of its kind, from number `first` on.
 fn pieces_in_registers(alloc: Global, classed: &Classed<'_>, first: u64) -> Result<Pieces, NoMemory>
-    requires right { IsLaidOut classed.now }
     requires enough_vector { in_vectors classed.now ≡ true → first + length (leaves_of classed.now) ≤ 8 }
     requires enough_general { in_vectors classed.now ≡ false → first + doublewords classed.now ≤ 8 }
     ensures { IfOk result (λ p. p ≡ register_pieces first classed.now) }
@@ -482,7 +463,6 @@ fn pieces_in_registers(alloc: Global, classed: &Classed<'_>, first: u64) -> Resu
 
 /// An argument that is not copied.
 fn direct_pieces(alloc: Global, before: Taken, classed: &Classed<'_>) -> Result<Pieces, NoMemory>
-    requires right { IsLaidOut classed.now }
     requires direct { is_copied classed.now ≡ false }
     requires few_general { before.general ≤ 5 * MOST_ARGUMENTS }
     requires few_vector { before.vector ≤ 5 * MOST_ARGUMENTS }
@@ -498,7 +478,6 @@ fn direct_pieces(alloc: Global, before: Taken, classed: &Classed<'_>) -> Result<
 
 /// Where the pointer to an argument's copy stands.
 fn pointer_place(before: Taken, classed: &Classed<'_>) -> Loc
-    requires right { IsLaidOut classed.now }
     requires copied { is_copied classed.now ≡ true }
     requires few_general { before.general ≤ 5 * MOST_ARGUMENTS }
     requires few_vector { before.vector ≤ 5 * MOST_ARGUMENTS }
@@ -519,7 +498,6 @@ fn place_of(
     classed: &Classed<'_>,
     end: u64,
 ) -> Result<Place, NoMemory>
-    requires right { IsLaidOut classed.now }
     requires few_general { before.general ≤ 5 * MOST_ARGUMENTS }
     requires few_vector { before.vector ≤ 5 * MOST_ARGUMENTS }
     requires low { before.stack ≤ ARGUMENT_BYTES }
@@ -544,21 +522,19 @@ struct Placed {
 }
 
 /// The places of all arguments, if the copies stand from `start` on.
-fn place_all(alloc: Global, sig: &Sig, start: u64) -> Result<Placed, NoMemory>
-    requires right { SignatureHasNoFault sig.now }
-    requires low { start ≤ ARGUMENT_BYTES }
+fn place_all(alloc: Global, sig: &CheckedSig<'_>, start: u64) -> Result<Placed, NoMemory>
+    requires { start ≤ ARGUMENT_BYTES }
     ensures places { IfOk result (λ p. p.places ≡ places_from aapcs64.copy_start start sig.now.arguments (spots_after untouched sig.now.arguments)) }
     ensures end { IfOk result (λ p. p.end ≡ copies_end aapcs64.copy_start start sig.now.arguments (spots_after untouched sig.now.arguments)) }
     ensures low { IfOk result (λ p. p.end ≤ 2 * ARGUMENT_BYTES) }
 {
     let mut before = UNTOUCHED;
     let mut end = start;
-    let mut places = Places::with_capacity(alloc, count_of(sig) as usize)?;
-    for i in 0..count_of(sig) {
-        let ty = argument(sig, i);
-        let classed = Classed::of(ty);
+    let mut places = Places::with_capacity(alloc, sig.count() as usize)?;
+    for i in 0..sig.count() {
+        let classed = Classed::of(sig.arg(i));
         let place = place_of(alloc, before, &classed, end)?;
-        end = copy_end(&place, ty, end);
+        end = copy_end(&place, classed.ty(), end);
         places.push(place)?;
         before = taken_with(before, &classed);
     }
@@ -568,12 +544,11 @@ fn place_all(alloc: Global, sig: &Sig, start: u64) -> Result<Placed, NoMemory>
 // ---- results
 
 /// Where a result stands, if what is before its buffer ends at `end`.
-fn place_result(alloc: Global, ty: &FfiType, end: u64) -> Result<Res, NoMemory>
-    requires right { IsLaidOut (tree_of ty.now) }
-    requires low { end ≤ 4 * ARGUMENT_BYTES }
-    ensures { IfOk result (λ r. r ≡ result_at aapcs64.copy_start end (tree_of ty.now) (result_spot_of (tree_of ty.now))) }
+fn place_result(alloc: Global, ty: CheckedType<'_>, end: u64) -> Result<Res, NoMemory>
+    requires { end ≤ 4 * ARGUMENT_BYTES }
+    ensures { IfOk result (λ r. r ≡ result_at aapcs64.copy_start end ty.entry (result_spot_of ty.entry)) }
 {
-    if let FfiType::Void = ty {
+    if let FfiType::Void = ty.as_type() {
         return Ok(Res::Nothing);
     }
     let classed = Classed::of(ty);
@@ -581,7 +556,7 @@ fn place_result(alloc: Global, ty: &FfiType, end: u64) -> Result<Res, NoMemory>
         // x8 holds the buffer's address
         return Ok(Res::Hidden {
             at: Loc::G(8),
-            buffer: start(ty, end) as u32,
+            buffer: start(classed.ty(), end) as u32,
         });
     }
     Ok(Res::Direct(pieces_in_registers(alloc, &classed, 0)?))
@@ -645,6 +620,17 @@ const PASSING_REGISTERS: [Loc; 17] = [
     Loc::F(7),
 ];
 
+/// Where everything stands in a call.
+fn plan_of(alloc: Global, sig: &CheckedSig<'_>) -> Result<Plan, NoMemory>
+    ensures { IfOk result (λ p. p ≡ plan_of aapcs64 sig.now) }
+{
+    let taken = taken_by_all(sig);
+    let all = place_all(alloc, sig, round_up(taken.stack, 16))?;
+    let res = place_result(alloc, sig.ret(), all.end)?;
+    let end = buffer_end(&res, &sig.ret(), all.end);
+    Ok(planned(sig, all.places, res, end, Aapcs64::LINK + Aapcs64::SAVE, 0))
+}
+
 impl Abi for Aapcs64 {
     ghost use Rattle.ffi3_aapcs64_rules.specs.Aapcs64.{aapcs64};
 
@@ -698,12 +684,7 @@ impl Abi for Aapcs64 {
     }
 
     fn plan(alloc: Global, sig: &Sig) -> Result<Plan, NoMemory> {
-        let taken = taken_by_all(sig);
-        let all = place_all(alloc, sig, round_up(taken.stack, 16))?;
-        let ret = result_type(sig);
-        let res = place_result(alloc, ret, all.end)?;
-        let end = buffer_end(&res, ret, all.end);
-        Ok(planned(sig, all.places, res, end, Self::LINK + Self::SAVE, 0))
+        plan_of(alloc, &CheckedSig::of(sig))
     }
 
     ghost use Rattle.std.specs.Prelude.{refl};

@@ -6,9 +6,8 @@ ghost use Rattle.std.specs.List.{list_any, count_by};
 ghost use Rattle.ffi3_type_rules.specs.declared.limits.TheConstants.{ARGUMENT_BYTES, ARGUMENT_SPAN, LARGEST_TYPE};
 ghost use Rattle.ffi3_type_rules.specs.Layout.{leaves_of, leaf_at};
 ghost use Rattle.ffi3_type_rules.specs.Fault.{IsLaidOut};
-ghost use Rattle.ffi3_type_rules.specs.Signature.{SignatureHasNoFault};
 ghost use Rattle.ffi3_types.specs.TreeOf.{tree_of};
-ghost use Rattle.ffi3_place_rules.specs.Standard.{places_from, result_at};
+ghost use Rattle.ffi3_place_rules.specs.Standard.{places_from, plan_of, result_at};
 ghost use Rattle.ffi3_amd64_rules.specs.declared.Class.{Class};
 ghost use Rattle.ffi3_amd64_rules.specs.declared.Class.TheVariants.{Integer, Sse};
 ghost use Rattle.ffi3_amd64_rules.specs.Amd64.{amd64, is_integer_leaf_in, is_integer_class, is_sse_class, is_struct, class_of, in_memory, integers, sses, register_pieces, classes, in_registers, pieces_after, taken_with, taken_after, taken_at_first, spots_after, result_spot_of};
@@ -18,20 +17,17 @@ ghost use Rattle.ffi3_place_rules.specs.Alike.{GoesByLayout};
 
 pub use ffi3_amd64_rules::Class;
 use ffi3_place::ends::{buffer_end, planned, start};
-use ffi3_place::parts::{
-    argument, count_of, doubleword, is_floating, pieces_on_stack, result_type, size_of, widening,
-};
+use ffi3_place::parts::{doubleword, is_floating, pieces_on_stack, size_of, widening};
 use ffi3_place::{Abi, Loc, Piece, Pieces, Place, Places, Plan, Res, SaveWord};
 use ffi3_place_rules::Taken;
 use ffi3_type_rules::round_up;
-use ffi3_types::{FfiType, NoMemory, Sig, Target};
+use ffi3_types::{CheckedSig, CheckedType, FfiType, NoMemory, Sig, Target};
 use std::alloc::Global;
 
 /// Whether leaf `i` is an integer or a pointer with a byte in the eightbyte.
-fn is_integer_in(ty: &FfiType, i: u32, eightbyte: u32) -> bool
-    requires right { IsLaidOut (tree_of ty.now) }
-    requires in_range { i < length (leaves_of (tree_of ty.now)) }
-    ensures { result ≡ is_integer_leaf_in eightbyte (leaf_at (tree_of ty.now) i) }
+fn is_integer_in(ty: &CheckedType<'_>, i: u32, eightbyte: u32) -> bool
+    requires { i < length (leaves_of ty.now) }
+    ensures { result ≡ is_integer_leaf_in eightbyte (leaf_at ty.now i) }
 {
     let leaf = ty.leaf(i);
     let size = leaf.kind.size();
@@ -44,8 +40,9 @@ pub fn class_of(ty: &FfiType, eightbyte: u32) -> Class
     requires { IsLaidOut (tree_of ty.now) }
     ensures { result ≡ class_of (tree_of ty.now) eightbyte }
 {
+    let ty = CheckedType::of(ty);
     for i in 0..ty.leaf_count() {
-        if is_integer_in(ty, i, eightbyte) {
+        if is_integer_in(&ty, i, eightbyte) {
             return Class::Integer;
         }
     }
@@ -57,7 +54,7 @@ pub fn in_memory(ty: &FfiType) -> bool
     requires { IsLaidOut (tree_of ty.now) }
     ensures { result ≡ in_memory (tree_of ty.now) }
 {
-    matches!(ty, FfiType::Struct(_) | FfiType::Array(_, _)) && size_of(ty) > 16
+    matches!(ty, FfiType::Struct(_) | FfiType::Array(_, _)) && ty.size() > 16
 }
 
 /// Which of a value's first two eightbytes have a byte of an integer or a pointer.
@@ -68,26 +65,24 @@ struct Integers {
 }
 
 /// Those found before, and where leaf `i` lies if it is an integer or a pointer.
-fn with_leaf(before: Integers, ty: &FfiType, i: u32) -> Integers
-    requires right { IsLaidOut (tree_of ty.now) }
-    requires in_range { i < length (leaves_of (tree_of ty.now)) }
-    ensures first { result.first ≡ (before.first || is_integer_leaf_in 0 (leaf_at (tree_of ty.now) i)) }
-    ensures second { result.second ≡ (before.second || is_integer_leaf_in 1 (leaf_at (tree_of ty.now) i)) }
+fn with_leaf(before: Integers, ty: &CheckedType<'_>, i: u32) -> Integers
+    requires { i < length (leaves_of ty.now) }
+    ensures first { result.first ≡ (before.first || is_integer_leaf_in 0 (leaf_at ty.now i)) }
+    ensures second { result.second ≡ (before.second || is_integer_leaf_in 1 (leaf_at ty.now i)) }
 {
     let leaf = ty.leaf(i);
-    let end = leaf.at + leaf.kind.size();
+    let size = leaf.kind.size();
     let is_integer = !is_floating(&leaf.kind);
     Integers {
-        first: before.first || (leaf.at < 8 && 0 < end && is_integer),
-        second: before.second || (leaf.at < 16 && 8 < end && is_integer),
+        first: before.first || (leaf.at < 8 && 0 < leaf.at + size && is_integer),
+        second: before.second || (leaf.at < 16 && 8 < leaf.at + size && is_integer),
     }
 }
 
 /// Where integers and pointers lie in a value, all leaves taken together.
-fn integers_in(ty: &FfiType) -> Integers
-    requires { IsLaidOut (tree_of ty.now) }
-    ensures first { result.first ≡ list_any (is_integer_leaf_in 0) (leaves_of (tree_of ty.now)) }
-    ensures second { result.second ≡ list_any (is_integer_leaf_in 1) (leaves_of (tree_of ty.now)) }
+fn integers_in(ty: &CheckedType<'_>) -> Integers
+    ensures first { result.first ≡ list_any (is_integer_leaf_in 0) (leaves_of ty.now) }
+    ensures second { result.second ≡ list_any (is_integer_leaf_in 1) (leaves_of ty.now) }
 {
     let mut found = Integers {
         first: false,
@@ -165,13 +160,12 @@ fn class_from(has_integer: bool) -> Class
     }
 }
 
-fn classes_of_struct(ty: &FfiType) -> Classes
-    requires right { IsLaidOut (tree_of ty.now) }
-    requires is_struct { is_struct (tree_of ty.now) ≡ true }
-    ensures memory { is_memory result ≡ in_memory (tree_of ty.now) }
-    ensures all { listed result ≡ classes (tree_of ty.now) }
+fn classes_of_struct(ty: &CheckedType<'_>) -> Classes
+    requires { is_struct ty.now ≡ true }
+    ensures memory { is_memory result ≡ in_memory ty.now }
+    ensures all { listed result ≡ classes ty.now }
 {
-    let size = size_of(ty);
+    let size = ty.size();
     if size > 16 {
         return Classes::Memory;
     }
@@ -186,12 +180,11 @@ fn classes_of_struct(ty: &FfiType) -> Classes
 }
 
 /// The classes of a value's eightbytes. A scalar is its own only leaf.
-fn classes_of(ty: &FfiType) -> Classes
-    requires { IsLaidOut (tree_of ty.now) }
-    ensures memory { is_memory result ≡ in_memory (tree_of ty.now) }
-    ensures all { listed result ≡ classes (tree_of ty.now) }
+fn classes_of(ty: &CheckedType<'_>) -> Classes
+    ensures memory { is_memory result ≡ in_memory ty.now }
+    ensures all { listed result ≡ classes ty.now }
 {
-    match ty {
+    match ty.as_type() {
         FfiType::U8 | FfiType::S8 | FfiType::U16 | FfiType::S16 => Classes::One(Class::Integer),
         FfiType::U32 | FfiType::S32 | FfiType::U64 | FfiType::S64 => Classes::One(Class::Integer),
         FfiType::Pointer => Classes::One(Class::Integer),
@@ -245,26 +238,28 @@ fn two_pieces(alloc: Global, first: Piece, second: Piece) -> Result<Pieces, NoMe
 /// A value's eightbytes in registers, from numbers `general` and `vector` on.
 fn pieces_in_registers(
     alloc: Global,
-    ty: &FfiType,
+    ty: &CheckedType<'_>,
     found: Classes,
     general: u64,
     vector: u64,
     registers: &[u8],
 ) -> Result<Pieces, NoMemory>
-    requires right { IsLaidOut (tree_of ty.now) }
-    requires direct { in_memory (tree_of ty.now) ≡ false }
-    requires all { listed found ≡ classes (tree_of ty.now) }
-    requires enough_general { general + integers (tree_of ty.now) ≤ length registers.now }
-    requires enough_vector { vector + sses (tree_of ty.now) ≤ 8 }
+    requires direct { in_memory ty.now ≡ false }
+    requires all { listed found ≡ classes ty.now }
+    requires enough_general { general + integers ty.now ≤ length registers.now }
+    requires enough_vector { vector + sses ty.now ≤ 8 }
     requires few { length registers.now ≤ 8 }
-    ensures { IfOk result (λ p. p ≡ register_pieces (slice_index registers.now) general vector (tree_of ty.now) [] (classes (tree_of ty.now))) }
+    ensures { IfOk result (λ p. p ≡ register_pieces (slice_index registers.now) general vector ty.now [] (classes ty.now)) }
 {
     match found {
         Classes::Memory => Ok(Pieces::new(alloc)),
         Classes::Nothing => Ok(Pieces::new(alloc)),
         Classes::One(class) => {
             let at = register(class, general, vector, registers);
-            one_piece(alloc, doubleword(size_of(ty), 0, at, widening(ty)))
+            one_piece(
+                alloc,
+                doubleword(size_of(ty.as_type()), 0, at, widening(ty.as_type())),
+            )
         }
         Classes::Two(first, second) => {
             let before = Classes::One(first);
@@ -272,8 +267,8 @@ fn pieces_in_registers(
             let next_general = general + before.integers();
             let next_vector = vector + before.sses();
             let high = register(second, next_general, next_vector, registers);
-            let size = size_of(ty);
-            let ext = widening(ty);
+            let size = size_of(ty.as_type());
+            let ext = widening(ty.as_type());
             let first_piece = doubleword(size, 0, low, ext);
             let second_piece = doubleword(size, 1, high, ext);
             two_pieces(alloc, first_piece, second_piece)
@@ -289,13 +284,12 @@ struct Argument {
 }
 
 /// In registers, if those that are left suffice for the whole argument, otherwise on the stack.
-fn place_argument(alloc: Global, before: Taken, ty: &FfiType) -> Result<Argument, NoMemory>
-    requires right { IsLaidOut (tree_of ty.now) }
+fn place_argument(alloc: Global, before: Taken, ty: &CheckedType<'_>) -> Result<Argument, NoMemory>
     requires few_general { before.general ≤ 6 }
     requires few_vector { before.vector ≤ 8 }
     requires low { before.stack ≤ ARGUMENT_BYTES }
-    ensures pieces { IfOk result (λ a. a.pieces ≡ pieces_after before (tree_of ty.now)) }
-    ensures taken { IfOk result (λ a. a.taken ≡ taken_with before (tree_of ty.now)) }
+    ensures pieces { IfOk result (λ a. a.pieces ≡ pieces_after before ty.now) }
+    ensures taken { IfOk result (λ a. a.taken ≡ taken_with before ty.now) }
     ensures few_general { IfOk result (λ a. a.taken.general ≤ 6) }
     ensures few_vector { IfOk result (λ a. a.taken.vector ≤ 8) }
     ensures low { IfOk result (λ a. a.taken.stack ≤ before.stack + ARGUMENT_SPAN) }
@@ -312,14 +306,13 @@ fn place_argument(alloc: Global, before: Taken, ty: &FfiType) -> Result<Argument
 fn argument_in_registers(
     alloc: Global,
     before: Taken,
-    ty: &FfiType,
+    ty: &CheckedType<'_>,
     found: Classes,
 ) -> Result<Argument, NoMemory>
-    requires right { IsLaidOut (tree_of ty.now) }
-    requires all { listed found ≡ classes (tree_of ty.now) }
-    requires fits { in_registers before (tree_of ty.now) ≡ true }
-    ensures pieces { IfOk result (λ a. a.pieces ≡ pieces_after before (tree_of ty.now)) }
-    ensures taken { IfOk result (λ a. a.taken ≡ taken_with before (tree_of ty.now)) }
+    requires all { listed found ≡ classes ty.now }
+    requires fits { in_registers before ty.now ≡ true }
+    ensures pieces { IfOk result (λ a. a.pieces ≡ pieces_after before ty.now) }
+    ensures taken { IfOk result (λ a. a.taken ≡ taken_with before ty.now) }
     ensures few_general { IfOk result (λ a. a.taken.general ≤ 6) }
     ensures few_vector { IfOk result (λ a. a.taken.vector ≤ 8) }
     ensures low { IfOk result (λ a. a.taken.stack ≡ before.stack) }
@@ -340,19 +333,22 @@ fn argument_in_registers(
     Ok(Argument { pieces, taken })
 }
 
-fn argument_on_stack(alloc: Global, before: Taken, ty: &FfiType) -> Result<Argument, NoMemory>
-    requires right { IsLaidOut (tree_of ty.now) }
+fn argument_on_stack(
+    alloc: Global,
+    before: Taken,
+    ty: &CheckedType<'_>,
+) -> Result<Argument, NoMemory>
     requires low { before.stack ≤ ARGUMENT_BYTES }
-    requires spills { in_registers before (tree_of ty.now) ≡ false }
-    ensures pieces { IfOk result (λ a. a.pieces ≡ pieces_after before (tree_of ty.now)) }
-    ensures taken { IfOk result (λ a. a.taken ≡ taken_with before (tree_of ty.now)) }
+    requires spills { in_registers before ty.now ≡ false }
+    ensures pieces { IfOk result (λ a. a.pieces ≡ pieces_after before ty.now) }
+    ensures taken { IfOk result (λ a. a.taken ≡ taken_with before ty.now) }
     ensures low { IfOk result (λ a. a.taken.stack ≤ before.stack + ARGUMENT_SPAN) }
 {
     let begin = start(ty, before.stack);
     let taken = Taken {
         general: before.general,
         vector: before.vector,
-        stack: begin + round_up(size_of(ty), 8),
+        stack: begin + round_up(size_of(ty.as_type()), 8),
     };
     let pieces = pieces_on_stack(alloc, ty, begin)?;
     Ok(Argument { pieces, taken })
@@ -366,29 +362,31 @@ struct Placed {
 }
 
 /// The address of a result in memory takes the first general register.
-fn at_first(result_type: &FfiType) -> Taken
-    requires { IsLaidOut (tree_of result_type.now) }
-    ensures value { result ≡ taken_at_first (tree_of result_type.now) }
+fn at_first(result_type: &CheckedType<'_>) -> Taken
+    ensures value { result ≡ taken_at_first result_type.now }
     ensures few { result.general ≤ 1 }
 {
     Taken {
-        general: if in_memory(result_type) { 1 } else { 0 },
+        general: if in_memory(result_type.as_type()) {
+            1
+        } else {
+            0
+        },
         vector: 0,
         stack: 0,
     }
 }
 
-fn place_all(alloc: Global, sig: &Sig) -> Result<Placed, NoMemory>
-    requires { SignatureHasNoFault sig.now }
+fn place_all(alloc: Global, sig: &CheckedSig<'_>) -> Result<Placed, NoMemory>
     ensures places { IfOk result (λ p. p.places ≡ places_from amd64.copy_start 0 sig.now.arguments (spots_after (taken_at_first sig.now.result_type) sig.now.arguments)) }
     ensures taken { IfOk result (λ p. p.taken ≡ taken_after (taken_at_first sig.now.result_type) sig.now.arguments) }
     ensures low { IfOk result (λ p. p.taken.stack ≤ ARGUMENT_BYTES) }
     ensures few_vector { IfOk result (λ p. p.taken.vector ≤ 8) }
 {
-    let mut before = at_first(result_type(sig));
-    let mut places = Places::with_capacity(alloc, count_of(sig) as usize)?;
-    for i in 0..count_of(sig) {
-        let next = place_argument(alloc, before, argument(sig, i))?;
+    let mut before = at_first(&sig.ret());
+    let mut places = Places::with_capacity(alloc, sig.count() as usize)?;
+    for i in 0..sig.count() {
+        let next = place_argument(alloc, before, &sig.arg(i))?;
         before = next.taken;
         places.push(Place::Direct(next.pieces))?;
     }
@@ -399,12 +397,11 @@ fn place_all(alloc: Global, sig: &Sig) -> Result<Placed, NoMemory>
 }
 
 /// Where a result stands, if what is before its buffer ends at `end`.
-fn place_result(alloc: Global, ty: &FfiType, end: u64) -> Result<Res, NoMemory>
-    requires right { IsLaidOut (tree_of ty.now) }
-    requires low { end ≤ 2 * ARGUMENT_BYTES }
-    ensures { IfOk result (λ r. r ≡ result_at amd64.copy_start end (tree_of ty.now) (result_spot_of (tree_of ty.now))) }
+fn place_result(alloc: Global, ty: &CheckedType<'_>, end: u64) -> Result<Res, NoMemory>
+    requires { end ≤ 2 * ARGUMENT_BYTES }
+    ensures { IfOk result (λ r. r ≡ result_at amd64.copy_start end ty.now (result_spot_of ty.now)) }
 {
-    if let FfiType::Void = ty {
+    if let FfiType::Void = ty.as_type() {
         return Ok(Res::Nothing);
     }
     let found = classes_of(ty);
@@ -444,6 +441,21 @@ const PASSING_REGISTERS: [Loc; 14] = [
     Loc::F(6),
     Loc::F(7),
 ];
+
+/// Where everything stands in a call.
+fn plan_of(alloc: Global, sig: &CheckedSig<'_>) -> Result<Plan, NoMemory>
+    ensures { IfOk result (λ p. p ≡ plan_of amd64 sig.now) }
+{
+    let all = place_all(alloc, sig)?;
+    // no argument has a copy
+    let copied = round_up(all.taken.stack, 16);
+    let ret = sig.ret();
+    let res = place_result(alloc, &ret, copied)?;
+    let end = buffer_end(&res, &ret, copied);
+    let vectors = all.taken.vector as u8;
+    let area = Amd64::LINK + Amd64::SAVE;
+    Ok(planned(sig, all.places, res, end, area, vectors))
+}
 
 impl Abi for Amd64 {
     ghost use Rattle.ffi3_type_rules.specs.declared.Target.TheVariants as target;
@@ -496,15 +508,7 @@ impl Abi for Amd64 {
     }
 
     fn plan(alloc: Global, sig: &Sig) -> Result<Plan, NoMemory> {
-        let all = place_all(alloc, sig)?;
-        let ret = result_type(sig);
-        // no argument has a copy
-        let copied = round_up(all.taken.stack, 16);
-        let res = place_result(alloc, ret, copied)?;
-        let end = buffer_end(&res, ret, copied);
-        let vectors = all.taken.vector as u8;
-        let area = Self::LINK + Self::SAVE;
-        Ok(planned(sig, all.places, res, end, area, vectors))
+        plan_of(alloc, &CheckedSig::of(sig))
     }
 
     ghost use Rattle.std.specs.Prelude.{refl};

@@ -7,4 +7,4 @@ use Rattle.ffi3_aapcs64.proofs.pieces_in_general.Goals as goal
 
 pub loop-j-preserved : goal.loop-j-preserved
 loop-j-preserved c =
-    doublewords_turn (λ k. G (c.args.general + k)) (size_of c.args.classed.now) (widening c.args.classed.now) c.loop-j.j _ c.loop-j.pieces _ _ _ _ (rw c.doublewords-j-end.ensures.value at c.loop-j-test.true) refl (rw (c.widening-ext.ensures, c.ty.ensures, c.size-size.ensures.value) at c.doubleword.ensures) c.in_ok-push.ensures.ok c.loop-j.invariant
+    doublewords_turn (λ k. G (c.args.general + k)) (size_of c.args.classed.now) (widening c.args.classed.now) c.loop-j.j _ c.loop-j.pieces _ _ _ _ (rw c.doublewords-j-end.ensures.value at c.loop-j-test.true) refl (rw (c.widening-ext.ensures, c.as_type.ensures.value, c.ty.ensures, c.size-size.ensures.value) at c.doubleword.ensures) c.in_ok-push.ensures.ok c.loop-j.invariant

@@ -1,9 +1,8 @@
 use Rattle.std.proofs.Common.{◌≡◌, drop}
 use Rattle.std.specs.List.{list_any}
 use Rattle.ffi3_type_rules.specs.Layout.{leaves_of}
-use Rattle.ffi3_types.specs.TreeOf.{tree_of}
 use Rattle.ffi3_amd64_rules.specs.Amd64.{is_integer_leaf_in}
 use Rattle.ffi3_amd64.proofs.class_of.Given as goal
 
 abbrev pub invariant-loop-i : goal.invariant-loop-i
-invariant-loop-i l = list_any (is_integer_leaf_in l.eightbyte) (drop l.i (leaves_of (tree_of l.ty))) ≡ list_any (is_integer_leaf_in l.eightbyte) (leaves_of (tree_of l.ty))
+invariant-loop-i l = list_any (is_integer_leaf_in l.eightbyte) (drop l.i (leaves_of l.ty)) ≡ list_any (is_integer_leaf_in l.eightbyte) (leaves_of l.ty)

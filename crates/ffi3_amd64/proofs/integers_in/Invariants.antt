@@ -1,12 +1,11 @@
 use Rattle.std.proofs.Common.{◌≡◌, ◌||◌, drop}
 use Rattle.std.specs.List.{list_any}
 use Rattle.ffi3_type_rules.specs.Layout.{leaves_of}
-use Rattle.ffi3_types.specs.TreeOf.{tree_of}
 use Rattle.ffi3_amd64_rules.specs.Amd64.{is_integer_leaf_in}
 use Rattle.ffi3_amd64.proofs.integers_in.Given as goal
 
 abbrev pub invariant-loop-i : goal.invariant-loop-i
 invariant-loop-i l = record {
-  first : (l.found.first || list_any (is_integer_leaf_in 0) (drop l.i (leaves_of (tree_of l.ty)))) ≡ list_any (is_integer_leaf_in 0) (leaves_of (tree_of l.ty));
-  second : (l.found.second || list_any (is_integer_leaf_in 1) (drop l.i (leaves_of (tree_of l.ty)))) ≡ list_any (is_integer_leaf_in 1) (leaves_of (tree_of l.ty));
+  first : (l.found.first || list_any (is_integer_leaf_in 0) (drop l.i (leaves_of l.ty))) ≡ list_any (is_integer_leaf_in 0) (leaves_of l.ty);
+  second : (l.found.second || list_any (is_integer_leaf_in 1) (drop l.i (leaves_of l.ty))) ≡ list_any (is_integer_leaf_in 1) (leaves_of l.ty);
 }

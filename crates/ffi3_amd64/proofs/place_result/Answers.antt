@@ -1,14 +1,12 @@
 use Rattle.std.proofs.Common.{arith, rules}
-use Rattle.ffi3_types.specs.TreeOf.{tree_of}
 use Rattle.ffi3_amd64_rules.proofs.Covered.{integers_few, sses_few}
 use Rattle.ffi3_amd64.proofs.place_result.Goals as goal
 
 pub pieces_in_registers-requires : goal.pieces_in_registers-requires
 pieces_in_registers-requires c = record {
-  right = c.requires.right;
   direct = search rules;
   all = c.classes_of-found.ensures.all;
-  enough_general = omega (arith, integers_few (tree_of c.args.ty.now));
-  enough_vector = omega (arith, sses_few (tree_of c.args.ty.now));
+  enough_general = omega (arith, integers_few c.args.ty.now);
+  enough_vector = omega (arith, sses_few c.args.ty.now);
   few = omega arith;
 }
