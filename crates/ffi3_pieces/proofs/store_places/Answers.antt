@@ -22,7 +22,7 @@ pub loop-i-init : goal.loop-i-init
 loop-i-init g c =
     let std = g.A.Abi.standard in
     let s = c.args.cif.now in
-    let sound = g.met.A.Abi.sound s c.sig-sig.ensures.faultless in
+    let sound = g.met.A.Abi.sound s in
     let write = written_by_law std s sound g.met.A.Abi.agrees c.args.machine.now.target _ g.met.A.Abi.target_is c.requires.target in
     none_yet c.sp-base.result c.args.machine.now.target (frame_of std s) s.arguments (plan_of std s).places c.args.values.now c.count_of-i.result (passing c.args.machine.now) (all_ready std s sound c.sig-sig.ensures.faultless c.args.machine.now.target write) (fitting_lengths s.arguments c.args.values.now c.requires.fit) (c.count_of-i.ensures.value ∙ ap (λ r. length r.arguments) c.sig-sig.ensures.value)
 
@@ -34,7 +34,7 @@ pub store_place-requires-clause-lies : goal.store_place-requires-clause-lies
 store_place-requires-clause-lies g c =
     let std = g.A.Abi.standard in
     let s = c.args.cif.now in
-    let sound = g.met.A.Abi.sound s c.sig-sig.ensures.faultless in
+    let sound = g.met.A.Abi.sound s in
     let write = written_by_law std s sound g.met.A.Abi.agrees c.args.machine.now.target _ g.met.A.Abi.target_is c.requires.target in
     let t = tree_of c.argument.result.now in
     let below : c.loop-i.i - 1 < length s.arguments = omega (arith, c.count_of-i.ensures.value, ap (λ r. length r.arguments) c.sig-sig.ensures.value) in
@@ -45,7 +45,7 @@ pub store_place-requires-clause-writable : goal.store_place-requires-clause-writ
 store_place-requires-clause-writable g c =
     let std = g.A.Abi.standard in
     let s = c.args.cif.now in
-    let sound = g.met.A.Abi.sound s c.sig-sig.ensures.faultless in
+    let sound = g.met.A.Abi.sound s in
     let write = written_by_law std s sound g.met.A.Abi.agrees c.args.machine.now.target _ g.met.A.Abi.target_is c.requires.target in
     let t = tree_of c.argument.result.now in
     let below : c.loop-i.i - 1 < length s.arguments = omega (arith, c.count_of-i.ensures.value, ap (λ r. length r.arguments) c.sig-sig.ensures.value) in
@@ -56,7 +56,7 @@ pub store_place-requires-clause-apart : goal.store_place-requires-clause-apart
 store_place-requires-clause-apart g c =
     let std = g.A.Abi.standard in
     let s = c.args.cif.now in
-    let sound = g.met.A.Abi.sound s c.sig-sig.ensures.faultless in
+    let sound = g.met.A.Abi.sound s in
     let write = written_by_law std s sound g.met.A.Abi.agrees c.args.machine.now.target _ g.met.A.Abi.target_is c.requires.target in
     let t = tree_of c.argument.result.now in
     let below : c.loop-i.i - 1 < length s.arguments = omega (arith, c.count_of-i.ensures.value, ap (λ r. length r.arguments) c.sig-sig.ensures.value) in
@@ -67,7 +67,7 @@ pub store_place-requires-clause-has_all : goal.store_place-requires-clause-has_a
 store_place-requires-clause-has_all g c =
     let std = g.A.Abi.standard in
     let s = c.args.cif.now in
-    let sound = g.met.A.Abi.sound s c.sig-sig.ensures.faultless in
+    let sound = g.met.A.Abi.sound s in
     let write = written_by_law std s sound g.met.A.Abi.agrees c.args.machine.now.target _ g.met.A.Abi.target_is c.requires.target in
     let t = tree_of c.argument.result.now in
     let below : c.loop-i.i - 1 < length s.arguments = omega (arith, c.count_of-i.ensures.value, ap (λ r. length r.arguments) c.sig-sig.ensures.value) in
@@ -95,7 +95,7 @@ pub loop-i-preserved : goal.loop-i-preserved
 loop-i-preserved g c =
     let std = g.A.Abi.standard in
     let s = c.args.cif.now in
-    let sound = g.met.A.Abi.sound s c.sig-sig.ensures.faultless in
+    let sound = g.met.A.Abi.sound s in
     let write = written_by_law std s sound g.met.A.Abi.agrees c.args.machine.now.target _ g.met.A.Abi.target_is c.requires.target in
     let t = tree_of c.argument.result.now in
     let below : c.loop-i.i - 1 < length s.arguments = omega (arith, c.count_of-i.ensures.value, ap (λ r. length r.arguments) c.sig-sig.ensures.value) in
@@ -109,7 +109,7 @@ pub returns-clause-own : goal.returns-clause-own
 returns-clause-own g c =
     let std = g.A.Abi.standard in
     let s = c.args.cif.now in
-    let sound = g.met.A.Abi.sound s c.sig-sig.ensures.faultless in
+    let sound = g.met.A.Abi.sound s in
     let write = written_by_law std s sound g.met.A.Abi.agrees c.args.machine.now.target _ g.met.A.Abi.target_is c.requires.target in
     let same : c.sp-base.result ≡ c.loop-i.machine.sp = c.sp-base.ensures.value ∙ sym c.loop-i.invariant.stays.sp in
     let low : STACK ≤ c.loop-i.machine.sp = omega (arith, same, c.sp-base.ensures.value, c.requires.bottom) in
@@ -120,7 +120,7 @@ pub returns-clause-filled : goal.returns-clause-filled
 returns-clause-filled g c =
     let std = g.A.Abi.standard in
     let s = c.args.cif.now in
-    let sound = g.met.A.Abi.sound s c.sig-sig.ensures.faultless in
+    let sound = g.met.A.Abi.sound s in
     let write = written_by_law std s sound g.met.A.Abi.agrees c.args.machine.now.target _ g.met.A.Abi.target_is c.requires.target in
     let same : c.sp-base.result ≡ c.loop-i.machine.sp = c.sp-base.ensures.value ∙ sym c.loop-i.invariant.stays.sp in
     let low : STACK ≤ c.loop-i.machine.sp = omega (arith, same, c.sp-base.ensures.value, c.requires.bottom) in
