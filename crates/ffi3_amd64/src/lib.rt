@@ -533,9 +533,9 @@ impl Abi for Amd64 {
 
     ghost by_stubs = { λ _. with_stubs };
 
-    ghost result_by_stubs = { λ s _ _. result_with_stubs s };
+    ghost result_by_stubs = { λ s _. result_with_stubs s };
 
-    ghost sound = { λ s _. every_law s };
+    ghost sound = { every_law };
 
-    ghost determined = { λ s _. determines s };
+    ghost determined = { determines };
 }

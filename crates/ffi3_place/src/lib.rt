@@ -96,11 +96,11 @@ pub trait Abi {
     ghost by_stubs: { has_stubs standard.target ≡ true → AgreesWithStubs standard };
 
     // And they load the registers of each result, and save the address of a hidden one.
-    ghost result_by_stubs: { (s : Signature) → SignatureHasNoFault s → has_stubs standard.target ≡ true → ResultGoesByStubs standard s };
+    ghost result_by_stubs: { (s : Signature) → has_stubs standard.target ≡ true → ResultGoesByStubs standard s };
 
     // No two places share anything, none is a forbidden register, and they have all of the values.
-    ghost sound: { (s : Signature) → SignatureHasNoFault s → IsSound standard s };
+    ghost sound: { (s : Signature) → IsSound standard s };
 
     // An image that owns values of a signature determines them, and so with a result.
-    ghost determined: { (s : Signature) → SignatureHasNoFault s → IsDetermined standard s };
+    ghost determined: { (s : Signature) → IsDetermined standard s };
 }

@@ -1,5 +1,5 @@
 // The parts of a signature without fault, and the pieces of its values, as every standard needs them.
-ghost use Rattle.std.specs.Prelude.{◌≡◌, ◌<◌, ◌≤◌, ◌*◌, length, IfOk, true};
+ghost use Rattle.std.specs.Prelude.{◌≡◌, ◌<◌, ◌≤◌, ◌*◌, length, IfOk};
 ghost use Rattle.std.specs.List.{sum_by};
 ghost use Rattle.ffi3_type_rules.specs.declared.limits.TheConstants.{ARGUMENT_BYTES, LARGEST_TYPE, MOST_ARGUMENTS};
 ghost use Rattle.ffi3_type_rules.specs.Tree.{Scalar, scalar, tree_at};

@@ -379,9 +379,9 @@ impl Abi for Win64 {
 
     ghost by_stubs = { without_stubs };
 
-    ghost result_by_stubs = { λ s _ h. result_without_stubs s h };
+    ghost result_by_stubs = { result_without_stubs };
 
-    ghost sound = { λ s _. every_law s };
+    ghost sound = { every_law };
 
-    ghost determined = { λ s _. determines s };
+    ghost determined = { determines };
 }

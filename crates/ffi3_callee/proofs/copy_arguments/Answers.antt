@@ -18,7 +18,7 @@ pub copy_argument-requires-clause-below : goal.copy_argument-requires-clause-bel
 copy_argument-requires-clause-below g c =
     let std = g.A.Abi.standard in
     let s = c.args.cif.now in
-    let sound = g.met.A.Abi.sound s c.sig-sig.ensures.faultless in
+    let sound = g.met.A.Abi.sound s in
     let t = tree_of c.argument-ty.result.now in
     let below : c.loop-i.i < length s.arguments = omega (arith, c.loop-i-test.true, c.count_of-i-end.ensures.value, ap (λ r. length r.arguments) c.sig-sig.ensures.value) in
     let type_is = c.argument-ty.ensures.element ∙ ap (λ r. tree_at r.arguments c.loop-i.i) c.sig-sig.ensures.value in
@@ -29,7 +29,7 @@ pub copy_argument-requires-clause-lies : goal.copy_argument-requires-clause-lies
 copy_argument-requires-clause-lies g c =
     let std = g.A.Abi.standard in
     let s = c.args.cif.now in
-    let sound = g.met.A.Abi.sound s c.sig-sig.ensures.faultless in
+    let sound = g.met.A.Abi.sound s in
     let t = tree_of c.argument-ty.result.now in
     let below : c.loop-i.i < length s.arguments = omega (arith, c.loop-i-test.true, c.count_of-i-end.ensures.value, ap (λ r. length r.arguments) c.sig-sig.ensures.value) in
     let type_is = c.argument-ty.ensures.element ∙ ap (λ r. tree_at r.arguments c.loop-i.i) c.sig-sig.ensures.value in
@@ -40,7 +40,7 @@ pub copy_argument-requires-clause-has_all : goal.copy_argument-requires-clause-h
 copy_argument-requires-clause-has_all g c =
     let std = g.A.Abi.standard in
     let s = c.args.cif.now in
-    let sound = g.met.A.Abi.sound s c.sig-sig.ensures.faultless in
+    let sound = g.met.A.Abi.sound s in
     let t = tree_of c.argument-ty.result.now in
     let below : c.loop-i.i < length s.arguments = omega (arith, c.loop-i-test.true, c.count_of-i-end.ensures.value, ap (λ r. length r.arguments) c.sig-sig.ensures.value) in
     let type_is = c.argument-ty.ensures.element ∙ ap (λ r. tree_at r.arguments c.loop-i.i) c.sig-sig.ensures.value in
@@ -58,7 +58,7 @@ pub copy_argument-requires-clause-found : goal.copy_argument-requires-clause-fou
 copy_argument-requires-clause-found g c =
     let std = g.A.Abi.standard in
     let s = c.args.cif.now in
-    let sound = g.met.A.Abi.sound s c.sig-sig.ensures.faultless in
+    let sound = g.met.A.Abi.sound s in
     let t = tree_of c.argument-ty.result.now in
     let below : c.loop-i.i < length s.arguments = omega (arith, c.loop-i-test.true, c.count_of-i-end.ensures.value, ap (λ r. length r.arguments) c.sig-sig.ensures.value) in
     let type_is = c.argument-ty.ensures.element ∙ ap (λ r. tree_at r.arguments c.loop-i.i) c.sig-sig.ensures.value in
@@ -68,7 +68,7 @@ pub overflow_add-to : goal.overflow_add-to
 overflow_add-to g c =
     let std = g.A.Abi.standard in
     let s = c.args.cif.now in
-    let sound = g.met.A.Abi.sound s c.sig-sig.ensures.faultless in
+    let sound = g.met.A.Abi.sound s in
     let t = tree_of c.argument-ty.result.now in
     let below : c.loop-i.i < length s.arguments = omega (arith, c.loop-i-test.true, c.count_of-i-end.ensures.value, ap (λ r. length r.arguments) c.sig-sig.ensures.value) in
     let type_is = c.argument-ty.ensures.element ∙ ap (λ r. tree_at r.arguments c.loop-i.i) c.sig-sig.ensures.value in
@@ -80,7 +80,7 @@ pub loop-i-preserved : goal.loop-i-preserved
 loop-i-preserved g c =
     let std = g.A.Abi.standard in
     let s = c.args.cif.now in
-    let sound = g.met.A.Abi.sound s c.sig-sig.ensures.faultless in
+    let sound = g.met.A.Abi.sound s in
     let t = tree_of c.argument-ty.result.now in
     let below : c.loop-i.i < length s.arguments = omega (arith, c.loop-i-test.true, c.count_of-i-end.ensures.value, ap (λ r. length r.arguments) c.sig-sig.ensures.value) in
     let type_is = c.argument-ty.ensures.element ∙ ap (λ r. tree_at r.arguments c.loop-i.i) c.sig-sig.ensures.value in

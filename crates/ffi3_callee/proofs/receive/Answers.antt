@@ -19,7 +19,7 @@ hidden_word-address-requires-clause-lies g c =
     let std = g.A.Abi.standard in
     let s = c.args.cif.now in
     let m = c.args.machine.now in
-    let sound = g.met.A.Abi.sound s c.sig-sig.ensures.faultless in
+    let sound = g.met.A.Abi.sound s in
     let base : c.sp-entry.result + c.LINK.result ≡ m.sp + std.link = omega (arith, c.LINK.ensures, g.met.A.Abi.link_is, c.sp-entry.ensures.value) in
     hidden_lies std s m (c.sp-entry.result + c.LINK.result) c.hidden_place-hidden.result sound base (c.hidden_place-hidden.ensures ∙ ap hidden_of c.result_place.ensures) c.requires.frame
 
@@ -34,7 +34,7 @@ enter-requires-clause-hidden g c =
     let std = g.A.Abi.standard in
     let s = c.args.cif.now in
     let m = c.args.machine.now in
-    let sound = g.met.A.Abi.sound s c.sig-sig.ensures.faultless in
+    let sound = g.met.A.Abi.sound s in
     let base : c.sp-entry.result + c.LINK.result ≡ m.sp + std.link = omega (arith, c.LINK.ensures, g.met.A.Abi.link_is, c.sp-entry.ensures.value) in
     hidden_lies std s m (c.sp-entry.result + c.LINK.result) c.hidden_place-hidden.result sound base (c.hidden_place-hidden.ensures ∙ ap hidden_of c.result_place.ensures) c.requires.frame
 
@@ -44,7 +44,7 @@ enter-requires-clause-hidden_saved g c = λ e.
     let s = c.args.cif.now in
     let m = c.args.machine.now in
     let same : std.target ≡ m.target = g.met.A.Abi.target_is ∙ sym c.requires.target in
-    let law = result_law_of std s m.target (g.met.A.Abi.result_by_stubs s c.sig-sig.ensures.faultless) same e in
+    let law = result_law_of std s m.target (g.met.A.Abi.result_by_stubs s) same e in
     hidden_listed std s c.hidden_place-hidden.result (c.hidden_place-hidden.ensures ∙ ap hidden_of c.result_place.ensures) law.hidden
 
 pub copy_arguments-requires-clause-found : goal.copy_arguments-requires-clause-found
@@ -52,7 +52,7 @@ copy_arguments-requires-clause-found g c =
     let std = g.A.Abi.standard in
     let s = c.args.cif.now in
     let m = c.args.machine.now in
-    let sound = g.met.A.Abi.sound s c.sig-sig.ensures.faultless in
+    let sound = g.met.A.Abi.sound s in
     let block = c.sp-entry.result - c.SAVE.result - c.block.result in
     let there = stands std s m c.sp-entry.result c.LINK.result c.SAVE.result c.block.result c.hidden_place-hidden.result c.result_place.result.now c.sp-entry.ensures.value (c.LINK.ensures ∙ sym g.met.A.Abi.link_is) (c.SAVE.ensures ∙ sym g.met.A.Abi.save_is) c.block.ensures c.hidden_place-hidden.ensures c.result_place.ensures c.requires.room in
     let block_is : c.sp-entry.result - c.SAVE.result - c.block.result + block_bytes s + std.save ≡ m.sp = omega (arith, there.block_is, there.area_is, c.requires.room) in
@@ -65,7 +65,7 @@ returns-clause-received g c =
     let std = g.A.Abi.standard in
     let s = c.args.cif.now in
     let m = c.args.machine.now in
-    let sound = g.met.A.Abi.sound s c.sig-sig.ensures.faultless in
+    let sound = g.met.A.Abi.sound s in
     let block = c.sp-entry.result - c.SAVE.result - c.block.result in
     let there = stands std s m c.sp-entry.result c.LINK.result c.SAVE.result c.block.result c.hidden_place-hidden.result c.result_place.result.now c.sp-entry.ensures.value (c.LINK.ensures ∙ sym g.met.A.Abi.link_is) (c.SAVE.ensures ∙ sym g.met.A.Abi.save_is) c.block.ensures c.hidden_place-hidden.ensures c.result_place.ensures c.requires.room in
     let block_is : c.sp-entry.result - c.SAVE.result - c.block.result + block_bytes s + std.save ≡ m.sp = omega (arith, there.block_is, there.area_is, c.requires.room) in
@@ -79,7 +79,7 @@ returns-clause-incoming g c =
     let std = g.A.Abi.standard in
     let s = c.args.cif.now in
     let m = c.args.machine.now in
-    let sound = g.met.A.Abi.sound s c.sig-sig.ensures.faultless in
+    let sound = g.met.A.Abi.sound s in
     let there = stands std s m c.sp-entry.result c.LINK.result c.SAVE.result c.block.result c.hidden_place-hidden.result c.result_place.result.now c.sp-entry.ensures.value (c.LINK.ensures ∙ sym g.met.A.Abi.link_is) (c.SAVE.ensures ∙ sym g.met.A.Abi.save_is) c.block.ensures c.hidden_place-hidden.ensures c.result_place.ensures c.requires.room in
     let inside : STACK ≤ m.sp = omega (arith, c.requires.room) in
     record {

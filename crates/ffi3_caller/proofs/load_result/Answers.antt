@@ -12,13 +12,13 @@ use Rattle.ffi3_caller.proofs.load_result.Goals as goal
 
 pub load_pieces-requires-clause-registers : goal.load_pieces-requires-clause-registers
 load_pieces-requires-clause-registers g c =
-    let sound = g.met.A.Abi.sound c.args.cif.now c.sig-sig.ensures.faultless in
+    let sound = g.met.A.Abi.sound c.args.cif.now in
     in_registers (isa_of g.A.Abi.standard.target) (plan_of g.A.Abi.standard c.args.cif.now).res c.in-Direct.pieces (sym c.result_place.ensures ∙ c.in-Direct.is) sound.result_in_registers
 
 pub load_pieces-requires-clause-within : goal.load_pieces-requires-clause-within
 load_pieces-requires-clause-within g c =
     let s = c.args.cif.now in
-    let sound = g.met.A.Abi.sound s c.sig-sig.ensures.faultless in
+    let sound = g.met.A.Abi.sound s in
     subst (λ n. AreWithin n c.in-Direct.pieces) (sym c.requires.sized) (are_within s.result_type (plan_of g.A.Abi.standard s).res c.in-Direct.pieces (sym c.result_place.ensures ∙ c.in-Direct.is) sound.result_has_all)
 
 pub lend_stack-requires-clause-high : goal.lend_stack-requires-clause-high
@@ -28,7 +28,7 @@ lend_stack-requires-clause-high g c =
 pub returns-in-Direct-clause-value : goal.returns-in-Direct-clause-value
 returns-in-Direct-clause-value g c = λ v own.
     let s = c.args.cif.now in
-    let sound = g.met.A.Abi.sound s c.sig-sig.ensures.faultless in
+    let sound = g.met.A.Abi.sound s in
     let frame = frame_of g.A.Abi.standard s in
     let out_is = c.load_pieces.ensures.loaded ∙ sym (loaded_moved (frame_start frame c.args.machine.now) (passing c.args.machine.now) c.in-Direct.pieces c.args.out.now) in
     ap (value_in s.result_type) out_is ∙ direct_value (at_frame (frame_of g.A.Abi.standard s) c.args.machine.now) (frame_of g.A.Abi.standard s) g.A.Abi.standard s c.in-Direct.pieces c.args.out.now v sound (sym c.result_place.ensures ∙ c.in-Direct.is) c.requires.sized (ap length (sym out_is) ∙ c.load_pieces.ensures.sized) own

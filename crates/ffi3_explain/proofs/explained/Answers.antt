@@ -16,7 +16,7 @@ pub hidden_check-requires : goal.hidden_check-requires
 hidden_check-requires g c =
     let std = g.A.Abi.standard in
     let s = c.args.cif.now in
-    let sound = g.met.A.Abi.sound s c.sig-sig.ensures.faultless in
+    let sound = g.met.A.Abi.sound s in
     let link : c.LINK-base.result ≡ g.A.Abi.standard.link = c.LINK-base.ensures ∙ sym g.met.A.Abi.link_is in
     let ready = result_ready std s sound (image_of c.args.image.now) c.LINK-base.result (omega (arith, link, c.requires.stack)) (omega (arith, link, c.requires.high)) in
     subst (HiddenIsThere (image_of c.args.image.now) c.LINK-base.result) (sym c.result_place.ensures) ready

@@ -21,7 +21,7 @@ pub loop-i-init : goal.loop-i-init
 loop-i-init g c =
     let std = g.A.Abi.standard in
     let s = c.args.cif.now in
-    let sound = g.met.A.Abi.sound s c.checked_sig-sig.ensures.faultless in
+    let sound = g.met.A.Abi.sound s in
     let write = written_by_law std s sound g.met.A.Abi.agrees c.args.machine.now.target _ g.met.A.Abi.target_is c.requires.target in
     none_yet c.at-base.result c.args.machine.now.target (frame_of std s) s.arguments (plan_of std s).places c.args.values.now c.count-i.result (passing c.args.machine.now) (all_ready std s sound c.checked_sig-sig.ensures.faultless c.args.machine.now.target write) (fitting_lengths s.arguments c.args.values.now c.requires.fit) (c.count-i.ensures.value ∙ ap (λ r. length r.arguments) c.checked_sig-sig.ensures.value)
 
@@ -33,7 +33,7 @@ pub store_place-requires-clause-lies : goal.store_place-requires-clause-lies
 store_place-requires-clause-lies g c =
     let std = g.A.Abi.standard in
     let s = c.args.cif.now in
-    let sound = g.met.A.Abi.sound s c.checked_sig-sig.ensures.faultless in
+    let sound = g.met.A.Abi.sound s in
     let write = written_by_law std s sound g.met.A.Abi.agrees c.args.machine.now.target _ g.met.A.Abi.target_is c.requires.target in
     let t = c.arg-ty.result in
     let below : c.loop-i.i - 1 < length s.arguments = omega (arith, c.count-i.ensures.value, ap (λ r. length r.arguments) c.checked_sig-sig.ensures.value) in
@@ -44,7 +44,7 @@ pub store_place-requires-clause-writable : goal.store_place-requires-clause-writ
 store_place-requires-clause-writable g c =
     let std = g.A.Abi.standard in
     let s = c.args.cif.now in
-    let sound = g.met.A.Abi.sound s c.checked_sig-sig.ensures.faultless in
+    let sound = g.met.A.Abi.sound s in
     let write = written_by_law std s sound g.met.A.Abi.agrees c.args.machine.now.target _ g.met.A.Abi.target_is c.requires.target in
     let t = c.arg-ty.result in
     let below : c.loop-i.i - 1 < length s.arguments = omega (arith, c.count-i.ensures.value, ap (λ r. length r.arguments) c.checked_sig-sig.ensures.value) in
@@ -55,7 +55,7 @@ pub store_place-requires-clause-apart : goal.store_place-requires-clause-apart
 store_place-requires-clause-apart g c =
     let std = g.A.Abi.standard in
     let s = c.args.cif.now in
-    let sound = g.met.A.Abi.sound s c.checked_sig-sig.ensures.faultless in
+    let sound = g.met.A.Abi.sound s in
     let write = written_by_law std s sound g.met.A.Abi.agrees c.args.machine.now.target _ g.met.A.Abi.target_is c.requires.target in
     let t = c.arg-ty.result in
     let below : c.loop-i.i - 1 < length s.arguments = omega (arith, c.count-i.ensures.value, ap (λ r. length r.arguments) c.checked_sig-sig.ensures.value) in
@@ -66,7 +66,7 @@ pub store_place-requires-clause-has_all : goal.store_place-requires-clause-has_a
 store_place-requires-clause-has_all g c =
     let std = g.A.Abi.standard in
     let s = c.args.cif.now in
-    let sound = g.met.A.Abi.sound s c.checked_sig-sig.ensures.faultless in
+    let sound = g.met.A.Abi.sound s in
     let write = written_by_law std s sound g.met.A.Abi.agrees c.args.machine.now.target _ g.met.A.Abi.target_is c.requires.target in
     let t = c.arg-ty.result in
     let below : c.loop-i.i - 1 < length s.arguments = omega (arith, c.count-i.ensures.value, ap (λ r. length r.arguments) c.checked_sig-sig.ensures.value) in
@@ -94,7 +94,7 @@ pub loop-i-preserved : goal.loop-i-preserved
 loop-i-preserved g c =
     let std = g.A.Abi.standard in
     let s = c.args.cif.now in
-    let sound = g.met.A.Abi.sound s c.checked_sig-sig.ensures.faultless in
+    let sound = g.met.A.Abi.sound s in
     let write = written_by_law std s sound g.met.A.Abi.agrees c.args.machine.now.target _ g.met.A.Abi.target_is c.requires.target in
     let t = c.arg-ty.result in
     let below : c.loop-i.i - 1 < length s.arguments = omega (arith, c.count-i.ensures.value, ap (λ r. length r.arguments) c.checked_sig-sig.ensures.value) in
@@ -108,7 +108,7 @@ pub returns-clause-own : goal.returns-clause-own
 returns-clause-own g c =
     let std = g.A.Abi.standard in
     let s = c.args.cif.now in
-    let sound = g.met.A.Abi.sound s c.checked_sig-sig.ensures.faultless in
+    let sound = g.met.A.Abi.sound s in
     let write = written_by_law std s sound g.met.A.Abi.agrees c.args.machine.now.target _ g.met.A.Abi.target_is c.requires.target in
     let same : c.at-base.result ≡ c.loop-i.machine.sp = c.at-base.ensures ∙ c.sp.ensures.value ∙ sym c.loop-i.invariant.stays.sp in
     let low : STACK ≤ c.loop-i.machine.sp = omega (arith, same, c.at-base.ensures, c.sp.ensures.value, c.requires.bottom) in
@@ -119,7 +119,7 @@ pub returns-clause-filled : goal.returns-clause-filled
 returns-clause-filled g c =
     let std = g.A.Abi.standard in
     let s = c.args.cif.now in
-    let sound = g.met.A.Abi.sound s c.checked_sig-sig.ensures.faultless in
+    let sound = g.met.A.Abi.sound s in
     let write = written_by_law std s sound g.met.A.Abi.agrees c.args.machine.now.target _ g.met.A.Abi.target_is c.requires.target in
     let same : c.at-base.result ≡ c.loop-i.machine.sp = c.at-base.ensures ∙ c.sp.ensures.value ∙ sym c.loop-i.invariant.stays.sp in
     let low : STACK ≤ c.loop-i.machine.sp = omega (arith, same, c.at-base.ensures, c.sp.ensures.value, c.requires.bottom) in

@@ -25,7 +25,7 @@ give_buffer-requires-clause-high g c =
 pub give_pieces-requires-clause-lie : goal.give_pieces-requires-clause-lie
 give_pieces-requires-clause-lie g c =
     let s = c.args.cif.now in
-    direct_places g.A.Abi.standard s c.in-Direct.pieces (g.met.A.Abi.sound s c.sig.ensures.faultless) (sym c.result_place.ensures ∙ c.in-Direct.is)
+    direct_places g.A.Abi.standard s c.in-Direct.pieces (g.met.A.Abi.sound s) (sym c.result_place.ensures ∙ c.in-Direct.is)
 
 pub returns-in-Nothing-clause-holds : goal.returns-in-Nothing-clause-holds
 returns-in-Nothing-clause-holds g c =
@@ -36,7 +36,7 @@ returns-in-Direct-clause-holds g c =
     let std = g.A.Abi.standard in
     let s = c.args.cif.now in
     let type_is = c.result_type-ty.ensures.element ∙ ap (λ r. r.result_type) c.sig.ensures.value in
-    direct_held std s c.args.base (passing c.give_pieces.new.machine) (value_of c.args.value.now) c.in-Direct.pieces (g.met.A.Abi.sound s c.sig.ensures.faultless) c.requires.low c.requires.high (c.give_pieces.ensures.within.size ∙ c.sp-m.ensures.machine.stack) (sym c.result_place.ensures ∙ c.in-Direct.is) c.requires.fits
+    direct_held std s c.args.base (passing c.give_pieces.new.machine) (value_of c.args.value.now) c.in-Direct.pieces (g.met.A.Abi.sound s) c.requires.low c.requires.high (c.give_pieces.ensures.within.size ∙ c.sp-m.ensures.machine.stack) (sym c.result_place.ensures ∙ c.in-Direct.is) c.requires.fits
     (subst (λ t. PiecesStand c.args.base (passing c.give_pieces.new.machine) t (value_of c.args.value.now) c.in-Direct.pieces) type_is c.give_pieces.ensures.stand)
 
 pub returns-in-Nothing-clause-unused : goal.returns-in-Nothing-clause-unused

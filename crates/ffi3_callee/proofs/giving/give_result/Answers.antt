@@ -35,7 +35,7 @@ give-requires-clause-returned_settable g c =
 pub give-requires-clause-result_writable : goal.give-requires-clause-result_writable
 give-requires-clause-result_writable g c =
     let s = c.args.cif.now in
-    result_written g.A.Abi.standard s c.args.machine.now.target g.A.Abi.TARGET g.met.A.Abi.agrees (g.met.A.Abi.sound s c.sig-sig.ensures.faultless) g.met.A.Abi.target_is c.requires.target
+    result_written g.A.Abi.standard s c.args.machine.now.target g.A.Abi.TARGET g.met.A.Abi.agrees (g.met.A.Abi.sound s) g.met.A.Abi.target_is c.requires.target
 
 pub returns-clause-holds : goal.returns-clause-holds
 returns-clause-holds g c =
@@ -53,7 +53,7 @@ returns-clause-reserved g c =
     let n = c.give.new.machine in
     let base = c.entry.result + c.LINK.result in
     let res = (plan_of std s).res in
-    let sound = g.met.A.Abi.sound s c.sig-sig.ensures.faultless in
+    let sound = g.met.A.Abi.sound s in
     own_reserved m n c.sp-m.ensures.machine c.sp-given.ensures.machine std g.met.A.Abi.agrees (written_target base s.result_type res (passing m) (passing n) c.give.ensures.writes) (written_exchange base s.result_type res (passing m) (passing n) c.give.ensures.writes) (reserved_stay std g.met.A.Abi.agrees (result_uses std res) (passing m) (passing n) (uses_clear std g.met.A.Abi.agrees res sound.result_allowed) c.give.ensures.registers)
 
 pub returns-clause-unused : goal.returns-clause-unused

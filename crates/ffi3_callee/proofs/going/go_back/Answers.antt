@@ -15,6 +15,6 @@ returns-clause-keeps g c = λ base v held.
     let std = g.A.Abi.standard in
     let s = c.args.cif.now in
     let m = c.args.machine.now in
-    let sound = g.met.A.Abi.sound s c.sig-sig.ensures.faultless in
+    let sound = g.met.A.Abi.sound s in
     let same : std.target ≡ m.target = g.met.A.Abi.target_is ∙ sym c.requires.target in
-    gone_keeps std g.met.A.Abi.agrees c.args.incoming.entry m c.go.new.machine c.go.ensures s sound (λ e. laws_of std m.target g.met.A.Abi.by_stubs same e) (λ e. result_law_of std s m.target (g.met.A.Abi.result_by_stubs s c.sig-sig.ensures.faultless) same e) base v held
+    gone_keeps std g.met.A.Abi.agrees c.args.incoming.entry m c.go.new.machine c.go.ensures s sound (λ e. laws_of std m.target g.met.A.Abi.by_stubs same e) (λ e. result_law_of std s m.target (g.met.A.Abi.result_by_stubs s) same e) base v held

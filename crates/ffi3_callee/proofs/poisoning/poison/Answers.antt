@@ -16,7 +16,7 @@ pub returns-clause-own : goal.returns-clause-own
 returns-clause-own g c =
     let std = g.A.Abi.standard in
     let s = c.args.cif.now in
-    still_owned std s c.args.byte c.args.machine.now c.poison_frame.new.machine c.requires.low c.requires.frame c.sp.ensures.machine.stack (returns-clause-poisoned g c) (g.met.A.Abi.sound s c.sig-sig.ensures.faultless) c.sig-sig.ensures.faultless
+    still_owned std s c.args.byte c.args.machine.now c.poison_frame.new.machine c.requires.low c.requires.frame c.sp.ensures.machine.stack (returns-clause-poisoned g c) (g.met.A.Abi.sound s) c.sig-sig.ensures.faultless
 
 pub returns-clause-return_address : goal.returns-clause-return_address
 returns-clause-return_address g c = λ h.

@@ -34,7 +34,7 @@ returns-clause-owns g c = λ v own.
     let std = g.A.Abi.standard in
     let s = c.args.cif.now in
     let m = c.args.machine.now in
-    let sound = g.met.A.Abi.sound s c.sig-sig.ensures.faultless in
+    let sound = g.met.A.Abi.sound s in
     let same : std.target ≡ m.target = g.met.A.Abi.target_is ∙ sym c.requires.target in
     let back = subst (λ n. HasComeBack n m c.come_over.new.machine) c.frame.ensures c.come_over.ensures.back in
-    result_back std s m c.come_over.new.machine v sound same (λ e. result_law_of std s m.target (g.met.A.Abi.result_by_stubs s c.sig-sig.ensures.faultless) same e) back own
+    result_back std s m c.come_over.new.machine v sound same (λ e. result_law_of std s m.target (g.met.A.Abi.result_by_stubs s) same e) back own

@@ -42,14 +42,14 @@ pub store_hidden-requires-clause-lie : goal.store_hidden-requires-clause-lie
 store_hidden-requires-clause-lie g c =
     let std = g.A.Abi.standard in
     let s = c.args.cif.now in
-    let sound = g.met.A.Abi.sound s c.sig-sig.ensures.faultless in
+    let sound = g.met.A.Abi.sound s in
     subst (λ r. AllByRecursion (IsPlace (STACK_TOP - c.at-base.result)) (hidden_locs r)) (sym c.result_place.ensures) (hidden_lies std s sound (STACK_TOP - c.at-base.result) (omega (arith, c.begin_frame.ensures.sp, c.requires.top, c.frame.ensures, c.at-base.ensures, c.sp.ensures.value)))
 
 pub store_hidden-requires-clause-writable : goal.store_hidden-requires-clause-writable
 store_hidden-requires-clause-writable g c =
     let std = g.A.Abi.standard in
     let s = c.args.cif.now in
-    let sound = g.met.A.Abi.sound s c.sig-sig.ensures.faultless in
+    let sound = g.met.A.Abi.sound s in
     let target = c.store_places.new.machine.target in
     let write = written_by_law std s sound g.met.A.Abi.agrees c.store_places.new.machine.target _ g.met.A.Abi.target_is (c.store_places.ensures.within.target ∙ c.begin_frame.ensures.within.target ∙ c.requires.target) in
     subst (λ r. AllByRecursion (IsWritable target) (hidden_locs r)) (sym c.result_place.ensures) (each_first (IsWritable target) (hidden_locs (plan_of std s).res) (flat_map place_locs (plan_of std s).places) write)
@@ -62,7 +62,7 @@ pub put_count-requires-clause-writable : goal.put_count-requires-clause-writable
 put_count-requires-clause-writable g c =
     let std = g.A.Abi.standard in
     let s = c.args.cif.now in
-    let sound = g.met.A.Abi.sound s c.sig-sig.ensures.faultless in
+    let sound = g.met.A.Abi.sound s in
     let lie = subst (λ r. AllByRecursion (IsPlace (frame_of std s)) (hidden_locs r)) (sym c.result_place.ensures) (hidden_lies std s sound (frame_of std s) (omega arith)) in
     let same = (c.store_hidden.ensures.within (frame_of std s) lie).target ∙ c.store_places.ensures.within.target ∙ c.begin_frame.ensures.within.target ∙ c.requires.target in
     subst (λ k. AllByRecursion (IsWritable c.store_hidden.new.machine.target) (listed k)) (sym c.vector_count-count.ensures) (count_is_written std g.met.A.Abi.agrees c.store_hidden.new.machine.target _ g.met.A.Abi.target_is same)
@@ -71,7 +71,7 @@ pub returns-clause-own : goal.returns-clause-own
 returns-clause-own g c =
     let std = g.A.Abi.standard in
     let s = c.args.cif.now in
-    let sound = g.met.A.Abi.sound s c.sig-sig.ensures.faultless in
+    let sound = g.met.A.Abi.sound s in
     let m = c.args.machine.now in
     let write = written_by_law std s sound g.met.A.Abi.agrees m.target _ g.met.A.Abi.target_is c.requires.target in
     let registers = subst (λ k. AllByRecursion (IsPlace 0) (listed k)) (sym c.vector_count-count.ensures) (count_is_register std g.met.A.Abi.agrees) in
@@ -83,7 +83,7 @@ pub returns-clause-filled : goal.returns-clause-filled
 returns-clause-filled g c =
     let std = g.A.Abi.standard in
     let s = c.args.cif.now in
-    let sound = g.met.A.Abi.sound s c.sig-sig.ensures.faultless in
+    let sound = g.met.A.Abi.sound s in
     let m = c.args.machine.now in
     let write = written_by_law std s sound g.met.A.Abi.agrees m.target _ g.met.A.Abi.target_is c.requires.target in
     let registers = subst (λ k. AllByRecursion (IsPlace 0) (listed k)) (sym c.vector_count-count.ensures) (count_is_register std g.met.A.Abi.agrees) in
@@ -95,7 +95,7 @@ pub returns-clause-hidden : goal.returns-clause-hidden
 returns-clause-hidden g c =
     let std = g.A.Abi.standard in
     let s = c.args.cif.now in
-    let sound = g.met.A.Abi.sound s c.sig-sig.ensures.faultless in
+    let sound = g.met.A.Abi.sound s in
     let m = c.args.machine.now in
     let write = written_by_law std s sound g.met.A.Abi.agrees m.target _ g.met.A.Abi.target_is c.requires.target in
     let registers = subst (λ k. AllByRecursion (IsPlace 0) (listed k)) (sym c.vector_count-count.ensures) (count_is_register std g.met.A.Abi.agrees) in
@@ -107,7 +107,7 @@ pub returns-clause-vectors : goal.returns-clause-vectors
 returns-clause-vectors g c =
     let std = g.A.Abi.standard in
     let s = c.args.cif.now in
-    let sound = g.met.A.Abi.sound s c.sig-sig.ensures.faultless in
+    let sound = g.met.A.Abi.sound s in
     let m = c.args.machine.now in
     let write = written_by_law std s sound g.met.A.Abi.agrees m.target _ g.met.A.Abi.target_is c.requires.target in
     let registers = subst (λ k. AllByRecursion (IsPlace 0) (listed k)) (sym c.vector_count-count.ensures) (count_is_register std g.met.A.Abi.agrees) in
@@ -119,7 +119,7 @@ pub returns-clause-unused : goal.returns-clause-unused
 returns-clause-unused g c =
     let std = g.A.Abi.standard in
     let s = c.args.cif.now in
-    let sound = g.met.A.Abi.sound s c.sig-sig.ensures.faultless in
+    let sound = g.met.A.Abi.sound s in
     let m = c.args.machine.now in
     let write = written_by_law std s sound g.met.A.Abi.agrees m.target _ g.met.A.Abi.target_is c.requires.target in
     let registers = subst (λ k. AllByRecursion (IsPlace 0) (listed k)) (sym c.vector_count-count.ensures) (count_is_register std g.met.A.Abi.agrees) in
@@ -134,7 +134,7 @@ pub returns-clause-passed : goal.returns-clause-passed
 returns-clause-passed g c =
     let std = g.A.Abi.standard in
     let s = c.args.cif.now in
-    let sound = g.met.A.Abi.sound s c.sig-sig.ensures.faultless in
+    let sound = g.met.A.Abi.sound s in
     let m = c.args.machine.now in
     let write = written_by_law std s sound g.met.A.Abi.agrees m.target _ g.met.A.Abi.target_is c.requires.target in
     let registers = subst (λ k. AllByRecursion (IsPlace 0) (listed k)) (sym c.vector_count-count.ensures) (count_is_register std g.met.A.Abi.agrees) in
@@ -146,7 +146,7 @@ pub returns-clause-others : goal.returns-clause-others
 returns-clause-others g c =
     let std = g.A.Abi.standard in
     let s = c.args.cif.now in
-    let sound = g.met.A.Abi.sound s c.sig-sig.ensures.faultless in
+    let sound = g.met.A.Abi.sound s in
     let m = c.args.machine.now in
     let write = written_by_law std s sound g.met.A.Abi.agrees m.target _ g.met.A.Abi.target_is c.requires.target in
     let registers = subst (λ k. AllByRecursion (IsPlace 0) (listed k)) (sym c.vector_count-count.ensures) (count_is_register std g.met.A.Abi.agrees) in
@@ -161,7 +161,7 @@ pub returns-clause-free : goal.returns-clause-free
 returns-clause-free g c =
     let std = g.A.Abi.standard in
     let s = c.args.cif.now in
-    let sound = g.met.A.Abi.sound s c.sig-sig.ensures.faultless in
+    let sound = g.met.A.Abi.sound s in
     let m = c.args.machine.now in
     let write = written_by_law std s sound g.met.A.Abi.agrees m.target _ g.met.A.Abi.target_is c.requires.target in
     let registers = subst (λ k. AllByRecursion (IsPlace 0) (listed k)) (sym c.vector_count-count.ensures) (count_is_register std g.met.A.Abi.agrees) in
@@ -179,7 +179,7 @@ pub returns-clause-sp : goal.returns-clause-sp
 returns-clause-sp g c =
     let std = g.A.Abi.standard in
     let s = c.args.cif.now in
-    let sound = g.met.A.Abi.sound s c.sig-sig.ensures.faultless in
+    let sound = g.met.A.Abi.sound s in
     let m = c.args.machine.now in
     let write = written_by_law std s sound g.met.A.Abi.agrees m.target _ g.met.A.Abi.target_is c.requires.target in
     let registers = subst (λ k. AllByRecursion (IsPlace 0) (listed k)) (sym c.vector_count-count.ensures) (count_is_register std g.met.A.Abi.agrees) in
@@ -191,7 +191,7 @@ pub returns-clause-preserved : goal.returns-clause-preserved
 returns-clause-preserved g c =
     let std = g.A.Abi.standard in
     let s = c.args.cif.now in
-    let sound = g.met.A.Abi.sound s c.sig-sig.ensures.faultless in
+    let sound = g.met.A.Abi.sound s in
     let m = c.args.machine.now in
     let write = written_by_law std s sound g.met.A.Abi.agrees m.target _ g.met.A.Abi.target_is c.requires.target in
     let registers = subst (λ k. AllByRecursion (IsPlace 0) (listed k)) (sym c.vector_count-count.ensures) (count_is_register std g.met.A.Abi.agrees) in
@@ -206,7 +206,7 @@ pub returns-clause-reserved : goal.returns-clause-reserved
 returns-clause-reserved g c =
     let std = g.A.Abi.standard in
     let s = c.args.cif.now in
-    let sound = g.met.A.Abi.sound s c.sig-sig.ensures.faultless in
+    let sound = g.met.A.Abi.sound s in
     let m = c.args.machine.now in
     let write = written_by_law std s sound g.met.A.Abi.agrees m.target _ g.met.A.Abi.target_is c.requires.target in
     let registers = subst (λ k. AllByRecursion (IsPlace 0) (listed k)) (sym c.vector_count-count.ensures) (count_is_register std g.met.A.Abi.agrees) in
@@ -221,7 +221,7 @@ pub returns-clause-within : goal.returns-clause-within
 returns-clause-within g c =
     let std = g.A.Abi.standard in
     let s = c.args.cif.now in
-    let sound = g.met.A.Abi.sound s c.sig-sig.ensures.faultless in
+    let sound = g.met.A.Abi.sound s in
     let m = c.args.machine.now in
     let write = written_by_law std s sound g.met.A.Abi.agrees m.target _ g.met.A.Abi.target_is c.requires.target in
     let registers = subst (λ k. AllByRecursion (IsPlace 0) (listed k)) (sym c.vector_count-count.ensures) (count_is_register std g.met.A.Abi.agrees) in

@@ -18,14 +18,14 @@ pub runs_in_frame-requires-clause-within : goal.runs_in_frame-requires-clause-wi
 runs_in_frame-requires-clause-within g c =
     let s = c.args.sig in
     let faultless = c.requires in
-    let sound = g.met.A.Abi.sound s faultless in
+    let sound = g.met.A.Abi.sound s in
     let small = places_end LARGEST_TYPE s.arguments (plan_of g.A.Abi.standard s).places (λ k below. right_is_small 0 Anywhere (tree_at s.arguments k) (argument_is_laid_out s faultless k below)) sound.has_all in
     subst (AllByRecursion (PlaceEndsWithin LARGEST_TYPE)) (sym (ap (λ (p : Plan). p.places) c.in-Ok.ensures)) small
 
 pub runs_in_frame-requires-clause-rising : goal.runs_in_frame-requires-clause-rising
 runs_in_frame-requires-clause-rising g c =
     let s = c.args.sig in
-    let sound = g.met.A.Abi.sound s c.requires in
+    let sound = g.met.A.Abi.sound s in
     subst (AllByRecursion PlaceRises) (sym (ap (λ (p : Plan). p.places) c.in-Ok.ensures)) sound.rising
 
 pub runs_in_frame-requires-clause-empty : goal.runs_in_frame-requires-clause-empty
@@ -34,7 +34,7 @@ runs_in_frame-requires-clause-empty g c = λ none.
     let std = g.A.Abi.standard in
     let plan = plan_of std s in
     let isa = isa_of std.target in
-    let sound = g.met.A.Abi.sound s c.requires in
+    let sound = g.met.A.Abi.sound s in
     let nothing : plan.frame ≡ 0 = sym (ap (λ (p : Plan). p.frame) c.in-Ok.ensures) ∙ none in
     let within = subst (λ n. AllByRecursion (LiesIn isa n) (call_locs s plan)) nothing sound.in_frame in
     let arguments = all_front (LiesIn isa 0) (argument_locs plan) (copy_locs s.arguments plan.places ++ buffer_locs s.result_type plan.res) within in

@@ -12,7 +12,7 @@ use Rattle.ffi3_cif.proofs.Cif.runs.Goals as goal
 pub get-requires : goal.get-requires
 get-requires g c =
     let s = c.self.inside.sig in
-    let sound = g.met.A.Abi.sound s c.self.invariant.faultless in
+    let sound = g.met.A.Abi.sound s in
     let count = places_length s.arguments (plan_of g.A.Abi.standard s).places sound.has_all in
     let planned = ap (λ (p : Plan). length p.places) c.self.invariant.planned in
     let same = ap (λ (u : Signature). length u.arguments) c.self.view_is in
@@ -21,7 +21,7 @@ get-requires g c =
 pub returns : goal.returns
 returns g c =
     let s = c.self.inside.sig in
-    let sound = g.met.A.Abi.sound s c.self.invariant.faultless in
+    let sound = g.met.A.Abi.sound s in
     let count = places_length s.arguments (plan_of g.A.Abi.standard s).places sound.has_all in
     let planned = ap (λ (p : Plan). length p.places) c.self.invariant.planned in
     let same = ap (λ (u : Signature). length u.arguments) c.self.view_is in

@@ -12,7 +12,7 @@ pub loop-i-init : goal.loop-i-init
 loop-i-init g c =
     let std = g.A.Abi.standard in
     let s = c.args.cif.now in
-    let sound = g.met.A.Abi.sound s c.sig-sig.ensures.faultless in
+    let sound = g.met.A.Abi.sound s in
     all_left (image_of c.args.image.now) c.args.base s.arguments (plan_of std s).places c.new-values.result c.new-values.ensures (arguments_ready std s sound (image_of c.args.image.now) c.args.base c.requires.stack c.requires.high c.sig-sig.ensures.faultless)
 
 pub explain_argument-requires-clause-there : goal.explain_argument-requires-clause-there

@@ -14,14 +14,14 @@ returns-in-Ok-clause-fits g c =
     let s = c.args.cif.now in
     let right = c.sig-sig.ensures.faultless in
     let is = told_values std c.args.cif.now (image_of c.args.image.now) c.LINK-base.result (c.LINK-base.ensures ∙ sym g.met.A.Abi.link_is) c.in-Ok.values c.in-Ok.ensures.values c.in-Ok.ensures.inside in
-    values_fit std s (image_of c.args.image.now) right (g.met.A.Abi.sound s right) c.in-Ok.values is
+    values_fit std s (image_of c.args.image.now) right (g.met.A.Abi.sound s) c.in-Ok.values is
 
 pub returns-in-Ok-clause-owned : goal.returns-in-Ok-clause-owned
 returns-in-Ok-clause-owned g c = λ vs own. let std = g.A.Abi.standard in
     let s = c.args.cif.now in
     let right = c.sig-sig.ensures.faultless in
     let is = told_values std c.args.cif.now (image_of c.args.image.now) c.LINK-base.result (c.LINK-base.ensures ∙ sym g.met.A.Abi.link_is) c.in-Ok.values c.in-Ok.ensures.values c.in-Ok.ensures.inside in
-    (owned_values std s (image_of c.args.image.now) right (g.met.A.Abi.sound s right) vs own c.in-Ok.values is, tt)
+    (owned_values std s (image_of c.args.image.now) right (g.met.A.Abi.sound s) vs own c.in-Ok.values is, tt)
 
 pub returns-in-Err-clause-outside : goal.returns-in-Err-clause-outside
 returns-in-Err-clause-outside g c =
@@ -33,4 +33,4 @@ returns-in-Err-clause-owned g c = λ vs own. let std = g.A.Abi.standard in
     let s = c.args.cif.now in
     let right = c.sig-sig.ensures.faultless in
     let is = told_outside std c.args.cif.now (image_of c.args.image.now) c.LINK-base.result (c.LINK-base.ensures ∙ sym g.met.A.Abi.link_is) c.in-Err.fault c.in-Err.ensures.outside in
-    (tt, owned_fault std s (image_of c.args.image.now) right (g.met.A.Abi.sound s right) vs own c.in-Err.fault is)
+    (tt, owned_fault std s (image_of c.args.image.now) right (g.met.A.Abi.sound s) vs own c.in-Err.fault is)

@@ -9,7 +9,7 @@ pub overflow_add-result-in-Hidden : goal.overflow_add-result-in-Hidden
 overflow_add-result-in-Hidden g c =
     let std = g.A.Abi.standard in
     let s = c.args.cif.now in
-    let sound = g.met.A.Abi.sound s c.sig-sig.ensures.faultless in
+    let sound = g.met.A.Abi.sound s in
     let link : c.LINK.result ≡ g.A.Abi.standard.link = c.LINK.ensures ∙ sym g.met.A.Abi.link_is in
     let ready = result_ready std s sound (image_of c.args.image.now) c.LINK.result (omega (arith, link, c.requires.stack)) (omega (arith, link, c.requires.high)) in
     let there : HiddenIsThere (image_of c.args.image.now) c.LINK.result (Hidden c.in-Hidden.at c.in-Hidden.buffer) = subst (HiddenIsThere (image_of c.args.image.now) c.LINK.result) (sym c.result_place.ensures ∙ c.in-Hidden.is) ready in
