@@ -214,14 +214,17 @@ module _ (p : Program) (std : Standard) (closure : Closure) (arguments : List Va
 
     -- where they are interrupted
     pub cut_at_entry : (trace : Bool) (why : IoError) (output' : SinkState) → LineInterrupted (entry_lines trace std s (entry_at std s m) arguments) output output' why → WasInterruptedAtEntry std s arguments trace why m m' output output'
-    cut_at_entry trace why output' lines = record {
-      journal = accepted.events;
-      lines = lines;
-      mark = mark_at_entry (m.sp + std.link + frame_of std s) m.mark m'.sp (need_at p closure.sig) (need_of std s) m'.mark whole need_is accepted.within.mark;
-      steps = accepted.steps;
-      target = accepted.within.target ∙ shows.target;
-      code = accepted.within.code;
-    }
+    cut_at_entry trace why output' lines =
+        let room : STACK + std.save + block_bytes s ≤ m.sp = shows.room in
+        record {
+          journal = accepted.events;
+          lines = lines;
+          mark = mark_at_entry (m.sp + std.link + frame_of std s) m.mark m'.sp (need_at p closure.sig) (need_of std s) m'.mark whole need_is accepted.within.mark;
+          steps = accepted.steps;
+          target = accepted.within.target ∙ shows.target;
+          code = accepted.within.code;
+          stack = λ address count over. above_stays m'.sp m.sp m (with_journal_of m m') accepted.within address count (omega (arith, over, room)) over;
+        }
 
     module _ {S : Type 0} (standing : S) where
       acts : acting p.signatures m' (Some call) (activation_of closure standing) ≡ served_activation std p.signatures closure arguments m

@@ -35,12 +35,15 @@ use Rattle.ffi3_configuration.specs.declared.activation.OpenCall.{OpenCall}
 use Rattle.ffi3_configuration.specs.Activations.{arguments_at}
 use Rattle.ffi3_configuration.specs.Between.{Beginning, RunState, asking, position, text_so_far, depth_below, open_calls_at, IsMarkOf, IsBetween, IsAsking}
 use Rattle.ffi3_configuration.specs.Counted.{steps_after}
+use Rattle.ffi3_configuration.specs.Served.{KeepsCallers}
 use Rattle.ffi3_configuration.specs.Stack.{caller_sp, IsOpen, OpenStand, frames}
 use Rattle.ffi3_configuration.specs.TraceLines.{entry_lines}
 use Rattle.ffi3_configuration.specs.Turned.{is_in_line, WasInterruptedAfter}
 use Rattle.ffi3_io.specs.Written.{LineInterrupted}
+use Rattle.ffi3_configuration.proofs.Callers.{callers_kept}
 use Rattle.ffi3_configuration.proofs.Counting.{count_enter}
 use Rattle.ffi3_configuration.proofs.Marks.{mark_enter, fewer, text_then}
+use Rattle.ffi3_configuration.proofs.Moving.{left_before}
 use Rattle.ffi3_configuration.proofs.Telling.{cause_from, cut_part, entry_lines_are}
 use Rattle.ffi3_configuration.proofs.Transports.{begun_as, incoming_as, numbered}
 use Rattle.ffi3_configuration.proofs.Opened.{caller_above, open_needs, open_kept, keeps_room, same_then_held}
@@ -224,8 +227,15 @@ module _ (p : Program) (base : Base) (all : Remainder) (first : Beginning) (own 
           outermost = h.outermost;
         }
 
+    -- nothing was written above the caller's stack pointer
+    callers_then : KeepsCallers p base first m.stack
+    callers_then =
+        let h = is.between in
+        let at : x.machine.sp + depth ≡ base.top = h.deep in
+        callers_kept p base all first own events (position (asking x)) x.calls m (caller_sp base.standard newest) h.come h.outermost others_stand (λ address count over. begun.above address count (omega (arith, at, over)) ∙ h.found.above address count over)
+
     -- or the run is interrupted there, in those lines or before them
-    pub enters_cut : (why : IoError) (output : SinkState) → LineInterrupted told_lines x.output output why → WasInterruptedAfter p base all first own why m output
+    pub enters_cut : (why : IoError) (output : SinkState) → LineInterrupted told_lines x.output output why → WasInterruptedAfter p base all first own why x.closures x.moves m output
     enters_cut why output cut_off =
         let h = is.between in
         let part = cut_part why told_lines x.output output cut_off in
@@ -241,8 +251,9 @@ module _ (p : Program) (base : Base) (all : Remainder) (first : Beginning) (own 
             cause = cause_from why first.output.faults x.output.faults output.faults h.written.took.count part.3;
             mark = mark_then;
             target = begun.in_callee.target;
-            closures = x.closures;
+            left = left_before p base all own (Enter ptr sig args) (position x).call_stack x.closures x.moves h.come.follows;
             holds = holds_then;
+            callers = callers_then;
           };
           more = Enter ptr sig args ∷ [];
           happened = refl;

@@ -1,5 +1,5 @@
 -- A call that returns: what holds in its caller.
-use Rattle.std.proofs.Common.{◌≡◌, ℕ, suc, ◌+◌, ◌-◌, ◌≤◌, inl, List, [], ◌∷◌, ◌++◌, length, take, refl, sym, ap, ◌∙◌, subst, arith, append_assoc, length-append}
+use Rattle.std.proofs.Common.{◌≡◌, ℕ, suc, ◌+◌, ◌-◌, ◌≤◌, inl, List, [], ◌∷◌, ◌++◌, length, take, drop, refl, sym, ap, ◌∙◌, subst, arith, append_assoc, length-append}
 use Rattle.std.specs.Prelude.{Bool}
 use Rattle.ffi3_type_rules.specs.declared.limits.TheConstants.{STACK}
 use Rattle.ffi3_type_rules.specs.Signature.{Signature, signature_at}
@@ -16,13 +16,13 @@ use Rattle.ffi3_turn_rules.specs.Remainder.{Remainder, Suspended, awaited}
 use Rattle.ffi3_turn_rules.specs.Depth.{deepest}
 use Rattle.ffi3_turn_rules.specs.Nested.{depth_at, depth_of}
 use Rattle.ffi3_turn_rules.specs.Open.{unreturned, open_calls}
-use Rattle.ffi3_turn_rules.specs.SoFar.{Base, text_after}
+use Rattle.ffi3_turn_rules.specs.SoFar.{Base, HasComeTo, text_after}
 use Rattle.ffi3_turn_rules.specs.TracingOf.{IsTracingOf}
 use Rattle.ffi3_turn_rules.proofs.Depths.{depth_at-append, ends_below}
 use Rattle.ffi3_turn_rules.proofs.Coming.{comes_back, deepest_same, innermost_entry}
 use Rattle.ffi3_turn_rules.proofs.Ending.{cut_in_return}
 use Rattle.ffi3_turn_rules.proofs.Opens.{unreturned_leave}
-use Rattle.ffi3_machine.specs.State.{State, image_of}
+use Rattle.ffi3_machine.specs.State.{State, image_of, stack_at}
 use Rattle.ffi3_closures.specs.Slots.{HoldsMap}
 use Rattle.ffi3_io.specs.Sink.{SinkState}
 use Rattle.ffi3_io.specs.Written.{TookText}
@@ -31,13 +31,16 @@ use Rattle.ffi3_invoke.specs.Calls.{HasEnded}
 use Rattle.ffi3_configuration.specs.declared.activation.OpenCall.{OpenCall}
 use Rattle.ffi3_configuration.specs.Between.{Beginning, RunState, asking, position, text_so_far, depth_below, open_calls_at, IsMarkOf, KeepsFound, IsBetween, IsAsking}
 use Rattle.ffi3_configuration.specs.Counted.{steps_after}
+use Rattle.ffi3_configuration.specs.Served.{KeepsCallers}
 use Rattle.ffi3_configuration.specs.Stack.{caller_sp, OpenStand, frames, HoldsCalls}
 use Rattle.ffi3_configuration.proofs.Blocks.{AreAbove, blocks_above}
 use Rattle.ffi3_configuration.specs.TraceLines.{return_lines}
 use Rattle.ffi3_configuration.specs.Turned.{is_in_line, WasInterruptedAfter}
 use Rattle.ffi3_io.specs.Written.{LineInterrupted}
+use Rattle.ffi3_configuration.proofs.Callers.{callers_kept}
 use Rattle.ffi3_configuration.proofs.Counting.{count_leave}
 use Rattle.ffi3_configuration.proofs.Marks.{mark_leave, fewer, text_then}
+use Rattle.ffi3_configuration.proofs.Moving.{left_before}
 use Rattle.ffi3_configuration.proofs.Telling.{cause_from, cut_part, return_lines_are}
 use Rattle.ffi3_configuration.proofs.Opened.{caller_above, in_callee, open_kept, same_then_held}
 use Rattle.ffi3_configuration.proofs.Since.{part_since, since_then}
@@ -151,6 +154,24 @@ module _ (p : Program) (base : Base) (all : Remainder) (first : Beginning) (own 
     holds_then =
         subst (λ (code : List ℕ). HoldsMap base.standard.target closures code) (sym ended.code) is.between.holds
 
+    come_then : (output' : SinkState) → HasComeTo p base all (own ++ Leave c.sig v ∷ []) (events ++ ended.return ∷ []) (position (back output'))
+    come_then output' =
+        comes_back p base all own events a closures moves waiting outer v found.0 ended.return found.1 is.between.come (ap (effect_of p a closures) is.asks) found.2 returns
+
+    stand_then : OpenStand base.standard p.signatures base.held base.top m' calls (open_calls_at p base (events ++ ended.return ∷ []) (back output)) m'.sp
+    stand_then =
+        subst (λ (l : List Entered). OpenStand base.standard p.signatures base.held base.top m' calls l m'.sp) (sym opens) others_stand
+
+    above_then : (address count : ℕ) → base.top ≤ address → stack_at address count m' ≡ take count (drop (address - STACK) first.stack)
+    above_then address count over =
+        let taken : depth ≡ need_at p c.sig + depth_of p (awaited base.bottom outer) = is.between.come.depth in
+        let at : m.sp + depth ≡ base.top = is.between.deep in
+        ended.above address count (omega (arith, over, higher, at, taken)) ∙ is.between.found.above address count over
+
+    callers_then : KeepsCallers p base first m'.stack
+    callers_then =
+        callers_kept p base all first (own ++ Leave c.sig v ∷ []) (events ++ ended.return ∷ []) (position (back output)) calls m' m'.sp (come_then output) is.between.outermost stand_then above_then
+
     -- THE CALLER ACTS ON WITH THE RESULT, once the return is told
     pub returns_on : (output' : SinkState) → TookText told_lines output output' → IsBetween p base all first (own ++ Leave c.sig v ∷ []) (events ++ ended.return ∷ []) (back output')
     returns_on output' told =
@@ -170,7 +191,7 @@ module _ (p : Program) (base : Base) (all : Remainder) (first : Beginning) (own 
           needs = h.needs;
           count = h.count;
           top = h.top;
-          come = comes_back p base all own events a closures moves waiting outer v found.0 ended.return found.1 h.come (ap (effect_of p a closures) is.asks) found.2 returns;
+          come = come_then output';
           journal = journal_then;
           steps = steps_then;
           written = since_then first output output' (text_so_far first.tracing p base own) told_lines h.written (text_so_far first.tracing p base (own ++ Leave c.sig v ∷ [])) (text_then first.tracing p base own (Leave c.sig v)) told;
@@ -179,7 +200,7 @@ module _ (p : Program) (base : Base) (all : Remainder) (first : Beginning) (own 
           left = omega (arith, left, nested, higher);
           calls = record {
             target = ended.target ∙ h.calls.target;
-            stand = subst (λ (l : List Entered). OpenStand base.standard p.signatures base.held base.top m' calls l m'.sp) (sym opens) others_stand;
+            stand = stand_then;
             reserved = same_then_held base.standard.reserved (image_of 0 m) (image_of 0 m') base.held ended.reserved h.calls.reserved;
             room = subst (λ (l : List Entered). length l ≤ m'.spare_events) (sym opens) (omega (arith, room, ended.room));
             bytes = subst (λ (l : List Entered). frames base.standard l ≤ m'.spare_bytes) (sym opens) (omega (arith, bytes, ended.bytes));
@@ -189,7 +210,7 @@ module _ (p : Program) (base : Base) (all : Remainder) (first : Beginning) (own 
           few = omega (arith, length-append caller.results (v ∷ []), few);
           others_few = fewer moves outer h.others_few.1;
           found = record {
-            above = λ address count over. ended.above address count (omega (arith, over, higher, at, taken)) ∙ h.found.above address count over;
+            above = above_then;
             events = subst (λ (l : List Entered). first.spare_events + length l ≤ m'.spare_events) (sym opens) (omega (arith, found_events, ended.room));
             bytes = subst (λ (l : List Entered). first.spare_bytes + frames base.standard l ≤ m'.spare_bytes) (sym opens) (omega (arith, found_bytes, ended.bytes));
           };
@@ -197,7 +218,7 @@ module _ (p : Program) (base : Base) (all : Remainder) (first : Beginning) (own 
         }
 
     -- or the run is interrupted there, in those lines or before them
-    pub returns_cut : (why : IoError) (output' : SinkState) → LineInterrupted told_lines output output' why → WasInterruptedAfter p base all first own why m' output'
+    pub returns_cut : (why : IoError) (output' : SinkState) → LineInterrupted told_lines output output' why → WasInterruptedAfter p base all first own why closures moves m' output'
     returns_cut why output' cut_off =
         let h = is.between in
         let part = cut_part why told_lines output output' cut_off in
@@ -213,8 +234,9 @@ module _ (p : Program) (base : Base) (all : Remainder) (first : Beginning) (own 
             cause = cause_from why first.output.faults output.faults output'.faults h.written.took.count part.3;
             mark = mark_then;
             target = ended.target ∙ h.calls.target;
-            closures = closures;
+            left = left_before p base all own (Leave c.sig v) (position (asking inside_call)).call_stack closures moves h.come.follows;
             holds = holds_then;
+            callers = callers_then;
           };
           more = Leave c.sig v ∷ [];
           happened = refl;

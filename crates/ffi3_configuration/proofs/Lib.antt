@@ -5,6 +5,7 @@ pub mod Closed
 mod Marks
 pub mod Since
 pub mod Opened
+mod Callers
 pub mod Moving
 pub mod Blocks
 mod Telling

@@ -44,6 +44,6 @@ module _ {S : Type 0} (p : Program) (base : Base) (all : Remainder) (first : Beg
       goes p base all first own changed_configuration b' a m' output r [] events t (omega arith) gone changed
 
   -- there is no memory for it
-  pub made_refused : WasInterruptedAfter p base all first own cut.NoMemory m' output × CountedAtMostOne (suc b.moves) b.moves
+  pub made_refused : WasInterruptedAfter p base all first own cut.NoMemory closures b.moves m' output × CountedAtMostOne (suc b.moves) b.moves
   made_refused =
-      (cut_after p base all first own [] events (run_state p.signatures (and_result a r) changed_configuration m' output) m' (omega arith) (looks_as_itself m') changed, (omega arith, omega arith))
+      (cut_after p base all first own [] events (run_state p.signatures (and_result a r) changed_configuration m' output) b.moves m' (omega arith) (omega arith, omega arith) (looks_as_itself m') changed, (omega arith, omega arith))

@@ -11,9 +11,9 @@ use Rattle.ffi3_run_rules.specs.Lines.{a_line, stop_text}
 use Rattle.ffi3_run_rules.specs.Meaning.{Program, Activation, Effect, ends, stops, prints, goes_on, returned, stopped, effect_of, next_move, with_result}
 use Rattle.ffi3_run_rules.specs.Move.{Move}
 use Rattle.ffi3_run_rules.specs.Trace.{TraceItem, Line, StopLine}
-use Rattle.ffi3_turn_rules.specs.Remainder.{Remainder, Suspended, Bottom, before, only, only_stops, as_main, rest, alone}
+use Rattle.ffi3_turn_rules.specs.Remainder.{Remainder, Suspended, Bottom, CallStack, before, only, only_stops, as_main, rest, alone}
 use Rattle.ffi3_turn_rules.specs.Depth.{deepest}
-use Rattle.ffi3_turn_rules.specs.SoFar.{Base, left_at_position, HasComeTo, IsInterrupted, IsOver}
+use Rattle.ffi3_turn_rules.specs.SoFar.{Base, Position, left_at_position, HasComeTo, IsInterrupted, IsOver}
 use Rattle.ffi3_turn_rules.proofs.Steps.{rest_at_limit, rest_stops, rest_ends}
 use Rattle.ffi3_turn_rules.proofs.Depths.{depth_at-append}
 use Rattle.ffi3_turn_rules.proofs.Coming.{comes_on, comes_by_print, deepest_same}
@@ -27,7 +27,9 @@ use Rattle.ffi3_configuration.specs.Known.{AreKnown}
 use Rattle.ffi3_io.specs.Written.{LineFailed}
 use Rattle.ffi3_configuration.specs.Between.{Beginning, RunState, asking, position, text_so_far, depth_below, open_calls_at, IsBetween, IsAsking}
 use Rattle.ffi3_configuration.specs.Counted.{steps_after, back_at_caller}
-use Rattle.ffi3_configuration.specs.Turned.{IsEnded, WasInterruptedAfter, LooksAs}
+use Rattle.ffi3_configuration.specs.Served.{KeepsCallers}
+use Rattle.ffi3_configuration.specs.Turned.{CountedAtMostOne, IsEnded, IsLeft, WasInterruptedAfter, LooksAs}
+use Rattle.ffi3_configuration.proofs.Callers.{between_keeps}
 use Rattle.ffi3_configuration.proofs.Counting.{steps_then}
 use Rattle.ffi3_configuration.proofs.Marks.{mark_same, fewer, text_then}
 use Rattle.ffi3_configuration.proofs.Opened.{holds_by_code}
@@ -38,14 +40,42 @@ fault_from : (a b c : ℕ) → b ≡ a → Rose b c × (b ≤ c) → Rose a c ×
 fault_from a b c is h = subst (λ (n : ℕ). Rose n c × (n ≤ c)) is h
 
 pub looks_as_itself : (m : State) → LooksAs m m
-looks_as_itself m = record { events = refl; mark = refl; steps = refl; target = refl; code = refl }
+looks_as_itself m = record { events = refl; mark = refl; steps = refl; target = refl; code = refl; stack = refl }
 
 pub looks_same : (m m' : State) → m' ≡ m → LooksAs m m'
 looks_same m m' same = subst (λ (n : State). LooksAs m n) (sym same) (looks_as_itself m)
 
+-- ---- what is left to do
+
+-- once what happened is done
+pub left_here : (p : Program) (base : Base) (all : Remainder) (done : List TraceItem) (x : Position) (moves : ℕ) → CountedAtMostOne x.moves moves → all ≡ before done (left_at_position p base x) → IsLeft p base all done x.closures moves
+left_here p base all done x moves counted follows = record {
+  done = done;
+  last = [];
+  happened_is = sym (append-nil done);
+  one = omega arith;
+  call_stack = x.call_stack;
+  moves_then = x.moves;
+  counted = counted;
+  follows = follows;
+}
+
+-- or all but this item, and the move that brought it
+pub left_before : (p : Program) (base : Base) (all : Remainder) (done : List TraceItem) (item : TraceItem) (call_stack : CallStack) (closures : Closures) (moves : ℕ) → all ≡ before done (rest p base.bottom call_stack closures (suc moves)) → IsLeft p base all (done ++ item ∷ []) closures moves
+left_before p base all done item call_stack closures moves follows = record {
+  done = done;
+  last = item ∷ [];
+  happened_is = refl;
+  one = omega arith;
+  call_stack = call_stack;
+  moves_then = suc moves;
+  counted = (omega arith, omega arith);
+  follows = follows;
+}
+
 -- FOR WANT OF MEMORY, between two moves, after one item more at most
-pub cut_after : (p : Program) (base : Base) (all : Remainder) (first : Beginning) (own more : List TraceItem) (events : List Event) (x : RunState) (m : State) → length more ≤ 1 → LooksAs x.machine m → IsBetween p base all first (own ++ more) events x → WasInterruptedAfter p base all first own cut.NoMemory m x.output
-cut_after p base all first own more events x m one looks h =
+pub cut_after : (p : Program) (base : Base) (all : Remainder) (first : Beginning) (own more : List TraceItem) (events : List Event) (x : RunState) (moves : ℕ) (m : State) → length more ≤ 1 → CountedAtMostOne x.moves moves → LooksAs x.machine m → IsBetween p base all first (own ++ more) events x → WasInterruptedAfter p base all first own cut.NoMemory x.closures moves m x.output
+cut_after p base all first own more events x moves m one counted looks h =
     let done = own ++ more in
     record {
       interrupted = record {
@@ -59,8 +89,9 @@ cut_after p base all first own more events x m one looks h =
         cause = h.written.took.count;
         mark = mark_same base.top first.mark (deepest p (depth_below p base) done) (deepest p (depth_below p base) done) x.machine.mark m.mark refl looks.mark h.mark;
         target = looks.target ∙ h.calls.target;
-        closures = x.closures;
+        left = left_here p base all done (position x) moves counted h.come.follows;
         holds = subst (λ (code : List ℕ). HoldsMap base.standard.target x.closures code) (sym looks.code) h.holds;
+        callers = subst (λ (stack : List ℕ). KeepsCallers p base first stack) (sym looks.stack) (between_keeps p base all first done events x h);
       };
       more = more;
       happened = refl;
@@ -71,9 +102,9 @@ module _ (p : Program) (base : Base) (all : Remainder) (first : Beginning) (own 
   -- ---- interrupted
 
   -- with nothing more done
-  pub cut_between : (x : RunState) (m : State) → LooksAs x.machine m → IsBetween p base all first own events x → WasInterruptedAfter p base all first own cut.NoMemory m x.output
-  cut_between x m looks h =
-      cut_after p base all first own [] events x m (omega arith) looks (subst (λ (l : List TraceItem). IsBetween p base all first l events x) (sym (append-nil own)) h)
+  pub cut_between : (x : RunState) (moves : ℕ) (m : State) → CountedAtMostOne x.moves moves → LooksAs x.machine m → IsBetween p base all first own events x → WasInterruptedAfter p base all first own cut.NoMemory x.closures moves m x.output
+  cut_between x moves m counted looks h =
+      cut_after p base all first own [] events x moves m (omega arith) counted looks (subst (λ (l : List TraceItem). IsBetween p base all first l events x) (sym (append-nil own)) h)
 
   module _ (x : RunState) (h : IsBetween p base all first own events x) (output : SinkState) (line : List ℕ) (failed : LineFailed line x.output output) where
     -- the bytes that are written then
@@ -86,8 +117,8 @@ module _ (p : Program) (base : Base) (all : Remainder) (first : Beginning) (own 
         fault_from first.output.faults x.output.faults output.faults h.written.took.count (failed.rose, failed.never_falls)
 
     -- A WRITE FAILS in the line, where the run can be interrupted there
-    line_failed : IsInterrupted first.tracing p base true all own (text_so_far first.tracing p base own ++ take failed.part.0 line) events → WasInterruptedAfter p base all first own cut.Failed x.machine output
-    line_failed there = record {
+    line_failed : (moves : ℕ) → CountedAtMostOne x.moves moves → IsInterrupted first.tracing p base true all own (text_so_far first.tracing p base own ++ take failed.part.0 line) events → WasInterruptedAfter p base all first own cut.Failed x.closures moves x.machine output
+    line_failed moves counted there = record {
       interrupted = record {
         happened = own;
         events = events;
@@ -99,8 +130,9 @@ module _ (p : Program) (base : Base) (all : Remainder) (first : Beginning) (own 
         cause = part_cause;
         mark = h.mark;
         target = h.calls.target;
-        closures = x.closures;
+        left = left_here p base all own (position x) moves counted h.come.follows;
         holds = h.holds;
+        callers = between_keeps p base all first own events x h;
       };
       more = [];
       happened = sym (append-nil own);
@@ -127,6 +159,7 @@ module _ (p : Program) (base : Base) (all : Remainder) (first : Beginning) (own 
           target = h.calls.target;
           reserved = h.calls.reserved;
           holds = h.holds;
+          callers = between_keeps p base all first own events x h;
         }
 
   -- ---- no move is left
@@ -150,9 +183,9 @@ module _ (p : Program) (base : Base) (all : Remainder) (first : Beginning) (own 
     pub limit_is_last : all.trace ≡ own ++ StopLine MoveLimit ∷ []
     limit_is_last = stop_is_last x h MoveLimit 0 limit_left
 
-    pub limit_failed : (output : SinkState) → LineFailed (a_line (stop_text p.signatures MoveLimit)) x.output output → WasInterruptedAfter p base all first own cut.Failed x.machine output
+    pub limit_failed : (output : SinkState) → LineFailed (a_line (stop_text p.signatures MoveLimit)) x.output output → WasInterruptedAfter p base all first own cut.Failed x.closures x.moves x.machine output
     limit_failed output failed =
-        line_failed x h output (a_line (stop_text p.signatures MoveLimit)) failed (ending.cut_in_limit p base all own events first.tracing (position x).call_stack x.closures failed.part.0 at_limit failed.part.1)
+        line_failed x h output (a_line (stop_text p.signatures MoveLimit)) failed x.moves (omega arith, omega arith) (ending.cut_in_limit p base all own events first.tracing (position x).call_stack x.closures failed.part.0 at_limit failed.part.1)
 
   -- ---- a move that is asked for
 
@@ -178,9 +211,9 @@ module _ (p : Program) (base : Base) (all : Remainder) (first : Beginning) (own 
       pub move_is_last : all.trace ≡ own ++ StopLine stop ∷ []
       move_is_last = stop_is_last (asking x) is.between stop x.moves stop_left
 
-      pub stop_failed : (output : SinkState) → LineFailed (a_line (stop_text p.signatures stop)) x.output output → WasInterruptedAfter p base all first own cut.Failed x.machine output
+      pub stop_failed : (output : SinkState) → LineFailed (a_line (stop_text p.signatures stop)) x.output output → WasInterruptedAfter p base all first own cut.Failed x.closures x.moves x.machine output
       stop_failed output failed =
-          line_failed (asking x) is.between output (a_line (stop_text p.signatures stop)) failed (ending.cut_in_stop p base all own events a outer x.closures x.moves is.between.come first.tracing stop failed.part.0 (does_so (stops stop) does) failed.part.1)
+          line_failed (asking x) is.between output (a_line (stop_text p.signatures stop)) failed x.moves (omega arith, omega arith) (ending.cut_in_stop p base all own events a outer x.closures x.moves is.between.come first.tracing stop failed.part.0 (does_so (stops stop) does) failed.part.1)
 
     -- MAIN RETURNS
     main_alone : x.suspended ≡ [] → HasComeTo p base all own events (record { call_stack = alone a; closures = x.closures; moves = suc x.moves })
@@ -213,6 +246,7 @@ module _ (p : Program) (base : Base) (all : Remainder) (first : Beginning) (own 
           target = h.calls.target;
           reserved = h.calls.reserved;
           holds = h.holds;
+          callers = between_keeps p base all first own events (asking x) h;
         }
 
     -- A LINE IS PRINTED
@@ -243,9 +277,9 @@ module _ (p : Program) (base : Base) (all : Remainder) (first : Beginning) (own 
             outermost = h.outermost;
           }
 
-      pub print_failed : (output : SinkState) → LineFailed (a_line (value_text_of t v)) x.output output → WasInterruptedAfter p base all first own cut.Failed x.machine output
+      pub print_failed : (output : SinkState) → LineFailed (a_line (value_text_of t v)) x.output output → WasInterruptedAfter p base all first own cut.Failed x.closures x.moves x.machine output
       print_failed output failed =
-          line_failed (asking x) is.between output (a_line (value_text_of t v)) failed (ending.cut_in_print p base all own events a outer x.closures x.moves is.between.come first.tracing t v failed.part.0 (does_so (prints t v) does) failed.part.1)
+          line_failed (asking x) is.between output (a_line (value_text_of t v)) failed x.moves (omega arith, omega arith) (ending.cut_in_print p base all own events a outer x.closures x.moves is.between.come first.tracing t v failed.part.0 (does_so (prints t v) does) failed.part.1)
 
     -- THE CLOSURES CHANGE, and code is written
     module _ (r : ValueTree) (closures : Closures) (does : effect_of p x.innermost x.closures asked ≡ goes_on r closures) (address : ℕ) (bytes : List ℕ) where

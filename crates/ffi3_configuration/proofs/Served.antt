@@ -2,7 +2,6 @@
 use Rattle.std.proofs.Common.{◌≡◌, ℕ, suc, true, ◌+◌, ◌-◌, ◌<◌, ◌≤◌, ◌⊎◌, inl, inr, List, [], ◌∷◌, ◌++◌, length, take, drop, get_or, Some, None, refl, sym, ap, ◌∙◌, subst, arith, append_assoc}
 use Rattle.std.specs.Prelude.{Bool}
 use Rattle.std.proofs.lemmas.Bool.{cases_lt}
-use Rattle.std.proofs.lemmas.List.{get_or-take, get_or-drop}
 use Rattle.ffi3_type_rules.specs.declared.limits.TheConstants.{STACK}
 use Rattle.ffi3_type_rules.specs.Tree.{Tree, void}
 use Rattle.ffi3_type_rules.specs.Layout.{size_of}
@@ -46,16 +45,17 @@ use Rattle.ffi3_configuration.specs.Known.{AreKnown}
 use Rattle.ffi3_configuration.specs.Counted.{steps_after, back_at_caller}
 use Rattle.ffi3_configuration.specs.Between.{Beginning, RunState, asking, position, text_so_far, depth_below, IsMarkOf, KeepsFound, IsAsking, run_state_with}
 use Rattle.ffi3_configuration.specs.Outermost.{AreEntriesOf}
-use Rattle.ffi3_configuration.specs.Served.{IsOutsideBuffer, HasServed, HasLeft}
+use Rattle.ffi3_configuration.specs.Served.{IsOutsideBuffer, KeepsFrame, KeepsCallers, HasServed, HasLeft}
 use Rattle.ffi3_configuration.specs.Stack.{caller_sp, IsOpen, OpenStand, HoldsCalls}
 use Rattle.ffi3_configuration.specs.TraceLines.{last_event, return_lines}
 use Rattle.ffi3_configuration.specs.Turned.{IsEnded, TurnIsDone, WasInterruptedAfter, is_in_line, last_return}
 use Rattle.ffi3_io.specs.Written.{LineInterrupted}
+use Rattle.ffi3_configuration.proofs.Callers.{byte_of_part}
 use Rattle.ffi3_configuration.proofs.Configuring.{void_is}
 use Rattle.ffi3_configuration.proofs.Counting.{count_served}
 use Rattle.ffi3_configuration.proofs.Marks.{mark_leave, text_then}
 use Rattle.ffi3_configuration.proofs.Telling.{cause_from, cut_part, last_is, return_lines_are}
-use Rattle.ffi3_configuration.proofs.Moving.{main_ends, main_is_last}
+use Rattle.ffi3_configuration.proofs.Moving.{left_before, main_ends, main_is_last}
 use Rattle.ffi3_configuration.proofs.Opened.{in_callee, same_then_held}
 use Rattle.ffi3_configuration.proofs.Since.{part_since, since_then}
 
@@ -94,15 +94,6 @@ outside_result : (base : ℕ) (t : Tree) (res : Res) (a b : State) (address : �
 outside_result base t Nothing a b address w inside far = outside_stretch base base a b address w inside (cases_lt address base)
 outside_result base t (Direct pieces) a b address w inside far = outside_stretch base base a b address w inside (cases_lt address base)
 outside_result base t (Hidden at buffer) a b address w inside far = outside_stretch (base + buffer) (base + buffer + size_of t) a b address w inside far
-
--- a byte of a part of the stack that is known
-byte_of_part : (m : State) (from count i : ℕ) (bytes : List ℕ) → STACK ≤ from → i < count → stack_at from count m ≡ bytes → get_or m.stack (from + i - STACK) 0 ≡ get_or bytes i 0
-byte_of_part m from count i bytes inside below is =
-    let same : from + i - STACK ≡ from - STACK + i = omega (arith, inside) in
-    ap (λ (k : ℕ). get_or m.stack k 0) same
-    ∙ sym (get_or-drop (from - STACK) m.stack i 0)
-    ∙ sym (get_or-take count (drop (from - STACK) m.stack) i 0 below)
-    ∙ ap (λ (l : List ℕ). get_or l i 0) is
 
 -- ---- the return
 
@@ -260,6 +251,17 @@ module _ {S : Type 0} (p : Program) (base : Base) (all : Remainder) (first : Beg
       holds_then =
           subst (λ (code : List ℕ). HoldsMap base.standard.target closures code) (sym within.code) asks.between.holds
 
+      callers_then : KeepsCallers p base first m'.stack
+      callers_then =
+          let F = λ (b : Bottom). KeepsFrame base.standard p.signatures b base.entries m'.stack in
+          let G = λ (l : List Event). KeepsFrame base.standard p.signatures (served below.sig) l m'.stack in
+          let B = λ (i : ℕ) (n : ℕ). IsOutsideBuffer n site.result_type (plan_of base.standard site).res (below.entry.image.sp + i) in
+          let frame : G (below.entry ∷ []) = λ i inside_frame outside. call_served.frame i inside_frame (subst (B i) (sym sp_is) outside) in
+          record {
+            above = call_served.found.above;
+            frame = subst F (sym below.serving) (subst G (sym below.first) frame);
+          }
+
       served_ended : (output' : SinkState) → TookText told_lines output output' → IsEnded p base all first (returned v) closures moves m' output'
       served_ended output' told =
           let h = asks.between in
@@ -274,6 +276,7 @@ module _ {S : Type 0} (p : Program) (base : Base) (all : Remainder) (first : Beg
             target = within.target ∙ h.calls.target;
             reserved = same_then_held base.standard.reserved (image_of 0 m) (image_of 0 m') base.held back.reserved h.calls.reserved;
             holds = holds_then;
+            callers = callers_then;
           }
 
       -- THE SERVED CALL RETURNS, once the return is told
@@ -290,7 +293,7 @@ module _ {S : Type 0} (p : Program) (base : Base) (all : Remainder) (first : Beg
           }
 
       -- or the run is interrupted there, in those lines or before them
-      pub served_cut : (why : IoError) (output' : SinkState) → LineInterrupted told_lines output output' why → WasInterruptedAfter p base all first own why m' output'
+      pub served_cut : (why : IoError) (output' : SinkState) → LineInterrupted told_lines output output' why → WasInterruptedAfter p base all first own why closures moves m' output'
       served_cut why output' cut_off =
           let h = asks.between in
           let part = cut_part why told_lines output output' cut_off in
@@ -306,8 +309,9 @@ module _ {S : Type 0} (p : Program) (base : Base) (all : Remainder) (first : Beg
               cause = cause_from why first.output.faults output.faults output'.faults h.written.took.count part.3;
               mark = mark_then;
               target = within.target ∙ h.calls.target;
-              closures = closures;
+              left = left_before p base all own (Leave below.sig v) (alone x.innermost) closures moves h.come.follows;
               holds = holds_then;
+              callers = callers_then;
             };
             more = Leave below.sig v ∷ [];
             happened = refl;

@@ -1,11 +1,11 @@
 -- What came of the entry of a served call, and of its lines where the run is traced.
-use Rattle.std.specs.Prelude.{◌≡◌, ◌+◌, ◌≤◌, ◌⊎◌, Bool, List, [], ◌∷◌, ◌++◌, Result, Ok, Err}
+use Rattle.std.specs.Prelude.{◌≡◌, ℕ, ◌+◌, ◌≤◌, ◌⊎◌, Bool, List, [], ◌∷◌, ◌++◌, Result, Ok, Err}
 use Rattle.ffi3_type_rules.specs.Signature.{Signature, signature_at}
 use Rattle.ffi3_type_rules.specs.Value.{ValueTree}
 use Rattle.ffi3_place_rules.specs.Standard.{Standard, frame_of, need_of}
 use Rattle.ffi3_run_rules.specs.declared.Closure.{Closure}
 use Rattle.ffi3_run_rules.specs.Meaning.{Program}
-use Rattle.ffi3_machine.specs.State.{State}
+use Rattle.ffi3_machine.specs.State.{State, stack_at}
 use Rattle.ffi3_io.specs.Sink.{SinkState}
 use Rattle.ffi3_io.specs.Written.{TookText}
 use Rattle.ffi3_io.specs.declared.IoError.{IoError}
@@ -17,7 +17,7 @@ use Rattle.ffi3_configuration.specs.TraceLines.{entry_lines}
 use Rattle.ffi3_configuration.specs.Turned.{StandsAt}
 use Rattle.ffi3_io.specs.Written.{LineInterrupted}
 
--- THE SERVED CALL WAS INTERRUPTED AT ITS ENTRY, in its lines or, for want of memory, before them: the entry is in the journal and its steps are counted, no byte was written below what the call needs, and nothing else happened.
+-- THE SERVED CALL WAS INTERRUPTED AT ITS ENTRY, in its lines or, for want of memory, before them: the entry is in the journal and its steps are counted, no byte was written below what the call needs, none from the entry's sp on, and nothing else happened.
 pub record WasInterruptedAtEntry (std : Standard) (s : Signature) (arguments : List ValueTree) (trace : Bool)
     (why : IoError) (m m' : State) (output output' : SinkState) : Type 0 where
   pub journal : m'.events ≡ m.events ++ entry_at std s m ∷ []
@@ -26,6 +26,7 @@ pub record WasInterruptedAtEntry (std : Standard) (s : Signature) (arguments : L
   pub steps : m'.steps ≡ accepted_steps m.target m.steps
   pub target : m'.target ≡ std.target
   pub code : m'.code ≡ m.code
+  pub stack : (address count : ℕ) → m.sp ≤ address → stack_at address count m' ≡ stack_at address count m
 
 -- THE SERVED CALL WAS ACCEPTED: its entry is told where the run is traced, and its run stands before the first move; or it was interrupted there.
 abbrev pub Accepted : {S A : Type 0} → Standard → Program → Closure → List ValueTree → (trace : Bool) → Configuration S → State

@@ -1,6 +1,6 @@
 -- A call that is served: what a machine shows of it at its entry, what its run begins with, and what it leaves.
 use Rattle.std.specs.Prelude.{◌≡◌, ℕ, ◌+◌, ◌-◌, ◌<◌, ◌≤◌, ◌⊎◌, ⊤, Bool, true, false, if◌then◌else◌, nat_lt, List, []}
-use Rattle.std.specs.Prelude.{◌∷◌, ◌++◌, length, get_or, Some, None}
+use Rattle.std.specs.Prelude.{◌∷◌, ◌++◌, length, take, drop, get_or, Some, None}
 use Rattle.ffi3_type_rules.specs.declared.limits.TheConstants.{ENTRY, RETURN, STACK, STACK_TOP}
 use Rattle.ffi3_type_rules.specs.Tree.{Tree}
 use Rattle.ffi3_type_rules.specs.Layout.{size_of}
@@ -125,6 +125,28 @@ abbrev pub IsOutsideBuffer : ℕ → Tree → Res → ℕ → Type 0
 IsOutsideBuffer base t Nothing address = ⊤
 IsOutsideBuffer base t (Direct pieces) address = ⊤
 IsOutsideBuffer base t (Hidden at buffer) address = (address < base + buffer) ⊎ (base + buffer + size_of t ≤ address)
+
+-- ---- what is above a run
+
+-- of the frame of the call that is served nothing was written but a hidden result's buffer; main has no caller
+abbrev pub KeepsFrame : Standard → List Signature → Bottom → List Event → (stack : List ℕ) → Type 0
+KeepsFrame std signatures as_main entries stack = ⊤
+KeepsFrame std signatures (served sig) [] stack = ⊥
+KeepsFrame std signatures (served sig) (entry ∷ _) stack =
+    (i : ℕ)
+    → i < std.link + frame_of std (signature_at signatures sig)
+    → IsOutsideBuffer
+    (entry.image.sp + std.link)
+    (signature_at signatures sig).result_type (plan_of std (signature_at signatures sig)).res (entry.image.sp + i)
+    → get_or stack (entry.image.sp + i - STACK) 0 ≡ get_or entry.image.stack i 0
+
+-- THE STACK OF THE CALLERS AROUND A RUN IS KEPT: from the run's top on it is as it was found, and so is the frame below it.
+pub record KeepsCallers (p : Program) (base : Base) (first : Beginning) (stack : List ℕ) : Type 0 where
+  pub above : (address count : ℕ) → base.top ≤ address
+      → take count (drop (address - STACK) stack) ≡ take count (drop (address - STACK) first.stack)
+  pub frame : KeepsFrame base.standard p.signatures base.bottom base.entries stack
+
+-- ---- what a return leaves
 
 -- THE SERVED CALL HAS RETURNED: the machine is at RETURN, its image holds the result, what a callee preserves is as at the entry, and from the entry's sp on only a hidden result's buffer was written.
 pub record HasServed (base : Base) (first : Beginning) (entered : Entered) (v : ValueTree) (m : State) : Type 0 where

@@ -11,7 +11,7 @@ use Rattle.ffi3_run_rules.specs.Closures.{Closures}
 use Rattle.ffi3_run_rules.specs.Lines.{Tracing}
 use Rattle.ffi3_run_rules.specs.Meaning.{Program, End, returned, stopped}
 use Rattle.ffi3_run_rules.specs.Trace.{TraceItem, Leave, StopLine}
-use Rattle.ffi3_turn_rules.specs.Remainder.{Remainder, Bottom, as_main, served}
+use Rattle.ffi3_turn_rules.specs.Remainder.{Remainder, Bottom, as_main, served, CallStack, before, rest}
 use Rattle.ffi3_turn_rules.specs.Depth.{deepest}
 use Rattle.ffi3_turn_rules.specs.SoFar.{Base, IsOver, IsInterrupted}
 use Rattle.ffi3_machine.specs.State.{State, image_of}
@@ -24,11 +24,11 @@ use Rattle.ffi3_configuration.specs.declared.activation.Activation.{Activation}
 use Rattle.ffi3_configuration.specs.declared.configuration.Configuration.{Configuration}
 use Rattle.ffi3_configuration.specs.declared.configuration.Turn.{Turn}
 use Rattle.ffi3_configuration.specs.declared.configuration.Turn.TheVariants as turn
-use Rattle.ffi3_configuration.specs.Served.{HasLeft, IsIdle}
+use Rattle.ffi3_configuration.specs.Served.{HasLeft, IsIdle, KeepsCallers}
 use Rattle.ffi3_configuration.specs.Counted.{steps_after, back_at_caller, count_at_end}
 use Rattle.ffi3_configuration.specs.Between.{Beginning, anew, text_so_far, depth_below, IsMarkOf, IsBetween, run_state}
 
--- THE RUN IS OVER: it came to this end, all that was left is done, the output took its text since it was looked at, and the steps are those of its calls.
+-- THE RUN IS OVER: it came to this end, all that was left is done, the output took its text since it was looked at, the steps are those of its calls, and the stack of the callers around it is kept.
 pub record IsEnded (p : Program) (base : Base) (all : Remainder) (first : Beginning) (end : End) (closures : Closures)
     (moves : ℕ) (m : State) (output : SinkState) : Type 0 where
   pub events : List Event
@@ -41,15 +41,32 @@ pub record IsEnded (p : Program) (base : Base) (all : Remainder) (first : Beginn
   pub target : m.target ≡ base.standard.target
   pub reserved : AllByRecursion (λ at. register (image_of 0 m) at ≡ base.held at) base.standard.reserved
   pub holds : HoldsMap base.standard.target closures m.code
+  pub callers : KeepsCallers p base first m.stack
 
 -- a write fails in a line, and memory is refused elsewhere
 abbrev pub is_in_line : IoError → Bool
 is_in_line cut.NoMemory = false
 is_in_line cut.Failed = true
 
--- THE RUN WAS INTERRUPTED: of all that was left this happened, these bytes are told, those since the output was looked at written to it, and these events are recorded. No byte was written below the stack that the calls took that happened, and the code is that of some closures. The steps are those of these calls; where the last of them is the return of a call that is served, its caller has yet to run Return.
-pub record WasInterrupted (p : Program) (base : Base) (all : Remainder) (first : Beginning) (why : IoError) (m : State)
-    (output : SinkState) : Type 0 where
+-- one move was counted, or none
+abbrev pub CountedAtMostOne : (moves left : ℕ) → Type 0
+CountedAtMostOne moves left = (left ≤ moves) × (moves ≤ suc left)
+
+-- WHAT IS LEFT TO DO of all that was left: of what happened all is done but the last item at most, and some call stack goes on from there with these closures, and with so many moves, or with one more where the move that was counted last is not done.
+pub record IsLeft (p : Program) (base : Base) (all : Remainder) (happened : List TraceItem) (closures : Closures)
+    (moves : ℕ) : Type 0 where
+  pub done : List TraceItem
+  pub last : List TraceItem
+  pub happened_is : happened ≡ done ++ last
+  pub one : length last ≤ 1
+  pub call_stack : CallStack
+  pub moves_then : ℕ
+  pub counted : CountedAtMostOne moves_then moves
+  pub follows : all ≡ before done (rest p base.bottom call_stack closures moves_then)
+
+-- THE RUN WAS INTERRUPTED: of all that was left this happened, these bytes are told, those since the output was looked at written to it, and these events are recorded. With these closures, whose code is there, and these moves the rest is left to do. No byte was written below the stack that the calls took that happened, and that of the callers around the run is kept. The steps are those of these calls; where the last of them is the return of a call that is served, its caller has yet to run Return.
+pub record WasInterrupted (p : Program) (base : Base) (all : Remainder) (first : Beginning) (why : IoError)
+    (closures : Closures) (moves : ℕ) (m : State) (output : SinkState) : Type 0 where
   pub happened : List TraceItem
   pub events : List Event
   pub text : List ℕ
@@ -63,33 +80,31 @@ pub record WasInterrupted (p : Program) (base : Base) (all : Remainder) (first :
   pub cause : IsCause why first.output.faults output.faults
   pub mark : IsMarkOf base.top first.mark (deepest p (depth_below p base) happened) m.mark
   pub target : m.target ≡ base.standard.target
-  pub closures : Closures
+  pub left : IsLeft p base all happened closures moves
   pub holds : HoldsMap base.standard.target closures m.code
+  pub callers : KeepsCallers p base first m.stack
 
 -- and beyond this trace at most one item happened
 pub record WasInterruptedAfter (p : Program) (base : Base) (all : Remainder) (first : Beginning) (own : List TraceItem)
-    (why : IoError) (m : State) (output : SinkState) : Type 0 where
-  pub interrupted : WasInterrupted p base all first why m output
+    (why : IoError) (closures : Closures) (moves : ℕ) (m : State) (output : SinkState) : Type 0 where
+  pub interrupted : WasInterrupted p base all first why closures moves m output
   pub more : List TraceItem
   pub happened : interrupted.happened ≡ own ++ more
   pub one : length more ≤ 1
-
--- one move was counted, or none
-abbrev pub CountedAtMostOne : (moves left : ℕ) → Type 0
-CountedAtMostOne moves left = (left ≤ moves) × (moves ≤ suc left)
 
 -- what happens where the outermost activation returns: the call that is served is left, and main was not called
 abbrev pub last_return : Bottom → ValueTree → List TraceItem
 last_return as_main v = []
 last_return (served sig) v = Leave sig v ∷ []
 
--- a machine that looks as it did: journal, mark, steps, target and code are the same
+-- a machine that looks as it did: journal, mark, steps, target, code and stack are the same
 pub record LooksAs (before after : State) : Type 0 where
   pub events : after.events ≡ before.events
   pub mark : after.mark ≡ before.mark
   pub steps : after.steps ≡ before.steps
   pub target : after.target ≡ before.target
   pub code : after.code ≡ before.code
+  pub stack : after.stack ≡ before.stack
 
 -- what a move came to that was interrupted
 abbrev pub turn_of : IoError → Turn
@@ -155,6 +170,6 @@ module _ {S : Type 0} where
   Turned p base all first own moves b m output (turn.Stopped stop) =
       TurnHasStopped p base all first own moves stop b m output
   Turned p base all first own moves b m output turn.NoMemory =
-      WasInterruptedAfter p base all first own cut.NoMemory m output × CountedAtMostOne moves b.moves
+      WasInterruptedAfter p base all first own cut.NoMemory b.table b.moves m output × CountedAtMostOne moves b.moves
   Turned p base all first own moves b m output turn.Failed =
-      WasInterruptedAfter p base all first own cut.Failed m output × CountedAtMostOne moves b.moves
+      WasInterruptedAfter p base all first own cut.Failed b.table b.moves m output × CountedAtMostOne moves b.moves

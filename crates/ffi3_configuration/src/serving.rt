@@ -1,5 +1,5 @@
 //! A call that is served: accepted from what a machine shows at an entry, and left.
-ghost use Rattle.std.specs.Prelude.{◌≡◌, ℕ, ◌<◌, ◌≤◌, List, None, OnOk, [], length, suc, true};
+ghost use Rattle.std.specs.Prelude.{◌≡◌, ℕ, ◌<◌, ◌≤◌, List, None, OnErr, OnOk, [], length, suc, true};
 ghost use Rattle.ffi3_type_rules.specs.Signature.{signature_at};
 ghost use Rattle.ffi3_type_rules.specs.Value.{ValueTree, fits};
 ghost use Rattle.ffi3_values.specs.ValueOf.{value_of};
@@ -35,7 +35,7 @@ use std::alloc::Global;
 impl<S: Drop> Configuration<S> {
     /// Accepts the call of a closure that the machine shows at its entry: the activation of the
     /// closure's function, which stands here before its first move, is then the only one. Where the
-    /// run is traced, the entry is told.
+    /// run is traced, the entry is told; interrupted there, the configuration is as it was.
     pub fn accept_call<A: Abi, O: Sink>(
         &mut self,
         alloc: Global,
@@ -50,6 +50,7 @@ impl<S: Drop> Configuration<S> {
         requires shows { (arguments : List ValueTree) × ShowsCall A.standard (signature_at cifs.now closure.sig) arguments machine.old }
         requires alone { self.old.suspended.items ≡ [] }
         ensures goes { OnOk result (HasAccepted closure standing self.old self.new) }
+        ensures kept { OnErr result (self.new ≡ self.old) }
         ensures accepted { (p : Program) (arguments : List ValueTree) →
             p.signatures ≡ cifs.now → p.need ≡ need_of A.standard →
             ShowsCall A.standard (signature_at cifs.now closure.sig) arguments machine.old →

@@ -75,12 +75,12 @@ module _ (std : Standard) (trace : Bool) (p : Program) (b b₁ : Configuration S
         inl (subst (λ (c : Closure). HasRun std trace p c arguments b m o b' m' o' t) same here)
 
   -- OR IT WAS INTERRUPTED AT ITS ENTRY
-  pub call_cut_off : (why : IoError) (t : RunEnd) → t ≡ end_of why → ((arguments : List ValueTree) → ShowsCall std (signature_at cifs found.sig) arguments m → WasInterruptedAtEntry std s arguments trace why m m₁ o o₁) → Served std trace p b m o b₁ m₁ o₁ t
-  call_cut_off why t answer cuts = λ closure arguments at.
+  pub call_cut_off : (why : IoError) (t : RunEnd) → t ≡ end_of why → b₁ ≡ b → ((arguments : List ValueTree) → ShowsCall std (signature_at cifs found.sig) arguments m → WasInterruptedAtEntry std s arguments trace why m m₁ o o₁) → Served std trace p b m o b₁ m₁ o₁ t
+  call_cut_off why t answer kept cuts = λ closure arguments at.
       let same = one_closure b.table (entered_closure m) found closure live at.live in
       let shows = shows_found std p b.table m found closure arguments cifs are live at in
-      let here : HasNotRun std trace p found arguments b m o m₁ o₁ t = record { why = why; answer = answer; cut_off = cuts arguments shows } in
-      inr (subst (λ (c : Closure). HasNotRun std trace p c arguments b m o m₁ o₁ t) same here)
+      let here : HasNotRun std trace p found arguments b m o b₁ m₁ o₁ t = record { why = why; answer = answer; kept = kept; cut_off = cuts arguments shows } in
+      inr (subst (λ (c : Closure). HasNotRun std trace p c arguments b m o b₁ m₁ o₁ t) same here)
 
 -- THE TARGET STAYS, however a run ended
 ran_target : (p : Program) (began : Base) (all : Remainder) (found : Beginning) (b : Configuration Standing) (m : State) (o : SinkState) (t : RunEnd) → Ran p began all found b m o t → m.target ≡ began.standard.target
@@ -90,7 +90,7 @@ ran_target p began all found b m o run.NoMemory ran = ran.target
 ran_target p began all found b m o run.Failed ran = ran.target
 
 module _ (std : Standard) (trace : Bool) (p : Program) (closure : Closure) (arguments : List ValueTree) (b b' : Configuration Standing) (m m' : State) (o o' : SinkState) (t : RunEnd) where
-  target_is : HasRun std trace p closure arguments b m o b' m' o' t ⊎ HasNotRun std trace p closure arguments b m o m' o' t → m'.target ≡ std.target
+  target_is : HasRun std trace p closure arguments b m o b' m' o' t ⊎ HasNotRun std trace p closure arguments b m o b' m' o' t → m'.target ≡ std.target
   target_is (inl has) =
       ran_target p (served_base std p.signatures closure.sig m) (served_left std p closure arguments m b.table b.moves) (served_beginning std (signature_at p.signatures closure.sig) m has.told (served_tracing trace std p.signatures closure.sig m)) b' m' o' t has.ran
   target_is (inr not) = not.cut_off.target

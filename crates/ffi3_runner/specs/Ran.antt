@@ -21,8 +21,10 @@ use Rattle.ffi3_runner.specs.declared.run.RunEnd.TheVariants as run
 abbrev pub Ran : Program → Base → Remainder → Beginning → Configuration Standing → State → SinkState → RunEnd → Type 0
 Ran p base all first b m output run.Done = IsDone p base all first b m output
 Ran p base all first b m output (run.Stopped stop) = IsEnded p base all first (stopped stop) b.table b.moves m output
-Ran p base all first b m output run.NoMemory = WasInterrupted p base all first cut.NoMemory m output
-Ran p base all first b m output run.Failed = WasInterrupted p base all first cut.Failed m output
+Ran p base all first b m output run.NoMemory =
+    WasInterrupted p base all first cut.NoMemory b.table b.moves m output
+Ran p base all first b m output run.Failed =
+    WasInterrupted p base all first cut.Failed b.table b.moves m output
 
 -- A RUN OF MAIN, traced or not, COMES FROM one moment to another: where it stands at the first it stands at the second, with more done.
 abbrev pub ComesTo : Standard → (trace : Bool) → Program → Configuration Standing → State → SinkState → Configuration Standing → State

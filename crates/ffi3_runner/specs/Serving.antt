@@ -50,10 +50,11 @@ module _ (std : Standard) (trace : Bool) (p : Program) (closure : Closure) (argu
         (served_tracing trace std p.signatures closure.sig m))
         b' m' output' end
 
-  -- or it was interrupted in the lines of its entry, or before them
-  pub record HasNotRun (m' : State) (output' : SinkState) (end : RunEnd) : Type 0 where
+  -- or it was interrupted in the lines of its entry, or before them, and the configuration is as it was
+  pub record HasNotRun (b' : Configuration Standing) (m' : State) (output' : SinkState) (end : RunEnd) : Type 0 where
     pub why : IoError
     pub answer : end ≡ end_of why
+    pub kept : b' ≡ b
     pub cut_off :
         WasInterruptedAtEntry std (signature_at p.signatures closure.sig) arguments trace why m m' output output'
 
@@ -63,4 +64,4 @@ abbrev pub Served : Standard → (trace : Bool) → Program → Configuration St
 Served std trace p b m output b' m' output' end =
     (closure : Closure) (arguments : List ValueTree) → IsAtEntry std p b.table m closure arguments
     → HasRun std trace p closure arguments b m output b' m' output' end
-    ⊎ HasNotRun std trace p closure arguments b m output m' output' end
+    ⊎ HasNotRun std trace p closure arguments b m output b' m' output' end

@@ -1,5 +1,5 @@
 //! The runner: what a run is prepared with, and its configuration.
-ghost use Rattle.std.specs.Prelude.{◌≡◌, ◌*◌, ◌%◌, ◌<◌, ◌≤◌, ◌^◌, Bool, IfOk, List, [], false, length, suc, true};
+ghost use Rattle.std.specs.Prelude.{◌≡◌, ◌*◌, ◌%◌, ◌<◌, ◌≤◌, ◌^◌, ◌⊎◌, Bool, IfOk, List, [], false, length, suc, true};
 ghost use Rattle.ffi3_type_rules.specs.Value.{ValueTree, void_value};
 ghost use Rattle.ffi3_place_rules.specs.Event.{Event};
 ghost use Rattle.ffi3_run_rules.specs.Meaning.{meaning_of, returned, stopped};
@@ -24,7 +24,7 @@ ghost use Rattle.ffi3_runner.specs.Ready.{CanGoOn, traced_or_not};
 ghost use Rattle.ffi3_runner.specs.RunInterrupted.{RunWasInterrupted};
 ghost use Rattle.ffi3_runner.specs.RunMatches.{RunMatches, WrotePart};
 ghost use Rattle.ffi3_runner.specs.Serving.{IsAtEntry, Served};
-ghost use Rattle.ffi3_runner.specs.Started.{MainHasReturned, MainHasStopped, main_beginning};
+ghost use Rattle.ffi3_runner.specs.Started.{MainHasReturned, MainHasStopped, MainWasInterrupted, main_beginning};
 ghost use Rattle.ffi3_runner.specs.Running.{IsNew, IsPrepared, program};
 
 use crate::prepare::{Prepared, prepare_all};
@@ -210,6 +210,8 @@ impl<'a, A: Abi> Runner<'a, A> {
             MainHasReturned (program A.standard self.old.prepared.script.now (handed title meaning signatures self.old.prepared.natives.now.items)) self.new.configuration machine.new }
         ensures left_at_stop { (stop : Stop) → result ≡ RunEnd.Stopped stop →
             MainHasStopped (program A.standard self.old.prepared.script.now (handed title meaning signatures self.old.prepared.natives.now.items)) self.new.configuration }
+        ensures left_when_cut { (result ≡ RunEnd.NoMemory) ⊎ (result ≡ RunEnd.Failed) →
+            MainWasInterrupted A.standard (program A.standard self.old.prepared.script.now (handed title meaning signatures self.old.prepared.natives.now.items)) self.new.configuration machine.new }
         ensures prepared { self.new.prepared ≡ self.old.prepared }
         ensures over { self.new.over ≡ true }
     {

@@ -20,10 +20,10 @@ no_end cut.Failed is = cc
 
 module _ (std : Standard) (trace : Bool) (p : Program) (closure : Closure) (arguments : List ValueTree) (b : Configuration Standing) (m : State) (output : SinkState) (b' : Configuration Standing) (m' : State) (output' : SinkState) where
   -- where it returned, the return address is popped
-  popped : HasRun std trace p closure arguments b m output b' m' output' run.Done ⊎ HasNotRun std trace p closure arguments b m output m' output' run.Done → m'.sp ≡ m.sp + std.link
+  popped : HasRun std trace p closure arguments b m output b' m' output' run.Done ⊎ HasNotRun std trace p closure arguments b m output b' m' output' run.Done → m'.sp ≡ m.sp + std.link
   popped (inl has) = has.ran.left.sp
   popped (inr not) = absurd (no_end not.why not.answer)
 
   pub returned_sp : (end : RunEnd) → end ≡ run.Done → IsAtEntry std p b.table m closure arguments → Served std trace p b m output b' m' output' end → m'.sp ≡ m.sp + std.link
   returned_sp end is entry served =
-      popped (subst (λ (e : RunEnd). HasRun std trace p closure arguments b m output b' m' output' e ⊎ HasNotRun std trace p closure arguments b m output m' output' e) is (served closure arguments entry))
+      popped (subst (λ (e : RunEnd). HasRun std trace p closure arguments b m output b' m' output' e ⊎ HasNotRun std trace p closure arguments b m output b' m' output' e) is (served closure arguments entry))

@@ -46,7 +46,7 @@ returns-in_default-asked-clause-turned g c = λ base all first own events standa
     let m = c.args.machine.now in
     let o = g.O.Sink.state c.args.output.now in
     let is : b.innermost ≡ Some a = search rules in
-    (cut_between _ base all first own events (run_state _ a b m o) m (looks_as_itself m) (between_of _ base all first own events b a m o is h), (omega arith, omega arith))
+    (cut_between _ base all first own events (run_state _ a b m o) b.moves m (omega arith, omega arith) (looks_as_itself m) (between_of _ base all first own events b a m o is h), (omega arith, omega arith))
 
 pub sig_of-sig-requires-clause-below : goal.sig_of-sig-requires-clause-below
 sig_of-sig-requires-clause-below g c =

@@ -66,7 +66,7 @@ returns-in-Err g c =
     let o' = g.O.Sink.state c.accept_call.new.output in
     let found = c.in-Some.closure in
     let live : closure_at b.table (entered_closure m) ≡ Some found = search rules in
-    call_cut_off g.A.Abi.standard c.args.trace _ b c.accept_call.new.self m c.accept_call.new.machine o o' found c.args.self.now.cifs c.requires.prepared.are live c.in-Err.why c.cut_off.result c.cut_off.ensures (λ arguments shows. c.in-Err.ensures.accepted _ arguments (sym c.requires.prepared.are) refl shows c.requires.holds c.requires.idle.known c.requires.idle.few)
+    call_cut_off g.A.Abi.standard c.args.trace _ b c.accept_call.new.self m c.accept_call.new.machine o o' found c.args.self.now.cifs c.requires.prepared.are live c.in-Err.why c.cut_off.result c.cut_off.ensures c.in-Err.ensures.kept (λ arguments shows. c.in-Err.ensures.accepted _ arguments (sym c.requires.prepared.are) refl shows c.requires.holds c.requires.idle.known c.requires.idle.few)
 
 pub returns : goal.returns
 returns g c =
