@@ -646,15 +646,15 @@ impl Abi for Aapcs64 {
 
     ghost PASSING = { length aapcs64.argument_registers };
 
-    const SAVE: u64 = 176;
+    const SAVE: u64 = 8 * (CALLEE_SAVED.len() as u64 + 3);
 
     const LINK: u64 = 0;
 
     const TARGET: Target = Target::Aapcs64;
 
-    const KEPT: u8 = 19;
+    const KEPT: u8 = CALLEE_SAVED.len() as u8;
 
-    const PASSING: u8 = 17;
+    const PASSING: u8 = PASSING_REGISTERS.len() as u8;
 
     fn callee_saved(k: u8) -> Loc {
         CALLEE_SAVED[k as usize]

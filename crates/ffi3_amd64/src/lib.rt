@@ -204,7 +204,7 @@ const ARGUMENT_REGISTERS: [u8; 6] = [7, 6, 2, 1, 8, 9];
 const RESULT_REGISTERS: [u8; 2] = [0, 2];
 
 /// rbx, rbp, r12 to r15
-const PRESERVED_REGISTERS: [u8; 6] = [3, 5, 12, 13, 14, 15];
+const CALLEE_SAVED: [u8; 6] = [3, 5, 12, 13, 14, 15];
 
 /// The register of an eightbyte of a class, where `general` and `vector` are the numbers of the next ones.
 fn register(class: Class, general: u64, vector: u64, registers: &[u8]) -> Loc
@@ -426,12 +426,12 @@ pub struct Amd64;
 
 /// rdi, rsi, rdx, rcx, r8 and r9, and xmm0 to xmm7
 const PASSING_REGISTERS: [Loc; 14] = [
-    Loc::G(7),
-    Loc::G(6),
-    Loc::G(2),
-    Loc::G(1),
-    Loc::G(8),
-    Loc::G(9),
+    Loc::G(ARGUMENT_REGISTERS[0]),
+    Loc::G(ARGUMENT_REGISTERS[1]),
+    Loc::G(ARGUMENT_REGISTERS[2]),
+    Loc::G(ARGUMENT_REGISTERS[3]),
+    Loc::G(ARGUMENT_REGISTERS[4]),
+    Loc::G(ARGUMENT_REGISTERS[5]),
     Loc::F(0),
     Loc::F(1),
     Loc::F(2),
@@ -463,28 +463,28 @@ impl Abi for Amd64 {
 
     ghost standard = { amd64 };
 
-    ghost SAVE = { 56 };
+    ghost SAVE = { amd64.save };
 
-    ghost LINK = { 8 };
+    ghost LINK = { amd64.link };
 
     ghost TARGET = { target.Amd64 };
 
-    ghost KEPT = { 6 };
+    ghost KEPT = { length amd64.preserved };
 
     ghost PASSING = { length amd64.argument_registers };
 
-    const SAVE: u64 = 56;
+    const SAVE: u64 = 8 * (CALLEE_SAVED.len() as u64 + 1);
 
     const LINK: u64 = 8;
 
     const TARGET: Target = Target::Amd64;
 
-    const KEPT: u8 = 6;
+    const KEPT: u8 = CALLEE_SAVED.len() as u8;
 
-    const PASSING: u8 = 14;
+    const PASSING: u8 = PASSING_REGISTERS.len() as u8;
 
     fn callee_saved(k: u8) -> Loc {
-        Loc::G(PRESERVED_REGISTERS[k as usize])
+        Loc::G(CALLEE_SAVED[k as usize])
     }
 
     fn passing_register(k: u8) -> Loc {

@@ -510,7 +510,7 @@ fn place_result(alloc: Global, ty: &CheckedType<'_>, buffer: u64) -> Result<Res,
 }
 
 /// s0 to s11 and fs0 to fs11, which a callee saves.
-const REGISTERS: [Loc; 24] = [
+const CALLEE_SAVED: [Loc; 24] = [
     Loc::G(8),
     Loc::G(9),
     Loc::G(18),
@@ -588,18 +588,18 @@ impl Abi for Riscv {
 
     ghost PASSING = { length riscv.argument_registers };
 
-    const SAVE: u64 = 208;
+    const SAVE: u64 = 8 * (CALLEE_SAVED.len() as u64 + 2);
 
     const LINK: u64 = 0;
 
     const TARGET: Target = Target::Riscv;
 
-    const KEPT: u8 = 24;
+    const KEPT: u8 = CALLEE_SAVED.len() as u8;
 
-    const PASSING: u8 = 16;
+    const PASSING: u8 = PASSING_REGISTERS.len() as u8;
 
     fn callee_saved(k: u8) -> Loc {
-        REGISTERS[k as usize]
+        CALLEE_SAVED[k as usize]
     }
 
     fn passing_register(k: u8) -> Loc {
@@ -611,7 +611,7 @@ impl Abi for Riscv {
         if k == 0 {
             SaveWord::Register(Loc::G(1))
         } else if k <= Self::KEPT {
-            SaveWord::Register(REGISTERS[k as usize - 1])
+            SaveWord::Register(CALLEE_SAVED[k as usize - 1])
         } else {
             SaveWord::Hidden
         }

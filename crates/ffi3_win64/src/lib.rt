@@ -255,7 +255,7 @@ fn place_result(alloc: Global, ty: &CheckedType<'_>, end: u64) -> Result<Res, No
 // ---- the standard
 
 /// The nonvolatile registers: rbx, rbp, rdi, rsi, r12 to r15, and the low halves of xmm6 to xmm15.
-const NONVOLATILE: [Loc; 18] = [
+const CALLEE_SAVED: [Loc; 18] = [
     Loc::G(3),
     Loc::G(5),
     Loc::G(7),
@@ -319,18 +319,18 @@ impl Abi for Win64 {
 
     ghost PASSING = { length win64.argument_registers };
 
-    const SAVE: u64 = 8 * (NONVOLATILE.len() as u64 + 1);
+    const SAVE: u64 = 8 * (CALLEE_SAVED.len() as u64 + 1);
 
     const LINK: u64 = 8;
 
     const TARGET: Target = Target::Win64;
 
-    const KEPT: u8 = NONVOLATILE.len() as u8;
+    const KEPT: u8 = CALLEE_SAVED.len() as u8;
 
     const PASSING: u8 = PASSING_REGISTERS.len() as u8;
 
     fn callee_saved(k: u8) -> Loc {
-        NONVOLATILE[k as usize]
+        CALLEE_SAVED[k as usize]
     }
 
     fn passing_register(k: u8) -> Loc {
