@@ -11,7 +11,7 @@ ghost use Rattle.ffi3_cif.specs.Runs.{AreRunsOf, pieces_of};
 mod runs;
 
 use ffi3_place::{Abi, Place, Plan, Res};
-use ffi3_types::{FfiType, Fields, NoMemory, Sig, SigFault, check_sig};
+use ffi3_types::{CheckedSig, FfiType, Fields, NoMemory, Sig, SigFault, check_sig};
 pub use runs::{Run, Runs};
 use runs::{AllRuns, runs_in_frame};
 use std::alloc::Global;
@@ -81,6 +81,14 @@ impl<A: Abi> Cif<A> {
         ensures faultless { SignatureHasNoFault self.now }
     {
         &self.sig
+    }
+
+    /// The signature, as one of which it is known that it has no fault.
+    pub fn checked_sig(&self) -> CheckedSig<'_>
+        ensures value { result ≡ self.now }
+        ensures faultless { SignatureHasNoFault self.now }
+    {
+        CheckedSig::of(&self.sig)
     }
 
     /// All the stack that a call takes, in bytes.

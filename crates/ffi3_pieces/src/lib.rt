@@ -6,7 +6,6 @@ ghost use Rattle.std.specs.List.{AllByRecursion};
 ghost use Rattle.std.specs.Int.{w64, to_le_bytes};
 ghost use Rattle.ffi3_type_rules.specs.Tree.{trees_of};
 ghost use Rattle.ffi3_type_rules.specs.Layout.{size_of};
-ghost use Rattle.ffi3_type_rules.specs.Fault.{IsLaidOut};
 ghost use Rattle.ffi3_type_rules.specs.Integer.{is_number_type, scalar_of, widened_from_32};
 ghost use Rattle.ffi3_type_rules.specs.Value.{all_fit, bytes_of, fits, value_in, values_of};
 ghost use Rattle.ffi3_types.specs.TreeOf.{tree_of};
@@ -27,11 +26,10 @@ mod registers;
 mod running;
 
 use ffi3_cif::{Cif, Runs};
-use ffi3_machine::Machine;
-use ffi3_place::parts::{argument, count_of, size_of};
+use ffi3_machine::{Machine, StackBase};
 use ffi3_place::{Abi, Ext, Loc, Piece, Pieces, Place, Res};
 use ffi3_type_rules::limits::LARGEST_TYPE;
-use ffi3_types::FfiType;
+use ffi3_types::{CheckedType, FfiType};
 use ffi3_values::{Value, Values, number, widen, write_bytes};
 use load::word_of;
 pub use load::{load_piece, own_word, place_bytes, place_word};
@@ -53,9 +51,7 @@ fn with_low(word: u64, bytes: &[u8]) -> u64
 }
 
 /// Puts bytes into a place, whose other bytes stay. Stack places count from the address `base`.
-pub fn put(machine: &mut Machine, base: u64, at: Loc, bytes: &[u8])
-    requires low { STACK ≤ base }
-    requires high { base ≤ STACK_TOP }
+pub fn put(machine: &mut Machine, base: StackBase, at: Loc, bytes: &[u8])
     requires lies { IsPlace (STACK_TOP - base) at }
     requires writable { IsWritable machine.old.target at }
     requires few { length bytes.now ≤ 8 }
@@ -72,14 +68,12 @@ pub fn put(machine: &mut Machine, base: u64, at: Loc, bytes: &[u8])
             let word = with_low(passed_floating(machine, r), bytes);
             pass_floating(machine, r, word);
         }
-        Loc::S(n) => machine.store_stack(base + n as u64, bytes),
+        Loc::S(n) => machine.store_stack(base.address() + n as u64, bytes),
     }
 }
 
 /// Puts a number into a place. Stack places count from the address `base`.
-pub fn put_word(machine: &mut Machine, base: u64, at: Loc, word: u64)
-    requires low { STACK ≤ base }
-    requires high { base ≤ STACK_TOP }
+pub fn put_word(machine: &mut Machine, base: StackBase, at: Loc, word: u64)
     requires lies { IsPlace (STACK_TOP - base) at }
     requires writable { IsWritable machine.old.target at }
     ensures { IsWordPut base at word (passing machine.old) (passing machine.new) }
@@ -89,9 +83,7 @@ pub fn put_word(machine: &mut Machine, base: u64, at: Loc, word: u64)
 
 /// Puts the bytes that a piece carries into its place, whose other bytes stay. Stack places count from the address
 /// `base`.
-pub fn set_piece(machine: &mut Machine, base: u64, piece: Piece, bytes: &[u8])
-    requires low { STACK ≤ base }
-    requires high { base ≤ STACK_TOP }
+pub fn set_piece(machine: &mut Machine, base: StackBase, piece: Piece, bytes: &[u8])
     requires lies { IsPlace (STACK_TOP - base) piece.loc }
     requires writable { IsWritable machine.old.target piece.loc }
     requires fits { IsWithin (length bytes.now) piece }
@@ -140,26 +132,25 @@ fn widen_from_32(ty: &FfiType, value: &Value) -> u64
 // value's bytes in memory.
 fn fill_piece(
     machine: &mut Machine,
-    base: u64,
+    base: StackBase,
     piece: Piece,
-    ty: &FfiType,
+    ty: &CheckedType<'_>,
     value: &Value,
     bytes: &[u8],
 )
-    requires low { STACK ≤ base }
-    requires high { base ≤ STACK_TOP }
     requires lies { IsPlace (STACK_TOP - base) piece.loc }
     requires writable { IsWritable machine.old.target piece.loc }
-    requires part { IsPieceOf (tree_of ty.now) piece }
-    requires sized { length bytes.now ≡ size_of (tree_of ty.now) }
-    requires reads { value_in (tree_of ty.now) bytes.now ≡ value_of value.now }
-    requires fits { fits (tree_of ty.now) (value_of value.now) ≡ true }
-    ensures { IsSetAndFilled base (tree_of ty.now) (value_of value.now) bytes.now piece (passing machine.old) (passing machine.new) }
+    requires part { IsPieceOf ty.now piece }
+    requires sized { length bytes.now ≡ size_of ty.now }
+    requires reads { value_in ty.now bytes.now ≡ value_of value.now }
+    requires fits { fits ty.now (value_of value.now) ≡ true }
+    ensures { IsSetAndFilled base ty.now (value_of value.now) bytes.now piece (passing machine.old) (passing machine.new) }
 {
+    let plain = ty.as_type();
     match piece.ext {
         Ext::Free => set_piece(machine, base, piece, bytes),
-        Ext::Widen => put_word(machine, base, piece.loc, widen(ty, value)),
-        Ext::Riscv => put_word(machine, base, piece.loc, widen_from_32(ty, value)),
+        Ext::Widen => put_word(machine, base, piece.loc, widen(plain, value)),
+        Ext::Riscv => put_word(machine, base, piece.loc, widen_from_32(plain, value)),
         Ext::Boxed => put_word(machine, base, piece.loc, boxed(bytes, piece.off as usize)),
     }
 }
@@ -169,25 +160,22 @@ fn fill_piece(
 /// count from the address `base`.
 pub fn store_piece(
     machine: &mut Machine,
-    base: u64,
+    base: StackBase,
     piece: Piece,
-    ty: &FfiType,
+    ty: &CheckedType<'_>,
     value: &Value,
     bytes: &mut [u8],
 )
-    requires low { STACK ≤ base }
-    requires high { base ≤ STACK_TOP }
     requires lies { IsPlace (STACK_TOP - base) piece.loc }
     requires writable { IsWritable machine.old.target piece.loc }
-    requires part { IsPieceOf (tree_of ty.now) piece }
-    requires right { IsLaidOut (tree_of ty.now) }
-    requires fits { fits (tree_of ty.now) (value_of value.now) ≡ true }
-    requires sized { length bytes.old ≡ size_of (tree_of ty.now) }
-    ensures stored { IsStored base (tree_of ty.now) (value_of value.now) piece (passing machine.old) (passing machine.new) }
+    requires part { IsPieceOf ty.now piece }
+    requires fits { fits ty.now (value_of value.now) ≡ true }
+    requires sized { length bytes.old ≡ size_of ty.now }
+    ensures stored { IsStored base ty.now (value_of value.now) piece (passing machine.old) (passing machine.new) }
     ensures sized { length bytes.new ≡ length bytes.old }
 {
     load_piece(machine, base, &piece, bytes);
-    write_bytes(ty, value, bytes);
+    write_bytes(ty.as_type(), value, bytes);
     fill_piece(machine, base, piece, ty, value, bytes);
 }
 
@@ -210,22 +198,19 @@ fn goes_by_run(piece: &Piece) -> bool
 // Stores a piece of a value that does not go by a run.
 fn store_other(
     machine: &mut Machine,
-    base: u64,
+    base: StackBase,
     piece: Piece,
-    ty: &FfiType,
+    ty: &CheckedType<'_>,
     value: &Value,
     bytes: &mut [u8],
 )
-    requires low { STACK ≤ base }
-    requires high { base ≤ STACK_TOP }
     requires lies { IsPlace (STACK_TOP - base) piece.loc }
     requires writable { IsWritable machine.old.target piece.loc }
-    requires part { IsPieceOf (tree_of ty.now) piece }
-    requires right { IsLaidOut (tree_of ty.now) }
-    requires fits { fits (tree_of ty.now) (value_of value.now) ≡ true }
-    requires sized { length bytes.old ≡ size_of (tree_of ty.now) }
-    requires given { goes_by_run piece.loc piece.ext ≡ true → PieceStands base (passing machine.old) (tree_of ty.now) (value_of value.now) piece }
-    ensures stored { IsStored base (tree_of ty.now) (value_of value.now) piece (passing machine.old) (passing machine.new) }
+    requires part { IsPieceOf ty.now piece }
+    requires fits { fits ty.now (value_of value.now) ≡ true }
+    requires sized { length bytes.old ≡ size_of ty.now }
+    requires given { goes_by_run piece.loc piece.ext ≡ true → PieceStands base (passing machine.old) ty.now (value_of value.now) piece }
+    ensures stored { IsStored base ty.now (value_of value.now) piece (passing machine.old) (passing machine.new) }
     ensures sized { length bytes.new ≡ length bytes.old }
 {
     if !goes_by_run(&piece) {
@@ -236,24 +221,21 @@ fn store_other(
 // Stores all pieces of a value that do not go by runs, by way of `bytes`, which are as many as it has.
 fn store_each(
     machine: &mut Machine,
-    base: u64,
+    base: StackBase,
     pieces: &Pieces,
-    ty: &FfiType,
+    ty: &CheckedType<'_>,
     value: &Value,
     bytes: &mut [u8],
 )
-    requires low { STACK ≤ base }
-    requires high { base ≤ STACK_TOP }
     requires lie { AllByRecursion (IsPlace (STACK_TOP - base)) (piece_locs pieces.now) }
     requires writable { AllByRecursion (IsWritable machine.old.target) (piece_locs pieces.now) }
     requires apart { AreApart (piece_locs pieces.now) }
-    requires parts { AllByRecursion (IsPieceOf (tree_of ty.now)) pieces.now }
-    requires right { IsLaidOut (tree_of ty.now) }
-    requires fits { fits (tree_of ty.now) (value_of value.now) ≡ true }
-    requires sized { length bytes.old ≡ size_of (tree_of ty.now) }
-    requires given { AllByRecursion (λ p. goes_by_run p.loc p.ext ≡ true → PieceStands base (passing machine.old) (tree_of ty.now) (value_of value.now) p) pieces.now }
-    ensures stand { PiecesStand base (passing machine.new) (tree_of ty.now) (value_of value.now) pieces.now }
-    ensures unused { AllByRecursion (KeepsUnused base (tree_of ty.now) (passing machine.old) (passing machine.new)) pieces.now }
+    requires parts { AllByRecursion (IsPieceOf ty.now) pieces.now }
+    requires fits { fits ty.now (value_of value.now) ≡ true }
+    requires sized { length bytes.old ≡ size_of ty.now }
+    requires given { AllByRecursion (λ p. goes_by_run p.loc p.ext ≡ true → PieceStands base (passing machine.old) ty.now (value_of value.now) p) pieces.now }
+    ensures stand { PiecesStand base (passing machine.new) ty.now (value_of value.now) pieces.now }
+    ensures unused { AllByRecursion (KeepsUnused base ty.now (passing machine.old) (passing machine.new)) pieces.now }
     ensures stays { Stays base (piece_locs pieces.now) (passing machine.old) (passing machine.new) }
     ensures within { (room : ℕ) → AllByRecursion (IsPlace room) (piece_locs pieces.now) → WroteWithin base (base + room) (passing machine.old) (passing machine.new) }
 {
@@ -265,23 +247,20 @@ fn store_each(
 // Stores all pieces of a value that stands in registers, by way of `bytes`, which are as many as it has.
 fn store_pieces_by(
     machine: &mut Machine,
-    base: u64,
+    base: StackBase,
     pieces: &Pieces,
-    ty: &FfiType,
+    ty: &CheckedType<'_>,
     value: &Value,
     bytes: &mut [u8],
 )
-    requires low { STACK ≤ base }
-    requires high { base ≤ STACK_TOP }
     requires registers { AllByRecursion (IsPlace 0) (piece_locs pieces.now) }
     requires writable { AllByRecursion (IsWritable machine.old.target) (piece_locs pieces.now) }
     requires apart { AreApart (piece_locs pieces.now) }
-    requires parts { AllByRecursion (IsPieceOf (tree_of ty.now)) pieces.now }
-    requires right { IsLaidOut (tree_of ty.now) }
-    requires fits { fits (tree_of ty.now) (value_of value.now) ≡ true }
-    requires sized { length bytes.old ≡ size_of (tree_of ty.now) }
-    ensures stand { PiecesStand base (passing machine.new) (tree_of ty.now) (value_of value.now) pieces.now }
-    ensures unused { AllByRecursion (KeepsUnused base (tree_of ty.now) (passing machine.old) (passing machine.new)) pieces.now }
+    requires parts { AllByRecursion (IsPieceOf ty.now) pieces.now }
+    requires fits { fits ty.now (value_of value.now) ≡ true }
+    requires sized { length bytes.old ≡ size_of ty.now }
+    ensures stand { PiecesStand base (passing machine.new) ty.now (value_of value.now) pieces.now }
+    ensures unused { AllByRecursion (KeepsUnused base ty.now (passing machine.old) (passing machine.new)) pieces.now }
     ensures stays { Stays base (piece_locs pieces.now) (passing machine.old) (passing machine.new) }
     ensures within { (room : ℕ) → AllByRecursion (IsPlace room) (piece_locs pieces.now) → WroteWithin base (base + room) (passing machine.old) (passing machine.new) }
 {
@@ -290,21 +269,24 @@ fn store_pieces_by(
 
 /// Stores all pieces of a value that stands in registers, and fills the rest of them. Padding keeps what stood there,
 /// and so does the rest of a register where nothing fills it.
-pub fn store_pieces(machine: &mut Machine, base: u64, pieces: &Pieces, ty: &FfiType, value: &Value)
-    requires low { STACK ≤ base }
-    requires high { base ≤ STACK_TOP }
+pub fn store_pieces(
+    machine: &mut Machine,
+    base: StackBase,
+    pieces: &Pieces,
+    ty: &CheckedType<'_>,
+    value: &Value,
+)
     requires registers { AllByRecursion (IsPlace 0) (piece_locs pieces.now) }
     requires writable { AllByRecursion (IsWritable machine.old.target) (piece_locs pieces.now) }
     requires apart { AreApart (piece_locs pieces.now) }
-    requires parts { AllByRecursion (IsPieceOf (tree_of ty.now)) pieces.now }
-    requires right { IsLaidOut (tree_of ty.now) }
-    requires fits { fits (tree_of ty.now) (value_of value.now) ≡ true }
-    ensures stand { PiecesStand base (passing machine.new) (tree_of ty.now) (value_of value.now) pieces.now }
-    ensures unused { AllByRecursion (KeepsUnused base (tree_of ty.now) (passing machine.old) (passing machine.new)) pieces.now }
+    requires parts { AllByRecursion (IsPieceOf ty.now) pieces.now }
+    requires fits { fits ty.now (value_of value.now) ≡ true }
+    ensures stand { PiecesStand base (passing machine.new) ty.now (value_of value.now) pieces.now }
+    ensures unused { AllByRecursion (KeepsUnused base ty.now (passing machine.old) (passing machine.new)) pieces.now }
     ensures stays { Stays base (piece_locs pieces.now) (passing machine.old) (passing machine.new) }
     ensures within { (room : ℕ) → AllByRecursion (IsPlace room) (piece_locs pieces.now) → WroteWithin base (base + room) (passing machine.old) (passing machine.new) }
 {
-    let size = size_of(ty) as usize;
+    let size = ty.size() as usize;
     if size <= SMALL {
         let mut room = [0; SMALL];
         store_pieces_by(machine, base, pieces, ty, value, &mut room[..size]);
@@ -318,28 +300,27 @@ pub fn store_pieces(machine: &mut Machine, base: u64, pieces: &Pieces, ty: &FfiT
 // where something fills the rest of a place.
 fn store_direct(
     machine: &mut Machine,
-    base: u64,
+    base: StackBase,
     pieces: &Pieces,
     runs: &Runs,
-    ty: &FfiType,
+    ty: &CheckedType<'_>,
     value: &Value,
     bytes: &mut [u8],
 )
-    requires low { STACK ≤ base }
-    requires high { base ≤ STACK_TOP }
     requires lie { AllByRecursion (IsPlace (STACK_TOP - base)) (piece_locs pieces.now) }
     requires writable { AllByRecursion (IsWritable machine.old.target) (piece_locs pieces.now) }
     requires apart { AreApart (piece_locs pieces.now) }
     requires runs { AreRunsOf pieces.now runs.now }
-    requires parts { AllByRecursion (IsPieceOf (tree_of ty.now)) pieces.now }
-    requires right { IsLaidOut (tree_of ty.now) }
-    requires fits { fits (tree_of ty.now) (value_of value.now) ≡ true }
-    requires sized { length bytes.old ≡ size_of (tree_of ty.now) }
-    ensures stand { PiecesStand base (passing machine.new) (tree_of ty.now) (value_of value.now) pieces.now }
-    ensures unused { AllByRecursion (KeepsUnused base (tree_of ty.now) (passing machine.old) (passing machine.new)) pieces.now }
+    requires parts { AllByRecursion (IsPieceOf ty.now) pieces.now }
+    requires fits { fits ty.now (value_of value.now) ≡ true }
+    requires sized { length bytes.old ≡ size_of ty.now }
+    ensures stand { PiecesStand base (passing machine.new) ty.now (value_of value.now) pieces.now }
+    ensures unused { AllByRecursion (KeepsUnused base ty.now (passing machine.old) (passing machine.new)) pieces.now }
     ensures stays { Stays base (piece_locs pieces.now) (passing machine.old) (passing machine.new) }
     ensures within { (room : ℕ) → AllByRecursion (IsPlace room) (piece_locs pieces.now) → WroteWithin base (base + room) (passing machine.old) (passing machine.new) }
 {
+    // its contract tells where it lies
+    let _at = base.address();
     store_runs(machine, base, runs, ty, value, bytes);
     store_each(machine, base, pieces, ty, value, bytes);
 }
@@ -348,29 +329,27 @@ fn store_direct(
 // from `base` on, and the copy's address in a place. The copy's padding keeps what stood there.
 fn store_copy(
     machine: &mut Machine,
-    base: u64,
+    base: StackBase,
     at: Loc,
     copy: u32,
-    ty: &FfiType,
+    ty: &CheckedType<'_>,
     value: &Value,
     bytes: &mut [u8],
 )
-    requires low { STACK ≤ base }
-    requires high { base + copy + size_of (tree_of ty.now) ≤ STACK_TOP }
+    requires high { base + copy + size_of ty.now ≤ STACK_TOP }
     requires lies { IsPlace (STACK_TOP - base) at }
     requires writable { IsWritable machine.old.target at }
-    requires apart { AllByRecursion (Apart at) (stack_words_for copy (tree_of ty.now)) }
-    requires right { IsLaidOut (tree_of ty.now) }
-    requires fits { fits (tree_of ty.now) (value_of value.now) ≡ true }
-    requires sized { length bytes.old ≡ size_of (tree_of ty.now) }
-    ensures { IsCopied base (tree_of ty.now) (value_of value.now) at copy (passing machine.old) (passing machine.new) }
+    requires apart { AllByRecursion (Apart at) (stack_words_for copy ty.now) }
+    requires fits { fits ty.now (value_of value.now) ≡ true }
+    requires sized { length bytes.old ≡ size_of ty.now }
+    ensures { IsCopied base ty.now (value_of value.now) at copy (passing machine.old) (passing machine.new) }
 {
     // its contract tells what is true of every machine
     let _m = machine.sp();
-    let start = base + copy as u64;
-    let size = size_of(ty);
+    let start = base.address() + copy as u64;
+    let size = ty.size();
     bytes.copy_from_slice(machine.lend_stack(start, size));
-    write_bytes(ty, value, bytes);
+    write_bytes(ty.as_type(), value, bytes);
     machine.store_stack(start, bytes);
     put_word(machine, base, at, start);
 }
@@ -378,27 +357,24 @@ fn store_copy(
 // Stores an argument at its place, by way of `bytes`, which are as many as it has.
 fn store_place_by(
     machine: &mut Machine,
-    base: u64,
+    base: StackBase,
     place: &Place,
     runs: &Runs,
-    ty: &FfiType,
+    ty: &CheckedType<'_>,
     value: &Value,
     bytes: &mut [u8],
 )
-    requires low { STACK ≤ base }
-    requires high { base ≤ STACK_TOP }
-    requires lies { PlaceLies (STACK_TOP - base) (tree_of ty.now) place.now }
+    requires lies { PlaceLies (STACK_TOP - base) ty.now place.now }
     requires writable { AllByRecursion (IsWritable machine.old.target) (place_locs place.now) }
-    requires apart { AreApart (place_uses (tree_of ty.now) place.now) }
-    requires has_all { PlaceHasAll (tree_of ty.now) place.now }
+    requires apart { AreApart (place_uses ty.now place.now) }
+    requires has_all { PlaceHasAll ty.now place.now }
     requires runs { AreRunsOf (pieces_of place.now) runs.now }
-    requires right { IsLaidOut (tree_of ty.now) }
-    requires fits { fits (tree_of ty.now) (value_of value.now) ≡ true }
-    requires sized { length bytes.old ≡ size_of (tree_of ty.now) }
-    ensures stands { PlaceStands base (passing machine.new) (tree_of ty.now) (value_of value.now) place.now }
-    ensures unused { PlaceKeepsUnused base (tree_of ty.now) (passing machine.old) (passing machine.new) place.now }
-    ensures stays { Stays base (place_uses (tree_of ty.now) place.now) (passing machine.old) (passing machine.new) }
-    ensures within { (room : ℕ) → PlaceLies room (tree_of ty.now) place.now → WroteWithin base (base + room) (passing machine.old) (passing machine.new) }
+    requires fits { fits ty.now (value_of value.now) ≡ true }
+    requires sized { length bytes.old ≡ size_of ty.now }
+    ensures stands { PlaceStands base (passing machine.new) ty.now (value_of value.now) place.now }
+    ensures unused { PlaceKeepsUnused base ty.now (passing machine.old) (passing machine.new) place.now }
+    ensures stays { Stays base (place_uses ty.now place.now) (passing machine.old) (passing machine.new) }
+    ensures within { (room : ℕ) → PlaceLies room ty.now place.now → WroteWithin base (base + room) (passing machine.old) (passing machine.new) }
 {
     match place {
         Place::Direct(pieces) => store_direct(machine, base, pieces, runs, ty, value, bytes),
@@ -410,27 +386,24 @@ fn store_place_by(
 /// `base`.
 pub fn store_place(
     machine: &mut Machine,
-    base: u64,
+    base: StackBase,
     place: &Place,
     runs: &Runs,
-    ty: &FfiType,
+    ty: &CheckedType<'_>,
     value: &Value,
 )
-    requires low { STACK ≤ base }
-    requires high { base ≤ STACK_TOP }
-    requires lies { PlaceLies (STACK_TOP - base) (tree_of ty.now) place.now }
+    requires lies { PlaceLies (STACK_TOP - base) ty.now place.now }
     requires writable { AllByRecursion (IsWritable machine.old.target) (place_locs place.now) }
-    requires apart { AreApart (place_uses (tree_of ty.now) place.now) }
-    requires has_all { PlaceHasAll (tree_of ty.now) place.now }
+    requires apart { AreApart (place_uses ty.now place.now) }
+    requires has_all { PlaceHasAll ty.now place.now }
     requires runs { AreRunsOf (pieces_of place.now) runs.now }
-    requires right { IsLaidOut (tree_of ty.now) }
-    requires fits { fits (tree_of ty.now) (value_of value.now) ≡ true }
-    ensures stands { PlaceStands base (passing machine.new) (tree_of ty.now) (value_of value.now) place.now }
-    ensures unused { PlaceKeepsUnused base (tree_of ty.now) (passing machine.old) (passing machine.new) place.now }
-    ensures stays { Stays base (place_uses (tree_of ty.now) place.now) (passing machine.old) (passing machine.new) }
-    ensures within { (room : ℕ) → PlaceLies room (tree_of ty.now) place.now → WroteWithin base (base + room) (passing machine.old) (passing machine.new) }
+    requires fits { fits ty.now (value_of value.now) ≡ true }
+    ensures stands { PlaceStands base (passing machine.new) ty.now (value_of value.now) place.now }
+    ensures unused { PlaceKeepsUnused base ty.now (passing machine.old) (passing machine.new) place.now }
+    ensures stays { Stays base (place_uses ty.now place.now) (passing machine.old) (passing machine.new) }
+    ensures within { (room : ℕ) → PlaceLies room ty.now place.now → WroteWithin base (base + room) (passing machine.old) (passing machine.new) }
 {
-    let size = size_of(ty) as usize;
+    let size = ty.size() as usize;
     if size <= SMALL {
         let mut room = [0; SMALL];
         store_place_by(machine, base, place, runs, ty, value, &mut room[..size]);
@@ -454,24 +427,23 @@ pub fn store_places<A: Abi>(machine: &mut Machine, cif: &Cif<A>, values: &Values
     ensures stays { Stays machine.old.sp (all_uses cif.now.arguments (plan_of A.standard cif.now).places) (passing machine.old) (passing machine.new) }
     ensures within { WroteWithin machine.old.sp (machine.old.sp + frame_of A.standard cif.now) (passing machine.old) (passing machine.new) }
 {
-    let sig = cif.sig();
-    let base = machine.sp();
-    for i in (0..count_of(sig)).rev() {
+    let sig = cif.checked_sig();
+    let base = StackBase::at(machine.sp());
+    for i in (0..sig.count()).rev() {
+        let ty = sig.arg(i);
         store_place(
             machine,
             base,
             cif.place(i),
             cif.runs(i),
-            argument(sig, i),
+            &ty,
             values.get(i as usize),
         );
     }
 }
 
 /// Stores the address of a hidden result's buffer. Stack places count from the address `base`.
-pub fn store_hidden(machine: &mut Machine, base: u64, res: &Res)
-    requires low { STACK ≤ base }
-    requires high { base ≤ STACK_TOP }
+pub fn store_hidden(machine: &mut Machine, base: StackBase, res: &Res)
     requires lie { AllByRecursion (IsPlace (STACK_TOP - base)) (hidden_locs res.now) }
     requires writable { AllByRecursion (IsWritable machine.old.target) (hidden_locs res.now) }
     ensures stands { HiddenStands base (passing machine.new) res.now }
@@ -480,7 +452,7 @@ pub fn store_hidden(machine: &mut Machine, base: u64, res: &Res)
 {
     match res {
         Res::Hidden { at, buffer } => {
-            let address = base + *buffer as u64;
+            let address = base.address() + *buffer as u64;
             put_word(machine, base, *at, address);
         }
         Res::Nothing => {}

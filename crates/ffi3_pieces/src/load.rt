@@ -1,12 +1,12 @@
 // What stands at places, read from a machine.
-ghost use Rattle.std.specs.Prelude.{◌≡◌, ◌-◌, ◌≤◌, length};
+ghost use Rattle.std.specs.Prelude.{◌≡◌, ◌-◌, length};
 ghost use Rattle.std.specs.Int.{w64, to_le_bytes};
-ghost use Rattle.ffi3_type_rules.specs.declared.limits.TheConstants.{STACK, STACK_TOP};
+ghost use Rattle.ffi3_type_rules.specs.declared.limits.TheConstants.{STACK_TOP};
 ghost use Rattle.ffi3_pieces.specs.Passing.{passing};
 ghost use Rattle.ffi3_pieces.specs.Stored.{AreBytesOf, IsPieceLoaded, IsPlace, IsWithin, word_in};
 
 use crate::registers::{passed_floating, passed_general};
-use ffi3_machine::Machine;
+use ffi3_machine::{Machine, StackBase};
 use ffi3_place::{Loc, Piece};
 
 /// The number of eight bytes, the lowest first.
@@ -17,10 +17,8 @@ pub fn word_of(bytes: [u8; 8]) -> u64
 }
 
 /// The eight bytes of a place. Stack places count from the address `base`.
-pub fn place_bytes(machine: &Machine, base: u64, at: Loc) -> [u8; 8]
-    requires low { STACK ≤ base }
-    requires high { base ≤ STACK_TOP }
-    requires lies { IsPlace (STACK_TOP - base) at }
+pub fn place_bytes(machine: &Machine, base: StackBase, at: Loc) -> [u8; 8]
+    requires { IsPlace (STACK_TOP - base) at }
     ensures { AreBytesOf base (passing machine.now) at result }
 {
     // its contract tells what is true of every machine
@@ -30,17 +28,15 @@ pub fn place_bytes(machine: &Machine, base: u64, at: Loc) -> [u8; 8]
         Loc::F(r) => passed_floating(machine, r).to_le_bytes(),
         Loc::S(n) => {
             let mut bytes = [0; 8];
-            bytes.copy_from_slice(machine.lend_stack(base + n as u64, 8));
+            bytes.copy_from_slice(machine.lend_stack(base.address() + n as u64, 8));
             bytes
         }
     }
 }
 
 /// The number in a place. Stack places count from the address `base`.
-pub fn place_word(machine: &Machine, base: u64, at: Loc) -> u64
-    requires low { STACK ≤ base }
-    requires high { base ≤ STACK_TOP }
-    requires lies { IsPlace (STACK_TOP - base) at }
+pub fn place_word(machine: &Machine, base: StackBase, at: Loc) -> u64
+    requires { IsPlace (STACK_TOP - base) at }
     ensures { result ≡ word_in base (passing machine.now) at }
 {
     match at {
@@ -52,10 +48,8 @@ pub fn place_word(machine: &Machine, base: u64, at: Loc) -> u64
 
 /// The number in a place, of the machine's own registers, whatever a call passes. Stack places count from the address
 /// `base`.
-pub fn own_word(machine: &Machine, base: u64, at: Loc) -> u64
-    requires low { STACK ≤ base }
-    requires high { base ≤ STACK_TOP }
-    requires lies { IsPlace (STACK_TOP - base) at }
+pub fn own_word(machine: &Machine, base: StackBase, at: Loc) -> u64
+    requires { IsPlace (STACK_TOP - base) at }
     ensures { result ≡ word_in base machine.now at }
 {
     match at {
@@ -66,9 +60,7 @@ pub fn own_word(machine: &Machine, base: u64, at: Loc) -> u64
 }
 
 /// Reads a piece of a value from its place. Stack places count from the address `base`.
-pub fn load_piece(machine: &Machine, base: u64, piece: &Piece, out: &mut [u8])
-    requires low { STACK ≤ base }
-    requires high { base ≤ STACK_TOP }
+pub fn load_piece(machine: &Machine, base: StackBase, piece: &Piece, out: &mut [u8])
     requires lies { IsPlace (STACK_TOP - base) piece.now.loc }
     requires within { IsWithin (length out.old) piece.now }
     ensures { IsPieceLoaded base (passing machine.now) piece.now out.old out.new }

@@ -1,5 +1,4 @@
 use Rattle.std.proofs.Common.{◌≡◌, ◌+◌, ◌-◌, sym, subst, ◌∙◌, arith}
-use Rattle.ffi3_types.specs.TreeOf.{tree_of}
 use Rattle.ffi3_values.specs.ValueOf.{value_of}
 use Rattle.ffi3_place_rules.specs.Sound.{IsPieceOf}
 use Rattle.ffi3_type_rules.specs.declared.limits.TheConstants.{STACK_TOP}
@@ -9,7 +8,7 @@ use Rattle.ffi3_pieces.proofs.Stepping.{AreStored, each_read, each_loc, given_st
 use Rattle.ffi3_pieces.proofs.store_each.Goals as goal
 
 pub loop-j-init : goal.loop-j-init
-loop-j-init c = (none_stored c.args.base (tree_of c.args.ty.now) (value_of c.args.value.now) c.args.pieces.now c.len-j.result (passing c.args.machine.now) (omega arith), c.requires.sized)
+loop-j-init c = (none_stored c.args.base c.args.ty.now (value_of c.args.value.now) c.args.pieces.now c.len-j.result (passing c.args.machine.now) (omega arith), c.requires.sized)
 
 pub store_other-requires-clause-lies : goal.store_other-requires-clause-lies
 store_other-requires-clause-lies c =
@@ -23,14 +22,14 @@ store_other-requires-clause-writable c =
 
 pub store_other-requires-clause-part : goal.store_other-requires-clause-part
 store_other-requires-clause-part c =
-    each_read (IsPieceOf (tree_of c.args.ty.now)) c.args.pieces.now (c.loop-j.j - 1) c.get.result.now (omega arith) c.get.ensures c.requires.parts
+    each_read (IsPieceOf c.args.ty.now) c.args.pieces.now (c.loop-j.j - 1) c.get.result.now (omega arith) c.get.ensures c.requires.parts
 
 pub store_other-requires-clause-sized : goal.store_other-requires-clause-sized
 store_other-requires-clause-sized c = c.loop-j.invariant.1
 
 pub store_other-requires-clause-given : goal.store_other-requires-clause-given
 store_other-requires-clause-given c =
-    let t = tree_of c.args.ty.now in
+    let t = c.args.ty.now in
     let v = value_of c.args.value.now in
     let back : c.loop-j.j ≡ c.loop-j.j - 1 + 1 = omega arith in
     let before = subst (λ i. AreStored c.args.base t v c.args.pieces.now i (passing c.args.machine.now) (passing c.loop-j.machine)) back c.loop-j.invariant.0 in
@@ -39,20 +38,20 @@ store_other-requires-clause-given c =
 pub loop-j-preserved : goal.loop-j-preserved
 loop-j-preserved c =
     let back : c.loop-j.j ≡ c.loop-j.j - 1 + 1 = omega arith in
-    let before = subst (λ i. AreStored c.args.base (tree_of c.args.ty.now) (value_of c.args.value.now) c.args.pieces.now i (passing c.args.machine.now) (passing c.loop-j.machine)) back c.loop-j.invariant.0 in
-    (piece_step c.args.base (tree_of c.args.ty.now) (value_of c.args.value.now) c.args.pieces.now (c.loop-j.j - 1) c.get.result.now (passing c.args.machine.now) (passing c.loop-j.machine) (passing c.store_other.new.machine) (omega arith) c.get.ensures c.requires.parts c.requires.apart c.store_other.ensures.stored before, c.store_other.ensures.sized ∙ c.loop-j.invariant.1)
+    let before = subst (λ i. AreStored c.args.base c.args.ty.now (value_of c.args.value.now) c.args.pieces.now i (passing c.args.machine.now) (passing c.loop-j.machine)) back c.loop-j.invariant.0 in
+    (piece_step c.args.base c.args.ty.now (value_of c.args.value.now) c.args.pieces.now (c.loop-j.j - 1) c.get.result.now (passing c.args.machine.now) (passing c.loop-j.machine) (passing c.store_other.new.machine) (omega arith) c.get.ensures c.requires.parts c.requires.apart c.store_other.ensures.stored before, c.store_other.ensures.sized ∙ c.loop-j.invariant.1)
 
 pub returns-clause-stand : goal.returns-clause-stand
 returns-clause-stand c =
-    (all_stored c.args.base (tree_of c.args.ty.now) (value_of c.args.value.now) c.args.pieces.now c.loop-j.j (passing c.args.machine.now) (passing c.loop-j.machine) (omega arith) c.loop-j.invariant.0).stand
+    (all_stored c.args.base c.args.ty.now (value_of c.args.value.now) c.args.pieces.now c.loop-j.j (passing c.args.machine.now) (passing c.loop-j.machine) (omega arith) c.loop-j.invariant.0).stand
 
 pub returns-clause-unused : goal.returns-clause-unused
 returns-clause-unused c =
-    (all_stored c.args.base (tree_of c.args.ty.now) (value_of c.args.value.now) c.args.pieces.now c.loop-j.j (passing c.args.machine.now) (passing c.loop-j.machine) (omega arith) c.loop-j.invariant.0).unused
+    (all_stored c.args.base c.args.ty.now (value_of c.args.value.now) c.args.pieces.now c.loop-j.j (passing c.args.machine.now) (passing c.loop-j.machine) (omega arith) c.loop-j.invariant.0).unused
 
 pub returns-clause-stays : goal.returns-clause-stays
 returns-clause-stays c =
-    (all_stored c.args.base (tree_of c.args.ty.now) (value_of c.args.value.now) c.args.pieces.now c.loop-j.j (passing c.args.machine.now) (passing c.loop-j.machine) (omega arith) c.loop-j.invariant.0).stays
+    (all_stored c.args.base c.args.ty.now (value_of c.args.value.now) c.args.pieces.now c.loop-j.j (passing c.args.machine.now) (passing c.loop-j.machine) (omega arith) c.loop-j.invariant.0).stays
 
 pub returns-clause-within : goal.returns-clause-within
 returns-clause-within c = c.loop-j.invariant.0.within

@@ -1,5 +1,4 @@
 use Rattle.std.proofs.Common.{◌∙◌, arith}
-use Rattle.ffi3_types.specs.TreeOf.{tree_of}
 use Rattle.ffi3_values.specs.ValueOf.{value_of}
 use Rattle.ffi3_pieces.specs.Passing.{passing}
 use Rattle.ffi3_pieces.proofs.Loading.{piece_stored}
@@ -11,4 +10,4 @@ load_piece-requires-clause-within c = (c.requires.part.short, omega (arith, c.re
 pub returns-clause-stored : goal.returns-clause-stored
 returns-clause-stored c =
     let sized = c.load_piece.ensures.sized ∙ c.requires.sized in
-    piece_stored c.args.base (tree_of c.args.ty.now) (value_of c.args.value.now) c.args.bytes.now c.load_piece.new.out c.write_bytes.new.out c.args.piece (passing c.args.machine.now) (passing c.fill_piece.new.machine) (omega (arith, c.requires.part.within, sized)) c.load_piece.ensures c.write_bytes.ensures c.fill_piece.ensures
+    piece_stored c.args.base c.args.ty.now (value_of c.args.value.now) c.args.bytes.now c.load_piece.new.out c.write_bytes.new.out c.args.piece (passing c.args.machine.now) (passing c.fill_piece.new.machine) (omega (arith, c.requires.part.within, sized)) c.load_piece.ensures (rw c.as_type.ensures.value at c.write_bytes.ensures) c.fill_piece.ensures

@@ -1,5 +1,4 @@
 use Rattle.std.proofs.Common.{◌-◌, arith}
-use Rattle.ffi3_types.specs.TreeOf.{tree_of}
 use Rattle.ffi3_values.specs.ValueOf.{value_of}
 use Rattle.ffi3_place_rules.specs.declared.Place.TheVariants.{Direct}
 use Rattle.ffi3_type_rules.specs.declared.limits.TheConstants.{STACK_TOP}
@@ -9,7 +8,7 @@ use Rattle.ffi3_pieces.proofs.RunStoring.{registers_given}
 use Rattle.ffi3_pieces.proofs.store_pieces_by.Goals as goal
 
 pub store_each-requires-clause-lie : goal.store_each-requires-clause-lie
-store_each-requires-clause-lie c = lies_more 0 (STACK_TOP - c.args.base) (tree_of c.args.ty.now) (Direct c.args.pieces.now) (omega arith) c.requires.registers
+store_each-requires-clause-lie c = lies_more 0 (STACK_TOP - c.args.base) c.args.ty.now (Direct c.args.pieces.now) (omega arith) c.requires.registers
 
 pub store_each-requires-clause-given : goal.store_each-requires-clause-given
-store_each-requires-clause-given c = registers_given c.args.base (tree_of c.args.ty.now) (value_of c.args.value.now) (passing c.args.machine.now) c.args.pieces.now c.requires.registers
+store_each-requires-clause-given c = registers_given c.args.base c.args.ty.now (value_of c.args.value.now) (passing c.args.machine.now) c.args.pieces.now c.requires.registers

@@ -4,7 +4,6 @@ use Rattle.std.specs.List.{AllByRecursion}
 use Rattle.ffi3_type_rules.specs.Tree.{tree_at}
 use Rattle.ffi3_type_rules.specs.Value.{fits}
 use Rattle.ffi3_type_rules.proofs.ValueElements.{fitting_lengths, fitting_element}
-use Rattle.ffi3_types.specs.TreeOf.{tree_of}
 use Rattle.ffi3_values.specs.ValueOf.{value_of}
 use Rattle.ffi3_place_rules.specs.Standard.{plan_of, frame_of}
 use Rattle.ffi3_place_rules.specs.Sound.{place_locs}
@@ -22,70 +21,70 @@ pub loop-i-init : goal.loop-i-init
 loop-i-init g c =
     let std = g.A.Abi.standard in
     let s = c.args.cif.now in
-    let sound = g.met.A.Abi.sound s c.sig-sig.ensures.faultless in
+    let sound = g.met.A.Abi.sound s c.checked_sig-sig.ensures.faultless in
     let write = written_by_law std s sound g.met.A.Abi.agrees c.args.machine.now.target _ g.met.A.Abi.target_is c.requires.target in
-    none_yet c.sp-base.result c.args.machine.now.target (frame_of std s) s.arguments (plan_of std s).places c.args.values.now c.count_of-i.result (passing c.args.machine.now) (all_ready std s sound c.sig-sig.ensures.faultless c.args.machine.now.target write) (fitting_lengths s.arguments c.args.values.now c.requires.fit) (c.count_of-i.ensures.value ∙ ap (λ r. length r.arguments) c.sig-sig.ensures.value)
+    none_yet c.at-base.result c.args.machine.now.target (frame_of std s) s.arguments (plan_of std s).places c.args.values.now c.count-i.result (passing c.args.machine.now) (all_ready std s sound c.checked_sig-sig.ensures.faultless c.args.machine.now.target write) (fitting_lengths s.arguments c.args.values.now c.requires.fit) (c.count-i.ensures.value ∙ ap (λ r. length r.arguments) c.checked_sig-sig.ensures.value)
 
 pub get-requires : goal.get-requires
 get-requires g c =
-    omega (arith, fitting_lengths c.args.cif.now.arguments c.args.values.now c.requires.fit, c.count_of-i.ensures.value, ap (λ r. length r.arguments) c.sig-sig.ensures.value)
+    omega (arith, fitting_lengths c.args.cif.now.arguments c.args.values.now c.requires.fit, c.count-i.ensures.value, ap (λ r. length r.arguments) c.checked_sig-sig.ensures.value)
 
 pub store_place-requires-clause-lies : goal.store_place-requires-clause-lies
 store_place-requires-clause-lies g c =
     let std = g.A.Abi.standard in
     let s = c.args.cif.now in
-    let sound = g.met.A.Abi.sound s c.sig-sig.ensures.faultless in
+    let sound = g.met.A.Abi.sound s c.checked_sig-sig.ensures.faultless in
     let write = written_by_law std s sound g.met.A.Abi.agrees c.args.machine.now.target _ g.met.A.Abi.target_is c.requires.target in
-    let t = tree_of c.argument.result.now in
-    let below : c.loop-i.i - 1 < length s.arguments = omega (arith, c.count_of-i.ensures.value, ap (λ r. length r.arguments) c.sig-sig.ensures.value) in
-    let here = lawful_argument std s sound c.sig-sig.ensures.faultless c.sp-base.result c.args.machine.now.target c.args.values.now write c.requires.fit (c.loop-i.i - 1) t c.place.result.now (value_of c.get.result.now) below (c.argument.ensures.element ∙ ap (λ r. tree_at r.arguments (c.loop-i.i - 1)) c.sig-sig.ensures.value) c.place.ensures c.get.ensures.element in
-    lies_more (frame_of std s) (STACK_TOP - c.sp-base.result) t c.place.result.now (omega (arith, c.requires.frame, c.sp-base.ensures.value)) here.ready.lies
+    let t = c.arg-ty.result in
+    let below : c.loop-i.i - 1 < length s.arguments = omega (arith, c.count-i.ensures.value, ap (λ r. length r.arguments) c.checked_sig-sig.ensures.value) in
+    let here = lawful_argument std s sound c.checked_sig-sig.ensures.faultless c.at-base.result c.args.machine.now.target c.args.values.now write c.requires.fit (c.loop-i.i - 1) t c.place.result.now (value_of c.get.result.now) below (c.arg-ty.ensures ∙ ap (λ r. tree_at r.arguments (c.loop-i.i - 1)) c.checked_sig-sig.ensures.value) c.place.ensures c.get.ensures.element in
+    lies_more (frame_of std s) (STACK_TOP - c.at-base.result) t c.place.result.now (omega (arith, c.requires.frame, c.at-base.ensures, c.sp.ensures.value)) here.ready.lies
 
 pub store_place-requires-clause-writable : goal.store_place-requires-clause-writable
 store_place-requires-clause-writable g c =
     let std = g.A.Abi.standard in
     let s = c.args.cif.now in
-    let sound = g.met.A.Abi.sound s c.sig-sig.ensures.faultless in
+    let sound = g.met.A.Abi.sound s c.checked_sig-sig.ensures.faultless in
     let write = written_by_law std s sound g.met.A.Abi.agrees c.args.machine.now.target _ g.met.A.Abi.target_is c.requires.target in
-    let t = tree_of c.argument.result.now in
-    let below : c.loop-i.i - 1 < length s.arguments = omega (arith, c.count_of-i.ensures.value, ap (λ r. length r.arguments) c.sig-sig.ensures.value) in
-    let here = lawful_argument std s sound c.sig-sig.ensures.faultless c.sp-base.result c.args.machine.now.target c.args.values.now write c.requires.fit (c.loop-i.i - 1) t c.place.result.now (value_of c.get.result.now) below (c.argument.ensures.element ∙ ap (λ r. tree_at r.arguments (c.loop-i.i - 1)) c.sig-sig.ensures.value) c.place.ensures c.get.ensures.element in
+    let t = c.arg-ty.result in
+    let below : c.loop-i.i - 1 < length s.arguments = omega (arith, c.count-i.ensures.value, ap (λ r. length r.arguments) c.checked_sig-sig.ensures.value) in
+    let here = lawful_argument std s sound c.checked_sig-sig.ensures.faultless c.at-base.result c.args.machine.now.target c.args.values.now write c.requires.fit (c.loop-i.i - 1) t c.place.result.now (value_of c.get.result.now) below (c.arg-ty.ensures ∙ ap (λ r. tree_at r.arguments (c.loop-i.i - 1)) c.checked_sig-sig.ensures.value) c.place.ensures c.get.ensures.element in
     subst (λ k. AllByRecursion (IsWritable k) (place_locs c.place.result.now)) (sym c.loop-i.invariant.within.target) here.ready.writable
 
 pub store_place-requires-clause-apart : goal.store_place-requires-clause-apart
 store_place-requires-clause-apart g c =
     let std = g.A.Abi.standard in
     let s = c.args.cif.now in
-    let sound = g.met.A.Abi.sound s c.sig-sig.ensures.faultless in
+    let sound = g.met.A.Abi.sound s c.checked_sig-sig.ensures.faultless in
     let write = written_by_law std s sound g.met.A.Abi.agrees c.args.machine.now.target _ g.met.A.Abi.target_is c.requires.target in
-    let t = tree_of c.argument.result.now in
-    let below : c.loop-i.i - 1 < length s.arguments = omega (arith, c.count_of-i.ensures.value, ap (λ r. length r.arguments) c.sig-sig.ensures.value) in
-    let here = lawful_argument std s sound c.sig-sig.ensures.faultless c.sp-base.result c.args.machine.now.target c.args.values.now write c.requires.fit (c.loop-i.i - 1) t c.place.result.now (value_of c.get.result.now) below (c.argument.ensures.element ∙ ap (λ r. tree_at r.arguments (c.loop-i.i - 1)) c.sig-sig.ensures.value) c.place.ensures c.get.ensures.element in
+    let t = c.arg-ty.result in
+    let below : c.loop-i.i - 1 < length s.arguments = omega (arith, c.count-i.ensures.value, ap (λ r. length r.arguments) c.checked_sig-sig.ensures.value) in
+    let here = lawful_argument std s sound c.checked_sig-sig.ensures.faultless c.at-base.result c.args.machine.now.target c.args.values.now write c.requires.fit (c.loop-i.i - 1) t c.place.result.now (value_of c.get.result.now) below (c.arg-ty.ensures ∙ ap (λ r. tree_at r.arguments (c.loop-i.i - 1)) c.checked_sig-sig.ensures.value) c.place.ensures c.get.ensures.element in
     apart_first (place_uses t c.place.result.now) _ here.apart
 
 pub store_place-requires-clause-has_all : goal.store_place-requires-clause-has_all
 store_place-requires-clause-has_all g c =
     let std = g.A.Abi.standard in
     let s = c.args.cif.now in
-    let sound = g.met.A.Abi.sound s c.sig-sig.ensures.faultless in
+    let sound = g.met.A.Abi.sound s c.checked_sig-sig.ensures.faultless in
     let write = written_by_law std s sound g.met.A.Abi.agrees c.args.machine.now.target _ g.met.A.Abi.target_is c.requires.target in
-    let t = tree_of c.argument.result.now in
-    let below : c.loop-i.i - 1 < length s.arguments = omega (arith, c.count_of-i.ensures.value, ap (λ r. length r.arguments) c.sig-sig.ensures.value) in
-    let here = lawful_argument std s sound c.sig-sig.ensures.faultless c.sp-base.result c.args.machine.now.target c.args.values.now write c.requires.fit (c.loop-i.i - 1) t c.place.result.now (value_of c.get.result.now) below (c.argument.ensures.element ∙ ap (λ r. tree_at r.arguments (c.loop-i.i - 1)) c.sig-sig.ensures.value) c.place.ensures c.get.ensures.element in
+    let t = c.arg-ty.result in
+    let below : c.loop-i.i - 1 < length s.arguments = omega (arith, c.count-i.ensures.value, ap (λ r. length r.arguments) c.checked_sig-sig.ensures.value) in
+    let here = lawful_argument std s sound c.checked_sig-sig.ensures.faultless c.at-base.result c.args.machine.now.target c.args.values.now write c.requires.fit (c.loop-i.i - 1) t c.place.result.now (value_of c.get.result.now) below (c.arg-ty.ensures ∙ ap (λ r. tree_at r.arguments (c.loop-i.i - 1)) c.checked_sig-sig.ensures.value) c.place.ensures c.get.ensures.element in
     here.ready.has_all
 
 pub store_place-requires-clause-fits : goal.store_place-requires-clause-fits
 store_place-requires-clause-fits g c =
     let s = c.args.cif.now in
-    let below : c.loop-i.i - 1 < length s.arguments = omega (arith, c.count_of-i.ensures.value, ap (λ r. length r.arguments) c.sig-sig.ensures.value) in
-    let type_is = c.argument.ensures.element ∙ ap (λ r. tree_at r.arguments (c.loop-i.i - 1)) c.sig-sig.ensures.value in
+    let below : c.loop-i.i - 1 < length s.arguments = omega (arith, c.count-i.ensures.value, ap (λ r. length r.arguments) c.checked_sig-sig.ensures.value) in
+    let type_is = c.arg-ty.ensures ∙ ap (λ r. tree_at r.arguments (c.loop-i.i - 1)) c.checked_sig-sig.ensures.value in
     subst (λ t. fits t (value_of c.get.result.now) ≡ true) (sym type_is)
     (subst (λ v. fits (tree_at s.arguments (c.loop-i.i - 1)) v ≡ true) (sym c.get.ensures.element)
     (fitting_element s.arguments c.args.values.now (c.loop-i.i - 1) c.requires.fit below))
 
 pub runs-requires : goal.runs-requires
 runs-requires g c =
-    omega (arith, c.count_of-i.ensures.value, ap (λ r. length r.arguments) c.sig-sig.ensures.value)
+    omega (arith, c.count-i.ensures.value, ap (λ r. length r.arguments) c.checked_sig-sig.ensures.value)
 
 pub store_place-requires-clause-runs : goal.store_place-requires-clause-runs
 store_place-requires-clause-runs g c =
@@ -95,34 +94,34 @@ pub loop-i-preserved : goal.loop-i-preserved
 loop-i-preserved g c =
     let std = g.A.Abi.standard in
     let s = c.args.cif.now in
-    let sound = g.met.A.Abi.sound s c.sig-sig.ensures.faultless in
+    let sound = g.met.A.Abi.sound s c.checked_sig-sig.ensures.faultless in
     let write = written_by_law std s sound g.met.A.Abi.agrees c.args.machine.now.target _ g.met.A.Abi.target_is c.requires.target in
-    let t = tree_of c.argument.result.now in
-    let below : c.loop-i.i - 1 < length s.arguments = omega (arith, c.count_of-i.ensures.value, ap (λ r. length r.arguments) c.sig-sig.ensures.value) in
-    let here = lawful_argument std s sound c.sig-sig.ensures.faultless c.sp-base.result c.args.machine.now.target c.args.values.now write c.requires.fit (c.loop-i.i - 1) t c.place.result.now (value_of c.get.result.now) below (c.argument.ensures.element ∙ ap (λ r. tree_at r.arguments (c.loop-i.i - 1)) c.sig-sig.ensures.value) c.place.ensures c.get.ensures.element in
-    let low : STACK ≤ c.sp-base.result = omega (arith, c.sp-base.ensures.value, c.requires.bottom) in
+    let t = c.arg-ty.result in
+    let below : c.loop-i.i - 1 < length s.arguments = omega (arith, c.count-i.ensures.value, ap (λ r. length r.arguments) c.checked_sig-sig.ensures.value) in
+    let here = lawful_argument std s sound c.checked_sig-sig.ensures.faultless c.at-base.result c.args.machine.now.target c.args.values.now write c.requires.fit (c.loop-i.i - 1) t c.place.result.now (value_of c.get.result.now) below (c.arg-ty.ensures ∙ ap (λ r. tree_at r.arguments (c.loop-i.i - 1)) c.checked_sig-sig.ensures.value) c.place.ensures c.get.ensures.element in
+    let low : STACK ≤ c.at-base.result = omega (arith, c.at-base.ensures, c.sp.ensures.value, c.requires.bottom) in
     let back : c.loop-i.i ≡ c.loop-i.i - 1 + 1 = omega arith in
-    let before = subst (λ i. AllStored c.sp-base.result c.args.machine.now.target (frame_of std s) s.arguments (plan_of std s).places c.args.values.now i (passing c.args.machine.now) (passing c.loop-i.machine)) back c.loop-i.invariant in
-    argument_step c.sp-base.result c.args.machine.now.target (frame_of std s) s.arguments (plan_of std s).places c.args.values.now (c.loop-i.i - 1) t c.place.result.now (value_of c.get.result.now) (passing c.args.machine.now) (passing c.loop-i.machine) (passing c.store_place.new.machine) low here c.store_place.ensures.stands c.store_place.ensures.unused c.store_place.ensures.stays (c.store_place.ensures.within (frame_of std s) here.ready.lies) before
+    let before = subst (λ i. AllStored c.at-base.result c.args.machine.now.target (frame_of std s) s.arguments (plan_of std s).places c.args.values.now i (passing c.args.machine.now) (passing c.loop-i.machine)) back c.loop-i.invariant in
+    argument_step c.at-base.result c.args.machine.now.target (frame_of std s) s.arguments (plan_of std s).places c.args.values.now (c.loop-i.i - 1) t c.place.result.now (value_of c.get.result.now) (passing c.args.machine.now) (passing c.loop-i.machine) (passing c.store_place.new.machine) low here c.store_place.ensures.stands c.store_place.ensures.unused c.store_place.ensures.stays (c.store_place.ensures.within (frame_of std s) here.ready.lies) before
 
 pub returns-clause-own : goal.returns-clause-own
 returns-clause-own g c =
     let std = g.A.Abi.standard in
     let s = c.args.cif.now in
-    let sound = g.met.A.Abi.sound s c.sig-sig.ensures.faultless in
+    let sound = g.met.A.Abi.sound s c.checked_sig-sig.ensures.faultless in
     let write = written_by_law std s sound g.met.A.Abi.agrees c.args.machine.now.target _ g.met.A.Abi.target_is c.requires.target in
-    let same : c.sp-base.result ≡ c.loop-i.machine.sp = c.sp-base.ensures.value ∙ sym c.loop-i.invariant.stays.sp in
-    let low : STACK ≤ c.loop-i.machine.sp = omega (arith, same, c.sp-base.ensures.value, c.requires.bottom) in
-    let end = stored_at_end c.sp-base.result c.args.machine.now.target (frame_of std s) s.arguments (plan_of std s).places c.args.values.now c.loop-i.i (passing c.args.machine.now) (passing c.loop-i.machine) (omega arith) c.loop-i.invariant in
-    owned (passing c.loop-i.machine) (frame_of std s) low c.args.machine.now.target s.arguments (plan_of std s).places c.args.values.now (all_ready std s sound c.sig-sig.ensures.faultless c.args.machine.now.target write) c.requires.fit (subst (λ b. AllStand b (passing c.loop-i.machine) s.arguments (plan_of std s).places c.args.values.now) same end.stand)
+    let same : c.at-base.result ≡ c.loop-i.machine.sp = c.at-base.ensures ∙ c.sp.ensures.value ∙ sym c.loop-i.invariant.stays.sp in
+    let low : STACK ≤ c.loop-i.machine.sp = omega (arith, same, c.at-base.ensures, c.sp.ensures.value, c.requires.bottom) in
+    let end = stored_at_end c.at-base.result c.args.machine.now.target (frame_of std s) s.arguments (plan_of std s).places c.args.values.now c.loop-i.i (passing c.args.machine.now) (passing c.loop-i.machine) (omega arith) c.loop-i.invariant in
+    owned (passing c.loop-i.machine) (frame_of std s) low c.args.machine.now.target s.arguments (plan_of std s).places c.args.values.now (all_ready std s sound c.checked_sig-sig.ensures.faultless c.args.machine.now.target write) c.requires.fit (subst (λ b. AllStand b (passing c.loop-i.machine) s.arguments (plan_of std s).places c.args.values.now) same end.stand)
 
 pub returns-clause-filled : goal.returns-clause-filled
 returns-clause-filled g c =
     let std = g.A.Abi.standard in
     let s = c.args.cif.now in
-    let sound = g.met.A.Abi.sound s c.sig-sig.ensures.faultless in
+    let sound = g.met.A.Abi.sound s c.checked_sig-sig.ensures.faultless in
     let write = written_by_law std s sound g.met.A.Abi.agrees c.args.machine.now.target _ g.met.A.Abi.target_is c.requires.target in
-    let same : c.sp-base.result ≡ c.loop-i.machine.sp = c.sp-base.ensures.value ∙ sym c.loop-i.invariant.stays.sp in
-    let low : STACK ≤ c.loop-i.machine.sp = omega (arith, same, c.sp-base.ensures.value, c.requires.bottom) in
-    let end = stored_at_end c.sp-base.result c.args.machine.now.target (frame_of std s) s.arguments (plan_of std s).places c.args.values.now c.loop-i.i (passing c.args.machine.now) (passing c.loop-i.machine) (omega arith) c.loop-i.invariant in
-    filled (passing c.loop-i.machine) (frame_of std s) low c.args.machine.now.target s.arguments (plan_of std s).places c.args.values.now (all_ready std s sound c.sig-sig.ensures.faultless c.args.machine.now.target write) (subst (λ b. AllStand b (passing c.loop-i.machine) s.arguments (plan_of std s).places c.args.values.now) same end.stand)
+    let same : c.at-base.result ≡ c.loop-i.machine.sp = c.at-base.ensures ∙ c.sp.ensures.value ∙ sym c.loop-i.invariant.stays.sp in
+    let low : STACK ≤ c.loop-i.machine.sp = omega (arith, same, c.at-base.ensures, c.sp.ensures.value, c.requires.bottom) in
+    let end = stored_at_end c.at-base.result c.args.machine.now.target (frame_of std s) s.arguments (plan_of std s).places c.args.values.now c.loop-i.i (passing c.args.machine.now) (passing c.loop-i.machine) (omega arith) c.loop-i.invariant in
+    filled (passing c.loop-i.machine) (frame_of std s) low c.args.machine.now.target s.arguments (plan_of std s).places c.args.values.now (all_ready std s sound c.checked_sig-sig.ensures.faultless c.args.machine.now.target write) (subst (λ b. AllStand b (passing c.loop-i.machine) s.arguments (plan_of std s).places c.args.values.now) same end.stand)

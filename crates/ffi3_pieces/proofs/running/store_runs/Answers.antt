@@ -1,6 +1,5 @@
 use Rattle.std.proofs.Common.{◌≡◌, ◌+◌, ◌-◌, drop, subst, ◌∙◌, arith}
 use Rattle.ffi3_type_rules.specs.Layout.{size_of}
-use Rattle.ffi3_types.specs.TreeOf.{tree_of}
 use Rattle.ffi3_values.specs.ValueOf.{value_of}
 use Rattle.ffi3_type_rules.specs.declared.limits.TheConstants.{STACK_TOP}
 use Rattle.ffi3_pieces.specs.Passing.{passing}
@@ -10,11 +9,11 @@ use Rattle.ffi3_pieces.proofs.Stepping.{each_read}
 use Rattle.ffi3_pieces.proofs.running.store_runs.Goals as goal
 
 pub loop-i-init : goal.loop-i-init
-loop-i-init c = (no_run c.args.base (tree_of c.args.ty.now) (value_of c.args.value.now) c.requires.low c.args.runs.now c.len-i.result (passing c.args.machine.now) (omega arith), c.requires.sized)
+loop-i-init c = (no_run c.args.base c.args.ty.now (value_of c.args.value.now) c.address-_at.ensures.low c.args.runs.now c.len-i.result (passing c.args.machine.now) (omega arith), c.requires.sized)
 
 pub store_run-requires-clause-lies : goal.store_run-requires-clause-lies
 store_run-requires-clause-lies c =
-    each_read (RunLies (STACK_TOP - c.args.base) (size_of (tree_of c.args.ty.now))) c.args.runs.now (c.loop-i.i - 1) c.get.result (omega arith) c.get.ensures c.requires.lie
+    each_read (RunLies (STACK_TOP - c.args.base) (size_of c.args.ty.now)) c.args.runs.now (c.loop-i.i - 1) c.get.result (omega arith) c.get.ensures c.requires.lie
 
 pub store_run-requires-clause-sized : goal.store_run-requires-clause-sized
 store_run-requires-clause-sized c = c.loop-i.invariant.1
@@ -22,9 +21,9 @@ store_run-requires-clause-sized c = c.loop-i.invariant.1
 pub loop-i-preserved : goal.loop-i-preserved
 loop-i-preserved c =
     let back : c.loop-i.i ≡ c.loop-i.i - 1 + 1 = omega arith in
-    let before = subst (λ i. AreRunsStored c.args.base (tree_of c.args.ty.now) (value_of c.args.value.now) (drop i c.args.runs.now) (passing c.args.machine.now) (passing c.loop-i.machine)) back c.loop-i.invariant.0 in
-    (run_step c.args.base (tree_of c.args.ty.now) (value_of c.args.value.now) c.requires.low c.args.runs.now (c.loop-i.i - 1) c.get.result (passing c.args.machine.now) (passing c.loop-i.machine) (passing c.store_run.new.machine) (omega arith) c.get.ensures c.requires.rising c.store_run.ensures.stored before, c.store_run.ensures.sized ∙ c.loop-i.invariant.1)
+    let before = subst (λ i. AreRunsStored c.args.base c.args.ty.now (value_of c.args.value.now) (drop i c.args.runs.now) (passing c.args.machine.now) (passing c.loop-i.machine)) back c.loop-i.invariant.0 in
+    (run_step c.args.base c.args.ty.now (value_of c.args.value.now) c.address-_at.ensures.low c.args.runs.now (c.loop-i.i - 1) c.get.result (passing c.args.machine.now) (passing c.loop-i.machine) (passing c.store_run.new.machine) (omega arith) c.get.ensures c.requires.rising c.store_run.ensures.stored before, c.store_run.ensures.sized ∙ c.loop-i.invariant.1)
 
 pub returns-clause-stored : goal.returns-clause-stored
 returns-clause-stored c =
-    all_runs_stored c.args.base (tree_of c.args.ty.now) (value_of c.args.value.now) c.requires.low c.args.runs.now c.loop-i.i (passing c.args.machine.now) (passing c.loop-i.machine) (omega arith) c.loop-i.invariant.0
+    all_runs_stored c.args.base c.args.ty.now (value_of c.args.value.now) c.address-_at.ensures.low c.args.runs.now c.loop-i.i (passing c.args.machine.now) (passing c.loop-i.machine) (omega arith) c.loop-i.invariant.0
