@@ -15,10 +15,10 @@ pub widen_from_32-requires-clause-kind : goal.widen_from_32-requires-clause-kind
 widen_from_32-requires-clause-kind c = rw c.as_type-plain.ensures.value (narrow_number c.args.ty.now (subst (IsExtended c.args.ty.now c.args.piece) c.in-Riscv.is c.requires.part.extended).0)
 
 pub widen-requires-clause-small : goal.widen-requires-clause-small
-widen-requires-clause-small c = narrow_small c.args.ty.now (subst (IsExtended c.args.ty.now c.args.piece) c.in-Widen.is c.requires.part.extended).0
+widen-requires-clause-small c = rw c.as_type-plain.ensures.value (narrow_small c.args.ty.now (subst (IsExtended c.args.ty.now c.args.piece) c.in-Widen.is c.requires.part.extended).0)
 
 pub widen_from_32-requires-clause-small : goal.widen_from_32-requires-clause-small
-widen_from_32-requires-clause-small c = narrow_small c.args.ty.now (subst (IsExtended c.args.ty.now c.args.piece) c.in-Riscv.is c.requires.part.extended).0
+widen_from_32-requires-clause-small c = rw c.as_type-plain.ensures.value (narrow_small c.args.ty.now (subst (IsExtended c.args.ty.now c.args.piece) c.in-Riscv.is c.requires.part.extended).0)
 
 pub boxed-requires : goal.boxed-requires
 boxed-requires c =

@@ -34,5 +34,5 @@ returns-in-S c =
     let old = passing c.args.machine.now in
     let lies = subst (IsPlace (STACK_TOP - c.args.base)) c.in-S.is c.requires.lies in
     subst (λ l. IsPut c.args.base l c.args.bytes.now old (passing c.store_stack.new.self)) (sym c.in-S.is)
-    (subst (IsPut c.args.base (S c.in-S.n) c.args.bytes.now old) (sym (ap passing c.store_stack.ensures))
+    (subst (IsPut c.args.base (S c.in-S.n) c.args.bytes.now old) (sym (ap passing (rw c.address.ensures.value at c.store_stack.ensures)))
     (stack_put c.args.base c.in-S.n c.args.bytes.now old c.address.ensures.low c.requires.few (omega (arith, lies, c.address.ensures.low, c.address.ensures.high, c.requires.few, c.sp-m.ensures.machine.stack))))

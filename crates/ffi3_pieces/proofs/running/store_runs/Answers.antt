@@ -9,7 +9,7 @@ use Rattle.ffi3_pieces.proofs.Stepping.{each_read}
 use Rattle.ffi3_pieces.proofs.running.store_runs.Goals as goal
 
 pub loop-i-init : goal.loop-i-init
-loop-i-init c = (no_run c.args.base c.args.ty.now (value_of c.args.value.now) c.address-_at.ensures.low c.args.runs.now c.len-i.result (passing c.args.machine.now) (omega arith), c.requires.sized)
+loop-i-init c = (no_run c.args.base c.args.ty.now (value_of c.args.value.now) c.address-at.ensures.low c.args.runs.now c.len-i.result (passing c.args.machine.now) (omega arith), c.requires.sized)
 
 pub store_run-requires-clause-lies : goal.store_run-requires-clause-lies
 store_run-requires-clause-lies c =
@@ -22,8 +22,8 @@ pub loop-i-preserved : goal.loop-i-preserved
 loop-i-preserved c =
     let back : c.loop-i.i ≡ c.loop-i.i - 1 + 1 = omega arith in
     let before = subst (λ i. AreRunsStored c.args.base c.args.ty.now (value_of c.args.value.now) (drop i c.args.runs.now) (passing c.args.machine.now) (passing c.loop-i.machine)) back c.loop-i.invariant.0 in
-    (run_step c.args.base c.args.ty.now (value_of c.args.value.now) c.address-_at.ensures.low c.args.runs.now (c.loop-i.i - 1) c.get.result (passing c.args.machine.now) (passing c.loop-i.machine) (passing c.store_run.new.machine) (omega arith) c.get.ensures c.requires.rising c.store_run.ensures.stored before, c.store_run.ensures.sized ∙ c.loop-i.invariant.1)
+    (run_step c.args.base c.args.ty.now (value_of c.args.value.now) c.address-at.ensures.low c.args.runs.now (c.loop-i.i - 1) c.get.result (passing c.args.machine.now) (passing c.loop-i.machine) (passing c.store_run.new.machine) (omega arith) c.get.ensures c.requires.rising c.store_run.ensures.stored before, c.store_run.ensures.sized ∙ c.loop-i.invariant.1)
 
 pub returns-clause-stored : goal.returns-clause-stored
 returns-clause-stored c =
-    all_runs_stored c.args.base c.args.ty.now (value_of c.args.value.now) c.address-_at.ensures.low c.args.runs.now c.loop-i.i (passing c.args.machine.now) (passing c.loop-i.machine) (omega arith) c.loop-i.invariant.0
+    all_runs_stored c.args.base c.args.ty.now (value_of c.args.value.now) c.address-at.ensures.low c.args.runs.now c.loop-i.i (passing c.args.machine.now) (passing c.loop-i.machine) (omega arith) c.loop-i.invariant.0
