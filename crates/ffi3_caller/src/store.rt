@@ -17,15 +17,13 @@ ghost use Rattle.ffi3_pieces.specs.Standing.{AllKeepUnused};
 ghost use Rattle.ffi3_caller.specs.Called.{CountStands, with_frame};
 
 use ffi3_cif::Cif;
-use ffi3_machine::Machine;
+use ffi3_machine::{Machine, StackBase};
 use ffi3_pieces::{put_word, store_hidden, store_places};
 use ffi3_place::{Abi, Loc};
 use ffi3_values::Values;
 
 /// Puts a number into the register, if there is one.
-fn put_count(machine: &mut Machine, base: u64, at: Option<Loc>, count: u64)
-    requires low { STACK ≤ base }
-    requires high { base ≤ STACK_TOP }
+fn put_count(machine: &mut Machine, base: StackBase, at: Option<Loc>, count: u64)
     requires registers { AllByRecursion (IsPlace 0) (listed at) }
     requires writable { AllByRecursion (IsWritable machine.old.target) (listed at) }
     ensures told { CountStands base (passing machine.new) at count }
@@ -87,7 +85,7 @@ pub fn store_args<A: Abi>(machine: &mut Machine, cif: &Cif<A>, values: &Values)
     // its contract tells what is true of every interface
     let _sig = cif.sig();
     begin_frame(machine, cif.frame());
-    let base = machine.sp();
+    let base = StackBase::at(machine.sp());
     store_places(machine, cif, values);
     store_hidden(machine, base, cif.result_place());
     let count = A::vector_count();

@@ -30,20 +30,20 @@ pub store_places-requires-clause-frame : goal.store_places-requires-clause-frame
 store_places-requires-clause-frame g c =
     omega (arith, c.begin_frame.ensures.sp, c.frame.ensures, c.requires.top)
 
-pub store_hidden-requires-clause-low : goal.store_hidden-requires-clause-low
-store_hidden-requires-clause-low g c =
-    omega (arith, c.begin_frame.ensures.sp, c.frame.ensures, c.sp-base.ensures.value, c.requires.room)
+pub at-base-requires-clause-low : goal.at-base-requires-clause-low
+at-base-requires-clause-low g c =
+    omega (arith, c.begin_frame.ensures.sp, c.frame.ensures, c.sp.ensures.value, c.requires.room)
 
-pub store_hidden-requires-clause-high : goal.store_hidden-requires-clause-high
-store_hidden-requires-clause-high g c =
-    omega (arith, c.begin_frame.ensures.sp, c.sp-base.ensures.value, c.requires.top)
+pub at-base-requires-clause-high : goal.at-base-requires-clause-high
+at-base-requires-clause-high g c =
+    omega (arith, c.begin_frame.ensures.sp, c.sp.ensures.value, c.requires.top)
 
 pub store_hidden-requires-clause-lie : goal.store_hidden-requires-clause-lie
 store_hidden-requires-clause-lie g c =
     let std = g.A.Abi.standard in
     let s = c.args.cif.now in
     let sound = g.met.A.Abi.sound s c.sig-sig.ensures.faultless in
-    subst (λ r. AllByRecursion (IsPlace (STACK_TOP - c.sp-base.result)) (hidden_locs r)) (sym c.result_place.ensures) (hidden_lies std s sound (STACK_TOP - c.sp-base.result) (omega (arith, c.begin_frame.ensures.sp, c.requires.top, c.frame.ensures, c.sp-base.ensures.value)))
+    subst (λ r. AllByRecursion (IsPlace (STACK_TOP - c.at-base.result)) (hidden_locs r)) (sym c.result_place.ensures) (hidden_lies std s sound (STACK_TOP - c.at-base.result) (omega (arith, c.begin_frame.ensures.sp, c.requires.top, c.frame.ensures, c.at-base.ensures, c.sp.ensures.value)))
 
 pub store_hidden-requires-clause-writable : goal.store_hidden-requires-clause-writable
 store_hidden-requires-clause-writable g c =
@@ -75,8 +75,8 @@ returns-clause-own g c =
     let m = c.args.machine.now in
     let write = written_by_law std s sound g.met.A.Abi.agrees m.target _ g.met.A.Abi.target_is c.requires.target in
     let registers = subst (λ k. AllByRecursion (IsPlace 0) (listed k)) (sym c.vector_count-count.ensures) (count_is_register std g.met.A.Abi.agrees) in
-    let low : STACK ≤ c.sp-base.result = omega (arith, c.begin_frame.ensures.sp, c.frame.ensures, c.sp-base.ensures.value, c.requires.room) in
-    let all = call_stored std s sound c.sig-sig.ensures.faultless c.args.values.now m.target c.sp-base.result c.result_place.result.now c.vector_count-count.result c.vectors.result (passing (scribbled (length m.events) m)) (passing c.begin_frame.new.machine) (passing c.store_places.new.machine) (passing c.store_hidden.new.machine) (passing c.put_count.new.machine) c.sp-base.ensures.value low c.result_place.ensures c.vector_count-count.ensures c.vectors.ensures write registers c.requires.fit c.begin_frame.ensures.registers c.store_places.ensures.stand c.store_places.ensures.stays c.store_places.ensures.within c.store_places.ensures.unused c.store_hidden.ensures.stands c.store_hidden.ensures.stays c.store_hidden.ensures.within c.put_count.ensures.told c.put_count.ensures.stays c.put_count.ensures.within in
+    let low : STACK ≤ c.at-base.result = omega (arith, c.begin_frame.ensures.sp, c.frame.ensures, c.at-base.ensures, c.sp.ensures.value, c.requires.room) in
+    let all = call_stored std s sound c.sig-sig.ensures.faultless c.args.values.now m.target c.at-base.result c.result_place.result.now c.vector_count-count.result c.vectors.result (passing (scribbled (length m.events) m)) (passing c.begin_frame.new.machine) (passing c.store_places.new.machine) (passing c.store_hidden.new.machine) (passing c.put_count.new.machine) (c.at-base.ensures ∙ c.sp.ensures.value) low c.result_place.ensures c.vector_count-count.ensures c.vectors.ensures write registers c.requires.fit c.begin_frame.ensures.registers c.store_places.ensures.stand c.store_places.ensures.stays c.store_places.ensures.within c.store_places.ensures.unused c.store_hidden.ensures.stands c.store_hidden.ensures.stays c.store_hidden.ensures.within c.put_count.ensures.told c.put_count.ensures.stays c.put_count.ensures.within in
     all.own
 
 pub returns-clause-filled : goal.returns-clause-filled
@@ -87,8 +87,8 @@ returns-clause-filled g c =
     let m = c.args.machine.now in
     let write = written_by_law std s sound g.met.A.Abi.agrees m.target _ g.met.A.Abi.target_is c.requires.target in
     let registers = subst (λ k. AllByRecursion (IsPlace 0) (listed k)) (sym c.vector_count-count.ensures) (count_is_register std g.met.A.Abi.agrees) in
-    let low : STACK ≤ c.sp-base.result = omega (arith, c.begin_frame.ensures.sp, c.frame.ensures, c.sp-base.ensures.value, c.requires.room) in
-    let all = call_stored std s sound c.sig-sig.ensures.faultless c.args.values.now m.target c.sp-base.result c.result_place.result.now c.vector_count-count.result c.vectors.result (passing (scribbled (length m.events) m)) (passing c.begin_frame.new.machine) (passing c.store_places.new.machine) (passing c.store_hidden.new.machine) (passing c.put_count.new.machine) c.sp-base.ensures.value low c.result_place.ensures c.vector_count-count.ensures c.vectors.ensures write registers c.requires.fit c.begin_frame.ensures.registers c.store_places.ensures.stand c.store_places.ensures.stays c.store_places.ensures.within c.store_places.ensures.unused c.store_hidden.ensures.stands c.store_hidden.ensures.stays c.store_hidden.ensures.within c.put_count.ensures.told c.put_count.ensures.stays c.put_count.ensures.within in
+    let low : STACK ≤ c.at-base.result = omega (arith, c.begin_frame.ensures.sp, c.frame.ensures, c.at-base.ensures, c.sp.ensures.value, c.requires.room) in
+    let all = call_stored std s sound c.sig-sig.ensures.faultless c.args.values.now m.target c.at-base.result c.result_place.result.now c.vector_count-count.result c.vectors.result (passing (scribbled (length m.events) m)) (passing c.begin_frame.new.machine) (passing c.store_places.new.machine) (passing c.store_hidden.new.machine) (passing c.put_count.new.machine) (c.at-base.ensures ∙ c.sp.ensures.value) low c.result_place.ensures c.vector_count-count.ensures c.vectors.ensures write registers c.requires.fit c.begin_frame.ensures.registers c.store_places.ensures.stand c.store_places.ensures.stays c.store_places.ensures.within c.store_places.ensures.unused c.store_hidden.ensures.stands c.store_hidden.ensures.stays c.store_hidden.ensures.within c.put_count.ensures.told c.put_count.ensures.stays c.put_count.ensures.within in
     all.filled
 
 pub returns-clause-hidden : goal.returns-clause-hidden
@@ -99,8 +99,8 @@ returns-clause-hidden g c =
     let m = c.args.machine.now in
     let write = written_by_law std s sound g.met.A.Abi.agrees m.target _ g.met.A.Abi.target_is c.requires.target in
     let registers = subst (λ k. AllByRecursion (IsPlace 0) (listed k)) (sym c.vector_count-count.ensures) (count_is_register std g.met.A.Abi.agrees) in
-    let low : STACK ≤ c.sp-base.result = omega (arith, c.begin_frame.ensures.sp, c.frame.ensures, c.sp-base.ensures.value, c.requires.room) in
-    let all = call_stored std s sound c.sig-sig.ensures.faultless c.args.values.now m.target c.sp-base.result c.result_place.result.now c.vector_count-count.result c.vectors.result (passing (scribbled (length m.events) m)) (passing c.begin_frame.new.machine) (passing c.store_places.new.machine) (passing c.store_hidden.new.machine) (passing c.put_count.new.machine) c.sp-base.ensures.value low c.result_place.ensures c.vector_count-count.ensures c.vectors.ensures write registers c.requires.fit c.begin_frame.ensures.registers c.store_places.ensures.stand c.store_places.ensures.stays c.store_places.ensures.within c.store_places.ensures.unused c.store_hidden.ensures.stands c.store_hidden.ensures.stays c.store_hidden.ensures.within c.put_count.ensures.told c.put_count.ensures.stays c.put_count.ensures.within in
+    let low : STACK ≤ c.at-base.result = omega (arith, c.begin_frame.ensures.sp, c.frame.ensures, c.at-base.ensures, c.sp.ensures.value, c.requires.room) in
+    let all = call_stored std s sound c.sig-sig.ensures.faultless c.args.values.now m.target c.at-base.result c.result_place.result.now c.vector_count-count.result c.vectors.result (passing (scribbled (length m.events) m)) (passing c.begin_frame.new.machine) (passing c.store_places.new.machine) (passing c.store_hidden.new.machine) (passing c.put_count.new.machine) (c.at-base.ensures ∙ c.sp.ensures.value) low c.result_place.ensures c.vector_count-count.ensures c.vectors.ensures write registers c.requires.fit c.begin_frame.ensures.registers c.store_places.ensures.stand c.store_places.ensures.stays c.store_places.ensures.within c.store_places.ensures.unused c.store_hidden.ensures.stands c.store_hidden.ensures.stays c.store_hidden.ensures.within c.put_count.ensures.told c.put_count.ensures.stays c.put_count.ensures.within in
     all.hidden
 
 pub returns-clause-vectors : goal.returns-clause-vectors
@@ -111,8 +111,8 @@ returns-clause-vectors g c =
     let m = c.args.machine.now in
     let write = written_by_law std s sound g.met.A.Abi.agrees m.target _ g.met.A.Abi.target_is c.requires.target in
     let registers = subst (λ k. AllByRecursion (IsPlace 0) (listed k)) (sym c.vector_count-count.ensures) (count_is_register std g.met.A.Abi.agrees) in
-    let low : STACK ≤ c.sp-base.result = omega (arith, c.begin_frame.ensures.sp, c.frame.ensures, c.sp-base.ensures.value, c.requires.room) in
-    let all = call_stored std s sound c.sig-sig.ensures.faultless c.args.values.now m.target c.sp-base.result c.result_place.result.now c.vector_count-count.result c.vectors.result (passing (scribbled (length m.events) m)) (passing c.begin_frame.new.machine) (passing c.store_places.new.machine) (passing c.store_hidden.new.machine) (passing c.put_count.new.machine) c.sp-base.ensures.value low c.result_place.ensures c.vector_count-count.ensures c.vectors.ensures write registers c.requires.fit c.begin_frame.ensures.registers c.store_places.ensures.stand c.store_places.ensures.stays c.store_places.ensures.within c.store_places.ensures.unused c.store_hidden.ensures.stands c.store_hidden.ensures.stays c.store_hidden.ensures.within c.put_count.ensures.told c.put_count.ensures.stays c.put_count.ensures.within in
+    let low : STACK ≤ c.at-base.result = omega (arith, c.begin_frame.ensures.sp, c.frame.ensures, c.at-base.ensures, c.sp.ensures.value, c.requires.room) in
+    let all = call_stored std s sound c.sig-sig.ensures.faultless c.args.values.now m.target c.at-base.result c.result_place.result.now c.vector_count-count.result c.vectors.result (passing (scribbled (length m.events) m)) (passing c.begin_frame.new.machine) (passing c.store_places.new.machine) (passing c.store_hidden.new.machine) (passing c.put_count.new.machine) (c.at-base.ensures ∙ c.sp.ensures.value) low c.result_place.ensures c.vector_count-count.ensures c.vectors.ensures write registers c.requires.fit c.begin_frame.ensures.registers c.store_places.ensures.stand c.store_places.ensures.stays c.store_places.ensures.within c.store_places.ensures.unused c.store_hidden.ensures.stands c.store_hidden.ensures.stays c.store_hidden.ensures.within c.put_count.ensures.told c.put_count.ensures.stays c.put_count.ensures.within in
     all.vectors
 
 pub returns-clause-unused : goal.returns-clause-unused
@@ -123,8 +123,8 @@ returns-clause-unused g c =
     let m = c.args.machine.now in
     let write = written_by_law std s sound g.met.A.Abi.agrees m.target _ g.met.A.Abi.target_is c.requires.target in
     let registers = subst (λ k. AllByRecursion (IsPlace 0) (listed k)) (sym c.vector_count-count.ensures) (count_is_register std g.met.A.Abi.agrees) in
-    let low : STACK ≤ c.sp-base.result = omega (arith, c.begin_frame.ensures.sp, c.frame.ensures, c.sp-base.ensures.value, c.requires.room) in
-    let all = call_stored std s sound c.sig-sig.ensures.faultless c.args.values.now m.target c.sp-base.result c.result_place.result.now c.vector_count-count.result c.vectors.result (passing (scribbled (length m.events) m)) (passing c.begin_frame.new.machine) (passing c.store_places.new.machine) (passing c.store_hidden.new.machine) (passing c.put_count.new.machine) c.sp-base.ensures.value low c.result_place.ensures c.vector_count-count.ensures c.vectors.ensures write registers c.requires.fit c.begin_frame.ensures.registers c.store_places.ensures.stand c.store_places.ensures.stays c.store_places.ensures.within c.store_places.ensures.unused c.store_hidden.ensures.stands c.store_hidden.ensures.stays c.store_hidden.ensures.within c.put_count.ensures.told c.put_count.ensures.stays c.put_count.ensures.within in
+    let low : STACK ≤ c.at-base.result = omega (arith, c.begin_frame.ensures.sp, c.frame.ensures, c.at-base.ensures, c.sp.ensures.value, c.requires.room) in
+    let all = call_stored std s sound c.sig-sig.ensures.faultless c.args.values.now m.target c.at-base.result c.result_place.result.now c.vector_count-count.result c.vectors.result (passing (scribbled (length m.events) m)) (passing c.begin_frame.new.machine) (passing c.store_places.new.machine) (passing c.store_hidden.new.machine) (passing c.put_count.new.machine) (c.at-base.ensures ∙ c.sp.ensures.value) low c.result_place.ensures c.vector_count-count.ensures c.vectors.ensures write registers c.requires.fit c.begin_frame.ensures.registers c.store_places.ensures.stand c.store_places.ensures.stays c.store_places.ensures.within c.store_places.ensures.unused c.store_hidden.ensures.stands c.store_hidden.ensures.stays c.store_hidden.ensures.within c.put_count.ensures.told c.put_count.ensures.stays c.put_count.ensures.within in
     let o = passing c.begin_frame.new.machine in
     let d = passing c.put_count.new.machine in
     subst (λ low. AllKeepUnused low (passing (with_frame (frame_of std s) m)) d s.arguments (plan_of std s).places) (sym all.sp)
@@ -138,8 +138,8 @@ returns-clause-passed g c =
     let m = c.args.machine.now in
     let write = written_by_law std s sound g.met.A.Abi.agrees m.target _ g.met.A.Abi.target_is c.requires.target in
     let registers = subst (λ k. AllByRecursion (IsPlace 0) (listed k)) (sym c.vector_count-count.ensures) (count_is_register std g.met.A.Abi.agrees) in
-    let low : STACK ≤ c.sp-base.result = omega (arith, c.begin_frame.ensures.sp, c.frame.ensures, c.sp-base.ensures.value, c.requires.room) in
-    let all = call_stored std s sound c.sig-sig.ensures.faultless c.args.values.now m.target c.sp-base.result c.result_place.result.now c.vector_count-count.result c.vectors.result (passing (scribbled (length m.events) m)) (passing c.begin_frame.new.machine) (passing c.store_places.new.machine) (passing c.store_hidden.new.machine) (passing c.put_count.new.machine) c.sp-base.ensures.value low c.result_place.ensures c.vector_count-count.ensures c.vectors.ensures write registers c.requires.fit c.begin_frame.ensures.registers c.store_places.ensures.stand c.store_places.ensures.stays c.store_places.ensures.within c.store_places.ensures.unused c.store_hidden.ensures.stands c.store_hidden.ensures.stays c.store_hidden.ensures.within c.put_count.ensures.told c.put_count.ensures.stays c.put_count.ensures.within in
+    let low : STACK ≤ c.at-base.result = omega (arith, c.begin_frame.ensures.sp, c.frame.ensures, c.at-base.ensures, c.sp.ensures.value, c.requires.room) in
+    let all = call_stored std s sound c.sig-sig.ensures.faultless c.args.values.now m.target c.at-base.result c.result_place.result.now c.vector_count-count.result c.vectors.result (passing (scribbled (length m.events) m)) (passing c.begin_frame.new.machine) (passing c.store_places.new.machine) (passing c.store_hidden.new.machine) (passing c.put_count.new.machine) (c.at-base.ensures ∙ c.sp.ensures.value) low c.result_place.ensures c.vector_count-count.ensures c.vectors.ensures write registers c.requires.fit c.begin_frame.ensures.registers c.store_places.ensures.stand c.store_places.ensures.stays c.store_places.ensures.within c.store_places.ensures.unused c.store_hidden.ensures.stands c.store_hidden.ensures.stays c.store_hidden.ensures.within c.put_count.ensures.told c.put_count.ensures.stays c.put_count.ensures.within in
     all.others
 
 pub returns-clause-others : goal.returns-clause-others
@@ -150,8 +150,8 @@ returns-clause-others g c =
     let m = c.args.machine.now in
     let write = written_by_law std s sound g.met.A.Abi.agrees m.target _ g.met.A.Abi.target_is c.requires.target in
     let registers = subst (λ k. AllByRecursion (IsPlace 0) (listed k)) (sym c.vector_count-count.ensures) (count_is_register std g.met.A.Abi.agrees) in
-    let low : STACK ≤ c.sp-base.result = omega (arith, c.begin_frame.ensures.sp, c.frame.ensures, c.sp-base.ensures.value, c.requires.room) in
-    let all = call_stored std s sound c.sig-sig.ensures.faultless c.args.values.now m.target c.sp-base.result c.result_place.result.now c.vector_count-count.result c.vectors.result (passing (scribbled (length m.events) m)) (passing c.begin_frame.new.machine) (passing c.store_places.new.machine) (passing c.store_hidden.new.machine) (passing c.put_count.new.machine) c.sp-base.ensures.value low c.result_place.ensures c.vector_count-count.ensures c.vectors.ensures write registers c.requires.fit c.begin_frame.ensures.registers c.store_places.ensures.stand c.store_places.ensures.stays c.store_places.ensures.within c.store_places.ensures.unused c.store_hidden.ensures.stands c.store_hidden.ensures.stays c.store_hidden.ensures.within c.put_count.ensures.told c.put_count.ensures.stays c.put_count.ensures.within in
+    let low : STACK ≤ c.at-base.result = omega (arith, c.begin_frame.ensures.sp, c.frame.ensures, c.at-base.ensures, c.sp.ensures.value, c.requires.room) in
+    let all = call_stored std s sound c.sig-sig.ensures.faultless c.args.values.now m.target c.at-base.result c.result_place.result.now c.vector_count-count.result c.vectors.result (passing (scribbled (length m.events) m)) (passing c.begin_frame.new.machine) (passing c.store_places.new.machine) (passing c.store_hidden.new.machine) (passing c.put_count.new.machine) (c.at-base.ensures ∙ c.sp.ensures.value) low c.result_place.ensures c.vector_count-count.ensures c.vectors.ensures write registers c.requires.fit c.begin_frame.ensures.registers c.store_places.ensures.stand c.store_places.ensures.stays c.store_places.ensures.within c.store_places.ensures.unused c.store_hidden.ensures.stands c.store_hidden.ensures.stays c.store_hidden.ensures.within c.put_count.ensures.told c.put_count.ensures.stays c.put_count.ensures.within in
     let wrote = (call_within (frame_of std s) (passing (scribbled (length m.events) m)) (passing c.begin_frame.new.machine) (passing c.put_count.new.machine) (subst (λ n. c.begin_frame.new.machine.sp + n ≡ m.sp) c.frame.ensures c.begin_frame.ensures.sp) (subst (λ n. WroteWithin c.begin_frame.new.machine.sp (c.begin_frame.new.machine.sp + n) (passing (scribbled (length m.events) m)) (passing c.begin_frame.new.machine)) c.frame.ensures c.begin_frame.ensures.within) all.sp all.within) in
     let own : (l : Loc) → IsPlace 0 l → IsNoneOf (argument_locs (plan_of std s) ++ listed std.vector_count) l → SameAt 0 l (scribbled (length m.events) m) c.put_count.new.machine = λ l h none.
     own_register l (scribbled (length m.events) m) c.put_count.new.machine h wrote.target (length-scribbled_general _ _ _ ∙ sym c.sp-last.ensures.machine.general) (length-scribbled_floating _ ∙ sym c.sp-last.ensures.machine.floating) (all.others l h none) wrote.exchange in
@@ -165,8 +165,8 @@ returns-clause-free g c =
     let m = c.args.machine.now in
     let write = written_by_law std s sound g.met.A.Abi.agrees m.target _ g.met.A.Abi.target_is c.requires.target in
     let registers = subst (λ k. AllByRecursion (IsPlace 0) (listed k)) (sym c.vector_count-count.ensures) (count_is_register std g.met.A.Abi.agrees) in
-    let low : STACK ≤ c.sp-base.result = omega (arith, c.begin_frame.ensures.sp, c.frame.ensures, c.sp-base.ensures.value, c.requires.room) in
-    let all = call_stored std s sound c.sig-sig.ensures.faultless c.args.values.now m.target c.sp-base.result c.result_place.result.now c.vector_count-count.result c.vectors.result (passing (scribbled (length m.events) m)) (passing c.begin_frame.new.machine) (passing c.store_places.new.machine) (passing c.store_hidden.new.machine) (passing c.put_count.new.machine) c.sp-base.ensures.value low c.result_place.ensures c.vector_count-count.ensures c.vectors.ensures write registers c.requires.fit c.begin_frame.ensures.registers c.store_places.ensures.stand c.store_places.ensures.stays c.store_places.ensures.within c.store_places.ensures.unused c.store_hidden.ensures.stands c.store_hidden.ensures.stays c.store_hidden.ensures.within c.put_count.ensures.told c.put_count.ensures.stays c.put_count.ensures.within in
+    let low : STACK ≤ c.at-base.result = omega (arith, c.begin_frame.ensures.sp, c.frame.ensures, c.at-base.ensures, c.sp.ensures.value, c.requires.room) in
+    let all = call_stored std s sound c.sig-sig.ensures.faultless c.args.values.now m.target c.at-base.result c.result_place.result.now c.vector_count-count.result c.vectors.result (passing (scribbled (length m.events) m)) (passing c.begin_frame.new.machine) (passing c.store_places.new.machine) (passing c.store_hidden.new.machine) (passing c.put_count.new.machine) (c.at-base.ensures ∙ c.sp.ensures.value) low c.result_place.ensures c.vector_count-count.ensures c.vectors.ensures write registers c.requires.fit c.begin_frame.ensures.registers c.store_places.ensures.stand c.store_places.ensures.stays c.store_places.ensures.within c.store_places.ensures.unused c.store_hidden.ensures.stands c.store_hidden.ensures.stays c.store_hidden.ensures.within c.put_count.ensures.told c.put_count.ensures.stays c.put_count.ensures.within in
     λ at k room none below.
     let o = c.begin_frame.new.machine in
     let d = c.put_count.new.machine in
@@ -183,8 +183,8 @@ returns-clause-sp g c =
     let m = c.args.machine.now in
     let write = written_by_law std s sound g.met.A.Abi.agrees m.target _ g.met.A.Abi.target_is c.requires.target in
     let registers = subst (λ k. AllByRecursion (IsPlace 0) (listed k)) (sym c.vector_count-count.ensures) (count_is_register std g.met.A.Abi.agrees) in
-    let low : STACK ≤ c.sp-base.result = omega (arith, c.begin_frame.ensures.sp, c.frame.ensures, c.sp-base.ensures.value, c.requires.room) in
-    let all = call_stored std s sound c.sig-sig.ensures.faultless c.args.values.now m.target c.sp-base.result c.result_place.result.now c.vector_count-count.result c.vectors.result (passing (scribbled (length m.events) m)) (passing c.begin_frame.new.machine) (passing c.store_places.new.machine) (passing c.store_hidden.new.machine) (passing c.put_count.new.machine) c.sp-base.ensures.value low c.result_place.ensures c.vector_count-count.ensures c.vectors.ensures write registers c.requires.fit c.begin_frame.ensures.registers c.store_places.ensures.stand c.store_places.ensures.stays c.store_places.ensures.within c.store_places.ensures.unused c.store_hidden.ensures.stands c.store_hidden.ensures.stays c.store_hidden.ensures.within c.put_count.ensures.told c.put_count.ensures.stays c.put_count.ensures.within in
+    let low : STACK ≤ c.at-base.result = omega (arith, c.begin_frame.ensures.sp, c.frame.ensures, c.at-base.ensures, c.sp.ensures.value, c.requires.room) in
+    let all = call_stored std s sound c.sig-sig.ensures.faultless c.args.values.now m.target c.at-base.result c.result_place.result.now c.vector_count-count.result c.vectors.result (passing (scribbled (length m.events) m)) (passing c.begin_frame.new.machine) (passing c.store_places.new.machine) (passing c.store_hidden.new.machine) (passing c.put_count.new.machine) (c.at-base.ensures ∙ c.sp.ensures.value) low c.result_place.ensures c.vector_count-count.ensures c.vectors.ensures write registers c.requires.fit c.begin_frame.ensures.registers c.store_places.ensures.stand c.store_places.ensures.stays c.store_places.ensures.within c.store_places.ensures.unused c.store_hidden.ensures.stands c.store_hidden.ensures.stays c.store_hidden.ensures.within c.put_count.ensures.told c.put_count.ensures.stays c.put_count.ensures.within in
     omega (arith, all.sp, c.begin_frame.ensures.sp, c.frame.ensures)
 
 pub returns-clause-preserved : goal.returns-clause-preserved
@@ -195,8 +195,8 @@ returns-clause-preserved g c =
     let m = c.args.machine.now in
     let write = written_by_law std s sound g.met.A.Abi.agrees m.target _ g.met.A.Abi.target_is c.requires.target in
     let registers = subst (λ k. AllByRecursion (IsPlace 0) (listed k)) (sym c.vector_count-count.ensures) (count_is_register std g.met.A.Abi.agrees) in
-    let low : STACK ≤ c.sp-base.result = omega (arith, c.begin_frame.ensures.sp, c.frame.ensures, c.sp-base.ensures.value, c.requires.room) in
-    let all = call_stored std s sound c.sig-sig.ensures.faultless c.args.values.now m.target c.sp-base.result c.result_place.result.now c.vector_count-count.result c.vectors.result (passing (scribbled (length m.events) m)) (passing c.begin_frame.new.machine) (passing c.store_places.new.machine) (passing c.store_hidden.new.machine) (passing c.put_count.new.machine) c.sp-base.ensures.value low c.result_place.ensures c.vector_count-count.ensures c.vectors.ensures write registers c.requires.fit c.begin_frame.ensures.registers c.store_places.ensures.stand c.store_places.ensures.stays c.store_places.ensures.within c.store_places.ensures.unused c.store_hidden.ensures.stands c.store_hidden.ensures.stays c.store_hidden.ensures.within c.put_count.ensures.told c.put_count.ensures.stays c.put_count.ensures.within in
+    let low : STACK ≤ c.at-base.result = omega (arith, c.begin_frame.ensures.sp, c.frame.ensures, c.at-base.ensures, c.sp.ensures.value, c.requires.room) in
+    let all = call_stored std s sound c.sig-sig.ensures.faultless c.args.values.now m.target c.at-base.result c.result_place.result.now c.vector_count-count.result c.vectors.result (passing (scribbled (length m.events) m)) (passing c.begin_frame.new.machine) (passing c.store_places.new.machine) (passing c.store_hidden.new.machine) (passing c.put_count.new.machine) (c.at-base.ensures ∙ c.sp.ensures.value) low c.result_place.ensures c.vector_count-count.ensures c.vectors.ensures write registers c.requires.fit c.begin_frame.ensures.registers c.store_places.ensures.stand c.store_places.ensures.stays c.store_places.ensures.within c.store_places.ensures.unused c.store_hidden.ensures.stands c.store_hidden.ensures.stays c.store_hidden.ensures.within c.put_count.ensures.told c.put_count.ensures.stays c.put_count.ensures.within in
     let wrote = (call_within (frame_of std s) (passing (scribbled (length m.events) m)) (passing c.begin_frame.new.machine) (passing c.put_count.new.machine) (subst (λ n. c.begin_frame.new.machine.sp + n ≡ m.sp) c.frame.ensures c.begin_frame.ensures.sp) (subst (λ n. WroteWithin c.begin_frame.new.machine.sp (c.begin_frame.new.machine.sp + n) (passing (scribbled (length m.events) m)) (passing c.begin_frame.new.machine)) c.frame.ensures c.begin_frame.ensures.within) all.sp all.within) in
     let own : (l : Loc) → IsPlace 0 l → IsNoneOf (argument_locs (plan_of std s) ++ listed std.vector_count) l → SameAt 0 l (scribbled (length m.events) m) c.put_count.new.machine = λ l h none.
     own_register l (scribbled (length m.events) m) c.put_count.new.machine h wrote.target (length-scribbled_general _ _ _ ∙ sym c.sp-last.ensures.machine.general) (length-scribbled_floating _ ∙ sym c.sp-last.ensures.machine.floating) (all.others l h none) wrote.exchange in
@@ -210,8 +210,8 @@ returns-clause-reserved g c =
     let m = c.args.machine.now in
     let write = written_by_law std s sound g.met.A.Abi.agrees m.target _ g.met.A.Abi.target_is c.requires.target in
     let registers = subst (λ k. AllByRecursion (IsPlace 0) (listed k)) (sym c.vector_count-count.ensures) (count_is_register std g.met.A.Abi.agrees) in
-    let low : STACK ≤ c.sp-base.result = omega (arith, c.begin_frame.ensures.sp, c.frame.ensures, c.sp-base.ensures.value, c.requires.room) in
-    let all = call_stored std s sound c.sig-sig.ensures.faultless c.args.values.now m.target c.sp-base.result c.result_place.result.now c.vector_count-count.result c.vectors.result (passing (scribbled (length m.events) m)) (passing c.begin_frame.new.machine) (passing c.store_places.new.machine) (passing c.store_hidden.new.machine) (passing c.put_count.new.machine) c.sp-base.ensures.value low c.result_place.ensures c.vector_count-count.ensures c.vectors.ensures write registers c.requires.fit c.begin_frame.ensures.registers c.store_places.ensures.stand c.store_places.ensures.stays c.store_places.ensures.within c.store_places.ensures.unused c.store_hidden.ensures.stands c.store_hidden.ensures.stays c.store_hidden.ensures.within c.put_count.ensures.told c.put_count.ensures.stays c.put_count.ensures.within in
+    let low : STACK ≤ c.at-base.result = omega (arith, c.begin_frame.ensures.sp, c.frame.ensures, c.at-base.ensures, c.sp.ensures.value, c.requires.room) in
+    let all = call_stored std s sound c.sig-sig.ensures.faultless c.args.values.now m.target c.at-base.result c.result_place.result.now c.vector_count-count.result c.vectors.result (passing (scribbled (length m.events) m)) (passing c.begin_frame.new.machine) (passing c.store_places.new.machine) (passing c.store_hidden.new.machine) (passing c.put_count.new.machine) (c.at-base.ensures ∙ c.sp.ensures.value) low c.result_place.ensures c.vector_count-count.ensures c.vectors.ensures write registers c.requires.fit c.begin_frame.ensures.registers c.store_places.ensures.stand c.store_places.ensures.stays c.store_places.ensures.within c.store_places.ensures.unused c.store_hidden.ensures.stands c.store_hidden.ensures.stays c.store_hidden.ensures.within c.put_count.ensures.told c.put_count.ensures.stays c.put_count.ensures.within in
     let wrote = (call_within (frame_of std s) (passing (scribbled (length m.events) m)) (passing c.begin_frame.new.machine) (passing c.put_count.new.machine) (subst (λ n. c.begin_frame.new.machine.sp + n ≡ m.sp) c.frame.ensures c.begin_frame.ensures.sp) (subst (λ n. WroteWithin c.begin_frame.new.machine.sp (c.begin_frame.new.machine.sp + n) (passing (scribbled (length m.events) m)) (passing c.begin_frame.new.machine)) c.frame.ensures c.begin_frame.ensures.within) all.sp all.within) in
     let own : (l : Loc) → IsPlace 0 l → IsNoneOf (argument_locs (plan_of std s) ++ listed std.vector_count) l → SameAt 0 l (scribbled (length m.events) m) c.put_count.new.machine = λ l h none.
     own_register l (scribbled (length m.events) m) c.put_count.new.machine h wrote.target (length-scribbled_general _ _ _ ∙ sym c.sp-last.ensures.machine.general) (length-scribbled_floating _ ∙ sym c.sp-last.ensures.machine.floating) (all.others l h none) wrote.exchange in
@@ -225,6 +225,6 @@ returns-clause-within g c =
     let m = c.args.machine.now in
     let write = written_by_law std s sound g.met.A.Abi.agrees m.target _ g.met.A.Abi.target_is c.requires.target in
     let registers = subst (λ k. AllByRecursion (IsPlace 0) (listed k)) (sym c.vector_count-count.ensures) (count_is_register std g.met.A.Abi.agrees) in
-    let low : STACK ≤ c.sp-base.result = omega (arith, c.begin_frame.ensures.sp, c.frame.ensures, c.sp-base.ensures.value, c.requires.room) in
-    let all = call_stored std s sound c.sig-sig.ensures.faultless c.args.values.now m.target c.sp-base.result c.result_place.result.now c.vector_count-count.result c.vectors.result (passing (scribbled (length m.events) m)) (passing c.begin_frame.new.machine) (passing c.store_places.new.machine) (passing c.store_hidden.new.machine) (passing c.put_count.new.machine) c.sp-base.ensures.value low c.result_place.ensures c.vector_count-count.ensures c.vectors.ensures write registers c.requires.fit c.begin_frame.ensures.registers c.store_places.ensures.stand c.store_places.ensures.stays c.store_places.ensures.within c.store_places.ensures.unused c.store_hidden.ensures.stands c.store_hidden.ensures.stays c.store_hidden.ensures.within c.put_count.ensures.told c.put_count.ensures.stays c.put_count.ensures.within in
+    let low : STACK ≤ c.at-base.result = omega (arith, c.begin_frame.ensures.sp, c.frame.ensures, c.at-base.ensures, c.sp.ensures.value, c.requires.room) in
+    let all = call_stored std s sound c.sig-sig.ensures.faultless c.args.values.now m.target c.at-base.result c.result_place.result.now c.vector_count-count.result c.vectors.result (passing (scribbled (length m.events) m)) (passing c.begin_frame.new.machine) (passing c.store_places.new.machine) (passing c.store_hidden.new.machine) (passing c.put_count.new.machine) (c.at-base.ensures ∙ c.sp.ensures.value) low c.result_place.ensures c.vector_count-count.ensures c.vectors.ensures write registers c.requires.fit c.begin_frame.ensures.registers c.store_places.ensures.stand c.store_places.ensures.stays c.store_places.ensures.within c.store_places.ensures.unused c.store_hidden.ensures.stands c.store_hidden.ensures.stays c.store_hidden.ensures.within c.put_count.ensures.told c.put_count.ensures.stays c.put_count.ensures.within in
     call_within (frame_of std s) (passing (scribbled (length m.events) m)) (passing c.begin_frame.new.machine) (passing c.put_count.new.machine) (subst (λ n. c.begin_frame.new.machine.sp + n ≡ m.sp) c.frame.ensures c.begin_frame.ensures.sp) (subst (λ n. WroteWithin c.begin_frame.new.machine.sp (c.begin_frame.new.machine.sp + n) (passing (scribbled (length m.events) m)) (passing c.begin_frame.new.machine)) c.frame.ensures c.begin_frame.ensures.within) all.sp all.within
