@@ -15,7 +15,7 @@ ghost use Rattle.ffi3_callee.specs.Entered.{IsEntered};
 ghost use Rattle.ffi3_callee.specs.Saved.{HiddenLies};
 
 use crate::saving::save_words;
-use ffi3_machine::Machine;
+use ffi3_machine::{Machine, StackBase};
 use ffi3_pieces::by_exchange;
 use ffi3_place::{Abi, Loc};
 use ffi3_stubs::run_entry;
@@ -34,17 +34,18 @@ fn enter_by_stub(machine: &mut Machine, block: u64)
 
 /// Enters the callee, whose block begins at an address: what is to be given back is saved below the stack pointer.
 /// Stack places count from the address `base`, the end of the return address.
-pub fn enter<A: Abi>(machine: &mut Machine, base: u64, block: u64, hidden: Option<Loc>)
+pub fn enter<A: Abi>(machine: &mut Machine, base: StackBase, block: u64, hidden: Option<Loc>)
     requires target { machine.old.target ≡ A.TARGET }
     requires entry { machine.old.pc ≡ ENTRY }
     requires room { STACK + A.standard.save ≤ machine.old.sp }
     requires base { base ≡ machine.old.sp + A.standard.link }
-    requires high { base ≤ STACK_TOP }
     requires below { block ≤ machine.old.sp }
     requires hidden { HiddenLies (STACK_TOP - base) hidden }
     requires hidden_saved { by_exchange machine.old.target ≡ true → AllByRecursion (IsOneOf (G (hidden_register (isa_of A.standard.target)) ∷ [])) (listed hidden) }
     ensures { IsEntered A.standard hidden block machine.old machine.new }
 {
+    // its contract tells where it lies
+    let _at = base.address();
     let sp = machine.sp();
     let exchanged = by_exchange(machine.target());
     if exchanged {

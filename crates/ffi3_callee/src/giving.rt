@@ -2,9 +2,7 @@
 ghost use Rattle.std.specs.Prelude.{◌≡◌, ℕ, ◌+◌, ◌-◌, ◌≤◌, Option, length, true};
 ghost use Rattle.std.specs.List.{AllByRecursion};
 ghost use Rattle.ffi3_type_rules.specs.Layout.{size_of};
-ghost use Rattle.ffi3_type_rules.specs.Fault.{IsLaidOut};
 ghost use Rattle.ffi3_type_rules.specs.Value.{fits, value_in};
-ghost use Rattle.ffi3_types.specs.TreeOf.{tree_of};
 ghost use Rattle.ffi3_values.specs.ValueOf.{value_of};
 ghost use Rattle.ffi3_place_rules.specs.declared.Loc.{Loc};
 ghost use Rattle.ffi3_place_rules.specs.Standard.{frame_of, plan_of};
@@ -23,26 +21,28 @@ ghost use Rattle.ffi3_callee.specs.Saved.{AreSaved};
 
 use crate::Incoming;
 use ffi3_cif::Cif;
-use ffi3_machine::{Machine, STACK_TOP};
+use ffi3_machine::{Machine, STACK_TOP, StackBase};
 use ffi3_pieces::{SMALL, put_word, store_pieces};
-use ffi3_place::parts::{result_type, size_of};
 use ffi3_place::{Abi, Loc, Pieces, Res};
 use ffi3_type_rules::limits::LARGEST_TYPE;
-use ffi3_types::FfiType;
+use ffi3_types::CheckedType;
 use ffi3_values::{Value, write_bytes};
 
 // Stores a result in registers, and fills the rest of them. What no leaf has keeps what stood there.
-fn give_pieces(machine: &mut Machine, base: u64, pieces: &Pieces, ty: &FfiType, value: &Value)
-    requires low { STACK ≤ base }
-    requires high { base ≤ STACK_TOP }
+fn give_pieces(
+    machine: &mut Machine,
+    base: StackBase,
+    pieces: &Pieces,
+    ty: &CheckedType<'_>,
+    value: &Value,
+)
     requires lie { AllByRecursion (IsPlace 0) (piece_locs pieces.now) }
     requires writable { AllByRecursion (IsWritable machine.old.target) (piece_locs pieces.now) }
     requires apart { AreApart (piece_locs pieces.now) }
-    requires parts { AllByRecursion (IsPieceOf (tree_of ty.now)) pieces.now }
-    requires right { IsLaidOut (tree_of ty.now) }
-    requires fits { fits (tree_of ty.now) (value_of value.now) ≡ true }
-    ensures stand { PiecesStand base (passing machine.new) (tree_of ty.now) (value_of value.now) pieces.now }
-    ensures unused { AllByRecursion (KeepsUnused base (tree_of ty.now) (passing machine.old) (passing machine.new)) pieces.now }
+    requires parts { AllByRecursion (IsPieceOf ty.now) pieces.now }
+    requires fits { fits ty.now (value_of value.now) ≡ true }
+    ensures stand { PiecesStand base (passing machine.new) ty.now (value_of value.now) pieces.now }
+    ensures unused { AllByRecursion (KeepsUnused base ty.now (passing machine.old) (passing machine.new)) pieces.now }
     ensures stays { Stays base (piece_locs pieces.now) (passing machine.old) (passing machine.new) }
     ensures within { WroteWithin base base (passing machine.old) (passing machine.new) }
 {
@@ -54,38 +54,36 @@ fn give_pieces(machine: &mut Machine, base: u64, pieces: &Pieces, ty: &FfiType, 
 fn give_buffer_by(
     machine: &mut Machine,
     address: u64,
-    ty: &FfiType,
+    ty: &CheckedType<'_>,
     value: &Value,
     bytes: &mut [u8],
 )
     requires low { STACK ≤ address }
-    requires high { address + size_of (tree_of ty.now) ≤ STACK_TOP }
-    requires right { IsLaidOut (tree_of ty.now) }
-    requires fits { fits (tree_of ty.now) (value_of value.now) ≡ true }
-    requires sized { length bytes.old ≡ size_of (tree_of ty.now) }
-    ensures reads { value_in (tree_of ty.now) (stack_at address (size_of (tree_of ty.now)) (passing machine.new)) ≡ value_of value.now }
-    ensures unused { KeepsPadding address (tree_of ty.now) (passing machine.old) (passing machine.new) }
-    ensures only { WroteOnly address (address + size_of (tree_of ty.now)) (passing machine.old) (passing machine.new) }
+    requires high { address + size_of ty.now ≤ STACK_TOP }
+    requires fits { fits ty.now (value_of value.now) ≡ true }
+    requires sized { length bytes.old ≡ size_of ty.now }
+    ensures reads { value_in ty.now (stack_at address (size_of ty.now) (passing machine.new)) ≡ value_of value.now }
+    ensures unused { KeepsPadding address ty.now (passing machine.old) (passing machine.new) }
+    ensures only { WroteOnly address (address + size_of ty.now) (passing machine.old) (passing machine.new) }
 {
     // its contract tells what is true of every machine
     let _m = machine.sp();
-    let size = size_of(ty);
+    let size = ty.size();
     bytes.copy_from_slice(machine.lend_stack(address, size));
-    write_bytes(ty, value, bytes);
+    write_bytes(ty.as_type(), value, bytes);
     machine.store_stack(address, bytes);
 }
 
 // Stores a result in the caller's buffer, whose padding keeps what stood there.
-fn give_buffer(machine: &mut Machine, address: u64, ty: &FfiType, value: &Value)
+fn give_buffer(machine: &mut Machine, address: u64, ty: &CheckedType<'_>, value: &Value)
     requires low { STACK ≤ address }
-    requires high { address + size_of (tree_of ty.now) ≤ STACK_TOP }
-    requires right { IsLaidOut (tree_of ty.now) }
-    requires fits { fits (tree_of ty.now) (value_of value.now) ≡ true }
-    ensures reads { value_in (tree_of ty.now) (stack_at address (size_of (tree_of ty.now)) (passing machine.new)) ≡ value_of value.now }
-    ensures unused { KeepsPadding address (tree_of ty.now) (passing machine.old) (passing machine.new) }
-    ensures only { WroteOnly address (address + size_of (tree_of ty.now)) (passing machine.old) (passing machine.new) }
+    requires high { address + size_of ty.now ≤ STACK_TOP }
+    requires fits { fits ty.now (value_of value.now) ≡ true }
+    ensures reads { value_in ty.now (stack_at address (size_of ty.now) (passing machine.new)) ≡ value_of value.now }
+    ensures unused { KeepsPadding address ty.now (passing machine.old) (passing machine.new) }
+    ensures only { WroteOnly address (address + size_of ty.now) (passing machine.old) (passing machine.new) }
 {
-    let size = size_of(ty) as usize;
+    let size = ty.size() as usize;
     if size <= SMALL {
         let mut room = [0; SMALL];
         give_buffer_by(machine, address, ty, value, &mut room[..size]);
@@ -106,7 +104,7 @@ fn tell_address(machine: &mut Machine, returned: Option<Loc>, address: u64)
     // its contract tells what is true of every machine
     let _m = machine.sp();
     if let Some(at) = returned {
-        put_word(machine, STACK_TOP, at, address);
+        put_word(machine, StackBase::at(STACK_TOP), at, address);
     }
 }
 
@@ -116,12 +114,11 @@ fn tell_address(machine: &mut Machine, returned: Option<Loc>, address: u64)
 fn give<A: Abi>(
     machine: &mut Machine,
     cif: &Cif<A>,
-    base: u64,
+    base: StackBase,
     address: u64,
     returned: Option<Loc>,
     value: &Value,
 )
-    requires low { STACK ≤ base }
     requires high { base + frame_of A.standard cif.now ≤ STACK_TOP }
     requires address { IsAddressOf base address (plan_of A.standard cif.now).res }
     requires returned { returned ≡ A.standard.returned_address }
@@ -134,14 +131,16 @@ fn give<A: Abi>(
     ensures writes { ResultWrites base cif.now.result_type (plan_of A.standard cif.now).res (passing machine.old) (passing machine.new) }
     ensures sp { machine.new.sp ≡ machine.old.sp }
 {
-    // its contract tells what is true of every machine
+    // their contracts tell what is true of every machine, and where the base lies
     let _m = machine.sp();
-    let ty = result_type(cif.sig());
+    let _at = base.address();
+    let sig = cif.checked_sig();
+    let ty = sig.ret();
     match cif.result_place() {
         Res::Nothing => {}
-        Res::Direct(pieces) => give_pieces(machine, base, pieces, ty, value),
+        Res::Direct(pieces) => give_pieces(machine, base, pieces, &ty, value),
         Res::Hidden { .. } => {
-            give_buffer(machine, address, ty, value);
+            give_buffer(machine, address, &ty, value);
             tell_address(machine, returned, address);
         }
     }
@@ -164,7 +163,7 @@ pub fn give_result<A: Abi>(machine: &mut Machine, cif: &Cif<A>, incoming: &Incom
     // their contracts tell what is true of every interface and of every machine
     let _sig = cif.sig();
     let _m = machine.sp();
-    let base = incoming.entry() + A::LINK;
+    let base = StackBase::at(incoming.entry() + A::LINK);
     let address = incoming.address();
     let returned = A::returned_address();
     give(machine, cif, base, address, returned, value);

@@ -6,7 +6,6 @@ ghost use Rattle.ffi3_type_rules.specs.declared.limits.TheConstants.{ENTRY, STAC
 ghost use Rattle.ffi3_type_rules.specs.Isa.{isa_of};
 ghost use Rattle.ffi3_type_rules.specs.Tree.{tree_at};
 ghost use Rattle.ffi3_type_rules.specs.Layout.{size_of};
-ghost use Rattle.ffi3_type_rules.specs.Signature.{SignatureHasNoFault};
 ghost use Rattle.ffi3_type_rules.specs.Value.{ValueTree, value_in, void_value};
 ghost use Rattle.ffi3_place_rules.specs.Holds.{OwnsArguments};
 ghost use Rattle.ffi3_place_rules.specs.Standard.{block_bytes, frame_of, plan_of};
@@ -30,11 +29,10 @@ mod taking;
 pub use answering::answer;
 use entering::enter;
 use ffi3_cif::Cif;
-use ffi3_machine::Machine;
-use ffi3_place::parts::{argument, count_of, size_of};
+use ffi3_machine::{Machine, StackBase};
 use ffi3_place::{Abi, Loc, Pieces, Place, Res};
 use ffi3_type_rules::round_up;
-use ffi3_types::{FfiType, Sig};
+use ffi3_types::CheckedSig;
 pub use giving::give_result;
 pub use going::go_back;
 pub use poisoning::poison;
@@ -86,7 +84,7 @@ impl Incoming {
 // Copies the arguments into the block at an address, one behind the other, each in whole
 // doublewords. It does not know the values. Stack places count from the address `base`, the end
 // of the return address.
-fn copy_arguments<A: Abi>(machine: &mut Machine, cif: &Cif<A>, base: u64, block: u64)
+fn copy_arguments<A: Abi>(machine: &mut Machine, cif: &Cif<A>, base: StackBase, block: u64)
     requires low { STACK ≤ block }
     requires below { block + block_bytes cif.now ≤ base }
     requires high { base + frame_of A.standard cif.now ≤ STACK_TOP }
@@ -97,12 +95,12 @@ fn copy_arguments<A: Abi>(machine: &mut Machine, cif: &Cif<A>, base: u64, block:
 {
     // its contract tells what is true of every machine
     let _m = machine.sp();
-    let sig = cif.sig();
+    let sig = cif.checked_sig();
     let mut to = block;
-    for i in 0..count_of(sig) {
-        let ty = argument(sig, i);
-        copy_argument(machine, base, cif.place(i), cif.runs(i), ty, to);
-        to += round_up(size_of(ty), 8);
+    for i in 0..sig.count() {
+        let ty = sig.arg(i);
+        copy_argument(machine, base, cif.place(i), cif.runs(i), &ty, to);
+        to += round_up(ty.size(), 8);
     }
 }
 
@@ -137,7 +135,7 @@ pub fn receive<A: Abi>(machine: &mut Machine, cif: &Cif<A>) -> Incoming
     // its contract tells what is true of every interface
     let _sig = cif.sig();
     let entry = machine.sp();
-    let base = entry + A::LINK;
+    let base = StackBase::at(entry + A::LINK);
     let block = entry - A::SAVE - cif.block();
     let hidden = hidden_place(cif.result_place());
     let address = hidden_word(machine, base, hidden);
@@ -156,15 +154,16 @@ pub fn receive<A: Abi>(machine: &mut Machine, cif: &Cif<A>) -> Incoming
 }
 
 // Where argument `i` begins in a block.
-fn offset_of(sig: &Sig, i: u32) -> u64
-    requires right { SignatureHasNoFault sig.now }
-    requires in_range { i < length sig.now.arguments }
+fn offset_of(sig: &CheckedSig<'_>, i: u32) -> u64
+    requires { i < length sig.now.arguments }
     ensures { result ≡ block_offset sig.now.arguments i }
 {
+    // it tells that the signature has no fault, and so that a block is small
+    let _sig = sig.as_sig();
     let mut offset = 0;
     for k in 0..i {
-        let ty = argument(sig, k);
-        offset += round_up(size_of(ty), 8);
+        let ty = sig.arg(k);
+        offset += round_up(ty.size(), 8);
     }
     offset
 }
@@ -177,10 +176,10 @@ pub fn arg<'a, A: Abi>(machine: &'a Machine, cif: &Cif<A>, incoming: &Incoming, 
     ensures count { length result.now ≡ size_of (tree_at cif.now.arguments i) }
     ensures value { (vs : List ValueTree) → arguments_in cif.now.arguments (stack_at incoming.now.block (block_bytes cif.now) machine.now) ≡ vs → value_in (tree_at cif.now.arguments i) result.now ≡ slice_index_or vs i void_value }
 {
-    let sig = cif.sig();
-    let ty = argument(sig, i);
-    let offset = offset_of(sig, i);
-    let size = size_of(ty);
+    let sig = cif.checked_sig();
+    let ty = sig.arg(i);
+    let offset = offset_of(&sig, i);
+    let size = ty.size();
     let from = incoming.block() + offset;
     machine.lend_stack(from, size)
 }

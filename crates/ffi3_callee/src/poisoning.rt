@@ -3,9 +3,7 @@ ghost use Rattle.std.specs.Prelude.{◌≡◌, ℕ, ◌+◌, ◌<◌, ◌≤◌,
 ghost use Rattle.std.specs.List.{list_any};
 ghost use Rattle.std.specs.Int.{w64, to_le_bytes};
 ghost use Rattle.ffi3_type_rules.specs.declared.limits.TheConstants.{ENTRY, STACK, STACK_TOP};
-ghost use Rattle.ffi3_type_rules.specs.Fault.{IsLaidOut};
 ghost use Rattle.ffi3_type_rules.specs.Value.{ValueTree};
-ghost use Rattle.ffi3_types.specs.TreeOf.{tree_of};
 ghost use Rattle.ffi3_place_rules.specs.Standard.{frame_of};
 ghost use Rattle.ffi3_machine.specs.State.{HasReturnAddress};
 ghost use Rattle.ffi3_pieces.specs.Stored.{IsPlace, IsWordPut, IsWritable};
@@ -14,11 +12,10 @@ ghost use Rattle.ffi3_callee.specs.Received.{OwnsAtEntry};
 ghost use Rattle.ffi3_callee.specs.Overwritten.{AreRegistersDone, IsFrameDone, IsRegisterDone};
 
 use ffi3_cif::Cif;
-use ffi3_machine::Machine;
+use ffi3_machine::{Machine, StackBase};
 use ffi3_pieces::own_word;
-use ffi3_place::parts::{argument, count_of};
 use ffi3_place::{Abi, Loc, Piece, Pieces, Place, Res};
-use ffi3_types::FfiType;
+use ffi3_types::CheckedType;
 
 // Which byte of another place byte `k` of a place is, if it is one.
 fn byte_number(at: Loc, k: u64, other: Loc) -> Option<u64>
@@ -45,10 +42,11 @@ fn byte_number(at: Loc, k: u64, other: Loc) -> Option<u64>
 }
 
 // Whether a leaf has the byte at an offset.
-fn is_leaf_byte(ty: &FfiType, offset: u64) -> bool
-    requires { IsLaidOut (tree_of ty.now) }
-    ensures { result ≡ is_leaf_byte (tree_of ty.now) offset }
+fn is_leaf_byte(ty: &CheckedType<'_>, offset: u64) -> bool
+    ensures { result ≡ is_leaf_byte ty.now offset }
 {
+    // its contract tells that the type has a layout, and so a small size
+    let _type = ty.as_type();
     for i in 0..ty.leaf_count() {
         let leaf = ty.leaf(i);
         if leaf.at <= offset && offset < leaf.at + leaf.kind.size() {
@@ -59,10 +57,9 @@ fn is_leaf_byte(ty: &FfiType, offset: u64) -> bool
 }
 
 // Whether byte `k` of a place is a leaf's, by way of the piece.
-fn piece_has(at: Loc, k: u64, piece: &Piece, ty: &FfiType) -> bool
-    requires few { k < 8 }
-    requires right { IsLaidOut (tree_of ty.now) }
-    ensures { result ≡ piece_has (tree_of ty.now) at k piece.now }
+fn piece_has(at: Loc, k: u64, piece: &Piece, ty: &CheckedType<'_>) -> bool
+    requires { k < 8 }
+    ensures { result ≡ piece_has ty.now at k piece.now }
 {
     match byte_number(at, k, piece.loc) {
         Some(j) => j < piece.len as u64 && is_leaf_byte(ty, piece.off as u64 + j),
@@ -82,10 +79,9 @@ fn address_has(at: Loc, k: u64, address: Loc) -> bool
 }
 
 // Whether it is a leaf's of a copy.
-fn copy_has(at: Loc, k: u64, copy: u32, ty: &FfiType) -> bool
-    requires few { k < 8 }
-    requires right { IsLaidOut (tree_of ty.now) }
-    ensures { result ≡ copy_has (tree_of ty.now) at k copy }
+fn copy_has(at: Loc, k: u64, copy: u32, ty: &CheckedType<'_>) -> bool
+    requires { k < 8 }
+    ensures { result ≡ copy_has ty.now at k copy }
 {
     match byte_number(at, k, Loc::S(copy)) {
         Some(j) => is_leaf_byte(ty, j),
@@ -94,10 +90,9 @@ fn copy_has(at: Loc, k: u64, copy: u32, ty: &FfiType) -> bool
 }
 
 // Whether it is a leaf's, by way of one of the pieces.
-fn pieces_have(at: Loc, k: u64, pieces: &Pieces, ty: &FfiType) -> bool
-    requires few { k < 8 }
-    requires right { IsLaidOut (tree_of ty.now) }
-    ensures { result ≡ list_any (piece_has (tree_of ty.now) at k) pieces.now }
+fn pieces_have(at: Loc, k: u64, pieces: &Pieces, ty: &CheckedType<'_>) -> bool
+    requires { k < 8 }
+    ensures { result ≡ list_any (piece_has ty.now at k) pieces.now }
 {
     for i in 0..pieces.len() {
         if piece_has(at, k, pieces.get(i), ty) {
@@ -108,10 +103,9 @@ fn pieces_have(at: Loc, k: u64, pieces: &Pieces, ty: &FfiType) -> bool
 }
 
 // Whether it carries something of the argument.
-fn place_has(at: Loc, k: u64, place: &Place, ty: &FfiType) -> bool
-    requires few { k < 8 }
-    requires right { IsLaidOut (tree_of ty.now) }
-    ensures { result ≡ place_has (tree_of ty.now) at k place.now }
+fn place_has(at: Loc, k: u64, place: &Place, ty: &CheckedType<'_>) -> bool
+    requires { k < 8 }
+    ensures { result ≡ place_has ty.now at k place.now }
 {
     match place {
         Place::Direct(pieces) => pieces_have(at, k, pieces, ty),
@@ -140,9 +134,10 @@ fn carries<A: Abi>(cif: &Cif<A>, at: Loc, k: u64) -> bool
     if hidden_has(at, k, cif.result_place()) {
         return true;
     }
-    let sig = cif.sig();
-    for i in 0..count_of(sig) {
-        if place_has(at, k, cif.place(i), argument(sig, i)) {
+    let sig = cif.checked_sig();
+    for i in 0..sig.count() {
+        let ty = sig.arg(i);
+        if place_has(at, k, cif.place(i), &ty) {
             return true;
         }
     }
@@ -180,9 +175,7 @@ pub fn set_register(machine: &mut Machine, at: Loc, word: u64)
 }
 
 // Overwrites what carries nothing of an argument register.
-fn poison_register<A: Abi>(machine: &mut Machine, cif: &Cif<A>, base: u64, at: Loc, byte: u8)
-    requires low { STACK ≤ base }
-    requires high { base ≤ STACK_TOP }
+fn poison_register<A: Abi>(machine: &mut Machine, cif: &Cif<A>, base: StackBase, at: Loc, byte: u8)
     requires register { IsPlace 0 at }
     requires writable { IsWritable machine.old.target at }
     requires passing { is_argument_register A.standard at ≡ true }
@@ -193,10 +186,8 @@ fn poison_register<A: Abi>(machine: &mut Machine, cif: &Cif<A>, base: u64, at: L
 }
 
 // Overwrites what carries nothing of each argument register.
-fn poison_registers<A: Abi>(machine: &mut Machine, cif: &Cif<A>, base: u64, byte: u8)
-    requires low { STACK ≤ base }
-    requires high { base ≤ STACK_TOP }
-    requires target { machine.old.target ≡ A.TARGET }
+fn poison_registers<A: Abi>(machine: &mut Machine, cif: &Cif<A>, base: StackBase, byte: u8)
+    requires { machine.old.target ≡ A.TARGET }
     ensures { AreRegistersDone A.standard cif.now base byte (length A.standard.argument_registers) machine.old machine.new }
 {
     for k in 0..A::PASSING {
@@ -206,16 +197,16 @@ fn poison_registers<A: Abi>(machine: &mut Machine, cif: &Cif<A>, base: u64, byte
 }
 
 // Overwrites what carries nothing of the frame.
-fn poison_frame<A: Abi>(machine: &mut Machine, cif: &Cif<A>, base: u64, byte: u8)
-    requires low { STACK ≤ base }
-    requires high { base + frame_of A.standard cif.now ≤ STACK_TOP }
+fn poison_frame<A: Abi>(machine: &mut Machine, cif: &Cif<A>, base: StackBase, byte: u8)
+    requires { base + frame_of A.standard cif.now ≤ STACK_TOP }
     ensures { IsFrameDone A.standard cif.now base byte (frame_of A.standard cif.now) machine.old machine.new }
 {
     // its contract tells what is true of every machine
     let _m = machine.sp();
+    let start = base.address();
     for n in 0..cif.frame() {
         if !carries(cif, Loc::S(n as u32), 0) {
-            machine.fill_stack(base + n, 1, byte);
+            machine.fill_stack(start + n, 1, byte);
         }
     }
 }
@@ -234,7 +225,7 @@ pub fn poison<A: Abi>(machine: &mut Machine, cif: &Cif<A>, byte: u8)
 {
     // its contract tells what is true of every interface
     let _sig = cif.sig();
-    let base = machine.sp() + A::LINK;
+    let base = StackBase::at(machine.sp() + A::LINK);
     poison_registers(machine, cif, base, byte);
     poison_frame(machine, cif, base, byte);
 }

@@ -16,7 +16,7 @@ ghost use Rattle.ffi3_callee.specs.Saved.{AreGivenBack, AreSaved, HaveRegisters}
 use crate::Incoming;
 use crate::saving::restore_words;
 use ffi3_cif::Cif;
-use ffi3_machine::Machine;
+use ffi3_machine::{Machine, StackBase};
 use ffi3_place::Abi;
 
 /// Gives back the saved registers and the stack: sp is the entry's. A result that was given stays, and after the return
@@ -35,7 +35,7 @@ pub fn restore<A: Abi>(machine: &mut Machine, cif: &Cif<A>, incoming: Incoming)
     // its contract tells what is true of every interface
     let _sig = cif.sig();
     let entry = incoming.entry();
-    let area = entry - A::SAVE;
+    let area = StackBase::at(entry - A::SAVE);
     restore_words::<A>(machine, area);
     machine.set_sp(entry);
 }

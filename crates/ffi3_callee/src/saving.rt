@@ -8,7 +8,7 @@ ghost use Rattle.ffi3_pieces.specs.Stored.{Stays, WroteOnly, WroteWithin, word_i
 ghost use Rattle.ffi3_callee.specs.Saved.{AreGivenBack, AreSaved, HiddenLies, IsRestorable, IsSaveable, hidden_word, saved_word, word_to_save};
 
 use crate::poisoning;
-use ffi3_machine::Machine;
+use ffi3_machine::{Machine, StackBase};
 use ffi3_pieces::own_word;
 use ffi3_place::{Abi, Loc, SaveWord};
 
@@ -28,10 +28,8 @@ fn word_at<A: Abi>(i: u8) -> SaveWord
 }
 
 /// A hidden result's address, or 0.
-pub fn hidden_word(machine: &Machine, base: u64, hidden: Option<Loc>) -> u64
-    requires low { STACK ≤ base }
-    requires high { base ≤ STACK_TOP }
-    requires lies { HiddenLies (STACK_TOP - base) hidden }
+pub fn hidden_word(machine: &Machine, base: StackBase, hidden: Option<Loc>) -> u64
+    requires { HiddenLies (STACK_TOP - base) hidden }
     ensures { result ≡ hidden_word base machine.now hidden }
 {
     match hidden {
@@ -41,9 +39,7 @@ pub fn hidden_word(machine: &Machine, base: u64, hidden: Option<Loc>) -> u64
 }
 
 // What is saved in a word: 0 where there is nothing.
-fn word_to_save(machine: &Machine, base: u64, hidden: Option<Loc>, word: SaveWord) -> u64
-    requires low { STACK ≤ base }
-    requires high { base ≤ STACK_TOP }
+fn word_to_save(machine: &Machine, base: StackBase, hidden: Option<Loc>, word: SaveWord) -> u64
     requires lies { IsSaveable (STACK_TOP - base) word }
     requires hidden { HiddenLies (STACK_TOP - base) hidden }
     ensures { result ≡ word_to_save base machine.now hidden word }
@@ -57,17 +53,17 @@ fn word_to_save(machine: &Machine, base: u64, hidden: Option<Loc>, word: SaveWor
 
 /// Saves registers and a hidden result's address, one word behind the other from an address on.
 /// Stack places count from the address `base`.
-pub fn save_words<A: Abi>(machine: &mut Machine, from: u64, base: u64, hidden: Option<Loc>)
+pub fn save_words<A: Abi>(machine: &mut Machine, from: u64, base: StackBase, hidden: Option<Loc>)
     requires low { STACK ≤ from }
     requires below { from + 8 * length A.standard.save_area ≤ base }
-    requires high { base ≤ STACK_TOP }
     requires lie { AllByRecursion (IsSaveable (STACK_TOP - base)) A.standard.save_area }
     requires hidden { HiddenLies (STACK_TOP - base) hidden }
     ensures saved { AreSaved from base hidden A.standard.save_area machine.old machine.new }
     ensures only { WroteOnly from (from + 8 * length A.standard.save_area) machine.old machine.new }
 {
-    // its contract tells what is true of every machine
+    // their contracts tell what is true of every machine, and where the base lies
     let _m = machine.sp();
+    let _at = base.address();
     for i in 0..count_of_words::<A>() {
         let word = word_to_save(machine, base, hidden, word_at::<A>(i));
         machine.store_stack(from + 8 * i as u64, &word.to_le_bytes());
@@ -85,16 +81,16 @@ pub fn set_register(machine: &mut Machine, at: Loc, word: u64)
 }
 
 // Sets the register of a word that has one.
-fn restore_word(machine: &mut Machine, from: u64, i: u32, word: SaveWord)
-    requires low { STACK ≤ from }
+fn restore_word(machine: &mut Machine, from: StackBase, i: u32, word: SaveWord)
     requires high { from + 8 * i + 8 ≤ STACK_TOP }
     requires register { IsRestorable machine.old.target word }
     ensures is { (at : Loc) → word ≡ SaveWord.Register at → word_in STACK_TOP machine.new at ≡ saved_word from i machine.old }
     ensures stays { Stays STACK_TOP (saved_registers (word ∷ [])) machine.old machine.new }
     ensures within { WroteWithin STACK_TOP STACK_TOP machine.old machine.new }
 {
-    // its contract tells what is true of every machine
+    // their contracts tell what is true of every machine, and where the words lie
     let _m = machine.sp();
+    let _at = from.address();
     if let SaveWord::Register(at) = word {
         let saved = own_word(machine, from, Loc::S(8 * i));
         set_register(machine, at, saved);
@@ -102,16 +98,16 @@ fn restore_word(machine: &mut Machine, from: u64, i: u32, word: SaveWord)
 }
 
 /// Gives the saved registers back.
-pub fn restore_words<A: Abi>(machine: &mut Machine, from: u64)
-    requires low { STACK ≤ from }
+pub fn restore_words<A: Abi>(machine: &mut Machine, from: StackBase)
     requires high { from + 8 * length A.standard.save_area ≤ STACK_TOP }
     requires registers { AllByRecursion (IsRestorable machine.old.target) A.standard.save_area }
     ensures given_back { (value : Loc → ℕ) → AreGivenBack from A.standard.save_area value machine.old machine.new }
     ensures stays { Stays STACK_TOP (saved_registers A.standard.save_area) machine.old machine.new }
     ensures within { WroteWithin STACK_TOP STACK_TOP machine.old machine.new }
 {
-    // its contract tells what is true of every machine
+    // their contracts tell what is true of every machine, and where the words lie
     let _m = machine.sp();
+    let _at = from.address();
     for i in 0..count_of_words::<A>() {
         restore_word(machine, from, i as u32, word_at::<A>(i));
     }

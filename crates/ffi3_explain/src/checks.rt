@@ -2,8 +2,6 @@
 ghost use Rattle.std.specs.Prelude.{◌≡◌, ◌+◌, ◌^◌, ◌<◌, ◌≤◌, length, IfErr, IfOk, None, Some};
 ghost use Rattle.std.specs.List.{AllByRecursion};
 ghost use Rattle.ffi3_type_rules.specs.Layout.{size_of};
-ghost use Rattle.ffi3_type_rules.specs.Fault.{IsLaidOut};
-ghost use Rattle.ffi3_types.specs.TreeOf.{tree_of};
 ghost use Rattle.ffi3_values.specs.ValueOf.{value_of};
 ghost use Rattle.ffi3_place_rules.specs.Standard.{frame_of, plan_of};
 ghost use Rattle.ffi3_place_rules.specs.Isa.{listed};
@@ -17,9 +15,8 @@ use crate::pieces::explain_pieces;
 use crate::places::place_word;
 use crate::{Check, Image, Part, Unexplained};
 use ffi3_cif::Cif;
-use ffi3_place::parts::{argument, count_of, size_of};
 use ffi3_place::{Abi, Loc, Place, Res};
-use ffi3_types::FfiType;
+use ffi3_types::CheckedType;
 use ffi3_values::{Value, Values, value_from_bytes};
 use std::alloc::Global;
 
@@ -29,15 +26,14 @@ fn explain_copy(
     image: &Image,
     base: u64,
     i: u32,
-    ty: &FfiType,
+    ty: &CheckedType<'_>,
     at: Loc,
     copy: u32,
 ) -> Result<Value, Unexplained>
-    requires right { IsLaidOut (tree_of ty.now) }
-    requires there { PlaceIsThere (image_of image.now) base (tree_of ty.now) (Place.ByRef at copy) }
-    ensures value { IfOk result (λ v. value_of v ≡ value_at_place (image_of image.now) base (tree_of ty.now) (Place.ByRef at copy)) }
-    ensures held { IfOk result (λ v. first_broken (checks_of_place (image_of image.now) base i (tree_of ty.now) (Place.ByRef at copy)) ≡ None) }
-    ensures broken { IfErr result (λ f. TellsFirst (first_broken (checks_of_place (image_of image.now) base i (tree_of ty.now) (Place.ByRef at copy))) f) }
+    requires there { PlaceIsThere (image_of image.now) base ty.now (Place.ByRef at copy) }
+    ensures value { IfOk result (λ v. value_of v ≡ value_at_place (image_of image.now) base ty.now (Place.ByRef at copy)) }
+    ensures held { IfOk result (λ v. first_broken (checks_of_place (image_of image.now) base i ty.now (Place.ByRef at copy)) ≡ None) }
+    ensures broken { IfErr result (λ f. TellsFirst (first_broken (checks_of_place (image_of image.now) base i ty.now (Place.ByRef at copy))) f) }
 {
     // its length tells that the sums below are small
     let _len = image.stack.len();
@@ -51,8 +47,8 @@ fn explain_copy(
         return Err(Unexplained::NotHeld(check));
     }
     let start = (base + copy as u64) as usize;
-    let bytes = &image.stack.as_slice()[start..start + size_of(ty) as usize];
-    let Ok(value) = value_from_bytes(alloc, ty, bytes) else {
+    let bytes = &image.stack.as_slice()[start..start + ty.size() as usize];
+    let Ok(value) = value_from_bytes(alloc, ty.as_type(), bytes) else {
         return Err(Unexplained::NoMemory);
     };
     Ok(value)
@@ -64,15 +60,14 @@ fn explain_argument(
     image: &Image,
     base: u64,
     i: u32,
-    ty: &FfiType,
+    ty: &CheckedType<'_>,
     place: &Place,
 ) -> Result<Value, Unexplained>
-    requires right { IsLaidOut (tree_of ty.now) }
-    requires there { PlaceIsThere (image_of image.now) base (tree_of ty.now) place.now }
-    requires has_all { PlaceHasAll (tree_of ty.now) place.now }
-    ensures value { IfOk result (λ v. value_of v ≡ value_at_place (image_of image.now) base (tree_of ty.now) place.now) }
-    ensures held { IfOk result (λ v. first_broken (checks_of_place (image_of image.now) base i (tree_of ty.now) place.now) ≡ None) }
-    ensures broken { IfErr result (λ f. TellsFirst (first_broken (checks_of_place (image_of image.now) base i (tree_of ty.now) place.now)) f) }
+    requires there { PlaceIsThere (image_of image.now) base ty.now place.now }
+    requires has_all { PlaceHasAll ty.now place.now }
+    ensures value { IfOk result (λ v. value_of v ≡ value_at_place (image_of image.now) base ty.now place.now) }
+    ensures held { IfOk result (λ v. first_broken (checks_of_place (image_of image.now) base i ty.now place.now) ≡ None) }
+    ensures broken { IfErr result (λ f. TellsFirst (first_broken (checks_of_place (image_of image.now) base i ty.now place.now)) f) }
 {
     match place {
         Place::Direct(pieces) => explain_pieces(alloc, image, base, i, ty, pieces),
@@ -94,11 +89,12 @@ pub fn explain_arguments<A: Abi>(
     ensures held { IfOk result (λ vs. first_broken (checks_of_arguments (image_of image.now) base 0 cif.now.arguments (plan_of A.standard cif.now).places) ≡ None) }
     ensures broken { IfErr result (λ f. TellsFirst (first_broken (checks_of_arguments (image_of image.now) base 0 cif.now.arguments (plan_of A.standard cif.now).places)) f) }
 {
-    let sig = cif.sig();
-    let count = count_of(sig);
+    let sig = cif.checked_sig();
+    let count = sig.count();
     let mut values = Values::new(alloc);
     for i in 0..count {
-        match explain_argument(alloc, image, base, i, argument(sig, i), cif.place(i)) {
+        let ty = sig.arg(i);
+        match explain_argument(alloc, image, base, i, &ty, cif.place(i)) {
             Ok(value) => {
                 let Ok(()) = values.push(value) else {
                     return Err(Unexplained::NoMemory);

@@ -4,7 +4,6 @@ ghost use Rattle.std.specs.Int.{w64, from_le_bytes};
 ghost use Rattle.std.specs.List.{AllByRecursion};
 ghost use Rattle.ffi3_type_rules.specs.declared.limits.TheConstants.{LARGEST_TYPE};
 ghost use Rattle.ffi3_type_rules.specs.Layout.{size_of};
-ghost use Rattle.ffi3_type_rules.specs.Fault.{IsLaidOut};
 ghost use Rattle.ffi3_type_rules.specs.Integer.{is_number_type, scalar_of, widened_from_32};
 ghost use Rattle.ffi3_type_rules.specs.Value.{bytes_of, fits, IsWritten};
 ghost use Rattle.ffi3_types.specs.TreeOf.{tree_of};
@@ -18,10 +17,9 @@ ghost use Rattle.ffi3_explain.specs.Told.{TellsFirst};
 
 use crate::places::{place_bytes, place_word};
 use crate::{Check, Image, Part, Unexplained};
-use ffi3_place::parts::size_of;
 use ffi3_place::{Ext, Piece, Pieces};
 use ffi3_type_rules::limits::LARGEST_TYPE;
-use ffi3_types::{FfiType, NoMemory};
+use ffi3_types::{CheckedType, FfiType, NoMemory};
 use ffi3_values::{Value, number, value_from_bytes, widen, write_bytes};
 use std::alloc::Global;
 
@@ -54,19 +52,18 @@ pub fn value_in_pieces(
     alloc: Global,
     image: &Image,
     base: u64,
-    ty: &FfiType,
+    ty: &CheckedType<'_>,
     pieces: &Pieces,
 ) -> Result<Value, NoMemory>
-    requires right { IsLaidOut (tree_of ty.now) }
     requires there { AllByRecursion (CanBeRead (image_of image.now) base) pieces.now }
-    requires suits { AllByRecursion (IsPieceOf (tree_of ty.now)) pieces.now }
-    ensures value { IfOk result (λ v. value_of v ≡ value_in_pieces (image_of image.now) base (tree_of ty.now) pieces.now) }
-    ensures fits { IfOk result (λ v. fits (tree_of ty.now) (value_of v) ≡ true) }
+    requires suits { AllByRecursion (IsPieceOf ty.now) pieces.now }
+    ensures value { IfOk result (λ v. value_of v ≡ value_in_pieces (image_of image.now) base ty.now pieces.now) }
+    ensures fits { IfOk result (λ v. fits ty.now (value_of v) ≡ true) }
 {
     let mut room = [0; LARGEST_TYPE as usize];
-    let out = &mut room[..size_of(ty) as usize];
+    let out = &mut room[..ty.size() as usize];
     read_pieces(image, base, pieces, out);
-    value_from_bytes(alloc, ty, out)
+    value_from_bytes(alloc, ty.as_type(), out)
 }
 
 // Byte `k` of a piece's place, as it is wanted: a byte of a leaf, the same in `low` and in `high`, is the value's, and
@@ -192,14 +189,13 @@ fn first_broken_piece(
 }
 
 // Writes the value's bytes over this filling, which stays in padding.
-fn write_over(ty: &FfiType, value: &Value, filling: u8, out: &mut [u8])
-    requires right { IsLaidOut (tree_of ty.now) }
-    requires fits { fits (tree_of ty.now) (value_of value.now) ≡ true }
-    requires sized { length out.old ≡ size_of (tree_of ty.now) }
-    ensures { IsWritten (tree_of ty.now) (value_of value.now) (replicate (size_of (tree_of ty.now)) filling) out.new }
+fn write_over(ty: &CheckedType<'_>, value: &Value, filling: u8, out: &mut [u8])
+    requires fits { fits ty.now (value_of value.now) ≡ true }
+    requires sized { length out.old ≡ size_of ty.now }
+    ensures { IsWritten ty.now (value_of value.now) (replicate (size_of ty.now) filling) out.new }
 {
     out.fill(filling);
-    write_bytes(ty, value, out);
+    write_bytes(ty.as_type(), value, out);
 }
 
 /// The value of argument `i` in pieces, or the first piece whose place does not hold what is wanted.
@@ -208,20 +204,19 @@ pub fn explain_pieces(
     image: &Image,
     base: u64,
     i: u32,
-    ty: &FfiType,
+    ty: &CheckedType<'_>,
     pieces: &Pieces,
 ) -> Result<Value, Unexplained>
-    requires right { IsLaidOut (tree_of ty.now) }
     requires there { AllByRecursion (CanBeRead (image_of image.now) base) pieces.now }
-    requires suits { AllByRecursion (IsPieceOf (tree_of ty.now)) pieces.now }
-    ensures value { IfOk result (λ v. value_of v ≡ value_in_pieces (image_of image.now) base (tree_of ty.now) pieces.now) }
-    ensures held { IfOk result (λ v. first_broken (checks_of_pieces (image_of image.now) base i (tree_of ty.now) pieces.now pieces.now) ≡ None) }
-    ensures broken { IfErr result (λ f. TellsFirst (first_broken (checks_of_pieces (image_of image.now) base i (tree_of ty.now) pieces.now pieces.now)) f) }
+    requires suits { AllByRecursion (IsPieceOf ty.now) pieces.now }
+    ensures value { IfOk result (λ v. value_of v ≡ value_in_pieces (image_of image.now) base ty.now pieces.now) }
+    ensures held { IfOk result (λ v. first_broken (checks_of_pieces (image_of image.now) base i ty.now pieces.now pieces.now) ≡ None) }
+    ensures broken { IfErr result (λ f. TellsFirst (first_broken (checks_of_pieces (image_of image.now) base i ty.now pieces.now pieces.now)) f) }
 {
     let Ok(value) = value_in_pieces(alloc, image, base, ty, pieces) else {
         return Err(Unexplained::NoMemory);
     };
-    let size = size_of(ty) as usize;
+    let size = ty.size() as usize;
     // the value over zeros and over ones: padding is where they differ
     let mut zeros = [0; LARGEST_TYPE as usize];
     let mut ones = [0xFF; LARGEST_TYPE as usize];
@@ -229,7 +224,7 @@ pub fn explain_pieces(
     let high = &mut ones[..size];
     write_over(ty, &value, 0, low);
     write_over(ty, &value, 0xFF, high);
-    match first_broken_piece(image, base, i, ty, &value, pieces, low, high) {
+    match first_broken_piece(image, base, i, ty.as_type(), &value, pieces, low, high) {
         Some(check) => Err(Unexplained::NotHeld(check)),
         None => Ok(value),
     }

@@ -6,7 +6,6 @@ ghost use Rattle.ffi3_place_rules.specs.Sound.{piece_locs, place_locs};
 ghost use Rattle.ffi3_explain_rules.specs.Arguments.{least_stack, stack_end};
 
 use ffi3_cif::Cif;
-use ffi3_place::parts::count_of;
 use ffi3_place::{Abi, Loc, Pieces, Place};
 
 fn greater(a: u64, b: u64) -> u64
@@ -54,8 +53,8 @@ fn arguments_end<A: Abi>(cif: &Cif<A>) -> u64
     ensures value { result ≡ stack_end (flat_map place_locs (plan_of A.standard cif.now).places) }
     ensures small { result < 2 ^ 33 }
 {
-    let sig = cif.sig();
-    let count = count_of(sig);
+    let sig = cif.checked_sig();
+    let count = sig.count();
     let mut end = 0;
     for i in 0..count {
         end = greater(end, place_end(cif.place(i)));

@@ -2,9 +2,7 @@
 ghost use Rattle.std.specs.Prelude.{◌≡◌, ◌<◌, ◌≤◌, List, length, true, IfErr, IfOk, None};
 ghost use Rattle.ffi3_type_rules.specs.Tree.{trees_of};
 ghost use Rattle.ffi3_type_rules.specs.Layout.{size_of};
-ghost use Rattle.ffi3_type_rules.specs.Fault.{IsLaidOut};
 ghost use Rattle.ffi3_type_rules.specs.Value.{ValueTree, all_fit, values_of};
-ghost use Rattle.ffi3_types.specs.TreeOf.{tree_of};
 ghost use Rattle.ffi3_values.specs.ValueOf.{value_of};
 ghost use Rattle.ffi3_place_rules.specs.Standard.{plan_of};
 ghost use Rattle.ffi3_place_rules.specs.Sound.{PlaceHasAll};
@@ -18,9 +16,8 @@ use crate::pieces::value_in_pieces;
 use crate::places::place_word;
 use crate::{Image, Outside};
 use ffi3_cif::Cif;
-use ffi3_place::parts::{argument, count_of, size_of};
 use ffi3_place::{Abi, Loc, Place};
-use ffi3_types::FfiType;
+use ffi3_types::CheckedType;
 use ffi3_values::{Value, Values, value_from_bytes};
 use std::alloc::Global;
 use thiserror::Error;
@@ -58,21 +55,20 @@ fn read_copy(
     image: &Image,
     base: u64,
     i: u32,
-    ty: &FfiType,
+    ty: &CheckedType<'_>,
     at: Loc,
 ) -> Result<Value, Unread>
-    requires right { IsLaidOut (tree_of ty.now) }
     requires there { HasPlace (image_of image.now) base at }
-    ensures value { IfOk result (λ v. value_of v ≡ value_by_standard (image_of image.now) base (tree_of ty.now) (Place.ByRef at 0)) }
-    ensures inside { IfOk result (λ v. outside_of (image_of image.now) base i (tree_of ty.now) (Place.ByRef at 0) ≡ None) }
-    ensures outside { IfErr result (λ f. TellsFirstOutside (outside_of (image_of image.now) base i (tree_of ty.now) (Place.ByRef at 0)) f) }
+    ensures value { IfOk result (λ v. value_of v ≡ value_by_standard (image_of image.now) base ty.now (Place.ByRef at 0)) }
+    ensures inside { IfOk result (λ v. outside_of (image_of image.now) base i ty.now (Place.ByRef at 0) ≡ None) }
+    ensures outside { IfErr result (λ f. TellsFirstOutside (outside_of (image_of image.now) base i ty.now (Place.ByRef at 0)) f) }
 {
     let address = place_word(image, base, at);
-    let size = size_of(ty);
+    let size = ty.size();
     match offset_in(image, address, size) {
         Some(start) => {
             let bytes = &image.stack.as_slice()[start..start + size as usize];
-            let Ok(value) = value_from_bytes(alloc, ty, bytes) else {
+            let Ok(value) = value_from_bytes(alloc, ty.as_type(), bytes) else {
                 return Err(Unread::NoMemory);
             };
             Ok(value)
@@ -90,15 +86,14 @@ fn read_argument(
     image: &Image,
     base: u64,
     i: u32,
-    ty: &FfiType,
+    ty: &CheckedType<'_>,
     place: &Place,
 ) -> Result<Value, Unread>
-    requires right { IsLaidOut (tree_of ty.now) }
     requires there { ArgumentIsThere (image_of image.now) base place.now }
-    requires has_all { PlaceHasAll (tree_of ty.now) place.now }
-    ensures value { IfOk result (λ v. value_of v ≡ value_by_standard (image_of image.now) base (tree_of ty.now) place.now) }
-    ensures inside { IfOk result (λ v. outside_of (image_of image.now) base i (tree_of ty.now) place.now ≡ None) }
-    ensures outside { IfErr result (λ f. TellsFirstOutside (outside_of (image_of image.now) base i (tree_of ty.now) place.now) f) }
+    requires has_all { PlaceHasAll ty.now place.now }
+    ensures value { IfOk result (λ v. value_of v ≡ value_by_standard (image_of image.now) base ty.now place.now) }
+    ensures inside { IfOk result (λ v. outside_of (image_of image.now) base i ty.now place.now ≡ None) }
+    ensures outside { IfErr result (λ f. TellsFirstOutside (outside_of (image_of image.now) base i ty.now place.now) f) }
 {
     match place {
         Place::Direct(pieces) => {
@@ -124,11 +119,12 @@ fn read_arguments<A: Abi>(
     ensures inside { IfOk result (λ vs. first_outside (image_of image.now) base 0 cif.now.arguments (plan_of A.standard cif.now).places ≡ None) }
     ensures outside { IfErr result (λ f. TellsFirstOutside (first_outside (image_of image.now) base 0 cif.now.arguments (plan_of A.standard cif.now).places) f) }
 {
-    let sig = cif.sig();
-    let count = count_of(sig);
+    let sig = cif.checked_sig();
+    let count = sig.count();
     let mut values = Values::new(alloc);
     for i in 0..count {
-        match read_argument(alloc, image, base, i, argument(sig, i), cif.place(i)) {
+        let ty = sig.arg(i);
+        match read_argument(alloc, image, base, i, &ty, cif.place(i)) {
             Ok(value) => {
                 let Ok(()) = values.push(value) else {
                     return Err(Unread::NoMemory);

@@ -4,7 +4,6 @@ use Rattle.std.proofs.Common.{◌≡◌, ◌+◌, ◌-◌, ◌<◌, ◌≤◌, l
 use Rattle.ffi3_type_rules.specs.Tree.{tree_at}
 use Rattle.ffi3_type_rules.specs.Layout.{size_of}
 use Rattle.ffi3_type_rules.proofs.Layouts.{least_multiple-above}
-use Rattle.ffi3_types.specs.TreeOf.{tree_of}
 use Rattle.ffi3_place_rules.specs.Standard.{block_bytes, frame_of, plan_of, round8}
 use Rattle.ffi3_type_rules.specs.declared.limits.TheConstants.{STACK_TOP}
 use Rattle.ffi3_pieces.specs.Passing.{passing}
@@ -19,9 +18,9 @@ copy_argument-requires-clause-below g c =
     let std = g.A.Abi.standard in
     let s = c.args.cif.now in
     let sound = g.met.A.Abi.sound s in
-    let t = tree_of c.argument-ty.result.now in
-    let below : c.loop-i.i < length s.arguments = omega (arith, c.loop-i-test.true, c.count_of-i-end.ensures.value, ap (λ r. length r.arguments) c.sig-sig.ensures.value) in
-    let type_is = c.argument-ty.ensures.element ∙ ap (λ r. tree_at r.arguments c.loop-i.i) c.sig-sig.ensures.value in
+    let t = c.arg-ty.result in
+    let below : c.loop-i.i < length s.arguments = omega (arith, c.loop-i-test.true, c.count-i-end.ensures.value, ap (λ r. length r.arguments) c.checked_sig-sig.ensures.value) in
+    let type_is = c.arg-ty.ensures ∙ ap (λ r. tree_at r.arguments c.loop-i.i) c.checked_sig-sig.ensures.value in
     let whole = subst (λ u. block_offset s.arguments c.loop-i.i + round8 (size_of u) ≤ block_bytes s) (sym type_is) (whole_within s c.loop-i.i below) in
     omega (arith, whole, c.loop-i.invariant.to_is, c.requires.below, least_multiple-above 8 (size_of t))
 
@@ -30,10 +29,10 @@ copy_argument-requires-clause-lies g c =
     let std = g.A.Abi.standard in
     let s = c.args.cif.now in
     let sound = g.met.A.Abi.sound s in
-    let t = tree_of c.argument-ty.result.now in
-    let below : c.loop-i.i < length s.arguments = omega (arith, c.loop-i-test.true, c.count_of-i-end.ensures.value, ap (λ r. length r.arguments) c.sig-sig.ensures.value) in
-    let type_is = c.argument-ty.ensures.element ∙ ap (λ r. tree_at r.arguments c.loop-i.i) c.sig-sig.ensures.value in
-    let ready = ready_at std s sound c.sig-sig.ensures.faultless c.loop-i.i t c.place.result.now below type_is c.place.ensures in
+    let t = c.arg-ty.result in
+    let below : c.loop-i.i < length s.arguments = omega (arith, c.loop-i-test.true, c.count-i-end.ensures.value, ap (λ r. length r.arguments) c.checked_sig-sig.ensures.value) in
+    let type_is = c.arg-ty.ensures ∙ ap (λ r. tree_at r.arguments c.loop-i.i) c.checked_sig-sig.ensures.value in
+    let ready = ready_at std s sound c.checked_sig-sig.ensures.faultless c.loop-i.i t c.place.result.now below type_is c.place.ensures in
     lies_more (frame_of std s) (STACK_TOP - c.args.base) t c.place.result.now (omega (arith, c.requires.high)) ready.lies
 
 pub copy_argument-requires-clause-has_all : goal.copy_argument-requires-clause-has_all
@@ -41,14 +40,14 @@ copy_argument-requires-clause-has_all g c =
     let std = g.A.Abi.standard in
     let s = c.args.cif.now in
     let sound = g.met.A.Abi.sound s in
-    let t = tree_of c.argument-ty.result.now in
-    let below : c.loop-i.i < length s.arguments = omega (arith, c.loop-i-test.true, c.count_of-i-end.ensures.value, ap (λ r. length r.arguments) c.sig-sig.ensures.value) in
-    let type_is = c.argument-ty.ensures.element ∙ ap (λ r. tree_at r.arguments c.loop-i.i) c.sig-sig.ensures.value in
-    let ready = ready_at std s sound c.sig-sig.ensures.faultless c.loop-i.i t c.place.result.now below type_is c.place.ensures in
+    let t = c.arg-ty.result in
+    let below : c.loop-i.i < length s.arguments = omega (arith, c.loop-i-test.true, c.count-i-end.ensures.value, ap (λ r. length r.arguments) c.checked_sig-sig.ensures.value) in
+    let type_is = c.arg-ty.ensures ∙ ap (λ r. tree_at r.arguments c.loop-i.i) c.checked_sig-sig.ensures.value in
+    let ready = ready_at std s sound c.checked_sig-sig.ensures.faultless c.loop-i.i t c.place.result.now below type_is c.place.ensures in
     ready.has_all
 
 pub runs-requires : goal.runs-requires
-runs-requires g c = omega (arith, c.loop-i-test.true, c.count_of-i-end.ensures.value, ap (λ r. length r.arguments) c.sig-sig.ensures.value)
+runs-requires g c = omega (arith, c.loop-i-test.true, c.count-i-end.ensures.value, ap (λ r. length r.arguments) c.checked_sig-sig.ensures.value)
 
 pub copy_argument-requires-clause-runs : goal.copy_argument-requires-clause-runs
 copy_argument-requires-clause-runs g c =
@@ -59,9 +58,9 @@ copy_argument-requires-clause-found g c =
     let std = g.A.Abi.standard in
     let s = c.args.cif.now in
     let sound = g.met.A.Abi.sound s in
-    let t = tree_of c.argument-ty.result.now in
-    let below : c.loop-i.i < length s.arguments = omega (arith, c.loop-i-test.true, c.count_of-i-end.ensures.value, ap (λ r. length r.arguments) c.sig-sig.ensures.value) in
-    let type_is = c.argument-ty.ensures.element ∙ ap (λ r. tree_at r.arguments c.loop-i.i) c.sig-sig.ensures.value in
+    let t = c.arg-ty.result in
+    let below : c.loop-i.i < length s.arguments = omega (arith, c.loop-i-test.true, c.count-i-end.ensures.value, ap (λ r. length r.arguments) c.checked_sig-sig.ensures.value) in
+    let type_is = c.arg-ty.ensures ∙ ap (λ r. tree_at r.arguments c.loop-i.i) c.checked_sig-sig.ensures.value in
     found_stays c.args.block (c.args.block + block_bytes s) c.args.base c.place.result.now (passing c.args.machine.now) (passing c.loop-i.machine) (omega (arith, c.requires.low, c.requires.below)) c.requires.below c.loop-i.invariant.only (found_at c.args.base (passing c.args.machine.now) (plan_of std s).places c.loop-i.i c.place.result.now c.place.ensures c.requires.found)
 
 pub overflow_add-to : goal.overflow_add-to
@@ -69,11 +68,11 @@ overflow_add-to g c =
     let std = g.A.Abi.standard in
     let s = c.args.cif.now in
     let sound = g.met.A.Abi.sound s in
-    let t = tree_of c.argument-ty.result.now in
-    let below : c.loop-i.i < length s.arguments = omega (arith, c.loop-i-test.true, c.count_of-i-end.ensures.value, ap (λ r. length r.arguments) c.sig-sig.ensures.value) in
-    let type_is = c.argument-ty.ensures.element ∙ ap (λ r. tree_at r.arguments c.loop-i.i) c.sig-sig.ensures.value in
+    let t = c.arg-ty.result in
+    let below : c.loop-i.i < length s.arguments = omega (arith, c.loop-i-test.true, c.count-i-end.ensures.value, ap (λ r. length r.arguments) c.checked_sig-sig.ensures.value) in
+    let type_is = c.arg-ty.ensures ∙ ap (λ r. tree_at r.arguments c.loop-i.i) c.checked_sig-sig.ensures.value in
     let whole = subst (λ u. block_offset s.arguments c.loop-i.i + round8 (size_of u) ≤ block_bytes s) (sym type_is) (whole_within s c.loop-i.i below) in
-    let size_is = ap round8 c.size_of.ensures.value in
+    let size_is = ap round8 c.size.ensures.value in
     omega (arith, whole, size_is, c.round_up-to.ensures.value, c.loop-i.invariant.to_is, c.requires.below, c.requires.high)
 
 pub loop-i-preserved : goal.loop-i-preserved
@@ -81,14 +80,14 @@ loop-i-preserved g c =
     let std = g.A.Abi.standard in
     let s = c.args.cif.now in
     let sound = g.met.A.Abi.sound s in
-    let t = tree_of c.argument-ty.result.now in
-    let below : c.loop-i.i < length s.arguments = omega (arith, c.loop-i-test.true, c.count_of-i-end.ensures.value, ap (λ r. length r.arguments) c.sig-sig.ensures.value) in
-    let type_is = c.argument-ty.ensures.element ∙ ap (λ r. tree_at r.arguments c.loop-i.i) c.sig-sig.ensures.value in
-    let next_is : c.loop-i.to + c.round_up-to.result ≡ c.loop-i.to + round8 (size_of t) = ap (λ n. c.loop-i.to + n) (c.round_up-to.ensures.value ∙ ap round8 c.size_of.ensures.value) in
-    one_more_copied std s c.args.base c.args.block (passing c.args.machine.now) c.loop-i.i c.loop-i.to (c.loop-i.to + c.round_up-to.result) t c.place.result.now (passing c.loop-i.machine) (passing c.copy_argument.new.machine) c.requires.low c.requires.below c.requires.high c.sp-m.ensures.machine.stack sound c.sig-sig.ensures.faultless below type_is c.place.ensures next_is c.copy_argument.ensures.read c.copy_argument.ensures.only c.loop-i.invariant
+    let t = c.arg-ty.result in
+    let below : c.loop-i.i < length s.arguments = omega (arith, c.loop-i-test.true, c.count-i-end.ensures.value, ap (λ r. length r.arguments) c.checked_sig-sig.ensures.value) in
+    let type_is = c.arg-ty.ensures ∙ ap (λ r. tree_at r.arguments c.loop-i.i) c.checked_sig-sig.ensures.value in
+    let next_is : c.loop-i.to + c.round_up-to.result ≡ c.loop-i.to + round8 (size_of t) = ap (λ n. c.loop-i.to + n) (c.round_up-to.ensures.value ∙ ap round8 c.size.ensures.value) in
+    one_more_copied std s c.args.base c.args.block (passing c.args.machine.now) c.loop-i.i c.loop-i.to (c.loop-i.to + c.round_up-to.result) t c.place.result.now (passing c.loop-i.machine) (passing c.copy_argument.new.machine) c.requires.low c.requires.below c.requires.high c.sp-m.ensures.machine.stack sound c.checked_sig-sig.ensures.faultless below type_is c.place.ensures next_is c.copy_argument.ensures.read c.copy_argument.ensures.only c.loop-i.invariant
 
 pub returns-clause-values : goal.returns-clause-values
 returns-clause-values g c =
     let s = c.args.cif.now in
-    let counted = ap (λ r. length r.arguments) c.sig-sig.ensures.value in
-    all_copied g.A.Abi.standard s c.args.base c.args.block (passing c.args.machine.now) c.loop-i.i c.loop-i.to (passing c.loop-i.machine) c.requires.low (omega (arith, counted, c.loop-i-test.false, c.count_of-i-end.ensures.value)) (omega (arith, counted, c.loop-i.auto.i-end, c.count_of-i-end.ensures.value)) c.loop-i.invariant
+    let counted = ap (λ r. length r.arguments) c.checked_sig-sig.ensures.value in
+    all_copied g.A.Abi.standard s c.args.base c.args.block (passing c.args.machine.now) c.loop-i.i c.loop-i.to (passing c.loop-i.machine) c.requires.low (omega (arith, counted, c.loop-i-test.false, c.count-i-end.ensures.value)) (omega (arith, counted, c.loop-i.auto.i-end, c.count-i-end.ensures.value)) c.loop-i.invariant

@@ -14,20 +14,20 @@ use Rattle.ffi3_callee.proofs.OwnKept.{own_list, own_reserved_of}
 use Rattle.ffi3_callee.proofs.WayBack.{result_law_of}
 use Rattle.ffi3_callee.proofs.receive.Goals as goal
 
-pub hidden_word-address-requires-clause-lies : goal.hidden_word-address-requires-clause-lies
-hidden_word-address-requires-clause-lies g c =
+pub hidden_word-address-requires : goal.hidden_word-address-requires
+hidden_word-address-requires g c =
     let std = g.A.Abi.standard in
     let s = c.args.cif.now in
     let m = c.args.machine.now in
     let sound = g.met.A.Abi.sound s in
-    let base : c.sp-entry.result + c.LINK.result ≡ m.sp + std.link = omega (arith, c.LINK.ensures, g.met.A.Abi.link_is, c.sp-entry.ensures.value) in
-    hidden_lies std s m (c.sp-entry.result + c.LINK.result) c.hidden_place-hidden.result sound base (c.hidden_place-hidden.ensures ∙ ap hidden_of c.result_place.ensures) c.requires.frame
+    let base : c.at-base.result ≡ m.sp + std.link = omega (arith, c.at-base.ensures, c.LINK.ensures, g.met.A.Abi.link_is, c.sp-entry.ensures.value) in
+    hidden_lies std s m c.at-base.result c.hidden_place-hidden.result sound base (c.hidden_place-hidden.ensures ∙ ap hidden_of c.result_place.ensures) c.requires.frame
 
 pub enter-requires-clause-room : goal.enter-requires-clause-room
 enter-requires-clause-room g c = omega (arith, c.requires.room)
 
 pub enter-requires-clause-base : goal.enter-requires-clause-base
-enter-requires-clause-base g c = omega (arith, c.LINK.ensures, g.met.A.Abi.link_is, c.sp-entry.ensures.value)
+enter-requires-clause-base g c = omega (arith, c.at-base.ensures, c.LINK.ensures, g.met.A.Abi.link_is, c.sp-entry.ensures.value)
 
 pub enter-requires-clause-hidden : goal.enter-requires-clause-hidden
 enter-requires-clause-hidden g c =
@@ -35,8 +35,8 @@ enter-requires-clause-hidden g c =
     let s = c.args.cif.now in
     let m = c.args.machine.now in
     let sound = g.met.A.Abi.sound s in
-    let base : c.sp-entry.result + c.LINK.result ≡ m.sp + std.link = omega (arith, c.LINK.ensures, g.met.A.Abi.link_is, c.sp-entry.ensures.value) in
-    hidden_lies std s m (c.sp-entry.result + c.LINK.result) c.hidden_place-hidden.result sound base (c.hidden_place-hidden.ensures ∙ ap hidden_of c.result_place.ensures) c.requires.frame
+    let base : c.at-base.result ≡ m.sp + std.link = omega (arith, c.at-base.ensures, c.LINK.ensures, g.met.A.Abi.link_is, c.sp-entry.ensures.value) in
+    hidden_lies std s m c.at-base.result c.hidden_place-hidden.result sound base (c.hidden_place-hidden.ensures ∙ ap hidden_of c.result_place.ensures) c.requires.frame
 
 pub enter-requires-clause-hidden_saved : goal.enter-requires-clause-hidden_saved
 enter-requires-clause-hidden_saved g c = λ e.
@@ -44,7 +44,7 @@ enter-requires-clause-hidden_saved g c = λ e.
     let s = c.args.cif.now in
     let m = c.args.machine.now in
     let same : std.target ≡ m.target = g.met.A.Abi.target_is ∙ sym c.requires.target in
-    let law = result_law_of std s m.target (g.met.A.Abi.result_by_stubs s) same e in
+    let law = result_law_of std s m.target (g.met.A.Abi.result_by_stubs s c.sig-sig.ensures.faultless) same e in
     hidden_listed std s c.hidden_place-hidden.result (c.hidden_place-hidden.ensures ∙ ap hidden_of c.result_place.ensures) law.hidden
 
 pub copy_arguments-requires-clause-found : goal.copy_arguments-requires-clause-found
@@ -57,7 +57,7 @@ copy_arguments-requires-clause-found g c =
     let there = stands std s m c.sp-entry.result c.LINK.result c.SAVE.result c.block.result c.hidden_place-hidden.result c.result_place.result.now c.sp-entry.ensures.value (c.LINK.ensures ∙ sym g.met.A.Abi.link_is) (c.SAVE.ensures ∙ sym g.met.A.Abi.save_is) c.block.ensures c.hidden_place-hidden.ensures c.result_place.ensures c.requires.room in
     let block_is : c.sp-entry.result - c.SAVE.result - c.block.result + block_bytes s + std.save ≡ m.sp = omega (arith, there.block_is, there.area_is, c.requires.room) in
     let entered = subst (λ h. IsEntered std h block m c.enter.new.machine) there.hidden_is c.enter.ensures in
-    subst (λ q. AreFound q (passing c.enter.new.machine) (plan_of std s).places) (sym there.base_is)
+    subst (λ q. AreFound q (passing c.enter.new.machine) (plan_of std s).places) (sym (c.at-base.ensures ∙ there.base_is))
     (found_between std s block 0 m c.enter.new.machine c.enter.new.machine c.enter.new.machine c.requires.room c.requires.frame g.met.A.Abi.agrees.area c.sp-entry.ensures.machine.stack block_is entered c.requires.some.0 sound c.sig-sig.ensures.faultless c.requires.some.1)
 
 pub returns-clause-received : goal.returns-clause-received
@@ -72,7 +72,7 @@ returns-clause-received g c =
     let b = c.enter.new.machine in
     let entered = subst (λ h. IsEntered std h block m b) there.hidden_is c.enter.ensures in
     received std s block c.len-number.result m b c.copy_arguments.new.machine c.scribble.new.self c.requires.room c.requires.frame g.met.A.Abi.agrees.area c.sp-entry.ensures.machine.stack block_is entered sound c.copy_arguments.ensures.only c.scribble.ensures
-    (λ vs own. c.copy_arguments.ensures.values vs (subst (λ q. OwnsArguments (image_from q (frame_of std s) (passing b)) 0 s.arguments (plan_of std s).places vs) (sym there.base_is) own))
+    (λ vs own. c.copy_arguments.ensures.values vs (subst (λ q. OwnsArguments (image_from q (frame_of std s) (passing b)) 0 s.arguments (plan_of std s).places vs) (sym (c.at-base.ensures ∙ there.base_is)) own))
 
 pub returns-clause-incoming : goal.returns-clause-incoming
 returns-clause-incoming g c =
@@ -86,7 +86,7 @@ returns-clause-incoming g c =
       low = omega (arith, there.block_is, there.area_is, c.requires.room);
       entry = omega (arith, there.block_is, there.area_is, c.requires.room, c.sp-entry.ensures.value);
       high = omega (arith, c.sp-entry.ensures.value, c.requires.frame);
-      address = address_known std s m c.requires.some.0 c.sp-entry.result (c.sp-entry.result + c.LINK.result) c.hidden_word-address.result c.hidden_place-hidden.result sound inside c.requires.some.1 c.sp-entry.ensures.value there.base_is there.hidden_is c.hidden_word-address.ensures;
+      address = address_known std s m c.requires.some.0 c.sp-entry.result c.at-base.result c.hidden_word-address.result c.hidden_place-hidden.result sound inside c.requires.some.1 c.sp-entry.ensures.value (c.at-base.ensures ∙ there.base_is) there.hidden_is c.hidden_word-address.ensures;
     }
 
 pub returns-clause-general : goal.returns-clause-general

@@ -34,7 +34,7 @@ returns-then-exchanged g c =
     let e : by_exchange c.args.machine.now.target ≡ true = cc in
     let same : std.target ≡ m.target = g.met.A.Abi.target_is ∙ sym c.requires.target in
     let laws = laws_of std m.target g.met.A.Abi.by_stubs same e in
-    entered_by_stub std g.met.A.Abi.agrees laws c.args.base c.args.block c.args.hidden m c.enter_by_stub.new.machine c.sp-sp.ensures.machine same c.requires.base c.requires.room (omega (arith, c.requires.base, c.requires.high)) c.requires.below (c.requires.hidden_saved e) e c.enter_by_stub.ensures.says c.enter_by_stub.ensures.counted
+    entered_by_stub std g.met.A.Abi.agrees laws c.args.base c.args.block c.args.hidden m c.enter_by_stub.new.machine c.sp-sp.ensures.machine same c.requires.base c.requires.room (omega (arith, c.requires.base, c.address-at.ensures.high)) c.requires.below (c.requires.hidden_saved e) e c.enter_by_stub.ensures.says c.enter_by_stub.ensures.counted
 
 pub returns-else-exchanged : goal.returns-else-exchanged
 returns-else-exchanged g c =

@@ -17,7 +17,7 @@ pub give_buffer-requires-clause-high : goal.give_buffer-requires-clause-high
 give_buffer-requires-clause-high g c =
     let std = g.A.Abi.standard in
     let s = c.args.cif.now in
-    let type_is = c.result_type-ty.ensures.element ∙ ap (λ r. r.result_type) c.sig.ensures.value in
+    let type_is = c.ret-ty.ensures ∙ ap (λ r. r.result_type) c.checked_sig-sig.ensures.value in
     let is = sym c.result_place.ensures ∙ c.in-Hidden.is in
     let address_is = subst (IsAddressOf c.args.base c.args.address) is c.requires.address in
     subst (λ t. c.args.address + size_of t ≤ STACK_TOP) (sym type_is) (omega (arith, address_is, buffer_within std s c.in-Hidden.at c.in-Hidden.buffer is, c.requires.high))
@@ -29,14 +29,14 @@ give_pieces-requires-clause-lie g c =
 
 pub returns-in-Nothing-clause-holds : goal.returns-in-Nothing-clause-holds
 returns-in-Nothing-clause-holds g c =
-    nothing_held g.A.Abi.standard c.args.cif.now c.args.base (passing c.args.machine.now) (value_of c.args.value.now) c.requires.low c.requires.high c.sp-m.ensures.machine.stack (sym c.result_place.ensures ∙ c.in-Nothing.is) c.requires.fits
+    nothing_held g.A.Abi.standard c.args.cif.now c.args.base (passing c.args.machine.now) (value_of c.args.value.now) c.address-at.ensures.low c.requires.high c.sp-m.ensures.machine.stack (sym c.result_place.ensures ∙ c.in-Nothing.is) c.requires.fits
 
 pub returns-in-Direct-clause-holds : goal.returns-in-Direct-clause-holds
 returns-in-Direct-clause-holds g c =
     let std = g.A.Abi.standard in
     let s = c.args.cif.now in
-    let type_is = c.result_type-ty.ensures.element ∙ ap (λ r. r.result_type) c.sig.ensures.value in
-    direct_held std s c.args.base (passing c.give_pieces.new.machine) (value_of c.args.value.now) c.in-Direct.pieces (g.met.A.Abi.sound s) c.requires.low c.requires.high (c.give_pieces.ensures.within.size ∙ c.sp-m.ensures.machine.stack) (sym c.result_place.ensures ∙ c.in-Direct.is) c.requires.fits
+    let type_is = c.ret-ty.ensures ∙ ap (λ r. r.result_type) c.checked_sig-sig.ensures.value in
+    direct_held std s c.args.base (passing c.give_pieces.new.machine) (value_of c.args.value.now) c.in-Direct.pieces (g.met.A.Abi.sound s) c.address-at.ensures.low c.requires.high (c.give_pieces.ensures.within.size ∙ c.sp-m.ensures.machine.stack) (sym c.result_place.ensures ∙ c.in-Direct.is) c.requires.fits
     (subst (λ t. PiecesStand c.args.base (passing c.give_pieces.new.machine) t (value_of c.args.value.now) c.in-Direct.pieces) type_is c.give_pieces.ensures.stand)
 
 pub returns-in-Nothing-clause-unused : goal.returns-in-Nothing-clause-unused
@@ -45,14 +45,14 @@ returns-in-Nothing-clause-unused g c =
 
 pub returns-in-Direct-clause-unused : goal.returns-in-Direct-clause-unused
 returns-in-Direct-clause-unused g c =
-    let type_is = c.result_type-ty.ensures.element ∙ ap (λ r. r.result_type) c.sig.ensures.value in
+    let type_is = c.ret-ty.ensures ∙ ap (λ r. r.result_type) c.checked_sig-sig.ensures.value in
     direct_keeps c.args.base c.args.cif.now.result_type (plan_of g.A.Abi.standard c.args.cif.now).res c.in-Direct.pieces (passing c.args.machine.now) (passing c.give_pieces.new.machine) (sym c.result_place.ensures ∙ c.in-Direct.is)
     (subst (λ t. AllByRecursion (KeepsUnused c.args.base t (passing c.args.machine.now) (passing c.give_pieces.new.machine)) c.in-Direct.pieces) type_is c.give_pieces.ensures.unused)
 
 pub returns-in-Hidden-clause-unused : goal.returns-in-Hidden-clause-unused
 returns-in-Hidden-clause-unused g c =
     let s = c.args.cif.now in
-    let type_is = c.result_type-ty.ensures.element ∙ ap (λ r. r.result_type) c.sig.ensures.value in
+    let type_is = c.ret-ty.ensures ∙ ap (λ r. r.result_type) c.checked_sig-sig.ensures.value in
     let is = sym c.result_place.ensures ∙ c.in-Hidden.is in
     let address_is = subst (IsAddressOf c.args.base c.args.address) is c.requires.address in
     hidden_keeps c.args.base c.args.address s.result_type (plan_of g.A.Abi.standard s).res c.in-Hidden.at c.in-Hidden.buffer (passing c.args.machine.now) (passing c.give_buffer.new.machine) (passing c.tell_address.new.machine) is address_is
@@ -66,18 +66,18 @@ pub returns-in-Hidden-clause-holds : goal.returns-in-Hidden-clause-holds
 returns-in-Hidden-clause-holds g c =
     let std = g.A.Abi.standard in
     let s = c.args.cif.now in
-    let type_is = c.result_type-ty.ensures.element ∙ ap (λ r. r.result_type) c.sig.ensures.value in
+    let type_is = c.ret-ty.ensures ∙ ap (λ r. r.result_type) c.checked_sig-sig.ensures.value in
     let is = sym c.result_place.ensures ∙ c.in-Hidden.is in
     let address_is = subst (IsAddressOf c.args.base c.args.address) is c.requires.address in
     let between = passing c.give_buffer.new.machine in
     let value = subst (λ t. value_in t (stack_at c.args.address (size_of t) between) ≡ value_of c.args.value.now) type_is c.give_buffer.ensures.reads in
-    hidden_held std s c.args.base c.args.address c.args.machine.now.target between (passing c.tell_address.new.machine) (value_of c.args.value.now) c.in-Hidden.at c.in-Hidden.buffer c.args.returned c.requires.low c.requires.high (c.give_buffer.ensures.only.within.size ∙ c.sp-m.ensures.machine.stack) is address_is c.requires.fits c.requires.returned c.requires.returned_settable value c.tell_address.ensures.within c.tell_address.ensures.told
+    hidden_held std s c.args.base c.args.address c.args.machine.now.target between (passing c.tell_address.new.machine) (value_of c.args.value.now) c.in-Hidden.at c.in-Hidden.buffer c.args.returned c.address-at.ensures.low c.requires.high (c.give_buffer.ensures.only.within.size ∙ c.sp-m.ensures.machine.stack) is address_is c.requires.fits c.requires.returned c.requires.returned_settable value c.tell_address.ensures.within c.tell_address.ensures.told
 
 pub returns-in-Hidden-clause-writes : goal.returns-in-Hidden-clause-writes
 returns-in-Hidden-clause-writes g c =
     let std = g.A.Abi.standard in
     let s = c.args.cif.now in
-    let type_is = c.result_type-ty.ensures.element ∙ ap (λ r. r.result_type) c.sig.ensures.value in
+    let type_is = c.ret-ty.ensures ∙ ap (λ r. r.result_type) c.checked_sig-sig.ensures.value in
     let is = sym c.result_place.ensures ∙ c.in-Hidden.is in
     let address_is = subst (IsAddressOf c.args.base c.args.address) is c.requires.address in
     let between = passing c.give_buffer.new.machine in

@@ -1,6 +1,5 @@
 use Rattle.std.proofs.Common.{rules, ◌≡◌, ◌+◌, ◌-◌, ◌≤◌, length, ap, sym, subst, ◌∙◌, arith}
 use Rattle.ffi3_type_rules.specs.Layout.{size_of}
-use Rattle.ffi3_types.specs.TreeOf.{tree_of}
 use Rattle.ffi3_values.specs.ValueOf.{value_of}
 use Rattle.ffi3_type_rules.specs.declared.limits.TheConstants.{STACK}
 use Rattle.ffi3_machine.specs.State.{stack_at}
@@ -11,9 +10,9 @@ use Rattle.ffi3_callee.proofs.giving.give_buffer_by.Goals as goal
 
 pub returns-clause-unused : goal.returns-clause-unused
 returns-clause-unused c =
-    let t = tree_of c.args.ty.now in
+    let t = c.args.ty.now in
     let m = passing c.args.machine.now in
     let sized : length c.write_bytes.new.out ≡ size_of t = search rules in
     let fits : c.args.address - STACK + size_of t ≤ length m.stack = omega (arith, c.requires.low, c.requires.high, c.sp-m.ensures.machine.stack) in
-    let loaded = c.copy_from_slice.ensures.after ∙ c.lend_stack.ensures.value ∙ ap (λ n. stack_at c.args.address n m) c.size_of-size.ensures.value in
-    subst (KeepsPadding c.args.address t m) (sym (ap passing c.store_stack.ensures)) (padding_kept c.args.address t (value_of c.args.value.now) c.copy_from_slice.new.self c.write_bytes.new.out m c.requires.low fits sized loaded c.write_bytes.ensures)
+    let loaded = c.copy_from_slice.ensures.after ∙ c.lend_stack.ensures.value ∙ ap (λ n. stack_at c.args.address n m) c.size-size.ensures.value in
+    subst (KeepsPadding c.args.address t m) (sym (ap passing c.store_stack.ensures)) (padding_kept c.args.address t (value_of c.args.value.now) c.copy_from_slice.new.self c.write_bytes.new.out m c.requires.low fits sized loaded (rw c.as_type.ensures.value at c.write_bytes.ensures))

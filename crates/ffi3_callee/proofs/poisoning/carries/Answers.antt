@@ -1,7 +1,6 @@
 use Rattle.std.specs.Prelude.{false}
 use Rattle.std.proofs.Common.{◌≡◌, ◌<◌, length, ap, sym, ◌∙◌, arith}
 use Rattle.ffi3_type_rules.specs.Tree.{tree_at}
-use Rattle.ffi3_types.specs.TreeOf.{tree_of}
 use Rattle.ffi3_place_rules.specs.Standard.{plan_of}
 use Rattle.ffi3_place_rules.proofs.Elements.{argument_read}
 use Rattle.ffi3_pieces.proofs.Arguments.{place_read}
@@ -14,9 +13,9 @@ returns-then-place_has g c =
     let s = c.args.cif.now in
     let p = plan_of g.A.Abi.standard c.args.cif.now in
     let hidden : hidden_has c.args.at c.args.k (plan_of g.A.Abi.standard c.args.cif.now).res ≡ false = sym (c.hidden_has.ensures ∙ ap (hidden_has c.args.at c.args.k) c.result_place.ensures) ∙ c.if-hidden_has.false in
-    let below : c.loop-i.i < length s.arguments = omega (arith, c.loop-i-test.true, c.count_of-i-end.ensures.value, ap (λ r. length r.arguments) c.sig-sig.ensures.value) in
-    let type_is = c.argument.ensures.element ∙ ap (λ r. tree_at r.arguments c.loop-i.i) c.sig-sig.ensures.value in
-    let t = tree_of c.argument.result.now in
+    let below : c.loop-i.i < length s.arguments = omega (arith, c.loop-i-test.true, c.count-i-end.ensures.value, ap (λ r. length r.arguments) c.checked_sig-sig.ensures.value) in
+    let type_is = c.arg-ty.ensures ∙ ap (λ r. tree_at r.arguments c.loop-i.i) c.checked_sig-sig.ensures.value in
+    let t = c.arg-ty.result in
     let found = argument_has c.args.at c.args.k c.loop-i.i s.arguments p.places t c.place.result.now (argument_read s.arguments c.loop-i.i t below type_is) (place_read p.places c.loop-i.i c.place.result.now c.place.ensures) (sym c.place_has.ensures ∙ c.if-place_has.true) in
     sym (not_first (hidden_has c.args.at c.args.k p.res) (places_have c.args.at c.args.k s.arguments p.places) hidden ∙ c.loop-i.invariant ∙ found)
 
@@ -24,9 +23,9 @@ pub loop-i-preserved : goal.loop-i-preserved
 loop-i-preserved g c =
     let s = c.args.cif.now in
     let p = plan_of g.A.Abi.standard c.args.cif.now in
-    let below : c.loop-i.i < length s.arguments = omega (arith, c.loop-i-test.true, c.count_of-i-end.ensures.value, ap (λ r. length r.arguments) c.sig-sig.ensures.value) in
-    let type_is = c.argument.ensures.element ∙ ap (λ r. tree_at r.arguments c.loop-i.i) c.sig-sig.ensures.value in
-    let t = tree_of c.argument.result.now in
+    let below : c.loop-i.i < length s.arguments = omega (arith, c.loop-i-test.true, c.count-i-end.ensures.value, ap (λ r. length r.arguments) c.checked_sig-sig.ensures.value) in
+    let type_is = c.arg-ty.ensures ∙ ap (λ r. tree_at r.arguments c.loop-i.i) c.checked_sig-sig.ensures.value in
+    let t = c.arg-ty.result in
     c.loop-i.invariant ∙ argument_has_not c.args.at c.args.k c.loop-i.i s.arguments p.places t c.place.result.now (argument_read s.arguments c.loop-i.i t below type_is) (place_read p.places c.loop-i.i c.place.result.now c.place.ensures) (sym c.place_has.ensures ∙ c.if-place_has.false)
 
 pub returns : goal.returns
@@ -34,5 +33,5 @@ returns g c =
     let s = c.args.cif.now in
     let p = plan_of g.A.Abi.standard c.args.cif.now in
     let hidden : hidden_has c.args.at c.args.k (plan_of g.A.Abi.standard c.args.cif.now).res ≡ false = sym (c.hidden_has.ensures ∙ ap (hidden_has c.args.at c.args.k) c.result_place.ensures) ∙ c.if-hidden_has.false in
-    let none = no_argument c.args.at c.args.k c.loop-i.i s.arguments p.places (omega (arith, c.loop-i-test.false, c.count_of-i-end.ensures.value, ap (λ r. length r.arguments) c.sig-sig.ensures.value)) in
+    let none = no_argument c.args.at c.args.k c.loop-i.i s.arguments p.places (omega (arith, c.loop-i-test.false, c.count-i-end.ensures.value, ap (λ r. length r.arguments) c.checked_sig-sig.ensures.value)) in
     sym (not_first (hidden_has c.args.at c.args.k p.res) (places_have c.args.at c.args.k s.arguments p.places) hidden ∙ c.loop-i.invariant ∙ none)

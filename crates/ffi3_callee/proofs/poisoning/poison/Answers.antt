@@ -8,9 +8,9 @@ pub returns-clause-poisoned : goal.returns-clause-poisoned
 returns-clause-poisoned g c =
     let std = g.A.Abi.standard in
     let s = c.args.cif.now in
-    let base_is : c.sp.result + c.LINK.result ≡ c.args.machine.now.sp + g.A.Abi.standard.link = omega (arith, c.sp.ensures.value, c.LINK.ensures, g.met.A.Abi.link_is) in
-    let low : STACK ≤ c.sp.result + c.LINK.result = omega (arith, base_is, c.requires.low) in
-    subst (λ n. IsPoisoned std s n c.args.byte c.args.machine.now c.poison_frame.new.machine) base_is (poisoned std s (c.sp.result + c.LINK.result) c.args.byte c.args.machine.now c.poison_registers.new.machine c.poison_frame.new.machine g.met.A.Abi.agrees low c.poison_registers.ensures c.poison_frame.ensures)
+    let base_is : c.at-base.result ≡ c.args.machine.now.sp + g.A.Abi.standard.link = omega (arith, c.at-base.ensures, c.sp.ensures.value, c.LINK.ensures, g.met.A.Abi.link_is) in
+    let low : STACK ≤ c.at-base.result = omega (arith, base_is, c.requires.low) in
+    subst (λ n. IsPoisoned std s n c.args.byte c.args.machine.now c.poison_frame.new.machine) base_is (poisoned std s c.at-base.result c.args.byte c.args.machine.now c.poison_registers.new.machine c.poison_frame.new.machine g.met.A.Abi.agrees low c.poison_registers.ensures c.poison_frame.ensures)
 
 pub returns-clause-own : goal.returns-clause-own
 returns-clause-own g c =

@@ -23,7 +23,7 @@ loop-n-preserved g c =
     elim c.if-not-carries.branch [
       | then-not-carries w ↦ (
           let has : carries g.A.Abi.standard c.args.cif.now (S c.loop-n.n) 0 ≡ false = sym c.carries.ensures ∙ w.if-not-carries.true in
-          subst (IsFrameDone std s c.args.base c.args.byte (n + 1) c.args.machine.now) (sym w.machine-is) (byte_written std s c.args.base c.args.byte n c.args.machine.now c.loop-n.machine before w.fill_stack.new.self w.fill_stack.ensures c.requires.low c.requires.high sized inside (frame_free std s n inside has))
+          subst (IsFrameDone std s c.args.base c.args.byte (n + 1) c.args.machine.now) (sym w.machine-is) (byte_written std s c.args.base c.args.byte n c.args.machine.now c.loop-n.machine before w.fill_stack.new.self (rw c.address-start.ensures.value at w.fill_stack.ensures) c.address-start.ensures.low c.requires sized inside (frame_free std s n inside has))
           )
       | else-not-carries w ↦ (
           let has : carries g.A.Abi.standard c.args.cif.now (S c.loop-n.n) 0 ≡ true = sym c.carries.ensures ∙ w.if-not-carries.false in

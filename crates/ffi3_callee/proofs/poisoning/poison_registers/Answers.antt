@@ -14,7 +14,7 @@ poison_register-requires-clause-register g c =
 pub poison_register-requires-clause-writable : goal.poison_register-requires-clause-writable
 poison_register-requires-clause-writable g c =
     let below : c.loop-k.k < length g.A.Abi.standard.argument_registers = omega (arith, c.loop-k-test.true, c.PASSING-k-end.ensures, g.met.A.Abi.passing_all) in
-    passing_written g.A.Abi.standard g.met.A.Abi.agrees c.loop-k.machine.target g.A.Abi.TARGET g.met.A.Abi.target_is (c.loop-k.invariant.keep.within.target ∙ c.requires.target) c.loop-k.k c.passing_register-at.result below c.passing_register-at.ensures
+    passing_written g.A.Abi.standard g.met.A.Abi.agrees c.loop-k.machine.target g.A.Abi.TARGET g.met.A.Abi.target_is (c.loop-k.invariant.keep.within.target ∙ c.requires) c.loop-k.k c.passing_register-at.result below c.passing_register-at.ensures
 
 pub poison_register-requires-clause-passing : goal.poison_register-requires-clause-passing
 poison_register-requires-clause-passing g c =

@@ -10,13 +10,17 @@ use Rattle.ffi3_callee.proofs.Results.{registers_stay}
 use Rattle.ffi3_callee.proofs.Return.{back_any_sp, registers_any_sp, within_any_sp, result_kept}
 use Rattle.ffi3_callee.proofs.restoring.restore.Goals as goal
 
-pub restore_words-requires-clause-low : goal.restore_words-requires-clause-low
-restore_words-requires-clause-low g c =
+pub at-area-requires-clause-low : goal.at-area-requires-clause-low
+at-area-requires-clause-low g c =
     omega (arith, c.entry-entry.ensures, c.SAVE.ensures, g.met.A.Abi.save_is, c.requires.incoming.low, c.requires.incoming.entry)
+
+pub at-area-requires-clause-high : goal.at-area-requires-clause-high
+at-area-requires-clause-high g c =
+    omega (arith, c.entry-entry.ensures, c.requires.incoming.high)
 
 pub restore_words-requires-clause-high : goal.restore_words-requires-clause-high
 restore_words-requires-clause-high g c =
-    omega (arith, c.entry-entry.ensures, c.SAVE.ensures, g.met.A.Abi.save_is, g.met.A.Abi.agrees.area, c.requires.incoming.entry, c.requires.incoming.high)
+    omega (arith, c.at-area.ensures, c.entry-entry.ensures, c.SAVE.ensures, g.met.A.Abi.save_is, g.met.A.Abi.agrees.area, c.requires.incoming.entry, c.requires.incoming.high)
 
 pub restore_words-requires-clause-registers : goal.restore_words-requires-clause-registers
 restore_words-requires-clause-registers g c =
@@ -25,15 +29,15 @@ restore_words-requires-clause-registers g c =
 pub returns-clause-given_back : goal.returns-clause-given_back
 returns-clause-given_back g c = λ value.
     let std = g.A.Abi.standard in
-    let area : c.entry-entry.result - c.SAVE.result ≡ c.args.incoming.entry - std.save = omega (arith, c.entry-entry.ensures, c.SAVE.ensures, g.met.A.Abi.save_is) in
+    let area : c.at-area.result ≡ c.args.incoming.entry - std.save = omega (arith, c.at-area.ensures, c.entry-entry.ensures, c.SAVE.ensures, g.met.A.Abi.save_is) in
     subst (λ n. AreGivenBack n std.save_area value c.args.machine.now c.set_sp.new.self) area
-    (back_any_sp (c.entry-entry.result - c.SAVE.result) c.entry-entry.result std.save_area value c.args.machine.now c.restore_words.new.machine c.set_sp.new.self c.set_sp.ensures (c.restore_words.ensures.given_back value))
+    (back_any_sp c.at-area.result c.entry-entry.result std.save_area value c.args.machine.now c.restore_words.new.machine c.set_sp.new.self c.set_sp.ensures (c.restore_words.ensures.given_back value))
 
 pub returns-clause-entry : goal.returns-clause-entry
 returns-clause-entry g c = λ base hidden entry saved.
     let std = g.A.Abi.standard in
-    let area : c.entry-entry.result - c.SAVE.result ≡ c.args.incoming.entry - std.save = omega (arith, c.entry-entry.ensures, c.SAVE.ensures, g.met.A.Abi.save_is) in
-    let back = back_any_sp (c.entry-entry.result - c.SAVE.result) c.entry-entry.result std.save_area (λ at. word_in base entry at) c.args.machine.now c.restore_words.new.machine c.set_sp.new.self c.set_sp.ensures (c.restore_words.ensures.given_back (λ at. word_in base entry at)) in
+    let area : c.at-area.result ≡ c.args.incoming.entry - std.save = omega (arith, c.at-area.ensures, c.entry-entry.ensures, c.SAVE.ensures, g.met.A.Abi.save_is) in
+    let back = back_any_sp c.at-area.result c.entry-entry.result std.save_area (λ at. word_in base entry at) c.args.machine.now c.restore_words.new.machine c.set_sp.new.self c.set_sp.ensures (c.restore_words.ensures.given_back (λ at. word_in base entry at)) in
     let held = subst (λ n. AreSaved n base hidden std.save_area entry c.args.machine.now) (sym area) saved in
     back (λ i at below is. held i (Register at) below is)
 
@@ -61,8 +65,8 @@ returns-clause-kept g c = λ base len room hidden entry sp_is saved reserved.
     let sp = c.entry-entry.result in
     let a = c.args.machine.now in
     let m = c.set_sp.new.self in
-    let area : c.entry-entry.result - c.SAVE.result ≡ c.args.incoming.entry - std.save = omega (arith, c.entry-entry.ensures, c.SAVE.ensures, g.met.A.Abi.save_is) in
-    let back = back_any_sp (c.entry-entry.result - c.SAVE.result) sp std.save_area (λ at. word_in base entry at) a c.restore_words.new.machine m c.set_sp.ensures (c.restore_words.ensures.given_back (λ at. word_in base entry at)) in
+    let area : c.at-area.result ≡ c.args.incoming.entry - std.save = omega (arith, c.at-area.ensures, c.entry-entry.ensures, c.SAVE.ensures, g.met.A.Abi.save_is) in
+    let back = back_any_sp c.at-area.result sp std.save_area (λ at. word_in base entry at) a c.restore_words.new.machine m c.set_sp.ensures (c.restore_words.ensures.given_back (λ at. word_in base entry at)) in
     let held = subst (λ n. AreSaved n base hidden std.save_area entry a) (sym area) saved in
     let stay = registers_any_sp sp (saved_registers std.save_area) a c.restore_words.new.machine m c.set_sp.ensures (registers_stay STACK_TOP (saved_registers std.save_area) a c.restore_words.new.machine c.restore_words.ensures.stays) in
     let target_is = ap (λ q. q.target) c.set_sp.ensures ∙ c.restore_words.ensures.within.target ∙ c.requires.target ∙ sym g.met.A.Abi.target_is in

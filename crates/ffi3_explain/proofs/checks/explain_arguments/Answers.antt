@@ -1,6 +1,5 @@
 use Rattle.std.proofs.Common.{rules, arith, ◌<◌, length, ap, ◌∙◌}
 use Rattle.ffi3_type_rules.specs.Tree.{tree_at}
-use Rattle.ffi3_types.specs.TreeOf.{tree_of}
 use Rattle.ffi3_values.specs.ValueOf.{value_of}
 use Rattle.ffi3_place_rules.specs.Standard.{plan_of}
 use Rattle.ffi3_explain.specs.ImageOf.{image_of}
@@ -13,28 +12,28 @@ loop-i-init g c =
     let std = g.A.Abi.standard in
     let s = c.args.cif.now in
     let sound = g.met.A.Abi.sound s in
-    all_left (image_of c.args.image.now) c.args.base s.arguments (plan_of std s).places c.new-values.result c.new-values.ensures (arguments_ready std s sound (image_of c.args.image.now) c.args.base c.requires.stack c.requires.high c.sig-sig.ensures.faultless)
+    all_left (image_of c.args.image.now) c.args.base s.arguments (plan_of std s).places c.new-values.result c.new-values.ensures (arguments_ready std s sound (image_of c.args.image.now) c.args.base c.requires.stack c.requires.high c.checked_sig-sig.ensures.faultless)
 
 pub explain_argument-requires-clause-there : goal.explain_argument-requires-clause-there
 explain_argument-requires-clause-there g c =
     let s = c.args.cif.now in
-    let below : c.loop-i.i < length s.arguments = omega (arith, c.count_of-count.ensures.value, ap (λ r. length r.arguments) c.sig-sig.ensures.value) in
-    (ready_here (image_of c.args.image.now) c.args.base s.arguments (plan_of g.A.Abi.standard s).places c.loop-i.i c.loop-i.values (tree_of c.argument.result.now) c.place.result.now below (c.argument.ensures.element ∙ ap (λ r. tree_at r.arguments c.loop-i.i) c.sig-sig.ensures.value) c.place.ensures c.loop-i.invariant).0
+    let below : c.loop-i.i < length s.arguments = omega (arith, c.count-count.ensures.value, ap (λ r. length r.arguments) c.checked_sig-sig.ensures.value) in
+    (ready_here (image_of c.args.image.now) c.args.base s.arguments (plan_of g.A.Abi.standard s).places c.loop-i.i c.loop-i.values c.arg-ty.result c.place.result.now below (c.arg-ty.ensures ∙ ap (λ r. tree_at r.arguments c.loop-i.i) c.checked_sig-sig.ensures.value) c.place.ensures c.loop-i.invariant).0
 
 pub explain_argument-requires-clause-has_all : goal.explain_argument-requires-clause-has_all
 explain_argument-requires-clause-has_all g c =
     let s = c.args.cif.now in
-    let below : c.loop-i.i < length s.arguments = omega (arith, c.count_of-count.ensures.value, ap (λ r. length r.arguments) c.sig-sig.ensures.value) in
-    (ready_here (image_of c.args.image.now) c.args.base s.arguments (plan_of g.A.Abi.standard s).places c.loop-i.i c.loop-i.values (tree_of c.argument.result.now) c.place.result.now below (c.argument.ensures.element ∙ ap (λ r. tree_at r.arguments c.loop-i.i) c.sig-sig.ensures.value) c.place.ensures c.loop-i.invariant).1
+    let below : c.loop-i.i < length s.arguments = omega (arith, c.count-count.ensures.value, ap (λ r. length r.arguments) c.checked_sig-sig.ensures.value) in
+    (ready_here (image_of c.args.image.now) c.args.base s.arguments (plan_of g.A.Abi.standard s).places c.loop-i.i c.loop-i.values c.arg-ty.result c.place.result.now below (c.arg-ty.ensures ∙ ap (λ r. tree_at r.arguments c.loop-i.i) c.checked_sig-sig.ensures.value) c.place.ensures c.loop-i.invariant).1
 
 pub loop-i-preserved : goal.loop-i-preserved
 loop-i-preserved g c =
     let s = c.args.cif.now in
-    let below : c.loop-i.i < length s.arguments = omega (arith, c.count_of-count.ensures.value, ap (λ r. length r.arguments) c.sig-sig.ensures.value) in
-    explain_further (image_of c.args.image.now) c.args.base s.arguments (plan_of g.A.Abi.standard s).places c.loop-i.i c.loop-i.values (tree_of c.argument.result.now) c.place.result.now below (c.argument.ensures.element ∙ ap (λ r. tree_at r.arguments c.loop-i.i) c.sig-sig.ensures.value) c.place.ensures c.loop-i.invariant (value_of c.in-Ok.value) c.push.new.self (search rules) (search rules) (search rules)
+    let below : c.loop-i.i < length s.arguments = omega (arith, c.count-count.ensures.value, ap (λ r. length r.arguments) c.checked_sig-sig.ensures.value) in
+    explain_further (image_of c.args.image.now) c.args.base s.arguments (plan_of g.A.Abi.standard s).places c.loop-i.i c.loop-i.values c.arg-ty.result c.place.result.now below (c.arg-ty.ensures ∙ ap (λ r. tree_at r.arguments c.loop-i.i) c.checked_sig-sig.ensures.value) c.place.ensures c.loop-i.invariant (value_of c.in-Ok.value) c.push.new.self (search rules) (search rules) (search rules)
 
 pub returns-in-Err-clause-broken : goal.returns-in-Err-clause-broken
 returns-in-Err-clause-broken g c =
     let s = c.args.cif.now in
-    let below : c.loop-i.i < length s.arguments = omega (arith, c.count_of-count.ensures.value, ap (λ r. length r.arguments) c.sig-sig.ensures.value) in
-    tells_first (image_of c.args.image.now) c.args.base s.arguments (plan_of g.A.Abi.standard s).places c.loop-i.i c.loop-i.values (tree_of c.argument.result.now) c.place.result.now below (c.argument.ensures.element ∙ ap (λ r. tree_at r.arguments c.loop-i.i) c.sig-sig.ensures.value) c.place.ensures c.loop-i.invariant c.in-Err.fault c.in-Err.ensures.broken
+    let below : c.loop-i.i < length s.arguments = omega (arith, c.count-count.ensures.value, ap (λ r. length r.arguments) c.checked_sig-sig.ensures.value) in
+    tells_first (image_of c.args.image.now) c.args.base s.arguments (plan_of g.A.Abi.standard s).places c.loop-i.i c.loop-i.values c.arg-ty.result c.place.result.now below (c.arg-ty.ensures ∙ ap (λ r. tree_at r.arguments c.loop-i.i) c.checked_sig-sig.ensures.value) c.place.ensures c.loop-i.invariant c.in-Err.fault c.in-Err.ensures.broken

@@ -18,5 +18,5 @@ returns-clause-value g c =
     let s = c.args.cif.now in
     let sound = g.met.A.Abi.sound s in
     let counted = same_count s.arguments (plan_of std s).places sound.has_all in
-    let last : length (plan_of std s).places ≤ c.loop-i.i = omega (arith, counted, c.count_of-count.ensures.value, ap (λ r. length r.arguments) c.sig-sig.ensures.value) in
+    let last : length (plan_of std s).places ≤ c.loop-i.i = omega (arith, counted, c.count-count.ensures.value, ap (λ r. length r.arguments) c.checked_sig-sig.ensures.value) in
     places_end (plan_of std s).places c.loop-i.i c.loop-i.end last c.loop-i.invariant.0

@@ -1,6 +1,5 @@
 use Rattle.std.proofs.Common.{rules, arith, ◌<◌, length, ap, ◌∙◌}
 use Rattle.ffi3_type_rules.specs.Tree.{tree_at}
-use Rattle.ffi3_types.specs.TreeOf.{tree_of}
 use Rattle.ffi3_values.specs.ValueOf.{value_of}
 use Rattle.ffi3_place_rules.specs.Standard.{plan_of}
 use Rattle.ffi3_explain.specs.ImageOf.{image_of}
@@ -18,23 +17,23 @@ loop-i-init g c =
 pub read_argument-requires-clause-there : goal.read_argument-requires-clause-there
 read_argument-requires-clause-there g c =
     let s = c.args.cif.now in
-    let below : c.loop-i.i < length s.arguments = omega (arith, c.count_of-count.ensures.value, ap (λ r. length r.arguments) c.sig-sig.ensures.value) in
-    (ready_to_read (image_of c.args.image.now) c.args.base s.arguments (plan_of g.A.Abi.standard s).places c.loop-i.i c.loop-i.values (tree_of c.argument.result.now) c.place.result.now below (c.argument.ensures.element ∙ ap (λ r. tree_at r.arguments c.loop-i.i) c.sig-sig.ensures.value) c.place.ensures c.loop-i.invariant).0
+    let below : c.loop-i.i < length s.arguments = omega (arith, c.count-count.ensures.value, ap (λ r. length r.arguments) c.checked_sig-sig.ensures.value) in
+    (ready_to_read (image_of c.args.image.now) c.args.base s.arguments (plan_of g.A.Abi.standard s).places c.loop-i.i c.loop-i.values c.arg-ty.result c.place.result.now below (c.arg-ty.ensures ∙ ap (λ r. tree_at r.arguments c.loop-i.i) c.checked_sig-sig.ensures.value) c.place.ensures c.loop-i.invariant).0
 
 pub read_argument-requires-clause-has_all : goal.read_argument-requires-clause-has_all
 read_argument-requires-clause-has_all g c =
     let s = c.args.cif.now in
-    let below : c.loop-i.i < length s.arguments = omega (arith, c.count_of-count.ensures.value, ap (λ r. length r.arguments) c.sig-sig.ensures.value) in
-    (ready_to_read (image_of c.args.image.now) c.args.base s.arguments (plan_of g.A.Abi.standard s).places c.loop-i.i c.loop-i.values (tree_of c.argument.result.now) c.place.result.now below (c.argument.ensures.element ∙ ap (λ r. tree_at r.arguments c.loop-i.i) c.sig-sig.ensures.value) c.place.ensures c.loop-i.invariant).1
+    let below : c.loop-i.i < length s.arguments = omega (arith, c.count-count.ensures.value, ap (λ r. length r.arguments) c.checked_sig-sig.ensures.value) in
+    (ready_to_read (image_of c.args.image.now) c.args.base s.arguments (plan_of g.A.Abi.standard s).places c.loop-i.i c.loop-i.values c.arg-ty.result c.place.result.now below (c.arg-ty.ensures ∙ ap (λ r. tree_at r.arguments c.loop-i.i) c.checked_sig-sig.ensures.value) c.place.ensures c.loop-i.invariant).1
 
 pub loop-i-preserved : goal.loop-i-preserved
 loop-i-preserved g c =
     let s = c.args.cif.now in
-    let below : c.loop-i.i < length s.arguments = omega (arith, c.count_of-count.ensures.value, ap (λ r. length r.arguments) c.sig-sig.ensures.value) in
-    read_further (image_of c.args.image.now) c.args.base s.arguments (plan_of g.A.Abi.standard s).places c.loop-i.i c.loop-i.values (tree_of c.argument.result.now) c.place.result.now below (c.argument.ensures.element ∙ ap (λ r. tree_at r.arguments c.loop-i.i) c.sig-sig.ensures.value) c.place.ensures c.loop-i.invariant (value_of c.in-Ok.value) c.push.new.self (search rules) (search rules) (search rules)
+    let below : c.loop-i.i < length s.arguments = omega (arith, c.count-count.ensures.value, ap (λ r. length r.arguments) c.checked_sig-sig.ensures.value) in
+    read_further (image_of c.args.image.now) c.args.base s.arguments (plan_of g.A.Abi.standard s).places c.loop-i.i c.loop-i.values c.arg-ty.result c.place.result.now below (c.arg-ty.ensures ∙ ap (λ r. tree_at r.arguments c.loop-i.i) c.checked_sig-sig.ensures.value) c.place.ensures c.loop-i.invariant (value_of c.in-Ok.value) c.push.new.self (search rules) (search rules) (search rules)
 
 pub returns-in-Err-clause-outside : goal.returns-in-Err-clause-outside
 returns-in-Err-clause-outside g c =
     let s = c.args.cif.now in
-    let below : c.loop-i.i < length s.arguments = omega (arith, c.count_of-count.ensures.value, ap (λ r. length r.arguments) c.sig-sig.ensures.value) in
-    tells_outside (image_of c.args.image.now) c.args.base s.arguments (plan_of g.A.Abi.standard s).places c.loop-i.i c.loop-i.values (tree_of c.argument.result.now) c.place.result.now below (c.argument.ensures.element ∙ ap (λ r. tree_at r.arguments c.loop-i.i) c.sig-sig.ensures.value) c.place.ensures c.loop-i.invariant c.in-Err.fault c.in-Err.ensures.outside
+    let below : c.loop-i.i < length s.arguments = omega (arith, c.count-count.ensures.value, ap (λ r. length r.arguments) c.checked_sig-sig.ensures.value) in
+    tells_outside (image_of c.args.image.now) c.args.base s.arguments (plan_of g.A.Abi.standard s).places c.loop-i.i c.loop-i.values c.arg-ty.result c.place.result.now below (c.arg-ty.ensures ∙ ap (λ r. tree_at r.arguments c.loop-i.i) c.checked_sig-sig.ensures.value) c.place.ensures c.loop-i.invariant c.in-Err.fault c.in-Err.ensures.outside
