@@ -17,7 +17,7 @@ ghost use Rattle.ffi3_place_rules.specs.Alike.{GoesByLayout};
 
 pub use ffi3_amd64_rules::Class;
 use ffi3_place::ends::{buffer_end, planned, start};
-use ffi3_place::parts::{doubleword, is_floating, pieces_on_stack, size_of, widening};
+use ffi3_place::parts::{doubleword, is_floating, pieces_on_stack, widening};
 use ffi3_place::{Abi, Loc, Piece, Pieces, Place, Places, Plan, Res, SaveWord};
 use ffi3_place_rules::Taken;
 use ffi3_type_rules::round_up;
@@ -256,10 +256,7 @@ fn pieces_in_registers(
         Classes::Nothing => Ok(Pieces::new(alloc)),
         Classes::One(class) => {
             let at = register(class, general, vector, registers);
-            one_piece(
-                alloc,
-                doubleword(size_of(ty.as_type()), 0, at, widening(ty.as_type())),
-            )
+            one_piece(alloc, doubleword(ty.size(), 0, at, widening(ty.as_type())))
         }
         Classes::Two(first, second) => {
             let before = Classes::One(first);
@@ -267,7 +264,7 @@ fn pieces_in_registers(
             let next_general = general + before.integers();
             let next_vector = vector + before.sses();
             let high = register(second, next_general, next_vector, registers);
-            let size = size_of(ty.as_type());
+            let size = ty.size();
             let ext = widening(ty.as_type());
             let first_piece = doubleword(size, 0, low, ext);
             let second_piece = doubleword(size, 1, high, ext);
@@ -348,7 +345,7 @@ fn argument_on_stack(
     let taken = Taken {
         general: before.general,
         vector: before.vector,
-        stack: begin + round_up(size_of(ty.as_type()), 8),
+        stack: begin + round_up(ty.size(), 8),
     };
     let pieces = pieces_on_stack(alloc, ty, begin)?;
     Ok(Argument { pieces, taken })
