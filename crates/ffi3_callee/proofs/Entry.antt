@@ -38,7 +38,7 @@ use Rattle.ffi3_place_rules.specs.declared.SaveWord.{SaveWord}
 use Rattle.ffi3_place_rules.specs.declared.SaveWord.TheVariants.{Register, Hidden as HiddenWord, Spare}
 use Rattle.ffi3_callee.specs.Loaded.{AreFound, image_from}
 use Rattle.ffi3_callee.specs.Entered.{IsEntered}
-use Rattle.ffi3_callee.specs.Given.{IsAddressOf}
+use Rattle.ffi3_callee.specs.Given.{IsAddressOf, IsAddressOrZero}
 use Rattle.ffi3_callee.specs.Received.{IsReceived, OwnsAtEntry, hidden_of}
 use Rattle.ffi3_callee.specs.Saved.{AreSaved, HiddenLies, IsSaveable, IsToSave, hidden_word, saved_word}
 use Rattle.ffi3_callee.proofs.Beside.{copied_beside, wrote_down}
@@ -190,11 +190,22 @@ pub address_owned : (std : Standard) (s : Signature) (m : State) (vs : List Valu
 address_owned std s m vs sound low own =
     address_at std.link (frame_of std s) m (plan_of std s).res low (hidden_in_frame std s sound) own.hidden
 
-pub address_known : (std : Standard) (s : Signature) (m : State) (vs : List ValueTree) (entry base address : ℕ) (hidden : Option Loc) → IsSound std s → STACK ≤ m.sp → OwnsAtEntry std s m vs → entry ≡ m.sp → base ≡ m.sp + std.link → hidden ≡ hidden_of (plan_of std s).res → address ≡ hidden_word base m hidden → IsAddressOf (entry + std.link) address (plan_of std s).res
+address_or_zero : (base from address : ℕ) (m : State) (r : Res) → address ≡ hidden_word base m (hidden_of r) → IsAddressOf from address r → IsAddressOrZero from address r
+address_or_zero base from address m Nothing is known = is
+address_or_zero base from address m (DirectRes pieces) is known = is
+address_or_zero base from address m (Hidden at buffer) is known = known
+
+pub remembered_is : (base address : ℕ) (r : Res) → IsAddressOrZero base address r → IsAddressOf base address r
+remembered_is base address Nothing known = tt
+remembered_is base address (DirectRes pieces) known = tt
+remembered_is base address (Hidden at buffer) known = known
+
+pub address_known : (std : Standard) (s : Signature) (m : State) (vs : List ValueTree) (entry base address : ℕ) (hidden : Option Loc) → IsSound std s → STACK ≤ m.sp → OwnsAtEntry std s m vs → entry ≡ m.sp → base ≡ m.sp + std.link → hidden ≡ hidden_of (plan_of std s).res → address ≡ hidden_word base m hidden → IsAddressOrZero (entry + std.link) address (plan_of std s).res
 address_known std s m vs entry base address hidden sound low own entry_is base_is hidden_is address_is =
     let there : m.sp + std.link ≡ entry + std.link = omega (arith, entry_is) in
     let word : address ≡ hidden_word (m.sp + std.link) m (hidden_of (plan_of std s).res) = address_is ∙ ap (λ q. hidden_word q m hidden) base_is ∙ ap (hidden_word (m.sp + std.link) m) hidden_is in
-    subst (λ n. IsAddressOf n address (plan_of std s).res) there (subst (λ n. IsAddressOf (m.sp + std.link) n (plan_of std s).res) (sym word) (address_owned std s m vs sound low own))
+    let known = subst (λ n. IsAddressOf n address (plan_of std s).res) there (subst (λ n. IsAddressOf (m.sp + std.link) n (plan_of std s).res) (sym word) (address_owned std s m vs sound low own)) in
+    address_or_zero (m.sp + std.link) (entry + std.link) address m (plan_of std s).res word known
 
 -- ---- all steps
 

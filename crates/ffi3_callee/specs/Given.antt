@@ -24,11 +24,17 @@ abbrev pub RegisterHoldsWord : State → Option Loc → ℕ → Type 0
 RegisterHoldsWord m (Some at) n = word_in STACK_TOP m at ≡ n
 RegisterHoldsWord m None n = ⊤
 
--- the number is the address of the buffer of a hidden result
+-- where there is a hidden result, the number is the address of its buffer
 abbrev pub IsAddressOf : ℕ → ℕ → Res → Type 0
 IsAddressOf base address Nothing = ⊤
 IsAddressOf base address (Direct pieces) = ⊤
 IsAddressOf base address (Hidden at buffer) = address ≡ base + buffer
+
+-- the same of what a callee remembers, which is 0 where there is no such buffer
+abbrev pub IsAddressOrZero : ℕ → ℕ → Res → Type 0
+IsAddressOrZero base address Nothing = address ≡ 0
+IsAddressOrZero base address (Direct pieces) = address ≡ 0
+IsAddressOrZero base address (Hidden at buffer) = address ≡ base + buffer
 
 -- every register apart from the list stays
 abbrev pub RegistersStay : List Loc → State → State → Type 0

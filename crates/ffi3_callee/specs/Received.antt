@@ -15,7 +15,7 @@ use Rattle.ffi3_machine.specs.Stubs.{Entry}
 use Rattle.ffi3_stubs.specs.Calls.{steps_of}
 use Rattle.ffi3_pieces.specs.Passing.{by_exchange, steps_if}
 use Rattle.ffi3_pieces.specs.Stored.{WroteWithin, with_journal_of}
-use Rattle.ffi3_callee.specs.Given.{IsAddressOf}
+use Rattle.ffi3_callee.specs.Given.{IsAddressOrZero}
 use Rattle.ffi3_callee.specs.Saved.{AreSaved}
 use Rattle.ffi3_callee.specs.Remembered.{Remembered}
 
@@ -29,12 +29,12 @@ hidden_of (Hidden at buffer) = Some at
 abbrev pub OwnsAtEntry : Standard → Signature → State → List ValueTree → Type 0
 OwnsAtEntry std s m vs = Own std s vs (image_of (std.link + frame_of std s) m)
 
--- The block, the save area, the return address and the caller's frame stand one behind the other in the stack, and a hidden result's address is that of its buffer.
+-- The block, the save area, the return address and the caller's frame stand one behind the other in the stack, and a hidden result's address is that of its buffer, or 0 where there is none.
 pub record IsIncoming (std : Standard) (s : Signature) (incoming : Remembered) : Type 0 where
   pub low : STACK ≤ incoming.block
   pub entry : incoming.block + block_bytes s + std.save ≡ incoming.entry
   pub high : incoming.entry + std.link + frame_of std s ≤ STACK_TOP
-  pub address : IsAddressOf (incoming.entry + std.link) incoming.address (plan_of std s).res
+  pub address : IsAddressOrZero (incoming.entry + std.link) incoming.address (plan_of std s).res
 
 -- THE BLOCK HAS EVERY LIST OF VALUES THAT THE ENTRY OWNS, the words are saved above it, and of the stack nothing is written from the entry's sp on
 pub record IsReceived (std : Standard) (s : Signature) (entry m : State) : Type 0 where

@@ -1,5 +1,5 @@
 -- The outermost activation returns: out of the call that is served, or as main.
-use Rattle.std.proofs.Common.{◌≡◌, ℕ, suc, true, ◌+◌, ◌-◌, ◌<◌, ◌≤◌, ◌⊎◌, inl, inr, List, [], ◌∷◌, ◌++◌, length, take, drop, get_or, Some, None, refl, sym, ap, ◌∙◌, subst, arith, append_assoc}
+use Rattle.std.proofs.Common.{◌≡◌, ℕ, suc, true, ◌+◌, ◌-◌, ◌<◌, ◌≤◌, ◌⊎◌, inl, inr, List, [], ◌∷◌, ◌++◌, length, take, get_or, Some, None, refl, sym, ap, ◌∙◌, subst, arith, append_assoc}
 use Rattle.std.specs.Prelude.{Bool}
 use Rattle.std.proofs.lemmas.Bool.{cases_lt}
 use Rattle.ffi3_type_rules.specs.declared.limits.TheConstants.{STACK}
@@ -28,7 +28,7 @@ use Rattle.ffi3_turn_rules.proofs.Steps.{rest_leaves}
 use Rattle.ffi3_turn_rules.proofs.Depths.{ends_below}
 use Rattle.ffi3_turn_rules.proofs.Coming.{deepest_same, open_alone}
 use Rattle.ffi3_turn_rules.proofs.Ending as ending
-use Rattle.ffi3_machine.specs.State.{State, image_of, stack_at}
+use Rattle.ffi3_machine.specs.State.{State, image_of}
 use Rattle.ffi3_closures.specs.Slots.{HoldsMap}
 use Rattle.ffi3_io.specs.Sink.{SinkState}
 use Rattle.ffi3_io.specs.Written.{TookText}

@@ -5,6 +5,7 @@ use Rattle.ffi3_place_rules.specs.Standard.{frame_of, plan_of}
 use Rattle.ffi3_pieces.specs.Passing.{passing}
 use Rattle.ffi3_callee.specs.Given.{IsAddressOf, IsSettable, ResultWrites, result_uses}
 use Rattle.ffi3_callee.specs.Loaded.{image_from}
+use Rattle.ffi3_callee.proofs.Entry.{remembered_is}
 use Rattle.ffi3_callee.proofs.Keeping.{reserved_stay, uses_clear}
 use Rattle.ffi3_callee.proofs.OwnKept.{own_reserved, written_exchange}
 use Rattle.ffi3_callee.proofs.Results.{keeps_from, saved_below, written_target}
@@ -28,7 +29,7 @@ give-requires-clause-address g c =
     let std = g.A.Abi.standard in
     let entry = c.args.incoming.now.entry in
     let base : entry + std.link ≡ c.at-base.result = omega (arith, c.at-base.ensures, c.entry.ensures, c.LINK.ensures, g.met.A.Abi.link_is) in
-    let address : IsAddressOf c.at-base.result c.args.incoming.now.address (plan_of std c.args.cif.now).res = subst (λ n. IsAddressOf n c.args.incoming.now.address (plan_of std c.args.cif.now).res) base c.requires.incoming.address in
+    let address : IsAddressOf c.at-base.result c.args.incoming.now.address (plan_of std c.args.cif.now).res = subst (λ n. IsAddressOf n c.args.incoming.now.address (plan_of std c.args.cif.now).res) base (remembered_is (entry + std.link) c.args.incoming.now.address (plan_of std c.args.cif.now).res c.requires.incoming.address) in
     subst (λ n. IsAddressOf c.at-base.result n (plan_of std c.args.cif.now).res) (sym c.address-address.ensures) address
 
 pub give-requires-clause-returned_settable : goal.give-requires-clause-returned_settable
