@@ -1,13 +1,11 @@
 //! The program `ffi3`: the top call over the standard streams.
 #![tactic(auto)]
 
-mod ending;
-
-use ending::finish;
 use ffi3_app::{Machine, ffi3};
 use ffi3_body::Native;
 use ffi3_io::{ReadSource, WriteSink};
 use ffi3_natives::{Apply, NoMemory, Sum3, Twice};
+use ffi3_status::finish;
 use std::env;
 use std::io::{BufWriter, Error, ErrorKind};
 use std::process::ExitCode;

@@ -17,7 +17,8 @@ use Rattle.ffi3_words.proofs.Stated.{stated_is_taken}
 use Rattle.ffi3_app.specs.declared.unfinished.Unfinished.{Unfinished}
 use Rattle.ffi3_app.specs.declared.unfinished.Unfinished.TheVariants.{Refused, NoMemory, WriteFault}
 use Rattle.ffi3_app.specs.Outcome.{Outcome, refuses, tells, runs, benches, IsOutcome, reads_input, status_of, outcome_status, IsDone}
-use Rattle.ffi3_app.specs.Top.{ComesTo, LeftInput, ReportsFault, whole, cut, refused, bad_words, read_failed, write_failed, no_memory_for_words, no_memory_to_begin, no_memory_to_end, Says, done, failed, no_memory_line, read_fault_line, write_fault_line, IsReadInPart}
+use Rattle.ffi3_status.specs.FaultLines.{ReportsFault, whole, cut, no_memory_line, read_fault_line, write_fault_line}
+use Rattle.ffi3_app.specs.Top.{ComesTo, LeftInput, refused, bad_words, read_failed, write_failed, no_memory_for_words, no_memory_to_begin, no_memory_to_end, Says, done, failed, IsReadInPart}
 use Rattle.ffi3_app.specs.Work.{WasGiven, Works}
 use Rattle.ffi3_app.proofs.Outcomes.{one_outcome, unread_outcome}
 use Rattle.ffi3_app.proofs.Coming.{comes_so, left_so, given_in_part, given_count, given_untouched}

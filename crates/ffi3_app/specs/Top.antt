@@ -1,26 +1,14 @@
 -- What each status of the top call says, with its cause.
-use Rattle.std.specs.Prelude.{◌≡◌, ℕ, Bool, true, false, ◌+◌, List, [], drop, Some, codes}
-use Rattle.ffi3_io.specs.Sink.{AddsSome, Rose, SinkState}
+use Rattle.std.specs.Prelude.{◌≡◌, ℕ, Bool, true, false, ◌+◌, List, [], drop, Some}
+use Rattle.ffi3_io.specs.Sink.{Rose, SinkState}
 use Rattle.ffi3_io.specs.Source.{LosesSome, SourceState}
-use Rattle.ffi3_io.specs.Written.{TookText}
-use Rattle.ffi3_run_rules.specs.Lines.{a_line}
+use Rattle.ffi3_status.specs.FaultLines.{read_fault_line, write_fault_line, no_memory_line, ReportsFault}
 use Rattle.ffi3_script_rules.specs.Reading.{max_length}
 use Rattle.ffi3_script_rules.specs.Natives.{NamedNative}
 use Rattle.ffi3_machine.specs.State.{State}
 use Rattle.ffi3_words.specs.declared.words.Request.{Request}
 use Rattle.ffi3_words.specs.Words.{Takes, IsRefused}
 use Rattle.ffi3_app.specs.Outcome.{Outcome, refuses, tells, runs, benches, IsOutcome, reads_input, IsDone, IsDoneInPart}
-
--- ---- the lines of faults
-
-abbrev pub read_fault_line : List ℕ
-read_fault_line = a_line (codes "ffi3: read fault")
-
-abbrev pub write_fault_line : List ℕ
-write_fault_line = a_line (codes "ffi3: write fault")
-
-abbrev pub no_memory_line : List ℕ
-no_memory_line = a_line (codes "ffi3: out of memory")
 
 -- ---- what the world around shows, before the call and after it
 
@@ -59,12 +47,6 @@ LeftInput true (benches seed calls) input input' =
     IsRead input input' × IsAtEnd input input' × (input'.faults ≡ input.faults)
 
 -- ---- statuses
-
--- a line was handed to the sink of faults: it took the line whole, or it failed in it, which is status 4 whatever the status was before
-pub data ReportsFault (line : List ℕ) (status : ℕ) (before after : SinkState) : ℕ → Type 0 where
-  whole : TookText line before after → ReportsFault line status before after status
-  cut : AddsSome before.taken line after.taken → Rose before.faults after.faults
-      → ReportsFault line status before after 4
 
 -- WHAT GOES WRONG, with the status and the line that tell it: its cause, what was written, and what stayed as it was
 pub data Fails (words : List (List ℕ)) (natives : List NamedNative) (input input' : SourceState)

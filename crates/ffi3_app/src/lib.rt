@@ -9,7 +9,6 @@ mod layout;
 mod names;
 mod place;
 mod script;
-mod tell;
 mod top;
 mod unfinished;
 mod work;

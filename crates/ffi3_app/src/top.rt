@@ -8,12 +8,12 @@ ghost use Rattle.ffi3_app.specs.Outcome.{IsOutcome, Outcome, outcome_status, rea
 ghost use Rattle.ffi3_app.specs.Top.{Says};
 
 use crate::input::{bytes_for, reads_input};
-use crate::tell::{tell, tell_bytes};
 use crate::unfinished::Unfinished;
 use crate::work::work;
 use ffi3_body::Native;
 use ffi3_io::{IoError, Sink, Source};
 use ffi3_machine::Machine;
+use ffi3_status::{tell, tell_bytes};
 use ffi3_words::{WordsFault, read_words};
 use std::alloc::Global;
 

@@ -3,7 +3,7 @@ ghost use Rattle.std.specs.Prelude.{◌≡◌, ◌≢◌, ◌<◌, []};
 ghost use Rattle.std.specs.Io.Buffered.{writer_buffer, writer_contents};
 ghost use Rattle.std.specs.Io.KnownBytes.{Keeps};
 ghost use Rattle.ffi3_io.specs.Sink.{Rose};
-ghost use Rattle.ffi3_app.specs.Top.{ReportsFault, write_fault_line};
+ghost use Rattle.ffi3_status.specs.FaultLines.{ReportsFault, write_fault_line};
 
 use ffi3_io::{Sink, WriteSink, write_all};
 use std::io::{BufWriter, Write};

@@ -1,5 +1,5 @@
 //! Lines to the sink of faults.
-ghost use Rattle.ffi3_app.specs.Top.{ReportsFault};
+ghost use Rattle.ffi3_status.specs.FaultLines.{ReportsFault};
 
 use ffi3_io::{Sink, write_all};
 

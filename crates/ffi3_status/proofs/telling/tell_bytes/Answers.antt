@@ -1,5 +1,5 @@
-use Rattle.ffi3_app.specs.Top.{whole, cut}
-use Rattle.ffi3_app.proofs.tell.tell_bytes.Goals as goal
+use Rattle.ffi3_status.specs.FaultLines.{whole, cut}
+use Rattle.ffi3_status.proofs.telling.tell_bytes.Goals as goal
 
 pub returns-in-Ok : goal.returns-in-Ok
 returns-in-Ok g c =

@@ -1,5 +1,5 @@
-use Rattle.ffi3_app.specs.Top.{whole, cut}
-use Rattle.ffi3.proofs.ending.tell_write_fault.Goals as goal
+use Rattle.ffi3_status.specs.FaultLines.{whole, cut}
+use Rattle.ffi3_status.proofs.ending.tell_write_fault.Goals as goal
 
 pub returns-in-Ok-clause-told : goal.returns-in-Ok-clause-told
 returns-in-Ok-clause-told g c =

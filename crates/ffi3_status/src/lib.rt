@@ -1,0 +1,8 @@
+//! The exit status where a write decides it: lines to the sink of faults, and the end of the output.
+#![tactic(auto)]
+
+mod ending;
+mod telling;
+
+pub use ending::finish;
+pub use telling::{tell, tell_bytes};
