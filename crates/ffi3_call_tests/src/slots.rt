@@ -2,7 +2,6 @@
 //! sent, and the caller's registers come back.
 ghost use Rattle.std.specs.Prelude.{◌≡◌, ◌+◌, ◌<◌, ◌≤◌, IfOk, IsSome, List, length, true};
 ghost use Rattle.ffi3_type_rules.specs.declared.limits.TheConstants.{ENTRY, STACK, STACK_TOP};
-ghost use Rattle.ffi3_type_rules.specs.Fault.{IsLaidOut};
 ghost use Rattle.ffi3_type_rules.specs.Layout.{size_of};
 ghost use Rattle.ffi3_type_rules.specs.Tree.{trees_of};
 ghost use Rattle.ffi3_type_rules.specs.Value.{ValueTree, all_fit, fits, values_of};
@@ -11,7 +10,6 @@ ghost use Rattle.ffi3_run_rules.specs.Closures.{closure_at};
 ghost use Rattle.ffi3_machine.specs.State.{HasReturnAddress, IsSlot};
 ghost use Rattle.ffi3_closures.specs.Slots.{HoldsMap};
 ghost use Rattle.ffi3_pieces.specs.Stored.{WroteWithin};
-ghost use Rattle.ffi3_types.specs.TreeOf.{tree_of};
 ghost use Rattle.ffi3_values.specs.ValueOf.{value_of};
 ghost use Rattle.ffi3_callee.specs.Received.{IsIncoming, OwnsAtEntry};
 ghost use Rattle.ffi3_invoke.specs.Calls.{IsCalled};
@@ -25,22 +23,20 @@ use ffi3_closures::Table;
 use ffi3_invoke::{accept, end_call, pass_arguments};
 use ffi3_json::{Where, parse, read_signature};
 use ffi3_machine::{Event, Machine, NoMemory};
-use ffi3_place::parts::{argument, count_of, result_type, size_of};
 use ffi3_place::{Abi, Loc};
 use ffi3_riscv::Riscv;
 use ffi3_type_rules::limits::LARGEST_TYPE;
-use ffi3_types::{Bytes, FfiType, Sig};
+use ffi3_types::{Bytes, CheckedType, FfiType, Sig};
 use ffi3_values::{Value, Values, fits, value_from_bytes, value_text};
 use ffi3_win64::Win64;
 use std::alloc::Global;
 use std::test::Fail;
 
 /// Bytes for a value of the type: a number and those after it.
-fn some_bytes(alloc: Global, ty: &FfiType, first: u8) -> Result<Vec<u8>, NoMemory>
-    requires { IsLaidOut (tree_of ty.now) }
-    ensures { IfOk result (λ bytes. length bytes.items ≡ size_of (tree_of ty.now)) }
+fn some_bytes(alloc: Global, ty: &CheckedType<'_>, first: u8) -> Result<Vec<u8>, NoMemory>
+    ensures { IfOk result (λ bytes. length bytes.items ≡ size_of ty.now) }
 {
-    let mut bytes = vec![in alloc; first; size_of(ty) as usize]?;
+    let mut bytes = vec![in alloc; first; ty.size() as usize]?;
     for k in 0..bytes.len() {
         bytes[k] = first.wrapping_add((k % 251) as u8);
     }
@@ -48,23 +44,32 @@ fn some_bytes(alloc: Global, ty: &FfiType, first: u8) -> Result<Vec<u8>, NoMemor
 }
 
 /// Writes the value that these bytes have, with a space behind it.
-fn write_value(alloc: Global, ty: &FfiType, bytes: &[u8], text: &mut Bytes) -> Result<(), NoMemory>
-    requires right { IsLaidOut (tree_of ty.now) }
-    requires sized { length bytes.now ≡ size_of (tree_of ty.now) }
+fn write_value(
+    alloc: Global,
+    ty: &CheckedType<'_>,
+    bytes: &[u8],
+    text: &mut Bytes,
+) -> Result<(), NoMemory>
+    requires { length bytes.now ≡ size_of ty.now }
 {
-    let value = value_from_bytes(alloc, ty, bytes)?;
-    text.extend(value_text(alloc, ty, &value)?.as_slice())?;
+    let plain = ty.as_type();
+    let value = value_from_bytes(alloc, plain, bytes)?;
+    text.extend(value_text(alloc, plain, &value)?.as_slice())?;
     text.push(b' ')
 }
 
 /// A value of the type, of a number and those after it as bytes, which is written to the text.
-fn some_value(alloc: Global, ty: &FfiType, first: u8, text: &mut Bytes) -> Result<Value, NoMemory>
-    requires { IsLaidOut (tree_of ty.now) }
-    ensures { IfOk result (λ v. fits (tree_of ty.now) (value_of v) ≡ true) }
+fn some_value(
+    alloc: Global,
+    ty: &CheckedType<'_>,
+    first: u8,
+    text: &mut Bytes,
+) -> Result<Value, NoMemory>
+    ensures { IfOk result (λ v. fits ty.now (value_of v) ≡ true) }
 {
     let bytes = some_bytes(alloc, ty, first)?;
     write_value(alloc, ty, bytes.as_slice(), text)?;
-    value_from_bytes(alloc, ty, bytes.as_slice())
+    value_from_bytes(alloc, ty.as_type(), bytes.as_slice())
 }
 
 /// The values of the list, where they fit the arguments.
@@ -86,18 +91,31 @@ const FIRSTS: [u8; 16] = [
     0x81, 0x8C, 0x97, 0xA2, 0xAD, 0xB8, 0xC3, 0xCE, 0xD9, 0xE4, 0xEF, 0xFA, 0x05, 0x10, 0x1B, 0x26,
 ];
 
+/// A value of an argument's type, which is written to the text.
+fn some_argument<A: Abi>(
+    alloc: Global,
+    cif: &Cif<A>,
+    i: u32,
+    text: &mut Bytes,
+) -> Result<Value, NoMemory>
+    requires { i < length cif.now.arguments }
+{
+    let sig = cif.checked_sig();
+    let ty = sig.arg(i);
+    some_value(alloc, &ty, FIRSTS[(i % 16) as usize], text)
+}
+
 /// Values of the arguments' types, which are written to the text.
 pub fn some_arguments<A: Abi>(
     alloc: Global,
     cif: &Cif<A>,
     text: &mut Bytes,
 ) -> Result<Value, NoMemory> {
-    let sig = cif.sig();
+    let count = cif.checked_sig().count();
     let mut values = Values::new(alloc);
-    for i in 0..count_of(sig) {
+    for i in 0..count {
         if values.len() < 64 {
-            let first = FIRSTS[(i % 16) as usize];
-            values.push(some_value(alloc, argument(sig, i), first, text)?)?;
+            values.push(some_argument(alloc, cif, i, text)?)?;
         }
     }
     Ok(Value::List(values))
@@ -107,7 +125,8 @@ pub fn some_arguments<A: Abi>(
 fn some_result<A: Abi>(alloc: Global, cif: &Cif<A>, text: &mut Bytes) -> Result<Value, NoMemory>
     ensures { IfOk result (λ v. fits cif.now.result_type (value_of v) ≡ true) }
 {
-    some_value(alloc, result_type(cif.sig()), 0xF3, text)
+    let ty = cif.checked_sig().ret();
+    some_value(alloc, &ty, 0xF3, text)
 }
 
 /// Writes an argument that the callee has.
@@ -122,10 +141,10 @@ fn write_argument<A: Abi>(
     requires within { i < length cif.now.arguments }
     requires incoming { IsIncoming A.standard cif.now incoming.now }
 {
-    let sig = cif.sig();
-    let ty = argument(sig, i);
+    let sig = cif.checked_sig();
+    let ty = sig.arg(i);
     let bytes = arg(machine, cif, incoming, i);
-    write_value(alloc, ty, bytes, text)
+    write_value(alloc, &ty, bytes, text)
 }
 
 /// Writes all of them.
@@ -138,11 +157,24 @@ fn write_arguments<A: Abi>(
 ) -> Result<(), NoMemory>
     requires { IsIncoming A.standard cif.now incoming.now }
 {
-    let sig = cif.sig();
-    for i in 0..count_of(sig) {
+    let count = cif.checked_sig().count();
+    for i in 0..count {
         write_argument(alloc, machine, cif, incoming, i, text)?;
     }
     Ok(())
+}
+
+/// Writes the result that the caller loads.
+fn write_result<A: Abi>(
+    alloc: Global,
+    cif: &Cif<A>,
+    bytes: &[u8],
+    text: &mut Bytes,
+) -> Result<(), NoMemory>
+    requires { length bytes.now ≡ size_of cif.now.result_type }
+{
+    let ty = cif.checked_sig().ret();
+    write_value(alloc, &ty, bytes, text)
 }
 
 /// At an entry: writes the byte over all that the callee must not look at, if there is one.
@@ -241,14 +273,14 @@ fn told<A: Abi>(
     let incoming = begin(&mut machine, &table, cif, args, ptr, over);
     let mut text = Bytes::new(alloc);
     write_arguments(alloc, &machine, cif, &incoming, &mut text)?;
-    let ty = result_type(cif.sig());
+    let size = cif.checked_sig().ret().size() as usize;
     let mut room = [0; LARGEST_TYPE as usize];
-    let out = &mut room[..size_of(ty) as usize];
+    let out = &mut room[..size];
     end_call(&mut machine, cif, incoming, outcome, out);
     if machine.sp() != sp || machine.events().len() != 2 {
         return Err("not back".into());
     }
-    write_value(alloc, ty, out, &mut text)?;
+    write_result(alloc, cif, out, &mut text)?;
     let events = machine.events();
     Ok(Came {
         right: text.as_slice() == sent,

@@ -35,7 +35,6 @@ use ffi3_io::Sink;
 use ffi3_machine::Machine;
 use ffi3_pieces::SMALL;
 use ffi3_place::Abi;
-use ffi3_place::parts::size_of;
 use ffi3_run_rules::Closure;
 use ffi3_type_rules::limits::LARGEST_TYPE;
 use ffi3_types::NoMemory;
@@ -60,7 +59,8 @@ fn end_by<A: Abi>(
     ensures value { IfOk result (λ v. value_of v ≡ value_of value.now) }
 {
     end_call(machine, cif, incoming, value, out);
-    value_from_bytes(alloc, cif.sig().ret(), out)
+    let ty = cif.checked_sig().ret();
+    value_from_bytes(alloc, ty.as_type(), out)
 }
 
 /// Returns from the callee of an open call. The caller reads the result from where it stands.
@@ -81,7 +81,8 @@ fn end_with<A: Abi>(
 {
     let OpenCall { sig, incoming } = call;
     let cif = cifs.get(sig);
-    let size = size_of(cif.sig().ret()) as usize;
+    let ty = cif.checked_sig().ret();
+    let size = ty.size() as usize;
     if size <= SMALL {
         let mut room = [0; SMALL];
         end_by(alloc, machine, cif, incoming, value, &mut room[..size])
