@@ -1,4 +1,5 @@
 -- Which pass and which outcome those of the code are.
+use Rattle.std.specs.Prelude.{ℕ, Option, Some, None}
 use Rattle.ffi3_cdecl_rules.specs.Reading as reading
 use Rattle.ffi3_cdecl_rules.specs.OnePass as pass
 use Rattle.ffi3_cdecl.specs.StateOf.{state_of}
@@ -17,3 +18,8 @@ outcome_of (BadToken at) = reading.bad_token at
 outcome_of (Unexpected at) = reading.unexpected at
 outcome_of (BadNumber at) = reading.bad_number at
 outcome_of (BadSignature f) = reading.bad_signature (signature_fault_of f)
+
+-- what a pass comes to that stopped at a byte where no token begins, or was at the end
+abbrev pub outcome_behind : Option ℕ → ℕ → pass.Pass → reading.Outcome
+outcome_behind (Some at) end p = reading.bad_token at
+outcome_behind None end p = pass.outcome_at end p

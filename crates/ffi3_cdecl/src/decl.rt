@@ -1,9 +1,9 @@
 // A declaration read in one pass over its bytes.
-ghost use Rattle.std.specs.Prelude.{◌≡◌, IfOk, IfErr};
+ghost use Rattle.std.specs.Prelude.{◌≡◌, IfOk, IfErr, length};
 ghost use Rattle.ffi3_cdecl_rules.specs.Machine.{read};
 ghost use Rattle.ffi3_cdecl_rules.specs.Reading.{IsReading, reads};
 ghost use Rattle.ffi3_cdecl_rules.specs.OnePass.{pass_from, new_pass};
-ghost use Rattle.ffi3_cdecl.specs.PassOf.{outcome_of};
+ghost use Rattle.ffi3_cdecl.specs.PassOf.{pass_of, outcome_of, outcome_behind};
 ghost use Rattle.ffi3_cdecl.specs.Tells.{Tells};
 
 use crate::declaration::Declaration;
@@ -13,10 +13,11 @@ use crate::token::{Found, found_at};
 use ffi3_types::NoMemory;
 use std::alloc::Global;
 
-/// One pass over the bytes.
+/// One pass over the bytes, and where it stopped: at the first of them at which no token begins, or nowhere.
 #[tactic(auto, using(crate::proofs::Turns::turn_inside, crate::proofs::Turns::turn_blank, crate::proofs::Turns::turn_nothing, crate::proofs::Turns::turn_token, crate::proofs::Turns::pass_end))]
-fn run_over(alloc: Global, bytes: &[u8]) -> Result<Outcome, NoMemory>
-    ensures { IfOk result (λ o. outcome_of o ≡ pass_from 0 0 new_pass bytes.now) }
+fn run_over(alloc: Global, bytes: &[u8]) -> Result<(Pass, Option<usize>), NoMemory>
+    ensures { IfOk result (λ r. outcome_behind r.1 (length bytes.now) (pass_of r.0)
+        ≡ pass_from 0 0 new_pass bytes.now) }
 {
     let mut pass = Pass::new();
     let mut inside = 0;
@@ -26,7 +27,7 @@ fn run_over(alloc: Global, bytes: &[u8]) -> Result<Outcome, NoMemory>
         } else {
             match found_at(bytes, at) {
                 Found::Blank => {}
-                Found::Nothing => return Ok(Outcome::BadToken(at)),
+                Found::Nothing => return Ok((pass, Some(at))),
                 Found::Token(token, more) => {
                     pass = taking(alloc, pass, at, token)?;
                     inside = more;
@@ -34,7 +35,7 @@ fn run_over(alloc: Global, bytes: &[u8]) -> Result<Outcome, NoMemory>
             }
         }
     }
-    Ok(outcome_at(pass, bytes.len()))
+    Ok((pass, None))
 }
 
 /// What the text is read as.
@@ -42,7 +43,9 @@ fn run_over(alloc: Global, bytes: &[u8]) -> Result<Outcome, NoMemory>
 fn outcome(alloc: Global, text: &str) -> Result<Outcome, NoMemory>
     ensures { IfOk result (λ o. outcome_of o ≡ read text.now) }
 {
-    run_over(alloc, text.as_bytes())
+    let bytes = text.as_bytes();
+    let (pass, stop) = run_over(alloc, bytes)?;
+    Ok(outcome_at(pass, stop, bytes.len()))
 }
 
 /// Reads a declaration of a function, all of the text (C11 6.7, with the words and marks of 6.4): the one reading that

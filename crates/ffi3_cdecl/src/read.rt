@@ -2,10 +2,10 @@
 ghost use Rattle.std.specs.Prelude.{◌≡◌, ◌≤◌, IfOk};
 ghost use Rattle.ffi3_cdecl_rules.specs.Machine.{finish, is_dead, judged};
 ghost use Rattle.ffi3_cdecl_rules.specs.Reading.{is_too_great};
-ghost use Rattle.ffi3_cdecl_rules.specs.OnePass.{keeping, kept, taking, outcome_at, new_pass};
+ghost use Rattle.ffi3_cdecl_rules.specs.OnePass.{keeping, kept, taking, new_pass};
 ghost use Rattle.ffi3_cdecl.specs.TokenOf.{token_of};
 ghost use Rattle.ffi3_cdecl.specs.StateOf.{state_of};
-ghost use Rattle.ffi3_cdecl.specs.PassOf.{pass_of, outcome_of};
+ghost use Rattle.ffi3_cdecl.specs.PassOf.{pass_of, outcome_of, outcome_behind};
 
 use crate::declaration::Declaration;
 use crate::state::{State, Where, step_base, step_type};
@@ -17,6 +17,7 @@ use crate::step::{
 use crate::token::Token;
 use ffi3_types::{NoMemory, SigFault, check_sig};
 use std::alloc::Global;
+use std::mem;
 
 /// One token further.
 fn step(alloc: Global, state: State, token: Token<'_>) -> Result<State, NoMemory>
@@ -136,17 +137,25 @@ fn finished(state: State) -> Option<Declaration>
     ensures { result ≡ finish (state_of state) }
 {
     match state {
-        State::Closed(d) | State::Ended(d) => Some(d),
-        _ => None,
+        State::Closed(d) => Some(d),
+        State::Ended(d) => Some(d),
+        other => {
+            mem::drop(other);
+            None
+        }
     }
 }
 
-/// At the end of the text.
-pub fn outcome_at(pass: Pass, end: usize) -> Outcome
-    ensures { outcome_of result ≡ outcome_at end (pass_of pass) }
+/// Behind a pass that stopped there, or at the end of the text.
+pub fn outcome_at(pass: Pass, stop: Option<usize>, end: usize) -> Outcome
+    ensures { outcome_of result ≡ outcome_behind stop end (pass_of pass) }
 {
     let Pass { state, died, great } = pass;
-    match finished(state) {
+    let declared = finished(state);
+    if let Some(at) = stop {
+        return Outcome::BadToken(at);
+    }
+    match declared {
         Some(d) => match great {
             Some(at) => Outcome::BadNumber(at),
             None => judged(d),

@@ -4,7 +4,6 @@
 mod acts;
 mod arrays;
 mod bodies;
-mod decimal;
 mod fields;
 mod forms;
 mod function_parts;

@@ -11,12 +11,13 @@ ghost use Rattle.ffi3_script.specs.Shapes.{typed_form_of, typed_under, value_und
 
 use crate::forms::{Form, TypedForm, form_named, is_untyped, two_items};
 use crate::plain::{
-    against, argument_of, cast_of, difference, element_of, push, read_number, read_right_type,
-    read_text, result_of, sum, typed_as, user_of,
+    against, argument_of, cast_of, difference, element_of, push, read_right_type, result_of, sum,
+    typed_as, user_of,
 };
 use crate::scope::Scope;
 use crate::{Expr, TypedExpr};
 use ffi3_json::{JsonPath, Node, Nodes, Reason, ScriptFault, bad};
+use ffi3_literals::{read_number, read_text};
 use ffi3_script_body::element_types;
 use ffi3_types::{FfiType, Members};
 use std::alloc::Global;

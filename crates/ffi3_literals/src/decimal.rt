@@ -9,8 +9,8 @@ ghost use Rattle.ffi3_script_rules.specs.Values.{integer_written, in_range, read
 ghost use Rattle.ffi3_json.specs.Reports.{Reports};
 ghost use Rattle.ffi3_script_body.specs.ExprOf.{expression_of};
 
-use crate::Expr;
 use ffi3_json::{JsonPath, Reason, ScriptFault, bad};
+use ffi3_script_body::Expr;
 use ffi3_types::FfiType;
 use ffi3_values::{Value, integer, of_bits};
 use std::alloc::Global;

@@ -10,7 +10,7 @@ use Rattle.ffi3_script_rules.specs.Script.{constant}
 use Rattle.ffi3_script_rules.specs.Values.{number_written, read_integer}
 use Rattle.ffi3_script_rules.proofs.Decimals.{negative_refused, negative_too_far, negative_read}
 use Rattle.ffi3_json.proofs.Tellings.{tells_made}
-use Rattle.ffi3_script.proofs.decimal.read_negative.Goals as goal
+use Rattle.ffi3_literals.proofs.decimal.read_negative.Goals as goal
 
 pub returns-then-not-is_signed-clause-err : goal.returns-then-not-is_signed-clause-err
 returns-then-not-is_signed-clause-err c =

@@ -8,7 +8,7 @@ use Rattle.ffi3_script_rules.specs.Script.{constant}
 use Rattle.ffi3_script_rules.specs.Values.{number_written, read_integer}
 use Rattle.ffi3_script_rules.proofs.Decimals.{plain_refused, plain_out, plain_within}
 use Rattle.ffi3_json.proofs.Tellings.{tells_made}
-use Rattle.ffi3_script.proofs.decimal.read_plain.Goals as goal
+use Rattle.ffi3_literals.proofs.decimal.read_plain.Goals as goal
 
 pub returns-then-not-is_within-clause-err : goal.returns-then-not-is_within-clause-err
 returns-then-not-is_within-clause-err c =
