@@ -88,7 +88,7 @@ fn read_array(
     }
     let place = at.key("array");
     let ty = read_type_at(alloc, &items.get(0), &place.item(0), version)?;
-    let mut element = Fields::new(alloc);
+    let mut element = Fields::with_capacity(alloc, 1)?;
     element.push(ty)?;
     let count = read_count(alloc, &items.get(1), &place.item(1))?;
     Ok(FfiType::Array(element, count))
@@ -123,7 +123,7 @@ pub(crate) fn read_list(
     let Some(items) = value.items() else {
         return Err(bad(alloc, at, Reason::NotAnArray));
     };
-    let mut types = Fields::new(alloc);
+    let mut types = Fields::with_capacity(alloc, items.len())?;
     for i in 0..items.len() {
         let ty = read_type_at(alloc, &items.get(i), &at.item(i as u32), version)?;
         types.push(ty)?;

@@ -17,7 +17,7 @@ use Rattle.ffi3_json.proofs.types.+types.Goals as goal
 
 pub read_list-loop-i-init : goal.read_list-loop-i-init
 read_list-loop-i-init t c =
-    (ap length c.new-types.ensures, subst (λ ts. Done c.args.version c.in-Some.items c.args.at.now 0 ts) (sym c.new-types.ensures) (done-none c.args.version c.in-Some.items c.args.at.now))
+    (ap length c.in_ok-types.ensures.value, subst (λ ts. Done c.args.version c.in-Some.items c.args.at.now 0 ts) (sym c.in_ok-types.ensures.value) (done-none c.args.version c.in-Some.items c.args.at.now))
 
 pub read_list-returns-in_err-ty-clause-err : goal.read_list-returns-in_err-ty-clause-err
 read_list-returns-in_err-ty-clause-err t c =
@@ -27,7 +27,7 @@ read_list-returns-in_err-ty-clause-err t c =
     let same : read_type c.args.version c.get.result c.item.result ≡ read_type c.args.version (item_at ds c.loop-i.i) (at_item c.args.at.now c.loop-i.i) = λ k. read_type c.args.version (c.get.ensures.item k) (c.item.ensures k) in
     part_handed_on (read_types c.args.version c.args.value.now c.args.at.now) (read_type c.args.version c.get.result c.item.result)
     (λ p r h. ap (λ d. read_types c.args.version d c.args.at.now) is ∙ done-fault c.args.version ds c.args.at.now c.loop-i.i c.loop-i.types p r below c.loop-i.invariant.1 (sym same ∙ h))
-    c.from_residual.result c.in_err-ty.field-0.0 c.from_residual.ensures.1 c.in_err-ty.ensures.err
+    c.from_residual-in_err-ty.result c.in_err-ty.field-0.0 c.from_residual-in_err-ty.ensures.1 c.in_err-ty.ensures.err
 
 pub read_list-push-requires : goal.read_list-push-requires
 read_list-push-requires t c =
@@ -83,7 +83,7 @@ read_array-returns-clause-ok t c =
     let two : items_len ds ≡ 2 = omega (arith, c.len.ensures.count, c.if-len-ne2.false) in
     let first : read_type c.args.version (item_at ds 0) (at_item (under c.args.at.now (codes "array")) 0) ≡ read_type c.args.version c.get.result c.item.result = λ k. read_type c.args.version (sym c.get.ensures.item k) (sym (c.item.ensures ∙ ap (λ p. at_item p 0) c.key-place.ensures) k) in
     let second : read_count (item_at ds 1) (at_item (under c.args.at.now (codes "array")) 1) ≡ read_count c.get-2.result c.item-2.result = λ k. read_count (sym c.get-2.ensures.item k) (sym (c.item-2.ensures ∙ ap (λ p. at_item p 1) c.key-place.ensures) k) in
-    let one : c.push.new.self ≡ u ∷ [] = c.in_ok-push.ensures.ok ∙ ap (λ us. us ++ u ∷ []) c.new-element.ensures in
+    let one : c.push.new.self ≡ u ∷ [] = c.in_ok-push.ensures.ok ∙ ap (λ us. us ++ u ∷ []) c.in_ok-element.ensures.value in
     array_read c.args.version d ds c.args.at.now (array_is d ds (sym c.in-Some.ensures.value)) two u n (first ∙ c.in_ok-ty.ensures.ok) (second ∙ c.in_ok-count.ensures.ok) ∙ ap (λ us. read (types.array (trees_of us) n)) (sym one)
 
 -- ---- read_type_at
