@@ -44,7 +44,7 @@ enter-requires-clause-hidden_saved g c = λ e.
     let s = c.args.cif.now in
     let m = c.args.machine.now in
     let same : std.target ≡ m.target = g.met.A.Abi.target_is ∙ sym c.requires.target in
-    let law = result_law_of std s m.target (g.met.A.Abi.result_by_stubs s c.sig-sig.ensures.faultless) same e in
+    let law = result_law_of std s m.target (g.met.A.Abi.result_by_stubs s) same e in
     hidden_listed std s c.hidden_place-hidden.result (c.hidden_place-hidden.ensures ∙ ap hidden_of c.result_place.ensures) law.hidden
 
 pub copy_arguments-requires-clause-found : goal.copy_arguments-requires-clause-found
