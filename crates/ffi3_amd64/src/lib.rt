@@ -3,7 +3,7 @@
 
 ghost use Rattle.std.specs.Prelude.{◌*◌, ◌≡◌, ◌<◌, ◌≤◌, ◌+◌, ◌||◌, cond, length, slice_index, IfOk, [], ◌∷◌, true, false};
 ghost use Rattle.std.specs.List.{list_any, count_by};
-ghost use Rattle.ffi3_type_rules.specs.declared.limits.TheConstants.{ARGUMENT_BYTES, ARGUMENT_SPAN, LARGEST_TYPE};
+ghost use Rattle.ffi3_type_rules.specs.declared.limits.TheConstants.{ARGUMENT_BYTES, ARGUMENT_SPAN};
 ghost use Rattle.ffi3_type_rules.specs.Layout.{leaves_of, leaf_at};
 ghost use Rattle.ffi3_type_rules.specs.Fault.{IsLaidOut};
 ghost use Rattle.ffi3_types.specs.TreeOf.{tree_of};
@@ -251,15 +251,13 @@ fn pieces_in_registers(
     requires few { length registers.now ≤ 8 }
     ensures { IfOk result (λ p. p ≡ register_pieces (slice_index registers.now) general vector ty.now [] (classes ty.now)) }
 {
+    let plain = ty.as_type();
     match found {
         Classes::Memory => Ok(Pieces::new(alloc)),
         Classes::Nothing => Ok(Pieces::new(alloc)),
         Classes::One(class) => {
             let at = register(class, general, vector, registers);
-            one_piece(
-                alloc,
-                doubleword(size_of(ty.as_type()), 0, at, widening(ty.as_type())),
-            )
+            one_piece(alloc, doubleword(size_of(plain), 0, at, widening(plain)))
         }
         Classes::Two(first, second) => {
             let before = Classes::One(first);
@@ -267,8 +265,8 @@ fn pieces_in_registers(
             let next_general = general + before.integers();
             let next_vector = vector + before.sses();
             let high = register(second, next_general, next_vector, registers);
-            let size = size_of(ty.as_type());
-            let ext = widening(ty.as_type());
+            let size = size_of(plain);
+            let ext = widening(plain);
             let first_piece = doubleword(size, 0, low, ext);
             let second_piece = doubleword(size, 1, high, ext);
             two_pieces(alloc, first_piece, second_piece)
