@@ -1,5 +1,5 @@
 -- An element of an element of a value: the whole that it is a part of, and the way down to it.
-use Rattle.std.specs.Prelude.{ℕ, ◌<◌, ⊤, length}
+use Rattle.std.specs.Prelude.{◌<◌, ⊤, length}
 use Rattle.ffi3_type_rules.specs.Value.{ValueTree, elements_of, list_of_values}
 use Rattle.ffi3_script_rules.specs.Script.{Expression, element}
 use Rattle.ffi3_script_rules.specs.Meaning.{element_value}
