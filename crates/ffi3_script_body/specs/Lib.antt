@@ -1,5 +1,6 @@
 pub mod ExprOf
 pub mod ListTypes
+pub mod PartOf
 pub mod Own
 pub mod Always
 pub mod KindOf

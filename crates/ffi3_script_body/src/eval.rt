@@ -9,6 +9,7 @@ ghost use Rattle.ffi3_script_rules.specs.Meaning as meaning;
 ghost use Rattle.ffi3_script_rules.specs.Typed.{has_type, have_types, own_type};
 ghost use Rattle.ffi3_script_body.specs.ExprOf.{expression_of, expressions_in};
 ghost use Rattle.ffi3_script_body.specs.KnownAt.{kinds_of, known_of};
+ghost use Rattle.ffi3_script_body.specs.PartOf.{IsPart, part_of, whole_of};
 
 use crate::elements::element_types;
 use crate::known::Known;
@@ -35,6 +36,32 @@ fn scalar_type(ty: &FfiType) -> FfiType
         FfiType::Double => FfiType::Double,
         FfiType::Pointer => FfiType::Pointer,
         _ => FfiType::U8,
+    }
+}
+
+/// The expression of whose value this is a part, be it an element of an element: itself where it is no element.
+fn whole_of(e: &Expr) -> &Expr
+    ensures { expression_of result.now ≡ whole_of (expression_of e.now) }
+{
+    match e {
+        Expr::Element(inner, _) => whole_of(inner),
+        _ => e,
+    }
+}
+
+/// The part of a whole that an expression is. Only the way down to it is gone, and nothing is copied.
+fn part_of<'a>(whole: &'a Value, e: &Expr) -> &'a Value
+    requires { IsPart (expression_of e.now) (value_of whole.now) }
+    ensures { value_of result.now ≡ part_of (expression_of e.now) (value_of whole.now) }
+{
+    match e {
+        Expr::Element(inner, i) => {
+            let Value::List(values) = part_of(whole, inner) else {
+                unreachable!()
+            };
+            values.get(*i as usize)
+        }
+        _ => whole,
     }
 }
 
@@ -87,11 +114,9 @@ fn eval_own(alloc: Global, known: &Known, e: &Expr) -> Result<Value, NoMemory>
             let user = known.user();
             Ok(Value::Leaf(Bytes::from_slice(alloc, &user.to_le_bytes())?))
         }
-        Expr::Element(whole, i) => {
-            let Value::List(values) = eval_own(alloc, known, whole)? else {
-                unreachable!()
-            };
-            values.get(*i as usize).copy(alloc)
+        Expr::Element(inner, _) => {
+            let whole = eval_own(alloc, known, whole_of(inner))?;
+            part_of(&whole, e).copy(alloc)
         }
         Expr::TypedAs(ty, inner) => eval(alloc, known, ty, inner),
         _ => unreachable!(),

@@ -1,16 +1,18 @@
-use Rattle.std.proofs.Common.{◌≡◌, ◌<◌, [], ◌∷◌, ◌++◌, take, true, ap, ◌∙◌, subst, sym, arith, length}
+use Rattle.std.proofs.Common.{◌≡◌, ◌<◌, [], ◌∷◌, ◌++◌, take, true, refl, ap, ◌∙◌, subst, sym, arith, length}
 use Rattle.std.proofs.lemmas.Result.{IfOk-weaker}
 use Rattle.ffi3_type_rules.specs.Integer.{scalar_of, is_number_type, number_of, bytes_of_number}
-use Rattle.ffi3_type_rules.specs.Value.{fits, leaf_value, struct_value, bytes_of, values_of}
+use Rattle.ffi3_type_rules.specs.Value.{leaf_value, bytes_of}
 use Rattle.ffi3_types.specs.TreeOf.{tree_of}
 use Rattle.ffi3_values.specs.ValueOf.{value_of}
 use Rattle.ffi3_script_rules.specs.Meaning as meaning
 use Rattle.ffi3_script_rules.specs.Typed.{has_type, own_type}
 use Rattle.ffi3_script_body.specs.ExprOf.{expression_of}
 use Rattle.ffi3_script_body.specs.KnownAt.{kinds_of, known_of}
+use Rattle.ffi3_script_body.specs.PartOf.{IsPart, part_of, whole_of}
 use Rattle.ffi3_script_body.proofs.Rows.{as_many, typed_at, evaluated, evaluated-is, evaluated-next, evaluated-all}
-use Rattle.ffi3_script_body.proofs.Evaluated.{evaluated_fits, number_type, own_typed, element_there, element_is}
-use Rattle.ffi3_script_body.proofs.Parts.{has_own_by_default, nodes_at, in_composed, in_element, in_typed, in_cast, left_in_sum, right_in_sum, left_in_difference, right_in_difference, has_type_at, of_composed, of_sum, of_difference, of_cast, of_element, of_whole, of_typed, composed_value, sum_value, difference_value, cast_value}
+use Rattle.ffi3_script_body.proofs.PartOf.{part_value, whole_typed, whole_nodes, are_parts}
+use Rattle.ffi3_script_body.proofs.Evaluated.{evaluated_fits, number_type, own_typed}
+use Rattle.ffi3_script_body.proofs.Parts.{has_own_by_default, expression_nodes, nodes_at, in_composed, in_element, in_typed, in_cast, left_in_sum, right_in_sum, left_in_difference, right_in_difference, has_type_at, of_composed, of_sum, of_difference, of_cast, of_whole, of_typed, composed_value, sum_value, difference_value, cast_value}
 use Rattle.ffi3_script_body.proofs.eval.+eval.Goals as goal
 
 -- ---- eval
@@ -153,17 +155,13 @@ eval_all-returns t c =
 pub eval_own-eval_own-requires : goal.eval_own-eval_own-requires
 eval_own-eval_own-requires t c =
     let k = kinds_of c.args.known.now in
-    let whole = of_whole k c.args.e.now c.requires c.in-Element.whole c.in-Element.i c.in-Element.is in
-    (omega (arith, in_element c.args.e.now c.deref.result.now c.in-Element.whole c.in-Element.i c.in-Element.is c.deref.ensures), subst (λ x. has_type k (own_type k (expression_of x)) (expression_of x) ≡ true) (sym c.deref.ensures) whole)
-
-pub eval_own-get-requires : goal.eval_own-get-requires
-eval_own-get-requires t c =
-    let k = kinds_of c.args.known.now in
-    let here = of_element k c.args.e.now c.requires c.in-Element.whole c.in-Element.i c.in-Element.is in
-    let u = own_type k (expression_of c.in-Element.whole.value) in
-    let listed = subst (λ v. fits (own_type k (expression_of c.deref.result.now)) (value_of v) ≡ true) c.in-List.is c.in_ok-values-in-Element.ensures.fits in
-    let fit = subst (λ x. fits (own_type k (expression_of x)) (struct_value (values_of c.in-List.values)) ≡ true) c.deref.ensures listed in
-    element_there u c.in-List.values c.in-Element.i _ fit here
+    let inner = of_whole k c.args.e.now c.requires c.in-Element.inner c.in-Element.field-1 c.in-Element.is in
+    let whole_is = c.whole_of.ensures ∙ ap (λ x. whole_of (expression_of x)) c.deref.ensures in
+    let typed = whole_typed k (expression_of c.in-Element.inner.value) inner in
+    let fewer = whole_nodes (expression_of c.in-Element.inner.value) in
+    let here = in_element c.args.e.now c.in-Element.inner.value c.in-Element.inner c.in-Element.field-1 c.in-Element.is refl in
+    let same = ap expression_nodes whole_is in
+    (omega (arith, fewer, here, same), subst (λ x. has_type k (own_type k x) x ≡ true) (sym whole_is) typed)
 
 pub eval_own-eval-requires : goal.eval_own-eval-requires
 eval_own-eval-requires t c =
@@ -183,14 +181,22 @@ eval_own-returns-in-Outcome-clause-fits t c =
     let is = ap (λ x. meaning.value_of (known_of c.args.known.now) (expression_of x)) (sym c.in-Outcome.is) in
     IfOk-weaker c.outcome.result _ _ (λ v v_is. evaluated_fits c.args.known.now (own_type (kinds_of c.args.known.now) (expression_of e)) (expression_of e) (value_of v) c.requires (v_is ∙ is)) c.outcome.ensures
 
-pub eval_own-returns-in-List-clause-is : goal.eval_own-returns-in-List-clause-is
-eval_own-returns-in-List-clause-is t c =
-    let k = known_of c.args.known.now in
-    let whole = sym (ap value_of c.in-List.is) ∙ c.in_ok-values-in-Element.ensures.is ∙ ap (λ x. meaning.value_of k (expression_of x)) c.deref.ensures in
-    let here = element_is (meaning.value_of k (expression_of c.in-Element.whole.value)) c.in-List.values c.in-Element.i whole in
-    IfOk-weaker c.copy.result _ _ (λ v same. ap value_of same ∙ c.get.ensures.element ∙ here ∙ ap (λ x. meaning.value_of k (expression_of x)) (sym c.in-Element.is)) c.copy.ensures
+pub eval_own-part_of-requires : goal.eval_own-part_of-requires
+eval_own-part_of-requires t c =
+    let whole_is = c.whole_of.ensures ∙ ap (λ x. whole_of (expression_of x)) c.deref.ensures ∙ sym (ap (λ x. whole_of (expression_of x)) c.in-Element.is) in
+    let is = c.in_ok-whole-in-Element.ensures.is ∙ ap (meaning.value_of (known_of c.args.known.now)) whole_is in
+    subst (IsPart (expression_of c.args.e.now)) (sym is) (are_parts c.args.known.now (expression_of c.args.e.now) c.requires)
 
-pub eval_own-returns-in-List-clause-fits : goal.eval_own-returns-in-List-clause-fits
-eval_own-returns-in-List-clause-fits t c =
+pub eval_own-returns-in_ok-whole-in-Element-clause-is : goal.eval_own-returns-in_ok-whole-in-Element-clause-is
+eval_own-returns-in_ok-whole-in-Element-clause-is t c =
+    let k = known_of c.args.known.now in
     let e = expression_of c.args.e.now in
-    IfOk-weaker c.copy.result _ _ (λ v is. evaluated_fits c.args.known.now (own_type (kinds_of c.args.known.now) e) e (value_of v) c.requires is) (eval_own-returns-in-List-clause-is t c)
+    let whole_is = c.whole_of.ensures ∙ ap (λ x. whole_of (expression_of x)) c.deref.ensures ∙ sym (ap (λ x. whole_of (expression_of x)) c.in-Element.is) in
+    let is = c.in_ok-whole-in-Element.ensures.is ∙ ap (meaning.value_of k) whole_is in
+    let part_is = c.part_of.ensures ∙ ap (part_of e) is ∙ part_value k e in
+    IfOk-weaker c.copy.result _ _ (λ v same. ap value_of same ∙ part_is) c.copy.ensures
+
+pub eval_own-returns-in_ok-whole-in-Element-clause-fits : goal.eval_own-returns-in_ok-whole-in-Element-clause-fits
+eval_own-returns-in_ok-whole-in-Element-clause-fits t c =
+    let e = expression_of c.args.e.now in
+    IfOk-weaker c.copy.result _ _ (λ v is. evaluated_fits c.args.known.now (own_type (kinds_of c.args.known.now) e) e (value_of v) c.requires is) (eval_own-returns-in_ok-whole-in-Element-clause-is t c)
