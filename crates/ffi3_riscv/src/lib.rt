@@ -436,8 +436,7 @@ fn taken_by_all(sig: &CheckedSig<'_>) -> TakenWords
     ensures value { result ≡ taken_by_all sig.now }
     ensures low { result.words ≤ 3 * MOST_ARGUMENTS + 1 }
 {
-    let ret = sig.ret();
-    let mut end = at_first(&ret);
+    let mut end = at_first(&sig.ret());
     for i in 0..sig.count() {
         let ty = sig.arg(i);
         let fixed = is_fixed(sig, i);
@@ -476,8 +475,7 @@ fn place_all(alloc: Global, sig: &CheckedSig<'_>, start: u64) -> Result<Placed, 
     ensures end { IfOk result (λ p. p.end ≡ copies_end riscv.copy_start start sig.now.arguments (spots_after sig.now.fixed (taken_at_first sig.now.result_type) 0 sig.now.arguments)) }
     ensures near { IfOk result (λ p. p.end ≤ start + ARGUMENT_BYTES) }
 {
-    let ret = sig.ret();
-    let mut end = at_first(&ret);
+    let mut end = at_first(&sig.ret());
     let mut copy = start;
     let mut places = Places::with_capacity(alloc, sig.count() as usize)?;
     for i in 0..sig.count() {

@@ -295,10 +295,10 @@ pub struct Win64;
 fn plan_of(alloc: Global, sig: &CheckedSig<'_>) -> Result<Plan, NoMemory>
     ensures { IfOk result (λ p. p ≡ plan_of win64 sig.now) }
 {
-    let ret = sig.ret();
-    let first = first_position(&ret);
+    let first = first_position(&sig.ret());
     let stack = stack_of(first + sig.count() as u64);
     let all = place_all(alloc, sig, first, round_up(stack, 16))?;
+    let ret = sig.ret();
     let res = place_result(alloc, &ret, all.end)?;
     let end = buffer_end(&res, &ret, all.end);
     Ok(planned(sig, all.places, res, end, Win64::LINK + Win64::SAVE, 0))

@@ -1,5 +1,6 @@
 use Rattle.std.proofs.Common.{ℕ, ap, ◌∙◌}
 use Rattle.ffi3_type_rules.specs.Layout.{size_of}
+use Rattle.ffi3_place_rules.specs.Doublewords.{widening}
 use Rattle.ffi3_place_rules.specs.declared.Ext.{Ext}
 use Rattle.ffi3_place_rules.specs.declared.Piece.{Piece}
 use Rattle.ffi3_win64.proofs.whole.Goals as goal
@@ -7,4 +8,4 @@ use Rattle.ffi3_win64.proofs.whole.Goals as goal
 pub returns : goal.returns
 returns c =
     let piece : ℕ → Ext → Piece = λ n e. record { loc = c.args.loc; off = 0; len = n; ext = e } in
-    ap (λ n. piece n c.widening.result) c.size.ensures.value ∙ ap (piece (size_of c.args.ty.now)) (rw c.as_type.ensures.value at c.widening.ensures)
+    ap (λ n. piece n c.widening.result) c.size.ensures.value ∙ ap (piece (size_of c.args.ty.now)) (c.widening.ensures ∙ ap widening c.as_type.ensures.value)
