@@ -1,5 +1,5 @@
 use Rattle.std.specs.Prelude.{false}
-use Rattle.std.proofs.Common.{◌≡◌, ◌<◌, length, ap, sym, ◌∙◌, arith}
+use Rattle.std.proofs.Common.{◌≡◌, ◌<◌, length, ap, refl, sym, ◌∙◌, arith}
 use Rattle.ffi3_type_rules.specs.Tree.{tree_at}
 use Rattle.ffi3_place_rules.specs.Standard.{plan_of}
 use Rattle.ffi3_place_rules.proofs.Elements.{argument_read}
@@ -7,6 +7,9 @@ use Rattle.ffi3_pieces.proofs.Arguments.{place_read}
 use Rattle.ffi3_callee.specs.Poison.{hidden_has, places_have}
 use Rattle.ffi3_callee.proofs.Searching.{argument_has, argument_has_not, no_argument, not_first}
 use Rattle.ffi3_callee.proofs.poisoning.carries.Goals as goal
+
+pub loop-i-init : goal.loop-i-init
+loop-i-init g c = refl
 
 pub returns-then-place_has : goal.returns-then-place_has
 returns-then-place_has g c =
