@@ -16,7 +16,6 @@ use ffi3_cif::Cif;
 use ffi3_io::MemSink;
 use ffi3_machine::{Machine, RETURN};
 use ffi3_place::Abi;
-use ffi3_place::parts::{result_type, size_of};
 use ffi3_runner::{RunEnd, Runner};
 use ffi3_script::Script;
 use ffi3_type_rules::limits::LARGEST_TYPE;
@@ -37,14 +36,14 @@ pub fn take_text<A: Abi>(
     ensures { IfOk result (λ text. (v : ValueTree) → OwnResult A.standard cif.now v (image_of (frame_of A.standard cif.now) machine.old) →
         text ≡ value_text_of cif.now.result_type v) }
 {
-    let ty = result_type(cif.sig());
+    let ty = cif.checked_sig().ret();
     let mut room = [0; LARGEST_TYPE as usize];
-    let out = &mut room[..size_of(ty) as usize];
+    let out = &mut room[..ty.size() as usize];
     come_back(machine, cif);
     load_result(machine, cif, out);
     drop_frame(machine, cif);
-    let value = value_from_bytes(alloc, ty, out)?;
-    value_text(alloc, ty, &value)
+    let value = value_from_bytes(alloc, ty.as_type(), out)?;
+    value_text(alloc, ty.as_type(), &value)
 }
 
 /// What a call that was served came to.
