@@ -1,52 +1,20 @@
-// The parts of a signature without fault, and the pieces of its values, as every standard needs them.
+// The sizes of arguments, and the pieces of values, as every standard needs them.
 ghost use Rattle.std.specs.Prelude.{◌≡◌, ◌<◌, ◌≤◌, ◌*◌, length, IfOk};
 ghost use Rattle.std.specs.List.{sum_by};
-ghost use Rattle.ffi3_type_rules.specs.declared.limits.TheConstants.{ARGUMENT_BYTES, LARGEST_TYPE, MOST_ARGUMENTS};
-ghost use Rattle.ffi3_type_rules.specs.Tree.{Scalar, scalar, tree_at};
+ghost use Rattle.ffi3_type_rules.specs.declared.limits.TheConstants.{ARGUMENT_BYTES, LARGEST_TYPE};
+ghost use Rattle.ffi3_type_rules.specs.Tree.{Scalar, scalar};
 ghost use Rattle.ffi3_type_rules.specs.Layout.{size_of, leaves_of, leaf_at};
 ghost use Rattle.ffi3_type_rules.specs.Integer.{is_floating};
-ghost use Rattle.ffi3_type_rules.specs.Fault.{IsLaidOut, IsResultType};
-ghost use Rattle.ffi3_type_rules.specs.Signature.{SignatureHasNoFault};
 ghost use Rattle.ffi3_types.specs.TreeOf.{tree_of};
 ghost use Rattle.ffi3_place_rules.specs.Standard.{doubleword, round8};
 ghost use Rattle.ffi3_place_rules.specs.Doublewords.{doublewords, filling, widening, stack_pieces, leaf_piece};
 
 use ffi3_place_rules::{Ext, Loc, Piece, Pieces};
 use ffi3_type_rules::round_up;
-use ffi3_types::{CheckedSig, CheckedType, FfiType, NoMemory, Sig};
+use ffi3_types::{CheckedSig, CheckedType, FfiType, NoMemory};
 use std::alloc::Global;
 
 // ---- signatures
-
-/// How many arguments a signature without fault has.
-pub fn count_of(sig: &Sig) -> u32
-    requires { SignatureHasNoFault sig.now }
-    ensures value { result ≡ length sig.now.arguments }
-    ensures few { result ≤ MOST_ARGUMENTS }
-{
-    sig.count()
-}
-
-/// An argument's type, which has no fault, and would have none as a result's.
-pub fn argument(sig: &Sig, i: u32) -> &FfiType
-    requires right { SignatureHasNoFault sig.now }
-    requires within { i < length sig.now.arguments }
-    ensures element { tree_of result.now ≡ tree_at sig.now.arguments i }
-    ensures right { IsLaidOut (tree_of result.now) }
-    ensures as_result { IsResultType (tree_of result.now) }
-{
-    sig.arg(i)
-}
-
-/// The result's type, which has no fault.
-pub fn result_type(sig: &Sig) -> &FfiType
-    requires { SignatureHasNoFault sig.now }
-    ensures element { tree_of result.now ≡ sig.now.result_type }
-    ensures right { IsLaidOut (tree_of result.now) }
-    ensures as_result { IsResultType (tree_of result.now) }
-{
-    sig.ret()
-}
 
 /// The sizes of all arguments in bytes, each a multiple of 8.
 pub fn sizes_of(sig: &CheckedSig<'_>) -> u64
@@ -62,24 +30,6 @@ pub fn sizes_of(sig: &CheckedSig<'_>) -> u64
 }
 
 // ---- types
-
-/// The size of a type without fault, in bytes. Of a scalar it is known at once; that of a struct or an array is a walk over
-/// its elements.
-pub fn size_of(ty: &FfiType) -> u64
-    requires { IsLaidOut (tree_of ty.now) }
-    ensures value { result ≡ size_of (tree_of ty.now) }
-    ensures small { result ≤ LARGEST_TYPE }
-{
-    match ty {
-        FfiType::Void | FfiType::LongDouble | FfiType::Complex | FfiType::Vector => 0,
-        FfiType::U8 | FfiType::S8 => 1,
-        FfiType::U16 | FfiType::S16 => 2,
-        FfiType::U32 | FfiType::S32 | FfiType::Float => 4,
-        FfiType::U64 | FfiType::S64 | FfiType::Double | FfiType::Pointer => 8,
-        FfiType::U128 | FfiType::S128 => 16,
-        FfiType::Struct(_) | FfiType::Array(_, _) => ty.size(),
-    }
-}
 
 /// How many doublewords a value takes. The last has what is left where the size is no multiple of 8.
 pub fn doublewords(ty: &CheckedType<'_>) -> u64
