@@ -2,38 +2,32 @@
 ghost use Rattle.std.specs.Prelude.{◌≡◌, IfOk, OnOk, length, replicate, true};
 ghost use Rattle.ffi3_type_rules.specs.Tree.{trees_of};
 ghost use Rattle.ffi3_type_rules.specs.Layout.{size_of};
-ghost use Rattle.ffi3_type_rules.specs.Fault.{IsLaidOut};
-ghost use Rattle.ffi3_type_rules.specs.Signature.{SignatureHasNoFault};
 ghost use Rattle.ffi3_type_rules.specs.Value.{IsWritten, all_fit, fits, values_of};
-ghost use Rattle.ffi3_types.specs.TreeOf.{tree_of};
 ghost use Rattle.ffi3_values.specs.ValueOf.{value_of};
 ghost use Rattle.ffi3_capi.specs.Entry.{AreBytesOf, HasOneMore};
 
-use ffi3_place::parts::{argument, count_of, size_of};
 use ffi3_type_rules::limits::LARGEST_TYPE;
 use ffi3_type_rules::round_up;
-use ffi3_types::{Bytes, FfiType, NoMemory, Sig};
+use ffi3_types::{Bytes, CheckedSig, CheckedType, NoMemory};
 use ffi3_values::{Value, Values, write_bytes};
 use std::alloc::Global;
 
 /// Writes the value's bytes, with padding of 0.
-fn write_over_zeros(ty: &FfiType, value: &Value, out: &mut [u8])
-    requires right { IsLaidOut (tree_of ty.now) }
-    requires fits { fits (tree_of ty.now) (value_of value.now) ≡ true }
-    requires sized { length out.old ≡ size_of (tree_of ty.now) }
-    ensures { IsWritten (tree_of ty.now) (value_of value.now) (replicate (size_of (tree_of ty.now)) 0) out.new }
+fn write_over_zeros(ty: &CheckedType<'_>, value: &Value, out: &mut [u8])
+    requires fits { fits ty.now (value_of value.now) ≡ true }
+    requires sized { length out.old ≡ size_of ty.now }
+    ensures { IsWritten ty.now (value_of value.now) (replicate (size_of ty.now) 0) out.new }
 {
     out.fill(0);
-    write_bytes(ty, value, out);
+    write_bytes(ty.as_type(), value, out);
 }
 
 /// One more value: its bytes, and zeros up to a multiple of 8.
-fn push_value(ty: &FfiType, value: &Value, bytes: &mut Bytes) -> Result<(), NoMemory>
-    requires right { IsLaidOut (tree_of ty.now) }
-    requires fits { fits (tree_of ty.now) (value_of value.now) ≡ true }
-    ensures { OnOk result (HasOneMore (tree_of ty.now) (value_of value.now) bytes.old bytes.new) }
+fn push_value(ty: &CheckedType<'_>, value: &Value, bytes: &mut Bytes) -> Result<(), NoMemory>
+    requires { fits ty.now (value_of value.now) ≡ true }
+    ensures { OnOk result (HasOneMore ty.now (value_of value.now) bytes.old bytes.new) }
 {
-    let size = size_of(ty);
+    let size = ty.size();
     let mut room = [0; LARGEST_TYPE as usize];
     let here = &mut room[..size as usize];
     write_over_zeros(ty, value, here);
@@ -44,14 +38,17 @@ fn push_value(ty: &FfiType, value: &Value, bytes: &mut Bytes) -> Result<(), NoMe
 }
 
 /// The bytes of a signature's arguments, each begun at a multiple of 8. Padding is 0.
-pub(crate) fn bytes_of(alloc: Global, sig: &Sig, values: &Values) -> Result<Bytes, NoMemory>
-    requires right { SignatureHasNoFault sig.now }
-    requires fits { all_fit (trees_of sig.now.arguments) (values_of values.now) ≡ true }
+pub(crate) fn bytes_of(
+    alloc: Global,
+    sig: &CheckedSig<'_>,
+    values: &Values,
+) -> Result<Bytes, NoMemory>
+    requires { all_fit (trees_of sig.now.arguments) (values_of values.now) ≡ true }
     ensures { IfOk result (λ bytes. AreBytesOf sig.now.arguments values.now bytes) }
 {
     let mut bytes = Bytes::new(alloc);
-    for i in 0..count_of(sig) {
-        push_value(argument(sig, i), values.get(i as usize), &mut bytes)?;
+    for i in 0..sig.count() {
+        push_value(&sig.arg(i), values.get(i as usize), &mut bytes)?;
     }
     Ok(bytes)
 }

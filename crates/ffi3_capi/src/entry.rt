@@ -16,9 +16,8 @@ use ffi3_amd64::Amd64;
 use ffi3_cif::Cif;
 use ffi3_explain::{Image, least_stack};
 use ffi3_place::Abi;
-use ffi3_place::parts::count_of;
 use ffi3_riscv::Riscv;
-use ffi3_types::{Bytes, Sig, Target};
+use ffi3_types::{Bytes, CheckedSig, Sig, Target};
 use ffi3_win64::Win64;
 use std::alloc::Global;
 
@@ -137,7 +136,7 @@ fn read_by<A: Abi>(
     ensures found { IfOk result (λ f. AreFoundBy A.standard sig (image_in registers.now stack.now) f) }
     ensures unread { IfErr result (λ u. AreNotReadBy A.standard sig (image_in registers.now stack.now) u) }
 {
-    let arguments = count_of(&sig) as usize;
+    let arguments = CheckedSig::of(&sig).count() as usize;
     let Ok(cif) = Cif::<A>::prepare(alloc, sig) else {
         return Err(Unread::Call(Refusal::NoMemory));
     };
@@ -169,7 +168,7 @@ fn read_by<A: Abi>(
         }
         Err(ffi3_explain::Unread::NoMemory) => return Err(Unread::Call(Refusal::NoMemory)),
     };
-    let Ok(bytes) = bytes_of(alloc, cif.sig(), &values) else {
+    let Ok(bytes) = bytes_of(alloc, &cif.checked_sig(), &values) else {
         return Err(Unread::Call(Refusal::NoMemory));
     };
     Ok(Found {

@@ -2,8 +2,6 @@
 ghost use Rattle.std.specs.Prelude.{◌≡◌, ◌++◌, IfOk, IfErr, OnOk, length, map};
 ghost use Rattle.ffi3_type_rules.specs.Tree.{Scalar, scalar, scalar_number};
 ghost use Rattle.ffi3_type_rules.specs.Layout.{scalar_size};
-ghost use Rattle.ffi3_type_rules.specs.Fault.{IsLaidOut};
-ghost use Rattle.ffi3_type_rules.specs.Signature.{SignatureHasNoFault};
 ghost use Rattle.ffi3_types.specs.TreeOf.{tree_of};
 ghost use Rattle.ffi3_capi.specs.Laid.{laid_leaf, laid_leaves, laid_of, no_type, IsLaid, IsLayoutRefusal, LaysOut};
 
@@ -12,9 +10,8 @@ use crate::fault::{FaultKind, TextFault, fault_with};
 use crate::fill::{fill, room_status};
 use crate::reading::declared;
 use crate::status::Refusal;
-use ffi3_place::parts::{argument, count_of, result_type};
 use ffi3_place_rules::Listed;
-use ffi3_types::{FfiType, Leaf, NoMemory};
+use ffi3_types::{CheckedSig, CheckedType, FfiType, Leaf, NoMemory};
 use std::alloc::Global;
 
 /// A scalar of a type: C's `struct ffi3_leaf`.
@@ -112,12 +109,11 @@ fn laid_leaf(leaf: &Leaf) -> LaidLeaf
 }
 
 /// The leaves of a type.
-fn laid_leaves(alloc: Global, ty: &FfiType) -> Result<Listed<LaidLeaf>, NoMemory>
-    requires { IsLaidOut (tree_of ty.now) }
-    ensures { IfOk result (λ ls. ls ≡ laid_leaves (tree_of ty.now)) }
+fn laid_leaves(alloc: Global, ty: &CheckedType<'_>) -> Result<Listed<LaidLeaf>, NoMemory>
+    ensures { IfOk result (λ ls. ls ≡ laid_leaves ty.now) }
 {
     let mut laid = Listed::new(alloc);
-    let leaves = ty.leaves(alloc)?;
+    let leaves = ty.as_type().leaves(alloc)?;
     for i in 0..leaves.len() {
         laid.push(laid_leaf(leaves.get(i)))?;
     }
@@ -125,9 +121,8 @@ fn laid_leaves(alloc: Global, ty: &FfiType) -> Result<Listed<LaidLeaf>, NoMemory
 }
 
 /// The layout of a type of a function with so many arguments.
-fn laid_type(alloc: Global, count: usize, ty: &FfiType) -> Result<Laid, Refusal>
-    requires { IsLaidOut (tree_of ty.now) }
-    ensures ok { IfOk result (λ l. l ≡ laid_of count (tree_of ty.now)) }
+fn laid_type(alloc: Global, count: usize, ty: &CheckedType<'_>) -> Result<Laid, Refusal>
+    ensures ok { IfOk result (λ l. l ≡ laid_of count ty.now) }
     ensures err { IfErr result (λ r. r ≡ Refusal.NoMemory) }
 {
     let Ok(leaves) = laid_leaves(alloc, ty) else {
@@ -153,14 +148,15 @@ pub fn find_layout(alloc: Global, text: &[u8], value: u32) -> Result<Laid, Refus
         Err(Some(fault)) => return Err(Refusal::Fault(fault)),
         Err(None) => return Err(Refusal::NoMemory),
     };
-    let count = count_of(&sig);
+    let checked = CheckedSig::of(&sig);
+    let count = checked.count();
     if value == RESULT_PART {
-        return laid_type(alloc, count as usize, result_type(&sig));
+        return laid_type(alloc, count as usize, &checked.ret());
     }
     if value >= count {
         return Err(Refusal::NoSuchValue(count as usize));
     }
-    laid_type(alloc, count as usize, argument(&sig, value))
+    laid_type(alloc, count as usize, &checked.arg(value))
 }
 
 /// The same for a caller's struct and array. The number tells whether the leaves had room, or why there are none.

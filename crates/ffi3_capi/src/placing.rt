@@ -1,6 +1,5 @@
 // A call of the function that a text declares.
 ghost use Rattle.std.specs.Prelude.{◌≡◌, IfOk, IfErr, length, slice_get};
-ghost use Rattle.ffi3_type_rules.specs.Signature.{SignatureHasNoFault};
 ghost use Rattle.ffi3_capi.specs.Placed.{targets, standard_of, no_call, placement_of, IsPlacement, IsPlaceRefusal, Places};
 
 use crate::fault::{FaultKind, TextFault, fault_with};
@@ -11,9 +10,8 @@ use crate::status::Refusal;
 use ffi3_aapcs64::Aapcs64;
 use ffi3_amd64::Amd64;
 use ffi3_place::Abi;
-use ffi3_place::parts::count_of;
 use ffi3_riscv::Riscv;
-use ffi3_types::{NoMemory, Sig, Target};
+use ffi3_types::{CheckedSig, NoMemory, Target};
 use ffi3_win64::Win64;
 use std::alloc::Global;
 
@@ -70,12 +68,11 @@ fn no_call(fault: TextFault) -> PlacedCall
 }
 
 /// Where everything stands by a calling standard.
-fn placed<A: Abi>(alloc: Global, sig: &Sig) -> Result<Placement, NoMemory>
-    requires { SignatureHasNoFault sig.now }
+fn placed<A: Abi>(alloc: Global, sig: &CheckedSig<'_>) -> Result<Placement, NoMemory>
     ensures { IfOk result (λ p. p ≡ placement_of A.standard sig.now) }
 {
-    let count = count_of(sig);
-    let plan = A::plan(alloc, sig)?;
+    let count = sig.count();
+    let plan = A::plan(alloc, sig.as_sig())?;
     let mut pieces = PlacedPieces::new(alloc);
     put_arguments(&plan.places, &mut pieces)?;
     put_hidden(&plan.res, &mut pieces)?;
@@ -95,8 +92,7 @@ fn placed<A: Abi>(alloc: Global, sig: &Sig) -> Result<Placement, NoMemory>
 }
 
 /// Where everything stands by the target's calling standard.
-fn placed_on(alloc: Global, target: Target, sig: &Sig) -> Result<Placement, NoMemory>
-    requires { SignatureHasNoFault sig.now }
+fn placed_on(alloc: Global, target: Target, sig: &CheckedSig<'_>) -> Result<Placement, NoMemory>
     ensures { IfOk result (λ p. p ≡ placement_of (standard_of target) sig.now) }
 {
     match target {
@@ -120,7 +116,7 @@ pub fn find_placement(alloc: Global, target: u32, text: &[u8]) -> Result<Placeme
         Err(Some(fault)) => return Err(Refusal::Fault(fault)),
         Err(None) => return Err(Refusal::NoMemory),
     };
-    match placed_on(alloc, to, &sig) {
+    match placed_on(alloc, to, &CheckedSig::of(&sig)) {
         Ok(found) => Ok(found),
         Err(_) => Err(Refusal::NoMemory),
     }

@@ -14,15 +14,15 @@ use Rattle.ffi3_capi.proofs.placing.placed.Goals as goal
 
 pub put_arguments-requires-clause-within : goal.put_arguments-requires-clause-within
 put_arguments-requires-clause-within g c =
-    let s = c.args.sig.now in
+    let s = c.as_sig.result.now in
     let sound = g.met.A.Abi.sound s in
-    let small = places_end LARGEST_TYPE s.arguments (plan_of g.A.Abi.standard s).places (λ k below. right_is_small 0 Anywhere (tree_at s.arguments k) (argument_is_laid_out s c.requires k below)) sound.has_all in
+    let small = places_end LARGEST_TYPE s.arguments (plan_of g.A.Abi.standard s).places (λ k below. right_is_small 0 Anywhere (tree_at s.arguments k) (argument_is_laid_out s c.as_sig.ensures.right k below)) sound.has_all in
     subst (AllByRecursion (PlaceEndsWithin LARGEST_TYPE)) (sym (ap (λ (p : Plan). p.places) c.in_ok-plan.ensures)) small
 
 pub put_arguments-requires-clause-few : goal.put_arguments-requires-clause-few
 put_arguments-requires-clause-few g c =
-    let s = c.args.sig.now in
+    let s = c.as_sig.result.now in
     let sound = g.met.A.Abi.sound s in
     let same = places_length s.arguments (plan_of g.A.Abi.standard s).places sound.has_all in
     let planned = ap (λ (p : Plan). length p.places) c.in_ok-plan.ensures in
-    omega (arith, same, planned, c.count_of-count.ensures.value, c.count_of-count.ensures.few)
+    omega (arith, same, planned, ap (λ r. length r.arguments) c.as_sig.ensures.value, c.count-count.ensures.value, c.count-count.ensures.few)
