@@ -68,17 +68,17 @@ fn have_only(fields: &Fields, kind: Kind) -> bool
     true
 }
 
-/// The type and the number of the members of a homogeneous floating-point aggregate: a struct of one to four leaves, all floats or all doubles, with nested structs and arrays flattened. None where the type is no such. (AAPCS64, "Homogeneous Aggregates")
-pub fn homogeneous(ty: &FfiType) -> Option<(Kind, u8)>
-    requires { IsLaidOut (tree_of ty.now) }
-    ensures { result ≡ homogeneous (tree_of ty.now) }
+/// `homogeneous`, of a type that is known to have a layout.
+fn homogeneous_of(ty: &CheckedType<'_>) -> Option<(Kind, u8)>
+    ensures { result ≡ homogeneous ty.now }
 {
-    let FfiType::Struct(_) = ty else {
+    let plain = ty.as_type();
+    let FfiType::Struct(_) = plain else {
         return None;
     };
-    let kind = if has_only(ty, Kind::Float) {
+    let kind = if has_only(plain, Kind::Float) {
         Kind::Float
-    } else if has_only(ty, Kind::Double) {
+    } else if has_only(plain, Kind::Double) {
         Kind::Double
     } else {
         return None;
@@ -90,16 +90,23 @@ pub fn homogeneous(ty: &FfiType) -> Option<(Kind, u8)>
     Some((kind, count as u8))
 }
 
+/// The type and the number of the members of a homogeneous floating-point aggregate: a struct of one to four leaves, all floats or all doubles, with nested structs and arrays flattened. None where the type is no such. (AAPCS64, "Homogeneous Aggregates")
+pub fn homogeneous(ty: &FfiType) -> Option<(Kind, u8)>
+    requires { IsLaidOut (tree_of ty.now) }
+    ensures { result ≡ homogeneous (tree_of ty.now) }
+{
+    homogeneous_of(&CheckedType::of(ty))
+}
+
 // ---- what is passed, and what it needs
 
 /// Whether a value takes SIMD and floating-point registers.
 fn in_vectors(ty: &CheckedType<'_>) -> bool
     ensures { result ≡ in_vectors ty.now }
 {
-    let plain = ty.as_type();
-    match plain {
+    match ty.as_type() {
         FfiType::Float | FfiType::Double => true,
-        FfiType::Struct(_) => homogeneous(plain).is_some(),
+        FfiType::Struct(_) => homogeneous_of(ty).is_some(),
         FfiType::Void
         | FfiType::U8
         | FfiType::S8
