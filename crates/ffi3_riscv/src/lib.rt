@@ -424,27 +424,24 @@ fn result_shape(ty: &CheckedType<'_>) -> Shape
 }
 
 /// The hidden pointer to a result's buffer takes the first word.
-fn taken_at_first(ty: &CheckedType<'_>) -> TakenWords
-    ensures value { result ≡ taken_at_first ty.now }
+fn taken_at_first(returned: Shape) -> TakenWords
+    ensures value { (t : Tree) → returned ≡ result_shape t → result ≡ taken_at_first t }
     ensures one { result.words ≤ 1 }
     ensures none { result.floats ≡ 0 }
 {
     TakenWords {
-        words: if let Shape::ByRef = result_shape(ty) {
-            1
-        } else {
-            0
-        },
+        words: if let Shape::ByRef = returned { 1 } else { 0 },
         floats: 0,
     }
 }
 
-/// What all arguments take.
-fn taken_by_all(sig: &CheckedSig<'_>) -> TakenWords
+/// What all arguments take, if the result is passed as `returned`.
+fn taken_by_all(sig: &CheckedSig<'_>, returned: Shape) -> TakenWords
+    requires { returned ≡ result_shape sig.now.result_type }
     ensures value { result ≡ taken_by_all sig.now }
     ensures low { result.words ≤ 3 * MOST_ARGUMENTS + 1 }
 {
-    let mut end = taken_at_first(&sig.ret());
+    let mut end = taken_at_first(returned);
     for i in 0..sig.count() {
         let ty = sig.arg(i);
         let fixed = is_fixed(sig, i);
@@ -476,14 +473,20 @@ struct Placed {
     end: u64,
 }
 
-/// The places of all arguments, if the copies stand from `start` on.
-fn place_all(alloc: Global, sig: &CheckedSig<'_>, start: u64) -> Result<Placed, NoMemory>
-    requires { start ≤ 32 * MOST_ARGUMENTS }
+/// The places of all arguments, if the result is passed as `returned` and the copies stand from `start` on.
+fn place_all(
+    alloc: Global,
+    sig: &CheckedSig<'_>,
+    returned: Shape,
+    start: u64,
+) -> Result<Placed, NoMemory>
+    requires shape { returned ≡ result_shape sig.now.result_type }
+    requires near { start ≤ 32 * MOST_ARGUMENTS }
     ensures places { IfOk result (λ p. p.places ≡ places_from riscv.copy_start start sig.now.arguments (spots_after sig.now.fixed (taken_at_first sig.now.result_type) 0 sig.now.arguments)) }
     ensures end { IfOk result (λ p. p.end ≡ copies_end riscv.copy_start start sig.now.arguments (spots_after sig.now.fixed (taken_at_first sig.now.result_type) 0 sig.now.arguments)) }
     ensures near { IfOk result (λ p. p.end ≤ start + ARGUMENT_BYTES) }
 {
-    let mut end = taken_at_first(&sig.ret());
+    let mut end = taken_at_first(returned);
     let mut copy = start;
     let mut places = Places::with_capacity(alloc, sig.count() as usize)?;
     for i in 0..sig.count() {
@@ -501,14 +504,19 @@ fn place_all(alloc: Global, sig: &CheckedSig<'_>, start: u64) -> Result<Placed, 
 }
 
 /// A result's place is that of an argument, and its buffer takes the place of a copy.
-fn place_result(alloc: Global, ty: &CheckedType<'_>, buffer: u64) -> Result<Res, NoMemory>
-    requires { buffer ≤ 2 * ARGUMENT_BYTES }
+fn place_result(
+    alloc: Global,
+    ty: &CheckedType<'_>,
+    shape: Shape,
+    buffer: u64,
+) -> Result<Res, NoMemory>
+    requires shape { shape ≡ result_shape ty.now }
+    requires near { buffer ≤ 2 * ARGUMENT_BYTES }
     ensures { IfOk result (λ r. r ≡ result_at riscv.copy_start buffer ty.now (result_spot_of ty.now)) }
 {
     if let FfiType::Void = ty.as_type() {
         return Ok(Res::Nothing);
     }
-    let shape = result_shape(ty);
     match place_of(alloc, UNTOUCHED, ty, shape, buffer)? {
         Place::Direct(pieces) => Ok(Res::Direct(pieces)),
         Place::ByRef { at, copy } => Ok(Res::Hidden { at, buffer: copy }),
@@ -570,10 +578,11 @@ const PASSING_REGISTERS: [Loc; 16] = [
 fn plan_of(alloc: Global, sig: &CheckedSig<'_>) -> Result<Plan, NoMemory>
     ensures { IfOk result (λ p. p ≡ plan_of riscv sig.now) }
 {
-    let taken = taken_by_all(sig);
-    let all = place_all(alloc, sig, round_up(stack_of(taken), 16))?;
     let ret = sig.ret();
-    let res = place_result(alloc, &ret, all.end)?;
+    let shape = result_shape(&ret);
+    let taken = taken_by_all(sig, shape);
+    let all = place_all(alloc, sig, shape, round_up(stack_of(taken), 16))?;
+    let res = place_result(alloc, &ret, shape, all.end)?;
     let end = buffer_end(&res, &ret, all.end);
     Ok(planned(sig, all.places, res, end, Riscv::LINK + Riscv::SAVE, 0))
 }
