@@ -68,17 +68,17 @@ fn have_only(fields: &Fields, kind: Kind) -> bool
     true
 }
 
-/// The type and the number of the members of a homogeneous floating-point aggregate: a struct of one to four leaves, all floats or all doubles, with nested structs and arrays flattened. None where the type is no such. (AAPCS64, "Homogeneous Aggregates")
-pub fn homogeneous(ty: &FfiType) -> Option<(Kind, u8)>
-    requires { IsLaidOut (tree_of ty.now) }
-    ensures { result ≡ homogeneous (tree_of ty.now) }
+/// `homogeneous`, of a type that is known to have a layout.
+fn homogeneous_of(ty: &CheckedType<'_>) -> Option<(Kind, u8)>
+    ensures { result ≡ homogeneous ty.now }
 {
-    let FfiType::Struct(_) = ty else {
+    let plain = ty.as_type();
+    let FfiType::Struct(_) = plain else {
         return None;
     };
-    let kind = if has_only(ty, Kind::Float) {
+    let kind = if has_only(plain, Kind::Float) {
         Kind::Float
-    } else if has_only(ty, Kind::Double) {
+    } else if has_only(plain, Kind::Double) {
         Kind::Double
     } else {
         return None;
@@ -90,16 +90,23 @@ pub fn homogeneous(ty: &FfiType) -> Option<(Kind, u8)>
     Some((kind, count as u8))
 }
 
+/// The type and the number of the members of a homogeneous floating-point aggregate: a struct of one to four leaves, all floats or all doubles, with nested structs and arrays flattened. None where the type is no such. (AAPCS64, "Homogeneous Aggregates")
+pub fn homogeneous(ty: &FfiType) -> Option<(Kind, u8)>
+    requires { IsLaidOut (tree_of ty.now) }
+    ensures { result ≡ homogeneous (tree_of ty.now) }
+{
+    homogeneous_of(&CheckedType::of(ty))
+}
+
 // ---- what is passed, and what it needs
 
 /// Whether a value takes SIMD and floating-point registers.
 fn in_vectors(ty: &CheckedType<'_>) -> bool
     ensures { result ≡ in_vectors ty.now }
 {
-    let plain = ty.as_type();
-    match plain {
+    match ty.as_type() {
         FfiType::Float | FfiType::Double => true,
-        FfiType::Struct(_) => homogeneous(plain).is_some(),
+        FfiType::Struct(_) => homogeneous_of(ty).is_some(),
         FfiType::Void
         | FfiType::U8
         | FfiType::S8
@@ -332,7 +339,7 @@ fn register_end(before: Taken, classed: &Classed<'_>) -> u64
 }
 
 /// Whether the registers that are left suffice for the whole argument.
-fn fits_registers(before: Taken, classed: &Classed<'_>) -> bool
+fn in_registers(before: Taken, classed: &Classed<'_>) -> bool
     requires few_general { before.general ≤ 5 * MOST_ARGUMENTS }
     requires few_vector { before.vector ≤ 5 * MOST_ARGUMENTS }
     ensures value { result ≡ in_registers before classed.now }
@@ -376,7 +383,7 @@ fn stack_end(before: Taken, classed: &Classed<'_>) -> u64
     ensures value { result ≡ (taken_with before classed.now).stack }
     ensures low { result ≤ before.stack + ARGUMENT_SPAN }
 {
-    if fits_registers(before, classed) {
+    if in_registers(before, classed) {
         before.stack
     } else {
         stack_start(before.stack, classed) + stack_size(classed)
@@ -420,7 +427,7 @@ fn taken_by_all(sig: &CheckedSig<'_>) -> Taken
 // ---- pieces
 
 /// A value's doublewords in general registers, from number `general` on.
-fn pieces_in_general(alloc: Global, classed: &Classed<'_>, general: u64) -> Result<Pieces, NoMemory>
+fn general_pieces(alloc: Global, classed: &Classed<'_>, general: u64) -> Result<Pieces, NoMemory>
     requires { general + doublewords classed.now ≤ 8 }
     ensures { IfOk result (λ p. p ≡ general_pieces general classed.now) }
 {
@@ -434,7 +441,7 @@ fn pieces_in_general(alloc: Global, classed: &Classed<'_>, general: u64) -> Resu
 }
 
 /// A value's leaves in vector registers, from number `vector` on.
-fn pieces_in_vectors(alloc: Global, classed: &Classed<'_>, vector: u64) -> Result<Pieces, NoMemory>
+fn member_pieces(alloc: Global, classed: &Classed<'_>, vector: u64) -> Result<Pieces, NoMemory>
     requires { vector + length (leaves_of classed.now) ≤ 8 }
     ensures { IfOk result (λ p. p ≡ member_pieces vector (leaves_of classed.now)) }
 {
@@ -447,15 +454,15 @@ fn pieces_in_vectors(alloc: Global, classed: &Classed<'_>, vector: u64) -> Resul
 }
 
 /// A value in registers of its kind, from number `first` on.
-fn pieces_in_registers(alloc: Global, classed: &Classed<'_>, first: u64) -> Result<Pieces, NoMemory>
+fn register_pieces(alloc: Global, classed: &Classed<'_>, first: u64) -> Result<Pieces, NoMemory>
     requires enough_vector { in_vectors classed.now ≡ true → first + length (leaves_of classed.now) ≤ 8 }
     requires enough_general { in_vectors classed.now ≡ false → first + doublewords classed.now ≤ 8 }
     ensures { IfOk result (λ p. p ≡ register_pieces first classed.now) }
 {
     if classed.in_vectors() {
-        pieces_in_vectors(alloc, classed, first)
+        member_pieces(alloc, classed, first)
     } else {
-        pieces_in_general(alloc, classed, first)
+        general_pieces(alloc, classed, first)
     }
 }
 
@@ -469,8 +476,8 @@ fn direct_pieces(alloc: Global, before: Taken, classed: &Classed<'_>) -> Result<
     requires low { before.stack ≤ ARGUMENT_BYTES }
     ensures { IfOk result (λ p. p ≡ cond (in_registers before classed.now) (register_pieces (register_start before classed.now) classed.now) (stack_pieces (stack_start before.stack (passed classed.now)) classed.now)) }
 {
-    if fits_registers(before, classed) {
-        pieces_in_registers(alloc, classed, register_start(before, classed))
+    if in_registers(before, classed) {
+        register_pieces(alloc, classed, register_start(before, classed))
     } else {
         pieces_on_stack(alloc, classed.ty(), stack_start(before.stack, classed))
     }
@@ -484,7 +491,7 @@ fn pointer_place(before: Taken, classed: &Classed<'_>) -> Loc
     requires low { before.stack ≤ ARGUMENT_BYTES }
     ensures { result ≡ cond (in_registers before classed.now) (G (register_start before classed.now)) (S (stack_start before.stack (passed classed.now))) }
 {
-    if fits_registers(before, classed) {
+    if in_registers(before, classed) {
         Loc::G(register_start(before, classed) as u8)
     } else {
         Loc::S(stack_start(before.stack, classed) as u32)
@@ -559,7 +566,7 @@ fn place_result(alloc: Global, ty: CheckedType<'_>, end: u64) -> Result<Res, NoM
             buffer: start(classed.ty(), end) as u32,
         });
     }
-    Ok(Res::Direct(pieces_in_registers(alloc, &classed, 0)?))
+    Ok(Res::Direct(register_pieces(alloc, &classed, 0)?))
 }
 
 // ---- the standard

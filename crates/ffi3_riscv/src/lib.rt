@@ -10,7 +10,7 @@ ghost use Rattle.ffi3_type_rules.specs.Fault.{IsLaidOut};
 ghost use Rattle.ffi3_types.specs.TreeOf.{tree_of};
 ghost use Rattle.ffi3_place_rules.specs.Standard.{place_at, copy_end, places_from, copies_end, result_at, buffer_end, round8, plan_of};
 ghost use Rattle.ffi3_place_rules.specs.Doublewords.{doublewords};
-ghost use Rattle.ffi3_riscv_rules.specs.Riscv.{riscv, is_word_integer, shape_of_two, shape_of_leaves, shape_of, words_of, floats_of, registers_suffice, passed_as, word, extension, boxing, floating_piece, integer_piece, word_pieces, spot_of, is_fixed, is_at_even_word, first_word, taken_at_start, taken_with, taken_at_first, taken_by_all, spots_after, result_shape, result_spot_of, is_by_reference, stack_of, untouched};
+ghost use Rattle.ffi3_riscv_rules.specs.Riscv.{riscv, is_word_integer, shape_of_two, shape_of_leaves, shape_of, words_of, floats_of, registers_suffice, passed_as, word, extension, boxing, floating_register, floating_piece, integer_piece, word_pieces, spot_of, is_fixed, is_at_even_word, first_word, taken_at_start, taken_with, taken_at_first, taken_by_all, spots_after, result_shape, result_spot_of, is_by_reference, stack_of, untouched};
 ghost use Rattle.ffi3_riscv_rules.specs.declared.Shape.{Shape};
 ghost use Rattle.ffi3_riscv_rules.specs.declared.Shape.TheVariants.{OneF, Words, ByRef};
 ghost use Rattle.ffi3_riscv_rules.proofs.Shapes.{Suits, HasRoom};
@@ -29,7 +29,7 @@ pub use laws::placement_laws;
 use std::alloc::Global;
 
 /// Whether a scalar is an integer no more than 64 bits wide. A pointer is none.
-fn integer(kind: &FfiType) -> bool
+fn is_word_integer(kind: &FfiType) -> bool
     ensures { (s : Scalar) → tree_of kind.now ≡ scalar s → result ≡ is_word_integer s }
 {
     match kind {
@@ -44,7 +44,7 @@ fn integer(kind: &FfiType) -> bool
 }
 
 /// How a value of so many bytes is passed by the integer convention: in at most two words, or by reference.
-fn shape_of_size(size: u64) -> Shape
+fn integer_shape(size: u64) -> Shape
     ensures value { result ≡ cond {A = Shape} (nat_le size 16) (Words ((size + 7) / 8)) ByRef }
     ensures small { words_of result ≤ 2 }
     ensures no_float { floats_of result ≡ 0 }
@@ -79,9 +79,9 @@ fn shape_of_two(first: &FfiType, second: &FfiType, otherwise: Shape) -> Shape
     let second_floats = is_floating(second);
     if first_floats && second_floats {
         Shape::TwoF
-    } else if first_floats && integer(second) {
+    } else if first_floats && is_word_integer(second) {
         Shape::FI
-    } else if integer(first) && second_floats {
+    } else if is_word_integer(first) && second_floats {
         Shape::IF
     } else {
         otherwise
@@ -127,7 +127,7 @@ fn found_of(ty: &CheckedType<'_>) -> Found
 {
     let plain = ty.as_type();
     let size = ty.size();
-    let otherwise = shape_of_size(size);
+    let otherwise = integer_shape(size);
     let shape = match plain {
         FfiType::Float | FfiType::Double => Shape::OneF,
         FfiType::Struct(_) | FfiType::Array(_, _) => shape_of_leaves(ty, otherwise),
@@ -236,7 +236,7 @@ fn first_word(fixed: bool, found: Found, end: u64) -> u64
 }
 
 /// What is taken where an argument begins, behind others.
-fn at_start(end: TakenWords, fixed: bool, found: Found) -> TakenWords
+fn taken_at_start(end: TakenWords, fixed: bool, found: Found) -> TakenWords
     requires { end.words ≤ 16 * MOST_ARGUMENTS }
     ensures value { (t : Tree) → IsFound t found → result ≡ taken_at_start end fixed t }
     ensures near { result.words ≤ end.words + 1 }
@@ -273,14 +273,14 @@ fn word(k: u64) -> Loc
 }
 
 /// What fills the rest of a value's words.
-fn extended(ty: &FfiType) -> Ext
+fn extension(ty: &FfiType) -> Ext
     ensures { result ≡ extension (tree_of ty.now) }
 {
     filling(ty, Ext::Riscv)
 }
 
 /// A float in a floating-point register is NaN-boxed.
-fn boxed(kind: &FfiType) -> Ext
+fn boxing(kind: &FfiType) -> Ext
     ensures { (s : Scalar) → tree_of kind.now ≡ scalar s → result ≡ boxing s }
 {
     match kind {
@@ -306,13 +306,21 @@ fn word_pieces(
     requires few { count ≤ 2 }
     ensures { IfOk result (λ p. p ≡ word_pieces first ty.now count) }
 {
-    let ext = extended(ty.as_type());
+    let ext = extension(ty.as_type());
     let size = ty.size();
     let mut pieces = Pieces::new(alloc);
     for j in 0..count {
         pieces.push(doubleword(size, j, word(first + j), ext))?;
     }
     Ok(pieces)
+}
+
+/// The number of floating register fa`k`: fa0 to fa7 are 10 to 17.
+fn floating_register(k: u64) -> u8
+    requires { k ≤ 7 }
+    ensures { result ≡ floating_register k }
+{
+    10 + k as u8
 }
 
 /// Leaf `i` in floating register fa`number`.
@@ -322,7 +330,7 @@ fn floating_piece(ty: &CheckedType<'_>, i: u32, number: u64) -> Piece
     ensures { result ≡ floating_piece number (leaf_at ty.now i) }
 {
     let leaf = ty.leaf(i);
-    leaf_piece(ty, i, Loc::F(10 + number as u8), boxed(&leaf.kind))
+    leaf_piece(ty, i, Loc::F(floating_register(number)), boxing(&leaf.kind))
 }
 
 /// Leaf `i` in integer register a`number`.
@@ -416,32 +424,29 @@ fn result_shape(ty: &CheckedType<'_>) -> Shape
 }
 
 /// The hidden pointer to a result's buffer takes the first word.
-fn at_first(ty: &CheckedType<'_>) -> TakenWords
-    ensures value { result ≡ taken_at_first ty.now }
+fn taken_at_first(returned: Shape) -> TakenWords
+    ensures value { (t : Tree) → returned ≡ result_shape t → result ≡ taken_at_first t }
     ensures one { result.words ≤ 1 }
     ensures none { result.floats ≡ 0 }
 {
     TakenWords {
-        words: if let Shape::ByRef = result_shape(ty) {
-            1
-        } else {
-            0
-        },
+        words: if let Shape::ByRef = returned { 1 } else { 0 },
         floats: 0,
     }
 }
 
-/// What all arguments take.
-fn taken_by_all(sig: &CheckedSig<'_>) -> TakenWords
+/// What all arguments take, if the result is passed as `returned`.
+fn taken_by_all(sig: &CheckedSig<'_>, returned: Shape) -> TakenWords
+    requires { returned ≡ result_shape sig.now.result_type }
     ensures value { result ≡ taken_by_all sig.now }
     ensures low { result.words ≤ 3 * MOST_ARGUMENTS + 1 }
 {
-    let mut end = at_first(&sig.ret());
+    let mut end = taken_at_first(returned);
     for i in 0..sig.count() {
         let ty = sig.arg(i);
         let fixed = is_fixed(sig, i);
         let found = found_of(&ty);
-        let before = at_start(end, fixed, found);
+        let before = taken_at_start(end, fixed, found);
         let shape = passed_as(before, fixed, found);
         end = taken_with(before, shape);
     }
@@ -449,15 +454,15 @@ fn taken_by_all(sig: &CheckedSig<'_>) -> TakenWords
 }
 
 /// The bytes of the words that stand on the stack.
-fn stack_of(used: TakenWords) -> u64
-    requires { used.words ≤ 16 * MOST_ARGUMENTS }
-    ensures value { result ≡ stack_of used }
-    ensures small { result ≤ 8 * used.words }
+fn stack_of(taken: TakenWords) -> u64
+    requires { taken.words ≤ 16 * MOST_ARGUMENTS }
+    ensures value { result ≡ stack_of taken }
+    ensures small { result ≤ 8 * taken.words }
 {
-    if used.words < 8 {
+    if taken.words < 8 {
         0
     } else {
-        8 * (used.words - 8)
+        8 * (taken.words - 8)
     }
 }
 
@@ -468,21 +473,27 @@ struct Placed {
     end: u64,
 }
 
-/// The places of all arguments, if the copies stand from `start` on.
-fn place_all(alloc: Global, sig: &CheckedSig<'_>, start: u64) -> Result<Placed, NoMemory>
-    requires { start ≤ 32 * MOST_ARGUMENTS }
+/// The places of all arguments, if the result is passed as `returned` and the copies stand from `start` on.
+fn place_all(
+    alloc: Global,
+    sig: &CheckedSig<'_>,
+    returned: Shape,
+    start: u64,
+) -> Result<Placed, NoMemory>
+    requires shape { returned ≡ result_shape sig.now.result_type }
+    requires near { start ≤ 32 * MOST_ARGUMENTS }
     ensures places { IfOk result (λ p. p.places ≡ places_from riscv.copy_start start sig.now.arguments (spots_after sig.now.fixed (taken_at_first sig.now.result_type) 0 sig.now.arguments)) }
     ensures end { IfOk result (λ p. p.end ≡ copies_end riscv.copy_start start sig.now.arguments (spots_after sig.now.fixed (taken_at_first sig.now.result_type) 0 sig.now.arguments)) }
     ensures near { IfOk result (λ p. p.end ≤ start + ARGUMENT_BYTES) }
 {
-    let mut end = at_first(&sig.ret());
+    let mut end = taken_at_first(returned);
     let mut copy = start;
     let mut places = Places::with_capacity(alloc, sig.count() as usize)?;
     for i in 0..sig.count() {
         let ty = sig.arg(i);
         let fixed = is_fixed(sig, i);
         let found = found_of(&ty);
-        let before = at_start(end, fixed, found);
+        let before = taken_at_start(end, fixed, found);
         let shape = passed_as(before, fixed, found);
         let place = place_of(alloc, before, &ty, shape, copy)?;
         copy = copy_end(&place, &ty, copy);
@@ -493,14 +504,19 @@ fn place_all(alloc: Global, sig: &CheckedSig<'_>, start: u64) -> Result<Placed, 
 }
 
 /// A result's place is that of an argument, and its buffer takes the place of a copy.
-fn place_result(alloc: Global, ty: &CheckedType<'_>, buffer: u64) -> Result<Res, NoMemory>
-    requires { buffer ≤ 2 * ARGUMENT_BYTES }
+fn place_result(
+    alloc: Global,
+    ty: &CheckedType<'_>,
+    shape: Shape,
+    buffer: u64,
+) -> Result<Res, NoMemory>
+    requires shape { shape ≡ result_shape ty.now }
+    requires near { buffer ≤ 2 * ARGUMENT_BYTES }
     ensures { IfOk result (λ r. r ≡ result_at riscv.copy_start buffer ty.now (result_spot_of ty.now)) }
 {
     if let FfiType::Void = ty.as_type() {
         return Ok(Res::Nothing);
     }
-    let shape = result_shape(ty);
     match place_of(alloc, UNTOUCHED, ty, shape, buffer)? {
         Place::Direct(pieces) => Ok(Res::Direct(pieces)),
         Place::ByRef { at, copy } => Ok(Res::Hidden { at, buffer: copy }),
@@ -562,10 +578,11 @@ const PASSING_REGISTERS: [Loc; 16] = [
 fn plan_of(alloc: Global, sig: &CheckedSig<'_>) -> Result<Plan, NoMemory>
     ensures { IfOk result (λ p. p ≡ plan_of riscv sig.now) }
 {
-    let used = taken_by_all(sig);
-    let all = place_all(alloc, sig, round_up(stack_of(used), 16))?;
     let ret = sig.ret();
-    let res = place_result(alloc, &ret, all.end)?;
+    let shape = result_shape(&ret);
+    let taken = taken_by_all(sig, shape);
+    let all = place_all(alloc, sig, shape, round_up(stack_of(taken), 16))?;
+    let res = place_result(alloc, &ret, shape, all.end)?;
     let end = buffer_end(&res, &ret, all.end);
     Ok(planned(sig, all.places, res, end, Riscv::LINK + Riscv::SAVE, 0))
 }

@@ -24,4 +24,4 @@ pub returns : goal.returns
 returns c =
     let t = c.args.ty in
     let some : ¬ (t ≡ void) = λ e. not_void c.as_type.result.now c.in_default.not-Void (c.as_type.ensures.value ∙ e) in
-    ap Direct (c.in_ok-pieces_in_registers.ensures ∙ ap (register_pieces 0) c.of-classed.ensures) ∙ ap (λ spot. result_at aapcs64.copy_start c.args.end t spot) (sym (spot_of_registers t some (ap is_copied (sym c.of-classed.ensures) ∙ sym c.is_copied.ensures ∙ c.if-is_copied.false)))
+    ap Direct (c.in_ok-register_pieces.ensures ∙ ap (register_pieces 0) c.of-classed.ensures) ∙ ap (λ spot. result_at aapcs64.copy_start c.args.end t spot) (sym (spot_of_registers t some (ap is_copied (sym c.of-classed.ensures) ∙ sym c.is_copied.ensures ∙ c.if-is_copied.false)))

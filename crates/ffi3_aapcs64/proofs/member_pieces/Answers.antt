@@ -1,5 +1,5 @@
 use Rattle.ffi3_aapcs64_rules.proofs.Steps.{member_turn}
-use Rattle.ffi3_aapcs64.proofs.pieces_in_vectors.Goals as goal
+use Rattle.ffi3_aapcs64.proofs.member_pieces.Goals as goal
 
 pub loop-i-preserved : goal.loop-i-preserved
 loop-i-preserved c =
