@@ -1,7 +1,7 @@
 //! The System V AMD64 calling standard.
 #![tactic(auto)]
 
-ghost use Rattle.std.specs.Prelude.{◌*◌, ◌≡◌, ◌<◌, ◌≤◌, ◌+◌, ◌||◌, cond, length, slice_index, IfOk, [], ◌∷◌, true, false};
+ghost use Rattle.std.specs.Prelude.{◌*◌, ◌≡◌, ◌<◌, ◌≤◌, ◌+◌, ◌||◌, cond, length, slice_index, IfOk, [], true, false};
 ghost use Rattle.std.specs.List.{list_any, count_by};
 ghost use Rattle.ffi3_type_rules.specs.declared.limits.TheConstants.{ARGUMENT_BYTES, ARGUMENT_SPAN, LARGEST_TYPE};
 ghost use Rattle.ffi3_type_rules.specs.Layout.{leaves_of, leaf_at};
@@ -17,8 +17,10 @@ ghost use Rattle.ffi3_place_rules.specs.Alike.{GoesByLayout};
 
 pub use ffi3_amd64_rules::Class;
 use ffi3_place::ends::{buffer_end, planned, start};
-use ffi3_place::parts::{doubleword, is_floating, pieces_on_stack, widening};
-use ffi3_place::{Abi, Loc, Piece, Pieces, Place, Places, Plan, Res, SaveWord};
+use ffi3_place::parts::{
+    doubleword, is_floating, one_piece, pieces_on_stack, two_pieces, widening,
+};
+use ffi3_place::{Abi, Loc, Pieces, Place, Places, Plan, Res, SaveWord};
 use ffi3_place_rules::Taken;
 use ffi3_type_rules::round_up;
 use ffi3_types::{CheckedSig, CheckedType, FfiType, NoMemory, Sig, Target};
@@ -216,23 +218,6 @@ fn register(class: Class, general: u64, vector: u64, registers: &[u8]) -> Loc
         Class::Integer => Loc::G(registers[general as usize]),
         Class::Sse => Loc::F(vector as u8),
     }
-}
-
-fn one_piece(alloc: Global, piece: Piece) -> Result<Pieces, NoMemory>
-    ensures { IfOk result (λ p. p ≡ piece ∷ []) }
-{
-    let mut pieces = Pieces::new(alloc);
-    pieces.push(piece)?;
-    Ok(pieces)
-}
-
-fn two_pieces(alloc: Global, first: Piece, second: Piece) -> Result<Pieces, NoMemory>
-    ensures { IfOk result (λ p. p ≡ first ∷ second ∷ []) }
-{
-    let mut pieces = Pieces::new(alloc);
-    pieces.push(first)?;
-    pieces.push(second)?;
-    Ok(pieces)
 }
 
 /// A value's eightbytes in registers, from numbers `general` and `vector` on.

@@ -1,7 +1,7 @@
 //! The Microsoft x64 calling standard.
 #![tactic(auto)]
 
-ghost use Rattle.std.specs.Prelude.{◌≡◌, ◌<◌, ◌≤◌, ◌+◌, ◌*◌, [], ◌∷◌, length, IfOk, is_some, false};
+ghost use Rattle.std.specs.Prelude.{◌≡◌, ◌<◌, ◌≤◌, ◌+◌, ◌*◌, length, IfOk, is_some, false};
 ghost use Rattle.ffi3_type_rules.specs.declared.limits.TheConstants.{ARGUMENT_BYTES, MOST_ARGUMENTS};
 ghost use Rattle.ffi3_type_rules.specs.Fault.{IsLaidOut};
 ghost use Rattle.ffi3_types.specs.TreeOf.{tree_of};
@@ -11,7 +11,7 @@ ghost use Rattle.ffi3_win64_rules.specs.Win64.{win64, is_whole_size, is_copied, 
 pub mod laws;
 
 use ffi3_place::ends::{buffer_end, copy_end, planned};
-use ffi3_place::parts::widening;
+use ffi3_place::parts::{one_piece, two_pieces, widening};
 use ffi3_place::{Abi, Loc, Piece, Pieces, Place, Places, Plan, Res, SaveWord};
 use ffi3_type_rules::round_up;
 use ffi3_types::{CheckedSig, CheckedType, FfiType, NoMemory, Sig, Target};
@@ -70,23 +70,6 @@ fn whole(ty: &CheckedType<'_>, loc: Loc) -> Piece
         len: ty.size() as u8,
         ext: widening(ty.as_type()),
     }
-}
-
-fn one_piece(alloc: Global, piece: Piece) -> Result<Pieces, NoMemory>
-    ensures { IfOk result (λ ps. ps ≡ piece ∷ []) }
-{
-    let mut pieces = Pieces::new(alloc);
-    pieces.push(piece)?;
-    Ok(pieces)
-}
-
-fn two_pieces(alloc: Global, first: Piece, second: Piece) -> Result<Pieces, NoMemory>
-    ensures { IfOk result (λ ps. ps ≡ first ∷ second ∷ []) }
-{
-    let mut pieces = Pieces::new(alloc);
-    pieces.push(first)?;
-    pieces.push(second)?;
-    Ok(pieces)
 }
 
 /// A floating-point value in registers: the vector register of its position, and before it the general one where arguments are variable. ("Varargs")
