@@ -17,9 +17,7 @@ ghost use Rattle.ffi3_place_rules.specs.Alike.{GoesByLayout};
 
 pub use ffi3_amd64_rules::Class;
 use ffi3_place::ends::{buffer_end, planned, start};
-use ffi3_place::parts::{
-    doubleword, is_floating, one_piece, pieces_on_stack, two_pieces, widening,
-};
+use ffi3_place::parts::{doubleword, is_floating, one_piece, stack_pieces, two_pieces, widening};
 use ffi3_place::{Abi, Loc, Pieces, Place, Places, Plan, Res, SaveWord};
 use ffi3_place_rules::Taken;
 use ffi3_type_rules::round_up;
@@ -341,7 +339,7 @@ fn argument_on_stack(
         vector: before.vector,
         stack: begin + round_up(ty.size(), 8),
     };
-    let pieces = pieces_on_stack(alloc, ty, begin)?;
+    let pieces = stack_pieces(alloc, ty, begin)?;
     Ok(Argument { pieces, taken })
 }
 

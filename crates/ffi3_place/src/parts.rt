@@ -117,7 +117,7 @@ pub fn two_pieces(alloc: Global, first: Piece, second: Piece) -> Result<Pieces, 
 }
 
 /// A value's doublewords on the stack, from byte `start` of the stack arguments on. A narrow integer is extended by its sign.
-pub fn pieces_on_stack(alloc: Global, ty: &CheckedType<'_>, start: u64) -> Result<Pieces, NoMemory>
+pub fn stack_pieces(alloc: Global, ty: &CheckedType<'_>, start: u64) -> Result<Pieces, NoMemory>
     requires { start ≤ 2 * ARGUMENT_BYTES }
     ensures { IfOk result (λ p. p ≡ stack_pieces start ty.now) }
 {
