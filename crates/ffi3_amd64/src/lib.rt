@@ -54,7 +54,14 @@ pub fn in_memory(ty: &FfiType) -> bool
     requires { IsLaidOut (tree_of ty.now) }
     ensures { result ≡ in_memory (tree_of ty.now) }
 {
-    matches!(ty, FfiType::Struct(_) | FfiType::Array(_, _)) && ty.size() > 16
+    in_memory_of(&CheckedType::of(ty))
+}
+
+/// `in_memory`, of a type that is known to have a layout.
+fn in_memory_of(ty: &CheckedType<'_>) -> bool
+    ensures { result ≡ in_memory ty.now }
+{
+    matches!(ty.as_type(), FfiType::Struct(_) | FfiType::Array(_, _)) && ty.size() > 16
 }
 
 /// Which of a value's first two eightbytes have a byte of an integer or a pointer.
@@ -356,11 +363,7 @@ fn taken_at_first(result_type: &CheckedType<'_>) -> Taken
     ensures few { result.general ≤ 1 }
 {
     Taken {
-        general: if in_memory(result_type.as_type()) {
-            1
-        } else {
-            0
-        },
+        general: if in_memory_of(result_type) { 1 } else { 0 },
         vector: 0,
         stack: 0,
     }

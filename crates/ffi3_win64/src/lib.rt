@@ -32,7 +32,14 @@ pub fn is_copied(ty: &FfiType) -> bool
     requires { IsLaidOut (tree_of ty.now) }
     ensures { result ≡ is_copied (tree_of ty.now) }
 {
-    !is_whole_size(CheckedType::of(ty).size())
+    is_copied_of(&CheckedType::of(ty))
+}
+
+/// `is_copied`, of a type that is known to have a layout.
+fn is_copied_of(ty: &CheckedType<'_>) -> bool
+    ensures { result ≡ is_copied ty.now }
+{
+    !is_whole_size(ty.size())
 }
 
 /// Whether a type is a float or a double.
@@ -133,7 +140,7 @@ fn place_of(
     requires low { end ≤ 2 * ARGUMENT_BYTES }
     ensures { IfOk result (λ r. r ≡ place_at win64.copy_start end ty.now (spot_at variadic p ty.now)) }
 {
-    if is_copied(ty.as_type()) {
+    if is_copied_of(ty) {
         return Ok(Place::ByRef {
             at: position_place(p),
             copy: copy_start(end) as u32,
@@ -187,11 +194,7 @@ fn first_position(result_type: &CheckedType<'_>) -> u64
     ensures value { result ≡ first_position result_type.now }
     ensures few { result ≤ 1 }
 {
-    if is_copied(result_type.as_type()) {
-        1
-    } else {
-        0
-    }
+    if is_copied_of(result_type) { 1 } else { 0 }
 }
 
 /// The stack of so many positions, of which the callee has that of four at least.
@@ -225,7 +228,7 @@ fn place_result(alloc: Global, ty: &CheckedType<'_>, end: u64) -> Result<Res, No
     if let FfiType::Void = plain {
         return Ok(Res::Nothing);
     }
-    if is_copied(plain) {
+    if is_copied_of(ty) {
         return Ok(Res::Hidden {
             at: position_place(0),
             buffer: copy_start(end) as u32,
