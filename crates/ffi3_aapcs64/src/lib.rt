@@ -18,7 +18,7 @@ ghost use Rattle.ffi3_place_rules.specs.Alike.{GoesByLayout};
 
 pub use ffi3_aapcs64_rules::Kind;
 use ffi3_place::ends::{buffer_end, copy_end, planned, start};
-use ffi3_place::parts::{doubleword, leaf_piece, pieces_on_stack, widening};
+use ffi3_place::parts::{doubleword, leaf_piece, stack_pieces, widening};
 use ffi3_place::{Abi, Ext, Loc, Pieces, Place, Places, Plan, Res, SaveWord};
 use ffi3_place_rules::Taken;
 use ffi3_type_rules::round_up;
@@ -479,7 +479,7 @@ fn direct_pieces(alloc: Global, before: Taken, classed: &Classed<'_>) -> Result<
     if in_registers(before, classed) {
         register_pieces(alloc, classed, register_start(before, classed))
     } else {
-        pieces_on_stack(alloc, classed.ty(), stack_start(before.stack, classed))
+        stack_pieces(alloc, classed.ty(), stack_start(before.stack, classed))
     }
 }
 

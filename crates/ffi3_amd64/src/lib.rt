@@ -1,31 +1,31 @@
 //! The System V AMD64 calling standard.
 #![tactic(auto)]
 
-ghost use Rattle.std.specs.Prelude.{◌*◌, ◌≡◌, ◌<◌, ◌≤◌, ◌+◌, ◌||◌, cond, length, slice_index, IfOk, [], ◌∷◌, true, false};
+ghost use Rattle.std.specs.Prelude.{◌*◌, ◌≡◌, ◌<◌, ◌≤◌, ◌+◌, ◌||◌, cond, length, slice_index, IfOk, [], true, false};
 ghost use Rattle.std.specs.List.{list_any, count_by};
-ghost use Rattle.ffi3_type_rules.specs.declared.limits.TheConstants.{ARGUMENT_BYTES, ARGUMENT_SPAN, LARGEST_TYPE};
+ghost use Rattle.ffi3_type_rules.specs.declared.limits.TheConstants.{ARGUMENT_BYTES, ARGUMENT_SPAN, LARGEST_GAP, LARGEST_TYPE};
 ghost use Rattle.ffi3_type_rules.specs.Layout.{leaves_of, leaf_at};
 ghost use Rattle.ffi3_type_rules.specs.Fault.{IsLaidOut};
 ghost use Rattle.ffi3_types.specs.TreeOf.{tree_of};
 ghost use Rattle.ffi3_place_rules.specs.Standard.{places_from, plan_of, result_at};
 ghost use Rattle.ffi3_amd64_rules.specs.declared.Class.{Class};
 ghost use Rattle.ffi3_amd64_rules.specs.declared.Class.TheVariants.{Integer, Sse};
-ghost use Rattle.ffi3_amd64_rules.specs.Amd64.{amd64, is_integer_leaf_in, is_integer_class, is_sse_class, is_struct, class_of, in_memory, integers, sses, register_pieces, classes, in_registers, pieces_after, taken_with, taken_after, taken_at_first, spots_after, result_spot_of};
+ghost use Rattle.ffi3_amd64_rules.specs.Amd64.{amd64, is_integer_leaf_in, is_integer_class, is_sse_class, is_struct, class_of, in_memory, integers, sses, register_pieces, classes, in_registers, stack_start, pieces_after, taken_with, taken_after, taken_at_first, spots_after, result_spot_of};
 ghost use Rattle.ffi3_amd64.specs.Listed.{listed, is_memory, one_if, register_at};
 ghost use Rattle.ffi3_amd64_rules.specs.Ends.{IsPlacedByEnds};
 ghost use Rattle.ffi3_place_rules.specs.Alike.{GoesByLayout};
 
 pub use ffi3_amd64_rules::Class;
 use ffi3_place::ends::{buffer_end, planned, start};
-use ffi3_place::parts::{doubleword, is_floating, pieces_on_stack, widening};
-use ffi3_place::{Abi, Loc, Piece, Pieces, Place, Places, Plan, Res, SaveWord};
+use ffi3_place::parts::{doubleword, is_floating, one_piece, stack_pieces, two_pieces, widening};
+use ffi3_place::{Abi, Loc, Pieces, Place, Places, Plan, Res, SaveWord};
 use ffi3_place_rules::Taken;
 use ffi3_type_rules::round_up;
 use ffi3_types::{CheckedSig, CheckedType, FfiType, NoMemory, Sig, Target};
 use std::alloc::Global;
 
 /// Whether leaf `i` is an integer or a pointer with a byte in the eightbyte.
-fn is_integer_in(ty: &CheckedType<'_>, i: u32, eightbyte: u32) -> bool
+fn is_integer_leaf_in(ty: &CheckedType<'_>, i: u32, eightbyte: u32) -> bool
     requires { i < length (leaves_of ty.now) }
     ensures { result ≡ is_integer_leaf_in eightbyte (leaf_at ty.now i) }
 {
@@ -42,7 +42,7 @@ pub fn class_of(ty: &FfiType, eightbyte: u32) -> Class
 {
     let ty = CheckedType::of(ty);
     for i in 0..ty.leaf_count() {
-        if is_integer_in(&ty, i, eightbyte) {
+        if is_integer_leaf_in(&ty, i, eightbyte) {
             return Class::Integer;
         }
     }
@@ -54,7 +54,14 @@ pub fn in_memory(ty: &FfiType) -> bool
     requires { IsLaidOut (tree_of ty.now) }
     ensures { result ≡ in_memory (tree_of ty.now) }
 {
-    matches!(ty, FfiType::Struct(_) | FfiType::Array(_, _)) && ty.size() > 16
+    in_memory_of(&CheckedType::of(ty))
+}
+
+/// `in_memory`, of a type that is known to have a layout.
+fn in_memory_of(ty: &CheckedType<'_>) -> bool
+    ensures { result ≡ in_memory ty.now }
+{
+    matches!(ty.as_type(), FfiType::Struct(_) | FfiType::Array(_, _)) && ty.size() > 16
 }
 
 /// Which of a value's first two eightbytes have a byte of an integer or a pointer.
@@ -218,25 +225,8 @@ fn register(class: Class, general: u64, vector: u64, registers: &[u8]) -> Loc
     }
 }
 
-fn one_piece(alloc: Global, piece: Piece) -> Result<Pieces, NoMemory>
-    ensures { IfOk result (λ p. p ≡ piece ∷ []) }
-{
-    let mut pieces = Pieces::new(alloc);
-    pieces.push(piece)?;
-    Ok(pieces)
-}
-
-fn two_pieces(alloc: Global, first: Piece, second: Piece) -> Result<Pieces, NoMemory>
-    ensures { IfOk result (λ p. p ≡ first ∷ second ∷ []) }
-{
-    let mut pieces = Pieces::new(alloc);
-    pieces.push(first)?;
-    pieces.push(second)?;
-    Ok(pieces)
-}
-
 /// A value's eightbytes in registers, from numbers `general` and `vector` on.
-fn pieces_in_registers(
+fn register_pieces(
     alloc: Global,
     ty: &CheckedType<'_>,
     found: Classes,
@@ -314,7 +304,7 @@ fn argument_in_registers(
     ensures few_vector { IfOk result (λ a. a.taken.vector ≤ 8) }
     ensures low { IfOk result (λ a. a.taken.stack ≡ before.stack) }
 {
-    let pieces = pieces_in_registers(
+    let pieces = register_pieces(
         alloc,
         ty,
         found,
@@ -330,6 +320,15 @@ fn argument_in_registers(
     Ok(Argument { pieces, taken })
 }
 
+/// Where an argument on the stack begins, after the end of the one before it.
+fn stack_start(end: u64, ty: &CheckedType<'_>) -> u64
+    requires { end ≤ ARGUMENT_BYTES }
+    ensures value { result ≡ stack_start end ty.now }
+    ensures near { result ≤ end + LARGEST_GAP }
+{
+    start(ty, end)
+}
+
 fn argument_on_stack(
     alloc: Global,
     before: Taken,
@@ -341,13 +340,13 @@ fn argument_on_stack(
     ensures taken { IfOk result (λ a. a.taken ≡ taken_with before ty.now) }
     ensures low { IfOk result (λ a. a.taken.stack ≤ before.stack + ARGUMENT_SPAN) }
 {
-    let begin = start(ty, before.stack);
+    let begin = stack_start(before.stack, ty);
     let taken = Taken {
         general: before.general,
         vector: before.vector,
         stack: begin + round_up(ty.size(), 8),
     };
-    let pieces = pieces_on_stack(alloc, ty, begin)?;
+    let pieces = stack_pieces(alloc, ty, begin)?;
     Ok(Argument { pieces, taken })
 }
 
@@ -359,16 +358,12 @@ struct Placed {
 }
 
 /// The address of a result in memory takes the first general register.
-fn at_first(result_type: &CheckedType<'_>) -> Taken
+fn taken_at_first(result_type: &CheckedType<'_>) -> Taken
     ensures value { result ≡ taken_at_first result_type.now }
     ensures few { result.general ≤ 1 }
 {
     Taken {
-        general: if in_memory(result_type.as_type()) {
-            1
-        } else {
-            0
-        },
+        general: if in_memory_of(result_type) { 1 } else { 0 },
         vector: 0,
         stack: 0,
     }
@@ -380,7 +375,7 @@ fn place_all(alloc: Global, sig: &CheckedSig<'_>) -> Result<Placed, NoMemory>
     ensures low { IfOk result (λ p. p.taken.stack ≤ ARGUMENT_BYTES) }
     ensures few_vector { IfOk result (λ p. p.taken.vector ≤ 8) }
 {
-    let mut before = at_first(&sig.ret());
+    let mut before = taken_at_first(&sig.ret());
     let mut places = Places::with_capacity(alloc, sig.count() as usize)?;
     for i in 0..sig.count() {
         let next = place_argument(alloc, before, &sig.arg(i))?;
@@ -408,7 +403,7 @@ fn place_result(alloc: Global, ty: &CheckedType<'_>, end: u64) -> Result<Res, No
             buffer: start(ty, end) as u32,
         });
     }
-    let pieces = pieces_in_registers(alloc, ty, found, 0, 0, &RESULT_REGISTERS)?;
+    let pieces = register_pieces(alloc, ty, found, 0, 0, &RESULT_REGISTERS)?;
     Ok(Res::Direct(pieces))
 }
 

@@ -1,5 +1,5 @@
 // The sizes of arguments, and the pieces of values, as every standard needs them.
-ghost use Rattle.std.specs.Prelude.{◌≡◌, ◌<◌, ◌≤◌, ◌*◌, length, IfOk};
+ghost use Rattle.std.specs.Prelude.{◌≡◌, ◌<◌, ◌≤◌, ◌*◌, [], ◌∷◌, length, IfOk};
 ghost use Rattle.std.specs.List.{sum_by};
 ghost use Rattle.ffi3_type_rules.specs.declared.limits.TheConstants.{ARGUMENT_BYTES, LARGEST_TYPE};
 ghost use Rattle.ffi3_type_rules.specs.Tree.{Scalar, scalar};
@@ -97,8 +97,27 @@ pub fn leaf_piece(ty: &CheckedType<'_>, i: u32, loc: Loc, ext: Ext) -> Piece
     }
 }
 
+/// A list of one piece.
+pub fn one_piece(alloc: Global, piece: Piece) -> Result<Pieces, NoMemory>
+    ensures { IfOk result (λ p. p ≡ piece ∷ []) }
+{
+    let mut pieces = Pieces::new(alloc);
+    pieces.push(piece)?;
+    Ok(pieces)
+}
+
+/// A list of two pieces, in this order.
+pub fn two_pieces(alloc: Global, first: Piece, second: Piece) -> Result<Pieces, NoMemory>
+    ensures { IfOk result (λ p. p ≡ first ∷ second ∷ []) }
+{
+    let mut pieces = Pieces::new(alloc);
+    pieces.push(first)?;
+    pieces.push(second)?;
+    Ok(pieces)
+}
+
 /// A value's doublewords on the stack, from byte `start` of the stack arguments on. A narrow integer is extended by its sign.
-pub fn pieces_on_stack(alloc: Global, ty: &CheckedType<'_>, start: u64) -> Result<Pieces, NoMemory>
+pub fn stack_pieces(alloc: Global, ty: &CheckedType<'_>, start: u64) -> Result<Pieces, NoMemory>
     requires { start ≤ 2 * ARGUMENT_BYTES }
     ensures { IfOk result (λ p. p ≡ stack_pieces start ty.now) }
 {

@@ -1,7 +1,7 @@
 //! The RISC-V calling standard with LP64D.
 #![tactic(auto)]
 
-ghost use Rattle.std.specs.Prelude.{◌≡◌, ◌<◌, ◌≤◌, ◌+◌, ◌*◌, ◌/◌, ◌^◌, length, IfOk, [], ◌∷◌, true, false, cond, nat_le};
+ghost use Rattle.std.specs.Prelude.{◌≡◌, ◌<◌, ◌≤◌, ◌+◌, ◌*◌, ◌/◌, ◌^◌, length, IfOk, true, false, cond, nat_le};
 ghost use Rattle.ffi3_type_rules.specs.declared.limits.TheConstants.{ARGUMENT_BYTES, MOST_ARGUMENTS};
 ghost use Rattle.ffi3_type_rules.specs.Tree.{Scalar, scalar, Tree};
 ghost use Rattle.ffi3_type_rules.specs.Layout.{size_of, leaves_of, leaf_at};
@@ -19,7 +19,7 @@ ghost use Rattle.ffi3_riscv.specs.Found.{IsFound};
 pub mod laws;
 
 use ffi3_place::ends::{buffer_end, copy_end, planned, start};
-use ffi3_place::parts::{doubleword, filling, is_floating, leaf_piece};
+use ffi3_place::parts::{doubleword, filling, is_floating, leaf_piece, one_piece, two_pieces};
 use ffi3_place::{Abi, Ext, Loc, Piece, Pieces, Place, Places, Plan, Res, SaveWord};
 pub use ffi3_riscv_rules::Shape;
 use ffi3_riscv_rules::TakenWords;
@@ -340,23 +340,6 @@ fn integer_piece(ty: &CheckedType<'_>, i: u32, number: u64) -> Piece
     ensures { result ≡ integer_piece number (leaf_at ty.now i) }
 {
     leaf_piece(ty, i, Loc::G(10 + number as u8), Ext::Free)
-}
-
-fn one_piece(alloc: Global, piece: Piece) -> Result<Pieces, NoMemory>
-    ensures { IfOk result (λ p. p ≡ piece ∷ []) }
-{
-    let mut pieces = Pieces::new(alloc);
-    pieces.push(piece)?;
-    Ok(pieces)
-}
-
-fn two_pieces(alloc: Global, first: Piece, second: Piece) -> Result<Pieces, NoMemory>
-    ensures { IfOk result (λ p. p ≡ first ∷ second ∷ []) }
-{
-    let mut pieces = Pieces::new(alloc);
-    pieces.push(first)?;
-    pieces.push(second)?;
-    Ok(pieces)
 }
 
 /// Where a value of a shape stands, behind others. What stands before its copy ends `end` bytes from the frame's start.

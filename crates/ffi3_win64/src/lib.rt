@@ -1,7 +1,7 @@
 //! The Microsoft x64 calling standard.
 #![tactic(auto)]
 
-ghost use Rattle.std.specs.Prelude.{◌≡◌, ◌<◌, ◌≤◌, ◌+◌, ◌*◌, [], ◌∷◌, length, IfOk, is_some, false};
+ghost use Rattle.std.specs.Prelude.{◌≡◌, ◌<◌, ◌≤◌, ◌+◌, ◌*◌, length, IfOk, is_some, false};
 ghost use Rattle.ffi3_type_rules.specs.declared.limits.TheConstants.{ARGUMENT_BYTES, MOST_ARGUMENTS};
 ghost use Rattle.ffi3_type_rules.specs.Fault.{IsLaidOut};
 ghost use Rattle.ffi3_types.specs.TreeOf.{tree_of};
@@ -11,7 +11,7 @@ ghost use Rattle.ffi3_win64_rules.specs.Win64.{win64, is_whole_size, is_copied, 
 pub mod laws;
 
 use ffi3_place::ends::{buffer_end, copy_end, planned};
-use ffi3_place::parts::widening;
+use ffi3_place::parts::{one_piece, two_pieces, widening};
 use ffi3_place::{Abi, Loc, Piece, Pieces, Place, Places, Plan, Res, SaveWord};
 use ffi3_type_rules::round_up;
 use ffi3_types::{CheckedSig, CheckedType, FfiType, NoMemory, Sig, Target};
@@ -32,7 +32,14 @@ pub fn is_copied(ty: &FfiType) -> bool
     requires { IsLaidOut (tree_of ty.now) }
     ensures { result ≡ is_copied (tree_of ty.now) }
 {
-    !is_whole_size(CheckedType::of(ty).size())
+    is_copied_of(&CheckedType::of(ty))
+}
+
+/// `is_copied`, of a type that is known to have a layout.
+fn is_copied_of(ty: &CheckedType<'_>) -> bool
+    ensures { result ≡ is_copied ty.now }
+{
+    !is_whole_size(ty.size())
 }
 
 /// Whether a type is a float or a double.
@@ -70,23 +77,6 @@ fn whole(ty: &CheckedType<'_>, loc: Loc) -> Piece
         len: ty.size() as u8,
         ext: widening(ty.as_type()),
     }
-}
-
-fn one_piece(alloc: Global, piece: Piece) -> Result<Pieces, NoMemory>
-    ensures { IfOk result (λ ps. ps ≡ piece ∷ []) }
-{
-    let mut pieces = Pieces::new(alloc);
-    pieces.push(piece)?;
-    Ok(pieces)
-}
-
-fn two_pieces(alloc: Global, first: Piece, second: Piece) -> Result<Pieces, NoMemory>
-    ensures { IfOk result (λ ps. ps ≡ first ∷ second ∷ []) }
-{
-    let mut pieces = Pieces::new(alloc);
-    pieces.push(first)?;
-    pieces.push(second)?;
-    Ok(pieces)
 }
 
 /// A floating-point value in registers: the vector register of its position, and before it the general one where arguments are variable. ("Varargs")
@@ -150,7 +140,7 @@ fn place_of(
     requires low { end ≤ 2 * ARGUMENT_BYTES }
     ensures { IfOk result (λ r. r ≡ place_at win64.copy_start end ty.now (spot_at variadic p ty.now)) }
 {
-    if is_copied(ty.as_type()) {
+    if is_copied_of(ty) {
         return Ok(Place::ByRef {
             at: position_place(p),
             copy: copy_start(end) as u32,
@@ -204,11 +194,7 @@ fn first_position(result_type: &CheckedType<'_>) -> u64
     ensures value { result ≡ first_position result_type.now }
     ensures few { result ≤ 1 }
 {
-    if is_copied(result_type.as_type()) {
-        1
-    } else {
-        0
-    }
+    if is_copied_of(result_type) { 1 } else { 0 }
 }
 
 /// The stack of so many positions, of which the callee has that of four at least.
@@ -242,7 +228,7 @@ fn place_result(alloc: Global, ty: &CheckedType<'_>, end: u64) -> Result<Res, No
     if let FfiType::Void = plain {
         return Ok(Res::Nothing);
     }
-    if is_copied(plain) {
+    if is_copied_of(ty) {
         return Ok(Res::Hidden {
             at: position_place(0),
             buffer: copy_start(end) as u32,

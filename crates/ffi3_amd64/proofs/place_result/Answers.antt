@@ -2,8 +2,8 @@ use Rattle.std.proofs.Common.{arith, rules}
 use Rattle.ffi3_amd64_rules.proofs.Covered.{integers_few, sses_few}
 use Rattle.ffi3_amd64.proofs.place_result.Goals as goal
 
-pub pieces_in_registers-requires : goal.pieces_in_registers-requires
-pieces_in_registers-requires c = record {
+pub register_pieces-requires : goal.register_pieces-requires
+register_pieces-requires c = record {
   direct = search rules;
   all = c.classes_of-found.ensures.all;
   enough_general = omega (arith, integers_few c.args.ty.now);

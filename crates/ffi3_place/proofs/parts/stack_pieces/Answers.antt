@@ -3,7 +3,7 @@ use Rattle.ffi3_type_rules.specs.Layout.{size_of}
 use Rattle.ffi3_place_rules.specs.declared.Loc.TheVariants.{S}
 use Rattle.ffi3_place_rules.specs.Doublewords.{widening}
 use Rattle.ffi3_place_rules.proofs.Doublewords.{doublewords_turn}
-use Rattle.ffi3_place.proofs.parts.pieces_on_stack.Goals as goal
+use Rattle.ffi3_place.proofs.parts.stack_pieces.Goals as goal
 
 pub loop-j-preserved : goal.loop-j-preserved
 loop-j-preserved c =
