@@ -10,7 +10,7 @@ ghost use Rattle.ffi3_type_rules.specs.Fault.{IsLaidOut};
 ghost use Rattle.ffi3_types.specs.TreeOf.{tree_of};
 ghost use Rattle.ffi3_place_rules.specs.Standard.{place_at, copy_end, places_from, copies_end, result_at, buffer_end, round8, plan_of};
 ghost use Rattle.ffi3_place_rules.specs.Doublewords.{doublewords};
-ghost use Rattle.ffi3_riscv_rules.specs.Riscv.{riscv, is_word_integer, shape_of_two, shape_of_leaves, shape_of, words_of, floats_of, registers_suffice, passed_as, word, extension, boxing, floating_register, floating_piece, integer_piece, word_pieces, spot_of, is_fixed, is_at_even_word, first_word, taken_at_start, taken_with, taken_at_first, taken_by_all, spots_after, result_shape, result_spot_of, is_by_reference, stack_of, untouched};
+ghost use Rattle.ffi3_riscv_rules.specs.Riscv.{riscv, is_word_integer, shape_of_two, shape_of_leaves, shape_of, words_of, floats_of, registers_suffice, passed_as, word, extension, boxing, argument_register, floating_register, floating_piece, integer_piece, word_pieces, spot_of, is_fixed, is_at_even_word, first_word, taken_at_start, taken_with, taken_at_first, taken_by_all, spots_after, result_shape, result_spot_of, is_by_reference, stack_of, untouched};
 ghost use Rattle.ffi3_riscv_rules.specs.declared.Shape.{Shape};
 ghost use Rattle.ffi3_riscv_rules.specs.declared.Shape.TheVariants.{OneF, Words, ByRef};
 ghost use Rattle.ffi3_riscv_rules.proofs.Shapes.{Suits, HasRoom};
@@ -260,13 +260,21 @@ fn taken_with(before: TakenWords, shape: Shape) -> TakenWords
     }
 }
 
+/// The number of integer register a`k`: a0 to a7 are 10 to 17.
+fn argument_register(k: u64) -> u8
+    requires { k ≤ 7 }
+    ensures { result ≡ argument_register k }
+{
+    10 + k as u8
+}
+
 /// Word `k` of the stream of integer words: a0 to a7, and then the stack.
 fn word(k: u64) -> Loc
     requires { k ≤ 32 * MOST_ARGUMENTS }
     ensures { result ≡ word k }
 {
     if k < 8 {
-        Loc::G(10 + k as u8)
+        Loc::G(argument_register(k))
     } else {
         Loc::S((8 * (k - 8)) as u32)
     }
@@ -339,7 +347,7 @@ fn integer_piece(ty: &CheckedType<'_>, i: u32, number: u64) -> Piece
     requires few { number ≤ 7 }
     ensures { result ≡ integer_piece number (leaf_at ty.now i) }
 {
-    leaf_piece(ty, i, Loc::G(10 + number as u8), Ext::Free)
+    leaf_piece(ty, i, Loc::G(argument_register(number)), Ext::Free)
 }
 
 /// Where a value of a shape stands, behind others. What stands before its copy ends `end` bytes from the frame's start.
