@@ -10,6 +10,7 @@ mod RootParts
 mod ReadResults
 mod ReadShapes
 mod ReadTypes
+mod OwnTypes
 mod ReadValues
 pub mod Standing
 mod Few

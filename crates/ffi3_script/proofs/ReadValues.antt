@@ -177,22 +177,8 @@ module _ (scope : Scope) (d a b : Data) (place path : JsonPath) (h : two_items d
   pub field_first : (p : JsonPath) (r : Reason) → read_typed scope a (at_item place 0) ≡ fault p r → read_field scope d place path ≡ fault p r
   field_first p r is = field ∙ ap (λ q. and_then (field_of path (at_item place 0) (option_and_then as_u64 (as_number b))) q) is
 
-  field_then : (v : Typed) → read_typed scope a (at_item place 0) ≡ read v → read_field scope d place path ≡ field_of path (at_item place 0) (option_and_then as_u64 (as_number b)) v
+  pub field_then : (v : Typed) → read_typed scope a (at_item place 0) ≡ read v → read_field scope d place path ≡ field_of path (at_item place 0) (option_and_then as_u64 (as_number b)) v
   field_then v is = field ∙ ap (λ q. and_then (field_of path (at_item place 0) (option_and_then as_u64 (as_number b))) q) is
-
-  module _ (t : Tree) (e : Expression) (is : read_typed scope a (at_item place 0) ≡ read (typed t e)) where
-    of_elements : read_field scope d place path ≡ cond (is_list_type t) (element_of e (elements_of t) (option_and_then as_u64 (as_number b)) path) (fault (at_item place 0) wrong_type)
-    of_elements = field_then (typed t e) is
-
-    -- of a struct or an array
-    pub field_element : (ts : List Tree) → Some ts ≡ element_types t → read_field scope d place path ≡ element_of e ts (option_and_then as_u64 (as_number b)) path
-    field_element ts some =
-        of_elements ∙ ap (λ c. cond c (element_of e (elements_of t) (option_and_then as_u64 (as_number b)) path) (fault (at_item place 0) wrong_type)) (some_types t ts some).0
-        ∙ ap (λ us. element_of e us (option_and_then as_u64 (as_number b)) path) (sym (some_types t ts some).1)
-
-    pub field_wrong : None ≡ element_types t → read_field scope d place path ≡ fault (at_item place 0) wrong_type
-    field_wrong none =
-        of_elements ∙ ap (λ c. cond c (element_of e (elements_of t) (option_and_then as_u64 (as_number b)) path) (fault (at_item place 0) wrong_type)) (no_types t none)
 
 module _ (scope : Scope) (d a b : Data) (place : JsonPath) (h : two_items d ≡ Some (a, b)) where
   of : read_of scope d place ≡ and_then (λ t. read_map (λ v. typed t (typed_as t v)) (read_value scope t b (at_item place 1))) (read_right_type scope.version a (at_item place 0))

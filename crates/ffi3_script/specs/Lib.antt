@@ -1,4 +1,5 @@
 pub mod ScopeOf
+pub mod OwnTypeOf
 pub mod Finds
 pub mod Texts
 pub mod Taken

@@ -68,10 +68,10 @@ pub(crate) fn read_condition(
     };
     let place = at.key("when");
     let condition = read_typed(alloc, scope, &when, &place)?;
-    if !condition.ty.is_number() {
+    if !condition.ty.as_type().is_number() {
         return Err(bad(alloc, &place, Reason::WrongType));
     }
-    Ok(Some(condition))
+    Ok(Some(condition.kept(alloc)?))
 }
 
 /// The values of a call's arguments, one for each of these types.
@@ -162,7 +162,8 @@ pub(crate) fn read_printed(
     let Some(inside) = value.get("print") else {
         return Err(bad(alloc, &place, Reason::NotAValue));
     };
-    read_typed(alloc, scope, &inside, &place)
+    let value = read_typed(alloc, scope, &inside, &place)?;
+    Ok(value.kept(alloc)?)
 }
 
 /// The return that a move is, from a body whose result is of this type. What is not there is read as null.

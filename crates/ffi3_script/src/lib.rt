@@ -13,6 +13,7 @@ mod heads;
 mod index;
 mod made;
 mod names;
+mod own_type;
 mod plain;
 mod read;
 mod root;

@@ -6,16 +6,19 @@ ghost use Rattle.ffi3_types.specs.TreeOf.{tree_of};
 ghost use Rattle.ffi3_script_rules.specs.Language.{read, fault};
 ghost use Rattle.ffi3_script_rules.specs.Script as script;
 ghost use Rattle.ffi3_script_rules.specs.Values.{typed};
-ghost use Rattle.ffi3_script_rules.specs.Values.{argument_of, result_of, user_of, element_of, against, cast_of};
+ghost use Rattle.ffi3_script_rules.specs.Values.{argument_of, result_of, user_of, field_of, against, cast_of};
 ghost use Rattle.ffi3_script_rules.specs.Values.{read_right_type};
 ghost use Rattle.ffi3_json.specs.Reports.{Reports};
-ghost use Rattle.ffi3_script_body.specs.ExprOf.{expression_of, typed_of};
+ghost use Rattle.ffi3_script_body.specs.ExprOf.{expression_of};
 ghost use Rattle.ffi3_script.specs.ScopeOf.{scope_of};
+ghost use Rattle.ffi3_script.specs.OwnTypeOf.{typed_value_of};
 
+use crate::own_type::{OwnType, TypedValue};
 use crate::scope::Scope;
-use crate::{Expr, NoMemory, TypedExpr};
+use crate::{Expr, NoMemory};
 use ffi3_json::{JsonPath, Node, Reason, ScriptFault, bad, bad_type, read_type_at};
-use ffi3_types::{FfiType, Members, check_type, same_type};
+use ffi3_script_body::element_types;
+use ffi3_types::{FfiType, check_type, same_type};
 use std::alloc::Global;
 
 // A value on the heap.
@@ -53,26 +56,31 @@ pub(crate) fn difference(alloc: Global, ty: &FfiType, a: Expr, b: Expr) -> Resul
 }
 
 /// A value that is said to be of a type.
-pub(crate) fn typed_as(alloc: Global, ty: FfiType, value: Expr) -> Result<TypedExpr, NoMemory>
-    ensures { IfOk result (λ v. typed_of v ≡ typed (tree_of ty) (script.typed_as (tree_of ty) (expression_of value))) }
+pub(crate) fn typed_as<'t>(
+    alloc: Global,
+    ty: FfiType,
+    value: Expr,
+) -> Result<TypedValue<'t>, NoMemory>
+    ensures { IfOk result
+        (λ v. typed_value_of v ≡ typed (tree_of ty) (script.typed_as (tree_of ty) (expression_of value))) }
 {
     let value = boxed(alloc, value)?;
-    Ok(TypedExpr {
-        ty: ty.copy(alloc)?,
+    Ok(TypedValue {
+        ty: OwnType::Given(ty.copy(alloc)?),
         value: Expr::TypedAs(ty, value),
     })
 }
 
 /// An argument of the body, by its number.
-pub(crate) fn argument_of(
+pub(crate) fn argument_of<'t>(
     alloc: Global,
-    scope: &Scope,
+    scope: &Scope<'t>,
     value: &Node,
     at: &JsonPath,
-) -> Result<TypedExpr, ScriptFault>
+) -> Result<TypedValue<'t>, ScriptFault>
     ensures ok { IfOk result
         (λ v. argument_of (scope_of scope.now).arguments (option_and_then as_u64 (as_number value.now)) at.now
-        ≡ read (typed_of v)) }
+        ≡ read (typed_value_of v)) }
     ensures err { IfErr result
         (Reports (λ p r. argument_of (scope_of scope.now).arguments (option_and_then as_u64 (as_number value.now))
         at.now ≡ fault p r)) }
@@ -84,21 +92,22 @@ pub(crate) fn argument_of(
         return Err(bad(alloc, at, Reason::NoSuchArgument));
     }
     let i = i as u32;
-    Ok(TypedExpr {
-        ty: scope.own.arg(i).copy(alloc)?,
+    Ok(TypedValue {
+        ty: OwnType::Lent(scope.own.arg(i)),
         value: Expr::Argument(i),
     })
 }
 
 /// The result of an earlier move of the body, by its name.
-pub(crate) fn result_of(
+pub(crate) fn result_of<'t>(
     alloc: Global,
-    scope: &Scope,
+    scope: &Scope<'t>,
     value: &Node,
     at: &JsonPath,
-) -> Result<TypedExpr, ScriptFault>
+) -> Result<TypedValue<'t>, ScriptFault>
     requires { length scope.now.names.now ≡ length scope.now.types.now }
-    ensures ok { IfOk result (λ v. result_of (scope_of scope.now).given (as_str value.now) at.now ≡ read (typed_of v)) }
+    ensures ok { IfOk result
+        (λ v. result_of (scope_of scope.now).given (as_str value.now) at.now ≡ read (typed_value_of v)) }
     ensures err { IfErr result
         (Reports (λ p r. result_of (scope_of scope.now).given (as_str value.now) at.now ≡ fault p r)) }
 {
@@ -110,50 +119,58 @@ pub(crate) fn result_of(
     };
     // fewer than 2^32 results, so that the number is in range
     let _count = scope.types.len();
-    Ok(TypedExpr {
-        ty: scope.types.get(i).copy(alloc)?,
+    Ok(TypedValue {
+        ty: OwnType::Lent(scope.types.get(i)),
         value: Expr::Outcome(i as u32),
     })
 }
 
 /// The user data of the closure.
-pub(crate) fn user_of(alloc: Global, value: &Node, at: &JsonPath) -> Result<TypedExpr, ScriptFault>
-    ensures ok { IfOk result (λ v. user_of value.now at.now ≡ read (typed_of v)) }
+pub(crate) fn user_of<'t>(
+    alloc: Global,
+    value: &Node,
+    at: &JsonPath,
+) -> Result<TypedValue<'t>, ScriptFault>
+    ensures ok { IfOk result (λ v. user_of value.now at.now ≡ read (typed_value_of v)) }
     ensures err { IfErr result (Reports (λ p r. user_of value.now at.now ≡ fault p r)) }
 {
     match value.as_bool() {
-        Some(true) => Ok(TypedExpr {
-            ty: FfiType::Pointer,
+        Some(true) => Ok(TypedValue {
+            ty: OwnType::Given(FfiType::Pointer),
             value: Expr::User,
         }),
         _ => Err(bad(alloc, at, Reason::NotAValue)),
     }
 }
 
-/// An element, by its number, of a struct or an array whose elements have these types.
-pub(crate) fn element_of(
+/// An element, by its number, of a value, which stands at a place of its own and must be a struct or an array.
+pub(crate) fn field_of<'t>(
     alloc: Global,
-    value: Expr,
-    types: &Members,
+    value: TypedValue<'t>,
     number: &Node,
+    place: &JsonPath,
     at: &JsonPath,
-) -> Result<TypedExpr, ScriptFault>
+) -> Result<TypedValue<'t>, ScriptFault>
     ensures ok { IfOk result
-        (λ v. element_of (expression_of value) types.now (option_and_then as_u64 (as_number number.now)) at.now
-        ≡ read (typed_of v)) }
+        (λ v. field_of at.now place.now (option_and_then as_u64 (as_number number.now)) (typed_value_of value.entry)
+        ≡ read (typed_value_of v)) }
     ensures err { IfErr result
-        (Reports (λ p r. element_of (expression_of value) types.now
-        (option_and_then as_u64 (as_number number.now)) at.now ≡ fault p r)) }
+        (Reports (λ p r. field_of at.now place.now (option_and_then as_u64 (as_number number.now))
+        (typed_value_of value.entry) ≡ fault p r)) }
 {
+    let TypedValue { ty, value } = value;
     let value = boxed(alloc, value)?;
+    let Some(_) = element_types(ty.as_type()) else {
+        return Err(bad(alloc, place, Reason::WrongType));
+    };
     let Some(i) = number.as_u64() else {
         return Err(bad(alloc, at, Reason::NoSuchField));
     };
-    if i >= types.len() as u64 {
+    let Some(ty) = ty.element(alloc, i)? else {
         return Err(bad(alloc, at, Reason::NoSuchField));
-    }
-    Ok(TypedExpr {
-        ty: types.get(i as usize).copy(alloc)?,
+    };
+    Ok(TypedValue {
+        ty,
         value: Expr::Element(value, i as u32),
     })
 }
@@ -162,14 +179,17 @@ pub(crate) fn element_of(
 pub(crate) fn against(
     alloc: Global,
     ty: &FfiType,
-    value: TypedExpr,
+    value: TypedValue,
     at: &JsonPath,
 ) -> Result<Expr, ScriptFault>
-    ensures ok { IfOk result (λ e. against (tree_of ty.now) at.now (typed_of value) ≡ read (expression_of e)) }
-    ensures err { IfErr result (Reports (λ p r. against (tree_of ty.now) at.now (typed_of value) ≡ fault p r)) }
+    ensures ok { IfOk result
+        (λ e. against (tree_of ty.now) at.now (typed_value_of value.entry) ≡ read (expression_of e)) }
+    ensures err { IfErr result
+        (Reports (λ p r. against (tree_of ty.now) at.now (typed_value_of value.entry) ≡ fault p r)) }
 {
-    if same_type(&value.ty, ty) {
-        Ok(value.value)
+    let TypedValue { ty: own, value } = value;
+    if same_type(own.as_type(), ty) {
+        Ok(value)
     } else {
         Err(bad(alloc, at, Reason::WrongType))
     }
@@ -179,20 +199,20 @@ pub(crate) fn against(
 pub(crate) fn cast_of(
     alloc: Global,
     to: &FfiType,
-    value: TypedExpr,
+    value: TypedValue,
     at: &JsonPath,
 ) -> Result<Expr, ScriptFault>
     ensures ok { IfOk result
-        (λ e. cast_of (scalar_of (tree_of to.now)) at.now (typed_of value) ≡ read (expression_of e)) }
+        (λ e. cast_of (scalar_of (tree_of to.now)) at.now (typed_value_of value.entry) ≡ read (expression_of e)) }
     ensures err { IfErr result
-        (Reports (λ p r. cast_of (scalar_of (tree_of to.now)) at.now (typed_of value) ≡ fault p r)) }
+        (Reports (λ p r. cast_of (scalar_of (tree_of to.now)) at.now (typed_value_of value.entry) ≡ fault p r)) }
 {
-    if !value.ty.is_number() {
+    let TypedValue { ty, value } = value;
+    if !ty.as_type().is_number() {
         return Err(bad(alloc, at, Reason::WrongType));
     }
-    let TypedExpr { ty, value } = value;
     let value = boxed(alloc, value)?;
-    Ok(Expr::Cast(ty, to.copy(alloc)?, value))
+    Ok(Expr::Cast(ty.into_type(alloc)?, to.copy(alloc)?, value))
 }
 
 /// A type that may be an argument's.

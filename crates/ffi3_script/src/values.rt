@@ -5,17 +5,19 @@ ghost use Rattle.ffi3_types.specs.TreeOf.{tree_of};
 ghost use Rattle.ffi3_script_rules.specs.Language.{read, fault, under};
 ghost use Rattle.ffi3_script_rules.specs.Values.{read_value, read_values, read_typed, read_field, read_of, form_named};
 ghost use Rattle.ffi3_json.specs.Reports.{Reports};
-ghost use Rattle.ffi3_script_body.specs.ExprOf.{expression_of, expressions_in, typed_of};
+ghost use Rattle.ffi3_script_body.specs.ExprOf.{expression_of, expressions_in};
 ghost use Rattle.ffi3_script.specs.ScopeOf.{scope_of};
+ghost use Rattle.ffi3_script.specs.OwnTypeOf.{typed_value_of};
 ghost use Rattle.ffi3_script.specs.Shapes.{typed_form_of, typed_under, value_under_form, read_terms};
 
+use crate::Expr;
 use crate::forms::{Form, TypedForm, form_named, is_untyped, two_items};
+use crate::own_type::TypedValue;
 use crate::plain::{
-    against, argument_of, cast_of, difference, element_of, push, read_right_type, result_of, sum,
+    against, argument_of, cast_of, difference, field_of, push, read_right_type, result_of, sum,
     typed_as, user_of,
 };
 use crate::scope::Scope;
-use crate::{Expr, TypedExpr};
 use ffi3_json::{JsonPath, Node, Nodes, Reason, ScriptFault, bad};
 use ffi3_literals::{read_number, read_text};
 use ffi3_script_body::element_types;
@@ -163,14 +165,14 @@ fn read_terms(
 
 /// The value with a type of its own that a JSON value at a place is.
 #[cycle(values)]
-pub(crate) fn read_typed(
+pub(crate) fn read_typed<'t>(
     alloc: Global,
-    scope: &Scope,
+    scope: &Scope<'t>,
     value: &Node,
     at: &JsonPath,
-) -> Result<TypedExpr, ScriptFault>
+) -> Result<TypedValue<'t>, ScriptFault>
     requires even { length scope.now.names.now ≡ length scope.now.types.now }
-    ensures ok { IfOk result (λ v. read_typed (scope_of scope.now) value.now at.now ≡ read (typed_of v)) }
+    ensures ok { IfOk result (λ v. read_typed (scope_of scope.now) value.now at.now ≡ read (typed_value_of v)) }
     ensures err { IfErr result (Reports (λ p r. read_typed (scope_of scope.now) value.now at.now ≡ fault p r)) }
 {
     if is_untyped(value) {
@@ -188,17 +190,18 @@ pub(crate) fn read_typed(
 
 // The value of a form that has a type of its own.
 #[cycle(values)]
-fn read_own(
+fn read_own<'t>(
     alloc: Global,
-    scope: &Scope,
+    scope: &Scope<'t>,
     form: TypedForm,
     name: &str,
     inside: &Node,
     at: &JsonPath,
-) -> Result<TypedExpr, ScriptFault>
+) -> Result<TypedValue<'t>, ScriptFault>
     requires even { length scope.now.names.now ≡ length scope.now.types.now }
     ensures ok { IfOk result
-        (λ v. typed_under (scope_of scope.now) name.now inside.now at.now (typed_form_of form) ≡ read (typed_of v)) }
+        (λ v. typed_under (scope_of scope.now) name.now inside.now at.now (typed_form_of form)
+        ≡ read (typed_value_of v)) }
     ensures err { IfErr result
         (Reports (λ p r. typed_under (scope_of scope.now) name.now inside.now at.now (typed_form_of form)
         ≡ fault p r)) }
@@ -214,16 +217,16 @@ fn read_own(
 
 // An array of two: the value of a struct or an array, with a type of its own, and the number of an element.
 #[cycle(values)]
-fn read_field(
+fn read_field<'t>(
     alloc: Global,
-    scope: &Scope,
+    scope: &Scope<'t>,
     name: &str,
     inside: &Node,
     at: &JsonPath,
-) -> Result<TypedExpr, ScriptFault>
+) -> Result<TypedValue<'t>, ScriptFault>
     requires even { length scope.now.names.now ≡ length scope.now.types.now }
     ensures ok { IfOk result
-        (λ v. read_field (scope_of scope.now) inside.now (under at.now name.now) at.now ≡ read (typed_of v)) }
+        (λ v. read_field (scope_of scope.now) inside.now (under at.now name.now) at.now ≡ read (typed_value_of v)) }
     ensures err { IfErr result
         (Reports (λ p r. read_field (scope_of scope.now) inside.now (under at.now name.now) at.now ≡ fault p r)) }
 {
@@ -232,25 +235,22 @@ fn read_field(
         return Err(bad(alloc, &place, Reason::WrongCount));
     };
     let first = place.item(0);
-    let TypedExpr { ty, value } = read_typed(alloc, scope, &inner, &first)?;
-    let Some(types) = element_types(&ty) else {
-        return Err(bad(alloc, &first, Reason::WrongType));
-    };
-    element_of(alloc, value, &types, &number, at)
+    let value = read_typed(alloc, scope, &inner, &first)?;
+    field_of(alloc, value, &number, &first, at)
 }
 
 // An array of a type, and a value against it.
 #[cycle(values)]
-fn read_of(
+fn read_of<'t>(
     alloc: Global,
-    scope: &Scope,
+    scope: &Scope<'t>,
     name: &str,
     inside: &Node,
     at: &JsonPath,
-) -> Result<TypedExpr, ScriptFault>
+) -> Result<TypedValue<'t>, ScriptFault>
     requires even { length scope.now.names.now ≡ length scope.now.types.now }
     ensures ok { IfOk result
-        (λ v. read_of (scope_of scope.now) inside.now (under at.now name.now) ≡ read (typed_of v)) }
+        (λ v. read_of (scope_of scope.now) inside.now (under at.now name.now) ≡ read (typed_value_of v)) }
     ensures err { IfErr result
         (Reports (λ p r. read_of (scope_of scope.now) inside.now (under at.now name.now) ≡ fault p r)) }
 {

@@ -1,6 +1,5 @@
 use Rattle.std.proofs.Common.{sym, ap, ◌∙◌, arith}
 use Rattle.serde_json.specs.Find.{as_str}
-use Rattle.ffi3_types.specs.TreeOf.{tree_of}
 use Rattle.ffi3_script_rules.specs.Language.{read, no_such_result}
 use Rattle.ffi3_script_rules.specs.Script.{outcome}
 use Rattle.ffi3_script_rules.specs.Values.{result_of, typed}
@@ -27,7 +26,7 @@ returns-clause-ok c =
     let names = c.args.scope.now.names.now in
     let types = c.args.scope.now.types.now in
     let some = a_result c.in-Some.name.now names types c.args.at.now c.requires c.in-Some-find.i (sym c.in-Some-find.ensures) in
-    let same = sym (ap tree_of c.in_ok-copy.ensures ∙ c.get.ensures.element) in
+    let same = sym c.get.ensures.element in
     ap (λ o. result_of (given_of names types) o c.args.at.now) (sym c.in-Some.ensures) ∙ some ∙ ap (λ t. read (typed t (outcome c.in-Some-find.i))) same
 
 pub get-requires : goal.get-requires

@@ -5,16 +5,17 @@ use Rattle.serde_json.specs.Find.{as_number, as_u64}
 use Rattle.serde_json.specs.View.{number_view}
 use Rattle.ffi3_types.specs.TreeOf.{tree_of}
 use Rattle.ffi3_script_rules.specs.Language.{read, fault, at_item, under, wrong_type, wrong_count}
-use Rattle.ffi3_script_rules.specs.Values.{read_number, read_value, read_values, read_typed, read_field, read_of, read_right_type, element_of, typed_form, form_named}
+use Rattle.ffi3_script_rules.specs.Values.{read_number, read_value, read_values, read_typed, read_field, read_of, read_right_type, field_of, typed_form, form_named}
 use Rattle.ffi3_json.proofs.Tellings.{tells_part, tells_made, part_handed_on}
 use Rattle.ffi3_script_body.specs.ExprOf.{expression_of, expressions_in}
 use Rattle.ffi3_script.specs.ScopeOf.{scope_of}
+use Rattle.ffi3_script.specs.OwnTypeOf.{typed_value_of}
 use Rattle.ffi3_script.specs.Shapes.{typed_form_of, typed_under, value_under_form, read_terms}
-use Rattle.ffi3_script.proofs.ReadValues.{ok_by, err_by, field_first, field_element, field_wrong, of_second, of_both, two_first, two_second, two_both, terms_are, typed_member, of_number, of_no_list, of_other_count, of_values, of_member, Done, done-more, done-fault, done-all}
+use Rattle.ffi3_script.proofs.ReadValues.{ok_by, err_by, field_first, field_then, of_second, of_both, two_first, two_second, two_both, terms_are, typed_member, of_number, of_no_list, of_other_count, of_values, of_member, Done, done-more, done-fault, done-all}
 use Rattle.ffi3_script.proofs.values.+values.Goals as goal
 
-pub read_field-returns-in_err-ty-clause-err : goal.read_field-returns-in_err-ty-clause-err
-read_field-returns-in_err-ty-clause-err t c =
+pub read_field-returns-in_err-value-clause-err : goal.read_field-returns-in_err-value-clause-err
+read_field-returns-in_err-value-clause-err t c =
     let s = scope_of c.args.scope.now in
     let d = c.args.inside.now in
     let a = c.in-Some.inner in
@@ -23,20 +24,7 @@ read_field-returns-in_err-ty-clause-err t c =
     let place = under path c.args.name.now in
     let item : c.item-first.result ≡ at_item place 0 = c.item-first.ensures ∙ ap (λ p. at_item p 0) c.key-place.ensures in
     part_handed_on (read_field s d place path) (read_typed s a c.item-first.result) (λ p r e. field_first s d a b place path (sym c.in-Some.ensures) p r (ap (read_typed s a) (sym item) ∙ e))
-    c.from_residual.result c.in_err-ty.field-0.0 c.from_residual.ensures.1 c.in_err-ty.ensures.err
-
-pub read_field-returns-in_default-element_types-clause-err : goal.read_field-returns-in_default-element_types-clause-err
-read_field-returns-in_default-element_types-clause-err t c =
-    let s = scope_of c.args.scope.now in
-    let d = c.args.inside.now in
-    let a = c.in-Some.inner in
-    let b = c.in-Some.number in
-    let path = c.args.at.now in
-    let place = under path c.args.name.now in
-    let item : c.item-first.result ≡ at_item place 0 = c.item-first.ensures ∙ ap (λ p. at_item p 0) c.key-place.ensures in
-    let own = c.in_ok-ty.field-0 in
-    let wrong = field_wrong s d a b place path (sym c.in-Some.ensures) (tree_of own.ty) (expression_of own.value) (ap (read_typed s a) (sym item) ∙ c.in_ok-ty.ensures.ok) c.in_default-element_types.ensures in
-    tells_made (read_field s d place path) c.item-first.result wrong_type (wrong ∙ ap (λ p. fault p wrong_type) (sym item)) c.bad-in_default-element_types.result c.bad-in_default-element_types.ensures
+    c.from_residual.result c.in_err-value.field-0.0 c.from_residual.ensures.1 c.in_err-value.ensures.err
 
 pub read_field-returns-clause-ok : goal.read_field-returns-clause-ok
 read_field-returns-clause-ok t c =
@@ -46,10 +34,10 @@ read_field-returns-clause-ok t c =
     let b = c.in-Some.number in
     let path = c.args.at.now in
     let place = under path c.args.name.now in
-    let own = c.in_ok-ty.field-0 in
+    let own = typed_value_of c.in_ok-value.value in
     let item : c.item-first.result ≡ at_item place 0 = c.item-first.ensures ∙ ap (λ p. at_item p 0) c.key-place.ensures in
-    let same = field_element s d a b place path (sym c.in-Some.ensures) (tree_of own.ty) (expression_of own.value) (ap (read_typed s a) (sym item) ∙ c.in_ok-ty.ensures.ok) c.in-Some-element_types.types c.in-Some-element_types.ensures in
-    ok_by (λ v k. same ∙ k) c.element_of.result c.element_of.ensures.ok
+    let same = field_then s d a b place path (sym c.in-Some.ensures) own (ap (read_typed s a) (sym item) ∙ c.in_ok-value.ensures.ok) ∙ ap (λ p. field_of path p (option_and_then as_u64 (as_number b)) own) (sym item) in
+    ok_by (λ v k. same ∙ k) c.field_of.result c.field_of.ensures.ok
 
 pub read_field-returns-clause-err : goal.read_field-returns-clause-err
 read_field-returns-clause-err t c =
@@ -59,10 +47,10 @@ read_field-returns-clause-err t c =
     let b = c.in-Some.number in
     let path = c.args.at.now in
     let place = under path c.args.name.now in
-    let own = c.in_ok-ty.field-0 in
+    let own = typed_value_of c.in_ok-value.value in
     let item : c.item-first.result ≡ at_item place 0 = c.item-first.ensures ∙ ap (λ p. at_item p 0) c.key-place.ensures in
-    let same = field_element s d a b place path (sym c.in-Some.ensures) (tree_of own.ty) (expression_of own.value) (ap (read_typed s a) (sym item) ∙ c.in_ok-ty.ensures.ok) c.in-Some-element_types.types c.in-Some-element_types.ensures in
-    err_by (λ f k. tells_part (read_field s d place path) (element_of (expression_of own.value) c.in-Some-element_types.types (option_and_then as_u64 (as_number b)) path) (λ p r is. same ∙ is) f k) c.element_of.result c.element_of.ensures.err
+    let same = field_then s d a b place path (sym c.in-Some.ensures) own (ap (read_typed s a) (sym item) ∙ c.in_ok-value.ensures.ok) ∙ ap (λ p. field_of path p (option_and_then as_u64 (as_number b)) own) (sym item) in
+    err_by (λ f k. tells_part (read_field s d place path) (field_of path c.item-first.result (option_and_then as_u64 (as_number b)) own) (λ p r is. same ∙ is) f k) c.field_of.result c.field_of.ensures.err
 
 pub read_of-returns-in_err-value-clause-err : goal.read_of-returns-in_err-value-clause-err
 read_of-returns-in_err-value-clause-err t c =
