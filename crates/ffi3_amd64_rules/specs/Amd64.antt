@@ -77,8 +77,11 @@ sses t = count_by is_sse_class (classes t)
 -- ---- registers
 
 -- rdi, rsi, rdx, rcx, r8, r9 (Passing, step 2)
+abbrev pub general_arguments : List ℕ
+general_arguments = 7 ∷ 6 ∷ 2 ∷ 1 ∷ 8 ∷ 9 ∷ []
+
 abbrev pub argument_register : ℕ → ℕ
-argument_register k = get_or (7 ∷ 6 ∷ 2 ∷ 1 ∷ 8 ∷ 9 ∷ []) k 0
+argument_register k = get_or general_arguments k 0
 
 -- rax, rdx (Returning of Values, step 3)
 abbrev pub result_register : ℕ → ℕ
@@ -165,10 +168,9 @@ placing_of s = record {
 abbrev pub callee_saved : List Loc
 callee_saved = G 3 ∷ G 5 ∷ G 12 ∷ G 13 ∷ G 14 ∷ G 15 ∷ []
 
--- rdi, rsi, rdx, rcx, r8 and r9, and xmm0 to xmm7 (Passing, steps 2 and 3)
+-- the general registers of arguments, and xmm0 to xmm7 (Passing, steps 2 and 3)
 abbrev pub passing : List Loc
-passing =
-    G 7 ∷ G 6 ∷ G 2 ∷ G 1 ∷ G 8 ∷ G 9 ∷ F 0 ∷ F 1 ∷ F 2 ∷ F 3 ∷ F 4 ∷ F 5 ∷ F 6 ∷ F 7 ∷ []
+passing = map G general_arguments ++ F 0 ∷ F 1 ∷ F 2 ∷ F 3 ∷ F 4 ∷ F 5 ∷ F 6 ∷ F 7 ∷ []
 
 -- Each callee-saved register, and above them the hidden argument. (Where they stand is this library's rule.)
 abbrev pub saved_words : List SaveWord

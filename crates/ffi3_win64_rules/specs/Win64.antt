@@ -37,8 +37,11 @@ is_floating_type _ = false
 -- ---- positions: there is a strict one-to-one correspondence between the arguments of a call and the registers used for them, and a single argument is never spread across several. ("Calling convention defaults")
 
 -- Integers in the leftmost four positions are passed in rcx, rdx, r8 and r9, from left to right. ("Parameter passing")
+abbrev pub general_arguments : List ℕ
+general_arguments = 1 ∷ 2 ∷ 8 ∷ 9 ∷ []
+
 abbrev pub argument_register : ℕ → ℕ
-argument_register p = get_or (1 ∷ 2 ∷ 8 ∷ 9 ∷ []) p 0
+argument_register p = get_or general_arguments p 0
 
 -- The general register of a position. The fifth argument and those after it are passed on the stack, each in eight bytes, behind the space for the first four. ("Parameter passing"; "Calling convention defaults": after the shadow store)
 abbrev pub position_place : ℕ → Loc
@@ -108,9 +111,9 @@ placing_of s = record {
 abbrev machine : Isa
 machine = isa_of target.Win64
 
--- rcx, rdx, r8 and r9, and xmm0 to xmm3 ("Calling convention defaults")
+-- the general registers of arguments, and xmm0 to xmm3 ("Calling convention defaults")
 abbrev pub passing : List Loc
-passing = G 1 ∷ G 2 ∷ G 8 ∷ G 9 ∷ F 0 ∷ F 1 ∷ F 2 ∷ F 3 ∷ []
+passing = map G general_arguments ++ F 0 ∷ F 1 ∷ F 2 ∷ F 3 ∷ []
 
 -- nonvolatile: rbx, rbp, rdi, rsi, r12 to r15, and xmm6 to xmm15. ("Caller/callee saved registers". A callee keeps all 128 bits of a vector register; the machine here has the low 64 alone.)
 abbrev pub nonvolatile : List Loc
