@@ -1,14 +1,10 @@
 //! Arguments that are narrower than their registers, as the standards fill these.
-ghost use Rattle.std.specs.Prelude.{◌≡◌, true};
-ghost use Rattle.ffi3_type_rules.specs.Tree.{trees_of};
-ghost use Rattle.ffi3_type_rules.specs.Value.{all_fit, values_of};
-
 use crate::slots::{SIGNATURES, fitting, prepared, some_arguments};
 use ffi3_aapcs64::Aapcs64;
 use ffi3_amd64::Amd64;
 use ffi3_caller::store_args;
 use ffi3_cif::Cif;
-use ffi3_machine::{Machine, STACK};
+use ffi3_machine::{Machine, NoMemory, STACK};
 use ffi3_pieces::{passed_floating, passed_general};
 use ffi3_place::Abi;
 use ffi3_riscv::Riscv;
@@ -19,17 +15,39 @@ use std::alloc::Global;
 use std::process::Abort;
 use std::test::Fail;
 
-/// A machine in which the arguments of a call were stored.
-pub fn stored<A: Abi>(alloc: Global, cif: &Cif<A>, args: &Values) -> Result<Machine, Fail>
-    requires { all_fit (trees_of cif.now.arguments) (values_of args.now) ≡ true }
-{
-    let mut machine = Machine::new(alloc)?;
+/// Stores the values of the list as arguments of a call, in a machine that begins.
+fn store<A: Abi>(
+    alloc: Global,
+    machine: &mut Machine,
+    cif: &Cif<A>,
+    list: &Value,
+) -> Result<(), Fail> {
+    let args = fitting(alloc, cif, list)?;
     machine.begin(A::TARGET);
     if machine.sp() - STACK < cif.frame() {
         return Err("no room".into());
     }
-    store_args(&mut machine, cif, args);
-    Ok(machine)
+    store_args(machine, cif, args);
+    Ok(())
+}
+
+/// A list of one value of these bytes.
+fn alone(alloc: Global, bytes: &[u8]) -> Result<Value, NoMemory> {
+    let mut values = Values::new(alloc);
+    values.push(Value::Leaf(Bytes::from_slice(alloc, bytes)?))?;
+    Ok(Value::List(values))
+}
+
+/// Stores one argument of these bytes, by the signature that a script would write so.
+fn store_alone<A: Abi>(
+    alloc: Global,
+    machine: &mut Machine,
+    text: &str,
+    bytes: &[u8],
+) -> Result<(), Fail> {
+    let list = alone(alloc, bytes)?;
+    let cif = prepared::<A>(alloc, text)?;
+    store(alloc, machine, &cif, &list)
 }
 
 /// After one argument of these bytes was stored, what is passed in general and floating register number k.
@@ -39,11 +57,8 @@ fn registers_of<A: Abi>(
     bytes: &[u8],
     k: u8,
 ) -> Result<(u64, u64), Fail> {
-    let cif = prepared::<A>(alloc, text)?;
-    let mut values = Values::new(alloc);
-    values.push(Value::Leaf(Bytes::from_slice(alloc, bytes)?))?;
-    let list = Value::List(values);
-    let machine = stored(alloc, &cif, fitting(alloc, &cif, &list)?)?;
+    let mut machine = Machine::new(alloc)?;
+    store_alone::<A>(alloc, &mut machine, text, bytes)?;
     Ok((
         passed_general(&machine, k % 32),
         passed_floating(&machine, k % 32),
@@ -82,6 +97,19 @@ pub fn check_general(rt: &impl Abort, machine: &Machine, registers: &[u8], words
     }
 }
 
+/// Stores arguments of a call, as `some_arguments` makes them.
+fn store_each<A: Abi>(alloc: Global, machine: &mut Machine, cif: &Cif<A>) -> Result<(), Fail> {
+    let mut text = Bytes::new(alloc);
+    let list = some_arguments(alloc, cif, &mut text)?;
+    store(alloc, machine, cif, &list)
+}
+
+/// Stores arguments of a call by the signature that a script would write so.
+pub fn store_some<A: Abi>(alloc: Global, machine: &mut Machine, text: &str) -> Result<(), Fail> {
+    let cif = prepared::<A>(alloc, text)?;
+    store_each(alloc, machine, &cif)
+}
+
 /// After arguments of the first signature were stored, these words are passed in general registers, in this order.
 /// Gives what is passed in floating register number k.
 fn check_first<A: Abi>(
@@ -91,9 +119,8 @@ fn check_first<A: Abi>(
     words: &[u64],
     k: u8,
 ) -> Result<u64, Fail> {
-    let cif = prepared::<A>(alloc, SIGNATURES[0])?;
-    let list = some_arguments(alloc, &cif, &mut Bytes::new(alloc))?;
-    let machine = stored(alloc, &cif, fitting(alloc, &cif, &list)?)?;
+    let mut machine = Machine::new(alloc)?;
+    store_some::<A>(alloc, &mut machine, SIGNATURES[0])?;
     check_general(rt, &machine, registers, words);
     Ok(passed_floating(&machine, k % 32))
 }

@@ -4,6 +4,7 @@ use ffi3_isa::Instr::{
     Sd,
 };
 use ffi3_isa::{Instr, decode_aarch64, decode_amd64, decode_riscv};
+use std::process::Abort;
 
 const AMD64: [(&[u8], Option<(Instr, u8)>); 20] = [
     (b"\xF3\x0F\x1E\xFA\x4C", Some((Endbr, 4))),
@@ -236,15 +237,20 @@ const RISCV: [(&[u8], Option<(Instr, u8)>); 14] = [
     (b"\x13\0\0", None),
 ];
 
+/// These bytes are decoded as they are to be.
+fn check(rt: &impl Abort, bytes: &[u8], given: Option<(Instr, u8)>, want: Option<(Instr, u8)>) {
+    assert!(rt; given == want, "{bytes:?}");
+}
+
 #[test]
 fn instructions_are_decoded(rt: HostRuntime) {
     for (bytes, want) in AMD64 {
-        assert!(rt; decode_amd64(bytes) == want, "{bytes:?}");
+        check(&rt, bytes, decode_amd64(bytes), want);
     }
     for (bytes, want) in AARCH64 {
-        assert!(rt; decode_aarch64(bytes) == want, "{bytes:?}");
+        check(&rt, bytes, decode_aarch64(bytes), want);
     }
     for (bytes, want) in RISCV {
-        assert!(rt; decode_riscv(bytes) == want, "{bytes:?}");
+        check(&rt, bytes, decode_riscv(bytes), want);
     }
 }

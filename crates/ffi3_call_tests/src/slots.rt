@@ -30,6 +30,8 @@ use ffi3_types::{Bytes, CheckedType, FfiType, Sig};
 use ffi3_values::{Value, Values, fits, value_from_bytes, value_text};
 use ffi3_win64::Win64;
 use std::alloc::Global;
+use std::mem;
+use std::process::Abort;
 use std::test::Fail;
 
 /// Bytes for a value of the type: a number and those after it.
@@ -77,7 +79,9 @@ pub fn fitting<'a, A: Abi>(alloc: Global, cif: &Cif<A>, list: &'a Value) -> Resu
     ensures { IfOk result (λ vs. all_fit (trees_of cif.now.arguments) (values_of vs.now) ≡ true) }
 {
     let all = FfiType::Struct(cif.sig().args().copy(alloc)?);
-    if !fits(list, &all) {
+    let fit = fits(list, &all);
+    mem::drop(all);
+    if !fit {
         return Err("no fit".into());
     }
     let Value::List(values) = list else {
@@ -86,9 +90,9 @@ pub fn fitting<'a, A: Abi>(alloc: Global, cif: &Cif<A>, list: &'a Value) -> Resu
     Ok(values)
 }
 
-/// The first bytes of arguments. No two are the same, and most have their highest bit set.
+/// The first bytes of arguments. No two are the same, and each has its highest bit set.
 const FIRSTS: [u8; 16] = [
-    0x81, 0x8C, 0x97, 0xA2, 0xAD, 0xB8, 0xC3, 0xCE, 0xD9, 0xE4, 0xEF, 0xFA, 0x05, 0x10, 0x1B, 0x26,
+    0x81, 0x8C, 0x97, 0xA2, 0xAD, 0xB8, 0xC3, 0xCE, 0xD9, 0xE4, 0xEF, 0xFA, 0x84, 0x8F, 0x9A, 0xA5,
 ];
 
 /// A value of an argument's type, which is written to the text.
@@ -243,45 +247,24 @@ fn first_bytes(bytes: &[u8]) -> [u8; 32] {
     first
 }
 
-/// A call of a closure from a machine that begins, with values of this text.
-fn told<A: Abi>(
+/// What a call came to whose stack pointer was this before it, of which the callee has written its arguments to the
+/// text, and whose caller has loaded these bytes.
+fn returned<A: Abi>(
     alloc: Global,
+    machine: &Machine,
     cif: &Cif<A>,
-    args: &Values,
-    outcome: &Value,
-    over: Option<u8>,
+    sp: u64,
+    text: &mut Bytes,
+    out: &[u8],
     sent: &[u8],
 ) -> Result<Came, Fail>
-    requires fit { all_fit (trees_of cif.now.arguments) (values_of args.now) ≡ true }
-    requires fits { fits cif.now.result_type (value_of outcome.now) ≡ true }
+    requires { length out.now ≡ size_of cif.now.result_type }
 {
-    let mut machine = Machine::new(alloc)?;
-    machine.begin(A::TARGET);
-    let mut table = Table::new();
-    let Ok(ptr) = table.make(&mut machine, 0, 0, 7) else {
-        return Err("no slot".into());
-    };
-    let Some(_) = table.find(ptr) else {
-        return Err("no closure".into());
-    };
-    if let Err(_) = room_for(&machine, cif) {
-        return Err("no room".into());
-    }
-    let bytes = A::LINK + cif.frame();
-    machine.journal_room(bytes)?;
-    let sp = machine.sp();
-    let incoming = begin(&mut machine, &table, cif, args, ptr, over);
-    let mut text = Bytes::new(alloc);
-    write_arguments(alloc, &machine, cif, &incoming, &mut text)?;
-    let size = cif.checked_sig().ret().size() as usize;
-    let mut room = [0; LARGEST_TYPE as usize];
-    let out = &mut room[..size];
-    end_call(&mut machine, cif, incoming, outcome, out);
-    if machine.sp() != sp || machine.events().len() != 2 {
+    let events = machine.events();
+    if machine.sp() != sp || events.len() != 2 {
         return Err("not back".into());
     }
-    write_result(alloc, cif, out, &mut text)?;
-    let events = machine.events();
+    write_result(alloc, cif, out, text)?;
     Ok(Came {
         right: text.as_slice() == sent,
         entry: *events.get(0),
@@ -290,13 +273,73 @@ fn told<A: Abi>(
     })
 }
 
-/// A call by a signature, with values of its types.
-pub fn come<A: Abi>(alloc: Global, cif: &Cif<A>, over: Option<u8>) -> Result<Came, Fail> {
+/// A call of a closure from a machine that begins, with values of this text. What its callee has is written to the
+/// other text, which is empty.
+fn told<A: Abi>(
+    alloc: Global,
+    machine: &mut Machine,
+    cif: &Cif<A>,
+    args: &Values,
+    outcome: &Value,
+    over: Option<u8>,
+    sent: &[u8],
+    text: &mut Bytes,
+) -> Result<Came, Fail>
+    requires fit { all_fit (trees_of cif.now.arguments) (values_of args.now) ≡ true }
+    requires fits { fits cif.now.result_type (value_of outcome.now) ≡ true }
+{
+    machine.begin(A::TARGET);
+    let mut table = Table::new();
+    let Ok(ptr) = table.make(machine, 0, 0, 7) else {
+        return Err("no slot".into());
+    };
+    let Some(_) = table.find(ptr) else {
+        return Err("no closure".into());
+    };
+    if let Err(_) = room_for(machine, cif) {
+        return Err("no room".into());
+    }
+    let bytes = A::LINK + cif.frame();
+    machine.journal_room(bytes)?;
+    let sp = machine.sp();
+    let incoming = begin(machine, &table, cif, args, ptr, over);
+    write_arguments(alloc, machine, cif, &incoming, text)?;
+    let size = cif.checked_sig().ret().size() as usize;
+    let mut room = [0; LARGEST_TYPE as usize];
+    let out = &mut room[..size];
+    end_call(machine, cif, incoming, outcome, out);
+    returned(alloc, machine, cif, sp, text, out, sent)
+}
+
+/// A call on this machine, with values of the signature's types.
+fn come_on<A: Abi>(
+    alloc: Global,
+    machine: &mut Machine,
+    cif: &Cif<A>,
+    over: Option<u8>,
+) -> Result<Came, Fail> {
     let mut sent = Bytes::new(alloc);
     let list = some_arguments(alloc, cif, &mut sent)?;
     let args = fitting(alloc, cif, &list)?;
     let outcome = some_result(alloc, cif, &mut sent)?;
-    told(alloc, cif, args, &outcome, over, sent.as_slice())
+    let mut text = Bytes::new(alloc);
+    told(
+        alloc,
+        machine,
+        cif,
+        args,
+        &outcome,
+        over,
+        sent.as_slice(),
+        &mut text,
+    )
+}
+
+/// A call by the signature that a script would write so, with values of its types.
+pub fn come<A: Abi>(alloc: Global, text: &str, over: Option<u8>) -> Result<Came, Fail> {
+    let cif = prepared::<A>(alloc, text)?;
+    let mut machine = Machine::new(alloc)?;
+    come_on(alloc, &mut machine, &cif, over)
 }
 
 /// What a register held at an event.
@@ -324,25 +367,30 @@ fn signature(alloc: Global, text: &str) -> Result<Sig, Fail> {
     let Ok(json) = parse(alloc, text.as_bytes()) else {
         return Err("no JSON".into());
     };
-    let Ok(sig) = read_signature(alloc, &json, &Where::new(alloc), 2) else {
+    let Some(sig) = read_signature(alloc, &json, &Where::new(alloc), 2).ok() else {
         return Err("no signature".into());
     };
     Ok(sig)
 }
 
-/// A call by the signature that a script would write so.
-pub fn prepared<A: Abi>(alloc: Global, text: &str) -> Result<Cif<A>, Fail> {
-    let sig = signature(alloc, text)?;
+/// The call interface of a signature.
+fn interface_of<A: Abi>(alloc: Global, sig: &Sig) -> Result<Cif<A>, Fail> {
     let types = sig.args().copy(alloc)?;
     let ret = sig.ret().copy(alloc)?;
     let cif = match sig.fixed() {
         None => prep_cif::<A>(alloc, ret, types),
         Some(fixed) => prep_cif_var::<A>(alloc, ret, types, fixed),
     };
-    let Ok(cif) = cif else {
+    let Some(cif) = cif.ok() else {
         return Err("a fault".into());
     };
     Ok(cif)
+}
+
+/// The call interface of the signature that a script would write so.
+pub fn prepared<A: Abi>(alloc: Global, text: &str) -> Result<Cif<A>, Fail> {
+    let sig = signature(alloc, text)?;
+    interface_of(alloc, &sig)
 }
 
 /// Signatures with every scalar, and structs of each shape: nested, in mixed registers, homogeneous, by reference,
@@ -376,8 +424,7 @@ pub const SIGNATURES: [&str; 22] = [
 fn count_of_right<A: Abi>(alloc: Global, over: Option<u8>) -> Result<usize, Fail> {
     let mut right = 0usize;
     for text in SIGNATURES {
-        let cif = prepared::<A>(alloc, text)?;
-        let came = come(alloc, &cif, over)?;
+        let came = come::<A>(alloc, text, over)?;
         if came.right && gives_back::<A>(&came) && right < SIGNATURES.len() {
             right += 1;
         }
@@ -385,15 +432,21 @@ fn count_of_right<A: Abi>(alloc: Global, over: Option<u8>) -> Result<usize, Fail
     Ok(right)
 }
 
+/// All signatures, with each of these bytes over all that the callee must not look at, and with none.
+fn check_all<A: Abi>(rt: &impl Abort, alloc: Global) -> Result<(), Fail> {
+    for over in [None, Some(0x00), Some(0x5A), Some(0xFF)] {
+        let right = count_of_right::<A>(alloc, over)?;
+        assert!(rt; right == SIGNATURES.len(), "{right}");
+    }
+    Ok(())
+}
+
 /// A callee looks at the bytes of leaves and addresses alone, whatever else stands there.
 #[test]
 fn values_come_through_a_slot(rt: HostRuntime) -> Result<(), Fail> {
     let alloc = rt.alloc();
-    for over in [None, Some(0x00), Some(0x5A), Some(0xFF)] {
-        assert_eq!(rt; count_of_right::<Amd64>(alloc, over)?, SIGNATURES.len());
-        assert_eq!(rt; count_of_right::<Aapcs64>(alloc, over)?, SIGNATURES.len());
-        assert_eq!(rt; count_of_right::<Riscv>(alloc, over)?, SIGNATURES.len());
-        assert_eq!(rt; count_of_right::<Win64>(alloc, over)?, SIGNATURES.len());
-    }
-    Ok(())
+    check_all::<Amd64>(&rt, alloc)?;
+    check_all::<Aapcs64>(&rt, alloc)?;
+    check_all::<Riscv>(&rt, alloc)?;
+    check_all::<Win64>(&rt, alloc)
 }

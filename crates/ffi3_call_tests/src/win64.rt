@@ -2,13 +2,11 @@
 //! in the first of them; an argument of three bytes by reference; copies at multiples of 16; a variadic double in two
 //! registers; and 32 bytes of stack for the callee.
 
-use crate::arguments::{check_general, stored};
-use crate::slots::{SIGNATURES, come, fitting, gives_back, prepared, some_arguments};
+use crate::arguments::{check_general, store_some};
+use crate::slots::{SIGNATURES, come, gives_back};
 use ffi3_machine::Machine;
 use ffi3_place::Abi;
-use ffi3_types::Bytes;
 use ffi3_win64::Win64;
-use std::alloc::Global;
 use std::process::Abort;
 use std::test::Fail;
 
@@ -34,9 +32,8 @@ fn check_stored(rt: &impl Abort, machine: &Machine) {
 #[test]
 fn each_position_has_its_place(rt: HostRuntime) -> Result<(), Fail> {
     let alloc = rt.alloc();
-    let cif = prepared::<Win64>(alloc, SIGNATURES[EACH])?;
-    let list = some_arguments(alloc, &cif, &mut Bytes::new(alloc))?;
-    let machine = stored(alloc, &cif, fitting(alloc, &cif, &list)?)?;
+    let mut machine = Machine::new(alloc)?;
+    store_some::<Win64>(alloc, &mut machine, SIGNATURES[EACH])?;
     check_stored(&rt, &machine);
     Ok(())
 }
@@ -45,9 +42,7 @@ fn each_position_has_its_place(rt: HostRuntime) -> Result<(), Fail> {
 /// back.
 #[test]
 fn the_first_bytes_are_the_callees(rt: HostRuntime) -> Result<(), Fail> {
-    let alloc = rt.alloc();
-    let cif = prepared::<Win64>(alloc, SIGNATURES[EACH])?;
-    let came = come(alloc, &cif, Some(0x5A))?;
+    let came = come::<Win64>(rt.alloc(), SIGNATURES[EACH], Some(0x5A))?;
     assert!(rt; came.right && came.first == [0x5A; 32]);
     assert!(rt; came.entry.general[1] == BUFFER && came.leave.general[0] == BUFFER);
     assert!(rt; Win64::KEPT == 18 && gives_back::<Win64>(&came));

@@ -1,10 +1,10 @@
-//! The top call over sources and sinks in memory: ends that fail, what a run leaves in the machine,
-//! and why words are refused.
-ghost use Rattle.std.specs.Prelude.{◌≡◌, ◌<◌, []};
+//! The top call over sources and sinks in memory: ends that fail, what a run leaves in the machine, and no words at
+//! all.
+ghost use Rattle.std.specs.Prelude.{◌<◌};
 
 use ffi3_app::{Machine, ffi3};
 use ffi3_body::Native;
-use ffi3_io::{MemSink, MemSource, NoMemory, Sink, Source};
+use ffi3_io::{MemSink, MemSource, NoMemory};
 use ffi3_machine::EventKind;
 use std::alloc::Global;
 use std::process::Abort;
@@ -41,6 +41,45 @@ struct World {
     tells_fail: &'static [u64],
 }
 
+/// A source and two sinks in memory.
+#[derive(Drop)]
+pub struct Ends {
+    pub input: MemSource,
+    pub output: MemSink,
+    pub faults: MemSink,
+}
+
+/// A source of the text, whose reads of these numbers fail, and give so many bytes at most.
+pub fn source(alloc: Global, text: &str, fails: &[u64], chunk: usize) -> Result<MemSource, NoMemory>
+    requires { 0 < chunk }
+{
+    let text = Vec::from_slice(alloc, text.as_bytes())?;
+    let fails = Vec::from_slice(alloc, fails)?;
+    Ok(MemSource::new(text, fails).chunk(chunk))
+}
+
+/// A sink with this room, whose writes of these numbers fail, and take so many bytes at most.
+pub fn sink(alloc: Global, room: usize, fails: &[u64], chunk: usize) -> Result<MemSink, NoMemory>
+    requires { 0 < chunk }
+{
+    let fails = Vec::from_slice(alloc, fails)?;
+    Ok(MemSink::new(alloc, room, fails)?.chunk(chunk))
+}
+
+/// The ends of a world, with a script to read.
+fn ends_of(alloc: Global, world: World, script: &str) -> Result<Ends, NoMemory>
+    requires { 0 < world.chunk }
+{
+    let input = source(alloc, script, world.reads_fail, world.chunk)?;
+    let output = sink(alloc, world.room, world.writes_fail, world.chunk)?;
+    let faults = sink(alloc, 8_192, world.tells_fail, world.chunk)?;
+    Ok(Ends {
+        input,
+        output,
+        faults,
+    })
+}
+
 pub fn owned(alloc: Global, words: &[&str]) -> Result<Vec<String>, NoMemory> {
     let mut all = Vec::new(alloc);
     for word in words {
@@ -50,202 +89,307 @@ pub fn owned(alloc: Global, words: &[&str]) -> Result<Vec<String>, NoMemory> {
 }
 
 /// The top call without natives.
-fn call<I: Source, O: Sink, E: Sink>(
+fn call(
     alloc: Global,
     words: &[&str],
-    input: &mut I,
-    output: &mut O,
-    faults: &mut E,
+    ends: &mut Ends,
     machine: &mut Machine,
 ) -> Result<u8, NoMemory> {
     let natives: Vec<Box<dyn Native>> = Vec::new(alloc);
     let words = owned(alloc, words)?;
-    Ok(ffi3(alloc, words, input, output, faults, &natives, machine))
+    Ok(ffi3(
+        alloc,
+        words,
+        &mut ends.input,
+        &mut ends.output,
+        &mut ends.faults,
+        &natives,
+        machine,
+    ))
 }
 
 /// What the program is handed, and what it must answer.
-fn check_in(
+#[derive(Clone, Copy)]
+struct Row {
+    world: World,
+    words: &'static [&'static str],
+    script: &'static str,
+    status: u8,
+    text: &'static str,
+    line: &'static str,
+}
+
+/// The top call on this machine answers what it must, and writes that to these ends.
+fn check_over(
     rt: &impl Abort,
     alloc: Global,
-    world: World,
-    words: &[&str],
-    script: &str,
-    status: u8,
-    text: &str,
-    line: &str,
-) -> Result<(), Fail>
-    requires { 0 < world.chunk }
-{
-    let script = Vec::from_slice(alloc, script.as_bytes())?;
-    let reads_fail = Vec::from_slice(alloc, world.reads_fail)?;
-    let writes_fail = Vec::from_slice(alloc, world.writes_fail)?;
-    let tells_fail = Vec::from_slice(alloc, world.tells_fail)?;
-    let mut input = MemSource::new(script, reads_fail).chunk(world.chunk);
-    let mut output = MemSink::new(alloc, world.room, writes_fail)?.chunk(world.chunk);
-    let mut faults = MemSink::new(alloc, 1_024, tells_fail)?.chunk(world.chunk);
-    let mut machine = Machine::new(alloc)?;
-    let answer = call(
-        alloc,
-        words,
-        &mut input,
-        &mut output,
-        &mut faults,
-        &mut machine,
-    )?;
-    assert_eq!(rt; answer, status);
-    assert_eq!(rt; output.taken(), text.as_bytes());
-    assert_eq!(rt; faults.taken(), line.as_bytes());
+    ends: &mut Ends,
+    machine: &mut Machine,
+    row: &Row,
+) -> Result<(), NoMemory> {
+    let status = call(alloc, row.words, ends, machine)?;
+    assert!(rt; status == row.status);
+    assert!(rt; ends.output.taken() == row.text.as_bytes());
+    assert!(rt; ends.faults.taken() == row.line.as_bytes());
     Ok(())
 }
+
+/// The same over the ends of the row's world.
+fn check_on(
+    rt: &impl Abort,
+    alloc: Global,
+    machine: &mut Machine,
+    row: &Row,
+) -> Result<(), NoMemory> {
+    assert!(rt; 0 < row.world.chunk);
+    let mut ends = ends_of(alloc, row.world, row.script)?;
+    check_over(rt, alloc, &mut ends, machine, row)
+}
+
+/// The same on a new machine.
+fn check(rt: &impl Abort, alloc: Global, row: &Row) -> Result<(), NoMemory> {
+    let mut machine = Machine::new(alloc)?;
+    check_on(rt, alloc, &mut machine, row)
+}
+
+/// Ends that do not fail.
+const CALM: World = World {
+    chunk: 4_096,
+    reads_fail: &[],
+    room: 1_024,
+    writes_fail: &[],
+    tells_fail: &[],
+};
+
+/// Ends that move one byte at a time.
+const BYTES: World = World { chunk: 1, ..CALM };
+
+/// A run that writes 42.
+const INCREMENTS: Row = Row {
+    world: CALM,
+    words: RUN,
+    script: INCREMENT,
+    status: 0,
+    text: "42\n",
+    line: "",
+};
+
+/// A read that fails.
+const NOT_READ: Row = Row {
+    status: 3,
+    text: "",
+    line: READ_FAULT,
+    ..INCREMENTS
+};
+
+/// A write that fails.
+const NOT_WRITTEN: Row = Row {
+    status: 4,
+    text: "",
+    line: WRITE_FAULT,
+    ..INCREMENTS
+};
+
+/// What fails, and what is said of it. Byte by byte a failure comes between the bytes of a line, and of the line of the
+/// fault.
+const FAILURES: [Row; 14] = [
+    Row {
+        world: World {
+            reads_fail: &[1],
+            ..CALM
+        },
+        ..NOT_READ
+    },
+    Row {
+        world: World {
+            reads_fail: &[2],
+            ..CALM
+        },
+        script: FIVE,
+        ..NOT_READ
+    },
+    Row {
+        world: World {
+            reads_fail: &[2],
+            tells_fail: &[1],
+            ..CALM
+        },
+        words: LAYOUT,
+        line: "",
+        ..NOT_WRITTEN
+    },
+    Row {
+        world: World {
+            chunk: 64,
+            reads_fail: &[3],
+            ..CALM
+        },
+        ..NOT_READ
+    },
+    Row {
+        world: World {
+            writes_fail: &[1],
+            ..CALM
+        },
+        ..NOT_WRITTEN
+    },
+    Row {
+        world: World {
+            writes_fail: &[1],
+            tells_fail: &[1],
+            ..CALM
+        },
+        line: "",
+        ..NOT_WRITTEN
+    },
+    Row {
+        world: World {
+            writes_fail: &[3],
+            ..CALM
+        },
+        script: FIVE,
+        text: "1\n2\n",
+        ..NOT_WRITTEN
+    },
+    Row {
+        world: World {
+            writes_fail: &[2],
+            ..CALM
+        },
+        words: LAYOUT,
+        text: "sig 0 ret sint32 size 4 align 4 leaves 0:sint32\n",
+        ..NOT_WRITTEN
+    },
+    Row {
+        world: World {
+            writes_fail: &[2],
+            ..CALM
+        },
+        words: PLACE,
+        text: "sig 0 need 224 frame 0 block 16\n",
+        ..NOT_WRITTEN
+    },
+    Row {
+        world: World {
+            writes_fail: &[4],
+            ..BYTES
+        },
+        script: FIVE,
+        text: "1\n2",
+        ..NOT_WRITTEN
+    },
+    Row {
+        world: World {
+            writes_fail: &[4],
+            tells_fail: &[7],
+            ..BYTES
+        },
+        script: FIVE,
+        text: "1\n2",
+        line: "ffi3: ",
+        ..NOT_WRITTEN
+    },
+    Row {
+        world: World { room: 5, ..CALM },
+        words: PLACE,
+        text: "sig 0",
+        ..NOT_WRITTEN
+    },
+    Row {
+        world: World {
+            tells_fail: &[1],
+            ..CALM
+        },
+        words: LAYOUT,
+        script: "",
+        line: "",
+        ..NOT_WRITTEN
+    },
+    Row {
+        world: World {
+            tells_fail: &[1],
+            ..CALM
+        },
+        words: &["ffi3"],
+        script: "",
+        line: "",
+        ..NOT_WRITTEN
+    },
+];
 
 #[test]
 fn says_what_failed(rt: HostRuntime) -> Result<(), Fail> {
     let alloc = rt.alloc();
-    let calm = World {
-        chunk: 4_096,
-        reads_fail: &[],
-        room: 1_024,
-        writes_fail: &[],
-        tells_fail: &[],
-    };
-    let mut reads = calm;
-    reads.reads_fail = &[1];
-    check_in(&rt, alloc, reads, RUN, INCREMENT, 3, "", READ_FAULT)?;
-    reads.reads_fail = &[2];
-    check_in(&rt, alloc, reads, RUN, FIVE, 3, "", READ_FAULT)?;
-    reads.tells_fail = &[1];
-    check_in(&rt, alloc, reads, LAYOUT, INCREMENT, 4, "", "")?;
-    let mut parts = calm;
-    parts.chunk = 64;
-    parts.reads_fail = &[3];
-    check_in(&rt, alloc, parts, RUN, INCREMENT, 3, "", READ_FAULT)?;
-    let mut first = calm;
-    first.writes_fail = &[1];
-    check_in(&rt, alloc, first, RUN, INCREMENT, 4, "", WRITE_FAULT)?;
-    first.tells_fail = &[1];
-    check_in(&rt, alloc, first, RUN, INCREMENT, 4, "", "")?;
-    let mut third = calm;
-    third.writes_fail = &[3];
-    check_in(&rt, alloc, third, RUN, FIVE, 4, "1\n2\n", WRITE_FAULT)?;
-    let mut second = calm;
-    second.writes_fail = &[2];
-    let ret = "sig 0 ret sint32 size 4 align 4 leaves 0:sint32\n";
-    check_in(&rt, alloc, second, LAYOUT, INCREMENT, 4, ret, WRITE_FAULT)?;
-    let sig = "sig 0 need 224 frame 0 block 16\n";
-    check_in(&rt, alloc, second, PLACE, INCREMENT, 4, sig, WRITE_FAULT)?;
-    // Byte by byte a failure comes between the bytes of a line, and of the line of the fault.
-    let mut bytes = calm;
-    bytes.chunk = 1;
-    bytes.writes_fail = &[4];
-    check_in(&rt, alloc, bytes, RUN, FIVE, 4, "1\n2", WRITE_FAULT)?;
-    bytes.tells_fail = &[7];
-    check_in(&rt, alloc, bytes, RUN, FIVE, 4, "1\n2", "ffi3: ")?;
-    let mut small = calm;
-    small.room = 5;
-    check_in(&rt, alloc, small, PLACE, INCREMENT, 4, "sig 0", WRITE_FAULT)?;
-    let mut telling = calm;
-    telling.tells_fail = &[1];
-    check_in(&rt, alloc, telling, LAYOUT, "", 4, "", "")?;
-    check_in(&rt, alloc, telling, &["ffi3"], "", 4, "", "")
+    for row in FAILURES {
+        check(&rt, alloc, &row)?;
+    }
+    Ok(())
 }
 
-/// Words that are refused with a text that has this part.
-fn check_words(rt: &impl Abort, alloc: Global, words: &[&str], part: &str) -> Result<(), Fail> {
-    let mut input = MemSource::new(Vec::new(alloc), Vec::new(alloc));
-    let mut output = MemSink::new(alloc, 64, Vec::new(alloc))?;
-    let mut faults = MemSink::new(alloc, 8_192, Vec::new(alloc))?;
-    let mut machine = Machine::new(alloc)?;
-    let status = call(
-        alloc,
-        words,
-        &mut input,
-        &mut output,
-        &mut faults,
-        &mut machine,
-    )?;
-    assert_eq!(rt; status, 2);
-    assert_eq!(rt; output.taken(), b"".as_slice());
-    let text = String::from_utf8(Vec::from_slice(alloc, faults.taken())?);
+/// Not even a program's name: that is refused, as no words behind the name are.
+fn check_no_words(
+    rt: &impl Abort,
+    alloc: Global,
+    ends: &mut Ends,
+    machine: &mut Machine,
+) -> Result<(), Fail> {
+    let status = call(alloc, &[], ends, machine)?;
+    assert!(rt; status == 2);
+    assert!(rt; ends.output.taken() == b"".as_slice());
+    let text = String::from_utf8(Vec::from_slice(alloc, ends.faults.taken())?);
     let Ok(text) = text else {
         return Err(Fail::from("not UTF-8"));
     };
-    assert!(rt; text.as_str().contains(part), "{text}");
+    assert!(rt; text.as_str().contains("Usage: ffi3 <COMMAND>"), "{text}");
     assert!(rt; text.as_str().ends_with('\n'), "{text}");
     Ok(())
 }
 
 #[test]
-fn says_why_words_are_refused(rt: HostRuntime) -> Result<(), Fail> {
+fn says_why_no_words_are_refused(rt: HostRuntime) -> Result<(), Fail> {
     let alloc = rt.alloc();
-    let rows: [(&[&str], &str); 8] = [
-        (&[], "Usage: ffi3 <COMMAND>"),
-        (&["ffi3", "draw"], "unrecognized subcommand 'draw'"),
-        (&["ffi3", "place"], "Usage: ffi3 place --target <TARGET>"),
-        (
-            &["ffi3", "place", "--target", "i386"],
-            "[possible values: amd64, aapcs64, riscv, win64]",
-        ),
-        (
-            &["ffi3", "run", "--target", "i386"],
-            "[possible values: amd64, aapcs64, riscv, win64]",
-        ),
-        (&["ffi3", "layout", "extra"], "unexpected argument 'extra'"),
-        (
-            &["ffi3", "help", "run"],
-            "ffi3 run --target amd64 < examples/increment.json",
-        ),
-        (&["ffi3", "--version"], "ffi3 0.1.0"),
-    ];
-    for row in &rows {
-        check_words(&rt, alloc, row.0, row.1)?;
-    }
-    Ok(())
+    let mut ends = ends_of(alloc, CALM, "")?;
+    let mut machine = Machine::new(alloc)?;
+    check_no_words(&rt, alloc, &mut ends, &mut machine)
 }
 
-/// A run by the words over ends that move one byte at a time, and the machine after it: one entry, one return, and the
-/// mark.
+/// After the run of the row the machine has one entry and one return, with these stack pointers, and this mark.
 fn check_machine(
     rt: &impl Abort,
     alloc: Global,
-    words: &[&str],
+    row: &Row,
     entry_sp: u64,
     leave_sp: u64,
     mark: u64,
-) -> Result<(), Fail> {
-    let script = Vec::from_slice(alloc, INCREMENT.as_bytes())?;
-    let mut input = MemSource::new(script, Vec::new(alloc)).chunk(1);
-    let mut output = MemSink::new(alloc, 64, Vec::new(alloc))?.chunk(1);
-    let mut faults = MemSink::new(alloc, 64, Vec::new(alloc))?;
+) -> Result<(), NoMemory> {
     let mut machine = Machine::new(alloc)?;
-    let status = call(
-        alloc,
-        words,
-        &mut input,
-        &mut output,
-        &mut faults,
-        &mut machine,
-    )?;
-    assert_eq!(rt; status, 0);
-    assert_eq!(rt; output.taken(), b"42\n".as_slice());
-    assert_eq!(rt; machine.mark(), mark);
+    check_on(rt, alloc, &mut machine, row)?;
+    assert!(rt; machine.mark() == mark);
+    check_events(rt, &machine, entry_sp, leave_sp);
+    Ok(())
+}
+
+/// One entry of the first closure, and one return.
+fn check_events(rt: &impl Abort, machine: &Machine, entry_sp: u64, leave_sp: u64) {
     let events = machine.events();
-    assert_eq!(rt; events.len(), 2);
+    assert!(rt; events.len() == 2);
     if events.len() == 2 {
         let entry = events.get(0);
-        assert_eq!(rt; entry.kind, EventKind::Enter);
-        assert_eq!(rt; entry.closure, 0x1_0000);
-        assert_eq!(rt; entry.sp, entry_sp);
+        assert!(rt; entry.kind == EventKind::Enter && entry.closure == 0x1_0000);
+        assert!(rt; entry.sp == entry_sp);
         let leave = events.get(1);
-        assert_eq!(rt; leave.kind, EventKind::Leave);
-        assert_eq!(rt; leave.sp, leave_sp);
+        assert!(rt; leave.kind == EventKind::Leave && leave.sp == leave_sp);
     }
-    Ok(())
 }
 
 /// The mark is 80 bytes down on AMD64, and 208 by Microsoft x64, whose callee has 32 bytes of the frame.
 #[test]
 fn goes_byte_by_byte(rt: HostRuntime) -> Result<(), Fail> {
     let alloc = rt.alloc();
-    check_machine(&rt, alloc, RUN, 0x7FFE_FFF8, 0x7FFF_0000, 0x7FFE_FFB0)?;
-    check_machine(&rt, alloc, BY_WIN64, 0x7FFE_FFD8, 0x7FFE_FFE0, 0x7FFE_FF30)
+    let mut row = INCREMENTS;
+    row.world = BYTES;
+    check_machine(&rt, alloc, &row, 0x7FFE_FFF8, 0x7FFF_0000, 0x7FFE_FFB0)?;
+    row.words = BY_WIN64;
+    check_machine(&rt, alloc, &row, 0x7FFE_FFD8, 0x7FFE_FFE0, 0x7FFE_FF30)?;
+    Ok(())
 }
