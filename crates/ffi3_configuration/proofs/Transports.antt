@@ -45,6 +45,10 @@ returned_as std std' s s' v m m' a b h =
     let Q = λ (x : Signature). HasReturned std x v m m' in
     subst P a (subst Q b h)
 
+-- what holds of a machine holds of it as it is left, where nothing was done to it since
+pub as_left : (Q : State → Type 0) (m left : State) → Q m → left ≡ m → Q left
+as_left Q m left h same = subst Q (sym same) h
+
 -- what came of the lines of an entry
 pub entry_told_as : (trace : Bool) (std std' : Standard) (s s' : Signature) (m : State) (lines : List ℕ) → std ≡ std' → s ≡ s' → entry_lines trace std' s' (last_event m.events) (arguments_in s'.arguments (stack_at m.sp (block_bytes s') m)) ≡ lines → entry_lines trace std s (last_event m.events) (arguments_in s.arguments (stack_at m.sp (block_bytes s) m)) ≡ lines
 entry_told_as trace std std' s s' m lines a b is =

@@ -134,7 +134,8 @@ impl<S: Drop> Configuration<S> {
             return Turn::NoMemory;
         };
         let incoming = begin_call(machine, &self.table, cif, args, ptr);
-        if let Err(why) = tell_entry(alloc, machine, output, cif, trace) {
+        let told = tell_entry(alloc, machine, output, cif, trace);
+        if let Err(why) = told {
             return Turn::cut_off(why);
         }
         self.suspended.push_reserved(Waiting {

@@ -1,6 +1,12 @@
-use Rattle.std.proofs.Common.{◌≡◌, ◌<◌, ◌≤◌, ◌+◌, ◌++◌, length, take, refl, arith}
+use Rattle.std.proofs.Common.{◌≡◌, ◌<◌, ◌≤◌, ◌+◌, ◌++◌, length, take, refl, arith, length-take}
 use Rattle.std.proofs.lemmas.Grind.{common_steps}
 use Rattle.ffi3_io.proofs.source.read_on.Goals as goal
+
+pub returns-clause-within : goal.returns-clause-within
+returns-clause-within g c =
+    let fits : length c.args.bytes.now.items + c.min-most.result ≤ c.args.limit = omega (arith, c.requires.wanted, c.min-most.ensures) in
+    let room = length-take c.min-most.result c.args.buf.now in
+    omega (arith, fits, room, c.in-Ok.ensures.within)
 
 pub returns-then-is_err-clause-until : goal.returns-then-is_err-clause-until
 returns-then-is_err-clause-until g c =

@@ -8,9 +8,10 @@ use Rattle.ffi3_configuration.specs.Between.{IsBetween, run_state_with}
 use Rattle.ffi3_configuration.specs.Going.{activation_of}
 use Rattle.ffi3_configuration.specs.Served.{ShowsCall, served_base, served_beginning, served_left, served_tracing}
 use Rattle.ffi3_configuration.proofs.Accepting.{WasAccepted, cut_at_entry, entry_told, served_begins}
-use Rattle.ffi3_configuration.proofs.Transports.{cut_as, entry_told_as, numbered}
+use Rattle.ffi3_configuration.proofs.Transports.{as_left, cut_as, entry_told_as, numbered}
 use Rattle.ffi3_io.proofs.Writing.{took_as}
 use Rattle.ffi3_place_rules.specs.Event.{Event}
+use Rattle.ffi3_machine.specs.State.{State}
 use Rattle.ffi3_configuration.proofs.configuration.Configuration.accept_call.Goals as goal
 
 pub accept-incoming-requires-clause-target : goal.accept-incoming-requires-clause-target
@@ -106,6 +107,7 @@ returns-clause-accepted g c = λ p arguments signatures needs shown holds known 
     let tracing = served_tracing c.args.trace std p.signatures closure.sig m in
     let lines = entry_told_as c.args.trace std std s (signature_at p.signatures closure.sig) m' _ refl (sym same) (entry_told p std closure arguments m m' incoming o b.table b.moves tracing needs below shows holds known few is c.args.trace) in
     let call : OpenCall = record { sig = closure.sig; incoming = incoming } in
-    let P = λ (l : List (Waiting g.row.S.Denot)) (a : Activation g.row.S.Denot). IsBetween p (served_base std p.signatures closure.sig m) (served_left std p closure arguments m b.table b.moves) (served_beginning std (signature_at p.signatures closure.sig) m o' tracing) [] [] (run_state_with p.signatures (Some call) (reverse l) b.table b.moves m' o' a) in
+    let P = λ (x : State) (l : List (Waiting g.row.S.Denot)) (a : Activation g.row.S.Denot). IsBetween p (served_base std p.signatures closure.sig m) (served_left std p closure arguments m b.table b.moves) (served_beginning std (signature_at p.signatures closure.sig) m o' tracing) [] [] (run_state_with p.signatures (Some call) (reverse l) b.table b.moves x o' a) in
     let begins = served_begins p std closure arguments m m' incoming o' b.table b.moves tracing needs below shows holds known few is c.args.standing in
-    (took_as o o' _ _ lines c.in_default.ensures, subst (P b.suspended.items) (sym c.of_closure.ensures) (subst (λ (l : List (Waiting g.row.S.Denot)). P l (activation_of closure c.args.standing)) (sym c.requires.alone) begins))
+    let stands = subst (P m' b.suspended.items) (sym c.of_closure.ensures) (subst (λ (l : List (Waiting g.row.S.Denot)). P m' l (activation_of closure c.args.standing)) (sym c.requires.alone) begins) in
+    (took_as o o' _ _ lines c.in_default.ensures, as_left (λ (x : State). P x b.suspended.items c.of_closure.result) m' _ stands search)

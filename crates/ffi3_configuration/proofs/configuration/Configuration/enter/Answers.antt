@@ -28,7 +28,7 @@ pub returns-in-Err-clause-turned : goal.returns-in-Err-clause-turned
 returns-in-Err-clause-turned g c = λ p base all first own events standard signatures tracing is does.
     let std = g.A.Abi.standard in
     let o = g.O.Sink.state c.args.output.now in
-    let o' = g.O.Sink.state c.tell_entry.new.output in
+    let o' = g.O.Sink.state c.tell_entry-told.new.output in
     let b = c.args.self.now in
     let outer = reverse b.suspended.items in
     let m = c.args.machine.now in
@@ -50,7 +50,7 @@ pub returns-clause-turned : goal.returns-clause-turned
 returns-clause-turned g c = λ p base all first own events standard signatures tracing is does.
     let std = g.A.Abi.standard in
     let o = g.O.Sink.state c.args.output.now in
-    let o' = g.O.Sink.state c.tell_entry.new.output in
+    let o' = g.O.Sink.state c.tell_entry-told.new.output in
     let b = c.args.self.now in
     let outer = reverse b.suspended.items in
     let m = c.args.machine.now in
@@ -65,7 +65,7 @@ returns-clause-turned g c = λ p base all first own events standard signatures t
     let s = c.get-cif.result.now in
     let called = has_called p base std c.args.cifs.now s ptr sig c.LINK.result c.frame.result args m c.journal_room.new.self m' incoming standard signatures c.get-cif.ensures (c.LINK.ensures ∙ sym g.met.A.Abi.link_is) c.frame.ensures c.in-Ok-journal_room.ensures.ok begun.begun begun.incoming begun.block c.requires.site in
     let lines = entry_told_as c.args.trace std base.standard s (signature_at p.signatures sig) m' _ (sym standard) (numbered p c.args.cifs.now sig s signatures c.get-cif.ensures) (call_lines p base all first own events b.served outer b.table b.moves m o current ptr sig args is closure does m' incoming called c.args.standing c.args.trace tracing) in
-    let told = took_as o o' _ _ lines c.in_default-tell_entry.ensures in
+    let told = took_as o o' _ _ lines c.in_default-told.ensures in
     let entered = call_entered p base all first own events b.served outer b.table b.moves m o current ptr sig args is closure does m' incoming called c.args.standing o' told in
     let here : Waiting g.row.S.Denot = record { activation = current; call = record { sig = sig; incoming = incoming } } in
     let items = c.push_reserved.ensures.items ∙ ap (λ (l : List (Waiting g.row.S.Denot)). l ++ here ∷ []) c.in-Ok.ensures.items in
