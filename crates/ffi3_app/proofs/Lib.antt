@@ -7,5 +7,4 @@ pub mod Pieces
 pub mod Right
 pub mod Running
 pub mod Saying
-pub mod Telling
 pub mod Working

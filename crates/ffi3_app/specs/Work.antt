@@ -41,11 +41,15 @@ Works IsOne output output' machine machine' (Err NoMemory) =
     ⊎ ((o : Outcome) × IsOne o × IsDoneInPart false o output output' machine machine'))
     × (output'.faults ≡ output.faults)
 
+-- why writing ended before its end is why the work did
+abbrev pub unfinished_by : IoError → Unfinished
+unfinished_by io.NoMemory = NoMemory
+unfinished_by io.Failed = WriteFault
+
 -- what writing came to is what the work came to
 abbrev pub work_of_writing : Result Unit IoError → Result ℕ Unfinished
 work_of_writing (Ok u) = Ok 0
-work_of_writing (Err io.NoMemory) = Err NoMemory
-work_of_writing (Err io.Failed) = Err WriteFault
+work_of_writing (Err why) = Err (unfinished_by why)
 
 -- the input is refused with this line, or there was no memory for it
 abbrev pub RefusesWith : List ℕ → Unfinished → Type 0

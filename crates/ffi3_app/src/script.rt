@@ -1,10 +1,8 @@
 //! From the bytes of an input to a script, or to the line that refuses them.
-ghost use Rattle.std.specs.Prelude.{◌≡◌, ◌<◌, ◌++◌, ◌^◌, List, ℕ, IfOk, IfErr, OnOk, length};
+ghost use Rattle.std.specs.Prelude.{◌≡◌, ◌<◌, ◌^◌, List, ℕ, IfOk, IfErr, length};
 ghost use Rattle.ffi3_script_rules.specs.Natives.{names_of};
 ghost use Rattle.ffi3_script_rules.specs.Reading.{IsReading, script};
-ghost use Rattle.ffi3_script_rules.specs.ReasonText.{text_of_path, text_of_step};
 ghost use Rattle.ffi3_script.specs.ScriptOf.{script_of, natives_of};
-ghost use Rattle.ffi3_json.specs.StepOf.{step_of};
 ghost use Rattle.ffi3_ask.specs.Handed.{handed};
 ghost use Rattle.ffi3_app.specs.Outcome.{located_line};
 ghost use Rattle.ffi3_app.specs.Work.{IsNoScript, IsToldAs};
@@ -12,7 +10,8 @@ ghost use Rattle.ffi3_app.specs.Work.{IsNoScript, IsToldAs};
 use crate::names::names_of_natives;
 use crate::unfinished::{Unfinished, refused, words};
 use ffi3_body::Native;
-use ffi3_json::{ScriptFault, Step, Where, reason_text};
+use ffi3_image::path_text;
+use ffi3_json::{ScriptFault, Where, reason_text};
 use ffi3_script::{Script, read_script};
 use ffi3_types::{Bytes, NoMemory};
 use std::alloc::Global;
@@ -45,14 +44,14 @@ fn refusal(alloc: Global, fault: &ScriptFault) -> Unfinished
         ScriptFault::TooLong => refused(words(alloc, "ffi3: script too long\n")),
         ScriptFault::BadJson => refused(words(alloc, "ffi3: not JSON\n")),
         ScriptFault::BadScript { path, why } => {
-            refused(place_line(alloc, path, reason_text(alloc, why)))
+            refused(fault_line(alloc, path, reason_text(alloc, why)))
         }
         ScriptFault::NoMemory => Unfinished::NoMemory,
     }
 }
 
 // The line of a place and what is said of it, where there was memory for the words.
-fn place_line(
+fn fault_line(
     alloc: Global,
     path: &Where,
     words: Result<Bytes, NoMemory>,
@@ -75,28 +74,4 @@ fn located_line(alloc: Global, path: &Where, words: &[u8]) -> Result<Bytes, NoMe
     line.extend(words)?;
     line.push(b'\n')?;
     Ok(line)
-}
-
-// Each key and number after `/`; the root is `/` alone.
-fn path_text(alloc: Global, path: &Where) -> Result<Bytes, NoMemory>
-    ensures { IfOk result (λ text. text ≡ text_of_path path.now) }
-{
-    if path.len() == 0 {
-        return Bytes::from_slice(alloc, "/".as_bytes());
-    }
-    let mut text = Bytes::new(alloc);
-    for i in 0..path.len() {
-        write_step(alloc, path.get(i), &mut text)?;
-    }
-    Ok(text)
-}
-
-fn write_step(alloc: Global, step: &Step, text: &mut Bytes) -> Result<(), NoMemory>
-    ensures { OnOk result (text.new ≡ text.old ++ text_of_step (step_of step.now)) }
-{
-    text.push(b'/')?;
-    match step {
-        Step::Key(name) => text.extend(name.as_str().as_bytes()),
-        Step::Number(i) => text.extend(format!(in alloc; "{i}")?.as_bytes()),
-    }
 }

@@ -13,7 +13,7 @@ use crate::work::work;
 use ffi3_body::Native;
 use ffi3_io::{IoError, Sink, Source};
 use ffi3_machine::Machine;
-use ffi3_status::{tell, tell_bytes};
+use ffi3_status::{Fault, tell, tell_bytes, tell_fault};
 use ffi3_words::{WordsFault, read_words};
 use std::alloc::Global;
 
@@ -93,17 +93,17 @@ fn answer<I: Source, O: Sink, E: Sink>(
     let request = match read_words(alloc, words) {
         Ok(request) => request,
         Err(WordsFault::Refused(text)) => return tell(faults, text.as_str(), 2),
-        Err(WordsFault::NoMemory) => return tell(faults, "ffi3: out of memory\n", 5),
+        Err(WordsFault::NoMemory) => return tell_fault(faults, Fault::NoMemory),
     };
     let bytes = match bytes_for(alloc, reads_input(request), input) {
         Ok(bytes) => bytes,
-        Err(IoError::NoMemory) => return tell(faults, "ffi3: out of memory\n", 5),
-        Err(IoError::Failed) => return tell(faults, "ffi3: read fault\n", 3),
+        Err(IoError::NoMemory) => return tell_fault(faults, Fault::NoMemory),
+        Err(IoError::Failed) => return tell_fault(faults, Fault::Read),
     };
     match work(alloc, request, &bytes, natives, machine, output) {
         Ok(status) => status,
         Err(Unfinished::Refused(line)) => tell_bytes(faults, line.as_slice(), 1),
-        Err(Unfinished::NoMemory) => tell(faults, "ffi3: out of memory\n", 5),
-        Err(Unfinished::WriteFault) => tell(faults, "ffi3: write fault\n", 4),
+        Err(Unfinished::NoMemory) => tell_fault(faults, Fault::NoMemory),
+        Err(Unfinished::WriteFault) => tell_fault(faults, Fault::Write),
     }
 }

@@ -2,6 +2,7 @@
 ghost use Rattle.std.specs.Prelude.{◌≡◌, List, ℕ, IfOk};
 ghost use Rattle.ffi3_app.specs.Work.{RefusesWith};
 
+use ffi3_io::IoError;
 use ffi3_types::{Bytes, NoMemory};
 use std::alloc::Global;
 
@@ -14,6 +15,21 @@ pub enum Unfinished {
     NoMemory,
     /// A write to the output failed.
     WriteFault,
+}
+
+/// Why a command ended where writing its text did not come to the end.
+impl From<IoError> for Unfinished {
+    ghost use Rattle.std.specs.Prelude.{◌≡◌};
+    ghost use Rattle.ffi3_app.specs.Work.{unfinished_by};
+
+    ghost from_gives = { λ why e. e ≡ unfinished_by why };
+
+    fn from(why: IoError) -> Unfinished {
+        match why {
+            IoError::NoMemory => Unfinished::NoMemory,
+            IoError::Failed => Unfinished::WriteFault,
+        }
+    }
 }
 
 /// A refusal with a line, where there was memory to make it.

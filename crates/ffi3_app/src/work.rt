@@ -67,11 +67,8 @@ pub fn work<O: Sink>(
 fn written(text: Result<(), IoError>) -> Result<u8, Unfinished>
     ensures { result ≡ work_of_writing text }
 {
-    match text {
-        Ok(()) => Ok(0),
-        Err(IoError::NoMemory) => Err(Unfinished::NoMemory),
-        Err(IoError::Failed) => Err(Unfinished::WriteFault),
-    }
+    text?;
+    Ok(0)
 }
 
 // ---- layout and place

@@ -34,6 +34,7 @@ use Rattle.ffi3_io.specs.Sink.{SinkState}
 use Rattle.ffi3_io.specs.Written.{TookText}
 use Rattle.ffi3_io.specs.declared.IoError.{IoError}
 use Rattle.ffi3_pieces.specs.Stored.{WroteWithin, with_journal_of}
+use Rattle.ffi3_callee.specs.Answered.{IsBesideResult}
 use Rattle.ffi3_callee.specs.Given.{ResultWrites}
 use Rattle.ffi3_invoke.specs.Calls.{HasReturned, IsInCallee, return_at}
 use Rattle.ffi3_invoke.proofs.Returned.{result_within}
@@ -45,7 +46,7 @@ use Rattle.ffi3_configuration.specs.Known.{AreKnown}
 use Rattle.ffi3_configuration.specs.Counted.{steps_after, back_at_caller}
 use Rattle.ffi3_configuration.specs.Between.{Beginning, RunState, asking, position, text_so_far, depth_below, IsMarkOf, KeepsFound, IsAsking, run_state_with}
 use Rattle.ffi3_configuration.specs.Outermost.{AreEntriesOf}
-use Rattle.ffi3_configuration.specs.Served.{IsOutsideBuffer, KeepsFrame, KeepsCallers, HasServed, HasLeft}
+use Rattle.ffi3_configuration.specs.Served.{KeepsFrame, KeepsCallers, HasServed, HasLeft}
 use Rattle.ffi3_configuration.specs.Stack.{caller_sp, IsOpen, OpenStand, HoldsCalls}
 use Rattle.ffi3_configuration.specs.TraceLines.{last_event, return_lines}
 use Rattle.ffi3_configuration.specs.Turned.{IsEnded, TurnIsDone, WasInterruptedAfter, is_in_line, last_return}
@@ -90,7 +91,7 @@ outside_stretch : (low high : ℕ) (a b : State) (address : ℕ) → WroteWithin
 outside_stretch low high a b address w inside (inl far) = w.outside (address - STACK) (inl (omega (arith, inside, far)))
 outside_stretch low high a b address w inside (inr far) = w.outside (address - STACK) (inr (omega (arith, inside, far)))
 
-outside_result : (base : ℕ) (t : Tree) (res : Res) (a b : State) (address : ℕ) → ResultWrites base t res a b → STACK ≤ address → IsOutsideBuffer base t res address → get_or b.stack (address - STACK) 0 ≡ get_or a.stack (address - STACK) 0
+outside_result : (base : ℕ) (t : Tree) (res : Res) (a b : State) (address : ℕ) → ResultWrites base t res a b → STACK ≤ address → IsBesideResult base t res address → get_or b.stack (address - STACK) 0 ≡ get_or a.stack (address - STACK) 0
 outside_result base t Nothing a b address w inside far = outside_stretch base base a b address w inside (cases_lt address base)
 outside_result base t (Direct pieces) a b address w inside far = outside_stretch base base a b address w inside (cases_lt address base)
 outside_result base t (Hidden at buffer) a b address w inside far = outside_stretch (base + buffer) (base + buffer + size_of t) a b address w inside far
@@ -255,7 +256,7 @@ module _ {S : Type 0} (p : Program) (base : Base) (all : Remainder) (first : Beg
       callers_then =
           let F = λ (b : Bottom). KeepsFrame base.standard p.signatures b base.entries m'.stack in
           let G = λ (l : List Event). KeepsFrame base.standard p.signatures (served below.sig) l m'.stack in
-          let B = λ (i : ℕ) (n : ℕ). IsOutsideBuffer n site.result_type (plan_of base.standard site).res (below.entry.image.sp + i) in
+          let B = λ (i : ℕ) (n : ℕ). IsBesideResult n site.result_type (plan_of base.standard site).res (below.entry.image.sp + i) in
           let frame : G (below.entry ∷ []) = λ i inside_frame outside. call_served.frame i inside_frame (subst (B i) (sym sp_is) outside) in
           record {
             above = call_served.found.above;

@@ -29,8 +29,8 @@ pub record WasInterruptedAtEntry (std : Standard) (s : Signature) (arguments : L
   pub stack : (address count : ℕ) → m.sp ≤ address → stack_at address count m' ≡ stack_at address count m
 
 -- THE SERVED CALL WAS ACCEPTED: its entry is told where the run is traced, and its run stands before the first move; or it was interrupted there.
-abbrev pub Accepted : {S A : Type 0} → Standard → Program → Closure → List ValueTree → (trace : Bool) → Configuration S → State
-    → SinkState → Configuration S → State → SinkState → Result A IoError → Type 0
+abbrev pub Accepted : {S A : Type 0} → Standard → Program → Closure → List ValueTree → (trace : Bool)
+    → Configuration S → State → SinkState → Configuration S → State → SinkState → Result A IoError → Type 0
 Accepted std p closure arguments trace b m output b' m' output' (Ok done) =
     TookText
     (entry_lines trace std (signature_at p.signatures closure.sig)

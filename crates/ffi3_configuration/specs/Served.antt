@@ -1,14 +1,10 @@
 -- A call that is served: what a machine shows of it at its entry, what its run begins with, and what it leaves.
-use Rattle.std.specs.Prelude.{◌≡◌, ℕ, ◌+◌, ◌-◌, ◌<◌, ◌≤◌, ◌⊎◌, ⊤, Bool, true, false, if◌then◌else◌, nat_lt, List, []}
+use Rattle.std.specs.Prelude.{◌≡◌, ℕ, ◌+◌, ◌-◌, ◌<◌, ◌≤◌, ⊤, Bool, true, false, if◌then◌else◌, nat_lt, List, []}
 use Rattle.std.specs.Prelude.{◌∷◌, ◌++◌, length, take, drop, get_or, Some, None}
 use Rattle.ffi3_type_rules.specs.declared.limits.TheConstants.{ENTRY, RETURN, STACK, STACK_TOP}
-use Rattle.ffi3_type_rules.specs.Tree.{Tree}
-use Rattle.ffi3_type_rules.specs.Layout.{size_of}
 use Rattle.ffi3_type_rules.specs.Signature.{Signature, signature_at}
 use Rattle.ffi3_type_rules.specs.Value.{ValueTree, void_value}
 use Rattle.ffi3_place_rules.specs.declared.Loc.{Loc}
-use Rattle.ffi3_place_rules.specs.declared.Res.{Res}
-use Rattle.ffi3_place_rules.specs.declared.Res.TheVariants.{Nothing, Direct, Hidden}
 use Rattle.ffi3_place_rules.specs.Event.{Event}
 use Rattle.ffi3_place_rules.specs.Image.{register}
 use Rattle.ffi3_place_rules.specs.Isa.{scribble}
@@ -23,6 +19,7 @@ use Rattle.ffi3_turn_rules.specs.Remainder.{Remainder, Bottom, as_main, served, 
 use Rattle.ffi3_turn_rules.specs.SoFar.{Base}
 use Rattle.ffi3_machine.specs.State.{State, HasReturnAddress}
 use Rattle.ffi3_io.specs.Sink.{SinkState}
+use Rattle.ffi3_callee.specs.Answered.{IsBesideResult}
 use Rattle.ffi3_callee.specs.Received.{OwnsAtEntry}
 use Rattle.ffi3_invoke.specs.Calls.{entry_at, return_at}
 use Rattle.ffi3_configuration.specs.declared.activation.OpenCall.{OpenCall}
@@ -118,14 +115,6 @@ module _ {S : Type 0} where
     pub known : AreKnown p b.table
     pub few : b.moves ≤ most_moves
 
--- ---- at the return
-
--- the byte at an address is none of a hidden result's buffer
-abbrev pub IsOutsideBuffer : ℕ → Tree → Res → ℕ → Type 0
-IsOutsideBuffer base t Nothing address = ⊤
-IsOutsideBuffer base t (Direct pieces) address = ⊤
-IsOutsideBuffer base t (Hidden at buffer) address = (address < base + buffer) ⊎ (base + buffer + size_of t ≤ address)
-
 -- ---- what is above a run
 
 -- of the frame of the call that is served nothing was written but a hidden result's buffer; main has no caller
@@ -135,7 +124,7 @@ KeepsFrame std signatures (served sig) [] stack = ⊥
 KeepsFrame std signatures (served sig) (entry ∷ _) stack =
     (i : ℕ)
     → i < std.link + frame_of std (signature_at signatures sig)
-    → IsOutsideBuffer
+    → IsBesideResult
     (entry.image.sp + std.link)
     (signature_at signatures sig).result_type (plan_of std (signature_at signatures sig)).res (entry.image.sp + i)
     → get_or stack (entry.image.sp + i - STACK) 0 ≡ get_or entry.image.stack i 0
@@ -155,7 +144,7 @@ pub record HasServed (base : Base) (first : Beginning) (entered : Entered) (v : 
   pub sp : m.sp ≡ entered.event.image.sp + base.standard.link
   pub frame : (i : ℕ)
       → i < base.standard.link + frame_of base.standard entered.signature
-      → IsOutsideBuffer m.sp
+      → IsBesideResult m.sp
       entered.signature.result_type (plan_of base.standard entered.signature).res (entered.event.image.sp + i)
       → get_or m.stack (entered.event.image.sp + i - STACK) 0 ≡ get_or entered.event.image.stack i 0
   pub found : KeepsFound base first [] m

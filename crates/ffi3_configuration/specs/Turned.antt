@@ -163,8 +163,8 @@ module _ {S : Type 0} where
     pub counted : (moves ≡ suc b.moves) ⊎ ((stop ≡ MoveLimit) × (moves ≡ 0) × (b.moves ≡ 0))
 
   -- WHAT A MOVE CAME TO, of which there were so many left
-  abbrev pub Turned : Program → Base → Remainder → Beginning → List TraceItem → ℕ → Configuration S → State → SinkState → Turn
-      → Type 0
+  abbrev pub Turned : Program → Base → Remainder → Beginning → List TraceItem → ℕ
+      → Configuration S → State → SinkState → Turn → Type 0
   Turned p base all first own moves b m output turn.More = WentOn p base all first own moves b m output
   Turned p base all first own moves b m output turn.Done = TurnIsDone p base all first own moves b m output
   Turned p base all first own moves b m output (turn.Stopped stop) =

@@ -179,8 +179,8 @@ fn too_short(alloc: Global, there: u64, wanted: u64) -> Result<Bytes, NoMemory>
     Ok(text)
 }
 
-// Each key and number after `/`; the root is `/` alone.
-fn path_text(alloc: Global, path: &Where) -> Result<Bytes, NoMemory>
+/// The text of a JSON place: each key and number after `/`; the root is `/` alone.
+pub fn path_text(alloc: Global, path: &Where) -> Result<Bytes, NoMemory>
     ensures { IfOk result (λ text. text ≡ text_of_path path.now) }
 {
     if path.len() == 0 {

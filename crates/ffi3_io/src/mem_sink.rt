@@ -27,7 +27,14 @@ impl Model for MemSink {
 
     ghost Value = { MemSinkState };
 
-    ghost view = { λ s. record { taken = s.bytes.items; room = s.room; chunk = s.chunk; fails = s.fails.items; calls = s.calls; faults = s.count } };
+    ghost view = { λ s. record {
+      taken = s.bytes.items;
+      room = s.room;
+      chunk = s.chunk;
+      fails = s.fails.items;
+      calls = s.calls;
+      faults = s.count;
+    } };
 
     ghost invariant = { λ s. (vec_len s.bytes ≤ s.room) × (s.room ≤ vec_capacity s.bytes) × (0 < s.chunk) };
 }

@@ -27,7 +27,13 @@ impl Model for MemSource {
 
     ghost Value = { MemSourceState };
 
-    ghost view = { λ s. record { left = drop s.at s.bytes.items; chunk = s.chunk; fails = s.fails.items; calls = s.calls; faults = s.count } };
+    ghost view = { λ s. record {
+      left = drop s.at s.bytes.items;
+      chunk = s.chunk;
+      fails = s.fails.items;
+      calls = s.calls;
+      faults = s.count;
+    } };
 
     ghost invariant = { λ s. (s.at ≤ length s.bytes.items) × (0 < s.chunk) };
 }

@@ -1,4 +1,4 @@
-// The keys of an object.
+// Whether a value is an object of these keys.
 ghost use Rattle.std.specs.Prelude.{◌≡◌, map, IfErr, OnOk};
 ghost use Rattle.serde_json.specs.View.{view};
 ghost use Rattle.ffi3_script_rules.specs.Language as language;

@@ -34,7 +34,8 @@ impl Model for Region {
 
     ghost view = { λ r. record { base = r.base; bytes = r.bytes.items } };
 
-    ghost invariant = { λ r. (r.base + length r.bytes.items < 2 ^ 64) × (r.bytes.ptr ≡ r.block.ptr) × (r.bytes.cap ≡ r.block.size) × (r.block.alloc ≡ r.alloc) };
+    ghost invariant = { λ r. (r.base + length r.bytes.items < 2 ^ 64)
+        × (r.bytes.ptr ≡ r.block.ptr) × (r.bytes.cap ≡ r.block.size) × (r.block.alloc ≡ r.alloc) };
 }
 
 impl Drop for Region {

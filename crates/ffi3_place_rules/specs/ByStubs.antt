@@ -9,8 +9,9 @@ use Rattle.ffi3_place_rules.specs.declared.Loc.{Loc}
 use Rattle.ffi3_place_rules.specs.declared.Loc.TheVariants.{G}
 use Rattle.ffi3_place_rules.specs.declared.SaveWord.{SaveWord}
 use Rattle.ffi3_place_rules.specs.declared.SaveWord.TheVariants.{Register, Hidden, Spare}
-use Rattle.ffi3_place_rules.specs.Isa.{closure_register, call_loads, entry_stores, listed, preserved_words, hidden_register, area_bytes}
-use Rattle.ffi3_place_rules.specs.Isa.{result_loads, call_scratch, entry_scratch, exit_scratch}
+use Rattle.ffi3_place_rules.specs.Isa.{closure_register, call_loads, entry_stores, listed, preserved_words}
+use Rattle.ffi3_place_rules.specs.Isa.{hidden_register, area_bytes, result_loads}
+use Rattle.ffi3_place_rules.specs.Isa.{call_scratch, entry_scratch, exit_scratch}
 use Rattle.ffi3_place_rules.specs.Standard.{Standard, plan_of}
 use Rattle.ffi3_place_rules.specs.Sound.{IsNoneOf, IsOneOf, hidden_locs, result_locs}
 

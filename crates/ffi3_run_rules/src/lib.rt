@@ -1,5 +1,5 @@
-//! What a run of functions is: their moves, the direct meaning, its text and its journal. The definitions are in
-//! `specs/`; these are the words that they share with the code.
+//! What a run of functions is: their moves, the direct meaning (big-step semantics), its text and its journal. The
+//! definitions are in `specs/`; these are the words that they share with the code.
 #![tactic(auto)]
 
 ghost use Rattle.ffi3_run_rules.specs.Meaning.{Program};

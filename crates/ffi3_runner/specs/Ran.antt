@@ -27,8 +27,8 @@ Ran p base all first b m output run.Failed =
     WasInterrupted p base all first cut.Failed b.table b.moves m output
 
 -- A RUN OF MAIN, traced or not, COMES FROM one moment to another: where it stands at the first it stands at the second, with more done.
-abbrev pub ComesTo : Standard → (trace : Bool) → Program → Configuration Standing → State → SinkState → Configuration Standing → State
-    → SinkState → Type 0
+abbrev pub ComesTo : Standard → (trace : Bool) → Program
+    → Configuration Standing → State → SinkState → Configuration Standing → State → SinkState → Type 0
 ComesTo std trace p b m output b' m' output' =
     (base : Base) (all : Remainder) (first : Beginning) (own : List TraceItem) (events : List Event)
     → base.standard ≡ std → IsTracingOf p base trace first.tracing → StandsAt p base all first own events b m output

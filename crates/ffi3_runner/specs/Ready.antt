@@ -19,7 +19,8 @@ abbrev pub traced_or_not : Bool → Bool
 traced_or_not trace = true
 
 -- THE RUN STANDS BETWEEN TWO MOVES, and can be told with each of these values of `trace`. Nothing is said of an output: the next move may write to any, whatever that took before.
-pub record CanGoOn (std : Standard) (p : Program) (traces : Bool → Bool) (b : Configuration Standing) (m : State) : Type 0 where
+pub record CanGoOn (std : Standard) (p : Program) (traces : Bool → Bool)
+    (b : Configuration Standing) (m : State) : Type 0 where
   pub base : Base
   pub all : Remainder
   pub first : Beginning

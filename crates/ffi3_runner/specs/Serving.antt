@@ -59,8 +59,8 @@ module _ (std : Standard) (trace : Bool) (p : Program) (closure : Closure) (argu
         WasInterruptedAtEntry std (signature_at p.signatures closure.sig) arguments trace why m m' output output'
 
 -- WHAT CAME OF A CALL THAT IS SERVED, whatever closure and values the machine showed
-abbrev pub Served : Standard → (trace : Bool) → Program → Configuration Standing → State → SinkState → Configuration Standing → State
-    → SinkState → RunEnd → Type 0
+abbrev pub Served : Standard → (trace : Bool) → Program
+    → Configuration Standing → State → SinkState → Configuration Standing → State → SinkState → RunEnd → Type 0
 Served std trace p b m output b' m' output' end =
     (closure : Closure) (arguments : List ValueTree) → IsAtEntry std p b.table m closure arguments
     → HasRun std trace p closure arguments b m output b' m' output' end

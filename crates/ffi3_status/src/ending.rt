@@ -5,11 +5,9 @@ ghost use Rattle.std.specs.Io.KnownBytes.{Keeps};
 ghost use Rattle.ffi3_io.specs.Sink.{Rose};
 ghost use Rattle.ffi3_status.specs.FaultLines.{ReportsFault, write_fault_line};
 
-use ffi3_io::{Sink, WriteSink, write_all};
+use crate::known::{Fault, WRITE_FAULT, tell_fault};
+use ffi3_io::{Sink, WriteSink};
 use std::io::{BufWriter, Write};
-
-/// The status where a write failed.
-const WRITE_FAULT: u8 = 4;
 
 /// Writes out what the output holds back, and returns the exit status: the one handed in, or 4 where that fails.
 ///
@@ -45,8 +43,5 @@ fn tell_write_fault<E: Sink>(faults: &mut E) -> u8
     ensures status { result ≡ 4 }
     ensures told { ReportsFault write_fault_line 4 (E.state faults.old) (E.state faults.new) 4 }
 {
-    match write_all(faults, b"ffi3: write fault\n") {
-        Ok(()) => WRITE_FAULT,
-        Err(_) => WRITE_FAULT,
-    }
+    tell_fault(faults, Fault::Write)
 }

@@ -2,7 +2,9 @@
 #![tactic(auto)]
 
 mod ending;
+mod known;
 mod telling;
 
 pub use ending::finish;
+pub use known::{Fault, tell_fault};
 pub use telling::{tell, tell_bytes};

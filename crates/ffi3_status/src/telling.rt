@@ -1,6 +1,7 @@
 //! Lines to the sink of faults.
 ghost use Rattle.ffi3_status.specs.FaultLines.{ReportsFault};
 
+use crate::known::WRITE_FAULT;
 use ffi3_io::{Sink, write_all};
 
 /// Writes a line to the sink of faults and returns the exit status: the one handed in, or 4 where the
@@ -17,6 +18,6 @@ pub fn tell_bytes<E: Sink>(faults: &mut E, line: &[u8], status: u8) -> u8
 {
     match write_all(faults, line) {
         Ok(()) => status,
-        Err(_) => 4,
+        Err(_) => WRITE_FAULT,
     }
 }

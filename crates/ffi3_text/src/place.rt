@@ -19,8 +19,8 @@ use std::alloc::Global;
 // Most lines fit, so that no text grows.
 const LINE_ROOM: usize = 64;
 
-/// The bytes of stack that a call takes, as `sig 0 need 80 frame 0 block 16` with a newline; on
-/// AMD64 followed by ` rax 1`: the register that tells the number of vector registers that arguments use, and the number.
+/// The bytes of stack that a call takes, as `sig 0 need 80 frame 0 block 16` with a newline; where the standard has a
+/// register that tells the number of vector registers that arguments use, followed by it and the number, as ` rax 1`.
 pub fn sig_line<A: Abi>(alloc: Global, sig_number: u32, cif: &Cif<A>) -> Result<Bytes, NoMemory>
     ensures { IfOk result (λ text. text ≡ sig_text_of sig_number A.standard cif.now) }
 {

@@ -1,5 +1,5 @@
-//! What a runner needs that keeps a list of unfinished activations: what is left of a run at a moment, the stack that
-//! its calls take, and the calls that are open. The definitions are in `specs/`.
+//! The small-step semantics of a run, for a runner that keeps a list of unfinished activations: one move, what is left
+//! of the run at a moment, the stack that its calls take, and the calls that are open. The definitions are in `specs/`.
 #![tactic(auto)]
 
 ghost use Rattle.ffi3_run_rules.specs.Meaning.{Program};

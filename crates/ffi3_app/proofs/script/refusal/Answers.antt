@@ -18,4 +18,4 @@ returns-in-BadJson c =
 pub returns-in-BadScript : goal.returns-in-BadScript
 returns-in-BadScript c =
     let words = text_of_reason (reason_of c.in-BadScript.why) in
-    told_as c.args.fault.now (BadScript c.in-BadScript.path c.in-BadScript.why) c.refused-in-BadScript.result c.in-BadScript.is (c.refused-in-BadScript.ensures (located_line c.in-BadScript.path words) (c.place_line.ensures words c.reason_text.ensures))
+    told_as c.args.fault.now (BadScript c.in-BadScript.path c.in-BadScript.why) c.refused-in-BadScript.result c.in-BadScript.is (c.refused-in-BadScript.ensures (located_line c.in-BadScript.path words) (c.fault_line.ensures words c.reason_text.ensures))
