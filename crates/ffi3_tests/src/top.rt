@@ -174,51 +174,111 @@ const INCREMENTS: Row = Row {
     line: "",
 };
 
+/// What is asked for.
+#[derive(Clone, Copy)]
+enum Command {
+    Run,
+    Layout,
+    Place,
+    Nothing,
+}
+
+fn words_of(command: Command) -> &'static [&'static str] {
+    match command {
+        Command::Run => RUN,
+        Command::Layout => LAYOUT,
+        Command::Place => PLACE,
+        Command::Nothing => &["ffi3"],
+    }
+}
+
+/// What is read.
+#[derive(Clone, Copy)]
+enum Given {
+    Increment,
+    Five,
+    Nothing,
+}
+
+fn script_of(given: Given) -> &'static str {
+    match given {
+        Given::Increment => INCREMENT,
+        Given::Five => FIVE,
+        Given::Nothing => "",
+    }
+}
+
+/// A row in which the words and the script are named: the proof of a table spells each of its texts out.
+#[derive(Clone, Copy)]
+struct Failure {
+    world: World,
+    command: Command,
+    given: Given,
+    status: u8,
+    text: &'static str,
+    line: &'static str,
+}
+
+fn row_of(failure: Failure) -> Row {
+    Row {
+        world: failure.world,
+        words: words_of(failure.command),
+        script: script_of(failure.given),
+        status: failure.status,
+        text: failure.text,
+        line: failure.line,
+    }
+}
+
 /// A read that fails.
-const NOT_READ: Row = Row {
+const NOT_READ: Failure = Failure {
+    world: CALM,
+    command: Command::Run,
+    given: Given::Increment,
     status: 3,
     text: "",
     line: READ_FAULT,
-    ..INCREMENTS
 };
 
 /// A write that fails.
-const NOT_WRITTEN: Row = Row {
+const NOT_WRITTEN: Failure = Failure {
+    world: CALM,
+    command: Command::Run,
+    given: Given::Increment,
     status: 4,
     text: "",
     line: WRITE_FAULT,
-    ..INCREMENTS
 };
 
 /// What fails, and what is said of it. Byte by byte a failure comes between the bytes of a line, and of the line of the
 /// fault.
-const FAILURES: [Row; 14] = [
-    Row {
+const FAILURES: [Failure; 14] = [
+    Failure {
         world: World {
             reads_fail: &[1],
             ..CALM
         },
         ..NOT_READ
     },
-    Row {
+    Failure {
         world: World {
             reads_fail: &[2],
             ..CALM
         },
-        script: FIVE,
+        given: Given::Five,
         ..NOT_READ
     },
-    Row {
+    Failure {
         world: World {
             reads_fail: &[2],
             tells_fail: &[1],
             ..CALM
         },
-        words: LAYOUT,
+        command: Command::Layout,
         line: "",
         ..NOT_WRITTEN
     },
-    Row {
+    Failure {
         world: World {
             chunk: 64,
             reads_fail: &[3],
@@ -226,14 +286,14 @@ const FAILURES: [Row; 14] = [
         },
         ..NOT_READ
     },
-    Row {
+    Failure {
         world: World {
             writes_fail: &[1],
             ..CALM
         },
         ..NOT_WRITTEN
     },
-    Row {
+    Failure {
         world: World {
             writes_fail: &[1],
             tells_fail: &[1],
@@ -242,76 +302,76 @@ const FAILURES: [Row; 14] = [
         line: "",
         ..NOT_WRITTEN
     },
-    Row {
+    Failure {
         world: World {
             writes_fail: &[3],
             ..CALM
         },
-        script: FIVE,
+        given: Given::Five,
         text: "1\n2\n",
         ..NOT_WRITTEN
     },
-    Row {
+    Failure {
         world: World {
             writes_fail: &[2],
             ..CALM
         },
-        words: LAYOUT,
+        command: Command::Layout,
         text: "sig 0 ret sint32 size 4 align 4 leaves 0:sint32\n",
         ..NOT_WRITTEN
     },
-    Row {
+    Failure {
         world: World {
             writes_fail: &[2],
             ..CALM
         },
-        words: PLACE,
+        command: Command::Place,
         text: "sig 0 need 224 frame 0 block 16\n",
         ..NOT_WRITTEN
     },
-    Row {
+    Failure {
         world: World {
             writes_fail: &[4],
             ..BYTES
         },
-        script: FIVE,
+        given: Given::Five,
         text: "1\n2",
         ..NOT_WRITTEN
     },
-    Row {
+    Failure {
         world: World {
             writes_fail: &[4],
             tells_fail: &[7],
             ..BYTES
         },
-        script: FIVE,
+        given: Given::Five,
         text: "1\n2",
         line: "ffi3: ",
         ..NOT_WRITTEN
     },
-    Row {
+    Failure {
         world: World { room: 5, ..CALM },
-        words: PLACE,
+        command: Command::Place,
         text: "sig 0",
         ..NOT_WRITTEN
     },
-    Row {
+    Failure {
         world: World {
             tells_fail: &[1],
             ..CALM
         },
-        words: LAYOUT,
-        script: "",
+        command: Command::Layout,
+        given: Given::Nothing,
         line: "",
         ..NOT_WRITTEN
     },
-    Row {
+    Failure {
         world: World {
             tells_fail: &[1],
             ..CALM
         },
-        words: &["ffi3"],
-        script: "",
+        command: Command::Nothing,
+        given: Given::Nothing,
         line: "",
         ..NOT_WRITTEN
     },
@@ -320,8 +380,8 @@ const FAILURES: [Row; 14] = [
 #[test]
 fn says_what_failed(rt: HostRuntime) -> Result<(), Fail> {
     let alloc = rt.alloc();
-    for row in FAILURES {
-        check(&rt, alloc, &row)?;
+    for failure in FAILURES {
+        check(&rt, alloc, &row_of(failure))?;
     }
     Ok(())
 }
