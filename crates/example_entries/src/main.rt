@@ -3,7 +3,7 @@
 
 use ffi3_app::{Machine, ffi3};
 use ffi3_body::Native;
-use ffi3_io::{ReadSource, WriteSink, write_all};
+use ffi3_io::{ReadSource, Sink, WriteSink, write_all};
 use ffi3_machine::{Event, EventKind};
 use ffi3_natives::{Apply, Sum3, Twice};
 use ffi3_types::{Bytes, NoMemory};
@@ -50,31 +50,46 @@ fn entry_lines(alloc: Global, machine: &Machine) -> Result<Bytes, NoMemory> {
     Ok(lines)
 }
 
-/// The top call on a new machine, and then the lines of its entries. The status is that of the top call, or 1.
-fn call(rt: &HostRuntime, words: Vec<String>) -> Result<u8, NoMemory> {
+/// The top call on this machine, over the standard input and error and this output.
+fn run<O: Sink>(
+    rt: &HostRuntime,
+    words: Vec<String>,
+    output: &mut O,
+    machine: &mut Machine,
+) -> Result<u8, NoMemory> {
     let alloc = rt.alloc();
-    let mut machine = Machine::new(alloc)?;
     let mut natives: Vec<Box<dyn Native>> = Vec::new(alloc);
     natives.push(Box::new(alloc, Apply::new(alloc)?)?)?;
     natives.push(Box::new(alloc, Twice::new(alloc)?)?)?;
     natives.push(Box::new(alloc, Sum3::new(alloc)?)?)?;
     let mut input = ReadSource::new(rt.stdin());
-    let mut output = WriteSink::new(rt.stdout());
     let mut faults = WriteSink::new(rt.stderr());
-    let status = ffi3(
+    Ok(ffi3(
         alloc,
         words,
         &mut input,
-        &mut output,
+        output,
         &mut faults,
         &natives,
-        &mut machine,
-    );
-    let lines = entry_lines(alloc, &machine)?;
+        machine,
+    ))
+}
+
+/// The top call on this machine, and then the lines of its entries. The status is that of the top call, or 1.
+fn tell(rt: &HostRuntime, words: Vec<String>, machine: &mut Machine) -> Result<u8, NoMemory> {
+    let mut output = WriteSink::new(rt.stdout());
+    let status = run(rt, words, &mut output, machine)?;
+    let lines = entry_lines(rt.alloc(), machine)?;
     match write_all(&mut output, lines.as_slice()) {
         Ok(()) => Ok(status),
         Err(_) => Ok(1),
     }
+}
+
+/// The same on a new machine.
+fn call(rt: &HostRuntime, words: Vec<String>) -> Result<u8, NoMemory> {
+    let mut machine = Machine::new(rt.alloc())?;
+    tell(rt, words, &mut machine)
 }
 
 fn main(rt: HostRuntime) -> ExitCode {

@@ -36,9 +36,10 @@ struct Caller {
     traces: bool,
 }
 
-/// Does the moves of main, each second one into a second output.
+/// Does the moves of main on this machine, which begins, each second one into a second output.
 fn take_turns<A: Abi>(
     alloc: Global,
+    machine: &mut Machine,
     natives: &Vec<Box<dyn Native>>,
     script: &Script,
     caller: &Caller,
@@ -47,7 +48,6 @@ fn take_turns<A: Abi>(
     requires few_natives { length natives.now.items < 2 ^ 31 }
     requires few_signatures { length (signatures_in (handed title meaning signatures natives.now.items)) < 2 ^ 31 }
 {
-    let mut machine = Machine::new(alloc)?;
     machine.begin(A::TARGET);
     let mut output = MemSink::new(alloc, ROOM, Vec::new(alloc))?;
     let mut other = MemSink::new(alloc, ROOM, Vec::new(alloc))?;
@@ -55,7 +55,7 @@ fn take_turns<A: Abi>(
     runner.start();
     let mut second = false;
     loop {
-        let end = runner.turn(&mut machine, &mut output, second && caller.traces);
+        let end = runner.turn(machine, &mut output, second && caller.traces);
         if end != Turn::More {
             return Ok(Turns {
                 end,
@@ -80,6 +80,28 @@ struct Wanted {
 }
 
 /// Runs a script by a standard, and compares the texts of both outputs and the moves that are left.
+fn check_script<A: Abi>(
+    rt: &impl Abort,
+    alloc: Global,
+    natives: &Vec<Box<dyn Native>>,
+    script: &Script,
+    caller: &Caller,
+    wanted: &Wanted,
+) -> Result<(), Fail>
+    requires beside { natives_of script.now ≤ length natives.now.items }
+    requires few_natives { length natives.now.items < 2 ^ 31 }
+    requires few_signatures { length (signatures_in (handed title meaning signatures natives.now.items)) < 2 ^ 31 }
+{
+    let mut machine = Machine::new(alloc)?;
+    let turns = take_turns::<A>(alloc, &mut machine, natives, script, caller)?;
+    assert!(rt; turns.end == wanted.end);
+    assert!(rt; turns.last.taken() == wanted.last.as_bytes());
+    assert!(rt; turns.other.taken() == wanted.other.as_bytes());
+    assert!(rt; turns.moves_left == wanted.moves_left);
+    Ok(())
+}
+
+/// The same of the script that the text is, with no native beside it.
 fn check_turns<A: Abi>(
     rt: &impl Abort,
     alloc: Global,
@@ -91,12 +113,7 @@ fn check_turns<A: Abi>(
     let Some(script) = read_beside(alloc, &natives, text)? else {
         return Err("no script".into());
     };
-    let turns = take_turns::<A>(alloc, &natives, &script, caller)?;
-    assert!(rt; turns.end == wanted.end);
-    assert!(rt; turns.last.taken() == wanted.last.as_bytes());
-    assert!(rt; turns.other.taken() == wanted.other.as_bytes());
-    assert!(rt; turns.moves_left == wanted.moves_left);
-    Ok(())
+    check_script::<A>(rt, alloc, &natives, &script, caller, wanted)
 }
 
 const TRACES: Caller = Caller {
