@@ -649,7 +649,7 @@ impl Abi for Aapcs64 {
 
     ghost TARGET = { aapcs64.target };
 
-    ghost KEPT = { length aapcs64.preserved };
+    ghost KEPT = { length aapcs64.callee_saved };
 
     ghost PASSING = { length aapcs64.argument_registers };
 

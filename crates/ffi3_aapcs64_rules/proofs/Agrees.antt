@@ -26,9 +26,9 @@ agrees = record {
   reserved = refl;
   trampoline = refl;
   written = written;
-  preserved_exist = each_exists (isa_of aapcs64.target) aapcs64.preserved refl;
-  preserved_apart = apart_all aapcs64.preserved refl;
-  preserved_plain = each_none_of (special aapcs64) aapcs64.preserved refl;
+  callee_saved_exist = each_exists (isa_of aapcs64.target) aapcs64.callee_saved refl;
+  callee_saved_apart = apart_all aapcs64.callee_saved refl;
+  callee_saved_plain = each_none_of (special aapcs64) aapcs64.callee_saved refl;
   arguments_exist = each_exists (isa_of aapcs64.target) aapcs64.argument_registers refl;
   arguments_apart = apart_all aapcs64.argument_registers refl;
   arguments_plain = each_none_of (closed_to_arguments aapcs64) aapcs64.argument_registers refl;
@@ -44,7 +44,7 @@ agrees = record {
   save_aligned = refl;
 }
 
--- ---- the words of the save area, by the numbers of the preserved registers
+-- ---- the words of the save area, by the numbers of the callee-saved registers
 
 -- a register before the one that is saved between them
 word_before : (xs between after : List Loc) (words : List SaveWord) (k : ℕ) (l : Loc) → k < length xs → l ≡ slice_index_or (xs ++ after) k l → Register l ≡ slice_index_or (map Register (xs ++ between) ++ words) k (Register l)
@@ -65,11 +65,11 @@ word_behind (x ∷ xs) between ys words zero l h below e = absurd (omega (arith,
 word_behind (x ∷ xs) between ys words (suc k) l h below e =
     word_behind xs between ys words k l (omega (arith, h)) (omega (arith, below)) e
 
-pub word_of_general : (k : ℕ) (l : Loc) → k ≤ 10 → l ≡ slice_index_or aapcs64.preserved k l → Register l ≡ slice_index_or aapcs64.save_area k (Register l)
+pub word_of_general : (k : ℕ) (l : Loc) → k ≤ 10 → l ≡ slice_index_or aapcs64.callee_saved k l → Register l ≡ slice_index_or aapcs64.save_area k (Register l)
 word_of_general k l h e =
     word_before saved_general (G 30 ∷ saved_vector) saved_vector (Hidden ∷ Spare ∷ []) k l (omega (arith, h)) e
 
-pub word_of_vector : (k : ℕ) (l : Loc) → 12 ≤ k → k ≤ 19 → l ≡ slice_index_or aapcs64.preserved (k - 1) l → Register l ≡ slice_index_or aapcs64.save_area k (Register l)
+pub word_of_vector : (k : ℕ) (l : Loc) → 12 ≤ k → k ≤ 19 → l ≡ slice_index_or aapcs64.callee_saved (k - 1) l → Register l ≡ slice_index_or aapcs64.save_area k (Register l)
 word_of_vector k l low high e =
     let same : suc (k - 1) ≡ k = omega (arith, low) in
     subst (λ j. Register l ≡ slice_index_or aapcs64.save_area j (Register l)) same

@@ -461,7 +461,7 @@ impl Abi for Amd64 {
 
     ghost TARGET = { target.Amd64 };
 
-    ghost KEPT = { length amd64.preserved };
+    ghost KEPT = { length amd64.callee_saved };
 
     ghost PASSING = { length amd64.argument_registers };
 

@@ -351,7 +351,7 @@ fn word_at(event: &Event, at: Loc) -> u64 {
     }
 }
 
-/// Whether the return has each preserved register of the entry.
+/// Whether the return has each callee-saved register of the entry.
 pub fn gives_back<A: Abi>(came: &Came) -> bool {
     for k in 0..A::KEPT {
         let at = A::callee_saved(k);
@@ -420,7 +420,7 @@ pub const SIGNATURES: [&str; 22] = [
     r#"{"ret":{"struct":["sint64","sint64","sint64"]},"args":[{"struct":["uint8","uint8","uint8"]},{"struct":["sint64","sint64","sint64"]},"double","sint8"],"fixed":4}"#,
 ];
 
-/// How many of the signatures have all values come as they were sent, and the preserved registers with them.
+/// How many of the signatures have all values come as they were sent, and the callee-saved registers with them.
 fn count_of_right<A: Abi>(alloc: Global, over: Option<u8>) -> Result<usize, Fail> {
     let mut right = 0usize;
     for text in SIGNATURES {

@@ -12,7 +12,7 @@ use Rattle.ffi3_place_rules.specs.declared.Loc.{Loc}
 use Rattle.ffi3_place_rules.specs.declared.Loc.TheVariants.{G, F, S}
 use Rattle.ffi3_place_rules.specs.declared.SaveWord.{SaveWord}
 use Rattle.ffi3_place_rules.specs.declared.SaveWord.TheVariants.{Register, Hidden, Spare}
-use Rattle.ffi3_place_rules.specs.Isa.{area_bytes, entry_scratch, entry_stores, hidden_register, listed, preserved_words}
+use Rattle.ffi3_place_rules.specs.Isa.{area_bytes, entry_scratch, entry_stores, hidden_register, listed, callee_saved_words}
 use Rattle.ffi3_place_rules.specs.Standard.{Standard}
 use Rattle.ffi3_place_rules.specs.Agrees.{AgreesWithMachine}
 use Rattle.ffi3_place_rules.specs.ByStubs.{AgreesWithStubs, spare_words}
@@ -58,10 +58,10 @@ spare_only Amd64 = tt
 spare_only Aarch64 = (tt, tt)
 spare_only Riscv = tt
 
-saved_are_registers : (isa : Isa) → AllByRecursion (IsPlace 0) (preserved_words isa)
-saved_are_registers Amd64 = machine_places Amd64 0 (preserved_words Amd64) (each_exists Amd64 (preserved_words Amd64) refl)
-saved_are_registers Aarch64 = machine_places Aarch64 0 (preserved_words Aarch64) (each_exists Aarch64 (preserved_words Aarch64) refl)
-saved_are_registers Riscv = machine_places Riscv 0 (preserved_words Riscv) (each_exists Riscv (preserved_words Riscv) refl)
+saved_are_registers : (isa : Isa) → AllByRecursion (IsPlace 0) (callee_saved_words isa)
+saved_are_registers Amd64 = machine_places Amd64 0 (callee_saved_words Amd64) (each_exists Amd64 (callee_saved_words Amd64) refl)
+saved_are_registers Aarch64 = machine_places Aarch64 0 (callee_saved_words Aarch64) (each_exists Aarch64 (callee_saved_words Aarch64) refl)
+saved_are_registers Riscv = machine_places Riscv 0 (callee_saved_words Riscv) (each_exists Riscv (callee_saved_words Riscv) refl)
 
 module _ (base : ℕ) (hidden : Option Loc) (entry m : State) (is : IsMachine entry) (h : Loc) (hidden_is : IsHiddenWord base entry hidden (held h entry)) where
   spare_holds : (w : SaveWord) (n : ℕ) → IsSpare w → IsToSave base entry hidden w n
@@ -109,10 +109,10 @@ words_back m n value rest none from (l ∷ ls) low lie came hold zero at below a
 words_back m n value rest none from (l ∷ ls) low lie came hold (suc i) at below at_is =
     words_back m n value rest none (from + 8) ls (omega (arith, low)) lie.1 came.1 (λ j k small is. word_later from j m ∙ hold (suc j) k (omega (arith, small)) is) i at (omega (arith, below)) at_is
 
-pub area_back : (std : Standard) → AgreesWithStubs std → (area : ℕ) (value : Loc → ℕ) (m n : State) → STACK ≤ area → CameFromWords area (preserved_words (isa_of std.target)) m.stack n → AreGivenBack area std.save_area value m n
+pub area_back : (std : Standard) → AgreesWithStubs std → (area : ℕ) (value : Loc → ℕ) (m n : State) → STACK ≤ area → CameFromWords area (callee_saved_words (isa_of std.target)) m.stack n → AreGivenBack area std.save_area value m n
 area_back std laws area value m n low came =
     let isa = isa_of std.target in
-    subst (λ ws. AreGivenBack area ws value m n) (sym laws.area) (λ hold i at below at_is. words_back m n value (Hidden ∷ spare_words (isa_of std.target)) (none_behind (isa_of std.target)) area (preserved_words (isa_of std.target)) low (saved_are_registers (isa_of std.target)) came hold i at below at_is)
+    subst (λ ws. AreGivenBack area ws value m n) (sym laws.area) (λ hold i at below at_is. words_back m n value (Hidden ∷ spare_words (isa_of std.target)) (none_behind (isa_of std.target)) area (callee_saved_words (isa_of std.target)) low (saved_are_registers (isa_of std.target)) came hold i at below at_is)
 
 -- ---- the entry
 
@@ -143,10 +143,10 @@ entered_by_stub std agrees laws base block hidden entry m is same base_is low hi
     let bytes : std.save ≡ area_bytes (isa_of std.target) = laws.area_size in
     let s : HasEntered (isa_of std.target) (with_x 528 block entry) m = subst (λ k. HasEntered (isa_of k) (with_x 528 block entry) m) (sym same) says in
     let target : m.target ≡ entry.target = ap (λ q. q.target) s.rest in
-    let went : WentToWords (entry.sp - std.save) (preserved_words (isa_of std.target) ++ G (hidden_register (isa_of std.target)) ∷ []) entry.general entry.floating m.stack = subst (λ n. WentToWords (entry.sp - n) (preserved_words (isa_of std.target) ++ G (hidden_register (isa_of std.target)) ∷ []) entry.general entry.floating m.stack) (sym bytes) s.saved in
+    let went : WentToWords (entry.sp - std.save) (callee_saved_words (isa_of std.target) ++ G (hidden_register (isa_of std.target)) ∷ []) entry.general entry.floating m.stack = subst (λ n. WentToWords (entry.sp - n) (callee_saved_words (isa_of std.target) ++ G (hidden_register (isa_of std.target)) ∷ []) entry.general entry.floating m.stack) (sym bytes) s.saved in
     let mark : m.mark ≡ min entry.mark (entry.sp - std.save) = s.mark ∙ ap (λ n. min entry.mark (entry.sp - n)) (sym bytes) in
     record {
-      saved = subst (λ ws. AreSaved (entry.sp - std.save) (entry.sp + std.link) hidden ws entry m) (sym laws.area) (words_saved (entry.sp + std.link) hidden entry m is (G (hidden_register (isa_of std.target))) (hidden_held (entry.sp + std.link) (hidden_register (isa_of std.target)) hidden entry (hidden_lies (isa_of std.target)) hidden_saved) (entry.sp - std.save) (preserved_words (isa_of std.target)) (spare_words (isa_of std.target)) (omega (arith, low)) (saved_are_registers (isa_of std.target)) (spare_only (isa_of std.target)) went);
+      saved = subst (λ ws. AreSaved (entry.sp - std.save) (entry.sp + std.link) hidden ws entry m) (sym laws.area) (words_saved (entry.sp + std.link) hidden entry m is (G (hidden_register (isa_of std.target))) (hidden_held (entry.sp + std.link) (hidden_register (isa_of std.target)) hidden entry (hidden_lies (isa_of std.target)) hidden_saved) (entry.sp - std.save) (callee_saved_words (isa_of std.target)) (spare_words (isa_of std.target)) (omega (arith, low)) (saved_are_registers (isa_of std.target)) (spare_only (isa_of std.target)) went);
       arguments = subst (λ (b : Bool). AllByRecursion (λ l. SameAt 0 l entry (passing_if b m)) std.argument_registers) (ap by_exchange (sym target)) (each_with (IsPlace 0) (IsOneOf (entry_stores (isa_of std.target))) (λ l. SameAt 0 l entry (passing_if (by_exchange entry.target) m)) (λ l lies some. stored_as_passed (by_exchange entry.target) e (entry_stores (isa_of std.target)) entry (with_x 528 block entry) m is refl refl s.stored l lies some) std.argument_registers (machine_places (isa_of std.target) 0 std.argument_registers agrees.arguments_exist) laws.arguments_stored);
       reserved = each_with (IsPlace 0) (IsNoneOf (entry_scratch (isa_of std.target))) (λ at. word_in STACK_TOP m at ≡ word_in STACK_TOP entry at) (λ l lies none. word_same STACK_TOP STACK_TOP l entry m lies (left_by (entry_scratch (isa_of std.target)) entry m s.others l lies none)) std.reserved (reserved_there std agrees) (subst (AllByRecursion (IsNoneOf (entry_scratch (isa_of std.target)))) (sym agrees.reserved) (reserved_not_entered (isa_of std.target)));
       sp = s.sp ∙ told_there 528 block entry (omega (arith, sized)) (omega (arith, block_low, high));

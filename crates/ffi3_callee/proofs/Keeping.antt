@@ -50,10 +50,10 @@ reserved_not_link Riscv =
 -- none of them is saved
 pub reserved_not_saved : (std : Standard) → AgreesWithMachine std → AllByRecursion (IsNoneOf (saved_registers std.save_area)) std.reserved
 reserved_not_saved std agrees =
-    each_both (IsNoneOf std.preserved) (IsNoneOf (listed std.link_register)) (IsNoneOf (saved_registers std.save_area)) (λ l a b. none_saved std agrees l (each_join (Apart l) std.preserved (listed std.link_register) a b)) std.reserved (across_none std.preserved std.reserved across) link
+    each_both (IsNoneOf std.callee_saved) (IsNoneOf (listed std.link_register)) (IsNoneOf (saved_registers std.save_area)) (λ l a b. none_saved std agrees l (each_join (Apart l) std.callee_saved (listed std.link_register) a b)) std.reserved (across_none std.callee_saved std.reserved across) link
   where
-    across : AllByRecursion (λ l. AllByRecursion (Apart l) std.reserved) std.preserved
-    across = each_weaker (IsNoneOf (special std)) (λ l. AllByRecursion (Apart l) std.reserved) (λ l none. each_first (Apart l) std.reserved (listed std.link_register ++ (std.trampoline_registers ++ (listed std.vector_count ++ listed std.returned_address))) none.1) std.preserved agrees.preserved_plain
+    across : AllByRecursion (λ l. AllByRecursion (Apart l) std.reserved) std.callee_saved
+    across = each_weaker (IsNoneOf (special std)) (λ l. AllByRecursion (Apart l) std.reserved) (λ l none. each_first (Apart l) std.reserved (listed std.link_register ++ (std.trampoline_registers ++ (listed std.vector_count ++ listed std.returned_address))) none.1) std.callee_saved agrees.callee_saved_plain
 
     link : AllByRecursion (IsNoneOf (listed std.link_register)) std.reserved
     link = subst (λ o. AllByRecursion (IsNoneOf (listed o)) std.reserved) (sym agrees.link_register) (subst (AllByRecursion (IsNoneOf (listed (link_place (isa_of std.target))))) (sym agrees.reserved) (reserved_not_link (isa_of std.target)))
@@ -63,7 +63,7 @@ pub uses_clear : (std : Standard) → AgreesWithMachine std → (res : Res) → 
 uses_clear std agrees Nothing h =
     each_weaker (IsPlace 0) (IsNoneOf []) (λ l p. tt) std.reserved (reserved_there std agrees)
 uses_clear std agrees (DirectRes pieces) h =
-    across_none (piece_locs pieces) std.reserved (each_weaker (IsNoneOf (closed_to_results std)) (λ l. AllByRecursion (Apart l) std.reserved) (λ l none. each_first (Apart l) std.reserved (listed std.link_register) (each_rest (Apart l) std.preserved (std.reserved ++ listed std.link_register) none.1)) (piece_locs pieces) h)
+    across_none (piece_locs pieces) std.reserved (each_weaker (IsNoneOf (closed_to_results std)) (λ l. AllByRecursion (Apart l) std.reserved) (λ l none. each_first (Apart l) std.reserved (listed std.link_register) (each_rest (Apart l) std.callee_saved (std.reserved ++ listed std.link_register) none.1)) (piece_locs pieces) h)
 uses_clear std agrees (HiddenRes at buffer) h =
     across_none (listed std.returned_address) std.reserved (each_weaker (IsNoneOf (given_back std ++ std.reserved)) (λ l. AllByRecursion (Apart l) std.reserved) (λ l none. each_rest (Apart l) (given_back std) std.reserved none) (listed std.returned_address) agrees.returned_plain)
 
@@ -150,8 +150,8 @@ kept_return std agrees base len room entry m target_is sp_is have stay =
     given : AllByRecursion (λ at. word_in STACK_TOP m at ≡ word_in base entry at) (given_back std)
     given = each_among (λ at. word_in STACK_TOP m at ≡ word_in base entry at) (saved_registers std.save_area) (given_back std) agrees.saves_each (all_have base entry m std.save_area have)
 
-    preserved : SameIn std.preserved (image_of len entry) (image_of room (returned m))
-    preserved = each_both (IsPlace 0) (λ at. word_in STACK_TOP m at ≡ word_in base entry at) (λ at. register (image_of len entry) at ≡ register (image_of room (returned m)) at) (λ l lies h. same_register base len room entry m l lies h) std.preserved (machine_places (isa_of std.target) 0 std.preserved agrees.preserved_exist) (each_first (λ at. word_in STACK_TOP m at ≡ word_in base entry at) std.preserved (listed std.link_register) given)
+    preserved : SameIn std.callee_saved (image_of len entry) (image_of room (returned m))
+    preserved = each_both (IsPlace 0) (λ at. word_in STACK_TOP m at ≡ word_in base entry at) (λ at. register (image_of len entry) at ≡ register (image_of room (returned m)) at) (λ l lies h. same_register base len room entry m l lies h) std.callee_saved (machine_places (isa_of std.target) 0 std.callee_saved agrees.callee_saved_exist) (each_first (λ at. word_in STACK_TOP m at ≡ word_in base entry at) std.callee_saved (listed std.link_register) given)
 
     reserved : SameIn std.reserved (image_of len entry) (image_of room (returned m))
     reserved = each_both (IsPlace 0) (λ at. word_in STACK_TOP m at ≡ word_in STACK_TOP entry at) (λ at. register (image_of len entry) at ≡ register (image_of room (returned m)) at) (λ l lies h. same_register STACK_TOP len room entry m l lies h) std.reserved (reserved_there std agrees) stay

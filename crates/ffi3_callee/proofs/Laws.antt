@@ -50,7 +50,7 @@ link_is_register Riscv = ((omega arith, refl), tt)
 
 given_back_are_registers : (std : Standard) → AgreesWithMachine std → AllByRecursion (IsRegister (isa_of std.target)) (given_back std)
 given_back_are_registers std agrees =
-    each_join (IsRegister (isa_of std.target)) std.preserved (listed std.link_register) (each_both (LiesIn (isa_of std.target) 0) (IsNoneOf (special std)) (IsRegister (isa_of std.target)) one std.preserved agrees.preserved_exist agrees.preserved_plain)
+    each_join (IsRegister (isa_of std.target)) std.callee_saved (listed std.link_register) (each_both (LiesIn (isa_of std.target) 0) (IsNoneOf (special std)) (IsRegister (isa_of std.target)) one std.callee_saved agrees.callee_saved_exist agrees.callee_saved_plain)
     (subst (λ o. AllByRecursion (IsRegister (isa_of std.target)) (listed o)) (sym agrees.link_register) (link_is_register (isa_of std.target)))
   where
     one : (l : Loc) → LiesIn (isa_of std.target) 0 l → IsNoneOf (special std) l → IsRegister (isa_of std.target) l
@@ -97,8 +97,8 @@ result_apart std s agrees sound =
   where
     one : (l : Loc) → IsNoneOf (closed_to_results std) l → IsNoneOf (saved_registers std.save_area) l
     one l none =
-        let rest = each_rest (Apart l) std.preserved (std.reserved ++ listed std.link_register) none.1 in
-        none_saved std agrees l (each_join (Apart l) std.preserved (listed std.link_register) (each_first (Apart l) std.preserved (std.reserved ++ listed std.link_register) none.1) (each_rest (Apart l) std.reserved (listed std.link_register) rest))
+        let rest = each_rest (Apart l) std.callee_saved (std.reserved ++ listed std.link_register) none.1 in
+        none_saved std agrees l (each_join (Apart l) std.callee_saved (listed std.link_register) (each_first (Apart l) std.callee_saved (std.reserved ++ listed std.link_register) none.1) (each_rest (Apart l) std.reserved (listed std.link_register) rest))
 
 pub returned_apart : (std : Standard) → AgreesWithMachine std → AllByRecursion (IsNoneOf (saved_registers std.save_area)) (listed std.returned_address)
 returned_apart std agrees =
@@ -112,7 +112,7 @@ result_written std s target kind agrees sound is same =
   where
     one : (l : Loc) → IsNoneOf (closed_to_results std) l → IsWritable std.target l
     one l none =
-        let rest = each_rest (Apart l) std.preserved (std.reserved ++ listed std.link_register) none.1 in
+        let rest = each_rest (Apart l) std.callee_saved (std.reserved ++ listed std.link_register) none.1 in
         agrees.written l (each_first (Apart l) std.reserved (listed std.link_register) rest)
 
 settable_from : (std : Standard) → AgreesWithMachine std → (o : Option Loc) → AllByRecursion (LiesIn (isa_of std.target) 0) (listed o) → AllByRecursion (IsNoneOf (given_back std ++ std.reserved)) (listed o) → IsSettable std.target o

@@ -70,7 +70,7 @@ pub passing_written : (std : Standard) → AgreesWithMachine std → (target kin
 passing_written std agrees target kind is same i at below read =
     let plain = each_read (λ l. AllByRecursion (Apart l) (closed_to_arguments std)) std.argument_registers i at below read agrees.arguments_plain in
     let closed = each_first (Apart at) (closed_to_results std) (std.trampoline_registers ++ listed std.vector_count) plain in
-    let rest = each_rest (Apart at) std.preserved (std.reserved ++ listed std.link_register) closed.1 in
+    let rest = each_rest (Apart at) std.callee_saved (std.reserved ++ listed std.link_register) closed.1 in
     subst (λ t. IsWritable t at) (is ∙ sym same) (agrees.written at (each_first (Apart at) std.reserved (listed std.link_register) rest))
 
 pub is_passing : (std : Standard) (i : ℕ) (at : Loc) → IsPlace 0 at → i < length std.argument_registers → at ≡ get_or std.argument_registers i at → is_argument_register std at ≡ true
@@ -109,7 +109,7 @@ closed_are std agrees =
     let isa = isa_of std.target in
     each_join (IsPlace 0) (closed_to_results std) (std.trampoline_registers ++ listed std.vector_count) (
       subst (IsPlace 0) (sym agrees.stack_pointer) (pointer_place (isa_of std.target)),
-      each_join (IsPlace 0) std.preserved (std.reserved ++ listed std.link_register) (machine_places (isa_of std.target) 0 std.preserved agrees.preserved_exist)
+      each_join (IsPlace 0) std.callee_saved (std.reserved ++ listed std.link_register) (machine_places (isa_of std.target) 0 std.callee_saved agrees.callee_saved_exist)
           (each_join (IsPlace 0) std.reserved (listed std.link_register) (subst (AllByRecursion (IsPlace 0)) (sym agrees.reserved) (reserved_are (isa_of std.target))) (subst (λ o. AllByRecursion (IsPlace 0) (listed o)) (sym agrees.link_register) (link_is (isa_of std.target)))),
     )
     (each_join (IsPlace 0) std.trampoline_registers (listed std.vector_count) (subst (AllByRecursion (IsPlace 0)) (sym agrees.trampoline) (trampoline_are (isa_of std.target))) (machine_places (isa_of std.target) 0 (listed std.vector_count) agrees.count_exists))
@@ -226,7 +226,7 @@ return_still std s byte a b agrees target_is high sized is h =
     let isa = isa_of std.target in
     let Same : Loc → Type 0 = λ l. word_in (a.sp + std.link) b l ≡ word_in (a.sp + std.link) a l in
     let closed = each_first Same (closed_to_results std) (std.trampoline_registers ++ listed std.vector_count) is.closed in
-    let links = each_rest Same std.reserved (listed std.link_register) (each_rest Same std.preserved (std.reserved ++ listed std.link_register) closed.1) in
+    let links = each_rest Same std.reserved (listed std.link_register) (each_rest Same std.callee_saved (std.reserved ++ listed std.link_register) closed.1) in
     let base_is : a.sp + std.link ≡ a.sp + pushed_bytes (isa_of std.target) = ap (λ n. a.sp + n) agrees.link in
     subst (λ t. HasReturnAt (link_register (isa_of t)) b.general b.sp b.stack) (sym (is.within.target ∙ target_is))
     (return_at isa base (base + frame_of std s) a b base_is (omega (arith, high)) sized is.sp is.within (subst (λ o. AllByRecursion Same (listed o)) agrees.link_register links) (subst (λ t. HasReturnAt (link_register (isa_of t)) a.general a.sp a.stack) target_is h))

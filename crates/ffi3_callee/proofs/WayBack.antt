@@ -13,7 +13,7 @@ use Rattle.ffi3_place_rules.specs.declared.Loc.{Loc}
 use Rattle.ffi3_place_rules.specs.declared.Loc.TheVariants.{G, F, S}
 use Rattle.ffi3_place_rules.specs.declared.SaveWord.{SaveWord}
 use Rattle.ffi3_place_rules.specs.declared.SaveWord.TheVariants.{Register, Hidden, Spare}
-use Rattle.ffi3_place_rules.specs.Isa.{area_bytes, exit_scratch, has_stubs, link_register, listed, preserved_words, pushed_bytes, result_loads}
+use Rattle.ffi3_place_rules.specs.Isa.{area_bytes, exit_scratch, has_stubs, link_register, listed, callee_saved_words, pushed_bytes, result_loads}
 use Rattle.ffi3_place_rules.specs.Image.{Image, register}
 use Rattle.ffi3_place_rules.specs.Standard.{Standard, frame_of, plan_of}
 use Rattle.ffi3_place_rules.specs.Agrees.{AgreesWithMachine, given_back, saved_registers}
@@ -66,11 +66,11 @@ module _ (std : Standard) (agrees : AgreesWithMachine std) (entry : ℕ) (before
   all_given : AllByRecursion (λ at. word_in STACK_TOP after at ≡ register e at) (given_back std)
   all_given = each_among (λ at. word_in STACK_TOP after at ≡ register e at) (saved_registers std.save_area) (given_back std) agrees.saves_each (all_back (register e) after std.save_area (given (register e) hold))
 
-  pub preserved_given : AllByRecursion (λ at. word_in STACK_TOP after at ≡ register e at) std.preserved
-  preserved_given = each_first (λ at. word_in STACK_TOP after at ≡ register e at) std.preserved (listed std.link_register) all_given
+  pub preserved_given : AllByRecursion (λ at. word_in STACK_TOP after at ≡ register e at) std.callee_saved
+  preserved_given = each_first (λ at. word_in STACK_TOP after at ≡ register e at) std.callee_saved (listed std.link_register) all_given
 
   pub link_given : AllByRecursion (λ at. word_in STACK_TOP after at ≡ register e at) (listed (option_map G (link_register (isa_of std.target))))
-  link_given = subst (λ o. AllByRecursion (λ at. word_in STACK_TOP after at ≡ register e at) (listed o)) agrees.link_register (each_rest (λ at. word_in STACK_TOP after at ≡ register e at) std.preserved (listed std.link_register) all_given)
+  link_given = subst (λ o. AllByRecursion (λ at. word_in STACK_TOP after at ≡ register e at) (listed o)) agrees.link_register (each_rest (λ at. word_in STACK_TOP after at ≡ register e at) std.callee_saved (listed std.link_register) all_given)
 
 -- ---- through the stub Exit
 
@@ -94,7 +94,7 @@ given_by_stub : (b : Bool) → b ≡ true → (std : Standard) (l : Loc) → IsG
 given_by_stub true e std l h = h
 given_by_stub false e std l h = absurd cc
 
-alone_by_stub : (b : Bool) → b ≡ true → (std : Standard) (l : Loc) → IsLeftAlone b std l → IsNoneOf (exit_scratch (isa_of std.target) ++ (preserved_words (isa_of std.target) ++ result_loads (isa_of std.target))) l
+alone_by_stub : (b : Bool) → b ≡ true → (std : Standard) (l : Loc) → IsLeftAlone b std l → IsNoneOf (exit_scratch (isa_of std.target) ++ (callee_saved_words (isa_of std.target) ++ result_loads (isa_of std.target))) l
 alone_by_stub true e std l h = h
 alone_by_stub false e std l h = absurd cc
 
@@ -117,13 +117,13 @@ gone_by_stub std agrees laws area entry m n is same area_is low high e says coun
     let there : x_of 536 (with_x 536 area m) ≡ area = told_there 536 area m fits (omega (arith, area_is, high)) in
     let own : by_exchange n.target ≡ true = ap by_exchange target ∙ e in
     let whole : area + area_bytes (isa_of std.target) ≡ entry = omega (arith, bytes, area_is, low) in
-    let came : CameFromWords area (preserved_words (isa_of std.target)) m.stack n = subst (λ a. CameFromWords a (preserved_words (isa_of std.target)) m.stack n) there s.restored in
+    let came : CameFromWords area (callee_saved_words (isa_of std.target)) m.stack n = subst (λ a. CameFromWords a (callee_saved_words (isa_of std.target)) m.stack n) there s.restored in
     let given : (value : Loc → ℕ) → AreGivenBack (entry - std.save) std.save_area value m n = λ value. subst (λ a. AreGivenBack a std.save_area value m n) area_is (area_back std laws area value m n (omega (arith, area_is, low)) came) in
     let sp : n.sp ≡ entry + std.link = s.sp ∙ ap (λ a. a + area_bytes (isa_of std.target) + pushed_bytes (isa_of std.target)) there ∙ ap (λ a. a + pushed_bytes (isa_of std.target)) whole ∙ ap (λ k. entry + k) (sym pushed) in
     record {
       given_back = given;
       results = λ l lies some. loaded_as_passed (by_exchange m.target) e (result_loads (isa_of std.target)) m (with_x 536 area m) n (λ k there. told_below (exchanged_at k) 536 area m (omega (arith, place_low k there)) fits) s.loaded l lies (given_by_stub (by_exchange m.target) e std l some);
-      others = λ l lies alone. left_by (exit_scratch (isa_of std.target) ++ (preserved_words (isa_of std.target) ++ result_loads (isa_of std.target))) m n s.others l lies (alone_by_stub (by_exchange m.target) e std l alone);
+      others = λ l lies alone. left_by (exit_scratch (isa_of std.target) ++ (callee_saved_words (isa_of std.target) ++ result_loads (isa_of std.target))) m n s.others l lies (alone_by_stub (by_exchange m.target) e std l alone);
       sp = returned_there (by_exchange n.target) own n ∙ sp;
       at_return = λ i hold back. at_return_by (by_exchange n.target) own n (s.pc ∙ leads_back (isa_of std.target) area entry (with_x 536 area m) n i there whole (link_given std agrees entry m n given i hold) back);
       within = record {
@@ -204,7 +204,7 @@ gone_itself std agrees entry m n same e given stay w sp =
 
 alone_reserved : (std : Standard) → AgreesWithMachine std → (b : Bool) → AllByRecursion (IsLeftAlone b std) std.reserved
 alone_reserved std agrees true =
-    subst (AllByRecursion (IsNoneOf (exit_scratch (isa_of std.target) ++ (preserved_words (isa_of std.target) ++ result_loads (isa_of std.target))))) (sym agrees.reserved) (reserved_not_left (isa_of std.target))
+    subst (AllByRecursion (IsNoneOf (exit_scratch (isa_of std.target) ++ (callee_saved_words (isa_of std.target) ++ result_loads (isa_of std.target))))) (sym agrees.reserved) (reserved_not_left (isa_of std.target))
 alone_reserved std agrees false = reserved_not_saved std agrees
 
 register_returned : (b : Bool) (room : ℕ) (m : State) (l : Loc) → IsPlace 0 l → register (image_of room (returned_if b m)) l ≡ word_in STACK_TOP m l
@@ -228,7 +228,7 @@ module _ (std : Standard) (agrees : AgreesWithMachine std) (entry : ℕ) (m n : 
   -- THE RETURN KEEPS what the callee is to keep
   pub gone_kept : (e : Image) (room : ℕ) → e.sp ≡ entry → HoldRegisters (entry - std.save) std.save_area (register e) m → SameIn std.reserved e (image_of 0 m) → Kept std e (image_of room (returned_by n))
   gone_kept e room sp hold same = record {
-    preserved = each_with (IsPlace 0) (λ at. word_in STACK_TOP n at ≡ register e at) (λ at. register e at ≡ register (image_of room (returned_by n)) at) (λ l lies h. sym (register_returned (by_exchange n.target) room n l lies ∙ h)) std.preserved (machine_places (isa_of std.target) 0 std.preserved agrees.preserved_exist) (preserved_given std agrees entry m n back.given_back e hold);
+    preserved = each_with (IsPlace 0) (λ at. word_in STACK_TOP n at ≡ register e at) (λ at. register e at ≡ register (image_of room (returned_by n)) at) (λ l lies h. sym (register_returned (by_exchange n.target) room n l lies ∙ h)) std.callee_saved (machine_places (isa_of std.target) 0 std.callee_saved agrees.callee_saved_exist) (preserved_given std agrees entry m n back.given_back e hold);
     reserved = each_with (λ at. IsPlace 0 at × (word_in STACK_TOP n at ≡ word_in STACK_TOP m at)) (λ at. register e at ≡ register (image_of 0 m) at) (λ at. register e at ≡ register (image_of room (returned_by n)) at) (λ l both h. h ∙ register_own 0 m l both.0 ∙ sym both.1 ∙ sym (register_returned (by_exchange n.target) room n l both.0)) std.reserved (each_with (IsPlace 0) (λ at. word_in STACK_TOP n at ≡ word_in STACK_TOP m at) (λ at. IsPlace 0 at × (word_in STACK_TOP n at ≡ word_in STACK_TOP m at)) (λ l p q. (p, q)) std.reserved (reserved_there std agrees) gone_reserved) same;
     sp = back.sp ∙ ap (λ a. a + std.link) (sym sp);
   }

@@ -3,7 +3,7 @@ use Rattle.std.specs.Prelude.{◌≡◌, ℕ, ◌+◌, ◌-◌, Bool, true, fals
 use Rattle.ffi3_type_rules.specs.declared.limits.TheConstants.{RETURN, STACK_TOP}
 use Rattle.ffi3_type_rules.specs.Isa.{isa_of}
 use Rattle.ffi3_place_rules.specs.declared.Loc.{Loc}
-use Rattle.ffi3_place_rules.specs.Isa.{exit_scratch, link_register, preserved_words, result_loads}
+use Rattle.ffi3_place_rules.specs.Isa.{exit_scratch, link_register, callee_saved_words, result_loads}
 use Rattle.ffi3_place_rules.specs.Image.{Image, register}
 use Rattle.ffi3_place_rules.specs.Standard.{Standard}
 use Rattle.ffi3_place_rules.specs.Agrees.{saved_registers}
@@ -37,7 +37,7 @@ IsGiven false std l = IsNoneOf (saved_registers std.save_area) l
 abbrev pub IsLeftAlone : Bool → Standard → Loc → Type 0
 IsLeftAlone true std l =
     IsNoneOf
-    (exit_scratch (isa_of std.target) ++ (preserved_words (isa_of std.target) ++ result_loads (isa_of std.target))) l
+    (exit_scratch (isa_of std.target) ++ (callee_saved_words (isa_of std.target) ++ result_loads (isa_of std.target))) l
 IsLeftAlone false std l = IsNoneOf (saved_registers std.save_area) l
 
 -- THE CALLEE HAS GONE BACK, whose sp at the entry was `entry`: the saved registers have their values again, what was given stands in the registers of results, and sp is behind the return address. Of the stack nothing is written.

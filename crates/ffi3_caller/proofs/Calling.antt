@@ -296,10 +296,10 @@ module _ (std : Standard) (agrees : AgreesWithMachine std) where
   count_is_written target kind is same =
       subst (λ k. AllByRecursion (IsWritable k) (listed std.vector_count)) (is ∙ sym same) (each_map (IsNoneOf std.reserved) (IsWritable std.target) agrees.written (listed std.vector_count) count_unreserved)
 
-  -- it is none of the preserved registers
-  count_not_preserved : AllByRecursion (IsNoneOf (listed std.vector_count)) std.preserved
+  -- it is none of the callee-saved registers
+  count_not_preserved : AllByRecursion (IsNoneOf (listed std.vector_count)) std.callee_saved
   count_not_preserved =
-      each_map (IsNoneOf (special std)) (IsNoneOf (listed std.vector_count)) (λ l h. plain l h.1) std.preserved agrees.preserved_plain
+      each_map (IsNoneOf (special std)) (IsNoneOf (listed std.vector_count)) (λ l h. plain l h.1) std.callee_saved agrees.callee_saved_plain
     where
       plain : (l : Loc) → AllByRecursion (Apart l) (std.reserved ++ (listed std.link_register ++ (std.trampoline_registers ++ (listed std.vector_count ++ listed std.returned_address)))) → IsNoneOf (listed std.vector_count) l
       plain l h =
@@ -327,18 +327,18 @@ module _ (std : Standard) (agrees : AgreesWithMachine std) where
     each_same (l ∷ ls) lie free none =
         (others l lie.0 (each_join (Apart l) (argument_locs (plan_of std s)) (listed std.vector_count) free.0 none.0), each_same ls lie.1 free.1 none.1)
 
-    closed : AllByRecursion (IsNoneOf (argument_locs (plan_of std s))) (std.preserved ++ (std.reserved ++ listed std.link_register))
+    closed : AllByRecursion (IsNoneOf (argument_locs (plan_of std s))) (std.callee_saved ++ (std.reserved ++ listed std.link_register))
     closed =
         let clear = across_none (argument_locs (plan_of std s)) (closed_to_arguments std) sound.allowed in
         (each_first (IsNoneOf (argument_locs (plan_of std s))) (closed_to_results std) (std.trampoline_registers ++ listed std.vector_count) clear).1
 
-    pub preserved_same : AllByRecursion (λ l. SameAt 0 l z d) std.preserved
+    pub preserved_same : AllByRecursion (λ l. SameAt 0 l z d) std.callee_saved
     preserved_same =
-        each_same std.preserved (machine_places (isa_of std.target) 0 std.preserved agrees.preserved_exist) (each_first (IsNoneOf (argument_locs (plan_of std s))) std.preserved (std.reserved ++ listed std.link_register) closed) count_not_preserved
+        each_same std.callee_saved (machine_places (isa_of std.target) 0 std.callee_saved agrees.callee_saved_exist) (each_first (IsNoneOf (argument_locs (plan_of std s))) std.callee_saved (std.reserved ++ listed std.link_register) closed) count_not_preserved
 
     reserved_same : AllByRecursion (λ l. SameAt 0 l z d) std.reserved
     reserved_same =
-        each_same std.reserved reserved_are_registers (each_first (IsNoneOf (argument_locs (plan_of std s))) std.reserved (listed std.link_register) (each_rest (IsNoneOf (argument_locs (plan_of std s))) std.preserved (std.reserved ++ listed std.link_register) closed)) count_not_reserved
+        each_same std.reserved reserved_are_registers (each_first (IsNoneOf (argument_locs (plan_of std s))) std.reserved (listed std.link_register) (each_rest (IsNoneOf (argument_locs (plan_of std s))) std.callee_saved (std.reserved ++ listed std.link_register) closed)) count_not_reserved
 
     -- a scribble leaves the reserved registers
     pub reserved_stays : (n : ℕ) (old : State) (kind : Target) → z ≡ scribbled n old → std.target ≡ kind → old.target ≡ kind → AllByRecursion (λ l. SameAt 0 l old d) std.reserved

@@ -88,25 +88,25 @@ module _ (std : Standard) (agrees : AgreesWithMachine std) where
   pub reserved_lie : AllByRecursion (IsPlace 0) std.reserved
   reserved_lie = reserved_from (IsPlace 0) (reserved_are_places (isa_of std.target))
 
-  pub preserved_lie : AllByRecursion (IsPlace 0) std.preserved
-  preserved_lie = machine_places (isa_of std.target) 0 std.preserved agrees.preserved_exist
+  pub preserved_lie : AllByRecursion (IsPlace 0) std.callee_saved
+  preserved_lie = machine_places (isa_of std.target) 0 std.callee_saved agrees.callee_saved_exist
 
-  left_preserved : (b : Bool) → (b ≡ true → AgreesWithStubs std) → AllByRecursion (IsLeft b (isa_of std.target)) std.preserved
+  left_preserved : (b : Bool) → (b ≡ true → AgreesWithStubs std) → AllByRecursion (IsLeft b (isa_of std.target)) std.callee_saved
   left_preserved true law = preserved_not_called std agrees (law refl)
   left_preserved false law =
-      subst (λ o. AllByRecursion (IsNoneOf (listed o)) std.preserved) agrees.link_register
-      (each_map (IsNoneOf (special std)) (IsNoneOf (listed std.link_register)) (λ l none. each_first (Apart l) (listed std.link_register) (std.trampoline_registers ++ (listed std.vector_count ++ listed std.returned_address)) (each_rest (Apart l) std.reserved (listed std.link_register ++ (std.trampoline_registers ++ (listed std.vector_count ++ listed std.returned_address))) none.1)) std.preserved agrees.preserved_plain)
+      subst (λ o. AllByRecursion (IsNoneOf (listed o)) std.callee_saved) agrees.link_register
+      (each_map (IsNoneOf (special std)) (IsNoneOf (listed std.link_register)) (λ l none. each_first (Apart l) (listed std.link_register) (std.trampoline_registers ++ (listed std.vector_count ++ listed std.returned_address)) (each_rest (Apart l) std.reserved (listed std.link_register ++ (std.trampoline_registers ++ (listed std.vector_count ++ listed std.returned_address))) none.1)) std.callee_saved agrees.callee_saved_plain)
 
   left_reserved : (b : Bool) → AllByRecursion (IsLeft b (isa_of std.target)) std.reserved
   left_reserved true =
       reserved_from (IsNoneOf (call_scratch (isa_of std.target) ++ call_loads (isa_of std.target))) (reserved_not_called (isa_of std.target))
   left_reserved false = reserved_from (IsNoneOf (listed (link_place (isa_of std.target)))) (reserved_not_link (isa_of std.target))
 
-  -- a call leaves the preserved and the reserved registers
-  pub call_preserves : (addr : ℕ) (m n : State) → std.target ≡ m.target → (by_exchange m.target ≡ true → AgreesWithStubs std) → SlotIsCalled addr m n → AllByRecursion (λ l. SameAt 0 l m n) std.preserved
+  -- a call leaves the callee-saved and the reserved registers
+  pub call_preserves : (addr : ℕ) (m n : State) → std.target ≡ m.target → (by_exchange m.target ≡ true → AgreesWithStubs std) → SlotIsCalled addr m n → AllByRecursion (λ l. SameAt 0 l m n) std.callee_saved
   call_preserves addr m n same law called =
-      each_with (IsPlace 0) (IsLeft (by_exchange m.target) (isa_of m.target)) (λ l. SameAt 0 l m n) (λ l lies left. called.others l lies left) std.preserved preserved_lie
-      (subst (λ k. AllByRecursion (IsLeft (by_exchange m.target) (isa_of k)) std.preserved) same (left_preserved (by_exchange m.target) law))
+      each_with (IsPlace 0) (IsLeft (by_exchange m.target) (isa_of m.target)) (λ l. SameAt 0 l m n) (λ l lies left. called.others l lies left) std.callee_saved preserved_lie
+      (subst (λ k. AllByRecursion (IsLeft (by_exchange m.target) (isa_of k)) std.callee_saved) same (left_preserved (by_exchange m.target) law))
 
   pub call_reserves : (addr : ℕ) (m n : State) → std.target ≡ m.target → SlotIsCalled addr m n → AllByRecursion (λ l. SameAt 0 l m n) std.reserved
   call_reserves addr m n same called =
@@ -114,18 +114,18 @@ module _ (std : Standard) (agrees : AgreesWithMachine std) where
       (subst (λ k. AllByRecursion (IsLeft (by_exchange m.target) (isa_of k)) std.reserved) same (left_reserved (by_exchange m.target)))
 
   -- and so does the way back
-  free_preserved : (b : Bool) → (b ≡ true → AgreesWithStubs std) → AllByRecursion (IsUntouched b (isa_of std.target)) std.preserved
+  free_preserved : (b : Bool) → (b ≡ true → AgreesWithStubs std) → AllByRecursion (IsUntouched b (isa_of std.target)) std.callee_saved
   free_preserved true law = preserved_not_returned std agrees (law refl)
-  free_preserved false law = all_free std.preserved
+  free_preserved false law = all_free std.callee_saved
 
   free_reserved : (b : Bool) → AllByRecursion (IsUntouched b (isa_of std.target)) std.reserved
   free_reserved true = reserved_from (IsNoneOf (exit_scratch (isa_of std.target))) (reserved_not_returned (isa_of std.target))
   free_reserved false = all_free std.reserved
 
-  pub back_preserves : (frame : ℕ) (m n : State) → std.target ≡ m.target → (by_exchange m.target ≡ true → AgreesWithStubs std) → HasComeBack frame m n → AllByRecursion (λ l. SameAt 0 l m n) std.preserved
+  pub back_preserves : (frame : ℕ) (m n : State) → std.target ≡ m.target → (by_exchange m.target ≡ true → AgreesWithStubs std) → HasComeBack frame m n → AllByRecursion (λ l. SameAt 0 l m n) std.callee_saved
   back_preserves frame m n same law back =
-      each_with (IsPlace 0) (IsUntouched (by_exchange m.target) (isa_of m.target)) (λ l. SameAt 0 l m n) (λ l lies free. back.others l lies free) std.preserved preserved_lie
-      (subst (λ k. AllByRecursion (IsUntouched (by_exchange m.target) (isa_of k)) std.preserved) same (free_preserved (by_exchange m.target) law))
+      each_with (IsPlace 0) (IsUntouched (by_exchange m.target) (isa_of m.target)) (λ l. SameAt 0 l m n) (λ l lies free. back.others l lies free) std.callee_saved preserved_lie
+      (subst (λ k. AllByRecursion (IsUntouched (by_exchange m.target) (isa_of k)) std.callee_saved) same (free_preserved (by_exchange m.target) law))
 
   pub back_reserves : (frame : ℕ) (m n : State) → std.target ≡ m.target → HasComeBack frame m n → AllByRecursion (λ l. SameAt 0 l m n) std.reserved
   back_reserves frame m n same back =
@@ -142,11 +142,11 @@ module _ (std : Standard) (s : Signature) (sound : IsSound std s) (agrees : Agre
       one : (l : Loc) → IsNoneOf (closed_to_arguments std) l → IsNoneOf (listed std.link_register) l
       one l h =
           let closed = each_first (Apart l) (closed_to_results std) (std.trampoline_registers ++ listed std.vector_count) h in
-          each_rest (Apart l) std.reserved (listed std.link_register) (each_rest (Apart l) std.preserved (std.reserved ++ listed std.link_register) closed.1)
+          each_rest (Apart l) std.reserved (listed std.link_register) (each_rest (Apart l) std.callee_saved (std.reserved ++ listed std.link_register) closed.1)
 
   count_clear : AllByRecursion (IsNoneOf (listed std.link_register)) (listed std.vector_count)
   count_clear =
-      each_map (IsNoneOf (given_back std ++ (std.reserved ++ std.trampoline_registers))) (IsNoneOf (listed std.link_register)) (λ l h. each_rest (Apart l) std.preserved (listed std.link_register) (each_first (Apart l) (given_back std) (std.reserved ++ std.trampoline_registers) h)) (listed std.vector_count) agrees.count_plain
+      each_map (IsNoneOf (given_back std ++ (std.reserved ++ std.trampoline_registers))) (IsNoneOf (listed std.link_register)) (λ l h. each_rest (Apart l) std.callee_saved (listed std.link_register) (each_first (Apart l) (given_back std) (std.reserved ++ std.trampoline_registers) h)) (listed std.vector_count) agrees.count_plain
 
   carried_arguments : (b : Bool) → (b ≡ true → AgreesWithStubs std) → AllByRecursion (IsCarried b (isa_of std.target)) (argument_locs (plan_of std s))
   carried_arguments true law =

@@ -39,8 +39,8 @@ pub fn come_back<A: Abi>(machine: &mut Machine, cif: &Cif<A>)
     requires frame { machine.old.sp + frame_of A.standard cif.now ≤ STACK_TOP }
     ensures whole { machine.new ≡ come_back_if (by_exchange machine.old.target) (frame_of A.standard cif.now) machine.old }
     ensures back { HasComeBack (frame_of A.standard cif.now) machine.old machine.new }
-    // it leaves the preserved registers, and the reserved ones
-    ensures preserved { AllByRecursion (λ l. SameAt 0 l machine.old machine.new) A.standard.preserved }
+    // it leaves the callee-saved registers, and the reserved ones
+    ensures preserved { AllByRecursion (λ l. SameAt 0 l machine.old machine.new) A.standard.callee_saved }
     ensures reserved { AllByRecursion (λ l. SameAt 0 l machine.old machine.new) A.standard.reserved }
     ensures owns { (v : ValueTree) → OwnResult A.standard cif.now v (image_of (frame_of A.standard cif.now) machine.old) →
         OwnResult A.standard cif.now v (image_of (frame_of A.standard cif.now) (at_frame (frame_of A.standard cif.now) machine.new)) }

@@ -55,8 +55,8 @@ pub fn call<A: Abi>(machine: &mut Machine, cif: &Cif<A>, addr: u64)
     requires frame { machine.old.sp + frame_of A.standard cif.now ≤ STACK_TOP }
     ensures whole { machine.new ≡ called_if (by_exchange machine.old.target) addr machine.old }
     ensures called { SlotIsCalled addr machine.old machine.new }
-    // it leaves the preserved registers, and the reserved ones
-    ensures preserved { AllByRecursion (λ l. SameAt 0 l machine.old machine.new) A.standard.preserved }
+    // it leaves the callee-saved registers, and the reserved ones
+    ensures preserved { AllByRecursion (λ l. SameAt 0 l machine.old machine.new) A.standard.callee_saved }
     ensures reserved { AllByRecursion (λ l. SameAt 0 l machine.old machine.new) A.standard.reserved }
     ensures holds { (values : List ValueTree) →
         OwnsArguments (image_of (frame_of A.standard cif.now) (passing machine.old)) 0 cif.now.arguments (plan_of A.standard cif.now).places values →

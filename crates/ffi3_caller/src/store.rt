@@ -67,10 +67,10 @@ pub fn store_args<A: Abi>(machine: &mut Machine, cif: &Cif<A>, values: &Values)
     ensures hidden { OwnsHidden (image_of (frame_of A.standard cif.now) (passing machine.new)) 0 (plan_of A.standard cif.now).res }
     ensures vectors { RegisterHolds (image_of (frame_of A.standard cif.now) (passing machine.new)) A.standard.vector_count (plan_of A.standard cif.now).vectors }
     ensures sp { machine.new.sp + frame_of A.standard cif.now ≡ machine.old.sp }
-    // a register that carries nothing is as the scribble left it, and so are the preserved ones; it leaves the reserved
+    // a register that carries nothing is as the scribble left it, and so are the callee-saved ones; it leaves the reserved
     // ones
     ensures others { (l : Loc) → IsPlace 0 l → IsNoneOf (argument_locs (plan_of A.standard cif.now) ++ listed A.standard.vector_count) l → SameAt 0 l (scribbled (length machine.old.events) machine.old) machine.new }
-    ensures preserved { AllByRecursion (λ l. SameAt 0 l (scribbled (length machine.old.events) machine.old) machine.new) A.standard.preserved }
+    ensures preserved { AllByRecursion (λ l. SameAt 0 l (scribbled (length machine.old.events) machine.old) machine.new) A.standard.callee_saved }
     ensures reserved { AllByRecursion (λ l. SameAt 0 l machine.old machine.new) A.standard.reserved }
     // what a call passes by the exchange region for such a register stays
     ensures passed { (l : Loc) → IsPlace 0 l → IsNoneOf (argument_locs (plan_of A.standard cif.now) ++ listed A.standard.vector_count) l → SameAt 0 l (passing (scribbled (length machine.old.events) machine.old)) (passing machine.new) }

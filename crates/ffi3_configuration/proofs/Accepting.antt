@@ -83,7 +83,7 @@ served_is_traced p std sig m true =
           record {
             signature = refl;
             sp = omega arith;
-            preserved = all_hold (λ (at : Loc). register entry.image at ≡ leaves (count - 1) at) before std.preserved;
+            preserved = all_hold (λ (at : Loc). register entry.image at ≡ leaves (count - 1) at) before std.callee_saved;
           },
           tt,
         );

@@ -68,7 +68,7 @@ served_beginning std s m output tracing = record {
   tracing = tracing;
 }
 
--- what callers leave in a preserved register, by the number of an entry: of the served call what its entry shows, and later what `scribble` leaves
+-- what callers leave in a callee-saved register, by the number of an entry: of the served call what its entry shows, and later what `scribble` leaves
 abbrev pub served_leaves : Event → ℕ → ℕ → Loc → ℕ
 served_leaves entry count n at =
     if nat_lt n count then register entry.image at else scribble n at

@@ -108,7 +108,7 @@ fn read_arguments(alloc: Global, seen: &Seen) -> Result<Values, NoMemory>
     Ok(args)
 }
 
-/// Writes a line that tells an event, and then the line of its preserved registers, each in one
+/// Writes a line that tells an event, and then the line of its callee-saved registers, each in one
 /// piece. Both are made before one is written.
 fn write_event<A: Abi, O: Sink>(
     alloc: Global,

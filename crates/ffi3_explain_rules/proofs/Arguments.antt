@@ -25,7 +25,8 @@ use Rattle.ffi3_place_rules.specs.Holds.{Own, OwnsArgument, OwnsArguments, SameI
 use Rattle.ffi3_explain_rules.specs.declared.Outside.{Outside}
 use Rattle.ffi3_explain_rules.specs.Explain.{carries, explained, holds_values, first_byte, first_bytes}
 use Rattle.ffi3_explain_rules.specs.Laws.{HasWords}
-use Rattle.ffi3_explain_rules.specs.Arguments.{is_in_image, value_at_address, value_by_standard, values_by_standard, outside_of, or_later, first_outside, are_values, arguments_by, held_by_standard, stack_end, least_stack, ArgumentLaws, AreRead}
+use Rattle.ffi3_explain_rules.specs.Arguments.{is_in_image, value_at_address, value_by_standard, values_by_standard, outside_of, or_later, first_outside, are_values, arguments_by, held_by_standard, stack_end, least_stack}
+use Rattle.ffi3_explain_rules.specs.ArgumentLaws.{ArgumentLaws, AreRead}
 use Rattle.ffi3_explain_rules.proofs.Copies.{bytes_of_right, copy_fits}
 use Rattle.ffi3_type_rules.proofs.Fitting.{value_fits}
 use Rattle.ffi3_type_rules.proofs.Tests.{and_left, and_right, both}

@@ -2,3 +2,4 @@ pub mod Explain
 pub mod Laws
 pub mod Entries
 pub mod Arguments
+pub mod ArgumentLaws

@@ -13,7 +13,7 @@ ghost use Rattle.ffi3_place_rules.specs.Standard.{Standard};
 ghost use Rattle.ffi3_type_rules.specs.Signature.{Signature};
 ghost use Rattle.ffi3_place_rules.specs.Image.{Image};
 ghost use Rattle.ffi3_explain_rules.specs.Laws.{IsExplained};
-ghost use Rattle.ffi3_explain_rules.specs.Arguments.{AreRead};
+ghost use Rattle.ffi3_explain_rules.specs.ArgumentLaws.{AreRead};
 
 use ffi3_place_rules::Loc;
 

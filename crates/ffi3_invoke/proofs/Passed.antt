@@ -100,11 +100,11 @@ module _ (std : Standard) (s : Signature) (sound : IsSound std s) (agrees : Agre
   word_kept b c l lies same =
       register_word STACK_TOP 0 l c lies ∙ same_word_in 0 l b c same ∙ register_word 0 STACK_TOP l b lies
 
-  preserved_there : AllByRecursion (λ l. SameAt 0 l (scribbled (length m.events) m) a) std.preserved → AllByRecursion (λ l. SameAt 0 l a d) std.preserved → AllByRecursion (λ at. register (image_of (std.link + frame_of std s) (reached d)) at ≡ scribble (length m.events) at) std.preserved
+  preserved_there : AllByRecursion (λ l. SameAt 0 l (scribbled (length m.events) m) a) std.callee_saved → AllByRecursion (λ l. SameAt 0 l a d) std.callee_saved → AllByRecursion (λ at. register (image_of (std.link + frame_of std s) (reached d)) at ≡ scribble (length m.events) at) std.callee_saved
   preserved_there same then_same =
-      each_both (IsNoneOf (special std)) (λ l. IsPlace 0 l × (SameAt 0 l (scribbled (length m.events) m) a × SameAt 0 l a d)) (λ at. register (image_of (std.link + frame_of std s) (reached d)) at ≡ scribble (length m.events) at) one std.preserved agrees.preserved_plain
-      (each_both (IsPlace 0) (λ l. SameAt 0 l (scribbled (length m.events) m) a × SameAt 0 l a d) (λ l. IsPlace 0 l × (SameAt 0 l (scribbled (length m.events) m) a × SameAt 0 l a d)) (λ l p q. (p, q)) std.preserved (machine_places (isa_of std.target) 0 std.preserved agrees.preserved_exist)
-      (each_both (λ l. SameAt 0 l (scribbled (length m.events) m) a) (λ l. SameAt 0 l a d) (λ l. SameAt 0 l (scribbled (length m.events) m) a × SameAt 0 l a d) (λ l p q. (p, q)) std.preserved same then_same))
+      each_both (IsNoneOf (special std)) (λ l. IsPlace 0 l × (SameAt 0 l (scribbled (length m.events) m) a × SameAt 0 l a d)) (λ at. register (image_of (std.link + frame_of std s) (reached d)) at ≡ scribble (length m.events) at) one std.callee_saved agrees.callee_saved_plain
+      (each_both (IsPlace 0) (λ l. SameAt 0 l (scribbled (length m.events) m) a × SameAt 0 l a d) (λ l. IsPlace 0 l × (SameAt 0 l (scribbled (length m.events) m) a × SameAt 0 l a d)) (λ l p q. (p, q)) std.callee_saved (machine_places (isa_of std.target) 0 std.callee_saved agrees.callee_saved_exist)
+      (each_both (λ l. SameAt 0 l (scribbled (length m.events) m) a) (λ l. SameAt 0 l a d) (λ l. SameAt 0 l (scribbled (length m.events) m) a × SameAt 0 l a d) (λ l p q. (p, q)) std.callee_saved same then_same))
     where
       old_target : m.target ≡ std.target
       old_target = sym within.target ∙ target_is
@@ -145,7 +145,7 @@ module _ (std : Standard) (s : Signature) (sound : IsSound std s) (agrees : Agre
   counted =
       called.steps ∙ ap (λ k. steps_if (by_exchange k) (steps_of (isa_of k) Call) a.steps) same_target ∙ ap (steps_if (by_exchange m.target) (steps_of (isa_of m.target) Call)) stored.steps
 
-  passed_there : AllByRecursion (λ l. SameAt 0 l (scribbled (length m.events) m) a) std.preserved → AllByRecursion (λ l. SameAt 0 l a d) std.preserved → AllByRecursion (λ l. SameAt 0 l m a) std.reserved → AllByRecursion (λ l. SameAt 0 l a d) std.reserved → Holds std s vs (image_of (std.link + frame_of std s) d) → HasPassed std s vs pointer m (reached d)
+  passed_there : AllByRecursion (λ l. SameAt 0 l (scribbled (length m.events) m) a) std.callee_saved → AllByRecursion (λ l. SameAt 0 l a d) std.callee_saved → AllByRecursion (λ l. SameAt 0 l m a) std.reserved → AllByRecursion (λ l. SameAt 0 l a d) std.reserved → Holds std s vs (image_of (std.link + frame_of std s) d) → HasPassed std s vs pointer m (reached d)
   passed_there preserved then_preserved reserved then_reserved holds = record {
     holds = holds_changed std s sound agrees (image_of (std.link + frame_of std s) d) (image_of (std.link + frame_of std s) (reached d)) changed vs holds;
     pc = refl;
@@ -162,6 +162,6 @@ module _ (std : Standard) (s : Signature) (sound : IsSound std s) (agrees : Agre
   }
 
   -- THE ARGUMENTS ARE PASSED
-  pub passed : (c : State) → c ≡ reached d → AllByRecursion (λ l. SameAt 0 l (scribbled (length m.events) m) a) std.preserved → AllByRecursion (λ l. SameAt 0 l a d) std.preserved → AllByRecursion (λ l. SameAt 0 l m a) std.reserved → AllByRecursion (λ l. SameAt 0 l a d) std.reserved → Holds std s vs (image_of (std.link + frame_of std s) d) → HasPassed std s vs pointer m c
+  pub passed : (c : State) → c ≡ reached d → AllByRecursion (λ l. SameAt 0 l (scribbled (length m.events) m) a) std.callee_saved → AllByRecursion (λ l. SameAt 0 l a d) std.callee_saved → AllByRecursion (λ l. SameAt 0 l m a) std.reserved → AllByRecursion (λ l. SameAt 0 l a d) std.reserved → Holds std s vs (image_of (std.link + frame_of std s) d) → HasPassed std s vs pointer m c
   passed c is preserved then_preserved reserved then_reserved holds =
       subst (HasPassed std s vs pointer m) (sym is) (passed_there preserved then_preserved reserved then_reserved holds)

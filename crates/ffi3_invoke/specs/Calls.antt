@@ -95,7 +95,7 @@ pub record HasPassed (std : Standard) (s : Signature) (arguments : List ValueTre
   pub preserved :
       AllByRecursion
       (λ at. register (image_of (std.link + frame_of std s) after) at ≡ scribble (length before.events) at)
-      std.preserved
+      std.callee_saved
   pub reserved : KeepsReserved std before after
   pub sp : after.sp + std.link + frame_of std s ≡ before.sp
   pub within : WroteWithin after.sp before.sp before (with_journal_of before after)

@@ -7,7 +7,7 @@ use Rattle.ffi3_type_rules.specs.declared.Isa.{Isa}
 use Rattle.ffi3_type_rules.specs.declared.Isa.TheVariants.{Amd64, Aarch64, Riscv}
 use Rattle.ffi3_place_rules.specs.declared.Loc.{Loc}
 use Rattle.ffi3_place_rules.specs.declared.Loc.TheVariants.{G, F, S}
-use Rattle.ffi3_place_rules.specs.Isa.{stack_pointer, call_loads, entry_stores, preserved_words, stub_area, area_bytes}
+use Rattle.ffi3_place_rules.specs.Isa.{stack_pointer, call_loads, entry_stores, callee_saved_words, stub_area, area_bytes}
 use Rattle.ffi3_place_rules.specs.Isa.{result_loads}
 use Rattle.ffi3_isa.specs.Amd64.{rex, mod_rm}
 use Rattle.ffi3_machine.specs.declared.stub.TheConstants.{STUBS, EXCHANGE}
@@ -117,7 +117,7 @@ rows isa Entry =
 rows isa Exit =
     address (return_base isa)
     ∷ (sp_rows isa (return_base isa) 17 536
-    ++ (area_loads (stack_pointer isa) 0 (preserved_words isa)
+    ++ (area_loads (stack_pointer isa) 0 (callee_saved_words isa)
     ++ (exchange_loads (return_base isa) (result_loads isa)
     ++ (sum (stack_pointer isa) (stack_pointer isa) (pos (area_bytes isa))
     ∷ jump returns ∷ []))))

@@ -244,7 +244,7 @@ all_written std s sound target law =
     one : (l : Loc) → IsNoneOf (closed_to_arguments std) l → IsWritable target l
     one l h =
         let closed = each_first (Apart l) (closed_to_results std) (std.trampoline_registers ++ listed std.vector_count) h in
-        let rest = each_rest (Apart l) std.preserved (std.reserved ++ listed std.link_register) closed.1 in
+        let rest = each_rest (Apart l) std.callee_saved (std.reserved ++ listed std.link_register) closed.1 in
         law l (each_first (Apart l) std.reserved (listed std.link_register) rest)
 
 -- by the law of a standard and its machine

@@ -5,7 +5,7 @@ use Rattle.ffi3_type_rules.specs.declared.Isa.{Isa}
 use Rattle.ffi3_type_rules.specs.declared.Isa.TheVariants.{Amd64, Aarch64, Riscv}
 use Rattle.ffi3_type_rules.specs.Isa.{isa_of}
 use Rattle.ffi3_place_rules.specs.declared.SaveWord.TheVariants.{Register, Hidden}
-use Rattle.ffi3_place_rules.specs.Isa.{call_loads, call_scratch, entry_scratch, exit_scratch, link_place, listed, preserved_words, reserved_places, result_loads}
+use Rattle.ffi3_place_rules.specs.Isa.{call_loads, call_scratch, entry_scratch, exit_scratch, link_place, listed, callee_saved_words, reserved_places, result_loads}
 use Rattle.ffi3_place_rules.specs.Standard.{Standard}
 use Rattle.ffi3_place_rules.specs.Agrees.{AgreesWithMachine, given_back, saved_registers}
 use Rattle.ffi3_place_rules.specs.ByStubs.{AgreesWithStubs, spare_words, stub_scratch}
@@ -42,12 +42,12 @@ reserved_not_entered Amd64 = tt
 reserved_not_entered Aarch64 = each_none_of (entry_scratch Aarch64) (reserved_places Aarch64) refl
 reserved_not_entered Riscv = each_none_of (entry_scratch Riscv) (reserved_places Riscv) refl
 
-pub reserved_not_left : (isa : Isa) → AllByRecursion (IsNoneOf (exit_scratch isa ++ (preserved_words isa ++ result_loads isa))) (reserved_places isa)
+pub reserved_not_left : (isa : Isa) → AllByRecursion (IsNoneOf (exit_scratch isa ++ (callee_saved_words isa ++ result_loads isa))) (reserved_places isa)
 reserved_not_left Amd64 = tt
 reserved_not_left Aarch64 =
-    each_none_of (exit_scratch Aarch64 ++ (preserved_words Aarch64 ++ result_loads Aarch64)) (reserved_places Aarch64) refl
+    each_none_of (exit_scratch Aarch64 ++ (callee_saved_words Aarch64 ++ result_loads Aarch64)) (reserved_places Aarch64) refl
 reserved_not_left Riscv =
-    each_none_of (exit_scratch Riscv ++ (preserved_words Riscv ++ result_loads Riscv)) (reserved_places Riscv) refl
+    each_none_of (exit_scratch Riscv ++ (callee_saved_words Riscv ++ result_loads Riscv)) (reserved_places Riscv) refl
 
 pub reserved_not_returned : (isa : Isa) → AllByRecursion (IsNoneOf (exit_scratch isa)) (reserved_places isa)
 reserved_not_returned Amd64 = tt
@@ -59,12 +59,12 @@ reserved_are_places Amd64 = tt
 reserved_are_places Aarch64 = (omega arith, tt)
 reserved_are_places Riscv = (omega arith, (omega arith, (omega arith, tt)))
 
-saved_not_loaded : (isa : Isa) → AllByRecursion (IsNoneOf (call_loads isa)) (preserved_words isa)
-saved_not_loaded Amd64 = each_none_of (call_loads Amd64) (preserved_words Amd64) refl
-saved_not_loaded Aarch64 = each_none_of (call_loads Aarch64) (preserved_words Aarch64) refl
-saved_not_loaded Riscv = each_none_of (call_loads Riscv) (preserved_words Riscv) refl
+saved_not_loaded : (isa : Isa) → AllByRecursion (IsNoneOf (call_loads isa)) (callee_saved_words isa)
+saved_not_loaded Amd64 = each_none_of (call_loads Amd64) (callee_saved_words Amd64) refl
+saved_not_loaded Aarch64 = each_none_of (call_loads Aarch64) (callee_saved_words Aarch64) refl
+saved_not_loaded Riscv = each_none_of (call_loads Riscv) (callee_saved_words Riscv) refl
 
-saved_by : (isa : Isa) → saved_registers (map Register (preserved_words isa) ++ (Hidden ∷ spare_words isa)) ≡ preserved_words isa
+saved_by : (isa : Isa) → saved_registers (map Register (callee_saved_words isa) ++ (Hidden ∷ spare_words isa)) ≡ callee_saved_words isa
 saved_by Amd64 = refl
 saved_by Aarch64 = refl
 saved_by Riscv = refl
@@ -72,21 +72,21 @@ saved_by Riscv = refl
 -- ---- of a standard
 
 module _ (std : Standard) (agrees : AgreesWithMachine std) (laws : AgreesWithStubs std) where
-  pub saved_are : saved_registers std.save_area ≡ preserved_words (isa_of std.target)
+  pub saved_are : saved_registers std.save_area ≡ callee_saved_words (isa_of std.target)
   saved_are = ap saved_registers laws.area ∙ saved_by (isa_of std.target)
 
-  preserved_saved : AllByRecursion (IsOneOf (preserved_words (isa_of std.target))) std.preserved
+  preserved_saved : AllByRecursion (IsOneOf (callee_saved_words (isa_of std.target))) std.callee_saved
   preserved_saved =
-      each_first (IsOneOf (preserved_words (isa_of std.target))) std.preserved (listed std.link_register) (subst (λ ls. AllByRecursion (IsOneOf ls) (given_back std)) saved_are agrees.saves_each)
+      each_first (IsOneOf (callee_saved_words (isa_of std.target))) std.callee_saved (listed std.link_register) (subst (λ ls. AllByRecursion (IsOneOf ls) (given_back std)) saved_are agrees.saves_each)
 
-  -- Call overwrites no preserved register
-  pub preserved_not_called : AllByRecursion (IsNoneOf (call_scratch (isa_of std.target) ++ call_loads (isa_of std.target))) std.preserved
+  -- Call overwrites no callee-saved register
+  pub preserved_not_called : AllByRecursion (IsNoneOf (call_scratch (isa_of std.target) ++ call_loads (isa_of std.target))) std.callee_saved
   preserved_not_called =
       let isa = isa_of std.target in
-      each_with (IsNoneOf (stub_scratch isa)) (IsOneOf (preserved_words isa)) (IsNoneOf (call_scratch isa ++ call_loads isa)) (λ l clear saved. each_join (Apart l) (call_scratch isa) (call_loads isa) (each_first (Apart l) (call_scratch isa) (entry_scratch isa ++ exit_scratch isa) clear) (one_of_each (IsNoneOf (call_loads isa)) l (preserved_words isa) (saved_not_loaded isa) saved)) std.preserved laws.preserved_kept preserved_saved
+      each_with (IsNoneOf (stub_scratch isa)) (IsOneOf (callee_saved_words isa)) (IsNoneOf (call_scratch isa ++ call_loads isa)) (λ l clear saved. each_join (Apart l) (call_scratch isa) (call_loads isa) (each_first (Apart l) (call_scratch isa) (entry_scratch isa ++ exit_scratch isa) clear) (one_of_each (IsNoneOf (call_loads isa)) l (callee_saved_words isa) (saved_not_loaded isa) saved)) std.callee_saved laws.callee_saved_kept preserved_saved
 
   -- nor does Return
-  pub preserved_not_returned : AllByRecursion (IsNoneOf (exit_scratch (isa_of std.target))) std.preserved
+  pub preserved_not_returned : AllByRecursion (IsNoneOf (exit_scratch (isa_of std.target))) std.callee_saved
   preserved_not_returned =
       let isa = isa_of std.target in
-      each_map (IsNoneOf (stub_scratch isa)) (IsNoneOf (exit_scratch isa)) (λ l clear. each_rest (Apart l) (entry_scratch isa) (exit_scratch isa) (each_rest (Apart l) (call_scratch isa) (entry_scratch isa ++ exit_scratch isa) clear)) std.preserved laws.preserved_kept
+      each_map (IsNoneOf (stub_scratch isa)) (IsNoneOf (exit_scratch isa)) (λ l clear. each_rest (Apart l) (entry_scratch isa) (exit_scratch isa) (each_rest (Apart l) (call_scratch isa) (entry_scratch isa ++ exit_scratch isa) clear)) std.callee_saved laws.callee_saved_kept

@@ -51,7 +51,7 @@ pub trait Abi {
     /// Preserved register `k`.
     fn callee_saved(k: u8) -> Loc
         requires { k < KEPT }
-        ensures { result ≡ slice_index_or standard.preserved k result };
+        ensures { result ≡ slice_index_or standard.callee_saved k result };
 
     /// Argument register `k`.
     fn passing_register(k: u8) -> Loc
@@ -82,7 +82,7 @@ pub trait Abi {
 
     ghost target_is: { standard.target ≡ TARGET };
 
-    ghost kept_all: { length standard.preserved ≡ KEPT };
+    ghost kept_all: { length standard.callee_saved ≡ KEPT };
 
     ghost passing_all: { length standard.argument_registers ≡ PASSING };
 

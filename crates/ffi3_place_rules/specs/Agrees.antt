@@ -25,9 +25,9 @@ is_hidden_word (Register at) = false
 is_hidden_word Hidden = true
 is_hidden_word Spare = false
 
--- what a callee gives back: the preserved registers and, where a register holds it, the return address
+-- what a callee gives back: the callee-saved registers and, where a register holds it, the return address
 abbrev pub given_back : Standard → List Loc
-given_back std = std.preserved ++ listed std.link_register
+given_back std = std.callee_saved ++ listed std.link_register
 
 -- the registers to which a call, a closure's entry or a return gives a meaning of its own
 abbrev pub special : Standard → List Loc
@@ -45,10 +45,10 @@ pub record AgreesWithMachine (std : Standard) : Type 0 where
   pub trampoline : std.trampoline_registers ≡ trampoline_registers (isa_of std.target)
   -- a register to which writes are dropped is reserved
   pub written : (l : Loc) → IsNoneOf std.reserved l → TakesWrites (isa_of std.target) l
-  -- preserved registers are registers, differ from one another, and have no other meaning
-  pub preserved_exist : AllByRecursion (LiesIn (isa_of std.target) 0) std.preserved
-  pub preserved_apart : AreApart std.preserved
-  pub preserved_plain : AllByRecursion (IsNoneOf (special std)) std.preserved
+  -- callee-saved registers are registers, differ from one another, and have no other meaning
+  pub callee_saved_exist : AllByRecursion (LiesIn (isa_of std.target) 0) std.callee_saved
+  pub callee_saved_apart : AreApart std.callee_saved
+  pub callee_saved_plain : AllByRecursion (IsNoneOf (special std)) std.callee_saved
   -- argument registers are registers, differ from one another, and are none of those that a call gives another meaning
   pub arguments_exist : AllByRecursion (LiesIn (isa_of std.target) 0) std.argument_registers
   pub arguments_apart : AreApart std.argument_registers

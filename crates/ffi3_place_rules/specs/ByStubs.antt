@@ -9,7 +9,7 @@ use Rattle.ffi3_place_rules.specs.declared.Loc.{Loc}
 use Rattle.ffi3_place_rules.specs.declared.Loc.TheVariants.{G}
 use Rattle.ffi3_place_rules.specs.declared.SaveWord.{SaveWord}
 use Rattle.ffi3_place_rules.specs.declared.SaveWord.TheVariants.{Register, Hidden, Spare}
-use Rattle.ffi3_place_rules.specs.Isa.{closure_register, call_loads, entry_stores, listed, preserved_words}
+use Rattle.ffi3_place_rules.specs.Isa.{closure_register, call_loads, entry_stores, listed, callee_saved_words}
 use Rattle.ffi3_place_rules.specs.Isa.{hidden_register, area_bytes, result_loads}
 use Rattle.ffi3_place_rules.specs.Isa.{call_scratch, entry_scratch, exit_scratch}
 use Rattle.ffi3_place_rules.specs.Standard.{Standard, plan_of}
@@ -29,7 +29,7 @@ stub_scratch isa = call_scratch isa ++ (entry_scratch isa ++ exit_scratch isa)
 pub record AgreesWithStubs (std : Standard) : Type 0 where
   -- the save area is that of the stubs: the same words in the same order, and as many bytes
   pub area :
-      std.save_area ≡ map Register (preserved_words (isa_of std.target)) ++ (Hidden ∷ spare_words (isa_of std.target))
+      std.save_area ≡ map Register (callee_saved_words (isa_of std.target)) ++ (Hidden ∷ spare_words (isa_of std.target))
   pub area_size : std.save ≡ area_bytes (isa_of std.target)
   -- Call loads all registers in which arguments and a hidden result's address are passed, and the one that tells the number of vector registers
   pub arguments_loaded : AllByRecursion (IsOneOf (call_loads (isa_of std.target))) std.argument_registers
@@ -39,8 +39,8 @@ pub record AgreesWithStubs (std : Standard) : Type 0 where
   pub closure_stored : IsOneOf (entry_stores (isa_of std.target)) (G (closure_register (isa_of std.target)))
   -- Exit loads the register in which a hidden result's address is returned, and Return stores it
   pub returned_loaded : AllByRecursion (IsOneOf (result_loads (isa_of std.target))) (listed std.returned_address)
-  -- no preserved, no reserved and no argument register is among those that a stub overwrites
-  pub preserved_kept : AllByRecursion (IsNoneOf (stub_scratch (isa_of std.target))) std.preserved
+  -- no callee-saved, no reserved and no argument register is among those that a stub overwrites
+  pub callee_saved_kept : AllByRecursion (IsNoneOf (stub_scratch (isa_of std.target))) std.callee_saved
   pub reserved_kept : AllByRecursion (IsNoneOf (stub_scratch (isa_of std.target))) std.reserved
   pub arguments_kept : AllByRecursion (IsNoneOf (stub_scratch (isa_of std.target))) std.argument_registers
   -- Call overwrites no register that tells the number of vector registers, and Entry none that holds the closure's address

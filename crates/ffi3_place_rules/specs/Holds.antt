@@ -138,8 +138,8 @@ pub record HoldsResult (std : Standard) (s : Signature) (v : ValueTree) (m : Ima
 abbrev pub SameIn : List Loc → Image → Image → Type 0
 SameIn registers m n = AllByRecursion (λ at. register m at ≡ register n at) registers
 
--- THE RETURN KEEPS THE ENTRY'S REGISTERS: the preserved and the reserved ones are equal, and the stack pointer is where it was before the return address was stored. (psABI AMD64 3.2.1, "Registers"; AAPCS64 6.1.1 and 6.1.2; RISC-V ELF psABI, "Integer Register Convention" and "Floating-point Register Convention"; Microsoft, "Caller/callee saved registers": what is preserved across calls)
+-- THE RETURN KEEPS THE ENTRY'S REGISTERS: the callee-saved and the reserved ones are equal, and the stack pointer is where it was before the return address was stored. (psABI AMD64 3.2.1, "Registers"; AAPCS64 6.1.1 and 6.1.2; RISC-V ELF psABI, "Integer Register Convention" and "Floating-point Register Convention"; Microsoft, "Caller/callee saved registers": what is preserved across calls)
 pub record Kept (std : Standard) (entry return : Image) : Type 0 where
-  pub preserved : SameIn std.preserved entry return
+  pub preserved : SameIn std.callee_saved entry return
   pub reserved : SameIn std.reserved entry return
   pub sp : return.sp ≡ entry.sp + std.link

@@ -121,12 +121,12 @@ entry_stores Riscv =
     ∷ F 10 ∷ F 11 ∷ F 12 ∷ F 13 ∷ F 14 ∷ F 15 ∷ F 16 ∷ F 17 ∷ G 6 ∷ []
 
 -- what Entry saves on the stack and Exit loads back, in the order of the save area: the registers that a callee preserves, and the one that holds the return address (x30; ra)
-abbrev pub preserved_words : Isa → List Loc
-preserved_words Amd64 = G 3 ∷ G 5 ∷ G 12 ∷ G 13 ∷ G 14 ∷ G 15 ∷ []
-preserved_words Aarch64 =
+abbrev pub callee_saved_words : Isa → List Loc
+callee_saved_words Amd64 = G 3 ∷ G 5 ∷ G 12 ∷ G 13 ∷ G 14 ∷ G 15 ∷ []
+callee_saved_words Aarch64 =
     G 19 ∷ G 20 ∷ G 21 ∷ G 22 ∷ G 23 ∷ G 24 ∷ G 25 ∷ G 26 ∷ G 27 ∷ G 28 ∷ G 29 ∷ G 30
     ∷ F 8 ∷ F 9 ∷ F 10 ∷ F 11 ∷ F 12 ∷ F 13 ∷ F 14 ∷ F 15 ∷ []
-preserved_words Riscv =
+callee_saved_words Riscv =
     G 1 ∷ G 8 ∷ G 9 ∷ G 18 ∷ G 19 ∷ G 20 ∷ G 21 ∷ G 22 ∷ G 23 ∷ G 24 ∷ G 25 ∷ G 26 ∷ G 27
     ∷ F 8 ∷ F 9 ∷ F 18 ∷ F 19 ∷ F 20 ∷ F 21 ∷ F 22 ∷ F 23 ∷ F 24 ∷ F 25 ∷ F 26 ∷ F 27 ∷ []
 
@@ -138,7 +138,7 @@ hidden_register Riscv = 10
 
 -- all that Entry saves, in the order of the save area
 abbrev pub stub_area : Isa → List Loc
-stub_area isa = preserved_words isa ++ G (hidden_register isa) ∷ []
+stub_area isa = callee_saved_words isa ++ G (hidden_register isa) ∷ []
 
 -- the bytes of the save area, by which Entry lowers the stack pointer and Exit raises it: eight for each word, and a spare word behind them on AArch64
 abbrev pub area_bytes : Isa → ℕ
@@ -172,7 +172,7 @@ exit_scratch Riscv = G 6 ∷ []
 
 -- ---- what a register holds that carries nothing
 
--- What a register that carries nothing holds at the event of number n. The number is in it, so that preserved registers differ from call to call. (This library's)
+-- What a register that carries nothing holds at the event of number n. The number is in it, so that callee-saved registers differ from call to call. (This library's)
 abbrev pub scribble : ℕ → Loc → ℕ
 scribble n (G k) = (0xA5A5000000000000 + 64 * n + k) % 2 ^ 64
 scribble n (F k) = (0x5A5A000000000000 + 64 * n + k) % 2 ^ 64

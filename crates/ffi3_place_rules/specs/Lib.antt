@@ -4,6 +4,7 @@ pub mod Alike
 pub mod Image
 pub mod Event
 pub mod Holds
+pub mod Locs
 pub mod Sound
 pub mod Agrees
 pub mod Doublewords

@@ -1,6 +1,6 @@
 -- What the places of a signature keep, whatever the standard: no two share anything, none is a forbidden register, and they have the whole value. (No standard states these laws: each follows from its rules, and is proved of them.)
 use Rattle.std.specs.Prelude.{◌≡◌, ◌≢◌, ℕ, zero, suc, ◌+◌, ◌/◌, ◌%◌, ◌<◌, ◌≤◌, ◌⊎◌, ⊤, Bool, true, false, ◌&&◌, nat_lt}
-use Rattle.std.specs.Prelude.{List, [], ◌∷◌, ◌++◌, map}
+use Rattle.std.specs.Prelude.{List, [], ◌∷◌, ◌++◌}
 use Rattle.std.specs.List.{AllByRecursion, Any, flat_map}
 use Rattle.ffi3_type_rules.specs.Tree.{Tree, void, scalar}
 use Rattle.ffi3_type_rules.specs.Layout.{Leaf, leaves_of, size_of, scalar_size}
@@ -20,6 +20,7 @@ use Rattle.ffi3_place_rules.specs.declared.Place.TheVariants.{Direct, ByRef}
 use Rattle.ffi3_place_rules.specs.declared.Res.{Res}
 use Rattle.ffi3_place_rules.specs.declared.Res.TheVariants.{Nothing, Direct as DirectRes, Hidden}
 use Rattle.ffi3_place_rules.specs.declared.Plan.{Plan}
+pub use Rattle.ffi3_place_rules.specs.Locs.{piece_locs, place_locs}
 use Rattle.ffi3_place_rules.specs.Standard.{Standard, frame_of, need_of, plan_of}
 use Rattle.ffi3_place_rules.specs.Image.{Image}
 use Rattle.ffi3_place_rules.specs.Holds.{Carries, Own, OwnResult}
@@ -53,13 +54,6 @@ abbrev pub IsOneOf : List Loc → Loc → Type 0
 IsOneOf places l = Any (λ at. at ≡ l) places
 
 -- ---- the places of a call
-
-abbrev pub piece_locs : List Piece → List Loc
-piece_locs pieces = map (λ p. p.loc) pieces
-
-abbrev pub place_locs : Place → List Loc
-place_locs (Direct pieces) = piece_locs pieces
-place_locs (ByRef at copy) = at ∷ []
 
 abbrev pub hidden_locs : Res → List Loc
 hidden_locs (Hidden at buffer) = at ∷ []
@@ -98,9 +92,9 @@ call_locs s p = argument_locs p ++ (copy_locs s.arguments p.places ++ buffer_loc
 
 -- ---- registers that carry nothing
 
--- no result stands in these: the stack pointer, the preserved, the reserved and the link register
+-- no result stands in these: the stack pointer, the callee-saved, the reserved and the link register
 abbrev pub closed_to_results : Standard → List Loc
-closed_to_results std = std.stack_pointer ∷ (std.preserved ++ (std.reserved ++ listed std.link_register))
+closed_to_results std = std.stack_pointer ∷ (std.callee_saved ++ (std.reserved ++ listed std.link_register))
 
 -- no argument stands in these or in those that a call itself needs
 abbrev pub closed_to_arguments : Standard → List Loc

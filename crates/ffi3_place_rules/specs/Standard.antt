@@ -43,7 +43,7 @@ pub record Standard : Type 0 where
   pub save : ℕ
   pub stack_pointer : Loc
   -- the callee-saved registers; those that neither side of a call writes; the one that holds the return address
-  pub preserved : List Loc
+  pub callee_saved : List Loc
   pub reserved : List Loc
   pub link_register : Option Loc
   -- the registers in which arguments and the address of a hidden result are passed

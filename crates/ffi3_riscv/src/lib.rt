@@ -590,7 +590,7 @@ impl Abi for Riscv {
 
     ghost TARGET = { target.Riscv };
 
-    ghost KEPT = { length riscv.preserved };
+    ghost KEPT = { length riscv.callee_saved };
 
     ghost PASSING = { length riscv.argument_registers };
 

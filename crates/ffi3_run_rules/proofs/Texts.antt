@@ -79,6 +79,6 @@ words_are_told n image [] is = refl
 words_are_told n image (at ∷ registers) is = λ i.
     (codes " " ++ word_text (sym is.0 i)) ∷ words_are_told n image registers is.1 i
 
-pub registers_are_told : (std : Standard) (top : ℕ) (held : Loc → ℕ) (outer : List Entered) (n pointer : ℕ) (s : Signature) (args : List ValueTree) (e : Event) → IsEntry std top held outer n pointer s args e → keep_text std (scribble n) ≡ codes "keep" ++ registers_text (register e.image) std.preserved
+pub registers_are_told : (std : Standard) (top : ℕ) (held : Loc → ℕ) (outer : List Entered) (n pointer : ℕ) (s : Signature) (args : List ValueTree) (e : Event) → IsEntry std top held outer n pointer s args e → keep_text std (scribble n) ≡ codes "keep" ++ registers_text (register e.image) std.callee_saved
 registers_are_told std top held outer n pointer s args e is =
-    ap (λ (words : List (List ℕ)). codes "keep" ++ concat words) (words_are_told n e.image std.preserved is.preserved)
+    ap (λ (words : List (List ℕ)). codes "keep" ++ concat words) (words_are_told n e.image std.callee_saved is.preserved)

@@ -35,7 +35,7 @@ pub record IsEntry (std : Standard) (top : ℕ) (held : Loc → ℕ) (outer : Li
   -- the caller's stack pointer, as it calls, is a multiple of 16 (psABI AMD64 3.2.2; AAPCS64, "Stack constraints at a public interface"; RISC-V ELF psABI, "Integer Calling Convention")
   pub aligned : top % 16 ≡ 0 → (e.image.sp + std.link) % 16 ≡ 0
   pub stack : length e.image.stack ≡ std.link + frame_of std s
-  pub preserved : AllByRecursion (λ at. register e.image at ≡ scribble n at) std.preserved
+  pub preserved : AllByRecursion (λ at. register e.image at ≡ scribble n at) std.callee_saved
   pub reserved : AllByRecursion (λ at. register e.image at ≡ held at) std.reserved
 
 -- the event is the return of an unfinished call with this result

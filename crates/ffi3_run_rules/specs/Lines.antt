@@ -61,7 +61,7 @@ past signatures at (StopLine stop) = at
 
 -- ---- the lines of entries and returns
 
--- not told at all, or told by a standard, on a stack that falls from `top`, where at the entry of number n a preserved register has what `leaves n` says
+-- not told at all, or told by a standard, on a stack that falls from `top`, where at the entry of number n a callee-saved register has what `leaves n` says
 pub data Tracing : Type 0 where
   untraced : Tracing
   traced : Standard → (top : ℕ) → (leaves : ℕ → Loc → ℕ) → Tracing
@@ -86,10 +86,10 @@ abbrev pub word_text : ℕ → List ℕ
 word_text n =
     replicate (16 - length (digits 16 false n)) 48 ++ digits 16 false n
 
--- the preserved registers, as a caller leaves them
+-- the callee-saved registers, as a caller leaves them
 abbrev pub keep_text : Standard → (Loc → ℕ) → List ℕ
 keep_text std leaves =
-    codes "keep" ++ concat (map (λ at. codes " " ++ word_text (leaves at)) std.preserved)
+    codes "keep" ++ concat (map (λ at. codes " " ++ word_text (leaves at)) std.callee_saved)
 
 abbrev pub enter_lines : Tracing → Point → (address : ℕ) → Signature → List ValueTree → List ℕ
 enter_lines untraced at address s args = []

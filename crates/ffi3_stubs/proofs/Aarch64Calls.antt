@@ -8,7 +8,7 @@ use Rattle.ffi3_place_rules.specs.declared.Loc.{Loc}
 use Rattle.ffi3_place_rules.specs.declared.Loc.TheVariants.{G}
 use Rattle.ffi3_machine.specs.declared.stub.TheConstants.{EXCHANGE}
 use Rattle.ffi3_machine.specs.State.{State, IsMachine, x_of, with_pc}
-use Rattle.ffi3_place_rules.specs.Isa.{call_loads, entry_stores, preserved_words, stub_area, result_loads}
+use Rattle.ffi3_place_rules.specs.Isa.{call_loads, entry_stores, callee_saved_words, stub_area, result_loads}
 use Rattle.ffi3_stubs.specs.Effects.{held, received, addressed, with_sp_by, aarch64_placed, aarch64_loaded, aarch64_called, aarch64_saved, aarch64_passed, aarch64_entered, aarch64_restored, aarch64_left, aarch64_taken, aarch64_returned}
 use Rattle.ffi3_stubs.specs.Calls.{same_loc, is_in, HasCalled, HasEntered, HasLeft, HasReturned}
 use Rattle.ffi3_stubs.proofs.Reading.{are_apart, are_spread, are_disjoint, place, misses, neither, in_neither, other_than, exchange_others, area_others, came_from_exchange, came_from_area, came_still, came_again, area_lengths, exchange_lengths, exchange_beyond, went_from, went_to_exchange, went_to_area}
@@ -97,16 +97,16 @@ has_left s is =
     let a : State = addressed 4 16 w in
     let t : State = with_sp_by 4 (x_of 536 s) (received 4 (G 17) (x_of 536 s) a) in
     let count : length t.general ≡ 32 = length-set a.general 17 (x_of 536 s) ∙ length-set s.general 16 EXCHANGE ∙ is.general in
-    let sizes = area_lengths Aarch64 0 (preserved_words Aarch64) t in
+    let sizes = area_lengths Aarch64 0 (callee_saved_words Aarch64) t in
     let after : (l : Loc) → is_in l (result_loads Aarch64) ≡ false → held l (aarch64_left w) ≡ held l (aarch64_restored w) = λ l out. exchange_others Aarch64 16 (result_loads Aarch64) (aarch64_restored w) l out in
     record {
-      restored = came_still (preserved_words Aarch64) (result_loads Aarch64) (x_of 536 s) s.stack (aarch64_restored w) (aarch64_left w) refl after (came_from_area Aarch64 0 (x_of 536 s) (preserved_words Aarch64) t (omega arith) refl count is.floating);
+      restored = came_still (callee_saved_words Aarch64) (result_loads Aarch64) (x_of 536 s) s.stack (aarch64_restored w) (aarch64_left w) refl after (came_from_area Aarch64 0 (x_of 536 s) (callee_saved_words Aarch64) t (omega arith) refl count is.floating);
       loaded = came_from_exchange Aarch64 16 (result_loads Aarch64) (aarch64_restored w) refl (sizes.0 ∙ count) (sizes.1 ∙ is.floating);
       others = λ l out.
-          let one = neither (same_loc l (G 16)) (is_in l (G 17 ∷ (preserved_words Aarch64 ++ result_loads Aarch64))) out in
-          let two = neither (same_loc l (G 17)) (is_in l (preserved_words Aarch64 ++ result_loads Aarch64)) one.1 in
-          let more = in_neither l (preserved_words Aarch64) (result_loads Aarch64) two.1 in
-          after l more.1 ∙ area_others Aarch64 0 (preserved_words Aarch64) t l more.0 ∙ other_than l 17 (x_of 536 s) a t refl refl two.0 ∙ other_than l 16 EXCHANGE s a refl refl one.0;
+          let one = neither (same_loc l (G 16)) (is_in l (G 17 ∷ (callee_saved_words Aarch64 ++ result_loads Aarch64))) out in
+          let two = neither (same_loc l (G 17)) (is_in l (callee_saved_words Aarch64 ++ result_loads Aarch64)) one.1 in
+          let more = in_neither l (callee_saved_words Aarch64) (result_loads Aarch64) two.1 in
+          after l more.1 ∙ area_others Aarch64 0 (callee_saved_words Aarch64) t l more.0 ∙ other_than l 17 (x_of 536 s) a t refl refl two.0 ∙ other_than l 16 EXCHANGE s a refl refl one.0;
       sp = plus_none (x_of 536 s + 176);
       pc = refl;
       rest = refl;

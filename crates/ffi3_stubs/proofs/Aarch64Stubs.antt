@@ -9,7 +9,7 @@ use Rattle.ffi3_place_rules.specs.declared.Loc.TheVariants.{G}
 use Rattle.ffi3_machine.specs.declared.stub.TheConstants.{EXCHANGE}
 use Rattle.ffi3_machine.specs.State.{State, x_of}
 use Rattle.ffi3_machine.specs.Step.{StepsBy}
-use Rattle.ffi3_place_rules.specs.Isa.{call_loads, stub_area, preserved_words, entry_stores, result_loads}
+use Rattle.ffi3_place_rules.specs.Isa.{call_loads, stub_area, callee_saved_words, entry_stores, result_loads}
 use Rattle.ffi3_machine.specs.Stubs.{Entry, Exit, Call, Return, rows, bytes_of, stub_bytes, aarch64_row, address, load, sum, jump, calls, returns, exchange_loads, exchange_stores, area_loads, area_stores}
 use Rattle.ffi3_machine.proofs.Stubs.{lengths}
 use Rattle.ffi3_stubs.specs.Effects.{held, addressed, received, saved, to_area, with_sp_by, linked, aarch64_placed, aarch64_loaded, aarch64_called, aarch64_saved, aarch64_passed, aarch64_entered, aarch64_restored, aarch64_given, aarch64_left, aarch64_taken, aarch64_returned}
@@ -175,7 +175,7 @@ exit_from s tail at count low top h =
     let t6 : List ℕ = aarch64_row 6264 (jump returns) ++ tail in
     let t5 : List ℕ = aarch64_row 6260 (sum 31 31 (pos 176)) ++ t6 in
     let t4 : List ℕ = bytes_of Aarch64 6236 (exchange_loads 16 (result_loads Aarch64)) ++ t5 in
-    let t3 : List ℕ = bytes_of Aarch64 6156 (area_loads 31 0 (preserved_words Aarch64)) ++ t4 in
+    let t3 : List ℕ = bytes_of Aarch64 6156 (area_loads 31 0 (callee_saved_words Aarch64)) ++ t4 in
     let t2 : List ℕ = aarch64_row 6152 (sum 31 17 (pos 0)) ++ t3 in
     let t1 : List ℕ = aarch64_row 6148 (load (G 17) 16 536) ++ t2 in
     let s1 : State = addressed 4 16 s in
@@ -195,7 +195,7 @@ exit_from s tail at count low top h =
     let count2 : length s2.general ≡ 32 = length-set s1.general 17 (x_of 536 s) ∙ count1 in
     let three = moved_17 s2 (x_of 536 s) t3 (same_at s1.general 17 (x_of 536 s) (omega arith) count1) (under64 (x_of 536 s) (omega arith)) (omega arith) h2 in
     let h3 : Stands Aarch64 s3 t3 = after s2 s3 (aarch64_row 6152 (sum 31 17 (pos 0))) t3 refl refl h2 in
-    let back : Came Aarch64 16 s3 s4 20 t4 = area_loaded Aarch64 31 18 16 18 (aarch64_laws 16 (lit< tt)) (preserved_words Aarch64) s3 0 t4 refl (at_multiple s3.pc 6156 (ap (λ i. i + 4 + 4 + 4) at) refl) refl short low within base2 count2 h3 in
+    let back : Came Aarch64 16 s3 s4 20 t4 = area_loaded Aarch64 31 18 16 18 (aarch64_laws 16 (lit< tt)) (callee_saved_words Aarch64) s3 0 t4 refl (at_multiple s3.pc 6156 (ap (λ i. i + 4 + 4 + 4) at) refl) refl short low within base2 count2 h3 in
     let given : Came Aarch64 16 s4 s5 6 t5 = exchange_loaded Aarch64 31 18 16 18 (aarch64_laws 16 (lit< tt)) (result_loads Aarch64) s4 t5 refl back.aligned back.base back.count back.stands in
     let six = rise_row s5 176 (s5.sp + 176) t6 (lit< tt) given.aligned given.stands refl (in_bounds s5.sp (x_of 536 s) refl top) in
     let h6 : Stands Aarch64 s6 t6 = after s5 s6 (aarch64_row 6260 (sum 31 31 (pos 176))) t6 refl refl given.stands in

@@ -7,7 +7,7 @@ use Rattle.ffi3_place_rules.specs.declared.Loc.{Loc}
 use Rattle.ffi3_place_rules.specs.declared.Loc.TheVariants.{G}
 use Rattle.ffi3_machine.specs.declared.stub.TheConstants.{EXCHANGE}
 use Rattle.ffi3_machine.specs.State.{State, IsMachine, x_of, with_pc}
-use Rattle.ffi3_place_rules.specs.Isa.{call_loads, entry_stores, preserved_words, stub_area, result_loads}
+use Rattle.ffi3_place_rules.specs.Isa.{call_loads, entry_stores, callee_saved_words, stub_area, result_loads}
 use Rattle.ffi3_stubs.specs.Effects.{held, addressed, with_sp_by, amd64_placed, amd64_called, amd64_saved, amd64_entered, amd64_restored, amd64_left, amd64_returned}
 use Rattle.ffi3_stubs.specs.Calls.{same_loc, is_in, HasCalled, HasEntered, HasLeft, HasReturned}
 use Rattle.ffi3_stubs.proofs.Reading.{are_apart, are_spread, are_disjoint, place, misses, neither, in_neither, addressed_other, exchange_others, area_others, came_from_exchange, came_from_area, came_still, area_lengths, exchange_beyond, went_from, went_to_exchange, went_to_area}
@@ -67,15 +67,15 @@ has_left s is =
     let w : State = with_pc 6144 s in
     let t : State = with_sp_by 7 (x_of 536 s) (addressed 7 11 w) in
     let count : length t.general ≡ 32 = length-set s.general 11 EXCHANGE ∙ is.general in
-    let sizes = area_lengths Amd64 0 (preserved_words Amd64) t in
+    let sizes = area_lengths Amd64 0 (callee_saved_words Amd64) t in
     let after : (l : Loc) → is_in l (result_loads Amd64) ≡ false → held l (amd64_left w) ≡ held l (amd64_restored w) = λ l out. exchange_others Amd64 11 (result_loads Amd64) (amd64_restored w) l out in
     record {
-      restored = came_still (preserved_words Amd64) (result_loads Amd64) (x_of 536 s) s.stack (amd64_restored w) (amd64_left w) refl after (came_from_area Amd64 0 (x_of 536 s) (preserved_words Amd64) t (omega arith) refl count is.floating);
+      restored = came_still (callee_saved_words Amd64) (result_loads Amd64) (x_of 536 s) s.stack (amd64_restored w) (amd64_left w) refl after (came_from_area Amd64 0 (x_of 536 s) (callee_saved_words Amd64) t (omega arith) refl count is.floating);
       loaded = came_from_exchange Amd64 11 (result_loads Amd64) (amd64_restored w) refl (sizes.0 ∙ count) (sizes.1 ∙ is.floating);
       others = λ l out.
-          let parts = neither (same_loc l (G 11)) (is_in l (preserved_words Amd64 ++ result_loads Amd64)) out in
-          let more = in_neither l (preserved_words Amd64) (result_loads Amd64) parts.1 in
-          after l more.1 ∙ area_others Amd64 0 (preserved_words Amd64) t l more.0 ∙ addressed_other s.general l 11 EXCHANGE s t refl refl parts.0;
+          let parts = neither (same_loc l (G 11)) (is_in l (callee_saved_words Amd64 ++ result_loads Amd64)) out in
+          let more = in_neither l (callee_saved_words Amd64) (result_loads Amd64) parts.1 in
+          after l more.1 ∙ area_others Amd64 0 (callee_saved_words Amd64) t l more.0 ∙ addressed_other s.general l 11 EXCHANGE s t refl refl parts.0;
       sp = refl;
       pc = refl;
       rest = refl;

@@ -7,7 +7,7 @@ use Rattle.ffi3_type_rules.specs.declared.limits.TheConstants.{STACK, STACK_TOP}
 use Rattle.ffi3_place_rules.specs.declared.Loc.TheVariants.{G}
 use Rattle.ffi3_machine.specs.declared.stub.TheConstants.{EXCHANGE}
 use Rattle.ffi3_machine.specs.State.{State, x_of}
-use Rattle.ffi3_place_rules.specs.Isa.{call_loads, stub_area, preserved_words, entry_stores, result_loads}
+use Rattle.ffi3_place_rules.specs.Isa.{call_loads, stub_area, callee_saved_words, entry_stores, result_loads}
 use Rattle.ffi3_machine.specs.Stubs.{Entry, Exit, Call, Return, rows, bytes_of, stub_bytes, amd64_row, address, load, sum, jump, calls_at, returns, exchange_loads, exchange_stores, area_loads, area_stores}
 use Rattle.ffi3_machine.proofs.Stubs.{lengths}
 use Rattle.ffi3_stubs.specs.Effects.{addressed, with_sp_by, amd64_placed, amd64_loaded, amd64_called, amd64_saved, amd64_passed, amd64_entered, amd64_restored, amd64_given, amd64_left, amd64_taken, amd64_returned}
@@ -79,7 +79,7 @@ exit_from s tail at count low top h =
     let t5 : List ℕ = amd64_row 6246 (jump returns) ++ tail in
     let t4 : List ℕ = amd64_row 6238 (sum 4 4 (pos 56)) ++ t5 in
     let t3 : List ℕ = bytes_of Amd64 6206 (exchange_loads 11 (result_loads Amd64)) ++ t4 in
-    let t2 : List ℕ = bytes_of Amd64 6158 (area_loads 4 0 (preserved_words Amd64)) ++ t3 in
+    let t2 : List ℕ = bytes_of Amd64 6158 (area_loads 4 0 (callee_saved_words Amd64)) ++ t3 in
     let t1 : List ℕ = amd64_row 6151 (load (G 4) 11 536) ++ t2 in
     let s1 : State = addressed 7 11 s in
     let s2 : State = with_sp_by 7 (x_of 536 s) s1 in
@@ -91,7 +91,7 @@ exit_from s tail at count low top h =
     let base : slice_index s1.general 11 ≡ EXCHANGE = based s.general count in
     let two = load_sp_row s1 536 131608 (x_of 536 s) t2 (omega arith) h1 (ap (λ b. b + 536) base) (omega arith) (load_exchange s1 536 131608 (omega arith) refl) in
     let h2 : Stands Amd64 s2 t2 = onward Amd64 s1 s2 (amd64_row 6151 (load (G 4) 11 536)) t2 7 refl refl (length-append (amd64_row 6151 (load (G 4) 11 536)) t2) h1 in
-    let back : Came s2 s3 6 t3 = area_loaded (preserved_words Amd64) s2 0 t3 refl low (omega arith) base (sized s.general count) h2 in
+    let back : Came s2 s3 6 t3 = area_loaded (callee_saved_words Amd64) s2 0 t3 refl low (omega arith) base (sized s.general count) h2 in
     let given : Came s3 s4 4 t4 = exchange_loaded (result_loads Amd64) s3 t4 refl back.base back.count back.stands in
     let five = rise_row s4 56 (s4.sp + 56) t5 (omega arith) given.stands refl (omega arith) in
     let h5 : Stands Amd64 s5 t5 = onward Amd64 s4 s5 (amd64_row 6238 (sum 4 4 (pos 56))) t5 8 refl refl (length-append (amd64_row 6238 (sum 4 4 (pos 56))) t5) given.stands in

@@ -8,7 +8,7 @@ use Rattle.ffi3_place_rules.specs.declared.Loc.{Loc}
 use Rattle.ffi3_place_rules.specs.declared.Loc.TheVariants.{G}
 use Rattle.ffi3_machine.specs.declared.stub.TheConstants.{EXCHANGE}
 use Rattle.ffi3_machine.specs.State.{State, IsMachine, x_of, with_pc}
-use Rattle.ffi3_place_rules.specs.Isa.{call_loads, entry_stores, preserved_words, stub_area, result_loads}
+use Rattle.ffi3_place_rules.specs.Isa.{call_loads, entry_stores, callee_saved_words, stub_area, result_loads}
 use Rattle.ffi3_stubs.specs.Effects.{held, received, addressed_twice, with_sp_by, riscv_placed, riscv_loaded, riscv_called, riscv_saved, riscv_entered, riscv_restored, riscv_left, riscv_returned}
 use Rattle.ffi3_stubs.specs.Calls.{same_loc, is_in, HasCalled, HasEntered, HasLeft, HasReturned}
 use Rattle.ffi3_stubs.proofs.Reading.{are_apart, are_spread, are_disjoint, place, misses, neither, in_neither, other_than, exchange_others, area_others, came_from_exchange, came_from_area, came_still, came_again, area_lengths, exchange_lengths, exchange_beyond, went_from, went_to_exchange, went_to_area}
@@ -88,15 +88,15 @@ has_left s is =
     let w : State = with_pc 6144 s in
     let t : State = with_sp_by 4 (x_of 536 s) (addressed_twice 6 w) in
     let count : length t.general ≡ 32 = length-set s.general 6 EXCHANGE ∙ is.general in
-    let sizes = area_lengths Riscv 0 (preserved_words Riscv) t in
+    let sizes = area_lengths Riscv 0 (callee_saved_words Riscv) t in
     let after : (l : Loc) → is_in l (result_loads Riscv) ≡ false → held l (riscv_left w) ≡ held l (riscv_restored w) = λ l out. exchange_others Riscv 6 (result_loads Riscv) (riscv_restored w) l out in
     record {
-      restored = came_still (preserved_words Riscv) (result_loads Riscv) (x_of 536 s) s.stack (riscv_restored w) (riscv_left w) refl after (came_from_area Riscv 0 (x_of 536 s) (preserved_words Riscv) t (omega arith) refl count is.floating);
+      restored = came_still (callee_saved_words Riscv) (result_loads Riscv) (x_of 536 s) s.stack (riscv_restored w) (riscv_left w) refl after (came_from_area Riscv 0 (x_of 536 s) (callee_saved_words Riscv) t (omega arith) refl count is.floating);
       loaded = came_from_exchange Riscv 6 (result_loads Riscv) (riscv_restored w) refl (sizes.0 ∙ count) (sizes.1 ∙ is.floating);
       others = λ l out.
-          let one = neither (same_loc l (G 6)) (is_in l (preserved_words Riscv ++ result_loads Riscv)) out in
-          let more = in_neither l (preserved_words Riscv) (result_loads Riscv) one.1 in
-          after l more.1 ∙ area_others Riscv 0 (preserved_words Riscv) t l more.0 ∙ other_than l 6 EXCHANGE s t refl refl one.0;
+          let one = neither (same_loc l (G 6)) (is_in l (callee_saved_words Riscv ++ result_loads Riscv)) out in
+          let more = in_neither l (callee_saved_words Riscv) (result_loads Riscv) one.1 in
+          after l more.1 ∙ area_others Riscv 0 (callee_saved_words Riscv) t l more.0 ∙ other_than l 6 EXCHANGE s t refl refl one.0;
       sp = plus_none (x_of 536 s + 208);
       pc = refl;
       rest = refl;

@@ -10,7 +10,7 @@ use Rattle.ffi3_place_rules.specs.declared.Loc.TheVariants.{G}
 use Rattle.ffi3_machine.specs.declared.stub.TheConstants.{EXCHANGE}
 use Rattle.ffi3_machine.specs.State.{State, x_of}
 use Rattle.ffi3_machine.specs.Step.{StepsBy, even, moved}
-use Rattle.ffi3_place_rules.specs.Isa.{call_loads, stub_area, preserved_words, entry_stores, result_loads}
+use Rattle.ffi3_place_rules.specs.Isa.{call_loads, stub_area, callee_saved_words, entry_stores, result_loads}
 use Rattle.ffi3_machine.specs.Stubs.{Entry, Exit, Call, Return, rows, bytes_of, stub_bytes, riscv_row, address, load, sum, jump, calls, returns, exchange_loads, exchange_stores, area_loads, area_stores}
 use Rattle.ffi3_machine.proofs.Stubs.{lengths}
 use Rattle.ffi3_stubs.specs.Effects.{held, addressed_twice, received, saved, to_area, with_sp_by, linked, riscv_placed, riscv_loaded, riscv_called, riscv_saved, riscv_passed, riscv_entered, riscv_restored, riscv_given, riscv_left, riscv_taken, riscv_returned}
@@ -178,7 +178,7 @@ exit_from s tail at count low top small h =
     let t5 : List ℕ = riscv_row 6276 (jump returns) ++ tail in
     let t4 : List ℕ = riscv_row 6272 (sum 2 2 (pos 208)) ++ t5 in
     let t3 : List ℕ = bytes_of Riscv 6256 (exchange_loads 6 (result_loads Riscv)) ++ t4 in
-    let t2 : List ℕ = bytes_of Riscv 6156 (area_loads 2 0 (preserved_words Riscv)) ++ t3 in
+    let t2 : List ℕ = bytes_of Riscv 6156 (area_loads 2 0 (callee_saved_words Riscv)) ++ t3 in
     let t1 : List ℕ = riscv_row 6152 (load (G 2) 6 536) ++ t2 in
     let s1 : State = addressed_twice 6 s in
     let s2 : State = with_sp_by 4 (x_of 536 s) s1 in
@@ -194,7 +194,7 @@ exit_from s tail at count low top small h =
     let count1 : length s1.general ≡ 32 = length-set s.general 6 EXCHANGE ∙ count in
     let two = load_sp_row s1 6 536 131608 (x_of 536 s) t2 (lit< tt) (lit< tt) al1 h1 (ap (λ b. b + 536) base1) (lit< tt) (load_exchange Riscv s1 536 131608 room refl) in
     let h2 : Stands Riscv s2 t2 = after s1 s2 (riscv_row 6152 (load (G 2) 6 536)) t2 refl refl h1 in
-    let back : Came Riscv 6 s2 s3 25 t3 = area_loaded Riscv 32 0 6 2 laws_6 (preserved_words Riscv) s2 0 t3 refl (next_aligned s1.pc al1) refl short low within base1 count1 h2 in
+    let back : Came Riscv 6 s2 s3 25 t3 = area_loaded Riscv 32 0 6 2 laws_6 (callee_saved_words Riscv) s2 0 t3 refl (next_aligned s1.pc al1) refl short low within base1 count1 h2 in
     let given : Came Riscv 6 s3 s4 4 t4 = exchange_loaded Riscv 32 0 6 2 laws_6 (result_loads Riscv) s3 t4 refl back.aligned back.base back.count back.stands in
     let five = rise_row s4 (s4.sp + 208) t5 given.aligned given.stands refl (in_bounds s4.sp (x_of 536 s) refl top) in
     let h5 : Stands Riscv s5 t5 = after s4 s5 (riscv_row 6272 (sum 2 2 (pos 208))) t5 refl refl given.stands in

@@ -6,7 +6,7 @@ use Rattle.ffi3_type_rules.specs.declared.Isa.TheVariants.{Amd64, Aarch64, Riscv
 use Rattle.std.specs.Prelude.{slice_index}
 use Rattle.ffi3_type_rules.specs.declared.limits.TheConstants.{STACK, STACK_TOP}
 use Rattle.ffi3_place_rules.specs.declared.Loc.TheVariants.{G}
-use Rattle.ffi3_place_rules.specs.Isa.{pushed_bytes, area_bytes, entry_stores, preserved_words, result_loads}
+use Rattle.ffi3_place_rules.specs.Isa.{pushed_bytes, area_bytes, entry_stores, callee_saved_words, result_loads}
 use Rattle.ffi3_machine.specs.declared.stub.TheConstants.{EXCHANGE}
 use Rattle.ffi3_machine.specs.State.{State, IsMachine, x_of, stack_at, with_pc}
 use Rattle.ffi3_machine.specs.Stubs.{Call, Entry, Exit, Return, stub_at}
@@ -45,7 +45,7 @@ given_link : (s : State) → IsMachine s → slice_index (riscv_given s).general
 unfolding are_apart
 given_link s is =
     let t : State = with_sp_by 4 (x_of 536 s) (addressed_twice 6 s) in
-    let area = came_from_area Riscv 0 (x_of 536 s) (preserved_words Riscv) t (omega arith) refl (length-set s.general 6 EXCHANGE ∙ is.general) is.floating in
+    let area = came_from_area Riscv 0 (x_of 536 s) (callee_saved_words Riscv) t (omega arith) refl (length-set s.general 6 EXCHANGE ∙ is.general) is.floating in
     exchange_others Riscv 6 (result_loads Riscv) (riscv_restored s) (G 1) refl ∙ area.0
 
 pub exit_way : (isa : Isa) (s : State) → s.pc ≡ 6144 → IsMachine s → STACK ≤ x_of 536 s → x_of 536 s + area_bytes isa + pushed_bytes isa ≤ STACK_TOP → TakesBy isa (steps_of isa Exit) s (after_exit isa s)

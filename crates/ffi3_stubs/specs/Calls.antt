@@ -9,7 +9,7 @@ use Rattle.ffi3_type_rules.specs.declared.limits.TheConstants.{STACK, RETURN}
 use Rattle.ffi3_place_rules.specs.declared.Loc.{Loc}
 use Rattle.ffi3_place_rules.specs.declared.Loc.TheVariants.{G, F, S}
 use Rattle.ffi3_place_rules.specs.Isa.{pushed_bytes, call_scratch, entry_scratch, exit_scratch, call_loads}
-use Rattle.ffi3_place_rules.specs.Isa.{entry_stores, preserved_words, stub_area, area_bytes, result_loads}
+use Rattle.ffi3_place_rules.specs.Isa.{entry_stores, callee_saved_words, stub_area, area_bytes, result_loads}
 use Rattle.ffi3_machine.specs.State.{State, x_of, stack_at, lowered}
 use Rattle.ffi3_machine.specs.Step.{even}
 use Rattle.ffi3_machine.specs.Stubs.{StubName, Call, Entry, Exit, Return, exchanged_at}
@@ -170,9 +170,9 @@ pub record HasEntered (isa : Isa) (before after : State) : Type 0 where
 
 -- after run_exit
 pub record HasLeft (isa : Isa) (before after : State) : Type 0 where
-  pub restored : CameFromArea (x_of 536 before) (preserved_words isa) before after
+  pub restored : CameFromArea (x_of 536 before) (callee_saved_words isa) before after
   pub loaded : CameFromExchange (result_loads isa) before after
-  pub others : OthersStay (exit_scratch isa ++ (preserved_words isa ++ result_loads isa)) before after
+  pub others : OthersStay (exit_scratch isa ++ (callee_saved_words isa ++ result_loads isa)) before after
   pub sp : after.sp ≡ x_of 536 before + area_bytes isa + pushed_bytes isa
   pub pc : after.pc ≡ left_to isa before after
   pub rest : after

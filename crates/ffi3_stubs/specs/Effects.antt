@@ -7,7 +7,7 @@ use Rattle.ffi3_type_rules.specs.declared.Isa.TheVariants.{Amd64, Aarch64, Riscv
 use Rattle.ffi3_type_rules.specs.declared.limits.TheConstants.{STACK}
 use Rattle.ffi3_place_rules.specs.declared.Loc.{Loc}
 use Rattle.ffi3_place_rules.specs.declared.Loc.TheVariants.{G, F, S}
-use Rattle.ffi3_place_rules.specs.Isa.{stack_pointer, call_loads, preserved_words, stub_area, entry_stores}
+use Rattle.ffi3_place_rules.specs.Isa.{stack_pointer, call_loads, callee_saved_words, stub_area, entry_stores}
 use Rattle.ffi3_place_rules.specs.Isa.{result_loads}
 use Rattle.ffi3_machine.specs.declared.stub.TheConstants.{EXCHANGE}
 use Rattle.ffi3_machine.specs.State.{State, x_of, stack_at}
@@ -147,7 +147,7 @@ amd64_entered s = with_sp_by 7 (x_of 528 (amd64_passed s)) (amd64_passed s)
 
 -- from the first address of Exit
 abbrev pub amd64_restored : State → State
-amd64_restored s = from_area Amd64 0 (preserved_words Amd64) (with_sp_by 7 (x_of 536 s) (addressed 7 11 s))
+amd64_restored s = from_area Amd64 0 (callee_saved_words Amd64) (with_sp_by 7 (x_of 536 s) (addressed 7 11 s))
 
 abbrev pub amd64_given : State → State
 amd64_given s = from_exchange Amd64 11 (result_loads Amd64) (amd64_restored s)
@@ -191,7 +191,7 @@ aarch64_entered s = aarch64_sp 16 528 (aarch64_passed s)
 
 -- from the first address of Exit
 abbrev pub aarch64_restored : State → State
-aarch64_restored s = from_area Aarch64 0 (preserved_words Aarch64) (aarch64_sp 17 536 (addressed 4 16 s))
+aarch64_restored s = from_area Aarch64 0 (callee_saved_words Aarch64) (aarch64_sp 17 536 (addressed 4 16 s))
 
 abbrev pub aarch64_given : State → State
 aarch64_given s = from_exchange Aarch64 16 (result_loads Aarch64) (aarch64_restored s)
@@ -232,7 +232,7 @@ riscv_entered s = with_sp_by 4 (x_of 528 (riscv_passed s)) (riscv_passed s)
 
 -- from the first address of Exit
 abbrev pub riscv_restored : State → State
-riscv_restored s = from_area Riscv 0 (preserved_words Riscv) (with_sp_by 4 (x_of 536 s) (addressed_twice 6 s))
+riscv_restored s = from_area Riscv 0 (callee_saved_words Riscv) (with_sp_by 4 (x_of 536 s) (addressed_twice 6 s))
 
 abbrev pub riscv_given : State → State
 riscv_given s = from_exchange Riscv 6 (result_loads Riscv) (riscv_restored s)

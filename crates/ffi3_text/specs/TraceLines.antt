@@ -37,4 +37,4 @@ register_text e at = codes " " ++ word_text (register e.image at)
 -- THE LINE OF THE PRESERVED REGISTERS of an entry or a return, in the standard's order
 abbrev pub keep_text_of : Standard → Event → List ℕ
 keep_text_of std e =
-    a_line (codes "keep" ++ concat (map (register_text e) std.preserved))
+    a_line (codes "keep" ++ concat (map (register_text e) std.callee_saved))

@@ -107,7 +107,7 @@ fn write_value(alloc: Global, ty: &FfiType, value: &Value, text: &mut Bytes) -> 
 
 /// The registers that a callee preserves, in the standard's order.
 fn write_kept<A: Abi>(alloc: Global, event: &Event, text: &mut Bytes) -> Result<(), NoMemory>
-    ensures { (stack : List ℕ) → OnOk result (text.new ≡ text.old ++ concat (map (register_text (event_of event.now stack)) A.standard.preserved)) }
+    ensures { (stack : List ℕ) → OnOk result (text.new ≡ text.old ++ concat (map (register_text (event_of event.now stack)) A.standard.callee_saved)) }
 {
     for k in 0..A::KEPT {
         write_register(alloc, event, A::callee_saved(k), text)?;

@@ -33,9 +33,9 @@ same_words f g [] is = refl
 same_words f g (at ∷ registers) is = λ i.
     (codes " " ++ word_text (sym is.0 i)) ∷ same_words f g registers is.1 i
 
-keep_is : (std : Standard) (f : Loc → ℕ) (image : Image) → AllByRecursion (λ at. register image at ≡ f at) std.preserved → keep_text std f ≡ codes "keep" ++ registers_text (register image) std.preserved
+keep_is : (std : Standard) (f : Loc → ℕ) (image : Image) → AllByRecursion (λ at. register image at ≡ f at) std.callee_saved → keep_text std f ≡ codes "keep" ++ registers_text (register image) std.callee_saved
 keep_is std f image is =
-    ap (λ (l : List (List ℕ)). codes "keep" ++ concat l) (same_words f (register image) std.preserved is)
+    ap (λ (l : List (List ℕ)). codes "keep" ++ concat l) (same_words f (register image) std.callee_saved is)
 
 as_left : (f g : Loc → ℕ) (image : Image) → ((at : Loc) → f at ≡ g at) → (registers : List Loc) → AllByRecursion (λ at. register image at ≡ g at) registers → AllByRecursion (λ at. register image at ≡ f at) registers
 as_left f g image same [] is = tt
@@ -83,7 +83,7 @@ module _ (std : Standard) (top : ℕ) (held : Loc → ℕ) (ss : List Signature)
   calls_told n least calls cs (Enter ptr sig args ∷ later) [] told h whole = absurd (omega (arith, whole))
   calls_told n least calls cs (Enter ptr sig args ∷ later) (e ∷ events) told h whole =
       let newest : IsTracedAsEntered std top leaves calls (record { signature = signature_at ss sig; event = e }) (record { signature = signature_at ss sig; entry = n }) =
-      record { signature = refl; sp = h.0.sp; preserved = as_left (leaves n) (scribble n) e.image (λ at. later_on n at least) std.preserved h.0.preserved } in
+      record { signature = refl; sp = h.0.sp; preserved = as_left (leaves n) (scribble n) e.image (λ at. later_on n at least) std.callee_saved h.0.preserved } in
       calls_told (n + 1) (omega (arith, least)) (record { signature = signature_at ss sig; event = e } ∷ calls) (record { signature = signature_at ss sig; entry = n } ∷ cs) later events (newest, told) h.1 (omega (arith, whole))
   calls_told n least calls cs (Leave sig r ∷ later) [] told h whole = absurd (omega (arith, whole))
   calls_told n least [] cs (Leave sig r ∷ later) (e ∷ events) told h whole = elim h [ ]
@@ -102,17 +102,17 @@ module _ (std : Standard) (top : ℕ) (leaves : ℕ → Loc → ℕ) where
   return_line s v sp =
       a_line (codes "leave sp " ++ address_text sp ++ codes " " ++ value_text_of s.result_type v)
 
-  entry_told : (held : Loc → ℕ) (outer : List Entered) (at : Point) (n ptr : ℕ) (s : Signature) (args : List ValueTree) (e : Event) → AreTracedAsEntered std top leaves outer at.calls → at.events ≡ n → ((l : Loc) → leaves n l ≡ scribble n l) → IsEntry std top held outer n ptr s args e → enter_lines (traced std top leaves) at ptr s args ≡ entry_line s args ptr e.image.sp ++ a_line (codes "keep" ++ registers_text (register e.image) std.preserved)
+  entry_told : (held : Loc → ℕ) (outer : List Entered) (at : Point) (n ptr : ℕ) (s : Signature) (args : List ValueTree) (e : Event) → AreTracedAsEntered std top leaves outer at.calls → at.events ≡ n → ((l : Loc) → leaves n l ≡ scribble n l) → IsEntry std top held outer n ptr s args e → enter_lines (traced std top leaves) at ptr s args ≡ entry_line s args ptr e.image.sp ++ a_line (codes "keep" ++ registers_text (register e.image) std.callee_saved)
   entry_told held outer at n ptr s args e told counted left is =
       let below = told_needs std top leaves outer at.calls told in
       let stood : e.image.sp + (std.link + frame_of std s + needs std outer) ≡ top = is.sp in
       let sp : sp_at_call std top at.calls s - std.link ≡ e.image.sp = omega (arith, below, stood) in
-      let keep : keep_text std (leaves at.events) ≡ codes "keep" ++ registers_text (register e.image) std.preserved =
-      ap (λ (k : ℕ). keep_text std (leaves k)) counted ∙ keep_is std (leaves n) e.image (as_left (leaves n) (scribble n) e.image left std.preserved is.preserved) in
+      let keep : keep_text std (leaves at.events) ≡ codes "keep" ++ registers_text (register e.image) std.callee_saved =
+      ap (λ (k : ℕ). keep_text std (leaves k)) counted ∙ keep_is std (leaves n) e.image (as_left (leaves n) (scribble n) e.image left std.callee_saved is.preserved) in
       ap (λ (k : ℕ). entry_line s args ptr k ++ a_line (keep_text std (leaves at.events))) sp
       ∙ ap (λ (l : List ℕ). entry_line s args ptr e.image.sp ++ a_line l) keep
 
-  return_told : (s : Signature) (entry : Event) (outer : List Entered) (cs : List OpenCall) (v : ValueTree) (e : Event) → AreTracedAsEntered std top leaves (record { signature = s; event = entry } ∷ outer) cs → IsReturn std (record { signature = s; event = entry }) v e → leave_lines (traced std top leaves) cs v ≡ return_line s v e.image.sp ++ a_line (codes "keep" ++ registers_text (register e.image) std.preserved)
+  return_told : (s : Signature) (entry : Event) (outer : List Entered) (cs : List OpenCall) (v : ValueTree) (e : Event) → AreTracedAsEntered std top leaves (record { signature = s; event = entry } ∷ outer) cs → IsReturn std (record { signature = s; event = entry }) v e → leave_lines (traced std top leaves) cs v ≡ return_line s v e.image.sp ++ a_line (codes "keep" ++ registers_text (register e.image) std.callee_saved)
   return_told s entry outer [] v e told back = absurd told
   return_told s entry outer (c ∷ cs) v e told back =
       let below = told_needs std top leaves outer cs told.1 in
@@ -120,8 +120,8 @@ module _ (std : Standard) (top : ℕ) (leaves : ℕ → Loc → ℕ) where
       let named : s ≡ c.signature = told.0.signature in
       let kept : e.image.sp ≡ entry.image.sp + std.link = back.kept.sp in
       let sp : sp_at_call std top cs s ≡ e.image.sp = omega (arith, below, stood, kept) in
-      let keep : keep_text std (leaves c.entry) ≡ codes "keep" ++ registers_text (register e.image) std.preserved =
-      keep_is std (leaves c.entry) e.image (still_there (leaves c.entry) entry.image e.image std.preserved told.0.preserved back.kept.preserved) in
+      let keep : keep_text std (leaves c.entry) ≡ codes "keep" ++ registers_text (register e.image) std.callee_saved =
+      keep_is std (leaves c.entry) e.image (still_there (leaves c.entry) entry.image e.image std.callee_saved told.0.preserved back.kept.preserved) in
       ap (λ (t : Signature). a_line (leave_text std top cs t v) ++ a_line (keep_text std (leaves c.entry))) (sym named)
       ∙ ap (λ (k : ℕ). return_line s v k ++ a_line (keep_text std (leaves c.entry))) sp
       ∙ ap (λ (l : List ℕ). return_line s v e.image.sp ++ a_line l) keep
@@ -140,13 +140,13 @@ module _ (p : Program) (b : Base) (leaves : ℕ → Loc → ℕ) (is_traced : Is
   events_told =
       past_events p.signatures (text_start p b) own ∙ ap (λ (n : ℕ). b.count + n) (sym h.answers.whole)
 
-  -- THE LINES OF AN ENTRY tell the stack pointer and the preserved registers of its event
-  pub enter_lines_are : (ptr : ℕ) (s : Signature) (args : List ValueTree) (e : Event) → IsEntry b.standard b.top b.held (open_at p b x.call_stack.suspended events) (b.count + length events) ptr s args e → enter_lines (traced b.standard b.top leaves) (text_after p b own) ptr s args ≡ a_line (codes "enter " ++ address_text ptr ++ codes " sp " ++ address_text e.image.sp ++ codes " (" ++ join_with_byte 44 (value_texts_of (trees_of s.arguments) (values_of args)) ++ codes ")") ++ a_line (codes "keep" ++ registers_text (register e.image) b.standard.preserved)
+  -- THE LINES OF AN ENTRY tell the stack pointer and the callee-saved registers of its event
+  pub enter_lines_are : (ptr : ℕ) (s : Signature) (args : List ValueTree) (e : Event) → IsEntry b.standard b.top b.held (open_at p b x.call_stack.suspended events) (b.count + length events) ptr s args e → enter_lines (traced b.standard b.top leaves) (text_after p b own) ptr s args ≡ a_line (codes "enter " ++ address_text ptr ++ codes " sp " ++ address_text e.image.sp ++ codes " (" ++ join_with_byte 44 (value_texts_of (trees_of s.arguments) (values_of args)) ++ codes ")") ++ a_line (codes "keep" ++ registers_text (register e.image) b.standard.callee_saved)
   enter_lines_are ptr s args e is =
       entry_told b.standard b.top leaves b.held (open_at p b x.call_stack.suspended events) (text_after p b own) (b.count + length events) ptr s args e open_told events_told (λ at. is_traced.later (b.count + length events) at (omega arith)) is
 
-  -- THE LINES OF A RETURN tell the stack pointer and the preserved registers of its event
-  pub leave_lines_are : (s : Signature) (entry : Event) (outer : List Entered) (v : ValueTree) (e : Event) → open_at p b x.call_stack.suspended events ≡ record { signature = s; event = entry } ∷ outer → IsReturn b.standard (record { signature = s; event = entry }) v e → leave_lines (traced b.standard b.top leaves) (text_after p b own).calls v ≡ a_line (codes "leave sp " ++ address_text e.image.sp ++ codes " " ++ value_text_of s.result_type v) ++ a_line (codes "keep" ++ registers_text (register e.image) b.standard.preserved)
+  -- THE LINES OF A RETURN tell the stack pointer and the callee-saved registers of its event
+  pub leave_lines_are : (s : Signature) (entry : Event) (outer : List Entered) (v : ValueTree) (e : Event) → open_at p b x.call_stack.suspended events ≡ record { signature = s; event = entry } ∷ outer → IsReturn b.standard (record { signature = s; event = entry }) v e → leave_lines (traced b.standard b.top leaves) (text_after p b own).calls v ≡ a_line (codes "leave sp " ++ address_text e.image.sp ++ codes " " ++ value_text_of s.result_type v) ++ a_line (codes "keep" ++ registers_text (register e.image) b.standard.callee_saved)
   leave_lines_are s entry outer v e opened back =
       let P : List Entered → Type 0 = λ l. AreTracedAsEntered b.standard b.top leaves l (text_after p b own).calls in
       return_told b.standard b.top leaves s entry outer (text_after p b own).calls v e (subst P opened open_told) back

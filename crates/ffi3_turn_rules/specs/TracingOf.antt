@@ -10,12 +10,12 @@ use Rattle.ffi3_run_rules.specs.Lines.{OpenCall, Tracing, untraced, traced}
 use Rattle.ffi3_run_rules.specs.Meaning.{Program}
 use Rattle.ffi3_turn_rules.specs.SoFar.{Base, text_start, open_at}
 
--- An open call is told as its entry was: the stack pointer stood below the calls around it, and each preserved register had what the tracing says of the entry's number.
+-- An open call is told as its entry was: the stack pointer stood below the calls around it, and each callee-saved register had what the tracing says of the entry's number.
 pub record IsTracedAsEntered (std : Standard) (top : ℕ) (leaves : ℕ → Loc → ℕ) (outer : List Entered) (e : Entered)
     (c : OpenCall) : Type 0 where
   pub signature : e.signature ≡ c.signature
   pub sp : e.event.image.sp + (std.link + frame_of std e.signature + needs std outer) ≡ top
-  pub preserved : AllByRecursion (λ at. register e.event.image at ≡ leaves c.entry at) std.preserved
+  pub preserved : AllByRecursion (λ at. register e.event.image at ≡ leaves c.entry at) std.callee_saved
 
 abbrev pub AreTracedAsEntered : Standard → (top : ℕ) → (leaves : ℕ → Loc → ℕ) → List Entered → List OpenCall → Type 0
 AreTracedAsEntered std top leaves [] [] = ⊤

@@ -301,7 +301,7 @@ impl Abi for Win64 {
 
     ghost TARGET = { win64.target };
 
-    ghost KEPT = { length win64.preserved };
+    ghost KEPT = { length win64.callee_saved };
 
     ghost PASSING = { length win64.argument_registers };
 

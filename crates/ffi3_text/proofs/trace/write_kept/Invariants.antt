@@ -6,4 +6,4 @@ use Rattle.ffi3_text.proofs.trace.write_kept.Given as goal
 
 abbrev pub invariant-loop-k : goal.invariant-loop-k
 invariant-loop-k g l =
-    (stack : List ℕ) → l.text ≡ l.initial.text ++ concat (map (register_text (event_of l.event stack)) (take l.k g.A.Abi.standard.preserved))
+    (stack : List ℕ) → l.text ≡ l.initial.text ++ concat (map (register_text (event_of l.event stack)) (take l.k g.A.Abi.standard.callee_saved))

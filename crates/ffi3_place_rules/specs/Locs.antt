@@ -1,0 +1,13 @@
+-- The registers and stack offsets in which a place has what it carries: those of its pieces, or that of an address.
+use Rattle.std.specs.Prelude.{List, [], ◌∷◌, map}
+use Rattle.ffi3_place_rules.specs.declared.Loc.{Loc}
+use Rattle.ffi3_place_rules.specs.declared.Piece.{Piece}
+use Rattle.ffi3_place_rules.specs.declared.Place.{Place}
+use Rattle.ffi3_place_rules.specs.declared.Place.TheVariants.{Direct, ByRef}
+
+abbrev pub piece_locs : List Piece → List Loc
+piece_locs pieces = map (λ p. p.loc) pieces
+
+abbrev pub place_locs : Place → List Loc
+place_locs (Direct pieces) = piece_locs pieces
+place_locs (ByRef at copy) = at ∷ []
