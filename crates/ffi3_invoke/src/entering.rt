@@ -14,19 +14,14 @@ ghost use Rattle.ffi3_invoke.specs.Calls.{IsInCallee, KeepsReserved, entered_clo
 
 use ffi3_callee::{Incoming, receive};
 use ffi3_cif::Cif;
-use ffi3_machine::Machine;
+use ffi3_machine::{Machine, closure_register};
 use ffi3_place::Abi;
-use ffi3_type_rules::Isa;
 
 /// The address of the closure that is entered, where its trampoline has run: what the closure register holds.
 pub fn entered_closure(machine: &Machine) -> u64
     ensures { result ≡ entered_closure machine.now }
 {
-    machine.g(match machine.target().isa() {
-        Isa::Amd64 => 10,
-        Isa::Aarch64 => 17,
-        Isa::Riscv => 6,
-    })
+    machine.g(closure_register(machine.target().isa()))
 }
 
 /// At an entry of any caller whose image owns some values: records it, and takes the arguments into the callee's block.

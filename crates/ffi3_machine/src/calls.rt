@@ -1,5 +1,5 @@
 // Calls and returns: where they lead, and what the journal keeps of an entry and of a return.
-ghost use Rattle.std.specs.Prelude.{◌≡◌, ◌≤◌, ◌+◌, ◌-◌, drop, length, OnOk, OnErr, take};
+ghost use Rattle.std.specs.Prelude.{◌≡◌, ◌<◌, ◌≤◌, ◌+◌, ◌-◌, drop, length, OnOk, OnErr, take};
 ghost use Rattle.ffi3_type_rules.specs.Isa.{isa_of};
 ghost use Rattle.ffi3_place_rules.specs.Isa.{closure_register, link_register, pushed_bytes};
 ghost use Rattle.ffi3_machine.specs.Stubs.{goes_for};
@@ -146,9 +146,10 @@ fn from_sp(stack: &Region, sp: u64, len: u64) -> &[u8]
     stack.lend(sp, len)
 }
 
-// Where a closure's address stands at its entry.
-fn closure_register(isa: Isa) -> u8
-    ensures { result ≡ closure_register isa }
+/// The number of the closure register: the general register that holds a closure's address at its entry.
+pub fn closure_register(isa: Isa) -> u8
+    ensures is { result ≡ closure_register isa }
+    ensures low { result < 32 }
 {
     match isa {
         Isa::Amd64 => 10,

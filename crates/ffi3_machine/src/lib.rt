@@ -14,6 +14,7 @@ mod stack_base;
 mod step;
 mod stub;
 
+pub use calls::closure_register;
 pub use ffi3_memory::NoMemory;
 use ffi3_memory::Region;
 use ffi3_type_rules::Isa;
