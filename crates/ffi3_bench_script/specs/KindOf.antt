@@ -2,8 +2,8 @@
 use Rattle.std.specs.Prelude.{ℕ, List, [], ◌∷◌, map}
 use Rattle.ffi3_type_rules.specs.Tree.{Tree, scalar, u8, s32, u64, float, double, struct_of}
 use Rattle.ffi3_bench_script.specs.declared.kinds.Kind.{Kind}
-use Rattle.ffi3_bench_script.specs.declared.kinds.Kind.TheVariants.{Uint8, Sint32, Float, Double, TwoWords, DoubleAndByte}
-use Rattle.ffi3_bench_script.specs.declared.kinds.Kind.TheVariants.{TwoFloats, ThreeWords}
+use Rattle.ffi3_bench_script.specs.declared.kinds.Kind.TheVariants.{Uint8, Sint32, Float, Double, TwoWords}
+use Rattle.ffi3_bench_script.specs.declared.kinds.Kind.TheVariants.{DoubleAndByte, TwoFloats, ThreeWords}
 use Rattle.ffi3_bench_script.specs.declared.draws.Draws.{Draws}
 
 abbrev pub type_of : Kind → Tree

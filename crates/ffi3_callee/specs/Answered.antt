@@ -24,7 +24,9 @@ IsBesideResult base t (Hidden at buffer) address = (address < base + buffer) ⊎
 pub record HasAnswered (std : Standard) (s : Signature) (entry m : State) : Type 0 where
   pub size : length m.stack ≡ length entry.stack
   pub below : (i : ℕ) → STACK + i + std.save + block_bytes s < entry.sp → get_or m.stack i 0 ≡ get_or entry.stack i 0
-  pub above : (i : ℕ) → entry.sp ≤ STACK + i → IsBesideResult (entry.sp + std.link) s.result_type (plan_of std s).res (STACK + i) → get_or m.stack i 0 ≡ get_or entry.stack i 0
+  pub above : (i : ℕ) → entry.sp ≤ STACK + i
+      → IsBesideResult (entry.sp + std.link) s.result_type (plan_of std s).res (STACK + i)
+      → get_or m.stack i 0 ≡ get_or entry.stack i 0
   pub mark : (entry.mark ≤ m.mark) ⊎ (entry.sp ≤ m.mark + std.save + block_bytes s)
   pub at_return : HasReturnAddress entry → IsAtReturn (by_exchange m.target) m
   pub target : m.target ≡ entry.target
@@ -33,4 +35,6 @@ pub record HasAnswered (std : Standard) (s : Signature) (entry m : State) : Type
   pub spare_events : m.spare_events ≡ entry.spare_events
   pub spare_bytes : m.spare_bytes ≡ entry.spare_bytes
   -- Entry and Exit are counted where calls go by stubs
-  pub steps : m.steps ≡ steps_if (by_exchange entry.target) (steps_of (isa_of entry.target) Exit) (steps_if (by_exchange entry.target) (steps_of (isa_of entry.target) Entry) entry.steps)
+  pub steps :
+      m.steps ≡ steps_if (by_exchange entry.target) (steps_of (isa_of entry.target) Exit)
+      (steps_if (by_exchange entry.target) (steps_of (isa_of entry.target) Entry) entry.steps)

@@ -34,7 +34,8 @@ pub(crate) struct Known<'a, 'b, 'c> {
     seen: &'b Seen<'c>,
     ghost right: { list_all signature_is_right sigs.now ≡ true },
     ghost arguments_fit: { all_fit (trees_of seen.now.signature.arguments) (values_of (arguments_of seen.now)) ≡ true },
-    ghost there: { list_all (is_there (length sigs.now) (length seen.now.results)) (pasts_of done.now later.now marks.now) ≡ true },
+    ghost there: { list_all (is_there (length sigs.now) (length seen.now.results))
+        (pasts_of done.now later.now marks.now) ≡ true },
     ghost outcomes_fit: { all_fit (trees_of (map (past_type sigs.now) (pasts_of done.now later.now marks.now)))
         (values_of (map (past_value sigs.now seen.now.results) (pasts_of done.now later.now marks.now))) ≡ true },
 }
