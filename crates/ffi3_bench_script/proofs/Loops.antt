@@ -1,5 +1,5 @@
 -- One turn of each loop, over plain variables.
-use Rattle.std.proofs.Common.{◌≡◌, ℕ, zero, suc, ◌+◌, ◌-◌, ◌<◌, ◌≤◌, List, [], ◌∷◌, ◌++◌, map, sym, ap, ◌∙◌, append_assoc, append-nil, arith}
+use Rattle.std.proofs.Common.{◌≡◌, ℕ, zero, suc, ◌+◌, ◌-◌, ◌*◌, ◌<◌, ◌≤◌, List, [], ◌∷◌, ◌++◌, map, sym, ap, ◌∙◌, append_assoc, append-nil, arith}
 use Rattle.std.proofs.lemmas.List.{map-append}
 use Rattle.ffi3_type_rules.specs.Tree.{Tree, scalar, u64}
 use Rattle.ffi3_script_rules.specs.Script.{Expression, outcome, sum, return, print, return_void}
@@ -79,3 +79,15 @@ calls-end types moves printed more one last calls j x total whole so_far at tota
     ∙ more-then script_move_of moves printed one (does (print (record { type = scalar u64; value = total_of j }))) (does return_void ∷ []) pushed print_is
     ∙ ap (λ n. script_moves_of moves ++ made_calls types n j x) (sym none)
     ∙ so_far
+
+-- each call moves the state on twice
+pub calls-state-turn : (calls j x x' x'' s : ℕ) → state_after (2 * (calls - j)) x ≡ s → j < calls → x' ≡ next_state x → x'' ≡ next_state x' → state_after (2 * (calls - (j + 1))) x'' ≡ s
+calls-state-turn calls j x x' x'' s so_far below first second =
+    let n = 2 * (calls - (j + 1)) in
+    let two : 2 * (calls - j) ≡ suc (suc n) = omega (arith, below) in
+    ap (state_after n) (second ∙ ap next_state first) ∙ ap (λ k. state_after k x) (sym two) ∙ so_far
+
+pub calls-state-end : (calls j x s : ℕ) → state_after (2 * (calls - j)) x ≡ s → j ≡ calls → x ≡ s
+calls-state-end calls j x s so_far at =
+    let none : 2 * (calls - j) ≡ 0 = omega (arith, at) in
+    ap (λ k. state_after k x) (sym none) ∙ so_far

@@ -57,8 +57,8 @@ fn total_of(alloc: Global, j: u32) -> Result<Expr, NoMemory>
 }
 
 impl Shapes {
-    ghost use Rattle.std.specs.Prelude.{◌≡◌, ◌<◌, ◌≤◌, ◌+◌, IfOk, OnOk, length};
-    ghost use Rattle.ffi3_script_rules.specs.Made.{types_at, made_call, made_body, made_main, own_total};
+    ghost use Rattle.std.specs.Prelude.{◌≡◌, ◌<◌, ◌≤◌, ◌+◌, ◌*◌, IfOk, OnOk, length};
+    ghost use Rattle.ffi3_script_rules.specs.Made.{types_at, made_call, made_body, made_main, own_total, state_after};
     ghost use Rattle.ffi3_script_body.specs.ExprOf.{expression_of, script_move_of, script_moves_of};
     ghost use Rattle.ffi3_bench_script.specs.KindOf.{state_of};
     ghost use Rattle.ffi3_bench_script.specs.ShapesOf.{types_in};
@@ -102,7 +102,7 @@ impl Shapes {
         Ok(moves)
     }
 
-    /// The moves of main: so many calls, drawn one after another.
+    /// The moves of main: so many calls, drawn one after another, two draws each.
     pub fn main(
         &self,
         alloc: Global,
@@ -113,6 +113,7 @@ impl Shapes {
         ensures are { IfOk result
             (λ ms. script_moves_of ms.items ≡ made_main (types_in self.now) calls (state_of draws.old)) }
         ensures few { IfOk result (λ ms. length ms.items ≤ MOST_CALLS + 6) }
+        ensures moved { OnOk result (state_of draws.new ≡ state_after (2 * calls) (state_of draws.old)) }
     {
         let mut moves = Vec::new(alloc);
         push(&mut moves, makes(alloc, 0)?)?;
