@@ -5,10 +5,9 @@ ghost use Rattle.ffi3_type_rules.specs.Value.{ValueTree};
 ghost use Rattle.ffi3_type_rules.specs.ValueText.{value_text_of};
 ghost use Rattle.ffi3_place_rules.specs.Holds.{OwnResult};
 ghost use Rattle.ffi3_place_rules.specs.Standard.{frame_of};
-ghost use Rattle.ffi3_machine.specs.State.{begun, image_of};
+ghost use Rattle.ffi3_machine.specs.State.{image_of};
 ghost use Rattle.ffi3_script.specs.ScriptOf.{natives_of};
 ghost use Rattle.ffi3_ask.specs.Handed.{handed, signatures_in};
-ghost use Rattle.ffi3_runner.specs.Running.{IsNew, IsPrepared};
 
 use crate::showing::show_at;
 use ffi3_body::Native;
@@ -55,50 +54,8 @@ pub struct ServedOutcome {
     pub moves_left: u32,
 }
 
-/// Runs main on a machine that begins, and serves a call with the value of the closure at `ptr`, with the byte over all
+/// Runs the script beside the natives, and serves a call with the value of the closure at `ptr`, with the byte over all
 /// that its callee must not look at. None where one of the two did not return to RETURN, or `show_at` shows no call.
-fn run_and_serve<A: Abi>(
-    alloc: Global,
-    machine: &mut Machine,
-    output: &mut MemSink,
-    runner: &mut Runner<'_, A>,
-    value: Value,
-    ptr: u64,
-    byte: u8,
-) -> Result<Option<ServedOutcome>, NoMemory>
-    requires prepared { IsPrepared A.standard runner.old.prepared.script.now (handed title meaning signatures runner.old.prepared.natives.now.items) runner.old.prepared.cifs }
-    requires new { IsNew runner.old.configuration }
-    requires begun { machine.old ≡ begun A.TARGET machine.old.spare_events machine.old.spare_bytes }
-{
-    if runner.run_main(machine, output, false) != RunEnd::Done {
-        return Ok(None);
-    }
-    let shown = show_at(
-        alloc,
-        machine,
-        runner.table(),
-        runner.cifs(),
-        value,
-        ptr,
-        byte,
-    )?;
-    let Some(sig) = shown else {
-        return Ok(None);
-    };
-    if runner.serve(machine, output, false) != RunEnd::Done {
-        return Ok(None);
-    }
-    if machine.target() != A::TARGET || machine.pc() != RETURN {
-        return Ok(None);
-    }
-    let text = take_text(alloc, machine, runner.cifs().get(sig))?;
-    Ok(Some(ServedOutcome {
-        text,
-        moves_left: runner.moves_left(),
-    }))
-}
-
-/// Runs the script beside the natives, and serves a call, as `run_and_serve` does.
 pub fn call_after_main<A: Abi>(
     alloc: Global,
     natives: &Vec<Box<dyn Native>>,
@@ -115,13 +72,30 @@ pub fn call_after_main<A: Abi>(
     machine.begin(A::TARGET);
     let mut output = MemSink::new(alloc, 1_024, Vec::new(alloc))?;
     let mut runner = Runner::<A>::new(alloc, script, natives)?;
-    run_and_serve(
+    if runner.run_main(&mut machine, &mut output, false) != RunEnd::Done {
+        return Ok(None);
+    }
+    let shown = show_at(
         alloc,
         &mut machine,
-        &mut output,
-        &mut runner,
+        runner.table(),
+        runner.cifs(),
         value,
         ptr,
         byte,
-    )
+    )?;
+    let Some(sig) = shown else {
+        return Ok(None);
+    };
+    if runner.serve(&mut machine, &mut output, false) != RunEnd::Done {
+        return Ok(None);
+    }
+    if machine.target() != A::TARGET || machine.pc() != RETURN {
+        return Ok(None);
+    }
+    let text = take_text(alloc, &mut machine, runner.cifs().get(sig))?;
+    Ok(Some(ServedOutcome {
+        text,
+        moves_left: runner.moves_left(),
+    }))
 }

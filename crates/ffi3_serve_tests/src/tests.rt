@@ -42,8 +42,8 @@ fn check<A: Abi>(
     let Some(came) = call_after_main::<A>(alloc, &natives, &script, value, ptr, 0x5A)? else {
         return Err("not served".into());
     };
-    assert!(rt; came.text.as_slice() == text.as_bytes());
-    assert!(rt; came.moves_left == moves_left);
+    assert_eq!(rt; came.text.as_slice(), text.as_bytes());
+    assert_eq!(rt; came.moves_left, moves_left);
     Ok(())
 }
 

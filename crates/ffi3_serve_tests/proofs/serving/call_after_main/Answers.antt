@@ -10,7 +10,7 @@ use Rattle.ffi3_ask.specs.Handed.{handed_in}
 use Rattle.ffi3_configuration.specs.Served.{IsIdle}
 use Rattle.ffi3_runner.specs.declared.run.RunEnd.TheVariants as run
 use Rattle.ffi3_serve_tests.proofs.Shown.{at_entry, bottom, frame}
-use Rattle.ffi3_serve_tests.proofs.serving.run_and_serve.Goals as goal
+use Rattle.ffi3_serve_tests.proofs.serving.call_after_main.Goals as goal
 
 pub serve-requires-clause-idle : goal.serve-requires-clause-idle
 serve-requires-clause-idle g c =
@@ -21,20 +21,20 @@ serve-requires-clause-idle g c =
 pub serve-requires-clause-entry : goal.serve-requires-clause-entry
 serve-requires-clause-entry g c =
     let same : ◌≡◌ {A = Program} _ _ = λ i. program_beside g.A.Abi.standard (map {B = NamedNative} (λ b. handed_in ((goal.Native-dyn g (b.vtable, b.value)).Native.title b.value) ((goal.Native-dyn g (b.vtable, b.value)).Body.meaning b.value) ((goal.Native-dyn g (b.vtable, b.value)).Body.signatures b.value)) (c.run_main.ensures.prepared i).natives.now.items) (script_of (c.run_main.ensures.prepared i).script.now) in
-    let are = c.cifs.ensures ∙ ap (λ x. x.cifs) c.run_main.ensures.prepared ∙ c.requires.prepared.are ∙ ap (λ (p : Program). p.signatures) (sym same) in
+    let are = c.cifs.ensures ∙ ap (λ x. x.cifs) c.run_main.ensures.prepared ∙ c.in_ok-runner.ensures.prepared.are ∙ ap (λ (p : Program). p.signatures) (sym same) in
     at_entry g.A.Abi.standard _ c.cifs.result.now c.run_main.new.self.configuration.table c.table.result.now _ c.show_at.new.machine c.in_ok-shown.shown c.in-Some.sig c.in_ok-shown.ensures.shown c.in-Some.is c.table.ensures are
 
 pub take_text-requires-clause-bottom : goal.take_text-requires-clause-bottom
 take_text-requires-clause-bottom g c =
     let same : ◌≡◌ {A = Program} _ _ = λ i. program_beside g.A.Abi.standard (map {B = NamedNative} (λ b. handed_in ((goal.Native-dyn g (b.vtable, b.value)).Native.title b.value) ((goal.Native-dyn g (b.vtable, b.value)).Body.meaning b.value) ((goal.Native-dyn g (b.vtable, b.value)).Body.signatures b.value)) (c.run_main.ensures.prepared i).natives.now.items) (script_of (c.run_main.ensures.prepared i).script.now) in
-    let are = c.cifs.ensures ∙ ap (λ x. x.cifs) c.run_main.ensures.prepared ∙ c.requires.prepared.are ∙ ap (λ (p : Program). p.signatures) (sym same) in
+    let are = c.cifs.ensures ∙ ap (λ x. x.cifs) c.run_main.ensures.prepared ∙ c.in_ok-runner.ensures.prepared.are ∙ ap (λ (p : Program). p.signatures) (sym same) in
     let done : c.serve.result ≡ run.Done = search rules in
     bottom g.A.Abi.standard _ c.cifs.result.now c.run_main.new.self.configuration.table c.table.result.now _ c.show_at.new.machine c.in_ok-shown.shown c.in-Some.sig c.in_ok-shown.ensures.shown c.in-Some.is c.table.ensures are c.run_main.new.self.configuration c.serve.new.self.configuration c.serve.new.machine _ _ c.serve.result done refl c.serve.ensures.served
 
 pub take_text-requires-clause-frame : goal.take_text-requires-clause-frame
 take_text-requires-clause-frame g c =
     let same : ◌≡◌ {A = Program} _ _ = λ i. program_beside g.A.Abi.standard (map {B = NamedNative} (λ b. handed_in ((goal.Native-dyn g (b.vtable, b.value)).Native.title b.value) ((goal.Native-dyn g (b.vtable, b.value)).Body.meaning b.value) ((goal.Native-dyn g (b.vtable, b.value)).Body.signatures b.value)) (c.run_main.ensures.prepared i).natives.now.items) (script_of (c.run_main.ensures.prepared i).script.now) in
-    let are = c.cifs.ensures ∙ ap (λ x. x.cifs) c.run_main.ensures.prepared ∙ c.requires.prepared.are ∙ ap (λ (p : Program). p.signatures) (sym same) in
+    let are = c.cifs.ensures ∙ ap (λ x. x.cifs) c.run_main.ensures.prepared ∙ c.in_ok-runner.ensures.prepared.are ∙ ap (λ (p : Program). p.signatures) (sym same) in
     let done : c.serve.result ≡ run.Done = search rules in
     let cifs_are = c.cifs-2.ensures ∙ ap (λ x. x.cifs) c.serve.ensures.prepared ∙ sym c.cifs.ensures in
     frame g.A.Abi.standard _ c.cifs.result.now c.run_main.new.self.configuration.table c.table.result.now _ c.show_at.new.machine c.in_ok-shown.shown c.in-Some.sig c.in_ok-shown.ensures.shown c.in-Some.is c.table.ensures are c.run_main.new.self.configuration c.serve.new.self.configuration c.serve.new.machine _ _ c.serve.result done refl c.serve.ensures.served c.get.result.now (c.get.ensures ∙ ap (λ (l : List Signature). signature_at l c.in-Some.sig) cifs_are)
