@@ -1,6 +1,6 @@
 -- What is told of bytes that declare no function.
 use Rattle.std.proofs.Common.{◌≡◌, ℕ, List, sym, subst, ◌∙◌}
-use Rattle.std.specs.Prelude.{Some, None, IsUtf8}
+use Rattle.std.specs.Prelude.{Some, IsUtf8}
 use Rattle.ffi3_types.specs.SignatureFaultOf.{signature_fault_of}
 use Rattle.ffi3_cdecl_rules.specs.Reading.{bad_token, unexpected, bad_number, bad_signature, IsReading}
 use Rattle.ffi3_cdecl.specs.declared.fault.DeclFault.{DeclFault}

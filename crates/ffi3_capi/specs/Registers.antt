@@ -1,7 +1,6 @@
 -- Names of registers, by their numbers in instructions. (Intel 64 and IA-32 Architectures Software Developer's Manual, volume 2, table 3-1; AAPCS64 6.1; RISC-V ELF psABI, "Integer Register Convention" and "Floating-point Register Convention")
-use Rattle.std.specs.Prelude.{ℕ, cond, ◌==◌, ◌+◌, zero, suc, List, [], ◌∷◌, ◌++◌, codes, Option, Some, None, slice_get}
+use Rattle.std.specs.Prelude.{ℕ, cond, ◌==◌, zero, List, [], ◌∷◌, codes, Option, Some, None, slice_get}
 use Rattle.std.specs.Prelude.{slice_index_or}
-use Rattle.std.specs.Fmt.{decimal}
 use Rattle.ffi3_type_rules.specs.declared.Target.{Target}
 use Rattle.ffi3_type_rules.specs.declared.Isa.{Isa}
 use Rattle.ffi3_type_rules.specs.declared.Isa.TheVariants.{Amd64, Aarch64, Riscv}

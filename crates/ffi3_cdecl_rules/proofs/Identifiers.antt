@@ -1,9 +1,9 @@
 -- What is read has a canonical text: its name is an identifier, and dots stand behind the last of its parameters.
-use Rattle.std.proofs.Common.{◌≡◌, ◌∙◌, ◌⊎◌, ◌&&◌, ◌+◌, ℕ, zero, suc, Bool, true, false, cond, List, [], ◌∷◌, length, Option, Some, None, inl, inr, refl, sym, ap, subst}
+use Rattle.std.proofs.Common.{◌≡◌, ◌∙◌, ◌⊎◌, ◌&&◌, ◌+◌, ℕ, zero, suc, Bool, true, false, cond, List, [], ◌∷◌, length, Some, None, inl, inr, refl, sym, ap, subst}
 use Rattle.std.specs.Prelude.{⊤, ◌==◌, bytes_eq}
 use Rattle.ffi3_type_rules.specs.Signature.{SignatureHasNoFault}
 use Rattle.ffi3_type_rules.specs.Tree.{Tree, Scalar}
-use Rattle.ffi3_cdecl_rules.specs.Tokens.{Token, Sign, name, number, dots, words, word_among, word_of, is_blank, is_letter, is_digit, goes_on_word, front, with_digits, Found, blank, nothing_known, found, number_at, dots_at, marks, mark_among, found_at, Placed, Cut, tokens, bad_at, before, bytes_more, cut_from, cut}
+use Rattle.ffi3_cdecl_rules.specs.Tokens.{Token, Sign, name, number, dots, words, word_among, word_of, is_blank, is_letter, is_digit, goes_on_word, front, with_digits, Found, blank, nothing_known, found, number_at, dots_at, marks, mark_among, found_at, Cut, tokens, bad_at, before, bytes_more, cut_from}
 use Rattle.ffi3_cdecl_rules.specs.Grammar.{IsIntOrNot, no_int, with_int, IsLongTail, one_long, two_longs, IsSized, a_short, an_int, a_long, an_int128, IsSigned, sign_alone, sign_of_char, sign_of_size, IsStars, one_star, more_stars, IsCounts, no_count, a_count, Kind, IsBase, by_word, by_size, by_sign, a_char, a_void, a_tag, a_struct, IsQualified, plain, constant, IsType, itself, pointer_to, IsMember, a_member, IsMembers, last_member, next_member, IsResult, a_result, no_result, Declaration, IsDeclaration, declares}
 use Rattle.ffi3_cdecl_rules.specs.Canonical.{FixesAll, IsIdentifier, passes}
 use Rattle.ffi3_cdecl_rules.specs.Reading.{tokens_of, IsReading, reads, is_read}

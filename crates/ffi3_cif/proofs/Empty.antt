@@ -1,5 +1,5 @@
 -- Where the frame has no bytes, nothing stands on the stack, and there are no runs.
-use Rattle.std.proofs.Common.{◌≡◌, ℕ, ◌+◌, ◌≤◌, List, [], ◌∷◌, ◌++◌, length, replicate, ap, sym, ◌∙◌, refl, arith, subst}
+use Rattle.std.proofs.Common.{◌≡◌, ◌+◌, List, [], ◌∷◌, ◌++◌, length, replicate, refl, arith, subst}
 use Rattle.std.specs.List.{AllByRecursion, flat_map}
 use Rattle.ffi3_type_rules.specs.declared.Isa.{Isa}
 use Rattle.ffi3_place_rules.specs.declared.Loc.{Loc}

@@ -17,7 +17,7 @@ use Rattle.ffi3_run_rules.specs.declared.Stop.TheVariants.{MoveLimit}
 use Rattle.ffi3_run_rules.specs.Closures.{Closures}
 use Rattle.ffi3_run_rules.specs.Lines.{enter_lines, leave_lines}
 use Rattle.ffi3_run_rules.specs.Meaning as meaning
-use Rattle.ffi3_run_rules.specs.Meaning.{Program, stops, enters, stopped, function, callee_of, effect_of, need_at}
+use Rattle.ffi3_run_rules.specs.Meaning.{Program, stops, enters, function, callee_of, effect_of, need_at}
 use Rattle.ffi3_run_rules.specs.Move.{Move, call, return}
 use Rattle.ffi3_run_rules.specs.Trace.{TraceItem, Enter, Leave}
 use Rattle.ffi3_turn_rules.specs.Remainder.{Remainder, Suspended}

@@ -10,7 +10,7 @@ use Rattle.ffi3_type_rules.specs.Tree.{Tree, void, tree_at, elements_of}
 use Rattle.ffi3_script_rules.specs.Language.{JsonPath, Reason, Read, read, fault, and_then, read_map, at_item, under, wrong_count, wrong_type}
 use Rattle.ffi3_script_rules.specs.Script.{Expression, composed, typed_as, Expressions, no_expressions, expression, expressions_of, Typed}
 use Rattle.ffi3_script_rules.specs.Values as values
-use Rattle.ffi3_script_rules.specs.Values.{Scope, Pair, is_integer_type, is_list_type, composed_of, element_of, form_named, own_by, read_number, read_value, read_values, read_typed, read_two, read_field, read_of, read_right_type, field_of, typed}
+use Rattle.ffi3_script_rules.specs.Values.{Scope, Pair, is_integer_type, is_list_type, composed_of, form_named, own_by, read_number, read_value, read_values, read_typed, read_two, read_field, read_of, read_right_type, field_of, typed}
 use Rattle.ffi3_json.specs.Parts.{item_at, items_from, only_member}
 use Rattle.ffi3_json.proofs.Items.{items_none_left}
 use Rattle.ffi3_json.proofs.Objects.{array_is}

@@ -1,6 +1,6 @@
 -- The value of as many bytes as a type has fits the type.
-use Rattle.std.specs.Prelude.{◌==◌, ◌&&◌}
-use Rattle.std.proofs.Common.{◌≡◌, ℕ, zero, suc, ◌+◌, ◌*◌, ◌<◌, ◌≤◌, Bool, true, false, List, [], length, replicate, refl, subst, arith}
+use Rattle.std.specs.Prelude.{◌==◌}
+use Rattle.std.proofs.Common.{◌≡◌, ℕ, zero, suc, ◌+◌, ◌*◌, ◌<◌, ◌≤◌, true, List, [], length, replicate, refl, subst, arith}
 use Rattle.std.proofs.lemmas.Nat.{mul-le}
 use Rattle.ffi3_type_rules.specs.declared.Role.TheVariants.{Anywhere}
 use Rattle.ffi3_type_rules.specs.Tree.{Tree, void, scalar, left_out, structure, array, Trees, no_trees, tree, list_of, trees_of, tree_at, trees_of-list_of}

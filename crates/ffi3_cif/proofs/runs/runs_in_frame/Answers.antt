@@ -1,4 +1,4 @@
-use Rattle.std.proofs.Common.{[], length, replicate, ap, sym, ◌∙◌, subst}
+use Rattle.std.proofs.Common.{[], replicate, ap, sym, ◌∙◌, subst}
 use Rattle.ffi3_cif.specs.Runs.{PlacesHaveRuns}
 use Rattle.ffi3_cif.proofs.Empty.{none_anywhere}
 use Rattle.ffi3_cif.proofs.runs.runs_in_frame.Goals as goal
