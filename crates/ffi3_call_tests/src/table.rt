@@ -6,8 +6,8 @@ use ffi3_closures::{Closure, Table, TableFull};
 use ffi3_machine::{CODE, CODE_END, ENTRY, Machine, NoMemory, STACK_TOP, Target};
 use std::process::Abort;
 
-/// The bytes of a closure's slot, and those of a free slot, as section 7 of docs/FORMATS.md has them (tools/check_slots
-/// compares the two); and the closure register.
+/// The bytes of a closure's slot, and those of a free slot, as section 7 of docs/FORMATS.md has them (tools/tables writes
+/// them there); and the closure register.
 #[derive(Clone, Copy)]
 struct Row {
     target: Target,
