@@ -10,7 +10,7 @@ ghost use Rattle.ffi3_type_rules.specs.Fault.{IsLaidOut};
 ghost use Rattle.ffi3_types.specs.TreeOf.{tree_of};
 ghost use Rattle.ffi3_place_rules.specs.Standard.{place_at, copy_end, places_from, copies_end, result_at, buffer_end, round8, plan_of};
 ghost use Rattle.ffi3_place_rules.specs.Doublewords.{doublewords};
-ghost use Rattle.ffi3_riscv_rules.specs.Riscv.{riscv, is_word_integer, shape_of_two, shape_of_leaves, shape_of, words_of, floats_of, registers_suffice, passed_as, word, extension, boxing, argument_register, floating_register, floating_piece, integer_piece, word_pieces, spot_of, is_fixed, is_at_even_word, first_word, taken_at_start, taken_with, taken_at_first, taken_by_all, spots_after, result_shape, result_spot_of, is_by_reference, stack_of, untouched};
+ghost use Rattle.ffi3_riscv_rules.specs.Riscv.{riscv, is_word_integer, shape_of_two, shape_of_leaves, shape_of, words_of, floats_of, registers_suffice, passed_as, word, extension, boxing, argument_register, floating_register, floating_piece, integer_piece, word_pieces, spot_of, is_fixed, is_at_even_word, first_word, taken_at_start, taken_by_shape, taken_at_first, taken_by_all, spots_after, result_shape, result_spot_of, is_by_reference, stack_of, untouched};
 ghost use Rattle.ffi3_riscv_rules.specs.declared.Shape.{Shape};
 ghost use Rattle.ffi3_riscv_rules.specs.declared.Shape.TheVariants.{OneF, Words, ByRef};
 ghost use Rattle.ffi3_riscv_rules.proofs.Shapes.{Suits, HasRoom};
@@ -248,11 +248,11 @@ fn taken_at_start(end: TakenWords, fixed: bool, found: Found) -> TakenWords
     }
 }
 
-fn taken_with(before: TakenWords, shape: Shape) -> TakenWords
+fn taken_by_shape(before: TakenWords, shape: Shape) -> TakenWords
     requires few { before.floats ≤ 8 }
     requires low { before.words ≤ 16 * MOST_ARGUMENTS }
     requires small { words_of shape ≤ 2 }
-    ensures { result ≡ taken_with before shape }
+    ensures { result ≡ taken_by_shape before shape }
 {
     TakenWords {
         words: before.words + words_of(shape),
@@ -439,7 +439,7 @@ fn taken_by_all(sig: &CheckedSig<'_>, returned: Shape) -> TakenWords
         let found = found_of(&ty);
         let before = taken_at_start(end, fixed, found);
         let shape = passed_as(before, fixed, found);
-        end = taken_with(before, shape);
+        end = taken_by_shape(before, shape);
     }
     end
 }
@@ -489,7 +489,7 @@ fn place_all(
         let place = place_of(alloc, before, &ty, shape, copy)?;
         copy = copy_end(&place, &ty, copy);
         places.push(place)?;
-        end = taken_with(before, shape);
+        end = taken_by_shape(before, shape);
     }
     Ok(Placed { places, end: copy })
 }
@@ -546,7 +546,7 @@ const CALLEE_SAVED: [Loc; 24] = [
 pub struct Riscv;
 
 /// a0 to a7 and fa0 to fa7
-const PASSING_REGISTERS: [Loc; 16] = [
+const ARGUMENT_REGISTERS: [Loc; 16] = [
     Loc::G(10),
     Loc::G(11),
     Loc::G(12),
@@ -602,14 +602,14 @@ impl Abi for Riscv {
 
     const KEPT: u8 = CALLEE_SAVED.len() as u8;
 
-    const PASSING: u8 = PASSING_REGISTERS.len() as u8;
+    const PASSING: u8 = ARGUMENT_REGISTERS.len() as u8;
 
     fn callee_saved(k: u8) -> Loc {
         CALLEE_SAVED[k as usize]
     }
 
     fn passing_register(k: u8) -> Loc {
-        PASSING_REGISTERS[k as usize]
+        ARGUMENT_REGISTERS[k as usize]
     }
 
     fn saved_word(k: u8) -> SaveWord {

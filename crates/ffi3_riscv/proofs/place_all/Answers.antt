@@ -15,15 +15,15 @@ place_of-requires-clause-room c =
 
 pub loop-i-preserved : goal.loop-i-preserved
 loop-i-preserved c =
-    let next = c.taken_with-end.ensures in
+    let next = c.taken_by_shape-end.ensures in
     let s = c.args.sig.now in
     let t = c.arg-ty.result in
     let from = c.taken_at_start-before.result in
     let spot = spot_of from t c.passed_as-shape.result in
     let inside = subst (λ n. c.loop-i.i < n) c.count-i-end.ensures.value c.loop-i-test.true in
     let ends = c.copy_end-copy.ensures.value riscv.copy_start spot c.in_ok-place.ensures in
-    let copied = copies_turn s.fixed c.loop-i.end from c.taken_with-end.result c.loop-i.i s.arguments t c.is_fixed-fixed.result c.passed_as-shape.result inside c.arg-ty.ensures c.is_fixed-fixed.ensures (c.taken_at_start-before.ensures.value c.arg-ty.result c.found_of-found.ensures.is) (c.passed_as-shape.ensures.value c.arg-ty.result c.found_of-found.ensures.is) next c.loop-i.copy _ ends _ c.loop-i.invariant.copied in
-    let done = places_turn s.fixed c.loop-i.end from c.taken_with-end.result c.loop-i.i s.arguments t c.is_fixed-fixed.result c.passed_as-shape.result inside c.arg-ty.ensures c.is_fixed-fixed.ensures (c.taken_at_start-before.ensures.value c.arg-ty.result c.found_of-found.ensures.is) (c.passed_as-shape.ensures.value c.arg-ty.result c.found_of-found.ensures.is) next c.loop-i.copy _ ends c.loop-i.places _ _ _ c.in_ok-place.ensures c.in_ok-push.ensures.ok c.loop-i.invariant.done in
+    let copied = copies_turn s.fixed c.loop-i.end from c.taken_by_shape-end.result c.loop-i.i s.arguments t c.is_fixed-fixed.result c.passed_as-shape.result inside c.arg-ty.ensures c.is_fixed-fixed.ensures (c.taken_at_start-before.ensures.value c.arg-ty.result c.found_of-found.ensures.is) (c.passed_as-shape.ensures.value c.arg-ty.result c.found_of-found.ensures.is) next c.loop-i.copy _ ends _ c.loop-i.invariant.copied in
+    let done = places_turn s.fixed c.loop-i.end from c.taken_by_shape-end.result c.loop-i.i s.arguments t c.is_fixed-fixed.result c.passed_as-shape.result inside c.arg-ty.ensures c.is_fixed-fixed.ensures (c.taken_at_start-before.ensures.value c.arg-ty.result c.found_of-found.ensures.is) (c.passed_as-shape.ensures.value c.arg-ty.result c.found_of-found.ensures.is) next c.loop-i.copy _ ends c.loop-i.places _ _ _ c.in_ok-place.ensures c.in_ok-push.ensures.ok c.loop-i.invariant.done in
     record {
       few = omega (arith, ap (λ u. u.floats) next, c.passed_as-shape.ensures.room);
       low = omega (arith, ap (λ u. u.words) next, c.passed_as-shape.ensures.small, c.taken_at_start-before.ensures.near, c.loop-i.invariant.low);
