@@ -487,8 +487,8 @@ fn place_all(alloc: Global, sig: &CheckedSig<'_>, returned: Shape) -> Result<Pla
     let mut places = Places::with_capacity(alloc, sig.count() as usize)?;
     for i in 0..sig.count() {
         let passed = passed_after(sig, i, end);
-        let place = place_of(alloc, passed.before, &sig.arg(i), passed.shape)?;
-        places.push(place)?;
+        let place = place_of(alloc, passed.before, &sig.arg(i), passed.shape);
+        places.push(place?)?;
         end = taken_by_shape(passed.before, passed.shape);
     }
     Ok(Placed { places, taken: end })
@@ -497,22 +497,23 @@ fn place_all(alloc: Global, sig: &CheckedSig<'_>, returned: Shape) -> Result<Pla
 /// A result's place is that of an argument. What stands before its buffer ends `end` bytes from the frame's start.
 fn place_result(
     alloc: Global,
-    ty: &CheckedType<'_>,
+    sig: &CheckedSig<'_>,
     shape: Shape,
     end: u64,
 ) -> Result<Res, NoMemory>
-    requires shape { shape ≡ result_shape ty.now }
+    requires shape { shape ≡ result_shape sig.now.result_type }
     requires near { end ≤ 2 * ARGUMENT_BYTES }
-    ensures { IfOk result (λ r. r ≡ result_at riscv.copy_start end ty.now (result_spot_of ty.now)) }
+    ensures { IfOk result (λ r. r ≡ result_at riscv.copy_start end sig.now.result_type (result_spot_of sig.now.result_type)) }
 {
-    if let FfiType::Void = ty.as_type() {
+    if let FfiType::Void = sig.ret().as_type() {
         return Ok(Res::Nothing);
     }
-    match place_of(alloc, UNTOUCHED, ty, shape)? {
+    let place = place_of(alloc, UNTOUCHED, &sig.ret(), shape);
+    match place? {
         Place::Direct(pieces) => Ok(Res::Direct(pieces)),
         Place::ByRef { at, .. } => Ok(Res::Hidden {
             at,
-            buffer: start(ty, end) as u32,
+            buffer: start(&sig.ret(), end) as u32,
         }),
     }
 }
@@ -575,7 +576,7 @@ fn plan_of(alloc: Global, sig: &CheckedSig<'_>) -> Result<Plan, NoMemory>
     let shape = result_shape(&sig.ret());
     let Placed { mut places, taken } = place_all(alloc, sig, shape)?;
     let copied = lay_copies(&mut places, sig, round_up(stack_of(taken), 16));
-    let res = place_result(alloc, &sig.ret(), shape, copied)?;
+    let res = place_result(alloc, sig, shape, copied)?;
     let end = buffer_end(&res, &sig.ret(), copied);
     Ok(planned(sig, places, res, end, Riscv::LINK + Riscv::SAVE, 0))
 }
