@@ -1,24 +1,25 @@
 //! The RISC-V calling standard with LP64D.
 #![tactic(auto)]
 
-ghost use Rattle.std.specs.Prelude.{◌≡◌, ◌<◌, ◌≤◌, ◌+◌, ◌*◌, ◌/◌, ◌^◌, length, IfOk, true, false, cond, nat_le};
+ghost use Rattle.std.specs.Prelude.{◌≡◌, ◌<◌, ◌≤◌, ◌+◌, ◌*◌, ◌/◌, ◌^◌, length, map, IfOk, true, false, cond, nat_le};
 ghost use Rattle.ffi3_type_rules.specs.declared.limits.TheConstants.{ARGUMENT_BYTES, MOST_ARGUMENTS};
-ghost use Rattle.ffi3_type_rules.specs.Tree.{Scalar, scalar, Tree};
+ghost use Rattle.ffi3_type_rules.specs.Tree.{Scalar, scalar, Tree, tree_at};
 ghost use Rattle.ffi3_type_rules.specs.Layout.{size_of, leaves_of, leaf_at};
 ghost use Rattle.ffi3_type_rules.specs.Integer.{is_floating};
 ghost use Rattle.ffi3_type_rules.specs.Fault.{IsLaidOut};
 ghost use Rattle.ffi3_types.specs.TreeOf.{tree_of};
-ghost use Rattle.ffi3_place_rules.specs.Standard.{place_at, copy_end, places_from, copies_end, result_at, buffer_end, round8, plan_of};
+ghost use Rattle.ffi3_place_rules.specs.Standard.{result_at, plan_of};
 ghost use Rattle.ffi3_place_rules.specs.Doublewords.{doublewords};
-ghost use Rattle.ffi3_riscv_rules.specs.Riscv.{riscv, is_word_integer, shape_of_two, shape_of_leaves, shape_of, words_of, floats_of, registers_suffice, passed_as, word, extension, boxing, argument_register, floating_register, floating_piece, integer_piece, word_pieces, spot_of, is_fixed, is_at_even_word, first_word, taken_at_start, taken_with, taken_at_first, taken_by_all, spots_after, result_shape, result_spot_of, is_by_reference, stack_of, untouched};
+ghost use Rattle.ffi3_riscv_rules.specs.Riscv.{riscv, is_word_integer, shape_of_two, shape_of_leaves, shape_of, words_of, floats_of, registers_suffice, passed_as, word, extension, boxing, argument_register, floating_register, floating_piece, integer_piece, word_pieces, spot_of, is_fixed, is_at_even_word, first_word, taken_at_start, taken_by_shape, taken_at_first, shape_after, taken_by_all, placing_of, result_shape, result_spot_of, is_by_reference, stack_of, untouched};
 ghost use Rattle.ffi3_riscv_rules.specs.declared.Shape.{Shape};
 ghost use Rattle.ffi3_riscv_rules.specs.declared.Shape.TheVariants.{OneF, Words, ByRef};
 ghost use Rattle.ffi3_riscv_rules.proofs.Shapes.{Suits, HasRoom};
+ghost use Rattle.ffi3_place.specs.Copies.{without_copy};
 ghost use Rattle.ffi3_riscv.specs.Found.{IsFound};
 
 pub mod laws;
 
-use ffi3_place::ends::{buffer_end, copy_end, planned, start};
+use ffi3_place::ends::{buffer_end, lay_copies, planned, start};
 use ffi3_place::parts::{doubleword, filling, is_floating, leaf_piece, one_piece, two_pieces};
 use ffi3_place::{Abi, Ext, Loc, Piece, Pieces, Place, Places, Plan, Res, SaveWord};
 pub use ffi3_riscv_rules::Shape;
@@ -248,11 +249,12 @@ fn taken_at_start(end: TakenWords, fixed: bool, found: Found) -> TakenWords
     }
 }
 
-fn taken_with(before: TakenWords, shape: Shape) -> TakenWords
+/// What is taken once a value of a shape is placed behind others.
+fn taken_by_shape(before: TakenWords, shape: Shape) -> TakenWords
     requires few { before.floats ≤ 8 }
     requires low { before.words ≤ 16 * MOST_ARGUMENTS }
     requires small { words_of shape ≤ 2 }
-    ensures { result ≡ taken_with before shape }
+    ensures { result ≡ taken_by_shape before shape }
 {
     TakenWords {
         words: before.words + words_of(shape),
@@ -350,19 +352,17 @@ fn integer_piece(ty: &CheckedType<'_>, i: u32, number: u64) -> Piece
     leaf_piece(ty, i, Loc::G(argument_register(number)), Ext::Free)
 }
 
-/// Where a value of a shape stands, behind others. What stands before its copy ends `end` bytes from the frame's start.
+/// Where a value of a shape stands, behind others. A copy has no place in the frame yet.
 fn place_of(
     alloc: Global,
     before: TakenWords,
     ty: &CheckedType<'_>,
     shape: Shape,
-    end: u64,
 ) -> Result<Place, NoMemory>
     requires suits { Suits (size_of ty.now) (leaves_of ty.now) shape }
     requires room { HasRoom before shape }
     requires low { before.words ≤ 16 * MOST_ARGUMENTS }
-    requires near { end ≤ 2 * ARGUMENT_BYTES }
-    ensures { IfOk result (λ p. p ≡ place_at riscv.copy_start end ty.now (spot_of before ty.now shape)) }
+    ensures { IfOk result (λ p. p ≡ without_copy (spot_of before ty.now shape)) }
 {
     match shape {
         Shape::OneF => {
@@ -387,7 +387,7 @@ fn place_of(
         Shape::Words(count) => { Ok(Place::Direct(word_pieces(alloc, ty, before.words, count)?)) }
         Shape::ByRef => Ok(Place::ByRef {
             at: word(before.words),
-            copy: start(ty, end) as u32,
+            copy: 0,
         }),
     }
 }
@@ -426,22 +426,34 @@ fn taken_at_first(returned: Shape) -> TakenWords
     }
 }
 
-/// What all arguments take, if the result is passed as `returned`.
-fn taken_by_all(sig: &CheckedSig<'_>, returned: Shape) -> TakenWords
-    requires { returned ≡ result_shape sig.now.result_type }
-    ensures value { result ≡ taken_by_all sig.now }
-    ensures low { result.words ≤ 3 * MOST_ARGUMENTS + 1 }
+/// How an argument is passed, and what is taken where it begins.
+#[derive(Clone, Copy)]
+struct Passed {
+    before: TakenWords,
+    shape: Shape,
+}
+
+/// How argument `i` is passed, behind others that take `end`.
+fn passed_after(sig: &CheckedSig<'_>, i: u32, end: TakenWords) -> Passed
+    requires in_range { i < length sig.now.arguments }
+    requires few { end.floats ≤ 8 }
+    requires low { end.words ≤ 3 * MOST_ARGUMENTS + 1 }
+    ensures before { result.before ≡ taken_at_start end (is_fixed sig.now.fixed i) (tree_at sig.now.arguments i) }
+    ensures shape { result.shape ≡ shape_after end (is_fixed sig.now.fixed i) (tree_at sig.now.arguments i) }
+    ensures near { result.before.words ≤ end.words + 1 }
+    ensures few { result.before.floats ≤ 8 }
+    ensures small { words_of result.shape ≤ 2 }
+    ensures free { result.before.floats + floats_of result.shape ≤ 8 }
+    ensures suits { Suits (size_of (tree_at sig.now.arguments i)) (leaves_of (tree_at sig.now.arguments i)) result.shape }
+    ensures room { HasRoom result.before result.shape }
 {
-    let mut end = taken_at_first(returned);
-    for i in 0..sig.count() {
-        let ty = sig.arg(i);
-        let fixed = is_fixed(sig, i);
-        let found = found_of(&ty);
-        let before = taken_at_start(end, fixed, found);
-        let shape = passed_as(before, fixed, found);
-        end = taken_with(before, shape);
+    let fixed = is_fixed(sig, i);
+    let found = found_of(&sig.arg(i));
+    let before = taken_at_start(end, fixed, found);
+    Passed {
+        before,
+        shape: passed_as(before, fixed, found),
     }
-    end
 }
 
 /// The bytes of the words that stand on the stack.
@@ -457,60 +469,52 @@ fn stack_of(taken: TakenWords) -> u64
     }
 }
 
-/// The places of all arguments, and where their copies end.
+/// The places of all arguments, whose copies have no place in the frame yet, and what the arguments take.
 #[derive(Drop)]
 struct Placed {
     places: Places,
-    end: u64,
+    taken: TakenWords,
 }
 
-/// The places of all arguments, if the result is passed as `returned` and the copies stand from `start` on.
-fn place_all(
-    alloc: Global,
-    sig: &CheckedSig<'_>,
-    returned: Shape,
-    start: u64,
-) -> Result<Placed, NoMemory>
-    requires shape { returned ≡ result_shape sig.now.result_type }
-    requires near { start ≤ 32 * MOST_ARGUMENTS }
-    ensures places { IfOk result (λ p. p.places ≡ places_from riscv.copy_start start sig.now.arguments (spots_after sig.now.fixed (taken_at_first sig.now.result_type) 0 sig.now.arguments)) }
-    ensures end { IfOk result (λ p. p.end ≡ copies_end riscv.copy_start start sig.now.arguments (spots_after sig.now.fixed (taken_at_first sig.now.result_type) 0 sig.now.arguments)) }
-    ensures near { IfOk result (λ p. p.end ≤ start + ARGUMENT_BYTES) }
+/// The places of all arguments without their copies, if the result is passed as `returned`.
+fn place_all(alloc: Global, sig: &CheckedSig<'_>, returned: Shape) -> Result<Placed, NoMemory>
+    requires { returned ≡ result_shape sig.now.result_type }
+    ensures places { IfOk result (λ p. p.places ≡ map without_copy (placing_of sig.now).arguments) }
+    ensures taken { IfOk result (λ p. p.taken ≡ taken_by_all sig.now) }
+    ensures low { IfOk result (λ p. p.taken.words ≤ 3 * MOST_ARGUMENTS + 1) }
 {
     let mut end = taken_at_first(returned);
-    let mut copy = start;
     let mut places = Places::with_capacity(alloc, sig.count() as usize)?;
     for i in 0..sig.count() {
-        let ty = sig.arg(i);
-        let fixed = is_fixed(sig, i);
-        let found = found_of(&ty);
-        let before = taken_at_start(end, fixed, found);
-        let shape = passed_as(before, fixed, found);
-        let place = place_of(alloc, before, &ty, shape, copy)?;
-        copy = copy_end(&place, &ty, copy);
-        places.push(place)?;
-        end = taken_with(before, shape);
+        let passed = passed_after(sig, i, end);
+        let place = place_of(alloc, passed.before, &sig.arg(i), passed.shape);
+        places.push(place?)?;
+        end = taken_by_shape(passed.before, passed.shape);
     }
-    Ok(Placed { places, end: copy })
+    Ok(Placed { places, taken: end })
 }
 
-/// A result's place is that of an argument, and its buffer takes the place of a copy.
+/// A result's place is that of an argument. What stands before its buffer ends `end` bytes from the frame's start.
 fn place_result(
     alloc: Global,
-    ty: &CheckedType<'_>,
+    sig: &CheckedSig<'_>,
     shape: Shape,
-    buffer: u64,
+    end: u64,
 ) -> Result<Res, NoMemory>
-    requires shape { shape ≡ result_shape ty.now }
-    requires near { buffer ≤ 2 * ARGUMENT_BYTES }
-    ensures { IfOk result (λ r. r ≡ result_at riscv.copy_start buffer ty.now (result_spot_of ty.now)) }
+    requires shape { shape ≡ result_shape sig.now.result_type }
+    requires near { end ≤ 2 * ARGUMENT_BYTES }
+    ensures { IfOk result (λ r. r ≡ result_at riscv.copy_start end sig.now.result_type (result_spot_of sig.now.result_type)) }
 {
-    if let FfiType::Void = ty.as_type() {
+    if let FfiType::Void = sig.ret().as_type() {
         return Ok(Res::Nothing);
     }
-    match place_of(alloc, UNTOUCHED, ty, shape, buffer)? {
+    let place = place_of(alloc, UNTOUCHED, &sig.ret(), shape);
+    match place? {
         Place::Direct(pieces) => Ok(Res::Direct(pieces)),
-        Place::ByRef { at, copy } => Ok(Res::Hidden { at, buffer: copy }),
+        Place::ByRef { at, .. } => Ok(Res::Hidden {
+            at,
+            buffer: start(&sig.ret(), end) as u32,
+        }),
     }
 }
 
@@ -546,7 +550,7 @@ const CALLEE_SAVED: [Loc; 24] = [
 pub struct Riscv;
 
 /// a0 to a7 and fa0 to fa7
-const PASSING_REGISTERS: [Loc; 16] = [
+const ARGUMENT_REGISTERS: [Loc; 16] = [
     Loc::G(10),
     Loc::G(11),
     Loc::G(12),
@@ -569,13 +573,12 @@ const PASSING_REGISTERS: [Loc; 16] = [
 fn plan_of(alloc: Global, sig: &CheckedSig<'_>) -> Result<Plan, NoMemory>
     ensures { IfOk result (λ p. p ≡ plan_of riscv sig.now) }
 {
-    let ret = sig.ret();
-    let shape = result_shape(&ret);
-    let taken = taken_by_all(sig, shape);
-    let all = place_all(alloc, sig, shape, round_up(stack_of(taken), 16))?;
-    let res = place_result(alloc, &ret, shape, all.end)?;
-    let end = buffer_end(&res, &ret, all.end);
-    Ok(planned(sig, all.places, res, end, Riscv::LINK + Riscv::SAVE, 0))
+    let shape = result_shape(&sig.ret());
+    let Placed { mut places, taken } = place_all(alloc, sig, shape)?;
+    let copied = lay_copies(&mut places, sig, round_up(stack_of(taken), 16));
+    let res = place_result(alloc, sig, shape, copied)?;
+    let end = buffer_end(&res, &sig.ret(), copied);
+    Ok(planned(sig, places, res, end, Riscv::LINK + Riscv::SAVE, 0))
 }
 
 impl Abi for Riscv {
@@ -602,14 +605,14 @@ impl Abi for Riscv {
 
     const KEPT: u8 = CALLEE_SAVED.len() as u8;
 
-    const PASSING: u8 = PASSING_REGISTERS.len() as u8;
+    const PASSING: u8 = ARGUMENT_REGISTERS.len() as u8;
 
     fn callee_saved(k: u8) -> Loc {
         CALLEE_SAVED[k as usize]
     }
 
     fn passing_register(k: u8) -> Loc {
-        PASSING_REGISTERS[k as usize]
+        ARGUMENT_REGISTERS[k as usize]
     }
 
     fn saved_word(k: u8) -> SaveWord {

@@ -8,7 +8,7 @@ use Rattle.ffi3_place_rules.specs.Isa.{TakesWrites, is_zero_register}
 use Rattle.ffi3_place_rules.specs.Sound.{IsNoneOf, closed_to_arguments}
 use Rattle.ffi3_place_rules.specs.Agrees.{given_back, saved_registers, special, AgreesWithMachine}
 use Rattle.ffi3_place_rules.proofs.Forbidden.{each_exists, each_none_of, each_one_of, apart_all}
-use Rattle.ffi3_riscv_rules.specs.Riscv.{callee_saved, passing, riscv}
+use Rattle.ffi3_riscv_rules.specs.Riscv.{callee_saved, argument_registers, riscv}
 
 -- only zero drops a write, and it is reserved
 written : (l : Loc) → IsNoneOf riscv.reserved l → TakesWrites isa.Riscv l
@@ -30,9 +30,9 @@ agrees = record {
   callee_saved_exist = each_exists isa.Riscv callee_saved refl;
   callee_saved_apart = apart_all callee_saved refl;
   callee_saved_plain = each_none_of (special riscv) callee_saved refl;
-  arguments_exist = each_exists isa.Riscv passing refl;
-  arguments_apart = apart_all passing refl;
-  arguments_plain = each_none_of (closed_to_arguments riscv) passing refl;
+  arguments_exist = each_exists isa.Riscv argument_registers refl;
+  arguments_apart = apart_all argument_registers refl;
+  arguments_plain = each_none_of (closed_to_arguments riscv) argument_registers refl;
   count_exists = tt;
   count_plain = tt;
   returned_exists = tt;

@@ -12,7 +12,7 @@ use Rattle.ffi3_place_rules.proofs.Alike.{plan_alike, start_alike}
 use Rattle.ffi3_riscv_rules.specs.declared.Shape.{Shape}
 use Rattle.ffi3_riscv_rules.specs.declared.Shape.TheVariants.{OneF, TwoF, FI, IF, Words, ByRef}
 use Rattle.ffi3_riscv_rules.specs.declared.TakenWords.{TakenWords}
-use Rattle.ffi3_riscv_rules.specs.Riscv.{integer_shape, shape_of_leaves, shape_of, registers_suffice, passed_as, word, floating_piece, integer_piece, spot_of, is_fixed, taken_at_start, taken_with, spot_next, taken_next, spots_after, taken_after, untouched, result_shape, result_from, result_spot_of, is_by_reference, taken_at_first, stack_of, placing_of, riscv}
+use Rattle.ffi3_riscv_rules.specs.Riscv.{integer_shape, shape_of_leaves, shape_of, registers_suffice, passed_as, word, floating_piece, integer_piece, spot_of, is_fixed, taken_at_start, taken_by_shape, spot_after, taken_with, spots_after, taken_after, untouched, result_shape, result_from, result_spot_of, is_by_reference, taken_at_first, stack_of, placing_of, riscv}
 
 -- ---- structs
 
@@ -79,13 +79,13 @@ module _ (t u : Tree) (h : ShowsTheSame t u) (end : TakenWords) (fixed : Bool) w
   abbrev start : TakenWords
   start = taken_at_start end fixed u
 
-  spot_alike : spot_next end fixed t ≡ spot_next end fixed u
+  spot_alike : spot_after end fixed t ≡ spot_after end fixed u
   spot_alike =
       ap (λ b. spot_of b t (passed_as b fixed t)) (h.begins end fixed) ∙ ap (spot_of start t) (h.passed start fixed) ∙ h.spot start (passed_as start fixed u)
 
-  taken_alike : taken_next end fixed t ≡ taken_next end fixed u
+  taken_alike : taken_with end fixed t ≡ taken_with end fixed u
   taken_alike =
-      ap (λ b. taken_with b (passed_as b fixed t)) (h.begins end fixed) ∙ ap (taken_with start) (h.passed start fixed)
+      ap (λ b. taken_by_shape b (passed_as b fixed t)) (h.begins end fixed) ∙ ap (taken_by_shape start) (h.passed start fixed)
 
 -- ---- all arguments
 
@@ -96,26 +96,26 @@ spots_alike fixed (t ∷ ts) [] h end i = absurd h
 spots_alike fixed (t ∷ ts) (u ∷ us) h end i =
     let here = shows t u h.0 in
     let named = is_fixed fixed i in
-    ap (λ s. s ∷ spots_after fixed (taken_next end named t) (i + 1) ts) (spot_alike t u here end named) ∙ ap (λ k. spot_next end named u ∷ spots_after fixed k (i + 1) ts) (taken_alike t u here end named) ∙ ap (λ ss. spot_next end named u ∷ ss) (spots_alike fixed ts us h.1 (taken_next end named u) (i + 1))
+    ap (λ s. s ∷ spots_after fixed (taken_with end named t) (i + 1) ts) (spot_alike t u here end named) ∙ ap (λ k. spot_after end named u ∷ spots_after fixed k (i + 1) ts) (taken_alike t u here end named) ∙ ap (λ ss. spot_after end named u ∷ ss) (spots_alike fixed ts us h.1 (taken_with end named u) (i + 1))
 
-all_used_alike : (fixed : Option ℕ) (ts us : List Tree) → AllAlike ts us → (end : TakenWords) (i : ℕ) → taken_after fixed end i ts ≡ taken_after fixed end i us
-all_used_alike fixed [] [] h end i = refl
-all_used_alike fixed [] (u ∷ us) h end i = absurd h
-all_used_alike fixed (t ∷ ts) [] h end i = absurd h
-all_used_alike fixed (t ∷ ts) (u ∷ us) h end i =
-    ap (λ k. taken_after fixed k (i + 1) ts) (taken_alike t u (shows t u h.0) end (is_fixed fixed i)) ∙ all_used_alike fixed ts us h.1 (taken_next end (is_fixed fixed i) u) (i + 1)
+all_taken_alike : (fixed : Option ℕ) (ts us : List Tree) → AllAlike ts us → (end : TakenWords) (i : ℕ) → taken_after fixed end i ts ≡ taken_after fixed end i us
+all_taken_alike fixed [] [] h end i = refl
+all_taken_alike fixed [] (u ∷ us) h end i = absurd h
+all_taken_alike fixed (t ∷ ts) [] h end i = absurd h
+all_taken_alike fixed (t ∷ ts) (u ∷ us) h end i =
+    ap (λ k. taken_after fixed k (i + 1) ts) (taken_alike t u (shows t u h.0) end (is_fixed fixed i)) ∙ all_taken_alike fixed ts us h.1 (taken_with end (is_fixed fixed i) u) (i + 1)
 
 placing_alike : (s r : Signature) → SignaturesAreAlike s r → placing_of s ≡ placing_of r
 placing_alike s r h =
     let result = shows s.result_type r.result_type h.result_type in
     let first : taken_at_first s.result_type ≡ taken_at_first r.result_type = ap (λ p. record { words = cond (is_by_reference p) 1 0; floats = 0 }) (result.passed untouched true) in
     let spots : spots_after s.fixed (taken_at_first s.result_type) 0 s.arguments ≡ spots_after r.fixed (taken_at_first r.result_type) 0 r.arguments = ap (λ n. spots_after n (taken_at_first s.result_type) 0 s.arguments) h.fixed ∙ ap (λ k. spots_after r.fixed k 0 s.arguments) first ∙ spots_alike r.fixed s.arguments r.arguments h.arguments (taken_at_first r.result_type) 0 in
-    let used : taken_after s.fixed (taken_at_first s.result_type) 0 s.arguments ≡ taken_after r.fixed (taken_at_first r.result_type) 0 r.arguments = ap (λ n. taken_after n (taken_at_first s.result_type) 0 s.arguments) h.fixed ∙ ap (λ k. taken_after r.fixed k 0 s.arguments) first ∙ all_used_alike r.fixed s.arguments r.arguments h.arguments (taken_at_first r.result_type) 0 in
+    let taken : taken_after s.fixed (taken_at_first s.result_type) 0 s.arguments ≡ taken_after r.fixed (taken_at_first r.result_type) 0 r.arguments = ap (λ n. taken_after n (taken_at_first s.result_type) 0 s.arguments) h.fixed ∙ ap (λ k. taken_after r.fixed k 0 s.arguments) first ∙ all_taken_alike r.fixed s.arguments r.arguments h.arguments (taken_at_first r.result_type) 0 in
     let spot = result.result in
     λ i. record {
       arguments = spots i;
       result_spot = spot i;
-      stack_bytes = stack_of (used i);
+      stack_bytes = stack_of (taken i);
       vector_registers = 0;
     }
 

@@ -15,7 +15,7 @@ use Rattle.ffi3_place_rules.proofs.Doublewords.{filling_suits, leaf_is_piece, do
 use Rattle.ffi3_riscv_rules.specs.declared.Shape.{Shape}
 use Rattle.ffi3_riscv_rules.specs.declared.Shape.TheVariants.{OneF, TwoF, FI, IF, Words, ByRef}
 use Rattle.ffi3_riscv_rules.specs.declared.TakenWords.{TakenWords}
-use Rattle.ffi3_riscv_rules.specs.Riscv.{word, extension, boxing, argument_register, floating_register, floating_piece, integer_piece, word_pieces, spot_of, is_fixed, taken_at_start, passed_next, spot_next, taken_next, spots_after}
+use Rattle.ffi3_riscv_rules.specs.Riscv.{word, extension, boxing, argument_register, floating_register, floating_piece, integer_piece, word_pieces, spot_of, is_fixed, taken_at_start, shape_after, spot_after, taken_with, spots_after}
 use Rattle.ffi3_riscv_rules.proofs.Shapes.{Suits, HasSmall, leaf, passed_suits, passed_small}
 
 -- ---- doublewords
@@ -89,4 +89,4 @@ arguments_have_all start copies fixed end i [] = tt
 arguments_have_all start copies fixed end i (t ∷ ts) =
     let named = is_fixed fixed i in
     let before = taken_at_start end named t in
-    (spot_has_all start copies before t (passed_next end named t) (passed_suits before named t) (passed_small before named t), arguments_have_all start (copy_end start copies t (spot_next end named t)) fixed (taken_next end named t) (i + 1) ts)
+    (spot_has_all start copies before t (shape_after end named t) (passed_suits before named t) (passed_small before named t), arguments_have_all start (copy_end start copies t (spot_after end named t)) fixed (taken_with end named t) (i + 1) ts)

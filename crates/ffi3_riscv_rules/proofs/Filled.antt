@@ -14,7 +14,7 @@ use Rattle.ffi3_place_rules.proofs.Filled.{doublewords_filled}
 use Rattle.ffi3_riscv_rules.specs.declared.Shape.{Shape}
 use Rattle.ffi3_riscv_rules.specs.declared.Shape.TheVariants.{OneF, TwoF, FI, IF, Words, ByRef}
 use Rattle.ffi3_riscv_rules.specs.declared.TakenWords.{TakenWords}
-use Rattle.ffi3_riscv_rules.specs.Riscv.{riscv, argument_register, word, boxing, floating_piece, integer_piece, spot_of, is_fixed, taken_at_start, passed_next, spot_next, taken_next, spots_after}
+use Rattle.ffi3_riscv_rules.specs.Riscv.{riscv, argument_register, word, boxing, floating_piece, integer_piece, spot_of, is_fixed, taken_at_start, shape_after, spot_after, taken_with, spots_after}
 use Rattle.ffi3_riscv_rules.proofs.Shapes.{Suits, HasFloats, passed_suits, passed_floats}
 
 -- ---- values that are no lone narrow integer
@@ -102,4 +102,4 @@ arguments_filled start copies fixed end i [] = tt
 arguments_filled start copies fixed end i (t ∷ ts) =
     let named = is_fixed fixed i in
     let before = taken_at_start end named t in
-    (spot_filled start copies before t (passed_next end named t) (passed_suits before named t) (passed_floats before named t), arguments_filled start (copy_end start copies t (spot_next end named t)) fixed (taken_next end named t) (i + 1) ts)
+    (spot_filled start copies before t (shape_after end named t) (passed_suits before named t) (passed_floats before named t), arguments_filled start (copy_end start copies t (spot_after end named t)) fixed (taken_with end named t) (i + 1) ts)

@@ -14,7 +14,7 @@ use Rattle.ffi3_place_rules.proofs.Rising.{PlacesRise, register_rises, general_n
 use Rattle.ffi3_riscv_rules.specs.declared.Shape.{Shape}
 use Rattle.ffi3_riscv_rules.specs.declared.Shape.TheVariants.{OneF, TwoF, FI, IF, Words, ByRef}
 use Rattle.ffi3_riscv_rules.specs.declared.TakenWords.{TakenWords}
-use Rattle.ffi3_riscv_rules.specs.Riscv.{argument_register, floating_register, floating_piece, integer_piece, word, word_pieces, extension, spot_of, is_fixed, taken_at_start, passed_next, spot_next, taken_next, spots_after}
+use Rattle.ffi3_riscv_rules.specs.Riscv.{argument_register, floating_register, floating_piece, integer_piece, word, word_pieces, extension, spot_of, is_fixed, taken_at_start, shape_after, spot_after, taken_with, spots_after}
 
 -- ---- the stream of words
 
@@ -55,4 +55,4 @@ pub arguments_rise : (start : ℕ → Tree → ℕ) (copies : ℕ) (fixed : Opti
 arguments_rise start copies fixed end i [] = tt
 arguments_rise start copies fixed end i (t ∷ ts) =
     let named = is_fixed fixed i in
-    (spot_rises start copies (taken_at_start end named t) t (passed_next end named t), arguments_rise start (copy_end start copies t (spot_next end named t)) fixed (taken_next end named t) (i + 1) ts)
+    (spot_rises start copies (taken_at_start end named t) t (shape_after end named t), arguments_rise start (copy_end start copies t (spot_after end named t)) fixed (taken_with end named t) (i + 1) ts)

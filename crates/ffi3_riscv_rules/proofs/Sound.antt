@@ -24,7 +24,7 @@ use Rattle.ffi3_place_rules.proofs.Determines.{determined}
 use Rattle.ffi3_riscv_rules.specs.declared.Shape.{Shape}
 use Rattle.ffi3_riscv_rules.specs.declared.Shape.TheVariants.{OneF, TwoF, FI, IF, Words, ByRef}
 use Rattle.ffi3_riscv_rules.specs.declared.TakenWords.{TakenWords}
-use Rattle.ffi3_riscv_rules.specs.Riscv.{riscv, argument_register, floating_register, word, words_of, floats_of, extension, word_pieces, spot_of, is_at_even_word, first_word, is_fixed, taken_with, taken_at_start, passed_next, spot_next, taken_next, taken_after, taken_at_first, taken_by_all, untouched, spots_after, result_shape, result_from, result_spot_of, is_by_reference, placing_of}
+use Rattle.ffi3_riscv_rules.specs.Riscv.{riscv, argument_register, floating_register, word, words_of, floats_of, extension, word_pieces, spot_of, is_at_even_word, first_word, is_fixed, taken_by_shape, taken_at_start, shape_after, spot_after, taken_with, taken_after, taken_at_first, taken_by_all, untouched, spots_after, result_shape, result_from, result_spot_of, is_by_reference, placing_of}
 use Rattle.ffi3_riscv_rules.proofs.Shapes.{HasRoom, passed_has_room, passed_few, passed_suits, passed_small, passed_floats}
 use Rattle.ffi3_riscv_rules.proofs.Covered.{spot_has_all, arguments_have_all}
 use Rattle.ffi3_riscv_rules.proofs.Filled.{spot_filled, arguments_filled}
@@ -99,7 +99,7 @@ general_first w f ls b room rest = (
   rest,
 )
 
-spot_chain : (start : ℕ → Tree → ℕ) (copies : ℕ) (before : TakenWords) (t : Tree) (shape : Shape) → HasRoom before shape → WordsChain (taken before) (place_locs (place_at start copies t (spot_of before t shape))) (taken (taken_with before shape))
+spot_chain : (start : ℕ → Tree → ℕ) (copies : ℕ) (before : TakenWords) (t : Tree) (shape : Shape) → HasRoom before shape → WordsChain (taken before) (place_locs (place_at start copies t (spot_of before t shape))) (taken (taken_by_shape before shape))
 spot_chain start copies before t OneF room =
     floating_first before.words before.floats [] _ room (more_words before.words (before.words + 0) (before.floats + 1) (before.floats + 1) (omega arith) (omega arith))
 spot_chain start copies before t TwoF room =
@@ -137,17 +137,17 @@ first_word-behind fixed t end = even-behind (is_at_even_word fixed t end) end
 taken_at_start-behind : (end : TakenWords) (fixed : Bool) (t : Tree) → AtMost (taken end) (taken (taken_at_start end fixed t))
 taken_at_start-behind end fixed t = more_words end.words (first_word fixed t end.words) end.floats end.floats (first_word-behind fixed t end.words) (omega arith)
 
-argument_chain : (start : ℕ → Tree → ℕ) (copies : ℕ) (end : TakenWords) (fixed : Bool) (t : Tree) → WordsChain (taken end) (place_locs (place_at start copies t (spot_next end fixed t))) (taken (taken_next end fixed t))
+argument_chain : (start : ℕ → Tree → ℕ) (copies : ℕ) (end : TakenWords) (fixed : Bool) (t : Tree) → WordsChain (taken end) (place_locs (place_at start copies t (spot_after end fixed t))) (taken (taken_with end fixed t))
 argument_chain start copies end fixed t =
     let before = taken_at_start end fixed t in
-    chain_less argument_register floating_register 8 8 (taken end) (taken before) _ _ (taken_at_start-behind end fixed t) (spot_chain start copies before t (passed_next end fixed t) (passed_has_room before fixed t))
+    chain_less argument_register floating_register 8 8 (taken end) (taken before) _ _ (taken_at_start-behind end fixed t) (spot_chain start copies before t (shape_after end fixed t) (passed_has_room before fixed t))
 
 places_chain : (start : ℕ → Tree → ℕ) (copies : ℕ) (fixed : Option ℕ) (end : TakenWords) (i : ℕ) (ts : List Tree) → WordsChain (taken end) (flat_map place_locs (places_from start copies ts (spots_after fixed end i ts))) (taken (taken_after fixed end i ts))
 places_chain start copies fixed end i [] = at_most_self (taken end)
 places_chain start copies fixed end i (t ∷ ts) =
     let named = is_fixed fixed i in
-    chain_append argument_register floating_register 8 8 (taken end) (place_locs (place_at start copies t (spot_next end named t))) (taken (taken_next end named t)) _ _
-    (argument_chain start copies end named t) (places_chain start (copy_end start copies t (spot_next end named t)) fixed (taken_next end named t) (i + 1) ts)
+    chain_append argument_register floating_register 8 8 (taken end) (place_locs (place_at start copies t (spot_after end named t))) (taken (taken_with end named t)) _ _
+    (argument_chain start copies end named t) (places_chain start (copy_end start copies t (spot_after end named t)) fixed (taken_with end named t) (i + 1) ts)
 
 -- ---- the whole signature
 
@@ -159,10 +159,10 @@ result_cases P (left_out k) none h = h
 result_cases P (structure ts) none h = h
 result_cases P (array ts n) none h = h
 
-abbrev first_used : Shape → TakenWords
-first_used shape = record { words = cond (is_by_reference shape) 1 0; floats = 0 }
+abbrev first_taken : Shape → TakenWords
+first_taken shape = record { words = cond (is_by_reference shape) 1 0; floats = 0 }
 
-hidden_of : (t : Tree) (buffer : ℕ) (shape : Shape) → WordsChain (taken untouched) (hidden_locs (result_at riscv.copy_start buffer t (result_from (spot_of untouched t shape)))) (taken (first_used shape))
+hidden_of : (t : Tree) (buffer : ℕ) (shape : Shape) → WordsChain (taken untouched) (hidden_locs (result_at riscv.copy_start buffer t (result_from (spot_of untouched t shape)))) (taken (first_taken shape))
 hidden_of t buffer OneF = at_most_self (taken untouched)
 hidden_of t buffer TwoF = at_most_self (taken untouched)
 hidden_of t buffer FI = at_most_self (taken untouched)
@@ -231,7 +231,7 @@ module _ (t : Tree) (buffer : ℕ) where
   result_is P none h =
       result_cases (λ spot. P (result_locs (result_at riscv.copy_start buffer t spot))) t (λ e. none) (locs_of P none t buffer (spot_of untouched t shape) h)
 
-  result_chain : WordsChain (taken untouched) (place_locs (place_at riscv.copy_start 0 t (spot_of untouched t shape))) (taken (taken_with untouched shape))
+  result_chain : WordsChain (taken untouched) (place_locs (place_at riscv.copy_start 0 t (spot_of untouched t shape))) (taken (taken_by_shape untouched shape))
   result_chain = spot_chain riscv.copy_start 0 untouched t shape (passed_has_room untouched true t)
 
   no_stack : (w : ℕ) → w ≤ 2 → 8 * (0 + w - 8) ≤ 0
@@ -310,7 +310,7 @@ result_loaded s =
     let shape = result_shape t in
     let words = passed_few untouched true t in
     let floats = few_floats shape in
-    result_is t (frame_copies_end riscv s) (AllByRecursion (IsOneOf (result_loads isa.Riscv))) tt (chain_in argument_register floating_register 8 8 (result_loads isa.Riscv) (taken (taken_with untouched shape)) (no_stack_taken (words_of shape) words) (λ k h. in_results k (omega (arith, h, words))) (λ k h. in_floating_results k (omega (arith, h, floats))) (taken untouched) _ (result_chain t (frame_copies_end riscv s)))
+    result_is t (frame_copies_end riscv s) (AllByRecursion (IsOneOf (result_loads isa.Riscv))) tt (chain_in argument_register floating_register 8 8 (result_loads isa.Riscv) (taken (taken_by_shape untouched shape)) (no_stack_taken (words_of shape) words) (λ k h. in_results k (omega (arith, h, words))) (λ k h. in_floating_results k (omega (arith, h, floats))) (taken untouched) _ (result_chain t (frame_copies_end riscv s)))
 
 hidden_saved_if : (t : Tree) (buffer : ℕ) (shape : Shape) → AllByRecursion (IsOneOf (G 10 ∷ [])) (hidden_locs (result_at riscv.copy_start buffer t (result_from (spot_of untouched t shape))))
 hidden_saved_if t buffer OneF = tt

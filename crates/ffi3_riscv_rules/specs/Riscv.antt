@@ -167,31 +167,31 @@ taken_at_start end fixed t =
     record { words = first_word fixed t end.words; floats = end.floats }
 
 -- what is taken once a value of this shape is placed behind what was taken before
-abbrev pub taken_with : TakenWords → Shape → TakenWords
-taken_with before shape =
+abbrev pub taken_by_shape : TakenWords → Shape → TakenWords
+taken_by_shape before shape =
     record { words = before.words + words_of shape; floats = before.floats + floats_of shape }
 
 -- how an argument is passed behind others, where it stands, and what is taken after it
 module _ (end : TakenWords) (fixed : Bool) (t : Tree) where
-  abbrev pub passed_next : Shape
-  passed_next = passed_as (taken_at_start end fixed t) fixed t
+  abbrev pub shape_after : Shape
+  shape_after = passed_as (taken_at_start end fixed t) fixed t
 
-  abbrev pub spot_next : Spot
-  spot_next = spot_of (taken_at_start end fixed t) t passed_next
+  abbrev pub spot_after : Spot
+  spot_after = spot_of (taken_at_start end fixed t) t shape_after
 
-  abbrev pub taken_next : TakenWords
-  taken_next = taken_with (taken_at_start end fixed t) passed_next
+  abbrev pub taken_with : TakenWords
+  taken_with = taken_by_shape (taken_at_start end fixed t) shape_after
 
 -- the arguments from number i on
 abbrev pub spots_after : Option ℕ → TakenWords → ℕ → List Tree → List Spot
 spots_after fixed end i [] = []
 spots_after fixed end i (t ∷ ts) =
-    spot_next end (is_fixed fixed i) t ∷ spots_after fixed (taken_next end (is_fixed fixed i) t) (i + 1) ts
+    spot_after end (is_fixed fixed i) t ∷ spots_after fixed (taken_with end (is_fixed fixed i) t) (i + 1) ts
 
 abbrev pub taken_after : Option ℕ → TakenWords → ℕ → List Tree → TakenWords
 taken_after fixed end i [] = end
 taken_after fixed end i (t ∷ ts) =
-    taken_after fixed (taken_next end (is_fixed fixed i) t) (i + 1) ts
+    taken_after fixed (taken_with end (is_fixed fixed i) t) (i + 1) ts
 
 -- ---- results
 
@@ -224,13 +224,13 @@ abbrev pub taken_at_first : Tree → TakenWords
 taken_at_first result_type =
     record { words = cond (is_by_reference (result_shape result_type)) 1 0; floats = 0 }
 
--- what all arguments use, and the hidden pointer before them
+-- what all arguments take, and the hidden pointer before them
 abbrev pub taken_by_all : Signature → TakenWords
 taken_by_all s = taken_after s.fixed (taken_at_first s.result_type) 0 s.arguments
 
 -- the bytes of the words that stand on the stack
 abbrev pub stack_of : TakenWords → ℕ
-stack_of used = 8 * (used.words - 8)
+stack_of taken = 8 * (taken.words - 8)
 
 abbrev pub placing_of : Signature → Placing
 placing_of s = record {
@@ -247,8 +247,8 @@ callee_saved =
     ∷ F 8 ∷ F 9 ∷ F 18 ∷ F 19 ∷ F 20 ∷ F 21 ∷ F 22 ∷ F 23 ∷ F 24 ∷ F 25 ∷ F 26 ∷ F 27 ∷ []
 
 -- a0 to a7 and fa0 to fa7 ("Integer Register Convention", "Floating-point Register Convention")
-abbrev pub passing : List Loc
-passing =
+abbrev pub argument_registers : List Loc
+argument_registers =
     G 10 ∷ G 11 ∷ G 12 ∷ G 13 ∷ G 14 ∷ G 15 ∷ G 16 ∷ G 17 ∷ F 10 ∷ F 11 ∷ F 12 ∷ F 13 ∷ F 14 ∷ F 15 ∷ F 16 ∷ F 17 ∷ []
 
 -- The words of a callee's save area, from its lowest address: ra, the callee-saved registers, and the hidden pointer. (This library's own order.)
@@ -266,7 +266,7 @@ riscv = record {
   callee_saved = callee_saved;
   reserved = reserved_places isa.Riscv;
   link_register = link_place isa.Riscv;
-  argument_registers = passing;
+  argument_registers = argument_registers;
   save_area = saved_words;
   trampoline_registers = trampoline_registers isa.Riscv;
   vector_count = None;
