@@ -607,7 +607,7 @@ const LINK_REGISTER: Loc = Loc::G(30);
 pub struct Aapcs64;
 
 /// The argument registers: x0 to x7, x8 for the result's address, and v0 to v7.
-const PASSING_REGISTERS: [Loc; 17] = [
+const ARGUMENT_REGISTERS: [Loc; 17] = [
     Loc::G(0),
     Loc::G(1),
     Loc::G(2),
@@ -661,14 +661,14 @@ impl Abi for Aapcs64 {
 
     const KEPT: u8 = CALLEE_SAVED.len() as u8;
 
-    const PASSING: u8 = PASSING_REGISTERS.len() as u8;
+    const PASSING: u8 = ARGUMENT_REGISTERS.len() as u8;
 
     fn callee_saved(k: u8) -> Loc {
         CALLEE_SAVED[k as usize]
     }
 
     fn passing_register(k: u8) -> Loc {
-        PASSING_REGISTERS[k as usize]
+        ARGUMENT_REGISTERS[k as usize]
     }
 
     fn saved_word(k: u8) -> SaveWord {
