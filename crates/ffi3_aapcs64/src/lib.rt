@@ -577,8 +577,8 @@ pub fn placement_laws(_sig: &Sig)
     ensures by_layout { GoesByLayout aapcs64 }
 {}
 
-/// The callee-saved registers: x19 to x29, and the low halves of v8 to v15.
-const CALLEE_SAVED: [Loc; 19] = [
+/// The callee-saved general registers: x19 to x29.
+const SAVED_GENERAL: [Loc; 11] = [
     Loc::G(19),
     Loc::G(20),
     Loc::G(21),
@@ -590,6 +590,10 @@ const CALLEE_SAVED: [Loc; 19] = [
     Loc::G(27),
     Loc::G(28),
     Loc::G(29),
+];
+
+/// The callee-saved vector registers: the low halves of v8 to v15.
+const SAVED_VECTOR: [Loc; 8] = [
     Loc::F(8),
     Loc::F(9),
     Loc::F(10),
@@ -602,6 +606,12 @@ const CALLEE_SAVED: [Loc; 19] = [
 
 /// The link register: x30.
 const LINK_REGISTER: Loc = Loc::G(30);
+
+/// The word of the save area that holds the link register, behind those of the general registers.
+const LINK_WORD: u8 = SAVED_GENERAL.len() as u8;
+
+/// The word that holds the address of a hidden result, behind those of the vector registers. A spare word follows, the last.
+const HIDDEN_WORD: u8 = LINK_WORD + 1 + SAVED_VECTOR.len() as u8;
 
 /// The Arm AAPCS64 calling standard. (IHI 0055)
 pub struct Aapcs64;
@@ -653,18 +663,23 @@ impl Abi for Aapcs64 {
 
     ghost PASSING = { length aapcs64.argument_registers };
 
-    const SAVE: u64 = 8 * (CALLEE_SAVED.len() as u64 + 3);
+    const SAVE: u64 = 8 * (HIDDEN_WORD as u64 + 2);
 
     const LINK: u64 = 0;
 
     const TARGET: Target = Target::Aapcs64;
 
-    const KEPT: u8 = CALLEE_SAVED.len() as u8;
+    const KEPT: u8 = (SAVED_GENERAL.len() + SAVED_VECTOR.len()) as u8;
 
     const PASSING: u8 = ARGUMENT_REGISTERS.len() as u8;
 
     fn callee_saved(k: u8) -> Loc {
-        CALLEE_SAVED[k as usize]
+        let k = k as usize;
+        if k < SAVED_GENERAL.len() {
+            SAVED_GENERAL[k]
+        } else {
+            SAVED_VECTOR[k - SAVED_GENERAL.len()]
+        }
     }
 
     fn passing_register(k: u8) -> Loc {
@@ -672,13 +687,16 @@ impl Abi for Aapcs64 {
     }
 
     fn saved_word(k: u8) -> SaveWord {
-        // x19 to x30, v8 to v15, the hidden result's address, and a spare word
-        match k {
-            0..=10 => SaveWord::Register(CALLEE_SAVED[k as usize]),
-            11 => SaveWord::Register(LINK_REGISTER),
-            12..=19 => SaveWord::Register(CALLEE_SAVED[k as usize - 1]),
-            20 => SaveWord::Hidden,
-            _ => SaveWord::Spare,
+        if k < LINK_WORD {
+            SaveWord::Register(SAVED_GENERAL[k as usize])
+        } else if k == LINK_WORD {
+            SaveWord::Register(LINK_REGISTER)
+        } else if k < HIDDEN_WORD {
+            SaveWord::Register(SAVED_VECTOR[(k - LINK_WORD - 1) as usize])
+        } else if k == HIDDEN_WORD {
+            SaveWord::Hidden
+        } else {
+            SaveWord::Spare
         }
     }
 
