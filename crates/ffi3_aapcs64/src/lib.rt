@@ -292,9 +292,6 @@ fn first_general(end: u64, classed: &Classed<'_>) -> u64
     ensures value { result ≡ first_general end (passed classed.now) }
     ensures near { result ≤ end + 1 }
 {
-    if end % 2 == 0 {
-        return end;
-    }
     if 16 <= classed.passed_align() {
         round_up(end, 2)
     } else {
@@ -347,49 +344,16 @@ fn in_registers(before: Taken, classed: &Classed<'_>) -> bool
     register_end(before, classed) <= 8
 }
 
-/// The general registers that are taken after an argument.
-fn general_end(before: Taken, classed: &Classed<'_>) -> u64
-    requires few_general { before.general ≤ 5 * MOST_ARGUMENTS }
-    requires few_vector { before.vector ≤ 5 * MOST_ARGUMENTS }
-    ensures value { result ≡ (taken_with before classed.now).general }
-    ensures few { result ≤ before.general + 5 }
-{
-    if classed.in_vectors() {
-        before.general
-    } else {
-        register_end(before, classed)
-    }
-}
-
-/// The SIMD and floating-point registers that are taken after an argument.
-fn vector_end(before: Taken, classed: &Classed<'_>) -> u64
-    requires few_general { before.general ≤ 5 * MOST_ARGUMENTS }
-    requires few_vector { before.vector ≤ 5 * MOST_ARGUMENTS }
-    ensures value { result ≡ (taken_with before classed.now).vector }
-    ensures few { result ≤ before.vector + 5 }
-{
-    if classed.in_vectors() {
-        register_end(before, classed)
-    } else {
-        before.vector
-    }
-}
-
-/// The bytes of stack that are taken after an argument.
+/// Where an argument that is not in registers ends on the stack.
 fn stack_end(before: Taken, classed: &Classed<'_>) -> u64
-    requires few_general { before.general ≤ 5 * MOST_ARGUMENTS }
-    requires few_vector { before.vector ≤ 5 * MOST_ARGUMENTS }
-    requires low { before.stack ≤ ARGUMENT_BYTES }
-    ensures value { result ≡ (taken_with before classed.now).stack }
+    requires { before.stack ≤ ARGUMENT_BYTES }
+    ensures value { result ≡ stack_end before classed.now }
     ensures low { result ≤ before.stack + ARGUMENT_SPAN }
 {
-    if in_registers(before, classed) {
-        before.stack
-    } else {
-        stack_start(before.stack, classed) + stack_size(classed)
-    }
+    stack_start(before.stack, classed) + stack_size(classed)
 }
 
+/// What is taken after an argument.
 fn taken_with(before: Taken, classed: &Classed<'_>) -> Taken
     requires few_general { before.general ≤ 5 * MOST_ARGUMENTS }
     requires few_vector { before.vector ≤ 5 * MOST_ARGUMENTS }
@@ -400,9 +364,21 @@ fn taken_with(before: Taken, classed: &Classed<'_>) -> Taken
     ensures low { result.stack ≤ before.stack + ARGUMENT_SPAN }
 {
     Taken {
-        general: general_end(before, classed),
-        vector: vector_end(before, classed),
-        stack: stack_end(before, classed),
+        general: if classed.in_vectors() {
+            before.general
+        } else {
+            register_end(before, classed)
+        },
+        vector: if classed.in_vectors() {
+            register_end(before, classed)
+        } else {
+            before.vector
+        },
+        stack: if in_registers(before, classed) {
+            before.stack
+        } else {
+            stack_end(before, classed)
+        },
     }
 }
 
