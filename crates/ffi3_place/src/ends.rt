@@ -1,9 +1,10 @@
 // Where things begin and end in the frame of a call, and the plan that ends with them: alike by every standard.
-ghost use Rattle.std.specs.Prelude.{◌<◌, ◌^◌, ◌≡◌, ◌≤◌, ◌+◌, ℕ};
-ghost use Rattle.ffi3_type_rules.specs.declared.limits.TheConstants.{ARGUMENT_SPAN, LARGEST_GAP, LARGEST_TYPE, STACK_BYTES};
+ghost use Rattle.std.specs.Prelude.{◌<◌, ◌^◌, ◌≡◌, ◌≤◌, ◌+◌, ℕ, List, length, map};
+ghost use Rattle.ffi3_type_rules.specs.declared.limits.TheConstants.{ARGUMENT_BYTES, ARGUMENT_SPAN, LARGEST_GAP, LARGEST_TYPE, STACK_BYTES};
 ghost use Rattle.ffi3_type_rules.specs.Tree.{Tree};
-ghost use Rattle.ffi3_place_rules.specs.Standard.{Spot, ResultSpot, start, place_at, copy_end, result_at, buffer_end};
+ghost use Rattle.ffi3_place_rules.specs.Standard.{Spot, ResultSpot, start, place_at, copy_end, places_from, copies_end, result_at, buffer_end};
 ghost use Rattle.ffi3_place_rules.specs.Planned.{planned};
+ghost use Rattle.ffi3_place.specs.Copies.{without_copy};
 
 use crate::parts::sizes_of;
 use ffi3_place_rules::{Place, Places, Plan, Res};
@@ -28,6 +29,33 @@ pub fn copy_end(place: &Place, ty: &CheckedType<'_>, end: u64) -> u64
         Place::Direct(_) => end,
         Place::ByRef { copy, .. } => *copy as u64 + round_up(ty.size(), 8),
     }
+}
+
+/// Gives the copy of each argument that has one its place in the frame, one behind another in the order of the arguments, from `from` on. It answers where the last one ends.
+pub fn lay_copies(places: &mut Places, sig: &CheckedSig<'_>, from: u64) -> u64
+    requires one_each { length places.old ≡ length sig.now.arguments }
+    requires low { from ≤ ARGUMENT_BYTES }
+    ensures laid { (spots : List Spot) → places.old ≡ map without_copy spots → places.new ≡ places_from start from sig.now.arguments spots }
+    ensures end { (spots : List Spot) → places.old ≡ map without_copy spots → result ≡ copies_end start from sig.now.arguments spots }
+    ensures near { result ≤ from + ARGUMENT_BYTES }
+{
+    let mut end = from;
+    for i in 0..sig.count() {
+        if let Place::ByRef { at, .. } = places.get(i as usize) {
+            let at = *at;
+            let ty = sig.arg(i);
+            let copy = start(&ty, end);
+            places.set(
+                i as usize,
+                Place::ByRef {
+                    at,
+                    copy: copy as u32,
+                },
+            );
+            end = copy + round_up(ty.size(), 8);
+        }
+    }
+    end
 }
 
 /// Where the buffer of a hidden result ends. Without one, that is `end`, where what stands before it ends.

@@ -1,5 +1,5 @@
 // A list of which contracts see the items.
-ghost use Rattle.std.specs.Prelude.{◌≡◌, ◌<◌, ◌++◌, [], ◌∷◌, length, slice_index_or, IfOk, OnOk, OnErr};
+ghost use Rattle.std.specs.Prelude.{◌≡◌, ◌<◌, ◌++◌, [], ◌∷◌, length, slice_index_or, slice_set, IfOk, OnOk, OnErr};
 
 use crate::NoMemory;
 use std::alloc::Global;
@@ -60,5 +60,13 @@ impl<T: Drop> Listed<T> {
         ensures { result.now ≡ slice_index_or self.now i result.now }
     {
         &self.items[i]
+    }
+
+    /// Another item in the place of item `i`, which it drops.
+    pub fn set(&mut self, i: usize, item: T)
+        requires { i < length self.old }
+        ensures { self.new ≡ slice_set self.old i item }
+    {
+        self.items[i] = item;
     }
 }
