@@ -1,23 +1,22 @@
 //! The Arm AAPCS64 calling standard.
 #![tactic(auto)]
 
-ghost use Rattle.std.specs.Prelude.{◌≡◌, ◌<◌, ◌≤◌, ◌+◌, ◌*◌, cond, length, IfOk, true, false};
+ghost use Rattle.std.specs.Prelude.{◌≡◌, ◌<◌, ◌≤◌, ◌+◌, ◌*◌, length, map, IfOk, true, false};
 ghost use Rattle.std.specs.List.{list_all};
 ghost use Rattle.ffi3_type_rules.specs.declared.limits.TheConstants.{ARGUMENT_BYTES, ARGUMENT_SPAN, LARGEST_GAP, LARGEST_TYPE, MOST_ARGUMENTS};
 ghost use Rattle.ffi3_type_rules.specs.Tree.{struct_of};
 ghost use Rattle.ffi3_type_rules.specs.Layout.{size_of, align_of, leaves_of};
 ghost use Rattle.ffi3_type_rules.specs.Fault.{IsLaidOut};
 ghost use Rattle.ffi3_types.specs.TreeOf.{tree_of};
-ghost use Rattle.ffi3_place_rules.specs.declared.Loc.{Loc};
-ghost use Rattle.ffi3_place_rules.specs.declared.Loc.TheVariants.{G, S};
-ghost use Rattle.ffi3_place_rules.specs.Standard.{places_from, place_at, copies_end, plan_of, result_at};
-ghost use Rattle.ffi3_place_rules.specs.Doublewords.{doublewords, stack_pieces};
-ghost use Rattle.ffi3_aapcs64_rules.specs.Aapcs64.{aapcs64, is_member, homogeneous, in_vectors, is_copied, passed, registers_needed, stack_size, first_general, stack_start, member_pieces, general_pieces, register_pieces, register_start, register_end, in_registers, stack_end, taken_with, taken_after, untouched, spot_after, spots_after, result_spot_of};
+ghost use Rattle.ffi3_place_rules.specs.Standard.{Spot, plan_of, result_at};
+ghost use Rattle.ffi3_place_rules.specs.Doublewords.{doublewords};
+ghost use Rattle.ffi3_aapcs64_rules.specs.Aapcs64.{aapcs64, is_member, homogeneous, in_vectors, is_copied, passed, registers_needed, stack_size, first_general, stack_start, member_pieces, general_pieces, register_pieces, register_spot, stack_spot, register_start, register_end, in_registers, stack_end, taken_with, taken_after, untouched, spot_after, spots_after, result_from, result_spot_of};
 ghost use Rattle.ffi3_aapcs64_rules.specs.Ends.{IsPlacedByEnds};
 ghost use Rattle.ffi3_place_rules.specs.Alike.{GoesByLayout};
+ghost use Rattle.ffi3_place.specs.Copies.{without_copy};
 
 pub use ffi3_aapcs64_rules::Kind;
-use ffi3_place::ends::{buffer_end, copy_end, planned, start};
+use ffi3_place::ends::{buffer_end, lay_copies, planned, start};
 use ffi3_place::parts::{doubleword, leaf_piece, stack_pieces, widening};
 use ffi3_place::{Abi, Ext, Loc, Pieces, Place, Places, Plan, Res, SaveWord};
 use ffi3_place_rules::Taken;
@@ -388,18 +387,6 @@ const UNTOUCHED: Taken = Taken {
     stack: 0,
 };
 
-/// What all arguments take.
-fn taken_by_all(sig: &CheckedSig<'_>) -> Taken
-    ensures value { result ≡ taken_after untouched sig.now.arguments }
-    ensures low { result.stack ≤ MOST_ARGUMENTS * ARGUMENT_SPAN }
-{
-    let mut before = UNTOUCHED;
-    for i in 0..sig.count() {
-        before = taken_with(before, &Classed::of(sig.arg(i)));
-    }
-    before
-}
-
 // ---- pieces
 
 /// A value's doublewords in general registers, from number `general` on.
@@ -444,105 +431,114 @@ fn register_pieces(alloc: Global, classed: &Classed<'_>, first: u64) -> Result<P
 
 // ---- arguments
 
-/// An argument that is not copied.
-fn direct_pieces(alloc: Global, before: Taken, classed: &Classed<'_>) -> Result<Pieces, NoMemory>
-    requires direct { is_copied classed.now ≡ false }
-    requires few_general { before.general ≤ 5 * MOST_ARGUMENTS }
-    requires few_vector { before.vector ≤ 5 * MOST_ARGUMENTS }
-    requires low { before.stack ≤ ARGUMENT_BYTES }
-    ensures { IfOk result (λ p. p ≡ cond (in_registers before classed.now) (register_pieces (register_start before classed.now) classed.now) (stack_pieces (stack_start before.stack (passed classed.now)) classed.now)) }
-{
-    if in_registers(before, classed) {
-        register_pieces(alloc, classed, register_start(before, classed))
-    } else {
-        stack_pieces(alloc, classed.ty(), stack_start(before.stack, classed))
-    }
-}
-
-/// Where the pointer to an argument's copy stands.
-fn pointer_place(before: Taken, classed: &Classed<'_>) -> Loc
-    requires copied { is_copied classed.now ≡ true }
-    requires few_general { before.general ≤ 5 * MOST_ARGUMENTS }
-    requires few_vector { before.vector ≤ 5 * MOST_ARGUMENTS }
-    requires low { before.stack ≤ ARGUMENT_BYTES }
-    ensures { result ≡ cond (in_registers before classed.now) (G (register_start before classed.now)) (S (stack_start before.stack (passed classed.now))) }
-{
-    if in_registers(before, classed) {
-        Loc::G(register_start(before, classed) as u8)
-    } else {
-        Loc::S(stack_start(before.stack, classed) as u32)
-    }
-}
-
-/// Where an argument stands, if what is before its copy ends at `end`.
-fn place_of(
-    alloc: Global,
-    before: Taken,
-    classed: &Classed<'_>,
-    end: u64,
-) -> Result<Place, NoMemory>
-    requires few_general { before.general ≤ 5 * MOST_ARGUMENTS }
-    requires few_vector { before.vector ≤ 5 * MOST_ARGUMENTS }
-    requires low { before.stack ≤ ARGUMENT_BYTES }
-    requires low_copy { end ≤ 4 * ARGUMENT_BYTES }
-    ensures { IfOk result (λ p. p ≡ place_at aapcs64.copy_start end classed.now (spot_after before classed.now)) }
+/// An argument, or the pointer to its copy, in registers of its kind from number `first` on.
+fn register_place(alloc: Global, classed: &Classed<'_>, first: u64) -> Result<Place, NoMemory>
+    requires { first + registers_needed classed.now ≤ 8 }
+    ensures { IfOk result (λ p. p ≡ without_copy (register_spot first classed.now)) }
 {
     if classed.is_copied() {
-        let copy = start(classed.ty(), end);
         return Ok(Place::ByRef {
-            at: pointer_place(before, classed),
-            copy: copy as u32,
+            at: Loc::G(first as u8),
+            copy: 0,
         });
     }
-    Ok(Place::Direct(direct_pieces(alloc, before, classed)?))
+    Ok(Place::Direct(register_pieces(alloc, classed, first)?))
 }
 
-/// The places of all arguments, and where their copies end.
+/// An argument, or the pointer to its copy, on the stack from byte `first` on.
+fn stack_place(alloc: Global, classed: &Classed<'_>, first: u64) -> Result<Place, NoMemory>
+    requires { first ≤ 2 * ARGUMENT_BYTES }
+    ensures { IfOk result (λ p. p ≡ without_copy (stack_spot first classed.now)) }
+{
+    if classed.is_copied() {
+        return Ok(Place::ByRef {
+            at: Loc::S(first as u32),
+            copy: 0,
+        });
+    }
+    Ok(Place::Direct(stack_pieces(alloc, classed.ty(), first)?))
+}
+
+/// Where an argument stands, behind what those before it take. If it is copied, its copy has no place yet.
+fn place_of(alloc: Global, before: Taken, classed: &Classed<'_>) -> Result<Place, NoMemory>
+    requires few_general { before.general ≤ 5 * MOST_ARGUMENTS }
+    requires few_vector { before.vector ≤ 5 * MOST_ARGUMENTS }
+    requires low { before.stack ≤ ARGUMENT_BYTES }
+    ensures { IfOk result (λ p. p ≡ without_copy (spot_after before classed.now)) }
+{
+    if in_registers(before, classed) {
+        register_place(alloc, classed, register_start(before, classed))
+    } else {
+        stack_place(alloc, classed, stack_start(before.stack, classed))
+    }
+}
+
+/// Where the next argument stands. What it takes is added to what is taken.
+fn place_next(alloc: Global, taken: &mut Taken, ty: CheckedType<'_>) -> Result<Place, NoMemory>
+    requires few_general { taken.old.general ≤ 5 * MOST_ARGUMENTS }
+    requires few_vector { taken.old.vector ≤ 5 * MOST_ARGUMENTS }
+    requires low { taken.old.stack ≤ ARGUMENT_BYTES }
+    ensures place { IfOk result (λ p. p ≡ without_copy (spot_after taken.old ty.entry)) }
+    ensures value { taken.new ≡ taken_with taken.old ty.entry }
+    ensures few_general { taken.new.general ≤ taken.old.general + 5 }
+    ensures few_vector { taken.new.vector ≤ taken.old.vector + 5 }
+    ensures low { taken.new.stack ≤ taken.old.stack + ARGUMENT_SPAN }
+{
+    let classed = Classed::of(ty);
+    let place = place_of(alloc, *taken, &classed);
+    *taken = taken_with(*taken, &classed);
+    place
+}
+
+/// The places of all arguments, in which copies have no place yet, and what they take.
 #[derive(Drop)]
 struct Placed {
     places: Places,
-    end: u64,
+    taken: Taken,
 }
 
-/// The places of all arguments, if the copies stand from `start` on.
-fn place_all(alloc: Global, sig: &CheckedSig<'_>, start: u64) -> Result<Placed, NoMemory>
-    requires { start ≤ ARGUMENT_BYTES }
-    ensures places { IfOk result (λ p. p.places ≡ places_from aapcs64.copy_start start sig.now.arguments (spots_after untouched sig.now.arguments)) }
-    ensures end { IfOk result (λ p. p.end ≡ copies_end aapcs64.copy_start start sig.now.arguments (spots_after untouched sig.now.arguments)) }
-    ensures low { IfOk result (λ p. p.end ≤ 2 * ARGUMENT_BYTES) }
+/// The places of all arguments but those of their copies.
+fn place_all(alloc: Global, sig: &CheckedSig<'_>) -> Result<Placed, NoMemory>
+    ensures places { IfOk result (λ p. p.places ≡ map without_copy (spots_after untouched sig.now.arguments)) }
+    ensures taken { IfOk result (λ p. p.taken ≡ taken_after untouched sig.now.arguments) }
+    ensures low { IfOk result (λ p. p.taken.stack ≤ MOST_ARGUMENTS * ARGUMENT_SPAN) }
 {
-    let mut before = UNTOUCHED;
-    let mut end = start;
+    let mut taken = UNTOUCHED;
     let mut places = Places::with_capacity(alloc, sig.count() as usize)?;
     for i in 0..sig.count() {
-        let classed = Classed::of(sig.arg(i));
-        let place = place_of(alloc, before, &classed, end)?;
-        end = copy_end(&place, classed.ty(), end);
-        places.push(place)?;
-        before = taken_with(before, &classed);
+        places.push(place_next(alloc, &mut taken, sig.arg(i))?)?;
     }
-    Ok(Placed { places, end })
+    Ok(Placed { places, taken })
 }
 
 // ---- results
 
-/// Where a result stands, if what is before its buffer ends at `end`.
-fn place_result(alloc: Global, ty: CheckedType<'_>, end: u64) -> Result<Res, NoMemory>
+/// A result in the place of a first argument; where that would be copied, in a buffer of the caller, if what is before it ends at `end`.
+fn result_from(place: Place, ty: &CheckedType<'_>, end: u64) -> Res
     requires { end ≤ 4 * ARGUMENT_BYTES }
-    ensures { IfOk result (λ r. r ≡ result_at aapcs64.copy_start end ty.entry (result_spot_of ty.entry)) }
+    ensures { (spot : Spot) → place ≡ without_copy spot → result ≡ result_at aapcs64.copy_start end ty.now (result_from spot) }
 {
-    if let FfiType::Void = ty.as_type() {
+    match place {
+        Place::Direct(pieces) => Res::Direct(pieces),
+        // x8 holds the buffer's address
+        Place::ByRef { .. } => Res::Hidden {
+            at: Loc::G(8),
+            buffer: start(ty, end) as u32,
+        },
+    }
+}
+
+/// Where the result stands, if what is before its buffer ends at `end`.
+fn place_result(alloc: Global, sig: &CheckedSig<'_>, end: u64) -> Result<Res, NoMemory>
+    requires { end ≤ 4 * ARGUMENT_BYTES }
+    ensures { IfOk result (λ r. r ≡ result_at aapcs64.copy_start end sig.now.result_type (result_spot_of sig.now.result_type)) }
+{
+    if let FfiType::Void = sig.ret().as_type() {
         return Ok(Res::Nothing);
     }
-    let classed = Classed::of(ty);
-    if classed.is_copied() {
-        // x8 holds the buffer's address
-        return Ok(Res::Hidden {
-            at: Loc::G(8),
-            buffer: start(classed.ty(), end) as u32,
-        });
-    }
-    Ok(Res::Direct(register_pieces(alloc, &classed, 0)?))
+    let mut taken = UNTOUCHED;
+    let place = place_next(alloc, &mut taken, sig.ret())?;
+    Ok(result_from(place, &sig.ret(), end))
 }
 
 // ---- the standard
@@ -617,11 +613,13 @@ const ARGUMENT_REGISTERS: [Loc; 17] = [
 fn plan_of(alloc: Global, sig: &CheckedSig<'_>) -> Result<Plan, NoMemory>
     ensures { IfOk result (λ p. p ≡ plan_of aapcs64 sig.now) }
 {
-    let taken = taken_by_all(sig);
-    let all = place_all(alloc, sig, round_up(taken.stack, 16))?;
-    let res = place_result(alloc, sig.ret(), all.end)?;
-    let end = buffer_end(&res, &sig.ret(), all.end);
-    Ok(planned(sig, all.places, res, end, Aapcs64::LINK + Aapcs64::SAVE, 0))
+    let Placed { mut places, taken } = place_all(alloc, sig)?;
+    let copies_start = round_up(taken.stack, 16);
+    let copies_end = lay_copies(&mut places, sig, copies_start);
+    let res = place_result(alloc, sig, copies_end)?;
+    let end = buffer_end(&res, &sig.ret(), copies_end);
+    let area = Aapcs64::LINK + Aapcs64::SAVE;
+    Ok(planned(sig, places, res, end, area, 0))
 }
 
 impl Abi for Aapcs64 {
