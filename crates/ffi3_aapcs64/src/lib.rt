@@ -513,7 +513,7 @@ fn place_all(alloc: Global, sig: &CheckedSig<'_>) -> Result<Placed, NoMemory>
 
 // ---- results
 
-/// A result in the place of a first argument; where that would be copied, in a buffer of the caller, if what is before it ends at `end`.
+/// A result in the place of a first argument; where that would be copied, in a buffer of the caller behind what ends at `end`.
 fn result_from(place: Place, ty: &CheckedType<'_>, end: u64) -> Res
     requires { end ≤ 4 * ARGUMENT_BYTES }
     ensures { (spot : Spot) → place ≡ without_copy spot → result ≡ result_at aapcs64.copy_start end ty.now (result_from spot) }
@@ -536,9 +536,8 @@ fn place_result(alloc: Global, sig: &CheckedSig<'_>, end: u64) -> Result<Res, No
     if let FfiType::Void = sig.ret().as_type() {
         return Ok(Res::Nothing);
     }
-    let mut taken = UNTOUCHED;
-    let place = place_next(alloc, &mut taken, sig.ret())?;
-    Ok(result_from(place, &sig.ret(), end))
+    let place = place_of(alloc, UNTOUCHED, &Classed::of(sig.ret()));
+    Ok(result_from(place?, &sig.ret(), end))
 }
 
 // ---- the standard
