@@ -352,6 +352,49 @@ fn stack_end(before: Taken, classed: &Classed<'_>) -> u64
     stack_start(before.stack, classed) + stack_size(classed)
 }
 
+/// The general registers that are taken after an argument.
+fn general_taken(before: Taken, classed: &Classed<'_>) -> u64
+    requires few_general { before.general ≤ 5 * MOST_ARGUMENTS }
+    requires few_vector { before.vector ≤ 5 * MOST_ARGUMENTS }
+    ensures value { result ≡ (taken_with before classed.now).general }
+    ensures few { result ≤ before.general + 5 }
+{
+    if classed.in_vectors() {
+        before.general
+    } else {
+        register_end(before, classed)
+    }
+}
+
+/// The SIMD and floating-point registers that are taken after an argument.
+fn vector_taken(before: Taken, classed: &Classed<'_>) -> u64
+    requires few_general { before.general ≤ 5 * MOST_ARGUMENTS }
+    requires few_vector { before.vector ≤ 5 * MOST_ARGUMENTS }
+    ensures value { result ≡ (taken_with before classed.now).vector }
+    ensures few { result ≤ before.vector + 5 }
+{
+    if classed.in_vectors() {
+        register_end(before, classed)
+    } else {
+        before.vector
+    }
+}
+
+/// The bytes of stack that are taken after an argument.
+fn stack_taken(before: Taken, classed: &Classed<'_>) -> u64
+    requires few_general { before.general ≤ 5 * MOST_ARGUMENTS }
+    requires few_vector { before.vector ≤ 5 * MOST_ARGUMENTS }
+    requires low { before.stack ≤ ARGUMENT_BYTES }
+    ensures value { result ≡ (taken_with before classed.now).stack }
+    ensures low { result ≤ before.stack + ARGUMENT_SPAN }
+{
+    if in_registers(before, classed) {
+        before.stack
+    } else {
+        stack_end(before, classed)
+    }
+}
+
 /// What is taken after an argument.
 fn taken_with(before: Taken, classed: &Classed<'_>) -> Taken
     requires few_general { before.general ≤ 5 * MOST_ARGUMENTS }
@@ -363,21 +406,9 @@ fn taken_with(before: Taken, classed: &Classed<'_>) -> Taken
     ensures low { result.stack ≤ before.stack + ARGUMENT_SPAN }
 {
     Taken {
-        general: if classed.in_vectors() {
-            before.general
-        } else {
-            register_end(before, classed)
-        },
-        vector: if classed.in_vectors() {
-            register_end(before, classed)
-        } else {
-            before.vector
-        },
-        stack: if in_registers(before, classed) {
-            before.stack
-        } else {
-            stack_end(before, classed)
-        },
+        general: general_taken(before, classed),
+        vector: vector_taken(before, classed),
+        stack: stack_taken(before, classed),
     }
 }
 
