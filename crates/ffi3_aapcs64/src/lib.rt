@@ -1,23 +1,22 @@
 //! The Arm AAPCS64 calling standard.
 #![tactic(auto)]
 
-ghost use Rattle.std.specs.Prelude.{◌≡◌, ◌<◌, ◌≤◌, ◌+◌, ◌*◌, cond, length, IfOk, true, false};
+ghost use Rattle.std.specs.Prelude.{◌≡◌, ◌<◌, ◌≤◌, ◌+◌, ◌*◌, length, map, IfOk, true, false};
 ghost use Rattle.std.specs.List.{list_all};
 ghost use Rattle.ffi3_type_rules.specs.declared.limits.TheConstants.{ARGUMENT_BYTES, ARGUMENT_SPAN, LARGEST_GAP, LARGEST_TYPE, MOST_ARGUMENTS};
 ghost use Rattle.ffi3_type_rules.specs.Tree.{struct_of};
 ghost use Rattle.ffi3_type_rules.specs.Layout.{size_of, align_of, leaves_of};
 ghost use Rattle.ffi3_type_rules.specs.Fault.{IsLaidOut};
 ghost use Rattle.ffi3_types.specs.TreeOf.{tree_of};
-ghost use Rattle.ffi3_place_rules.specs.declared.Loc.{Loc};
-ghost use Rattle.ffi3_place_rules.specs.declared.Loc.TheVariants.{G, S};
-ghost use Rattle.ffi3_place_rules.specs.Standard.{places_from, place_at, copies_end, plan_of, result_at};
-ghost use Rattle.ffi3_place_rules.specs.Doublewords.{doublewords, stack_pieces};
-ghost use Rattle.ffi3_aapcs64_rules.specs.Aapcs64.{aapcs64, is_member, homogeneous, in_vectors, is_copied, passed, registers_needed, stack_size, first_general, stack_start, member_pieces, general_pieces, register_pieces, register_start, register_end, in_registers, stack_end, taken_with, taken_after, untouched, spot_after, spots_after, result_spot_of};
+ghost use Rattle.ffi3_place_rules.specs.Standard.{Spot, plan_of, result_at};
+ghost use Rattle.ffi3_place_rules.specs.Doublewords.{doublewords};
+ghost use Rattle.ffi3_aapcs64_rules.specs.Aapcs64.{aapcs64, is_member, homogeneous, in_vectors, is_copied, passed, registers_needed, stack_size, first_general, stack_start, member_pieces, general_pieces, register_pieces, register_spot, stack_spot, register_start, register_end, in_registers, stack_end, taken_with, taken_after, untouched, spot_after, spots_after, result_from, result_spot_of};
 ghost use Rattle.ffi3_aapcs64_rules.specs.Ends.{IsPlacedByEnds};
 ghost use Rattle.ffi3_place_rules.specs.Alike.{GoesByLayout};
+ghost use Rattle.ffi3_place.specs.Copies.{without_copy};
 
 pub use ffi3_aapcs64_rules::Kind;
-use ffi3_place::ends::{buffer_end, copy_end, planned, start};
+use ffi3_place::ends::{buffer_end, lay_copies, planned, start};
 use ffi3_place::parts::{doubleword, leaf_piece, stack_pieces, widening};
 use ffi3_place::{Abi, Ext, Loc, Pieces, Place, Places, Plan, Res, SaveWord};
 use ffi3_place_rules::Taken;
@@ -292,9 +291,6 @@ fn first_general(end: u64, classed: &Classed<'_>) -> u64
     ensures value { result ≡ first_general end (passed classed.now) }
     ensures near { result ≤ end + 1 }
 {
-    if end % 2 == 0 {
-        return end;
-    }
     if 16 <= classed.passed_align() {
         round_up(end, 2)
     } else {
@@ -347,8 +343,17 @@ fn in_registers(before: Taken, classed: &Classed<'_>) -> bool
     register_end(before, classed) <= 8
 }
 
+/// Where an argument that is not in registers ends on the stack.
+fn stack_end(before: Taken, classed: &Classed<'_>) -> u64
+    requires { before.stack ≤ ARGUMENT_BYTES }
+    ensures value { result ≡ stack_end before classed.now }
+    ensures low { result ≤ before.stack + ARGUMENT_SPAN }
+{
+    stack_start(before.stack, classed) + stack_size(classed)
+}
+
 /// The general registers that are taken after an argument.
-fn general_end(before: Taken, classed: &Classed<'_>) -> u64
+fn general_taken(before: Taken, classed: &Classed<'_>) -> u64
     requires few_general { before.general ≤ 5 * MOST_ARGUMENTS }
     requires few_vector { before.vector ≤ 5 * MOST_ARGUMENTS }
     ensures value { result ≡ (taken_with before classed.now).general }
@@ -362,7 +367,7 @@ fn general_end(before: Taken, classed: &Classed<'_>) -> u64
 }
 
 /// The SIMD and floating-point registers that are taken after an argument.
-fn vector_end(before: Taken, classed: &Classed<'_>) -> u64
+fn vector_taken(before: Taken, classed: &Classed<'_>) -> u64
     requires few_general { before.general ≤ 5 * MOST_ARGUMENTS }
     requires few_vector { before.vector ≤ 5 * MOST_ARGUMENTS }
     ensures value { result ≡ (taken_with before classed.now).vector }
@@ -376,7 +381,7 @@ fn vector_end(before: Taken, classed: &Classed<'_>) -> u64
 }
 
 /// The bytes of stack that are taken after an argument.
-fn stack_end(before: Taken, classed: &Classed<'_>) -> u64
+fn stack_taken(before: Taken, classed: &Classed<'_>) -> u64
     requires few_general { before.general ≤ 5 * MOST_ARGUMENTS }
     requires few_vector { before.vector ≤ 5 * MOST_ARGUMENTS }
     requires low { before.stack ≤ ARGUMENT_BYTES }
@@ -386,10 +391,11 @@ fn stack_end(before: Taken, classed: &Classed<'_>) -> u64
     if in_registers(before, classed) {
         before.stack
     } else {
-        stack_start(before.stack, classed) + stack_size(classed)
+        stack_end(before, classed)
     }
 }
 
+/// What is taken after an argument.
 fn taken_with(before: Taken, classed: &Classed<'_>) -> Taken
     requires few_general { before.general ≤ 5 * MOST_ARGUMENTS }
     requires few_vector { before.vector ≤ 5 * MOST_ARGUMENTS }
@@ -400,9 +406,9 @@ fn taken_with(before: Taken, classed: &Classed<'_>) -> Taken
     ensures low { result.stack ≤ before.stack + ARGUMENT_SPAN }
 {
     Taken {
-        general: general_end(before, classed),
-        vector: vector_end(before, classed),
-        stack: stack_end(before, classed),
+        general: general_taken(before, classed),
+        vector: vector_taken(before, classed),
+        stack: stack_taken(before, classed),
     }
 }
 
@@ -411,18 +417,6 @@ const UNTOUCHED: Taken = Taken {
     vector: 0,
     stack: 0,
 };
-
-/// What all arguments take.
-fn taken_by_all(sig: &CheckedSig<'_>) -> Taken
-    ensures value { result ≡ taken_after untouched sig.now.arguments }
-    ensures low { result.stack ≤ MOST_ARGUMENTS * ARGUMENT_SPAN }
-{
-    let mut before = UNTOUCHED;
-    for i in 0..sig.count() {
-        before = taken_with(before, &Classed::of(sig.arg(i)));
-    }
-    before
-}
 
 // ---- pieces
 
@@ -468,105 +462,113 @@ fn register_pieces(alloc: Global, classed: &Classed<'_>, first: u64) -> Result<P
 
 // ---- arguments
 
-/// An argument that is not copied.
-fn direct_pieces(alloc: Global, before: Taken, classed: &Classed<'_>) -> Result<Pieces, NoMemory>
-    requires direct { is_copied classed.now ≡ false }
-    requires few_general { before.general ≤ 5 * MOST_ARGUMENTS }
-    requires few_vector { before.vector ≤ 5 * MOST_ARGUMENTS }
-    requires low { before.stack ≤ ARGUMENT_BYTES }
-    ensures { IfOk result (λ p. p ≡ cond (in_registers before classed.now) (register_pieces (register_start before classed.now) classed.now) (stack_pieces (stack_start before.stack (passed classed.now)) classed.now)) }
-{
-    if in_registers(before, classed) {
-        register_pieces(alloc, classed, register_start(before, classed))
-    } else {
-        stack_pieces(alloc, classed.ty(), stack_start(before.stack, classed))
-    }
-}
-
-/// Where the pointer to an argument's copy stands.
-fn pointer_place(before: Taken, classed: &Classed<'_>) -> Loc
-    requires copied { is_copied classed.now ≡ true }
-    requires few_general { before.general ≤ 5 * MOST_ARGUMENTS }
-    requires few_vector { before.vector ≤ 5 * MOST_ARGUMENTS }
-    requires low { before.stack ≤ ARGUMENT_BYTES }
-    ensures { result ≡ cond (in_registers before classed.now) (G (register_start before classed.now)) (S (stack_start before.stack (passed classed.now))) }
-{
-    if in_registers(before, classed) {
-        Loc::G(register_start(before, classed) as u8)
-    } else {
-        Loc::S(stack_start(before.stack, classed) as u32)
-    }
-}
-
-/// Where an argument stands, if what is before its copy ends at `end`.
-fn place_of(
-    alloc: Global,
-    before: Taken,
-    classed: &Classed<'_>,
-    end: u64,
-) -> Result<Place, NoMemory>
-    requires few_general { before.general ≤ 5 * MOST_ARGUMENTS }
-    requires few_vector { before.vector ≤ 5 * MOST_ARGUMENTS }
-    requires low { before.stack ≤ ARGUMENT_BYTES }
-    requires low_copy { end ≤ 4 * ARGUMENT_BYTES }
-    ensures { IfOk result (λ p. p ≡ place_at aapcs64.copy_start end classed.now (spot_after before classed.now)) }
+/// An argument, or the pointer to its copy, in registers of its kind from number `first` on.
+fn register_place(alloc: Global, classed: &Classed<'_>, first: u64) -> Result<Place, NoMemory>
+    requires { first + registers_needed classed.now ≤ 8 }
+    ensures { IfOk result (λ p. p ≡ without_copy (register_spot first classed.now)) }
 {
     if classed.is_copied() {
-        let copy = start(classed.ty(), end);
         return Ok(Place::ByRef {
-            at: pointer_place(before, classed),
-            copy: copy as u32,
+            at: Loc::G(first as u8),
+            copy: 0,
         });
     }
-    Ok(Place::Direct(direct_pieces(alloc, before, classed)?))
+    Ok(Place::Direct(register_pieces(alloc, classed, first)?))
 }
 
-/// The places of all arguments, and where their copies end.
+/// An argument, or the pointer to its copy, on the stack from byte `first` on.
+fn stack_place(alloc: Global, classed: &Classed<'_>, first: u64) -> Result<Place, NoMemory>
+    requires { first ≤ 2 * ARGUMENT_BYTES }
+    ensures { IfOk result (λ p. p ≡ without_copy (stack_spot first classed.now)) }
+{
+    if classed.is_copied() {
+        return Ok(Place::ByRef {
+            at: Loc::S(first as u32),
+            copy: 0,
+        });
+    }
+    Ok(Place::Direct(stack_pieces(alloc, classed.ty(), first)?))
+}
+
+/// Where an argument stands, behind what those before it take. If it is copied, its copy has no place yet.
+fn place_of(alloc: Global, before: Taken, classed: &Classed<'_>) -> Result<Place, NoMemory>
+    requires few_general { before.general ≤ 5 * MOST_ARGUMENTS }
+    requires few_vector { before.vector ≤ 5 * MOST_ARGUMENTS }
+    requires low { before.stack ≤ ARGUMENT_BYTES }
+    ensures { IfOk result (λ p. p ≡ without_copy (spot_after before classed.now)) }
+{
+    if in_registers(before, classed) {
+        register_place(alloc, classed, register_start(before, classed))
+    } else {
+        stack_place(alloc, classed, stack_start(before.stack, classed))
+    }
+}
+
+/// Where the next argument stands. What it takes is added to what is taken.
+fn place_next(alloc: Global, taken: &mut Taken, ty: CheckedType<'_>) -> Result<Place, NoMemory>
+    requires few_general { taken.old.general ≤ 5 * MOST_ARGUMENTS }
+    requires few_vector { taken.old.vector ≤ 5 * MOST_ARGUMENTS }
+    requires low { taken.old.stack ≤ ARGUMENT_BYTES }
+    ensures place { IfOk result (λ p. p ≡ without_copy (spot_after taken.old ty.entry)) }
+    ensures value { taken.new ≡ taken_with taken.old ty.entry }
+    ensures few_general { taken.new.general ≤ taken.old.general + 5 }
+    ensures few_vector { taken.new.vector ≤ taken.old.vector + 5 }
+    ensures low { taken.new.stack ≤ taken.old.stack + ARGUMENT_SPAN }
+{
+    let classed = Classed::of(ty);
+    let place = place_of(alloc, *taken, &classed);
+    *taken = taken_with(*taken, &classed);
+    place
+}
+
+/// The places of all arguments, in which copies have no place yet, and what they take.
 #[derive(Drop)]
 struct Placed {
     places: Places,
-    end: u64,
+    taken: Taken,
 }
 
-/// The places of all arguments, if the copies stand from `start` on.
-fn place_all(alloc: Global, sig: &CheckedSig<'_>, start: u64) -> Result<Placed, NoMemory>
-    requires { start ≤ ARGUMENT_BYTES }
-    ensures places { IfOk result (λ p. p.places ≡ places_from aapcs64.copy_start start sig.now.arguments (spots_after untouched sig.now.arguments)) }
-    ensures end { IfOk result (λ p. p.end ≡ copies_end aapcs64.copy_start start sig.now.arguments (spots_after untouched sig.now.arguments)) }
-    ensures low { IfOk result (λ p. p.end ≤ 2 * ARGUMENT_BYTES) }
+/// The places of all arguments but those of their copies.
+fn place_all(alloc: Global, sig: &CheckedSig<'_>) -> Result<Placed, NoMemory>
+    ensures places { IfOk result (λ p. p.places ≡ map without_copy (spots_after untouched sig.now.arguments)) }
+    ensures taken { IfOk result (λ p. p.taken ≡ taken_after untouched sig.now.arguments) }
+    ensures low { IfOk result (λ p. p.taken.stack ≤ MOST_ARGUMENTS * ARGUMENT_SPAN) }
 {
-    let mut before = UNTOUCHED;
-    let mut end = start;
+    let mut taken = UNTOUCHED;
     let mut places = Places::with_capacity(alloc, sig.count() as usize)?;
     for i in 0..sig.count() {
-        let classed = Classed::of(sig.arg(i));
-        let place = place_of(alloc, before, &classed, end)?;
-        end = copy_end(&place, classed.ty(), end);
-        places.push(place)?;
-        before = taken_with(before, &classed);
+        places.push(place_next(alloc, &mut taken, sig.arg(i))?)?;
     }
-    Ok(Placed { places, end })
+    Ok(Placed { places, taken })
 }
 
 // ---- results
 
-/// Where a result stands, if what is before its buffer ends at `end`.
-fn place_result(alloc: Global, ty: CheckedType<'_>, end: u64) -> Result<Res, NoMemory>
+/// A result in the place of a first argument; where that would be copied, in a buffer of the caller behind what ends at `end`.
+fn result_from(place: Place, ty: &CheckedType<'_>, end: u64) -> Res
     requires { end ≤ 4 * ARGUMENT_BYTES }
-    ensures { IfOk result (λ r. r ≡ result_at aapcs64.copy_start end ty.entry (result_spot_of ty.entry)) }
+    ensures { (spot : Spot) → place ≡ without_copy spot → result ≡ result_at aapcs64.copy_start end ty.now (result_from spot) }
 {
-    if let FfiType::Void = ty.as_type() {
+    match place {
+        Place::Direct(pieces) => Res::Direct(pieces),
+        // x8 holds the buffer's address
+        Place::ByRef { .. } => Res::Hidden {
+            at: Loc::G(8),
+            buffer: start(ty, end) as u32,
+        },
+    }
+}
+
+/// Where the result stands, if what is before its buffer ends at `end`.
+fn place_result(alloc: Global, sig: &CheckedSig<'_>, end: u64) -> Result<Res, NoMemory>
+    requires { end ≤ 4 * ARGUMENT_BYTES }
+    ensures { IfOk result (λ r. r ≡ result_at aapcs64.copy_start end sig.now.result_type (result_spot_of sig.now.result_type)) }
+{
+    if let FfiType::Void = sig.ret().as_type() {
         return Ok(Res::Nothing);
     }
-    let classed = Classed::of(ty);
-    if classed.is_copied() {
-        // x8 holds the buffer's address
-        return Ok(Res::Hidden {
-            at: Loc::G(8),
-            buffer: start(classed.ty(), end) as u32,
-        });
-    }
-    Ok(Res::Direct(register_pieces(alloc, &classed, 0)?))
+    let place = place_of(alloc, UNTOUCHED, &Classed::of(sig.ret()));
+    Ok(result_from(place?, &sig.ret(), end))
 }
 
 // ---- the standard
@@ -577,8 +579,8 @@ pub fn placement_laws(_sig: &Sig)
     ensures by_layout { GoesByLayout aapcs64 }
 {}
 
-/// The callee-saved registers: x19 to x29, and the low halves of v8 to v15.
-const CALLEE_SAVED: [Loc; 19] = [
+/// The callee-saved general registers: x19 to x29.
+const SAVED_GENERAL: [Loc; 11] = [
     Loc::G(19),
     Loc::G(20),
     Loc::G(21),
@@ -590,6 +592,10 @@ const CALLEE_SAVED: [Loc; 19] = [
     Loc::G(27),
     Loc::G(28),
     Loc::G(29),
+];
+
+/// The callee-saved vector registers: the low halves of v8 to v15.
+const SAVED_VECTOR: [Loc; 8] = [
     Loc::F(8),
     Loc::F(9),
     Loc::F(10),
@@ -603,11 +609,17 @@ const CALLEE_SAVED: [Loc; 19] = [
 /// The link register: x30.
 const LINK_REGISTER: Loc = Loc::G(30);
 
+/// The word of the save area that holds the link register, behind those of the general registers.
+const LINK_WORD: u8 = SAVED_GENERAL.len() as u8;
+
+/// The word that holds the address of a hidden result, behind those of the vector registers. A spare word follows, the last.
+const HIDDEN_WORD: u8 = LINK_WORD + 1 + SAVED_VECTOR.len() as u8;
+
 /// The Arm AAPCS64 calling standard. (IHI 0055)
 pub struct Aapcs64;
 
 /// The argument registers: x0 to x7, x8 for the result's address, and v0 to v7.
-const PASSING_REGISTERS: [Loc; 17] = [
+const ARGUMENT_REGISTERS: [Loc; 17] = [
     Loc::G(0),
     Loc::G(1),
     Loc::G(2),
@@ -631,11 +643,13 @@ const PASSING_REGISTERS: [Loc; 17] = [
 fn plan_of(alloc: Global, sig: &CheckedSig<'_>) -> Result<Plan, NoMemory>
     ensures { IfOk result (λ p. p ≡ plan_of aapcs64 sig.now) }
 {
-    let taken = taken_by_all(sig);
-    let all = place_all(alloc, sig, round_up(taken.stack, 16))?;
-    let res = place_result(alloc, sig.ret(), all.end)?;
-    let end = buffer_end(&res, &sig.ret(), all.end);
-    Ok(planned(sig, all.places, res, end, Aapcs64::LINK + Aapcs64::SAVE, 0))
+    let Placed { mut places, taken } = place_all(alloc, sig)?;
+    let copies_start = round_up(taken.stack, 16);
+    let copies_end = lay_copies(&mut places, sig, copies_start);
+    let res = place_result(alloc, sig, copies_end)?;
+    let end = buffer_end(&res, &sig.ret(), copies_end);
+    let area = Aapcs64::LINK + Aapcs64::SAVE;
+    Ok(planned(sig, places, res, end, area, 0))
 }
 
 impl Abi for Aapcs64 {
@@ -653,32 +667,40 @@ impl Abi for Aapcs64 {
 
     ghost PASSING = { length aapcs64.argument_registers };
 
-    const SAVE: u64 = 8 * (CALLEE_SAVED.len() as u64 + 3);
+    const SAVE: u64 = 8 * (HIDDEN_WORD as u64 + 2);
 
     const LINK: u64 = 0;
 
     const TARGET: Target = Target::Aapcs64;
 
-    const KEPT: u8 = CALLEE_SAVED.len() as u8;
+    const KEPT: u8 = (SAVED_GENERAL.len() + SAVED_VECTOR.len()) as u8;
 
-    const PASSING: u8 = PASSING_REGISTERS.len() as u8;
+    const PASSING: u8 = ARGUMENT_REGISTERS.len() as u8;
 
     fn callee_saved(k: u8) -> Loc {
-        CALLEE_SAVED[k as usize]
+        let k = k as usize;
+        if k < SAVED_GENERAL.len() {
+            SAVED_GENERAL[k]
+        } else {
+            SAVED_VECTOR[k - SAVED_GENERAL.len()]
+        }
     }
 
     fn passing_register(k: u8) -> Loc {
-        PASSING_REGISTERS[k as usize]
+        ARGUMENT_REGISTERS[k as usize]
     }
 
     fn saved_word(k: u8) -> SaveWord {
-        // x19 to x30, v8 to v15, the hidden result's address, and a spare word
-        match k {
-            0..=10 => SaveWord::Register(CALLEE_SAVED[k as usize]),
-            11 => SaveWord::Register(LINK_REGISTER),
-            12..=19 => SaveWord::Register(CALLEE_SAVED[k as usize - 1]),
-            20 => SaveWord::Hidden,
-            _ => SaveWord::Spare,
+        if k < LINK_WORD {
+            SaveWord::Register(SAVED_GENERAL[k as usize])
+        } else if k == LINK_WORD {
+            SaveWord::Register(LINK_REGISTER)
+        } else if k < HIDDEN_WORD {
+            SaveWord::Register(SAVED_VECTOR[(k - LINK_WORD - 1) as usize])
+        } else if k == HIDDEN_WORD {
+            SaveWord::Hidden
+        } else {
+            SaveWord::Spare
         }
     }
 

@@ -140,7 +140,7 @@ as_first t =
     ap (λ b. result_from (cond b (register_spot (register_start untouched t) t) (stack_spot (stack_start 0 (passed t)) t))) (first_fits t) ∙ ap (λ n. result_from (register_spot n t)) (first_at_zero t)
 
 -- cases on where a result stands
-pub result_cases : (P : ResultSpot → Type 0) (t : Tree) → (t ≡ void → P not_passed) → (is_copied t ≡ true → P (in_buffer (G 8))) → (is_copied t ≡ false → P (in_result_pieces (register_pieces 0 t))) → P (result_spot_of t)
+result_cases : (P : ResultSpot → Type 0) (t : Tree) → (t ≡ void → P not_passed) → (is_copied t ≡ true → P (in_buffer (G 8))) → (is_copied t ≡ false → P (in_result_pieces (register_pieces 0 t))) → P (result_spot_of t)
 result_cases P t none hidden direct = cases t none hidden direct
   where
     by_copied : (u : Tree) (b : Bool) → is_copied u ≡ b → (is_copied u ≡ true → P (in_buffer (G 8))) → (is_copied u ≡ false → P (in_result_pieces (register_pieces 0 u))) → P (result_from (cond b (by_reference (G 0)) (in_pieces (register_pieces 0 u))))

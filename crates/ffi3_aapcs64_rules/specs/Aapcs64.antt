@@ -201,8 +201,8 @@ abbrev machine : Isa
 machine = isa_of target.Aapcs64
 
 -- x0 to x7, x8 for the result's address, and v0 to v7
-abbrev pub passing : List Loc
-passing =
+abbrev pub argument_registers : List Loc
+argument_registers =
     G 0 ∷ G 1 ∷ G 2 ∷ G 3 ∷ G 4 ∷ G 5 ∷ G 6 ∷ G 7 ∷ G 8 ∷ F 0 ∷ F 1 ∷ F 2 ∷ F 3 ∷ F 4 ∷ F 5 ∷ F 6 ∷ F 7 ∷ []
 
 -- callee-saved: x19 to x29
@@ -229,7 +229,7 @@ aapcs64 = record {
   callee_saved = saved_general ++ saved_vector;
   reserved = reserved_places machine;
   link_register = link_place machine;
-  argument_registers = passing;
+  argument_registers = argument_registers;
   save_area = saved_words;
   trampoline_registers = trampoline_registers machine;
   vector_count = None;
