@@ -10,7 +10,7 @@ ghost use Rattle.ffi3_types.specs.TreeOf.{tree_of};
 ghost use Rattle.ffi3_place_rules.specs.Standard.{places_from, plan_of, result_at};
 ghost use Rattle.ffi3_amd64_rules.specs.declared.Class.{Class};
 ghost use Rattle.ffi3_amd64_rules.specs.declared.Class.TheVariants.{Integer, Sse};
-ghost use Rattle.ffi3_amd64_rules.specs.Amd64.{amd64, is_integer_leaf_in, is_integer_class, is_sse_class, is_struct, class_of, in_memory, integers, sses, register_pieces, classes, in_registers, stack_start, pieces_after, taken_with, taken_after, taken_at_first, spots_after, result_spot_of};
+ghost use Rattle.ffi3_amd64_rules.specs.Amd64.{amd64, is_integer_leaf_in, is_integer_class, is_sse_class, is_struct, class_of, in_memory, integers, sses, register_pieces, classes, in_registers, stack_start, argument_pieces, taken_with, taken_after, taken_at_first, spots_after, result_spot_of};
 ghost use Rattle.ffi3_amd64.specs.Listed.{listed, is_memory, one_if, register_at};
 ghost use Rattle.ffi3_amd64_rules.specs.Ends.{IsPlacedByEnds};
 ghost use Rattle.ffi3_place_rules.specs.Alike.{GoesByLayout};
@@ -205,7 +205,7 @@ fn classes_of(ty: &CheckedType<'_>) -> Classes
 }
 
 /// rdi, rsi, rdx, rcx, r8, r9
-const ARGUMENT_REGISTERS: [u8; 6] = [7, 6, 2, 1, 8, 9];
+const GENERAL_ARGUMENTS: [u8; 6] = [7, 6, 2, 1, 8, 9];
 
 /// rax, rdx
 const RESULT_REGISTERS: [u8; 2] = [0, 2];
@@ -275,7 +275,7 @@ fn place_argument(alloc: Global, before: Taken, ty: &CheckedType<'_>) -> Result<
     requires few_general { before.general ≤ 6 }
     requires few_vector { before.vector ≤ 8 }
     requires low { before.stack ≤ ARGUMENT_BYTES }
-    ensures pieces { IfOk result (λ a. a.pieces ≡ pieces_after before ty.now) }
+    ensures pieces { IfOk result (λ a. a.pieces ≡ argument_pieces before ty.now) }
     ensures taken { IfOk result (λ a. a.taken ≡ taken_with before ty.now) }
     ensures few_general { IfOk result (λ a. a.taken.general ≤ 6) }
     ensures few_vector { IfOk result (λ a. a.taken.vector ≤ 8) }
@@ -298,7 +298,7 @@ fn argument_in_registers(
 ) -> Result<Argument, NoMemory>
     requires all { listed found ≡ classes ty.now }
     requires fits { in_registers before ty.now ≡ true }
-    ensures pieces { IfOk result (λ a. a.pieces ≡ pieces_after before ty.now) }
+    ensures pieces { IfOk result (λ a. a.pieces ≡ argument_pieces before ty.now) }
     ensures taken { IfOk result (λ a. a.taken ≡ taken_with before ty.now) }
     ensures few_general { IfOk result (λ a. a.taken.general ≤ 6) }
     ensures few_vector { IfOk result (λ a. a.taken.vector ≤ 8) }
@@ -310,7 +310,7 @@ fn argument_in_registers(
         found,
         before.general,
         before.vector,
-        &ARGUMENT_REGISTERS,
+        &GENERAL_ARGUMENTS,
     )?;
     let taken = Taken {
         general: before.general + found.integers(),
@@ -336,7 +336,7 @@ fn argument_on_stack(
 ) -> Result<Argument, NoMemory>
     requires low { before.stack ≤ ARGUMENT_BYTES }
     requires spills { in_registers before ty.now ≡ false }
-    ensures pieces { IfOk result (λ a. a.pieces ≡ pieces_after before ty.now) }
+    ensures pieces { IfOk result (λ a. a.pieces ≡ argument_pieces before ty.now) }
     ensures taken { IfOk result (λ a. a.taken ≡ taken_with before ty.now) }
     ensures low { IfOk result (λ a. a.taken.stack ≤ before.stack + ARGUMENT_SPAN) }
 {
@@ -399,7 +399,7 @@ fn place_result(alloc: Global, ty: &CheckedType<'_>, end: u64) -> Result<Res, No
     let found = classes_of(ty);
     if found.is_memory() {
         return Ok(Res::Hidden {
-            at: Loc::G(ARGUMENT_REGISTERS[0]),
+            at: Loc::G(GENERAL_ARGUMENTS[0]),
             buffer: start(ty, end) as u32,
         });
     }
@@ -417,13 +417,13 @@ pub fn placement_laws(_sig: &Sig)
 pub struct Amd64;
 
 /// rdi, rsi, rdx, rcx, r8 and r9, and xmm0 to xmm7
-const PASSING_REGISTERS: [Loc; 14] = [
-    Loc::G(ARGUMENT_REGISTERS[0]),
-    Loc::G(ARGUMENT_REGISTERS[1]),
-    Loc::G(ARGUMENT_REGISTERS[2]),
-    Loc::G(ARGUMENT_REGISTERS[3]),
-    Loc::G(ARGUMENT_REGISTERS[4]),
-    Loc::G(ARGUMENT_REGISTERS[5]),
+const ARGUMENT_REGISTERS: [Loc; 14] = [
+    Loc::G(GENERAL_ARGUMENTS[0]),
+    Loc::G(GENERAL_ARGUMENTS[1]),
+    Loc::G(GENERAL_ARGUMENTS[2]),
+    Loc::G(GENERAL_ARGUMENTS[3]),
+    Loc::G(GENERAL_ARGUMENTS[4]),
+    Loc::G(GENERAL_ARGUMENTS[5]),
     Loc::F(0),
     Loc::F(1),
     Loc::F(2),
@@ -473,14 +473,14 @@ impl Abi for Amd64 {
 
     const KEPT: u8 = CALLEE_SAVED.len() as u8;
 
-    const PASSING: u8 = PASSING_REGISTERS.len() as u8;
+    const PASSING: u8 = ARGUMENT_REGISTERS.len() as u8;
 
     fn callee_saved(k: u8) -> Loc {
         Loc::G(CALLEE_SAVED[k as usize])
     }
 
     fn passing_register(k: u8) -> Loc {
-        PASSING_REGISTERS[k as usize]
+        ARGUMENT_REGISTERS[k as usize]
     }
 
     fn saved_word(k: u8) -> SaveWord {
