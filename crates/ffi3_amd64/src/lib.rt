@@ -11,7 +11,7 @@ ghost use Rattle.ffi3_place_rules.specs.Standard.{places_from, plan_of, result_a
 ghost use Rattle.ffi3_amd64_rules.specs.declared.Class.{Class};
 ghost use Rattle.ffi3_amd64_rules.specs.declared.Class.TheVariants.{Integer, Sse};
 ghost use Rattle.ffi3_amd64_rules.specs.Amd64.{amd64, is_integer_leaf_in, is_integer_class, is_sse_class, is_struct, class_of, in_memory, integers, sses, register_pieces, classes, in_registers, stack_start, argument_pieces, taken_with, taken_after, taken_at_first, spots_after, result_spot_of};
-ghost use Rattle.ffi3_amd64.specs.Listed.{listed, is_memory, one_if, register_at};
+ghost use Rattle.ffi3_amd64.specs.Classes.{class_list, is_memory, one_if, register_at};
 ghost use Rattle.ffi3_amd64_rules.specs.Ends.{IsPlacedByEnds};
 ghost use Rattle.ffi3_place_rules.specs.Alike.{GoesByLayout};
 
@@ -124,7 +124,7 @@ impl Classes {
 
     /// How many eightbytes have the class INTEGER.
     fn integers(self) -> u64
-        ensures value { result ≡ count_by is_integer_class (listed self) }
+        ensures value { result ≡ count_by is_integer_class (class_list self) }
         ensures few { result ≤ 2 }
     {
         match self {
@@ -141,7 +141,7 @@ impl Classes {
 
     /// How many have the class SSE.
     fn sses(self) -> u64
-        ensures value { result ≡ count_by is_sse_class (listed self) }
+        ensures value { result ≡ count_by is_sse_class (class_list self) }
         ensures few { result ≤ 2 }
     {
         match self {
@@ -170,7 +170,7 @@ fn class_from(has_integer: bool) -> Class
 fn classes_of_struct(ty: &CheckedType<'_>) -> Classes
     requires { is_struct ty.now ≡ true }
     ensures memory { is_memory result ≡ in_memory ty.now }
-    ensures all { listed result ≡ classes ty.now }
+    ensures all { class_list result ≡ classes ty.now }
 {
     let size = ty.size();
     if size > 16 {
@@ -189,7 +189,7 @@ fn classes_of_struct(ty: &CheckedType<'_>) -> Classes
 /// The classes of a value's eightbytes. A scalar is its own only leaf.
 fn classes_of(ty: &CheckedType<'_>) -> Classes
     ensures memory { is_memory result ≡ in_memory ty.now }
-    ensures all { listed result ≡ classes ty.now }
+    ensures all { class_list result ≡ classes ty.now }
 {
     match ty.as_type() {
         FfiType::U8 | FfiType::S8 | FfiType::U16 | FfiType::S16 => Classes::One(Class::Integer),
@@ -235,7 +235,7 @@ fn register_pieces(
     registers: &[u8],
 ) -> Result<Pieces, NoMemory>
     requires direct { in_memory ty.now ≡ false }
-    requires all { listed found ≡ classes ty.now }
+    requires all { class_list found ≡ classes ty.now }
     requires enough_general { general + integers ty.now ≤ length registers.now }
     requires enough_vector { vector + sses ty.now ≤ 8 }
     requires few { length registers.now ≤ 8 }
@@ -296,7 +296,7 @@ fn argument_in_registers(
     ty: &CheckedType<'_>,
     found: Classes,
 ) -> Result<Argument, NoMemory>
-    requires all { listed found ≡ classes ty.now }
+    requires all { class_list found ≡ classes ty.now }
     requires fits { in_registers before ty.now ≡ true }
     ensures pieces { IfOk result (λ a. a.pieces ≡ argument_pieces before ty.now) }
     ensures taken { IfOk result (λ a. a.taken ≡ taken_with before ty.now) }
