@@ -4,6 +4,7 @@
 ghost use Rattle.std.specs.Prelude.{◌*◌, ◌≡◌, ◌<◌, ◌≤◌, ◌+◌, ◌||◌, cond, length, slice_index, IfOk, [], true, false};
 ghost use Rattle.std.specs.List.{list_any, count_by};
 ghost use Rattle.ffi3_type_rules.specs.declared.limits.TheConstants.{ARGUMENT_BYTES, ARGUMENT_SPAN, LARGEST_GAP, LARGEST_TYPE};
+ghost use Rattle.ffi3_type_rules.specs.Tree.{Tree};
 ghost use Rattle.ffi3_type_rules.specs.Layout.{leaves_of, leaf_at};
 ghost use Rattle.ffi3_type_rules.specs.Fault.{IsLaidOut};
 ghost use Rattle.ffi3_types.specs.TreeOf.{tree_of};
@@ -54,13 +55,7 @@ pub fn in_memory(ty: &FfiType) -> bool
     requires { IsLaidOut (tree_of ty.now) }
     ensures { result ≡ in_memory (tree_of ty.now) }
 {
-    in_memory_of(&CheckedType::of(ty))
-}
-
-/// `in_memory`, of a type that is known to have a layout.
-fn in_memory_of(ty: &CheckedType<'_>) -> bool
-    ensures { result ≡ in_memory ty.now }
-{
+    let ty = CheckedType::of(ty);
     matches!(ty.as_type(), FfiType::Struct(_) | FfiType::Array(_, _)) && ty.size() > 16
 }
 
@@ -358,24 +353,26 @@ struct Placed {
 }
 
 /// The address of a result in memory takes the first general register.
-fn taken_at_first(result_type: &CheckedType<'_>) -> Taken
-    ensures value { result ≡ taken_at_first result_type.now }
+fn taken_at_first(returned: Classes) -> Taken
+    ensures value { (t : Tree) → is_memory returned ≡ in_memory t → result ≡ taken_at_first t }
     ensures few { result.general ≤ 1 }
 {
     Taken {
-        general: if in_memory_of(result_type) { 1 } else { 0 },
+        general: if returned.is_memory() { 1 } else { 0 },
         vector: 0,
         stack: 0,
     }
 }
 
-fn place_all(alloc: Global, sig: &CheckedSig<'_>) -> Result<Placed, NoMemory>
+/// The places of all arguments, if the result has the classes `returned`.
+fn place_all(alloc: Global, sig: &CheckedSig<'_>, returned: Classes) -> Result<Placed, NoMemory>
+    requires { is_memory returned ≡ in_memory sig.now.result_type }
     ensures places { IfOk result (λ p. p.places ≡ places_from amd64.copy_start 0 sig.now.arguments (spots_after (taken_at_first sig.now.result_type) sig.now.arguments)) }
     ensures taken { IfOk result (λ p. p.taken ≡ taken_after (taken_at_first sig.now.result_type) sig.now.arguments) }
     ensures low { IfOk result (λ p. p.taken.stack ≤ ARGUMENT_BYTES) }
     ensures few_vector { IfOk result (λ p. p.taken.vector ≤ 8) }
 {
-    let mut before = taken_at_first(&sig.ret());
+    let mut before = taken_at_first(returned);
     let mut places = Places::with_capacity(alloc, sig.count() as usize)?;
     for i in 0..sig.count() {
         let next = place_argument(alloc, before, &sig.arg(i))?;
@@ -388,15 +385,21 @@ fn place_all(alloc: Global, sig: &CheckedSig<'_>) -> Result<Placed, NoMemory>
     })
 }
 
-/// Where a result stands, if what is before its buffer ends at `end`.
-fn place_result(alloc: Global, ty: &CheckedType<'_>, end: u64) -> Result<Res, NoMemory>
-    requires { end ≤ 2 * ARGUMENT_BYTES }
+/// Where a result with the classes `found` stands, if what is before its buffer ends at `end`.
+fn place_result(
+    alloc: Global,
+    ty: &CheckedType<'_>,
+    found: Classes,
+    end: u64,
+) -> Result<Res, NoMemory>
+    requires memory { is_memory found ≡ in_memory ty.now }
+    requires all { class_list found ≡ classes ty.now }
+    requires low { end ≤ 2 * ARGUMENT_BYTES }
     ensures { IfOk result (λ r. r ≡ result_at amd64.copy_start end ty.now (result_spot_of ty.now)) }
 {
     if let FfiType::Void = ty.as_type() {
         return Ok(Res::Nothing);
     }
-    let found = classes_of(ty);
     if found.is_memory() {
         return Ok(Res::Hidden {
             at: Loc::G(GENERAL_ARGUMENTS[0]),
@@ -438,12 +441,12 @@ const ARGUMENT_REGISTERS: [Loc; 14] = [
 fn plan_of(alloc: Global, sig: &CheckedSig<'_>) -> Result<Plan, NoMemory>
     ensures { IfOk result (λ p. p ≡ plan_of amd64 sig.now) }
 {
-    let all = place_all(alloc, sig)?;
+    let returned = classes_of(&sig.ret());
+    let all = place_all(alloc, sig, returned)?;
     // no argument has a copy
     let copied = round_up(all.taken.stack, 16);
-    let ret = sig.ret();
-    let res = place_result(alloc, &ret, copied)?;
-    let end = buffer_end(&res, &ret, copied);
+    let res = place_result(alloc, &sig.ret(), returned, copied)?;
+    let end = buffer_end(&res, &sig.ret(), copied);
     let vectors = all.taken.vector as u8;
     let area = Amd64::LINK + Amd64::SAVE;
     Ok(planned(sig, all.places, res, end, area, vectors))

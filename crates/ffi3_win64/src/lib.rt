@@ -181,21 +181,20 @@ fn place_all(
     let mut end = start;
     let mut places = Places::with_capacity(alloc, sig.count() as usize)?;
     for i in 0..sig.count() {
-        let ty = sig.arg(i);
         let p = first + i as u64;
-        let place = place_of(alloc, variadic, p, &ty, end)?;
-        end = copy_end(&place, &ty, end);
+        let place = place_of(alloc, variadic, p, &sig.arg(i), end)?;
+        end = copy_end(&place, &sig.arg(i), end);
         places.push(place)?;
     }
     Ok(Placed { places, end })
 }
 
-/// The position of the first argument: the address of a result in memory stands before it.
-fn first_position(result_type: &CheckedType<'_>) -> u64
-    ensures value { result ≡ first_position result_type.now }
+/// The position of the first argument: the address of a hidden result stands before it.
+fn first_position(is_hidden: bool) -> u64
+    ensures value { (t : Tree) → is_hidden ≡ is_copied t → result ≡ first_position t }
     ensures few { result ≤ 1 }
 {
-    if is_copied_of(result_type) { 1 } else { 0 }
+    if is_hidden { 1 } else { 0 }
 }
 
 /// The stack of so many positions, of which the callee has that of four at least.
@@ -220,16 +219,22 @@ fn result_place(ty: &FfiType) -> Loc
     }
 }
 
-/// Where a result stands, if what is before its buffer ends at `end`.
-fn place_result(alloc: Global, ty: &CheckedType<'_>, end: u64) -> Result<Res, NoMemory>
-    requires { end ≤ 2 * ARGUMENT_BYTES }
+/// Where a result stands, hidden or not, if what is before its buffer ends at `end`.
+fn place_result(
+    alloc: Global,
+    ty: &CheckedType<'_>,
+    is_hidden: bool,
+    end: u64,
+) -> Result<Res, NoMemory>
+    requires hidden { is_hidden ≡ is_copied ty.now }
+    requires low { end ≤ 2 * ARGUMENT_BYTES }
     ensures { IfOk result (λ r. r ≡ result_at win64.copy_start end ty.now (result_spot_of ty.now)) }
 {
     let plain = ty.as_type();
     if let FfiType::Void = plain {
         return Ok(Res::Nothing);
     }
-    if is_copied_of(ty) {
+    if is_hidden {
         return Ok(Res::Hidden {
             at: position_place(0),
             buffer: copy_start(end) as u32,
@@ -282,12 +287,12 @@ pub struct Win64;
 fn plan_of(alloc: Global, sig: &CheckedSig<'_>) -> Result<Plan, NoMemory>
     ensures { IfOk result (λ p. p ≡ plan_of win64 sig.now) }
 {
-    let first = first_position(&sig.ret());
+    let is_hidden = is_copied_of(&sig.ret());
+    let first = first_position(is_hidden);
     let stack = stack_of(first + sig.count() as u64);
     let all = place_all(alloc, sig, first, round_up(stack, 16))?;
-    let ret = sig.ret();
-    let res = place_result(alloc, &ret, all.end)?;
-    let end = buffer_end(&res, &ret, all.end);
+    let res = place_result(alloc, &sig.ret(), is_hidden, all.end)?;
+    let end = buffer_end(&res, &sig.ret(), all.end);
     Ok(planned(sig, all.places, res, end, Win64::LINK + Win64::SAVE, 0))
 }
 
