@@ -125,6 +125,7 @@ taken_with before t =
     (record { general = before.general + integers t; vector = before.vector + sses t; stack = before.stack })
     (record { general = before.general; vector = before.vector; stack = stack_end before.stack t })
 
+-- an argument in the next registers of its eightbytes' classes, or on the stack
 abbrev pub argument_pieces : Taken → Tree → List Piece
 argument_pieces before t =
     cond (in_registers before t)
