@@ -4,14 +4,15 @@
 ghost use Rattle.std.specs.Prelude.{◌*◌, ◌≡◌, ◌<◌, ◌≤◌, ◌+◌, ◌||◌, cond, length, slice_index, IfOk, [], true, false};
 ghost use Rattle.std.specs.List.{list_any, count_by};
 ghost use Rattle.ffi3_type_rules.specs.declared.limits.TheConstants.{ARGUMENT_BYTES, ARGUMENT_SPAN, LARGEST_GAP, LARGEST_TYPE};
+ghost use Rattle.ffi3_type_rules.specs.Tree.{Tree};
 ghost use Rattle.ffi3_type_rules.specs.Layout.{leaves_of, leaf_at};
 ghost use Rattle.ffi3_type_rules.specs.Fault.{IsLaidOut};
 ghost use Rattle.ffi3_types.specs.TreeOf.{tree_of};
 ghost use Rattle.ffi3_place_rules.specs.Standard.{places_from, plan_of, result_at};
 ghost use Rattle.ffi3_amd64_rules.specs.declared.Class.{Class};
 ghost use Rattle.ffi3_amd64_rules.specs.declared.Class.TheVariants.{Integer, Sse};
-ghost use Rattle.ffi3_amd64_rules.specs.Amd64.{amd64, is_integer_leaf_in, is_integer_class, is_sse_class, is_struct, class_of, in_memory, integers, sses, register_pieces, classes, in_registers, stack_start, pieces_after, taken_with, taken_after, taken_at_first, spots_after, result_spot_of};
-ghost use Rattle.ffi3_amd64.specs.Listed.{listed, is_memory, one_if, register_at};
+ghost use Rattle.ffi3_amd64_rules.specs.Amd64.{amd64, is_integer_leaf_in, is_integer_class, is_sse_class, is_struct, class_of, in_memory, integers, sses, register_pieces, classes, in_registers, stack_start, argument_pieces, taken_with, taken_after, taken_at_first, spots_after, result_spot_of};
+ghost use Rattle.ffi3_amd64.specs.Classes.{class_list, is_memory, one_if, register_at};
 ghost use Rattle.ffi3_amd64_rules.specs.Ends.{IsPlacedByEnds};
 ghost use Rattle.ffi3_place_rules.specs.Alike.{GoesByLayout};
 
@@ -54,13 +55,7 @@ pub fn in_memory(ty: &FfiType) -> bool
     requires { IsLaidOut (tree_of ty.now) }
     ensures { result ≡ in_memory (tree_of ty.now) }
 {
-    in_memory_of(&CheckedType::of(ty))
-}
-
-/// `in_memory`, of a type that is known to have a layout.
-fn in_memory_of(ty: &CheckedType<'_>) -> bool
-    ensures { result ≡ in_memory ty.now }
-{
+    let ty = CheckedType::of(ty);
     matches!(ty.as_type(), FfiType::Struct(_) | FfiType::Array(_, _)) && ty.size() > 16
 }
 
@@ -124,7 +119,7 @@ impl Classes {
 
     /// How many eightbytes have the class INTEGER.
     fn integers(self) -> u64
-        ensures value { result ≡ count_by is_integer_class (listed self) }
+        ensures value { result ≡ count_by is_integer_class (class_list self) }
         ensures few { result ≤ 2 }
     {
         match self {
@@ -141,7 +136,7 @@ impl Classes {
 
     /// How many have the class SSE.
     fn sses(self) -> u64
-        ensures value { result ≡ count_by is_sse_class (listed self) }
+        ensures value { result ≡ count_by is_sse_class (class_list self) }
         ensures few { result ≤ 2 }
     {
         match self {
@@ -170,7 +165,7 @@ fn class_from(has_integer: bool) -> Class
 fn classes_of_struct(ty: &CheckedType<'_>) -> Classes
     requires { is_struct ty.now ≡ true }
     ensures memory { is_memory result ≡ in_memory ty.now }
-    ensures all { listed result ≡ classes ty.now }
+    ensures all { class_list result ≡ classes ty.now }
 {
     let size = ty.size();
     if size > 16 {
@@ -189,7 +184,7 @@ fn classes_of_struct(ty: &CheckedType<'_>) -> Classes
 /// The classes of a value's eightbytes. A scalar is its own only leaf.
 fn classes_of(ty: &CheckedType<'_>) -> Classes
     ensures memory { is_memory result ≡ in_memory ty.now }
-    ensures all { listed result ≡ classes ty.now }
+    ensures all { class_list result ≡ classes ty.now }
 {
     match ty.as_type() {
         FfiType::U8 | FfiType::S8 | FfiType::U16 | FfiType::S16 => Classes::One(Class::Integer),
@@ -205,7 +200,7 @@ fn classes_of(ty: &CheckedType<'_>) -> Classes
 }
 
 /// rdi, rsi, rdx, rcx, r8, r9
-const ARGUMENT_REGISTERS: [u8; 6] = [7, 6, 2, 1, 8, 9];
+const GENERAL_ARGUMENTS: [u8; 6] = [7, 6, 2, 1, 8, 9];
 
 /// rax, rdx
 const RESULT_REGISTERS: [u8; 2] = [0, 2];
@@ -235,7 +230,7 @@ fn register_pieces(
     registers: &[u8],
 ) -> Result<Pieces, NoMemory>
     requires direct { in_memory ty.now ≡ false }
-    requires all { listed found ≡ classes ty.now }
+    requires all { class_list found ≡ classes ty.now }
     requires enough_general { general + integers ty.now ≤ length registers.now }
     requires enough_vector { vector + sses ty.now ≤ 8 }
     requires few { length registers.now ≤ 8 }
@@ -275,7 +270,7 @@ fn place_argument(alloc: Global, before: Taken, ty: &CheckedType<'_>) -> Result<
     requires few_general { before.general ≤ 6 }
     requires few_vector { before.vector ≤ 8 }
     requires low { before.stack ≤ ARGUMENT_BYTES }
-    ensures pieces { IfOk result (λ a. a.pieces ≡ pieces_after before ty.now) }
+    ensures pieces { IfOk result (λ a. a.pieces ≡ argument_pieces before ty.now) }
     ensures taken { IfOk result (λ a. a.taken ≡ taken_with before ty.now) }
     ensures few_general { IfOk result (λ a. a.taken.general ≤ 6) }
     ensures few_vector { IfOk result (λ a. a.taken.vector ≤ 8) }
@@ -296,9 +291,9 @@ fn argument_in_registers(
     ty: &CheckedType<'_>,
     found: Classes,
 ) -> Result<Argument, NoMemory>
-    requires all { listed found ≡ classes ty.now }
+    requires all { class_list found ≡ classes ty.now }
     requires fits { in_registers before ty.now ≡ true }
-    ensures pieces { IfOk result (λ a. a.pieces ≡ pieces_after before ty.now) }
+    ensures pieces { IfOk result (λ a. a.pieces ≡ argument_pieces before ty.now) }
     ensures taken { IfOk result (λ a. a.taken ≡ taken_with before ty.now) }
     ensures few_general { IfOk result (λ a. a.taken.general ≤ 6) }
     ensures few_vector { IfOk result (λ a. a.taken.vector ≤ 8) }
@@ -310,7 +305,7 @@ fn argument_in_registers(
         found,
         before.general,
         before.vector,
-        &ARGUMENT_REGISTERS,
+        &GENERAL_ARGUMENTS,
     )?;
     let taken = Taken {
         general: before.general + found.integers(),
@@ -336,7 +331,7 @@ fn argument_on_stack(
 ) -> Result<Argument, NoMemory>
     requires low { before.stack ≤ ARGUMENT_BYTES }
     requires spills { in_registers before ty.now ≡ false }
-    ensures pieces { IfOk result (λ a. a.pieces ≡ pieces_after before ty.now) }
+    ensures pieces { IfOk result (λ a. a.pieces ≡ argument_pieces before ty.now) }
     ensures taken { IfOk result (λ a. a.taken ≡ taken_with before ty.now) }
     ensures low { IfOk result (λ a. a.taken.stack ≤ before.stack + ARGUMENT_SPAN) }
 {
@@ -358,24 +353,26 @@ struct Placed {
 }
 
 /// The address of a result in memory takes the first general register.
-fn taken_at_first(result_type: &CheckedType<'_>) -> Taken
-    ensures value { result ≡ taken_at_first result_type.now }
+fn taken_at_first(returned: Classes) -> Taken
+    ensures value { (t : Tree) → is_memory returned ≡ in_memory t → result ≡ taken_at_first t }
     ensures few { result.general ≤ 1 }
 {
     Taken {
-        general: if in_memory_of(result_type) { 1 } else { 0 },
+        general: if returned.is_memory() { 1 } else { 0 },
         vector: 0,
         stack: 0,
     }
 }
 
-fn place_all(alloc: Global, sig: &CheckedSig<'_>) -> Result<Placed, NoMemory>
+/// The places of all arguments, if the result has the classes `returned`.
+fn place_all(alloc: Global, sig: &CheckedSig<'_>, returned: Classes) -> Result<Placed, NoMemory>
+    requires { is_memory returned ≡ in_memory sig.now.result_type }
     ensures places { IfOk result (λ p. p.places ≡ places_from amd64.copy_start 0 sig.now.arguments (spots_after (taken_at_first sig.now.result_type) sig.now.arguments)) }
     ensures taken { IfOk result (λ p. p.taken ≡ taken_after (taken_at_first sig.now.result_type) sig.now.arguments) }
     ensures low { IfOk result (λ p. p.taken.stack ≤ ARGUMENT_BYTES) }
     ensures few_vector { IfOk result (λ p. p.taken.vector ≤ 8) }
 {
-    let mut before = taken_at_first(&sig.ret());
+    let mut before = taken_at_first(returned);
     let mut places = Places::with_capacity(alloc, sig.count() as usize)?;
     for i in 0..sig.count() {
         let next = place_argument(alloc, before, &sig.arg(i))?;
@@ -388,18 +385,24 @@ fn place_all(alloc: Global, sig: &CheckedSig<'_>) -> Result<Placed, NoMemory>
     })
 }
 
-/// Where a result stands, if what is before its buffer ends at `end`.
-fn place_result(alloc: Global, ty: &CheckedType<'_>, end: u64) -> Result<Res, NoMemory>
-    requires { end ≤ 2 * ARGUMENT_BYTES }
+/// Where a result with the classes `found` stands, if what is before its buffer ends at `end`.
+fn place_result(
+    alloc: Global,
+    ty: &CheckedType<'_>,
+    found: Classes,
+    end: u64,
+) -> Result<Res, NoMemory>
+    requires memory { is_memory found ≡ in_memory ty.now }
+    requires all { class_list found ≡ classes ty.now }
+    requires low { end ≤ 2 * ARGUMENT_BYTES }
     ensures { IfOk result (λ r. r ≡ result_at amd64.copy_start end ty.now (result_spot_of ty.now)) }
 {
     if let FfiType::Void = ty.as_type() {
         return Ok(Res::Nothing);
     }
-    let found = classes_of(ty);
     if found.is_memory() {
         return Ok(Res::Hidden {
-            at: Loc::G(ARGUMENT_REGISTERS[0]),
+            at: Loc::G(GENERAL_ARGUMENTS[0]),
             buffer: start(ty, end) as u32,
         });
     }
@@ -417,13 +420,13 @@ pub fn placement_laws(_sig: &Sig)
 pub struct Amd64;
 
 /// rdi, rsi, rdx, rcx, r8 and r9, and xmm0 to xmm7
-const PASSING_REGISTERS: [Loc; 14] = [
-    Loc::G(ARGUMENT_REGISTERS[0]),
-    Loc::G(ARGUMENT_REGISTERS[1]),
-    Loc::G(ARGUMENT_REGISTERS[2]),
-    Loc::G(ARGUMENT_REGISTERS[3]),
-    Loc::G(ARGUMENT_REGISTERS[4]),
-    Loc::G(ARGUMENT_REGISTERS[5]),
+const ARGUMENT_REGISTERS: [Loc; 14] = [
+    Loc::G(GENERAL_ARGUMENTS[0]),
+    Loc::G(GENERAL_ARGUMENTS[1]),
+    Loc::G(GENERAL_ARGUMENTS[2]),
+    Loc::G(GENERAL_ARGUMENTS[3]),
+    Loc::G(GENERAL_ARGUMENTS[4]),
+    Loc::G(GENERAL_ARGUMENTS[5]),
     Loc::F(0),
     Loc::F(1),
     Loc::F(2),
@@ -438,12 +441,12 @@ const PASSING_REGISTERS: [Loc; 14] = [
 fn plan_of(alloc: Global, sig: &CheckedSig<'_>) -> Result<Plan, NoMemory>
     ensures { IfOk result (λ p. p ≡ plan_of amd64 sig.now) }
 {
-    let all = place_all(alloc, sig)?;
+    let returned = classes_of(&sig.ret());
+    let all = place_all(alloc, sig, returned)?;
     // no argument has a copy
     let copied = round_up(all.taken.stack, 16);
-    let ret = sig.ret();
-    let res = place_result(alloc, &ret, copied)?;
-    let end = buffer_end(&res, &ret, copied);
+    let res = place_result(alloc, &sig.ret(), returned, copied)?;
+    let end = buffer_end(&res, &sig.ret(), copied);
     let vectors = all.taken.vector as u8;
     let area = Amd64::LINK + Amd64::SAVE;
     Ok(planned(sig, all.places, res, end, area, vectors))
@@ -473,14 +476,14 @@ impl Abi for Amd64 {
 
     const KEPT: u8 = CALLEE_SAVED.len() as u8;
 
-    const PASSING: u8 = PASSING_REGISTERS.len() as u8;
+    const PASSING: u8 = ARGUMENT_REGISTERS.len() as u8;
 
     fn callee_saved(k: u8) -> Loc {
         Loc::G(CALLEE_SAVED[k as usize])
     }
 
     fn passing_register(k: u8) -> Loc {
-        PASSING_REGISTERS[k as usize]
+        ARGUMENT_REGISTERS[k as usize]
     }
 
     fn saved_word(k: u8) -> SaveWord {

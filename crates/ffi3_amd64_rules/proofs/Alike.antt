@@ -14,7 +14,7 @@ use Rattle.ffi3_place_rules.specs.Alike.{AreAlike, same_type, same_layout, AllAl
 use Rattle.ffi3_place_rules.proofs.Alike.{plan_alike, size_alike, start_alike}
 use Rattle.ffi3_amd64_rules.specs.declared.Class.{Class}
 use Rattle.ffi3_amd64_rules.specs.declared.Class.TheVariants.{Integer, Sse}
-use Rattle.ffi3_amd64_rules.specs.Amd64.{is_integer_class, is_sse_class, is_integer_leaf_in, class_of, in_memory, classes_from, classes, integers, sses, argument_register, result_register, register_of, register_pieces, in_registers, stack_start, stack_end, taken_with, pieces_after, spots_after, taken_after, taken_at_first, result_spot_of, placing_of, amd64}
+use Rattle.ffi3_amd64_rules.specs.Amd64.{is_integer_class, is_sse_class, is_integer_leaf_in, class_of, in_memory, classes_from, classes, integers, sses, argument_register, result_register, register_of, register_pieces, in_registers, stack_start, stack_end, taken_with, argument_pieces, spot_after, spots_after, taken_after, taken_at_first, result_spot_of, placing_of, amd64}
 
 -- ---- structs
 
@@ -98,13 +98,16 @@ module _ (t u : Tree) (h : ShowsTheSame t u) (before : Taken) where
       ∙ ap (λ cs. cond {A = Taken} (in_registers before u) (record { general = before.general + count_by is_integer_class cs; vector = before.vector + count_by is_sse_class cs; stack = before.stack }) (record { general = before.general; vector = before.vector; stack = stack_end before.stack t })) h.word_classes
       ∙ ap (λ n. cond {A = Taken} (in_registers before u) (record { general = before.general + integers u; vector = before.vector + sses u; stack = before.stack }) (record { general = before.general; vector = before.vector; stack = n })) end_alike
 
-  after_alike : pieces_after before t ≡ pieces_after before u
-  after_alike =
+  pieces_alike : argument_pieces before t ≡ argument_pieces before u
+  pieces_alike =
       ap (λ b. cond b (register_pieces argument_register before.general before.vector t [] (classes t)) (stack_pieces (stack_start before.stack t) t)) registers_alike
       ∙ ap (λ cs. cond (in_registers before u) (register_pieces argument_register before.general before.vector t [] cs) (stack_pieces (stack_start before.stack t) t)) h.word_classes
       ∙ ap (λ ps. cond (in_registers before u) ps (stack_pieces (stack_start before.stack t) t)) (h.pieces argument_register before.general before.vector (classes u))
       ∙ ap (λ n. cond (in_registers before u) (register_pieces argument_register before.general before.vector u [] (classes u)) (stack_pieces n t)) (h.begins before.stack)
       ∙ ap (λ ps. cond (in_registers before u) (register_pieces argument_register before.general before.vector u [] (classes u)) ps) (h.stack (stack_start before.stack u))
+
+  spot_alike : spot_after before t ≡ spot_after before u
+  spot_alike = ap in_pieces pieces_alike
 
 -- ---- all arguments
 
@@ -114,7 +117,7 @@ spots_alike [] (u ∷ us) h before = absurd h
 spots_alike (t ∷ ts) [] h before = absurd h
 spots_alike (t ∷ ts) (u ∷ us) h before =
     let here = shows t u h.0 in
-    ap (λ ps. in_pieces ps ∷ spots_after (taken_with before t) ts) (after_alike t u here before) ∙ ap (λ b. in_pieces (pieces_after before u) ∷ spots_after b ts) (taken_alike t u here before) ∙ ap (λ ss. in_pieces (pieces_after before u) ∷ ss) (spots_alike ts us h.1 (taken_with before u))
+    ap (λ s. s ∷ spots_after (taken_with before t) ts) (spot_alike t u here before) ∙ ap (λ b. spot_after before u ∷ spots_after b ts) (taken_alike t u here before) ∙ ap (λ ss. spot_after before u ∷ ss) (spots_alike ts us h.1 (taken_with before u))
 
 all_taken_alike : (ts us : List Tree) → AllAlike ts us → (before : Taken) → taken_after before ts ≡ taken_after before us
 all_taken_alike [] [] h before = refl

@@ -6,7 +6,7 @@ use Rattle.ffi3_type_rules.specs.Signature.{Signature}
 use Rattle.ffi3_place_rules.specs.declared.Taken.{Taken}
 use Rattle.ffi3_place_rules.specs.declared.Place.TheVariants.{Direct}
 use Rattle.ffi3_place_rules.specs.Standard.{places_from, copies_start}
-use Rattle.ffi3_amd64_rules.specs.Amd64.{amd64, integers, sses, in_registers, stack_end, taken_with, taken_after, taken_at_first, pieces_after, spots_after, placing_of}
+use Rattle.ffi3_amd64_rules.specs.Amd64.{amd64, integers, sses, in_registers, stack_end, taken_with, taken_after, taken_at_first, argument_pieces, spots_after, placing_of}
 use Rattle.ffi3_amd64_rules.specs.Ends.{taken_before, AreChosenBySums, ArePlacedByEnds, IsPlacedByEnds}
 use Rattle.ffi3_place_rules.proofs.Copies.{copies_by_ends}
 
@@ -30,7 +30,7 @@ spots_length : (a : Taken) (ts : List Tree) → length (spots_after a ts) ≡ le
 spots_length a [] = refl
 spots_length a (t ∷ ts) = ap suc (spots_length (taken_with a t) ts)
 
-stands_at : (end : ℕ) (a : Taken) (ts : List Tree) (i : ℕ) → i < length ts → slice_get (places_from amd64.copy_start end ts (spots_after a ts)) i ≡ Some (Direct (pieces_after (taken_after a (take i ts)) (tree_at ts i)))
+stands_at : (end : ℕ) (a : Taken) (ts : List Tree) (i : ℕ) → i < length ts → slice_get (places_from amd64.copy_start end ts (spots_after a ts)) i ≡ Some (Direct (argument_pieces (taken_after a (take i ts)) (tree_at ts i)))
 stands_at end a [] i h = absurd (omega arith)
 stands_at end a (t ∷ ts) zero h = refl
 stands_at end a (t ∷ ts) (suc i) h = stands_at end (taken_with a t) ts i (omega arith)
@@ -74,7 +74,7 @@ module _ (s : Signature) where
       let total = sym (taken_all (taken_at_first s.result_type) s.arguments) ∙ sums_are_taken (length s.arguments) (omega arith) in
       record {
         registers_suffice = λ i h. ap (λ a. in_registers a (tree_at s.arguments i)) (sums_are_taken i (omega arith));
-        placed = λ i h. stands_at (copies_start (placing_of s)) (taken_at_first s.result_type) s.arguments i h ∙ ap (λ a. Some (Direct (pieces_after a (tree_at s.arguments i)))) (sums_are_taken i (omega arith));
+        placed = λ i h. stands_at (copies_start (placing_of s)) (taken_at_first s.result_type) s.arguments i h ∙ ap (λ a. Some (Direct (argument_pieces a (tree_at s.arguments i)))) (sums_are_taken i (omega arith));
         stack_total = ap (λ a. a.stack) total;
         vector_total = ap (λ a. a.vector) total;
       }

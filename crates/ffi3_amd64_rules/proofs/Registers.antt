@@ -27,8 +27,8 @@ number_of r = get_or (9 ∷ 3 ∷ 2 ∷ 9 ∷ 9 ∷ 9 ∷ 1 ∷ 0 ∷ 4 ∷ 5 �
 argument_number : (k : ℕ) → k < 6 → number_of (argument_register k) ≡ k
 argument_number = each_of_six (λ k. number_of (argument_register k) ≡ k) refl refl refl refl refl refl
 
-pub argument_registers : Registers argument_register vector_register 6 8
-argument_registers = record {
+pub argument_registers_apart : Registers argument_register vector_register 6 8
+argument_registers_apart = record {
   general_apart = λ j k h l e. absurd (apart j k h l e);
   floating_apart = λ j k h l e. absurd (omega (arith, e));
 }
@@ -67,8 +67,8 @@ number_of_result r = get_or (0 ∷ 9 ∷ 1 ∷ []) r 9
 result_number : (k : ℕ) → k < 2 → number_of_result (result_register k) ≡ k
 result_number = each_of_two (λ k. number_of_result (result_register k) ≡ k) refl refl
 
-pub result_registers : Registers result_register vector_register 2 2
-result_registers = record {
+pub result_registers_apart : Registers result_register vector_register 2 2
+result_registers_apart = record {
   general_apart = λ j k h l e. absurd (apart j k h l e);
   floating_apart = λ j k h l e. absurd (omega (arith, e));
 }

@@ -21,11 +21,11 @@ use Rattle.ffi3_place_rules.proofs.Forbidden.{is_one_of, one_of}
 use Rattle.ffi3_place_rules.proofs.Determines.{determined}
 use Rattle.ffi3_amd64_rules.specs.declared.Class.{Class}
 use Rattle.ffi3_amd64_rules.specs.declared.Class.TheVariants.{Integer, Sse}
-use Rattle.ffi3_amd64_rules.specs.Amd64.{amd64, is_integer_class, is_sse_class, classes, integers, sses, in_memory, argument_register, vector_register, result_register, register_pieces, in_registers, stack_start, stack_end, taken_with, taken_after, taken_at_first, pieces_after, spots_after, result_spot_of, placing_of}
+use Rattle.ffi3_amd64_rules.specs.Amd64.{amd64, is_integer_class, is_sse_class, classes, integers, sses, in_memory, argument_register, vector_register, result_register, register_pieces, in_registers, stack_start, stack_end, taken_with, taken_after, taken_at_first, argument_pieces, spots_after, result_spot_of, placing_of}
 use Rattle.ffi3_amd64_rules.proofs.Covered.{fits_registers, integers_few, sses_few, classes_when, registers_have_all, arguments_have_all}
 use Rattle.ffi3_amd64_rules.proofs.Filled.{arguments_filled, result_filled}
 use Rattle.ffi3_amd64_rules.proofs.Rising.{arguments_rise}
-use Rattle.ffi3_amd64_rules.proofs.Registers.{argument_registers, argument_exists, argument_allowed, vector_allowed, stack_allowed, argument_passes, vector_passes, result_registers, result_exists, result_allowed_general, result_allowed_vector, result_allowed_stack}
+use Rattle.ffi3_amd64_rules.proofs.Registers.{argument_registers_apart, argument_exists, argument_allowed, vector_allowed, stack_allowed, argument_passes, vector_passes, result_registers_apart, result_exists, result_allowed_general, result_allowed_vector, result_allowed_stack}
 
 abbrev at_eightbyte : Taken → List Class → Taken
 at_eightbyte a earlier =
@@ -86,13 +86,13 @@ chain_if a t true e =
 chain_if a t false e =
     value_chain argument_register vector_register 6 8 a (stack_start a.stack t) t (record { general = a.general; vector = a.vector; stack = stack_end a.stack t }) (start-behind a.stack t) (omega arith) (omega arith) (omega arith)
 
-argument_chain : (a : Taken) (t : Tree) → ArgumentsChain a (piece_locs (pieces_after a t)) (taken_with a t)
+argument_chain : (a : Taken) (t : Tree) → ArgumentsChain a (piece_locs (argument_pieces a t)) (taken_with a t)
 argument_chain a t = chain_if a t (in_registers a t) refl
 
 places_chain : (end : ℕ) (a : Taken) (ts : List Tree) → ArgumentsChain a (flat_map place_locs (places_from amd64.copy_start end ts (spots_after a ts))) (taken_after a ts)
 places_chain end a [] = at_most_self a
 places_chain end a (t ∷ ts) =
-    chain_append argument_register vector_register 6 8 a (piece_locs (pieces_after a t)) (taken_with a t) _ _
+    chain_append argument_register vector_register 6 8 a (piece_locs (argument_pieces a t)) (taken_with a t) _ _
     (argument_chain a t) (places_chain end (taken_with a t) ts)
 
 -- ---- the whole signature
@@ -143,7 +143,7 @@ call_chain s =
     chain_append argument_register vector_register 6 8 untouched (argument_locs (plan_of amd64 s)) (taken_by_all s) _ (framed s) (plan_chain s) (frame_chain argument_register vector_register 6 8 amd64 start-behind s (taken_by_all s) (omega arith))
 
 plan_apart : (s : Signature) → AreApart (call_locs s (plan_of amd64 s))
-plan_apart s = chain_apart argument_register vector_register 6 8 argument_registers untouched _ _ (call_chain s)
+plan_apart s = chain_apart argument_register vector_register 6 8 argument_registers_apart untouched _ _ (call_chain s)
 
 plan_in_frame : (s : Signature) → AllByRecursion (LiesIn Amd64 (frame_of amd64 s)) (call_locs s (plan_of amd64 s))
 plan_in_frame s =
@@ -189,7 +189,7 @@ sound s =
       allowed = plan_allowed s;
       passed = plan_passed s;
       has_all = arguments_have_all amd64.copy_start (copies_start (placing_of s)) (taken_at_first s.result_type) s.arguments;
-      result_apart = result_cases AreApart tt s.result_type (chain_apart result_register vector_register 2 2 result_registers (at_eightbyte untouched []) _ _ (result_chain s.result_type)) end;
+      result_apart = result_cases AreApart tt s.result_type (chain_apart result_register vector_register 2 2 result_registers_apart (at_eightbyte untouched []) _ _ (result_chain s.result_type)) end;
       result_in_registers = result_cases (AllByRecursion (LiesIn Amd64 0)) tt s.result_type (chain_lies_in result_register vector_register 2 2 Amd64 result_exists (λ k h. omega arith) (at_eightbyte untouched []) _ _ 0 (omega arith) (result_chain s.result_type)) end;
       result_allowed = result_cases (AllByRecursion (IsNoneOf (closed_to_results amd64))) tt s.result_type (chain_allowed result_register vector_register 2 2 (closed_to_results amd64) result_allowed_general result_allowed_vector result_allowed_stack (at_eightbyte untouched []) _ _ (result_chain s.result_type)) end;
       result_has_all = result_has_all s.result_type end;

@@ -15,7 +15,7 @@ use Rattle.ffi3_place_rules.specs.Standard.{doubleword, places_from, copies_end,
 use Rattle.ffi3_place_rules.specs.Doublewords.{widening}
 use Rattle.ffi3_place_rules.proofs.Elements.{leaf_read, argument_read}
 use Rattle.ffi3_amd64_rules.specs.declared.Class.{Class}
-use Rattle.ffi3_amd64_rules.specs.Amd64.{amd64, is_integer_leaf_in, class_of, classes_from, classes, in_memory, argument_register, result_register, register_of, register_pieces, taken_with, taken_after, pieces_after, spots_after, result_spot_of, integers, sses, in_registers, stack_end}
+use Rattle.ffi3_amd64_rules.specs.Amd64.{amd64, is_integer_leaf_in, class_of, classes_from, classes, in_memory, argument_register, result_register, register_of, register_pieces, taken_with, taken_after, argument_pieces, spots_after, result_spot_of, integers, sses, in_registers, stack_end}
 use Rattle.ffi3_amd64_rules.proofs.Covered.{length-classes_from}
 
 -- ---- leaves
@@ -80,7 +80,7 @@ taken_step ts i t before whole h read e =
 -- the place of one more argument
 pub place_step : (ts : List Tree) (i : ℕ) (t : Tree) (before : Taken) (out whole : List Place) → i < length ts → t ≡ tree_at ts i →
     out ++ places_from amd64.copy_start 0 (drop i ts) (spots_after before (drop i ts)) ≡ whole →
-    (out ++ Direct (pieces_after before t) ∷ []) ++ places_from amd64.copy_start 0 (drop (i + 1) ts) (spots_after (taken_with before t) (drop (i + 1) ts)) ≡ whole
+    (out ++ Direct (argument_pieces before t) ∷ []) ++ places_from amd64.copy_start 0 (drop (i + 1) ts) (spots_after (taken_with before t) (drop (i + 1) ts)) ≡ whole
 place_step ts i t before out whole h read e =
     let opened = subst (λ us. out ++ places_from amd64.copy_start 0 us (spots_after before us) ≡ whole) (argument_read ts i t h read) e in
     append_assoc out _ _ ∙ opened
@@ -89,7 +89,7 @@ place_step ts i t before out whole h read e =
 pub places_without_copies : (start : ℕ → Tree → ℕ) (c d : ℕ) (a : Taken) (ts : List Tree) → places_from start c ts (spots_after a ts) ≡ places_from start d ts (spots_after a ts)
 places_without_copies start c d a [] = refl
 places_without_copies start c d a (t ∷ ts) =
-    ap (λ ps. Direct (pieces_after a t) ∷ ps) (places_without_copies start c d (taken_with a t) ts)
+    ap (λ ps. Direct (argument_pieces a t) ∷ ps) (places_without_copies start c d (taken_with a t) ts)
 
 pub ends_without_copies : (start : ℕ → Tree → ℕ) (end : ℕ) (a : Taken) (ts : List Tree) → copies_end start end ts (spots_after a ts) ≡ end
 ends_without_copies start end a [] = refl

@@ -125,16 +125,21 @@ taken_with before t =
     (record { general = before.general + integers t; vector = before.vector + sses t; stack = before.stack })
     (record { general = before.general; vector = before.vector; stack = stack_end before.stack t })
 
-abbrev pub pieces_after : Taken → Tree → List Piece
-pieces_after before t =
+-- an argument in the next registers of its eightbytes' classes, or on the stack
+abbrev pub argument_pieces : Taken → Tree → List Piece
+argument_pieces before t =
     cond (in_registers before t)
     (register_pieces argument_register before.general before.vector t [] (classes t))
     (stack_pieces (stack_start before.stack t) t)
 
+-- no argument is passed by reference
+abbrev pub spot_after : Taken → Tree → Spot
+spot_after before t = in_pieces (argument_pieces before t)
+
 -- the arguments in left-to-right order
 abbrev pub spots_after : Taken → List Tree → List Spot
 spots_after before [] = []
-spots_after before (t ∷ ts) = in_pieces (pieces_after before t) ∷ spots_after (taken_with before t) ts
+spots_after before (t ∷ ts) = spot_after before t ∷ spots_after (taken_with before t) ts
 
 abbrev pub taken_after : Taken → List Tree → Taken
 taken_after before [] = before
@@ -169,8 +174,8 @@ abbrev pub callee_saved : List Loc
 callee_saved = G 3 ∷ G 5 ∷ G 12 ∷ G 13 ∷ G 14 ∷ G 15 ∷ []
 
 -- the general registers of arguments, and xmm0 to xmm7 (Passing, steps 2 and 3)
-abbrev pub passing : List Loc
-passing = map G general_arguments ++ F 0 ∷ F 1 ∷ F 2 ∷ F 3 ∷ F 4 ∷ F 5 ∷ F 6 ∷ F 7 ∷ []
+abbrev pub argument_registers : List Loc
+argument_registers = map G general_arguments ++ F 0 ∷ F 1 ∷ F 2 ∷ F 3 ∷ F 4 ∷ F 5 ∷ F 6 ∷ F 7 ∷ []
 
 -- Each callee-saved register, and above them the hidden argument. (Where they stand is this library's rule.)
 abbrev pub saved_words : List SaveWord
@@ -186,7 +191,7 @@ amd64 = record {
   callee_saved = callee_saved;
   reserved = reserved_places isa.Amd64;
   link_register = link_place isa.Amd64;
-  argument_registers = passing;
+  argument_registers = argument_registers;
   save_area = saved_words;
   trampoline_registers = trampoline_registers isa.Amd64;
   vector_count = Some (G (result_register 0));

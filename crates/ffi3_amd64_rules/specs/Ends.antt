@@ -7,7 +7,7 @@ use Rattle.ffi3_place_rules.specs.declared.Taken.{Taken}
 use Rattle.ffi3_place_rules.specs.Sums.{sum_below, end_below}
 use Rattle.ffi3_place_rules.specs.Copies.{CopiesByEnds}
 use Rattle.ffi3_place_rules.specs.Standard.{plan_of}
-use Rattle.ffi3_amd64_rules.specs.Amd64.{amd64, integers, sses, in_memory, in_registers, stack_end, pieces_after}
+use Rattle.ffi3_amd64_rules.specs.Amd64.{amd64, integers, sses, in_memory, in_registers, stack_end, argument_pieces}
 use Rattle.ffi3_amd64_rules.specs.Amd64.{placing_of}
 
 -- the sum of the terms below n that are chosen
@@ -47,7 +47,7 @@ module _ (s : Signature) (chosen : ℕ → Bool) where
   pub record ArePlacedByEnds : Type 0 where
     pub registers_suffice : AreChosenBySums
     pub placed : (i : ℕ) → i < length s.arguments
-        → slice_get (plan_of amd64 s).places i ≡ Some (Direct (pieces_after (taken_before i) (tree_at s.arguments i)))
+        → slice_get (plan_of amd64 s).places i ≡ Some (Direct (argument_pieces (taken_before i) (tree_at s.arguments i)))
     pub stack_total : (placing_of s).stack_bytes ≡ stack_before (length s.arguments)
     pub vector_total : (plan_of amd64 s).vectors ≡ vector_before (length s.arguments)
 

@@ -3,10 +3,11 @@
 
 ghost use Rattle.std.specs.Prelude.{◌≡◌, ◌<◌, ◌≤◌, ◌+◌, ◌*◌, length, IfOk, is_some, false};
 ghost use Rattle.ffi3_type_rules.specs.declared.limits.TheConstants.{ARGUMENT_BYTES, MOST_ARGUMENTS};
+ghost use Rattle.ffi3_type_rules.specs.Tree.{Tree};
 ghost use Rattle.ffi3_type_rules.specs.Fault.{IsLaidOut};
 ghost use Rattle.ffi3_types.specs.TreeOf.{tree_of};
-ghost use Rattle.ffi3_place_rules.specs.Standard.{places_from, place_at, copies_end, result_at, round16, plan_of};
-ghost use Rattle.ffi3_win64_rules.specs.Win64.{win64, is_whole_size, is_copied, is_floating_type, position_place, floating_places, whole, whole_in, argument_pieces, spot_at, spots_from, first_position, result_place, result_spot_of, stack_of};
+ghost use Rattle.ffi3_place_rules.specs.Standard.{places_from, place_at, copies_end, result_at, plan_of};
+ghost use Rattle.ffi3_win64_rules.specs.Win64.{win64, is_whole_size, is_copied, is_floating_type, position_place, floating_places, whole, whole_in, argument_pieces, spot_at, spots_from, first_position, result_place, result_spot_of, stack_of, copy_start};
 
 pub mod laws;
 
@@ -52,7 +53,7 @@ fn is_floating_type(ty: &FfiType) -> bool
 // ---- positions
 
 /// rcx, rdx, r8 and r9
-const ARGUMENT_REGISTERS: [u8; 4] = [1, 2, 8, 9];
+const GENERAL_ARGUMENTS: [u8; 4] = [1, 2, 8, 9];
 
 /// The general register of a position, or its stack.
 fn position_place(p: u64) -> Loc
@@ -60,7 +61,7 @@ fn position_place(p: u64) -> Loc
     ensures { result ≡ position_place p }
 {
     if p < 4 {
-        Loc::G(ARGUMENT_REGISTERS[p as usize])
+        Loc::G(GENERAL_ARGUMENTS[p as usize])
     } else {
         Loc::S((8 * p) as u32)
     }
@@ -92,7 +93,7 @@ fn floating_pieces(
 {
     let vector = whole(ty, Loc::F(p as u8));
     if variadic {
-        let general = whole(ty, Loc::G(ARGUMENT_REGISTERS[p as usize]));
+        let general = whole(ty, Loc::G(GENERAL_ARGUMENTS[p as usize]));
         two_pieces(alloc, general, vector)
     } else {
         one_piece(alloc, vector)
@@ -122,7 +123,7 @@ fn argument_pieces(
 /// Where a copy or a buffer begins, after the end of what stands before it in the frame.
 fn copy_start(end: u64) -> u64
     requires { end ≤ 2 * ARGUMENT_BYTES }
-    ensures value { result ≡ round16 end }
+    ensures value { (t : Tree) → result ≡ copy_start end t }
     ensures low { result < end + 16 }
 {
     round_up(end, 16)
@@ -180,21 +181,20 @@ fn place_all(
     let mut end = start;
     let mut places = Places::with_capacity(alloc, sig.count() as usize)?;
     for i in 0..sig.count() {
-        let ty = sig.arg(i);
         let p = first + i as u64;
-        let place = place_of(alloc, variadic, p, &ty, end)?;
-        end = copy_end(&place, &ty, end);
+        let place = place_of(alloc, variadic, p, &sig.arg(i), end)?;
+        end = copy_end(&place, &sig.arg(i), end);
         places.push(place)?;
     }
     Ok(Placed { places, end })
 }
 
-/// The position of the first argument: the address of a result in memory stands before it.
-fn first_position(result_type: &CheckedType<'_>) -> u64
-    ensures value { result ≡ first_position result_type.now }
+/// The position of the first argument: the address of a hidden result stands before it.
+fn first_position(is_hidden: bool) -> u64
+    ensures value { (t : Tree) → is_hidden ≡ is_copied t → result ≡ first_position t }
     ensures few { result ≤ 1 }
 {
-    if is_copied_of(result_type) { 1 } else { 0 }
+    if is_hidden { 1 } else { 0 }
 }
 
 /// The stack of so many positions, of which the callee has that of four at least.
@@ -219,16 +219,22 @@ fn result_place(ty: &FfiType) -> Loc
     }
 }
 
-/// Where a result stands, if what is before its buffer ends at `end`.
-fn place_result(alloc: Global, ty: &CheckedType<'_>, end: u64) -> Result<Res, NoMemory>
-    requires { end ≤ 2 * ARGUMENT_BYTES }
+/// Where a result stands, hidden or not, if what is before its buffer ends at `end`.
+fn place_result(
+    alloc: Global,
+    ty: &CheckedType<'_>,
+    is_hidden: bool,
+    end: u64,
+) -> Result<Res, NoMemory>
+    requires hidden { is_hidden ≡ is_copied ty.now }
+    requires low { end ≤ 2 * ARGUMENT_BYTES }
     ensures { IfOk result (λ r. r ≡ result_at win64.copy_start end ty.now (result_spot_of ty.now)) }
 {
     let plain = ty.as_type();
     if let FfiType::Void = plain {
         return Ok(Res::Nothing);
     }
-    if is_copied_of(ty) {
+    if is_hidden {
         return Ok(Res::Hidden {
             at: position_place(0),
             buffer: copy_start(end) as u32,
@@ -263,11 +269,11 @@ const CALLEE_SAVED: [Loc; 18] = [
 ];
 
 /// rcx, rdx, r8 and r9, and xmm0 to xmm3
-const PASSING_REGISTERS: [Loc; 8] = [
-    Loc::G(ARGUMENT_REGISTERS[0]),
-    Loc::G(ARGUMENT_REGISTERS[1]),
-    Loc::G(ARGUMENT_REGISTERS[2]),
-    Loc::G(ARGUMENT_REGISTERS[3]),
+const ARGUMENT_REGISTERS: [Loc; 8] = [
+    Loc::G(GENERAL_ARGUMENTS[0]),
+    Loc::G(GENERAL_ARGUMENTS[1]),
+    Loc::G(GENERAL_ARGUMENTS[2]),
+    Loc::G(GENERAL_ARGUMENTS[3]),
     Loc::F(0),
     Loc::F(1),
     Loc::F(2),
@@ -281,12 +287,12 @@ pub struct Win64;
 fn plan_of(alloc: Global, sig: &CheckedSig<'_>) -> Result<Plan, NoMemory>
     ensures { IfOk result (λ p. p ≡ plan_of win64 sig.now) }
 {
-    let first = first_position(&sig.ret());
+    let is_hidden = is_copied_of(&sig.ret());
+    let first = first_position(is_hidden);
     let stack = stack_of(first + sig.count() as u64);
     let all = place_all(alloc, sig, first, round_up(stack, 16))?;
-    let ret = sig.ret();
-    let res = place_result(alloc, &ret, all.end)?;
-    let end = buffer_end(&res, &ret, all.end);
+    let res = place_result(alloc, &sig.ret(), is_hidden, all.end)?;
+    let end = buffer_end(&res, &sig.ret(), all.end);
     Ok(planned(sig, all.places, res, end, Win64::LINK + Win64::SAVE, 0))
 }
 
@@ -313,14 +319,14 @@ impl Abi for Win64 {
 
     const KEPT: u8 = CALLEE_SAVED.len() as u8;
 
-    const PASSING: u8 = PASSING_REGISTERS.len() as u8;
+    const PASSING: u8 = ARGUMENT_REGISTERS.len() as u8;
 
     fn callee_saved(k: u8) -> Loc {
         CALLEE_SAVED[k as usize]
     }
 
     fn passing_register(k: u8) -> Loc {
-        PASSING_REGISTERS[k as usize]
+        ARGUMENT_REGISTERS[k as usize]
     }
 
     fn saved_word(k: u8) -> SaveWord {

@@ -98,6 +98,10 @@ result_spot_of t =
 abbrev pub stack_of : ℕ → ℕ
 stack_of positions = 8 * max 4 positions
 
+-- Memory that the caller allocates for a value passed by reference is aligned to 16 bytes. ("Parameter passing". So is a result's buffer, by this library's rule.)
+abbrev pub copy_start : ℕ → Tree → ℕ
+copy_start end t = round16 end
+
 abbrev pub placing_of : Signature → Placing
 placing_of s = record {
   arguments = spots_from (is_some s.fixed) (first_position s.result_type) s.arguments;
@@ -112,8 +116,8 @@ abbrev machine : Isa
 machine = isa_of target.Win64
 
 -- the general registers of arguments, and xmm0 to xmm3 ("Calling convention defaults")
-abbrev pub passing : List Loc
-passing = map G general_arguments ++ F 0 ∷ F 1 ∷ F 2 ∷ F 3 ∷ []
+abbrev pub argument_registers : List Loc
+argument_registers = map G general_arguments ++ F 0 ∷ F 1 ∷ F 2 ∷ F 3 ∷ []
 
 -- nonvolatile: rbx, rbp, rdi, rsi, r12 to r15, and xmm6 to xmm15. ("Caller/callee saved registers". A callee keeps all 128 bits of a vector register; the machine here has the low 64 alone.)
 abbrev pub nonvolatile : List Loc
@@ -125,7 +129,7 @@ nonvolatile =
 abbrev pub saved_words : List SaveWord
 saved_words = map Register nonvolatile ++ Hidden ∷ []
 
--- Memory that the caller allocates for a value passed by reference is aligned to 16 bytes. ("Parameter passing". So is a result's buffer, by this library's rule.) The pointer to a result in memory must be returned by the callee in rax. ("Return values") No register tells the number of vector registers. (A lone narrow integer is extended by its sign, which is this library's rule: by the standard the callee ignores the upper bits of an argument, "Parameter passing", and those of a result are undefined, "Return values".)
+-- The pointer to a result in memory must be returned by the callee in rax. ("Return values") No register tells the number of vector registers. (A lone narrow integer is extended by its sign, which is this library's rule: by the standard the callee ignores the upper bits of an argument, "Parameter passing", and those of a result are undefined, "Return values".)
 abbrev pub win64 : Standard
 win64 = record {
   target = target.Win64;
@@ -135,13 +139,13 @@ win64 = record {
   callee_saved = nonvolatile;
   reserved = reserved_places machine;
   link_register = link_place machine;
-  argument_registers = passing;
+  argument_registers = argument_registers;
   save_area = saved_words;
   trampoline_registers = trampoline_registers machine;
   vector_count = None;
   returned_address = Some (G 0);
   narrow = Widen;
   single = Free;
-  copy_start = λ end t. round16 end;
+  copy_start = copy_start;
   placing = placing_of;
 }

@@ -1,4 +1,5 @@
 use Rattle.std.proofs.Common.{ap, sym, ◌∙◌, refl}
+use Rattle.ffi3_place_rules.specs.Standard.{result_at}
 use Rattle.ffi3_place_rules.proofs.Planned.{planned_is}
 use Rattle.ffi3_amd64_rules.specs.Amd64.{amd64, taken_at_first, result_spot_of}
 use Rattle.ffi3_amd64_rules.proofs.Steps.{places_without_copies, ends_without_copies}
@@ -7,10 +8,12 @@ use Rattle.ffi3_amd64.proofs.plan_of.Goals as goal
 pub returns : goal.returns
 returns c =
     let s = c.args.sig.now in
-    let of_result = c.ret-ret.ensures in
     let first = taken_at_first s.result_type in
+    let spot = result_spot_of s.result_type in
     let copied = c.round_up-copied.result in
     let placed = c.in_ok-all.ensures.places ∙ places_without_copies amd64.copy_start 0 copied first s.arguments in
     let copies = sym (ends_without_copies amd64.copy_start copied first s.arguments) in
-    let ends = c.buffer_end-end.ensures.value amd64.copy_start (result_spot_of c.ret-ret.result) c.in_ok-res.ensures in
-    c.planned.ensures ∙ planned_is amd64 s _ copied _ copied _ _ _ _ (ap (λ a. a.stack) c.in_ok-all.ensures.taken) c.round_up-copied.ensures.value placed copies (rw of_result at c.in_ok-res.ensures) (rw of_result at ends) refl (ap (λ a. a.vector) c.in_ok-all.ensures.taken)
+    let returned = rw c.ret-2.ensures at c.in_ok-res.ensures in
+    let before = returned ∙ ap (λ t. result_at amd64.copy_start copied t spot) (sym c.ret-3.ensures) in
+    let ends = c.buffer_end-end.ensures.value amd64.copy_start spot before in
+    c.planned.ensures ∙ planned_is amd64 s _ copied _ copied _ _ _ _ (ap (λ a. a.stack) c.in_ok-all.ensures.taken) c.round_up-copied.ensures.value placed copies returned (rw c.ret-3.ensures at ends) refl (ap (λ a. a.vector) c.in_ok-all.ensures.taken)

@@ -6,7 +6,7 @@ use Rattle.ffi3_place_rules.specs.Doublewords.{widening}
 use Rattle.ffi3_amd64_rules.specs.declared.Class.{Class}
 use Rattle.ffi3_amd64_rules.specs.declared.Class.TheVariants.{Integer, Sse}
 use Rattle.ffi3_amd64_rules.specs.Amd64.{is_integer_class, is_sse_class, register_of, register_pieces}
-use Rattle.ffi3_amd64.specs.Listed.{register_at}
+use Rattle.ffi3_amd64.specs.Classes.{register_at}
 use Rattle.ffi3_amd64.proofs.register_pieces.Goals as goal
 
 first_at : (general : ℕ → ℕ) (g f : ℕ) (c : Class) → register_at general g f c ≡ register_of general g f [] c

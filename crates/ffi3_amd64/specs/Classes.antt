@@ -1,4 +1,4 @@
--- Which classes of the definitions those found for a value are, and the register of one.
+-- The classes found for a value, as the definitions have them, and the register of one.
 use Rattle.std.specs.Prelude.{ℕ, Bool, true, false, cond, List, [], ◌∷◌}
 use Rattle.ffi3_place_rules.specs.declared.Loc.{Loc}
 use Rattle.ffi3_place_rules.specs.declared.Loc.TheVariants.{G, F}
@@ -7,12 +7,12 @@ use Rattle.ffi3_amd64_rules.specs.declared.Class.TheVariants.{Integer, Sse}
 use Rattle.ffi3_amd64.specs.declared.Classes.{Classes}
 use Rattle.ffi3_amd64.specs.declared.Classes.TheVariants.{Memory, Nothing, One, Two}
 
--- those of the eightbytes
-abbrev pub listed : Classes → List Class
-listed Memory = []
-listed Nothing = []
-listed (One first) = first ∷ []
-listed (Two first second) = first ∷ second ∷ []
+-- those of its eightbytes in registers, in a list
+abbrev pub class_list : Classes → List Class
+class_list Memory = []
+class_list Nothing = []
+class_list (One first) = first ∷ []
+class_list (Two first second) = first ∷ second ∷ []
 
 -- whether the value has the class MEMORY
 abbrev pub is_memory : Classes → Bool
