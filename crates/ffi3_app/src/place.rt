@@ -102,5 +102,5 @@ fn cif_of<A: Abi>(alloc: Global, sig: &Sig) -> Result<Cif<A>, NoMemory>
     requires { SignatureHasNoFault sig.now }
     ensures { IfOk result (λ c. c ≡ sig.now) }
 {
-    Cif::prepare(alloc, sig.copy(alloc)?)
+    Cif::prepare_copy(alloc, &ffi3_types::CheckedSig::of(sig))
 }

@@ -75,6 +75,13 @@ impl<A: Abi> Cif<A> {
         })
     }
 
+    /// Prepares calls by a copy of a signature that has no fault.
+    pub fn prepare_copy(alloc: Global, sig: &CheckedSig<'_>) -> Result<Cif<A>, NoMemory>
+        ensures { IfOk result (λ c. c ≡ sig.now) }
+    {
+        Cif::prepare(alloc, sig.as_sig().copy(alloc)?)
+    }
+
     /// The signature.
     pub fn sig(&self) -> &Sig
         ensures value { result.now ≡ self.now }

@@ -1,6 +1,5 @@
 // What is answered to the bytes of an input.
 ghost use Rattle.std.specs.Prelude.{◌≡◌, ◌+◌, ◌^◌, ◌<◌, ◌≤◌, length, true, IfOk};
-ghost use Rattle.ffi3_type_rules.specs.Signature.{SignatureHasNoFault};
 ghost use Rattle.ffi3_type_rules.specs.Tree.{trees_of};
 ghost use Rattle.ffi3_type_rules.specs.Value.{all_fit, values_of};
 ghost use Rattle.ffi3_place_rules.specs.Standard.{frame_of};
@@ -16,7 +15,7 @@ use crate::lines::{
     too_long_line,
 };
 use crate::room::{buffer_address, room_for_arguments, room_for_explain};
-use crate::{ImageFault, Snapshot, read_snapshot};
+use crate::{ImageFault, read_snapshot};
 use ffi3_aapcs64::Aapcs64;
 use ffi3_amd64::Amd64;
 use ffi3_cif::Cif;
@@ -25,7 +24,7 @@ use ffi3_image_rules::Question;
 use ffi3_place::Abi;
 use ffi3_riscv::Riscv;
 use ffi3_type_rules::Target;
-use ffi3_types::{Bytes, NoMemory, Sig};
+use ffi3_types::{Bytes, CheckedSig, NoMemory};
 use ffi3_values::Values;
 use ffi3_win64::Win64;
 use std::alloc::Global;
@@ -48,19 +47,25 @@ pub fn answer_question(alloc: Global, question: Question, bytes: &[u8]) -> Resul
     ensures { IfOk result (λ a. IsTheAnswer question bytes.now (answer_of a)) }
 {
     match read_snapshot(alloc, bytes) {
-        Ok(snapshot) => answer_about(alloc, question, &snapshot),
+        Ok(snapshot) => {
+            let sig = CheckedSig::of(&snapshot.sig);
+            answer_about(alloc, question, snapshot.target, &sig, &snapshot.image)
+        }
         Err(fault) => refusal(alloc, &fault),
     }
 }
 
-// About an image that is described so.
-fn answer_about(alloc: Global, question: Question, snapshot: &Snapshot) -> Result<Answer, NoMemory>
-    requires { SignatureHasNoFault snapshot.now.sig }
-    ensures { IfOk result (λ a. answer_of a ≡ answer_about question (standard_of snapshot.now.target) snapshot.now.sig (image_of snapshot.now.image)) }
+// About an image of a target's machine, at the entry of a function of a signature.
+fn answer_about(
+    alloc: Global,
+    question: Question,
+    target: Target,
+    sig: &CheckedSig<'_>,
+    image: &Image,
+) -> Result<Answer, NoMemory>
+    ensures { IfOk result (λ a. answer_of a ≡ answer_about question (standard_of target) sig.now (image_of image.now)) }
 {
-    let sig = &snapshot.sig;
-    let image = &snapshot.image;
-    match snapshot.target {
+    match target {
         Target::Amd64 => answer_by::<Amd64>(alloc, question, sig, image),
         Target::Aapcs64 => answer_by::<Aapcs64>(alloc, question, sig, image),
         Target::Riscv => answer_by::<Riscv>(alloc, question, sig, image),
@@ -72,13 +77,12 @@ fn answer_about(alloc: Global, question: Question, snapshot: &Snapshot) -> Resul
 fn answer_by<A: Abi>(
     alloc: Global,
     question: Question,
-    sig: &Sig,
+    sig: &CheckedSig<'_>,
     image: &Image,
 ) -> Result<Answer, NoMemory>
-    requires { SignatureHasNoFault sig.now }
     ensures { IfOk result (λ a. answer_of a ≡ answer_about question A.standard sig.now (image_of image.now)) }
 {
-    let cif: Cif<A> = Cif::prepare(alloc, sig.copy(alloc)?)?;
+    let cif: Cif<A> = Cif::prepare_copy(alloc, sig)?;
     answer_of_call(alloc, question, image, &cif)
 }
 

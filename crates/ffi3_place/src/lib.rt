@@ -11,6 +11,7 @@ ghost use Rattle.ffi3_place_rules.specs.ByStubs.{AgreesWithStubs, ResultGoesBySt
 ghost use Rattle.ffi3_place_rules.specs.Isa.{has_stubs};
 
 pub mod ends;
+pub mod names;
 pub mod parts;
 
 pub use ffi3_place_rules::{Ext, Loc, Piece, Pieces, Place, Places, Plan, Res, SaveWord};

@@ -1,6 +1,6 @@
 -- What an instruction set's machine has: its registers by number, and what a call and a closure's trampoline do with them. (System V psABI AMD64, "Register Usage"; Arm AAPCS64 6.1.1 and 6.1.2; RISC-V ELF psABI, "Integer Register Convention" and "Floating-point Register Convention")
 use Rattle.std.specs.Prelude.{◌≡◌, ℕ, ◌+◌, ◌*◌, ◌%◌, ◌^◌, Bool, true, false, ◌==◌, ⊤, List, [], ◌∷◌, ◌++◌, map, Option}
-use Rattle.std.specs.Prelude.{Some, None, option_map}
+use Rattle.std.specs.Prelude.{Some, None, option_map, length}
 use Rattle.std.specs.List.{list_any}
 use Rattle.ffi3_type_rules.specs.declared.Target.{Target}
 use Rattle.ffi3_type_rules.specs.declared.Target.TheVariants as target
@@ -8,6 +8,8 @@ use Rattle.ffi3_type_rules.specs.declared.Isa.{Isa}
 use Rattle.ffi3_type_rules.specs.declared.Isa.TheVariants.{Amd64, Aarch64, Riscv}
 use Rattle.ffi3_place_rules.specs.declared.Loc.{Loc}
 use Rattle.ffi3_place_rules.specs.declared.Loc.TheVariants.{G, F, S}
+use Rattle.ffi3_place_rules.specs.declared.SaveWord.{SaveWord}
+use Rattle.ffi3_place_rules.specs.declared.SaveWord.TheVariants.{Spare}
 
 -- how many general registers have a number: rax to r15; x0 to x30; zero to t6
 abbrev pub general_registers : Isa → ℕ
@@ -69,17 +71,13 @@ jump_register Riscv = Some 7
 -- ---- the same as places
 
 -- the place alone, or none
-abbrev pub listed : Option Loc → List Loc
-listed (Some at) = at ∷ []
-listed None = []
-
-abbrev pub listed_number : Option ℕ → List Loc
-listed_number (Some k) = G k ∷ []
-listed_number None = []
+abbrev pub if_any : Option Loc → List Loc
+if_any (Some at) = at ∷ []
+if_any None = []
 
 -- all that a trampoline writes
 abbrev pub trampoline_registers : Isa → List Loc
-trampoline_registers isa = G (closure_register isa) ∷ listed_number (jump_register isa)
+trampoline_registers isa = G (closure_register isa) ∷ if_any (option_map G (jump_register isa))
 
 abbrev pub reserved_places : Isa → List Loc
 reserved_places isa = map G (reserved_registers isa)
@@ -102,49 +100,64 @@ has_stubs target.Aapcs64 = true
 has_stubs target.Riscv = true
 has_stubs target.Win64 = false
 
--- what Call loads from the exchange region: the registers of arguments, x8 on AArch64 for a hidden result's address, and rax on AMD64, which tells the number of vector registers
-abbrev pub call_loads : Isa → List Loc
-call_loads Amd64 = G 7 ∷ G 6 ∷ G 2 ∷ G 1 ∷ G 8 ∷ G 9 ∷ G 0 ∷ F 0 ∷ F 1 ∷ F 2 ∷ F 3 ∷ F 4 ∷ F 5 ∷ F 6 ∷ F 7 ∷ []
-call_loads Aarch64 =
-    G 0 ∷ G 1 ∷ G 2 ∷ G 3 ∷ G 4 ∷ G 5 ∷ G 6 ∷ G 7 ∷ G 8 ∷ F 0 ∷ F 1 ∷ F 2 ∷ F 3 ∷ F 4 ∷ F 5 ∷ F 6 ∷ F 7 ∷ []
-call_loads Riscv =
-    G 10 ∷ G 11 ∷ G 12 ∷ G 13 ∷ G 14 ∷ G 15 ∷ G 16 ∷ G 17
-    ∷ F 10 ∷ F 11 ∷ F 12 ∷ F 13 ∷ F 14 ∷ F 15 ∷ F 16 ∷ F 17 ∷ []
+-- the general registers of arguments: rdi, rsi, rdx, rcx, r8, r9; x0 to x7; a0 to a7
+abbrev pub general_argument_places : Isa → List Loc
+general_argument_places Amd64 = G 7 ∷ G 6 ∷ G 2 ∷ G 1 ∷ G 8 ∷ G 9 ∷ []
+general_argument_places Aarch64 = G 0 ∷ G 1 ∷ G 2 ∷ G 3 ∷ G 4 ∷ G 5 ∷ G 6 ∷ G 7 ∷ []
+general_argument_places Riscv = G 10 ∷ G 11 ∷ G 12 ∷ G 13 ∷ G 14 ∷ G 15 ∷ G 16 ∷ G 17 ∷ []
 
--- what Entry stores in the exchange region: the registers of arguments, x8 on AArch64 for a hidden result's address, and the register that holds the closure's address (r10; x17; t1)
-abbrev pub entry_stores : Isa → List Loc
-entry_stores Amd64 = G 7 ∷ G 6 ∷ G 2 ∷ G 1 ∷ G 8 ∷ G 9 ∷ G 10 ∷ F 0 ∷ F 1 ∷ F 2 ∷ F 3 ∷ F 4 ∷ F 5 ∷ F 6 ∷ F 7 ∷ []
-entry_stores Aarch64 =
-    G 0 ∷ G 1 ∷ G 2 ∷ G 3 ∷ G 4 ∷ G 5 ∷ G 6 ∷ G 7 ∷ G 8 ∷ F 0 ∷ F 1 ∷ F 2 ∷ F 3 ∷ F 4 ∷ F 5 ∷ F 6 ∷ F 7 ∷ G 17 ∷ []
-entry_stores Riscv =
-    G 10 ∷ G 11 ∷ G 12 ∷ G 13 ∷ G 14 ∷ G 15 ∷ G 16 ∷ G 17
-    ∷ F 10 ∷ F 11 ∷ F 12 ∷ F 13 ∷ F 14 ∷ F 15 ∷ F 16 ∷ F 17 ∷ G 6 ∷ []
+-- the floating ones: xmm0 to xmm7; v0 to v7; fa0 to fa7
+abbrev pub floating_argument_places : Isa → List Loc
+floating_argument_places Amd64 = F 0 ∷ F 1 ∷ F 2 ∷ F 3 ∷ F 4 ∷ F 5 ∷ F 6 ∷ F 7 ∷ []
+floating_argument_places Aarch64 = F 0 ∷ F 1 ∷ F 2 ∷ F 3 ∷ F 4 ∷ F 5 ∷ F 6 ∷ F 7 ∷ []
+floating_argument_places Riscv = F 10 ∷ F 11 ∷ F 12 ∷ F 13 ∷ F 14 ∷ F 15 ∷ F 16 ∷ F 17 ∷ []
 
--- what Entry saves on the stack and Exit loads back, in the order of the save area: the registers that a callee preserves, and the one that holds the return address (x30; ra)
-abbrev pub callee_saved_words : Isa → List Loc
-callee_saved_words Amd64 = G 3 ∷ G 5 ∷ G 12 ∷ G 13 ∷ G 14 ∷ G 15 ∷ []
-callee_saved_words Aarch64 =
-    G 19 ∷ G 20 ∷ G 21 ∷ G 22 ∷ G 23 ∷ G 24 ∷ G 25 ∷ G 26 ∷ G 27 ∷ G 28 ∷ G 29 ∷ G 30
-    ∷ F 8 ∷ F 9 ∷ F 10 ∷ F 11 ∷ F 12 ∷ F 13 ∷ F 14 ∷ F 15 ∷ []
-callee_saved_words Riscv =
-    G 1 ∷ G 8 ∷ G 9 ∷ G 18 ∷ G 19 ∷ G 20 ∷ G 21 ∷ G 22 ∷ G 23 ∷ G 24 ∷ G 25 ∷ G 26 ∷ G 27
-    ∷ F 8 ∷ F 9 ∷ F 18 ∷ F 19 ∷ F 20 ∷ F 21 ∷ F 22 ∷ F 23 ∷ F 24 ∷ F 25 ∷ F 26 ∷ F 27 ∷ []
-
--- the register in which a hidden result's address comes, which Entry saves behind them: rdi; x8; a0
+-- the register in which a hidden result's address comes: rdi; x8; a0
 abbrev pub hidden_register : Isa → ℕ
 hidden_register Amd64 = 7
 hidden_register Aarch64 = 8
 hidden_register Riscv = 10
 
--- all that Entry saves, in the order of the save area
+-- what Call loads from the exchange region: the registers of arguments, between them x8 on AArch64 for a hidden result's address, and rax on AMD64, which tells the number of vector registers
+abbrev pub call_loads : Isa → List Loc
+call_loads Amd64 = general_argument_places Amd64 ++ G 0 ∷ floating_argument_places Amd64
+call_loads Aarch64 = general_argument_places Aarch64 ++ G (hidden_register Aarch64) ∷ floating_argument_places Aarch64
+call_loads Riscv = general_argument_places Riscv ++ floating_argument_places Riscv
+
+-- what Entry stores in the exchange region: the registers of arguments, x8 on AArch64 for a hidden result's address, and the register that holds the closure's address (r10; x17; t1)
+abbrev pub entry_stores : Isa → List Loc
+entry_stores Amd64 = general_argument_places Amd64 ++ G (closure_register Amd64) ∷ floating_argument_places Amd64
+entry_stores Aarch64 =
+    general_argument_places Aarch64
+    ++ G (hidden_register Aarch64) ∷ floating_argument_places Aarch64 ++ G (closure_register Aarch64) ∷ []
+entry_stores Riscv = general_argument_places Riscv ++ (floating_argument_places Riscv ++ G (closure_register Riscv) ∷ [])
+
+-- what Entry saves on the stack and Exit loads back, in the order of the save area: the registers that a callee preserves, and the one that holds the return address (x30; ra)
+abbrev pub callee_saved_words : Isa → List Loc
+callee_saved_words Amd64 = G 3 ∷ G 5 ∷ G 12 ∷ G 13 ∷ G 14 ∷ G 15 ∷ []
+callee_saved_words Aarch64 =
+    G 19 ∷ G 20 ∷ G 21 ∷ G 22 ∷ G 23 ∷ G 24 ∷ G 25 ∷ G 26 ∷ G 27 ∷ G 28 ∷ G 29
+    ∷ if_any (link_place Aarch64) ++ F 8 ∷ F 9 ∷ F 10 ∷ F 11 ∷ F 12 ∷ F 13 ∷ F 14 ∷ F 15 ∷ []
+callee_saved_words Riscv =
+    if_any (link_place Riscv)
+    ++ G 8 ∷ G 9 ∷ G 18 ∷ G 19 ∷ G 20 ∷ G 21 ∷ G 22 ∷ G 23 ∷ G 24 ∷ G 25 ∷ G 26 ∷ G 27
+    ∷ F 8 ∷ F 9 ∷ F 18 ∷ F 19 ∷ F 20 ∷ F 21 ∷ F 22 ∷ F 23 ∷ F 24 ∷ F 25 ∷ F 26 ∷ F 27 ∷ []
+
+-- all that Entry saves, in the order of the save area: behind these the register in which a hidden result's address comes
 abbrev pub stub_area : Isa → List Loc
 stub_area isa = callee_saved_words isa ++ G (hidden_register isa) ∷ []
 
--- the bytes of the save area, by which Entry lowers the stack pointer and Exit raises it: eight for each word, and a spare word behind them on AArch64
+-- the words of the save area behind those that Entry saves
+abbrev pub spare_words : Isa → List SaveWord
+spare_words Amd64 = []
+spare_words Aarch64 = Spare ∷ []
+spare_words Riscv = []
+
+-- the bytes of the save area, by which Entry lowers the stack pointer and Exit raises it: eight for each word
 abbrev pub area_bytes : Isa → ℕ
-area_bytes Amd64 = 56
-area_bytes Aarch64 = 176
-area_bytes Riscv = 208
+area_bytes Amd64 = 8 * length (stub_area Amd64)
+area_bytes Aarch64 = 8 * (length (stub_area Aarch64) + length (spare_words Aarch64))
+area_bytes Riscv = 8 * length (stub_area Riscv)
 
 -- what Exit loads from the exchange region and Return stores there: the registers of results
 abbrev pub result_loads : Isa → List Loc

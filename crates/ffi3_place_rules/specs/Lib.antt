@@ -1,4 +1,5 @@
 pub mod Isa
+pub mod RegisterNames
 pub mod Standard
 pub mod Alike
 pub mod Image

@@ -4,14 +4,13 @@ ghost use Rattle.ffi3_place_rules.specs.Standard.{Standard};
 ghost use Rattle.ffi3_script_rules.specs.Natives.{program_beside};
 ghost use Rattle.ffi3_script.specs.ScriptOf.{script_of};
 ghost use Rattle.ffi3_ask.specs.Handed.{AreFew, handed};
-ghost use Rattle.ffi3_type_rules.specs.Signature.{SignatureHasNoFault};
 
 use ffi3_ask::{Native, signature, signatures};
 use ffi3_cif::Cif;
 use ffi3_configuration::Cifs;
 use ffi3_place::Abi;
 use ffi3_script::Script;
-use ffi3_types::{NoMemory, Sig};
+use ffi3_types::{CheckedSig, NoMemory};
 use std::alloc::Global;
 
 /// What a run is prepared with: a script, natives, and an interface for each of their signatures.
@@ -21,14 +20,6 @@ pub(crate) struct Prepared<'a, A: Abi> {
     pub(crate) script: &'a Script,
     pub(crate) natives: &'a Vec<Box<dyn Native>>,
     pub(crate) cifs: Cifs<A>,
-}
-
-/// Prepares calls by a signature that has no fault.
-fn prepare<A: Abi>(alloc: Global, sig: &Sig) -> Result<Cif<A>, NoMemory>
-    requires { SignatureHasNoFault sig.now }
-    ensures { IfOk result (λ c. c ≡ sig.now) }
-{
-    Cif::prepare(alloc, sig.copy(alloc)?)
 }
 
 /// An interface for each signature of the run: the script's, and then those of each native.
@@ -43,7 +34,8 @@ pub fn prepare_all<A: Abi>(
 {
     let mut cifs = Cifs::new(alloc);
     for number in 0..signatures(script, natives) {
-        cifs.push(prepare(alloc, signature(script, natives, number))?)?;
+        let sig = CheckedSig::of(signature(script, natives, number));
+        cifs.push(Cif::prepare_copy(alloc, &sig)?)?;
     }
     Ok(cifs)
 }

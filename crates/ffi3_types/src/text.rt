@@ -6,7 +6,7 @@ ghost use Rattle.ffi3_type_rules.specs.Fault.{IsLaidOut};
 ghost use Rattle.ffi3_type_rules.specs.Signature.{SignatureHasNoFault};
 ghost use Rattle.ffi3_types.specs.TreeOf.{tree_of};
 
-use crate::{Bytes, FfiType, Fields, NoMemory, Sig};
+use crate::{Bytes, CheckedSig, FfiType, Fields, NoMemory, Sig};
 use std::alloc::Global;
 
 /// The type's text, as `struct{sint8,double[3]}`: the name of a scalar with its size, a struct's
@@ -30,19 +30,19 @@ pub fn sig_text(alloc: Global, sig: &Sig) -> Result<Bytes, NoMemory>
     let mut text = Bytes::new(alloc);
     sig.ret().write_text(alloc, &mut text)?;
     text.push(b'(')?;
-    write_arguments(alloc, sig, &mut text)?;
+    write_arguments(alloc, &CheckedSig::of(sig), &mut text)?;
     text.push(b')')?;
     Ok(text)
 }
 
 /// The arguments' texts at the end of a text.
-fn write_arguments(alloc: Global, sig: &Sig, text: &mut Bytes) -> Result<(), NoMemory>
-    requires { SignatureHasNoFault sig.now }
+fn write_arguments(alloc: Global, sig: &CheckedSig<'_>, text: &mut Bytes) -> Result<(), NoMemory>
     ensures { OnOk result
         (text.new ≡ text.old ++ arguments_text sig.now.arguments sig.now.fixed) }
 {
-    let args = sig.args();
-    match sig.fixed() {
+    let plain = sig.as_sig();
+    let args = plain.args();
+    match plain.fixed() {
         None => args.write_all(alloc, text),
         Some(fixed) => {
             args.write_range(alloc, 0, fixed as usize, text)?;

@@ -6,16 +6,16 @@ use Rattle.ffi3_image.proofs.answers.answer_about.Goals as goal
 
 pub returns-in-Amd64 : goal.returns-in-Amd64
 returns-in-Amd64 c =
-    answered_by (λ std. answer_about c.args.question std c.args.snapshot.now.sig (image_of c.args.snapshot.now.image)) c.args.snapshot.now.target Amd64 c.answer_by.result c.in-Amd64.is c.answer_by.ensures
+    answered_by (λ std. answer_about c.args.question std c.args.sig.now (image_of c.args.image.now)) c.args.target Amd64 c.answer_by.result c.in-Amd64.is c.answer_by.ensures
 
 pub returns-in-Aapcs64 : goal.returns-in-Aapcs64
 returns-in-Aapcs64 c =
-    answered_by (λ std. answer_about c.args.question std c.args.snapshot.now.sig (image_of c.args.snapshot.now.image)) c.args.snapshot.now.target Aapcs64 c.answer_by-in-Aapcs64.result c.in-Aapcs64.is c.answer_by-in-Aapcs64.ensures
+    answered_by (λ std. answer_about c.args.question std c.args.sig.now (image_of c.args.image.now)) c.args.target Aapcs64 c.answer_by-in-Aapcs64.result c.in-Aapcs64.is c.answer_by-in-Aapcs64.ensures
 
 pub returns-in-Riscv : goal.returns-in-Riscv
 returns-in-Riscv c =
-    answered_by (λ std. answer_about c.args.question std c.args.snapshot.now.sig (image_of c.args.snapshot.now.image)) c.args.snapshot.now.target Riscv c.answer_by-in-Riscv.result c.in-Riscv.is c.answer_by-in-Riscv.ensures
+    answered_by (λ std. answer_about c.args.question std c.args.sig.now (image_of c.args.image.now)) c.args.target Riscv c.answer_by-in-Riscv.result c.in-Riscv.is c.answer_by-in-Riscv.ensures
 
 pub returns-in-Win64 : goal.returns-in-Win64
 returns-in-Win64 c =
-    answered_by (λ std. answer_about c.args.question std c.args.snapshot.now.sig (image_of c.args.snapshot.now.image)) c.args.snapshot.now.target Win64 c.answer_by-in-Win64.result c.in-Win64.is c.answer_by-in-Win64.ensures
+    answered_by (λ std. answer_about c.args.question std c.args.sig.now (image_of c.args.image.now)) c.args.target Win64 c.answer_by-in-Win64.result c.in-Win64.is c.answer_by-in-Win64.ensures

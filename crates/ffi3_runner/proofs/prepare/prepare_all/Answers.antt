@@ -11,7 +11,7 @@ signature-requires-clause-below g c =
 pub loop-number-preserved : goal.loop-number-preserved
 loop-number-preserved g c =
     let std = g.A.Abi.standard in
-    more_cifs std c.args.script.now (handed _ _ _ c.args.natives.now.items) c.loop-number.number c.signatures-number-end.result (c.signatures-number-end.ensures std) c.loop-number.cifs c.push.new.self c.in_ok-prepare.field-0 c.loop-number-test.true c.loop-number.invariant (c.in_ok-prepare.ensures ∙ c.signature.ensures.is std) c.in_ok-push.ensures.ok
+    more_cifs std c.args.script.now (handed _ _ _ c.args.natives.now.items) c.loop-number.number c.signatures-number-end.result (c.signatures-number-end.ensures std) c.loop-number.cifs c.push.new.self c.in_ok-prepare_copy.field-0 c.loop-number-test.true c.loop-number.invariant (c.in_ok-prepare_copy.ensures ∙ c.of-sig.ensures ∙ c.signature.ensures.is std) c.in_ok-push.ensures.ok
 
 pub returns : goal.returns
 returns g c = λ std.

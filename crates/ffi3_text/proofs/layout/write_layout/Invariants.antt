@@ -1,8 +1,7 @@
 use Rattle.std.proofs.Common.{◌≡◌, ◌++◌, take}
 use Rattle.ffi3_type_rules.specs.Layout.{leaves_of}
-use Rattle.ffi3_types.specs.TreeOf.{tree_of}
 use Rattle.ffi3_text.specs.LayoutLines.{leaf_texts}
 use Rattle.ffi3_text.proofs.layout.write_layout.Given as goal
 
 abbrev pub invariant-loop-i : goal.invariant-loop-i
-invariant-loop-i l = l.text ≡ l.initial.text ++ leaf_texts (take l.i (leaves_of (tree_of l.ty)))
+invariant-loop-i l = l.text ≡ l.initial.text ++ leaf_texts (take l.i (leaves_of l.ty))

@@ -1,6 +1,6 @@
 use Rattle.std.proofs.Common.{◌≡◌, ℕ, zero, suc, ◌<◌, ◌≤◌, List, [], ◌∷◌, length, map, refl, arith, Bor}
 use Rattle.std.specs.Prelude.{slice_index_or}
-use Rattle.ffi3_text.proofs.names.name_in.Goals as goal
+use Rattle.ffi3_place.proofs.names.name_in.Goals as goal
 
 text_at : (texts : List (Bor (List ℕ))) (r : ℕ) (d : Bor (List ℕ)) → r < length texts → (slice_index_or texts r d).now ≡ slice_index_or (map (λ t. t.now) texts) r []
 text_at [] r d below = absurd (omega arith)
