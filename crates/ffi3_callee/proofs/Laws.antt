@@ -40,20 +40,21 @@ each_both P Q R f (x ∷ xs) h k = (f x h.0 k.0, each_both P Q R f xs h.1 k.1)
 
 -- ---- the registers that are given back
 
-abbrev IsRegister : Isa → Loc → Type 0
-IsRegister isa l = IsPlace 0 l × TakesWrites isa l
+-- a register to which the instruction set can write
+abbrev IsWritableRegister : Isa → Loc → Type 0
+IsWritableRegister isa l = IsPlace 0 l × TakesWrites isa l
 
-link_is_register : (isa : Isa) → AllByRecursion (IsRegister isa) (if_any (link_place isa))
+link_is_register : (isa : Isa) → AllByRecursion (IsWritableRegister isa) (if_any (link_place isa))
 link_is_register Amd64 = tt
 link_is_register Aarch64 = ((omega arith, refl), tt)
 link_is_register Riscv = ((omega arith, refl), tt)
 
-given_back_are_registers : (std : Standard) → AgreesWithMachine std → AllByRecursion (IsRegister (isa_of std.target)) (given_back std)
+given_back_are_registers : (std : Standard) → AgreesWithMachine std → AllByRecursion (IsWritableRegister (isa_of std.target)) (given_back std)
 given_back_are_registers std agrees =
-    each_join (IsRegister (isa_of std.target)) std.callee_saved (if_any std.link_register) (each_both (LiesIn (isa_of std.target) 0) (IsNoneOf (special std)) (IsRegister (isa_of std.target)) one std.callee_saved agrees.callee_saved_exist agrees.callee_saved_plain)
-    (subst (λ o. AllByRecursion (IsRegister (isa_of std.target)) (if_any o)) (sym agrees.link_register) (link_is_register (isa_of std.target)))
+    each_join (IsWritableRegister (isa_of std.target)) std.callee_saved (if_any std.link_register) (each_both (LiesIn (isa_of std.target) 0) (IsNoneOf (special std)) (IsWritableRegister (isa_of std.target)) one std.callee_saved agrees.callee_saved_exist agrees.callee_saved_plain)
+    (subst (λ o. AllByRecursion (IsWritableRegister (isa_of std.target)) (if_any o)) (sym agrees.link_register) (link_is_register (isa_of std.target)))
   where
-    one : (l : Loc) → LiesIn (isa_of std.target) 0 l → IsNoneOf (special std) l → IsRegister (isa_of std.target) l
+    one : (l : Loc) → LiesIn (isa_of std.target) 0 l → IsNoneOf (special std) l → IsWritableRegister (isa_of std.target) l
     one l lies none = (
       machine_place (isa_of std.target) 0 l lies,
       agrees.written l (each_first (Apart l) std.reserved (if_any std.link_register ++ (std.trampoline_registers ++ (if_any std.vector_count ++ if_any std.returned_address))) none.1),
@@ -62,7 +63,7 @@ given_back_are_registers std agrees =
 words_from : (std : Standard) → AgreesWithMachine std → (ws : List SaveWord) → AllByRecursion (IsOneOf (given_back std)) (saved_registers ws) → AllByRecursion (IsRestorable std.target) ws
 words_from std agrees [] h = tt
 words_from std agrees (Register at ∷ ws) h = (
-  any_holds (IsRegister (isa_of std.target)) at (given_back std) (given_back_are_registers std agrees) h.0,
+  any_holds (IsWritableRegister (isa_of std.target)) at (given_back std) (given_back_are_registers std agrees) h.0,
   words_from std agrees ws h.1,
 )
 words_from std agrees (Hidden ∷ ws) h = (tt, words_from std agrees ws h)

@@ -106,6 +106,16 @@ pub direct_places : (std : Standard) (s : Signature) (pieces : List Piece) → I
 direct_places std s pieces sound is =
     subst (λ r. AllByRecursion (IsPlace 0) (result_locs r)) is (machine_places (isa_of std.target) 0 (result_locs (plan_of std s).res) sound.result_in_registers)
 
+-- pieces that stand in registers write nothing on the stack
+pub direct_within : (std : Standard) (s : Signature) (base : ℕ) (pieces : List Piece) (a b : State) → IsSound std s → (plan_of std s).res ≡ DirectRes pieces → ((room : ℕ) → AllByRecursion (IsPlace room) (piece_locs pieces) → WroteWithin base (base + room) a b) → WroteWithin base base a b
+direct_within std s base pieces a b sound is within =
+    let none : base + 0 ≡ base = omega arith in
+    subst (λ n. WroteWithin base n a b) none (within 0 (direct_places std s pieces sound is))
+
+pub direct_writes : (std : Standard) (s : Signature) (base : ℕ) (t : Tree) (pieces : List Piece) (a b : State) → IsSound std s → (plan_of std s).res ≡ DirectRes pieces → ((room : ℕ) → AllByRecursion (IsPlace room) (piece_locs pieces) → WroteWithin base (base + room) a b) → ResultWrites base t (plan_of std s).res a b
+direct_writes std s base t pieces a b sound is within =
+    subst (λ r. ResultWrites base t r a b) (sym is) (direct_within std s base pieces a b sound is within)
+
 pub direct_held : (std : Standard) (s : Signature) (base : ℕ) (m : State) (v : ValueTree) (pieces : List Piece) → IsSound std s → STACK ≤ base → base + frame_of std s ≤ STACK_TOP → length m.stack ≡ STACK_BYTES → (plan_of std s).res ≡ DirectRes pieces → fits s.result_type v ≡ true → PiecesStand base m s.result_type v pieces → HoldsResult std s v (image_from base (frame_of std s) m)
 direct_held std s base m v pieces sound low high sized is fit stands =
     let t = s.result_type in

@@ -7,13 +7,12 @@ ghost use Rattle.ffi3_values.specs.ValueOf.{value_of};
 ghost use Rattle.ffi3_place_rules.specs.declared.Loc.{Loc};
 ghost use Rattle.ffi3_place_rules.specs.Standard.{frame_of, plan_of};
 ghost use Rattle.ffi3_place_rules.specs.Holds.{HoldsResult};
-ghost use Rattle.ffi3_place_rules.specs.Sound.{AreApart, IsPieceOf, piece_locs, result_locs};
+ghost use Rattle.ffi3_place_rules.specs.Sound.{result_locs};
 ghost use Rattle.ffi3_place_rules.specs.Isa.{if_any};
 ghost use Rattle.ffi3_type_rules.specs.declared.limits.TheConstants.{STACK, STACK_TOP};
 ghost use Rattle.ffi3_machine.specs.State.{State, stack_at};
 ghost use Rattle.ffi3_pieces.specs.Passing.{passing};
-ghost use Rattle.ffi3_pieces.specs.Stored.{IsPlace, IsWritable, KeepsPadding, KeepsUnused, Stays, WroteOnly, WroteWithin};
-ghost use Rattle.ffi3_pieces.specs.Standing.{PiecesStand};
+ghost use Rattle.ffi3_pieces.specs.Stored.{IsWritable, KeepsPadding, WroteOnly, WroteWithin};
 ghost use Rattle.ffi3_callee.specs.Loaded.{image_from};
 ghost use Rattle.ffi3_callee.specs.Given.{IsSettable, RegisterHoldsWord, IsAddressOf, RegistersStay, ReservedStay, ResultKeepsUnused, ResultWrites, result_uses};
 ghost use Rattle.ffi3_callee.specs.Received.{IsIncoming};
@@ -23,31 +22,10 @@ use crate::Incoming;
 use ffi3_cif::Cif;
 use ffi3_machine::{Machine, STACK_TOP, StackBase};
 use ffi3_pieces::{SMALL, put_word, store_pieces};
-use ffi3_place::{Abi, Loc, Pieces, Res};
+use ffi3_place::{Abi, Loc, Res};
 use ffi3_type_rules::limits::LARGEST_TYPE;
 use ffi3_types::CheckedType;
 use ffi3_values::{Value, write_bytes};
-
-// Stores a result in registers, and fills the rest of them. What no leaf has keeps what stood there.
-fn give_pieces(
-    machine: &mut Machine,
-    base: StackBase,
-    pieces: &Pieces,
-    ty: &CheckedType<'_>,
-    value: &Value,
-)
-    requires lie { AllByRecursion (IsPlace 0) (piece_locs pieces.now) }
-    requires writable { AllByRecursion (IsWritable machine.old.target) (piece_locs pieces.now) }
-    requires apart { AreApart (piece_locs pieces.now) }
-    requires parts { AllByRecursion (IsPieceOf ty.now) pieces.now }
-    requires fits { fits ty.now (value_of value.now) ≡ true }
-    ensures stand { PiecesStand base (passing machine.new) ty.now (value_of value.now) pieces.now }
-    ensures unused { AllByRecursion (KeepsUnused base ty.now (passing machine.old) (passing machine.new)) pieces.now }
-    ensures stays { Stays base (piece_locs pieces.now) (passing machine.old) (passing machine.new) }
-    ensures within { WroteWithin base base (passing machine.old) (passing machine.new) }
-{
-    store_pieces(machine, base, pieces, ty, value);
-}
 
 // Stores a result in the caller's buffer, by way of `bytes`, which are as many as it has. The buffer's padding keeps
 // what stood there.
@@ -138,7 +116,7 @@ fn give<A: Abi>(
     let ty = sig.ret();
     match cif.result_place() {
         Res::Nothing => {}
-        Res::Direct(pieces) => give_pieces(machine, base, pieces, &ty, value),
+        Res::Direct(pieces) => store_pieces(machine, base, pieces, &ty, value),
         Res::Hidden { .. } => {
             give_buffer(machine, address, &ty, value);
             tell_address(machine, returned, address);

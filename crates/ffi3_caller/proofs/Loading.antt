@@ -12,7 +12,8 @@ use Rattle.ffi3_place_rules.specs.Image.{Image, byte_at}
 use Rattle.ffi3_place_rules.specs.Holds.{Carries, StandsInPieces, LeavesStand}
 use Rattle.ffi3_place_rules.specs.Sound.{CoversLeaf}
 use Rattle.ffi3_machine.specs.State.{State, image_of}
-use Rattle.ffi3_caller.specs.Loaded.{AreWithin, IsRegister, IsWithin, register_of, loaded, with_piece}
+use Rattle.ffi3_pieces.specs.Stored.{IsPlace, IsWithin}
+use Rattle.ffi3_caller.specs.Loaded.{AreWithin, register_of, loaded, with_piece}
 use Rattle.ffi3_place_rules.proofs.Reading.{ReadsLeaf, LeavesRead}
 
 -- the pieces from number i on are still to be loaded
@@ -20,7 +21,7 @@ pub record IsLeftToLoad (m : State) (pieces : List Piece) (old : List ℕ) (i : 
   pub same_length : length out ≡ length old
   pub same : loaded m (drop i pieces) out ≡ loaded m pieces old
   pub within : AreWithin (length old) (drop i pieces)
-  pub registers : AllByRecursion (λ p. IsRegister p.loc) (drop i pieces)
+  pub registers : AllByRecursion (λ p. IsPlace 0 p.loc) (drop i pieces)
 
 -- ---- a range that is replaced
 
@@ -53,12 +54,12 @@ module _ (m : State) (frame size : ℕ) where
   abbrev at_return : Image
   at_return = image_of frame m
 
-  same_byte : (at : Loc) (k : ℕ) → IsRegister at → byte_at at_return 0 at k ≡ get_or (to_le_bytes w64 (register_of m at)) k 0
+  same_byte : (at : Loc) (k : ℕ) → IsPlace 0 at → byte_at at_return 0 at k ≡ get_or (to_le_bytes w64 (register_of m at)) k 0
   same_byte (G r) k h = refl
   same_byte (F r) k h = refl
-  same_byte (S n) k h = absurd h
+  same_byte (S n) k h = absurd (omega (arith, h))
 
-  module _ (p : Piece) (out : List ℕ) (sized : length out ≡ size) (within : IsWithin size p) (register : IsRegister p.loc) where
+  module _ (p : Piece) (out : List ℕ) (sized : length out ≡ size) (within : IsWithin size p) (register : IsPlace 0 p.loc) where
     abbrev low : List ℕ
     low = take p.len (to_le_bytes w64 (register_of m p.loc))
 
@@ -90,7 +91,7 @@ module _ (m : State) (frame size : ℕ) where
         omega (arith, length-append (take p.off out ++ low) (drop (p.off + p.len) out), both, length-drop (p.off + p.len) out, room, sized)
 
   -- where each piece that carries a byte has it, and one does or it is there, it is there in the end
-  byte_loaded : (pieces : List Piece) (out : List ℕ) (o x : ℕ) → length out ≡ size → AreWithin size pieces → AllByRecursion (λ p. IsRegister p.loc) pieces → AllByRecursion (λ p. Carries o p → byte_at at_return 0 p.loc (o - p.off) ≡ x) pieces → (Any (Carries o) pieces) ⊎ (get_or out o 0 ≡ x) → get_or (loaded m pieces out) o 0 ≡ x
+  byte_loaded : (pieces : List Piece) (out : List ℕ) (o x : ℕ) → length out ≡ size → AreWithin size pieces → AllByRecursion (λ p. IsPlace 0 p.loc) pieces → AllByRecursion (λ p. Carries o p → byte_at at_return 0 p.loc (o - p.off) ≡ x) pieces → (Any (Carries o) pieces) ⊎ (get_or out o 0 ≡ x) → get_or (loaded m pieces out) o 0 ≡ x
   byte_loaded [] out o x sized within registers each (inl some) = absurd (omega (arith, some.2))
   byte_loaded [] out o x sized within registers each (inr there) = there
   byte_loaded (p ∷ ps) out o x sized within registers each some =
@@ -108,11 +109,11 @@ module _ (m : State) (frame size : ℕ) where
       later (inl (suc k, q, below, is, carries)) other = inl (k, q, omega arith, is, carries)
 
   -- each leaf that stands in pieces, which have all of it, is read
-  leaf_loaded : (pieces : List Piece) (out : List ℕ) (l : Leaf) (b : List ℕ) → length out ≡ size → AreWithin size pieces → AllByRecursion (λ p. IsRegister p.loc) pieces → CoversLeaf pieces l → StandsInPieces at_return 0 pieces l b → ReadsLeaf (loaded m pieces out) l b
+  leaf_loaded : (pieces : List Piece) (out : List ℕ) (l : Leaf) (b : List ℕ) → length out ≡ size → AreWithin size pieces → AllByRecursion (λ p. IsPlace 0 p.loc) pieces → CoversLeaf pieces l → StandsInPieces at_return 0 pieces l b → ReadsLeaf (loaded m pieces out) l b
   leaf_loaded pieces out l b sized within registers covers stands k h =
       byte_loaded pieces out (l.at + k) (get_or b k 0) sized within registers (stands k h) (inl (covers k h))
 
-  pub leaves_loaded : (pieces : List Piece) (out : List ℕ) (ls : List Leaf) (bs : List (List ℕ)) → length out ≡ size → AreWithin size pieces → AllByRecursion (λ p. IsRegister p.loc) pieces → AllByRecursion (CoversLeaf pieces) ls → LeavesStand at_return 0 pieces ls bs → LeavesRead (loaded m pieces out) ls bs
+  pub leaves_loaded : (pieces : List Piece) (out : List ℕ) (ls : List Leaf) (bs : List (List ℕ)) → length out ≡ size → AreWithin size pieces → AllByRecursion (λ p. IsPlace 0 p.loc) pieces → AllByRecursion (CoversLeaf pieces) ls → LeavesStand at_return 0 pieces ls bs → LeavesRead (loaded m pieces out) ls bs
   leaves_loaded pieces out [] [] sized within registers covers stand = tt
   leaves_loaded pieces out [] (b ∷ bs) sized within registers covers stand = absurd stand
   leaves_loaded pieces out (l ∷ ls) [] sized within registers covers stand = absurd stand

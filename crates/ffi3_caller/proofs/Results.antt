@@ -3,7 +3,6 @@ use Rattle.std.proofs.Common.{◌≡◌, ℕ, ◌+◌, ◌-◌, ◌≤◌, List,
 use Rattle.std.specs.List.{AllByRecursion}
 use Rattle.std.proofs.lemmas.List.{drop-drop, drop-take, take-take}
 use Rattle.ffi3_type_rules.specs.declared.Isa.{Isa}
-use Rattle.ffi3_type_rules.specs.declared.Isa.TheVariants.{Amd64, Aarch64, Riscv}
 use Rattle.ffi3_type_rules.specs.declared.limits.TheConstants.{STACK}
 use Rattle.ffi3_type_rules.specs.Isa.{isa_of}
 use Rattle.ffi3_type_rules.specs.Tree.{Tree}
@@ -12,7 +11,6 @@ use Rattle.ffi3_type_rules.specs.Signature.{Signature}
 use Rattle.ffi3_type_rules.specs.Value.{ValueTree, value_in}
 use Rattle.ffi3_type_rules.proofs.Layouts.{least_multiple-above}
 use Rattle.ffi3_place_rules.specs.declared.Loc.{Loc}
-use Rattle.ffi3_place_rules.specs.declared.Loc.TheVariants.{G, F, S}
 use Rattle.ffi3_place_rules.specs.declared.Piece.{Piece}
 use Rattle.ffi3_place_rules.specs.declared.Res.{Res}
 use Rattle.ffi3_place_rules.specs.declared.Res.TheVariants.{Direct as DirectRes, Hidden}
@@ -21,7 +19,9 @@ use Rattle.ffi3_place_rules.specs.Holds.{leaf_bytes, OwnResult, OwnsResult}
 use Rattle.ffi3_place_rules.specs.Sound.{LiesIn, IsSound, HaveAll, IsPieceOf, ResultHasAll, piece_locs, result_locs}
 use Rattle.ffi3_place_rules.proofs.Tests.{each_weaker}
 use Rattle.ffi3_machine.specs.State.{State, image_of, stack_at}
-use Rattle.ffi3_caller.specs.Loaded.{AreWithin, IsRegister, IsWithin, loaded}
+use Rattle.ffi3_pieces.specs.Stored.{IsPlace, IsWithin}
+use Rattle.ffi3_pieces.proofs.Lawful.{machine_place}
+use Rattle.ffi3_caller.specs.Loaded.{AreWithin, loaded}
 use Rattle.ffi3_place_rules.proofs.Reading.{reads}
 use Rattle.ffi3_caller.proofs.Loading.{leaves_loaded}
 
@@ -29,20 +29,10 @@ each_loc : (P : Loc → Type 0) (pieces : List Piece) → AllByRecursion P (piec
 each_loc P [] h = tt
 each_loc P (p ∷ ps) h = (h.0, each_loc P ps h.1)
 
--- a register of an instruction set is one of a machine's 32
-machine_has : (isa : Isa) (l : Loc) → LiesIn isa 0 l → IsRegister l
-machine_has Amd64 (G r) h = omega (arith, h)
-machine_has Amd64 (F r) h = omega (arith, h)
-machine_has Aarch64 (G r) h = omega (arith, h)
-machine_has Aarch64 (F r) h = omega (arith, h)
-machine_has Riscv (G r) h = omega (arith, h)
-machine_has Riscv (F r) h = omega (arith, h)
-machine_has isa (S n) h = omega (arith, h)
-
 -- the pieces of a result stand in registers
-pub in_registers : (isa : Isa) (r : Res) (pieces : List Piece) → r ≡ DirectRes pieces → AllByRecursion (LiesIn isa 0) (result_locs r) → AllByRecursion (λ p. IsRegister p.loc) pieces
+pub in_registers : (isa : Isa) (r : Res) (pieces : List Piece) → r ≡ DirectRes pieces → AllByRecursion (LiesIn isa 0) (result_locs r) → AllByRecursion (λ p. IsPlace 0 p.loc) pieces
 in_registers isa r pieces is h =
-    each_weaker (λ (p : Piece). LiesIn isa 0 p.loc) (λ (p : Piece). IsRegister p.loc) (λ p k. machine_has isa p.loc k) pieces (each_loc (LiesIn isa 0) pieces (subst (λ q. AllByRecursion (LiesIn isa 0) (result_locs q)) is h))
+    each_weaker (λ (p : Piece). LiesIn isa 0 p.loc) (λ (p : Piece). IsPlace 0 p.loc) (λ p k. machine_place isa 0 p.loc k) pieces (each_loc (LiesIn isa 0) pieces (subst (λ q. AllByRecursion (LiesIn isa 0) (result_locs q)) is h))
 
 has_all : (t : Tree) (r : Res) (pieces : List Piece) → r ≡ DirectRes pieces → ResultHasAll t r → HaveAll t pieces
 has_all t r pieces is h = subst (ResultHasAll t) is h

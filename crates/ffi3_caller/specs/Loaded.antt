@@ -1,24 +1,16 @@
 -- The bytes of pieces that stand in registers, put where they belong in a value.
-use Rattle.std.specs.Prelude.{ℕ, ◌+◌, ◌<◌, ◌≤◌, List, [], ◌∷◌, take, slice_index}
+use Rattle.std.specs.Prelude.{ℕ, ◌+◌, List, [], ◌∷◌, take, slice_index}
 use Rattle.std.specs.List.{AllByRecursion, replace_range}
 use Rattle.std.specs.Int.{w64, to_le_bytes}
 use Rattle.ffi3_place_rules.specs.declared.Loc.{Loc}
 use Rattle.ffi3_place_rules.specs.declared.Loc.TheVariants.{G, F, S}
 use Rattle.ffi3_place_rules.specs.declared.Piece.{Piece}
 use Rattle.ffi3_machine.specs.State.{State}
+use Rattle.ffi3_pieces.specs.Stored.{IsWithin}
 
--- the piece lies in a value of so many bytes, and has at most eight
-abbrev pub IsWithin : ℕ → Piece → Type 0
-IsWithin size p = (p.len ≤ 8) × (p.off + p.len ≤ size)
-
+-- each piece lies in a value of so many bytes, and has at most eight
 abbrev pub AreWithin : ℕ → List Piece → Type 0
 AreWithin size pieces = AllByRecursion (IsWithin size) pieces
-
--- a register that a machine has
-abbrev pub IsRegister : Loc → Type 0
-IsRegister (G k) = k < 32
-IsRegister (F k) = k < 32
-IsRegister (S n) = ⊥
 
 -- what a register holds
 abbrev pub register_of : State → Loc → ℕ

@@ -11,8 +11,9 @@ ghost use Rattle.ffi3_place_rules.specs.Standard.{plan_of, need_of, frame_of};
 ghost use Rattle.ffi3_type_rules.specs.declared.limits.TheConstants.{STACK, STACK_TOP};
 ghost use Rattle.ffi3_machine.specs.State.{image_of};
 ghost use Rattle.ffi3_pieces.specs.Passing.{by_exchange, passing};
+ghost use Rattle.ffi3_pieces.specs.Stored.{IsPlace, IsWithin};
 ghost use Rattle.ffi3_caller.specs.Called.{at_frame, dropped_if, frame_start};
-ghost use Rattle.ffi3_caller.specs.Loaded.{AreWithin, IsRegister, IsWithin, loaded, with_piece};
+ghost use Rattle.ffi3_caller.specs.Loaded.{AreWithin, loaded, with_piece};
 
 mod coming;
 mod slot;
@@ -90,7 +91,7 @@ fn frame_start<A: Abi>(machine: &Machine, cif: &Cif<A>) -> u64
 // The bytes of pieces in registers.
 fn load_pieces(machine: &Machine, pieces: &Pieces, out: &mut [u8])
     requires within { AreWithin (length out.old) pieces.now }
-    requires registers { AllByRecursion (λ p. IsRegister p.loc) pieces.now }
+    requires registers { AllByRecursion (λ p. IsPlace 0 p.loc) pieces.now }
     ensures sized { length out.new ≡ length out.old }
     ensures loaded { out.new ≡ loaded (passing machine.now) pieces.now out.old }
 {
@@ -102,7 +103,7 @@ fn load_pieces(machine: &Machine, pieces: &Pieces, out: &mut [u8])
 // The bytes of one piece in a register.
 fn load_piece(machine: &Machine, piece: &Piece, out: &mut [u8])
     requires within { IsWithin (length out.old) piece.now }
-    requires register { IsRegister piece.now.loc }
+    requires register { IsPlace 0 piece.now.loc }
     ensures sized { length out.new ≡ length out.old }
     ensures loaded { out.new ≡ with_piece (passing machine.now) piece.now out.old }
 {

@@ -22,7 +22,7 @@ ghost use Rattle.ffi3_closures.specs.Reaching.{reached};
 ghost use Rattle.ffi3_closures.specs.Slots.{HoldsMap, live_count, live_slot, slot_head};
 
 use arrayvec::ArrayVec;
-use ffi3_machine::{CODE, Machine};
+use ffi3_machine::{CODE, Machine, free_word};
 pub use ffi3_run_rules::Closure;
 use ffi3_type_rules::Isa;
 use ffi3_type_rules::limits::SLOT_BYTES;
@@ -229,12 +229,7 @@ fn put_word(bytes: &mut [u8; 64], at: usize, word: u64)
 fn free_slot(isa: Isa) -> [u8; 64]
     ensures { result ≡ free_slot isa }
 {
-    let word = match isa {
-        Isa::Amd64 => [0xCC, 0xCC, 0xCC, 0xCC],
-        Isa::Aarch64 => [0x00, 0x00, 0x20, 0xD4],
-        Isa::Riscv => [0x73, 0x00, 0x10, 0x00],
-    };
-    let [a, b, c, d] = word;
+    let [a, b, c, d] = free_word(isa).to_le_bytes();
     [
         a, b, c, d, a, b, c, d, a, b, c, d, a, b, c, d, a, b, c, d, a, b, c, d, a, b, c, d, a, b,
         c, d, a, b, c, d, a, b, c, d, a, b, c, d, a, b, c, d, a, b, c, d, a, b, c, d, a, b, c, d,

@@ -4,8 +4,7 @@ ghost use Rattle.std.specs.Int.{w64, from_le_bytes};
 ghost use Rattle.std.specs.List.{AllByRecursion};
 ghost use Rattle.ffi3_type_rules.specs.declared.limits.TheConstants.{LARGEST_TYPE};
 ghost use Rattle.ffi3_type_rules.specs.Layout.{size_of};
-ghost use Rattle.ffi3_type_rules.specs.Integer.{is_number_type, scalar_of, widened_from_32};
-ghost use Rattle.ffi3_type_rules.specs.Value.{bytes_of, fits, IsWritten};
+ghost use Rattle.ffi3_type_rules.specs.Value.{fits, IsWritten};
 ghost use Rattle.ffi3_types.specs.TreeOf.{tree_of};
 ghost use Rattle.ffi3_values.specs.ValueOf.{value_of};
 ghost use Rattle.ffi3_place_rules.specs.declared.Piece.{Piece};
@@ -20,7 +19,7 @@ use crate::{Check, Image, Part, Unexplained};
 use ffi3_place::{Ext, Piece, Pieces};
 use ffi3_type_rules::limits::LARGEST_TYPE;
 use ffi3_types::{CheckedType, FfiType, NoMemory};
-use ffi3_values::{Value, number, value_from_bytes, widen, write_bytes};
+use ffi3_values::{Value, value_from_bytes, widen, widened_from_32, write_bytes};
 use std::alloc::Global;
 
 // Reads a piece of a value from its place.
@@ -103,18 +102,6 @@ fn wanted_word(piece: &Piece, found: &[u8], low: &[u8], high: &[u8]) -> u64
     ])
 }
 
-// The 8 bytes of an integer in a register, extended by its sign to 32 bits where it is narrower, and from there by the
-// upper bit.
-fn widen_from_32(ty: &FfiType, value: &Value) -> u64
-    requires kind { is_number_type (tree_of ty.now) ≡ true }
-    requires small { size_of (tree_of ty.now) ≤ 8 }
-    requires fits { fits (tree_of ty.now) (value_of value.now) ≡ true }
-    ensures { result ≡ widened_from_32 (scalar_of (tree_of ty.now)) (bytes_of (value_of value.now)) }
-{
-    let low = number(ty, value).cast_unsigned() % 0x1_0000_0000;
-    ((low as u32).cast_signed() as i64).cast_unsigned()
-}
-
 // The word with the rest of the place filled.
 fn extended(ty: &FfiType, value: &Value, piece: &Piece, word: u64) -> u64
     requires suits { IsPieceOf (tree_of ty.now) piece.now }
@@ -125,7 +112,7 @@ fn extended(ty: &FfiType, value: &Value, piece: &Piece, word: u64) -> u64
         Ext::Free => word,
         Ext::Boxed => 0xFFFF_FFFF_0000_0000 + word % 0x1_0000_0000,
         Ext::Widen => widen(ty, value),
-        Ext::Riscv => widen_from_32(ty, value),
+        Ext::Riscv => widened_from_32(ty, value),
     }
 }
 

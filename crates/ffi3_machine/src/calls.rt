@@ -3,6 +3,7 @@ ghost use Rattle.std.specs.Prelude.{◌≡◌, ◌<◌, ◌≤◌, ◌+◌, ◌-
 ghost use Rattle.ffi3_type_rules.specs.Isa.{isa_of};
 ghost use Rattle.ffi3_place_rules.specs.Isa.{closure_register, link_register, pushed_bytes};
 ghost use Rattle.ffi3_machine.specs.Stubs.{goes_for};
+ghost use Rattle.ffi3_machine.specs.Entries.{kind_of};
 ghost use Rattle.ffi3_machine.specs.State.{
   HasReturnAddress,
   IsSlot,
@@ -11,6 +12,7 @@ ghost use Rattle.ffi3_machine.specs.State.{
   after_enter,
   after_leave,
   called,
+  recorded,
   with_pc,
   with_room,
 };
@@ -57,6 +59,24 @@ impl Machine {
         self.journal.make_room(bytes)
     }
 
+    // Records an event of a kind that tells this closure, with `bytes` bytes of stack from sp on, which lie in the stack.
+    fn add_event(&mut self, kind: EventKind, closure: u64, bytes: u64)
+        requires stack { LieInStack self.old.sp bytes }
+        requires events { 1 ≤ self.old.spare_events }
+        requires bytes { bytes ≤ self.old.spare_bytes }
+        ensures { self.new ≡ recorded (kind_of kind) closure bytes self.old }
+    {
+        let event = Event {
+            kind,
+            closure,
+            general: self.general,
+            floating: self.floating,
+            sp: self.sp,
+        };
+        self.journal
+            .add(event, from_sp(&self.stack, self.sp, bytes));
+    }
+
     /// Records that a closure is entered, with `bytes` bytes of stack from sp on, which lie in the stack.
     pub fn enter(&mut self, bytes: u64)
         requires entry { self.old.pc ≡ ENTRY }
@@ -65,15 +85,8 @@ impl Machine {
         requires bytes { bytes ≤ self.old.spare_bytes }
         ensures { self.new ≡ after_enter bytes self.old }
     {
-        let event = Event {
-            kind: EventKind::Enter,
-            closure: self.general[closure_register(self.target.isa()) as usize],
-            general: self.general,
-            floating: self.floating,
-            sp: self.sp,
-        };
-        self.journal
-            .add(event, from_sp(&self.stack, self.sp, bytes));
+        let closure = self.general[closure_register(self.target.isa()) as usize];
+        self.add_event(EventKind::Enter, closure, bytes);
     }
 
     /// Returns to RETURN, and records it with `bytes` bytes of stack from the sp after it on. These, and what is
@@ -87,15 +100,7 @@ impl Machine {
     {
         self.sp += pushed_bytes(self.target.isa());
         self.pc = RETURN;
-        let event = Event {
-            kind: EventKind::Leave,
-            closure: 0,
-            general: self.general,
-            floating: self.floating,
-            sp: self.sp,
-        };
-        self.journal
-            .add(event, from_sp(&self.stack, self.sp, bytes));
+        self.add_event(EventKind::Leave, 0, bytes);
     }
 
     /// Records a return that instructions have made, with `bytes` bytes of stack from sp on, which lie in the stack.
@@ -106,15 +111,7 @@ impl Machine {
         requires bytes { bytes ≤ self.old.spare_bytes }
         ensures { self.new ≡ after_arrive bytes self.old }
     {
-        let event = Event {
-            kind: EventKind::Leave,
-            closure: 0,
-            general: self.general,
-            floating: self.floating,
-            sp: self.sp,
-        };
-        self.journal
-            .add(event, from_sp(&self.stack, self.sp, bytes));
+        self.add_event(EventKind::Leave, 0, bytes);
     }
 }
 

@@ -22,6 +22,7 @@ pub use ffi3_type_rules::Target;
 use ffi3_type_rules::limits::{CODE_BYTES, STACK_BYTES};
 pub use ffi3_type_rules::limits::{CODE, CODE_END, ENTRY, RETURN, STACK, STACK_TOP};
 pub use journal::{Event, EventKind, Journal};
+pub use regions::free_word;
 use regions::{begin_exchange, begin_stack, free_slots, new_region};
 use scribble::{scribble_floating, scribble_general};
 pub use stack_base::StackBase;

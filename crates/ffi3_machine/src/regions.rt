@@ -1,6 +1,6 @@
 // The regions of a machine as it begins: the stack of A5 bytes, free slots, and an exchange region of zeros.
 ghost use Rattle.std.specs.Prelude.{◌≡◌, ◌<◌, ◌+◌, ◌^◌, length, IfOk, replicate};
-ghost use Rattle.ffi3_memory.specs.Memory.{low_bytes};
+ghost use Rattle.std.specs.Int.{w32, to_le_bytes};
 ghost use Rattle.ffi3_machine.specs.State.{begun_code, begun_exchange, begun_stack, free_word};
 
 use crate::{CODE, EXCHANGE, EXCHANGE_BYTES, NoMemory, STACK};
@@ -44,7 +44,7 @@ pub(crate) fn free_slots(isa: Isa, code: &mut Region)
 {
     let word = free_word(isa);
     for k in 0..CODE_BYTES / 4 {
-        code.store(CODE + 4 * k, 4, word);
+        code.store(CODE + 4 * k, 4, word as u64);
     }
 }
 
@@ -57,9 +57,9 @@ fn fill_all(region: &mut Region, base: u64, len: u64, byte: u8)
     region.fill(base, len, byte);
 }
 
-/// The word that a free slot is filled with.
-pub(crate) fn free_word(isa: Isa) -> u64
-    ensures { low_bytes 4 result ≡ free_word isa }
+/// The word that a free slot is filled with: int3 four times on AMD64, brk #0 on AArch64, ebreak on RISC-V.
+pub fn free_word(isa: Isa) -> u32
+    ensures { to_le_bytes w32 result ≡ free_word isa }
 {
     match isa {
         Isa::Amd64 => 0xCCCC_CCCC,

@@ -228,7 +228,7 @@ fn fill_words(isa: Isa, region: &mut Region)
 {
     let word = free_word(isa);
     for k in 0..STUBS_BYTES / 4 {
-        region.store(STUBS + 4 * k, 4, word);
+        region.store(STUBS + 4 * k, 4, word as u64);
     }
 }
 

@@ -6,9 +6,7 @@ ghost use Rattle.std.specs.List.{AllByRecursion};
 ghost use Rattle.std.specs.Int.{w64, to_le_bytes};
 ghost use Rattle.ffi3_type_rules.specs.Tree.{trees_of};
 ghost use Rattle.ffi3_type_rules.specs.Layout.{size_of};
-ghost use Rattle.ffi3_type_rules.specs.Integer.{is_number_type, scalar_of, widened_from_32};
-ghost use Rattle.ffi3_type_rules.specs.Value.{all_fit, bytes_of, fits, value_in, values_of};
-ghost use Rattle.ffi3_types.specs.TreeOf.{tree_of};
+ghost use Rattle.ffi3_type_rules.specs.Value.{all_fit, fits, value_in, values_of};
 ghost use Rattle.ffi3_values.specs.ValueOf.{value_of};
 ghost use Rattle.ffi3_place_rules.specs.Standard.{frame_of, plan_of};
 ghost use Rattle.ffi3_place_rules.specs.Holds.{FillArguments, OwnsArguments};
@@ -29,8 +27,8 @@ use ffi3_cif::{Cif, Runs};
 use ffi3_machine::{Machine, StackBase};
 use ffi3_place::{Abi, Ext, Loc, Piece, Pieces, Place, Res};
 use ffi3_type_rules::limits::LARGEST_TYPE;
-use ffi3_types::{CheckedType, FfiType};
-use ffi3_values::{Value, Values, number, widen, write_bytes};
+use ffi3_types::CheckedType;
+use ffi3_values::{Value, Values, widen, widened_from_32, write_bytes};
 use load::word_of;
 pub use load::{load_piece, own_word, place_bytes, place_word};
 pub use registers::{by_exchange, pass_floating, pass_general, passed_floating, passed_general};
@@ -116,18 +114,6 @@ fn boxed(bytes: &[u8], from: usize) -> u64
     ])
 }
 
-// The 8 bytes of an integer in a register, extended by its sign to 32 bits where it is narrower, and from there by the
-// upper bit.
-fn widen_from_32(ty: &FfiType, value: &Value) -> u64
-    requires kind { is_number_type (tree_of ty.now) ≡ true }
-    requires small { size_of (tree_of ty.now) ≤ 8 }
-    requires fits { fits (tree_of ty.now) (value_of value.now) ≡ true }
-    ensures { result ≡ widened_from_32 (scalar_of (tree_of ty.now)) (bytes_of (value_of value.now)) }
-{
-    let low = number(ty, value).cast_unsigned() % 0x1_0000_0000;
-    ((low as u32).cast_signed() as i64).cast_unsigned()
-}
-
 // Puts the bytes that a piece of a value carries into its place, and fills the rest of the place. `bytes` are the
 // value's bytes in memory.
 fn fill_piece(
@@ -150,7 +136,7 @@ fn fill_piece(
     match piece.ext {
         Ext::Free => set_piece(machine, base, piece, bytes),
         Ext::Widen => put_word(machine, base, piece.loc, widen(plain, value)),
-        Ext::Riscv => put_word(machine, base, piece.loc, widen_from_32(plain, value)),
+        Ext::Riscv => put_word(machine, base, piece.loc, widened_from_32(plain, value)),
         Ext::Boxed => put_word(machine, base, piece.loc, boxed(bytes, piece.off as usize)),
     }
 }

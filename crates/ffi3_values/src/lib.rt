@@ -15,7 +15,7 @@ mod write;
 
 pub use ffi3_types::{Bytes, NoMemory};
 pub use from_bytes::{value_from_bytes, zero};
-pub use numbers::{add, bits, cast, integer, number, of_bits, sub, widen};
+pub use numbers::{add, bits, cast, integer, number, of_bits, sub, widen, widened_from_32};
 pub use padding::differ_in_padding_alone;
 pub use shape::fits;
 use std::alloc::Global;

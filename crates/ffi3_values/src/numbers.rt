@@ -1,7 +1,7 @@
 // The numbers of integers and pointers.
 ghost use Rattle.std.specs.Prelude.{◌≡◌, ◌%◌, ◌^◌, ◌<◌, ◌≤◌, ◌↔◌, IfOk, length, true, pos, negsuc, ◌-◌, ◌-ℤ◌, ◌≤ℤ◌, ◌<ℤ◌};
 ghost use Rattle.std.specs.Int.{w16, w32, w64, w128, to_le_bytes, from_le_bytes};
-ghost use Rattle.ffi3_type_rules.specs.Integer.{is_number_type, scalar_of, number_of, bytes_of_number, sum_of, widened, width_of, bit_count, modulo};
+ghost use Rattle.ffi3_type_rules.specs.Integer.{is_number_type, scalar_of, number_of, bytes_of_number, sum_of, widened, widened_from_32, width_of, bit_count, modulo};
 ghost use Rattle.ffi3_type_rules.specs.Layout.{size_of};
 ghost use Rattle.ffi3_type_rules.specs.Value.{fits, bytes_of, leaf_value};
 ghost use Rattle.ffi3_types.specs.TreeOf.{tree_of};
@@ -120,6 +120,18 @@ pub fn widen(ty: &FfiType, value: &Value) -> u64
         FfiType::Struct(_) | FfiType::Array(_, _) => unreachable!(),
         FfiType::LongDouble | FfiType::Complex | FfiType::Vector => unreachable!(),
     }
+}
+
+/// The 8 bytes of an integer in a register, extended by its sign to 32 bits where it is narrower, and from there by the
+/// upper bit.
+pub fn widened_from_32(ty: &FfiType, value: &Value) -> u64
+    requires kind { is_number_type (tree_of ty.now) ≡ true }
+    requires small { size_of (tree_of ty.now) ≤ 8 }
+    requires fits { fits (tree_of ty.now) (value_of value.now) ≡ true }
+    ensures { result ≡ widened_from_32 (scalar_of (tree_of ty.now)) (bytes_of (value_of value.now)) }
+{
+    let low = number(ty, value).cast_unsigned() % 0x1_0000_0000;
+    ((low as u32).cast_signed() as i64).cast_unsigned()
 }
 
 /// The bytes of a number of 128 bits.
