@@ -1,6 +1,5 @@
 -- The laws of what commands come to: of one input one outcome; that of the bytes that are read is that of all; and what is not refused is short.
 use Rattle.std.proofs.Common.{◌≡◌, ℕ, ◌<◌, ◌≤◌, List, length, take, refl, sym, ap, ◌∙◌, arith}
-use Rattle.std.specs.Prelude.{true, false}
 use Rattle.ffi3_script_rules.specs.Reading.{Reading, too_long, not_json, bad_script, script}
 use Rattle.ffi3_script_rules.specs.Script.{Script}
 use Rattle.ffi3_script_rules.specs.Natives.{NamedNative, names_of}
@@ -12,10 +11,10 @@ use Rattle.ffi3_image_rules.specs.declared.Question.TheVariants.{Explained, BySt
 use Rattle.ffi3_image_rules.specs.Input as image
 use Rattle.ffi3_image_rules.specs.Answer.{Answer}
 use Rattle.ffi3_image_rules.proofs.Inputs.{one_answer}
-use Rattle.ffi3_words.specs.declared.words.Request.{Request}
-use Rattle.ffi3_words.specs.declared.words.Request.TheVariants.{Layout, Place, Run, Cdecl, Cplace, Explain, Arguments, Bench}
+use Rattle.ffi3_words.specs.declared.words.InputCommand.{InputCommand}
+use Rattle.ffi3_words.specs.declared.words.InputCommand.TheVariants.{Layout, Place, Run, Cdecl, Cplace, Explain, Arguments}
 use Rattle.ffi3_app.specs.Declarations.{Input, too_many_bytes, not_utf8, a_text, IsReadAs}
-use Rattle.ffi3_app.specs.Outcome.{Outcome, refuses, outcome_of, outcome_of_input, outcome_of_answer, IsOfScript, IsOfDeclaration, IsOfImage, IsOutcome, reads_input}
+use Rattle.ffi3_app.specs.Outcome.{Outcome, refuses, outcome_of, outcome_of_input, outcome_of_answer, IsOfScript, IsOfDeclaration, IsOfImage, IsOutcomeOn}
 use Rattle.ffi3_app.proofs.Inputs.{reading_of_all, input_of_all, answer_of_all}
 
 -- what is not refused
@@ -89,10 +88,10 @@ module _ (question : Question) where
   image_is_short bytes o (a, (image.faulty path reason, (d, json, read), told), is) accepted = json.short
   image_is_short bytes o (a, (image.described s, (d, json, read), told), is) accepted = json.short
 
--- ---- of each request
+-- ---- of each command on the input
 
 module _ (natives : List NamedNative) where
-  pub one_outcome : (q : Request) (bytes : List ℕ) (o p : Outcome) → IsOutcome q natives bytes o → IsOutcome q natives bytes p → o ≡ p
+  pub one_outcome : (command : InputCommand) (bytes : List ℕ) (o p : Outcome) → IsOutcomeOn command natives bytes o → IsOutcomeOn command natives bytes p → o ≡ p
   one_outcome Layout bytes o p is is' = one_of_script (names_of natives) _ bytes o p is is'
   one_outcome (Place t) bytes o p is is' = one_of_script (names_of natives) _ bytes o p is is'
   one_outcome (Run t trace) bytes o p is is' = one_of_script (names_of natives) _ bytes o p is is'
@@ -100,9 +99,8 @@ module _ (natives : List NamedNative) where
   one_outcome Cplace bytes o p is is' = one_of_declaration _ bytes o p is is'
   one_outcome Explain bytes o p is is' = one_of_image Explained bytes o p is is'
   one_outcome Arguments bytes o p is is' = one_of_image ByStandard bytes o p is is'
-  one_outcome (Bench seed calls) bytes o p is is' = is ∙ sym is'
 
-  pub outcome_of_all : (q : Request) (all : List ℕ) (o : Outcome) → IsOutcome q natives (take 1048577 all) o → IsOutcome q natives all o
+  pub outcome_of_all : (command : InputCommand) (all : List ℕ) (o : Outcome) → IsOutcomeOn command natives (take 1048577 all) o → IsOutcomeOn command natives all o
   outcome_of_all Layout all o is = script_of_all (names_of natives) _ all o is
   outcome_of_all (Place t) all o is = script_of_all (names_of natives) _ all o is
   outcome_of_all (Run t trace) all o is = script_of_all (names_of natives) _ all o is
@@ -110,25 +108,12 @@ module _ (natives : List NamedNative) where
   outcome_of_all Cplace all o is = declaration_of_all _ all o is
   outcome_of_all Explain all o is = image_of_all Explained all o is
   outcome_of_all Arguments all o is = image_of_all ByStandard all o is
-  outcome_of_all (Bench seed calls) all o is = is
 
-  pub accepted_is_short : (q : Request) (bytes : List ℕ) (o : Outcome) → reads_input q ≡ true → IsOutcome q natives bytes o → IsAccepted o → length bytes ≤ 1048576
-  accepted_is_short Layout bytes o reads is accepted = script_is_short (names_of natives) _ bytes o is accepted
-  accepted_is_short (Place t) bytes o reads is accepted = script_is_short (names_of natives) _ bytes o is accepted
-  accepted_is_short (Run t trace) bytes o reads is accepted = script_is_short (names_of natives) _ bytes o is accepted
-  accepted_is_short Cdecl bytes o reads is accepted = declaration_is_short _ bytes o is accepted
-  accepted_is_short Cplace bytes o reads is accepted = declaration_is_short _ bytes o is accepted
-  accepted_is_short Explain bytes o reads is accepted = image_is_short Explained bytes o is accepted
-  accepted_is_short Arguments bytes o reads is accepted = image_is_short ByStandard bytes o is accepted
-  accepted_is_short (Bench seed calls) bytes o reads is accepted = cc
-
-  -- where the input is not read it does not matter
-  pub unread_outcome : (q : Request) (bytes other : List ℕ) (o : Outcome) → reads_input q ≡ false → IsOutcome q natives bytes o → IsOutcome q natives other o
-  unread_outcome Layout bytes other o unread is = cc
-  unread_outcome (Place t) bytes other o unread is = cc
-  unread_outcome (Run t trace) bytes other o unread is = cc
-  unread_outcome Cdecl bytes other o unread is = cc
-  unread_outcome Cplace bytes other o unread is = cc
-  unread_outcome Explain bytes other o unread is = cc
-  unread_outcome Arguments bytes other o unread is = cc
-  unread_outcome (Bench seed calls) bytes other o unread is = is
+  pub accepted_is_short : (command : InputCommand) (bytes : List ℕ) (o : Outcome) → IsOutcomeOn command natives bytes o → IsAccepted o → length bytes ≤ 1048576
+  accepted_is_short Layout bytes o is accepted = script_is_short (names_of natives) _ bytes o is accepted
+  accepted_is_short (Place t) bytes o is accepted = script_is_short (names_of natives) _ bytes o is accepted
+  accepted_is_short (Run t trace) bytes o is accepted = script_is_short (names_of natives) _ bytes o is accepted
+  accepted_is_short Cdecl bytes o is accepted = declaration_is_short _ bytes o is accepted
+  accepted_is_short Cplace bytes o is accepted = declaration_is_short _ bytes o is accepted
+  accepted_is_short Explain bytes o is accepted = image_is_short Explained bytes o is accepted
+  accepted_is_short Arguments bytes o is accepted = image_is_short ByStandard bytes o is accepted

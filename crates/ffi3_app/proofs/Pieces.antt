@@ -1,6 +1,6 @@
 -- What came of pieces that were written one after another.
 use Rattle.std.proofs.Common.{◌≡◌, ℕ, ◌+◌, ◌-◌, ◌≤◌, List, [], ◌++◌, map, drop, length, refl, sym, ap, ◌∙◌, subst, arith, take-append-drop}
-use Rattle.std.specs.Prelude.{Result, Ok, Err, ◌<◌, get_or, slice_range}
+use Rattle.std.specs.Prelude.{Result, Ok, Err, IfOk, ◌<◌, get_or, slice_range}
 use Rattle.std.proofs.lemmas.List.{drop_more, drop-drop}
 use Rattle.std.proofs.lemmas.List.Folds.{concat-append}
 use Rattle.std.proofs.Math.ListN.{drop_of_length-le}
@@ -101,6 +101,10 @@ module _ (line : Position → List ℕ) (ts : List Tree) (last : List (List ℕ)
   pub arguments_end : (j : ℕ) → length ts ≤ j → concat (map line (arguments_from j (drop j ts)) ++ last) ≡ concat last
   arguments_end j end =
       ap (λ rest. concat (map line (arguments_from j rest) ++ last)) (drop_of_length-le ts {i = j} end)
+
+-- a line that was made of a signature is that of the same signature
+pub line_for : {E : Type 0} (text : Signature → List ℕ) (s t : Signature) (line : Result (List ℕ) E) → s ≡ t → IfOk line (λ l. l ≡ text s) → IfOk line (λ l. l ≡ text t)
+line_for text s t line is made = subst (λ v. IfOk line (λ l. l ≡ text v)) is made
 
 -- what was written of a signature was written of the same signature
 pub wrote_for : (text : Signature → List ℕ) (s t : Signature) (a b : SinkState) (r : Writing) → s ≡ t → Wrote (text s) a b r → Wrote (text t) a b r

@@ -35,12 +35,12 @@ use Rattle.ffi3_image_rules.specs.Answer.{IsTheAnswer}
 use Rattle.ffi3_image.specs.declared.answers.Answer.{Answer as CodeAnswer}
 use Rattle.ffi3_image.specs.declared.answers.Answer.TheVariants.{Text, Refusal}
 use Rattle.ffi3_image.specs.AnswerOf.{answer_of}
-use Rattle.ffi3_words.specs.declared.words.Request.{Request}
+use Rattle.ffi3_words.specs.declared.words.InputCommand.{InputCommand}
 use Rattle.ffi3_app.specs.declared.unfinished.Unfinished.{Unfinished}
 use Rattle.ffi3_app.specs.declared.unfinished.Unfinished.TheVariants.{Refused, NoMemory, WriteFault}
 use Rattle.ffi3_app.specs.Commands.{standard_of}
 use Rattle.ffi3_app.specs.Declarations.{Input, a_text, IsReadAs, IsWritable, offset_line, reason_line}
-use Rattle.ffi3_app.specs.Outcome.{Outcome, refuses, tells, runs, benches, IsOfScript, IsOfDeclaration, IsOfImage, outcome_of_input, outcome_of_answer, IsOutcome}
+use Rattle.ffi3_app.specs.Outcome.{Outcome, refuses, tells, runs, benches, IsOfScript, IsOfDeclaration, IsOfImage, outcome_of_input, outcome_of_answer, IsOutcomeOn}
 use Rattle.ffi3_app.specs.Work.{Works, IsToldAs, IsFaultToldAs, IsNoScript, IsNoDeclaration, RefusesWith, work_of_writing}
 
 -- outcomes of one kind are outcomes of another
@@ -166,10 +166,10 @@ no_declaration_works outcome bytes output machine (Refused line) is = (is outcom
 no_declaration_works outcome bytes output machine NoMemory is = (inl (refl, refl), refl)
 no_declaration_works outcome bytes output machine WriteFault is = absurd is
 
--- what was done for a request was done for the same request
-pub works_as : (q r : Request) (natives : List NamedNative) (bytes : List ℕ) (output output' : SinkState) (machine machine' : State) (result : Result ℕ Unfinished) → q ≡ r → Works (IsOutcome r natives bytes) output output' machine machine' result → Works (IsOutcome q natives bytes) output output' machine machine' result
+-- what was done for a command was done for the same command
+pub works_as : (q r : InputCommand) (natives : List NamedNative) (bytes : List ℕ) (output output' : SinkState) (machine machine' : State) (result : Result ℕ Unfinished) → q ≡ r → Works (IsOutcomeOn r natives bytes) output output' machine machine' result → Works (IsOutcomeOn q natives bytes) output output' machine machine' result
 works_as q r natives bytes output output' machine machine' result same works =
-    let P = λ (x : Request). Works (IsOutcome x natives bytes) output output' machine machine' result in subst P (sym same) works
+    let P = λ (x : InputCommand). Works (IsOutcomeOn x natives bytes) output output' machine machine' result in subst P (sym same) works
 
 -- and by the standard of the same target
 pub works_by : (natives : List NamedNative) (s : Script) (trace : Bool) (output output' : SinkState) (machine machine' : State) (t u : Target) (r : Result ℕ Unfinished) → t ≡ u → Works (λ o. o ≡ runs trace (standard_of u) (program_beside (standard_of u) natives s)) output output' machine machine' r → Works (λ o. o ≡ runs trace (standard_of t) (program_beside (standard_of t) natives s)) output output' machine machine' r

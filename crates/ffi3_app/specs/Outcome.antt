@@ -18,9 +18,10 @@ use Rattle.ffi3_runner.specs.RunMatches.{RunMatches, WrotePart}
 use Rattle.ffi3_runner.specs.RunInterrupted.{RunWasInterrupted}
 use Rattle.ffi3_io.specs.Sink.{Adds, SinkState}
 use Rattle.ffi3_io.specs.Written.{TookText}
+use Rattle.ffi3_words.specs.declared.words.InputCommand.{InputCommand}
+use Rattle.ffi3_words.specs.declared.words.InputCommand.TheVariants.{Layout, Place, Run, Cdecl, Cplace, Explain, Arguments}
 use Rattle.ffi3_words.specs.declared.words.Request.{Request}
-use Rattle.ffi3_words.specs.declared.words.Request.TheVariants.{Layout, Place, Run, Cdecl, Cplace, Explain, Arguments}
-use Rattle.ffi3_words.specs.declared.words.Request.TheVariants.{Bench}
+use Rattle.ffi3_words.specs.declared.words.Request.TheVariants.{OnInput, Bench}
 use Rattle.ffi3_cdecl_rules.specs.Grammar.{Declaration}
 use Rattle.ffi3_cdecl_rules.specs.Reading as declaration
 use Rattle.ffi3_image_rules.specs.declared.Question.{Question}
@@ -91,24 +92,28 @@ IsOfImage question bytes o =
 
 -- ---- all commands
 
+-- A COMMAND ON THE INPUT COMES TO THIS, with these bytes as its input, beside natives
+abbrev pub IsOutcomeOn : InputCommand → List NamedNative → List ℕ → Outcome → Type 0
+IsOutcomeOn Layout natives bytes o =
+    IsOfScript (names_of natives) (λ s. tells (layout_text s)) bytes o
+IsOutcomeOn (Place t) natives bytes o =
+    IsOfScript (names_of natives) (λ s. tells (place_text (standard_of t) s)) bytes o
+IsOutcomeOn (Run t trace) natives bytes o =
+    IsOfScript (names_of natives) (λ s. runs trace (standard_of t) (program_beside (standard_of t) natives s)) bytes o
+IsOutcomeOn Cdecl natives bytes o = IsOfDeclaration (λ d. tells (cdecl_text d)) bytes o
+IsOutcomeOn Cplace natives bytes o = IsOfDeclaration (λ d. tells (cplace_text d)) bytes o
+IsOutcomeOn Explain natives bytes o = IsOfImage Explained bytes o
+IsOutcomeOn Arguments natives bytes o = IsOfImage ByStandard bytes o
+
 -- WHAT IS ASKED FOR COMES TO THIS, with these bytes as its input, beside natives
 abbrev pub IsOutcome : Request → List NamedNative → List ℕ → Outcome → Type 0
-IsOutcome Layout natives bytes o =
-    IsOfScript (names_of natives) (λ s. tells (layout_text s)) bytes o
-IsOutcome (Place t) natives bytes o =
-    IsOfScript (names_of natives) (λ s. tells (place_text (standard_of t) s)) bytes o
-IsOutcome (Run t trace) natives bytes o =
-    IsOfScript (names_of natives) (λ s. runs trace (standard_of t) (program_beside (standard_of t) natives s)) bytes o
-IsOutcome Cdecl natives bytes o = IsOfDeclaration (λ d. tells (cdecl_text d)) bytes o
-IsOutcome Cplace natives bytes o = IsOfDeclaration (λ d. tells (cplace_text d)) bytes o
-IsOutcome Explain natives bytes o = IsOfImage Explained bytes o
-IsOutcome Arguments natives bytes o = IsOfImage ByStandard bytes o
+IsOutcome (OnInput command) natives bytes o = IsOutcomeOn command natives bytes o
 IsOutcome (Bench seed calls) natives bytes o = o ≡ benches seed calls
 
 -- each command but `bench` reads the input
 abbrev pub reads_input : Request → Bool
+reads_input (OnInput command) = true
 reads_input (Bench seed calls) = false
-reads_input _ = true
 
 -- ---- what comes of it
 

@@ -1,12 +1,14 @@
 -- What each status of the top call says, with its cause.
-use Rattle.std.specs.Prelude.{◌≡◌, ℕ, Bool, true, false, ◌+◌, List, [], drop, Some}
+use Rattle.std.specs.Prelude.{◌≡◌, ℕ, false, ◌+◌, List, [], drop, Some}
 use Rattle.ffi3_io.specs.Sink.{Rose, SinkState}
 use Rattle.ffi3_io.specs.Source.{LosesSome, SourceState}
 use Rattle.ffi3_status.specs.FaultLines.{read_fault_line, write_fault_line, no_memory_line, ReportsFault}
 use Rattle.ffi3_script_rules.specs.Reading.{max_length}
 use Rattle.ffi3_script_rules.specs.Natives.{NamedNative}
 use Rattle.ffi3_machine.specs.State.{State}
+use Rattle.ffi3_words.specs.declared.words.InputCommand.{InputCommand}
 use Rattle.ffi3_words.specs.declared.words.Request.{Request}
+use Rattle.ffi3_words.specs.declared.words.Request.TheVariants.{OnInput, Bench}
 use Rattle.ffi3_words.specs.Words.{Takes, IsRefused}
 use Rattle.ffi3_app.specs.Outcome.{Outcome, refuses, tells, runs, benches, IsOutcome, reads_input, IsDone, IsDoneInPart}
 
@@ -34,16 +36,16 @@ IsRead before after =
 abbrev pub IsReadInPart : SourceState → SourceState → Type 0
 IsReadInPart before after = LosesSome (max_length + 1) before.left after.left
 
--- what was asked for left the input so: a command that reads read it, to its end where it is not refused, and no read failed; another did not touch it
-abbrev pub LeftInput : (reads : Bool) → Outcome → SourceState → SourceState → Type 0
-LeftInput false o input input' = input' ≡ input
-LeftInput true (refuses line) input input' =
+-- what was asked for left the input so: a command on the input read it, to its end where it is not refused, and no read failed; `bench` did not touch it
+abbrev pub LeftInput : Request → Outcome → SourceState → SourceState → Type 0
+LeftInput (Bench seed calls) o input input' = input' ≡ input
+LeftInput (OnInput command) (refuses line) input input' =
     IsRead input input' × (input'.faults ≡ input.faults)
-LeftInput true (tells text) input input' =
+LeftInput (OnInput command) (tells text) input input' =
     IsRead input input' × IsAtEnd input input' × (input'.faults ≡ input.faults)
-LeftInput true (runs trace std program) input input' =
+LeftInput (OnInput command) (runs trace std program) input input' =
     IsRead input input' × IsAtEnd input input' × (input'.faults ≡ input.faults)
-LeftInput true (benches seed calls) input input' =
+LeftInput (OnInput command) (benches seed calls) input input' =
     IsRead input input' × IsAtEnd input input' × (input'.faults ≡ input.faults)
 
 -- ---- statuses
@@ -53,17 +55,16 @@ pub data Fails (words : List (List ℕ)) (natives : List NamedNative) (input inp
     (output output' : SinkState) (machine machine' : State) : ℕ → List ℕ → Type 0 where
   refused : {request : Request}
       → Takes words request → {line : List ℕ} → ComesTo request natives input (refuses line)
-      → LeftInput (reads_input request) (refuses line) input input' → output' ≡ output → machine' ≡ machine
+      → LeftInput request (refuses line) input input' → output' ≡ output → machine' ≡ machine
       → Fails words natives input input' output output' machine machine' 1 line
   bad_words : {line : List ℕ} → IsRefused words → input' ≡ input → output' ≡ output → machine' ≡ machine
       → Fails words natives input input' output output' machine machine' 2 line
-  read_failed : {request : Request}
-      → Takes words request → reads_input request ≡ true → Rose input.faults input'.faults → IsReadInPart input input'
-      → output' ≡ output → machine' ≡ machine
+  read_failed : {command : InputCommand}
+      → Takes words (OnInput command) → Rose input.faults input'.faults → IsReadInPart input input' → output' ≡ output → machine' ≡ machine
       → Fails words natives input input' output output' machine machine' 3 read_fault_line
   write_failed : {request : Request}
       → Takes words request → (o : Outcome) → ComesTo request natives input o
-      → LeftInput (reads_input request) o input input' → IsDoneInPart true o output output' machine machine'
+      → LeftInput request o input input' → IsDoneInPart true o output output' machine machine'
       → Rose output.faults output'.faults
       → Fails words natives input input' output output' machine machine' 4 write_fault_line
   no_memory_for_words : input' ≡ input → output' ≡ output → machine' ≡ machine
@@ -74,7 +75,7 @@ pub data Fails (words : List (List ℕ)) (natives : List NamedNative) (input inp
       → Fails words natives input input' output output' machine machine' 5 no_memory_line
   no_memory_to_end : {request : Request}
       → Takes words request → (o : Outcome) → ComesTo request natives input o
-      → LeftInput (reads_input request) o input input' → IsDoneInPart false o output output' machine machine'
+      → LeftInput request o input input' → IsDoneInPart false o output output' machine machine'
       → output'.faults ≡ output.faults
       → Fails words natives input input' output output' machine machine' 5 no_memory_line
 
@@ -83,7 +84,7 @@ pub data Says (words : List (List ℕ)) (natives : List NamedNative) (input inpu
     (output output' told told' : SinkState) (machine machine' : State) : ℕ → Type 0 where
   done : {request : Request} {status : ℕ}
       → Takes words request → (o : Outcome) → ComesTo request natives input o
-      → LeftInput (reads_input request) o input input' → IsDone o output output' machine machine' status → told' ≡ told
+      → LeftInput request o input input' → IsDone o output output' machine machine' status → told' ≡ told
       → Says words natives input input' output output' told told' machine machine' status
   failed : {status : ℕ} {line : List ℕ} {answer : ℕ}
       → Fails words natives input input' output output' machine machine' status line

@@ -1,12 +1,11 @@
--- What a command did with the bytes of its input, and why it ended before its end.
-use Rattle.std.specs.Prelude.{◌≡◌, ◌+◌, ◌⊎◌, ℕ, Bool, true, false, List, [], codes, Result, Ok, Err}
+-- What came of work, why it ended before its end, and how that is told.
+use Rattle.std.specs.Prelude.{◌≡◌, ◌⊎◌, ℕ, true, false, List, codes, Result, Ok, Err}
 use Rattle.ffi3_cdecl.specs.declared.fault.DeclFault.{DeclFault}
 use Rattle.ffi3_cdecl.specs.declared.fault.DeclFault.TheVariants as decl
 use Rattle.ffi3_cdecl_rules.specs.Grammar.{Declaration}
 use Rattle.ffi3_io.specs.Sink.{Rose, SinkState}
 use Rattle.ffi3_io.specs.declared.IoError.{IoError}
 use Rattle.ffi3_io.specs.declared.IoError.TheVariants as io
-use Rattle.ffi3_io.specs.Source.{GivesFirst, SourceState}
 use Rattle.ffi3_json.specs.ReasonOf.{reason_of}
 use Rattle.ffi3_json.specs.declared.fault.ScriptFault.{ScriptFault}
 use Rattle.ffi3_json.specs.declared.fault.ScriptFault.TheVariants as fault
@@ -14,19 +13,13 @@ use Rattle.ffi3_machine.specs.State.{State}
 use Rattle.ffi3_run_rules.specs.Lines.{a_line}
 use Rattle.ffi3_script_rules.specs.Language.{reason_of_fault}
 use Rattle.ffi3_script_rules.specs.ReasonText.{text_of_reason}
-use Rattle.ffi3_script_rules.specs.Reading.{max_length}
 use Rattle.ffi3_script_rules.specs.Script.{Script}
+use Rattle.ffi3_status.specs.FaultLines.{ReportsFault, no_memory_line, write_fault_line}
 use Rattle.ffi3_types.specs.SignatureFaultOf.{signature_fault_of}
 use Rattle.ffi3_app.specs.Declarations.{offset_line, reason_line}
 use Rattle.ffi3_app.specs.declared.unfinished.Unfinished.{Unfinished}
 use Rattle.ffi3_app.specs.declared.unfinished.Unfinished.TheVariants.{Refused, NoMemory, WriteFault}
 use Rattle.ffi3_app.specs.Outcome.{Outcome, refuses, located_line, IsOfScript, IsOfDeclaration, IsDone, IsDoneInPart}
-
--- a command that reads was given the first bytes of the input, one more than a script may have at most; another was given none, and the input was not touched
-abbrev pub WasGiven : (reads : Bool) → SourceState → List ℕ → SourceState → Type 0
-WasGiven true input bytes input' =
-    GivesFirst (max_length + 1) input.left bytes input'.left × (input'.faults ≡ input.faults)
-WasGiven false input bytes input' = (input' ≡ input) × (bytes ≡ [])
 
 -- WHAT CAME OF WORK whose outcomes are these: one of them is done; or the input is refused by one of them; or one is done in part
 abbrev pub Works : (Outcome → Type 0) → SinkState → SinkState → State → State → Result ℕ Unfinished → Type 0
@@ -50,6 +43,13 @@ unfinished_by io.Failed = WriteFault
 abbrev pub work_of_writing : Result Unit IoError → Result ℕ Unfinished
 work_of_writing (Ok u) = Ok 0
 work_of_writing (Err why) = Err (unfinished_by why)
+
+-- HOW WORK ENDED IS TOLD: nothing where all of it was done, and else the line of why it was not
+abbrev pub IsEndTold : Result ℕ Unfinished → SinkState → SinkState → ℕ → Type 0
+IsEndTold (Ok status) told told' answer = (answer ≡ status) × (told' ≡ told)
+IsEndTold (Err (Refused line)) told told' answer = ReportsFault line 1 told told' answer
+IsEndTold (Err NoMemory) told told' answer = ReportsFault no_memory_line 5 told told' answer
+IsEndTold (Err WriteFault) told told' answer = ReportsFault write_fault_line 4 told told' answer
 
 -- the input is refused with this line, or there was no memory for it
 abbrev pub RefusesWith : List ℕ → Unfinished → Type 0

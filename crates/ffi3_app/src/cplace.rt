@@ -1,7 +1,6 @@
 //! The lines of cplace.
 ghost use Rattle.std.specs.Prelude.{◌≡◌, IfOk};
 ghost use Rattle.std.specs.List.{flat_map};
-ghost use Rattle.ffi3_type_rules.specs.Signature.{SignatureHasNoFault};
 ghost use Rattle.ffi3_app.specs.Declarations.{IsWritable, cplace_text, every_target, placed_on, target_line};
 ghost use Rattle.ffi3_io.specs.Written.{Wrote};
 
@@ -10,7 +9,7 @@ use crate::place::place_signature;
 use crate::write::write_made_line;
 use ffi3_cdecl::Declaration;
 use ffi3_io::{IoError, Sink};
-use ffi3_types::{Bytes, NoMemory, Sig, Target};
+use ffi3_types::{Bytes, CheckedSig, NoMemory, Target};
 use ffi3_words::target_word;
 use std::alloc::Global;
 
@@ -24,12 +23,15 @@ pub fn cplace<O: Sink>(
     ensures { Wrote (cplace_text declaration.now) (O.state output.old) (O.state output.new) result }
 {
     cdecl(alloc, declaration, output)?;
-    place_everywhere(alloc, declaration.sig(), output)
+    place_everywhere(alloc, &CheckedSig::of(declaration.sig()), output)
 }
 
 // The targets, one after another.
-fn place_everywhere<O: Sink>(alloc: Global, sig: &Sig, output: &mut O) -> Result<(), IoError>
-    requires { SignatureHasNoFault sig.now }
+fn place_everywhere<O: Sink>(
+    alloc: Global,
+    sig: &CheckedSig<'_>,
+    output: &mut O,
+) -> Result<(), IoError>
     ensures { Wrote (flat_map (placed_on sig.now) every_target) (O.state output.old) (O.state output.new) result }
 {
     place_on(alloc, Target::Amd64, sig, output)?;
@@ -42,10 +44,9 @@ fn place_everywhere<O: Sink>(alloc: Global, sig: &Sig, output: &mut O) -> Result
 fn place_on<O: Sink>(
     alloc: Global,
     target: Target,
-    sig: &Sig,
+    sig: &CheckedSig<'_>,
     output: &mut O,
 ) -> Result<(), IoError>
-    requires { SignatureHasNoFault sig.now }
     ensures { Wrote (placed_on sig.now target) (O.state output.old) (O.state output.new) result }
 {
     write_made_line(output, target_line(alloc, target))?;

@@ -1,5 +1,4 @@
 //! The lines of layout.
-ghost use Rattle.ffi3_type_rules.specs.Signature.{SignatureHasNoFault};
 ghost use Rattle.ffi3_script.specs.ScriptOf.{script_of};
 ghost use Rattle.std.specs.List.{concat};
 ghost use Rattle.ffi3_app.specs.Commands.{layout_lines, layout_text};
@@ -9,7 +8,7 @@ use crate::write::write_made_line;
 use ffi3_io::{IoError, Sink};
 use ffi3_script::Script;
 use ffi3_text::layout_line;
-use ffi3_types::{At, Sig};
+use ffi3_types::{At, CheckedSig};
 use std::alloc::Global;
 
 /// Writes the layout of the types of each signature, one line for each type.
@@ -18,19 +17,24 @@ pub fn layout<O: Sink>(alloc: Global, script: &Script, output: &mut O) -> Result
 {
     let sigs = script.sigs();
     for i in 0..sigs.len() {
-        layout_of(alloc, i as u32, sigs.get(i), output)?;
+        let sig = CheckedSig::of(sigs.get(i));
+        layout_of(alloc, i as u32, &sig, output)?;
     }
     Ok(())
 }
 
 // The lines of one signature: of its result, then of its arguments.
-fn layout_of<O: Sink>(alloc: Global, number: u32, sig: &Sig, output: &mut O) -> Result<(), IoError>
-    requires { SignatureHasNoFault sig.now }
+fn layout_of<O: Sink>(
+    alloc: Global,
+    number: u32,
+    sig: &CheckedSig<'_>,
+    output: &mut O,
+) -> Result<(), IoError>
     ensures { Wrote (concat (layout_lines number sig.now)) (O.state output.old) (O.state output.new) result }
 {
-    write_made_line(output, layout_line(alloc, number, sig, At::Ret))?;
+    write_made_line(output, layout_line(alloc, number, sig.as_sig(), At::Ret))?;
     for j in 0..sig.count() {
-        write_made_line(output, layout_line(alloc, number, sig, At::Arg(j)))?;
+        write_made_line(output, layout_line(alloc, number, sig.as_sig(), At::Arg(j)))?;
     }
     Ok(())
 }

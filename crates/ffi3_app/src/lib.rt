@@ -4,7 +4,6 @@
 mod cdecl;
 mod cplace;
 mod declaration;
-mod input;
 mod layout;
 mod names;
 mod place;

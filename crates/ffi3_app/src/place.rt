@@ -1,6 +1,4 @@
 //! The lines of place.
-ghost use Rattle.std.specs.Prelude.{◌≡◌, IfOk};
-ghost use Rattle.ffi3_type_rules.specs.Signature.{SignatureHasNoFault};
 ghost use Rattle.ffi3_script.specs.ScriptOf.{script_of};
 ghost use Rattle.std.specs.List.{concat};
 ghost use Rattle.ffi3_app.specs.Commands.{place_lines, place_text, standard_of};
@@ -15,7 +13,7 @@ use ffi3_place::Abi;
 use ffi3_riscv::Riscv;
 use ffi3_script::Script;
 use ffi3_text::{place_line, sig_line};
-use ffi3_types::{At, NoMemory, Sig, Target};
+use ffi3_types::{At, CheckedSig, Target};
 use ffi3_win64::Win64;
 use std::alloc::Global;
 
@@ -42,10 +40,9 @@ pub fn place_signature<O: Sink>(
     alloc: Global,
     target: Target,
     number: u32,
-    sig: &Sig,
+    sig: &CheckedSig<'_>,
     output: &mut O,
 ) -> Result<(), IoError>
-    requires { SignatureHasNoFault sig.now }
     ensures { Wrote (concat (place_lines (standard_of target) number sig.now)) (O.state output.old) (O.state output.new) result }
 {
     match target {
@@ -62,7 +59,8 @@ fn place_by<A: Abi, O: Sink>(alloc: Global, script: &Script, output: &mut O) -> 
 {
     let sigs = script.sigs();
     for i in 0..sigs.len() {
-        place_one::<A, O>(alloc, i as u32, sigs.get(i), output)?;
+        let sig = CheckedSig::of(sigs.get(i));
+        place_one::<A, O>(alloc, i as u32, &sig, output)?;
     }
     Ok(())
 }
@@ -71,13 +69,12 @@ fn place_by<A: Abi, O: Sink>(alloc: Global, script: &Script, output: &mut O) -> 
 fn place_one<A: Abi, O: Sink>(
     alloc: Global,
     number: u32,
-    sig: &Sig,
+    sig: &CheckedSig<'_>,
     output: &mut O,
 ) -> Result<(), IoError>
-    requires { SignatureHasNoFault sig.now }
     ensures { Wrote (concat (place_lines A.standard number sig.now)) (O.state output.old) (O.state output.new) result }
 {
-    let cif = cif_of::<A>(alloc, sig)?;
+    let cif: Cif<A> = Cif::prepare_copy(alloc, sig)?;
     place_of(alloc, number, &cif, output)
 }
 
@@ -95,12 +92,4 @@ fn place_of<A: Abi, O: Sink>(
         write_made_line(output, place_line(alloc, cif, At::Arg(j)))?;
     }
     write_made_line(output, place_line(alloc, cif, At::Ret))
-}
-
-// The signature prepared for calls.
-fn cif_of<A: Abi>(alloc: Global, sig: &Sig) -> Result<Cif<A>, NoMemory>
-    requires { SignatureHasNoFault sig.now }
-    ensures { IfOk result (λ c. c ≡ sig.now) }
-{
-    Cif::prepare_copy(alloc, &ffi3_types::CheckedSig::of(sig))
 }

@@ -2,19 +2,20 @@
 ghost use Rattle.std.specs.Prelude.{◌≡◌, ◌<◌, ◌⊎◌, ◌^◌, List, ℕ, Some, length, map, string_bytes, true};
 ghost use Rattle.ffi3_io.specs.Sink.{Rose};
 ghost use Rattle.ffi3_words.specs.declared.words.Request.{Request};
+ghost use Rattle.ffi3_words.specs.declared.words.Request.TheVariants.{OnInput};
 ghost use Rattle.ffi3_words.specs.Words.{IsStated, Takes};
 ghost use Rattle.ffi3_ask.specs.Handed.{AreFew, handed, signatures_in};
 ghost use Rattle.ffi3_app.specs.Outcome.{IsOutcome, Outcome, outcome_status, reads_input};
 ghost use Rattle.ffi3_app.specs.Top.{Says};
 
-use crate::input::{bytes_for, reads_input};
-use crate::unfinished::Unfinished;
-use crate::work::work;
+use crate::unfinished::tell_end;
+use crate::work::{run_bench, work};
 use ffi3_body::Native;
-use ffi3_io::{IoError, Sink, Source};
+use ffi3_io::{IoError, Sink, Source, read_all};
+use ffi3_json::MAX_LENGTH;
 use ffi3_machine::Machine;
-use ffi3_status::{Fault, tell, tell_bytes, tell_fault};
-use ffi3_words::{WordsFault, read_words};
+use ffi3_status::{Fault, tell, tell_fault};
+use ffi3_words::{InputCommand, Request, WordsFault, read_words};
 use std::alloc::Global;
 
 /// Runs the command line and returns the exit status.
@@ -90,20 +91,43 @@ fn answer<I: Source, O: Sink, E: Sink>(
         (E.state faults.old) (E.state faults.new)
         machine.old machine.new result }
 {
-    let request = match read_words(alloc, words) {
-        Ok(request) => request,
-        Err(WordsFault::Refused(text)) => return tell(faults, text.as_str(), 2),
-        Err(WordsFault::NoMemory) => return tell_fault(faults, Fault::NoMemory),
-    };
-    let bytes = match bytes_for(alloc, reads_input(request), input) {
+    match read_words(alloc, words) {
+        Ok(Request::OnInput(command)) => {
+            answer_on_input(alloc, command, input, output, faults, natives, machine)
+        }
+        Ok(Request::Bench { seed, calls }) => {
+            tell_end(faults, run_bench(alloc, seed, calls, machine, output))
+        }
+        Err(WordsFault::Refused(text)) => tell(faults, text.as_str(), 2),
+        Err(WordsFault::NoMemory) => tell_fault(faults, Fault::NoMemory),
+    }
+}
+
+// A command on the input, of which all is read, as far as one byte more than a script may have.
+fn answer_on_input<I: Source, O: Sink, E: Sink>(
+    alloc: Global,
+    command: InputCommand,
+    input: &mut I,
+    output: &mut O,
+    faults: &mut E,
+    natives: &Vec<Box<dyn Native>>,
+    machine: &mut Machine,
+) -> u8
+    requires { AreFew title meaning signatures natives.now.items }
+    ensures { (words : List (List ℕ)) → Takes words (OnInput command) →
+        Says words (handed title meaning signatures natives.now.items)
+        (I.state input.old) (I.state input.new)
+        (O.state output.old) (O.state output.new)
+        (E.state faults.old) (E.state faults.new)
+        machine.old machine.new result }
+{
+    let bytes = match read_all(alloc, input, MAX_LENGTH + 1) {
         Ok(bytes) => bytes,
         Err(IoError::NoMemory) => return tell_fault(faults, Fault::NoMemory),
         Err(IoError::Failed) => return tell_fault(faults, Fault::Read),
     };
-    match work(alloc, request, &bytes, natives, machine, output) {
-        Ok(status) => status,
-        Err(Unfinished::Refused(line)) => tell_bytes(faults, line.as_slice(), 1),
-        Err(Unfinished::NoMemory) => tell_fault(faults, Fault::NoMemory),
-        Err(Unfinished::WriteFault) => tell_fault(faults, Fault::Write),
-    }
+    tell_end(
+        faults,
+        work(alloc, command, &bytes, natives, machine, output),
+    )
 }

@@ -1,8 +1,9 @@
-//! Why a command ended before its end.
+//! Why a command ended before its end, and how that is told.
 ghost use Rattle.std.specs.Prelude.{◌≡◌, List, ℕ, IfOk};
-ghost use Rattle.ffi3_app.specs.Work.{RefusesWith};
+ghost use Rattle.ffi3_app.specs.Work.{IsEndTold, RefusesWith};
 
-use ffi3_io::IoError;
+use ffi3_io::{IoError, Sink};
+use ffi3_status::{Fault, tell_bytes, tell_fault};
 use ffi3_types::{Bytes, NoMemory};
 use std::alloc::Global;
 
@@ -47,4 +48,16 @@ pub fn words(alloc: Global, text: &str) -> Result<Bytes, NoMemory>
     ensures { IfOk result (λ line. line ≡ text.now) }
 {
     Bytes::from_slice(alloc, text.as_bytes())
+}
+
+/// The status that work came to. Where it ended before its end, the line of why is told.
+pub fn tell_end<E: Sink>(faults: &mut E, end: Result<u8, Unfinished>) -> u8
+    ensures { IsEndTold end (E.state faults.old) (E.state faults.new) result }
+{
+    match end {
+        Ok(status) => status,
+        Err(Unfinished::Refused(line)) => tell_bytes(faults, line.as_slice(), 1),
+        Err(Unfinished::NoMemory) => tell_fault(faults, Fault::NoMemory),
+        Err(Unfinished::WriteFault) => tell_fault(faults, Fault::Write),
+    }
 }

@@ -1,14 +1,13 @@
-//! What each command does with its input.
+//! What each command does.
 ghost use Rattle.std.specs.Prelude.{◌≡◌, ◌<◌, ◌≤◌, ◌^◌, length};
 ghost use Rattle.ffi3_script.specs.ScriptOf.{script_of, natives_of};
 ghost use Rattle.ffi3_script_rules.specs.Natives.{names_of, program_beside};
 ghost use Rattle.ffi3_ask.specs.Handed.{AreFew, handed};
 ghost use Rattle.ffi3_machine.specs.State.{State};
 ghost use Rattle.ffi3_type_rules.specs.declared.limits.TheConstants.{MOST_CALLS};
-ghost use Rattle.ffi3_words.specs.WordAnswers.{IsInRange};
 ghost use Rattle.ffi3_app.specs.Commands.{layout_text, place_text, standard_of};
 ghost use Rattle.ffi3_app.specs.Declarations.{cdecl_text, cplace_text};
-ghost use Rattle.ffi3_app.specs.Outcome.{IsOfDeclaration, IsOfImage, IsOfScript, IsOutcome, benches, runs, tells};
+ghost use Rattle.ffi3_app.specs.Outcome.{IsOfDeclaration, IsOfImage, IsOfScript, IsOutcomeOn, benches, runs, tells};
 ghost use Rattle.ffi3_app.specs.Work.{Works, work_of_writing};
 
 use crate::cdecl::cdecl;
@@ -32,34 +31,32 @@ use ffi3_runner::{RunEnd, Runner};
 use ffi3_script::Script;
 use ffi3_types::Target;
 use ffi3_win64::Win64;
-use ffi3_words::Request;
+use ffi3_words::InputCommand;
 use std::alloc::Global;
 
-/// Carries out a request with the bytes of its input, beside natives, and returns the exit status: 0, or 6 where a run
+/// Carries out a command on the bytes of the input, beside natives, and returns the exit status: 0, or 6 where a run
 /// stopped.
 pub fn work<O: Sink>(
     alloc: Global,
-    request: Request,
+    command: InputCommand,
     bytes: &[u8],
     natives: &Vec<Box<dyn Native>>,
     machine: &mut Machine,
     output: &mut O,
 ) -> Result<u8, Unfinished>
-    requires in_range { IsInRange request }
-    requires few { AreFew title meaning signatures natives.now.items }
-    ensures { Works (IsOutcome request (handed title meaning signatures natives.now.items) bytes.now) (O.state output.old) (O.state output.new) machine.old machine.new result }
+    requires { AreFew title meaning signatures natives.now.items }
+    ensures { Works (IsOutcomeOn command (handed title meaning signatures natives.now.items) bytes.now) (O.state output.old) (O.state output.new) machine.old machine.new result }
 {
-    match request {
-        Request::Layout => tell_layout(alloc, bytes, natives, output),
-        Request::Place { target } => tell_place(alloc, target, bytes, natives, output),
-        Request::Run { target, trace } => {
+    match command {
+        InputCommand::Layout => tell_layout(alloc, bytes, natives, output),
+        InputCommand::Place { target } => tell_place(alloc, target, bytes, natives, output),
+        InputCommand::Run { target, trace } => {
             run(alloc, target, trace, bytes, natives, machine, output)
         }
-        Request::Cdecl => tell_cdecl(alloc, bytes, output),
-        Request::Cplace => tell_cplace(alloc, bytes, output),
-        Request::Explain => tell_answer(alloc, Question::Explained, bytes, output),
-        Request::Arguments => tell_answer(alloc, Question::ByStandard, bytes, output),
-        Request::Bench { seed, calls } => run_bench(alloc, seed, calls, machine, output),
+        InputCommand::Cdecl => tell_cdecl(alloc, bytes, output),
+        InputCommand::Cplace => tell_cplace(alloc, bytes, output),
+        InputCommand::Explain => tell_answer(alloc, Question::Explained, bytes, output),
+        InputCommand::Arguments => tell_answer(alloc, Question::ByStandard, bytes, output),
     }
 }
 
@@ -213,7 +210,8 @@ fn run_by<A: Abi, O: Sink>(
 
 // ---- bench
 
-fn run_bench<O: Sink>(
+/// Runs the made script of a seed and a number of calls by three standards, and writes a line of each.
+pub fn run_bench<O: Sink>(
     alloc: Global,
     seed: u32,
     calls: u32,

@@ -14,7 +14,8 @@ use Rattle.clap.specs.declared.error.kind.ErrorKind.TheVariants.{DisplayHelpOnMi
 use Rattle.ffi3_type_rules.specs.declared.Target.{Target}
 use Rattle.ffi3_type_rules.specs.declared.Target.TheVariants.{Amd64, Aapcs64, Riscv, Win64}
 use Rattle.ffi3_words.specs.declared.words.Request.{Request}
-use Rattle.ffi3_words.specs.declared.words.Request.TheVariants.{Layout, Place, Run, Cdecl, Cplace, Explain, Arguments}
+use Rattle.ffi3_words.specs.declared.words.Request.TheVariants.{OnInput}
+use Rattle.ffi3_words.specs.declared.words.InputCommand.TheVariants.{Layout, Place, Run, Cdecl, Cplace, Explain, Arguments}
 use Rattle.ffi3_words.specs.WordCommands.{Addresses, LacksNumbers, asked, bench_shape, is_set, one_of_words, targets, program, target_of, with_target_of}
 use Rattle.ffi3_words.proofs.Level.{above, built_target, has_target, has_target_traced, never, or_none, trace_and_help}
 
@@ -184,7 +185,7 @@ module _ (at at' : Addresses) where
   asks_place rest fine =
       let got = has_target (codes "place") (one_of_words at targets) rest fine in
       let is = is_target got.0 _ _ _ _ refl refl refl refl got.1 in
-      inl (Place is.0, ap (λ o. with_target_of o (λ t. Place t)) got.2 ∙ ap (option_map (λ t. Place t)) is.1)
+      inl (OnInput (Place is.0), ap (λ o. with_target_of o (λ t. Place t)) got.2 ∙ ap (option_map (λ t. OnInput (Place t))) is.1)
 
   asks_run : (rest : List Text) → entered_fault app (Some (codes "run", rest)) ≡ [] → Asks (Some (codes "run", rest))
   asks_run rest fine =
@@ -192,7 +193,7 @@ module _ (at at' : Addresses) where
       let is = is_target got.0 _ _ _ _ refl refl refl refl got.1 in
       let rules = built_target (one_of_words at' targets) ∷ trace_and_help in
       let trace : Bool = is_set (first_of (codes "trace") (rows_after rules [] rest)) in
-      inl (Run is.0 trace, ap (λ o. with_target_of o (λ t. Run t trace)) got.2 ∙ ap (option_map (λ t. Run t trace)) is.1)
+      inl (OnInput (Run is.0 trace), ap (λ o. with_target_of o (λ t. Run t trace)) got.2 ∙ ap (option_map (λ t. OnInput (Run t trace))) is.1)
 
   wants : (wants_help : Bool) → cond wants_help (DisplayHelpOnMissingArgumentOrSubcommand ∷ []) (MissingSubcommand ∷ []) ≡ [] → ⊥
   wants true fine = never fine
@@ -202,7 +203,7 @@ module _ (at at' : Addresses) where
   asks rs None known fine checked = absurd (wants (not (list_any (λ (r : Row). explicit_source r.source) rs)) checked)
   asks rs (Some p) (inl is) fine checked =
       let P : Text → Type 0 = λ name. Asks (Some (name, p.1)) in
-      subst P (sym is) (inl (Layout, refl))
+      subst P (sym is) (inl (OnInput Layout, refl))
   asks rs (Some p) (inr (inl is)) fine checked =
       let P : Text → Type 0 = λ name. entered_fault app (Some (name, p.1)) ≡ [] → Asks (Some (name, p.1)) in
       subst P (sym is) (asks_place p.1) fine
@@ -211,16 +212,16 @@ module _ (at at' : Addresses) where
       subst P (sym is) (asks_bench p.1)
   asks rs (Some p) (inr (inr (inr (inr (inl is))))) fine checked =
       let P : Text → Type 0 = λ name. Asks (Some (name, p.1)) in
-      subst P (sym is) (inl (Cdecl, refl))
+      subst P (sym is) (inl (OnInput Cdecl, refl))
   asks rs (Some p) (inr (inr (inr (inr (inr (inl is)))))) fine checked =
       let P : Text → Type 0 = λ name. Asks (Some (name, p.1)) in
-      subst P (sym is) (inl (Cplace, refl))
+      subst P (sym is) (inl (OnInput Cplace, refl))
   asks rs (Some p) (inr (inr (inr (inr (inr (inr (inl is))))))) fine checked =
       let P : Text → Type 0 = λ name. Asks (Some (name, p.1)) in
-      subst P (sym is) (inl (Explain, refl))
+      subst P (sym is) (inl (OnInput Explain, refl))
   asks rs (Some p) (inr (inr (inr (inr (inr (inr (inr is))))))) fine checked =
       let P : Text → Type 0 = λ name. Asks (Some (name, p.1)) in
-      subst P (sym is) (inl (Arguments, refl))
+      subst P (sym is) (inl (OnInput Arguments, refl))
   asks rs (Some p) (inr (inr (inl is))) fine checked =
       let P : Text → Type 0 = λ name. entered_fault app (Some (name, p.1)) ≡ [] → Asks (Some (name, p.1)) in
       subst P (sym is) (asks_run p.1) fine

@@ -5,8 +5,9 @@ use Rattle.std.specs.Str.{bytes_eq}
 use Rattle.clap.specs.Words.{Row, Text, first_of}
 use Rattle.ffi3_type_rules.specs.declared.Target.{Target}
 use Rattle.ffi3_words.specs.declared.words.Request.{Request}
-use Rattle.ffi3_words.specs.declared.words.Request.TheVariants.{Layout, Place, Run, Cdecl, Cplace, Explain, Arguments, Bench}
-use Rattle.ffi3_words.specs.WordCommands.{asked, bench_of, is_set, number_of, target_of, with_calls, with_target_of}
+use Rattle.ffi3_words.specs.declared.words.InputCommand.TheVariants.{Layout, Place, Run, Cdecl, Cplace, Explain, Arguments}
+use Rattle.ffi3_words.specs.declared.words.Request.TheVariants.{OnInput, Bench}
+use Rattle.ffi3_words.specs.WordCommands.{asked, bench_of, is_set, number_of, on_input, target_of, with_calls, with_target_of}
 use Rattle.ffi3_words.specs.WordAnswers.{IsInRange}
 
 abbrev IfInRange : Option Request → Type 0
@@ -24,15 +25,15 @@ numbers_in (Some seed) None = tt
 numbers_in (Some seed) (Some calls) =
     calls_in seed calls (nat_le 1 calls) (nat_le calls 1000) refl refl
 
-places_in : (t : Option Target) → IfInRange (option_map (λ x. Place x) t)
+places_in : (t : Option Target) → IfInRange (option_map (λ x. OnInput (Place x)) t)
 places_in None = tt
 places_in (Some t) = tt
 
-runs_in : (trace : Bool) (t : Option Target) → IfInRange (option_map (λ x. Run x trace) t)
+runs_in : (trace : Bool) (t : Option Target) → IfInRange (option_map (λ x. OnInput (Run x trace)) t)
 runs_in trace None = tt
 runs_in trace (Some t) = tt
 
-request_in : (is_layout is_cdecl is_cplace is_explain is_arguments is_bench is_place is_run : Bool) (target trace seed calls : Option Text) → IfInRange (cond is_layout (Some Layout) (cond is_cdecl (Some Cdecl) (cond is_cplace (Some Cplace) (cond is_explain (Some Explain) (cond is_arguments (Some Arguments) (cond is_bench (bench_of seed calls) (cond is_place (with_target_of target (λ t. Place t)) (cond is_run (with_target_of target (λ t. Run t (is_set trace))) None))))))))
+request_in : (is_layout is_cdecl is_cplace is_explain is_arguments is_bench is_place is_run : Bool) (target trace seed calls : Option Text) → IfInRange (cond is_layout (on_input Layout) (cond is_cdecl (on_input Cdecl) (cond is_cplace (on_input Cplace) (cond is_explain (on_input Explain) (cond is_arguments (on_input Arguments) (cond is_bench (bench_of seed calls) (cond is_place (with_target_of target (λ t. Place t)) (cond is_run (with_target_of target (λ t. Run t (is_set trace))) None))))))))
 request_in true b2 b3 b4 b5 b6 b7 b8 target trace seed calls = tt
 request_in false true b3 b4 b5 b6 b7 b8 target trace seed calls = tt
 request_in false false true b4 b5 b6 b7 b8 target trace seed calls = tt

@@ -5,21 +5,14 @@ use Rattle.clap.specs.declared.error.Error.{Error}
 use Rattle.clap.specs.declared.error.kind.ErrorKind.TheVariants.{OutOfMemory}
 use Rattle.ffi3_type_rules.specs.declared.limits.TheConstants.{MOST_CALLS}
 use Rattle.ffi3_words.specs.declared.words.Request.{Request}
-use Rattle.ffi3_words.specs.declared.words.Request.TheVariants.{Layout, Place, Run, Cdecl, Cplace, Explain, Arguments}
-use Rattle.ffi3_words.specs.declared.words.Request.TheVariants.{Bench}
+use Rattle.ffi3_words.specs.declared.words.Request.TheVariants.{OnInput, Bench}
 use Rattle.ffi3_words.specs.declared.words.WordsFault.{WordsFault}
 use Rattle.ffi3_words.specs.declared.words.WordsFault.TheVariants.{Refused, NoMemory}
 use Rattle.ffi3_words.specs.Words.{IsRefused, IsStated}
 
 -- the numbers that are asked for lie in their ranges: a seed has 32 bits by its type
 abbrev pub IsInRange : Request → Type 0
-IsInRange Layout = Unit {0}
-IsInRange (Place t) = Unit {0}
-IsInRange (Run t trace) = Unit {0}
-IsInRange Cdecl = Unit {0}
-IsInRange Cplace = Unit {0}
-IsInRange Explain = Unit {0}
-IsInRange Arguments = Unit {0}
+IsInRange (OnInput command) = Unit {0}
 IsInRange (Bench seed calls) = (1 ≤ calls) × (calls ≤ MOST_CALLS)
 
 abbrev pub IsWordsRefusal : List Text → WordsFault → Type 0

@@ -12,9 +12,10 @@ use Rattle.clap.specs.declared.builder.value_parser.ValueParser.TheVariants as v
 use Rattle.ffi3_type_rules.specs.declared.limits.TheConstants.{MOST_CALLS}
 use Rattle.ffi3_type_rules.specs.declared.Target.{Target}
 use Rattle.ffi3_type_rules.specs.declared.Target.TheVariants.{Amd64, Aapcs64, Riscv, Win64}
+use Rattle.ffi3_words.specs.declared.words.InputCommand.{InputCommand}
+use Rattle.ffi3_words.specs.declared.words.InputCommand.TheVariants.{Layout, Place, Run, Cdecl, Cplace, Explain, Arguments}
 use Rattle.ffi3_words.specs.declared.words.Request.{Request}
-use Rattle.ffi3_words.specs.declared.words.Request.TheVariants.{Layout, Place, Run, Cdecl, Cplace, Explain, Arguments}
-use Rattle.ffi3_words.specs.declared.words.Request.TheVariants.{Bench}
+use Rattle.ffi3_words.specs.declared.words.Request.TheVariants.{OnInput, Bench}
 
 -- ---- the words of a target
 
@@ -136,8 +137,14 @@ program at at' = program_with (one_of_words at targets) (one_of_words at' target
 
 -- ---- what is asked for
 
-abbrev pub with_target_of : Option Text → (Target → Request) → Option Request
-with_target_of target make = option_map make (option_and_then target_of target)
+-- a command that reads the input
+abbrev pub on_input : InputCommand → Option Request
+on_input command = Some (OnInput command)
+
+-- a command with the target that is named
+abbrev pub with_target_of : Option Text → (Target → InputCommand) → Option Request
+with_target_of target make =
+    option_map (λ t. OnInput (make t)) (option_and_then target_of target)
 
 -- the value of a flag
 abbrev pub is_set : Option Text → Bool
@@ -164,11 +171,11 @@ bench_of seed calls =
 -- a command's name, its target, its flag and its numbers
 abbrev pub request_of : Text → Option Text → Option Text → Option Text → Option Text → Option Request
 request_of name target trace seed calls =
-    cond (bytes_eq name (codes "layout")) (Some Layout)
-    (cond (bytes_eq name (codes "cdecl")) (Some Cdecl)
-    (cond (bytes_eq name (codes "cplace")) (Some Cplace)
-    (cond (bytes_eq name (codes "explain")) (Some Explain)
-    (cond (bytes_eq name (codes "arguments")) (Some Arguments)
+    cond (bytes_eq name (codes "layout")) (on_input Layout)
+    (cond (bytes_eq name (codes "cdecl")) (on_input Cdecl)
+    (cond (bytes_eq name (codes "cplace")) (on_input Cplace)
+    (cond (bytes_eq name (codes "explain")) (on_input Explain)
+    (cond (bytes_eq name (codes "arguments")) (on_input Arguments)
     (cond (bytes_eq name (codes "bench")) (bench_of seed calls)
     (cond (bytes_eq name (codes "place")) (with_target_of target (λ t. Place t))
     (cond (bytes_eq name (codes "run")) (with_target_of target (λ t. Run t (is_set trace))) None)))))))

@@ -4,9 +4,10 @@ use Rattle.clap.specs.Words.{Text, fault_of, subcommand_of}
 use Rattle.ffi3_type_rules.specs.declared.limits.TheConstants.{MOST_CALLS}
 use Rattle.ffi3_type_rules.specs.declared.Target.{Target}
 use Rattle.ffi3_type_rules.specs.declared.Target.TheVariants.{Amd64, Aapcs64, Riscv, Win64}
+use Rattle.ffi3_words.specs.declared.words.InputCommand.{InputCommand}
+use Rattle.ffi3_words.specs.declared.words.InputCommand.TheVariants.{Layout, Place, Run, Cdecl, Cplace, Explain, Arguments}
 use Rattle.ffi3_words.specs.declared.words.Request.{Request}
-use Rattle.ffi3_words.specs.declared.words.Request.TheVariants.{Layout, Place, Run, Cdecl, Cplace, Explain, Arguments}
-use Rattle.ffi3_words.specs.declared.words.Request.TheVariants.{Bench}
+use Rattle.ffi3_words.specs.declared.words.Request.TheVariants.{OnInput, Bench}
 use Rattle.ffi3_words.specs.WordCommands.{Addresses, LacksNumbers, program, asked}
 
 abbrev pub target_word : Target → Text
@@ -15,18 +16,22 @@ target_word Aapcs64 = codes "aapcs64"
 target_word Riscv = codes "riscv"
 target_word Win64 = codes "win64"
 
--- the words after the program's name ask for this
-abbrev pub StatesAfterName : List Text → Request → Type 0
-StatesAfterName rest Layout = rest ≡ codes "layout" ∷ []
-StatesAfterName rest (Place t) = rest ≡ codes "place" ∷ codes "--target" ∷ target_word t ∷ []
-StatesAfterName rest (Run t false) = rest ≡ codes "run" ∷ codes "--target" ∷ target_word t ∷ []
-StatesAfterName rest (Run t true) =
+-- the words after the program's name ask for this of the input
+abbrev pub StatesCommand : List Text → InputCommand → Type 0
+StatesCommand rest Layout = rest ≡ codes "layout" ∷ []
+StatesCommand rest (Place t) = rest ≡ codes "place" ∷ codes "--target" ∷ target_word t ∷ []
+StatesCommand rest (Run t false) = rest ≡ codes "run" ∷ codes "--target" ∷ target_word t ∷ []
+StatesCommand rest (Run t true) =
     (rest ≡ codes "run" ∷ codes "--trace" ∷ codes "--target" ∷ target_word t ∷ [])
     ⊎ (rest ≡ codes "run" ∷ codes "--target" ∷ target_word t ∷ codes "--trace" ∷ [])
-StatesAfterName rest Cdecl = rest ≡ codes "cdecl" ∷ []
-StatesAfterName rest Cplace = rest ≡ codes "cplace" ∷ []
-StatesAfterName rest Explain = rest ≡ codes "explain" ∷ []
-StatesAfterName rest Arguments = rest ≡ codes "arguments" ∷ []
+StatesCommand rest Cdecl = rest ≡ codes "cdecl" ∷ []
+StatesCommand rest Cplace = rest ≡ codes "cplace" ∷ []
+StatesCommand rest Explain = rest ≡ codes "explain" ∷ []
+StatesCommand rest Arguments = rest ≡ codes "arguments" ∷ []
+
+-- the words after the program's name ask for this
+abbrev pub StatesAfterName : List Text → Request → Type 0
+StatesAfterName rest (OnInput command) = StatesCommand rest command
 StatesAfterName rest (Bench seed calls) =
     (seed < 2 ^ 32)
     × (1 ≤ calls)

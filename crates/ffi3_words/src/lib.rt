@@ -5,4 +5,4 @@ mod command;
 mod help;
 mod words;
 
-pub use words::{Request, WordsFault, read_words, target_word};
+pub use words::{InputCommand, Request, WordsFault, read_words, target_word};

@@ -17,6 +17,15 @@ use std::alloc::Global;
 /// What the words ask for.
 #[derive(Clone, Copy, Debug, PartialEq, Eq)]
 pub enum Request {
+    /// What a command makes of the input.
+    OnInput(InputCommand),
+    /// The made script of a seed and a number of calls, from 1 to 1000, on amd64, aapcs64 and riscv. No input is read.
+    Bench { seed: u32, calls: u32 },
+}
+
+/// A command that reads the input: a script, a C declaration, or the description of an image.
+#[derive(Clone, Copy, Debug, PartialEq, Eq)]
+pub enum InputCommand {
     /// The layout of every type.
     Layout,
     /// The frame and the places of every signature.
@@ -31,8 +40,6 @@ pub enum Request {
     Explain,
     /// The arguments that they have by the standard alone, whoever called.
     Arguments,
-    /// The made script of a seed and a number of calls, from 1 to 1000, on amd64, aapcs64 and riscv.
-    Bench { seed: u32, calls: u32 },
 }
 
 /// Why the words ask for nothing that can be done.
@@ -92,32 +99,32 @@ fn named(
     ensures { result ≡ request_of name.now (option_map (λ t. t.now) target.entry) (option_map (λ t. t.now) trace.entry) (option_map (λ t. t.now) seed.entry) (option_map (λ t. t.now) calls.entry) }
 {
     if name == "layout" {
-        return Some(Request::Layout);
+        return Some(Request::OnInput(InputCommand::Layout));
     }
     if name == "cdecl" {
-        return Some(Request::Cdecl);
+        return Some(Request::OnInput(InputCommand::Cdecl));
     }
     if name == "cplace" {
-        return Some(Request::Cplace);
+        return Some(Request::OnInput(InputCommand::Cplace));
     }
     if name == "explain" {
-        return Some(Request::Explain);
+        return Some(Request::OnInput(InputCommand::Explain));
     }
     if name == "arguments" {
-        return Some(Request::Arguments);
+        return Some(Request::OnInput(InputCommand::Arguments));
     }
     if name == "bench" {
         return bench_of(seed, calls);
     }
     let target = target_of(target?)?;
     if name == "place" {
-        return Some(Request::Place { target });
+        return Some(Request::OnInput(InputCommand::Place { target }));
     }
     if name == "run" {
-        return Some(Request::Run {
+        return Some(Request::OnInput(InputCommand::Run {
             target,
             trace: is_set(trace),
-        });
+        }));
     }
     None
 }

@@ -1,4 +1,4 @@
-use Rattle.std.proofs.Common.{rules, ◌≡◌, refl}
+use Rattle.std.proofs.Common.{rules, ◌≡◌, ◌∙◌, refl}
 use Rattle.std.specs.Prelude.{Err}
 use Rattle.std.specs.List.{flat_map}
 use Rattle.ffi3_app.specs.Declarations.{cdecl_text, cplace_text, every_target, placed_on}
@@ -18,4 +18,4 @@ returns g c =
     let whole = cplace_text d in
     let rest = flat_map (placed_on d.signature) every_target in
     let went = continues_on whole whole _ _ (continues_from whole (g.O.Sink.state c.args.output.now)) (cdecl_text d) rest _ refl c.in_ok-cdecl.ensures in
-    continues_last whole rest _ _ went rest _ _ refl (wrote_for (λ s. flat_map (placed_on s) every_target) c.sig.result.now d.signature _ _ _ c.sig.ensures c.place_everywhere.ensures)
+    continues_last whole rest _ _ went rest _ _ refl (wrote_for (λ s. flat_map (placed_on s) every_target) c.of.result d.signature _ _ _ (c.of.ensures ∙ c.sig.ensures) c.place_everywhere.ensures)
