@@ -2,7 +2,7 @@ use Rattle.std.proofs.Common.{Some, ap, sym, ◌∙◌}
 use Rattle.ffi3_types.specs.TreeOf.{tree_of}
 use Rattle.ffi3_script_body.specs.ListTypes.{element_types}
 use Rattle.ffi3_script_body.proofs.ListTypes.{of_a_struct}
-use Rattle.ffi3_script_body.proofs.elements.element_types.Goals as goal
+use Rattle.ffi3_script_body.proofs.expr.element_types.Goals as goal
 
 pub returns-in-Struct : goal.returns-in-Struct
 returns-in-Struct c =
