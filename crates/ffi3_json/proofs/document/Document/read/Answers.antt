@@ -4,7 +4,7 @@ use Rattle.serde_json.specs.Read.{read}
 use Rattle.ffi3_json.specs.InText.{data_in, HasNumbers}
 use Rattle.ffi3_json.proofs.InTexts.{all_numbers, document_read}
 use Rattle.ffi3_json.proofs.Short.{within-read, short-within}
-use Rattle.ffi3_json.proofs.text.Document.read.Goals as goal
+use Rattle.ffi3_json.proofs.document.Document.read.Goals as goal
 
 pub invariant_of-result : goal.invariant_of-result
 invariant_of-result c =

@@ -2,7 +2,7 @@ use Rattle.std.proofs.Common.{◌≡◌, drop, is_some}
 use Rattle.json.specs.Value.{items_view, members_view}
 use Rattle.serde_json.specs.Data.{no_members}
 use Rattle.serde_json.specs.Read.{of_items, of_members}
-use Rattle.ffi3_json.proofs.text.+numbers.Given as goal
+use Rattle.ffi3_json.proofs.document.+numbers.Given as goal
 
 abbrev pub invariant-items_have_numbers-loop-item : goal.invariant-items_have_numbers-loop-item
 invariant-items_have_numbers-loop-item l =

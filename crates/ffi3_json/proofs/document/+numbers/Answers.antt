@@ -4,7 +4,7 @@ use Rattle.serde_json.specs.Data.{no_members}
 use Rattle.serde_json.specs.Read.{of_json, of_members}
 use Rattle.ffi3_json.proofs.Objects.{next}
 use Rattle.ffi3_json.proofs.InTexts.{member_goes_on}
-use Rattle.ffi3_json.proofs.text.+numbers.Goals as goal
+use Rattle.ffi3_json.proofs.document.+numbers.Goals as goal
 
 pub members_have_numbers-loop-member-preserved : goal.members_have_numbers-loop-member-preserved
 members_have_numbers-loop-member-preserved t c =
