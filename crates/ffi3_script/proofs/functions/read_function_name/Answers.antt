@@ -6,7 +6,7 @@ use Rattle.ffi3_json.proofs.Tellings.{tells_part}
 use Rattle.ffi3_script.specs.Taken.{is_taken}
 use Rattle.ffi3_script.proofs.ReadValues.{ok_by, err_by}
 use Rattle.ffi3_script.proofs.FunctionParts.{name-is}
-use Rattle.ffi3_script.proofs.headings.read_function_name.Goals as goal
+use Rattle.ffi3_script.proofs.functions.read_function_name.Goals as goal
 
 pub returns-clause-ok : goal.returns-clause-ok
 returns-clause-ok c =

@@ -3,7 +3,7 @@ use Rattle.ffi3_json.specs.Parts.{items_from}
 use Rattle.ffi3_script_rules.specs.Bodies.{read_headings, names_of}
 use Rattle.ffi3_script.specs.PartsOf.{headings_of}
 use Rattle.ffi3_script.proofs.Loops.{before}
-use Rattle.ffi3_script.proofs.headings.read_headings.Given as goal
+use Rattle.ffi3_script.proofs.functions.read_headings.Given as goal
 
 abbrev pub invariant-loop-i : goal.invariant-loop-i
 invariant-loop-i l = record {

@@ -1,6 +1,6 @@
 use Rattle.std.proofs.Common.{sym, ◌∙◌}
 use Rattle.ffi3_script.proofs.ReadShapes.{no_two_items, both_items_of}
-use Rattle.ffi3_script.proofs.forms.two_items.Goals as goal
+use Rattle.ffi3_script.proofs.arrays.two_items.Goals as goal
 
 pub returns-then-len-ne2 : goal.returns-then-len-ne2
 returns-then-len-ne2 c =

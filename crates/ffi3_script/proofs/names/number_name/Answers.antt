@@ -3,7 +3,7 @@ use Rattle.std.specs.BTreeMap.{get_by_text}
 use Rattle.std.specs.Map.{update}
 use Rattle.std.proofs.lemmas.Map.Text.{btree_map_updates_text}
 use Rattle.ffi3_script.proofs.Numbering.{number-anew, absent}
-use Rattle.ffi3_script.proofs.index.number_name.Goals as goal
+use Rattle.ffi3_script.proofs.names.number_name.Goals as goal
 
 pub returns-clause-ok : goal.returns-clause-ok
 returns-clause-ok c =

@@ -5,10 +5,10 @@ use Rattle.ffi3_script_rules.specs.Language.{read, at_item}
 use Rattle.ffi3_script_rules.specs.Bodies.{read_heading, read_headings}
 use Rattle.ffi3_json.proofs.Tellings.{part_handed_on}
 use Rattle.ffi3_script.specs.PartsOf.{heading_of, headings_of}
-use Rattle.ffi3_script.specs.declared.headings.Heading.{Heading}
+use Rattle.ffi3_script.specs.declared.functions.Heading.{Heading}
 use Rattle.ffi3_script.proofs.Loops.{all_read}
 use Rattle.ffi3_script.proofs.FunctionParts.{headings-turn, headings-fault, names-more}
-use Rattle.ffi3_script.proofs.headings.read_headings.Goals as goal
+use Rattle.ffi3_script.proofs.functions.read_headings.Goals as goal
 
 pub returns-in_err-heading-clause-err : goal.returns-in_err-heading-clause-err
 returns-in_err-heading-clause-err c =

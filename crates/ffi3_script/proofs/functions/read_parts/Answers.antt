@@ -6,10 +6,10 @@ use Rattle.ffi3_script_rules.specs.Script.{ScriptMove}
 use Rattle.ffi3_json.proofs.Tellings.{part_handed_on}
 use Rattle.ffi3_script.specs.ScopeOf.{surroundings_in}
 use Rattle.ffi3_script.specs.PartsOf.{headings_of, part_of}
-use Rattle.ffi3_script.specs.declared.headings.Heading.{Heading}
+use Rattle.ffi3_script.specs.declared.functions.Heading.{Heading}
 use Rattle.ffi3_script.proofs.Loops.{all_read}
 use Rattle.ffi3_script.proofs.FunctionParts.{part-turn, part-fault}
-use Rattle.ffi3_script.proofs.function_parts.read_parts.Goals as goal
+use Rattle.ffi3_script.proofs.functions.read_parts.Goals as goal
 
 pub read_part-requires-clause-within : goal.read_part-requires-clause-within
 read_part-requires-clause-within c =

@@ -2,7 +2,7 @@ use Rattle.std.proofs.Common.{◌≡◌, ℕ, List, map, option_map, string_byte
 use Rattle.std.specs.BTreeMap.{get_by_text}
 use Rattle.ffi3_script.specs.Finds.{FindsFirst, first_or}
 use Rattle.ffi3_script.proofs.Numbering.{finds-named, pushed-name, same-length}
-use Rattle.ffi3_script.proofs.index.NameIndex.push_named.Goals as goal
+use Rattle.ffi3_script.proofs.names.NameIndex.push_named.Goals as goal
 
 pub invariant_of-self-in_default : goal.invariant_of-self-in_default
 invariant_of-self-in_default c =
