@@ -14,10 +14,9 @@ mod object;
 mod place;
 mod reason;
 mod signature;
-mod text;
 mod types;
 
-pub use document::parse;
+pub use document::{Document, parse};
 pub use fault::{ScriptFault, bad};
 pub use ffi3_types::Bytes;
 /// A want of memory: the one answer that no clause ties to a cause.
@@ -33,7 +32,6 @@ pub use reason::{Reason, reason_text};
 pub use json_path::JsonPath;
 pub use serde_json::Value as Json;
 pub use signature::{bad_type, read_signature, read_signature_at, reason_of_signature};
-pub use text::Document;
 pub use types::{read_type, read_type_at};
 
 /// The greatest length of a script in bytes.

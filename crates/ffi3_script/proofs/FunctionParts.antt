@@ -17,8 +17,8 @@ use Rattle.ffi3_json.proofs.Objects.{next}
 use Rattle.ffi3_script.specs.Taken.{is_taken}
 use Rattle.ffi3_script_body.specs.ExprOf.{script_moves_of}
 use Rattle.ffi3_script.specs.PartsOf.{heading_of, headings_of, part_of, IsHeaded}
-use Rattle.ffi3_script.specs.declared.headings.Heading.{Heading}
-use Rattle.ffi3_script.specs.declared.function_parts.FunctionPart.{FunctionPart}
+use Rattle.ffi3_script.specs.declared.functions.Heading.{Heading}
+use Rattle.ffi3_script.specs.declared.functions.FunctionPart.{FunctionPart}
 use Rattle.ffi3_script.proofs.Loops.{before, next_item, first_and, one_more, one_fault, mapped-more}
 use Rattle.ffi3_script.proofs.Given.{any-position, new_name-same}
 use Rattle.ffi3_script.proofs.Steps.{under-is}

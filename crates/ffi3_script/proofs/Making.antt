@@ -14,7 +14,7 @@ use Rattle.ffi3_script_body.specs.ExprOf.{script_move_of, script_moves_of}
 use Rattle.ffi3_script.specs.FunctionOf.{function_of}
 use Rattle.ffi3_script.specs.PartsOf.{part_of, script_in}
 use Rattle.ffi3_script_body.specs.declared.moves.ScriptMove.{ScriptMove}
-use Rattle.ffi3_script.specs.declared.function_parts.FunctionPart.{FunctionPart}
+use Rattle.ffi3_script.specs.declared.functions.FunctionPart.{FunctionPart}
 use Rattle.ffi3_script.specs.declared.script.ScriptFunction.{ScriptFunction}
 use Rattle.ffi3_script.proofs.Loops.{mapped-more}
 use Rattle.ffi3_script.proofs.Few.{IsFew, HasFewMoves}

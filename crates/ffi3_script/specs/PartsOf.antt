@@ -9,8 +9,8 @@ use Rattle.ffi3_script_rules.specs.Script as script
 use Rattle.ffi3_script_rules.specs.Bodies as bodies
 use Rattle.ffi3_script_body.specs.ExprOf.{script_moves_of}
 use Rattle.ffi3_script_body.specs.declared.moves.ScriptMove.{ScriptMove}
-use Rattle.ffi3_script.specs.declared.headings.Heading.{Heading}
-use Rattle.ffi3_script.specs.declared.function_parts.FunctionPart.{FunctionPart}
+use Rattle.ffi3_script.specs.declared.functions.Heading.{Heading}
+use Rattle.ffi3_script.specs.declared.functions.FunctionPart.{FunctionPart}
 
 abbrev pub heading_of : Heading → bodies.Heading
 heading_of h = record { name = string_bytes h.name; signature = h.sig }

@@ -16,7 +16,7 @@ ghost use Rattle.ffi3_script.specs.NamedActs.{move_by};
 use crate::fields::{
     read_arguments, read_condition, read_name, read_pointer, read_printed, read_result, read_user,
 };
-use crate::heads::{read_function, read_signature_number};
+use crate::references::{read_function, read_signature_number};
 use crate::scope::{Globals, Scope};
 use crate::{Act, ScriptMove};
 use ffi3_json::{

@@ -1,4 +1,4 @@
-// Arrays under the keys of objects.
+// Arrays: the items of one under a key, and those of an array of two.
 ghost use Rattle.std.specs.Prelude.{◌≡◌, ℕ, ◌≤◌, IfOk, IfErr};
 ghost use Rattle.serde_json.specs.Events.{items_len};
 ghost use Rattle.ffi3_script_rules.specs.Language as language;
@@ -6,6 +6,7 @@ ghost use Rattle.ffi3_script_rules.specs.Language.{read, value_under};
 ghost use Rattle.ffi3_script_rules.specs.Bodies.{items_at};
 ghost use Rattle.ffi3_json.specs.Reports.{Reports};
 ghost use Rattle.ffi3_json.specs.Within.{HasArraysWithin};
+ghost use Rattle.ffi3_script.specs.Shapes.{two_items};
 
 use ffi3_json::{JsonPath, Node, Nodes, Reason, ScriptFault, bad};
 use std::alloc::Global;
@@ -29,4 +30,17 @@ pub(crate) fn items_under<'t, 'a>(
         return Err(bad(alloc, at, Reason::NotAnArray));
     };
     Ok(items)
+}
+
+/// The items of an array of two. None where the value is no array, or has another number of items.
+pub(crate) fn two_items<'t, 'a>(value: &Node<'t, 'a>) -> Option<(Node<'t, 'a>, Node<'t, 'a>)>
+    ensures { result ≡ two_items value.now }
+{
+    let Some(items) = value.items() else {
+        return None;
+    };
+    if items.len() != 2 {
+        return None;
+    }
+    Some((items.get(0), items.get(1)))
 }

@@ -13,7 +13,7 @@ ghost use Rattle.ffi3_script.specs.Numbers.{CallsWithin};
 
 use crate::acts::read_move;
 use crate::arrays::items_under;
-use crate::index::NameIndex;
+use crate::names::NameIndex;
 use crate::scope::{Globals, Scope};
 use crate::{Act, NoMemory, ScriptMove};
 use ffi3_json::{JsonPath, Node, Nodes, Reason, ScriptFault, bad};

@@ -13,7 +13,7 @@ ghost use Rattle.ffi3_script.specs.Numbers.{CallsWithin};
 ghost use Rattle.ffi3_script.specs.ScopeOf.{scope_of, given_in, IsEven};
 
 use crate::arrays::items_under;
-use crate::heads::new_name;
+use crate::new_name::new_name;
 use crate::scope::Scope;
 use crate::values::{read_typed, read_value, read_values};
 use crate::{Act, Expr, TypedExpr};

@@ -1,7 +1,7 @@
-// Forms of values.
+// Forms of values, each named by its key.
 ghost use Rattle.std.specs.Prelude.{◌≡◌};
 ghost use Rattle.ffi3_script_rules.specs.Values.{form_named};
-ghost use Rattle.ffi3_script.specs.Shapes.{two_items, is_untyped, form_of};
+ghost use Rattle.ffi3_script.specs.Shapes.{is_untyped, form_of};
 
 use ffi3_json::Node;
 
@@ -56,17 +56,4 @@ pub(crate) fn is_untyped(value: &Node) -> bool
     ensures { result ≡ is_untyped value.now }
 {
     value.as_number().is_some() || value.as_str().is_some() || value.items().is_some()
-}
-
-/// The items of an array of two. None where the value is no array, or has another number of items.
-pub(crate) fn two_items<'t, 'a>(value: &Node<'t, 'a>) -> Option<(Node<'t, 'a>, Node<'t, 'a>)>
-    ensures { result ≡ two_items value.now }
-{
-    let Some(items) = value.items() else {
-        return None;
-    };
-    if items.len() != 2 {
-        return None;
-    }
-    Some((items.get(0), items.get(1)))
 }

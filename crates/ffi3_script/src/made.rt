@@ -6,7 +6,7 @@ ghost use Rattle.ffi3_bench_script.specs.ShapesOf.{types_in};
 ghost use Rattle.ffi3_script.specs.PartsOf.{part_of};
 ghost use Rattle.ffi3_script.specs.ScriptOf.{script_of, natives_of};
 
-use crate::function_parts::{FunctionPart, push_part};
+use crate::functions::{FunctionPart, push_part};
 use crate::read::script_of;
 use crate::root::Parts;
 use crate::{NoMemory, Script};

@@ -1,4 +1,4 @@
-// From bytes to a script.
+// Reading a script: from bytes to its parts, and from these to the script.
 ghost use Rattle.std.specs.Prelude.{◌≡◌, ◌+◌, ◌<◌, ◌^◌, ◌++◌, ◌∷◌, [], All, IfOk};
 ghost use Rattle.std.specs.Prelude.{IfErr, OnOk, true, length, map};
 ghost use Rattle.std.specs.List.{list_all};
@@ -10,7 +10,7 @@ ghost use Rattle.ffi3_script.specs.PartsOf.{part_of, script_in};
 ghost use Rattle.ffi3_script.specs.Refusal.{IsScriptRefusal};
 ghost use Rattle.ffi3_script.specs.ScriptOf.{script_of, natives_of};
 
-use crate::function_parts::FunctionPart;
+use crate::functions::FunctionPart;
 use crate::root::{Parts, read_root};
 use crate::{Names, NoMemory, Script, ScriptBody, ScriptFunction};
 use ffi3_json::{Document, Scratch, ScriptFault};

@@ -1,4 +1,4 @@
-// The whole of a script.
+// The object that a script is: its version, its signatures, its functions and main, in this order.
 ghost use Rattle.std.specs.Prelude.{◌≡◌, ◌+◌, ◌<◌, ◌≤◌, ◌^◌, ◌++◌, [], All, IfOk, IfErr};
 ghost use Rattle.std.specs.Prelude.{OnOk, length, map, codes, option_and_then};
 ghost use Rattle.serde_json.specs.Find.{as_number, as_u64};
@@ -15,9 +15,8 @@ ghost use Rattle.ffi3_script.specs.PartsOf.{headings_of, script_in, bodies_and_m
 
 use crate::arrays::items_under;
 use crate::bodies::read_body;
-use crate::function_parts::{FunctionPart, read_parts};
-use crate::functions::FunctionNames;
-use crate::headings::{Heading, Headings, read_headings};
+use crate::functions::{FunctionPart, Heading, Headings, read_headings, read_parts};
+use crate::names::FunctionNames;
 use crate::scope::Globals;
 use crate::{Names, NoMemory, ScriptMove};
 use ffi3_json::{

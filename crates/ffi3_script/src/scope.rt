@@ -1,7 +1,6 @@
 // What a value of a body may speak of.
 
-use crate::functions::FunctionNames;
-use crate::index::NameIndex;
+use crate::names::{FunctionNames, NameIndex};
 use ffi3_types::{Fields, Sig, Sigs};
 
 /// Where a value stands: in a script of this version, in a body of this signature, after moves whose results have these names and types.

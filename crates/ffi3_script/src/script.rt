@@ -1,4 +1,4 @@
-// A whole script: its signatures, its functions and main.
+// A script once it is read.
 ghost use Rattle.std.specs.Prelude.{◌≡◌, ◌<◌, ◌+◌, ◌^◌, length, true, All};
 ghost use Rattle.std.specs.List.{list_all};
 ghost use Rattle.ffi3_type_rules.specs.Signature.{signature_at};

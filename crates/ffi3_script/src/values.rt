@@ -11,7 +11,8 @@ ghost use Rattle.ffi3_script.specs.OwnTypeOf.{typed_value_of};
 ghost use Rattle.ffi3_script.specs.Shapes.{typed_form_of, typed_under, value_under_form, read_terms};
 
 use crate::Expr;
-use crate::forms::{Form, TypedForm, form_named, is_untyped, two_items};
+use crate::arrays::two_items;
+use crate::forms::{Form, TypedForm, form_named, is_untyped};
 use crate::own_type::TypedValue;
 use crate::plain::{
     against, argument_of, cast_of, difference, field_of, push, read_right_type, result_of, sum,

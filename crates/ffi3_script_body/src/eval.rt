@@ -11,7 +11,7 @@ ghost use Rattle.ffi3_script_body.specs.ExprOf.{expression_of, expressions_in};
 ghost use Rattle.ffi3_script_body.specs.KnownAt.{kinds_of, known_of};
 ghost use Rattle.ffi3_script_body.specs.PartOf.{IsPart, part_of, whole_of};
 
-use crate::elements::element_types;
+use crate::expr::element_types;
 use crate::known::Known;
 use crate::{Expr, NoMemory};
 use ffi3_types::{FfiType, Members};

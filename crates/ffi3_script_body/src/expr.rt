@@ -1,6 +1,9 @@
-// Values of a script, as bodies compute them.
+// Values of a script, as bodies compute them, and the types of the elements of one.
+ghost use Rattle.std.specs.Prelude.{◌≡◌};
+ghost use Rattle.ffi3_types.specs.TreeOf.{tree_of};
+ghost use Rattle.ffi3_script_body.specs.ListTypes.{element_types};
 
-use ffi3_types::{Bytes, FfiType};
+use ffi3_types::{Bytes, FfiType, Members};
 
 /// A value of a script: of what an activation knows it is computed anew at each move.
 #[derive(Debug, Drop)]
@@ -37,5 +40,21 @@ impl Expr {
         ensures { expression_of result ≡ script.composed (expressions_in values.items) }
     {
         Expr::Composed(values)
+    }
+}
+
+/// The types of the elements of a struct, or of an array of some type. A value of any other type is no list.
+pub fn element_types(ty: &FfiType) -> Option<Members<'_>>
+    ensures { result ≡ element_types (tree_of ty.now) }
+{
+    match ty {
+        FfiType::Struct(fields) => Some(Members::of_struct(fields)),
+        FfiType::Array(fields, count) => {
+            if fields.len() == 0 {
+                return None;
+            }
+            Some(Members::of_array(fields, *count))
+        }
+        _ => None,
     }
 }

@@ -4,7 +4,6 @@
 mod body;
 mod cursor;
 mod doing;
-mod elements;
 mod eval;
 mod expr;
 mod known;
@@ -12,8 +11,7 @@ mod moves;
 
 pub use body::{MoveKind, ScriptBody};
 pub use cursor::Cursor;
-pub use elements::element_types;
-pub use expr::Expr;
+pub use expr::{Expr, element_types};
 /// A want of memory: the one answer that no clause ties to a cause.
 pub use ffi3_types::NoMemory;
 pub use moves::{Act, ScriptMove, TypedExpr};

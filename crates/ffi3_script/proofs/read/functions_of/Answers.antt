@@ -6,7 +6,7 @@ use Rattle.ffi3_script_rules.specs.Typed.{function_is_typed}
 use Rattle.ffi3_script.specs.FunctionOf.{function_of, StandsIn}
 use Rattle.ffi3_script.specs.PartsOf.{part_of}
 use Rattle.ffi3_script.specs.declared.script.ScriptFunction.{ScriptFunction}
-use Rattle.ffi3_script.specs.declared.function_parts.FunctionPart.{FunctionPart}
+use Rattle.ffi3_script.specs.declared.functions.FunctionPart.{FunctionPart}
 use Rattle.ffi3_script.proofs.Making.{all-first, all-rest, making-turn, making-end}
 use Rattle.ffi3_script.proofs.read.functions_of.Goals as goal
 

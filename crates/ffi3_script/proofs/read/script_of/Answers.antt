@@ -2,7 +2,7 @@ use Rattle.std.proofs.Common.{◌≡◌, ◌+◌, List, All, length, sym, ap, su
 use Rattle.ffi3_type_rules.specs.Signature.{Signature}
 use Rattle.ffi3_script_rules.specs.Typed.{function_is_typed}
 use Rattle.ffi3_script.specs.PartsOf.{part_of}
-use Rattle.ffi3_script.specs.declared.function_parts.FunctionPart.{FunctionPart}
+use Rattle.ffi3_script.specs.declared.functions.FunctionPart.{FunctionPart}
 use Rattle.ffi3_script.proofs.Making.{each-typed}
 use Rattle.ffi3_script.proofs.read.script_of.Goals as goal
 
