@@ -1,9 +1,10 @@
-// Values of bytes.
-ghost use Rattle.std.specs.Prelude.{◌≡◌, IfOk, length, true};
-ghost use Rattle.ffi3_type_rules.specs.Tree.{trees_of, struct_of};
+// Values of bytes, and what bytes of one value have in common.
+ghost use Rattle.std.specs.Prelude.{◌≡◌, ℕ, List, IfOk, length, true};
+ghost use Rattle.ffi3_type_rules.specs.Tree.{Tree, trees_of, struct_of};
 ghost use Rattle.ffi3_type_rules.specs.Layout.{layouts, size_of};
 ghost use Rattle.ffi3_type_rules.specs.Fault.{IsLaidOut};
 ghost use Rattle.ffi3_type_rules.specs.Value.{value_in, values_in, values_of, zero_value, fits, all_fit};
+ghost use Rattle.ffi3_type_rules.specs.Value.{DifferInPaddingAlone};
 ghost use Rattle.ffi3_types.specs.TreeOf.{tree_of};
 ghost use Rattle.ffi3_values.specs.ValueOf.{value_of};
 
@@ -76,3 +77,8 @@ pub fn zero(alloc: Global, ty: &FfiType) -> Result<Value, NoMemory>
     let zeros = vec![in alloc; 0u8; ty.size() as usize]?;
     value_from_bytes(alloc, ty, zeros.as_slice())
 }
+
+/// Does nothing. Its contract is a law: bytes that have the same value differ in padding alone.
+pub fn differ_in_padding_alone()
+    ensures { (t : Tree) (a b : List ℕ) → length a ≡ size_of t → length b ≡ size_of t → value_in t a ≡ value_in t b → DifferInPaddingAlone t a b }
+{}

@@ -8,15 +8,13 @@ ghost use Rattle.ffi3_values.specs.ValueOf.{value_of};
 mod copy;
 mod from_bytes;
 mod numbers;
-mod padding;
 mod shape;
 mod text;
 mod write;
 
 pub use ffi3_types::{Bytes, NoMemory};
-pub use from_bytes::{value_from_bytes, zero};
+pub use from_bytes::{differ_in_padding_alone, value_from_bytes, zero};
 pub use numbers::{add, bits, cast, integer, number, of_bits, sub, widen, widened_from_32};
-pub use padding::differ_in_padding_alone;
 pub use shape::fits;
 use std::alloc::Global;
 use std::marker::Model;

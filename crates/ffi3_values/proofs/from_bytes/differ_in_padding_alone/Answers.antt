@@ -1,5 +1,5 @@
 use Rattle.ffi3_type_rules.proofs.Padding.{differ_in_padding_alone}
-use Rattle.ffi3_values.proofs.padding.differ_in_padding_alone.Goals as goal
+use Rattle.ffi3_values.proofs.from_bytes.differ_in_padding_alone.Goals as goal
 
 pub returns : goal.returns
 returns c = differ_in_padding_alone
