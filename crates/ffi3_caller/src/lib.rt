@@ -2,12 +2,12 @@
 //! arguments, its result, and the end of its frame.
 #![tactic(auto)]
 
-ghost use Rattle.std.specs.Prelude.{◌≡◌, List, ◌+◌, ◌-◌, ◌<◌, ◌≤◌, IfErr, IfOk, length};
+ghost use Rattle.std.specs.Prelude.{◌≡◌, ◌+◌, ◌-◌, ◌<◌, ◌≤◌, IfErr, IfOk, length};
 ghost use Rattle.std.specs.List.{AllByRecursion};
 ghost use Rattle.ffi3_type_rules.specs.Layout.{size_of};
 ghost use Rattle.ffi3_type_rules.specs.Value.{ValueTree, value_in};
 ghost use Rattle.ffi3_place_rules.specs.Holds.{OwnResult};
-ghost use Rattle.ffi3_place_rules.specs.Standard.{plan_of, need_of, frame_of};
+ghost use Rattle.ffi3_place_rules.specs.Standard.{need_of, frame_of};
 ghost use Rattle.ffi3_type_rules.specs.declared.limits.TheConstants.{STACK, STACK_TOP};
 ghost use Rattle.ffi3_machine.specs.State.{image_of};
 ghost use Rattle.ffi3_pieces.specs.Passing.{by_exchange, passing};

@@ -1,7 +1,7 @@
 //! The closures of a run: a map from slots of the machine's code region, whose bytes are trampolines.
 #![tactic(auto)]
 
-ghost use Rattle.std.specs.Prelude.{◌≡◌, ◌<◌, ◌≤◌, ◌+◌, length, slice_index_or, Option, Some, None, IfSome, IfOk, OnOk, OnErr, OnSome, IfNone, IsSome};
+ghost use Rattle.std.specs.Prelude.{◌≡◌, ◌<◌, ◌≤◌, ◌+◌, length, Option, Some, None, IfSome, IfOk, OnOk, OnErr, OnSome, IsSome};
 ghost use Rattle.std.specs.List.{replace_range};
 ghost use Rattle.std.specs.Int.{w64, to_le_bytes};
 ghost use Rattle.ffi3_run_rules.specs.Closures.{

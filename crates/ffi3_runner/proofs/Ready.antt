@@ -19,7 +19,7 @@ use Rattle.ffi3_configuration.specs.Between.{Beginning, anew}
 use Rattle.ffi3_configuration.specs.Turned.{StandsAt, WentOn}
 use Rattle.ffi3_configuration.proofs.Since.{configuration_looked_at}
 use Rattle.ffi3_runner.specs.Ready.{CanGoOn, traced_or_not}
-use Rattle.ffi3_runner.proofs.Running.{Turns}
+use Rattle.ffi3_runner.specs.Ran.{Turns}
 use Rattle.ffi3_runner.proofs.Turning.{went_on}
 
 -- where it stands for one output

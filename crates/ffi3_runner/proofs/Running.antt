@@ -17,14 +17,9 @@ use Rattle.ffi3_configuration.specs.declared.configuration.Turn.{Turn}
 use Rattle.ffi3_configuration.specs.declared.configuration.Turn.TheVariants as turn
 use Rattle.ffi3_configuration.specs.Between.{Beginning}
 use Rattle.ffi3_configuration.specs.Turned.{StandsAt, Turned}
-use Rattle.ffi3_runner.specs.Ran.{ComesTo, Ran}
+use Rattle.ffi3_runner.specs.Ran.{ComesTo, Ran, Turns}
 use Rattle.ffi3_runner.specs.declared.run.RunEnd.TheVariants as run
 use Rattle.ffi3_runner.proofs.Turning.{went_on}
-
--- what a move's answer says, from any moment
-abbrev pub Turns : Standard → (trace : Bool) → Program → Configuration Standing → State → SinkState → Configuration Standing → State → SinkState → Turn → Type 0
-Turns std trace p b m o b' m' o' t =
-    (base : Base) (all : Remainder) (first : Beginning) (own : List TraceItem) (events : List Event) → base.standard ≡ std → IsTracingOf p base trace first.tracing → StandsAt p base all first own events b m o → Turned p base all first own b.moves b' m' o' t
 
 module _ (std : Standard) (trace : Bool) (p : Program) (b₀ b b' : Configuration Standing) (m₀ m m' : State) (o₀ o o' : SinkState) where
   pub comes_nowhere : ComesTo std trace p b₀ m₀ o₀ b₀ m₀ o₀

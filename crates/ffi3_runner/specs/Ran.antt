@@ -12,8 +12,9 @@ use Rattle.ffi3_io.specs.Sink.{SinkState}
 use Rattle.ffi3_io.specs.declared.IoError.TheVariants as cut
 use Rattle.ffi3_ask.specs.declared.standing.Standing.{Standing}
 use Rattle.ffi3_configuration.specs.declared.configuration.Configuration.{Configuration}
+use Rattle.ffi3_configuration.specs.declared.configuration.Turn.{Turn}
 use Rattle.ffi3_configuration.specs.Between.{Beginning}
-use Rattle.ffi3_configuration.specs.Turned.{IsDone, IsEnded, StandsAt, WasInterrupted}
+use Rattle.ffi3_configuration.specs.Turned.{IsDone, IsEnded, StandsAt, Turned, WasInterrupted}
 use Rattle.ffi3_runner.specs.declared.run.RunEnd.{RunEnd}
 use Rattle.ffi3_runner.specs.declared.run.RunEnd.TheVariants as run
 
@@ -33,3 +34,11 @@ ComesTo std trace p b m output b' m' output' =
     (base : Base) (all : Remainder) (first : Beginning) (own : List TraceItem) (events : List Event)
     → base.standard ≡ std → IsTracingOf p base trace first.tracing → StandsAt p base all first own events b m output
     → (own' : List TraceItem) × (events' : List Event) × StandsAt p base all first own' events' b' m' output'
+
+-- WHAT THE ANSWER OF ONE MOVE SAYS, traced or not, from any moment to the next
+abbrev pub Turns : Standard → (trace : Bool) → Program
+    → Configuration Standing → State → SinkState → Configuration Standing → State → SinkState → Turn → Type 0
+Turns std trace p b m output b' m' output' turn =
+    (base : Base) (all : Remainder) (first : Beginning) (own : List TraceItem) (events : List Event)
+    → base.standard ≡ std → IsTracingOf p base trace first.tracing → StandsAt p base all first own events b m output
+    → Turned p base all first own b.moves b' m' output' turn

@@ -11,6 +11,8 @@ use Rattle.ffi3_turn_rules.specs.TracingOf.{IsTracingOf}
 use Rattle.ffi3_machine.specs.State.{State}
 use Rattle.ffi3_ask.specs.declared.standing.Standing.{Standing}
 use Rattle.ffi3_configuration.specs.declared.configuration.Configuration.{Configuration}
+use Rattle.ffi3_configuration.specs.declared.configuration.Turn.{Turn}
+use Rattle.ffi3_configuration.specs.declared.configuration.Turn.TheVariants.{More}
 use Rattle.ffi3_configuration.specs.Between.{Beginning}
 use Rattle.ffi3_configuration.specs.Turned.{StandsAnew}
 
@@ -30,3 +32,14 @@ pub record CanGoOn (std : Standard) (p : Program) (traces : Bool → Bool)
   pub standard : base.standard ≡ std
   pub traced : (trace : Bool) → traces trace ≡ true → IsTracingOf p base trace (tracing trace)
   pub stands : StandsAnew p base all first own events b m
+
+-- THE SAME where it can be told with this value of `trace`
+abbrev pub CanGoOnWith : Standard → Program → (trace : Bool) → Configuration Standing → State → Type 0
+CanGoOnWith std p trace b m = (traces : Bool → Bool) × (traces trace ≡ true) × CanGoOn std p traces b m
+
+-- What could go on here can go on there, where the move says that there is more, with the same values of `trace`.
+abbrev pub StillCanGoOn : Standard → Program → (trace : Bool)
+    → Configuration Standing → State → Configuration Standing → State → Turn → Type 0
+StillCanGoOn std p trace b m b' m' turn =
+    (traces : Bool → Bool) → traces trace ≡ true → CanGoOn std p traces b m
+    → turn ≡ More → CanGoOn std p traces b' m'

@@ -1,5 +1,5 @@
 //! Moves until a run ends.
-ghost use Rattle.std.specs.Prelude.{◌≡◌, Bool, true, List};
+ghost use Rattle.std.specs.Prelude.{◌≡◌, List};
 ghost use Rattle.ffi3_place_rules.specs.Event.{Event};
 ghost use Rattle.ffi3_run_rules.specs.Trace.{TraceItem};
 ghost use Rattle.ffi3_turn_rules.specs.Remainder.{Remainder};
@@ -10,7 +10,7 @@ ghost use Rattle.ffi3_configuration.specs.Between.{Beginning};
 ghost use Rattle.ffi3_configuration.specs.Turned.{StandsAt};
 ghost use Rattle.ffi3_runner.specs.Agreeing.{PositionsAgree};
 ghost use Rattle.ffi3_runner.specs.Ran.{Ran};
-ghost use Rattle.ffi3_runner.specs.Ready.{CanGoOn};
+ghost use Rattle.ffi3_runner.specs.Ready.{CanGoOnWith};
 ghost use Rattle.ffi3_runner.specs.Serving.{end_of};
 ghost use Rattle.ffi3_runner.specs.Running.{IsPrepared, program};
 
@@ -57,8 +57,7 @@ impl<'a, A: Abi> Prepared<'a, A> {
     ) -> RunEnd
         requires prepared { IsPrepared A.standard self.now.script.now (handed title meaning signatures self.now.natives.now.items) self.now.cifs }
         requires standing { PositionsAgree self.now.script.now (handed title meaning signatures self.now.natives.now.items) self.now.cifs machine.old configuration.old }
-        requires between { (traces : Bool → Bool) × (traces trace ≡ true) ×
-            CanGoOn A.standard (program A.standard self.now.script.now (handed title meaning signatures self.now.natives.now.items)) traces configuration.old machine.old }
+        requires between { CanGoOnWith A.standard (program A.standard self.now.script.now (handed title meaning signatures self.now.natives.now.items)) trace configuration.old machine.old }
         ensures { let p = program A.standard self.now.script.now (handed title meaning signatures self.now.natives.now.items) in
             (base : Base) (all : Remainder) (first : Beginning) (own : List TraceItem) (events : List Event) →
             base.standard ≡ A.standard → IsTracingOf p base trace first.tracing →

@@ -1,26 +1,24 @@
 //! The runner: what a run is prepared with, and its configuration.
 ghost use Rattle.std.specs.Prelude.{◌≡◌, ◌*◌, ◌%◌, ◌<◌, ◌≤◌, ◌^◌, ◌⊎◌, Bool, IfOk, List, [], false, length, suc, true};
 ghost use Rattle.ffi3_type_rules.specs.Value.{ValueTree, void_value};
-ghost use Rattle.ffi3_place_rules.specs.Event.{Event};
 ghost use Rattle.ffi3_run_rules.specs.Meaning.{meaning_of, returned, stopped};
 ghost use Rattle.ffi3_run_rules.specs.declared.Closure.{Closure};
 ghost use Rattle.ffi3_run_rules.specs.declared.Stop.{Stop};
-ghost use Rattle.ffi3_run_rules.specs.Trace.{TraceItem, trace_of};
-ghost use Rattle.ffi3_turn_rules.specs.Remainder.{Remainder, remainder_of};
+ghost use Rattle.ffi3_run_rules.specs.Trace.{trace_of};
+ghost use Rattle.ffi3_turn_rules.specs.Remainder.{remainder_of};
 ghost use Rattle.ffi3_turn_rules.specs.MainTracing.{main_tracing};
-ghost use Rattle.ffi3_turn_rules.specs.SoFar.{Base, main_base};
-ghost use Rattle.ffi3_turn_rules.specs.TracingOf.{IsTracingOf};
+ghost use Rattle.ffi3_turn_rules.specs.SoFar.{main_base};
 ghost use Rattle.ffi3_script.specs.ScriptOf.{natives_of};
 ghost use Rattle.ffi3_machine.specs.State.{State, begun};
 ghost use Rattle.ffi3_closures.specs.Slots.{HoldsMap};
 ghost use Rattle.ffi3_io.specs.Sink.{Rose, SinkState};
 ghost use Rattle.ffi3_ask.specs.Handed.{handed, signatures_in};
-ghost use Rattle.ffi3_configuration.specs.Between.{Beginning};
 ghost use Rattle.ffi3_configuration.specs.CallSteps.{call_steps, returns_in};
 ghost use Rattle.ffi3_configuration.specs.Served.{IsIdle};
-ghost use Rattle.ffi3_configuration.specs.Turned.{StandsAt, Turned};
+ghost use Rattle.ffi3_configuration.specs.Turned.{StandsAt};
 ghost use Rattle.ffi3_runner.specs.Agreeing.{PositionsAgree};
-ghost use Rattle.ffi3_runner.specs.Ready.{CanGoOn, traced_or_not};
+ghost use Rattle.ffi3_runner.specs.Ran.{Turns};
+ghost use Rattle.ffi3_runner.specs.Ready.{CanGoOn, CanGoOnWith, StillCanGoOn, traced_or_not};
 ghost use Rattle.ffi3_runner.specs.RunInterrupted.{RunWasInterrupted};
 ghost use Rattle.ffi3_runner.specs.RunMatches.{RunMatches, WrotePart};
 ghost use Rattle.ffi3_runner.specs.Serving.{IsAtEntry, Served};
@@ -142,18 +140,13 @@ impl<'a, A: Abi> Runner<'a, A> {
     pub fn turn<O: Sink>(&mut self, machine: &mut Machine, output: &mut O, trace: bool) -> Turn
         requires prepared { IsPrepared A.standard self.old.prepared.script.now (handed title meaning signatures self.old.prepared.natives.now.items) self.old.prepared.cifs }
         requires standing { PositionsAgree self.old.prepared.script.now (handed title meaning signatures self.old.prepared.natives.now.items) self.old.prepared.cifs machine.old self.old.configuration }
-        requires between { (traces : Bool → Bool) × (traces trace ≡ true) ×
-            CanGoOn A.standard (program A.standard self.old.prepared.script.now (handed title meaning signatures self.old.prepared.natives.now.items)) traces self.old.configuration machine.old }
-        ensures turned { let p = program A.standard self.old.prepared.script.now (handed title meaning signatures self.old.prepared.natives.now.items) in
-            (base : Base) (all : Remainder) (first : Beginning) (own : List TraceItem) (events : List Event) →
-            base.standard ≡ A.standard → IsTracingOf p base trace first.tracing →
-            StandsAt p base all first own events self.old.configuration machine.old (O.state output.old) →
-            Turned p base all first own self.old.configuration.moves self.new.configuration machine.new (O.state output.new) result }
+        requires between { CanGoOnWith A.standard (program A.standard self.old.prepared.script.now (handed title meaning signatures self.old.prepared.natives.now.items)) trace self.old.configuration machine.old }
+        ensures turned { Turns A.standard trace (program A.standard self.old.prepared.script.now (handed title meaning signatures self.old.prepared.natives.now.items))
+            self.old.configuration machine.old (O.state output.old) self.new.configuration machine.new (O.state output.new) result }
         ensures standing { result ≡ Turn.More →
             PositionsAgree self.old.prepared.script.now (handed title meaning signatures self.old.prepared.natives.now.items) self.old.prepared.cifs machine.new self.new.configuration }
-        ensures between { let p = program A.standard self.old.prepared.script.now (handed title meaning signatures self.old.prepared.natives.now.items) in
-            (traces : Bool → Bool) → traces trace ≡ true → CanGoOn A.standard p traces self.old.configuration machine.old →
-            result ≡ Turn.More → CanGoOn A.standard p traces self.new.configuration machine.new }
+        ensures between { StillCanGoOn A.standard (program A.standard self.old.prepared.script.now (handed title meaning signatures self.old.prepared.natives.now.items)) trace
+            self.old.configuration machine.old self.new.configuration machine.new result }
         ensures counted { result ≡ Turn.More → self.old.configuration.moves ≡ suc self.new.configuration.moves }
         ensures prepared { self.new.prepared ≡ self.old.prepared }
         ensures going { result ≡ Turn.More → self.new.over ≡ self.old.over }

@@ -1,5 +1,5 @@
 //! One move of a run.
-ghost use Rattle.std.specs.Prelude.{◌≡◌, Bool, true, List, length, suc};
+ghost use Rattle.std.specs.Prelude.{◌≡◌, List, suc};
 ghost use Rattle.ffi3_place_rules.specs.Event.{Event};
 ghost use Rattle.ffi3_run_rules.specs.Trace.{TraceItem};
 ghost use Rattle.ffi3_turn_rules.specs.Remainder.{Remainder};
@@ -7,9 +7,10 @@ ghost use Rattle.ffi3_turn_rules.specs.SoFar.{Base};
 ghost use Rattle.ffi3_turn_rules.specs.TracingOf.{IsTracingOf};
 ghost use Rattle.ffi3_ask.specs.Handed.{handed};
 ghost use Rattle.ffi3_configuration.specs.Between.{Beginning};
-ghost use Rattle.ffi3_configuration.specs.Turned.{StandsAt, Turned};
+ghost use Rattle.ffi3_configuration.specs.Turned.{StandsAt};
 ghost use Rattle.ffi3_runner.specs.Agreeing.{PositionsAgree};
-ghost use Rattle.ffi3_runner.specs.Ready.{CanGoOn};
+ghost use Rattle.ffi3_runner.specs.Ran.{Turns};
+ghost use Rattle.ffi3_runner.specs.Ready.{CanGoOnWith, StillCanGoOn};
 ghost use Rattle.ffi3_runner.specs.Running.{IsPrepared, program};
 
 use crate::prepare::Prepared;
@@ -30,18 +31,13 @@ impl<'a, A: Abi> Prepared<'a, A> {
     ) -> Turn
         requires prepared { IsPrepared A.standard self.now.script.now (handed title meaning signatures self.now.natives.now.items) self.now.cifs }
         requires standing { PositionsAgree self.now.script.now (handed title meaning signatures self.now.natives.now.items) self.now.cifs machine.old configuration.old }
-        requires between { (traces : Bool → Bool) × (traces trace ≡ true) ×
-            CanGoOn A.standard (program A.standard self.now.script.now (handed title meaning signatures self.now.natives.now.items)) traces configuration.old machine.old }
-        ensures turned { let p = program A.standard self.now.script.now (handed title meaning signatures self.now.natives.now.items) in
-            (base : Base) (all : Remainder) (first : Beginning) (own : List TraceItem) (events : List Event) →
-            base.standard ≡ A.standard → IsTracingOf p base trace first.tracing →
-            StandsAt p base all first own events configuration.old machine.old (O.state output.old) →
-            Turned p base all first own configuration.old.moves configuration.new machine.new (O.state output.new) result }
+        requires between { CanGoOnWith A.standard (program A.standard self.now.script.now (handed title meaning signatures self.now.natives.now.items)) trace configuration.old machine.old }
+        ensures turned { Turns A.standard trace (program A.standard self.now.script.now (handed title meaning signatures self.now.natives.now.items))
+            configuration.old machine.old (O.state output.old) configuration.new machine.new (O.state output.new) result }
         ensures standing { result ≡ Turn.More →
             PositionsAgree self.now.script.now (handed title meaning signatures self.now.natives.now.items) self.now.cifs machine.new configuration.new }
-        ensures between { let p = program A.standard self.now.script.now (handed title meaning signatures self.now.natives.now.items) in
-            (traces : Bool → Bool) → traces trace ≡ true → CanGoOn A.standard p traces configuration.old machine.old →
-            result ≡ Turn.More → CanGoOn A.standard p traces configuration.new machine.new }
+        ensures between { StillCanGoOn A.standard (program A.standard self.now.script.now (handed title meaning signatures self.now.natives.now.items)) trace
+            configuration.old machine.old configuration.new machine.new result }
         ensures counted { result ≡ Turn.More → configuration.old.moves ≡ suc configuration.new.moves }
     {
         self.one_move(configuration, machine, output, trace)
@@ -62,11 +58,8 @@ impl<'a, A: Abi> Prepared<'a, A> {
             (base.standard ≡ A.standard) ×
             IsTracingOf (program A.standard self.now.script.now (handed title meaning signatures self.now.natives.now.items)) base trace first.tracing ×
             StandsAt (program A.standard self.now.script.now (handed title meaning signatures self.now.natives.now.items)) base all first own events configuration.old machine.old (O.state output.old) }
-        ensures turned { let p = program A.standard self.now.script.now (handed title meaning signatures self.now.natives.now.items) in
-            (base : Base) (all : Remainder) (first : Beginning) (own : List TraceItem) (events : List Event) →
-            base.standard ≡ A.standard → IsTracingOf p base trace first.tracing →
-            StandsAt p base all first own events configuration.old machine.old (O.state output.old) →
-            Turned p base all first own configuration.old.moves configuration.new machine.new (O.state output.new) result }
+        ensures turned { Turns A.standard trace (program A.standard self.now.script.now (handed title meaning signatures self.now.natives.now.items))
+            configuration.old machine.old (O.state output.old) configuration.new machine.new (O.state output.new) result }
         ensures standing { result ≡ Turn.More →
             PositionsAgree self.now.script.now (handed title meaning signatures self.now.natives.now.items) self.now.cifs machine.new configuration.new }
     {

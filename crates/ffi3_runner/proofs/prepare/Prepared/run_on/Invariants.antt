@@ -1,15 +1,14 @@
-use Rattle.std.specs.Prelude.{◌≡◌, Bool, true}
 use Rattle.ffi3_ask.specs.Handed.{handed}
 use Rattle.ffi3_runner.specs.Agreeing.{PositionsAgree}
 use Rattle.ffi3_runner.specs.Ran.{ComesTo}
-use Rattle.ffi3_runner.specs.Ready.{CanGoOn}
+use Rattle.ffi3_runner.specs.Ready.{CanGoOnWith}
 use Rattle.ffi3_runner.specs.Running.{program}
 use Rattle.ffi3_runner.proofs.prepare.Prepared.run_on.Given as goal
 
 abbrev pub invariant-loop-stop : goal.invariant-loop-stop
 invariant-loop-stop g l = record {
   standing : PositionsAgree l.self.script.now (handed (λ b. (goal.Native-dyn g (b.vtable, b.value)).Native.title b.value) (λ b. (goal.Native-dyn g (b.vtable, b.value)).Body.meaning b.value) (λ b. (goal.Native-dyn g (b.vtable, b.value)).Body.signatures b.value) l.self.natives.now.items) l.self.cifs l.machine l.configuration;
-  between : (traces : Bool → Bool) × (traces l.trace ≡ true) × CanGoOn g.A.Abi.standard (program g.A.Abi.standard l.self.script.now (handed (λ b. (goal.Native-dyn g (b.vtable, b.value)).Native.title b.value) (λ b. (goal.Native-dyn g (b.vtable, b.value)).Body.meaning b.value) (λ b. (goal.Native-dyn g (b.vtable, b.value)).Body.signatures b.value) l.self.natives.now.items)) traces l.configuration l.machine;
+  between : CanGoOnWith g.A.Abi.standard (program g.A.Abi.standard l.self.script.now (handed (λ b. (goal.Native-dyn g (b.vtable, b.value)).Native.title b.value) (λ b. (goal.Native-dyn g (b.vtable, b.value)).Body.meaning b.value) (λ b. (goal.Native-dyn g (b.vtable, b.value)).Body.signatures b.value) l.self.natives.now.items)) l.trace l.configuration l.machine;
   since : ComesTo g.A.Abi.standard l.trace (program g.A.Abi.standard l.self.script.now (handed (λ b. (goal.Native-dyn g (b.vtable, b.value)).Native.title b.value) (λ b. (goal.Native-dyn g (b.vtable, b.value)).Body.meaning b.value) (λ b. (goal.Native-dyn g (b.vtable, b.value)).Body.signatures b.value) l.self.natives.now.items)) l.fn.configuration l.fn.machine (g.O.Sink.state l.fn.output) l.configuration l.machine (g.O.Sink.state l.output);
 }
 
