@@ -1,6 +1,6 @@
 -- The stubs: code through which calls and returns lead, in a region of its own. Each is a table of rows, and its bytes are those of the rows in order. (Intel 64 and IA-32 Architectures Software Developer's Manual, volume 2; Arm Architecture Reference Manual for A-profile, C6.2; RISC-V unprivileged ISA, 2.4 to 2.6, RV64I and "D")
 use Rattle.std.specs.Prelude.{ℕ, suc, ◌+◌, ◌-◌, ◌*◌, ◌/◌, ◌%◌, ◌^◌, ◌==◌, if◌then◌else◌, ℤ, pos, negsuc, List, [], ◌∷◌}
-use Rattle.std.specs.Prelude.{◌++◌, map, length}
+use Rattle.std.specs.Prelude.{◌++◌, map, length, neg_ℤ}
 use Rattle.std.specs.List.{repeat, replace_range}
 use Rattle.std.specs.Int.{w32, to_le_bytes}
 use Rattle.ffi3_type_rules.specs.declared.Isa.{Isa}
@@ -53,9 +53,9 @@ exchanged_at (S k) = 0
 
 -- the bytes of the save area, below zero
 abbrev pub area_below : Isa → ℤ
-area_below Amd64 = negsuc 55
-area_below Aarch64 = negsuc 175
-area_below Riscv = negsuc 207
+area_below Amd64 = neg_ℤ (pos (area_bytes Amd64))
+area_below Aarch64 = neg_ℤ (pos (area_bytes Aarch64))
+area_below Riscv = neg_ℤ (pos (area_bytes Riscv))
 
 -- the register that holds the exchange region's address
 abbrev pub call_base : Isa → ℕ

@@ -121,7 +121,7 @@ IsLinked Riscv s = slice_index s.general 1 ≡ RETURN
 
 -- where Exit goes
 abbrev pub left_to : Isa → State → State → ℕ
-left_to Amd64 before after = number_of 8 (stack_at (x_of 536 before + 56) 8 before)
+left_to Amd64 before after = number_of 8 (stack_at (x_of 536 before + area_bytes Amd64) 8 before)
 left_to Aarch64 before after = slice_index after.general 30
 left_to Riscv before after = even (slice_index after.general 1)
 

@@ -8,7 +8,7 @@ use Rattle.ffi3_type_rules.specs.declared.limits.TheConstants.{STACK}
 use Rattle.ffi3_place_rules.specs.declared.Loc.{Loc}
 use Rattle.ffi3_place_rules.specs.declared.Loc.TheVariants.{G, F, S}
 use Rattle.ffi3_place_rules.specs.Isa.{stack_pointer, call_loads, callee_saved_words, stub_area, entry_stores}
-use Rattle.ffi3_place_rules.specs.Isa.{result_loads}
+use Rattle.ffi3_place_rules.specs.Isa.{area_bytes, result_loads}
 use Rattle.ffi3_machine.specs.declared.stub.TheConstants.{EXCHANGE}
 use Rattle.ffi3_machine.specs.State.{State, x_of, stack_at}
 use Rattle.ffi3_machine.specs.Step.{even}
@@ -137,7 +137,7 @@ amd64_called s = pushed 7 (x_of 512 (amd64_loaded s)) (amd64_loaded s)
 
 -- from the first address of Entry
 abbrev pub amd64_saved : State → State
-amd64_saved s = to_area Amd64 0 (stub_area Amd64) (with_sp_by 8 (s.sp - 56) s)
+amd64_saved s = to_area Amd64 0 (stub_area Amd64) (with_sp_by 8 (s.sp - area_bytes Amd64) s)
 
 abbrev pub amd64_passed : State → State
 amd64_passed s = to_exchange Amd64 11 (entry_stores Amd64) (addressed 7 11 (amd64_saved s))
@@ -153,7 +153,7 @@ abbrev pub amd64_given : State → State
 amd64_given s = from_exchange Amd64 11 (result_loads Amd64) (amd64_restored s)
 
 abbrev pub amd64_left : State → State
-amd64_left s = popped (with_sp_by 8 ((amd64_given s).sp + 56) (amd64_given s))
+amd64_left s = popped (with_sp_by 8 ((amd64_given s).sp + area_bytes Amd64) (amd64_given s))
 
 -- from the first address of Return
 abbrev pub amd64_taken : State → State
@@ -181,7 +181,7 @@ aarch64_called s =
 
 -- from the first address of Entry
 abbrev pub aarch64_saved : State → State
-aarch64_saved s = to_area Aarch64 0 (stub_area Aarch64) (with_sp_by 4 (s.sp - 176) s)
+aarch64_saved s = to_area Aarch64 0 (stub_area Aarch64) (with_sp_by 4 (s.sp - area_bytes Aarch64) s)
 
 abbrev pub aarch64_passed : State → State
 aarch64_passed s = to_exchange Aarch64 16 (entry_stores Aarch64) (addressed 4 16 (aarch64_saved s))
@@ -198,7 +198,7 @@ aarch64_given s = from_exchange Aarch64 16 (result_loads Aarch64) (aarch64_resto
 
 abbrev pub aarch64_left : State → State
 aarch64_left s =
-    jumped (slice_index (aarch64_given s).general 30) (with_sp_by 4 ((aarch64_given s).sp + 176) (aarch64_given s))
+    jumped (slice_index (aarch64_given s).general 30) (with_sp_by 4 ((aarch64_given s).sp + area_bytes Aarch64) (aarch64_given s))
 
 -- from the first address of Return
 abbrev pub aarch64_taken : State → State
@@ -222,7 +222,7 @@ riscv_called s =
 
 -- from the first address of Entry
 abbrev pub riscv_saved : State → State
-riscv_saved s = to_area Riscv 0 (stub_area Riscv) (with_sp_by 4 (s.sp - 208) s)
+riscv_saved s = to_area Riscv 0 (stub_area Riscv) (with_sp_by 4 (s.sp - area_bytes Riscv) s)
 
 abbrev pub riscv_passed : State → State
 riscv_passed s = to_exchange Riscv 7 (entry_stores Riscv) (addressed_twice 7 (riscv_saved s))
@@ -239,7 +239,7 @@ riscv_given s = from_exchange Riscv 6 (result_loads Riscv) (riscv_restored s)
 
 abbrev pub riscv_left : State → State
 riscv_left s =
-    jumped (even (slice_index (riscv_given s).general 1)) (with_sp_by 4 ((riscv_given s).sp + 208) (riscv_given s))
+    jumped (even (slice_index (riscv_given s).general 1)) (with_sp_by 4 ((riscv_given s).sp + area_bytes Riscv) (riscv_given s))
 
 -- from the first address of Return
 abbrev pub riscv_taken : State → State
