@@ -1,5 +1,5 @@
 -- What each status of the top call says, with its cause.
-use Rattle.std.specs.Prelude.{◌≡◌, ℕ, false, ◌+◌, List, [], drop, Some}
+use Rattle.std.specs.Prelude.{◌≡◌, ℕ, true, false, ◌+◌, List, [], drop, Some}
 use Rattle.ffi3_io.specs.Sink.{Rose, SinkState}
 use Rattle.ffi3_io.specs.Source.{LosesSome, SourceState}
 use Rattle.ffi3_status.specs.FaultLines.{read_fault_line, write_fault_line, no_memory_line, ReportsFault}

@@ -25,5 +25,5 @@ pub returns-in-Err-Refused : goal.returns-in-Err-Refused
 returns-in-Err-Refused g c =
     failed (bad_words (is_refused _ c.in-Err-Refused.field-0 c.in-Err-Refused.text c.in-Err-Refused.field-0-is c.in-Err-Refused.ensures.refused) refl refl refl) c.tell.ensures
 
-pub returns : goal.returns
-returns g c = failed (no_memory_for_words refl refl refl) c.tell_fault.ensures
+pub returns-in-Err-NoMemory : goal.returns-in-Err-NoMemory
+returns-in-Err-NoMemory g c = failed (no_memory_for_words refl refl refl) c.tell_fault.ensures
