@@ -12,7 +12,8 @@ use Rattle.ffi3_place_rules.specs.Standard.{Standard}
 use Rattle.ffi3_io.specs.Sink.{SinkState}
 use Rattle.ffi3_io.specs.Written.{TookText}
 use Rattle.std.specs.List.{concat}
-use Rattle.ffi3_app.specs.Commands.{standard_of, lines_from, arguments_from}
+use Rattle.ffi3_explain_rules.specs.Standards.{standard_of}
+use Rattle.ffi3_app.specs.Commands.{lines_from, arguments_from}
 use Rattle.ffi3_io.specs.Written as written
 use Rattle.ffi3_io.specs.declared.IoError.{IoError}
 use Rattle.ffi3_io.specs.declared.IoError.TheVariants.{NoMemory}

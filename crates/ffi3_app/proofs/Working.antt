@@ -38,7 +38,7 @@ use Rattle.ffi3_image.specs.AnswerOf.{answer_of}
 use Rattle.ffi3_words.specs.declared.words.InputCommand.{InputCommand}
 use Rattle.ffi3_app.specs.declared.unfinished.Unfinished.{Unfinished}
 use Rattle.ffi3_app.specs.declared.unfinished.Unfinished.TheVariants.{Refused, NoMemory, WriteFault}
-use Rattle.ffi3_app.specs.Commands.{standard_of}
+use Rattle.ffi3_explain_rules.specs.Standards.{standard_of}
 use Rattle.ffi3_app.specs.Declarations.{Input, a_text, IsReadAs, IsWritable, offset_line, reason_line}
 use Rattle.ffi3_app.specs.Outcome.{Outcome, refuses, tells, runs, benches, IsOfScript, IsOfDeclaration, IsOfImage, outcome_of_input, outcome_of_answer, IsOutcomeOn}
 use Rattle.ffi3_app.specs.Work.{Works, IsToldAs, IsFaultToldAs, IsNoScript, IsNoDeclaration, RefusesWith, work_of_writing}

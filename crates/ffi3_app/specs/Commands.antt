@@ -1,24 +1,12 @@
 -- What layout and place write of a script.
 use Rattle.std.specs.Prelude.{ℕ, ◌+◌, List, [], ◌∷◌, ◌++◌, map}
 use Rattle.std.specs.List.{concat}
-use Rattle.ffi3_type_rules.specs.declared.Target.{Target}
-use Rattle.ffi3_type_rules.specs.declared.Target.TheVariants.{Amd64, Aapcs64, Riscv, Win64}
 use Rattle.ffi3_type_rules.specs.Tree.{Tree}
 use Rattle.ffi3_type_rules.specs.Signature.{Signature, Position, at_result, at_argument}
 use Rattle.ffi3_place_rules.specs.Standard.{Standard}
-use Rattle.ffi3_amd64_rules.specs.Amd64.{amd64}
-use Rattle.ffi3_aapcs64_rules.specs.Aapcs64.{aapcs64}
-use Rattle.ffi3_riscv_rules.specs.Riscv.{riscv}
-use Rattle.ffi3_win64_rules.specs.Win64.{win64}
 use Rattle.ffi3_script_rules.specs.Script.{Script}
 use Rattle.ffi3_text.specs.LayoutLines.{layout_text_of}
 use Rattle.ffi3_text.specs.PlaceLines.{sig_text_of, place_text_of}
-
-abbrev pub standard_of : Target → Standard
-standard_of Amd64 = amd64
-standard_of Aapcs64 = aapcs64
-standard_of Riscv = riscv
-standard_of Win64 = win64
 
 -- the arguments of a list of types, from number j on
 abbrev pub arguments_from : ℕ → List Tree → List Position

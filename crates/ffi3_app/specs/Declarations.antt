@@ -11,7 +11,8 @@ use Rattle.ffi3_cdecl_rules.specs.Grammar.{Declaration}
 use Rattle.ffi3_cdecl_rules.specs.Canonical.{declaration_text, FixesAll, IsIdentifier}
 use Rattle.ffi3_cdecl_rules.specs.Reading as declaration
 use Rattle.ffi3_words.specs.Words.{target_word}
-use Rattle.ffi3_app.specs.Commands.{place_lines, standard_of}
+use Rattle.ffi3_explain_rules.specs.Standards.{standard_of}
+use Rattle.ffi3_app.specs.Commands.{place_lines}
 
 -- ---- what is read
 

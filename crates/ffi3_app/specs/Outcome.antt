@@ -28,7 +28,8 @@ use Rattle.ffi3_image_rules.specs.declared.Question.{Question}
 use Rattle.ffi3_image_rules.specs.declared.Question.TheVariants.{Explained, ByStandard}
 use Rattle.ffi3_image_rules.specs.Answer as image
 use Rattle.ffi3_image_rules.specs.Answer.{Answer, IsAnswer}
-use Rattle.ffi3_app.specs.Commands.{standard_of, layout_text, place_text}
+use Rattle.ffi3_explain_rules.specs.Standards.{standard_of}
+use Rattle.ffi3_app.specs.Commands.{layout_text, place_text}
 use Rattle.ffi3_app.specs.Declarations.{Input, too_many_bytes, not_utf8, a_text, IsReadAs, offset_line, reason_line}
 use Rattle.ffi3_app.specs.Declarations.{cdecl_text, cplace_text}
 

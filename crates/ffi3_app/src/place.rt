@@ -1,7 +1,8 @@
 //! The lines of place.
 ghost use Rattle.ffi3_script.specs.ScriptOf.{script_of};
 ghost use Rattle.std.specs.List.{concat};
-ghost use Rattle.ffi3_app.specs.Commands.{place_lines, place_text, standard_of};
+ghost use Rattle.ffi3_explain_rules.specs.Standards.{standard_of};
+ghost use Rattle.ffi3_app.specs.Commands.{place_lines, place_text};
 ghost use Rattle.ffi3_io.specs.Written.{Wrote};
 
 use crate::write::write_made_line;

@@ -20,7 +20,8 @@ use Rattle.ffi3_capi.specs.declared.entry.Unread.TheVariants.{Call, ShortStack, 
 use Rattle.ffi3_capi.specs.Filled.{has_room, filled, room_status}
 use Rattle.ffi3_capi.specs.Refused.{status_of, fault_in, count_in}
 use Rattle.ffi3_capi.specs.Faults.{Declares}
-use Rattle.ffi3_capi.specs.Placed.{targets, standard_of, IsPlacement, IsPlaceRefusal, no_call, Places, placed, refused}
+use Rattle.ffi3_explain_rules.specs.Standards.{standard_of}
+use Rattle.ffi3_capi.specs.Placed.{targets, IsPlacement, IsPlaceRefusal, no_call, Places, placed, refused}
 use Rattle.ffi3_capi.specs.Laid.{IsLaid, IsLayoutRefusal, no_type, LaysOut, laid_out, refused as no_layout}
 use Rattle.ffi3_capi.specs.Entry.{AreFound, AreFoundBy, AreNotRead, AreNotReadBy, Reads, read, unread, unread_status, no_arguments}
 

@@ -19,7 +19,8 @@ use Rattle.ffi3_capi.specs.declared.fault.FaultKind.TheVariants.{NoFault}
 use Rattle.ffi3_capi.specs.declared.status.Refusal.TheVariants.{NoSuchTarget, NoSuchValue, Fault, NoMemory}
 use Rattle.ffi3_capi.specs.Faults.{Declares, fault_with}
 use Rattle.ffi3_capi.specs.Filled.{has_room, filled, room_status}
-use Rattle.ffi3_capi.specs.Placed.{targets, standard_of, IsPlaceRefusal}
+use Rattle.ffi3_explain_rules.specs.Standards.{standard_of}
+use Rattle.ffi3_capi.specs.Placed.{targets, IsPlaceRefusal}
 use Rattle.ffi3_capi.specs.Refused.{status_of, fault_in}
 
 -- registers, and the stack's bytes from the stack pointer on

@@ -4,10 +4,7 @@ use Rattle.ffi3_type_rules.specs.declared.Target.{Target}
 use Rattle.ffi3_type_rules.specs.declared.Target.TheVariants.{Amd64, Aapcs64, Riscv, Win64}
 use Rattle.ffi3_type_rules.specs.Signature.{Signature}
 use Rattle.ffi3_place_rules.specs.Standard.{Standard, plan_of}
-use Rattle.ffi3_amd64_rules.specs.Amd64.{amd64}
-use Rattle.ffi3_aapcs64_rules.specs.Aapcs64.{aapcs64}
-use Rattle.ffi3_riscv_rules.specs.Riscv.{riscv}
-use Rattle.ffi3_win64_rules.specs.Win64.{win64}
+use Rattle.ffi3_explain_rules.specs.Standards.{standard_of}
 use Rattle.ffi3_capi.specs.declared.fault.TextFault.{TextFault}
 use Rattle.ffi3_capi.specs.declared.pieces.PlacedPiece.{PlacedPiece}
 use Rattle.ffi3_capi.specs.declared.placing.PlacedCall.{PlacedCall}
@@ -23,12 +20,6 @@ use Rattle.ffi3_capi.specs.Refused.{status_of, fault_in}
 -- by number, from 0
 abbrev pub targets : List Target
 targets = Amd64 ∷ Aapcs64 ∷ Riscv ∷ Win64 ∷ []
-
-abbrev pub standard_of : Target → Standard
-standard_of Amd64 = amd64
-standard_of Aapcs64 = aapcs64
-standard_of Riscv = riscv
-standard_of Win64 = win64
 
 -- what is passed, and then what is given back
 abbrev pub pieces_of : Standard → Signature → List PlacedPiece

@@ -1,6 +1,7 @@
 // A call of the function that a text declares.
 ghost use Rattle.std.specs.Prelude.{◌≡◌, IfOk, IfErr, length, slice_get};
-ghost use Rattle.ffi3_capi.specs.Placed.{targets, standard_of, no_call, placement_of, IsPlacement, IsPlaceRefusal, Places};
+ghost use Rattle.ffi3_explain_rules.specs.Standards.{standard_of};
+ghost use Rattle.ffi3_capi.specs.Placed.{targets, no_call, placement_of, IsPlacement, IsPlaceRefusal, Places};
 
 use crate::fault::{FaultKind, TextFault, fault_with};
 use crate::fill::{fill, room_status};

@@ -1,3 +1,4 @@
+pub mod Standards
 pub mod Explain
 pub mod Laws
 pub mod Entries

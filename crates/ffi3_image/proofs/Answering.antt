@@ -25,7 +25,8 @@ use Rattle.ffi3_image_rules.specs.declared.Question.{Question}
 use Rattle.ffi3_image_rules.specs.declared.Question.TheVariants.{Explained, ByStandard}
 use Rattle.ffi3_image_rules.specs.Object.{Read, Snapshot, read, fault, and_then, read_map, read_snapshot}
 use Rattle.ffi3_image_rules.specs.Room.{check_room_for}
-use Rattle.ffi3_image_rules.specs.Input.{too_long, not_json, faulty, described, read_for, standard_of, with_room}
+use Rattle.ffi3_explain_rules.specs.Standards.{standard_of}
+use Rattle.ffi3_image_rules.specs.Input.{too_long, not_json, faulty, described, read_for, with_room}
 use Rattle.ffi3_image_rules.specs.Lines.{explained_text, arguments_text, broken_line, outside_line}
 use Rattle.ffi3_image_rules.specs.Answer.{Answer, text, refusal, answer_of_explanation, answer_of_arguments, answer_by, IsAnswer, IsTheAnswer}
 use Rattle.ffi3_image_rules.proofs.Inputs.{the_answer}

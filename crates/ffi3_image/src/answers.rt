@@ -5,7 +5,7 @@ ghost use Rattle.ffi3_type_rules.specs.Value.{all_fit, values_of};
 ghost use Rattle.ffi3_place_rules.specs.Standard.{frame_of};
 ghost use Rattle.ffi3_explain_rules.specs.Arguments.{least_stack};
 ghost use Rattle.ffi3_explain.specs.ImageOf.{image_of};
-ghost use Rattle.ffi3_image_rules.specs.Input.{standard_of};
+ghost use Rattle.ffi3_explain_rules.specs.Standards.{standard_of};
 ghost use Rattle.ffi3_image_rules.specs.Lines.{explained_text};
 ghost use Rattle.ffi3_image_rules.specs.Answer.{IsTheAnswer, answer_by};
 ghost use Rattle.ffi3_image.specs.AnswerOf.{IsToldAs, answer_about, answer_of};

@@ -8,7 +8,8 @@ use Rattle.ffi3_explain_rules.specs.Explain.{Explanation, explained, holds_value
 use Rattle.ffi3_explain_rules.specs.Arguments.{Arguments, are_values, points_outside, held_by_standard}
 use Rattle.ffi3_image_rules.specs.declared.Question.{Question}
 use Rattle.ffi3_image_rules.specs.declared.Question.TheVariants.{Explained, ByStandard}
-use Rattle.ffi3_image_rules.specs.Input.{Input, too_long, not_json, faulty, described, standard_of, IsReadAs}
+use Rattle.ffi3_explain_rules.specs.Standards.{standard_of}
+use Rattle.ffi3_image_rules.specs.Input.{Input, too_long, not_json, faulty, described, IsReadAs}
 use Rattle.ffi3_image_rules.specs.Lines.{explained_text, arguments_text, broken_line, outside_line, fault_line}
 use Rattle.ffi3_image_rules.specs.Lines.{too_long_line, not_json_line}
 

@@ -1,24 +1,12 @@
 -- What the bytes of an input are read as, for a question.
 use Rattle.std.specs.Prelude.{◌≡◌, ◌<◌, ℕ, List, length}
 use Rattle.serde_json.specs.Data.{Data}
-use Rattle.ffi3_type_rules.specs.declared.Target.{Target}
-use Rattle.ffi3_type_rules.specs.declared.Target.TheVariants.{Amd64, Aapcs64, Riscv, Win64}
-use Rattle.ffi3_place_rules.specs.Standard.{Standard}
-use Rattle.ffi3_amd64_rules.specs.Amd64.{amd64}
-use Rattle.ffi3_aapcs64_rules.specs.Aapcs64.{aapcs64}
-use Rattle.ffi3_riscv_rules.specs.Riscv.{riscv}
-use Rattle.ffi3_win64_rules.specs.Win64.{win64}
+use Rattle.ffi3_explain_rules.specs.Standards.{standard_of}
 use Rattle.ffi3_script_rules.specs.Language.{JsonPath}
 use Rattle.ffi3_script_rules.specs.Reading.{max_length, IsJson, IsNotJson}
 use Rattle.ffi3_image_rules.specs.declared.Question.{Question}
 use Rattle.ffi3_image_rules.specs.Object.{Read, Reason, Snapshot, read, fault, and_then, read_map, read_snapshot}
 use Rattle.ffi3_image_rules.specs.Room.{check_room_for}
-
-abbrev pub standard_of : Target → Standard
-standard_of Amd64 = amd64
-standard_of Aapcs64 = aapcs64
-standard_of Riscv = riscv
-standard_of Win64 = win64
 
 -- an image that has room for the question
 abbrev pub with_room : Question → Snapshot → Read Snapshot

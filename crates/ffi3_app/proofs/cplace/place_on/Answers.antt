@@ -1,7 +1,8 @@
 use Rattle.std.proofs.Common.{rules, ◌≡◌, refl}
 use Rattle.std.specs.Prelude.{Err}
 use Rattle.std.specs.List.{concat}
-use Rattle.ffi3_app.specs.Commands.{place_lines, standard_of}
+use Rattle.ffi3_explain_rules.specs.Standards.{standard_of}
+use Rattle.ffi3_app.specs.Commands.{place_lines}
 use Rattle.ffi3_app.specs.Declarations.{placed_on, target_line}
 use Rattle.ffi3_app.proofs.Pieces.{continues_from, continues_on, continues_ended, continues_last}
 use Rattle.ffi3_app.proofs.cplace.place_on.Goals as goal

@@ -4,7 +4,8 @@ use Rattle.ffi3_script_rules.specs.Script.{Script}
 use Rattle.ffi3_script_rules.specs.Reading.{script}
 use Rattle.ffi3_script_rules.specs.Natives.{names_of}
 use Rattle.ffi3_ask.specs.Handed.{handed}
-use Rattle.ffi3_app.specs.Commands.{place_text, standard_of}
+use Rattle.ffi3_explain_rules.specs.Standards.{standard_of}
+use Rattle.ffi3_app.specs.Commands.{place_text}
 use Rattle.ffi3_app.specs.Outcome.{tells, IsOfScript}
 use Rattle.ffi3_app.proofs.Working.{text_works}
 use Rattle.ffi3_app.proofs.work.tell_place.Goals as goal
