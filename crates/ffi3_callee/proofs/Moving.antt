@@ -13,14 +13,14 @@ use Rattle.ffi3_place_rules.specs.declared.Loc.TheVariants.{G, F, S}
 use Rattle.ffi3_place_rules.specs.declared.Piece.{Piece}
 use Rattle.ffi3_place_rules.specs.declared.Place.TheVariants.{Direct}
 use Rattle.ffi3_place_rules.specs.Holds.{Carries}
-use Rattle.ffi3_place_rules.specs.Sound.{HaveAll, IsPieceOf}
+use Rattle.ffi3_place_rules.specs.Sound.{HaveAll, IsPieceOf, IsWithin}
 use Rattle.ffi3_place_rules.proofs.Elements.{drop_read}
 use Rattle.ffi3_place_rules.proofs.Tests.{each_at}
 use Rattle.ffi3_cif.specs.declared.runs.Run.{Run}
 use Rattle.ffi3_cif.specs.Runs.{AreRunsOf, Copies, Neighbours, OneCopies, Rises, run_at, run_then, stack_runs}
 use Rattle.ffi3_type_rules.specs.declared.limits.TheConstants.{STACK}
 use Rattle.ffi3_machine.specs.State.{State, stack_at, stored}
-use Rattle.ffi3_pieces.specs.Stored.{AreBytesOf, IsWithin, WroteOnly, byte_of, stack_byte}
+use Rattle.ffi3_pieces.specs.Stored.{AreBytesOf, WroteOnly, byte_of, stack_byte}
 use Rattle.ffi3_pieces.specs.Runs.{RunLies}
 use Rattle.ffi3_pieces.proofs.Composing.{only_nothing, only_then, only_wider, same_byte}
 use Rattle.ffi3_pieces.proofs.Putting.{only_stored, stored_inside}

@@ -10,11 +10,11 @@ use Rattle.ffi3_place_rules.specs.declared.Piece.{Piece}
 use Rattle.ffi3_place_rules.specs.declared.Place.TheVariants.{Direct, ByRef}
 use Rattle.ffi3_place_rules.specs.Image.{byte_at}
 use Rattle.ffi3_place_rules.specs.Holds.{leaf_bytes, Carries, StandsInPieces, LeavesStand}
-use Rattle.ffi3_place_rules.specs.Sound.{CoversLeaf, HaveAll, IsPieceOf, piece_locs}
+use Rattle.ffi3_place_rules.specs.Sound.{CoversLeaf, HaveAll, IsPieceOf, piece_locs, IsWithin}
 use Rattle.ffi3_place_rules.proofs.Tests.{each_weaker}
 use Rattle.ffi3_type_rules.specs.declared.limits.TheConstants.{STACK}
 use Rattle.ffi3_machine.specs.State.{State, stack_at, with_sp}
-use Rattle.ffi3_pieces.specs.Stored.{IsPlace, word_in, IsWithin}
+use Rattle.ffi3_pieces.specs.Stored.{IsPlace, word_in}
 use Rattle.ffi3_pieces.proofs.Owning.{image_byte}
 use Rattle.ffi3_place_rules.proofs.Reading.{LeavesRead, ReadsLeaf, reads}
 use Rattle.ffi3_callee.specs.Loaded.{AreLoaded, HaveByte, IsRead, image_from}

@@ -8,7 +8,8 @@ use Rattle.ffi3_place_rules.specs.Holds.{Carries}
 use Rattle.ffi3_cif.specs.declared.runs.Run.{Run}
 use Rattle.ffi3_cif.specs.Runs.{OneCopies}
 use Rattle.ffi3_machine.specs.State.{State}
-use Rattle.ffi3_pieces.specs.Stored.{IsWithin, WroteOnly, byte_of, stack_byte}
+use Rattle.ffi3_place_rules.specs.Sound.{IsWithin}
+use Rattle.ffi3_pieces.specs.Stored.{WroteOnly, byte_of, stack_byte}
 use Rattle.ffi3_pieces.specs.Runs.{RunLies}
 use Rattle.ffi3_callee.specs.Loaded.{HaveByte}
 

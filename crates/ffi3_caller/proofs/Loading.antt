@@ -10,9 +10,9 @@ use Rattle.ffi3_place_rules.specs.declared.Loc.TheVariants.{G, F, S}
 use Rattle.ffi3_place_rules.specs.declared.Piece.{Piece}
 use Rattle.ffi3_place_rules.specs.Image.{Image, byte_at}
 use Rattle.ffi3_place_rules.specs.Holds.{Carries, StandsInPieces, LeavesStand}
-use Rattle.ffi3_place_rules.specs.Sound.{CoversLeaf}
+use Rattle.ffi3_place_rules.specs.Sound.{CoversLeaf, IsWithin}
 use Rattle.ffi3_machine.specs.State.{State, image_of}
-use Rattle.ffi3_pieces.specs.Stored.{IsPlace, IsWithin}
+use Rattle.ffi3_pieces.specs.Stored.{IsPlace}
 use Rattle.ffi3_caller.specs.Loaded.{AreWithin, register_of, loaded, with_piece}
 use Rattle.ffi3_place_rules.proofs.Reading.{ReadsLeaf, LeavesRead}
 

@@ -16,10 +16,10 @@ use Rattle.ffi3_place_rules.specs.declared.Res.{Res}
 use Rattle.ffi3_place_rules.specs.declared.Res.TheVariants.{Direct as DirectRes, Hidden}
 use Rattle.ffi3_place_rules.specs.Standard.{Standard, ResultSpot, no_result, in_result_pieces, in_buffer, plan_of, frame_of, result_at, buffer_end, frame_copies_end, round8}
 use Rattle.ffi3_place_rules.specs.Holds.{leaf_bytes, OwnResult, OwnsResult}
-use Rattle.ffi3_place_rules.specs.Sound.{LiesIn, IsSound, HaveAll, IsPieceOf, ResultHasAll, piece_locs, result_locs}
+use Rattle.ffi3_place_rules.specs.Sound.{LiesIn, IsSound, HaveAll, IsPieceOf, ResultHasAll, piece_locs, result_locs, IsWithin}
 use Rattle.ffi3_place_rules.proofs.Tests.{each_weaker}
 use Rattle.ffi3_machine.specs.State.{State, image_of, stack_at}
-use Rattle.ffi3_pieces.specs.Stored.{IsPlace, IsWithin}
+use Rattle.ffi3_pieces.specs.Stored.{IsPlace}
 use Rattle.ffi3_pieces.proofs.Lawful.{machine_place}
 use Rattle.ffi3_caller.specs.Loaded.{AreWithin, loaded}
 use Rattle.ffi3_place_rules.proofs.Reading.{reads}

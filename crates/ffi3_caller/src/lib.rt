@@ -11,7 +11,8 @@ ghost use Rattle.ffi3_place_rules.specs.Standard.{need_of, frame_of};
 ghost use Rattle.ffi3_type_rules.specs.declared.limits.TheConstants.{STACK, STACK_TOP};
 ghost use Rattle.ffi3_machine.specs.State.{image_of};
 ghost use Rattle.ffi3_pieces.specs.Passing.{by_exchange, passing};
-ghost use Rattle.ffi3_pieces.specs.Stored.{IsPlace, IsWithin};
+ghost use Rattle.ffi3_place_rules.specs.Sound.{IsWithin};
+ghost use Rattle.ffi3_pieces.specs.Stored.{IsPlace};
 ghost use Rattle.ffi3_caller.specs.Called.{at_frame, dropped_if, frame_start};
 ghost use Rattle.ffi3_caller.specs.Loaded.{AreWithin, loaded, with_piece};
 

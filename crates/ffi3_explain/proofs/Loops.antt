@@ -9,12 +9,12 @@ use Rattle.ffi3_type_rules.specs.Tree.{Tree}
 use Rattle.ffi3_type_rules.specs.Layout.{size_of}
 use Rattle.ffi3_place_rules.specs.declared.Piece.{Piece}
 use Rattle.ffi3_place_rules.specs.Image.{Image, byte_at}
-use Rattle.ffi3_place_rules.specs.Sound.{IsPieceOf}
+use Rattle.ffi3_place_rules.specs.Sound.{IsPieceOf, IsWithin}
 use Rattle.ffi3_explain_rules.specs.declared.Check.{Check}
 use Rattle.ffi3_explain_rules.specs.Explain.{carries, eight, first_byte, first_bytes, check_of_piece, checks_of_pieces, first_broken}
 use Rattle.ffi3_explain_rules.proofs.Pieces.{carries_is, is_carried, first_bytes-length, first_bytes-index}
 use Rattle.ffi3_explain_rules.proofs.Words.{index_eight}
-use Rattle.ffi3_explain.specs.Places.{IsPieceRead, IsWithin}
+use Rattle.ffi3_explain.specs.Places.{IsPieceRead}
 
 -- item i is the first of those from number i on
 pub drop_at : {X : Type 0} (xs : List X) (i : ℕ) (x : X) → i < length xs → x ≡ slice_index_or xs i x → drop i xs ≡ x ∷ drop (i + 1) xs

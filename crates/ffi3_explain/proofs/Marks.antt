@@ -11,7 +11,7 @@ use Rattle.ffi3_type_rules.specs.Value.{ValueTree, IsWritten}
 use Rattle.ffi3_place_rules.specs.declared.Piece.{Piece}
 use Rattle.ffi3_place_rules.specs.Image.{Image, byte_at, word_at}
 use Rattle.ffi3_place_rules.specs.Holds.{leaf_bytes}
-use Rattle.ffi3_place_rules.specs.Sound.{IsPieceOf}
+use Rattle.ffi3_place_rules.specs.Sound.{IsPieceOf, IsWithin}
 use Rattle.ffi3_place_rules.proofs.Tests.{and_left, and_right}
 use Rattle.ffi3_explain_rules.specs.declared.Part.TheVariants.{Arg}
 use Rattle.ffi3_explain_rules.specs.declared.Check.{Check}
@@ -19,7 +19,7 @@ use Rattle.ffi3_explain_rules.specs.Explain.{check_of_piece, eight, extended, fi
 use Rattle.ffi3_place_rules.proofs.Reading.{LeavesRead, leaves_read}
 use Rattle.ffi3_explain_rules.proofs.Pieces.{first_bytes-index, is_le, is_lt, or_cases}
 use Rattle.ffi3_explain_rules.proofs.Words.{index_eight, same_eight}
-use Rattle.ffi3_explain.specs.Places.{AreMarks, IsWithin, marked_byte}
+use Rattle.ffi3_explain.specs.Places.{AreMarks, marked_byte}
 
 neither : (a b : Bool) → (a || b) ≡ false → (a ≡ false) × (b ≡ false)
 neither true b h = cc

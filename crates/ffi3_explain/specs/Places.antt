@@ -27,10 +27,6 @@ HasPlace m base (S n) = base + n + 8 ≤ length m.stack
 abbrev pub CanBeRead : Image → ℕ → Piece → Type 0
 CanBeRead m base p = HasPlace m base p.loc × (p.len ≤ 8)
 
--- the piece lies in a value of so many bytes, and has at most eight
-abbrev pub IsWithin : ℕ → Piece → Type 0
-IsWithin size p = (p.len ≤ 8) × (p.off + p.len ≤ size)
-
 -- the piece's bytes are read from its place, and all others are the old
 pub record IsPieceRead (m : Image) (base : ℕ) (p : Piece) (old new : List ℕ) : Type 0 where
   pub sized : length new ≡ length old

@@ -8,10 +8,10 @@ ghost use Rattle.ffi3_type_rules.specs.Value.{fits, IsWritten};
 ghost use Rattle.ffi3_types.specs.TreeOf.{tree_of};
 ghost use Rattle.ffi3_values.specs.ValueOf.{value_of};
 ghost use Rattle.ffi3_place_rules.specs.declared.Piece.{Piece};
-ghost use Rattle.ffi3_place_rules.specs.Sound.{IsPieceOf};
+ghost use Rattle.ffi3_place_rules.specs.Sound.{IsPieceOf, IsWithin};
 ghost use Rattle.ffi3_explain_rules.specs.Explain.{check_of_piece, checks_of_pieces, eight, extended, first_broken, first_bytes, value_in_pieces};
 ghost use Rattle.ffi3_explain.specs.ImageOf.{image_of};
-ghost use Rattle.ffi3_explain.specs.Places.{AreMarks, CanBeRead, IsPieceRead, IsWithin, marked_byte};
+ghost use Rattle.ffi3_explain.specs.Places.{AreMarks, CanBeRead, IsPieceRead, marked_byte};
 ghost use Rattle.ffi3_explain.specs.Told.{TellsFirst};
 
 use crate::places::{place_bytes, place_word};

@@ -10,7 +10,8 @@ use Rattle.ffi3_place_rules.specs.declared.Loc.TheVariants.{S}
 use Rattle.ffi3_place_rules.specs.declared.Piece.{Piece}
 use Rattle.ffi3_type_rules.specs.declared.limits.TheConstants.{STACK}
 use Rattle.ffi3_machine.specs.State.{State, stack_at}
-use Rattle.ffi3_pieces.specs.Stored.{byte_of, word_in, AreBytesOf, IsPieceLoaded, IsSetAndFilled, IsStored, IsWithin}
+use Rattle.ffi3_place_rules.specs.Sound.{IsWithin}
+use Rattle.ffi3_pieces.specs.Stored.{byte_of, word_in, AreBytesOf, IsPieceLoaded, IsSetAndFilled, IsStored}
 use Rattle.ffi3_pieces.proofs.Putting.{word_there}
 use Rattle.ffi3_pieces.proofs.Ranges.{in_range, below_range, above_range, range_length}
 use Rattle.ffi3_pieces.proofs.Reading.{piece_held}

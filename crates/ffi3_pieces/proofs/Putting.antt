@@ -7,12 +7,12 @@ use Rattle.std.proofs.lemmas.List.{get_or-set_same, get_or-set_other, get_or_app
 use Rattle.std.proofs.lemmas.Nat.{from_le_bytes-to_le_bytes_8}
 use Rattle.ffi3_place_rules.specs.declared.Loc.{Loc}
 use Rattle.ffi3_place_rules.specs.declared.Loc.TheVariants.{G, F, S}
-use Rattle.ffi3_place_rules.specs.Sound.{IsNoneOf}
+use Rattle.ffi3_place_rules.specs.Sound.{IsNoneOf, IsWithin}
 use Rattle.ffi3_type_rules.specs.declared.limits.TheConstants.{STACK}
 use Rattle.ffi3_type_rules.specs.Isa.{isa_of}
 use Rattle.ffi3_place_rules.specs.Isa.{is_zero_register}
 use Rattle.ffi3_machine.specs.State.{State, with_general, with_floating, stored, lowered}
-use Rattle.ffi3_pieces.specs.Stored.{stack_byte, byte_of, SameAt, Stays, WroteOnly, WroteWithin, HasBytes, HasLow, IsPut, IsSet, IsWithin, IsWordPut, word_in}
+use Rattle.ffi3_pieces.specs.Stored.{stack_byte, byte_of, SameAt, Stays, WroteOnly, WroteWithin, HasBytes, HasLow, IsPut, IsSet, IsWordPut, word_in}
 use Rattle.ffi3_place_rules.specs.declared.Piece.{Piece}
 use Rattle.ffi3_type_rules.proofs.Parts.{index_part, length_part}
 use Rattle.ffi3_pieces.proofs.Ranges.{in_range, below_range, above_range, range_length}

@@ -126,10 +126,6 @@ pub record IsWordPut (base : ℕ) (l : Loc) (w : ℕ) (old new : State) : Type 0
 abbrev pub HasPiece : ℕ → State → List ℕ → Piece → Type 0
 HasPiece base m bytes p = (k : ℕ) → k < p.len → byte_of base m p.loc k ≡ get_or bytes (p.off + k) 0
 
--- the piece lies in so many bytes, and has at most eight
-abbrev pub IsWithin : ℕ → Piece → Type 0
-IsWithin size p = (p.len ≤ 8) × (p.off + p.len ≤ size)
-
 -- THE PIECE'S BYTES ARE PUT INTO ITS PLACE. The place's other bytes stay, and so do all other places.
 pub record IsSet (base : ℕ) (p : Piece) (bytes : List ℕ) (old new : State) : Type 0 where
   pub held : HasPiece base new bytes p

@@ -10,11 +10,11 @@ ghost use Rattle.ffi3_type_rules.specs.Value.{all_fit, fits, value_in, values_of
 ghost use Rattle.ffi3_values.specs.ValueOf.{value_of};
 ghost use Rattle.ffi3_place_rules.specs.Standard.{frame_of, plan_of};
 ghost use Rattle.ffi3_place_rules.specs.Holds.{FillArguments, OwnsArguments};
-ghost use Rattle.ffi3_place_rules.specs.Sound.{Apart, AreApart, hidden_locs, IsPieceOf, PlaceHasAll, piece_locs, place_locs, stack_words_for};
+ghost use Rattle.ffi3_place_rules.specs.Sound.{Apart, AreApart, hidden_locs, IsPieceOf, PlaceHasAll, piece_locs, place_locs, stack_words_for, IsWithin};
 ghost use Rattle.ffi3_type_rules.specs.declared.limits.TheConstants.{STACK, STACK_TOP};
 ghost use Rattle.ffi3_machine.specs.State.{image_of};
 ghost use Rattle.ffi3_pieces.specs.Passing.{passing};
-ghost use Rattle.ffi3_pieces.specs.Stored.{IsPlace, HasLow, IsPut, IsSet, IsSetAndFilled, IsStored, IsWithin, IsWordPut, IsWritable, KeepsUnused, PieceStands, Stays, WroteWithin};
+ghost use Rattle.ffi3_pieces.specs.Stored.{IsPlace, HasLow, IsPut, IsSet, IsSetAndFilled, IsStored, IsWordPut, IsWritable, KeepsUnused, PieceStands, Stays, WroteWithin};
 ghost use Rattle.ffi3_cif.specs.Runs.{AreRunsOf, pieces_of};
 ghost use Rattle.ffi3_pieces.specs.Runs.{goes_by_run};
 ghost use Rattle.ffi3_pieces.specs.Standing.{AllKeepUnused, AllStand, HiddenStands, IsCopied, PiecesStand, PlaceKeepsUnused, PlaceLies, PlaceStands, all_uses, place_uses};

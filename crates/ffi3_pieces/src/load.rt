@@ -3,7 +3,8 @@ ghost use Rattle.std.specs.Prelude.{◌≡◌, ◌-◌, length};
 ghost use Rattle.std.specs.Int.{w64, to_le_bytes};
 ghost use Rattle.ffi3_type_rules.specs.declared.limits.TheConstants.{STACK_TOP};
 ghost use Rattle.ffi3_pieces.specs.Passing.{passing};
-ghost use Rattle.ffi3_pieces.specs.Stored.{AreBytesOf, IsPieceLoaded, IsPlace, IsWithin, word_in};
+ghost use Rattle.ffi3_place_rules.specs.Sound.{IsWithin};
+ghost use Rattle.ffi3_pieces.specs.Stored.{AreBytesOf, IsPieceLoaded, IsPlace, word_in};
 
 use crate::registers::{passed_floating, passed_general};
 use ffi3_machine::{Machine, StackBase};

@@ -129,6 +129,10 @@ IsExtended t p Boxed = (is_floating_place p.loc ≡ true) × (p.len ≡ 4)
 IsExtended t p Widen = (is_narrow_integer t ≡ true) × (p.off ≡ 0) × (p.len ≡ size_of t)
 IsExtended t p Riscv = (is_narrow_integer t ≡ true) × (p.off ≡ 0) × (p.len ≡ size_of t)
 
+-- the piece lies in a value of so many bytes, and has at most eight
+abbrev pub IsWithin : ℕ → Piece → Type 0
+IsWithin size p = (p.len ≤ 8) × (p.off + p.len ≤ size)
+
 -- a piece has at most eight bytes, all of them of the value
 pub record IsPieceOf (t : Tree) (p : Piece) : Type 0 where
   pub short : p.len ≤ 8
