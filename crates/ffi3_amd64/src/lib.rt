@@ -3,7 +3,7 @@
 
 ghost use Rattle.std.specs.Prelude.{◌*◌, ◌≡◌, ◌<◌, ◌≤◌, ◌+◌, ◌||◌, cond, length, slice_index, IfOk, [], true, false};
 ghost use Rattle.std.specs.List.{list_any, count_by};
-ghost use Rattle.ffi3_type_rules.specs.declared.limits.TheConstants.{ARGUMENT_BYTES, ARGUMENT_SPAN, LARGEST_GAP, LARGEST_TYPE};
+ghost use Rattle.ffi3_type_rules.specs.declared.limits.TheConstants.{ARGUMENT_BYTES, ARGUMENT_SPAN, LARGEST_GAP};
 ghost use Rattle.ffi3_type_rules.specs.Tree.{Tree};
 ghost use Rattle.ffi3_type_rules.specs.Layout.{leaves_of, leaf_at};
 ghost use Rattle.ffi3_type_rules.specs.Fault.{IsLaidOut};

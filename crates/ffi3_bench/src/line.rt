@@ -1,5 +1,5 @@
 //! A sink in memory for one line of a run.
-ghost use Rattle.std.specs.Prelude.{◌≡◌, ◌<◌, ◌≤◌, [], length};
+ghost use Rattle.std.specs.Prelude.{◌≡◌, ◌<◌, [], length};
 
 use arrayvec::ArrayVec;
 use ffi3_io::{Failed, Sink};

@@ -173,8 +173,8 @@ listed_of P (DirectRes pieces) all = tt
 listed_of P (Hidden at buffer) all = all
 
 -- it is the register that the stub Entry saves
-pub hidden_listed : (std : Standard) (s : Signature) (hidden : Option Loc) → hidden ≡ hidden_of (plan_of std s).res → AllByRecursion (IsOneOf (G (hidden_register (isa_of std.target)) ∷ [])) (hidden_locs (plan_of std s).res) → AllByRecursion (IsOneOf (G (hidden_register (isa_of std.target)) ∷ [])) (if_any hidden)
-hidden_listed std s hidden is all =
+pub hidden_if_any : (std : Standard) (s : Signature) (hidden : Option Loc) → hidden ≡ hidden_of (plan_of std s).res → AllByRecursion (IsOneOf (G (hidden_register (isa_of std.target)) ∷ [])) (hidden_locs (plan_of std s).res) → AllByRecursion (IsOneOf (G (hidden_register (isa_of std.target)) ∷ [])) (if_any hidden)
+hidden_if_any std s hidden is all =
     subst (λ o. AllByRecursion (IsOneOf (G (hidden_register (isa_of std.target)) ∷ [])) (if_any o)) (sym is) (listed_of (IsOneOf (G (hidden_register (isa_of std.target)) ∷ [])) (plan_of std s).res all)
 
 -- ---- the address of a hidden result's buffer

@@ -1,7 +1,7 @@
 //! The callee's side of a call, by any calling standard.
 #![tactic(auto)]
 
-ghost use Rattle.std.specs.Prelude.{◌≡◌, ◌+◌, ◌-◌, ◌<◌, ◌≤◌, List, length, slice_index_or, true};
+ghost use Rattle.std.specs.Prelude.{◌≡◌, ◌+◌, ◌-◌, ◌<◌, ◌≤◌, List, length, slice_index_or};
 ghost use Rattle.ffi3_type_rules.specs.declared.limits.TheConstants.{ENTRY, STACK, STACK_TOP};
 ghost use Rattle.ffi3_type_rules.specs.Isa.{isa_of};
 ghost use Rattle.ffi3_type_rules.specs.Tree.{tree_at};
@@ -30,7 +30,7 @@ pub use answering::answer;
 use entering::enter;
 use ffi3_cif::Cif;
 use ffi3_machine::{Machine, StackBase};
-use ffi3_place::{Abi, Loc, Pieces, Place, Res};
+use ffi3_place::{Abi, Loc, Res};
 use ffi3_type_rules::round_up;
 use ffi3_types::CheckedSig;
 pub use giving::give_result;

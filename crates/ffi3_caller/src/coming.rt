@@ -5,7 +5,7 @@ ghost use Rattle.ffi3_type_rules.specs.declared.limits.TheConstants.{RETURN, STA
 ghost use Rattle.ffi3_type_rules.specs.Value.{ValueTree};
 ghost use Rattle.ffi3_place_rules.specs.Holds.{OwnResult};
 ghost use Rattle.ffi3_place_rules.specs.Standard.{frame_of};
-ghost use Rattle.ffi3_machine.specs.State.{image_of, with_x};
+ghost use Rattle.ffi3_machine.specs.State.{image_of};
 ghost use Rattle.ffi3_pieces.specs.Passing.{by_exchange};
 ghost use Rattle.ffi3_pieces.specs.Stored.{SameAt};
 ghost use Rattle.ffi3_caller.specs.Called.{HasComeBack, at_frame, come_back_if};

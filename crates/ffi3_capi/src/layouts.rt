@@ -1,5 +1,5 @@
 // The layout of the types of the function that a text declares.
-ghost use Rattle.std.specs.Prelude.{◌≡◌, ◌++◌, IfOk, IfErr, OnOk, length, map};
+ghost use Rattle.std.specs.Prelude.{◌≡◌, IfOk, IfErr};
 ghost use Rattle.ffi3_type_rules.specs.Tree.{Scalar, scalar, scalar_number};
 ghost use Rattle.ffi3_type_rules.specs.Layout.{scalar_size};
 ghost use Rattle.ffi3_types.specs.TreeOf.{tree_of};

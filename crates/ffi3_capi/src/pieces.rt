@@ -3,7 +3,7 @@ ghost use Rattle.std.specs.Prelude.{◌≡◌, ◌+◌, ◌<◌, ◌≤◌, ◌^
 ghost use Rattle.std.specs.List.{AllByRecursion};
 ghost use Rattle.ffi3_type_rules.specs.declared.limits.TheConstants.{LARGEST_TYPE};
 ghost use Rattle.ffi3_capi.specs.Within.{EndsWithin, PlaceEndsWithin};
-ghost use Rattle.ffi3_capi.specs.Pieces.{place_of, number_of, rest_of, value_piece, address_piece, goes_on, longer, joined_to, joined, argument_pieces, arguments_from, hidden_pieces, returned_address, returned_pieces};
+ghost use Rattle.ffi3_capi.specs.Pieces.{place_of, number_of, rest_of, value_piece, address_piece, goes_on, joined_to, joined, argument_pieces, arguments_from, hidden_pieces, returned_address, returned_pieces};
 
 use crate::codes::{
     ADDRESS_BYTES, HIDDEN_PART, HOLDS_ADDRESS, HOLDS_BYTES, IN_FLOATING, IN_GENERAL, ON_STACK,

@@ -1,5 +1,5 @@
 // A call of the function that a text declares.
-ghost use Rattle.std.specs.Prelude.{◌≡◌, IfOk, IfErr, length, slice_get};
+ghost use Rattle.std.specs.Prelude.{◌≡◌, IfOk, IfErr, slice_get};
 ghost use Rattle.ffi3_explain_rules.specs.Standards.{standard_of};
 ghost use Rattle.ffi3_capi.specs.Placed.{targets, no_call, placement_of, IsPlacement, IsPlaceRefusal, Places};
 

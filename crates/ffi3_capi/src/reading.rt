@@ -1,5 +1,5 @@
 // What bytes declare.
-ghost use Rattle.std.specs.Prelude.{◌≡◌, IfOk, IfErr, Some, None, IsUtf8};
+ghost use Rattle.std.specs.Prelude.{◌≡◌, IfOk, IfErr, Some, IsUtf8};
 ghost use Rattle.ffi3_type_rules.specs.Signature.{SignatureHasNoFault};
 ghost use Rattle.ffi3_capi.specs.declared.fault.TextFault.{TextFault};
 ghost use Rattle.ffi3_capi.specs.Faults.{Declares, IsFaultOf};

@@ -1,5 +1,5 @@
 // The machine on its way over the tokens, and what it comes to.
-ghost use Rattle.std.specs.Prelude.{◌≡◌, ◌≤◌, IfOk};
+ghost use Rattle.std.specs.Prelude.{◌≡◌, IfOk};
 ghost use Rattle.ffi3_cdecl_rules.specs.Machine.{finish, is_dead, judged};
 ghost use Rattle.ffi3_cdecl_rules.specs.Reading.{is_too_great};
 ghost use Rattle.ffi3_cdecl_rules.specs.OnePass.{keeping, kept, taking, new_pass};

@@ -1,7 +1,7 @@
 // One token behind a type, a word of a base, a name or a mark.
 ghost use Rattle.std.specs.Prelude.{◌≡◌, [], IfOk, ltb, box_value};
 ghost use Rattle.ffi3_cdecl_rules.specs.Machine.{onto, depth, name_behind, close_behind, comma_behind, step_typed, step_sign, step_short, step_long, step_long_long, step_struct, step_star, step_sole_void, step_named, step_opened, step_closing, step_comma, step_dots, step_member, step_counted, step_after_member, step_closed};
-ghost use Rattle.ffi3_cdecl_rules.specs.Grammar.{declared, pointer_type, char_of, short_of, int_of, long_of, int128_of};
+ghost use Rattle.ffi3_cdecl_rules.specs.Grammar.{declared, char_of, short_of, int_of, long_of, int128_of};
 ghost use Rattle.ffi3_type_rules.specs.Tree.{scalar};
 ghost use Rattle.ffi3_types.specs.TreeOf.{tree_of};
 ghost use Rattle.ffi3_cdecl_rules.specs.OnePass.{keep_count};

@@ -1,5 +1,5 @@
 // The token at the front of some bytes.
-ghost use Rattle.std.specs.Prelude.{◌≡◌, ◌≤◌, ◌<◌, ◌+◌, true, length, get_or, drop, ◌∷◌, bytes_eq};
+ghost use Rattle.std.specs.Prelude.{◌≡◌, ◌<◌, ◌+◌, true, length, get_or, drop, ◌∷◌, bytes_eq};
 ghost use Rattle.ffi3_cdecl_rules.specs.Tokens.{word_among, words, word_of, mark_among, marks, dots_at, found, front, goes_on_word, is_digit, number_at, found_at};
 ghost use Rattle.ffi3_cdecl.specs.TokenOf.{token_of, mark_of, found_of};
 

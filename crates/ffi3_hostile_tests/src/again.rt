@@ -1,5 +1,5 @@
 //! A native that calls itself by the closure that it is handed.
-ghost use Rattle.std.specs.Prelude.{◌≡◌, ◌<◌, ◌∷◌, [], IfOk, length, true};
+ghost use Rattle.std.specs.Prelude.{◌≡◌, ◌<◌, ◌∷◌, [], IfOk, true};
 ghost use Rattle.ffi3_type_rules.specs.Tree.{scalar, s64};
 ghost use Rattle.ffi3_type_rules.specs.Value.{fits};
 ghost use Rattle.ffi3_values.specs.ValueOf.{value_of};

@@ -1,5 +1,5 @@
 //! Scripts that call these natives.
-ghost use Rattle.std.specs.Prelude.{◌<◌, ◌^◌, List, length, map};
+ghost use Rattle.std.specs.Prelude.{◌<◌, ◌^◌, length, map};
 ghost use Rattle.ffi3_ask.specs.Handed.{handed_in, signatures_in};
 
 use crate::{Again, DropSelf, Flood, Talker};

@@ -1,5 +1,5 @@
 // Fields of instructions.
-ghost use Rattle.std.specs.Prelude.{◌≡◌, ◌+◌, ◌/◌, ◌%◌, ◌^◌, ◌<◌, ◌≤◌, length, slice_index, [], ◌∷◌};
+ghost use Rattle.std.specs.Prelude.{◌≡◌, ◌+◌, ◌/◌, ◌%◌, ◌^◌, ◌<◌, ◌≤◌};
 ghost use Rattle.ffi3_isa.specs.Fields.{sign_extend, first_word};
 
 /// The field of `width` bits whose lowest is bit `low`.

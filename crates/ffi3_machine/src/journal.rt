@@ -1,5 +1,5 @@
 // The journal: what the machine was at each entry and each return.
-ghost use Rattle.std.specs.Prelude.{◌≡◌, ℕ, ◌<◌, ◌≤◌, ◌+◌, ◌-◌, ◌*◌, ◌++◌, [], ◌∷◌, length, OnOk, OnErr};
+ghost use Rattle.std.specs.Prelude.{◌≡◌, ◌<◌, ◌≤◌, ◌+◌, ◌-◌, ◌*◌, ◌++◌, [], ◌∷◌, length, OnOk, OnErr};
 ghost use Rattle.ffi3_machine.specs.Recorded.{Recorded, event_at};
 ghost use Rattle.ffi3_machine.specs.Entries.{event_of};
 

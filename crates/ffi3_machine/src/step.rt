@@ -1,5 +1,5 @@
 // One instruction of a machine.
-ghost use Rattle.std.specs.Prelude.{◌≡◌, ℕ, ◌<◌, ◌≤◌, ◌+◌, ◌-◌, ◌%◌, ◌^◌, ℤ, drop, take, slice_index, IfSome, IfErr, OnOk, OnErr, Ok, Some, None, ◌==◌, unwrap_or};
+ghost use Rattle.std.specs.Prelude.{◌≡◌, ℕ, ◌<◌, ◌+◌, ◌-◌, ◌%◌, ◌^◌, IfSome, IfErr, OnOk, OnErr, Ok, Some, None, ◌==◌, unwrap_or};
 ghost use Rattle.ffi3_isa.specs.declared.Instr.{Instr};
 ghost use Rattle.ffi3_isa.specs.Registers.{HasRegistersBelow};
 ghost use Rattle.ffi3_type_rules.specs.Isa.{isa_of};
@@ -19,7 +19,6 @@ ghost use Rattle.ffi3_machine.specs.Step.{
   goes_to,
   has_eight,
   loaded,
-  moved,
   next,
   pops,
   pushes,

@@ -1,7 +1,7 @@
 //! The RISC-V calling standard with LP64D.
 #![tactic(auto)]
 
-ghost use Rattle.std.specs.Prelude.{◌≡◌, ◌<◌, ◌≤◌, ◌+◌, ◌*◌, ◌/◌, ◌^◌, length, map, IfOk, true, false, cond, nat_le};
+ghost use Rattle.std.specs.Prelude.{◌≡◌, ◌<◌, ◌≤◌, ◌+◌, ◌*◌, ◌/◌, length, map, IfOk, true, false, cond, nat_le};
 ghost use Rattle.ffi3_type_rules.specs.declared.limits.TheConstants.{ARGUMENT_BYTES, MOST_ARGUMENTS};
 ghost use Rattle.ffi3_type_rules.specs.Tree.{Scalar, scalar, Tree, tree_at};
 ghost use Rattle.ffi3_type_rules.specs.Layout.{size_of, leaves_of, leaf_at};
@@ -10,7 +10,7 @@ ghost use Rattle.ffi3_type_rules.specs.Fault.{IsLaidOut};
 ghost use Rattle.ffi3_types.specs.TreeOf.{tree_of};
 ghost use Rattle.ffi3_place_rules.specs.Standard.{result_at, plan_of};
 ghost use Rattle.ffi3_place_rules.specs.Doublewords.{doublewords};
-ghost use Rattle.ffi3_riscv_rules.specs.Riscv.{riscv, is_word_integer, shape_of_two, shape_of_leaves, shape_of, words_of, floats_of, registers_suffice, passed_as, word, extension, boxing, argument_register, floating_register, floating_piece, integer_piece, word_pieces, spot_of, is_fixed, is_at_even_word, first_word, taken_at_start, taken_by_shape, taken_at_first, shape_after, taken_by_all, placing_of, result_shape, result_spot_of, is_by_reference, stack_of, untouched};
+ghost use Rattle.ffi3_riscv_rules.specs.Riscv.{riscv, is_word_integer, shape_of_two, shape_of_leaves, shape_of, words_of, floats_of, registers_suffice, passed_as, word, extension, boxing, argument_register, floating_register, floating_piece, integer_piece, word_pieces, spot_of, is_fixed, is_at_even_word, first_word, taken_at_start, taken_by_shape, taken_at_first, shape_after, taken_by_all, placing_of, result_shape, result_spot_of, stack_of};
 ghost use Rattle.ffi3_riscv_rules.specs.declared.Shape.{Shape};
 ghost use Rattle.ffi3_riscv_rules.specs.declared.Shape.TheVariants.{OneF, Words, ByRef};
 ghost use Rattle.ffi3_riscv_rules.proofs.Shapes.{Suits, HasRoom};

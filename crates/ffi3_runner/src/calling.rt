@@ -1,5 +1,5 @@
 //! What the innermost activation asks for, and a call.
-ghost use Rattle.std.specs.Prelude.{◌≡◌, ℕ, ◌+◌, ◌<◌, ◌≤◌, ◌^◌, IfOk, List, None, Some, length, reverse, suc, true};
+ghost use Rattle.std.specs.Prelude.{◌≡◌, ℕ, ◌<◌, IfOk, List, None, Some, length, reverse, suc, true};
 ghost use Rattle.ffi3_type_rules.specs.Signature.{signature_at};
 ghost use Rattle.ffi3_type_rules.specs.Tree.{trees_of};
 ghost use Rattle.ffi3_type_rules.specs.Value.{all_fit, values_of};
@@ -11,17 +11,16 @@ ghost use Rattle.ffi3_run_rules.specs.Trace.{TraceItem};
 ghost use Rattle.ffi3_turn_rules.specs.Remainder.{Remainder};
 ghost use Rattle.ffi3_turn_rules.specs.SoFar.{Base};
 ghost use Rattle.ffi3_turn_rules.specs.TracingOf.{IsTracingOf};
-ghost use Rattle.ffi3_script.specs.ScriptOf.{natives_of};
 ghost use Rattle.ffi3_body.specs.MoveOf.{move_of};
 ghost use Rattle.ffi3_ask.specs.Asked.{IsAsked};
-ghost use Rattle.ffi3_ask.specs.Handed.{handed, signatures_in};
+ghost use Rattle.ffi3_ask.specs.Handed.{handed};
 ghost use Rattle.ffi3_ask.specs.Stands.{StandingAgrees};
 ghost use Rattle.ffi3_script_body.specs.Agrees.{one_more};
 ghost use Rattle.ffi3_ask.specs.Stands as ask;
 ghost use Rattle.ffi3_configuration.specs.Between.{Beginning, IsAsking, run_state};
 ghost use Rattle.ffi3_configuration.specs.Activations.{call_inside, calls_of};
 ghost use Rattle.ffi3_configuration.specs.Stack.{HoldsCalls};
-ghost use Rattle.ffi3_configuration.specs.Turned.{StandsAt, Turned};
+ghost use Rattle.ffi3_configuration.specs.Turned.{Turned};
 ghost use Rattle.ffi3_runner.specs.Agreeing.{PositionsAgree, AllWillStand, IsStanding, WillStand, seen_by};
 ghost use Rattle.ffi3_runner.specs.Running.{IsPrepared, program};
 

@@ -1,5 +1,5 @@
 //! What a run is prepared with.
-ghost use Rattle.std.specs.Prelude.{◌≡◌, ◌+◌, IfOk};
+ghost use Rattle.std.specs.Prelude.{◌≡◌, IfOk};
 ghost use Rattle.ffi3_place_rules.specs.Standard.{Standard};
 ghost use Rattle.ffi3_script_rules.specs.Natives.{program_beside};
 ghost use Rattle.ffi3_script.specs.ScriptOf.{script_of};

@@ -1,5 +1,5 @@
 //! A script that is run from a machine as it begins.
-ghost use Rattle.std.specs.Prelude.{◌<◌, ◌≤◌, ◌^◌, IfOk, IfSome, List, length};
+ghost use Rattle.std.specs.Prelude.{◌<◌, ◌≤◌, ◌^◌, IfOk, IfSome, length};
 ghost use Rattle.ffi3_script.specs.ScriptOf.{natives_of};
 ghost use Rattle.ffi3_ask.specs.Handed.{handed, signatures_in};
 

@@ -1,5 +1,5 @@
 //! Scripts of functions that call one another, with no native among them.
-ghost use Rattle.std.specs.Prelude.{◌<◌, ◌^◌, List, length};
+ghost use Rattle.std.specs.Prelude.{◌<◌, ◌^◌, length};
 ghost use Rattle.ffi3_ask.specs.Handed.{handed, signatures_in};
 
 use crate::{Native, Ran, RunEnd, Stop, run_script};

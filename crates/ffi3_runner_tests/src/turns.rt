@@ -1,6 +1,6 @@
 //! Runs of main, one move at a time: every other move writes to a second sink and is traced, and what else the caller
 //! writes to a sink between two moves does not matter.
-ghost use Rattle.std.specs.Prelude.{◌<◌, ◌≤◌, ◌^◌, List, length};
+ghost use Rattle.std.specs.Prelude.{◌<◌, ◌≤◌, ◌^◌, length};
 ghost use Rattle.ffi3_script.specs.ScriptOf.{natives_of};
 ghost use Rattle.ffi3_ask.specs.Handed.{handed, signatures_in};
 

@@ -1,7 +1,7 @@
 //! Calls and returns by stubs: the instructions of a stub, which the machine does one after another.
 #![tactic(auto)]
 
-ghost use Rattle.std.specs.Prelude.{◌≡◌, ℕ, ◌≤◌, ◌+◌, ◌%◌, ◌^◌};
+ghost use Rattle.std.specs.Prelude.{◌≡◌, ◌≤◌, ◌+◌, ◌%◌, ◌^◌};
 ghost use Rattle.ffi3_type_rules.specs.Isa.{isa_of};
 ghost use Rattle.ffi3_place_rules.specs.Isa.{pushed_bytes, area_bytes};
 ghost use Rattle.ffi3_machine.specs.State.{State, with_pc, x_of};

@@ -1,7 +1,7 @@
 //! The definitions that the contracts of the crates above cite, and the rounding that they share.
 #![tactic(auto)]
 
-ghost use Rattle.std.specs.Prelude.{◌≡◌, ◌+◌, ◌<◌, ◌≤◌, ◌^◌};
+ghost use Rattle.std.specs.Prelude.{◌≡◌, ◌+◌, ◌<◌, ◌^◌};
 ghost use Rattle.ffi3_type_rules.specs.Layout.{IsLeastMultiple, least_multiple};
 ghost use Rattle.ffi3_type_rules.specs.Isa.{isa_of};
 ghost use Rattle.ffi3_type_rules.specs.Fault.{takes_void, takes_array};

@@ -1,7 +1,7 @@
 // The first fault of a type.
-ghost use Rattle.std.specs.Prelude.{◌≡◌, ◌+◌, ◌<◌, ◌≤◌, ℕ, length, OnOk, IfOk, IfErr};
+ghost use Rattle.std.specs.Prelude.{◌≡◌, ◌+◌, ◌<◌, ◌≤◌, length, OnOk, IfOk, IfErr};
 ghost use Rattle.ffi3_type_rules.specs.declared.limits.TheConstants.{DEEPEST_NESTING};
-ghost use Rattle.ffi3_type_rules.specs.Tree.{struct_of, tree_at, array, trees_of};
+ghost use Rattle.ffi3_type_rules.specs.Tree.{struct_of, array, trees_of};
 ghost use Rattle.ffi3_type_rules.specs.Layout.{size_of, align_of};
 ghost use Rattle.ffi3_type_rules.specs.Fault.{HasNoFault, IsFirstFault};
 ghost use Rattle.ffi3_types.specs.ScalarSize.{scalar_size_of};

@@ -1,11 +1,9 @@
 //! Types, signatures, their layout, their faults and their texts.
 #![tactic(auto)]
 
-ghost use Rattle.std.specs.Prelude.{◌≡◌, ◌+◌, ◌<◌, ◌^◌, ◌++◌, ◌∷◌, [], length, OnErr, OnOk, slice_get, Some};
-ghost use Rattle.std.specs.Prelude.{All, ◌≤◌, IfOk, IsOk, true};
-ghost use Rattle.ffi3_type_rules.specs.Fault.{HasNoFault};
-ghost use Rattle.ffi3_type_rules.specs.Tree.{struct_of, tree_at, trees_of, nodes, all_nodes};
-ghost use Rattle.ffi3_type_rules.specs.Layout.{size_of, align_of};
+ghost use Rattle.std.specs.Prelude.{◌≡◌, ◌+◌, ◌<◌, ◌^◌, ◌++◌, ◌∷◌, [], length, OnErr, OnOk};
+ghost use Rattle.std.specs.Prelude.{◌≤◌, IfOk, IsOk};
+ghost use Rattle.ffi3_type_rules.specs.Tree.{tree_at, trees_of, nodes, all_nodes};
 ghost use Rattle.ffi3_types.specs.TreeOf.{tree_of};
 
 mod bytes;
@@ -92,10 +90,8 @@ impl Model for Fields {
 
     ghost coded = { tree_list_code };
 
-    ghost use Rattle.std.specs.Prelude.{All, ◌≤◌, IfOk, true};
-    ghost use Rattle.ffi3_type_rules.specs.Fault.{HasNoFault};
-    ghost use Rattle.ffi3_type_rules.specs.Tree.{struct_of, tree_at, trees_of, nodes, all_nodes};
-    ghost use Rattle.ffi3_type_rules.specs.Layout.{size_of, align_of};
+    ghost use Rattle.std.specs.Prelude.{◌≤◌, IfOk};
+    ghost use Rattle.ffi3_type_rules.specs.Tree.{tree_at, trees_of, nodes, all_nodes};
     ghost use Rattle.ffi3_types.specs.TreeOf.{tree_of};
 
     ghost view = { λ a. map tree_of a.types.items };

@@ -1,5 +1,5 @@
 // Signatures and their first fault.
-ghost use Rattle.std.specs.Prelude.{◌≡◌, ◌<◌, ◌≤◌, ◌^◌, ◌↔◌, length, IsTrue, IfOk, OnOk, IfErr, Some};
+ghost use Rattle.std.specs.Prelude.{◌≡◌, ◌<◌, ◌↔◌, length, IsTrue, IfOk, OnOk, IfErr, Some};
 ghost use Rattle.ffi3_type_rules.specs.Tree.{tree_at};
 ghost use Rattle.ffi3_type_rules.specs.Signature.{SignatureHasNoFault, IsFirstSignatureFault, is_promoted};
 ghost use Rattle.ffi3_types.specs.TreeOf.{tree_of};
@@ -21,7 +21,6 @@ pub struct Sig {
 }
 
 impl Model for Sig {
-    ghost use Rattle.std.specs.Prelude.{ℕ};
     ghost use Rattle.ffi3_type_rules.specs.Signature.{Signature, signature_code};
     ghost use Rattle.ffi3_types.specs.TreeOf.{tree_of};
 

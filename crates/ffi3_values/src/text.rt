@@ -1,5 +1,5 @@
 // Values as text.
-ghost use Rattle.std.specs.Prelude.{◌≡◌, ◌++◌, ◌∷◌, ◌<◌, [], OnOk, IfOk, true, false};
+ghost use Rattle.std.specs.Prelude.{◌≡◌, ◌++◌, ◌<◌, OnOk, IfOk, true};
 ghost use Rattle.std.specs.List.{join_with_byte};
 ghost use Rattle.ffi3_type_rules.specs.Tree.{trees_of};
 ghost use Rattle.ffi3_type_rules.specs.Value.{fits, all_fit, values_of};
