@@ -13,7 +13,7 @@ ghost use Rattle.ffi3_place_rules.specs.Doublewords.{doublewords};
 ghost use Rattle.ffi3_aapcs64_rules.specs.Aapcs64.{aapcs64, is_member, homogeneous, in_vectors, is_copied, passed, registers_needed, stack_size, first_general, stack_start, member_pieces, general_pieces, register_pieces, register_spot, stack_spot, register_start, register_end, in_registers, stack_end, taken_with, taken_after, untouched, spot_after, spots_after, result_from, result_spot_of};
 ghost use Rattle.ffi3_aapcs64_rules.specs.Ends.{IsPlacedByEnds};
 ghost use Rattle.ffi3_place_rules.specs.Alike.{GoesByLayout};
-ghost use Rattle.ffi3_place.specs.Copies.{without_copy};
+ghost use Rattle.ffi3_place.specs.WithoutCopy.{without_copy};
 
 pub use ffi3_aapcs64_rules::Kind;
 use ffi3_place::ends::{buffer_end, lay_copies, planned, start};
@@ -528,7 +528,7 @@ struct Placed {
     taken: Taken,
 }
 
-/// The places of all arguments but those of their copies.
+/// The places of all arguments; copies have no place yet.
 fn place_all(alloc: Global, sig: &CheckedSig<'_>) -> Result<Placed, NoMemory>
     ensures places { IfOk result (λ p. p.places ≡ map without_copy (spots_after untouched sig.now.arguments)) }
     ensures taken { IfOk result (λ p. p.taken ≡ taken_after untouched sig.now.arguments) }
@@ -544,7 +544,7 @@ fn place_all(alloc: Global, sig: &CheckedSig<'_>) -> Result<Placed, NoMemory>
 
 // ---- results
 
-/// A result in the place of a first argument; where that would be copied, in a buffer of the caller behind what ends at `end`.
+/// The result, in the registers of a first argument; where that would be copied, in a buffer of the caller that begins behind `end`.
 fn result_from(place: Place, ty: &CheckedType<'_>, end: u64) -> Res
     requires { end ≤ 4 * ARGUMENT_BYTES }
     ensures { (spot : Spot) → place ≡ without_copy spot → result ≡ result_at aapcs64.copy_start end ty.now (result_from spot) }
@@ -567,6 +567,7 @@ fn place_result(alloc: Global, sig: &CheckedSig<'_>, end: u64) -> Result<Res, No
     if let FfiType::Void = sig.ret().as_type() {
         return Ok(Res::Nothing);
     }
+    // no type is held across the `?`, where each way out would drop it
     let place = place_of(alloc, UNTOUCHED, &Classed::of(sig.ret()));
     Ok(result_from(place?, &sig.ret(), end))
 }
@@ -612,8 +613,11 @@ const LINK_REGISTER: Loc = Loc::G(30);
 /// The word of the save area that holds the link register, behind those of the general registers.
 const LINK_WORD: u8 = SAVED_GENERAL.len() as u8;
 
-/// The word that holds the address of a hidden result, behind those of the vector registers. A spare word follows, the last.
+/// The word that holds the address of a hidden result, behind those of the vector registers.
 const HIDDEN_WORD: u8 = LINK_WORD + 1 + SAVED_VECTOR.len() as u8;
+
+/// How many words there are: behind that one stands a spare one.
+const SAVE_WORDS: u8 = HIDDEN_WORD + 2;
 
 /// The Arm AAPCS64 calling standard. (IHI 0055)
 pub struct Aapcs64;
@@ -665,9 +669,9 @@ impl Abi for Aapcs64 {
 
     ghost KEPT = { length aapcs64.callee_saved };
 
-    ghost PASSING = { length aapcs64.argument_registers };
+    ghost ARGUMENT_REGISTERS = { length aapcs64.argument_registers };
 
-    const SAVE: u64 = 8 * (HIDDEN_WORD as u64 + 2);
+    const SAVE: u64 = 8 * SAVE_WORDS as u64;
 
     const LINK: u64 = 0;
 
@@ -675,7 +679,7 @@ impl Abi for Aapcs64 {
 
     const KEPT: u8 = (SAVED_GENERAL.len() + SAVED_VECTOR.len()) as u8;
 
-    const PASSING: u8 = ARGUMENT_REGISTERS.len() as u8;
+    const ARGUMENT_REGISTERS: u8 = ARGUMENT_REGISTERS.len() as u8;
 
     fn callee_saved(k: u8) -> Loc {
         let k = k as usize;
@@ -686,7 +690,7 @@ impl Abi for Aapcs64 {
         }
     }
 
-    fn passing_register(k: u8) -> Loc {
+    fn argument_register(k: u8) -> Loc {
         ARGUMENT_REGISTERS[k as usize]
     }
 
@@ -730,7 +734,7 @@ impl Abi for Aapcs64 {
 
     ghost kept_all = { refl };
 
-    ghost passing_all = { refl };
+    ghost argument_registers_all = { refl };
 
     ghost words_few = { ltb-true (length aapcs64.save_area) 256 refl };
 

@@ -17,7 +17,7 @@ use Rattle.ffi3_place_rules.specs.declared.SaveWord.{SaveWord}
 use Rattle.ffi3_place_rules.specs.declared.SaveWord.TheVariants.{Register, Hidden, Spare}
 use Rattle.ffi3_place_rules.specs.declared.Taken.{Taken}
 use Rattle.ffi3_place_rules.specs.Isa.{pushed_bytes, stack_pointer, reserved_places, link_place}
-use Rattle.ffi3_place_rules.specs.Isa.{trampoline_registers, if_any}
+use Rattle.ffi3_place_rules.specs.Isa.{trampoline_registers, to_list}
 use Rattle.ffi3_place_rules.specs.Standard.{Standard, Placing, Spot, in_pieces, by_reference, ResultSpot, no_result}
 use Rattle.ffi3_place_rules.specs.Standard.{in_result_pieces, in_buffer, start, round8}
 use Rattle.ffi3_place_rules.specs.Doublewords.{doublewords, doublewords_at, widening, stack_pieces, leaf_piece}
@@ -217,7 +217,7 @@ saved_vector = F 8 ∷ F 9 ∷ F 10 ∷ F 11 ∷ F 12 ∷ F 13 ∷ F 14 ∷ F 15
 -- the save area: x19 to x30, v8 to v15, the result's address that came in x8, and a spare word
 abbrev pub saved_words : List SaveWord
 saved_words =
-    map Register (saved_general ++ (if_any (link_place machine) ++ saved_vector)) ++ (Hidden ∷ Spare ∷ [])
+    map Register (saved_general ++ (to_list (link_place machine) ++ saved_vector)) ++ (Hidden ∷ Spare ∷ [])
 
 -- A lone narrow integer is extended by its sign, which is this library's rule: the standard leaves the bits above it unspecified ("Parameter passing rules", C.9, C.16).
 abbrev pub aapcs64 : Standard

@@ -444,9 +444,9 @@ fn plan_of(alloc: Global, sig: &CheckedSig<'_>) -> Result<Plan, NoMemory>
     let returned = classes_of(&sig.ret());
     let all = place_all(alloc, sig, returned)?;
     // no argument has a copy
-    let copied = round_up(all.taken.stack, 16);
-    let res = place_result(alloc, &sig.ret(), returned, copied)?;
-    let end = buffer_end(&res, &sig.ret(), copied);
+    let copies_end = round_up(all.taken.stack, 16);
+    let res = place_result(alloc, &sig.ret(), returned, copies_end)?;
+    let end = buffer_end(&res, &sig.ret(), copies_end);
     let vectors = all.taken.vector as u8;
     let area = Amd64::LINK + Amd64::SAVE;
     Ok(planned(sig, all.places, res, end, area, vectors))
@@ -466,7 +466,7 @@ impl Abi for Amd64 {
 
     ghost KEPT = { length amd64.callee_saved };
 
-    ghost PASSING = { length amd64.argument_registers };
+    ghost ARGUMENT_REGISTERS = { length amd64.argument_registers };
 
     const SAVE: u64 = 8 * (CALLEE_SAVED.len() as u64 + 1);
 
@@ -476,13 +476,13 @@ impl Abi for Amd64 {
 
     const KEPT: u8 = CALLEE_SAVED.len() as u8;
 
-    const PASSING: u8 = ARGUMENT_REGISTERS.len() as u8;
+    const ARGUMENT_REGISTERS: u8 = ARGUMENT_REGISTERS.len() as u8;
 
     fn callee_saved(k: u8) -> Loc {
         Loc::G(CALLEE_SAVED[k as usize])
     }
 
-    fn passing_register(k: u8) -> Loc {
+    fn argument_register(k: u8) -> Loc {
         ARGUMENT_REGISTERS[k as usize]
     }
 
@@ -520,7 +520,7 @@ impl Abi for Amd64 {
 
     ghost kept_all = { refl };
 
-    ghost passing_all = { refl };
+    ghost argument_registers_all = { refl };
 
     ghost words_few = { ltb-true (length amd64.save_area) 256 refl };
 

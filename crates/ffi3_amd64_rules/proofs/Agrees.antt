@@ -3,7 +3,7 @@ use Rattle.std.proofs.Common.{refl, ◌++◌}
 use Rattle.ffi3_place_rules.specs.declared.Loc.{Loc}
 use Rattle.ffi3_place_rules.specs.declared.Loc.TheVariants.{G, F, S}
 use Rattle.ffi3_type_rules.specs.declared.Isa.TheVariants.{Amd64}
-use Rattle.ffi3_place_rules.specs.Isa.{TakesWrites, if_any}
+use Rattle.ffi3_place_rules.specs.Isa.{TakesWrites, to_list}
 use Rattle.ffi3_place_rules.specs.Sound.{IsNoneOf, closed_to_arguments}
 use Rattle.ffi3_place_rules.specs.Agrees.{AgreesWithMachine, given_back, special, saved_registers}
 use Rattle.ffi3_place_rules.proofs.Forbidden.{each_exists, each_none_of, each_one_of, apart_all}
@@ -23,10 +23,10 @@ agrees = record {
   arguments_exist = each_exists Amd64 amd64.argument_registers refl;
   arguments_apart = apart_all amd64.argument_registers refl;
   arguments_plain = each_none_of (closed_to_arguments amd64) amd64.argument_registers refl;
-  count_exists = each_exists Amd64 (if_any amd64.vector_count) refl;
-  count_plain = each_none_of (given_back amd64 ++ (amd64.reserved ++ amd64.trampoline_registers)) (if_any amd64.vector_count) refl;
-  returned_exists = each_exists Amd64 (if_any amd64.returned_address) refl;
-  returned_plain = each_none_of (given_back amd64 ++ amd64.reserved) (if_any amd64.returned_address) refl;
+  count_exists = each_exists Amd64 (to_list amd64.vector_count) refl;
+  count_plain = each_none_of (given_back amd64 ++ (amd64.reserved ++ amd64.trampoline_registers)) (to_list amd64.vector_count) refl;
+  returned_exists = each_exists Amd64 (to_list amd64.returned_address) refl;
+  returned_plain = each_none_of (given_back amd64 ++ amd64.reserved) (to_list amd64.returned_address) refl;
   area = refl;
   saves_each = each_one_of (saved_registers amd64.save_area) (given_back amd64) refl;
   saves_no_other = each_one_of (given_back amd64) (saved_registers amd64.save_area) refl;

@@ -3,7 +3,7 @@ use Rattle.std.proofs.Common.{refl}
 use Rattle.ffi3_type_rules.specs.declared.Isa.TheVariants.{Amd64}
 use Rattle.ffi3_type_rules.specs.Signature.{Signature}
 use Rattle.ffi3_place_rules.specs.declared.Loc.TheVariants.{G}
-use Rattle.ffi3_place_rules.specs.Isa.{closure_register, call_loads, call_scratch, entry_scratch, entry_stores, if_any, result_loads}
+use Rattle.ffi3_place_rules.specs.Isa.{closure_register, call_loads, call_scratch, entry_scratch, entry_stores, to_list, result_loads}
 use Rattle.ffi3_place_rules.specs.ByStubs.{stub_scratch, AgreesWithStubs, ResultGoesByStubs}
 use Rattle.ffi3_place_rules.proofs.Forbidden.{each_none_of, each_one_of, none_of, one_of}
 use Rattle.ffi3_amd64_rules.specs.Amd64.{amd64}
@@ -14,14 +14,14 @@ by_stubs = record {
   area = refl;
   area_size = refl;
   arguments_loaded = each_one_of (call_loads Amd64) amd64.argument_registers refl;
-  count_loaded = each_one_of (call_loads Amd64) (if_any amd64.vector_count) refl;
+  count_loaded = each_one_of (call_loads Amd64) (to_list amd64.vector_count) refl;
   arguments_stored = each_one_of (entry_stores Amd64) amd64.argument_registers refl;
   closure_stored = one_of (entry_stores Amd64) (G (closure_register Amd64)) refl;
-  returned_loaded = each_one_of (result_loads Amd64) (if_any amd64.returned_address) refl;
+  returned_loaded = each_one_of (result_loads Amd64) (to_list amd64.returned_address) refl;
   callee_saved_kept = each_none_of (stub_scratch Amd64) amd64.callee_saved refl;
   reserved_kept = each_none_of (stub_scratch Amd64) amd64.reserved refl;
   arguments_kept = each_none_of (stub_scratch Amd64) amd64.argument_registers refl;
-  count_kept = each_none_of (call_scratch Amd64) (if_any amd64.vector_count) refl;
+  count_kept = each_none_of (call_scratch Amd64) (to_list amd64.vector_count) refl;
   closure_kept = none_of (entry_scratch Amd64) (G (closure_register Amd64)) refl;
 }
 

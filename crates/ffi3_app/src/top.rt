@@ -103,7 +103,7 @@ fn answer<I: Source, O: Sink, E: Sink>(
     }
 }
 
-// A command on the input, of which all is read, as far as one byte more than a script may have.
+// Carries out a command on the input, of which it reads at most one byte more than a script may have.
 fn answer_on_input<I: Source, O: Sink, E: Sink>(
     alloc: Global,
     command: InputCommand,

@@ -50,7 +50,7 @@ pub fn words(alloc: Global, text: &str) -> Result<Bytes, NoMemory>
     Bytes::from_slice(alloc, text.as_bytes())
 }
 
-/// The status that work came to. Where it ended before its end, the line of why is told.
+/// Returns the status of the work. Where it stopped early, its fault is told first, and the status is that of the fault.
 pub fn tell_end<E: Sink>(faults: &mut E, end: Result<u8, Unfinished>) -> u8
     ensures { IsEndTold end (E.state faults.old) (E.state faults.new) result }
 {

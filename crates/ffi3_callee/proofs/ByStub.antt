@@ -12,7 +12,7 @@ use Rattle.ffi3_place_rules.specs.declared.Loc.{Loc}
 use Rattle.ffi3_place_rules.specs.declared.Loc.TheVariants.{G, F, S}
 use Rattle.ffi3_place_rules.specs.declared.SaveWord.{SaveWord}
 use Rattle.ffi3_place_rules.specs.declared.SaveWord.TheVariants.{Register, Hidden, Spare}
-use Rattle.ffi3_place_rules.specs.Isa.{area_bytes, entry_scratch, entry_stores, hidden_register, if_any, callee_saved_words, spare_words}
+use Rattle.ffi3_place_rules.specs.Isa.{area_bytes, entry_scratch, entry_stores, hidden_register, to_list, callee_saved_words, spare_words}
 use Rattle.ffi3_place_rules.specs.Standard.{Standard}
 use Rattle.ffi3_place_rules.specs.Agrees.{AgreesWithMachine}
 use Rattle.ffi3_place_rules.specs.ByStubs.{AgreesWithStubs}
@@ -116,7 +116,7 @@ area_back std laws area value m n low came =
 
 -- ---- the entry
 
-hidden_held : (base h : ℕ) (hidden : Option Loc) (entry : State) → IsPlace 0 (G h) → AllByRecursion (IsOneOf (G h ∷ [])) (if_any hidden) → IsHiddenWord base entry hidden (held (G h) entry)
+hidden_held : (base h : ℕ) (hidden : Option Loc) (entry : State) → IsPlace 0 (G h) → AllByRecursion (IsOneOf (G h ∷ [])) (to_list hidden) → IsHiddenWord base entry hidden (held (G h) entry)
 hidden_held base h (Some at) entry lies some =
     one_of_each (λ l. held (G h) entry ≡ word_in base entry l) at (G h ∷ []) (sym (word_held base (G h) entry lies), tt) some.0
 hidden_held base h None entry lies some = tt
@@ -136,7 +136,7 @@ falls old new low is = elim (cases_lt old low) [
   | inr more ↦ inr (omega (arith, is, more))
 ]
 
-pub entered_by_stub : (std : Standard) → AgreesWithMachine std → AgreesWithStubs std → (base block : ℕ) (hidden : Option Loc) (entry m : State) → IsMachine entry → std.target ≡ entry.target → base ≡ entry.sp + std.link → STACK + std.save ≤ entry.sp → entry.sp ≤ STACK_TOP → block ≤ entry.sp → AllByRecursion (IsOneOf (G (hidden_register (isa_of std.target)) ∷ [])) (if_any hidden) → by_exchange entry.target ≡ true → HasEntered (isa_of entry.target) (with_x 528 block entry) m → m.steps ≡ (entry.steps + steps_of (isa_of entry.target) Entry) % 2 ^ 64 → IsEntered std hidden block entry m
+pub entered_by_stub : (std : Standard) → AgreesWithMachine std → AgreesWithStubs std → (base block : ℕ) (hidden : Option Loc) (entry m : State) → IsMachine entry → std.target ≡ entry.target → base ≡ entry.sp + std.link → STACK + std.save ≤ entry.sp → entry.sp ≤ STACK_TOP → block ≤ entry.sp → AllByRecursion (IsOneOf (G (hidden_register (isa_of std.target)) ∷ [])) (to_list hidden) → by_exchange entry.target ≡ true → HasEntered (isa_of entry.target) (with_x 528 block entry) m → m.steps ≡ (entry.steps + steps_of (isa_of entry.target) Entry) % 2 ^ 64 → IsEntered std hidden block entry m
 entered_by_stub std agrees laws base block hidden entry m is same base_is low high block_low hidden_saved e says counted =
     let isa = isa_of std.target in
     let sized = is.exchange in

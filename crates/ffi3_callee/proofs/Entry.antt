@@ -20,7 +20,7 @@ use Rattle.ffi3_place_rules.specs.declared.Res.TheVariants.{Nothing, Direct as D
 use Rattle.ffi3_place_rules.specs.Image.{Image, byte_at, word_at}
 use Rattle.ffi3_place_rules.specs.Standard.{Standard, block_bytes, frame_of, plan_of}
 use Rattle.ffi3_place_rules.specs.Holds.{Carries, LeavesStand, OwnsArgument, OwnsArguments, OwnsHidden}
-use Rattle.ffi3_place_rules.specs.Isa.{hidden_register, if_any}
+use Rattle.ffi3_place_rules.specs.Isa.{hidden_register, to_list}
 use Rattle.ffi3_place_rules.specs.Sound.{IsOneOf, IsOnStackOrIn, IsSound, argument_locs, buffer_locs, copy_locs, hidden_locs, place_locs}
 use Rattle.ffi3_type_rules.specs.declared.limits.TheConstants.{STACK, STACK_BYTES, STACK_TOP}
 use Rattle.ffi3_machine.specs.State.{State, image_of, scribbled, stack_at, with_sp}
@@ -167,15 +167,15 @@ pub hidden_lies : (std : Standard) (s : Signature) (m : State) (base : ℕ) (hid
 hidden_lies std s m base hidden sound base_is hidden_is high =
     subst (HiddenLies (STACK_TOP - base)) (sym hidden_is) (hidden_in (frame_of std s) (STACK_TOP - base) (omega (arith, base_is, high)) (plan_of std s).res (hidden_in_frame std s sound))
 
-listed_of : (P : Loc → Type 0) (r : Res) → AllByRecursion P (hidden_locs r) → AllByRecursion P (if_any (hidden_of r))
+listed_of : (P : Loc → Type 0) (r : Res) → AllByRecursion P (hidden_locs r) → AllByRecursion P (to_list (hidden_of r))
 listed_of P Nothing all = tt
 listed_of P (DirectRes pieces) all = tt
 listed_of P (Hidden at buffer) all = all
 
 -- it is the register that the stub Entry saves
-pub hidden_if_any : (std : Standard) (s : Signature) (hidden : Option Loc) → hidden ≡ hidden_of (plan_of std s).res → AllByRecursion (IsOneOf (G (hidden_register (isa_of std.target)) ∷ [])) (hidden_locs (plan_of std s).res) → AllByRecursion (IsOneOf (G (hidden_register (isa_of std.target)) ∷ [])) (if_any hidden)
-hidden_if_any std s hidden is all =
-    subst (λ o. AllByRecursion (IsOneOf (G (hidden_register (isa_of std.target)) ∷ [])) (if_any o)) (sym is) (listed_of (IsOneOf (G (hidden_register (isa_of std.target)) ∷ [])) (plan_of std s).res all)
+pub hidden_to_list : (std : Standard) (s : Signature) (hidden : Option Loc) → hidden ≡ hidden_of (plan_of std s).res → AllByRecursion (IsOneOf (G (hidden_register (isa_of std.target)) ∷ [])) (hidden_locs (plan_of std s).res) → AllByRecursion (IsOneOf (G (hidden_register (isa_of std.target)) ∷ [])) (to_list hidden)
+hidden_to_list std s hidden is all =
+    subst (λ o. AllByRecursion (IsOneOf (G (hidden_register (isa_of std.target)) ∷ [])) (to_list o)) (sym is) (listed_of (IsOneOf (G (hidden_register (isa_of std.target)) ∷ [])) (plan_of std s).res all)
 
 -- ---- the address of a hidden result's buffer
 

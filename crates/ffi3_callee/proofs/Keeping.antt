@@ -15,7 +15,7 @@ use Rattle.ffi3_place_rules.specs.declared.Res.TheVariants.{Nothing, Direct as D
 use Rattle.ffi3_place_rules.specs.declared.SaveWord.{SaveWord}
 use Rattle.ffi3_place_rules.specs.declared.SaveWord.TheVariants.{Register, Hidden, Spare}
 use Rattle.ffi3_place_rules.specs.Image.{register}
-use Rattle.ffi3_place_rules.specs.Isa.{is_reserved, link_place, pushed_bytes, reserved_places, if_any}
+use Rattle.ffi3_place_rules.specs.Isa.{is_reserved, link_place, pushed_bytes, reserved_places, to_list}
 use Rattle.ffi3_place_rules.specs.Standard.{Standard}
 use Rattle.ffi3_place_rules.specs.Agrees.{AgreesWithMachine, given_back, saved_registers, special}
 use Rattle.ffi3_place_rules.specs.Holds.{Kept, SameIn}
@@ -41,7 +41,7 @@ reserved_there std agrees =
     subst (AllByRecursion (IsPlace 0)) (sym agrees.reserved) (reserved_are_places (isa_of std.target))
 
 -- none of them holds a return address
-reserved_not_link : (isa : Isa) → AllByRecursion (IsNoneOf (if_any (link_place isa))) (reserved_places isa)
+reserved_not_link : (isa : Isa) → AllByRecursion (IsNoneOf (to_list (link_place isa))) (reserved_places isa)
 reserved_not_link Amd64 = tt
 reserved_not_link Aarch64 = ((λ e. absurd (omega (arith, e)), tt), tt)
 reserved_not_link Riscv =
@@ -50,22 +50,22 @@ reserved_not_link Riscv =
 -- none of them is saved
 pub reserved_not_saved : (std : Standard) → AgreesWithMachine std → AllByRecursion (IsNoneOf (saved_registers std.save_area)) std.reserved
 reserved_not_saved std agrees =
-    each_both (IsNoneOf std.callee_saved) (IsNoneOf (if_any std.link_register)) (IsNoneOf (saved_registers std.save_area)) (λ l a b. none_saved std agrees l (each_join (Apart l) std.callee_saved (if_any std.link_register) a b)) std.reserved (across_none std.callee_saved std.reserved across) link
+    each_both (IsNoneOf std.callee_saved) (IsNoneOf (to_list std.link_register)) (IsNoneOf (saved_registers std.save_area)) (λ l a b. none_saved std agrees l (each_join (Apart l) std.callee_saved (to_list std.link_register) a b)) std.reserved (across_none std.callee_saved std.reserved across) link
   where
     across : AllByRecursion (λ l. AllByRecursion (Apart l) std.reserved) std.callee_saved
-    across = each_weaker (IsNoneOf (special std)) (λ l. AllByRecursion (Apart l) std.reserved) (λ l none. each_first (Apart l) std.reserved (if_any std.link_register ++ (std.trampoline_registers ++ (if_any std.vector_count ++ if_any std.returned_address))) none.1) std.callee_saved agrees.callee_saved_plain
+    across = each_weaker (IsNoneOf (special std)) (λ l. AllByRecursion (Apart l) std.reserved) (λ l none. each_first (Apart l) std.reserved (to_list std.link_register ++ (std.trampoline_registers ++ (to_list std.vector_count ++ to_list std.returned_address))) none.1) std.callee_saved agrees.callee_saved_plain
 
-    link : AllByRecursion (IsNoneOf (if_any std.link_register)) std.reserved
-    link = subst (λ o. AllByRecursion (IsNoneOf (if_any o)) std.reserved) (sym agrees.link_register) (subst (AllByRecursion (IsNoneOf (if_any (link_place (isa_of std.target))))) (sym agrees.reserved) (reserved_not_link (isa_of std.target)))
+    link : AllByRecursion (IsNoneOf (to_list std.link_register)) std.reserved
+    link = subst (λ o. AllByRecursion (IsNoneOf (to_list o)) std.reserved) (sym agrees.link_register) (subst (AllByRecursion (IsNoneOf (to_list (link_place (isa_of std.target))))) (sym agrees.reserved) (reserved_not_link (isa_of std.target)))
 
 -- none of them is used for a result
 pub uses_clear : (std : Standard) → AgreesWithMachine std → (res : Res) → AllByRecursion (IsNoneOf (closed_to_results std)) (result_locs res) → AllByRecursion (IsNoneOf (result_uses std res)) std.reserved
 uses_clear std agrees Nothing h =
     each_weaker (IsPlace 0) (IsNoneOf []) (λ l p. tt) std.reserved (reserved_there std agrees)
 uses_clear std agrees (DirectRes pieces) h =
-    across_none (piece_locs pieces) std.reserved (each_weaker (IsNoneOf (closed_to_results std)) (λ l. AllByRecursion (Apart l) std.reserved) (λ l none. each_first (Apart l) std.reserved (if_any std.link_register) (each_rest (Apart l) std.callee_saved (std.reserved ++ if_any std.link_register) none.1)) (piece_locs pieces) h)
+    across_none (piece_locs pieces) std.reserved (each_weaker (IsNoneOf (closed_to_results std)) (λ l. AllByRecursion (Apart l) std.reserved) (λ l none. each_first (Apart l) std.reserved (to_list std.link_register) (each_rest (Apart l) std.callee_saved (std.reserved ++ to_list std.link_register) none.1)) (piece_locs pieces) h)
 uses_clear std agrees (HiddenRes at buffer) h =
-    across_none (if_any std.returned_address) std.reserved (each_weaker (IsNoneOf (given_back std ++ std.reserved)) (λ l. AllByRecursion (Apart l) std.reserved) (λ l none. each_rest (Apart l) (given_back std) std.reserved none) (if_any std.returned_address) agrees.returned_plain)
+    across_none (to_list std.returned_address) std.reserved (each_weaker (IsNoneOf (given_back std ++ std.reserved)) (λ l. AllByRecursion (Apart l) std.reserved) (λ l none. each_rest (Apart l) (given_back std) std.reserved none) (to_list std.returned_address) agrees.returned_plain)
 
 pub reserved_stay : (std : Standard) → AgreesWithMachine std → (ls : List Loc) (a b : State) → AllByRecursion (IsNoneOf ls) std.reserved → RegistersStay ls a b → ReservedStay std a b
 reserved_stay std agrees ls a b none stay =
@@ -151,7 +151,7 @@ kept_return std agrees base len room entry m target_is sp_is have stay =
     given = each_among (λ at. word_in STACK_TOP m at ≡ word_in base entry at) (saved_registers std.save_area) (given_back std) agrees.saves_each (all_have base entry m std.save_area have)
 
     preserved : SameIn std.callee_saved (image_of len entry) (image_of room (returned m))
-    preserved = each_both (IsPlace 0) (λ at. word_in STACK_TOP m at ≡ word_in base entry at) (λ at. register (image_of len entry) at ≡ register (image_of room (returned m)) at) (λ l lies h. same_register base len room entry m l lies h) std.callee_saved (machine_places (isa_of std.target) 0 std.callee_saved agrees.callee_saved_exist) (each_first (λ at. word_in STACK_TOP m at ≡ word_in base entry at) std.callee_saved (if_any std.link_register) given)
+    preserved = each_both (IsPlace 0) (λ at. word_in STACK_TOP m at ≡ word_in base entry at) (λ at. register (image_of len entry) at ≡ register (image_of room (returned m)) at) (λ l lies h. same_register base len room entry m l lies h) std.callee_saved (machine_places (isa_of std.target) 0 std.callee_saved agrees.callee_saved_exist) (each_first (λ at. word_in STACK_TOP m at ≡ word_in base entry at) std.callee_saved (to_list std.link_register) given)
 
     reserved : SameIn std.reserved (image_of len entry) (image_of room (returned m))
     reserved = each_both (IsPlace 0) (λ at. word_in STACK_TOP m at ≡ word_in STACK_TOP entry at) (λ at. register (image_of len entry) at ≡ register (image_of room (returned m)) at) (λ l lies h. same_register STACK_TOP len room entry m l lies h) std.reserved (reserved_there std agrees) stay

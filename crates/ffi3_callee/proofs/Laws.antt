@@ -10,7 +10,7 @@ use Rattle.ffi3_type_rules.specs.Signature.{Signature}
 use Rattle.ffi3_place_rules.specs.declared.Loc.{Loc}
 use Rattle.ffi3_place_rules.specs.declared.SaveWord.{SaveWord}
 use Rattle.ffi3_place_rules.specs.declared.SaveWord.TheVariants.{Register, Hidden, Spare}
-use Rattle.ffi3_place_rules.specs.Isa.{TakesWrites, link_place, if_any}
+use Rattle.ffi3_place_rules.specs.Isa.{TakesWrites, link_place, to_list}
 use Rattle.ffi3_place_rules.specs.Standard.{Standard, plan_of}
 use Rattle.ffi3_place_rules.specs.Agrees.{AgreesWithMachine, given_back, saved_registers, special}
 use Rattle.ffi3_place_rules.specs.Sound.{Apart, IsNoneOf, IsOneOf, IsSound, LiesIn, closed_to_results, result_locs}
@@ -44,20 +44,20 @@ each_both P Q R f (x ∷ xs) h k = (f x h.0 k.0, each_both P Q R f xs h.1 k.1)
 abbrev IsWritableRegister : Isa → Loc → Type 0
 IsWritableRegister isa l = IsPlace 0 l × TakesWrites isa l
 
-link_is_register : (isa : Isa) → AllByRecursion (IsWritableRegister isa) (if_any (link_place isa))
+link_is_register : (isa : Isa) → AllByRecursion (IsWritableRegister isa) (to_list (link_place isa))
 link_is_register Amd64 = tt
 link_is_register Aarch64 = ((omega arith, refl), tt)
 link_is_register Riscv = ((omega arith, refl), tt)
 
 given_back_are_registers : (std : Standard) → AgreesWithMachine std → AllByRecursion (IsWritableRegister (isa_of std.target)) (given_back std)
 given_back_are_registers std agrees =
-    each_join (IsWritableRegister (isa_of std.target)) std.callee_saved (if_any std.link_register) (each_both (LiesIn (isa_of std.target) 0) (IsNoneOf (special std)) (IsWritableRegister (isa_of std.target)) one std.callee_saved agrees.callee_saved_exist agrees.callee_saved_plain)
-    (subst (λ o. AllByRecursion (IsWritableRegister (isa_of std.target)) (if_any o)) (sym agrees.link_register) (link_is_register (isa_of std.target)))
+    each_join (IsWritableRegister (isa_of std.target)) std.callee_saved (to_list std.link_register) (each_both (LiesIn (isa_of std.target) 0) (IsNoneOf (special std)) (IsWritableRegister (isa_of std.target)) one std.callee_saved agrees.callee_saved_exist agrees.callee_saved_plain)
+    (subst (λ o. AllByRecursion (IsWritableRegister (isa_of std.target)) (to_list o)) (sym agrees.link_register) (link_is_register (isa_of std.target)))
   where
     one : (l : Loc) → LiesIn (isa_of std.target) 0 l → IsNoneOf (special std) l → IsWritableRegister (isa_of std.target) l
     one l lies none = (
       machine_place (isa_of std.target) 0 l lies,
-      agrees.written l (each_first (Apart l) std.reserved (if_any std.link_register ++ (std.trampoline_registers ++ (if_any std.vector_count ++ if_any std.returned_address))) none.1),
+      agrees.written l (each_first (Apart l) std.reserved (to_list std.link_register ++ (std.trampoline_registers ++ (to_list std.vector_count ++ to_list std.returned_address))) none.1),
     )
 
 words_from : (std : Standard) → AgreesWithMachine std → (ws : List SaveWord) → AllByRecursion (IsOneOf (given_back std)) (saved_registers ws) → AllByRecursion (IsRestorable std.target) ws
@@ -98,12 +98,12 @@ result_apart std s agrees sound =
   where
     one : (l : Loc) → IsNoneOf (closed_to_results std) l → IsNoneOf (saved_registers std.save_area) l
     one l none =
-        let rest = each_rest (Apart l) std.callee_saved (std.reserved ++ if_any std.link_register) none.1 in
-        none_saved std agrees l (each_join (Apart l) std.callee_saved (if_any std.link_register) (each_first (Apart l) std.callee_saved (std.reserved ++ if_any std.link_register) none.1) (each_rest (Apart l) std.reserved (if_any std.link_register) rest))
+        let rest = each_rest (Apart l) std.callee_saved (std.reserved ++ to_list std.link_register) none.1 in
+        none_saved std agrees l (each_join (Apart l) std.callee_saved (to_list std.link_register) (each_first (Apart l) std.callee_saved (std.reserved ++ to_list std.link_register) none.1) (each_rest (Apart l) std.reserved (to_list std.link_register) rest))
 
-pub returned_apart : (std : Standard) → AgreesWithMachine std → AllByRecursion (IsNoneOf (saved_registers std.save_area)) (if_any std.returned_address)
+pub returned_apart : (std : Standard) → AgreesWithMachine std → AllByRecursion (IsNoneOf (saved_registers std.save_area)) (to_list std.returned_address)
 returned_apart std agrees =
-    each_weaker (IsNoneOf (given_back std ++ std.reserved)) (IsNoneOf (saved_registers std.save_area)) (λ l none. none_saved std agrees l (each_first (Apart l) (given_back std) std.reserved none)) (if_any std.returned_address) agrees.returned_plain
+    each_weaker (IsNoneOf (given_back std ++ std.reserved)) (IsNoneOf (saved_registers std.save_area)) (λ l none. none_saved std agrees l (each_first (Apart l) (given_back std) std.reserved none)) (to_list std.returned_address) agrees.returned_plain
 
 -- ---- they are written
 
@@ -113,10 +113,10 @@ result_written std s target kind agrees sound is same =
   where
     one : (l : Loc) → IsNoneOf (closed_to_results std) l → IsWritable std.target l
     one l none =
-        let rest = each_rest (Apart l) std.callee_saved (std.reserved ++ if_any std.link_register) none.1 in
-        agrees.written l (each_first (Apart l) std.reserved (if_any std.link_register) rest)
+        let rest = each_rest (Apart l) std.callee_saved (std.reserved ++ to_list std.link_register) none.1 in
+        agrees.written l (each_first (Apart l) std.reserved (to_list std.link_register) rest)
 
-settable_from : (std : Standard) → AgreesWithMachine std → (o : Option Loc) → AllByRecursion (LiesIn (isa_of std.target) 0) (if_any o) → AllByRecursion (IsNoneOf (given_back std ++ std.reserved)) (if_any o) → IsSettable std.target o
+settable_from : (std : Standard) → AgreesWithMachine std → (o : Option Loc) → AllByRecursion (LiesIn (isa_of std.target) 0) (to_list o) → AllByRecursion (IsNoneOf (given_back std ++ std.reserved)) (to_list o) → IsSettable std.target o
 settable_from std agrees (Some at) lies plain = (
   machine_place (isa_of std.target) 0 at lies.0,
   agrees.written at (each_rest (Apart at) (given_back std) std.reserved plain.0),

@@ -18,7 +18,7 @@ use Rattle.ffi3_type_rules.proofs.Parts.{length_part}
 use Rattle.ffi3_place_rules.specs.declared.Loc.{Loc}
 use Rattle.ffi3_place_rules.specs.declared.Loc.TheVariants.{G, F, S}
 use Rattle.ffi3_place_rules.specs.Image.{byte_at, word_at}
-use Rattle.ffi3_place_rules.specs.Isa.{link_place, link_register, pushed_bytes, reserved_places, stack_pointer, trampoline_registers, if_any}
+use Rattle.ffi3_place_rules.specs.Isa.{link_place, link_register, pushed_bytes, reserved_places, stack_pointer, trampoline_registers, to_list}
 use Rattle.ffi3_place_rules.specs.Standard.{Standard, frame_of, plan_of}
 use Rattle.ffi3_place_rules.specs.Agrees.{AgreesWithMachine}
 use Rattle.ffi3_place_rules.specs.Sound.{Apart, IsSound, argument_locs, closed_to_arguments, closed_to_results}
@@ -69,9 +69,9 @@ passing_place std agrees i at below read =
 pub passing_written : (std : Standard) → AgreesWithMachine std → (target kind : Target) → std.target ≡ kind → target ≡ kind → (i : ℕ) (at : Loc) → i < length std.argument_registers → at ≡ get_or std.argument_registers i at → IsWritable target at
 passing_written std agrees target kind is same i at below read =
     let plain = each_read (λ l. AllByRecursion (Apart l) (closed_to_arguments std)) std.argument_registers i at below read agrees.arguments_plain in
-    let closed = each_first (Apart at) (closed_to_results std) (std.trampoline_registers ++ if_any std.vector_count) plain in
-    let rest = each_rest (Apart at) std.callee_saved (std.reserved ++ if_any std.link_register) closed.1 in
-    subst (λ t. IsWritable t at) (is ∙ sym same) (agrees.written at (each_first (Apart at) std.reserved (if_any std.link_register) rest))
+    let closed = each_first (Apart at) (closed_to_results std) (std.trampoline_registers ++ to_list std.vector_count) plain in
+    let rest = each_rest (Apart at) std.callee_saved (std.reserved ++ to_list std.link_register) closed.1 in
+    subst (λ t. IsWritable t at) (is ∙ sym same) (agrees.written at (each_first (Apart at) std.reserved (to_list std.link_register) rest))
 
 pub is_passing : (std : Standard) (i : ℕ) (at : Loc) → IsPlace 0 at → i < length std.argument_registers → at ≡ get_or std.argument_registers i at → is_argument_register std at ≡ true
 is_passing std i at lies below read =
@@ -94,7 +94,7 @@ reserved_are Amd64 = tt
 reserved_are Aarch64 = (omega arith, tt)
 reserved_are Riscv = (omega arith, (omega arith, (omega arith, tt)))
 
-link_is : (isa : Isa) → AllByRecursion (IsPlace 0) (if_any (link_place isa))
+link_is : (isa : Isa) → AllByRecursion (IsPlace 0) (to_list (link_place isa))
 link_is Amd64 = tt
 link_is Aarch64 = (omega arith, tt)
 link_is Riscv = (omega arith, tt)
@@ -107,12 +107,12 @@ trampoline_are Riscv = (omega arith, (omega arith, tt))
 closed_are : (std : Standard) → AgreesWithMachine std → AllByRecursion (IsPlace 0) (closed_to_arguments std)
 closed_are std agrees =
     let isa = isa_of std.target in
-    each_join (IsPlace 0) (closed_to_results std) (std.trampoline_registers ++ if_any std.vector_count) (
+    each_join (IsPlace 0) (closed_to_results std) (std.trampoline_registers ++ to_list std.vector_count) (
       subst (IsPlace 0) (sym agrees.stack_pointer) (pointer_place (isa_of std.target)),
-      each_join (IsPlace 0) std.callee_saved (std.reserved ++ if_any std.link_register) (machine_places (isa_of std.target) 0 std.callee_saved agrees.callee_saved_exist)
-          (each_join (IsPlace 0) std.reserved (if_any std.link_register) (subst (AllByRecursion (IsPlace 0)) (sym agrees.reserved) (reserved_are (isa_of std.target))) (subst (λ o. AllByRecursion (IsPlace 0) (if_any o)) (sym agrees.link_register) (link_is (isa_of std.target)))),
+      each_join (IsPlace 0) std.callee_saved (std.reserved ++ to_list std.link_register) (machine_places (isa_of std.target) 0 std.callee_saved agrees.callee_saved_exist)
+          (each_join (IsPlace 0) std.reserved (to_list std.link_register) (subst (AllByRecursion (IsPlace 0)) (sym agrees.reserved) (reserved_are (isa_of std.target))) (subst (λ o. AllByRecursion (IsPlace 0) (to_list o)) (sym agrees.link_register) (link_is (isa_of std.target)))),
     )
-    (each_join (IsPlace 0) std.trampoline_registers (if_any std.vector_count) (subst (AllByRecursion (IsPlace 0)) (sym agrees.trampoline) (trampoline_are (isa_of std.target))) (machine_places (isa_of std.target) 0 (if_any std.vector_count) agrees.count_exists))
+    (each_join (IsPlace 0) std.trampoline_registers (to_list std.vector_count) (subst (AllByRecursion (IsPlace 0)) (sym agrees.trampoline) (trampoline_are (isa_of std.target))) (machine_places (isa_of std.target) 0 (to_list std.vector_count) agrees.count_exists))
 
 -- ---- registers, then the frame
 
@@ -213,7 +213,7 @@ module _ (std : Standard) (s : Signature) (byte : ℕ) (a b : State) (low : STAC
 
 -- ---- the return address
 
-return_at : (isa : Isa) (base high : ℕ) (a b : State) → base ≡ a.sp + pushed_bytes isa → base ≤ STACK_TOP → length a.stack ≡ STACK_BYTES → b.sp ≡ a.sp → WroteWithin base high a b → AllByRecursion (λ l. word_in base b l ≡ word_in base a l) (if_any (link_place isa)) → HasReturnAt (link_register isa) a.general a.sp a.stack → HasReturnAt (link_register isa) b.general b.sp b.stack
+return_at : (isa : Isa) (base high : ℕ) (a b : State) → base ≡ a.sp + pushed_bytes isa → base ≤ STACK_TOP → length a.stack ≡ STACK_BYTES → b.sp ≡ a.sp → WroteWithin base high a b → AllByRecursion (λ l. word_in base b l ≡ word_in base a l) (to_list (link_place isa)) → HasReturnAt (link_register isa) a.general a.sp a.stack → HasReturnAt (link_register isa) b.general b.sp b.stack
 return_at Amd64 base high a b base_is top sized same w words h =
     let still = stretch_stays base high a.sp 8 a b h.0 (omega (arith, base_is, top, sized, h.0)) (inl (omega (arith, base_is))) w in
     (omega (arith, same, h.0), ap (λ n. stack_at n 8 b) same ∙ still ∙ h.1)
@@ -225,8 +225,8 @@ return_still std s byte a b agrees target_is high sized is h =
     let base = a.sp + std.link in
     let isa = isa_of std.target in
     let Same : Loc → Type 0 = λ l. word_in (a.sp + std.link) b l ≡ word_in (a.sp + std.link) a l in
-    let closed = each_first Same (closed_to_results std) (std.trampoline_registers ++ if_any std.vector_count) is.closed in
-    let links = each_rest Same std.reserved (if_any std.link_register) (each_rest Same std.callee_saved (std.reserved ++ if_any std.link_register) closed.1) in
+    let closed = each_first Same (closed_to_results std) (std.trampoline_registers ++ to_list std.vector_count) is.closed in
+    let links = each_rest Same std.reserved (to_list std.link_register) (each_rest Same std.callee_saved (std.reserved ++ to_list std.link_register) closed.1) in
     let base_is : a.sp + std.link ≡ a.sp + pushed_bytes (isa_of std.target) = ap (λ n. a.sp + n) agrees.link in
     subst (λ t. HasReturnAt (link_register (isa_of t)) b.general b.sp b.stack) (sym (is.within.target ∙ target_is))
-    (return_at isa base (base + frame_of std s) a b base_is (omega (arith, high)) sized is.sp is.within (subst (λ o. AllByRecursion Same (if_any o)) agrees.link_register links) (subst (λ t. HasReturnAt (link_register (isa_of t)) a.general a.sp a.stack) target_is h))
+    (return_at isa base (base + frame_of std s) a b base_is (omega (arith, high)) sized is.sp is.within (subst (λ o. AllByRecursion Same (to_list o)) agrees.link_register links) (subst (λ t. HasReturnAt (link_register (isa_of t)) a.general a.sp a.stack) target_is h))

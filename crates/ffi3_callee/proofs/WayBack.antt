@@ -13,7 +13,7 @@ use Rattle.ffi3_place_rules.specs.declared.Loc.{Loc}
 use Rattle.ffi3_place_rules.specs.declared.Loc.TheVariants.{G, F, S}
 use Rattle.ffi3_place_rules.specs.declared.SaveWord.{SaveWord}
 use Rattle.ffi3_place_rules.specs.declared.SaveWord.TheVariants.{Register, Hidden, Spare}
-use Rattle.ffi3_place_rules.specs.Isa.{area_bytes, exit_scratch, has_stubs, link_register, if_any, callee_saved_words, pushed_bytes, result_loads}
+use Rattle.ffi3_place_rules.specs.Isa.{area_bytes, exit_scratch, has_stubs, link_register, to_list, callee_saved_words, pushed_bytes, result_loads}
 use Rattle.ffi3_place_rules.specs.Image.{Image, register}
 use Rattle.ffi3_place_rules.specs.Standard.{Standard, frame_of, plan_of}
 use Rattle.ffi3_place_rules.specs.Agrees.{AgreesWithMachine, given_back, saved_registers}
@@ -67,15 +67,15 @@ module _ (std : Standard) (agrees : AgreesWithMachine std) (entry : ℕ) (before
   all_given = each_among (λ at. word_in STACK_TOP after at ≡ register e at) (saved_registers std.save_area) (given_back std) agrees.saves_each (all_back (register e) after std.save_area (given (register e) hold))
 
   pub preserved_given : AllByRecursion (λ at. word_in STACK_TOP after at ≡ register e at) std.callee_saved
-  preserved_given = each_first (λ at. word_in STACK_TOP after at ≡ register e at) std.callee_saved (if_any std.link_register) all_given
+  preserved_given = each_first (λ at. word_in STACK_TOP after at ≡ register e at) std.callee_saved (to_list std.link_register) all_given
 
-  pub link_given : AllByRecursion (λ at. word_in STACK_TOP after at ≡ register e at) (if_any (option_map G (link_register (isa_of std.target))))
-  link_given = subst (λ o. AllByRecursion (λ at. word_in STACK_TOP after at ≡ register e at) (if_any o)) agrees.link_register (each_rest (λ at. word_in STACK_TOP after at ≡ register e at) std.callee_saved (if_any std.link_register) all_given)
+  pub link_given : AllByRecursion (λ at. word_in STACK_TOP after at ≡ register e at) (to_list (option_map G (link_register (isa_of std.target))))
+  link_given = subst (λ o. AllByRecursion (λ at. word_in STACK_TOP after at ≡ register e at) (to_list o)) agrees.link_register (each_rest (λ at. word_in STACK_TOP after at ≡ register e at) std.callee_saved (to_list std.link_register) all_given)
 
 -- ---- through the stub Exit
 
 -- the return address, from its register or from the stack
-leads_back : (isa : Isa) (area entry : ℕ) (t after : State) (e : Image) → x_of 536 t ≡ area → area + area_bytes isa ≡ entry → AllByRecursion (λ at. word_in STACK_TOP after at ≡ register e at) (if_any (option_map G (link_register isa))) → HasReturnAt (link_register isa) e.general entry t.stack → left_to isa t after ≡ RETURN
+leads_back : (isa : Isa) (area entry : ℕ) (t after : State) (e : Image) → x_of 536 t ≡ area → area + area_bytes isa ≡ entry → AllByRecursion (λ at. word_in STACK_TOP after at ≡ register e at) (to_list (option_map G (link_register isa))) → HasReturnAt (link_register isa) e.general entry t.stack → left_to isa t after ≡ RETURN
 leads_back Amd64 area entry t after e area_is whole given back =
     let there : x_of 536 t + 56 ≡ entry = omega (arith, area_is, whole) in
     ap (λ a. number_of 8 (stack_at a 8 t)) there ∙ ap (number_of 8) back.1
@@ -165,7 +165,7 @@ own_return true e m h = absurd cc
 own_return false e m h = h
 
 -- the return address stands where a register holds it
-return_given : (link : Option ℕ) (e : Image) (m : State) (sp : ℕ) (stack : List ℕ) → AllByRecursion (λ at. word_in STACK_TOP m at ≡ register e at) (if_any (option_map G link)) → HasReturnAt link e.general sp stack → HasReturnAt link m.general sp stack
+return_given : (link : Option ℕ) (e : Image) (m : State) (sp : ℕ) (stack : List ℕ) → AllByRecursion (λ at. word_in STACK_TOP m at ≡ register e at) (to_list (option_map G link)) → HasReturnAt link e.general sp stack → HasReturnAt link m.general sp stack
 return_given None e m sp stack given h = h
 return_given (Some k) e m sp stack given h = given.0 ∙ h
 
@@ -240,7 +240,7 @@ module _ (std : Standard) (agrees : AgreesWithMachine std) (entry : ℕ) (m n : 
   given_results s true sound law = let laws = law refl in laws.loaded
   given_results s false sound law = result_apart std s agrees sound
 
-  given_address : (b : Bool) → (b ≡ true → AgreesWithStubs std) → AllByRecursion (IsGiven b std) (if_any std.returned_address)
+  given_address : (b : Bool) → (b ≡ true → AgreesWithStubs std) → AllByRecursion (IsGiven b std) (to_list std.returned_address)
   given_address true law = let laws = law refl in laws.returned_loaded
   given_address false law = returned_apart std agrees
 
@@ -251,7 +251,7 @@ module _ (std : Standard) (agrees : AgreesWithMachine std) (entry : ℕ) (m n : 
 
   pub gone_keeps : (s : Signature) → IsSound std s → (by_exchange m.target ≡ true → AgreesWithStubs std) → (by_exchange m.target ≡ true → ResultGoesByStubs std s) → (base : ℕ) (v : ValueTree) → HoldsResult std s v (image_from base (frame_of std s) (passing m)) → HoldsResult std s v (image_from base (frame_of std s) n)
   gone_keeps s sound law result_law base v held =
-      outcome.result_kept (image_from base (frame_of std s) (passing m)) (image_from base (frame_of std s) n) (IsGiven (by_exchange m.target) std) refl (ap (λ xs. take (frame_of std s) (drop (base - STACK) xs)) gone_stack) (λ l lies given. image_register base (frame_of std s) (passing m) n l lies (back.results l lies given)) std s v sound (given_results s (by_exchange m.target) sound result_law) (machine_places (isa_of std.target) 0 (if_any std.returned_address) agrees.returned_exists) (given_address (by_exchange m.target) law) held
+      outcome.result_kept (image_from base (frame_of std s) (passing m)) (image_from base (frame_of std s) n) (IsGiven (by_exchange m.target) std) refl (ap (λ xs. take (frame_of std s) (drop (base - STACK) xs)) gone_stack) (λ l lies given. image_register base (frame_of std s) (passing m) n l lies (back.results l lies given)) std s v sound (given_results s (by_exchange m.target) sound result_law) (machine_places (isa_of std.target) 0 (to_list std.returned_address) agrees.returned_exists) (given_address (by_exchange m.target) law) held
 
 -- ---- from the machine at the entry to its image
 

@@ -9,7 +9,7 @@ use Rattle.ffi3_place_rules.specs.declared.Res.{Res}
 use Rattle.ffi3_place_rules.specs.declared.Res.TheVariants.{Nothing, Direct, Hidden}
 use Rattle.ffi3_place_rules.specs.Standard.{Standard}
 use Rattle.ffi3_place_rules.specs.Sound.{IsNoneOf, piece_locs}
-use Rattle.ffi3_place_rules.specs.Isa.{if_any}
+use Rattle.ffi3_place_rules.specs.Isa.{to_list}
 use Rattle.ffi3_type_rules.specs.declared.limits.TheConstants.{STACK_TOP}
 use Rattle.ffi3_machine.specs.State.{State}
 use Rattle.ffi3_pieces.specs.Stored.{IsPlace, word_in, IsWritable, KeepsPadding, KeepsUnused, WroteWithin}
@@ -50,7 +50,7 @@ ReservedStay std old new =
 abbrev pub result_uses : Standard → Res → List Loc
 result_uses std Nothing = []
 result_uses std (Direct pieces) = piece_locs pieces
-result_uses std (Hidden at buffer) = if_any std.returned_address
+result_uses std (Hidden at buffer) = to_list std.returned_address
 
 -- OF THE STACK A RESULT CHANGES ITS BUFFER ALONE
 abbrev pub ResultWrites : ℕ → Tree → Res → State → State → Type 0

@@ -5,7 +5,7 @@ ghost use Rattle.ffi3_type_rules.specs.declared.limits.TheConstants.{ENTRY, STAC
 ghost use Rattle.ffi3_type_rules.specs.Isa.{isa_of};
 ghost use Rattle.ffi3_place_rules.specs.declared.Loc.{Loc};
 ghost use Rattle.ffi3_place_rules.specs.declared.Loc.TheVariants.{G};
-ghost use Rattle.ffi3_place_rules.specs.Isa.{area_bytes, hidden_register, if_any};
+ghost use Rattle.ffi3_place_rules.specs.Isa.{area_bytes, hidden_register, to_list};
 ghost use Rattle.ffi3_place_rules.specs.Sound.{IsOneOf};
 ghost use Rattle.ffi3_machine.specs.State.{with_x};
 ghost use Rattle.ffi3_machine.specs.Stubs.{Entry};
@@ -41,7 +41,7 @@ pub fn enter<A: Abi>(machine: &mut Machine, base: StackBase, block: u64, hidden:
     requires base { base ≡ machine.old.sp + A.standard.link }
     requires below { block ≤ machine.old.sp }
     requires hidden { HiddenLies (STACK_TOP - base) hidden }
-    requires hidden_saved { by_exchange machine.old.target ≡ true → AllByRecursion (IsOneOf (G (hidden_register (isa_of A.standard.target)) ∷ [])) (if_any hidden) }
+    requires hidden_saved { by_exchange machine.old.target ≡ true → AllByRecursion (IsOneOf (G (hidden_register (isa_of A.standard.target)) ∷ [])) (to_list hidden) }
     ensures { IsEntered A.standard hidden block machine.old machine.new }
 {
     // its contract tells where it lies

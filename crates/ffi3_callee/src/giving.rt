@@ -8,7 +8,7 @@ ghost use Rattle.ffi3_place_rules.specs.declared.Loc.{Loc};
 ghost use Rattle.ffi3_place_rules.specs.Standard.{frame_of, plan_of};
 ghost use Rattle.ffi3_place_rules.specs.Holds.{HoldsResult};
 ghost use Rattle.ffi3_place_rules.specs.Sound.{result_locs};
-ghost use Rattle.ffi3_place_rules.specs.Isa.{if_any};
+ghost use Rattle.ffi3_place_rules.specs.Isa.{to_list};
 ghost use Rattle.ffi3_type_rules.specs.declared.limits.TheConstants.{STACK, STACK_TOP};
 ghost use Rattle.ffi3_machine.specs.State.{State, stack_at};
 ghost use Rattle.ffi3_pieces.specs.Passing.{passing};
@@ -75,7 +75,7 @@ fn give_buffer(machine: &mut Machine, address: u64, ty: &CheckedType<'_>, value:
 fn tell_address(machine: &mut Machine, returned: Option<Loc>, address: u64)
     requires register { IsSettable machine.old.target returned }
     ensures told { RegisterHoldsWord (passing machine.new) returned address }
-    ensures registers { RegistersStay (if_any returned) (passing machine.old) (passing machine.new) }
+    ensures registers { RegistersStay (to_list returned) (passing machine.old) (passing machine.new) }
     ensures within { WroteWithin STACK_TOP STACK_TOP (passing machine.old) (passing machine.new) }
     ensures sp { machine.new.sp ≡ machine.old.sp }
 {

@@ -190,8 +190,8 @@ fn poison_registers<A: Abi>(machine: &mut Machine, cif: &Cif<A>, base: StackBase
     requires { machine.old.target ≡ A.TARGET }
     ensures { AreRegistersDone A.standard cif.now base byte (length A.standard.argument_registers) machine.old machine.new }
 {
-    for k in 0..A::PASSING {
-        let at = A::passing_register(k);
+    for k in 0..A::ARGUMENT_REGISTERS {
+        let at = A::argument_register(k);
         poison_register(machine, cif, base, at, byte);
     }
 }

@@ -9,7 +9,7 @@ use Rattle.ffi3_type_rules.specs.declared.limits.TheConstants.{RETURN, STACK, ST
 use Rattle.ffi3_type_rules.specs.Isa.{isa_of}
 use Rattle.ffi3_place_rules.specs.declared.Loc.{Loc}
 use Rattle.ffi3_place_rules.specs.declared.Loc.TheVariants.{G, F, S}
-use Rattle.ffi3_place_rules.specs.Isa.{call_loads, call_scratch, exit_scratch, link_place, link_register, if_any, pushed_bytes, result_loads}
+use Rattle.ffi3_place_rules.specs.Isa.{call_loads, call_scratch, exit_scratch, link_place, link_register, to_list, pushed_bytes, result_loads}
 use Rattle.ffi3_place_rules.specs.Sound.{IsNoneOf, IsOneOf}
 use Rattle.ffi3_machine.specs.State.{State, HasReturnAddress, HasReturnAt, IsMachine, IsSlot, called, linked_general, linked_stack, lowered, with_x, x_of}
 use Rattle.ffi3_machine.specs.Stubs.{Call, Return, exchanged_at}
@@ -111,12 +111,12 @@ called_by_stub addr m t n is slot t_is low high e says counted =
 
 -- ---- the machine's own call
 
-linked_same : (isa : Isa) (general : List ℕ) (r : ℕ) → IsNoneOf (if_any (link_place isa)) (G r) → get_or (linked_general (link_register isa) general) r 0 ≡ get_or general r 0
+linked_same : (isa : Isa) (general : List ℕ) (r : ℕ) → IsNoneOf (to_list (link_place isa)) (G r) → get_or (linked_general (link_register isa) general) r 0 ≡ get_or general r 0
 linked_same Amd64 general r none = refl
 linked_same Aarch64 general r none = get_or-set_other general 30 r RETURN 0 none.0
 linked_same Riscv general r none = get_or-set_other general 1 r RETURN 0 none.0
 
-left_alone : (addr : ℕ) (m n : State) → n ≡ called addr m → (l : Loc) → IsPlace 0 l → IsNoneOf (if_any (link_place (isa_of m.target))) l → SameAt 0 l m n
+left_alone : (addr : ℕ) (m n : State) → n ≡ called addr m → (l : Loc) → IsPlace 0 l → IsNoneOf (to_list (link_place (isa_of m.target))) l → SameAt 0 l m n
 left_alone addr m n n_is (G r) lies none = ap (λ q. get_or q.general r 0) n_is ∙ linked_same (isa_of m.target) m.general r none
 left_alone addr m n n_is (F r) lies none = ap (λ q. get_or q.floating r 0) n_is
 left_alone addr m n n_is (S k) lies none = absurd (omega (arith, lies))

@@ -17,7 +17,7 @@ use Rattle.ffi3_place_rules.specs.declared.Place.{Place}
 use Rattle.ffi3_place_rules.specs.declared.Place.TheVariants.{Direct, ByRef}
 use Rattle.ffi3_place_rules.specs.declared.Res.{Res}
 use Rattle.ffi3_place_rules.specs.declared.Res.TheVariants.{Nothing, Direct as DirectRes, Hidden}
-use Rattle.ffi3_place_rules.specs.Isa.{reserved_places, if_any}
+use Rattle.ffi3_place_rules.specs.Isa.{reserved_places, to_list}
 use Rattle.ffi3_place_rules.specs.Standard.{Standard, plan_of, frame_of}
 use Rattle.ffi3_place_rules.specs.Agrees.{AgreesWithMachine, given_back, special}
 use Rattle.ffi3_place_rules.specs.Holds.{FillArguments, OwnsArguments, OwnsHidden, RegisterHolds}
@@ -102,24 +102,24 @@ module _ (std : Standard) (s : Signature) (sound : IsSound std s) where
       more n m h (S k ∷ ls) all = (omega (arith, h, all.0), more n m h ls all.1)
 
   -- the register that tells the number carries no argument
-  count_free : AllByRecursion (IsNoneOf (if_any std.vector_count)) (argument_locs (plan_of std s))
+  count_free : AllByRecursion (IsNoneOf (to_list std.vector_count)) (argument_locs (plan_of std s))
   count_free =
       each_of (argument_locs (plan_of std s)) sound.allowed
     where
-      each_of : (ls : List Loc) → AllByRecursion (IsNoneOf (closed_to_arguments std)) ls → AllByRecursion (IsNoneOf (if_any std.vector_count)) ls
+      each_of : (ls : List Loc) → AllByRecursion (IsNoneOf (closed_to_arguments std)) ls → AllByRecursion (IsNoneOf (to_list std.vector_count)) ls
       each_of [] h = tt
-      each_of (l ∷ ls) h = (each_rest (Apart l) std.trampoline_registers (if_any std.vector_count) (each_rest (Apart l) (closed_to_results std) (std.trampoline_registers ++ if_any std.vector_count) h.0), each_of ls h.1)
+      each_of (l ∷ ls) h = (each_rest (Apart l) std.trampoline_registers (to_list std.vector_count) (each_rest (Apart l) (closed_to_results std) (std.trampoline_registers ++ to_list std.vector_count) h.0), each_of ls h.1)
 
-  pub count_clear : AllByRecursion (IsPlace 0) (if_any std.vector_count) → AllByRecursion (IsNoneOf (if_any std.vector_count)) (all_uses s.arguments (plan_of std s).places)
+  pub count_clear : AllByRecursion (IsPlace 0) (to_list std.vector_count) → AllByRecursion (IsNoneOf (to_list std.vector_count)) (all_uses s.arguments (plan_of std s).places)
   count_clear registers =
-      uses_each (IsNoneOf (if_any std.vector_count)) s.arguments (plan_of std s).places sound.has_all (each_rest (IsNoneOf (if_any std.vector_count)) (hidden_locs (plan_of std s).res) (flat_map place_locs (plan_of std s).places) count_free) (across_none (if_any std.vector_count) (copy_locs s.arguments (plan_of std s).places) (each_copies (if_any std.vector_count) registers))
+      uses_each (IsNoneOf (to_list std.vector_count)) s.arguments (plan_of std s).places sound.has_all (each_rest (IsNoneOf (to_list std.vector_count)) (hidden_locs (plan_of std s).res) (flat_map place_locs (plan_of std s).places) count_free) (across_none (to_list std.vector_count) (copy_locs s.arguments (plan_of std s).places) (each_copies (to_list std.vector_count) registers))
     where
       each_copies : (ls : List Loc) → AllByRecursion (IsPlace 0) ls → AllByRecursion (λ x. AllByRecursion (Apart x) (copy_locs s.arguments (plan_of std s).places)) ls
       each_copies [] h = tt
       each_copies (l ∷ ls) h = (register_apart_copies l s.arguments (plan_of std s).places h.0, each_copies ls h.1)
 
-  pub count_clear_of_hidden : AllByRecursion (IsNoneOf (if_any std.vector_count)) (hidden_locs (plan_of std s).res)
-  count_clear_of_hidden = each_first (IsNoneOf (if_any std.vector_count)) (hidden_locs (plan_of std s).res) (flat_map place_locs (plan_of std s).places) count_free
+  pub count_clear_of_hidden : AllByRecursion (IsNoneOf (to_list std.vector_count)) (hidden_locs (plan_of std s).res)
+  count_clear_of_hidden = each_first (IsNoneOf (to_list std.vector_count)) (hidden_locs (plan_of std s).res) (flat_map place_locs (plan_of std s).places) count_free
 
 hidden_stays : (base : ℕ) (r : Res) (ls : List Loc) (a b : State) → AllByRecursion (IsNoneOf ls) (hidden_locs r) → Stays base ls a b → HiddenStands base a r → HiddenStands base b r
 hidden_stays base (Hidden at buffer) ls a b none stays stands = same_word_in base at a b (stays.others at none.0) ∙ stands
@@ -133,7 +133,7 @@ hidden_owned m len (Hidden at buffer) low lie stands =
 hidden_owned m len Nothing low lie stands = tt
 hidden_owned m len (DirectRes pieces) low lie stands = tt
 
-pub count_told : (m : State) (len : ℕ) (at : Option Loc) (n : ℕ) → STACK ≤ m.sp → AllByRecursion (IsPlace 0) (if_any at) → CountStands m.sp m at n → RegisterHolds (image_of len m) at n
+pub count_told : (m : State) (len : ℕ) (at : Option Loc) (n : ℕ) → STACK ≤ m.sp → AllByRecursion (IsPlace 0) (to_list at) → CountStands m.sp m at n → RegisterHolds (image_of len m) at n
 count_told m len None n low registers stands = tt
 count_told m len (Some (G r)) n low registers stands = stands
 count_told m len (Some (F r)) n low registers stands = stands
@@ -145,13 +145,13 @@ pub record AreCalled (std : Standard) (s : Signature) (vs : List ValueTree) (bas
   pub stand : AllStand base m s.arguments (plan_of std s).places vs
   pub hidden : HiddenStands base m (plan_of std s).res
 
-pub called_all : (std : Standard) (s : Signature) → IsSound std s → SignatureHasNoFault s → (vs : List ValueTree) (target : Target) (base : ℕ) (a b c : State) → STACK ≤ base → AllByRecursion (IsWritable target) (argument_locs (plan_of std s)) → AllByRecursion (IsPlace 0) (if_any std.vector_count) →
-    AllStand base a s.arguments (plan_of std s).places vs → HiddenStands base b (plan_of std s).res → Stays base (hidden_locs (plan_of std s).res) a b → Stays base (if_any std.vector_count) b c → AreCalled std s vs base c
+pub called_all : (std : Standard) (s : Signature) → IsSound std s → SignatureHasNoFault s → (vs : List ValueTree) (target : Target) (base : ℕ) (a b c : State) → STACK ≤ base → AllByRecursion (IsWritable target) (argument_locs (plan_of std s)) → AllByRecursion (IsPlace 0) (to_list std.vector_count) →
+    AllStand base a s.arguments (plan_of std s).places vs → HiddenStands base b (plan_of std s).res → Stays base (hidden_locs (plan_of std s).res) a b → Stays base (to_list std.vector_count) b c → AreCalled std s vs base c
 called_all std s sound right vs target base a b c low write registers stand hidden first second =
     let ready = all_ready std s sound right target write in
     let stand_b = all_stay base target (frame_of std s) (hidden_locs (plan_of std s).res) a b s.arguments (plan_of std s).places vs low ready (hidden_clear std s sound) first stand in record {
-      stand = all_stay base target (frame_of std s) (if_any std.vector_count) b c s.arguments (plan_of std s).places vs low ready (count_clear std s sound registers) second stand_b;
-      hidden = hidden_stays base (plan_of std s).res (if_any std.vector_count) b c (count_clear_of_hidden std s sound) second hidden;
+      stand = all_stay base target (frame_of std s) (to_list std.vector_count) b c s.arguments (plan_of std s).places vs low ready (count_clear std s sound registers) second stand_b;
+      hidden = hidden_stays base (plan_of std s).res (to_list std.vector_count) b c (count_clear_of_hidden std s sound) second hidden;
     }
 
 -- a register is the same whatever the stack's places count from
@@ -161,20 +161,20 @@ register_same base other (F r) a b h same = same
 register_same base other (S n) a b h same = absurd (omega (arith, h))
 
 -- the other registers, after all stores
-pub others_same : (std : Standard) (s : Signature) → IsSound std s → (base : ℕ) (l : Loc) (z o a b c : State) → IsPlace 0 l → IsNoneOf (argument_locs (plan_of std s) ++ if_any std.vector_count) l → SameAt 0 l z o → Stays base (all_uses s.arguments (plan_of std s).places) o a → Stays base (hidden_locs (plan_of std s).res) a b → Stays base (if_any std.vector_count) b c → SameAt 0 l z c
+pub others_same : (std : Standard) (s : Signature) → IsSound std s → (base : ℕ) (l : Loc) (z o a b c : State) → IsPlace 0 l → IsNoneOf (argument_locs (plan_of std s) ++ to_list std.vector_count) l → SameAt 0 l z o → Stays base (all_uses s.arguments (plan_of std s).places) o a → Stays base (hidden_locs (plan_of std s).res) a b → Stays base (to_list std.vector_count) b c → SameAt 0 l z c
 others_same std s sound base l z o a b c h none zero_same first second third =
-    let parts = none_append (argument_locs (plan_of std s)) (if_any std.vector_count) l none in
+    let parts = none_append (argument_locs (plan_of std s)) (to_list std.vector_count) l none in
     let both = none_append (hidden_locs (plan_of std s).res) (flat_map place_locs (plan_of std s).places) l parts.0 in
     let in_uses = none_of_uses l s.arguments (plan_of std s).places sound.has_all h both.1 in
     same_then 0 l z o c zero_same (register_same base 0 l o c h (same_then base l o b c (same_then base l o a b (first.others l in_uses) (second.others l both.0)) (third.others l parts.1)))
 
 -- eight bytes of the frame that carry nothing, after all stores
-free_same : (std : Standard) (s : Signature) → IsSound std s → (base at : ℕ) (o a b c : State) → AllByRecursion (IsPlace 0) (if_any std.vector_count) → IsNoneOf (argument_locs (plan_of std s) ++ copy_locs s.arguments (plan_of std s).places) (S at) → Stays base (all_uses s.arguments (plan_of std s).places) o a → Stays base (hidden_locs (plan_of std s).res) a b → Stays base (if_any std.vector_count) b c → SameAt base (S at) o c
+free_same : (std : Standard) (s : Signature) → IsSound std s → (base at : ℕ) (o a b c : State) → AllByRecursion (IsPlace 0) (to_list std.vector_count) → IsNoneOf (argument_locs (plan_of std s) ++ copy_locs s.arguments (plan_of std s).places) (S at) → Stays base (all_uses s.arguments (plan_of std s).places) o a → Stays base (hidden_locs (plan_of std s).res) a b → Stays base (to_list std.vector_count) b c → SameAt base (S at) o c
 free_same std s sound base at o a b c registers none first second third =
     let parts = none_append (argument_locs (plan_of std s)) (copy_locs s.arguments (plan_of std s).places) (S at) none in
     let both = none_append (hidden_locs (plan_of std s).res) (flat_map place_locs (plan_of std s).places) (S at) parts.0 in
     let in_uses = uses_each (Apart (S at)) s.arguments (plan_of std s).places sound.has_all both.1 parts.1 in
-    same_then base (S at) o b c (same_then base (S at) o a b (first.others (S at) in_uses) (second.others (S at) both.0)) (third.others (S at) (none_of_registers (if_any std.vector_count) registers))
+    same_then base (S at) o b c (same_then base (S at) o a b (first.others (S at) in_uses) (second.others (S at) both.0)) (third.others (S at) (none_of_registers (to_list std.vector_count) registers))
   where
     none_of_registers : (ls : List Loc) → AllByRecursion (IsPlace 0) ls → IsNoneOf ls (S at)
     none_of_registers [] h = tt
@@ -220,23 +220,23 @@ pub record IsCallStored (std : Standard) (s : Signature) (vs : List ValueTree) (
   pub filled : FillArguments (image_of (frame_of std s) d) 0 s.arguments (plan_of std s).places vs
   pub hidden : OwnsHidden (image_of (frame_of std s) d) 0 (plan_of std s).res
   pub vectors : RegisterHolds (image_of (frame_of std s) d) std.vector_count (plan_of std s).vectors
-  pub others : (l : Loc) → IsPlace 0 l → IsNoneOf (argument_locs (plan_of std s) ++ if_any std.vector_count) l → SameAt 0 l z d
+  pub others : (l : Loc) → IsPlace 0 l → IsNoneOf (argument_locs (plan_of std s) ++ to_list std.vector_count) l → SameAt 0 l z d
   pub unused : AllKeepUnused o.sp o d s.arguments (plan_of std s).places
   pub free : (at : ℕ) → IsNoneOf (argument_locs (plan_of std s) ++ copy_locs s.arguments (plan_of std s).places) (S at) → SameAt o.sp (S at) o d
   pub within : WroteWithin o.sp (o.sp + frame_of std s) o d
 
-pub call_stored : (std : Standard) (s : Signature) → IsSound std s → SignatureHasNoFault s → (vs : List ValueTree) (target : Target) (base : ℕ) (r : Res) (k : Option Loc) (n : ℕ) (z o a b d : State) → base ≡ o.sp → STACK ≤ base → r ≡ (plan_of std s).res → k ≡ std.vector_count → n ≡ (plan_of std s).vectors → AllByRecursion (IsWritable target) (argument_locs (plan_of std s)) → AllByRecursion (IsPlace 0) (if_any k) → all_fit (trees_of s.arguments) (values_of vs) ≡ true →
+pub call_stored : (std : Standard) (s : Signature) → IsSound std s → SignatureHasNoFault s → (vs : List ValueTree) (target : Target) (base : ℕ) (r : Res) (k : Option Loc) (n : ℕ) (z o a b d : State) → base ≡ o.sp → STACK ≤ base → r ≡ (plan_of std s).res → k ≡ std.vector_count → n ≡ (plan_of std s).vectors → AllByRecursion (IsWritable target) (argument_locs (plan_of std s)) → AllByRecursion (IsPlace 0) (to_list k) → all_fit (trees_of s.arguments) (values_of vs) ≡ true →
     ((l : Loc) → IsPlace 0 l → SameAt 0 l z o) →
     AllStand o.sp a s.arguments (plan_of std s).places vs → Stays o.sp (all_uses s.arguments (plan_of std s).places) o a → WroteWithin o.sp (o.sp + frame_of std s) o a → AllKeepUnused o.sp o a s.arguments (plan_of std s).places →
     HiddenStands base b r → Stays base (hidden_locs r) a b → ((room : ℕ) → AllByRecursion (IsPlace room) (hidden_locs r) → WroteWithin base (base + room) a b) →
-    CountStands base d k n → Stays base (if_any k) b d → ((room : ℕ) → WroteWithin base (base + room) b d) → IsCallStored std s vs z o d
+    CountStands base d k n → Stays base (to_list k) b d → ((room : ℕ) → WroteWithin base (base + room) b d) → IsCallStored std s vs z o d
 call_stored std s sound right vs target base r k n z o a b d is low res_is count_is number_is write registers fit opened stand places_stay places_within places_keep hidden_stands hidden_stay hidden_within told count_stay count_within =
     let stand_a = subst (λ x. AllStand x a s.arguments (plan_of std s).places vs) (sym is) stand in
     let first = subst (λ x. Stays x (all_uses s.arguments (plan_of std s).places) o a) (sym is) places_stay in
     let hidden_b = subst (HiddenStands base b) res_is hidden_stands in
     let second = subst (λ q. Stays base (hidden_locs q) a b) res_is hidden_stay in
-    let third = subst (λ q. Stays base (if_any q) b d) count_is count_stay in
-    let in_registers = subst (λ q. AllByRecursion (IsPlace 0) (if_any q)) count_is registers in
+    let third = subst (λ q. Stays base (to_list q) b d) count_is count_stay in
+    let in_registers = subst (λ q. AllByRecursion (IsPlace 0) (to_list q)) count_is registers in
     let ready = all_ready std s sound right target write in
     let whole = called_all std s sound right vs target base a b d low write in_registers stand_a hidden_b second third in
     let sp_is : d.sp ≡ o.sp = third.sp ∙ second.sp ∙ first.sp in
@@ -253,7 +253,7 @@ call_stored std s sound right vs target base r k n z o a b d is low res_is count
       vectors = count_told d (frame_of std s) std.vector_count (plan_of std s).vectors low_d in_registers told_d;
       others = λ l h none. others_same std s sound base l z o a b d h none (opened l h) first second third;
       unused = subst (λ x. AllKeepUnused x o d s.arguments (plan_of std s).places) is
-          (all_keep_stay base (if_any std.vector_count) o b d s.arguments (plan_of std s).places (count_clear std s sound in_registers) third
+          (all_keep_stay base (to_list std.vector_count) o b d s.arguments (plan_of std s).places (count_clear std s sound in_registers) third
           (all_keep_stay base (hidden_locs (plan_of std s).res) o a b s.arguments (plan_of std s).places (hidden_clear std s sound) second
           (subst (λ x. AllKeepUnused x o a s.arguments (plan_of std s).places) (sym is) places_keep)));
       free = λ at none. subst (λ x. SameAt x (S at) o d) is (free_same std s sound base at o a b d in_registers none first second third);
@@ -284,32 +284,32 @@ scribble_leaves Riscv n m is =
 -- ---- the register that tells the number of vector registers
 
 module _ (std : Standard) (agrees : AgreesWithMachine std) where
-  pub count_is_register : AllByRecursion (IsPlace 0) (if_any std.vector_count)
+  pub count_is_register : AllByRecursion (IsPlace 0) (to_list std.vector_count)
   count_is_register =
-      machine_places (isa_of std.target) 0 (if_any std.vector_count) agrees.count_exists
+      machine_places (isa_of std.target) 0 (to_list std.vector_count) agrees.count_exists
 
-  count_unreserved : AllByRecursion (IsNoneOf std.reserved) (if_any std.vector_count)
+  count_unreserved : AllByRecursion (IsNoneOf std.reserved) (to_list std.vector_count)
   count_unreserved =
-      each_map (IsNoneOf (given_back std ++ (std.reserved ++ std.trampoline_registers))) (IsNoneOf std.reserved) (λ l h. each_first (Apart l) std.reserved std.trampoline_registers (each_rest (Apart l) (given_back std) (std.reserved ++ std.trampoline_registers) h)) (if_any std.vector_count) agrees.count_plain
+      each_map (IsNoneOf (given_back std ++ (std.reserved ++ std.trampoline_registers))) (IsNoneOf std.reserved) (λ l h. each_first (Apart l) std.reserved std.trampoline_registers (each_rest (Apart l) (given_back std) (std.reserved ++ std.trampoline_registers) h)) (to_list std.vector_count) agrees.count_plain
 
-  pub count_is_written : (target kind : Target) → std.target ≡ kind → target ≡ kind → AllByRecursion (IsWritable target) (if_any std.vector_count)
+  pub count_is_written : (target kind : Target) → std.target ≡ kind → target ≡ kind → AllByRecursion (IsWritable target) (to_list std.vector_count)
   count_is_written target kind is same =
-      subst (λ k. AllByRecursion (IsWritable k) (if_any std.vector_count)) (is ∙ sym same) (each_map (IsNoneOf std.reserved) (IsWritable std.target) agrees.written (if_any std.vector_count) count_unreserved)
+      subst (λ k. AllByRecursion (IsWritable k) (to_list std.vector_count)) (is ∙ sym same) (each_map (IsNoneOf std.reserved) (IsWritable std.target) agrees.written (to_list std.vector_count) count_unreserved)
 
   -- it is none of the callee-saved registers
-  count_not_preserved : AllByRecursion (IsNoneOf (if_any std.vector_count)) std.callee_saved
+  count_not_preserved : AllByRecursion (IsNoneOf (to_list std.vector_count)) std.callee_saved
   count_not_preserved =
-      each_map (IsNoneOf (special std)) (IsNoneOf (if_any std.vector_count)) (λ l h. plain l h.1) std.callee_saved agrees.callee_saved_plain
+      each_map (IsNoneOf (special std)) (IsNoneOf (to_list std.vector_count)) (λ l h. plain l h.1) std.callee_saved agrees.callee_saved_plain
     where
-      plain : (l : Loc) → AllByRecursion (Apart l) (std.reserved ++ (if_any std.link_register ++ (std.trampoline_registers ++ (if_any std.vector_count ++ if_any std.returned_address)))) → IsNoneOf (if_any std.vector_count) l
+      plain : (l : Loc) → AllByRecursion (Apart l) (std.reserved ++ (to_list std.link_register ++ (std.trampoline_registers ++ (to_list std.vector_count ++ to_list std.returned_address)))) → IsNoneOf (to_list std.vector_count) l
       plain l h =
-          let link = each_rest (Apart l) std.reserved (if_any std.link_register ++ (std.trampoline_registers ++ (if_any std.vector_count ++ if_any std.returned_address))) h in
-          let trampoline = each_rest (Apart l) (if_any std.link_register) (std.trampoline_registers ++ (if_any std.vector_count ++ if_any std.returned_address)) link in
-          each_first (Apart l) (if_any std.vector_count) (if_any std.returned_address) (each_rest (Apart l) std.trampoline_registers (if_any std.vector_count ++ if_any std.returned_address) trampoline)
+          let link = each_rest (Apart l) std.reserved (to_list std.link_register ++ (std.trampoline_registers ++ (to_list std.vector_count ++ to_list std.returned_address))) h in
+          let trampoline = each_rest (Apart l) (to_list std.link_register) (std.trampoline_registers ++ (to_list std.vector_count ++ to_list std.returned_address)) link in
+          each_first (Apart l) (to_list std.vector_count) (to_list std.returned_address) (each_rest (Apart l) std.trampoline_registers (to_list std.vector_count ++ to_list std.returned_address) trampoline)
 
   -- and none of the reserved ones
-  count_not_reserved : AllByRecursion (IsNoneOf (if_any std.vector_count)) std.reserved
-  count_not_reserved = across_none (if_any std.vector_count) std.reserved count_unreserved
+  count_not_reserved : AllByRecursion (IsNoneOf (to_list std.vector_count)) std.reserved
+  count_not_reserved = across_none (to_list std.vector_count) std.reserved count_unreserved
 
   reserved_are_registers : AllByRecursion (IsPlace 0) std.reserved
   reserved_are_registers = subst (AllByRecursion (IsPlace 0)) (sym agrees.reserved) (each (isa_of std.target))
@@ -321,24 +321,24 @@ module _ (std : Standard) (agrees : AgreesWithMachine std) where
 
   -- ---- registers that a callee preserves, and reserved ones
 
-  module _ (s : Signature) (sound : IsSound std s) (z d : State) (others : (l : Loc) → IsPlace 0 l → IsNoneOf (argument_locs (plan_of std s) ++ if_any std.vector_count) l → SameAt 0 l z d) where
-    each_same : (ls : List Loc) → AllByRecursion (IsPlace 0) ls → AllByRecursion (IsNoneOf (argument_locs (plan_of std s))) ls → AllByRecursion (IsNoneOf (if_any std.vector_count)) ls → AllByRecursion (λ l. SameAt 0 l z d) ls
+  module _ (s : Signature) (sound : IsSound std s) (z d : State) (others : (l : Loc) → IsPlace 0 l → IsNoneOf (argument_locs (plan_of std s) ++ to_list std.vector_count) l → SameAt 0 l z d) where
+    each_same : (ls : List Loc) → AllByRecursion (IsPlace 0) ls → AllByRecursion (IsNoneOf (argument_locs (plan_of std s))) ls → AllByRecursion (IsNoneOf (to_list std.vector_count)) ls → AllByRecursion (λ l. SameAt 0 l z d) ls
     each_same [] lie free none = tt
     each_same (l ∷ ls) lie free none =
-        (others l lie.0 (each_join (Apart l) (argument_locs (plan_of std s)) (if_any std.vector_count) free.0 none.0), each_same ls lie.1 free.1 none.1)
+        (others l lie.0 (each_join (Apart l) (argument_locs (plan_of std s)) (to_list std.vector_count) free.0 none.0), each_same ls lie.1 free.1 none.1)
 
-    closed : AllByRecursion (IsNoneOf (argument_locs (plan_of std s))) (std.callee_saved ++ (std.reserved ++ if_any std.link_register))
+    closed : AllByRecursion (IsNoneOf (argument_locs (plan_of std s))) (std.callee_saved ++ (std.reserved ++ to_list std.link_register))
     closed =
         let clear = across_none (argument_locs (plan_of std s)) (closed_to_arguments std) sound.allowed in
-        (each_first (IsNoneOf (argument_locs (plan_of std s))) (closed_to_results std) (std.trampoline_registers ++ if_any std.vector_count) clear).1
+        (each_first (IsNoneOf (argument_locs (plan_of std s))) (closed_to_results std) (std.trampoline_registers ++ to_list std.vector_count) clear).1
 
     pub preserved_same : AllByRecursion (λ l. SameAt 0 l z d) std.callee_saved
     preserved_same =
-        each_same std.callee_saved (machine_places (isa_of std.target) 0 std.callee_saved agrees.callee_saved_exist) (each_first (IsNoneOf (argument_locs (plan_of std s))) std.callee_saved (std.reserved ++ if_any std.link_register) closed) count_not_preserved
+        each_same std.callee_saved (machine_places (isa_of std.target) 0 std.callee_saved agrees.callee_saved_exist) (each_first (IsNoneOf (argument_locs (plan_of std s))) std.callee_saved (std.reserved ++ to_list std.link_register) closed) count_not_preserved
 
     reserved_same : AllByRecursion (λ l. SameAt 0 l z d) std.reserved
     reserved_same =
-        each_same std.reserved reserved_are_registers (each_first (IsNoneOf (argument_locs (plan_of std s))) std.reserved (if_any std.link_register) (each_rest (IsNoneOf (argument_locs (plan_of std s))) std.callee_saved (std.reserved ++ if_any std.link_register) closed)) count_not_reserved
+        each_same std.reserved reserved_are_registers (each_first (IsNoneOf (argument_locs (plan_of std s))) std.reserved (to_list std.link_register) (each_rest (IsNoneOf (argument_locs (plan_of std s))) std.callee_saved (std.reserved ++ to_list std.link_register) closed)) count_not_reserved
 
     -- a scribble leaves the reserved registers
     pub reserved_stays : (n : ℕ) (old : State) (kind : Target) → z ≡ scribbled n old → std.target ≡ kind → old.target ≡ kind → AllByRecursion (λ l. SameAt 0 l old d) std.reserved

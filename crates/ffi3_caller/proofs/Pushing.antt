@@ -15,7 +15,7 @@ use Rattle.ffi3_type_rules.specs.Value.{ValueTree}
 use Rattle.ffi3_type_rules.proofs.Parts.{length_part}
 use Rattle.ffi3_place_rules.specs.declared.Loc.{Loc}
 use Rattle.ffi3_place_rules.specs.declared.Loc.TheVariants.{G, F, S}
-use Rattle.ffi3_place_rules.specs.Isa.{call_loads, call_scratch, exit_scratch, has_stubs, link_place, link_register, if_any, pushed_bytes, reserved_places}
+use Rattle.ffi3_place_rules.specs.Isa.{call_loads, call_scratch, exit_scratch, has_stubs, link_place, link_register, to_list, pushed_bytes, reserved_places}
 use Rattle.ffi3_place_rules.specs.Standard.{Standard, frame_of, plan_of}
 use Rattle.ffi3_place_rules.specs.Agrees.{AgreesWithMachine, given_back, special}
 use Rattle.ffi3_place_rules.specs.ByStubs.{AgreesWithStubs, ResultGoesByStubs}
@@ -94,13 +94,13 @@ module _ (std : Standard) (agrees : AgreesWithMachine std) where
   left_preserved : (b : Bool) → (b ≡ true → AgreesWithStubs std) → AllByRecursion (IsLeft b (isa_of std.target)) std.callee_saved
   left_preserved true law = preserved_not_called std agrees (law refl)
   left_preserved false law =
-      subst (λ o. AllByRecursion (IsNoneOf (if_any o)) std.callee_saved) agrees.link_register
-      (each_map (IsNoneOf (special std)) (IsNoneOf (if_any std.link_register)) (λ l none. each_first (Apart l) (if_any std.link_register) (std.trampoline_registers ++ (if_any std.vector_count ++ if_any std.returned_address)) (each_rest (Apart l) std.reserved (if_any std.link_register ++ (std.trampoline_registers ++ (if_any std.vector_count ++ if_any std.returned_address))) none.1)) std.callee_saved agrees.callee_saved_plain)
+      subst (λ o. AllByRecursion (IsNoneOf (to_list o)) std.callee_saved) agrees.link_register
+      (each_map (IsNoneOf (special std)) (IsNoneOf (to_list std.link_register)) (λ l none. each_first (Apart l) (to_list std.link_register) (std.trampoline_registers ++ (to_list std.vector_count ++ to_list std.returned_address)) (each_rest (Apart l) std.reserved (to_list std.link_register ++ (std.trampoline_registers ++ (to_list std.vector_count ++ to_list std.returned_address))) none.1)) std.callee_saved agrees.callee_saved_plain)
 
   left_reserved : (b : Bool) → AllByRecursion (IsLeft b (isa_of std.target)) std.reserved
   left_reserved true =
       reserved_from (IsNoneOf (call_scratch (isa_of std.target) ++ call_loads (isa_of std.target))) (reserved_not_called (isa_of std.target))
-  left_reserved false = reserved_from (IsNoneOf (if_any (link_place (isa_of std.target)))) (reserved_not_link (isa_of std.target))
+  left_reserved false = reserved_from (IsNoneOf (to_list (link_place (isa_of std.target)))) (reserved_not_link (isa_of std.target))
 
   -- a call leaves the callee-saved and the reserved registers
   pub call_preserves : (addr : ℕ) (m n : State) → std.target ≡ m.target → (by_exchange m.target ≡ true → AgreesWithStubs std) → SlotIsCalled addr m n → AllByRecursion (λ l. SameAt 0 l m n) std.callee_saved
@@ -135,31 +135,31 @@ module _ (std : Standard) (agrees : AgreesWithMachine std) where
 -- ---- arguments
 
 module _ (std : Standard) (s : Signature) (sound : IsSound std s) (agrees : AgreesWithMachine std) where
-  arguments_clear : AllByRecursion (IsNoneOf (if_any std.link_register)) (argument_locs (plan_of std s))
+  arguments_clear : AllByRecursion (IsNoneOf (to_list std.link_register)) (argument_locs (plan_of std s))
   arguments_clear =
-      each_map (IsNoneOf (closed_to_arguments std)) (IsNoneOf (if_any std.link_register)) one (argument_locs (plan_of std s)) sound.allowed
+      each_map (IsNoneOf (closed_to_arguments std)) (IsNoneOf (to_list std.link_register)) one (argument_locs (plan_of std s)) sound.allowed
     where
-      one : (l : Loc) → IsNoneOf (closed_to_arguments std) l → IsNoneOf (if_any std.link_register) l
+      one : (l : Loc) → IsNoneOf (closed_to_arguments std) l → IsNoneOf (to_list std.link_register) l
       one l h =
-          let closed = each_first (Apart l) (closed_to_results std) (std.trampoline_registers ++ if_any std.vector_count) h in
-          each_rest (Apart l) std.reserved (if_any std.link_register) (each_rest (Apart l) std.callee_saved (std.reserved ++ if_any std.link_register) closed.1)
+          let closed = each_first (Apart l) (closed_to_results std) (std.trampoline_registers ++ to_list std.vector_count) h in
+          each_rest (Apart l) std.reserved (to_list std.link_register) (each_rest (Apart l) std.callee_saved (std.reserved ++ to_list std.link_register) closed.1)
 
-  count_clear : AllByRecursion (IsNoneOf (if_any std.link_register)) (if_any std.vector_count)
+  count_clear : AllByRecursion (IsNoneOf (to_list std.link_register)) (to_list std.vector_count)
   count_clear =
-      each_map (IsNoneOf (given_back std ++ (std.reserved ++ std.trampoline_registers))) (IsNoneOf (if_any std.link_register)) (λ l h. each_rest (Apart l) std.callee_saved (if_any std.link_register) (each_first (Apart l) (given_back std) (std.reserved ++ std.trampoline_registers) h)) (if_any std.vector_count) agrees.count_plain
+      each_map (IsNoneOf (given_back std ++ (std.reserved ++ std.trampoline_registers))) (IsNoneOf (to_list std.link_register)) (λ l h. each_rest (Apart l) std.callee_saved (to_list std.link_register) (each_first (Apart l) (given_back std) (std.reserved ++ std.trampoline_registers) h)) (to_list std.vector_count) agrees.count_plain
 
   carried_arguments : (b : Bool) → (b ≡ true → AgreesWithStubs std) → AllByRecursion (IsCarried b (isa_of std.target)) (argument_locs (plan_of std s))
   carried_arguments true law =
       let laws = law refl in
       each_map (IsOnStackOrIn std.argument_registers) (IsOnStackOrIn (call_loads (isa_of std.target))) (on_stack_or_in std.argument_registers (call_loads (isa_of std.target)) laws.arguments_loaded) (argument_locs (plan_of std s)) sound.passed
   carried_arguments false law =
-      subst (λ o. AllByRecursion (IsNoneOf (if_any o)) (argument_locs (plan_of std s))) agrees.link_register arguments_clear
+      subst (λ o. AllByRecursion (IsNoneOf (to_list o)) (argument_locs (plan_of std s))) agrees.link_register arguments_clear
 
-  carried_count : (b : Bool) → (b ≡ true → AgreesWithStubs std) → AllByRecursion (IsCarried b (isa_of std.target)) (if_any std.vector_count)
+  carried_count : (b : Bool) → (b ≡ true → AgreesWithStubs std) → AllByRecursion (IsCarried b (isa_of std.target)) (to_list std.vector_count)
   carried_count true law =
       let laws = law refl in
-      each_map (IsOneOf (call_loads (isa_of std.target))) (IsOnStackOrIn (call_loads (isa_of std.target))) (one_is_in (call_loads (isa_of std.target))) (if_any std.vector_count) laws.count_loaded
-  carried_count false law = subst (λ o. AllByRecursion (IsNoneOf (if_any o)) (if_any std.vector_count)) agrees.link_register count_clear
+      each_map (IsOneOf (call_loads (isa_of std.target))) (IsOnStackOrIn (call_loads (isa_of std.target))) (one_is_in (call_loads (isa_of std.target))) (to_list std.vector_count) laws.count_loaded
+  carried_count false law = subst (λ o. AllByRecursion (IsNoneOf (to_list o)) (to_list std.vector_count)) agrees.link_register count_clear
 
   module _ (addr : ℕ) (m n : State) (same : std.target ≡ m.target) (law : by_exchange m.target ≡ true → AgreesWithStubs std) (low : STACK + std.link ≤ m.sp) (fits : m.sp - STACK + frame_of std s ≤ length m.stack) (called : SlotIsCalled addr m n) where
     abbrev isa : Isa
@@ -205,10 +205,10 @@ module _ (std : Standard) (s : Signature) (sound : IsSound std s) (agrees : Agre
         each_with (IsPlace (frame_of std s)) (IsCarried (by_exchange m.target) (isa_of m.target)) IsStill (λ l lies carried. (lies, carried)) (argument_locs (plan_of std s)) (each_first (IsPlace (frame_of std s)) (argument_locs p) (copy_locs s.arguments p.places ++ buffer_locs s.result_type p.res) (call_places std s sound))
         (subst (λ k. AllByRecursion (IsCarried (by_exchange m.target) (isa_of k)) (argument_locs (plan_of std s))) same (carried_arguments (by_exchange m.target) law))
 
-    count_still : AllByRecursion IsStill (if_any std.vector_count)
+    count_still : AllByRecursion IsStill (to_list std.vector_count)
     count_still =
-        each_with (IsPlace (frame_of std s)) (IsCarried (by_exchange m.target) (isa_of m.target)) IsStill (λ l lies carried. (lies, carried)) (if_any std.vector_count) (each_map (IsPlace 0) (IsPlace (frame_of std s)) (lies_wider (frame_of std s)) (if_any std.vector_count) (machine_places (isa_of std.target) 0 (if_any std.vector_count) agrees.count_exists))
-        (subst (λ k. AllByRecursion (IsCarried (by_exchange m.target) (isa_of k)) (if_any std.vector_count)) same (carried_count (by_exchange m.target) law))
+        each_with (IsPlace (frame_of std s)) (IsCarried (by_exchange m.target) (isa_of m.target)) IsStill (λ l lies carried. (lies, carried)) (to_list std.vector_count) (each_map (IsPlace 0) (IsPlace (frame_of std s)) (lies_wider (frame_of std s)) (to_list std.vector_count) (machine_places (isa_of std.target) 0 (to_list std.vector_count) agrees.count_exists))
+        (subst (λ k. AllByRecursion (IsCarried (by_exchange m.target) (isa_of k)) (to_list std.vector_count)) same (carried_count (by_exchange m.target) law))
       where
         lies_wider : (room : ℕ) (l : Loc) → IsPlace 0 l → IsPlace room l
         lies_wider room (G r) lies = lies
@@ -236,7 +236,7 @@ module _ (std : Standard) (s : Signature) (sound : IsSound std s) (agrees : Agre
             hidden = address_owned 0 std.link IsStill old new alike (plan_of std s).res (each_first IsStill hidden flat arguments_still) address;
           };
           filled = arguments_filled 0 std.link IsStill old new alike s.arguments (plan_of std s).places vs in_places fill;
-          vectors = count_held 0 std.link IsStill old new alike std.vector_count (plan_of std s).vectors (machine_places (isa_of std.target) 0 (if_any std.vector_count) agrees.count_exists) count_still count;
+          vectors = count_held 0 std.link IsStill old new alike std.vector_count (plan_of std s).vectors (machine_places (isa_of std.target) 0 (to_list std.vector_count) agrees.count_exists) count_still count;
         }
 
 -- ---- a result

@@ -3,7 +3,7 @@ use Rattle.std.specs.Prelude.{◌≡◌, ℕ, ◌+◌, ◌-◌, ⊤, Bool, true,
 use Rattle.ffi3_type_rules.specs.declared.Isa.{Isa}
 use Rattle.ffi3_type_rules.specs.Isa.{isa_of}
 use Rattle.ffi3_place_rules.specs.declared.Loc.{Loc}
-use Rattle.ffi3_place_rules.specs.Isa.{call_loads, call_scratch, exit_scratch, link_place, link_register, if_any}
+use Rattle.ffi3_place_rules.specs.Isa.{call_loads, call_scratch, exit_scratch, link_place, link_register, to_list}
 use Rattle.ffi3_place_rules.specs.Isa.{pushed_bytes, result_loads}
 use Rattle.ffi3_place_rules.specs.Sound.{IsNoneOf, IsOneOf, IsOnStackOrIn}
 use Rattle.ffi3_machine.specs.State.{State, HasReturnAddress, called, filled, linked_stack, lowered, scribbled, with_pc}
@@ -36,12 +36,12 @@ called_if false addr s = called addr s
 -- the registers that hold after a call what was passed: those that Call loads; without stubs, all but the one of the return address
 abbrev pub IsCarried : Bool → Isa → Loc → Type 0
 IsCarried true isa l = IsOnStackOrIn (call_loads isa) l
-IsCarried false isa l = IsNoneOf (if_any (link_place isa)) l
+IsCarried false isa l = IsNoneOf (to_list (link_place isa)) l
 
 -- the registers that a call leaves
 abbrev pub IsLeft : Bool → Isa → Loc → Type 0
 IsLeft true isa l = IsNoneOf (call_scratch isa ++ call_loads isa) l
-IsLeft false isa l = IsNoneOf (if_any (link_place isa)) l
+IsLeft false isa l = IsNoneOf (to_list (link_place isa)) l
 
 -- THE SLOT IS CALLED: what was passed stands in its registers, RETURN is the return address, pc is the slot's address, and of the stack nothing is written but a return address that is pushed.
 pub record SlotIsCalled (addr : ℕ) (before after : State) : Type 0 where

@@ -9,7 +9,7 @@ ghost use Rattle.ffi3_place_rules.specs.declared.Loc.TheVariants.{S};
 ghost use Rattle.ffi3_place_rules.specs.Standard.{frame_of, plan_of};
 ghost use Rattle.ffi3_place_rules.specs.Holds.{FillArguments, OwnsArguments, OwnsHidden, RegisterHolds};
 ghost use Rattle.ffi3_place_rules.specs.Sound.{argument_locs, copy_locs, IsNoneOf};
-ghost use Rattle.ffi3_place_rules.specs.Isa.{if_any};
+ghost use Rattle.ffi3_place_rules.specs.Isa.{to_list};
 ghost use Rattle.ffi3_machine.specs.State.{image_of, scribbled};
 ghost use Rattle.ffi3_pieces.specs.Passing.{passing};
 ghost use Rattle.ffi3_pieces.specs.Stored.{stack_byte, IsPlace, IsWritable, SameAt, Stays, WroteWithin};
@@ -24,10 +24,10 @@ use ffi3_values::Values;
 
 /// Puts a number into the register, if there is one.
 fn put_count(machine: &mut Machine, base: StackBase, at: Option<Loc>, count: u64)
-    requires registers { AllByRecursion (IsPlace 0) (if_any at) }
-    requires writable { AllByRecursion (IsWritable machine.old.target) (if_any at) }
+    requires registers { AllByRecursion (IsPlace 0) (to_list at) }
+    requires writable { AllByRecursion (IsWritable machine.old.target) (to_list at) }
     ensures told { CountStands base (passing machine.new) at count }
-    ensures stays { Stays base (if_any at) (passing machine.old) (passing machine.new) }
+    ensures stays { Stays base (to_list at) (passing machine.old) (passing machine.new) }
     ensures within { (room : ℕ) → WroteWithin base (base + room) (passing machine.old) (passing machine.new) }
 {
     if let Some(at) = at {
@@ -69,11 +69,11 @@ pub fn store_args<A: Abi>(machine: &mut Machine, cif: &Cif<A>, values: &Values)
     ensures sp { machine.new.sp + frame_of A.standard cif.now ≡ machine.old.sp }
     // a register that carries nothing is as the scribble left it, and so are the callee-saved ones; it leaves the reserved
     // ones
-    ensures others { (l : Loc) → IsPlace 0 l → IsNoneOf (argument_locs (plan_of A.standard cif.now) ++ if_any A.standard.vector_count) l → SameAt 0 l (scribbled (length machine.old.events) machine.old) machine.new }
+    ensures others { (l : Loc) → IsPlace 0 l → IsNoneOf (argument_locs (plan_of A.standard cif.now) ++ to_list A.standard.vector_count) l → SameAt 0 l (scribbled (length machine.old.events) machine.old) machine.new }
     ensures preserved { AllByRecursion (λ l. SameAt 0 l (scribbled (length machine.old.events) machine.old) machine.new) A.standard.callee_saved }
     ensures reserved { AllByRecursion (λ l. SameAt 0 l machine.old machine.new) A.standard.reserved }
     // what a call passes by the exchange region for such a register stays
-    ensures passed { (l : Loc) → IsPlace 0 l → IsNoneOf (argument_locs (plan_of A.standard cif.now) ++ if_any A.standard.vector_count) l → SameAt 0 l (passing (scribbled (length machine.old.events) machine.old)) (passing machine.new) }
+    ensures passed { (l : Loc) → IsPlace 0 l → IsNoneOf (argument_locs (plan_of A.standard cif.now) ++ to_list A.standard.vector_count) l → SameAt 0 l (passing (scribbled (length machine.old.events) machine.old)) (passing machine.new) }
     // eight bytes of the frame that carry nothing are A5
     ensures free { (at k : ℕ) → at + 8 ≤ frame_of A.standard cif.now → IsNoneOf (argument_locs (plan_of A.standard cif.now) ++ copy_locs cif.now.arguments (plan_of A.standard cif.now).places) (S at) → k < 8 → stack_byte machine.new (machine.new.sp + at + k) ≡ 0xA5 }
     // what no leaf of an argument has is as the scribble and the A5 bytes left it

@@ -3,7 +3,7 @@ ghost use Rattle.std.specs.Prelude.{◌≡◌, ◌+◌, ◌^◌, ◌<◌, ◌≤
 ghost use Rattle.std.specs.List.{AllByRecursion};
 ghost use Rattle.ffi3_values.specs.ValueOf.{value_of};
 ghost use Rattle.ffi3_place_rules.specs.Standard.{frame_of, plan_of};
-ghost use Rattle.ffi3_place_rules.specs.Isa.{if_any};
+ghost use Rattle.ffi3_place_rules.specs.Isa.{to_list};
 ghost use Rattle.ffi3_place_rules.specs.Sound.{PlaceHasAll};
 ghost use Rattle.ffi3_explain_rules.specs.Explain.{checks_of_arguments, checks_of_count, checks_of_hidden, checks_of_place, first_broken, value_at_place, values_at_places};
 ghost use Rattle.ffi3_explain.specs.ImageOf.{image_of};
@@ -123,7 +123,7 @@ pub fn hidden_check(image: &Image, base: u64, res: &Res) -> Option<Check>
 
 /// What the register of the number of vector registers holds, and what it is wanted to hold.
 pub fn count_check(image: &Image, count: Option<Loc>, vectors: u8) -> Option<Check>
-    requires { AllByRecursion (HasPlace (image_of image.now) 0) (if_any count) }
+    requires { AllByRecursion (HasPlace (image_of image.now) 0) (to_list count) }
     ensures { listed_check result ≡ checks_of_count (image_of image.now) count vectors }
 {
     match count {

@@ -19,7 +19,7 @@ use crate::{Check, Image, Part, Unexplained};
 use ffi3_place::{Ext, Piece, Pieces};
 use ffi3_type_rules::limits::LARGEST_TYPE;
 use ffi3_types::{CheckedType, FfiType, NoMemory};
-use ffi3_values::{Value, value_from_bytes, widen, widened_from_32, write_bytes};
+use ffi3_values::{Value, value_from_bytes, widen, widen_from_32, write_bytes};
 use std::alloc::Global;
 
 // Reads a piece of a value from its place.
@@ -112,7 +112,7 @@ fn extended(ty: &FfiType, value: &Value, piece: &Piece, word: u64) -> u64
         Ext::Free => word,
         Ext::Boxed => 0xFFFF_FFFF_0000_0000 + word % 0x1_0000_0000,
         Ext::Widen => widen(ty, value),
-        Ext::Riscv => widened_from_32(ty, value),
+        Ext::Riscv => widen_from_32(ty, value),
     }
 }
 

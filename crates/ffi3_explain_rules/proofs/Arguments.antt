@@ -17,7 +17,7 @@ use Rattle.ffi3_place_rules.specs.declared.Loc.TheVariants.{G, F, S}
 use Rattle.ffi3_place_rules.specs.declared.Piece.{Piece}
 use Rattle.ffi3_place_rules.specs.declared.Place.{Place}
 use Rattle.ffi3_place_rules.specs.declared.Place.TheVariants.{Direct, ByRef}
-use Rattle.ffi3_place_rules.specs.Isa.{if_any}
+use Rattle.ffi3_place_rules.specs.Isa.{to_list}
 use Rattle.ffi3_place_rules.specs.Image.{Image, byte_at, word_at, register}
 use Rattle.ffi3_place_rules.specs.Standard.{Standard, frame_of, plan_of}
 use Rattle.ffi3_place_rules.specs.Sound.{IsNoneOf, IsSound, LiesIn, PlaceHasAll, PlacesHaveAll, piece_locs, place_locs, argument_locs, hidden_locs, copy_locs, buffer_locs, stack_words_for, closed_to_arguments, closed_to_results, Apart}
@@ -196,10 +196,10 @@ module _ (n m : Image) (base : ℕ) (sp : n.sp ≡ m.sp) (stack : n.stack ≡ m.
       (values, λ j. or_later (out j) (later.1 j))
 
 -- registers that the count's is none of
-same_beside : (std : Standard) (n m : Image) → ((at : Loc) → IsNoneOf (if_any std.vector_count) at → register n at ≡ register m at) → (ls : List Loc) → AllByRecursion (IsNoneOf (closed_to_arguments std)) ls → SameIn ls n m
+same_beside : (std : Standard) (n m : Image) → ((at : Loc) → IsNoneOf (to_list std.vector_count) at → register n at ≡ register m at) → (ls : List Loc) → AllByRecursion (IsNoneOf (closed_to_arguments std)) ls → SameIn ls n m
 same_beside std n m same [] none = tt
 same_beside std n m same (at ∷ ls) none =
-    let beside = right_part (Apart at) std.trampoline_registers (if_any std.vector_count) (right_part (Apart at) (closed_to_results std) (std.trampoline_registers ++ if_any std.vector_count) none.0) in
+    let beside = right_part (Apart at) std.trampoline_registers (to_list std.vector_count) (right_part (Apart at) (closed_to_results std) (std.trampoline_registers ++ to_list std.vector_count) none.0) in
     (same at beside, same_beside std n m same ls none.1)
 
 -- what an image owns fits
@@ -282,7 +282,7 @@ module _ (std : Standard) (s : Signature) (m : Image) (right : SignatureHasNoFau
       let both_same = same_read n m std.link sp stack 0 s.arguments (plan_of std s).places same in
       λ j. arguments_by (both_same.0 j) (both_same.1 j)
 
-  uncounted : (n : Image) → n.sp ≡ m.sp → n.stack ≡ m.stack → ((at : Loc) → IsNoneOf (if_any std.vector_count) at → register n at ≡ register m at) → held_by_standard std s n ≡ held_by_standard std s m
+  uncounted : (n : Image) → n.sp ≡ m.sp → n.stack ≡ m.stack → ((at : Loc) → IsNoneOf (to_list std.vector_count) at → register n at ≡ register m at) → held_by_standard std s n ≡ held_by_standard std s m
   uncounted n sp stack same =
       let closed = right_part (IsNoneOf (closed_to_arguments std)) (hidden_locs (plan_of std s).res) (flat_map place_locs (plan_of std s).places) sound.allowed in
       read_the_same n sp stack (same_beside std n m same (flat_map place_locs (plan_of std s).places) closed)

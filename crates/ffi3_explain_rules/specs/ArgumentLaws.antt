@@ -7,7 +7,7 @@ use Rattle.ffi3_type_rules.specs.Signature.{Signature, SignatureHasNoFault}
 use Rattle.ffi3_type_rules.specs.Value.{ValueTree, values_of, all_fit}
 use Rattle.ffi3_place_rules.specs.declared.Loc.{Loc}
 use Rattle.ffi3_place_rules.specs.declared.Place.TheVariants.{ByRef}
-use Rattle.ffi3_place_rules.specs.Isa.{if_any}
+use Rattle.ffi3_place_rules.specs.Isa.{to_list}
 use Rattle.ffi3_place_rules.specs.Image.{Image, word_at, register}
 use Rattle.ffi3_place_rules.specs.Standard.{Standard, frame_of, plan_of}
 use Rattle.ffi3_place_rules.specs.Locs.{place_locs}
@@ -44,7 +44,7 @@ pub record ArgumentLaws (std : Standard) (s : Signature) (m : Image) : Type 0 wh
   -- so the number of vector registers is not asked
   pub uncounted : (n : Image)
       → n.sp ≡ m.sp → n.stack ≡ m.stack
-      → ((at : Loc) → IsNoneOf (if_any std.vector_count) at → register n at ≡ register m at)
+      → ((at : Loc) → IsNoneOf (to_list std.vector_count) at → register n at ≡ register m at)
       → held_by_standard std s n ≡ held_by_standard std s m
   -- what is needed of the stack is never more than return address and frame
   pub least : least_stack std s ≤ std.link + frame_of std s

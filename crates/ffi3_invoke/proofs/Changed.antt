@@ -11,7 +11,7 @@ use Rattle.ffi3_place_rules.specs.Standard.{Standard, plan_of}
 use Rattle.ffi3_place_rules.specs.Agrees.{AgreesWithMachine, given_back}
 use Rattle.ffi3_place_rules.specs.Holds.{Holds}
 use Rattle.ffi3_place_rules.specs.Sound.{Apart, IsNoneOf, IsSound, argument_locs, closed_to_arguments, closed_to_results, hidden_locs, place_locs}
-use Rattle.ffi3_place_rules.specs.Isa.{if_any}
+use Rattle.ffi3_place_rules.specs.Isa.{to_list}
 use Rattle.ffi3_pieces.proofs.Alike.{AreAlike, arguments_owned, arguments_filled, address_owned, count_held}
 use Rattle.ffi3_pieces.proofs.Lawful.{each_first, each_rest, each_map, machine_places}
 
@@ -35,11 +35,11 @@ alike base changed old new is = record {
 module _ (std : Standard) (s : Signature) (sound : IsSound std s) (agrees : AgreesWithMachine std) where
   arguments_clear : AllByRecursion (IsNoneOf std.trampoline_registers) (argument_locs (plan_of std s))
   arguments_clear =
-      each_map (IsNoneOf (closed_to_arguments std)) (IsNoneOf std.trampoline_registers) (λ l h. each_first (Apart l) std.trampoline_registers (if_any std.vector_count) (each_rest (Apart l) (closed_to_results std) (std.trampoline_registers ++ if_any std.vector_count) h)) (argument_locs (plan_of std s)) sound.allowed
+      each_map (IsNoneOf (closed_to_arguments std)) (IsNoneOf std.trampoline_registers) (λ l h. each_first (Apart l) std.trampoline_registers (to_list std.vector_count) (each_rest (Apart l) (closed_to_results std) (std.trampoline_registers ++ to_list std.vector_count) h)) (argument_locs (plan_of std s)) sound.allowed
 
-  count_clear : AllByRecursion (IsNoneOf std.trampoline_registers) (if_any std.vector_count)
+  count_clear : AllByRecursion (IsNoneOf std.trampoline_registers) (to_list std.vector_count)
   count_clear =
-      each_map (IsNoneOf (given_back std ++ (std.reserved ++ std.trampoline_registers))) (IsNoneOf std.trampoline_registers) (λ l h. each_rest (Apart l) std.reserved std.trampoline_registers (each_rest (Apart l) (given_back std) (std.reserved ++ std.trampoline_registers) h)) (if_any std.vector_count) agrees.count_plain
+      each_map (IsNoneOf (given_back std ++ (std.reserved ++ std.trampoline_registers))) (IsNoneOf std.trampoline_registers) (λ l h. each_rest (Apart l) std.reserved std.trampoline_registers (each_rest (Apart l) (given_back std) (std.reserved ++ std.trampoline_registers) h)) (to_list std.vector_count) agrees.count_plain
 
   pub holds_changed : (old new : Image) → IsChanged std.trampoline_registers old new → (vs : List ValueTree) → Holds std s vs old → Holds std s vs new
   holds_changed old new is vs h =
@@ -57,5 +57,5 @@ module _ (std : Standard) (s : Signature) (sound : IsSound std s) (agrees : Agre
           hidden = address_owned std.link std.link changed old new same (plan_of std s).res (each_first (IsNoneOf std.trampoline_registers) hidden flat arguments_clear) h.own.hidden;
         };
         filled = arguments_filled std.link std.link changed old new same s.arguments (plan_of std s).places vs in_places h.filled;
-        vectors = count_held std.link std.link changed old new same std.vector_count (plan_of std s).vectors (machine_places (isa_of std.target) 0 (if_any std.vector_count) agrees.count_exists) count_clear h.vectors;
+        vectors = count_held std.link std.link changed old new same std.vector_count (plan_of std s).vectors (machine_places (isa_of std.target) 0 (to_list std.vector_count) agrees.count_exists) count_clear h.vectors;
       }

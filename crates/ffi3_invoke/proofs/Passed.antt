@@ -9,7 +9,7 @@ use Rattle.ffi3_type_rules.specs.Signature.{Signature}
 use Rattle.ffi3_type_rules.specs.Value.{ValueTree}
 use Rattle.ffi3_place_rules.specs.declared.Loc.{Loc}
 use Rattle.ffi3_place_rules.specs.declared.Loc.TheVariants.{G, F, S}
-use Rattle.ffi3_place_rules.specs.Isa.{pushed_bytes, reserved_places, scribble, trampoline_registers, if_any}
+use Rattle.ffi3_place_rules.specs.Isa.{pushed_bytes, reserved_places, scribble, trampoline_registers, to_list}
 use Rattle.ffi3_place_rules.specs.Image.{Image, register}
 use Rattle.ffi3_place_rules.specs.Standard.{Standard, frame_of}
 use Rattle.ffi3_place_rules.specs.Agrees.{AgreesWithMachine, special}
@@ -111,10 +111,10 @@ module _ (std : Standard) (s : Signature) (sound : IsSound std s) (agrees : Agre
 
       one : (l : Loc) → IsNoneOf (special std) l → IsPlace 0 l × (SameAt 0 l (scribbled (length m.events) m) a × SameAt 0 l a d) → register (image_of (std.link + frame_of std s) (reached d)) l ≡ scribble (length m.events) l
       one l none both =
-          let after_link = std.trampoline_registers ++ (if_any std.vector_count ++ if_any std.returned_address) in
-          let rest = each_rest (Apart l) std.reserved (if_any std.link_register ++ (std.trampoline_registers ++ (if_any std.vector_count ++ if_any std.returned_address))) none.1 in
-          let trampoline = each_first (Apart l) std.trampoline_registers (if_any std.vector_count ++ if_any std.returned_address) (each_rest (Apart l) (if_any std.link_register) after_link rest) in
-          let reserved = each_first (Apart l) std.reserved (if_any std.link_register ++ (std.trampoline_registers ++ (if_any std.vector_count ++ if_any std.returned_address))) none.1 in
+          let after_link = std.trampoline_registers ++ (to_list std.vector_count ++ to_list std.returned_address) in
+          let rest = each_rest (Apart l) std.reserved (to_list std.link_register ++ (std.trampoline_registers ++ (to_list std.vector_count ++ to_list std.returned_address))) none.1 in
+          let trampoline = each_first (Apart l) std.trampoline_registers (to_list std.vector_count ++ to_list std.returned_address) (each_rest (Apart l) (to_list std.link_register) after_link rest) in
+          let reserved = each_first (Apart l) std.reserved (to_list std.link_register ++ (std.trampoline_registers ++ (to_list std.vector_count ++ to_list std.returned_address))) none.1 in
           let free = subst (λ k. IsNoneOf (reserved_places (isa_of k)) l) (sym old_target) (subst (λ ls. IsNoneOf ls l) agrees.reserved reserved) in
           register_is (std.link + frame_of std s) (reached d) l both.0 ∙ stays l both.0 trampoline ∙ word_kept a d l both.0 both.1.1 ∙ word_kept (scribbled (length m.events) m) a l both.0 both.1.0 ∙ scribbled_there (length m.events) m l both.0 free
 

@@ -59,7 +59,8 @@ impl Machine {
         self.journal.make_room(bytes)
     }
 
-    // Records an event of a kind that tells this closure, with `bytes` bytes of stack from sp on, which lie in the stack.
+    // Records an event of this kind and closure (0 where none is entered), with `bytes` bytes of stack from sp on, which
+    // lie in the stack.
     fn add_event(&mut self, kind: EventKind, closure: u64, bytes: u64)
         requires stack { LieInStack self.old.sp bytes }
         requires events { 1 ≤ self.old.spare_events }

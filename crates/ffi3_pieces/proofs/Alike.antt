@@ -17,7 +17,7 @@ use Rattle.ffi3_place_rules.specs.declared.Res.TheVariants.{Nothing, Direct as D
 use Rattle.ffi3_place_rules.specs.Image.{Image, byte_at, word_at}
 use Rattle.ffi3_place_rules.specs.Holds.{leaf_bytes, Carries, LeavesStand, OwnsArgument, OwnsArguments, OwnsHidden, FillsAs, FillPieces, FillsArgument, FillArguments, RegisterHolds}
 use Rattle.ffi3_place_rules.specs.Sound.{hidden_locs, piece_locs, place_locs}
-use Rattle.ffi3_place_rules.specs.Isa.{if_any}
+use Rattle.ffi3_place_rules.specs.Isa.{to_list}
 use Rattle.ffi3_pieces.specs.Stored.{IsPlace}
 use Rattle.ffi3_pieces.proofs.Lawful.{each_first, each_rest}
 
@@ -111,7 +111,7 @@ module _ (c b : ℕ) (IsKept : Loc → Type 0) (old new : Image) (is : AreAlike 
   address_owned Nothing kept own = tt
   address_owned (DirectRes pieces) kept own = tt
 
-  pub count_held : (at : Option Loc) (n : ℕ) → AllByRecursion (IsPlace 0) (if_any at) → AllByRecursion IsKept (if_any at) → RegisterHolds old at n → RegisterHolds new at n
+  pub count_held : (at : Option Loc) (n : ℕ) → AllByRecursion (IsPlace 0) (to_list at) → AllByRecursion IsKept (to_list at) → RegisterHolds old at n → RegisterHolds new at n
   count_held None n lie kept h = tt
   count_held (Some (G r)) n lie kept h = is.general r kept.0 ∙ h
   count_held (Some (F r)) n lie kept h = is.floating r kept.0 ∙ h

@@ -22,7 +22,7 @@ use Rattle.ffi3_place_rules.specs.declared.Place.TheVariants.{Direct, ByRef}
 use Rattle.ffi3_place_rules.specs.Standard.{Standard, plan_of, frame_of}
 use Rattle.ffi3_place_rules.specs.Agrees.{AgreesWithMachine}
 use Rattle.ffi3_place_rules.specs.Sound.{Apart, AreApart, IsNoneOf, IsSound, LiesIn, PlacesHaveAll, place_locs, piece_locs, copy_locs, stack_words, stack_words_for, argument_locs, hidden_locs, buffer_locs, call_locs, closed_to_results, closed_to_arguments}
-use Rattle.ffi3_place_rules.specs.Isa.{if_any}
+use Rattle.ffi3_place_rules.specs.Isa.{to_list}
 use Rattle.ffi3_pieces.specs.Stored.{IsPlace, IsWritable}
 use Rattle.ffi3_pieces.specs.Standing.{all_uses, AreReady}
 use Rattle.ffi3_pieces.proofs.Composing.{apart_sym}
@@ -243,9 +243,9 @@ all_written std s sound target law =
   where
     one : (l : Loc) → IsNoneOf (closed_to_arguments std) l → IsWritable target l
     one l h =
-        let closed = each_first (Apart l) (closed_to_results std) (std.trampoline_registers ++ if_any std.vector_count) h in
-        let rest = each_rest (Apart l) std.callee_saved (std.reserved ++ if_any std.link_register) closed.1 in
-        law l (each_first (Apart l) std.reserved (if_any std.link_register) rest)
+        let closed = each_first (Apart l) (closed_to_results std) (std.trampoline_registers ++ to_list std.vector_count) h in
+        let rest = each_rest (Apart l) std.callee_saved (std.reserved ++ to_list std.link_register) closed.1 in
+        law l (each_first (Apart l) std.reserved (to_list std.link_register) rest)
 
 -- by the law of a standard and its machine
 pub written_by_law : (std : Standard) (s : Signature) → IsSound std s → AgreesWithMachine std → (target kind : Target) → std.target ≡ kind → target ≡ kind → AllByRecursion (IsWritable target) (argument_locs (plan_of std s))

@@ -14,7 +14,7 @@ use Rattle.ffi3_place_rules.specs.declared.Piece.{Piece}
 use Rattle.ffi3_place_rules.specs.declared.Res.{Res}
 use Rattle.ffi3_place_rules.specs.declared.Res.TheVariants.{Nothing, Direct, Hidden}
 use Rattle.ffi3_place_rules.specs.Image.{Image, byte_at, register}
-use Rattle.ffi3_place_rules.specs.Isa.{if_any}
+use Rattle.ffi3_place_rules.specs.Isa.{to_list}
 use Rattle.ffi3_place_rules.specs.Standard.{Standard, frame_of, plan_of}
 use Rattle.ffi3_place_rules.specs.Holds.{leaf_bytes, Carries, FillPieces, FillsAs, FillsResult, HoldsResult, LeavesStand, OwnResult, OwnsResult, RegisterHolds}
 use Rattle.ffi3_place_rules.specs.Sound.{IsSound, piece_locs, result_locs}
@@ -49,11 +49,11 @@ module _ (a b : Image) (IsKept : Loc → Type 0) (sp : b.sp ≡ a.sp) (stack : b
   owns_kept t v (Hidden at buffer) lie kept h =
       ap (λ xs. value_in t (take (size_of t) (drop (0 + buffer) xs))) stack ∙ h
 
-  tells_kept : (o : Option Loc) (n : ℕ) → AllByRecursion (IsPlace 0) (if_any o) → AllByRecursion IsKept (if_any o) → RegisterHolds a o n → RegisterHolds b o n
+  tells_kept : (o : Option Loc) (n : ℕ) → AllByRecursion (IsPlace 0) (to_list o) → AllByRecursion IsKept (to_list o) → RegisterHolds a o n → RegisterHolds b o n
   tells_kept (Some at) n lie kept h = same at lie.0 kept.0 ∙ h
   tells_kept None n lie kept h = tt
 
-  fills_kept : (std : Standard) (t : Tree) (v : ValueTree) (res : Res) → AllByRecursion (IsPlace 0) (result_locs res) → AllByRecursion IsKept (result_locs res) → AllByRecursion (IsPlace 0) (if_any std.returned_address) → AllByRecursion IsKept (if_any std.returned_address) → FillsResult std a t res v → FillsResult std b t res v
+  fills_kept : (std : Standard) (t : Tree) (v : ValueTree) (res : Res) → AllByRecursion (IsPlace 0) (result_locs res) → AllByRecursion IsKept (result_locs res) → AllByRecursion (IsPlace 0) (to_list std.returned_address) → AllByRecursion IsKept (to_list std.returned_address) → FillsResult std a t res v → FillsResult std b t res v
   fills_kept std t v Nothing lie kept there clear h = tt
   fills_kept std t v (Direct pieces) lie kept there clear h = fill_kept t v pieces lie kept h
   fills_kept std t v (Hidden at buffer) lie kept there clear h =
@@ -68,7 +68,7 @@ module _ (a b : Image) (IsKept : Loc → Type 0) (sp : b.sp ≡ a.sp) (stack : b
         stands = owns_kept s.result_type v (plan_of std s).res lie kept own.stands;
       }
 
-  pub result_kept : (std : Standard) (s : Signature) (v : ValueTree) → IsSound std s → AllByRecursion IsKept (result_locs (plan_of std s).res) → AllByRecursion (IsPlace 0) (if_any std.returned_address) → AllByRecursion IsKept (if_any std.returned_address) → HoldsResult std s v a → HoldsResult std s v b
+  pub result_kept : (std : Standard) (s : Signature) (v : ValueTree) → IsSound std s → AllByRecursion IsKept (result_locs (plan_of std s).res) → AllByRecursion (IsPlace 0) (to_list std.returned_address) → AllByRecursion IsKept (to_list std.returned_address) → HoldsResult std s v a → HoldsResult std s v b
   result_kept std s v sound kept there clear h =
       let lie = machine_places (isa_of std.target) 0 (result_locs (plan_of std s).res) sound.result_in_registers in
       record {

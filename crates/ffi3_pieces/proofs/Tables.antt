@@ -5,7 +5,7 @@ use Rattle.ffi3_type_rules.specs.declared.Isa.{Isa}
 use Rattle.ffi3_type_rules.specs.declared.Isa.TheVariants.{Amd64, Aarch64, Riscv}
 use Rattle.ffi3_type_rules.specs.Isa.{isa_of}
 use Rattle.ffi3_place_rules.specs.declared.SaveWord.TheVariants.{Register, Hidden}
-use Rattle.ffi3_place_rules.specs.Isa.{call_loads, call_scratch, entry_scratch, exit_scratch, link_place, if_any, callee_saved_words, reserved_places, result_loads, spare_words}
+use Rattle.ffi3_place_rules.specs.Isa.{call_loads, call_scratch, entry_scratch, exit_scratch, link_place, to_list, callee_saved_words, reserved_places, result_loads, spare_words}
 use Rattle.ffi3_place_rules.specs.Standard.{Standard}
 use Rattle.ffi3_place_rules.specs.Agrees.{AgreesWithMachine, given_back, saved_registers}
 use Rattle.ffi3_place_rules.specs.ByStubs.{AgreesWithStubs, stub_scratch}
@@ -27,10 +27,10 @@ each_with P Q R f (x ∷ xs) h k = (f x h.0 k.0, each_with P Q R f xs h.1 k.1)
 
 -- ---- of an instruction set
 
-pub reserved_not_link : (isa : Isa) → AllByRecursion (IsNoneOf (if_any (link_place isa))) (reserved_places isa)
+pub reserved_not_link : (isa : Isa) → AllByRecursion (IsNoneOf (to_list (link_place isa))) (reserved_places isa)
 reserved_not_link Amd64 = tt
-reserved_not_link Aarch64 = each_none_of (if_any (link_place Aarch64)) (reserved_places Aarch64) refl
-reserved_not_link Riscv = each_none_of (if_any (link_place Riscv)) (reserved_places Riscv) refl
+reserved_not_link Aarch64 = each_none_of (to_list (link_place Aarch64)) (reserved_places Aarch64) refl
+reserved_not_link Riscv = each_none_of (to_list (link_place Riscv)) (reserved_places Riscv) refl
 
 pub reserved_not_called : (isa : Isa) → AllByRecursion (IsNoneOf (call_scratch isa ++ call_loads isa)) (reserved_places isa)
 reserved_not_called Amd64 = tt
@@ -77,7 +77,7 @@ module _ (std : Standard) (agrees : AgreesWithMachine std) (laws : AgreesWithStu
 
   preserved_saved : AllByRecursion (IsOneOf (callee_saved_words (isa_of std.target))) std.callee_saved
   preserved_saved =
-      each_first (IsOneOf (callee_saved_words (isa_of std.target))) std.callee_saved (if_any std.link_register) (subst (λ ls. AllByRecursion (IsOneOf ls) (given_back std)) saved_are agrees.saves_each)
+      each_first (IsOneOf (callee_saved_words (isa_of std.target))) std.callee_saved (to_list std.link_register) (subst (λ ls. AllByRecursion (IsOneOf ls) (given_back std)) saved_are agrees.saves_each)
 
   -- Call overwrites no callee-saved register
   pub preserved_not_called : AllByRecursion (IsNoneOf (call_scratch (isa_of std.target) ++ call_loads (isa_of std.target))) std.callee_saved

@@ -28,7 +28,7 @@ use ffi3_machine::{Machine, StackBase};
 use ffi3_place::{Abi, Ext, Loc, Piece, Pieces, Place, Res};
 use ffi3_type_rules::limits::LARGEST_TYPE;
 use ffi3_types::CheckedType;
-use ffi3_values::{Value, Values, widen, widened_from_32, write_bytes};
+use ffi3_values::{Value, Values, widen, widen_from_32, write_bytes};
 use load::word_of;
 pub use load::{load_piece, own_word, place_bytes, place_word};
 pub use registers::{by_exchange, pass_floating, pass_general, passed_floating, passed_general};
@@ -136,7 +136,7 @@ fn fill_piece(
     match piece.ext {
         Ext::Free => set_piece(machine, base, piece, bytes),
         Ext::Widen => put_word(machine, base, piece.loc, widen(plain, value)),
-        Ext::Riscv => put_word(machine, base, piece.loc, widened_from_32(plain, value)),
+        Ext::Riscv => put_word(machine, base, piece.loc, widen_from_32(plain, value)),
         Ext::Boxed => put_word(machine, base, piece.loc, boxed(bytes, piece.off as usize)),
     }
 }

@@ -7,7 +7,7 @@ use Rattle.ffi3_place_rules.specs.declared.Place.{Place}
 use Rattle.ffi3_place_rules.specs.declared.Place.TheVariants.{Direct, ByRef}
 use Rattle.ffi3_place_rules.specs.Standard.{Spot, in_pieces, by_reference, start, places_from, copies_end, round8}
 use Rattle.ffi3_place_rules.proofs.Elements.{drop_read, argument_read}
-use Rattle.ffi3_place.specs.Copies.{without_copy}
+use Rattle.ffi3_place.specs.WithoutCopy.{without_copy}
 
 -- an argument's place once its copy is laid behind what ends at `end`, and where the copy ends
 abbrev pub laid_place : ℕ → Tree → Place → Place

@@ -4,7 +4,7 @@ ghost use Rattle.ffi3_type_rules.specs.declared.limits.TheConstants.{ARGUMENT_BY
 ghost use Rattle.ffi3_type_rules.specs.Tree.{Tree};
 ghost use Rattle.ffi3_place_rules.specs.Standard.{Spot, ResultSpot, start, place_at, copy_end, places_from, copies_end, result_at, buffer_end};
 ghost use Rattle.ffi3_place_rules.specs.Planned.{planned};
-ghost use Rattle.ffi3_place.specs.Copies.{without_copy};
+ghost use Rattle.ffi3_place.specs.WithoutCopy.{without_copy};
 
 use crate::parts::sizes_of;
 use ffi3_place_rules::{Place, Places, Plan, Res};
@@ -31,8 +31,9 @@ pub fn copy_end(place: &Place, ty: &CheckedType<'_>, end: u64) -> u64
     }
 }
 
-/// Gives the copy of each argument that has one its place in the frame, one behind another in the order of the arguments, from `from` on. It answers where the last one ends.
+/// Places the copies of the arguments in the frame, in their order, one behind another from `from` on. Returns where the last one ends, or `from` where there is none.
 pub fn lay_copies(places: &mut Places, sig: &CheckedSig<'_>, from: u64) -> u64
+    requires unlaid { (spots : List Spot) × (places.old ≡ map without_copy spots) }
     requires one_each { length places.old ≡ length sig.now.arguments }
     requires low { from ≤ ARGUMENT_BYTES }
     ensures laid { (spots : List Spot) → places.old ≡ map without_copy spots → places.new ≡ places_from start from sig.now.arguments spots }
@@ -42,17 +43,13 @@ pub fn lay_copies(places: &mut Places, sig: &CheckedSig<'_>, from: u64) -> u64
     let mut end = from;
     for i in 0..sig.count() {
         if let Place::ByRef { at, .. } = places.get(i as usize) {
-            let at = *at;
             let ty = sig.arg(i);
-            let copy = start(&ty, end);
-            places.set(
-                i as usize,
-                Place::ByRef {
-                    at,
-                    copy: copy as u32,
-                },
-            );
-            end = copy + round_up(ty.size(), 8);
+            let laid = Place::ByRef {
+                at: *at,
+                copy: start(&ty, end) as u32,
+            };
+            end = copy_end(&laid, &ty, end);
+            places.set(i as usize, laid);
         }
     }
     end

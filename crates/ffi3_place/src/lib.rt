@@ -31,7 +31,7 @@ pub trait Abi {
 
     ghost KEPT: { ℕ };
 
-    ghost PASSING: { ℕ };
+    ghost ARGUMENT_REGISTERS: { ℕ };
 
     /// Bytes of the area in which a callee saves the registers that it preserves, the link register and the address of a
     /// hidden result, where the standard has them.
@@ -47,7 +47,7 @@ pub trait Abi {
     const KEPT: u8;
 
     /// How many registers arguments and the address of a hidden result are passed in.
-    const PASSING: u8;
+    const ARGUMENT_REGISTERS: u8;
 
     /// Preserved register `k`.
     fn callee_saved(k: u8) -> Loc
@@ -55,8 +55,8 @@ pub trait Abi {
         ensures { result ≡ slice_index_or standard.callee_saved k result };
 
     /// Argument register `k`.
-    fn passing_register(k: u8) -> Loc
-        requires { k < PASSING }
+    fn argument_register(k: u8) -> Loc
+        requires { k < ARGUMENT_REGISTERS }
         ensures { result ≡ slice_index_or standard.argument_registers k result };
 
     /// Word `k` of the area in which a callee saves registers, from its lowest address. A word has eight bytes.
@@ -85,7 +85,7 @@ pub trait Abi {
 
     ghost kept_all: { length standard.callee_saved ≡ KEPT };
 
-    ghost passing_all: { length standard.argument_registers ≡ PASSING };
+    ghost argument_registers_all: { length standard.argument_registers ≡ ARGUMENT_REGISTERS };
 
     // A number of eight bits names each word of the save area.
     ghost words_few: { length standard.save_area < 256 };

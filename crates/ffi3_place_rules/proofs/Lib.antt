@@ -15,4 +15,5 @@ pub mod Ends
 pub mod Copies
 pub mod Planned
 pub mod Alike
+mod Area
 pub mod Reading

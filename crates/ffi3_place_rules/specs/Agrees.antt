@@ -7,7 +7,7 @@ use Rattle.ffi3_place_rules.specs.declared.Loc.TheVariants.{G}
 use Rattle.ffi3_place_rules.specs.declared.SaveWord.{SaveWord}
 use Rattle.ffi3_place_rules.specs.declared.SaveWord.TheVariants.{Register, Hidden, Spare}
 use Rattle.ffi3_place_rules.specs.Isa.{pushed_bytes, stack_pointer, link_place, reserved_places}
-use Rattle.ffi3_place_rules.specs.Isa.{trampoline_registers, TakesWrites, if_any}
+use Rattle.ffi3_place_rules.specs.Isa.{trampoline_registers, TakesWrites, to_list}
 use Rattle.ffi3_place_rules.specs.Standard.{Standard}
 use Rattle.ffi3_place_rules.specs.Sound.{AreApart, IsNoneOf, IsOneOf, LiesIn, closed_to_arguments}
 
@@ -27,14 +27,14 @@ is_hidden_word Spare = false
 
 -- what a callee gives back: the callee-saved registers and, where a register holds it, the return address
 abbrev pub given_back : Standard → List Loc
-given_back std = std.callee_saved ++ if_any std.link_register
+given_back std = std.callee_saved ++ to_list std.link_register
 
 -- the registers to which a call, a closure's entry or a return gives a meaning of its own
 abbrev pub special : Standard → List Loc
 special std =
     std.stack_pointer
-    ∷ (std.reserved ++ (if_any std.link_register ++ (std.trampoline_registers
-    ++ (if_any std.vector_count ++ if_any std.returned_address))))
+    ∷ (std.reserved ++ (to_list std.link_register ++ (std.trampoline_registers
+    ++ (to_list std.vector_count ++ to_list std.returned_address))))
 
 -- THE STANDARD AGREES WITH THE MACHINE OF ITS TARGET
 pub record AgreesWithMachine (std : Standard) : Type 0 where
@@ -54,11 +54,11 @@ pub record AgreesWithMachine (std : Standard) : Type 0 where
   pub arguments_apart : AreApart std.argument_registers
   pub arguments_plain : AllByRecursion (IsNoneOf (closed_to_arguments std)) std.argument_registers
   -- the registers that tell the vector count and return a hidden result's address are registers, and none of those that are given back or reserved, and the first none that a trampoline writes
-  pub count_exists : AllByRecursion (LiesIn (isa_of std.target) 0) (if_any std.vector_count)
+  pub count_exists : AllByRecursion (LiesIn (isa_of std.target) 0) (to_list std.vector_count)
   pub count_plain :
-      AllByRecursion (IsNoneOf (given_back std ++ (std.reserved ++ std.trampoline_registers))) (if_any std.vector_count)
-  pub returned_exists : AllByRecursion (LiesIn (isa_of std.target) 0) (if_any std.returned_address)
-  pub returned_plain : AllByRecursion (IsNoneOf (given_back std ++ std.reserved)) (if_any std.returned_address)
+      AllByRecursion (IsNoneOf (given_back std ++ (std.reserved ++ std.trampoline_registers))) (to_list std.vector_count)
+  pub returned_exists : AllByRecursion (LiesIn (isa_of std.target) 0) (to_list std.returned_address)
+  pub returned_plain : AllByRecursion (IsNoneOf (given_back std ++ std.reserved)) (to_list std.returned_address)
   -- the save area has each register that is given back, once, no other one, and one word for a hidden result's address
   pub area : 8 * length std.save_area ≡ std.save
   pub saves_each : AllByRecursion (IsOneOf (saved_registers std.save_area)) (given_back std)

@@ -7,7 +7,7 @@ use Rattle.ffi3_type_rules.specs.Signature.{Signature}
 use Rattle.ffi3_place_rules.specs.declared.Loc.{Loc}
 use Rattle.ffi3_place_rules.specs.declared.Loc.TheVariants.{G}
 use Rattle.ffi3_place_rules.specs.declared.SaveWord.TheVariants.{Register, Hidden}
-use Rattle.ffi3_place_rules.specs.Isa.{closure_register, call_loads, entry_stores, if_any, callee_saved_words}
+use Rattle.ffi3_place_rules.specs.Isa.{closure_register, call_loads, entry_stores, to_list, callee_saved_words}
 use Rattle.ffi3_place_rules.specs.Isa.{hidden_register, spare_words, area_bytes, result_loads}
 use Rattle.ffi3_place_rules.specs.Isa.{call_scratch, entry_scratch, exit_scratch}
 use Rattle.ffi3_place_rules.specs.Standard.{Standard, plan_of}
@@ -25,18 +25,18 @@ pub record AgreesWithStubs (std : Standard) : Type 0 where
   pub area_size : std.save ≡ area_bytes (isa_of std.target)
   -- Call loads all registers in which arguments and a hidden result's address are passed, and the one that tells the number of vector registers
   pub arguments_loaded : AllByRecursion (IsOneOf (call_loads (isa_of std.target))) std.argument_registers
-  pub count_loaded : AllByRecursion (IsOneOf (call_loads (isa_of std.target))) (if_any std.vector_count)
+  pub count_loaded : AllByRecursion (IsOneOf (call_loads (isa_of std.target))) (to_list std.vector_count)
   -- Entry stores all registers in which arguments and a hidden result's address are passed, and the one that holds the closure's address
   pub arguments_stored : AllByRecursion (IsOneOf (entry_stores (isa_of std.target))) std.argument_registers
   pub closure_stored : IsOneOf (entry_stores (isa_of std.target)) (G (closure_register (isa_of std.target)))
   -- Exit loads the register in which a hidden result's address is returned, and Return stores it
-  pub returned_loaded : AllByRecursion (IsOneOf (result_loads (isa_of std.target))) (if_any std.returned_address)
+  pub returned_loaded : AllByRecursion (IsOneOf (result_loads (isa_of std.target))) (to_list std.returned_address)
   -- no callee-saved, no reserved and no argument register is among those that a stub overwrites
   pub callee_saved_kept : AllByRecursion (IsNoneOf (stub_scratch (isa_of std.target))) std.callee_saved
   pub reserved_kept : AllByRecursion (IsNoneOf (stub_scratch (isa_of std.target))) std.reserved
   pub arguments_kept : AllByRecursion (IsNoneOf (stub_scratch (isa_of std.target))) std.argument_registers
   -- Call overwrites no register that tells the number of vector registers, and Entry none that holds the closure's address
-  pub count_kept : AllByRecursion (IsNoneOf (call_scratch (isa_of std.target))) (if_any std.vector_count)
+  pub count_kept : AllByRecursion (IsNoneOf (call_scratch (isa_of std.target))) (to_list std.vector_count)
   pub closure_kept : IsNoneOf (entry_scratch (isa_of std.target)) (G (closure_register (isa_of std.target)))
 
 -- the same of one signature's result

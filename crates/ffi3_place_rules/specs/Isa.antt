@@ -71,13 +71,13 @@ jump_register Riscv = Some 7
 -- ---- the same as places
 
 -- the place alone, or none
-abbrev pub if_any : Option Loc → List Loc
-if_any (Some at) = at ∷ []
-if_any None = []
+abbrev pub to_list : Option Loc → List Loc
+to_list (Some at) = at ∷ []
+to_list None = []
 
 -- all that a trampoline writes
 abbrev pub trampoline_registers : Isa → List Loc
-trampoline_registers isa = G (closure_register isa) ∷ if_any (option_map G (jump_register isa))
+trampoline_registers isa = G (closure_register isa) ∷ to_list (option_map G (jump_register isa))
 
 abbrev pub reserved_places : Isa → List Loc
 reserved_places isa = map G (reserved_registers isa)
@@ -118,7 +118,7 @@ hidden_register Amd64 = 7
 hidden_register Aarch64 = 8
 hidden_register Riscv = 10
 
--- what Call loads from the exchange region: the registers of arguments, between them x8 on AArch64 for a hidden result's address, and rax on AMD64, which tells the number of vector registers
+-- what Call loads from the exchange region: the general registers of arguments; then x8 on AArch64 for a hidden result's address, or rax on AMD64, which tells the number of vector registers; then the floating ones
 abbrev pub call_loads : Isa → List Loc
 call_loads Amd64 = general_argument_places Amd64 ++ G 0 ∷ floating_argument_places Amd64
 call_loads Aarch64 = general_argument_places Aarch64 ++ G (hidden_register Aarch64) ∷ floating_argument_places Aarch64
@@ -129,7 +129,7 @@ abbrev pub entry_stores : Isa → List Loc
 entry_stores Amd64 = general_argument_places Amd64 ++ G (closure_register Amd64) ∷ floating_argument_places Amd64
 entry_stores Aarch64 =
     general_argument_places Aarch64
-    ++ G (hidden_register Aarch64) ∷ floating_argument_places Aarch64 ++ G (closure_register Aarch64) ∷ []
+    ++ G (hidden_register Aarch64) ∷ (floating_argument_places Aarch64 ++ G (closure_register Aarch64) ∷ [])
 entry_stores Riscv = general_argument_places Riscv ++ (floating_argument_places Riscv ++ G (closure_register Riscv) ∷ [])
 
 -- what Entry saves on the stack and Exit loads back, in the order of the save area: the registers that a callee preserves, and the one that holds the return address (x30; ra)
@@ -137,9 +137,9 @@ abbrev pub callee_saved_words : Isa → List Loc
 callee_saved_words Amd64 = G 3 ∷ G 5 ∷ G 12 ∷ G 13 ∷ G 14 ∷ G 15 ∷ []
 callee_saved_words Aarch64 =
     G 19 ∷ G 20 ∷ G 21 ∷ G 22 ∷ G 23 ∷ G 24 ∷ G 25 ∷ G 26 ∷ G 27 ∷ G 28 ∷ G 29
-    ∷ if_any (link_place Aarch64) ++ F 8 ∷ F 9 ∷ F 10 ∷ F 11 ∷ F 12 ∷ F 13 ∷ F 14 ∷ F 15 ∷ []
+    ∷ to_list (link_place Aarch64) ++ F 8 ∷ F 9 ∷ F 10 ∷ F 11 ∷ F 12 ∷ F 13 ∷ F 14 ∷ F 15 ∷ []
 callee_saved_words Riscv =
-    if_any (link_place Riscv)
+    to_list (link_place Riscv)
     ++ G 8 ∷ G 9 ∷ G 18 ∷ G 19 ∷ G 20 ∷ G 21 ∷ G 22 ∷ G 23 ∷ G 24 ∷ G 25 ∷ G 26 ∷ G 27
     ∷ F 8 ∷ F 9 ∷ F 18 ∷ F 19 ∷ F 20 ∷ F 21 ∷ F 22 ∷ F 23 ∷ F 24 ∷ F 25 ∷ F 26 ∷ F 27 ∷ []
 

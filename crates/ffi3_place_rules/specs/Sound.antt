@@ -9,7 +9,7 @@ use Rattle.ffi3_type_rules.specs.Signature.{Signature}
 use Rattle.ffi3_type_rules.specs.Value.{ValueTree}
 use Rattle.ffi3_type_rules.specs.declared.Isa.{Isa}
 use Rattle.ffi3_type_rules.specs.Isa.{isa_of}
-use Rattle.ffi3_place_rules.specs.Isa.{general_registers, floating_registers, if_any}
+use Rattle.ffi3_place_rules.specs.Isa.{general_registers, floating_registers, to_list}
 use Rattle.ffi3_place_rules.specs.declared.Loc.{Loc}
 use Rattle.ffi3_place_rules.specs.declared.Loc.TheVariants.{G, F, S}
 use Rattle.ffi3_place_rules.specs.declared.Ext.{Ext}
@@ -94,11 +94,11 @@ call_locs s p = argument_locs p ++ (copy_locs s.arguments p.places ++ buffer_loc
 
 -- no result stands in these: the stack pointer, the callee-saved, the reserved and the link register
 abbrev pub closed_to_results : Standard → List Loc
-closed_to_results std = std.stack_pointer ∷ (std.callee_saved ++ (std.reserved ++ if_any std.link_register))
+closed_to_results std = std.stack_pointer ∷ (std.callee_saved ++ (std.reserved ++ to_list std.link_register))
 
 -- no argument stands in these or in those that a call itself needs
 abbrev pub closed_to_arguments : Standard → List Loc
-closed_to_arguments std = closed_to_results std ++ (std.trampoline_registers ++ if_any std.vector_count)
+closed_to_arguments std = closed_to_results std ++ (std.trampoline_registers ++ to_list std.vector_count)
 
 -- a place on the stack, or one of these registers
 abbrev pub IsOnStackOrIn : List Loc → Loc → Type 0

@@ -62,7 +62,7 @@ impl<T: Drop> Listed<T> {
         &self.items[i]
     }
 
-    /// Another item in the place of item `i`, which it drops.
+    /// Puts another item in the place of item `i`, which is dropped.
     pub fn set(&mut self, i: usize, item: T)
         requires { i < length self.old }
         ensures { self.new ≡ slice_set self.old i item }

@@ -14,7 +14,7 @@ ghost use Rattle.ffi3_riscv_rules.specs.Riscv.{riscv, is_word_integer, shape_of_
 ghost use Rattle.ffi3_riscv_rules.specs.declared.Shape.{Shape};
 ghost use Rattle.ffi3_riscv_rules.specs.declared.Shape.TheVariants.{OneF, Words, ByRef};
 ghost use Rattle.ffi3_riscv_rules.proofs.Shapes.{Suits, HasRoom};
-ghost use Rattle.ffi3_place.specs.Copies.{without_copy};
+ghost use Rattle.ffi3_place.specs.WithoutCopy.{without_copy};
 ghost use Rattle.ffi3_riscv.specs.Found.{IsFound};
 
 pub mod laws;
@@ -476,7 +476,7 @@ struct Placed {
     taken: TakenWords,
 }
 
-/// The places of all arguments without their copies, if the result is passed as `returned`.
+/// The places of all arguments, if the result is passed as `returned`; copies have no place yet.
 fn place_all(alloc: Global, sig: &CheckedSig<'_>, returned: Shape) -> Result<Placed, NoMemory>
     requires { returned ≡ result_shape sig.now.result_type }
     ensures places { IfOk result (λ p. p.places ≡ map without_copy (placing_of sig.now).arguments) }
@@ -487,6 +487,7 @@ fn place_all(alloc: Global, sig: &CheckedSig<'_>, returned: Shape) -> Result<Pla
     let mut places = Places::with_capacity(alloc, sig.count() as usize)?;
     for i in 0..sig.count() {
         let passed = passed_after(sig, i, end);
+        // no type is held across a `?`, where each way out would drop it
         let place = place_of(alloc, passed.before, &sig.arg(i), passed.shape);
         places.push(place?)?;
         end = taken_by_shape(passed.before, passed.shape);
@@ -508,6 +509,7 @@ fn place_result(
     if let FfiType::Void = sig.ret().as_type() {
         return Ok(Res::Nothing);
     }
+    // no type is held across the `?`
     let place = place_of(alloc, UNTOUCHED, &sig.ret(), shape);
     match place? {
         Place::Direct(pieces) => Ok(Res::Direct(pieces)),
@@ -575,9 +577,9 @@ fn plan_of(alloc: Global, sig: &CheckedSig<'_>) -> Result<Plan, NoMemory>
 {
     let shape = result_shape(&sig.ret());
     let Placed { mut places, taken } = place_all(alloc, sig, shape)?;
-    let copied = lay_copies(&mut places, sig, round_up(stack_of(taken), 16));
-    let res = place_result(alloc, sig, shape, copied)?;
-    let end = buffer_end(&res, &sig.ret(), copied);
+    let copies_end = lay_copies(&mut places, sig, round_up(stack_of(taken), 16));
+    let res = place_result(alloc, sig, shape, copies_end)?;
+    let end = buffer_end(&res, &sig.ret(), copies_end);
     Ok(planned(sig, places, res, end, Riscv::LINK + Riscv::SAVE, 0))
 }
 
@@ -595,7 +597,7 @@ impl Abi for Riscv {
 
     ghost KEPT = { length riscv.callee_saved };
 
-    ghost PASSING = { length riscv.argument_registers };
+    ghost ARGUMENT_REGISTERS = { length riscv.argument_registers };
 
     const SAVE: u64 = 8 * (CALLEE_SAVED.len() as u64 + 2);
 
@@ -605,13 +607,13 @@ impl Abi for Riscv {
 
     const KEPT: u8 = CALLEE_SAVED.len() as u8;
 
-    const PASSING: u8 = ARGUMENT_REGISTERS.len() as u8;
+    const ARGUMENT_REGISTERS: u8 = ARGUMENT_REGISTERS.len() as u8;
 
     fn callee_saved(k: u8) -> Loc {
         CALLEE_SAVED[k as usize]
     }
 
-    fn passing_register(k: u8) -> Loc {
+    fn argument_register(k: u8) -> Loc {
         ARGUMENT_REGISTERS[k as usize]
     }
 
@@ -652,7 +654,7 @@ impl Abi for Riscv {
 
     ghost kept_all = { refl };
 
-    ghost passing_all = { refl };
+    ghost argument_registers_all = { refl };
 
     ghost words_few = { ltb-true (length riscv.save_area) 256 refl };
 

@@ -16,7 +16,7 @@ use Rattle.ffi3_place_rules.specs.declared.Piece.{Piece}
 use Rattle.ffi3_place_rules.specs.declared.SaveWord.{SaveWord}
 use Rattle.ffi3_place_rules.specs.declared.SaveWord.TheVariants.{Register, Hidden}
 use Rattle.ffi3_place_rules.specs.Isa.{pushed_bytes, stack_pointer, link_place, reserved_places}
-use Rattle.ffi3_place_rules.specs.Isa.{trampoline_registers, if_any}
+use Rattle.ffi3_place_rules.specs.Isa.{trampoline_registers, to_list}
 use Rattle.ffi3_place_rules.specs.Standard.{Standard, Placing, Spot, in_pieces, by_reference, ResultSpot, no_result}
 use Rattle.ffi3_place_rules.specs.Standard.{in_result_pieces, in_buffer, start}
 use Rattle.ffi3_place_rules.specs.Doublewords.{doublewords, filling, doublewords_at, leaf_piece}
@@ -254,7 +254,7 @@ argument_registers =
 -- The words of a callee's save area, from its lowest address: ra, the callee-saved registers, and the hidden pointer. (This library's own order.)
 abbrev pub saved_words : List SaveWord
 saved_words =
-    map Register (if_any (link_place isa.Riscv) ++ callee_saved) ++ (Hidden ∷ [])
+    map Register (to_list (link_place isa.Riscv) ++ callee_saved) ++ (Hidden ∷ [])
 
 -- The calling standard. ra holds the return address; no register tells how many floating-point registers are used, and none returns a hidden pointer.
 abbrev pub riscv : Standard

@@ -19,7 +19,7 @@ use Rattle.ffi3_configuration.specs.Between.{Beginning, anew}
 use Rattle.ffi3_configuration.specs.Turned.{StandsAt, WentOn}
 use Rattle.ffi3_configuration.proofs.Since.{configuration_looked_at}
 use Rattle.ffi3_runner.specs.Ready.{CanGoOn, traced_or_not}
-use Rattle.ffi3_runner.specs.Ran.{Turns}
+use Rattle.ffi3_runner.specs.Ran.{TurnSays}
 use Rattle.ffi3_runner.proofs.Turning.{went_on}
 
 -- where it stands for one output
@@ -44,7 +44,7 @@ module _ (std : Standard) (p : Program) (traces : Bool → Bool) (b : Configurat
   pub stands_here : (base : Base) × (all : Remainder) × (first : Beginning) × (own : List TraceItem) × (events : List Event) × (base.standard ≡ std) × IsTracingOf p base trace first.tracing × StandsAt p base all first own events b m o
   stands_here = (h.base, h.all, seen, h.own, h.events, h.standard, h.traced trace with_it, h.stands (h.tracing trace) o)
 
-  module _ (b' : Configuration Standing) (m' : State) (o' : SinkState) (t : Turn) (turned : Turns std trace p b m o b' m' o' t) (more : t ≡ turn.More) where
+  module _ (b' : Configuration Standing) (m' : State) (o' : SinkState) (t : Turn) (turned : TurnSays std trace p b m o b' m' o' t) (more : t ≡ turn.More) where
     went : WentOn p h.base h.all seen h.own b.moves b' m' o'
     went =
         went_on p h.base h.all seen h.own b.moves b' m' o' t (turned h.base h.all seen h.own h.events h.standard (h.traced trace with_it) (h.stands (h.tracing trace) o)) more

@@ -17,7 +17,7 @@ use Rattle.ffi3_configuration.specs.declared.configuration.Turn.{Turn}
 use Rattle.ffi3_configuration.specs.declared.configuration.Turn.TheVariants as turn
 use Rattle.ffi3_configuration.specs.Between.{Beginning}
 use Rattle.ffi3_configuration.specs.Turned.{StandsAt, Turned}
-use Rattle.ffi3_runner.specs.Ran.{ComesTo, Ran, Turns}
+use Rattle.ffi3_runner.specs.Ran.{ComesTo, Ran, TurnSays}
 use Rattle.ffi3_runner.specs.declared.run.RunEnd.TheVariants as run
 use Rattle.ffi3_runner.proofs.Turning.{went_on}
 
@@ -25,7 +25,7 @@ module _ (std : Standard) (trace : Bool) (p : Program) (b₀ b b' : Configuratio
   pub comes_nowhere : ComesTo std trace p b₀ m₀ o₀ b₀ m₀ o₀
   comes_nowhere = λ base all first own events standard tracing h. (own, events, h)
 
-  module _ (since : ComesTo std trace p b₀ m₀ o₀ b m o) (t : Turn) (turned : Turns std trace p b m o b' m' o' t) where
+  module _ (since : ComesTo std trace p b₀ m₀ o₀ b m o) (t : Turn) (turned : TurnSays std trace p b m o b' m' o' t) where
     pub comes_on : t ≡ turn.More → ComesTo std trace p b₀ m₀ o₀ b' m' o'
     comes_on more = λ base all first own events standard tracing h.
         let k = since base all first own events standard tracing h in

@@ -36,9 +36,9 @@ ComesTo std trace p b m output b' m' output' =
     → (own' : List TraceItem) × (events' : List Event) × StandsAt p base all first own' events' b' m' output'
 
 -- WHAT THE ANSWER OF ONE MOVE SAYS, traced or not, from any moment to the next
-abbrev pub Turns : Standard → (trace : Bool) → Program
+abbrev pub TurnSays : Standard → (trace : Bool) → Program
     → Configuration Standing → State → SinkState → Configuration Standing → State → SinkState → Turn → Type 0
-Turns std trace p b m output b' m' output' turn =
+TurnSays std trace p b m output b' m' output' turn =
     (base : Base) (all : Remainder) (first : Beginning) (own : List TraceItem) (events : List Event)
     → base.standard ≡ std → IsTracingOf p base trace first.tracing → StandsAt p base all first own events b m output
     → Turned p base all first own b.moves b' m' output' turn

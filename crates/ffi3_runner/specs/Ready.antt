@@ -33,11 +33,11 @@ pub record CanGoOn (std : Standard) (p : Program) (traces : Bool → Bool)
   pub traced : (trace : Bool) → traces trace ≡ true → IsTracingOf p base trace (tracing trace)
   pub stands : StandsAnew p base all first own events b m
 
--- THE SAME where it can be told with this value of `trace`
+-- THE RUN CAN GO ON, told at least with this value of `trace`
 abbrev pub CanGoOnWith : Standard → Program → (trace : Bool) → Configuration Standing → State → Type 0
 CanGoOnWith std p trace b m = (traces : Bool → Bool) × (traces trace ≡ true) × CanGoOn std p traces b m
 
--- What could go on here can go on there, where the move says that there is more, with the same values of `trace`.
+-- If the run could go on before a move that answers `More`, it can go on after it, told with the same values of `trace`.
 abbrev pub StillCanGoOn : Standard → Program → (trace : Bool)
     → Configuration Standing → State → Configuration Standing → State → Turn → Type 0
 StillCanGoOn std p trace b m b' m' turn =

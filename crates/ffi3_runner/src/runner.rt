@@ -17,7 +17,7 @@ ghost use Rattle.ffi3_configuration.specs.CallSteps.{call_steps, returns_in};
 ghost use Rattle.ffi3_configuration.specs.Served.{IsIdle};
 ghost use Rattle.ffi3_configuration.specs.Turned.{StandsAt};
 ghost use Rattle.ffi3_runner.specs.Agreeing.{PositionsAgree};
-ghost use Rattle.ffi3_runner.specs.Ran.{Turns};
+ghost use Rattle.ffi3_runner.specs.Ran.{TurnSays};
 ghost use Rattle.ffi3_runner.specs.Ready.{CanGoOn, CanGoOnWith, StillCanGoOn, traced_or_not};
 ghost use Rattle.ffi3_runner.specs.RunInterrupted.{RunWasInterrupted};
 ghost use Rattle.ffi3_runner.specs.RunMatches.{RunMatches, WrotePart};
@@ -141,7 +141,7 @@ impl<'a, A: Abi> Runner<'a, A> {
         requires prepared { IsPrepared A.standard self.old.prepared.script.now (handed title meaning signatures self.old.prepared.natives.now.items) self.old.prepared.cifs }
         requires standing { PositionsAgree self.old.prepared.script.now (handed title meaning signatures self.old.prepared.natives.now.items) self.old.prepared.cifs machine.old self.old.configuration }
         requires between { CanGoOnWith A.standard (program A.standard self.old.prepared.script.now (handed title meaning signatures self.old.prepared.natives.now.items)) trace self.old.configuration machine.old }
-        ensures turned { Turns A.standard trace (program A.standard self.old.prepared.script.now (handed title meaning signatures self.old.prepared.natives.now.items))
+        ensures turned { TurnSays A.standard trace (program A.standard self.old.prepared.script.now (handed title meaning signatures self.old.prepared.natives.now.items))
             self.old.configuration machine.old (O.state output.old) self.new.configuration machine.new (O.state output.new) result }
         ensures standing { result ≡ Turn.More →
             PositionsAgree self.old.prepared.script.now (handed title meaning signatures self.old.prepared.natives.now.items) self.old.prepared.cifs machine.new self.new.configuration }

@@ -9,7 +9,7 @@ ghost use Rattle.ffi3_ask.specs.Handed.{handed};
 ghost use Rattle.ffi3_configuration.specs.Between.{Beginning};
 ghost use Rattle.ffi3_configuration.specs.Turned.{StandsAt};
 ghost use Rattle.ffi3_runner.specs.Agreeing.{PositionsAgree};
-ghost use Rattle.ffi3_runner.specs.Ran.{Turns};
+ghost use Rattle.ffi3_runner.specs.Ran.{TurnSays};
 ghost use Rattle.ffi3_runner.specs.Ready.{CanGoOnWith, StillCanGoOn};
 ghost use Rattle.ffi3_runner.specs.Running.{IsPrepared, program};
 
@@ -32,7 +32,7 @@ impl<'a, A: Abi> Prepared<'a, A> {
         requires prepared { IsPrepared A.standard self.now.script.now (handed title meaning signatures self.now.natives.now.items) self.now.cifs }
         requires standing { PositionsAgree self.now.script.now (handed title meaning signatures self.now.natives.now.items) self.now.cifs machine.old configuration.old }
         requires between { CanGoOnWith A.standard (program A.standard self.now.script.now (handed title meaning signatures self.now.natives.now.items)) trace configuration.old machine.old }
-        ensures turned { Turns A.standard trace (program A.standard self.now.script.now (handed title meaning signatures self.now.natives.now.items))
+        ensures turned { TurnSays A.standard trace (program A.standard self.now.script.now (handed title meaning signatures self.now.natives.now.items))
             configuration.old machine.old (O.state output.old) configuration.new machine.new (O.state output.new) result }
         ensures standing { result ≡ Turn.More →
             PositionsAgree self.now.script.now (handed title meaning signatures self.now.natives.now.items) self.now.cifs machine.new configuration.new }
@@ -58,7 +58,7 @@ impl<'a, A: Abi> Prepared<'a, A> {
             (base.standard ≡ A.standard) ×
             IsTracingOf (program A.standard self.now.script.now (handed title meaning signatures self.now.natives.now.items)) base trace first.tracing ×
             StandsAt (program A.standard self.now.script.now (handed title meaning signatures self.now.natives.now.items)) base all first own events configuration.old machine.old (O.state output.old) }
-        ensures turned { Turns A.standard trace (program A.standard self.now.script.now (handed title meaning signatures self.now.natives.now.items))
+        ensures turned { TurnSays A.standard trace (program A.standard self.now.script.now (handed title meaning signatures self.now.natives.now.items))
             configuration.old machine.old (O.state output.old) configuration.new machine.new (O.state output.new) result }
         ensures standing { result ≡ Turn.More →
             PositionsAgree self.now.script.now (handed title meaning signatures self.now.natives.now.items) self.now.cifs machine.new configuration.new }

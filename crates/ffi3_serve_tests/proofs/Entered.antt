@@ -8,7 +8,7 @@ use Rattle.ffi3_type_rules.specs.Signature.{Signature}
 use Rattle.ffi3_type_rules.specs.Value.{ValueTree}
 use Rattle.ffi3_place_rules.specs.declared.Loc.{Loc}
 use Rattle.ffi3_place_rules.specs.declared.Loc.TheVariants.{G, S}
-use Rattle.ffi3_place_rules.specs.Isa.{closure_register, if_any}
+use Rattle.ffi3_place_rules.specs.Isa.{closure_register, to_list}
 use Rattle.ffi3_place_rules.specs.Standard.{Standard, block_bytes, frame_of, need_of}
 use Rattle.ffi3_place_rules.specs.Agrees.{AgreesWithMachine}
 use Rattle.ffi3_place_rules.specs.Sound.{closed_to_arguments, closed_to_results}
@@ -24,8 +24,8 @@ use Rattle.ffi3_serve_tests.specs.Shown.{IsOverwritten}
 -- no argument stands in the closure register
 closed_closure : (std : Standard) (P : Loc → Type 0) → AgreesWithMachine std → AllByRecursion P (closed_to_arguments std) → P (G (closure_register (isa_of std.target)))
 closed_closure std P agrees each =
-    let rest = each_rest P (closed_to_results std) (std.trampoline_registers ++ if_any std.vector_count) each in
-    let here = each_first P std.trampoline_registers (if_any std.vector_count) rest in
+    let rest = each_rest P (closed_to_results std) (std.trampoline_registers ++ to_list std.vector_count) each in
+    let here = each_first P std.trampoline_registers (to_list std.vector_count) rest in
     (subst (λ (ls : List Loc). AllByRecursion P ls) agrees.trampoline here).0
 
 module _ (std : Standard) (s : Signature) (agrees : AgreesWithMachine std) (values : List ValueTree) (byte pointer : ℕ) (m a b : State) (target : m.target ≡ std.target) (passed : HasPassed std s values pointer m a) (is : IsPoisoned std s (a.sp + std.link) byte a b) where

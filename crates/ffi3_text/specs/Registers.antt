@@ -8,18 +8,18 @@ use Rattle.ffi3_place_rules.specs.declared.Loc.TheVariants.{G, F, S}
 use Rattle.ffi3_place_rules.specs.RegisterNames.{general_names, floating_names}
 
 -- where there is no such label, a number past the last register has no name
-abbrev pub general_name : Isa → ℕ → List ℕ
-general_name Amd64 r = slice_index_or (general_names Amd64) r []
-general_name Aarch64 r = codes "x" ++ decimal r
-general_name Riscv r = slice_index_or (general_names Riscv) r []
+abbrev pub general_text : Isa → ℕ → List ℕ
+general_text Amd64 r = slice_index_or (general_names Amd64) r []
+general_text Aarch64 r = codes "x" ++ decimal r
+general_text Riscv r = slice_index_or (general_names Riscv) r []
 
-abbrev pub floating_name : Isa → ℕ → List ℕ
-floating_name Amd64 r = codes "xmm" ++ decimal r
-floating_name Aarch64 r = codes "v" ++ decimal r
-floating_name Riscv r = slice_index_or (floating_names Riscv) r []
+abbrev pub floating_text : Isa → ℕ → List ℕ
+floating_text Amd64 r = codes "xmm" ++ decimal r
+floating_text Aarch64 r = codes "v" ++ decimal r
+floating_text Riscv r = slice_index_or (floating_names Riscv) r []
 
 -- a register's name; of a place on the stack its offset in bytes from the first stack argument
 abbrev pub loc_name : Isa → Loc → List ℕ
-loc_name isa (G r) = general_name isa r
-loc_name isa (F r) = floating_name isa r
+loc_name isa (G r) = general_text isa r
+loc_name isa (F r) = floating_text isa r
 loc_name isa (S n) = codes "stack" ++ decimal n

@@ -1,6 +1,6 @@
-// Names of registers.
+// The text of a place: a register's name, or its offset on the stack.
 ghost use Rattle.std.specs.Prelude.{◌≡◌, ◌++◌, OnOk};
-ghost use Rattle.ffi3_text.specs.Registers.{general_name, floating_name, loc_name};
+ghost use Rattle.ffi3_text.specs.Registers.{general_text, floating_text, loc_name};
 
 use crate::numbers::write_labelled;
 use ffi3_place::Loc;
@@ -9,7 +9,7 @@ use ffi3_type_rules::Isa;
 use ffi3_types::{Bytes, NoMemory};
 
 fn write_general(isa: Isa, r: u8, text: &mut Bytes) -> Result<(), NoMemory>
-    ensures { OnOk result (text.new ≡ text.old ++ general_name isa r) }
+    ensures { OnOk result (text.new ≡ text.old ++ general_text isa r) }
 {
     match isa {
         Isa::Amd64 => text.extend(general_name(Isa::Amd64, r as u32).as_bytes()),
@@ -19,7 +19,7 @@ fn write_general(isa: Isa, r: u8, text: &mut Bytes) -> Result<(), NoMemory>
 }
 
 fn write_floating(isa: Isa, r: u8, text: &mut Bytes) -> Result<(), NoMemory>
-    ensures { OnOk result (text.new ≡ text.old ++ floating_name isa r) }
+    ensures { OnOk result (text.new ≡ text.old ++ floating_text isa r) }
 {
     match isa {
         Isa::Amd64 => write_labelled("xmm", r as u64, text),

@@ -14,7 +14,7 @@ mod write;
 
 pub use ffi3_types::{Bytes, NoMemory};
 pub use from_bytes::{differ_in_padding_alone, value_from_bytes, zero};
-pub use numbers::{add, bits, cast, integer, number, of_bits, sub, widen, widened_from_32};
+pub use numbers::{add, bits, cast, integer, number, of_bits, sub, widen, widen_from_32};
 pub use shape::fits;
 use std::alloc::Global;
 use std::marker::Model;

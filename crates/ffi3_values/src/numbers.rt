@@ -124,7 +124,7 @@ pub fn widen(ty: &FfiType, value: &Value) -> u64
 
 /// The 8 bytes of an integer in a register, extended by its sign to 32 bits where it is narrower, and from there by the
 /// upper bit.
-pub fn widened_from_32(ty: &FfiType, value: &Value) -> u64
+pub fn widen_from_32(ty: &FfiType, value: &Value) -> u64
     requires kind { is_number_type (tree_of ty.now) ≡ true }
     requires small { size_of (tree_of ty.now) ≤ 8 }
     requires fits { fits (tree_of ty.now) (value_of value.now) ≡ true }

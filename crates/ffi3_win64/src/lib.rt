@@ -309,7 +309,7 @@ impl Abi for Win64 {
 
     ghost KEPT = { length win64.callee_saved };
 
-    ghost PASSING = { length win64.argument_registers };
+    ghost ARGUMENT_REGISTERS = { length win64.argument_registers };
 
     const SAVE: u64 = 8 * (CALLEE_SAVED.len() as u64 + 1);
 
@@ -319,13 +319,13 @@ impl Abi for Win64 {
 
     const KEPT: u8 = CALLEE_SAVED.len() as u8;
 
-    const PASSING: u8 = ARGUMENT_REGISTERS.len() as u8;
+    const ARGUMENT_REGISTERS: u8 = ARGUMENT_REGISTERS.len() as u8;
 
     fn callee_saved(k: u8) -> Loc {
         CALLEE_SAVED[k as usize]
     }
 
-    fn passing_register(k: u8) -> Loc {
+    fn argument_register(k: u8) -> Loc {
         ARGUMENT_REGISTERS[k as usize]
     }
 
@@ -363,7 +363,7 @@ impl Abi for Win64 {
 
     ghost kept_all = { refl };
 
-    ghost passing_all = { refl };
+    ghost argument_registers_all = { refl };
 
     ghost words_few = { ltb-true (length win64.save_area) 256 refl };
 

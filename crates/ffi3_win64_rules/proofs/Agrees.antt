@@ -3,7 +3,7 @@ use Rattle.std.proofs.Common.{refl, ◌++◌}
 use Rattle.ffi3_type_rules.specs.Isa.{isa_of}
 use Rattle.ffi3_place_rules.specs.declared.Loc.{Loc}
 use Rattle.ffi3_place_rules.specs.declared.Loc.TheVariants.{G, F, S}
-use Rattle.ffi3_place_rules.specs.Isa.{TakesWrites, if_any}
+use Rattle.ffi3_place_rules.specs.Isa.{TakesWrites, to_list}
 use Rattle.ffi3_place_rules.specs.Sound.{IsNoneOf, closed_to_arguments}
 use Rattle.ffi3_place_rules.specs.Agrees.{AgreesWithMachine, given_back, special, saved_registers}
 use Rattle.ffi3_place_rules.proofs.Forbidden.{each_exists, each_none_of, each_one_of, apart_all}
@@ -31,8 +31,8 @@ agrees = record {
   arguments_plain = each_none_of (closed_to_arguments win64) win64.argument_registers refl;
   count_exists = tt;
   count_plain = tt;
-  returned_exists = each_exists (isa_of win64.target) (if_any win64.returned_address) refl;
-  returned_plain = each_none_of (given_back win64 ++ win64.reserved) (if_any win64.returned_address) refl;
+  returned_exists = each_exists (isa_of win64.target) (to_list win64.returned_address) refl;
+  returned_plain = each_none_of (given_back win64 ++ win64.reserved) (to_list win64.returned_address) refl;
   area = refl;
   saves_each = each_one_of (saved_registers win64.save_area) (given_back win64) refl;
   saves_no_other = each_one_of (given_back win64) (saved_registers win64.save_area) refl;

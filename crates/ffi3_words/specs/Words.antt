@@ -16,7 +16,7 @@ target_word Aapcs64 = codes "aapcs64"
 target_word Riscv = codes "riscv"
 target_word Win64 = codes "win64"
 
--- the words after the program's name ask for this of the input
+-- the words after the program's name ask for this command
 abbrev pub StatesCommand : List Text → InputCommand → Type 0
 StatesCommand rest Layout = rest ≡ codes "layout" ∷ []
 StatesCommand rest (Place t) = rest ≡ codes "place" ∷ codes "--target" ∷ target_word t ∷ []

@@ -8,7 +8,7 @@ use Rattle.ffi3_pieces.specs.Passing.{passing}
 use Rattle.ffi3_callee.specs.Entered.{IsEntered}
 use Rattle.ffi3_callee.specs.Loaded.{AreFound, image_from}
 use Rattle.ffi3_callee.specs.Received.{hidden_of}
-use Rattle.ffi3_callee.proofs.Entry.{address_known, found_between, hidden_lies, hidden_if_any, received, stands}
+use Rattle.ffi3_callee.proofs.Entry.{address_known, found_between, hidden_lies, hidden_to_list, received, stands}
 use Rattle.ffi3_callee.proofs.Keeping.{reserved_scribbled, reserved_then, scribbled_alike}
 use Rattle.ffi3_callee.proofs.OwnKept.{own_list, own_reserved_of}
 use Rattle.ffi3_callee.proofs.WayBack.{result_law_of}
@@ -45,7 +45,7 @@ enter-requires-clause-hidden_saved g c = λ e.
     let m = c.args.machine.now in
     let same : std.target ≡ m.target = g.met.A.Abi.target_is ∙ sym c.requires.target in
     let law = result_law_of std s m.target (g.met.A.Abi.result_by_stubs s) same e in
-    hidden_if_any std s c.hidden_place-hidden.result (c.hidden_place-hidden.ensures ∙ ap hidden_of c.result_place.ensures) law.hidden
+    hidden_to_list std s c.hidden_place-hidden.result (c.hidden_place-hidden.ensures ∙ ap hidden_of c.result_place.ensures) law.hidden
 
 pub copy_arguments-requires-clause-found : goal.copy_arguments-requires-clause-found
 copy_arguments-requires-clause-found g c =

@@ -11,14 +11,14 @@ set_piece-requires-clause-fits c = (c.requires.part.short, omega (arith, c.requi
 pub widen-requires-clause-kind : goal.widen-requires-clause-kind
 widen-requires-clause-kind c = rw c.as_type-plain.ensures.value (narrow_number c.args.ty.now (subst (IsExtended c.args.ty.now c.args.piece) c.in-Widen.is c.requires.part.extended).0)
 
-pub widened_from_32-requires-clause-kind : goal.widened_from_32-requires-clause-kind
-widened_from_32-requires-clause-kind c = rw c.as_type-plain.ensures.value (narrow_number c.args.ty.now (subst (IsExtended c.args.ty.now c.args.piece) c.in-Riscv.is c.requires.part.extended).0)
+pub widen_from_32-requires-clause-kind : goal.widen_from_32-requires-clause-kind
+widen_from_32-requires-clause-kind c = rw c.as_type-plain.ensures.value (narrow_number c.args.ty.now (subst (IsExtended c.args.ty.now c.args.piece) c.in-Riscv.is c.requires.part.extended).0)
 
 pub widen-requires-clause-small : goal.widen-requires-clause-small
 widen-requires-clause-small c = rw c.as_type-plain.ensures.value (narrow_small c.args.ty.now (subst (IsExtended c.args.ty.now c.args.piece) c.in-Widen.is c.requires.part.extended).0)
 
-pub widened_from_32-requires-clause-small : goal.widened_from_32-requires-clause-small
-widened_from_32-requires-clause-small c = rw c.as_type-plain.ensures.value (narrow_small c.args.ty.now (subst (IsExtended c.args.ty.now c.args.piece) c.in-Riscv.is c.requires.part.extended).0)
+pub widen_from_32-requires-clause-small : goal.widen_from_32-requires-clause-small
+widen_from_32-requires-clause-small c = rw c.as_type-plain.ensures.value (narrow_small c.args.ty.now (subst (IsExtended c.args.ty.now c.args.piece) c.in-Riscv.is c.requires.part.extended).0)
 
 pub boxed-requires : goal.boxed-requires
 boxed-requires c =
@@ -32,7 +32,7 @@ pub returns-in-Widen : goal.returns-in-Widen
 returns-in-Widen c = widened_stored c.args.base c.args.bytes.now c.args.piece (passing c.args.machine.now) (passing c.put_word.new.machine) (search rules) c.args.ty.now (value_of c.args.value.now) c.widen.result c.in-Widen.is (subst (IsExtended c.args.ty.now c.args.piece) c.in-Widen.is c.requires.part.extended) c.requires.sized c.requires.reads (rw c.as_type-plain.ensures.value at c.widen.ensures) c.put_word.ensures
 
 pub returns-in-Riscv : goal.returns-in-Riscv
-returns-in-Riscv c = from_32_stored c.args.base c.args.bytes.now c.args.piece (passing c.args.machine.now) (passing c.put_word-in-Riscv.new.machine) (search rules) c.args.ty.now (value_of c.args.value.now) c.widened_from_32.result c.in-Riscv.is (subst (IsExtended c.args.ty.now c.args.piece) c.in-Riscv.is c.requires.part.extended) c.requires.sized c.requires.reads (rw c.as_type-plain.ensures.value at c.widened_from_32.ensures) c.put_word-in-Riscv.ensures
+returns-in-Riscv c = from_32_stored c.args.base c.args.bytes.now c.args.piece (passing c.args.machine.now) (passing c.put_word-in-Riscv.new.machine) (search rules) c.args.ty.now (value_of c.args.value.now) c.widen_from_32.result c.in-Riscv.is (subst (IsExtended c.args.ty.now c.args.piece) c.in-Riscv.is c.requires.part.extended) c.requires.sized c.requires.reads (rw c.as_type-plain.ensures.value at c.widen_from_32.ensures) c.put_word-in-Riscv.ensures
 
 pub returns-in-Boxed : goal.returns-in-Boxed
 returns-in-Boxed c = boxed_stored c.args.base c.args.bytes.now c.args.piece (passing c.args.machine.now) (passing c.put_word-in-Boxed.new.machine) c.args.ty.now (value_of c.args.value.now) c.boxed.result c.in-Boxed.is (subst (IsExtended c.args.ty.now c.args.piece) c.in-Boxed.is c.requires.part.extended).1 c.boxed.ensures.low c.boxed.ensures.high c.put_word-in-Boxed.ensures

@@ -1,6 +1,6 @@
 use Rattle.std.proofs.Common.{◌<◌, ap, refl, subst, arith}
 use Rattle.ffi3_type_rules.specs.Tree.{tree_at}
-use Rattle.ffi3_place.specs.Copies.{without_copy}
+use Rattle.ffi3_place.specs.WithoutCopy.{without_copy}
 use Rattle.ffi3_riscv_rules.proofs.Turns.{taken_turn, places_turn}
 use Rattle.ffi3_riscv.proofs.place_all.Goals as goal
 

@@ -8,7 +8,7 @@ use Rattle.ffi3_place_rules.specs.declared.Piece.{Piece}
 use Rattle.ffi3_place_rules.specs.declared.Place.TheVariants.{Direct, ByRef}
 use Rattle.ffi3_place_rules.specs.declared.Res.TheVariants.{Direct as DirectRes, Hidden}
 use Rattle.ffi3_place_rules.specs.Standard.{Spot, in_pieces, by_reference, start, result_at}
-use Rattle.ffi3_place.specs.Copies.{without_copy}
+use Rattle.ffi3_place.specs.WithoutCopy.{without_copy}
 use Rattle.ffi3_riscv_rules.specs.Riscv.{untouched, spot_of, result_shape, result_from, result_spot_of}
 use Rattle.ffi3_riscv.proofs.place_result.Goals as goal
 

@@ -1,10 +1,14 @@
 use Rattle.std.proofs.Common.{length, ap, ◌∙◌}
 use Rattle.std.proofs.lemmas.List.{length-map}
-use Rattle.ffi3_place.specs.Copies.{without_copy}
+use Rattle.ffi3_place.specs.WithoutCopy.{without_copy}
 use Rattle.ffi3_riscv_rules.specs.Riscv.{placing_of}
 use Rattle.ffi3_riscv_rules.proofs.Ends.{placed_by_ends}
 use Rattle.ffi3_riscv.proofs.plan_of.Goals as goal
 
-pub lay_copies-copied-requires-clause-one_each : goal.lay_copies-copied-requires-clause-one_each
-lay_copies-copied-requires-clause-one_each c =
+pub lay_copies-copies_end-requires-clause-one_each : goal.lay_copies-copies_end-requires-clause-one_each
+lay_copies-copies_end-requires-clause-one_each c =
     ap (λ ps. length ps) c.in_ok-places.ensures.places ∙ length-map (placing_of c.args.sig.now).arguments without_copy ∙ (placed_by_ends c.args.sig.now).one_each
+
+pub lay_copies-copies_end-requires-clause-unlaid : goal.lay_copies-copies_end-requires-clause-unlaid
+lay_copies-copies_end-requires-clause-unlaid c =
+    ((placing_of c.args.sig.now).arguments, c.in_ok-places.ensures.places)

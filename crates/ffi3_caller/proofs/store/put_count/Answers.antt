@@ -1,11 +1,11 @@
 use Rattle.std.proofs.Common.{subst}
 use Rattle.std.specs.List.{AllByRecursion}
-use Rattle.ffi3_place_rules.specs.Isa.{if_any}
+use Rattle.ffi3_place_rules.specs.Isa.{to_list}
 use Rattle.ffi3_pieces.specs.Stored.{IsPlace}
 use Rattle.ffi3_caller.proofs.Calling.{register_lies}
 use Rattle.ffi3_caller.proofs.store.put_count.Goals as goal
 
 pub returns-in-Some-clause-within : goal.returns-in-Some-clause-within
 returns-in-Some-clause-within c =
-    let registers = subst (λ k. AllByRecursion (IsPlace 0) (if_any k)) c.in-Some.is c.requires.registers in
+    let registers = subst (λ k. AllByRecursion (IsPlace 0) (to_list k)) c.in-Some.is c.requires.registers in
     λ room. c.put_word.ensures.within room (register_lies room c.in-Some.at registers.0)

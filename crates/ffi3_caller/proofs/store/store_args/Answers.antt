@@ -3,7 +3,7 @@ use Rattle.std.specs.List.{AllByRecursion, flat_map}
 use Rattle.ffi3_type_rules.specs.declared.limits.TheConstants.{STACK, STACK_TOP}
 use Rattle.ffi3_place_rules.specs.Standard.{plan_of, frame_of}
 use Rattle.ffi3_place_rules.specs.Sound.{IsNoneOf, argument_locs, hidden_locs, place_locs}
-use Rattle.ffi3_place_rules.specs.Isa.{if_any}
+use Rattle.ffi3_place_rules.specs.Isa.{to_list}
 use Rattle.ffi3_machine.specs.State.{scribbled}
 use Rattle.ffi3_pieces.specs.Passing.{passing}
 use Rattle.ffi3_pieces.specs.Stored.{stack_byte, IsPlace, IsWritable, SameAt, WroteWithin}
@@ -56,7 +56,7 @@ store_hidden-requires-clause-writable g c =
 
 pub put_count-requires-clause-registers : goal.put_count-requires-clause-registers
 put_count-requires-clause-registers g c =
-    subst (λ k. AllByRecursion (IsPlace 0) (if_any k)) (sym c.vector_count-count.ensures) (count_is_register g.A.Abi.standard g.met.A.Abi.agrees)
+    subst (λ k. AllByRecursion (IsPlace 0) (to_list k)) (sym c.vector_count-count.ensures) (count_is_register g.A.Abi.standard g.met.A.Abi.agrees)
 
 pub put_count-requires-clause-writable : goal.put_count-requires-clause-writable
 put_count-requires-clause-writable g c =
@@ -65,7 +65,7 @@ put_count-requires-clause-writable g c =
     let sound = g.met.A.Abi.sound s in
     let lie = subst (λ r. AllByRecursion (IsPlace (frame_of std s)) (hidden_locs r)) (sym c.result_place.ensures) (hidden_lies std s sound (frame_of std s) (omega arith)) in
     let same = (c.store_hidden.ensures.within (frame_of std s) lie).target ∙ c.store_places.ensures.within.target ∙ c.begin_frame.ensures.within.target ∙ c.requires.target in
-    subst (λ k. AllByRecursion (IsWritable c.store_hidden.new.machine.target) (if_any k)) (sym c.vector_count-count.ensures) (count_is_written std g.met.A.Abi.agrees c.store_hidden.new.machine.target _ g.met.A.Abi.target_is same)
+    subst (λ k. AllByRecursion (IsWritable c.store_hidden.new.machine.target) (to_list k)) (sym c.vector_count-count.ensures) (count_is_written std g.met.A.Abi.agrees c.store_hidden.new.machine.target _ g.met.A.Abi.target_is same)
 
 pub returns-clause-own : goal.returns-clause-own
 returns-clause-own g c =
@@ -74,7 +74,7 @@ returns-clause-own g c =
     let sound = g.met.A.Abi.sound s in
     let m = c.args.machine.now in
     let write = written_by_law std s sound g.met.A.Abi.agrees m.target _ g.met.A.Abi.target_is c.requires.target in
-    let registers = subst (λ k. AllByRecursion (IsPlace 0) (if_any k)) (sym c.vector_count-count.ensures) (count_is_register std g.met.A.Abi.agrees) in
+    let registers = subst (λ k. AllByRecursion (IsPlace 0) (to_list k)) (sym c.vector_count-count.ensures) (count_is_register std g.met.A.Abi.agrees) in
     let low : STACK ≤ c.at-base.result = omega (arith, c.begin_frame.ensures.sp, c.frame.ensures, c.at-base.ensures, c.sp.ensures.value, c.requires.room) in
     let all = call_stored std s sound c.sig-sig.ensures.faultless c.args.values.now m.target c.at-base.result c.result_place.result.now c.vector_count-count.result c.vectors.result (passing (scribbled (length m.events) m)) (passing c.begin_frame.new.machine) (passing c.store_places.new.machine) (passing c.store_hidden.new.machine) (passing c.put_count.new.machine) (c.at-base.ensures ∙ c.sp.ensures.value) low c.result_place.ensures c.vector_count-count.ensures c.vectors.ensures write registers c.requires.fit c.begin_frame.ensures.registers c.store_places.ensures.stand c.store_places.ensures.stays c.store_places.ensures.within c.store_places.ensures.unused c.store_hidden.ensures.stands c.store_hidden.ensures.stays c.store_hidden.ensures.within c.put_count.ensures.told c.put_count.ensures.stays c.put_count.ensures.within in
     all.own
@@ -86,7 +86,7 @@ returns-clause-filled g c =
     let sound = g.met.A.Abi.sound s in
     let m = c.args.machine.now in
     let write = written_by_law std s sound g.met.A.Abi.agrees m.target _ g.met.A.Abi.target_is c.requires.target in
-    let registers = subst (λ k. AllByRecursion (IsPlace 0) (if_any k)) (sym c.vector_count-count.ensures) (count_is_register std g.met.A.Abi.agrees) in
+    let registers = subst (λ k. AllByRecursion (IsPlace 0) (to_list k)) (sym c.vector_count-count.ensures) (count_is_register std g.met.A.Abi.agrees) in
     let low : STACK ≤ c.at-base.result = omega (arith, c.begin_frame.ensures.sp, c.frame.ensures, c.at-base.ensures, c.sp.ensures.value, c.requires.room) in
     let all = call_stored std s sound c.sig-sig.ensures.faultless c.args.values.now m.target c.at-base.result c.result_place.result.now c.vector_count-count.result c.vectors.result (passing (scribbled (length m.events) m)) (passing c.begin_frame.new.machine) (passing c.store_places.new.machine) (passing c.store_hidden.new.machine) (passing c.put_count.new.machine) (c.at-base.ensures ∙ c.sp.ensures.value) low c.result_place.ensures c.vector_count-count.ensures c.vectors.ensures write registers c.requires.fit c.begin_frame.ensures.registers c.store_places.ensures.stand c.store_places.ensures.stays c.store_places.ensures.within c.store_places.ensures.unused c.store_hidden.ensures.stands c.store_hidden.ensures.stays c.store_hidden.ensures.within c.put_count.ensures.told c.put_count.ensures.stays c.put_count.ensures.within in
     all.filled
@@ -98,7 +98,7 @@ returns-clause-hidden g c =
     let sound = g.met.A.Abi.sound s in
     let m = c.args.machine.now in
     let write = written_by_law std s sound g.met.A.Abi.agrees m.target _ g.met.A.Abi.target_is c.requires.target in
-    let registers = subst (λ k. AllByRecursion (IsPlace 0) (if_any k)) (sym c.vector_count-count.ensures) (count_is_register std g.met.A.Abi.agrees) in
+    let registers = subst (λ k. AllByRecursion (IsPlace 0) (to_list k)) (sym c.vector_count-count.ensures) (count_is_register std g.met.A.Abi.agrees) in
     let low : STACK ≤ c.at-base.result = omega (arith, c.begin_frame.ensures.sp, c.frame.ensures, c.at-base.ensures, c.sp.ensures.value, c.requires.room) in
     let all = call_stored std s sound c.sig-sig.ensures.faultless c.args.values.now m.target c.at-base.result c.result_place.result.now c.vector_count-count.result c.vectors.result (passing (scribbled (length m.events) m)) (passing c.begin_frame.new.machine) (passing c.store_places.new.machine) (passing c.store_hidden.new.machine) (passing c.put_count.new.machine) (c.at-base.ensures ∙ c.sp.ensures.value) low c.result_place.ensures c.vector_count-count.ensures c.vectors.ensures write registers c.requires.fit c.begin_frame.ensures.registers c.store_places.ensures.stand c.store_places.ensures.stays c.store_places.ensures.within c.store_places.ensures.unused c.store_hidden.ensures.stands c.store_hidden.ensures.stays c.store_hidden.ensures.within c.put_count.ensures.told c.put_count.ensures.stays c.put_count.ensures.within in
     all.hidden
@@ -110,7 +110,7 @@ returns-clause-vectors g c =
     let sound = g.met.A.Abi.sound s in
     let m = c.args.machine.now in
     let write = written_by_law std s sound g.met.A.Abi.agrees m.target _ g.met.A.Abi.target_is c.requires.target in
-    let registers = subst (λ k. AllByRecursion (IsPlace 0) (if_any k)) (sym c.vector_count-count.ensures) (count_is_register std g.met.A.Abi.agrees) in
+    let registers = subst (λ k. AllByRecursion (IsPlace 0) (to_list k)) (sym c.vector_count-count.ensures) (count_is_register std g.met.A.Abi.agrees) in
     let low : STACK ≤ c.at-base.result = omega (arith, c.begin_frame.ensures.sp, c.frame.ensures, c.at-base.ensures, c.sp.ensures.value, c.requires.room) in
     let all = call_stored std s sound c.sig-sig.ensures.faultless c.args.values.now m.target c.at-base.result c.result_place.result.now c.vector_count-count.result c.vectors.result (passing (scribbled (length m.events) m)) (passing c.begin_frame.new.machine) (passing c.store_places.new.machine) (passing c.store_hidden.new.machine) (passing c.put_count.new.machine) (c.at-base.ensures ∙ c.sp.ensures.value) low c.result_place.ensures c.vector_count-count.ensures c.vectors.ensures write registers c.requires.fit c.begin_frame.ensures.registers c.store_places.ensures.stand c.store_places.ensures.stays c.store_places.ensures.within c.store_places.ensures.unused c.store_hidden.ensures.stands c.store_hidden.ensures.stays c.store_hidden.ensures.within c.put_count.ensures.told c.put_count.ensures.stays c.put_count.ensures.within in
     all.vectors
@@ -122,7 +122,7 @@ returns-clause-unused g c =
     let sound = g.met.A.Abi.sound s in
     let m = c.args.machine.now in
     let write = written_by_law std s sound g.met.A.Abi.agrees m.target _ g.met.A.Abi.target_is c.requires.target in
-    let registers = subst (λ k. AllByRecursion (IsPlace 0) (if_any k)) (sym c.vector_count-count.ensures) (count_is_register std g.met.A.Abi.agrees) in
+    let registers = subst (λ k. AllByRecursion (IsPlace 0) (to_list k)) (sym c.vector_count-count.ensures) (count_is_register std g.met.A.Abi.agrees) in
     let low : STACK ≤ c.at-base.result = omega (arith, c.begin_frame.ensures.sp, c.frame.ensures, c.at-base.ensures, c.sp.ensures.value, c.requires.room) in
     let all = call_stored std s sound c.sig-sig.ensures.faultless c.args.values.now m.target c.at-base.result c.result_place.result.now c.vector_count-count.result c.vectors.result (passing (scribbled (length m.events) m)) (passing c.begin_frame.new.machine) (passing c.store_places.new.machine) (passing c.store_hidden.new.machine) (passing c.put_count.new.machine) (c.at-base.ensures ∙ c.sp.ensures.value) low c.result_place.ensures c.vector_count-count.ensures c.vectors.ensures write registers c.requires.fit c.begin_frame.ensures.registers c.store_places.ensures.stand c.store_places.ensures.stays c.store_places.ensures.within c.store_places.ensures.unused c.store_hidden.ensures.stands c.store_hidden.ensures.stays c.store_hidden.ensures.within c.put_count.ensures.told c.put_count.ensures.stays c.put_count.ensures.within in
     let o = passing c.begin_frame.new.machine in
@@ -137,7 +137,7 @@ returns-clause-passed g c =
     let sound = g.met.A.Abi.sound s in
     let m = c.args.machine.now in
     let write = written_by_law std s sound g.met.A.Abi.agrees m.target _ g.met.A.Abi.target_is c.requires.target in
-    let registers = subst (λ k. AllByRecursion (IsPlace 0) (if_any k)) (sym c.vector_count-count.ensures) (count_is_register std g.met.A.Abi.agrees) in
+    let registers = subst (λ k. AllByRecursion (IsPlace 0) (to_list k)) (sym c.vector_count-count.ensures) (count_is_register std g.met.A.Abi.agrees) in
     let low : STACK ≤ c.at-base.result = omega (arith, c.begin_frame.ensures.sp, c.frame.ensures, c.at-base.ensures, c.sp.ensures.value, c.requires.room) in
     let all = call_stored std s sound c.sig-sig.ensures.faultless c.args.values.now m.target c.at-base.result c.result_place.result.now c.vector_count-count.result c.vectors.result (passing (scribbled (length m.events) m)) (passing c.begin_frame.new.machine) (passing c.store_places.new.machine) (passing c.store_hidden.new.machine) (passing c.put_count.new.machine) (c.at-base.ensures ∙ c.sp.ensures.value) low c.result_place.ensures c.vector_count-count.ensures c.vectors.ensures write registers c.requires.fit c.begin_frame.ensures.registers c.store_places.ensures.stand c.store_places.ensures.stays c.store_places.ensures.within c.store_places.ensures.unused c.store_hidden.ensures.stands c.store_hidden.ensures.stays c.store_hidden.ensures.within c.put_count.ensures.told c.put_count.ensures.stays c.put_count.ensures.within in
     all.others
@@ -149,11 +149,11 @@ returns-clause-others g c =
     let sound = g.met.A.Abi.sound s in
     let m = c.args.machine.now in
     let write = written_by_law std s sound g.met.A.Abi.agrees m.target _ g.met.A.Abi.target_is c.requires.target in
-    let registers = subst (λ k. AllByRecursion (IsPlace 0) (if_any k)) (sym c.vector_count-count.ensures) (count_is_register std g.met.A.Abi.agrees) in
+    let registers = subst (λ k. AllByRecursion (IsPlace 0) (to_list k)) (sym c.vector_count-count.ensures) (count_is_register std g.met.A.Abi.agrees) in
     let low : STACK ≤ c.at-base.result = omega (arith, c.begin_frame.ensures.sp, c.frame.ensures, c.at-base.ensures, c.sp.ensures.value, c.requires.room) in
     let all = call_stored std s sound c.sig-sig.ensures.faultless c.args.values.now m.target c.at-base.result c.result_place.result.now c.vector_count-count.result c.vectors.result (passing (scribbled (length m.events) m)) (passing c.begin_frame.new.machine) (passing c.store_places.new.machine) (passing c.store_hidden.new.machine) (passing c.put_count.new.machine) (c.at-base.ensures ∙ c.sp.ensures.value) low c.result_place.ensures c.vector_count-count.ensures c.vectors.ensures write registers c.requires.fit c.begin_frame.ensures.registers c.store_places.ensures.stand c.store_places.ensures.stays c.store_places.ensures.within c.store_places.ensures.unused c.store_hidden.ensures.stands c.store_hidden.ensures.stays c.store_hidden.ensures.within c.put_count.ensures.told c.put_count.ensures.stays c.put_count.ensures.within in
     let wrote = (call_within (frame_of std s) (passing (scribbled (length m.events) m)) (passing c.begin_frame.new.machine) (passing c.put_count.new.machine) (subst (λ n. c.begin_frame.new.machine.sp + n ≡ m.sp) c.frame.ensures c.begin_frame.ensures.sp) (subst (λ n. WroteWithin c.begin_frame.new.machine.sp (c.begin_frame.new.machine.sp + n) (passing (scribbled (length m.events) m)) (passing c.begin_frame.new.machine)) c.frame.ensures c.begin_frame.ensures.within) all.sp all.within) in
-    let own : (l : Loc) → IsPlace 0 l → IsNoneOf (argument_locs (plan_of std s) ++ if_any std.vector_count) l → SameAt 0 l (scribbled (length m.events) m) c.put_count.new.machine = λ l h none.
+    let own : (l : Loc) → IsPlace 0 l → IsNoneOf (argument_locs (plan_of std s) ++ to_list std.vector_count) l → SameAt 0 l (scribbled (length m.events) m) c.put_count.new.machine = λ l h none.
     own_register l (scribbled (length m.events) m) c.put_count.new.machine h wrote.target (length-scribbled_general _ _ _ ∙ sym c.sp-last.ensures.machine.general) (length-scribbled_floating _ ∙ sym c.sp-last.ensures.machine.floating) (all.others l h none) wrote.exchange in
     own
 
@@ -164,7 +164,7 @@ returns-clause-free g c =
     let sound = g.met.A.Abi.sound s in
     let m = c.args.machine.now in
     let write = written_by_law std s sound g.met.A.Abi.agrees m.target _ g.met.A.Abi.target_is c.requires.target in
-    let registers = subst (λ k. AllByRecursion (IsPlace 0) (if_any k)) (sym c.vector_count-count.ensures) (count_is_register std g.met.A.Abi.agrees) in
+    let registers = subst (λ k. AllByRecursion (IsPlace 0) (to_list k)) (sym c.vector_count-count.ensures) (count_is_register std g.met.A.Abi.agrees) in
     let low : STACK ≤ c.at-base.result = omega (arith, c.begin_frame.ensures.sp, c.frame.ensures, c.at-base.ensures, c.sp.ensures.value, c.requires.room) in
     let all = call_stored std s sound c.sig-sig.ensures.faultless c.args.values.now m.target c.at-base.result c.result_place.result.now c.vector_count-count.result c.vectors.result (passing (scribbled (length m.events) m)) (passing c.begin_frame.new.machine) (passing c.store_places.new.machine) (passing c.store_hidden.new.machine) (passing c.put_count.new.machine) (c.at-base.ensures ∙ c.sp.ensures.value) low c.result_place.ensures c.vector_count-count.ensures c.vectors.ensures write registers c.requires.fit c.begin_frame.ensures.registers c.store_places.ensures.stand c.store_places.ensures.stays c.store_places.ensures.within c.store_places.ensures.unused c.store_hidden.ensures.stands c.store_hidden.ensures.stays c.store_hidden.ensures.within c.put_count.ensures.told c.put_count.ensures.stays c.put_count.ensures.within in
     λ at k room none below.
@@ -182,7 +182,7 @@ returns-clause-sp g c =
     let sound = g.met.A.Abi.sound s in
     let m = c.args.machine.now in
     let write = written_by_law std s sound g.met.A.Abi.agrees m.target _ g.met.A.Abi.target_is c.requires.target in
-    let registers = subst (λ k. AllByRecursion (IsPlace 0) (if_any k)) (sym c.vector_count-count.ensures) (count_is_register std g.met.A.Abi.agrees) in
+    let registers = subst (λ k. AllByRecursion (IsPlace 0) (to_list k)) (sym c.vector_count-count.ensures) (count_is_register std g.met.A.Abi.agrees) in
     let low : STACK ≤ c.at-base.result = omega (arith, c.begin_frame.ensures.sp, c.frame.ensures, c.at-base.ensures, c.sp.ensures.value, c.requires.room) in
     let all = call_stored std s sound c.sig-sig.ensures.faultless c.args.values.now m.target c.at-base.result c.result_place.result.now c.vector_count-count.result c.vectors.result (passing (scribbled (length m.events) m)) (passing c.begin_frame.new.machine) (passing c.store_places.new.machine) (passing c.store_hidden.new.machine) (passing c.put_count.new.machine) (c.at-base.ensures ∙ c.sp.ensures.value) low c.result_place.ensures c.vector_count-count.ensures c.vectors.ensures write registers c.requires.fit c.begin_frame.ensures.registers c.store_places.ensures.stand c.store_places.ensures.stays c.store_places.ensures.within c.store_places.ensures.unused c.store_hidden.ensures.stands c.store_hidden.ensures.stays c.store_hidden.ensures.within c.put_count.ensures.told c.put_count.ensures.stays c.put_count.ensures.within in
     omega (arith, all.sp, c.begin_frame.ensures.sp, c.frame.ensures)
@@ -194,11 +194,11 @@ returns-clause-preserved g c =
     let sound = g.met.A.Abi.sound s in
     let m = c.args.machine.now in
     let write = written_by_law std s sound g.met.A.Abi.agrees m.target _ g.met.A.Abi.target_is c.requires.target in
-    let registers = subst (λ k. AllByRecursion (IsPlace 0) (if_any k)) (sym c.vector_count-count.ensures) (count_is_register std g.met.A.Abi.agrees) in
+    let registers = subst (λ k. AllByRecursion (IsPlace 0) (to_list k)) (sym c.vector_count-count.ensures) (count_is_register std g.met.A.Abi.agrees) in
     let low : STACK ≤ c.at-base.result = omega (arith, c.begin_frame.ensures.sp, c.frame.ensures, c.at-base.ensures, c.sp.ensures.value, c.requires.room) in
     let all = call_stored std s sound c.sig-sig.ensures.faultless c.args.values.now m.target c.at-base.result c.result_place.result.now c.vector_count-count.result c.vectors.result (passing (scribbled (length m.events) m)) (passing c.begin_frame.new.machine) (passing c.store_places.new.machine) (passing c.store_hidden.new.machine) (passing c.put_count.new.machine) (c.at-base.ensures ∙ c.sp.ensures.value) low c.result_place.ensures c.vector_count-count.ensures c.vectors.ensures write registers c.requires.fit c.begin_frame.ensures.registers c.store_places.ensures.stand c.store_places.ensures.stays c.store_places.ensures.within c.store_places.ensures.unused c.store_hidden.ensures.stands c.store_hidden.ensures.stays c.store_hidden.ensures.within c.put_count.ensures.told c.put_count.ensures.stays c.put_count.ensures.within in
     let wrote = (call_within (frame_of std s) (passing (scribbled (length m.events) m)) (passing c.begin_frame.new.machine) (passing c.put_count.new.machine) (subst (λ n. c.begin_frame.new.machine.sp + n ≡ m.sp) c.frame.ensures c.begin_frame.ensures.sp) (subst (λ n. WroteWithin c.begin_frame.new.machine.sp (c.begin_frame.new.machine.sp + n) (passing (scribbled (length m.events) m)) (passing c.begin_frame.new.machine)) c.frame.ensures c.begin_frame.ensures.within) all.sp all.within) in
-    let own : (l : Loc) → IsPlace 0 l → IsNoneOf (argument_locs (plan_of std s) ++ if_any std.vector_count) l → SameAt 0 l (scribbled (length m.events) m) c.put_count.new.machine = λ l h none.
+    let own : (l : Loc) → IsPlace 0 l → IsNoneOf (argument_locs (plan_of std s) ++ to_list std.vector_count) l → SameAt 0 l (scribbled (length m.events) m) c.put_count.new.machine = λ l h none.
     own_register l (scribbled (length m.events) m) c.put_count.new.machine h wrote.target (length-scribbled_general _ _ _ ∙ sym c.sp-last.ensures.machine.general) (length-scribbled_floating _ ∙ sym c.sp-last.ensures.machine.floating) (all.others l h none) wrote.exchange in
     preserved_same std g.met.A.Abi.agrees s sound (scribbled (length m.events) m) c.put_count.new.machine own
 
@@ -209,11 +209,11 @@ returns-clause-reserved g c =
     let sound = g.met.A.Abi.sound s in
     let m = c.args.machine.now in
     let write = written_by_law std s sound g.met.A.Abi.agrees m.target _ g.met.A.Abi.target_is c.requires.target in
-    let registers = subst (λ k. AllByRecursion (IsPlace 0) (if_any k)) (sym c.vector_count-count.ensures) (count_is_register std g.met.A.Abi.agrees) in
+    let registers = subst (λ k. AllByRecursion (IsPlace 0) (to_list k)) (sym c.vector_count-count.ensures) (count_is_register std g.met.A.Abi.agrees) in
     let low : STACK ≤ c.at-base.result = omega (arith, c.begin_frame.ensures.sp, c.frame.ensures, c.at-base.ensures, c.sp.ensures.value, c.requires.room) in
     let all = call_stored std s sound c.sig-sig.ensures.faultless c.args.values.now m.target c.at-base.result c.result_place.result.now c.vector_count-count.result c.vectors.result (passing (scribbled (length m.events) m)) (passing c.begin_frame.new.machine) (passing c.store_places.new.machine) (passing c.store_hidden.new.machine) (passing c.put_count.new.machine) (c.at-base.ensures ∙ c.sp.ensures.value) low c.result_place.ensures c.vector_count-count.ensures c.vectors.ensures write registers c.requires.fit c.begin_frame.ensures.registers c.store_places.ensures.stand c.store_places.ensures.stays c.store_places.ensures.within c.store_places.ensures.unused c.store_hidden.ensures.stands c.store_hidden.ensures.stays c.store_hidden.ensures.within c.put_count.ensures.told c.put_count.ensures.stays c.put_count.ensures.within in
     let wrote = (call_within (frame_of std s) (passing (scribbled (length m.events) m)) (passing c.begin_frame.new.machine) (passing c.put_count.new.machine) (subst (λ n. c.begin_frame.new.machine.sp + n ≡ m.sp) c.frame.ensures c.begin_frame.ensures.sp) (subst (λ n. WroteWithin c.begin_frame.new.machine.sp (c.begin_frame.new.machine.sp + n) (passing (scribbled (length m.events) m)) (passing c.begin_frame.new.machine)) c.frame.ensures c.begin_frame.ensures.within) all.sp all.within) in
-    let own : (l : Loc) → IsPlace 0 l → IsNoneOf (argument_locs (plan_of std s) ++ if_any std.vector_count) l → SameAt 0 l (scribbled (length m.events) m) c.put_count.new.machine = λ l h none.
+    let own : (l : Loc) → IsPlace 0 l → IsNoneOf (argument_locs (plan_of std s) ++ to_list std.vector_count) l → SameAt 0 l (scribbled (length m.events) m) c.put_count.new.machine = λ l h none.
     own_register l (scribbled (length m.events) m) c.put_count.new.machine h wrote.target (length-scribbled_general _ _ _ ∙ sym c.sp-last.ensures.machine.general) (length-scribbled_floating _ ∙ sym c.sp-last.ensures.machine.floating) (all.others l h none) wrote.exchange in
     reserved_stays std g.met.A.Abi.agrees s sound (scribbled (length m.events) m) c.put_count.new.machine own (length m.events) m _ refl g.met.A.Abi.target_is c.requires.target
 
@@ -224,7 +224,7 @@ returns-clause-within g c =
     let sound = g.met.A.Abi.sound s in
     let m = c.args.machine.now in
     let write = written_by_law std s sound g.met.A.Abi.agrees m.target _ g.met.A.Abi.target_is c.requires.target in
-    let registers = subst (λ k. AllByRecursion (IsPlace 0) (if_any k)) (sym c.vector_count-count.ensures) (count_is_register std g.met.A.Abi.agrees) in
+    let registers = subst (λ k. AllByRecursion (IsPlace 0) (to_list k)) (sym c.vector_count-count.ensures) (count_is_register std g.met.A.Abi.agrees) in
     let low : STACK ≤ c.at-base.result = omega (arith, c.begin_frame.ensures.sp, c.frame.ensures, c.at-base.ensures, c.sp.ensures.value, c.requires.room) in
     let all = call_stored std s sound c.sig-sig.ensures.faultless c.args.values.now m.target c.at-base.result c.result_place.result.now c.vector_count-count.result c.vectors.result (passing (scribbled (length m.events) m)) (passing c.begin_frame.new.machine) (passing c.store_places.new.machine) (passing c.store_hidden.new.machine) (passing c.put_count.new.machine) (c.at-base.ensures ∙ c.sp.ensures.value) low c.result_place.ensures c.vector_count-count.ensures c.vectors.ensures write registers c.requires.fit c.begin_frame.ensures.registers c.store_places.ensures.stand c.store_places.ensures.stays c.store_places.ensures.within c.store_places.ensures.unused c.store_hidden.ensures.stands c.store_hidden.ensures.stays c.store_hidden.ensures.within c.put_count.ensures.told c.put_count.ensures.stays c.put_count.ensures.within in
     call_within (frame_of std s) (passing (scribbled (length m.events) m)) (passing c.begin_frame.new.machine) (passing c.put_count.new.machine) (subst (λ n. c.begin_frame.new.machine.sp + n ≡ m.sp) c.frame.ensures c.begin_frame.ensures.sp) (subst (λ n. WroteWithin c.begin_frame.new.machine.sp (c.begin_frame.new.machine.sp + n) (passing (scribbled (length m.events) m)) (passing c.begin_frame.new.machine)) c.frame.ensures c.begin_frame.ensures.within) all.sp all.within

@@ -22,18 +22,18 @@ returns-in-Widen c =
     subst (λ e. c.widen.result ≡ extended e (tree_of c.args.ty.now) (value_of c.args.value.now) c.args.word) (sym c.in-Widen.is)
     (widened_is (tree_of c.args.ty.now) (value_of c.args.value.now) c.args.word c.widen.result suits.0 c.requires.fits c.widen.ensures)
 
-pub widened_from_32-requires-clause-kind : goal.widened_from_32-requires-clause-kind
-widened_from_32-requires-clause-kind c =
+pub widen_from_32-requires-clause-kind : goal.widen_from_32-requires-clause-kind
+widen_from_32-requires-clause-kind c =
     let suits = subst (IsExtended (tree_of c.args.ty.now) c.args.piece.now) c.in-Riscv.is c.requires.suits.extended in
     (narrow_number (tree_of c.args.ty.now) suits.0).0
 
-pub widened_from_32-requires-clause-small : goal.widened_from_32-requires-clause-small
-widened_from_32-requires-clause-small c =
+pub widen_from_32-requires-clause-small : goal.widen_from_32-requires-clause-small
+widen_from_32-requires-clause-small c =
     let suits = subst (IsExtended (tree_of c.args.ty.now) c.args.piece.now) c.in-Riscv.is c.requires.suits.extended in
     (narrow_number (tree_of c.args.ty.now) suits.0).1
 
 pub returns-in-Riscv : goal.returns-in-Riscv
 returns-in-Riscv c =
     let suits = subst (IsExtended (tree_of c.args.ty.now) c.args.piece.now) c.in-Riscv.is c.requires.suits.extended in
-    subst (λ e. c.widened_from_32.result ≡ extended e (tree_of c.args.ty.now) (value_of c.args.value.now) c.args.word) (sym c.in-Riscv.is)
-    (widened_from_32_is (tree_of c.args.ty.now) (value_of c.args.value.now) c.args.word c.widened_from_32.result suits.0 c.requires.fits c.widened_from_32.ensures)
+    subst (λ e. c.widen_from_32.result ≡ extended e (tree_of c.args.ty.now) (value_of c.args.value.now) c.args.word) (sym c.in-Riscv.is)
+    (widened_from_32_is (tree_of c.args.ty.now) (value_of c.args.value.now) c.args.word c.widen_from_32.result suits.0 c.requires.fits c.widen_from_32.ensures)

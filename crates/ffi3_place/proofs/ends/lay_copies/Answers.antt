@@ -3,7 +3,7 @@ use Rattle.std.proofs.lemmas.List.{length-set}
 use Rattle.ffi3_type_rules.specs.Tree.{tree_at}
 use Rattle.ffi3_type_rules.specs.Layout.{least_multiple}
 use Rattle.ffi3_place_rules.specs.declared.Place.TheVariants.{ByRef}
-use Rattle.ffi3_place_rules.specs.Standard.{start}
+use Rattle.ffi3_place_rules.specs.Standard.{start, by_reference}
 use Rattle.ffi3_place.proofs.Laid.{laid_place, laid_end, laid_places, laid_ends, laid_from_spots, ends_from_spots, put_again, ends_turn, places_turn, places_at_end, ends_at_end}
 use Rattle.ffi3_place.proofs.ends.lay_copies.Goals.{in-ByRef, in_default}
 use Rattle.ffi3_place.proofs.ends.lay_copies.Goals as goal
@@ -21,12 +21,12 @@ loop-i-preserved c =
       | in-ByRef w ↦
           let t = w.arg-ty.result in
           let is = w.in-ByRef.is in
-          let put = w.places-is ∙ w.set.ensures ∙ ap (λ x. set places i x) (ap (ByRef w.in-ByRef.at) w.start-copy.ensures.value ∙ sym (ap (laid_place end t) is)) in
-          let ends = ap (λ n. n + w.round_up.result) w.start-copy.ensures.value ∙ ap (λ n. start end t + n) (w.round_up.ensures.value ∙ ap (λ n. least_multiple 8 n) w.size.ensures.value) in
-          let behind = w.end-is ∙ ends ∙ sym (ap (laid_end end t) is) in
+          let laid = ap (ByRef w.in-ByRef.at) w.start.ensures.value in
+          let put = w.places-is ∙ w.set.ensures ∙ ap (λ x. set places i x) (laid ∙ sym (ap (laid_place end t) is)) in
+          let behind = w.end-is ∙ w.copy_end-end.ensures.value start (by_reference w.in-ByRef.at) laid ∙ sym (ap (laid_end end t) is) in
           record {
             one_each = ap (λ ps. length ps) put ∙ length-set places i (laid_place end t p) ∙ c.loop-i.invariant.one_each;
-            near = omega (arith, w.end-is, w.start-copy.ensures.near, w.round_up.ensures.close, w.size.ensures.small, c.loop-i.invariant.near);
+            near = omega (arith, w.end-is, w.copy_end-end.ensures.low start (by_reference w.in-ByRef.at) laid (omega (arith, w.start.ensures.near, w.start.ensures.value)), c.loop-i.invariant.near);
             ends = ends_turn end ts places i t p _ _ inside there w.arg-ty.ensures c.get.ensures put behind _ c.loop-i.invariant.ends;
             done = places_turn end ts places i t p _ _ inside there w.arg-ty.ensures c.get.ensures put behind _ c.loop-i.invariant.done;
           }
