@@ -10,10 +10,10 @@ returns c =
     let s = c.args.sig.now in
     let first = taken_at_first s.result_type in
     let spot = result_spot_of s.result_type in
-    let copied = c.round_up-copied.result in
+    let copied = c.round_up-copies_end.result in
     let placed = c.in_ok-all.ensures.places ∙ places_without_copies amd64.copy_start 0 copied first s.arguments in
     let copies = sym (ends_without_copies amd64.copy_start copied first s.arguments) in
     let returned = rw c.ret-2.ensures at c.in_ok-res.ensures in
     let before = returned ∙ ap (λ t. result_at amd64.copy_start copied t spot) (sym c.ret-3.ensures) in
     let ends = c.buffer_end-end.ensures.value amd64.copy_start spot before in
-    c.planned.ensures ∙ planned_is amd64 s _ copied _ copied _ _ _ _ (ap (λ a. a.stack) c.in_ok-all.ensures.taken) c.round_up-copied.ensures.value placed copies returned (rw c.ret-3.ensures at ends) refl (ap (λ a. a.vector) c.in_ok-all.ensures.taken)
+    c.planned.ensures ∙ planned_is amd64 s _ copied _ copied _ _ _ _ (ap (λ a. a.stack) c.in_ok-all.ensures.taken) c.round_up-copies_end.ensures.value placed copies returned (rw c.ret-3.ensures at ends) refl (ap (λ a. a.vector) c.in_ok-all.ensures.taken)
